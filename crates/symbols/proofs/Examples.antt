@@ -1,0 +1,75 @@
+-- Sources read by computation: the settled readings that a small source shows, as one table; and the reading "a remark runs on past 'else'"
+-- refuted by one.
+use Prim.Native.Nat.{ℕ}
+use Prim.Native.String.{String}
+use mathlib.Core.Path.{_≡_, refl}
+use mathlib.Core.List.{List, [], _∷_}
+use mathlib.Core.Option.{Option, none, some}
+use native.Mathlib.Omega.{arith}
+use lib.ListN.{length}
+use Rattle.answers.specs.Answers.{refusal}
+use Rattle.symbols.specs.Text.{bytes}
+use Rattle.symbols.specs.Names.{blank, letter, digit, inName, these, reach, valueFrom, equal}
+use Rattle.symbols.specs.Scan.{before, closed, spelled, named, word, gap, followed, sign, sized, name, valued, number, lexeme, behind, endsRemark, note, counted, judged, turn, scanFrom, scan, Found, Scan}
+use Rattle.symbols.specs.declared.Symbol.{Symbol}
+use Rattle.symbols.specs.declared.Symbol.the-variants.{Name, Comment, Begin, End, Semicolon, LessEqual, Number, Equal, Colon, Becomes, Greater, Minus}
+
+abbrev at : Symbol → ℕ → Found
+at s p = record { symbol = s; place = p }
+
+-- so many symbols may come; the source; the symbols; the refusal, if there is one
+record Row : Type 0 where
+  limit : ℕ
+  source : String
+  expected : Scan
+
+abbrev reads : ℕ → String → List Found → Row
+reads n s l = record { limit = n; source = s; expected = record { found = l; refused = none } }
+
+abbrev fails : ℕ → String → List Found → ℕ → ℕ → Row
+fails n s l m p = record { limit = n; source = s; expected = record { found = l; refused = some (refusal m p) } }
+
+abbrev rows : List Row
+rows =
+    -- L1: a misplaced 'comment' opens no note
+    fails 2048 "a 'comment' b?" (at Name 0 ∷ at Comment 2 ∷ at Name 12 ∷ []) 3 13 ∷
+    -- L2: nor does one in a remark
+    reads 2048 "'begin' 'end' 'comment' x" (at Begin 0 ∷ at End 8 ∷ []) ∷
+    -- L3: the `;` ends the remark
+    reads 2048 "'end' 'begin' 'comment' x; y" (at End 0 ∷ at Semicolon 25 ∷ at Name 27 ∷ []) ∷
+    -- L4, L7: blanks inside names, numbers and signs
+    reads 2048 "pay rate < = 1 2" (at Name 0 ∷ at LessEqual 9 ∷ at (Number 12) 13 ∷ []) ∷
+    -- L6: a blank in a word spoils it; the next apostrophe closes it
+    fails 2048 "'be gin'" [] 3 0 ∷
+    fails 2048 "'begin'end'" (at Begin 0 ∷ at Name 7 ∷ []) 3 10 ∷
+    -- L7: joined from the left; `=` first joins with nothing
+    reads 2048 "<== ::= = >" (at LessEqual 0 ∷ at Equal 2 ∷ at Colon 4 ∷ at Becomes 5 ∷ at Equal 8 ∷ at Greater 10 ∷ []) ∷
+    -- L8: one symbol too many; notes and remarks do not count
+    fails 3 "; 'comment' a; 'end' b c; 'end'" (at Semicolon 0 ∷ at End 15 ∷ at Semicolon 24 ∷ []) 4 26 ∷
+    -- L9: what is no symbol is not one too many
+    fails 2 ";;?" (at Semicolon 0 ∷ at Semicolon 1 ∷ []) 3 2 ∷
+    -- L10: the first fault is the one with the smallest place
+    fails 2048 "2147483648?" [] 4 0 ∷
+    -- L11, L14: a remark follows every 'end', and its sizes are not tested
+    reads 2048 "'end' 9999999999" (at End 0 ∷ []) ∷
+    fails 2048 "'end' don't" (at End 0 ∷ []) 3 9 ∷
+    -- L13: a note without `;`, the second of two
+    fails 2048 "'begin' 'comment' one; 'comment' two" (at Begin 0 ∷ []) 3 23 ∷
+    -- L15: numbers have no sign
+    fails 2048 "-2147483648" (at Minus 0 ∷ []) 4 1 ∷
+    -- nothing at all
+    reads 2048 "" [] ∷
+    []
+
+abbrev Right : List Row → Type 0
+Right [] = Unit {0}
+Right (r ∷ l) = (scan (r .limit) (bytes (r .source)) ≡ r .expected) × Right l
+
+pub readings : Right rows
+unfolding scan scanFrom turn judged counted note lexeme number valued name sized sign followed gap word named spelled closed before behind endsRemark blank letter digit inName these reach valueFrom equal
+readings = (refl, (refl, (refl, (refl, (refl, (refl, (refl, (refl, (refl, (refl, (refl, (refl, (refl, (refl, (refl, tt)))))))))))))))
+
+-- a remark that ran on past 'else' would leave one symbol here; there are three
+pub not-past-else : length (scan 2048 (bytes "'end' a remark 'else' b") .found) ≡ 1 → ⊥
+unfolding scan scanFrom turn judged counted note lexeme number valued name sized sign followed gap word named spelled closed before behind endsRemark blank letter digit inName these reach valueFrom equal
+not-past-else e = omega arith

@@ -1,0 +1,9 @@
+pub mod Laws
+pub mod Stored
+pub mod Tags
+pub mod Within
+pub mod Resume
+pub mod Filling
+pub mod Follows
+pub mod Sources
+pub mod Examples

@@ -1,0 +1,6 @@
+pub mod Text
+pub mod Symbols
+pub mod Names
+pub mod Scan
+pub mod Kinds
+pub mod Steps

@@ -1,0 +1,103 @@
+-- What the functions of this crate give back, in terms of the definitions in Scan and Names. This is no part of the paper: it says where
+-- in the source a definition is read, and how the lent arrays hold the symbols.
+use Prim.Native.Nat.{ℕ, _+_, _≤_, min}
+use mathlib.Core.Path.{_≡_}
+use Prim.Native.Char.{code}
+use mathlib.Core.Bool.{Bool, cond}
+use mathlib.Core.List.{List, [], _∷_, _++_, map}
+use mathlib.Core.Option.{Option, none, some}
+use lib.ListN.{length, getD, take, drop}
+use lib.Dec.{eqb, ltb}
+use Rattle.answers.specs.Numbers.{noSymbol}
+use Rattle.answers.specs.Answers.{answer, refusal}
+use Rattle.answers.specs.declared.Refusal.{Refusal}
+use Rattle.symbols.specs.Symbols.{Delimiter, words, kind}
+use Rattle.symbols.specs.Names.{letters}
+use Rattle.symbols.specs.Kinds.{valueOf}
+use Rattle.symbols.specs.Scan.{gap, followed, lexeme, turn, Found, Scan, scan}
+use Rattle.symbols.specs.declared.Symbol.{Symbol}
+use Rattle.symbols.specs.declared.Context.{Context}
+use Rattle.symbols.specs.declared.Lexeme.{Lexeme}
+use Rattle.symbols.specs.declared.Lexeme.the-variants.{Is, Nothing}
+use Rattle.symbols.specs.declared.Turn.{Turn}
+use Rattle.symbols.specs.declared.Turn.the-variants.{Pass, Keep, Refuse}
+use Rattle.symbols.specs.declared.Cursor.{Cursor}
+use Rattle.symbols.specs.declared.Step.{Step}
+use Rattle.symbols.specs.declared.Step.the-variants.{Read, Passed, Refused, End}
+use Rattle.symbols.specs.declared.Scanned.{Scanned}
+use Rattle.symbols.specs.declared.Scanned.the-variants.{Read as Symbols, Refused as Stops}
+
+-- ---- the delimiter words, in three parts
+
+abbrev pub statementWords : List Delimiter
+statementWords = take 8 words
+
+abbrev pub loopWords : List Delimiter
+loopWords = take 7 (drop 8 words)
+
+abbrev pub logicWords : List Delimiter
+logicWords = drop 15 words
+
+-- ---- numbers, signs and names
+
+-- a value is kept at one over the limit where it is over
+unfoldable pub capped : ℕ → ℕ
+capped v = min v 2147483648
+
+-- a sign that may be joined with `=`
+unfoldable pub joinedOf : Symbol → Symbol → List ℕ → Lexeme
+joinedOf alone both bs = cond (followed (code "=") bs) (Is both (gap bs + 1)) (Is alone 0)
+
+-- what is left of a name where its next letter or digit stands at i
+unfoldable pub restAt : List ℕ → ℕ → List ℕ
+restAt source i = cond (ltb i (length source)) (getD source i 0 ∷ letters (drop (i + 1) source)) []
+
+pub record NextLetter (source : List ℕ) (from i : ℕ) : Type 0 where
+  pub same : letters (drop from source) ≡ restAt source i
+  pub within : i ≤ length source
+  pub onward : from ≤ length source → from ≤ i
+
+-- ---- at a place of the source
+
+unfoldable pub lexemeAt : List ℕ → ℕ → Lexeme
+lexemeAt source at = cond (ltb at (length source)) (lexeme (getD source at 0) (drop (at + 1) source)) Nothing
+
+unfoldable pub turnAt : ℕ → Context → List ℕ → ℕ → Turn
+turnAt n c source at = cond (ltb at (length source)) (turn n c (getD source at 0) (drop (at + 1) source)) (Refuse (answer noSymbol))
+
+unfoldable pub stepOf : ℕ → Turn → Step
+stepOf p (Pass c k) = Passed (record { at = p + 1 + k; context = c })
+stepOf p (Keep s c k) = Read s (record { at = p + 1 + k; context = c })
+stepOf p (Refuse a) = Refused (refusal (a .number) p)
+
+unfoldable pub stepAt : ℕ → List ℕ → Cursor → Step
+stepAt n source cursor =
+    cond (ltb (cursor .at) (length source)) (stepOf (cursor .at) (turnAt n (cursor .context) source (cursor .at))) End
+
+-- ---- what is handed back, and what the lent arrays hold: the symbols up to the end or the refusal, and behind them what was there before
+
+unfoldable pub answerOf : Scan → Scanned
+answerOf r = ended (r .refused) (length (r .found))
+  where
+    ended : Option Refusal → ℕ → Scanned
+    ended none n = Symbols n
+    ended (some x) n = Stops x
+
+abbrev pub over : {A : Type 0} → List A → List A → List A
+over new old = new ++ drop (length new) old
+
+abbrev pub kindsOf : List Found → List ℕ
+kindsOf = map (λ f. kind (f .symbol))
+
+abbrev pub placesOf : List Found → List ℕ
+placesOf = map (λ f. f .place)
+
+abbrev pub valuesOf : List Found → List ℕ
+valuesOf = map (λ f. valueOf (f .symbol))
+
+-- what scanning hands back and leaves, for every source: the answer; and each array, which had these contents before and has those after
+pub record Filled (limit : ℕ) (source : List ℕ) (r : Scanned) (kinds kinds' places places' values values' : List ℕ) : Type 0 where
+  pub answers : r ≡ answerOf (scan limit source)
+  pub kinded : kinds' ≡ over (kindsOf (scan limit source .found)) kinds
+  pub placed : places' ≡ over (placesOf (scan limit source .found)) places
+  pub valued : values' ≡ over (valuesOf (scan limit source .found)) values

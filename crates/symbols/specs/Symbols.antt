@@ -1,0 +1,119 @@
+-- Paper 01, "Bytes to symbols": what a symbol is, and how each is written.
+use Prim.Native.Nat.{ℕ}
+use Prim.Native.Char.{Char}
+use Prim.Native.String.{String}
+use mathlib.Core.Bool.{Bool}
+use mathlib.Core.List.{List, [], _∷_}
+use lib.Dec.{eqb}
+use Rattle.symbols.specs.declared.Symbol.{Symbol}
+use Rattle.symbols.specs.declared.Symbol.the-variants.{Begin, End, If, Then, Else, For, Do, Step, Until, While, Comment, Integer, Boolean, Procedure, Value, True, False, And, Or, Not, Impl, Equiv, Plus, Minus, Times, Divide, Less, LessEqual, Equal, GreaterEqual, Greater, NotEqual, Comma, Colon, Becomes, Semicolon, Open, Close, Name, Number}
+
+-- ---- "Delimiter words stand between apostrophes, spelled exactly"
+
+pub record Delimiter : Type 0 where
+  pub spelling : String
+  pub symbol : Symbol
+
+abbrev word : String → Symbol → Delimiter
+word w s = record { spelling = w; symbol = s }
+
+abbrev pub words : List Delimiter
+words =
+    word "begin" Begin ∷
+    word "end" End ∷
+    word "if" If ∷
+    word "then" Then ∷
+    word "else" Else ∷
+    word "for" For ∷
+    word "do" Do ∷
+    word "step" Step ∷
+    word "until" Until ∷
+    word "while" While ∷
+    word "comment" Comment ∷
+    word "integer" Integer ∷
+    word "Boolean" Boolean ∷
+    word "procedure" Procedure ∷
+    word "value" Value ∷
+    word "true" True ∷
+    word "false" False ∷
+    word "and" And ∷
+    word "or" Or ∷
+    word "not" Not ∷
+    word "impl" Impl ∷
+    word "equiv" Equiv ∷
+    []
+
+-- ---- "Signs: `+ - * % < <= = >= > # , : := ; ( )`." One of two bytes stands before those that begin as it does:
+-- "Two-sign symbols are joined wherever they can be."
+
+pub data Sign : Type 0 where
+  one : Char → Symbol → Sign
+  two : Char → Char → Symbol → Sign
+
+abbrev pub signs : List Sign
+signs =
+    two "<" "=" LessEqual ∷
+    two ">" "=" GreaterEqual ∷
+    two ":" "=" Becomes ∷
+    one "+" Plus ∷
+    one "-" Minus ∷
+    one "*" Times ∷
+    one "%" Divide ∷
+    one "<" Less ∷
+    one "=" Equal ∷
+    one ">" Greater ∷
+    one "#" NotEqual ∷
+    one "," Comma ∷
+    one ":" Colon ∷
+    one ";" Semicolon ∷
+    one "(" Open ∷
+    one ")" Close ∷
+    []
+
+-- ---- kinds: a number for each symbol, which tells symbols apart but for a number's value
+
+abbrev pub kind : Symbol → ℕ
+kind Begin = 0
+kind End = 1
+kind If = 2
+kind Then = 3
+kind Else = 4
+kind For = 5
+kind Do = 6
+kind Step = 7
+kind Until = 8
+kind While = 9
+kind Comment = 10
+kind Integer = 11
+kind Boolean = 12
+kind Procedure = 13
+kind Value = 14
+kind True = 15
+kind False = 16
+kind And = 17
+kind Or = 18
+kind Not = 19
+kind Impl = 20
+kind Equiv = 21
+kind Plus = 22
+kind Minus = 23
+kind Times = 24
+kind Divide = 25
+kind Less = 26
+kind LessEqual = 27
+kind Equal = 28
+kind GreaterEqual = 29
+kind Greater = 30
+kind NotEqual = 31
+kind Comma = 32
+kind Colon = 33
+kind Becomes = 34
+kind Semicolon = 35
+kind Open = 36
+kind Close = 37
+kind Name = 38
+kind (Number v) = 39
+
+-- the same symbol, a number's value aside
+abbrev pub is : Symbol → Symbol → Bool
+is a b = eqb (kind a) (kind b)
