@@ -1,0 +1,21 @@
+-- `syntax::limits::expression` meets its contract: where the symbol begins an expression it is 6, else 5. Assumes nothing.
+use mathlib.Core.Path.{refl}
+use mathlib.Core.List.{[], _∷_}
+use Rattle.syntax.specs.Run.{rd-six, rd-five}
+use Rattle.syntax.proofs.Peeks.{is-in, is-none, but}
+use Rattle.syntax.proofs.Lemmas.{limits}
+use borrow.Author.Needs.{needs}
+use Rattle.syntax.proofs.limits.expression.Statement.{statement}
+use Rattle.syntax.proofs.limits.expression.Tie as tie
+
+peek-requires : tie.Need-peek-requires
+peek-requires c κs = search needs
+
+returns : tie.Need-returns
+returns c = λ F. limits (rd-six (is-in ((c .before .peek) .result) ((c .before .peek) .ensures) (2 ∷ 15 ∷ 16 ∷ 19 ∷ 22 ∷ 23 ∷ 36 ∷ 38 ∷ 39 ∷ []) ((c .match) .keys1)))
+
+returns-2 : tie.Need-returns-2
+returns-2 c = λ F. limits (rd-five (is-none ((c .before .peek) .result) ((c .before .peek) .ensures) (but (2 ∷ 15 ∷ 16 ∷ 19 ∷ 22 ∷ 23 ∷ 36 ∷ 38 ∷ 39 ∷ [])) (2 ∷ 15 ∷ 16 ∷ 19 ∷ 22 ∷ 23 ∷ 36 ∷ 38 ∷ 39 ∷ []) refl ((c .match) .keys2)))
+
+pub expression-spec : {M : Type 1} → statement M
+expression-spec = tie.close (tie.spec peek-requires returns returns-2)

@@ -1,0 +1,140 @@
+-- `syntax::operators::operator` meets its contract: each arm has told the symbol. Assumes nothing.
+use mathlib.Core.Path.{refl}
+use mathlib.Core.List.{[], _∷_}
+use Rattle.syntax.proofs.Peeks.{is-not, but}
+use Rattle.syntax.specs.Operators.{operatorOf}
+use Rattle.syntax.proofs.Choices.{zero-one}
+use borrow.Author.Needs.{needs}
+use Rattle.syntax.proofs.operators.operator.Statement.{statement}
+use Rattle.syntax.proofs.operators.operator.Tie as tie
+
+enum-told : tie.Need-enum-told
+enum-told c = search needs
+
+enum-told-2 : tie.Need-enum-told-2
+enum-told-2 c = search needs
+
+enum-told-3 : tie.Need-enum-told-3
+enum-told-3 c = search needs
+
+enum-told-4 : tie.Need-enum-told-4
+enum-told-4 c = search needs
+
+enum-told-5 : tie.Need-enum-told-5
+enum-told-5 c = search needs
+
+enum-told-6 : tie.Need-enum-told-6
+enum-told-6 c = search needs
+
+enum-told-7 : tie.Need-enum-told-7
+enum-told-7 c = search needs
+
+enum-told-8 : tie.Need-enum-told-8
+enum-told-8 c = search needs
+
+enum-told-9 : tie.Need-enum-told-9
+enum-told-9 c = search needs
+
+enum-told-10 : tie.Need-enum-told-10
+enum-told-10 c = search needs
+
+enum-told-11 : tie.Need-enum-told-11
+enum-told-11 c = search needs
+
+enum-told-12 : tie.Need-enum-told-12
+enum-told-12 c = search needs
+
+enum-told-13 : tie.Need-enum-told-13
+enum-told-13 c = search needs
+
+enum-told-14 : tie.Need-enum-told-14
+enum-told-14 c = search needs
+
+returns : tie.Need-returns
+unfolding operatorOf
+returns c = rw ((c .before .before .enum-told) .given .1, (c .enum-told2) .given .1) refl
+
+returns-2 : tie.Need-returns-2
+unfolding operatorOf
+returns-2 c = rw ((c .before .before .enum-told) .given .1, (c .enum-told3) .given .1) refl
+
+returns-3 : tie.Need-returns-3
+unfolding operatorOf
+returns-3 c = rw ((c .before .enum-told) .given .1) (zero-one (is-not ((c .before .before .before .args) .s) refl (but (24 ∷ 25 ∷ [])) 24 refl ((c .match2) .keys3)) (zero-one (is-not ((c .before .before .before .args) .s) refl (but (24 ∷ 25 ∷ [])) 25 refl ((c .match2) .keys3)) refl))
+
+returns-4 : tie.Need-returns-4
+unfolding operatorOf
+returns-4 c = rw ((c .before .before .enum-told4) .given .1, (c .enum-told5) .given .1) refl
+
+returns-5 : tie.Need-returns-5
+unfolding operatorOf
+returns-5 c = rw ((c .before .before .enum-told4) .given .1, (c .enum-told6) .given .1) refl
+
+returns-6 : tie.Need-returns-6
+unfolding operatorOf
+returns-6 c = rw ((c .before .enum-told4) .given .1) (zero-one (is-not ((c .before .before .before .args) .s) refl (but (22 ∷ 23 ∷ [])) 22 refl ((c .match3) .keys3)) (zero-one (is-not ((c .before .before .before .args) .s) refl (but (22 ∷ 23 ∷ [])) 23 refl ((c .match3) .keys3)) refl))
+
+returns-7 : tie.Need-returns-7
+unfolding operatorOf
+returns-7 c = rw ((c .before .before .enum-told7) .given .1, (c .enum-told8) .given .1) refl
+
+returns-8 : tie.Need-returns-8
+unfolding operatorOf
+returns-8 c = rw ((c .before .enum-told7) .given .1) (zero-one (is-not ((c .before .before .before .args) .s) refl (but (17 ∷ [])) 17 refl ((c .match4) .keys2)) refl)
+
+returns-9 : tie.Need-returns-9
+unfolding operatorOf
+returns-9 c = rw ((c .before .before .enum-told9) .given .1, (c .enum-told10) .given .1) refl
+
+returns-10 : tie.Need-returns-10
+unfolding operatorOf
+returns-10 c = rw ((c .before .enum-told9) .given .1) (zero-one (is-not ((c .before .before .before .args) .s) refl (but (18 ∷ [])) 18 refl ((c .match5) .keys2)) refl)
+
+returns-11 : tie.Need-returns-11
+unfolding operatorOf
+returns-11 c = rw ((c .before .before .enum-told11) .given .1, (c .enum-told12) .given .1) refl
+
+returns-12 : tie.Need-returns-12
+unfolding operatorOf
+returns-12 c = rw ((c .before .enum-told11) .given .1) (zero-one (is-not ((c .before .before .before .args) .s) refl (but (20 ∷ [])) 20 refl ((c .match6) .keys2)) refl)
+
+returns-13 : tie.Need-returns-13
+unfolding operatorOf
+returns-13 c = rw ((c .before .before .enum-told13) .given .1, (c .enum-told14) .given .1) refl
+
+returns-14 : tie.Need-returns-14
+unfolding operatorOf
+returns-14 c = rw ((c .before .enum-told13) .given .1) (zero-one (is-not ((c .before .before .before .args) .s) refl (but (21 ∷ [])) 21 refl ((c .match7) .keys2)) refl)
+
+pub operator-spec : {M : Type 1} → statement M
+operator-spec =
+    tie.close
+    (tie.spec
+    enum-told
+    enum-told-2
+    enum-told-3
+    enum-told-4
+    enum-told-5
+    enum-told-6
+    enum-told-7
+    enum-told-8
+    enum-told-9
+    enum-told-10
+    enum-told-11
+    enum-told-12
+    enum-told-13
+    enum-told-14
+    returns
+    returns-2
+    returns-3
+    returns-4
+    returns-5
+    returns-6
+    returns-7
+    returns-8
+    returns-9
+    returns-10
+    returns-11
+    returns-12
+    returns-13
+    returns-14)
