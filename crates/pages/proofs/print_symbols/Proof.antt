@@ -1,0 +1,33 @@
+-- `pages::print_symbols` meets its contract. Each index is tested.
+-- Assumes nothing.
+use Prim.Native.Nat.{ℕ, _+_, _-_, _≤_, _<_}
+use native.Mathlib.Omega.{arith}
+use borrow.Author.Needs.{needs}
+use lib.ListN.{length}
+use Rattle.pages.proofs.print_symbols.Statement.{statement}
+use Rattle.pages.proofs.print_symbols.Tie as tie
+
+abbrev Inv-loop : tie.InvT-loop
+Inv-loop source n kinds places values i₀ i = Unit {0}
+
+abbrev μ-loop : tie.MeasureT-loop
+μ-loop source n kinds places values i₀ i = n - i
+
+pub print-symbols-spec : {M : Type 1} → statement M
+print-symbols-spec =
+    tie.close
+    (tie.spec
+    Inv-loop
+    μ-loop
+    (λ c. search needs)
+    (λ c. search needs)
+    (λ c. search needs)
+    (λ c. search needs)
+    (λ c κs. search needs)
+    (λ c. search needs)
+    (λ c. search needs)
+    (λ c κs. search needs)
+    (λ c. search needs)
+    (λ c. search needs)
+    (λ c. search needs)
+    (λ c. search needs))
