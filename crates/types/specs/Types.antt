@@ -1,0 +1,286 @@
+-- Paper 01, "Names and types": "Types are local: an operator, number, logical value or name gives its own type, and a conditional expression the
+-- type of its 'then' part." The type faults of a program, each at a symbol.
+use Prim.Native.Nat.{ℕ, zero, suc}
+use mathlib.Core.Bool.{Bool, true, false, cond, not, _&&_, _||_}
+use mathlib.Core.List.{List, [], _∷_, _++_, map}
+use mathlib.Core.Option.{Option, none, some}
+use lib.Dec.{eqb, ltb}
+use lib.ListN.{length}
+use Rattle.names.specs.Program.{Name, Sort, integer, boolean, Sign, positive, negative, negation, Operator, times, over, plus, minus, less, atMost, equal, atLeast, greater, unequal, and, or, impl, equiv, Expression, number, logical, name, call, signed, operated, chosen, nested, Expressions, done, then, Element, value, while, step, Statement, dummy, assignment, procedure, when, either, repeat, compound, block, Statements, last, first, Declarations, none as no-more, variables, declare, Procedure, heading, firstSymbol}
+use Rattle.names.specs.Scopes.{Thing, variable, routine, formal, Declared, nameOf, sortOf, formalsOf, specificationsOf, specified, Scope, ofBlock, ofBody, Wanted, an, variable-of, Given, Meaning, declared, given, nothing, meaning}
+
+-- ---- types that are known, and those that are not: what has none "causes no other fault"
+
+abbrev pub alike : Sort → Sort → Bool
+alike integer integer = true
+alike integer boolean = false
+alike boolean integer = false
+alike boolean boolean = true
+
+-- known, and another than this
+abbrev pub unlike : Option Sort → Sort → Bool
+unlike none t = false
+unlike (some s) t = not (alike s t)
+
+-- both known, and different
+abbrev pub apart : Option Sort → Option Sort → Bool
+apart none t = false
+apart (some s) t = unlike t s
+
+-- a fault at a symbol, where a test says so
+abbrev pub when-so : Bool → ℕ → List ℕ
+when-so true q = q ∷ []
+when-so false q = []
+
+-- ---- names in expressions
+
+-- a type, and whether the name is at fault
+pub record Judged : Type 0 where
+  pub sort : Option Sort
+  pub wrong : Bool
+
+abbrev pub judge : Option Sort → Bool → Judged
+judge t w = record { sort = t; wrong = w }
+
+-- a procedure's name in an expression: one without a type is "used as what it isn't (it then has no type ..)"; "or a wrong number of actuals", which
+-- leaves its type
+abbrev pub applied : Option Sort → ℕ → ℕ → Judged
+applied none wants has = judge none true
+applied (some t) wants has = judge (some t) (not (eqb wants has))
+
+-- a variable or formal with no actual has its type; with some it is "used as what it isn't"
+abbrev pub plainly : Option Sort → ℕ → Judged
+plainly t zero = judge t false
+plainly t (suc n) = judge none true
+
+abbrev pub thingIn : Thing → ℕ → Judged
+thingIn (variable t) n = plainly (some t) n
+thingIn (formal t) n = plainly t n
+thingIn (routine p) n = applied (sortOf p) (length (formalsOf p)) n
+
+-- a name with n actuals as a primary
+unfoldable pub inExpression : Meaning → ℕ → Judged
+inExpression (declared d g) n = thingIn (d .thing) n
+inExpression (given k e) n = applied (e .sort) (length (e .actuals)) n
+inExpression nothing n = judge none false
+
+-- ---- actuals
+
+-- what a procedure's formals want
+unfoldable pub wants : Procedure → List Name → List Wanted
+wants p [] = []
+wants p (x ∷ xs) = wanted (specified (specificationsOf p) x) (wants p xs)
+  where
+    wanted : Option Sort → List Wanted → List Wanted
+    wanted none l = l
+    wanted (some t) l = an t ∷ l
+
+abbrev pub thingWants : Thing → List Wanted
+thingWants (variable t) = []
+thingWants (formal t) = []
+thingWants (routine p) = wants p (formalsOf p)
+
+unfoldable pub wantedBy : Meaning → List Wanted
+wantedBy (declared d g) = thingWants (d .thing)
+wantedBy (given k e) = e .actuals
+wantedBy nothing = []
+
+-- an integer variable or formal: "variable or formal of a type"
+abbrev pub thingOf : Sort → Thing → Bool
+thingOf t (variable s) = alike s t
+thingOf t (formal none) = true
+thingOf t (formal (some s)) = alike s t
+thingOf t (routine p) = false
+
+unfoldable pub isVariable : Sort → Meaning → Bool
+isVariable t (declared d g) = thingOf t (d .thing)
+isVariable t (given k e) = false
+isVariable t nothing = true
+
+-- "The second actual of ininteger is an integer variable or formal alone."
+unfoldable pub isName : List Scope → Sort → Expression → Bool
+isName g t (number q v) = false
+isName g t (logical q b) = false
+isName g t (name x) = isVariable t (meaning g x)
+isName g t (call x e es) = false
+isName g t (signed q o e) = false
+isName g t (operated q o e f) = false
+isName g t (chosen q r c e f) = false
+isName g t (nested q e) = false
+
+-- ---- operators
+
+abbrev pub signTakes : Sign → Sort
+signTakes positive = integer
+signTakes negative = integer
+signTakes negation = boolean
+
+-- arithmetic takes and gives integers, a relation takes integers and gives a Boolean, the logical operators take and give Booleans
+abbrev pub takes : Operator → Sort
+takes times = integer
+takes over = integer
+takes plus = integer
+takes minus = integer
+takes less = integer
+takes atMost = integer
+takes equal = integer
+takes atLeast = integer
+takes greater = integer
+takes unequal = integer
+takes and = boolean
+takes or = boolean
+takes impl = boolean
+takes equiv = boolean
+
+abbrev pub gives : Operator → Sort
+gives times = integer
+gives over = integer
+gives plus = integer
+gives minus = integer
+gives less = boolean
+gives atMost = boolean
+gives equal = boolean
+gives atLeast = boolean
+gives greater = boolean
+gives unequal = boolean
+gives and = boolean
+gives or = boolean
+gives impl = boolean
+gives equiv = boolean
+
+-- ---- expressions
+
+unfoldable pub count : Expressions → ℕ
+count done = 0
+count (then e es) = suc (count es)
+
+-- g: the scopes around
+unfoldable pub sortE : List Scope → Expression → Option Sort
+sortE g (number q v) = some integer
+sortE g (logical q b) = some boolean
+sortE g (name x) = inExpression (meaning g x) 0 .sort
+sortE g (call x e es) = inExpression (meaning g x) (suc (count es)) .sort
+sortE g (signed q o e) = some (signTakes o)
+sortE g (operated q o e f) = some (gives o)
+sortE g (chosen q r c e f) = sortE g e
+sortE g (nested q e) = sortE g e
+
+-- "a wrong actual .. at its first symbol"
+unfoldable pub misfit : List Scope → Wanted → Expression → Bool
+misfit g (an t) e = unlike (sortE g e) t
+misfit g (variable-of t) e = not (isName g t e)
+
+unfoldable pub misfits : List Scope → List Wanted → Expressions → List ℕ
+misfits g [] es = []
+misfits g (w ∷ ws) done = []
+misfits g (w ∷ ws) (then e es) = when-so (misfit g w e) (firstSymbol e) ++ misfits g ws es
+
+unfoldable mutual
+  pub faultsE : List Scope → Expression → List ℕ
+  faultsE g (number q v) = []
+  faultsE g (logical q b) = []
+  faultsE g (name x) = when-so (inExpression (meaning g x) 0 .wrong) (x .symbol)
+  faultsE g (call x e es) =
+      when-so (inExpression (meaning g x) (suc (count es)) .wrong) (x .symbol)
+      ++ (misfits g (wantedBy (meaning g x)) (then e es) ++ (faultsE g e ++ faultsEs g es))
+  -- "an operand of the wrong type, at the operator"
+  faultsE g (signed q o e) = when-so (unlike (sortE g e) (signTakes o)) q ++ faultsE g e
+  faultsE g (operated q o e f) = when-so (unlike (sortE g e) (takes o) || unlike (sortE g f) (takes o)) q ++ (faultsE g e ++ faultsE g f)
+  -- "a condition not Boolean, at 'if' or 'while'; 'else' of another type, at 'else'"
+  faultsE g (chosen q r c e f) =
+      when-so (unlike (sortE g c) boolean) q ++ (when-so (apart (sortE g e) (sortE g f)) r ++ (faultsE g c ++ (faultsE g e ++ faultsE g f)))
+  faultsE g (nested q e) = faultsE g e
+
+  pub faultsEs : List Scope → Expressions → List ℕ
+  faultsEs g done = []
+  faultsEs g (then e es) = faultsE g e ++ faultsEs g es
+
+-- ---- left parts: "a left part that is no variable, formal or typed procedure inside its own body, or is not of the first one's type, at the name"
+
+-- the type of the nearest body around that is the procedure's own
+unfoldable pub ownSort : List Scope → Procedure → Option Sort
+ownSort [] p = none
+ownSort (ofBlock d ∷ g) p = ownSort g p
+ownSort (ofBody p' ∷ g) p = cond (eqb (nameOf p' .symbol) (nameOf p .symbol)) (sortOf p') (ownSort g p)
+
+abbrev pub ownResult : Option Sort → Judged
+ownResult none = judge none true
+ownResult (some t) = judge (some t) false
+
+abbrev pub thingLeft : List Scope → Thing → Judged
+thingLeft g (variable t) = judge (some t) false
+thingLeft g (formal t) = judge t false
+thingLeft g (routine p) = ownResult (ownSort g p)
+
+unfoldable pub asLeft : List Scope → Meaning → Judged
+asLeft g (declared d h) = thingLeft g (d .thing)
+asLeft g (given k e) = judge none true
+asLeft g nothing = judge none false
+
+abbrev pub leftOf : List Scope → Name → Judged
+leftOf g x = asLeft g (meaning g x)
+
+unfoldable pub faultsLeft : List Scope → Option Sort → List Name → List ℕ
+faultsLeft g t [] = []
+faultsLeft g t (x ∷ xs) = when-so (leftOf g x .wrong || apart t (leftOf g x .sort)) (x .symbol) ++ faultsLeft g t xs
+
+-- ---- statements
+
+-- a procedure statement: "A typed procedure may be called as a statement."
+abbrev pub thingCalled : Thing → ℕ → Bool
+thingCalled (variable t) n = true
+thingCalled (formal t) n = true
+thingCalled (routine p) n = not (eqb (length (formalsOf p)) n)
+
+unfoldable pub miscalled : Meaning → ℕ → Bool
+miscalled (declared d g) n = thingCalled (d .thing) n
+miscalled (given k e) n = not (eqb (length (e .actuals)) n)
+miscalled nothing n = false
+
+-- "a wrong .. for expression, at its first symbol"
+abbrev pub faultsFor : List Scope → Expression → List ℕ
+faultsFor g e = when-so (unlike (sortE g e) integer) (firstSymbol e) ++ faultsE g e
+
+unfoldable pub faultsL : List Scope → List Element → List ℕ
+faultsL g [] = []
+faultsL g (value e ∷ l) = faultsFor g e ++ faultsL g l
+faultsL g (while q e c ∷ l) = faultsFor g e ++ (when-so (unlike (sortE g c) boolean) q ++ (faultsE g c ++ faultsL g l))
+faultsL g (step q e f h ∷ l) = faultsFor g e ++ (faultsFor g f ++ (faultsFor g h ++ faultsL g l))
+
+unfoldable mutual
+  pub faultsS : List Scope → Statement → List ℕ
+  faultsS g dummy = []
+  -- "a right side of another type, at the last `:=`"
+  faultsS g (assignment x xs q e) =
+      when-so (leftOf g x .wrong) (x .symbol) ++ (faultsLeft g (leftOf g x .sort) xs ++ (when-so (apart (leftOf g x .sort) (sortE g e)) q ++ faultsE g e))
+  faultsS g (procedure x es) = when-so (miscalled (meaning g x) (count es)) (x .symbol) ++ (misfits g (wantedBy (meaning g x)) es ++ faultsEs g es)
+  faultsS g (when q c s) = when-so (unlike (sortE g c) boolean) q ++ (faultsE g c ++ faultsS g s)
+  faultsS g (either q c s t) = when-so (unlike (sortE g c) boolean) q ++ (faultsE g c ++ (faultsS g s ++ faultsS g t))
+  -- "a controlled variable that is no integer variable or formal, at the name"
+  faultsS g (repeat x l ls s) = when-so (not (isVariable integer (meaning g x))) (x .symbol) ++ (faultsL g (l ∷ ls) ++ faultsS g s)
+  faultsS g (compound ss) = faultsSs g ss
+  faultsS g (block q d ss) = faultsD (ofBlock d ∷ g) d ++ faultsSs (ofBlock d ∷ g) ss
+
+  pub faultsSs : List Scope → Statements → List ℕ
+  faultsSs g (last s) = faultsS g s
+  faultsSs g (first s ss) = faultsS g s ++ faultsSs g ss
+
+  pub faultsD : List Scope → Declarations → List ℕ
+  faultsD g no-more = []
+  faultsD g (variables t xs d) = faultsD g d
+  faultsD g (declare p d) = faultsP g p ++ faultsD g d
+
+  pub faultsP : List Scope → Procedure → List ℕ
+  faultsP g (heading t f xs vs ss b) = faultsS (ofBody (heading t f xs vs ss b) ∷ g) b
+
+-- the type faults of a program; the least is answer 10's symbol
+unfoldable pub typeFaults : Statement → List ℕ
+typeFaults s = faultsS [] s
+
+abbrev pub sooner : ℕ → Option ℕ → Option ℕ
+sooner q none = some q
+sooner q (some r) = some (cond (ltb r q) r q)
+
+unfoldable pub leastOf : List ℕ → Option ℕ
+leastOf [] = none
+leastOf (q ∷ l) = sooner q (leastOf l)
