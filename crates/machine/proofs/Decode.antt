@@ -1,0 +1,175 @@
+-- What the numbers of operations stand for.
+use mathlib.Core.Path.{_≡_, refl}
+use Prim.Native.Nat.{ℕ, suc, _≤_, _<_}
+use native.Mathlib.Omega.{arith}
+use borrow.Author.Tests.{ne-eqb, lt-ltb, le-ltb}
+use lib.Dec.{eqb, ltb}
+use mathlib.Core.Bool.{Bool, true, false, cond}
+use mathlib.Core.Option.{Option, none, some}
+use lib.IntN.{ℤ}
+use mir.Syntax.{w32}
+use mir.Val.{toZ}
+use Rattle.machine.specs.Values.{equiv, Unary, Binary}
+use Rattle.machine.specs.Data.{Act, push, load, store, assign, reserve, forget, receive, send, keep, bump, unary, binary, actOn, downs, Test, condition, upto, Fate, kept, gone}
+use Rattle.machine.specs.Instructions.{binaryOf, unaryOf, actOf, decode, variable, high, mid, low, Instr, END, DO, IF, JUMP, ENTER, LEAVE, CALL, RETURN, GO, NEXT}
+
+-- a number that is not m
+pub apart : (k m : ℕ) → m < k → eqb k m ≡ false
+apart k m h = ne-eqb k m (omega arith)
+
+-- one more
+pub next-up : (m k : ℕ) → m ≤ k → (k ≡ m → ⊥) → suc m ≤ k
+next-up m k h e = omega arith
+
+pub binary-last : (k : ℕ) → 38 ≤ k → binaryOf k ≡ equiv
+unfolding binaryOf
+binary-last k h =
+    simp (
+      apart k 25 (omega arith),
+      apart k 26 (omega arith),
+      apart k 27 (omega arith),
+      apart k 28 (omega arith),
+      apart k 29 (omega arith),
+      apart k 30 (omega arith),
+      apart k 31 (omega arith),
+      apart k 32 (omega arith),
+      apart k 33 (omega arith),
+      apart k 34 (omega arith),
+      apart k 35 (omega arith),
+      apart k 36 (omega arith),
+      apart k 37 (omega arith),
+    )
+
+-- ---- the operations on the data
+
+module _ {X : Type 0} (k q : ℕ) (x : X) (v : ℕ) where
+  pub act-12 : k ≡ 12 → actOf k q x v ≡ push q (toZ w32 v)
+  unfolding actOf
+  act-12 e = rw e
+
+  pub act-13 : k ≡ 13 → actOf k q x v ≡ load q x
+  unfolding actOf
+  act-13 e = rw e
+
+  pub act-14 : k ≡ 14 → actOf k q x v ≡ store x
+  unfolding actOf
+  act-14 e = rw e
+
+  pub act-15 : k ≡ 15 → actOf k q x v ≡ assign x
+  unfolding actOf
+  act-15 e = rw e
+
+  pub act-16 : k ≡ 16 → actOf k q x v ≡ reserve q
+  unfolding actOf
+  act-16 e = rw e
+
+  pub act-17 : k ≡ 17 → actOf k q x v ≡ forget
+  unfolding actOf
+  act-17 e = rw e
+
+  pub act-18 : k ≡ 18 → actOf k q x v ≡ receive q x
+  unfolding actOf
+  act-18 e = rw e
+
+  pub act-19 : k ≡ 19 → actOf k q x v ≡ send q
+  unfolding actOf
+  act-19 e = rw e
+
+  pub act-20 : k ≡ 20 → actOf k q x v ≡ keep
+  unfolding actOf
+  act-20 e = rw e
+
+  pub act-21 : k ≡ 21 → actOf k q x v ≡ bump q x
+  unfolding actOf
+  act-21 e = rw e
+
+  pub act-unary : 22 ≤ k → k < 25 → actOf k q x v ≡ unary q (unaryOf k)
+  unfolding actOf
+  act-unary h b = rw (apart k 12 (omega arith), apart k 13 (omega arith), apart k 14 (omega arith), apart k 15 (omega arith), apart k 16 (omega arith), apart k 17 (omega arith), apart k 18 (omega arith), apart k 19 (omega arith), apart k 20 (omega arith), apart k 21 (omega arith), lt-ltb k 25 b)
+
+  pub act-binary : 25 ≤ k → actOf k q x v ≡ binary q (binaryOf k)
+  unfolding actOf
+  act-binary h = rw (apart k 12 (omega arith), apart k 13 (omega arith), apart k 14 (omega arith), apart k 15 (omega arith), apart k 16 (omega arith), apart k 17 (omega arith), apart k 18 (omega arith), apart k 19 (omega arith), apart k 20 (omega arith), apart k 21 (omega arith), le-ltb k 25 h)
+
+-- an operation's variable is what names it
+chosen : {X : Type 0} → (a b c d e f g h i j m : Bool) → ℕ → X → ℤ → Unary → Binary → Act X
+chosen a b c d e f g h i j m q x z u o =
+    cond a (push q z) (cond b (load q x) (cond c (store x) (cond d (assign x) (cond e (reserve q) (cond f forget (cond g (receive q x) (cond h (send q) (cond i keep (cond j (bump q x) (cond m (unary q u) (binary q o)))))))))))
+
+chosen-on : {X Y : Type 0} (w : X → Y) (a b c d e f g h i j m : Bool) (q : ℕ) (x : X) (z : ℤ) (u : Unary) (o : Binary) → actOn w (chosen a b c d e f g h i j m q x z u o) ≡ chosen a b c d e f g h i j m q (w x) z u o
+unfolding chosen
+chosen-on w true b c d e f g h i j m q x z u o = refl
+chosen-on w false true c d e f g h i j m q x z u o = refl
+chosen-on w false false true d e f g h i j m q x z u o = refl
+chosen-on w false false false true e f g h i j m q x z u o = refl
+chosen-on w false false false false true f g h i j m q x z u o = refl
+chosen-on w false false false false false true g h i j m q x z u o = refl
+chosen-on w false false false false false false true h i j m q x z u o = refl
+chosen-on w false false false false false false false true i j m q x z u o = refl
+chosen-on w false false false false false false false false true j m q x z u o = refl
+chosen-on w false false false false false false false false false true m q x z u o = refl
+chosen-on w false false false false false false false false false false true q x z u o = refl
+chosen-on w false false false false false false false false false false false q x z u o = refl
+
+pub act-on : {X Y : Type 0} (w : X → Y) (k q : ℕ) (x : X) (v : ℕ) → actOn w (actOf k q x v) ≡ actOf k q (w x) v
+unfolding actOf chosen
+act-on w k q x v = chosen-on w (eqb k 12) (eqb k 13) (eqb k 14) (eqb k 15) (eqb k 16) (eqb k 17) (eqb k 18) (eqb k 19) (eqb k 20) (eqb k 21) (ltb k 25) q x (toZ w32 v) (unaryOf k) (binaryOf k)
+
+-- ---- the instructions
+
+module _ (k q v : ℕ) where
+  pub code-0 : k ≡ 0 → decode k q v ≡ none
+  unfolding decode
+  code-0 e = rw e
+
+  pub code-1 : k ≡ 1 → decode k q v ≡ some END
+  unfolding decode
+  code-1 e = rw e
+
+  pub code-2 : k ≡ 2 → decode k q v ≡ some (JUMP (low v))
+  unfolding decode
+  code-2 e = rw e
+
+  pub code-3 : k ≡ 3 → decode k q v ≡ some (ENTER q (mid v) (low v))
+  unfolding decode
+  code-3 e = rw e
+
+  pub code-4 : k ≡ 4 → decode k q v ≡ some (LEAVE (mid v))
+  unfolding decode
+  code-4 e = rw e
+
+  pub code-5 : k ≡ 5 → decode k q v ≡ some (CALL q (low v) (high v) (mid v) kept)
+  unfolding decode
+  code-5 e = rw e
+
+  pub code-6 : k ≡ 6 → decode k q v ≡ some (CALL q (low v) (high v) (mid v) gone)
+  unfolding decode
+  code-6 e = rw e
+
+  pub code-7 : k ≡ 7 → decode k q v ≡ some RETURN
+  unfolding decode
+  code-7 e = rw e
+
+  pub code-8 : k ≡ 8 → decode k q v ≡ some (GO (high v) (low v) (mid v))
+  unfolding decode
+  code-8 e = rw e
+
+  pub code-9 : k ≡ 9 → decode k q v ≡ some (NEXT (high v))
+  unfolding decode
+  code-9 e = rw e
+
+  pub code-10 : k ≡ 10 → decode k q v ≡ some (IF condition (low v))
+  unfolding decode
+  code-10 e = rw e
+
+  pub code-11 : k ≡ 11 → decode k q v ≡ some (IF (upto q (variable v)) (low v))
+  unfolding decode
+  code-11 e = rw e
+
+  pub code-act : 12 ≤ k → k < 39 → decode k q v ≡ some (DO (actOf k q (variable v) v))
+  unfolding decode
+  code-act h b = rw (apart k 0 (omega arith), apart k 1 (omega arith), apart k 2 (omega arith), apart k 3 (omega arith), apart k 4 (omega arith), apart k 5 (omega arith), apart k 6 (omega arith), apart k 7 (omega arith), apart k 8 (omega arith), apart k 9 (omega arith), apart k 10 (omega arith), apart k 11 (omega arith), lt-ltb k 39 b)
+
+  pub code-none : 39 ≤ k → decode k q v ≡ none
+  unfolding decode
+  code-none h = rw (apart k 0 (omega arith), apart k 1 (omega arith), apart k 2 (omega arith), apart k 3 (omega arith), apart k 4 (omega arith), apart k 5 (omega arith), apart k 6 (omega arith), apart k 7 (omega arith), apart k 8 (omega arith), apart k 9 (omega arith), apart k 10 (omega arith), apart k 11 (omega arith), le-ltb k 39 h)

@@ -1,0 +1,322 @@
+-- The data that the counts and the store hold: what each change of a count or a cell is on them.
+use mathlib.Core.Path.{_≡_, refl, sym, ap, _∙_}
+use mathlib.Core.List.{List, [], _∷_, _++_}
+use Prim.Native.Nat.{ℕ, zero, suc, _+_, _-_, _≤_, _<_}
+use native.Mathlib.Omega.{arith}
+use lib.ListN.{length, getD, set, drop, replicate, length-replicate}
+use lib.Dec.{ltb, leb}
+use mathlib.Core.Bool.{true, false}
+use mathlib.Core.Path.{subst}
+use mathlib.Core.Logic.{_≢_, ⊎-elim}
+use native.Mathlib.Nat.{eq-or-lt-of-le, le-of-suc-le-suc}
+use native.Mathlib.Numerals.{add-one}
+use borrow.Author.Tests.{lt-ltb, le-ltb, le-leb, lt-leb}
+use lib.IntN.{ℤ, pos}
+use mir.Syntax.{w32}
+use mir.Val.{SFits}
+use Rattle.machine.specs.declared.Cell.{Cell}
+use Rattle.machine.specs.declared.Cell.the-variants.{Unset, Holds}
+use Rattle.machine.specs.declared.Counts.{Counts}
+use Rattle.machine.specs.declared.Used.{Used}
+use Rattle.machine.specs.declared.Used.the-variants.{Value as Value1, Nothing as Nothing1}
+use Rattle.machine.specs.declared.Pair.{Pair}
+use Rattle.machine.specs.declared.Pair.the-variants.{Values as Values2, Nothing as Nothing2}
+use Rattle.machine.specs.declared.Did.{Did}
+use Rattle.machine.specs.declared.Did.the-variants.{Good, Bad, Stray}
+use Rattle.machine.specs.declared.Chosen.{Chosen}
+use Rattle.machine.specs.declared.Chosen.the-variants.{Yes, No, Bad as BadT, Stray as StrayT}
+use Rattle.machine.specs.declared.Value.{Value}
+use Rattle.machine.specs.declared.Value.the-variants.{Is, Fault}
+use Rattle.answers.specs.declared.Answer.{Answer}
+use Rattle.answers.specs.declared.Refusal.{Refusal}
+use Rattle.answers.specs.Answers.{refusal}
+use Rattle.answers.specs.Numbers.{cells as noCell}
+use Rattle.machine.specs.Run.{Trace, quiet, wrote}
+use Rattle.machine.specs.Data.{Data, dat, cells, Res, bad, wrong, good, check, Took, value, nothing, newest, two, back, put, look, hold, unhold, newCells, openBlock, valued, Two}
+use Rattle.machine.specs.Model.{Fitting, cellAt, putAt, roomOf, unassigned, cellsOf, heldIn, heldOf, dataOf, traceOf, seenU, onPair, After, told, fine, ill, fewer, holding, UsedIn, PairIn, Sound, SoundD, SoundT}
+use Rattle.machine.proofs.Stacks.{sound-unassigned, put-same, put-other, sound-put, sound-same, cells-unassigned, held-unassigned, room-unassigned, room-put, cells-length, cells-put, cells-new, cells-cons, cells-get, cells-set, cells-drop, held-length, held-put, held-new, held-cons2, held-drop}
+
+-- one cell more
+abbrev pub more : ℕ → Counts → Counts
+more k n = record { cells = n .cells + k; held = n .held; taken = n .taken; written = n .written }
+
+module _ (n : Counts) (a : ℕ) (s i o : List ℤ) where
+  pub newest-none : n .cells ≡ 0 → newest (dataOf n a s i o) ≡ nothing
+  unfolding newest cellsOf
+  newest-none e = rw e
+
+  pub newest-unset : 1 ≤ n .cells → cellAt s (n .cells - 1) ≡ Unset → newest (dataOf n a s i o) ≡ nothing
+  unfolding newest
+  newest-unset h e = rw (cells-cons (n .cells) s h, e)
+
+  pub newest-holds : {v v' : ℤ} → 1 ≤ n .cells → cellAt s (n .cells - 1) ≡ Holds v → v' ≡ v → newest (dataOf n a s i o) ≡ value v' (dataOf (fewer 1 n) a s i o)
+  unfolding newest
+  newest-holds h e p = rw (cells-cons (n .cells) s h, e, p)
+
+  pub look-data : (c : ℕ) → c < n .cells → look c (dataOf n a s i o) ≡ cellAt s c
+  unfolding look
+  look-data c h = rw (cells-length (n .cells) s) (cells-get (n .cells) s c h)
+
+  pub put-data : (c : ℕ) (v : ℤ) → SFits w32 v → c < n .cells → n .cells + n .held ≤ roomOf s → dataOf n a (putAt s c (Holds v)) i o ≡ put c v (dataOf n a s i o)
+  unfolding put
+  put-data c v f h r =
+      let l : c + n .held < roomOf s = omega arith in
+      let m : n .cells ≤ roomOf s = omega arith in
+      rw (cells-length (n .cells) s, cells-set (n .cells) s c (Holds v) f h m, held-put (n .held) s c (Holds v) l, room-put s c (Holds v))
+
+  -- a new cell
+  pub new-data : (x : Cell) → Fitting x → n .cells + n .held < roomOf s
+      → dataOf (more 1 n) a (putAt s (n .cells) x) i o
+      ≡ dat (x ∷ cellsOf (n .cells) s) (heldOf (n .held) s) a (record { room = roomOf s; input = drop (n .taken) i; space = length o - n .written })
+  new-data x f h =
+      let l : n .cells < roomOf s = omega arith in
+      rw (cells-new (n .cells) s x f l, held-put (n .held) s (n .cells) x h, room-put s (n .cells) x)
+
+  pub back-data : (v : ℤ) → SFits w32 v → n .cells + n .held < roomOf s → dataOf (more 1 n) a (putAt s (n .cells) (Holds v)) i o ≡ back v (dataOf n a s i o)
+  unfolding back
+  back-data v f h = new-data (Holds v) f h
+
+  -- cell c is in use, or not
+  pub cell-in : (c : ℕ) → c < n .cells → ltb c (cells (dataOf n a s i o)) ≡ true
+  cell-in c h = rw (cells-length (n .cells) s) (lt-ltb c (n .cells) h)
+
+  pub cell-out : (c : ℕ) → n .cells ≤ c → ltb c (cells (dataOf n a s i o)) ≡ false
+  cell-out c h = rw (cells-length (n .cells) s) (le-ltb c (n .cells) h)
+
+  pub new-none : (q : ℕ) (x : Cell) → roomOf s ≤ n .cells + n .held → newCells q (x ∷ []) (dataOf n a s i o) ≡ bad noCell q
+  unfolding newCells check
+  new-none q x h =
+      let l : roomOf s < n .cells + n .held + 1 = omega arith in
+      rw (cells-length (n .cells) s, held-length (n .held) s, lt-leb (n .cells + n .held + 1) (roomOf s) l)
+
+  pub new-some : (q : ℕ) (x : Cell) → Fitting x → n .cells + n .held < roomOf s
+      → newCells q (x ∷ []) (dataOf n a s i o) ≡ good quiet (dataOf (more 1 n) a (putAt s (n .cells) x) i o)
+  unfolding newCells check
+  new-some q x f h =
+      let l : n .cells + n .held + 1 ≤ roomOf s = omega arith in
+      rw (cells-length (n .cells) s, held-length (n .held) s, le-leb (n .cells + n .held + 1) (roomOf s) l) (ap (good quiet) (sym (new-data x f h)))
+
+  -- a block's cells
+  pub open-none : (q k : ℕ) → roomOf s < n .cells + n .held + k → openBlock q k (dataOf n a s i o) ≡ bad noCell q
+  unfolding openBlock newCells check
+  open-none q k h =
+      rw (cells-length (n .cells) s, held-length (n .held) s, length-replicate k Unset, lt-leb (n .cells + n .held + k) (roomOf s) h)
+
+  pub open-full : (q k : ℕ) → roomOf s < n .cells + n .held + k → ill noCell q ≡ told (traceOf n o) (openBlock q k (dataOf n a s i o))
+  unfolding told
+  open-full q k h = rw (open-none q k h)
+
+  pub open-some : (q k : ℕ) → n .cells + n .held + k ≤ roomOf s
+      → openBlock q k (dataOf n a s i o) ≡ good quiet (dataOf (more k n) a (unassigned s (n .cells) k) i o)
+  unfolding openBlock newCells check
+  open-some q k h =
+      let l : n .cells + k ≤ roomOf s = omega arith in
+      let m : n .cells + k + n .held ≤ roomOf s = omega arith in
+      rw (
+        cells-length (n .cells) s,
+        held-length (n .held) s,
+        length-replicate k Unset,
+        le-leb (n .cells + n .held + k) (roomOf s) h,
+        cells-unassigned s (n .cells) k l,
+        held-unassigned (n .held) s (n .cells) k m,
+        room-unassigned s (n .cells) k,
+      )
+
+  -- a value used, or none
+  pub saw : {u : Used} {v : ℤ} {m : Counts} → u ≡ Value1 v m → newest (dataOf n a s i o) ≡ seenU u a s i o → newest (dataOf n a s i o) ≡ value v (dataOf m a s i o)
+  saw e p = p ∙ ap (λ (w : Used). seenU w a s i o) e
+
+  pub saw-none : {u : Used} → u ≡ Nothing1 → newest (dataOf n a s i o) ≡ seenU u a s i o → newest (dataOf n a s i o) ≡ nothing
+  saw-none e p = p ∙ ap (λ (w : Used). seenU w a s i o) e
+
+  -- two values used, or not
+  pub saw-two : {u : Pair} {x y : ℤ} {m : Counts} → u ≡ Values2 x y m → ((f : ℤ → ℤ → Data → Res Data) → two f (dataOf n a s i o) ≡ onPair f u a s i o)
+      → (f : ℤ → ℤ → Data → Res Data) → two f (dataOf n a s i o) ≡ f x y (dataOf m a s i o)
+  saw-two e p f = p f ∙ ap (λ (w : Pair). onPair f w a s i o) e
+
+  pub saw-no-two : {u : Pair} → u ≡ Nothing2 → ((f : ℤ → ℤ → Data → Res Data) → two f (dataOf n a s i o) ≡ onPair f u a s i o)
+      → (f : ℤ → ℤ → Data → Res Data) → two f (dataOf n a s i o) ≡ wrong
+  saw-no-two e p f = p f ∙ ap (λ (w : Pair). onPair f w a s i o) e
+
+  -- the store after a cell was put
+  module _ {s' : List ℤ} where
+    pub back-done : {v v' : ℤ} → s' ≡ putAt s (n .cells) (Holds v') → v' ≡ v → SFits w32 v → n .cells + n .held < roomOf s
+        → fine (dataOf (more 1 n) a s' i o) (traceOf n o) ≡ fine (back v (dataOf n a s i o)) (traceOf n o)
+    back-done {v} e p f h = rw (e, p) (ap (λ (d : Data). fine d (traceOf n o)) (back-data v f h))
+
+    pub put-is : {c : ℕ} {v v' : ℤ} → s' ≡ putAt s c (Holds v') → v' ≡ v → SFits w32 v → c < n .cells → n .cells + n .held ≤ roomOf s
+        → dataOf n a s' i o ≡ put c v (dataOf n a s i o)
+    put-is {c} {v} e p f h r = rw (e, p) (put-data c v f h r)
+
+    pub put-done : {c : ℕ} {v v' : ℤ} → s' ≡ putAt s c (Holds v') → v' ≡ v → SFits w32 v → c < n .cells → n .cells + n .held ≤ roomOf s
+        → fine (dataOf n a s' i o) (traceOf n o) ≡ fine (put c v (dataOf n a s i o)) (traceOf n o)
+    put-done {c} {v} e p f h r = ap (λ (d : Data). fine d (traceOf n o)) (put-is e p f h r)
+
+    pub new-done : (q : ℕ) (x : Cell) → s' ≡ putAt s (n .cells) x → Fitting x → n .cells + n .held < roomOf s
+        → fine (dataOf (more 1 n) a s' i o) (traceOf n o) ≡ told (traceOf n o) (newCells q (x ∷ []) (dataOf n a s i o))
+    unfolding told
+    new-done q x e f h = rw (e, new-some q x f h)
+
+    pub open-done : (q k : ℕ) → s' ≡ unassigned s (n .cells) k → n .cells + n .held + k ≤ roomOf s
+        → fine (dataOf (more k n) a s' i o) (traceOf n o) ≡ told (traceOf n o) (openBlock q k (dataOf n a s i o))
+    unfolding told
+    open-done q k e h = rw (e, open-some q k h)
+
+  pub new-full : (q : ℕ) (x : Cell) → roomOf s ≤ n .cells + n .held → ill noCell q ≡ told (traceOf n o) (newCells q (x ∷ []) (dataOf n a s i o))
+  unfolding told
+  new-full q x h = rw (new-none q x h)
+
+  -- one more is held
+  pub hold-data : (v : ℤ) → SFits w32 v → n .cells + n .held < roomOf s
+      → dataOf (holding n) a (putAt s (roomOf s - 1 - n .held) (Holds v)) i o
+      ≡ dat (cellsOf (n .cells) s) (v ∷ heldOf (n .held) s) a (record { room = roomOf s; input = drop (n .taken) i; space = length o - n .written })
+  hold-data v f h =
+      let c = roomOf s - 1 - n .held in
+      let l : n .cells ≤ c = omega arith in
+      let k : n .held < roomOf s = omega arith in
+      rw (cells-put (n .cells) s c (Holds v) l, held-new (n .held) s v f k, room-put s c (Holds v))
+
+-- ---- what the code relies on
+
+pub sound-hold : (n : Counts) (s : List ℤ) (v : ℤ) → SFits w32 v → Sound n s → n .cells + n .held < roomOf s → Sound (holding n) (putAt s (roomOf s - 1 - n .held) (Holds v))
+sound-hold n s v f g h =
+    let c = roomOf s - 1 - n .held in
+    let r = room-put s c (Holds v) in
+    record {
+      room = rw r (omega arith);
+      few = rw r (g .few);
+      holds =
+          λ k b.
+          rw r
+          (⊎-elim
+          (λ e.
+          let z : roomOf s - suc k ≡ c = omega arith in
+          let y = put-same s c (Holds v) f (omega arith) in
+          rw (z, y))
+          (λ l.
+          let z : roomOf s - suc k ≢ c = omega arith in
+          rw (put-other s c (roomOf s - suc k) (Holds v) z) (g .holds k l))
+          (eq-or-lt-of-le (le-of-suc-le-suc (rw add-one at b))));
+    }
+
+pub fewer-sound : (k : ℕ) (n m : Counts) (s : List ℤ) → Sound n s → m ≡ fewer k n → Sound m s
+fewer-sound k n m s g e = rw e (sound-same n (fewer k n) s g (omega arith) (omega (arith, g .room)))
+
+pub fewer-room : (k : ℕ) (n m : Counts) (s : List ℤ) → Sound n s → k ≤ n .cells → m ≡ fewer k n → m .cells + m .held + k ≤ roomOf s
+fewer-room k n m s g h e = rw e (omega (arith, g .room))
+
+pub fewer-fewer : (n m l : Counts) → m ≡ fewer 1 n → l ≡ fewer 1 m → l ≡ fewer 2 n
+fewer-fewer n m l e f =
+    let z : n .cells - 1 - 1 ≡ n .cells - 2 = omega arith in
+    f ∙ ap (fewer 1) e ∙ ap (λ (c : ℕ). record { cells = c; held = n .held; taken = n .taken; written = n .written }) z
+
+pub sound-as : (n m : Counts) (r : Did) (s : List ℤ) → m .written ≡ n .written → SoundD m r s → SoundD n r s
+sound-as n m (Good l) s e h = (h .0, h .1 ∙ e)
+sound-as n m (Bad r) s e h = tt
+sound-as n m Stray s e h = tt
+
+pub test-as : (n m : Counts) (r : Chosen) (s : List ℤ) → m .written ≡ n .written → SoundT m r s → SoundT n r s
+test-as n m (Yes l) s e h = (h .0, h .1 ∙ e)
+test-as n m (No l) s e h = (h .0, h .1 ∙ e)
+test-as n m (BadT r) s e h = tt
+test-as n m StrayT s e h = tt
+
+pub written-as : (k : ℕ) (n m : Counts) → m ≡ fewer k n → m .written ≡ n .written
+written-as k n m e = ap (λ (l : Counts). l .written) e
+
+-- a held cell holds a number
+pub held-number : (n : Counts) (s : List ℤ) (k : ℕ) → Sound n s → k < n .held → cellAt s (roomOf s - suc k) ≡ Unset → ⊥
+held-number n s k g h e = let z : _≡_ {A = Cell} Unset (Holds (heldIn (cellAt s (roomOf s - suc k)))) = sym e ∙ g .holds k h in unset-not z
+  where
+    unset-not : {v : ℤ} → _≡_ {A = Cell} Unset (Holds v) → ⊥
+    unset-not e = let z : _≡_ {A = ℕ} 0 1 = ap code e in omega arith
+      where
+        code : Cell → ℕ
+        code Unset = 0
+        code (Holds v) = 1
+
+pub trace-as : (k : ℕ) (n m : Counts) (o : List ℤ) → m ≡ fewer k n → traceOf m o ≡ traceOf n o
+trace-as k n m o e = ap (λ (l : Counts). traceOf l o) e
+
+-- a refusal that was made
+pub refused : {a q : ℕ} {r : Refusal} → r ≡ refusal a q → _≡_ {A = After Data} (ill (r .answer .number) (r .place .at)) (ill a q)
+refused e = rw e
+
+pub refusedT : {a q : ℕ} {r : Refusal} → r ≡ refusal a q → _≡_ {A = After Two} (ill (r .answer .number) (r .place .at)) (ill a q)
+refusedT e = rw e
+
+-- ---- what a function that used values says of the counts
+
+used-as : (n : Counts) {m : Counts} {u : Used} {v : ℤ} → u ≡ Value1 v m → UsedIn n u → (1 ≤ n .cells) × (m ≡ fewer 1 n)
+used-as n e h = subst (UsedIn n) e h
+
+pair-as : (n : Counts) {m : Counts} {u : Pair} {x y : ℤ} → u ≡ Values2 x y m → PairIn n u → (2 ≤ n .cells) × (m ≡ fewer 2 n)
+pair-as n e h = subst (PairIn n) e h
+
+module _ (n : Counts) {m : Counts} {u : Used} {v : ℤ} (e : u ≡ Value1 v m) (h : UsedIn n u) where
+  pub used-sound : {s : List ℤ} → Sound n s → Sound m s
+  used-sound g = fewer-sound 1 n m _ g (used-as n e h .1)
+
+  pub used-room : {s : List ℤ} → Sound n s → m .cells + m .held < roomOf s
+  used-room g = omega (arith, fewer-room 1 n m _ g (used-as n e h .0) (used-as n e h .1))
+
+  pub used-trace : (o : List ℤ) → traceOf m o ≡ traceOf n o
+  used-trace o = trace-as 1 n m o (used-as n e h .1)
+
+  pub used-written : m .written ≡ n .written
+  used-written = written-as 1 n m (used-as n e h .1)
+
+  pub used-did : (r : Did) (s : List ℤ) → SoundD m r s → SoundD n r s
+  used-did r s g = sound-as n m r s used-written g
+
+  -- and once more
+  pub used-twice : {w : Used} {x : ℤ} {l : Counts} → w ≡ Value1 x l → UsedIn m w → (2 ≤ n .cells) × (l ≡ fewer 2 n)
+  used-twice {w} {x} {l} f k =
+      let a = used-as n e h in
+      let b = used-as m f k in
+      let z : m .cells ≡ n .cells - 1 = ap (λ (c : Counts). c .cells) (a .1) in
+      (omega arith, fewer-fewer n m l (a .1) (b .1))
+
+module _ (n : Counts) {m : Counts} {u : Pair} {x y : ℤ} (e : u ≡ Values2 x y m) (h : PairIn n u) where
+  pub pair-sound : {s : List ℤ} → Sound n s → Sound m s
+  pair-sound g = fewer-sound 2 n m _ g (pair-as n e h .1)
+
+  pub pair-room : {s : List ℤ} → Sound n s → m .cells + m .held + 2 ≤ roomOf s
+  pair-room g = fewer-room 2 n m _ g (pair-as n e h .0) (pair-as n e h .1)
+
+  pub pair-trace : (o : List ℤ) → traceOf m o ≡ traceOf n o
+  pair-trace o = trace-as 2 n m o (pair-as n e h .1)
+
+  pub pair-written : m .written ≡ n .written
+  pair-written = written-as 2 n m (pair-as n e h .1)
+
+  pub pair-did : (r : Did) (s : List ℤ) → SoundD m r s → SoundD n r s
+  pair-did r s g = sound-as n m r s pair-written g
+
+-- ---- what the store holds after a cell was put
+
+module _ {n : Counts} {s s' : List ℤ} (c : ℕ) (x : Cell) (e : s' ≡ putAt s c x) (g : Sound n s) where
+  pub put-sound : c < n .cells → Sound n s'
+  put-sound h = rw e (sound-put n n s c x g refl (g .room) (omega (arith, g .room)))
+
+  pub new-sound : c ≡ n .cells → n .cells + n .held < roomOf s → Sound (more 1 n) s'
+  new-sound h k = rw e (sound-put n (more 1 n) s c x g refl (omega arith) (omega arith))
+
+  pub put-room : roomOf s' ≡ roomOf s
+  put-room = rw e (room-put s c x)
+
+-- ---- an operator's value, or its fault
+
+module _ (q : ℕ) (t : Trace) (d : Data) (w : Value) where
+  pub valued-fault : {a : Answer} → w ≡ Fault a → ill (a .number) q ≡ told t (valued q (λ v. good quiet (back v d)) w)
+  unfolding told valued
+  valued-fault e = rw e
+
+  pub valued-is : {x x' : ℤ} → w ≡ Is x → x' ≡ x → fine (back x' d) t ≡ told t (valued q (λ v. good quiet (back v d)) w)
+  unfolding told valued
+  valued-is e p = rw (e, p)
+
+pub open-sound : (n : Counts) (s : List ℤ) {s' : List ℤ} (k : ℕ) → s' ≡ unassigned s (n .cells) k → Sound n s → n .cells + n .held + k ≤ roomOf s → Sound (more k n) s'
+open-sound n s k e g h =
+    let u = sound-unassigned n s (n .cells) k g (omega arith) in
+    rw e (sound-same n (more k n) (unassigned s (n .cells) k) u (omega arith) (rw (room-unassigned s (n .cells) k) (omega arith)))

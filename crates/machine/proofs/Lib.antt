@@ -1,0 +1,11 @@
+pub mod Signed
+pub mod Decode
+pub mod Stacks
+pub mod Frames
+pub mod Kept
+pub mod Works
+pub mod Told
+pub mod Execs
+pub mod Limits
+pub mod Words
+pub mod Runs

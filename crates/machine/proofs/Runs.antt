@@ -1,0 +1,292 @@
+-- The definition runs by computation: hand-written code for each answer. Each line names operation @ place and operands.
+use Prim.Native.Nat.{ℕ}
+use native.Mathlib.Omega.{arith}
+use mathlib.Core.Path.{_≡_, refl, ap}
+use mathlib.Core.List.{List, [], _∷_}
+use lib.IntN.{ℤ, pos, negsuc}
+use Rattle.answers.specs.Answers.{refusal}
+use Rattle.answers.specs.declared.Stop.{Stop}
+use Rattle.answers.specs.declared.Stop.the-variants.{Ended, Limit, Fault, Wrong}
+use Rattle.machine.specs.Values.{whole, over, apply1, apply2, past}
+use Rattle.machine.specs.declared.Value.{Value}
+use Rattle.machine.specs.declared.Value.the-variants.{Is, Fault as Refused}
+use Rattle.machine.specs.Run.{run}
+use Rattle.machine.specs.Data.{work, test, openBlock, closeBlock, enter, leave, given, newCells, newest, onValue, back, look, put, reading, valued, hold, unhold, held, input, space, rest, spend, taking, writing, lift, guard, check}
+use Rattle.machine.specs.Instructions.{fetch, decode, actOf, unaryOf, binaryOf}
+use Rattle.machine.specs.Machine.{machine, finish, step, obey, exec, frameAt, walk, cellIn, Finish, afterwards}
+
+-- ended: ENTER@0 1 1; CONST@10 1; STORE 0 0; CONST@20 1; LOAD@22 0 0; OUT@15; LEAVE 1; END
+ended : machine (3 ∷ 8193 ∷ 652 ∷ 1 ∷ 14 ∷ 0 ∷ 1292 ∷ 1 ∷ 1421 ∷ 0 ∷ 979 ∷ 0 ∷ 4 ∷ 8192 ∷ 1 ∷ 0 ∷ []) ([]) 1000 6 3 ≡ record { stop = Ended; done = 8; taken = 0; written = pos 1 ∷ [] }
+unfolding machine finish run step obey exec fetch decode actOf unaryOf binaryOf work test openBlock closeBlock enter leave given newCells newest onValue back look put reading valued hold unhold held input space rest spend taking writing lift guard check frameAt walk cellIn whole apply1 apply2 past
+ended = refl
+
+-- limit one short: ENTER@0 1 1; CONST@10 1; STORE 0 0; CONST@20 1; LOAD@22 0 0; OUT@15; LEAVE 1; END
+limit-one-short : machine (3 ∷ 8193 ∷ 652 ∷ 1 ∷ 14 ∷ 0 ∷ 1292 ∷ 1 ∷ 1421 ∷ 0 ∷ 979 ∷ 0 ∷ 4 ∷ 8192 ∷ 1 ∷ 0 ∷ []) ([]) 7 6 3 ≡ record { stop = Limit; done = 7; taken = 0; written = pos 1 ∷ [] }
+unfolding machine finish run step obey exec fetch decode actOf unaryOf binaryOf work test openBlock closeBlock enter leave given newCells newest onValue back look put reading valued hold unhold held input space rest spend taking writing lift guard check frameAt walk cellIn whole apply1 apply2 past
+limit-one-short = refl
+
+-- limit just enough: ENTER@0 1 1; CONST@10 1; STORE 0 0; CONST@20 1; LOAD@22 0 0; OUT@15; LEAVE 1; END
+limit-just-enough : machine (3 ∷ 8193 ∷ 652 ∷ 1 ∷ 14 ∷ 0 ∷ 1292 ∷ 1 ∷ 1421 ∷ 0 ∷ 979 ∷ 0 ∷ 4 ∷ 8192 ∷ 1 ∷ 0 ∷ []) ([]) 8 6 3 ≡ record { stop = Ended; done = 8; taken = 0; written = pos 1 ∷ [] }
+unfolding machine finish run step obey exec fetch decode actOf unaryOf binaryOf work test openBlock closeBlock enter leave given newCells newest onValue back look put reading valued hold unhold held input space rest spend taking writing lift guard check frameAt walk cellIn whole apply1 apply2 past
+limit-just-enough = refl
+
+-- limit 0: ENTER@0 1 1; CONST@10 1; STORE 0 0; CONST@20 1; LOAD@22 0 0; OUT@15; LEAVE 1; END
+limit-0 : machine (3 ∷ 8193 ∷ 652 ∷ 1 ∷ 14 ∷ 0 ∷ 1292 ∷ 1 ∷ 1421 ∷ 0 ∷ 979 ∷ 0 ∷ 4 ∷ 8192 ∷ 1 ∷ 0 ∷ []) ([]) 0 6 3 ≡ record { stop = Limit; done = 0; taken = 0; written = [] }
+unfolding machine finish run step obey exec fetch decode actOf unaryOf binaryOf work test openBlock closeBlock enter leave given newCells newest onValue back look put reading valued hold unhold held input space rest spend taking writing lift guard check frameAt walk cellIn whole apply1 apply2 past
+limit-0 = refl
+
+-- no code
+no-code : machine ([]) ([]) 1000 6 3 ≡ record { stop = Wrong (record { at = 0 }); done = 1; taken = 0; written = [] }
+unfolding machine finish run step obey exec fetch decode actOf unaryOf binaryOf work test openBlock closeBlock enter leave given newCells newest onValue back look put reading valued hold unhold held input space rest spend taking writing lift guard check frameAt walk cellIn whole apply1 apply2 past
+no-code = refl
+
+-- half an instruction
+half-an-instruction : machine (1 ∷ []) ([]) 1000 6 3 ≡ record { stop = Wrong (record { at = 0 }); done = 1; taken = 0; written = [] }
+unfolding machine finish run step obey exec fetch decode actOf unaryOf binaryOf work test openBlock closeBlock enter leave given newCells newest onValue back look put reading valued hold unhold held input space rest spend taking writing lift guard check frameAt walk cellIn whole apply1 apply2 past
+half-an-instruction = refl
+
+-- zero words
+zero-words : machine (0 ∷ 0 ∷ 0 ∷ 0 ∷ []) ([]) 1000 6 3 ≡ record { stop = Wrong (record { at = 0 }); done = 1; taken = 0; written = [] }
+unfolding machine finish run step obey exec fetch decode actOf unaryOf binaryOf work test openBlock closeBlock enter leave given newCells newest onValue back look put reading valued hold unhold held input space rest spend taking writing lift guard check frameAt walk cellIn whole apply1 apply2 past
+zero-words = refl
+
+-- unknown operation
+unknown-operation : machine (39 ∷ 0 ∷ []) ([]) 1000 6 3 ≡ record { stop = Wrong (record { at = 0 }); done = 1; taken = 0; written = [] }
+unfolding machine finish run step obey exec fetch decode actOf unaryOf binaryOf work test openBlock closeBlock enter leave given newCells newest onValue back look put reading valued hold unhold held input space rest spend taking writing lift guard check frameAt walk cellIn whole apply1 apply2 past
+unknown-operation = refl
+
+-- jump out: JUMP 4000
+jump-out : machine (2 ∷ 4000 ∷ []) ([]) 1000 6 3 ≡ record { stop = Wrong (record { at = 4000 }); done = 2; taken = 0; written = [] }
+unfolding machine finish run step obey exec fetch decode actOf unaryOf binaryOf work test openBlock closeBlock enter leave given newCells newest onValue back look put reading valued hold unhold held input space rest spend taking writing lift guard check frameAt walk cellIn whole apply1 apply2 past
+jump-out = refl
+
+-- all operators: CONST 1; CONST 7; CONST 2; PLUS; OUT; CONST 1; CONST 7; CONST 2; LESS; OUT; CONST 1; CONST 7; CONST 2; TIMES; OUT; CONST 1; CONST 7; CONST 2; OVER; OUT; CONST 1; CONST 7; CONST 2; LT; OUT; CONST 1; CONST 7; CONST 2; LE; OUT; CONST 1; CONST 7; CONST 2; EQ; OUT; CONST 1; CONST 7; CONST 2; GE; OUT; CONST 1; CONST 7; CONST 2; GT; OUT; CONST 1; CONST 7; CONST 2; NE; OUT; CONST 1; CONST 7; CONST 2; AND; OUT; CONST 1; CONST 7; CONST 2; OR; OUT; CONST 1; CONST 7; CONST 2; IMPL; OUT; CONST 1; CONST 7; CONST 2; EQUIV; OUT; CONST 1; CONST -5; MINUS; OUT; CONST 1; CONST -5; NOT; OUT; CONST 1; CONST -5; IABS; OUT; END
+all-operators : machine (12 ∷ 1 ∷ 12 ∷ 7 ∷ 12 ∷ 2 ∷ 25 ∷ 0 ∷ 19 ∷ 0 ∷ 12 ∷ 1 ∷ 12 ∷ 7 ∷ 12 ∷ 2 ∷ 26 ∷ 0 ∷ 19 ∷ 0 ∷ 12 ∷ 1 ∷ 12 ∷ 7 ∷ 12 ∷ 2 ∷ 27 ∷ 0 ∷ 19 ∷ 0 ∷ 12 ∷ 1 ∷ 12 ∷ 7 ∷ 12 ∷ 2 ∷ 28 ∷ 0 ∷ 19 ∷ 0 ∷ 12 ∷ 1 ∷ 12 ∷ 7 ∷ 12 ∷ 2 ∷ 29 ∷ 0 ∷ 19 ∷ 0 ∷ 12 ∷ 1 ∷ 12 ∷ 7 ∷ 12 ∷ 2 ∷ 30 ∷ 0 ∷ 19 ∷ 0 ∷ 12 ∷ 1 ∷ 12 ∷ 7 ∷ 12 ∷ 2 ∷ 31 ∷ 0 ∷ 19 ∷ 0 ∷ 12 ∷ 1 ∷ 12 ∷ 7 ∷ 12 ∷ 2 ∷ 32 ∷ 0 ∷ 19 ∷ 0 ∷ 12 ∷ 1 ∷ 12 ∷ 7 ∷ 12 ∷ 2 ∷ 33 ∷ 0 ∷ 19 ∷ 0 ∷ 12 ∷ 1 ∷ 12 ∷ 7 ∷ 12 ∷ 2 ∷ 34 ∷ 0 ∷ 19 ∷ 0 ∷ 12 ∷ 1 ∷ 12 ∷ 7 ∷ 12 ∷ 2 ∷ 35 ∷ 0 ∷ 19 ∷ 0 ∷ 12 ∷ 1 ∷ 12 ∷ 7 ∷ 12 ∷ 2 ∷ 36 ∷ 0 ∷ 19 ∷ 0 ∷ 12 ∷ 1 ∷ 12 ∷ 7 ∷ 12 ∷ 2 ∷ 37 ∷ 0 ∷ 19 ∷ 0 ∷ 12 ∷ 1 ∷ 12 ∷ 7 ∷ 12 ∷ 2 ∷ 38 ∷ 0 ∷ 19 ∷ 0 ∷ 12 ∷ 1 ∷ 12 ∷ 4294967291 ∷ 22 ∷ 0 ∷ 19 ∷ 0 ∷ 12 ∷ 1 ∷ 12 ∷ 4294967291 ∷ 23 ∷ 0 ∷ 19 ∷ 0 ∷ 12 ∷ 1 ∷ 12 ∷ 4294967291 ∷ 24 ∷ 0 ∷ 19 ∷ 0 ∷ 1 ∷ 0 ∷ []) ([]) 1000 6 18 ≡ record { stop = Ended; done = 83; taken = 0; written = pos 9 ∷ pos 5 ∷ pos 14 ∷ pos 3 ∷ pos 0 ∷ pos 0 ∷ pos 0 ∷ pos 1 ∷ pos 1 ∷ pos 1 ∷ pos 1 ∷ pos 1 ∷ pos 1 ∷ pos 1 ∷ pos 5 ∷ pos 0 ∷ pos 5 ∷ [] }
+unfolding machine finish run step obey exec fetch decode actOf unaryOf binaryOf work test openBlock closeBlock enter leave given newCells newest onValue back look put reading valued hold unhold held input space rest spend taking writing lift guard check frameAt walk cellIn whole apply1 apply2 past
+all-operators = refl
+
+-- toward zero: CONST 1; CONST 7; CONST -2; OVER; OUT; CONST 1; CONST -7; CONST 2; OVER; OUT; CONST 1; CONST 8; CONST 3; OVER; CONST 2; OVER; OUT; END
+toward-zero : machine (12 ∷ 1 ∷ 12 ∷ 7 ∷ 12 ∷ 4294967294 ∷ 28 ∷ 0 ∷ 19 ∷ 0 ∷ 12 ∷ 1 ∷ 12 ∷ 4294967289 ∷ 12 ∷ 2 ∷ 28 ∷ 0 ∷ 19 ∷ 0 ∷ 12 ∷ 1 ∷ 12 ∷ 8 ∷ 12 ∷ 3 ∷ 28 ∷ 0 ∷ 12 ∷ 2 ∷ 28 ∷ 0 ∷ 19 ∷ 0 ∷ 1 ∷ 0 ∷ []) ([]) 1000 6 4 ≡ record { stop = Ended; done = 18; taken = 0; written = negsuc 2 ∷ negsuc 2 ∷ pos 1 ∷ [] }
+unfolding machine finish run step obey exec fetch decode actOf unaryOf binaryOf work test openBlock closeBlock enter leave given newCells newest onValue back look put reading valued hold unhold held input space rest spend taking writing lift guard check frameAt walk cellIn whole apply1 apply2 past
+toward-zero = refl
+
+-- 21 sum: CONST 2147483647; CONST 1; PLUS@33; END
+answer-21-sum : machine (12 ∷ 2147483647 ∷ 12 ∷ 1 ∷ 2137 ∷ 0 ∷ 1 ∷ 0 ∷ []) ([]) 1000 6 3 ≡ record { stop = Fault (refusal 21 33); done = 3; taken = 0; written = [] }
+unfolding machine finish run step obey exec fetch decode actOf unaryOf binaryOf work test openBlock closeBlock enter leave given newCells newest onValue back look put reading valued hold unhold held input space rest spend taking writing lift guard check frameAt walk cellIn whole apply1 apply2 past
+answer-21-sum = refl
+
+-- 21 quotient: CONST -2147483648; CONST -1; OVER@44; END
+answer-21-quotient : machine (12 ∷ 2147483648 ∷ 12 ∷ 4294967295 ∷ 2844 ∷ 0 ∷ 1 ∷ 0 ∷ []) ([]) 1000 6 3 ≡ record { stop = Fault (refusal 21 44); done = 3; taken = 0; written = [] }
+unfolding machine finish run step obey exec fetch decode actOf unaryOf binaryOf work test openBlock closeBlock enter leave given newCells newest onValue back look put reading valued hold unhold held input space rest spend taking writing lift guard check frameAt walk cellIn whole apply1 apply2 past
+answer-21-quotient = refl
+
+-- 21 minus: CONST -2147483648; MINUS@5; END
+answer-21-minus : machine (12 ∷ 2147483648 ∷ 342 ∷ 0 ∷ 1 ∷ 0 ∷ []) ([]) 1000 6 3 ≡ record { stop = Fault (refusal 21 5); done = 2; taken = 0; written = [] }
+unfolding machine finish run step obey exec fetch decode actOf unaryOf binaryOf work test openBlock closeBlock enter leave given newCells newest onValue back look put reading valued hold unhold held input space rest spend taking writing lift guard check frameAt walk cellIn whole apply1 apply2 past
+answer-21-minus = refl
+
+-- 21 iabs: CONST -2147483648; IABS@6; END
+answer-21-iabs : machine (12 ∷ 2147483648 ∷ 408 ∷ 0 ∷ 1 ∷ 0 ∷ []) ([]) 1000 6 3 ≡ record { stop = Fault (refusal 21 6); done = 2; taken = 0; written = [] }
+unfolding machine finish run step obey exec fetch decode actOf unaryOf binaryOf work test openBlock closeBlock enter leave given newCells newest onValue back look put reading valued hold unhold held input space rest spend taking writing lift guard check frameAt walk cellIn whole apply1 apply2 past
+answer-21-iabs = refl
+
+-- 22: CONST 7; CONST 0; OVER@55; END
+answer-22 : machine (12 ∷ 7 ∷ 12 ∷ 0 ∷ 3548 ∷ 0 ∷ 1 ∷ 0 ∷ []) ([]) 1000 6 3 ≡ record { stop = Fault (refusal 22 55); done = 3; taken = 0; written = [] }
+unfolding machine finish run step obey exec fetch decode actOf unaryOf binaryOf work test openBlock closeBlock enter leave given newCells newest onValue back look put reading valued hold unhold held input space rest spend taking writing lift guard check frameAt walk cellIn whole apply1 apply2 past
+answer-22 = refl
+
+-- 23 variable: ENTER@0 2 1; LOAD@8 0 1; END
+answer-23-variable : machine (3 ∷ 16385 ∷ 525 ∷ 8192 ∷ 1 ∷ 0 ∷ []) ([]) 1000 2 3 ≡ record { stop = Fault (refusal 23 8); done = 2; taken = 0; written = [] }
+unfolding machine finish run step obey exec fetch decode actOf unaryOf binaryOf work test openBlock closeBlock enter leave given newCells newest onValue back look put reading valued hold unhold held input space rest spend taking writing lift guard check frameAt walk cellIn whole apply1 apply2 past
+answer-23-variable = refl
+
+-- 23 result: RESULT@30; CALLN@30 3 0 1; END; RETURN
+answer-23-result : machine (1936 ∷ 0 ∷ 1925 ∷ 8195 ∷ 1 ∷ 0 ∷ 7 ∷ 0 ∷ []) ([]) 1000 6 3 ≡ record { stop = Fault (refusal 23 30); done = 3; taken = 0; written = [] }
+unfolding machine finish run step obey exec fetch decode actOf unaryOf binaryOf work test openBlock closeBlock enter leave given newCells newest onValue back look put reading valued hold unhold held input space rest spend taking writing lift guard check frameAt walk cellIn whole apply1 apply2 past
+answer-23-result = refl
+
+-- 24: ENTER@0 1 1; CONST@9 1; IN@3 0 0; CONST@9 1; IN@4 0 0; END
+answer-24 : machine (3 ∷ 8193 ∷ 588 ∷ 1 ∷ 210 ∷ 0 ∷ 588 ∷ 1 ∷ 274 ∷ 0 ∷ 1 ∷ 0 ∷ []) (pos 42 ∷ []) 1000 6 3 ≡ record { stop = Fault (refusal 24 4); done = 5; taken = 1; written = [] }
+unfolding machine finish run step obey exec fetch decode actOf unaryOf binaryOf work test openBlock closeBlock enter leave given newCells newest onValue back look put reading valued hold unhold held input space rest spend taking writing lift guard check frameAt walk cellIn whole apply1 apply2 past
+answer-24 = refl
+
+-- 25: CONST 1; CONST 8; OUT@3; CONST 1; CONST 9; OUT@4; END
+answer-25 : machine (12 ∷ 1 ∷ 12 ∷ 8 ∷ 211 ∷ 0 ∷ 12 ∷ 1 ∷ 12 ∷ 9 ∷ 275 ∷ 0 ∷ 1 ∷ 0 ∷ []) ([]) 1000 6 1 ≡ record { stop = Fault (refusal 25 4); done = 6; taken = 0; written = pos 8 ∷ [] }
+unfolding machine finish run step obey exec fetch decode actOf unaryOf binaryOf work test openBlock closeBlock enter leave given newCells newest onValue back look put reading valued hold unhold held input space rest spend taking writing lift guard check frameAt walk cellIn whole apply1 apply2 past
+answer-25 = refl
+
+-- 26 value: CONST@1 1; CONST@2 2; CONST@3 3; END
+answer-26-value : machine (76 ∷ 1 ∷ 140 ∷ 2 ∷ 204 ∷ 3 ∷ 1 ∷ 0 ∷ []) ([]) 1000 2 3 ≡ record { stop = Fault (refusal 26 3); done = 3; taken = 0; written = [] }
+unfolding machine finish run step obey exec fetch decode actOf unaryOf binaryOf work test openBlock closeBlock enter leave given newCells newest onValue back look put reading valued hold unhold held input space rest spend taking writing lift guard check frameAt walk cellIn whole apply1 apply2 past
+answer-26-value = refl
+
+-- 26 block: ENTER@77 3 1; END
+answer-26-block : machine (4931 ∷ 24577 ∷ 1 ∷ 0 ∷ []) ([]) 1000 2 3 ≡ record { stop = Fault (refusal 26 77); done = 1; taken = 0; written = [] }
+unfolding machine finish run step obey exec fetch decode actOf unaryOf binaryOf work test openBlock closeBlock enter leave given newCells newest onValue back look put reading valued hold unhold held input space rest spend taking writing lift guard check frameAt walk cellIn whole apply1 apply2 past
+answer-26-block = refl
+
+-- 27: JUMP 1; CALL@12 1 0 0; END
+answer-27 : machine (2 ∷ 1 ∷ 774 ∷ 1 ∷ 1 ∷ 0 ∷ []) ([]) 2000 1 3 ≡ record { stop = Fault (refusal 27 12); done = 258; taken = 0; written = [] }
+unfolding machine finish run step obey exec fetch decode actOf unaryOf binaryOf work test openBlock closeBlock enter leave given newCells newest onValue back look put reading valued hold unhold held input space rest spend taking writing lift guard check frameAt walk cellIn whole apply1 apply2 past
+answer-27 = refl
+
+-- 28: ENTER 1 1; CONST 2; IN@5 0 0; END
+answer-28 : machine (3 ∷ 8193 ∷ 12 ∷ 2 ∷ 338 ∷ 0 ∷ 1 ∷ 0 ∷ []) ([]) 1000 6 3 ≡ record { stop = Fault (refusal 28 5); done = 3; taken = 0; written = [] }
+unfolding machine finish run step obey exec fetch decode actOf unaryOf binaryOf work test openBlock closeBlock enter leave given newCells newest onValue back look put reading valued hold unhold held input space rest spend taking writing lift guard check frameAt walk cellIn whole apply1 apply2 past
+answer-28 = refl
+
+-- 28 out: CONST 0; CONST 3; OUT@6; END
+answer-28-out : machine (12 ∷ 0 ∷ 12 ∷ 3 ∷ 403 ∷ 0 ∷ 1 ∷ 0 ∷ []) ([]) 1000 6 0 ≡ record { stop = Fault (refusal 28 6); done = 3; taken = 0; written = [] }
+unfolding machine finish run step obey exec fetch decode actOf unaryOf binaryOf work test openBlock closeBlock enter leave given newCells newest onValue back look put reading valued hold unhold held input space rest spend taking writing lift guard check frameAt walk cellIn whole apply1 apply2 past
+answer-28-out = refl
+
+-- 29 no value: CONST 1; PLUS@4; END
+answer-29-no-value : machine (12 ∷ 1 ∷ 281 ∷ 0 ∷ 1 ∷ 0 ∷ []) ([]) 1000 6 3 ≡ record { stop = Wrong (record { at = 1 }); done = 2; taken = 0; written = [] }
+unfolding machine finish run step obey exec fetch decode actOf unaryOf binaryOf work test openBlock closeBlock enter leave given newCells newest onValue back look put reading valued hold unhold held input space rest spend taking writing lift guard check frameAt walk cellIn whole apply1 apply2 past
+answer-29-no-value = refl
+
+-- 29 unassigned: RESULT; UNLESS 3; END
+answer-29-unassigned : machine (16 ∷ 0 ∷ 10 ∷ 3 ∷ 1 ∷ 0 ∷ []) ([]) 1000 6 3 ≡ record { stop = Wrong (record { at = 1 }); done = 2; taken = 0; written = [] }
+unfolding machine finish run step obey exec fetch decode actOf unaryOf binaryOf work test openBlock closeBlock enter leave given newCells newest onValue back look put reading valued hold unhold held input space rest spend taking writing lift guard check frameAt walk cellIn whole apply1 apply2 past
+answer-29-unassigned = refl
+
+-- 29 below the activation: CONST 5; CALL@2 3 0 0; END; DROP; RETURN
+answer-29-below-the-activation : machine (12 ∷ 5 ∷ 134 ∷ 3 ∷ 1 ∷ 0 ∷ 17 ∷ 0 ∷ 7 ∷ 0 ∷ []) ([]) 1000 6 3 ≡ record { stop = Wrong (record { at = 3 }); done = 3; taken = 0; written = [] }
+unfolding machine finish run step obey exec fetch decode actOf unaryOf binaryOf work test openBlock closeBlock enter leave given newCells newest onValue back look put reading valued hold unhold held input space rest spend taking writing lift guard check frameAt walk cellIn whole apply1 apply2 past
+answer-29-below-the-activation = refl
+
+-- 29 no such cell: CONST 5; LOAD@3 0 9; END
+answer-29-no-such-cell : machine (12 ∷ 5 ∷ 205 ∷ 73728 ∷ 1 ∷ 0 ∷ []) ([]) 1000 6 3 ≡ record { stop = Wrong (record { at = 1 }); done = 2; taken = 0; written = [] }
+unfolding machine finish run step obey exec fetch decode actOf unaryOf binaryOf work test openBlock closeBlock enter leave given newCells newest onValue back look put reading valued hold unhold held input space rest spend taking writing lift guard check frameAt walk cellIn whole apply1 apply2 past
+answer-29-no-such-cell = refl
+
+-- 29 leave: ENTER 1 1; LEAVE 2; END
+answer-29-leave : machine (3 ∷ 8193 ∷ 4 ∷ 16384 ∷ 1 ∷ 0 ∷ []) ([]) 1000 6 3 ≡ record { stop = Wrong (record { at = 1 }); done = 2; taken = 0; written = [] }
+unfolding machine finish run step obey exec fetch decode actOf unaryOf binaryOf work test openBlock closeBlock enter leave given newCells newest onValue back look put reading valued hold unhold held input space rest spend taking writing lift guard check frameAt walk cellIn whole apply1 apply2 past
+answer-29-leave = refl
+
+-- 29 return: RETURN
+answer-29-return : machine (7 ∷ 0 ∷ []) ([]) 1000 6 3 ≡ record { stop = Wrong (record { at = 0 }); done = 1; taken = 0; written = [] }
+unfolding machine finish run step obey exec fetch decode actOf unaryOf binaryOf work test openBlock closeBlock enter leave given newCells newest onValue back look put reading valued hold unhold held input space rest spend taking writing lift guard check frameAt walk cellIn whole apply1 apply2 past
+answer-29-return = refl
+
+-- 29 result gone: CALLN@2 2 0 0; END; RETURN
+answer-29-result-gone : machine (133 ∷ 2 ∷ 1 ∷ 0 ∷ 7 ∷ 0 ∷ []) ([]) 1000 6 3 ≡ record { stop = Wrong (record { at = 2 }); done = 2; taken = 0; written = [] }
+unfolding machine finish run step obey exec fetch decode actOf unaryOf binaryOf work test openBlock closeBlock enter leave given newCells newest onValue back look put reading valued hold unhold held input space rest spend taking writing lift guard check frameAt walk cellIn whole apply1 apply2 past
+answer-29-result-gone = refl
+
+-- 29 go: GO 1 2 0; END
+answer-29-go : machine (8 ∷ 67108866 ∷ 1 ∷ 0 ∷ []) ([]) 1000 6 3 ≡ record { stop = Wrong (record { at = 0 }); done = 1; taken = 0; written = [] }
+unfolding machine finish run step obey exec fetch decode actOf unaryOf binaryOf work test openBlock closeBlock enter leave given newCells newest onValue back look put reading valued hold unhold held input space rest spend taking writing lift guard check frameAt walk cellIn whole apply1 apply2 past
+answer-29-go = refl
+
+-- 29 next: NEXT 0
+answer-29-next : machine (9 ∷ 0 ∷ []) ([]) 1000 6 3 ≡ record { stop = Wrong (record { at = 0 }); done = 1; taken = 0; written = [] }
+unfolding machine finish run step obey exec fetch decode actOf unaryOf binaryOf work test openBlock closeBlock enter leave given newCells newest onValue back look put reading valued hold unhold held input space rest spend taking writing lift guard check frameAt walk cellIn whole apply1 apply2 past
+answer-29-next = refl
+
+-- 29 held: ENTER 1 1; CONST 1; STORE 0 0; TEST@3 0 0 4; END
+answer-29-held : machine (3 ∷ 8193 ∷ 12 ∷ 1 ∷ 14 ∷ 0 ∷ 203 ∷ 4 ∷ 1 ∷ 0 ∷ []) ([]) 1000 6 3 ≡ record { stop = Wrong (record { at = 3 }); done = 4; taken = 0; written = [] }
+unfolding machine finish run step obey exec fetch decode actOf unaryOf binaryOf work test openBlock closeBlock enter leave given newCells newest onValue back look put reading valued hold unhold held input space rest spend taking writing lift guard check frameAt walk cellIn whole apply1 apply2 past
+answer-29-held = refl
+
+-- 29 add: ENTER 1 1; CONST 1; STORE 0 0; ADD@3 0 0; END
+answer-29-add : machine (3 ∷ 8193 ∷ 12 ∷ 1 ∷ 14 ∷ 0 ∷ 213 ∷ 0 ∷ 1 ∷ 0 ∷ []) ([]) 1000 6 3 ≡ record { stop = Wrong (record { at = 3 }); done = 4; taken = 0; written = [] }
+unfolding machine finish run step obey exec fetch decode actOf unaryOf binaryOf work test openBlock closeBlock enter leave given newCells newest onValue back look put reading valued hold unhold held input space rest spend taking writing lift guard check frameAt walk cellIn whole apply1 apply2 past
+answer-29-add = refl
+
+-- jumps: CONST 1; UNLESS 3; JUMP 4; END; CONST 0; UNLESS 7; END; CONST 1; CONST 70; OUT; END
+jumps : machine (12 ∷ 1 ∷ 10 ∷ 3 ∷ 2 ∷ 4 ∷ 1 ∷ 0 ∷ 12 ∷ 0 ∷ 10 ∷ 7 ∷ 1 ∷ 0 ∷ 12 ∷ 1 ∷ 12 ∷ 70 ∷ 19 ∷ 0 ∷ 1 ∷ 0 ∷ []) ([]) 1000 6 3 ≡ record { stop = Ended; done = 9; taken = 0; written = pos 70 ∷ [] }
+unfolding machine finish run step obey exec fetch decode actOf unaryOf binaryOf work test openBlock closeBlock enter leave given newCells newest onValue back look put reading valued hold unhold held input space rest spend taking writing lift guard check frameAt walk cellIn whole apply1 apply2 past
+jumps = refl
+
+-- left parts: ENTER 2 1; CONST 6; ASSIGN 0 0; STORE 0 1; CONST 1; LOAD 0 0; LOAD 0 1; PLUS; OUT; LEAVE 2; END
+left-parts : machine (3 ∷ 16385 ∷ 12 ∷ 6 ∷ 15 ∷ 0 ∷ 14 ∷ 8192 ∷ 12 ∷ 1 ∷ 13 ∷ 0 ∷ 13 ∷ 8192 ∷ 25 ∷ 0 ∷ 19 ∷ 0 ∷ 4 ∷ 16384 ∷ 1 ∷ 0 ∷ []) ([]) 1000 6 3 ≡ record { stop = Ended; done = 11; taken = 0; written = pos 12 ∷ [] }
+unfolding machine finish run step obey exec fetch decode actOf unaryOf binaryOf work test openBlock closeBlock enter leave given newCells newest onValue back look put reading valued hold unhold held input space rest spend taking writing lift guard check frameAt walk cellIn whole apply1 apply2 past
+left-parts = refl
+
+-- drop: CONST@3 2147483647; DROP; END
+drop : machine (204 ∷ 2147483647 ∷ 17 ∷ 0 ∷ 1 ∷ 0 ∷ []) ([]) 1000 1 3 ≡ record { stop = Ended; done = 3; taken = 0; written = [] }
+unfolding machine finish run step obey exec fetch decode actOf unaryOf binaryOf work test openBlock closeBlock enter leave given newCells newest onValue back look put reading valued hold unhold held input space rest spend taking writing lift guard check frameAt walk cellIn whole apply1 apply2 past
+drop = refl
+
+-- mixed for list: ENTER@0 1 1; CONST@5 1; STORE 0 0; GO 0 13 4; CONST@6 2; STORE 0 0; CONST@7 1; CONST@8 3; HOLD; TEST@4 0 0 21; GO 0 13 11; ADD@9 0 0; JUMP 9; ENTER@50 1 14; LOAD@87 0 0; STORE 0 1; CONST@1 1; LOAD@91 0 1; OUT@2; LEAVE 1; NEXT 0; LEAVE 1; END
+mixed-for-list : machine (3 ∷ 8193 ∷ 332 ∷ 1 ∷ 14 ∷ 0 ∷ 8 ∷ 32781 ∷ 396 ∷ 2 ∷ 14 ∷ 0 ∷ 460 ∷ 1 ∷ 524 ∷ 3 ∷ 20 ∷ 0 ∷ 267 ∷ 21 ∷ 8 ∷ 90125 ∷ 597 ∷ 0 ∷ 2 ∷ 9 ∷ 3203 ∷ 8206 ∷ 5581 ∷ 0 ∷ 14 ∷ 8192 ∷ 76 ∷ 1 ∷ 5837 ∷ 8192 ∷ 147 ∷ 0 ∷ 4 ∷ 8192 ∷ 9 ∷ 0 ∷ 4 ∷ 8192 ∷ 1 ∷ 0 ∷ []) ([]) 1000 6 3 ≡ record { stop = Ended; done = 44; taken = 0; written = pos 1 ∷ pos 2 ∷ pos 3 ∷ [] }
+unfolding machine finish run step obey exec fetch decode actOf unaryOf binaryOf work test openBlock closeBlock enter leave given newCells newest onValue back look put reading valued hold unhold held input space rest spend taking writing lift guard check frameAt walk cellIn whole apply1 apply2 past
+mixed-for-list = refl
+
+-- mixed for list, 4 cells: ENTER@0 1 1; CONST@5 1; STORE 0 0; GO 0 13 4; CONST@6 2; STORE 0 0; CONST@7 1; CONST@8 3; HOLD; TEST@4 0 0 21; GO 0 13 11; ADD@9 0 0; JUMP 9; ENTER@50 1 14; LOAD@87 0 0; STORE 0 1; CONST@1 1; LOAD@91 0 1; OUT@2; LEAVE 1; NEXT 0; LEAVE 1; END
+mixed-for-list-4-cells : machine (3 ∷ 8193 ∷ 332 ∷ 1 ∷ 14 ∷ 0 ∷ 8 ∷ 32781 ∷ 396 ∷ 2 ∷ 14 ∷ 0 ∷ 460 ∷ 1 ∷ 524 ∷ 3 ∷ 20 ∷ 0 ∷ 267 ∷ 21 ∷ 8 ∷ 90125 ∷ 597 ∷ 0 ∷ 2 ∷ 9 ∷ 3203 ∷ 8206 ∷ 5581 ∷ 0 ∷ 14 ∷ 8192 ∷ 76 ∷ 1 ∷ 5837 ∷ 8192 ∷ 147 ∷ 0 ∷ 4 ∷ 8192 ∷ 9 ∷ 0 ∷ 4 ∷ 8192 ∷ 1 ∷ 0 ∷ []) ([]) 1000 4 3 ≡ record { stop = Fault (refusal 26 87); done = 21; taken = 0; written = pos 1 ∷ [] }
+unfolding machine finish run step obey exec fetch decode actOf unaryOf binaryOf work test openBlock closeBlock enter leave given newCells newest onValue back look put reading valued hold unhold held input space rest spend taking writing lift guard check frameAt walk cellIn whole apply1 apply2 past
+mixed-for-list-4-cells = refl
+
+-- step at the end of the range: ENTER 1 1; CONST 2147483646; STORE 0 0; CONST 1; CONST 2147483647; HOLD; TEST 0 0 13; GO 0 10 8; ADD@61 0 0; JUMP 6; CONST 1; LOAD 0 0; OUT; NEXT 0; END
+step-at-the-end-of-the-range : machine (3 ∷ 8193 ∷ 12 ∷ 2147483646 ∷ 14 ∷ 0 ∷ 12 ∷ 1 ∷ 12 ∷ 2147483647 ∷ 20 ∷ 0 ∷ 11 ∷ 13 ∷ 8 ∷ 65546 ∷ 3925 ∷ 0 ∷ 2 ∷ 6 ∷ 12 ∷ 1 ∷ 13 ∷ 0 ∷ 19 ∷ 0 ∷ 9 ∷ 0 ∷ 1 ∷ 0 ∷ []) ([]) 1000 6 3 ≡ record { stop = Fault (refusal 21 61); done = 21; taken = 0; written = pos 2147483646 ∷ pos 2147483647 ∷ [] }
+unfolding machine finish run step obey exec fetch decode actOf unaryOf binaryOf work test openBlock closeBlock enter leave given newCells newest onValue back look put reading valued hold unhold held input space rest spend taking writing lift guard check frameAt walk cellIn whole apply1 apply2 past
+step-at-the-end-of-the-range = refl
+
+-- down: ENTER 1 1; CONST 3; STORE 0 0; CONST -1; CONST 1; HOLD; TEST 0 0 14; GO 0 10 8; ADD 0 0; JUMP 6; CONST 1; LOAD 0 0; OUT; NEXT 0; LEAVE 1; END
+down : machine (3 ∷ 8193 ∷ 12 ∷ 3 ∷ 14 ∷ 0 ∷ 12 ∷ 4294967295 ∷ 12 ∷ 1 ∷ 20 ∷ 0 ∷ 11 ∷ 14 ∷ 8 ∷ 65546 ∷ 21 ∷ 0 ∷ 2 ∷ 6 ∷ 12 ∷ 1 ∷ 13 ∷ 0 ∷ 19 ∷ 0 ∷ 9 ∷ 0 ∷ 4 ∷ 8192 ∷ 1 ∷ 0 ∷ []) ([]) 1000 6 3 ≡ record { stop = Ended; done = 33; taken = 0; written = pos 3 ∷ pos 2 ∷ pos 1 ∷ [] }
+unfolding machine finish run step obey exec fetch decode actOf unaryOf binaryOf work test openBlock closeBlock enter leave given newCells newest onValue back look put reading valued hold unhold held input space rest spend taking writing lift guard check frameAt walk cellIn whole apply1 apply2 past
+down = refl
+
+-- step 0: ENTER 1 1; CONST 3; STORE 0 0; CONST 0; CONST 1; HOLD; TEST 0 0 11; GO 0 10 8; ADD 0 0; JUMP 6; NEXT 0; LEAVE 1; END
+step-0 : machine (3 ∷ 8193 ∷ 12 ∷ 3 ∷ 14 ∷ 0 ∷ 12 ∷ 0 ∷ 12 ∷ 1 ∷ 20 ∷ 0 ∷ 11 ∷ 11 ∷ 8 ∷ 65546 ∷ 21 ∷ 0 ∷ 2 ∷ 6 ∷ 9 ∷ 0 ∷ 4 ∷ 8192 ∷ 1 ∷ 0 ∷ []) ([]) 100 6 3 ≡ record { stop = Limit; done = 100; taken = 0; written = [] }
+unfolding machine finish run step obey exec fetch decode actOf unaryOf binaryOf work test openBlock closeBlock enter leave given newCells newest onValue back look put reading valued hold unhold held input space rest spend taking writing lift guard check frameAt walk cellIn whole apply1 apply2 past
+step-0 = refl
+
+-- factorial of 5: ENTER@0 0 17; LOAD@40 0 1; CONST@42 0; EQ@41; UNLESS 7; CONST@50 1; JUMP 14; LOAD@60 0 1; RESULT@62; LOAD@63 0 1; CONST@65 1; LESS@64; CALLN@62 1 1 2; TIMES@61; STORE 0 0; RETURN; END; CONST@70 1; RESULT@72; CONST@73 5; CALLN@72 1 0 2; OUT@69; LEAVE 0; END
+factorial-of-5 : machine (3 ∷ 17 ∷ 2573 ∷ 8192 ∷ 2700 ∷ 0 ∷ 2655 ∷ 0 ∷ 10 ∷ 7 ∷ 3212 ∷ 1 ∷ 2 ∷ 14 ∷ 3853 ∷ 8192 ∷ 3984 ∷ 0 ∷ 4045 ∷ 8192 ∷ 4172 ∷ 1 ∷ 4122 ∷ 0 ∷ 3973 ∷ 67125249 ∷ 3931 ∷ 0 ∷ 14 ∷ 0 ∷ 7 ∷ 0 ∷ 1 ∷ 0 ∷ 4492 ∷ 1 ∷ 4624 ∷ 0 ∷ 4684 ∷ 5 ∷ 4613 ∷ 16385 ∷ 4435 ∷ 0 ∷ 4 ∷ 0 ∷ 1 ∷ 0 ∷ []) ([]) 1000 20 3 ≡ record { stop = Ended; done = 81; taken = 0; written = pos 120 ∷ [] }
+unfolding machine finish run step obey exec fetch decode actOf unaryOf binaryOf work test openBlock closeBlock enter leave given newCells newest onValue back look put reading valued hold unhold held input space rest spend taking writing lift guard check frameAt walk cellIn whole apply1 apply2 past
+factorial-of-5 = refl
+
+-- factorial of 5, 16 cells: ENTER@0 0 17; LOAD@40 0 1; CONST@42 0; EQ@41; UNLESS 7; CONST@50 1; JUMP 14; LOAD@60 0 1; RESULT@62; LOAD@63 0 1; CONST@65 1; LESS@64; CALLN@62 1 1 2; TIMES@61; STORE 0 0; RETURN; END; CONST@70 1; RESULT@72; CONST@73 5; CALLN@72 1 0 2; OUT@69; LEAVE 0; END
+factorial-of-5-16-cells : machine (3 ∷ 17 ∷ 2573 ∷ 8192 ∷ 2700 ∷ 0 ∷ 2655 ∷ 0 ∷ 10 ∷ 7 ∷ 3212 ∷ 1 ∷ 2 ∷ 14 ∷ 3853 ∷ 8192 ∷ 3984 ∷ 0 ∷ 4045 ∷ 8192 ∷ 4172 ∷ 1 ∷ 4122 ∷ 0 ∷ 3973 ∷ 67125249 ∷ 3931 ∷ 0 ∷ 14 ∷ 0 ∷ 7 ∷ 0 ∷ 1 ∷ 0 ∷ 4492 ∷ 1 ∷ 4624 ∷ 0 ∷ 4684 ∷ 5 ∷ 4613 ∷ 16385 ∷ 4435 ∷ 0 ∷ 4 ∷ 0 ∷ 1 ∷ 0 ∷ []) ([]) 1000 16 3 ≡ record { stop = Fault (refusal 26 42); done = 47; taken = 0; written = [] }
+unfolding machine finish run step obey exec fetch decode actOf unaryOf binaryOf work test openBlock closeBlock enter leave given newCells newest onValue back look put reading valued hold unhold held input space rest spend taking writing lift guard check frameAt walk cellIn whole apply1 apply2 past
+factorial-of-5-16-cells = refl
+
+-- variable of the block around: ENTER@0 1 9; CONST 1; LOAD@30 1 0; OUT; RETURN; ENTER@40 1 6; CALL@50 1 1 0; LEAVE 1; RETURN; CONST 5; STORE 0 0; CALL@60 5 0 0; LEAVE 1; END
+variable-of-the-block-around : machine (3 ∷ 8201 ∷ 12 ∷ 1 ∷ 1933 ∷ 67108864 ∷ 19 ∷ 0 ∷ 7 ∷ 0 ∷ 2563 ∷ 8198 ∷ 3206 ∷ 67108865 ∷ 4 ∷ 8192 ∷ 7 ∷ 0 ∷ 12 ∷ 5 ∷ 14 ∷ 0 ∷ 3846 ∷ 5 ∷ 4 ∷ 8192 ∷ 1 ∷ 0 ∷ []) ([]) 1000 6 3 ≡ record { stop = Ended; done = 14; taken = 0; written = pos 5 ∷ [] }
+unfolding machine finish run step obey exec fetch decode actOf unaryOf binaryOf work test openBlock closeBlock enter leave given newCells newest onValue back look put reading valued hold unhold held input space rest spend taking writing lift guard check frameAt walk cellIn whole apply1 apply2 past
+variable-of-the-block-around = refl
+
+-- nested loops: ENTER 2 1; CONST 1; STORE 0 0; GO 0 8 4; CONST 2; STORE 0 0; GO 0 8 7; JUMP 19; CONST 7; STORE 0 1; GO 1 15 11; CONST 8; STORE 0 1; GO 1 15 14; NEXT 0; CONST 1; LOAD 0 1; OUT; NEXT 1; LEAVE 2; END
+nested-loops : machine (3 ∷ 16385 ∷ 12 ∷ 1 ∷ 14 ∷ 0 ∷ 8 ∷ 32776 ∷ 12 ∷ 2 ∷ 14 ∷ 0 ∷ 8 ∷ 57352 ∷ 2 ∷ 19 ∷ 12 ∷ 7 ∷ 14 ∷ 8192 ∷ 8 ∷ 67198991 ∷ 12 ∷ 8 ∷ 14 ∷ 8192 ∷ 8 ∷ 67223567 ∷ 9 ∷ 0 ∷ 12 ∷ 1 ∷ 13 ∷ 8192 ∷ 19 ∷ 0 ∷ 9 ∷ 67108864 ∷ 4 ∷ 16384 ∷ 1 ∷ 0 ∷ []) ([]) 1000 6 6 ≡ record { stop = Ended; done = 40; taken = 0; written = pos 7 ∷ pos 8 ∷ pos 7 ∷ pos 8 ∷ [] }
+unfolding machine finish run step obey exec fetch decode actOf unaryOf binaryOf work test openBlock closeBlock enter leave given newCells newest onValue back look put reading valued hold unhold held input space rest spend taking writing lift guard check frameAt walk cellIn whole apply1 apply2 past
+nested-loops = refl
+
+-- statement call of a function: RESULT@5; CALL@5 3 0 1; END; CONST 4; STORE 0 0; RETURN
+statement-call-of-a-function : machine (336 ∷ 0 ∷ 326 ∷ 8195 ∷ 1 ∷ 0 ∷ 12 ∷ 4 ∷ 14 ∷ 0 ∷ 7 ∷ 0 ∷ []) ([]) 1000 2 3 ≡ record { stop = Ended; done = 6; taken = 0; written = [] }
+unfolding machine finish run step obey exec fetch decode actOf unaryOf binaryOf work test openBlock closeBlock enter leave given newCells newest onValue back look put reading valued hold unhold held input space rest spend taking writing lift guard check frameAt walk cellIn whole apply1 apply2 past
+statement-call-of-a-function = refl
+
+-- all lengths 0: END
+all-lengths-0 : machine (1 ∷ 0 ∷ []) ([]) 1000 0 0 ≡ record { stop = Ended; done = 1; taken = 0; written = [] }
+unfolding machine finish run step obey exec fetch decode actOf unaryOf binaryOf work test openBlock closeBlock enter leave given newCells newest onValue back look put reading valued hold unhold held input space rest spend taking writing lift guard check frameAt walk cellIn whole apply1 apply2 past
+all-lengths-0 = refl
+
+-- no store: CONST@4 1; END
+no-store : machine (268 ∷ 1 ∷ 1 ∷ 0 ∷ []) ([]) 1000 0 0 ≡ record { stop = Fault (refusal 26 4); done = 1; taken = 0; written = [] }
+unfolding machine finish run step obey exec fetch decode actOf unaryOf binaryOf work test openBlock closeBlock enter leave given newCells newest onValue back look put reading valued hold unhold held input space rest spend taking writing lift guard check frameAt walk cellIn whole apply1 apply2 past
+no-store = refl
+
+-- ---- two wrong machines, refuted: one that rounds a quotient down, one that touches the output behind the written part
+
+abbrev below : Value → ℕ
+below (Is (pos n)) = 0
+below (Is (negsuc n)) = n
+below (Refused a) = 0
+
+rounded-down : ¬ (apply2 over (negsuc 6) (pos 2) ≡ Is (negsuc 3))
+unfolding apply2 whole
+rounded-down h = let z : _≡_ {A = ℕ} 2 3 = ap below h in omega arith
+
+abbrev second : List ℤ → ℕ
+second [] = 0
+second (x ∷ []) = 0
+second (x ∷ pos n ∷ l) = n
+second (x ∷ negsuc n ∷ l) = 0
+
+touched : ¬ (afterwards (machine (12 ∷ 1 ∷ 12 ∷ 8 ∷ 19 ∷ 0 ∷ 1 ∷ 0 ∷ []) [] 1000 6 3) [] (pos 9 ∷ pos 9 ∷ pos 9 ∷ []) .output ≡ pos 8 ∷ pos 0 ∷ pos 9 ∷ [])
+unfolding machine run step fetch decode actOf unaryOf binaryOf obey exec finish frameAt walk cellIn work test openBlock closeBlock enter leave given newCells newest onValue back look put reading valued hold unhold held input space rest spend taking writing lift guard check whole apply1 apply2 past afterwards
+touched h = let z : _≡_ {A = ℕ} 9 0 = ap second h in omega arith

@@ -1,0 +1,64 @@
+-- So many of the cells are unassigned already.
+use mathlib.Core.Path.{_≡_, refl, ap, _∙_}
+use Prim.Native.Nat.{_≤_, _-_, _+_}
+use native.Mathlib.Omega.{arith}
+use lib.ListN.{length}
+use Rattle.machine.specs.Model.{unassigned, roomOf, putAt}
+use Rattle.machine.specs.declared.Cell.the-variants.{Unset}
+use mathlib.Core.List.{List}
+use lib.IntN.{ℤ}
+use Rattle.machine.proofs.Stacks.{room-unassigned, length-unassigned, unassigned-more}
+use Rattle.machine.proofs.blocks.unassign.Statement.{statement}
+use Rattle.machine.proofs.blocks.unassign.Tie as tie
+
+abbrev Inv-loop : tie.InvT-loop
+Inv-loop store₀ c k i₀ store i = (i ≤ k) × (store ≡ unassigned store₀ c i) × (roomOf store ≡ roomOf store₀) × (length store ≡ length store₀)
+
+abbrev μ-loop : tie.MeasureT-loop
+μ-loop store₀ c k i₀ store i = k - i
+
+loop-holds : tie.Need-loop-holds Inv-loop μ-loop
+unfolding unassigned
+loop-holds c = (omega arith, refl, refl, refl)
+
+add-put-cell : tie.Need-add-put-cell Inv-loop μ-loop
+unfolding roomOf
+add-put-cell c = omega arith
+
+put-cell-requires : tie.Need-put-cell-requires Inv-loop μ-loop
+put-cell-requires c κs = omega (arith, c .before .before .loop .inv .2, c .before .before .before .pre)
+
+add-i : tie.Need-add-i Inv-loop μ-loop
+add-i c = omega arith
+
+loop-less : tie.Need-loop-less Inv-loop μ-loop
+loop-less c = omega arith
+
+loop-again : tie.Need-loop-again Inv-loop μ-loop
+loop-again c =
+    let s = c .before .before .before .before .before .args .store .now in
+    let e = c .before .put-cell .ensures ∙ ap (λ (z : List ℤ). putAt z (c .before .before .before .before .before .args .c + c .before .before .before .before .loop .i) Unset) (c .before .before .before .before .loop .inv .1) ∙ unassigned-more s (c .before .before .before .before .before .args .c) (c .before .before .before .before .loop .i) in
+    (omega arith, e, ap roomOf e ∙ room-unassigned s (c .before .before .before .before .before .args .c) (c .before .before .before .before .loop .i + 1), ap (λ (z : List ℤ). length z) e ∙ length-unassigned s (c .before .before .before .before .before .args .c) (c .before .before .before .before .loop .i + 1))
+
+same-length : tie.Need-same-length Inv-loop μ-loop
+same-length c = c .before .loop .inv .3
+
+returns : tie.Need-returns Inv-loop μ-loop
+returns c =
+    let e : c .before .loop .i ≡ c .before .before .args .k = omega (arith, c .before .loop .inv .0, c .loop-test .left) in
+    c .before .loop .inv .1 ∙ ap (unassigned (c .before .before .args .store .now) (c .before .before .args .c)) e
+
+pub unassign-spec : {M : Type 1} → statement M
+unassign-spec =
+    tie.close
+    (tie.spec
+    Inv-loop
+    μ-loop
+    loop-holds
+    add-put-cell
+    put-cell-requires
+    add-i
+    loop-less
+    loop-again
+    same-length
+    returns)

@@ -1,0 +1,52 @@
+-- A number of 32 bits is what the cell holds; any other stands for an unassigned one.
+use Rattle.machine.specs.Model.{roomOf, cellAt, cellOf}
+use Rattle.machine.proofs.Signed.{low-out, high-out, between, back64}
+use lib.ListN.{getD}
+use lib.IntN.{pos}
+use Prim.Native.Nat.{_*_}
+use native.Mathlib.Omega.{arith}
+use mir.Facts.{toZ-ofZ}
+use borrow.Author.Tests.{lt-ltb}
+use lib.Signed.{mag}
+use borrow.Author.Needs.{needs}
+use Rattle.machine.proofs.cells.cell_at.Statement.{statement}
+use Rattle.machine.proofs.cells.cell_at.Tie as tie
+
+mul-x : tie.Need-mul-x
+mul-x c = search needs
+
+mul-x-2 : tie.Need-mul-x-2
+unfolding roomOf
+mul-x-2 c = omega arith
+
+shared-slice-copy-out-x : tie.Need-shared-slice-copy-out-x
+unfolding roomOf
+shared-slice-copy-out-x c = omega arith
+
+returns : tie.Need-returns
+unfolding cellAt cellOf
+returns c =
+    let z = getD (c .before .before .args .store .now) (1 * c .before .before .args .c) (pos 0) in
+    simp (low-out z (simp (back64 z (c .before .x .given)) at (c .if1 .taken)))
+
+returns-2 : tie.Need-returns-2
+unfolding cellAt cellOf
+returns-2 c =
+    let z = getD (c .before .before .before .args .store .now) (1 * c .before .before .before .args .c) (pos 0) in
+    simp (high-out z (simp (back64 z (c .before .before .x .given)) at (c .if2 .taken)))
+
+cast-t9 : tie.Need-cast-t9
+cast-t9 c =
+    let z = getD (c .before .before .before .args .store .now) (1 * c .before .before .before .args .c) (pos 0) in
+    rw (back64 z (c .before .before .x .given)) (between z (simp (back64 z (c .before .before .x .given)) at (c .before .if1 .left)) (simp (back64 z (c .before .before .x .given)) at (c .if2 .left)))
+
+returns-3 : tie.Need-returns-3
+unfolding cellAt cellOf
+returns-3 c =
+    let z = getD (c .before .before .before .args .store .now) (1 * c .before .before .before .args .c) (pos 0) in
+    let h = between z (simp (back64 z (c .before .before .x .given)) at (c .before .if1 .left)) (simp (back64 z (c .before .before .x .given)) at (c .if2 .left)) in
+    simp (back64 z (c .before .before .x .given), toZ-ofZ h, lt-ltb (mag z) 2147483648 (h .sfits))
+
+pub cell-at-spec : {M : Type 1} → statement M
+cell-at-spec =
+    tie.close (tie.spec mul-x mul-x-2 shared-slice-copy-out-x returns returns-2 cast-t9 returns-3)

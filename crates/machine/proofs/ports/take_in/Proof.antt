@@ -1,0 +1,70 @@
+-- The cell, the channel and the input are tested in this order.
+use Rattle.machine.specs.Model.{dataOf}
+use mathlib.Core.Path.{refl, _∙_}
+use Rattle.machine.proofs.Works.{taking-out, taking-channel, taking-ended, taking-some}
+use Rattle.machine.proofs.Kept.{cell-in, cell-out, refused, sound-as}
+use Rattle.machine.proofs.Told.{input-none, input-some, rest-data, took-sound, tookOne}
+use Rattle.machine.proofs.Signed.{back32, one-yes, one-no}
+use lib.ListN.{getD}
+use lib.IntN.{pos}
+use borrow.Author.Needs.{needs}
+use Rattle.machine.proofs.ports.take_in.Statement.{statement}
+use Rattle.machine.proofs.ports.take_in.Tie as tie
+
+returns : tie.Need-returns
+returns c = (λ a o. taking-out _ (dataOf (c .before .before .args .n) a (c .before .before .args .store .now) (c .before .before .args .input .now) o) (c .before .before .args .q) (c .before .before .args .c) (c .before .before .args .k) (cell-out (c .before .before .args .n) a (c .before .before .args .store .now) (c .before .before .args .input .now) o (c .before .before .args .c) (c .if1 .taken)), tt)
+
+new-requires : tie.Need-new-requires
+new-requires c κs = search needs
+
+returns-2 : tie.Need-returns-2
+returns-2 c =
+    (λ a o. refused (c .new .ensures) ∙ taking-channel _ (dataOf (c .before .before .before .before .args .n) a (c .before .before .before .before .args .store .now) (c .before .before .before .before .args .input .now) o) (c .before .before .before .before .args .q) (c .before .before .before .before .args .c) (c .before .before .before .before .args .k) (cell-in (c .before .before .before .before .args .n) a (c .before .before .before .before .args .store .now) (c .before .before .before .before .args .input .now) o (c .before .before .before .before .args .c) (c .before .before .if1 .left)) (one-no (c .before .before .before .before .args .k) (c .before .if2 .taken)), tt)
+
+new-requires-2 : tie.Need-new-requires-2
+new-requires-2 c κs = search needs
+
+returns-3 : tie.Need-returns-3
+returns-3 c =
+    (λ a o. refused (c .new2 .ensures) ∙ taking-ended _ (dataOf (c .before .before .before .before .before .args .n) a (c .before .before .before .before .before .args .store .now) (c .before .before .before .before .before .args .input .now) o) (c .before .before .before .before .before .args .q) (c .before .before .before .before .before .args .c) (c .before .before .before .before .before .args .k) (cell-in (c .before .before .before .before .before .args .n) a (c .before .before .before .before .before .args .store .now) (c .before .before .before .before .before .args .input .now) o (c .before .before .before .before .before .args .c) (c .before .before .before .if1 .left)) (one-yes (c .before .before .before .before .before .fits .k) (c .before .before .if2 .left)) (input-none (c .before .before .before .before .before .args .n) a (c .before .before .before .before .before .args .store .now) (c .before .before .before .before .before .args .input .now) o (c .before .if3 .taken)), tt)
+
+mul-v : tie.Need-mul-v
+mul-v c = search needs
+
+shared-slice-copy-out-v : tie.Need-shared-slice-copy-out-v
+shared-slice-copy-out-v c = search needs
+
+add-n : tie.Need-add-n
+add-n c = search needs
+
+put-requires : tie.Need-put-requires
+put-requires c κs = (took-sound _ _ (c .before .before .before .before .before .before .pre), c .before .before .before .before .if1 .left)
+
+same-length : tie.Need-same-length
+same-length c = search needs
+
+returns-4 : tie.Need-returns-4
+returns-4 c =
+    let i = c .before .before .before .before .before .before .before .before .args .input .now in (
+      λ a o.
+          c .before .put .ensures .0 a i o
+          ∙ taking-some _ (dataOf (c .before .before .before .before .before .before .before .before .args .n) a (c .before .before .before .before .before .before .before .before .args .store .now) (c .before .before .before .before .before .before .before .before .args .input .now) o) (c .before .before .before .before .before .before .before .before .args .q) (c .before .before .before .before .before .before .before .before .args .c) (c .before .before .before .before .before .before .before .before .args .k) (cell-in (c .before .before .before .before .before .before .before .before .args .n) a (c .before .before .before .before .before .before .before .before .args .store .now) i o (c .before .before .before .before .before .before .before .before .args .c) (c .before .before .before .before .before .before .if1 .left)) (one-yes (c .before .before .before .before .before .before .before .before .fits .k) (c .before .before .before .before .before .if2 .left))
+          (input-some (c .before .before .before .before .before .before .before .before .args .n) a (c .before .before .before .before .before .before .before .before .args .store .now) i o (c .before .before .before .before .if3 .left)) (back32 (getD i (c .before .before .before .before .before .before .before .before .args .n .taken) (pos 0)) (c .before .before .before .v .given)) refl (rest-data (c .before .before .before .before .before .before .before .before .args .n) a (c .before .before .before .before .before .before .before .before .args .store .now) i o),
+      sound-as (c .before .before .before .before .before .before .before .before .args .n) (tookOne (c .before .before .before .before .before .before .before .before .args .n)) (c .before .put .result) (c .before .put .last .1 .0) refl (c .before .put .ensures .1),
+    )
+
+pub take-in-spec : {M : Type 1} → statement M
+take-in-spec =
+    tie.close
+    (tie.spec
+    returns
+    new-requires
+    returns-2
+    new-requires-2
+    returns-3
+    mul-v
+    shared-slice-copy-out-v
+    add-n
+    put-requires
+    same-length
+    returns-4)

@@ -1,0 +1,77 @@
+-- What is left of the run is the whole of it.
+use Prim.Native.Nat.{_-_}
+use native.Mathlib.Omega.{arith}
+use borrow.Author.Needs.{needs}
+use mathlib.Core.Path.{_∙_}
+use Rattle.machine.proofs.Limits.{Driving, driving-start, driving-on, driven-stop, driven-over}
+use Rattle.machine.proofs.steps.drive.Statement.{statement}
+use Rattle.machine.proofs.steps.drive.Tie as tie
+
+abbrev Inv-loop : tie.InvT-loop
+Inv-loop code input limit store₀ output₀ own₀ at₀ live₀ n₀ done₀ store output own at live n done = Driving code input limit store₀ output₀ store output own at live n done
+
+abbrev μ-loop : tie.MeasureT-loop
+μ-loop code input limit store₀ output₀ own₀ at₀ live₀ n₀ done₀ store output own at live n done = limit - done
+
+loop-holds : tie.Need-loop-holds Inv-loop μ-loop
+loop-holds c = driving-start (c .before .args .code .now) (c .before .args .input .now) (c .before .args .limit) (c .before .args .store .now) (c .before .args .output .now) (c .before .args .own .now) (c .before .pre .1) (c .before .pre .2) (c .before .pre .3)
+
+step-requires : tie.Need-step-requires Inv-loop μ-loop
+step-requires c κs = (c .before .before .before .before .loop .inv .sound, c .before .before .before .before .loop .inv .lives, c .before .before .before .before .loop .inv .wrote, c .before .before .before .before .before .before .pre .0)
+
+enum-known-stop : tie.Need-enum-known-stop Inv-loop μ-loop
+enum-known-stop c = search needs
+
+add-t22 : tie.Need-add-t22 Inv-loop μ-loop
+add-t22 c = omega (arith, c .before .before .before .before .before .before .before .before .before .loop-test .taken)
+
+same-length : tie.Need-same-length Inv-loop μ-loop
+same-length c = c .before .before .before .before .before .step .kept .1 .1 .1 .1 .1 .0 ∙ c .before .before .before .before .before .before .before .before .before .before .loop .inv .long-store
+
+same-length-2 : tie.Need-same-length-2 Inv-loop μ-loop
+same-length-2 c = c .before .before .before .before .before .step .kept .1 .1 .1 .1 .1 .1 .0 ∙ c .before .before .before .before .before .before .before .before .before .before .loop .inv .long-output
+
+returns : tie.Need-returns Inv-loop μ-loop
+returns c = driven-stop (c .before .before .before .before .before .before .before .before .before .before .loop .inv) (c .before .before .before .before .before .before .before .before .before .loop-test .taken) (c .before .before .before .before .before .step .last .1 .1 .1 .1 .1 .0) (c .before .before .before .before .before .step .last .1 .1 .1 .1 .1 .1 .0) (c .before .before .before .before .before .step .last .1 .1 .1 .1 .1 .1 .1 .0) (c .before .before .before .before .before .step .ensures .0) (c .before .before .before .before .before .step .ensures .1) (c .before .stop .given .1)
+
+enum-known-a : tie.Need-enum-known-a Inv-loop μ-loop
+enum-known-a c = search needs
+
+add-done : tie.Need-add-done Inv-loop μ-loop
+add-done c = omega (arith, c .before .before .before .before .before .before .before .before .before .loop-test .taken)
+
+loop-less : tie.Need-loop-less Inv-loop μ-loop
+loop-less c = omega (arith, c .before .before .before .before .before .before .before .before .before .loop-test .taken)
+
+loop-again : tie.Need-loop-again Inv-loop μ-loop
+loop-again c = driving-on (c .before .before .before .before .before .before .before .before .before .before .loop .inv) (c .before .before .before .before .before .before .before .before .before .loop-test .taken) (c .before .before .before .before .before .step .last .1 .1 .1 .1 .1 .0) (c .before .before .before .before .before .step .last .1 .1 .1 .1 .1 .1 .0) (c .before .before .before .before .before .step .last .1 .1 .1 .1 .1 .1 .1 .0) (c .before .before .before .before .before .step .ensures .0) (c .before .before .before .before .before .step .ensures .1) (c .before .a .given .1) (c .before .before .before .before .before .step .kept .1 .1 .1 .1 .1 .0) (c .before .before .before .before .before .step .kept .1 .1 .1 .1 .1 .1 .0)
+
+same-length-3 : tie.Need-same-length-3 Inv-loop μ-loop
+same-length-3 c = c .before .loop .inv .long-store
+
+same-length-4 : tie.Need-same-length-4 Inv-loop μ-loop
+same-length-4 c = c .before .loop .inv .long-output
+
+returns-2 : tie.Need-returns-2 Inv-loop μ-loop
+returns-2 c = driven-over (c .before .loop .inv) (c .loop-test .left)
+
+pub drive-spec : {M : Type 1} → statement M
+drive-spec =
+    tie.close
+    (tie.spec
+    Inv-loop
+    μ-loop
+    loop-holds
+    step-requires
+    enum-known-stop
+    add-t22
+    same-length
+    same-length-2
+    returns
+    enum-known-a
+    add-done
+    loop-less
+    loop-again
+    same-length-3
+    same-length-4
+    returns-2)

@@ -1,0 +1,32 @@
+-- The memory is empty at first, and every number that was used is zero at last.
+use mathlib.Core.Path.{ap, subst, _∙_}
+use Prim.Native.Nat.{ℕ}
+use lib.ListN.{length, replicate}
+use lib.IntN.{pos}
+use Rattle.machine.specs.Machine.{machine}
+use Rattle.machine.specs.Model.{Drove}
+use Rattle.machine.proofs.Limits.{first-lives, first-positions, room-length}
+use borrow.Author.Needs.{needs}
+use Rattle.machine.proofs.steps.used.Statement.{statement}
+use Rattle.machine.proofs.steps.used.Tie as tie
+
+drive-requires : tie.Need-drive-requires
+drive-requires c κs = (c .before .before .before .before .pre .0, c .before .before .before .before .pre .1, first-lives, first-positions)
+
+clear-requires : tie.Need-clear-requires
+clear-requires c κs = search needs
+
+same-length : tie.Need-same-length
+same-length c = search needs
+
+same-length-2 : tie.Need-same-length-2
+same-length-2 c = search needs
+
+returns : tie.Need-returns
+returns c = (
+  subst (λ (k : ℕ). Drove (c .before .before .before .before .before .drive .result) (c .before .before .before .before .before .before .before .before .before .before .args .output .now) (c .before .before .before .before .before .drive .last .1 .1 .1 .1 .0) (machine (c .before .before .before .before .before .before .before .before .before .before .args .code .now) (c .before .before .before .before .before .before .before .before .before .before .args .input .now) (c .before .before .before .before .before .before .before .before .before .before .args .limit) k (length (c .before .before .before .before .before .before .before .before .before .before .args .output .now)))) (room-length (c .before .before .before .before .before .before .before .before .before .before .args .store .now)) (c .before .before .before .before .before .drive .ensures),
+  c .before .clear .ensures ∙ ap (λ (k : ℕ). replicate k (pos 0)) (c .before .before .before .before .before .drive .kept .1 .1 .1 .0),
+)
+
+pub used-spec : {M : Type 1} → statement M
+used-spec = tie.close (tie.spec drive-requires clear-requires same-length same-length-2 returns)

@@ -1,0 +1,284 @@
+-- What the source rules and the machine share: the data, and the operations on them with their faults. An operation takes a cell's number,
+-- never a scope, a level or an address. Assumes nothing: these are definitions.
+use Prim.Native.Nat.{ℕ, zero, suc, _+_, _-_}
+use mathlib.Core.Bool.{Bool, true, false, cond}
+use mathlib.Core.List.{List, [], _∷_, _++_}
+use lib.ListN.{length, getD, set, drop, replicate}
+use lib.Dec.{leb, ltb}
+use lib.IntN.{ℤ, pos, _+ℤ_}
+use Rattle.answers.specs.Numbers.{unassigned, inputEnded, outputFull, activations, channel, cells as noCell}
+use Rattle.answers.specs.Answers.{refusal}
+use Rattle.answers.specs.declared.Stop.{Stop}
+use Rattle.answers.specs.declared.Stop.the-variants.{Fault as Faulty}
+use Rattle.machine.specs.declared.Cell.{Cell}
+use Rattle.machine.specs.declared.Cell.the-variants.{Unset, Holds}
+use Rattle.machine.specs.declared.Value.{Value}
+use Rattle.machine.specs.declared.Value.the-variants.{Is, Fault}
+use Rattle.machine.specs.Values.{whole, isZero, same, Unary, apply1, Binary, apply2, past}
+use Rattle.machine.specs.Run.{Event, quiet, wrote, took, Out, halt, next}
+
+-- ---- the data
+
+-- what the run was lent: the cells that it may use, the input numbers not yet taken, and how many more may be written
+pub record Lent : Type 0 where
+  pub room : ℕ
+  pub input : List ℤ
+  pub space : ℕ
+
+-- The cells in use, the newest first (cell 0 is the oldest): "one per variable of an entered block; for a typed call one result cell first;
+-- one per evaluated value until it is used; actuals become formals". Then the held steps and bounds, the newest first; then how many
+-- activations are live; then what was lent.
+pub data Data : Type 0 where
+  dat : List Cell → List ℤ → ℕ → Lent → Data
+
+abbrev pub cells : Data → ℕ
+cells (dat w h a x) = length w
+
+-- ---- what an operation gives
+
+-- a fault (answer, place); what no translated program comes to; or what it tells and its result
+pub data Res (A : Type 0) : Type 0 where
+  bad : ℕ → ℕ → Res A
+  wrong : Res A
+  good : Event → A → Res A
+
+-- as a step that counts k: `w` is what is answered to `wrong`
+unfoldable pub lift : {A S : Type 0} → Stop → ℕ → (A → S) → Res A → Out S
+lift w k f (bad a q) = halt (Faulty (refusal a q))
+lift w k f wrong = halt w
+lift w k f (good e x) = next k e (f x)
+
+unfoldable pub guard : {A : Type 0} → Bool → Res A → Res A
+guard true r = r
+guard false r = wrong
+
+-- the fault a at q, where the test fails
+unfoldable pub check : {A : Type 0} → Bool → ℕ → ℕ → Res A → Res A
+check true a q r = r
+check false a q r = bad a q
+
+-- ---- cells
+
+-- 26: "one more cell than the run may use". New cells with the contents x, for what stands at q; held values count
+unfoldable pub newCells : ℕ → List Cell → Data → Res Data
+newCells q x (dat w h a l) =
+    check (leb (length w + length h + length x) (l .room)) noCell q (good quiet (dat (x ++ w) h a l))
+
+-- the value in the newest cell, which goes
+pub data Took : Type 0 where
+  value : ℤ → Data → Took
+  nothing : Took
+
+unfoldable pub newest : Data → Took
+newest (dat [] h a l) = nothing
+newest (dat (Unset ∷ w) h a l) = nothing
+newest (dat (Holds v ∷ w) h a l) = value v (dat w h a l)
+
+unfoldable pub onValue : {A : Type 0} → (ℤ → Data → Res A) → Took → Res A
+onValue f (value v d) = f v d
+onValue f nothing = wrong
+
+-- a value is used; two are, the newer one last
+abbrev pub one : {A : Type 0} → (ℤ → Data → Res A) → Data → Res A
+one f d = onValue f (newest d)
+
+abbrev pub two : {A : Type 0} → (ℤ → ℤ → Data → Res A) → Data → Res A
+two f d = one (λ y. one (λ x. f x y)) d
+
+-- a value in the place of those that were used: no new cell
+unfoldable pub back : ℤ → Data → Data
+back v (dat w h a l) = dat (Holds v ∷ w) h a l
+
+-- cell c is in use
+abbrev pub within : {A : Type 0} → ℕ → Data → Res A → Res A
+within c d r = guard (ltb c (cells d)) r
+
+unfoldable pub look : ℕ → Data → Cell
+look c (dat w h a l) = getD w (length w - suc c) Unset
+
+unfoldable pub put : ℕ → ℤ → Data → Data
+put c v (dat w h a l) = dat (set w (length w - suc c) (Holds v)) h a l
+
+-- what stands in a cell, or 23: "unassigned variable, formal or needed result read"
+unfoldable pub reading : {A : Type 0} → ℕ → (ℤ → Res A) → Cell → Res A
+reading q f Unset = bad unassigned q
+reading q f (Holds v) = f v
+
+-- what an operator gives, or its fault
+unfoldable pub valued : {A : Type 0} → ℕ → (ℤ → Res A) → Value → Res A
+valued q f (Is v) = f v
+valued q f (Fault a) = bad (a .number) q
+
+-- ---- held steps and bounds
+
+unfoldable pub hold : ℤ → ℤ → Data → Data
+hold x y (dat w h a l) = dat w (y ∷ x ∷ h) a l
+
+unfoldable pub unhold : Data → Data
+unhold (dat w h a l) = dat w (drop 2 h) a l
+
+-- the newest step and bound
+unfoldable pub held : {A : Type 0} → (ℤ → ℤ → Res A) → Data → Res A
+held f (dat w [] a l) = wrong
+held f (dat w (y ∷ []) a l) = wrong
+held f (dat w (y ∷ x ∷ h) a l) = f x y
+
+-- ---- input and output
+
+unfoldable pub input : Data → List ℤ
+input (dat w h a l) = l .input
+
+unfoldable pub space : Data → ℕ
+space (dat w h a l) = l .space
+
+unfoldable pub rest : List ℤ → Data → Data
+rest i (dat w h a l) = dat w h a (record { room = l .room; input = i; space = l .space })
+
+unfoldable pub spend : Data → Data
+spend (dat w h a l) = dat w h a (record { room = l .room; input = l .input; space = l .space - 1 })
+
+-- 24: "input ended". The next number goes to cell c
+unfoldable pub taking : ℕ → ℕ → Data → List ℤ → Res Data
+taking q c d [] = bad inputEnded q
+taking q c d (v ∷ i) = good took (put c v (rest i d))
+
+-- 25: "output full"
+unfoldable pub writing : ℕ → ℤ → Data → Res Data
+writing q v d = check (ltb 0 (space d)) outputFull q (good (wrote v) (spend d))
+
+-- 28: "channel not 1"
+abbrev pub onChannel : {A : Type 0} → ℕ → ℤ → Res A → Res A
+onChannel q k r = check (same k (pos 1)) channel q r
+
+-- ---- the operations, over what names a variable
+
+pub data Act (X : Type 0) : Type 0 where
+  -- a number or logical value evaluated; maxint
+  push : ℕ → ℤ → Act X
+  -- a variable or formal evaluated
+  load : ℕ → X → Act X
+  -- the last left part, or the controlled variable, stored; another left part stored
+  store : X → Act X
+  assign : X → Act X
+  -- a result cell taken
+  reserve : ℕ → Act X
+  -- a value that nobody needs goes
+  forget : Act X
+  -- ininteger, outinteger
+  receive : ℕ → X → Act X
+  send : ℕ → Act X
+  -- step and bound are held; the step is added to the controlled variable
+  keep : Act X
+  bump : ℕ → X → Act X
+  -- an operator applied
+  unary : ℕ → Unary → Act X
+  binary : ℕ → Binary → Act X
+
+abbrev pub actOn : {X Y : Type 0} → (X → Y) → Act X → Act Y
+actOn f (push q v) = push q v
+actOn f (load q x) = load q (f x)
+actOn f (store x) = store (f x)
+actOn f (assign x) = assign (f x)
+actOn f (reserve q) = reserve q
+actOn f forget = forget
+actOn f (receive q x) = receive q (f x)
+actOn f (send q) = send q
+actOn f keep = keep
+actOn f (bump q x) = bump q (f x)
+actOn f (unary q o) = unary q o
+actOn f (binary q o) = binary q o
+
+unfoldable pub work : Act ℕ → Data → Res Data
+work (push q v) d = newCells q (Holds v ∷ []) d
+work (load q c) d = within c d (reading q (λ v. newCells q (Holds v ∷ []) d) (look c d))
+-- "A left part list takes one value, stored left to right"
+work (store c) d = one (λ v d. within c d (good quiet (put c v d))) d
+work (assign c) d = one (λ v d. within c d (good quiet (back v (put c v d)))) d
+work (reserve q) d = newCells q (Unset ∷ []) d
+work forget d = one (λ v d. good quiet d) d
+-- "the channel is tested first"; "ininteger's second actual is neither read nor held"
+work (receive q c) d = one (λ k d. within c d (onChannel q k (taking q c d (input d)))) d
+work (send q) d = two (λ k v d. onChannel q k (writing q v d)) d
+-- "step and bound are evaluated once and held"
+work keep d = two (λ x y d. good quiet (hold x y d)) d
+-- "The addition of a step element, with its store, is one operator"
+work (bump q c) d =
+    held (λ x y. within c d (reading q (λ v. valued q (λ s. good quiet (put c s d)) (whole (v +ℤ x))) (look c d))) d
+-- "its value replaces its actuals' cells" for iabs, and an operator's its operands'
+work (unary q o) d = one (λ x d. valued q (λ v. good quiet (back v d)) (apply1 o x)) d
+work (binary q o) d = two (λ x y d. valued q (λ v. good quiet (back v d)) (apply2 o x y)) d
+
+-- how many values an operation uses
+abbrev pub downs : {X : Type 0} → Act X → ℕ
+downs (push q v) = 0
+downs (load q x) = 0
+downs (store x) = 1
+downs (assign x) = 1
+downs (reserve q) = 0
+downs forget = 1
+downs (receive q x) = 1
+downs (send q) = 2
+downs keep = 2
+downs (bump q x) = 0
+downs (unary q o) = 1
+downs (binary q o) = 2
+
+-- ---- tests
+
+pub data Two : Type 0 where
+  yea nay : Data → Two
+
+abbrev pub either : {B : Type 0} → (Data → B) → (Data → B) → Two → B
+either f g (yea d) = f d
+either f g (nay d) = g d
+
+pub data Test (X : Type 0) : Type 0 where
+  -- a condition decided; a step element tested
+  condition : Test X
+  upto : ℕ → X → Test X
+
+abbrev pub testOn : {X Y : Type 0} → (X → Y) → Test X → Test Y
+testOn f condition = condition
+testOn f (upto q x) = upto q (f x)
+
+-- step and bound are held until the loop is left
+unfoldable pub test : Test ℕ → Data → Res Two
+test condition d = one (λ v d. good quiet (cond (isZero v) (nay d) (yea d))) d
+test (upto q c) d =
+    held (λ x y. within c d (reading q (λ v. good quiet (cond (past v x y) (nay (unhold d)) (yea d))) (look c d))) d
+
+abbrev pub downsT : {X : Type 0} → Test X → ℕ
+downsT condition = 1
+downsT (upto q x) = 0
+
+-- ---- blocks and activations
+
+-- a block's n cells, taken all at once and unassigned; and dropped
+unfoldable pub openBlock : ℕ → ℕ → Data → Res Data
+openBlock q n d = newCells q (replicate n Unset) d
+
+unfoldable pub closeBlock : ℕ → Data → Res Data
+closeBlock n (dat w h a l) = guard (leb n (length w)) (good quiet (dat (drop n w) h a l))
+
+-- 27: "a 257th activation live"
+unfoldable pub enter : ℕ → Data → Res Data
+enter q (dat w h a l) = check (ltb a 256) activations q (good quiet (dat w h (suc a) l))
+
+-- an activation ends: its cells begin at b; the first is its result, and stays where it is needed
+pub data Fate : Type 0 where
+  kept gone : Fate
+
+-- how many of its cells stay
+abbrev pub stays : Fate → ℕ
+stays kept = 1
+stays gone = 0
+
+-- the result: 23 where it is unassigned
+unfoldable pub given : ℕ → List Cell → List ℤ → ℕ → Lent → Res Data
+given q [] h a l = wrong
+given q (Unset ∷ w) h a l = bad unassigned q
+given q (Holds v ∷ w) h a l = good quiet (dat (Holds v ∷ w) h a l)
+
+unfoldable pub leave : Fate → ℕ → ℕ → Data → Res Data
+leave kept q b (dat w h a l) = guard (ltb b (length w)) (given q (drop (length w - suc b) w) h (a - 1) l)
+leave gone q b (dat w h a l) = guard (leb b (length w)) (good quiet (dat (drop (length w - b) w) h (a - 1) l))

@@ -1,0 +1,6 @@
+pub mod Values
+pub mod Run
+pub mod Data
+pub mod Instructions
+pub mod Machine
+pub mod Model

@@ -1,0 +1,123 @@
+-- The machine, for any words at all: where it is; the return positions of the running activation; the activations, the newest first; the data.
+-- Assumes nothing: these are definitions.
+use Prim.Native.Nat.{ℕ, zero, suc, _+_, _-_, min}
+use mathlib.Core.Bool.{Bool, true, false, cond}
+use mathlib.Core.List.{List, [], _∷_, _++_}
+use mathlib.Core.Option.{Option, none, some}
+use lib.Dec.{leb, eqb}
+use lib.ListN.{getD, length, take, drop, replicate}
+use lib.IntN.{ℤ, pos}
+use Rattle.answers.specs.declared.Stop.{Stop}
+use Rattle.answers.specs.declared.Stop.the-variants.{Ended, Limit, Wrong}
+use Rattle.machine.specs.declared.Ran.{Ran}
+use Rattle.machine.specs.Run.{Trace, untold, Out, halt, next, End, done, over, run, Event, quiet}
+use Rattle.machine.specs.Data.{Data, dat, cells, actOn, testOn, Fate, kept, gone, lift, guard, downs, downsT, work, test, either, openBlock, closeBlock, enter, leave}
+use Rattle.machine.specs.Instructions.{Loc, lc, Instr, END, DO, IF, JUMP, ENTER, LEAVE, CALL, RETURN, GO, NEXT, fetch}
+
+-- an activation: where to return to, its first cell, the activation around it, the fate of its first cell, the call's place, and the return
+-- positions of its caller. Activations are numbered from 1, the oldest; 0 is the program
+pub data Frame : Type 0 where
+  fr : ℕ → ℕ → ℕ → Fate → ℕ → List ℕ → Frame
+
+pub data Mach : Type 0 where
+  ms : ℕ → List ℕ → List Frame → Data → Mach
+
+unfoldable pub frameAt : List Frame → ℕ → Frame
+frameAt fs f = getD fs (length fs - suc f) (fr 0 0 0 gone 0 [])
+
+abbrev pub linkOf : Frame → ℕ
+linkOf (fr r b l f q ps) = l
+
+abbrev pub baseOf : Frame → ℕ
+baseOf (fr r b l f q ps) = b
+
+-- u activations out from f; the program has none around it
+unfoldable pub walk : List Frame → ℕ → ℕ → ℕ
+walk fs f zero = f
+walk fs zero (suc u) = 0
+walk fs (suc f) (suc u) = walk fs (linkOf (frameAt fs f)) u
+
+abbrev pub base : List Frame → ℕ → ℕ
+base fs zero = 0
+base fs (suc f) = baseOf (frameAt fs f)
+
+-- where the running activation begins
+abbrev pub floor : List Frame → ℕ
+floor fs = base fs (length fs)
+
+unfoldable pub cellIn : List Frame → Loc → ℕ
+cellIn fs (lc u o) = base fs (walk fs (length fs) u) + o
+
+-- 29 at the counter: "no instruction at the counter, an operand outside its range, or a value taken where none is held"
+abbrev pub stray : ℕ → Stop
+stray pc = Wrong (record { at = pc })
+
+-- one instruction. The values that it uses lie above the first cell of the running activation
+unfoldable pub exec : Instr → ℕ → List ℕ → List Frame → Data → Out Mach
+exec END pc ps fs d = halt Ended
+exec (DO a) pc ps fs d =
+    lift (stray pc) 1 (ms (suc pc) ps fs) (guard (leb (floor fs + downs a) (cells d)) (work (actOn (cellIn fs) a) d))
+exec (IF t l) pc ps fs d =
+    lift (stray pc) 1 (either (ms (suc pc) ps fs) (ms l ps fs)) (guard (leb (floor fs + downsT t) (cells d)) (test (testOn (cellIn fs) t) d))
+exec (JUMP l) pc ps fs d = next 1 quiet (ms l ps fs d)
+exec (ENTER q n l) pc ps fs d = lift (stray pc) 1 (ms l ps fs) (openBlock q n d)
+exec (LEAVE n) pc ps fs d = lift (stray pc) 1 (ms (suc pc) ps fs) (guard (leb (floor fs + n) (cells d)) (closeBlock n d))
+exec (CALL q l u n f) pc ps fs d =
+    lift (stray pc) 1 (ms l [] (fr (suc pc) (cells d - n) (walk fs (length fs) u) f q ps ∷ fs))
+    (guard (leb (floor fs + n) (cells d)) (enter q d))
+exec RETURN pc ps [] d = halt (stray pc)
+exec RETURN pc ps (fr r b l f q ps' ∷ fs) d = lift (stray pc) 1 (ms r ps' fs) (leave f q b d)
+exec (GO m l r) pc ps fs d = cond (eqb m (length ps)) (next 1 quiet (ms l (r ∷ ps) fs d)) (halt (stray pc))
+exec (NEXT m) pc [] fs d = halt (stray pc)
+exec (NEXT m) pc (r ∷ ps) fs d = cond (eqb m (length ps)) (next 1 quiet (ms r ps fs d)) (halt (stray pc))
+
+unfoldable pub obey : Option Instr → ℕ → List ℕ → List Frame → Data → Out Mach
+obey none pc ps fs d = halt (stray pc)
+obey (some i) pc ps fs d = exec i pc ps fs d
+
+unfoldable pub step : List ℕ → Mach → Out Mach
+step words (ms pc ps fs d) = obey (fetch words pc) pc ps fs d
+
+-- ---- the run
+
+-- how it stopped, "instructions done, numbers taken and numbers written"
+pub record Finish : Type 0 where
+  pub stop : Stop
+  pub done : ℕ
+  pub taken : ℕ
+  pub written : List ℤ
+
+-- Instructions done are the limit tests passed, the instruction that stops included. 20: "instruction limit reached"
+unfoldable pub finish : End Mach → Finish
+finish (done q n o) = record { stop = q; done = n + 1; taken = o .taken; written = o .written }
+finish (over n o m) = record { stop = Limit; done = n; taken = o .taken; written = o .written }
+
+-- no cell in use, no activation, no number taken
+abbrev pub start : List ℤ → ℕ → ℕ → Mach
+start input room space = ms 0 [] [] (dat [] [] 0 (record { room = room; input = input; space = space }))
+
+-- It takes how many cells there are and how many numbers may be written, and never what stands there.
+unfoldable pub machine : List ℕ → List ℤ → ℕ → ℕ → ℕ → Finish
+machine words input limit room space = finish (run (step words) limit (start input room space) 0 untold)
+
+-- ---- what is lent, afterwards
+
+-- "It uses the first 8,192 cells of the store, or fewer if lent fewer"
+abbrev pub used : List ℤ → ℕ
+used store = min 8192 (length store)
+
+pub record Exit : Type 0 where
+  pub ran : Ran
+  pub store : List ℤ
+  pub output : List ℤ
+
+abbrev pub exit : Ran → List ℤ → List ℤ → Exit
+exit r s o = record { ran = r; store = s; output = o }
+
+-- "what they held before doesn't matter, and they are zero afterwards"; "Output past the written part is untouched"
+unfoldable pub afterwards : Finish → List ℤ → List ℤ → Exit
+afterwards f store output = record {
+  ran = record { stop = f .stop; done = f .done; taken = f .taken; written = length (f .written) };
+  store = replicate (used store) (pos 0) ++ drop (used store) store;
+  output = f .written ++ drop (length (f .written)) output;
+}

@@ -1,0 +1,245 @@
+-- How the code holds a state: a model that the contracts of the inner functions need, and no part of what `run` promises.
+-- The cells in use stand at the store's beginning and the held values at its end; an activation is 70 words of one array.
+use Prim.Native.Nat.{ℕ, zero, suc, _+_, _-_, _*_, _/_, _≤_, _<_}
+use mathlib.Core.Path.{_≡_}
+use mathlib.Core.Bool.{Bool, true, false, cond}
+use mathlib.Core.List.{List, [], _∷_, _++_}
+use lib.Dec.{ltb, eqb}
+use lib.ListN.{length, getD, set, take, drop}
+use lib.IntN.{ℤ, pos, negsuc}
+use lib.Signed.{mag}
+use mir.Syntax.{w32}
+use mir.Val.{SFits}
+use Rattle.answers.specs.declared.Stop.{Stop}
+use Rattle.answers.specs.declared.Stop.the-variants.{Fault as Faulty}
+use Rattle.answers.specs.Answers.{refusal}
+use Rattle.machine.specs.declared.Cell.{Cell}
+use Rattle.machine.specs.declared.Cell.the-variants.{Unset, Holds}
+use Rattle.machine.specs.declared.Counts.{Counts}
+use Rattle.machine.specs.declared.Used.{Used}
+use Rattle.machine.specs.declared.Used.the-variants.{Value as Value1, Nothing as Nothing1}
+use Rattle.machine.specs.declared.Pair.{Pair}
+use Rattle.machine.specs.declared.Pair.the-variants.{Values as Values2, Nothing as Nothing2}
+use Rattle.machine.specs.declared.Did.{Did}
+use Rattle.machine.specs.declared.Did.the-variants.{Good, Bad, Stray}
+use Rattle.machine.specs.declared.Chosen.{Chosen}
+use Rattle.machine.specs.declared.Chosen.the-variants.{Yes, No, Bad as BadT, Stray as StrayT}
+use Rattle.machine.specs.declared.Outcome.{Outcome}
+use Rattle.machine.specs.declared.Outcome.the-variants.{Goes, Stops}
+use Rattle.machine.specs.Run.{Trace, say, Out, halt, next}
+use Rattle.machine.specs.Data.{Data, dat, Res, bad, wrong, good, Took, value, nothing, Two, yea, nay, Fate, kept, gone, Act, work, Test, test}
+use Rattle.machine.specs.Machine.{Frame, fr, Mach, ms, Finish}
+use Rattle.machine.specs.declared.Ran.{Ran}
+
+-- ---- cells in the store
+
+-- how many numbers of the store a cell takes
+abbrev pub numbers : ℕ
+numbers = 1
+
+-- a number of the store as a cell, and a cell as a number
+unfoldable pub cellOf : ℤ → Cell
+cellOf x = cond (ltb (mag x) 2147483648) (Holds x) Unset
+
+unfoldable pub numberOf : Cell → ℤ
+numberOf Unset = pos 4294967296
+numberOf (Holds v) = v
+
+unfoldable pub cellAt : List ℤ → ℕ → Cell
+cellAt s c = cellOf (getD s (numbers * c) (pos 0))
+
+unfoldable pub putAt : List ℤ → ℕ → Cell → List ℤ
+putAt s c x = set s (numbers * c) (numberOf x)
+
+unfoldable pub roomOf : List ℤ → ℕ
+roomOf s = length s / numbers
+
+-- the k cells from c on become unassigned
+unfoldable pub unassigned : List ℤ → ℕ → ℕ → List ℤ
+unassigned s c zero = s
+unassigned s c (suc k) = putAt (unassigned s c k) (c + k) Unset
+
+-- the first n cells, the last of them first
+unfoldable pub cellsOf : ℕ → List ℤ → List Cell
+cellsOf zero s = []
+cellsOf (suc n) s = cellAt s n ∷ cellsOf n s
+
+abbrev pub heldIn : Cell → ℤ
+heldIn Unset = pos 0
+heldIn (Holds v) = v
+
+-- the last n cells, the first of them first
+unfoldable pub heldOf : ℕ → List ℤ → List ℤ
+heldOf zero s = []
+heldOf (suc n) s = heldIn (cellAt s (roomOf s - suc n)) ∷ heldOf n s
+
+-- ---- the data
+
+-- n the counts, a the live activations, s the store, i the input, o the output
+abbrev pub dataOf : Counts → ℕ → List ℤ → List ℤ → List ℤ → Data
+dataOf n a s i o =
+    dat (cellsOf (n .cells) s) (heldOf (n .held) s) a (record { room = roomOf s; input = drop (n .taken) i; space = length o - n .written })
+
+abbrev pub traceOf : Counts → List ℤ → Trace
+traceOf n o = record { written = take (n .written) o; taken = n .taken }
+
+-- what an operation leaves: the data and the trace, a fault, or neither
+pub data After (A : Type 0) : Type 0 where
+  fine : A → Trace → After A
+  ill : ℕ → ℕ → After A
+  lost : After A
+
+unfoldable pub told : {A : Type 0} → Trace → Res A → After A
+told t (bad a q) = ill a q
+told t wrong = lost
+told t (good e x) = fine x (say t e)
+
+abbrev pub seenU : Used → ℕ → List ℤ → List ℤ → List ℤ → Took
+seenU (Value1 v n) a s i o = value v (dataOf n a s i o)
+seenU Nothing1 a s i o = nothing
+
+abbrev pub onPair : (ℤ → ℤ → Data → Res Data) → Pair → ℕ → List ℤ → List ℤ → List ℤ → Res Data
+onPair f (Values2 x y n) a s i o = f x y (dataOf n a s i o)
+onPair f Nothing2 a s i o = wrong
+
+abbrev pub seenD : Did → ℕ → List ℤ → List ℤ → List ℤ → After Data
+seenD (Good n) a s i o = fine (dataOf n a s i o) (traceOf n o)
+seenD (Bad r) a s i o = ill (r .answer .number) (r .place .at)
+seenD Stray a s i o = lost
+
+abbrev pub seenT : Chosen → ℕ → List ℤ → List ℤ → List ℤ → After Two
+seenT (Yes n) a s i o = fine (yea (dataOf n a s i o)) (traceOf n o)
+seenT (No n) a s i o = fine (nay (dataOf n a s i o)) (traceOf n o)
+seenT (BadT r) a s i o = ill (r .answer .number) (r .place .at)
+seenT StrayT a s i o = lost
+
+-- ---- the machine's own memory
+
+-- word k of activation i
+unfoldable pub wordOf : List ℕ → ℕ → ℕ → ℕ
+wordOf l i k = getD l (70 * i + k) 0
+
+unfoldable pub noteOf : List ℕ → ℕ → ℕ → ℕ → List ℕ
+noteOf l i k v = set l (70 * i + k) v
+
+-- the n words from p on, the last of them first
+unfoldable pub stacked : List ℕ → ℕ → ℕ → List ℕ
+stacked l p zero = []
+stacked l p (suc n) = getD l (p + n) 0 ∷ stacked l p n
+
+unfoldable pub positionsOf : List ℕ → ℕ → List ℕ
+positionsOf l i = stacked l (70 * i + 6) (wordOf l i 5)
+
+unfoldable pub fateOf : ℕ → Fate
+fateOf n = cond (eqb n 0) gone kept
+
+unfoldable pub framesOf : List ℕ → ℕ → List Frame
+framesOf l zero = []
+framesOf l (suc n) =
+    fr (wordOf l (suc n) 0) (wordOf l (suc n) 1) (wordOf l (suc n) 2) (fateOf (wordOf l (suc n) 3)) (wordOf l (suc n) 4) (positionsOf l n)
+    ∷ framesOf l n
+
+-- a new activation i: where to return to, its first cell, the activation around it, whether its first cell is needed, the call's place
+abbrev pub begun : List ℕ → ℕ → ℕ → ℕ → ℕ → ℕ → ℕ → List ℕ
+begun l i r f u e q = noteOf (noteOf (noteOf (noteOf (noteOf (noteOf l i 0 r) i 1 f) i 2 u) i 3 e) i 4 q) i 5 0
+
+-- at the counter, with a live activations
+abbrev pub machOf : ℕ → ℕ → Counts → List ℤ → List ℕ → List ℤ → List ℤ → Mach
+machOf pc a n s l i o = ms pc (positionsOf l a) (framesOf l a) (dataOf n a s i o)
+
+-- what an instruction leaves
+pub data Went : Type 0 where
+  goes : Mach → Trace → Went
+  halted : Stop → Went
+
+unfoldable pub stepped : Trace → Out Mach → Went
+stepped t (halt q) = halted q
+stepped t (next k e m) = goes m (say t e)
+
+-- on with what an operation leaves, or a stop: `w` is what is answered where it left neither data nor a fault
+unfoldable pub lifted : {A : Type 0} → Stop → (A → Mach) → After A → Went
+lifted w f (fine x t) = goes (f x) t
+lifted w f (ill a q) = halted (Faulty (refusal a q))
+lifted w f lost = halted w
+
+abbrev pub seenO : Outcome → List ℤ → List ℕ → List ℤ → List ℤ → Went
+seenO (Goes pc a n) s l i o = goes (machOf pc a n s l i o) (traceOf n o)
+seenO (Stops q) s l i o = halted q
+
+-- ---- what the code relies on
+
+-- a cell that the store can hold
+abbrev pub Fitting : Cell → Type 0
+Fitting Unset = Unit {0}
+Fitting (Holds v) = SFits w32 v
+
+-- cells in use and held cells are apart, and a held cell holds a number
+pub record Sound (n : Counts) (s : List ℤ) : Type 0 where
+  pub room : n .cells + n .held ≤ roomOf s
+  pub few : roomOf s ≤ 8192
+  pub holds : (k : ℕ) → k < n .held → cellAt s (roomOf s - suc k) ≡ Holds (heldIn (cellAt s (roomOf s - suc k)))
+
+-- k cells fewer
+abbrev pub fewer : ℕ → Counts → Counts
+fewer k n = record { cells = n .cells - k; held = n .held; taken = n .taken; written = n .written }
+
+-- one more is held
+abbrev pub holding : Counts → Counts
+holding n = record { cells = n .cells; held = n .held + 1; taken = n .taken; written = n .written }
+
+abbrev pub UsedIn : Counts → Used → Type 0
+UsedIn n (Value1 v m) = (1 ≤ n .cells) × (m ≡ fewer 1 n)
+UsedIn n Nothing1 = Unit {0}
+
+abbrev pub PairIn : Counts → Pair → Type 0
+PairIn n (Values2 x y m) = (2 ≤ n .cells) × (m ≡ fewer 2 n)
+PairIn n Nothing2 = Unit {0}
+
+-- the newest held values, the step first
+abbrev pub HeldIn : Counts → Pair → List ℤ → Type 0
+HeldIn n (Values2 x y m) s = (2 ≤ n .held) × (m ≡ n) × (heldOf (n .held) s ≡ y ∷ x ∷ heldOf (n .held - 2) s)
+HeldIn n Nothing2 s = n .held < 2
+
+-- the operation A was done on the data that n and s hold
+abbrev pub Does : Act ℕ → Counts → Did → List ℤ → List ℤ → Type 0
+Does A n r s s' = (a : ℕ) (i o : List ℤ) → seenD r a s' i o ≡ told (traceOf n o) (work A (dataOf n a s i o))
+
+abbrev pub Tests : Test ℕ → Counts → Chosen → List ℤ → Type 0
+Tests t n r s = (a : ℕ) (i o : List ℤ) → seenT r a s i o ≡ told (traceOf n o) (test t (dataOf n a s i o))
+
+abbrev pub SoundD : Counts → Did → List ℤ → Type 0
+SoundD n (Good m) s = Sound m s × (m .written ≡ n .written)
+SoundD n (Bad r) s = Unit {0}
+SoundD n Stray s = Unit {0}
+
+abbrev pub SoundT : Counts → Chosen → List ℤ → Type 0
+SoundT n (Yes m) s = Sound m s × (m .written ≡ n .written)
+SoundT n (No m) s = Sound m s × (m .written ≡ n .written)
+SoundT n (BadT r) s = Unit {0}
+SoundT n StrayT s = Unit {0}
+
+-- what is written stays, and so does what lies behind it
+abbrev pub SoundO : Did → List ℤ → List ℤ → List ℤ → Type 0
+SoundO (Good m) s o o' = Sound m s × (m .written ≤ length o') × (drop (m .written) o' ≡ drop (m .written) o)
+SoundO (Bad r) s o o' = o' ≡ o
+SoundO Stray s o o' = o' ≡ o
+
+-- the activations around are older ones, and each has room for its positions
+pub record Lives (l : List ℕ) (a : ℕ) : Type 0 where
+  pub long : length l ≡ 17990
+  pub many : a ≤ 256
+  pub links : (i : ℕ) → i ≤ a → wordOf l i 2 ≤ i
+  pub notes : (i : ℕ) → i ≤ a → wordOf l i 5 ≤ 64
+
+-- after an instruction: what is written stays, and so does what lies behind it
+abbrev pub SoundG : Outcome → List ℤ → List ℕ → List ℤ → List ℤ → Type 0
+SoundG (Goes pc a n) s l o o' = Sound n s × Lives l a × (n .written ≤ length o') × (drop (n .written) o' ≡ drop (n .written) o)
+SoundG (Stops q) s l o o' = o' ≡ o
+
+-- a run was as f says, with the output o before it
+pub record Drove (r : Ran) (o o' : List ℤ) (f : Finish) : Type 0 where
+  pub stop : r .stop ≡ f .stop
+  pub done : r .done ≡ f .done
+  pub taken : r .taken ≡ f .taken
+  pub written : r .written ≡ length (f .written)
+  pub output : o' ≡ f .written ++ drop (length (f .written)) o

@@ -1,0 +1,78 @@
+// The machine: it runs code words, any words at all, and stops by itself at its limit. docs/MACHINE.md has its instructions, and specs/ what
+// they do.
+use answers::Answer;
+use answers::Refusal;
+use answers::Stop;
+
+mod activations;
+mod blocks;
+mod cells;
+mod control;
+mod loops;
+mod operations;
+mod ports;
+mod steps;
+mod values;
+
+pub use steps::run;
+
+// What a cell holds: nothing yet, or a whole number. A logical value is 1 or 0.
+pub enum Cell {
+    Unset,
+    Holds(i32),
+}
+
+// What an operator gives: a whole number of 32 bits, or its fault.
+pub enum Value {
+    Is(i32),
+    Fault(Answer),
+}
+
+// How many cells are in use and how many are held, and how many numbers were taken and written.
+pub struct Counts {
+    pub cells: usize,
+    pub held: usize,
+    pub taken: usize,
+    pub written: usize,
+}
+
+// A value used, with the counts after it.
+pub enum Used {
+    Value(i32, Counts),
+    Nothing,
+}
+
+// Two values used, the older one first, with the counts after them.
+pub enum Pair {
+    Values(i32, i32, Counts),
+    Nothing,
+}
+
+// What an operation on the data came to: it is done, or its fault, or it found no value or no such cell.
+pub enum Did {
+    Good(Counts),
+    Bad(Refusal),
+    Stray,
+}
+
+// What a test came to.
+pub enum Chosen {
+    Yes(Counts),
+    No(Counts),
+    Bad(Refusal),
+    Stray,
+}
+
+// What an instruction came to: the next counter, the live activations and the counts; or a stop.
+pub enum Outcome {
+    Goes(u32, usize, Counts),
+    Stops(Stop),
+}
+
+// What a run answers.
+pub struct Ran {
+    pub stop: Stop,
+    pub done: u64,
+    pub taken: usize,
+    pub written: usize,
+}

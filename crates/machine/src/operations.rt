@@ -1,0 +1,207 @@
+// The operations on the cells in use, which stand at the store's beginning: values, variables and operators.
+use crate::Cell;
+use crate::Chosen;
+use crate::Counts;
+use crate::Did;
+use crate::Pair;
+use crate::Used;
+use crate::Value;
+use crate::cells::cell_at;
+use crate::cells::put_cell;
+use crate::cells::room;
+use crate::values;
+use answers::Answer;
+use answers::Refusal;
+ghost use mathlib.Core.Path.{_≡_};
+ghost use mathlib.Core.List.{List, [], _∷_};
+ghost use Prim.Native.Nat.{ℕ, _+_, _≤_, _<_};
+ghost use lib.IntN.{ℤ};
+ghost use Rattle.machine.specs.Run.{Event};
+ghost use Rattle.machine.specs.Data.{Data, Res, Act, Test, newest as newestOf, two, back as backOf, put as putOf, newCells, valued};
+ghost use Rattle.machine.specs.Instructions.{unaryOf, binaryOf};
+ghost use Rattle.machine.specs.Model.{Fitting, Sound, SoundD, SoundT, Does, Tests, UsedIn, PairIn, dataOf, traceOf, seenU, seenD, onPair, told, fine, roomOf};
+
+// The value in the newest cell, which goes.
+pub fn newest(mut n: Counts, store: &[i64]) -> Used
+    requires { ⌜ Sound n (now store) ⌝ }
+    ensures { λ r. ⌜ ((a : ℕ) (i o : List ℤ) → newestOf (dataOf n a (now (store .entry)) i o) ≡ seenU r a (now (store .entry)) i o) ⌝ }
+    ensures { λ r. ⌜ UsedIn n r ⌝ }
+{
+    let k = n.cells;
+    if k == 0 {
+        return Used::Nothing;
+    }
+    match cell_at(store, k - 1) {
+        Cell::Unset => Used::Nothing,
+        Cell::Holds(v) => {
+            n.cells = k - 1;
+            Used::Value(v, n)
+        }
+    }
+}
+
+// The values in the two newest cells, which go.
+pub fn newest_two(n: Counts, store: &[i64]) -> Pair
+    requires { ⌜ Sound n (now store) ⌝ }
+    ensures { λ r. ⌜ ((a : ℕ) (i o : List ℤ) (f : ℤ → ℤ → Data → Res Data) → two f (dataOf n a (now (store .entry)) i o) ≡ onPair f r a (now (store .entry)) i o) ⌝ }
+    ensures { λ r. ⌜ PairIn n r ⌝ }
+{
+    match newest(n, store) {
+        Used::Nothing => Pair::Nothing,
+        Used::Value(y, m) => match newest(m, store) {
+            Used::Nothing => Pair::Nothing,
+            Used::Value(x, l) => Pair::Values(x, y, l),
+        },
+    }
+}
+
+// A value in the place of one that was used.
+pub fn back(mut n: Counts, store: &mut [i64], v: i32) -> Did
+    requires { ⌜ Sound n (now store) × (n .cells + n .held < roomOf (now store)) ⌝ }
+    ensures { λ r. ⌜ ((a : ℕ) (i o : List ℤ) → seenD r a (now (store .exit)) i o ≡ fine (backOf v (dataOf n a (now (store .entry)) i o)) (traceOf n o)) ⌝ }
+    ensures { λ r. ⌜ SoundD n r (now (store .exit)) ⌝ }
+{
+    let k = n.cells;
+    put_cell(store, k, Cell::Holds(v));
+    n.cells = k + 1;
+    Did::Good(n)
+}
+
+// A number to cell c.
+pub fn put(n: Counts, store: &mut [i64], c: usize, v: i32) -> Did
+    requires { ⌜ Sound n (now store) × (c < n .cells) ⌝ }
+    ensures { λ r. ⌜ ((a : ℕ) (i o : List ℤ) → seenD r a (now (store .exit)) i o ≡ fine (putOf c v (dataOf n a (now (store .entry)) i o)) (traceOf n o)) ⌝ }
+    ensures { λ r. ⌜ SoundD n r (now (store .exit)) ⌝ }
+{
+    put_cell(store, c, Cell::Holds(v));
+    Did::Good(n)
+}
+
+// A new cell, for what stands at q.
+pub fn new_cell(mut n: Counts, store: &mut [i64], q: usize, x: Cell) -> Did
+    requires { ⌜ Sound n (now store) × Fitting x ⌝ }
+    ensures { λ r. ⌜ ((a : ℕ) (i o : List ℤ) → seenD r a (now (store .exit)) i o ≡ told (traceOf n o) (newCells q (x ∷ []) (dataOf n a (now (store .entry)) i o))) ⌝ }
+    ensures { λ r. ⌜ SoundD n r (now (store .exit)) ⌝ }
+{
+    let k = n.cells;
+    let h = n.held;
+    if k + h >= room(store) {
+        return Did::Bad(Refusal::new(Answer::CELLS, q));
+    }
+    put_cell(store, k, x);
+    n.cells = k + 1;
+    Did::Good(n)
+}
+
+// The number in cell c, in a new cell.
+pub fn load(n: Counts, store: &mut [i64], q: usize, c: usize) -> Did
+    requires { ⌜ Sound n (now store) ⌝ }
+    ensures { λ r. ⌜ Does (Act.load q c) n r (now (store .entry)) (now (store .exit)) ⌝ }
+    ensures { λ r. ⌜ SoundD n r (now (store .exit)) ⌝ }
+{
+    if c >= n.cells {
+        return Did::Stray;
+    }
+    match cell_at(store, c) {
+        Cell::Unset => Did::Bad(Refusal::new(Answer::UNASSIGNED, q)),
+        Cell::Holds(v) => new_cell(n, store, q, Cell::Holds(v)),
+    }
+}
+
+// The newest value to cell c.
+pub fn save(n: Counts, store: &mut [i64], c: usize) -> Did
+    requires { ⌜ Sound n (now store) ⌝ }
+    ensures { λ r. ⌜ Does (Act.store c) n r (now (store .entry)) (now (store .exit)) ⌝ }
+    ensures { λ r. ⌜ SoundD n r (now (store .exit)) ⌝ }
+{
+    match newest(n, store) {
+        Used::Nothing => Did::Stray,
+        Used::Value(v, m) => {
+            if c >= m.cells {
+                return Did::Stray;
+            }
+            put(m, store, c, v)
+        }
+    }
+}
+
+// The same, and the value stays.
+pub fn assign(n: Counts, store: &mut [i64], c: usize) -> Did
+    requires { ⌜ Sound n (now store) ⌝ }
+    ensures { λ r. ⌜ Does (Act.assign c) n r (now (store .entry)) (now (store .exit)) ⌝ }
+    ensures { λ r. ⌜ SoundD n r (now (store .exit)) ⌝ }
+{
+    match newest(n, store) {
+        Used::Nothing => Did::Stray,
+        Used::Value(v, m) => {
+            if c >= m.cells {
+                return Did::Stray;
+            }
+            put_cell(store, c, Cell::Holds(v));
+            back(m, store, v)
+        }
+    }
+}
+
+// The newest value goes.
+pub fn forget(n: Counts, store: &[i64]) -> Did
+    requires { ⌜ Sound n (now store) ⌝ }
+    ensures { λ r. ⌜ Does Act.forget n r (now (store .entry)) (now (store .entry)) ⌝ }
+    ensures { λ r. ⌜ SoundD n r (now (store .entry)) ⌝ }
+{
+    match newest(n, store) {
+        Used::Nothing => Did::Stray,
+        Used::Value(_, m) => Did::Good(m),
+    }
+}
+
+// A value in the place of those that were used, or an operator's fault.
+fn give(n: Counts, store: &mut [i64], q: usize, v: Value) -> Did
+    requires { ⌜ Sound n (now store) × (n .cells + n .held < roomOf (now store)) ⌝ }
+    ensures { λ r. ⌜ ((a : ℕ) (i o : List ℤ) → seenD r a (now (store .exit)) i o ≡ told (traceOf n o) (valued q (λ w. Res.good Event.quiet (backOf w (dataOf n a (now (store .entry)) i o))) v)) ⌝ }
+    ensures { λ r. ⌜ SoundD n r (now (store .exit)) ⌝ }
+{
+    match v {
+        Value::Fault(a) => Did::Bad(Refusal::new(a, q)),
+        Value::Is(x) => back(n, store, x),
+    }
+}
+
+pub fn unary(n: Counts, store: &mut [i64], q: usize, k: u32) -> Did
+    requires { ⌜ Sound n (now store) × (22 ≤ k) × (k < 25) ⌝ }
+    ensures { λ r. ⌜ Does (Act.unary q (unaryOf k)) n r (now (store .entry)) (now (store .exit)) ⌝ }
+    ensures { λ r. ⌜ SoundD n r (now (store .exit)) ⌝ }
+{
+    match newest(n, store) {
+        Used::Nothing => Did::Stray,
+        Used::Value(x, m) => give(m, store, q, values::unary(k, x)),
+    }
+}
+
+pub fn binary(n: Counts, store: &mut [i64], q: usize, k: u32) -> Did
+    requires { ⌜ Sound n (now store) × (25 ≤ k) ⌝ }
+    ensures { λ r. ⌜ Does (Act.binary q (binaryOf k)) n r (now (store .entry)) (now (store .exit)) ⌝ }
+    ensures { λ r. ⌜ SoundD n r (now (store .exit)) ⌝ }
+{
+    match newest_two(n, store) {
+        Pair::Nothing => Did::Stray,
+        Pair::Values(x, y, m) => give(m, store, q, values::binary(k, x, y)),
+    }
+}
+
+// Whether the newest value, which goes, is 'true'.
+pub fn condition(n: Counts, store: &[i64]) -> Chosen
+    requires { ⌜ Sound n (now store) ⌝ }
+    ensures { λ r. ⌜ Tests Test.condition n r (now (store .entry)) ⌝ }
+    ensures { λ r. ⌜ SoundT n r (now (store .entry)) ⌝ }
+{
+    match newest(n, store) {
+        Used::Nothing => Chosen::Stray,
+        Used::Value(v, m) => {
+            if v == 0 {
+                return Chosen::No(m);
+            }
+            Chosen::Yes(m)
+        }
+    }
+}
