@@ -1,0 +1,4 @@
+pub mod Entered
+pub mod Calls
+pub mod Rules
+pub mod Samples

@@ -1,0 +1,113 @@
+-- Demand 3 for the machine on a list of instructions: the translation of a well-scoped program does what the source rules say, in at most 16 n + 16
+-- instructions for n steps; and it stops with 0 or 21 to 28 alone. Assumes nothing.
+use Prim.Native.Nat.{ℕ, zero, suc, _+_, _*_, _≤_}
+use native.Mathlib.Omega.{arith}
+use mathlib.Core.Path.{_≡_, refl, sym}
+use mathlib.Core.List.{List, [], _∷_}
+use mathlib.Core.Logic.{_⊎_, inl, inr}
+use lib.IntN.{ℤ}
+use Rattle.answers.specs.declared.Stop.{Stop}
+use Rattle.answers.specs.declared.Stop.the-variants.{Limit}
+use Rattle.machine.specs.Run.{Trace, untold, End, done, over, run}
+use Rattle.machine.specs.Data.{Data, dat}
+use Rattle.machine.specs.Instructions.{Instr, END}
+use Rattle.machine.specs.Machine.{Mach, Finish, finish, start}
+use Rattle.names.specs.Program.{Statement}
+use Rattle.rules.specs.Rules.{State, beginning, source, sstep}
+use Rattle.translating.specs.Translate.{codeS, code}
+use Rattle.translating.specs.Scoped.{Scoped}
+use Rattle.translating.specs.Listed.{stepIn, machineIn}
+use Rattle.translating.specs.Faithful.{Begins, Tells, Ordinary, Follows, Faithful}
+use Rattle.translating.proofs.Sim as Sim
+use Rattle.translating.proofs.Stands.{CodeAt, pastS, whole}
+use Rattle.translating.proofs.Chain.{root}
+use Rattle.translating.proofs.Rel.{t-ex, at-end, at-task, Stand, stands, Rel, rel, size}
+use Rattle.translating.proofs.Diagram.{diag}
+
+module _ (place : ℕ → ℕ) (s : Statement) (ok : Scoped s) (input : List ℤ) (room space : ℕ) where
+  abbrev P : List Instr
+  P = code place s
+
+  -- the run on the machine
+  abbrev ran : ℕ → End Mach
+  ran limit = run (stepIn P) limit (start input room space) 0 untold
+
+  placed : CodeAt place P 0 (codeS place [] 0 s 0 (END ∷ []))
+  unfolding code
+  placed = whole place (code place s)
+
+  begin : Rel place P 0 (start input room space) (beginning place s input room space)
+  begin =
+      let d : Data = dat [] [] 0 (record { room = room; input = input; space = space }) in
+      let c : Stand place P [] [] [] [] [] 0 d = stands root refl (tt, refl) in
+      rel {p = 0} {kt = []} (at-task {k = []} (t-ex s _ placed ok) (omega arith) (at-end ((pastS place P [] 0 s 0 _ placed) .0))) c (omega arith)
+
+  -- what the simulation says of these two runs
+  stops-as : (L i : ℕ) (q : Stop) (o : Trace) → ran L ≡ done q i o → (t : ℕ) × (n : ℕ) × (source place s input room space t ≡ done q n o) × Ordinary q
+  stops-as = Sim.stops-as _ _ _ _ _ _ (diag place P) 15 0 _ _ begin (omega arith)
+
+  stops-in : (t n : ℕ) (q : Stop) (o : Trace) → source place s input room space t ≡ done q n o → (L : ℕ) → 16 * n + 16 ≤ L → (i : ℕ) × (ran L ≡ done q i o)
+  stops-in t n q o e L h = Sim.stops-in _ _ _ _ _ _ (diag place P) 15 0 _ _ begin (omega arith) t n q o e L (omega arith)
+
+  not-limit : (q : Stop) → Ordinary q → q ≡ Limit → ⊥
+  not-limit q w e = rw e at w
+
+  same-answer : (x : End Mach) (L : ℕ) → ran L ≡ x → (¬ (finish x .stop ≡ Limit)) → (t n : ℕ) × (o : Trace) × (source place s input room space t ≡ done (finish x .stop) n o) × Tells (finish x) o
+  unfolding finish
+  same-answer (done q i o) L e h =
+      let w = stops-as L i q o e in
+      (w .0, w .1, o, w .2, (refl, refl))
+  same-answer (over i o m) L e h = absurd (h refl)
+
+  enough : (limit t n : ℕ) (q : Stop) (o : Trace) → source place s input room space t ≡ done q n o → 16 * n + 16 ≤ limit → (finish (ran limit) .stop ≡ q) × Tells (finish (ran limit)) o
+  unfolding finish
+  enough limit t n q o e h =
+      let w = stops-in t n q o e limit h in
+      rw (w .1) (refl, (refl, refl))
+
+  some-time : (x : End Mach) (L : ℕ) → ran L ≡ x → finish x .stop ≡ Limit → (t n : ℕ) × (o : Trace) × (s' : State) × (source place s input room space t ≡ over n o s') × Tells (finish x) o
+  unfolding finish
+  some-time (done q i o) L e h = absurd (not-limit q (stops-as L i q o e .3) h)
+  some-time (over i o m) L e h =
+      let w = Sim.stands-as _ _ _ _ _ _ (diag place P) 15 0 _ _ begin (omega arith) L i o m e in
+      (w .0, w .1, o, w .2, w .3, (refl, refl))
+
+  a-beginning : (x : End Mach) (L : ℕ) → ran L ≡ x → (t n : ℕ) (q : Stop) (o : Trace) → finish x .stop ≡ Limit → source place s input room space t ≡ done q n o → Begins (finish x .written) (o .written)
+  unfolding finish
+  a-beginning (done q' i o') L e t n q o h e' = absurd (not-limit q' (stops-as L i q' o' e .3) h)
+  a-beginning (over i o' m) L e t n q o h e' = Sim.beginning _ _ _ _ _ _ (diag place P) 15 0 _ _ begin (omega arith) L i o' m e t n q o e' .0
+
+  so-much : (x : End Mach) (L : ℕ) → ran L ≡ x → (t n : ℕ) (o : Trace) (s' : State) → finish x .stop ≡ Limit → source place s input room space t ≡ over n o s' → 16 * n + 16 ≤ L → Begins (o .written) (finish x .written)
+  unfolding finish
+  so-much (done q i o') L e t n o s' h e' le = absurd (not-limit q (stops-as L i q o' e .3) h)
+  so-much (over i o' m) L e t n o s' h e' le = Sim.at-least _ _ _ _ _ _ (diag place P) 15 0 _ _ begin (omega arith) L i o' m e t n o s' e' (omega arith) .0
+
+  -- a translated program never stops with 29
+  ordinary : (x : End Mach) (L : ℕ) → ran L ≡ x → Ordinary (finish x .stop) ⊎ (finish x .stop ≡ Limit)
+  unfolding finish
+  ordinary (done q i o) L e = inl (stops-as L i q o e .3)
+  ordinary (over i o m) L e = inr refl
+
+  -- the source rules answer nothing but 0 and 21 to 28
+  pub source-answers : (t n : ℕ) (q : Stop) (o : Trace) → source place s input room space t ≡ done q n o → Ordinary q
+  source-answers t n q o e =
+      let w = stops-in t n q o e (16 * n + 16) (omega arith) in
+      stops-as (16 * n + 16) (w .0) q o (w .1) .3
+
+  pub machine-answers : (limit : ℕ) → Ordinary (machineIn (code place s) input limit room space .stop) ⊎ (machineIn (code place s) input limit room space .stop ≡ Limit)
+  unfolding machineIn
+  machine-answers limit = ordinary (ran limit) limit refl
+
+  follows : Follows machineIn place s input room space
+  unfolding machineIn
+  follows = record {
+    same-answer = λ limit h. same-answer (ran limit) limit refl h;
+    enough = λ limit t n q o e h. enough limit t n q o e h;
+    some-time = λ limit h. some-time (ran limit) limit refl h;
+    a-beginning = λ limit t n q o h e. a-beginning (ran limit) limit refl t n q o h e;
+    so-much = λ limit t n o s' h e le. so-much (ran limit) limit refl t n o s' h e le;
+  }
+
+-- demand 3
+pub faithful : Faithful machineIn
+faithful = follows

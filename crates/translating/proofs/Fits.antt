@@ -1,0 +1,475 @@
+-- What the cells hold before and after an operation: nothing is wrong where the values that it uses are there, and every fault is one of 21 to 28.
+-- Assumes nothing.
+use Prim.Native.Nat.{ℕ, zero, suc, _+_, _-_, _≤_, _<_}
+use native.Mathlib.Omega.{arith}
+use mathlib.Core.Bool.{Bool, true, false, cond}
+use mathlib.Core.Path.{_≡_, refl, ap, sym, _∙_}
+use mathlib.Core.List.{List, [], _∷_, _++_, append-assoc, append-nil}
+use lib.Dec.{T, leb, ltb, le→leb, lt→ltb}
+use lib.ListN.{length, length-append, getD, set, drop, replicate}
+use lib.IntN.{ℤ, _+ℤ_}
+use lib.Signed.{mag, quotZ}
+use Rattle.machine.specs.declared.Cell.{Cell}
+use Rattle.machine.specs.declared.Cell.the-variants.{Unset, Holds}
+use Rattle.machine.specs.declared.Value.{Value}
+use Rattle.machine.specs.declared.Value.the-variants.{Is, Fault}
+use Rattle.machine.specs.Values.{whole, isZero, same, Unary, minus, negation, absolute, apply1, Binary, plus, less, times, over, below, atMost, equal, atLeast, above, unequal, and, or, impl, equiv, apply2, past}
+use Rattle.machine.specs.Run.{Event, quiet}
+use Rattle.machine.specs.Data.{Lent, Data, dat, cells, Res, bad, wrong, good, guard, check, newCells, newest, onValue, back, look, put, reading, valued, hold, unhold, held, input, space, rest, spend, taking, writing, Act, push, load, store, assign, reserve, forget, receive, send, keep, bump, unary, binary, actOn, work, downs, Two, yea, nay, Test, condition, upto, testOn, test, downsT, openBlock, closeBlock, enter, Fate, kept, gone, stays, given, leave}
+use Rattle.translating.proofs.Chain.{Vars, VarsT}
+
+-- ---- kinds of cells
+
+-- a value, or a cell that may have none
+pub data Kind : Type 0 where
+  val any : Kind
+
+abbrev pub Fits : List Kind → List Cell → Type 0
+Fits [] [] = Unit {0}
+Fits [] (c ∷ w) = ⊥
+Fits (any ∷ ks) [] = ⊥
+Fits (val ∷ ks) [] = ⊥
+Fits (any ∷ ks) (c ∷ w) = Fits ks w
+Fits (val ∷ ks) (Holds x ∷ w) = Fits ks w
+Fits (val ∷ ks) (Unset ∷ w) = ⊥
+
+-- the cells fit, and n values are held
+abbrev pub FitsD : List Kind → ℕ → Data → Type 0
+FitsD ks n (dat w h a l) = Fits ks w × (length h ≡ n)
+
+-- after a test: n values are held where it says yes, m where it says no
+abbrev pub Fits2 : List Kind → ℕ → ℕ → Two → Type 0
+Fits2 ks n m (yea d) = FitsD ks n d
+Fits2 ks n m (nay d) = FitsD ks m d
+
+-- ---- nothing wrong, a fault of 21 to 28, and this holds of every result
+
+abbrev pub Proper : ℕ → Type 0
+Proper a = (21 ≤ a) × (a ≤ 28)
+
+abbrev pub All : {A : Type 0} → (A → Type 0) → Res A → Type 0
+All Q (bad a q) = Proper a
+All Q wrong = ⊥
+All Q (good e x) = Q x
+
+abbrev ProperV : Value → Type 0
+ProperV (Is x) = Unit {0}
+ProperV (Fault a) = Proper (a .number)
+
+whole-proper : (x : ℤ) → ProperV (whole x)
+unfolding whole
+whole-proper x = go (ltb (mag x) 2147483648)
+  where
+    go : (t : Bool) → ProperV (cond t (Is x) (Fault (record { number = 21 })))
+    go true = tt
+    go false = (omega arith, omega arith)
+
+proper1 : (o : Unary) (x : ℤ) → ProperV (apply1 o x)
+unfolding apply1
+proper1 minus x = whole-proper _
+proper1 negation x = tt
+proper1 absolute x = whole-proper _
+
+proper2 : (o : Binary) (x y : ℤ) → ProperV (apply2 o x y)
+unfolding apply2
+proper2 plus x y = whole-proper _
+proper2 less x y = whole-proper _
+proper2 times x y = whole-proper _
+proper2 over x y = go (isZero y)
+  where
+    go : (t : Bool) → ProperV (cond t (Fault (record { number = 22 })) (whole (quotZ x y)))
+    go true = (omega arith, omega arith)
+    go false = whole-proper _
+proper2 below x y = tt
+proper2 atMost x y = tt
+proper2 equal x y = tt
+proper2 atLeast x y = tt
+proper2 above x y = tt
+proper2 unequal x y = tt
+proper2 and x y = tt
+proper2 or x y = tt
+proper2 impl x y = tt
+proper2 equiv x y = tt
+
+-- ---- kinds of the cells that an operation takes and gives
+
+abbrev pub takes : {X : Type 0} → Act X → List Kind → List Kind
+takes (push q v) ks = ks
+takes (load q x) ks = ks
+takes (store x) ks = val ∷ ks
+takes (assign x) ks = val ∷ ks
+takes (reserve q) ks = ks
+takes forget ks = val ∷ ks
+takes (receive q x) ks = val ∷ ks
+takes (send q) ks = val ∷ val ∷ ks
+takes keep ks = val ∷ val ∷ ks
+takes (bump q x) ks = ks
+takes (unary q o) ks = val ∷ ks
+takes (binary q o) ks = val ∷ val ∷ ks
+
+abbrev pub gives : {X : Type 0} → Act X → List Kind → List Kind
+gives (push q v) ks = val ∷ ks
+gives (load q x) ks = val ∷ ks
+gives (store x) ks = ks
+gives (assign x) ks = val ∷ ks
+gives (reserve q) ks = any ∷ ks
+gives forget ks = ks
+gives (receive q x) ks = ks
+gives (send q) ks = ks
+gives keep ks = ks
+gives (bump q x) ks = ks
+gives (unary q o) ks = val ∷ ks
+gives (binary q o) ks = val ∷ ks
+
+abbrev pub takesT : {X : Type 0} → Test X → List Kind → List Kind
+takesT condition ks = val ∷ ks
+takesT (upto q x) ks = ks
+
+-- held values before and after
+abbrev pub needs : {X : Type 0} → Act X → ℕ → ℕ
+needs (push q v) n = n
+needs (load q x) n = n
+needs (store x) n = n
+needs (assign x) n = n
+needs (reserve q) n = n
+needs forget n = n
+needs (receive q x) n = n
+needs (send q) n = n
+needs keep n = n
+needs (bump q x) n = suc (suc n)
+needs (unary q o) n = n
+needs (binary q o) n = n
+
+abbrev pub holds : {X : Type 0} → Act X → ℕ → ℕ
+holds (push q v) n = n
+holds (load q x) n = n
+holds (store x) n = n
+holds (assign x) n = n
+holds (reserve q) n = n
+holds forget n = n
+holds (receive q x) n = n
+holds (send q) n = n
+holds keep n = suc (suc n)
+holds (bump q x) n = suc (suc n)
+holds (unary q o) n = n
+holds (binary q o) n = n
+
+abbrev pub needsT : {X : Type 0} → Test X → ℕ → ℕ
+needsT condition n = n
+needsT (upto q x) n = suc (suc n)
+
+pub vars : {X : Type 0} {Q R : X → Type 0} → ((x : X) → Q x → R x) → (a : Act X) → Vars Q a → Vars R a
+vars f (push q v) o = tt
+vars f (load q x) o = f x o
+vars f (store x) o = f x o
+vars f (assign x) o = f x o
+vars f (reserve q) o = tt
+vars f forget o = tt
+vars f (receive q x) o = f x o
+vars f (send q) o = tt
+vars f keep o = tt
+vars f (bump q x) o = f x o
+vars f (unary q i) o = tt
+vars f (binary q i) o = tt
+
+pub varsT : {X : Type 0} {Q R : X → Type 0} → ((x : X) → Q x → R x) → (a : Test X) → VarsT Q a → VarsT R a
+varsT f condition o = tt
+varsT f (upto q x) o = f x o
+
+-- the length of what is taken, and where it stands on other kinds
+pub taken-length : {X : Type 0} (a : Act X) (ks kt : List Kind) → length (takes a ks ++ kt) ≡ downs a + length (ks ++ kt)
+taken-length (push q v) ks kt = omega arith
+taken-length (load q x) ks kt = omega arith
+taken-length (store x) ks kt = omega arith
+taken-length (assign x) ks kt = omega arith
+taken-length (reserve q) ks kt = omega arith
+taken-length forget ks kt = omega arith
+taken-length (receive q x) ks kt = omega arith
+taken-length (send q) ks kt = omega arith
+taken-length keep ks kt = omega arith
+taken-length (bump q x) ks kt = omega arith
+taken-length (unary q i) ks kt = omega arith
+taken-length (binary q i) ks kt = omega arith
+
+pub takes-on : {X : Type 0} (a : Act X) (ks kt : List Kind) → takes a ks ++ kt ≡ takes a (ks ++ kt)
+takes-on (push q v) ks kt = refl
+takes-on (load q x) ks kt = refl
+takes-on (store x) ks kt = refl
+takes-on (assign x) ks kt = refl
+takes-on (reserve q) ks kt = refl
+takes-on forget ks kt = refl
+takes-on (receive q x) ks kt = refl
+takes-on (send q) ks kt = refl
+takes-on keep ks kt = refl
+takes-on (bump q x) ks kt = refl
+takes-on (unary q i) ks kt = refl
+takes-on (binary q i) ks kt = refl
+
+pub gives-on : {X : Type 0} (a : Act X) (ks kt : List Kind) → gives a ks ++ kt ≡ gives a (ks ++ kt)
+gives-on (push q v) ks kt = refl
+gives-on (load q x) ks kt = refl
+gives-on (store x) ks kt = refl
+gives-on (assign x) ks kt = refl
+gives-on (reserve q) ks kt = refl
+gives-on forget ks kt = refl
+gives-on (receive q x) ks kt = refl
+gives-on (send q) ks kt = refl
+gives-on keep ks kt = refl
+gives-on (bump q x) ks kt = refl
+gives-on (unary q i) ks kt = refl
+gives-on (binary q i) ks kt = refl
+
+pub takesT-length : {X : Type 0} (a : Test X) (ks kt : List Kind) → length (takesT a ks ++ kt) ≡ downsT a + length (ks ++ kt)
+takesT-length condition ks kt = omega arith
+takesT-length (upto q x) ks kt = omega arith
+
+pub takesT-on : {X : Type 0} (a : Test X) (ks kt : List Kind) → takesT a ks ++ kt ≡ takesT a (ks ++ kt)
+takesT-on condition ks kt = refl
+takesT-on (upto q x) ks kt = refl
+
+-- what names the variables does not matter
+pub downs-on : {X Y : Type 0} (f : X → Y) (a : Act X) → downs (actOn f a) ≡ downs a
+downs-on f (push q v) = refl
+downs-on f (load q x) = refl
+downs-on f (store x) = refl
+downs-on f (assign x) = refl
+downs-on f (reserve q) = refl
+downs-on f forget = refl
+downs-on f (receive q x) = refl
+downs-on f (send q) = refl
+downs-on f keep = refl
+downs-on f (bump q x) = refl
+downs-on f (unary q i) = refl
+downs-on f (binary q i) = refl
+
+pub downsT-on : {X Y : Type 0} (f : X → Y) (a : Test X) → downsT (testOn f a) ≡ downsT a
+downsT-on f condition = refl
+downsT-on f (upto q x) = refl
+
+-- ---- lists of cells
+
+fits-length : (ks : List Kind) (w : List Cell) → Fits ks w → length w ≡ length ks
+fits-length [] [] f = refl
+fits-length [] (c ∷ w) f = absurd f
+fits-length (any ∷ ks) [] f = absurd f
+fits-length (val ∷ ks) [] f = absurd f
+fits-length (any ∷ ks) (c ∷ w) f = ap suc (fits-length ks w f)
+fits-length (val ∷ ks) (Holds x ∷ w) f = ap suc (fits-length ks w f)
+fits-length (val ∷ ks) (Unset ∷ w) f = absurd f
+
+pub fits-cells : (ks : List Kind) (n : ℕ) (d : Data) → FitsD ks n d → cells d ≡ length ks
+fits-cells ks n (dat w h a l) f = fits-length ks w (f .0)
+
+fits-set : (ks : List Kind) (w : List Cell) (i : ℕ) (v : ℤ) → Fits ks w → Fits ks (set w i (Holds v))
+fits-set ks [] i v f = f
+fits-set [] (c ∷ w) i v f = absurd f
+fits-set (any ∷ ks) (c ∷ w) zero v f = f
+fits-set (any ∷ ks) (c ∷ w) (suc i) v f = fits-set ks w i v f
+fits-set (val ∷ ks) (Holds x ∷ w) zero v f = f
+fits-set (val ∷ ks) (Holds x ∷ w) (suc i) v f = fits-set ks w i v f
+fits-set (val ∷ ks) (Unset ∷ w) i v f = absurd f
+
+-- n cells more
+abbrev pub more-of : Kind → ℕ → List Kind → List Kind
+more-of k zero ks = ks
+more-of k (suc n) ks = k ∷ more-of k n ks
+
+pub more-length : (k : Kind) (n : ℕ) (ks : List Kind) → length (more-of k n ks) ≡ n + length ks
+more-length k zero ks = omega arith
+more-length k (suc n) ks = omega (arith, more-length k n ks)
+
+pub more-once : (k : Kind) (n : ℕ) (ks : List Kind) → more-of k n (k ∷ ks) ≡ k ∷ more-of k n ks
+more-once k zero ks = refl
+more-once k (suc n) ks = ap (λ x. k ∷ x) (more-once k n ks)
+
+pub more-on : (k : Kind) (n : ℕ) (ks kt : List Kind) → more-of k n (ks ++ kt) ≡ more-of k n ks ++ kt
+more-on k zero ks kt = refl
+more-on k (suc n) ks kt = ap (λ x. k ∷ x) (more-on k n ks kt)
+
+fits-more : (n : ℕ) (ks : List Kind) (w : List Cell) → Fits ks w → Fits (more-of any n ks) (replicate n Unset ++ w)
+fits-more zero ks w f = f
+fits-more (suc n) ks w f = fits-more n ks w f
+
+-- some cells less
+fits-drop : (js ks : List Kind) (w : List Cell) → Fits (js ++ ks) w → Fits ks (drop (length js) w)
+fits-drop [] ks w f = f
+fits-drop (any ∷ js) ks [] f = absurd f
+fits-drop (val ∷ js) ks [] f = absurd f
+fits-drop (any ∷ js) ks (c ∷ w) f = fits-drop js ks w f
+fits-drop (val ∷ js) ks (Holds x ∷ w) f = fits-drop js ks w f
+fits-drop (val ∷ js) ks (Unset ∷ w) f = absurd f
+
+-- ---- the parts of operations
+
+pub guard-yes : {A : Type 0} (b : Bool) (r : Res A) → T b → guard b r ≡ r
+unfolding guard
+guard-yes true r h = refl
+guard-yes false r h = absurd h
+
+guarded : {A : Type 0} (Q : A → Type 0) (b : Bool) (r : Res A) → T b → All Q r → All Q (guard b r)
+unfolding guard
+guarded Q true r h x = x
+guarded Q false r h x = absurd h
+
+checked : {A : Type 0} (Q : A → Type 0) (t : Bool) (a q : ℕ) (r : Res A) → Proper a → All Q r → All Q (check t a q r)
+unfolding check
+checked Q true a q r w x = x
+checked Q false a q r w x = w
+
+-- a value is used
+used : {A : Type 0} (Q : A → Type 0) (f : ℤ → Data → Res A) (ks : List Kind) (n : ℕ) (d : Data) → FitsD (val ∷ ks) n d → ((v : ℤ) (d : Data) → FitsD ks n d → All Q (f v d)) → All Q (onValue f (newest d))
+unfolding onValue newest
+used Q f ks n (dat [] h a l) k g = absurd (k .0)
+used Q f ks n (dat (Unset ∷ w) h a l) k g = absurd (k .0)
+used Q f ks n (dat (Holds v ∷ w) h a l) k g = g v (dat w h a l) (k .0, k .1)
+
+-- a cell in use
+in-use : {A : Type 0} (Q : A → Type 0) (c : ℕ) (ks : List Kind) (n : ℕ) (d : Data) (r : Res A) → FitsD ks n d → c < length ks → All Q r → All Q (guard (ltb c (cells d)) r)
+in-use Q c ks n d r k h x = guarded Q _ r (lt→ltb c (cells d) (omega (arith, fits-cells ks n d k))) x
+
+read : {A : Type 0} (Q : A → Type 0) (q : ℕ) (f : ℤ → Res A) (c : Cell) → ((v : ℤ) → All Q (f v)) → All Q (reading q f c)
+unfolding reading
+read Q q f Unset g = (omega arith, omega arith)
+read Q q f (Holds v) g = g v
+
+worked : {A : Type 0} (Q : A → Type 0) (q : ℕ) (f : ℤ → Res A) (v : Value) → ProperV v → ((x : ℤ) → All Q (f x)) → All Q (valued q f v)
+unfolding valued
+worked Q q f (Is x) w g = g x
+worked Q q f (Fault a) w g = w
+
+with-held : {A : Type 0} (Q : A → Type 0) (f : ℤ → ℤ → Res A) (ks : List Kind) (n : ℕ) (d : Data) → FitsD ks (suc (suc n)) d → ((x y : ℤ) → All Q (f x y)) → All Q (held f d)
+unfolding held
+with-held Q f ks n (dat w [] a l) k g = absurd (omega arith)
+with-held Q f ks n (dat w (y ∷ []) a l) k g = absurd (omega arith)
+with-held Q f ks n (dat w (y ∷ x ∷ h) a l) k g = g x y
+
+put-fits : (ks : List Kind) (n c : ℕ) (v : ℤ) (d : Data) → FitsD ks n d → FitsD ks n (put c v d)
+unfolding put
+put-fits ks n c v (dat w h a l) k = (fits-set ks w (length w - suc c) v (k .0), k .1)
+
+back-fits : (ks : List Kind) (n : ℕ) (v : ℤ) (d : Data) → FitsD ks n d → FitsD (val ∷ ks) n (back v d)
+unfolding back
+back-fits ks n v (dat w h a l) k = k
+
+rest-fits : (ks : List Kind) (n : ℕ) (i : List ℤ) (d : Data) → FitsD ks n d → FitsD ks n (rest i d)
+unfolding rest
+rest-fits ks n i (dat w h a l) k = k
+
+spend-fits : (ks : List Kind) (n : ℕ) (d : Data) → FitsD ks n d → FitsD ks n (spend d)
+unfolding spend
+spend-fits ks n (dat w h a l) k = k
+
+hold-fits : (ks : List Kind) (n : ℕ) (x y : ℤ) (d : Data) → FitsD ks n d → FitsD ks (suc (suc n)) (hold x y d)
+unfolding hold
+hold-fits ks n x y (dat w h a l) k = (k .0, omega arith)
+
+unhold-fits : (ks : List Kind) (n : ℕ) (d : Data) → FitsD ks (suc (suc n)) d → FitsD ks n (unhold d)
+unfolding unhold
+unhold-fits ks n (dat w [] a l) k = (k .0, absurd (omega arith))
+unhold-fits ks n (dat w (y ∷ []) a l) k = (k .0, absurd (omega arith))
+unhold-fits ks n (dat w (y ∷ x ∷ h) a l) k = (k .0, omega arith)
+
+-- new cells
+new-fits : (q : ℕ) (x : List Cell) (ks' ks : List Kind) (n : ℕ) (d : Data) → FitsD ks n d → ((w : List Cell) → Fits ks w → Fits ks' (x ++ w)) → All (FitsD ks' n) (newCells q x d)
+unfolding newCells
+new-fits q x ks' ks n (dat w h a l) k g = checked (FitsD ks' n) _ _ q _ (omega arith, omega arith) (g w (k .0), k .1)
+
+take-fits : (ks : List Kind) (n q c : ℕ) (d : Data) (i : List ℤ) → FitsD ks n d → All (FitsD ks n) (taking q c d i)
+unfolding taking
+take-fits ks n q c d [] k = (omega arith, omega arith)
+take-fits ks n q c d (v ∷ i) k = put-fits ks n c v (rest i d) (rest-fits ks n i d k)
+
+write-fits : (ks : List Kind) (n q : ℕ) (v : ℤ) (d : Data) → FitsD ks n d → All (FitsD ks n) (writing q v d)
+unfolding writing
+write-fits ks n q v d k = checked (FitsD ks n) _ _ q _ (omega arith, omega arith) (spend-fits ks n d k)
+
+-- ---- operations on cells that fit, and on variables among them
+
+pub works : {X : Type 0} (f : X → ℕ) (a : Act X) (ks : List Kind) (n : ℕ) (d : Data) → FitsD (takes a ks) (needs a n) d → Vars (λ x. f x < length ks) a → All (FitsD (gives a ks) (holds a n)) (work (actOn f a) d)
+unfolding work
+works f (push q v) ks n d k o = new-fits q (Holds v ∷ []) (val ∷ ks) ks n d k (λ w x. x)
+works f (load q x) ks n d k o = in-use _ (f x) ks n d _ k o (read _ q _ _ (λ v. new-fits q (Holds v ∷ []) (val ∷ ks) ks n d k (λ w x. x)))
+works f (store x) ks n d k o = used _ _ ks n d k (λ v d k. in-use _ (f x) ks n d _ k o (put-fits ks n (f x) v d k))
+works f (assign x) ks n d k o = used _ _ ks n d k (λ v d k. in-use _ (f x) ks n d _ k o (back-fits ks n v (put (f x) v d) (put-fits ks n (f x) v d k)))
+works f (reserve q) ks n d k o = new-fits q (Unset ∷ []) (any ∷ ks) ks n d k (λ w x. x)
+works f forget ks n d k o = used _ _ ks n d k (λ v d k. k)
+works f (receive q x) ks n d k o =
+    used _ _ ks n d k (λ v d k. in-use _ (f x) ks n d _ k o (checked _ _ _ q _ (omega arith, omega arith) (take-fits ks n q (f x) d (input d) k)))
+works f (send q) ks n d k o =
+    used _ _ (val ∷ ks) n d k (λ v d k. used _ _ ks n d k (λ c d k. checked _ _ _ q _ (omega arith, omega arith) (write-fits ks n q v d k)))
+works f keep ks n d k o = used _ _ (val ∷ ks) n d k (λ y d k. used _ _ ks n d k (λ x d k. hold-fits ks n x y d k))
+works f (bump q u) ks n d k o =
+    with-held _ _ ks n d k
+    (λ x y. in-use _ (f u) ks (suc (suc n)) d _ k o (read _ q _ _ (λ v. worked _ q _ _ (whole-proper _) (λ s. put-fits ks (suc (suc n)) (f u) s d k))))
+works f (unary q i) ks n d k o = used _ _ ks n d k (λ x d k. worked _ q _ _ (proper1 i x) (λ v. back-fits ks n v d k))
+works f (binary q i) ks n d k o =
+    used _ _ (val ∷ ks) n d k (λ y d k. used _ _ ks n d k (λ x d k. worked _ q _ _ (proper2 i x y) (λ v. back-fits ks n v d k)))
+
+chosen-fits : (t : Bool) (ks : List Kind) (n m : ℕ) (x y : Data) → FitsD ks m x → FitsD ks n y → Fits2 ks n m (cond t (nay x) (yea y))
+chosen-fits true ks n m x y e e' = e
+chosen-fits false ks n m x y e e' = e'
+
+pub works-test : {X : Type 0} (f : X → ℕ) (a : Test X) (ks : List Kind) (n : ℕ) (d : Data) → FitsD (takesT a ks) (needsT a n) d → VarsT (λ x. f x < length ks) a → All (Fits2 ks (needsT a n) n) (test (testOn f a) d)
+unfolding test
+works-test f condition ks n d k o = used _ _ ks n d k (λ v d k. chosen-fits (isZero v) ks n n d d k k)
+works-test f (upto q u) ks n d k o =
+    with-held _ _ ks n d k
+    (λ x y. in-use _ (f u) ks (suc (suc n)) d _ k o (read _ q _ _ (λ v. chosen-fits (past v x y) ks (suc (suc n)) n (unhold d) d (unhold-fits ks n d k) k)))
+
+-- ---- blocks and activations
+
+pub open-fits : (q m : ℕ) (ks : List Kind) (n : ℕ) (d : Data) → FitsD ks n d → All (FitsD (more-of any m ks) n) (openBlock q m d)
+unfolding openBlock
+open-fits q m ks n d k = new-fits q (replicate m Unset) (more-of any m ks) ks n d k (fits-more m ks)
+
+pub close-fits : (m : ℕ) (ks : List Kind) (n : ℕ) (d : Data) → FitsD (more-of any m ks) n d → All (FitsD ks n) (closeBlock m d)
+unfolding closeBlock
+close-fits m ks n (dat w h a l) k =
+    let e = more-length any m [] in
+    let e' : length (more-of any m []) ≡ m = omega arith in
+    let k' : Fits (more-of any m [] ++ ks) w = rw (← more-on any m [] ks) (k .0) in
+    guarded (FitsD ks n) _ _ (le→leb m (length w) (omega (arith, fits-length (more-of any m ks) w (k .0), more-length any m ks))) (rw e' at (fits-drop (more-of any m []) ks w k'), k .1)
+
+pub enter-fits : (q : ℕ) (ks : List Kind) (n : ℕ) (d : Data) → FitsD ks n d → All (FitsD ks n) (enter q d)
+unfolding enter
+enter-fits q ks n (dat w h a l) k = checked (FitsD ks n) _ _ q _ (omega arith, omega arith) k
+
+-- the result's cell before and after
+abbrev pub before : Fate → List Kind → List Kind
+before kept ks = any ∷ ks
+before gone ks = ks
+
+abbrev pub left : Fate → List Kind → List Kind
+left kept ks = val ∷ ks
+left gone ks = ks
+
+given-fits : (q : ℕ) (ks : List Kind) (w : List Cell) (h : List ℤ) (n a : ℕ) (l : Lent) → Fits (any ∷ ks) w → length h ≡ n → All (FitsD (val ∷ ks) n) (given q w h a l)
+unfolding given
+given-fits q ks [] h n a l k e = absurd k
+given-fits q ks (Unset ∷ w) h n a l k e = (omega arith, omega arith)
+given-fits q ks (Holds v ∷ w) h n a l k e = (k, e)
+
+pub leave-fits : (f : Fate) (q b : ℕ) (js ks : List Kind) (n : ℕ) (d : Data) → FitsD (js ++ before f ks) n d → b ≡ length ks → All (FitsD (left f ks) n) (leave f q b d)
+unfolding leave
+leave-fits kept q b js ks n (dat w h a l) k e =
+    let e₁ = fits-length (js ++ (any ∷ ks)) w (k .0) in
+    let e₂ = length-append js (any ∷ ks) in
+    let e₃ : length w - suc b ≡ length js = omega arith in
+    guarded _ _ _ (lt→ltb b (length w) (omega arith)) (given-fits q ks _ h n _ l (rw e₃ (fits-drop js (any ∷ ks) w (k .0))) (k .1))
+leave-fits gone q b js ks n (dat w h a l) k e =
+    let e₁ = fits-length (js ++ ks) w (k .0) in
+    let e₂ = length-append js ks in
+    let e₃ : length w - b ≡ length js = omega arith in
+    guarded _ _ _ (le→leb b (length w) (omega arith)) (rw e₃ (fits-drop js ks w (k .0)), k .1)
+
+pub handed : (f : Fate) (js ks kt : List Kind) → (js ++ before f ks) ++ kt ≡ js ++ before f (ks ++ kt)
+handed kept js ks kt = append-assoc js (any ∷ ks) kt
+handed gone js ks kt = append-assoc js ks kt
+
+pub left-on : (f : Fate) (ks kt : List Kind) → left f ks ++ kt ≡ left f (ks ++ kt)
+left-on kept ks kt = refl
+left-on gone ks kt = refl
+
+pub before-length : (f : Fate) (ks : List Kind) → length (before f ks) ≡ stays f + length ks
+before-length kept ks = omega arith
+before-length gone ks = omega arith

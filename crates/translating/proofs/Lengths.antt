@@ -1,0 +1,117 @@
+-- Code ends where it is said to end; so the words of a program within the paper's limits fit 16,384. One line a construct. Assumes nothing.
+use Prim.Native.Nat.{ℕ, zero, suc, _+_, _*_, _≤_}
+use native.Mathlib.Omega.{arith}
+use mathlib.Core.Path.{_≡_, refl}
+use mathlib.Core.List.{List, [], _∷_}
+use mathlib.Core.Option.{Option, none, some}
+use lib.ListN.{length}
+use Rattle.machine.specs.Instructions.{Instr, END}
+use Rattle.names.specs.Program.{Name, Sort, Sign, positive, negative, negation, Expression, number, logical, name, call, signed, operated, chosen, nested, Expressions, done, then, Element, value, while, step, Statement, dummy, assignment, procedure, when, either, repeat, compound, block, Statements, last, first, Declarations, none as no-more, variables, declare, Procedure, heading}
+use Rattle.names.specs.Scopes.{Scope, ofBlock, sortOf, meaning}
+use Rattle.rules.specs.Calls.{Primary, held, function, absolute, greatest, no-primary, primary, Command, routine-of, absolute-of, greatest-of, input-to, output-of, no-command, command}
+use Rattle.translating.specs.Translate.{Mark, blk, own, scopes, reach, endName, endSign, endE, endEs, endL, endStores, endCall, endCommand, endS, endSs, endDs, endP, codeName, codeSign, codeE, codeEs, codeL, codeStores, codeCall, codeCommand, codeS, codeSs, codeDs, codeP, code}
+use Rattle.translating.specs.Words.{words}
+use Rattle.translating.specs.Sizes.{symbolsS, Whole, Limited}
+use Rattle.translating.proofs.Ranges.{ends}
+
+-- code r that stands at b ends at k
+data Ends (r : List Instr) (b k : ℕ) : Type 0 where
+  so : length r + b ≡ k → Ends r b k
+
+-- an instruction more
+one : {i : Instr} {r : List Instr} {b k : ℕ} → Ends r (suc b) k → Ends (i ∷ r) b k
+one (so h) = so (omega arith)
+
+module _ (place : ℕ → ℕ) where
+  long-name : (pr : Primary) (g : List Mark) (x : Name) (n : ℕ) (f : ℕ → ℕ) (c : ℕ → List Instr → List Instr) → ((b : ℕ) (r : List Instr) (k : ℕ) → Ends r (f b) k → Ends (c b r) b k) → (b : ℕ) (r : List Instr) (k : ℕ) → Ends r (endName pr f b) k → Ends (codeName place pr g x n c b r) b k
+  long-name held g x n f c w b r k h = one h
+  long-name (function p) g x n f c w b r k h = one (w (suc b) _ k (one h))
+  long-name absolute g x n f c w b r k h = w b _ k (one h)
+  long-name greatest g x n f c w b r k h = one h
+  long-name no-primary g x n f c w b r k h = h
+
+  long-sign : (q : ℕ) (o : Sign) (b : ℕ) (r : List Instr) (k : ℕ) → Ends r (endSign o b) k → Ends (codeSign place q o r) b k
+  long-sign q positive b r k h = h
+  long-sign q negative b r k h = one h
+  long-sign q negation b r k h = one h
+
+  mutual
+    unfolding endE codeE
+
+    longE : (g : List Mark) (e : Expression) (b : ℕ) (r : List Instr) (k : ℕ) → Ends r (endE (scopes g) e b) k → Ends (codeE place g e b r) b k
+    longE g (number q n) b r k h = one h
+    longE g (logical q t) b r k h = one h
+    longE g (name x) b r k h = long-name (primary (meaning (scopes g) x) done) g x 0 (λ b. b) (λ b r. r) (λ b r k h. h) b r k h
+    longE g (call x e es) b r k h = long-name (primary (meaning (scopes g) x) (then e es)) g x _ (λ b. endEs (scopes g) es (endE (scopes g) e b)) (λ b r. codeE place g e b (codeEs place g es (endE (scopes g) e b) r)) (λ b r k h. longE g e b _ k (longEs g es _ r k h)) b r k h
+    longE g (signed q o e) b r k h = longE g e b _ k (long-sign q o _ r k h)
+    longE g (operated q o e f) b r k h = longE g e b _ k (longE g f _ _ k (one h))
+    longE g (chosen q q' c e f) b r k h = longE g c b _ k (one (longE g e _ _ k (one (longE g f _ r k h))))
+    longE g (nested q e) b r k h = longE g e b r k h
+
+    longEs : (g : List Mark) (es : Expressions) (b : ℕ) (r : List Instr) (k : ℕ) → Ends r (endEs (scopes g) es b) k → Ends (codeEs place g es b r) b k
+    longEs g done b r k h = h
+    longEs g (then e es) b r k h = longE g e b _ k (longEs g es _ r k h)
+
+  longL : (g : List Mark) (m : ℕ) (x : Name) (l : List Element) (s n b : ℕ) (r : List Instr) (k : ℕ) → Ends r (endL (scopes g) l b) k → Ends (codeL place g m x l s n b r) b k
+  unfolding endL codeL
+  longL g m x [] s n b r k h = h
+  longL g m x (value e ∷ l) s n b r k h = longE g e b _ k (one (one (longL g m x l s n _ r k h)))
+  longL g m x (while q e c ∷ l) s n b r k h = longE g e b _ k (one (longE g c _ _ k (one (one (longL g m x l s n _ r k h)))))
+  longL g m x (step q e f i ∷ l) s n b r k h = longE g e b _ k (one (longE g f _ _ k (longE g i _ _ k (one (one (one (one (one (longL g m x l s n _ r k h)))))))))
+
+  long-stores : (g : List Mark) (x : Name) (xs : List Name) (b : ℕ) (r : List Instr) (k : ℕ) → Ends r (endStores xs b) k → Ends (codeStores place g x xs r) b k
+  unfolding endStores codeStores
+  long-stores g x [] b r k h = one h
+  long-stores g x (y ∷ ys) b r k h = one (long-stores g y ys _ r k h)
+
+  long-call : (g : List Mark) (t : Option Sort) (x : Name) (es : Expressions) (b : ℕ) (r : List Instr) (k : ℕ) → Ends r (endCall (scopes g) t es b) k → Ends (codeCall place g t x es b r) b k
+  long-call g none x es b r k h = longEs g es b _ k (one h)
+  long-call g (some t) x es b r k h = one (longEs g es _ _ k (one h))
+
+  long-command : (c : Command) (g : List Mark) (x : Name) (es : Expressions) (b : ℕ) (r : List Instr) (k : ℕ) → Ends r (endCommand (scopes g) c es b) k → Ends (codeCommand place c g x es b r) b k
+  long-command (routine-of p) g x es b r k h = long-call g (sortOf p) x es b r k h
+  long-command (absolute-of e) g x es b r k h = longE g e b _ k (one (one h))
+  long-command greatest-of g x es b r k h = one (one h)
+  long-command (input-to e y) g x es b r k h = longE g e b _ k (one h)
+  long-command (output-of e f) g x es b r k h = longE g e b _ k (longE g f _ _ k (one h))
+  long-command no-command g x es b r k h = h
+
+  mutual
+    unfolding endS codeS
+
+    longS : (g : List Mark) (m : ℕ) (s : Statement) (b : ℕ) (r : List Instr) (k : ℕ) → Ends r (endS (scopes g) s b) k → Ends (codeS place g m s b r) b k
+    longS g m dummy b r k h = h
+    longS g m (assignment x xs q e) b r k h = longE g e b _ k (long-stores g x xs _ r k h)
+    longS g m (procedure x es) b r k h = long-command (command (meaning (scopes g) x) es) g x es b r k h
+    longS g m (when q c s) b r k h = longE g c b _ k (one (longS g m s _ r k h))
+    longS g m (either q c s t) b r k h = longE g c b _ k (one (longS g m s _ _ k (one (longS g m t _ r k h))))
+    longS g m (repeat x l ls s) b r k h = longL g m x (l ∷ ls) _ _ b _ k (longS g (suc m) s _ _ k (one h))
+    longS g m (compound ss) b r k h = longSs g m ss b r k h
+    longS g m (block q ds ss) b r k h = one (longDs _ ds _ _ k (longSs (blk (reach g) ds (suc b) ∷ g) m ss _ _ k (one h)))
+
+    longSs : (g : List Mark) (m : ℕ) (ss : Statements) (b : ℕ) (r : List Instr) (k : ℕ) → Ends r (endSs (scopes g) ss b) k → Ends (codeSs place g m ss b r) b k
+    longSs g m (last s) b r k h = longS g m s b r k h
+    longSs g m (first s ss) b r k h = longS g m s b _ k (longSs g m ss _ r k h)
+
+    longDs : (g : List Mark) (ds : Declarations) (b : ℕ) (r : List Instr) (k : ℕ) → Ends r (endDs (scopes g) ds b) k → Ends (codeDs place g ds b r) b k
+    longDs g no-more b r k h = h
+    longDs g (variables t xs ds) b r k h = longDs g ds b r k h
+    longDs g (declare p ds) b r k h = longP g p b _ k (longDs g ds _ r k h)
+
+    longP : (g : List Mark) (p : Procedure) (b : ℕ) (r : List Instr) (k : ℕ) → Ends r (endP (scopes g) p b) k → Ends (codeP place g p b r) b k
+    longP g (heading t f xs vs ss s) b r k h = longS (own (heading t f xs vs ss s) ∷ g) 0 s b _ k (one h)
+
+  ended : {r : List Instr} {b k : ℕ} → Ends r b k → length r + b ≡ k
+  ended (so h) = h
+
+  length-words : (p : List Instr) → length (words p) ≡ 2 * length p
+  unfolding words
+  length-words [] = refl
+  length-words (i ∷ p) = omega (arith, length-words p)
+
+  -- "An accepted program always fits"
+  pub fits-words : (s : Statement) → Limited s → length (words (code place s)) ≤ 16384
+  unfolding code
+  fits-words s l =
+      let e = ended (longS [] 0 s 0 (END ∷ []) (1 + endS [] s 0) (so refl)) in
+      omega (arith, e, length-words (codeS place [] 0 s 0 (END ∷ [])), ends place s (l .whole) (l .symbols))

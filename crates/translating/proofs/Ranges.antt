@@ -1,0 +1,423 @@
+-- Every operand of a translated program is in its range: levels and nesting below 64, offsets, counts and addresses below 8,192. Assumes nothing.
+use Prim.Native.Nat.{ℕ, zero, suc, _+_, _*_, _≤_, _<_, max}
+use native.Mathlib.Omega.{arith}
+use mathlib.Core.Bool.{Bool, true, false, cond}
+use mathlib.Core.Path.{_≡_, refl}
+use mathlib.Core.List.{List, [], _∷_, _++_, map}
+use mathlib.Core.Option.{Option, none, some}
+use lib.ListN.{length}
+use lib.IntN.{ℤ, pos}
+use Rattle.machine.specs.Values.{truth}
+use Rattle.machine.specs.Data.{Act}
+use Rattle.machine.specs.Instructions.{Loc, lc, Instr, END}
+use Rattle.names.specs.Program.{Name, Sort, Sign, positive, negative, negation, Expression, number, logical, name, call, signed, operated, chosen, nested, Expressions, done, then, Element, value, while, step, Specification, Statement, dummy, assignment, procedure, when, either, repeat, compound, block, Statements, last, first, Declarations, none as no-more, variables, declare, Procedure, heading}
+use Rattle.names.specs.Scopes.{Thing, variable, routine, formal, Declared, Scope, ofBlock, ofBody, declares, inBlock, inBody, variablesIn, specified, specificationsOf, formalsOf, nameOf, sortOf, same, Meaning, declared, given, nothing, meaning}
+use Rattle.rules.specs.Entered.{cellsOf, total, oneIf, results, cellsIn, before, placeIn, declaring, bodyOfThis}
+use Rattle.rules.specs.Calls.{count, Primary, held, function, absolute, greatest, no-primary, primary, Command, routine-of, absolute-of, greatest-of, input-to, output-of, no-command, command, thingTold, into, givenTold}
+use Rattle.translating.specs.Translate.{Mark, blk, own, scopeAt, scopes, offset, reach, cutG, levels, amongG, offsetOf, locFor, locAs, loc, endName, endSign, endE, endEs, endL, onward, endStores, endCall, endCommand, endS, endSs, endDs, endP, entry, target, codeName, codeSign, codeE, codeEs, codeL, codeStores, codeCall, codeCommand, codeS, codeSs, codeDs, codeP, code}
+use Rattle.translating.specs.Words.{LocFits, CodeFits}
+use Rattle.translating.proofs.Sizes.{symbolsC, few, actuals-most, sizeSs, sizeDs}
+use Rattle.translating.specs.Sizes.{symbolsE, symbolsEs, actuals, symbolsL, listed, symbolsS, symbolsSs, symbolsDs, symbolsP, deepS, deepSs, deepDs, deepP, SmallE, SmallEs, SmallL, SmallS, SmallSs, SmallDs, SmallP, Whole, Limited}
+
+-- ---- code does not end before it begins
+
+grow-name : (pr : Primary) (f : ℕ → ℕ) → ((b : ℕ) → b ≤ f b) → (b : ℕ) → b ≤ endName pr f b
+grow-name held f h b = omega arith
+grow-name (function p) f h b = omega (arith, h (suc b))
+grow-name absolute f h b = omega (arith, h b)
+grow-name greatest f h b = omega arith
+grow-name no-primary f h b = omega arith
+
+grow-sign : (o : Sign) (b : ℕ) → b ≤ endSign o b
+grow-sign positive b = omega arith
+grow-sign negative b = omega arith
+grow-sign negation b = omega arith
+
+mutual
+  unfolding endE
+
+  growE : (g : List Scope) (e : Expression) (b : ℕ) → b ≤ endE g e b
+  growE g (number q n) b = omega arith
+  growE g (logical q t) b = omega arith
+  growE g (name x) b = grow-name (primary (meaning g x) done) (λ b. b) (λ b. omega arith) b
+  growE g (call x e es) b = grow-name (primary (meaning g x) (then e es)) (λ b. endEs g es (endE g e b)) (λ b. omega (arith, growE g e b, growEs g es (endE g e b))) b
+  growE g (signed q o e) b = omega (arith, growE g e b, grow-sign o (endE g e b))
+  growE g (operated q o e f) b = omega (arith, growE g e b, growE g f (endE g e b))
+  growE g (chosen q r c e f) b = omega (arith, growE g c b, growE g e (suc (endE g c b)), growE g f (suc (endE g e (suc (endE g c b)))))
+  growE g (nested q e) b = growE g e b
+
+  growEs : (g : List Scope) (es : Expressions) (b : ℕ) → b ≤ endEs g es b
+  growEs g done b = omega arith
+  growEs g (then e es) b = omega (arith, growE g e b, growEs g es (endE g e b))
+
+growL : (g : List Scope) (l : List Element) (b : ℕ) → b ≤ endL g l b
+unfolding endL
+growL g [] b = omega arith
+growL g (value e ∷ l) b = omega (arith, growE g e b, growL g l (suc (suc (endE g e b))))
+growL g (while q e c ∷ l) b = omega (arith, growE g e b, growE g c (suc (endE g e b)), growL g l (suc (suc (endE g c (suc (endE g e b))))))
+growL g (step q e f h ∷ l) b =
+    let a = suc (endE g e b) in
+    omega (arith, growE g e b, growE g f a, growE g h (endE g f a), growL g l (suc (suc (suc (suc (suc (endE g h (endE g f a))))))))
+
+grow-stores : (xs : List Name) (b : ℕ) → b ≤ endStores xs b
+unfolding endStores
+grow-stores [] b = omega arith
+grow-stores (y ∷ ys) b = omega (arith, grow-stores ys (suc b))
+
+grow-call : (g : List Scope) (t : Option Sort) (es : Expressions) (b : ℕ) → b ≤ endCall g t es b
+grow-call g none es b = omega (arith, growEs g es b)
+grow-call g (some t) es b = omega (arith, growEs g es (suc b))
+
+grow-command : (g : List Scope) (c : Command) (es : Expressions) (b : ℕ) → b ≤ endCommand g c es b
+grow-command g (routine-of p) es b = grow-call g (sortOf p) es b
+grow-command g (absolute-of e) es b = omega (arith, growE g e b)
+grow-command g greatest-of es b = omega arith
+grow-command g (input-to e y) es b = omega (arith, growE g e b)
+grow-command g (output-of e f) es b = omega (arith, growE g e b, growE g f (endE g e b))
+grow-command g no-command es b = omega arith
+
+mutual
+  unfolding endS
+
+  growS : (g : List Scope) (s : Statement) (b : ℕ) → b ≤ endS g s b
+  growS g dummy b = omega arith
+  growS g (assignment x xs q e) b = omega (arith, growE g e b, grow-stores xs (endE g e b))
+  growS g (procedure x es) b = grow-command g (command (meaning g x) es) es b
+  growS g (when q c s) b = omega (arith, growE g c b, growS g s (suc (endE g c b)))
+  growS g (either q c s t) b = omega (arith, growE g c b, growS g s (suc (endE g c b)), growS g t (suc (endS g s (suc (endE g c b)))))
+  growS g (repeat x l ls s) b = omega (arith, growL g (l ∷ ls) b, growS g s (endL g (l ∷ ls) b))
+  growS g (compound ss) b = growSs g ss b
+  growS g (block q ds ss) b = omega (arith, growDs (ofBlock ds ∷ g) ds (suc b), growSs (ofBlock ds ∷ g) ss (endDs (ofBlock ds ∷ g) ds (suc b)))
+
+  growSs : (g : List Scope) (ss : Statements) (b : ℕ) → b ≤ endSs g ss b
+  growSs g (last s) b = growS g s b
+  growSs g (first s ss) b = omega (arith, growS g s b, growSs g ss (endS g s b))
+
+  growDs : (g : List Scope) (ds : Declarations) (b : ℕ) → b ≤ endDs g ds b
+  growDs g no-more b = omega arith
+  growDs g (variables t xs ds) b = growDs g ds b
+  growDs g (declare p ds) b = omega (arith, growP g p b, growDs g ds (endP g p b))
+
+  growP : (g : List Scope) (p : Procedure) (b : ℕ) → b ≤ endP g p b
+  growP g (heading t f xs vs ss s) b = omega (arith, growS (ofBody (heading t f xs vs ss s) ∷ g) s b)
+
+-- ---- what the translator knows of the scopes around is in range
+
+before-most : (l : List Declared) (x : Name) → before l x ≤ total l
+unfolding before total
+before-most [] x = omega arith
+before-most (d ∷ l) x = go (same (d .name) x) (before-most l x)
+  where
+    go : (t : Bool) → before l x ≤ total l → cond t 0 (cellsOf (d .thing) + before l x) ≤ cellsOf (d .thing) + total l
+    go true h = omega arith
+    go false h = omega arith
+
+abbrev endAt : Mark → List Mark → ℕ
+endAt (blk o ds b) g = endDs (ofBlock ds ∷ scopes g) ds b
+endAt (own p) g = 0
+
+abbrev owns : List Mark → ℕ
+owns [] = 0
+owns (blk o ds b ∷ g) = owns g
+owns (own p ∷ g) = suc (owns g)
+
+abbrev Reaches : List Mark → Type 0
+Reaches [] = Unit {0}
+Reaches (m ∷ g) = (offset m + cellsIn (scopeAt m) < 8192) × (endAt m g < 8192) × Reaches g
+
+levels-most : (t : Scope → Bool) (g : List Mark) → levels t g ≤ owns g
+unfolding levels
+levels-most t [] = omega arith
+levels-most t (blk o ds b ∷ g) = go (t (ofBlock ds)) (levels-most t g)
+  where
+    go : (y : Bool) → levels t g ≤ owns g → cond y 0 (levels t g) ≤ owns g
+    go true h = omega arith
+    go false h = h
+levels-most t (own p ∷ g) = go (t (ofBody p)) (levels-most t g)
+  where
+    go : (y : Bool) → levels t g ≤ owns g → cond y 0 (suc (levels t g)) ≤ suc (owns g)
+    go true h = omega arith
+    go false h = omega arith
+
+among-most : (t : Scope → Bool) (x : Name) (g : List Mark) → Reaches g → amongG (cutG t g) x < 8192
+unfolding cutG
+among-most t x [] h = omega arith
+among-most t x (m ∷ g) h = go (t (scopeAt m)) (among-most t x g (h .2))
+  where
+    go : (y : Bool) → amongG (cutG t g) x < 8192 → amongG (cond y (m ∷ g) (cutG t g)) x < 8192
+    go true w = omega (arith, before-most (declares (scopeAt m)) x, h .0)
+    go false w = w
+
+offset-most : (t : Scope → Bool) (g : List Mark) → Reaches g → offsetOf (cutG t g) < 8192
+unfolding cutG
+offset-most t [] h = omega arith
+offset-most t (m ∷ g) h = go (t (scopeAt m)) (offset-most t g (h .2))
+  where
+    go : (y : Bool) → offsetOf (cutG t g) < 8192 → offsetOf (cond y (m ∷ g) (cutG t g)) < 8192
+    go true w = omega (arith, h .0)
+    go false w = w
+
+entry-most : (g : List Scope) (ds : Declarations) (b : ℕ) (x : Name) → entry g ds b x ≤ endDs g ds b
+unfolding entry endS
+entry-most g no-more b x = omega arith
+entry-most g (variables t xs ds) b x = entry-most g ds b x
+entry-most g (declare p ds) b x = go (same (nameOf p) x) (entry-most g ds (endP g p b) x)
+  where
+    go : (y : Bool) → entry g ds (endP g p b) x ≤ endDs g ds (endP g p b) → cond y b (entry g ds (endP g p b) x) ≤ endDs g ds (endP g p b)
+    go true w = omega (arith, growP g p b, growDs g ds (endP g p b))
+    go false w = w
+
+target-at : (m : Mark) (g : List Mark) (x : Name) → endAt m g < 8192 → target (m ∷ g) x < 8192
+target-at (blk o ds b) g x h = omega (arith, entry-most (ofBlock ds ∷ scopes g) ds b x)
+target-at (own p) g x h = omega arith
+
+target-most : (t : Scope → Bool) (x : Name) (g : List Mark) → Reaches g → target (cutG t g) x < 8192
+unfolding cutG
+target-most t x [] h = omega arith
+target-most t x (m ∷ g) h = go (t (scopeAt m)) (target-most t x g (h .2))
+  where
+    go : (y : Bool) → target (cutG t g) x < 8192 → target (cond y (m ∷ g) (cutG t g)) x < 8192
+    go true w = target-at m g x (h .1)
+    go false w = w
+
+loc-fits : (g : List Mark) (x : Name) → Reaches g → owns g < 64 → LocFits (loc g x)
+unfolding loc
+loc-fits g x h w = go (meaning (scopes g) x)
+  where
+    thing : (t : Thing) → LocFits (locFor g t x)
+    thing (variable t) = (omega (arith, levels-most (declaring x) g), among-most (declaring x) x g h)
+    thing (formal t) = (omega (arith, levels-most (declaring x) g), among-most (declaring x) x g h)
+    thing (routine p) = (omega (arith, levels-most (bodyOfThis p) g), offset-most (bodyOfThis p) g h)
+
+    go : (m : Meaning) → LocFits (locAs g m x)
+    go (declared d k) = thing (d .thing)
+    go (given n e) = (omega arith, omega arith)
+    go nothing = (omega arith, omega arith)
+
+count-most : (es : Expressions) → count es ≤ symbolsEs es
+unfolding count symbolsE
+count-most done = omega arith
+count-most (then e es) = omega (arith, count-most es)
+
+-- ---- a scope has fewer cells than its declarations have symbols
+
+listed-most : (xs : List Name) → length xs ≤ listed xs
+listed-most [] = omega arith
+listed-most (x ∷ xs) = omega arith
+
+total-variables : (t : Sort) (xs : List Name) (l : List Declared) → total (variablesIn t xs ++ l) ≡ length xs + total l
+unfolding variablesIn total
+total-variables t [] l = omega arith
+total-variables t (x ∷ xs) l = omega (arith, total-variables t xs l)
+
+block-cells : (ds : Declarations) → total (inBlock ds) ≤ symbolsDs ds
+unfolding inBlock total symbolsS
+block-cells no-more = omega arith
+block-cells (variables t xs ds) = omega (arith, total-variables t xs (inBlock ds), listed-most xs, block-cells ds)
+block-cells (declare p ds) = omega (arith, block-cells ds)
+
+total-formals : (ss : List Specification) (xs : List Name) → total (map (λ y. record { name = y; thing = formal (specified ss y) }) xs) ≡ length xs
+unfolding total
+total-formals ss [] = refl
+total-formals ss (x ∷ xs) = omega (arith, total-formals ss xs)
+
+body-cells : (p : Procedure) → cellsIn (ofBody p) ≡ oneIf (sortOf p) + length (formalsOf p)
+unfolding inBody
+body-cells p = omega (arith, total-formals (specificationsOf p) (formalsOf p))
+
+one-most : (t : Option Sort) → oneIf t ≤ 1
+one-most none = omega arith
+one-most (some t) = omega arith
+
+-- ---- the code of each construct
+
+truth-small : (t : Bool) → CodeFits (Instr.DO (Act.push 0 (truth t)) ∷ [])
+truth-small true = (omega arith, tt)
+truth-small false = (omega arith, tt)
+
+abbrev SmallC : Command → Type 0
+SmallC (routine-of p) = Unit {0}
+SmallC (absolute-of e) = SmallE e
+SmallC greatest-of = Unit {0}
+SmallC (input-to e y) = SmallE e
+SmallC (output-of e f) = SmallE e × SmallE f
+SmallC no-command = Unit {0}
+
+small-told : (t : Thing) → SmallC (thingTold t)
+small-told (variable t) = tt
+small-told (formal t) = tt
+small-told (routine p) = tt
+
+small-into : (e f : Expression) → SmallE e → SmallC (into e f)
+small-into e (number q n) s = tt
+small-into e (logical q b) s = tt
+small-into e (name x) s = s
+small-into e (call x f fs) s = tt
+small-into e (signed q o f) s = tt
+small-into e (operated q o f f') s = tt
+small-into e (chosen q r c f f') s = tt
+small-into e (nested q f) s = tt
+
+small-given : (n : ℕ) (es : Expressions) → SmallEs es → SmallC (givenTold n es)
+small-given zero done s = tt
+small-given zero (then e done) s = s .0
+small-given zero (then e (then f es)) s = tt
+small-given (suc zero) done s = tt
+small-given (suc zero) (then e es) s = tt
+small-given (suc (suc zero)) done s = tt
+small-given (suc (suc zero)) (then e done) s = tt
+small-given (suc (suc zero)) (then e (then f done)) s = small-into e f (s .0)
+small-given (suc (suc zero)) (then e (then f (then f' es))) s = tt
+small-given (suc (suc (suc zero))) done s = tt
+small-given (suc (suc (suc zero))) (then e done) s = tt
+small-given (suc (suc (suc zero))) (then e (then f done)) s = (s .0, s .1 .0)
+small-given (suc (suc (suc zero))) (then e (then f (then f' es))) s = tt
+small-given (suc (suc (suc (suc n)))) es s = tt
+
+small-command : (m : Meaning) (es : Expressions) → SmallEs es → SmallC (command m es)
+unfolding command
+small-command (declared d g) es s = small-told (d .thing)
+small-command (given n e) es s = small-given n es s
+small-command nothing es s = tt
+
+onward-most : (l : List Element) (a n : ℕ) → a < 8192 → n < 8192 → onward l a n < 8192
+onward-most [] a n h h' = h'
+onward-most (x ∷ l) a n h h' = h
+
+module _ (place : ℕ → ℕ) where
+  fits-name : (pr : Primary) (g : List Mark) (x : Name) (n : ℕ) (f : ℕ → ℕ) (c : ℕ → List Instr → List Instr) → ((b : ℕ) (r : List Instr) → f b < 8192 → CodeFits r → CodeFits (c b r)) → (b : ℕ) (r : List Instr) → Reaches g → owns g < 64 → suc n < 8192 → endName pr f b < 8192 → CodeFits r → CodeFits (codeName place pr g x n c b r)
+  fits-name held g x n f c k b r h w i e z = (loc-fits g x h w, z)
+  fits-name (function p) g x n f c k b r h w i e z = (tt, k (suc b) _ (omega arith) ((target-most (declaring x) x g h, omega (arith, levels-most (declaring x) g), i), z))
+  fits-name absolute g x n f c k b r h w i e z = k b _ (omega arith) (tt, z)
+  fits-name greatest g x n f c k b r h w i e z = (omega arith, z)
+  fits-name no-primary g x n f c k b r h w i e z = z
+
+  fits-sign : (q : ℕ) (o : Sign) (r : List Instr) → CodeFits r → CodeFits (codeSign place q o r)
+  fits-sign q positive r z = z
+  fits-sign q negative r z = (tt, z)
+  fits-sign q negation r z = (tt, z)
+
+  mutual
+    unfolding endE codeE symbolsE count
+
+    fitsE : (g : List Mark) (e : Expression) (b : ℕ) (r : List Instr) → Reaches g → owns g < 64 → SmallE e → symbolsE e < 8192 → endE (scopes g) e b < 8192 → CodeFits r → CodeFits (codeE place g e b r)
+    fitsE g (number q n) b r h w s i e z = (s, z)
+    fitsE g (logical q t) b r h w s i e z = (truth-small t .0, z)
+    fitsE g (name x) b r h w s i e z = fits-name (primary (meaning (scopes g) x) done) g x 0 (λ b. b) (λ b r. r) (λ b r e z. z) b r h w (omega arith) e z
+    fitsE g (call x y ys) b r h w s i e z = fits-name (primary (meaning (scopes g) x) (then y ys)) g x (suc (count ys)) (λ b. endEs (scopes g) ys (endE (scopes g) y b)) (λ b r. codeE place g y b (codeEs place g ys (endE (scopes g) y b) r)) (λ b r e z. fitsE g y b _ h w (s .0) (omega arith) (omega (arith, growEs (scopes g) ys (endE (scopes g) y b))) (fitsEs g ys (endE (scopes g) y b) r h w (s .1) (omega arith) e z)) b r h w (omega (arith, count-most ys)) e z
+    fitsE g (signed q o y) b r h w s i e z = fitsE g y b _ h w s (omega arith) (omega (arith, grow-sign o (endE (scopes g) y b))) (fits-sign q o r z)
+    fitsE g (operated q o y y') b r h w s i e z = fitsE g y b _ h w (s .0) (omega arith) (omega (arith, growE (scopes g) y' (endE (scopes g) y b))) (fitsE g y' (endE (scopes g) y b) _ h w (s .1) (omega arith) (omega arith) (tt, z))
+    fitsE g (chosen q q' c y y') b r h w s i e z =
+        let m = endE (scopes g) c b in
+        let n = endE (scopes g) y (suc m) in
+        let e₁ = growE (scopes g) y (suc m) in
+        let e₂ = growE (scopes g) y' (suc n) in
+        fitsE g c b _ h w (s .0) (omega arith) (omega arith) ((tt, omega arith), fitsE g y (suc m) _ h w (s .1) (omega arith) (omega arith) (e, fitsE g y' (suc n) r h w (s .2) (omega arith) e z))
+    fitsE g (nested q y) b r h w s i e z = fitsE g y b r h w s (omega arith) e z
+
+    fitsEs : (g : List Mark) (es : Expressions) (b : ℕ) (r : List Instr) → Reaches g → owns g < 64 → SmallEs es → symbolsEs es < 8192 → endEs (scopes g) es b < 8192 → CodeFits r → CodeFits (codeEs place g es b r)
+    fitsEs g done b r h w s i e z = z
+    fitsEs g (then y ys) b r h w s i e z = fitsE g y b _ h w (s .0) (omega arith) (omega (arith, growEs (scopes g) ys (endE (scopes g) y b))) (fitsEs g ys (endE (scopes g) y b) r h w (s .1) (omega arith) e z)
+
+  fitsL : (g : List Mark) (m : ℕ) (x : Name) (l : List Element) (s n b : ℕ) (r : List Instr) → Reaches g → owns g < 64 → m < 64 → s < 8192 → n < 8192 → SmallL l → symbolsL l < 8192 → endL (scopes g) l b < 8192 → CodeFits r → CodeFits (codeL place g m x l s n b r)
+  unfolding endL codeL symbolsL
+  fitsL g m x [] s n b r h w hm hs hn v i e z = z
+  fitsL g m x (value y ∷ l) s n b r h w hm hs hn v i e z =
+      let a = suc (suc (endE (scopes g) y b)) in
+      let u = growL (scopes g) l a in
+      fitsE g y b _ h w (v .0) (omega arith) (omega arith) (loc-fits g x h w, ((hm, hs, onward-most l a n (omega arith) hn), fitsL g m x l s n a r h w hm hs hn (v .1) (omega arith) e z))
+  fitsL g m x (while q y c ∷ l) s n b r h w hm hs hn v i e z =
+      let a = suc (endE (scopes g) y b) in
+      let k = suc (suc (endE (scopes g) c a)) in
+      let u = growL (scopes g) l k in
+      let u₁ = growE (scopes g) c a in
+      let u₂ = growE (scopes g) y b in
+      fitsE g y b _ h w (v .0) (omega arith) (omega arith) (loc-fits g x h w, fitsE g c a _ h w (v .1) (omega arith) (omega arith) ((tt, onward-most l k n (omega arith) hn), ((hm, hs, omega arith), fitsL g m x l s n k r h w hm hs hn (v .2) (omega arith) e z)))
+  fitsL g m x (step q y y' y'' ∷ l) s n b r h w hm hs hn v i e z =
+      let a = suc (endE (scopes g) y b) in
+      let j = endE (scopes g) y'' (endE (scopes g) y' a) in
+      let k = suc (suc (suc (suc (suc j)))) in
+      let u = growL (scopes g) l k in
+      let u₁ = growE (scopes g) y' a in
+      let u₂ = growE (scopes g) y'' (endE (scopes g) y' a) in
+      fitsE g y b _ h w (v .0) (omega arith) (omega arith) (loc-fits g x h w, fitsE g y' a _ h w (v .1) (omega arith) (omega arith) (fitsE g y'' (endE (scopes g) y' a) _ h w (v .2) (omega arith) (omega arith) (tt, ((loc-fits g x h w, onward-most l k n (omega arith) hn), ((hm, hs, omega arith), (loc-fits g x h w, (omega arith, fitsL g m x l s n k r h w hm hs hn (v .3) (omega arith) e z)))))))
+
+  fits-stores : (g : List Mark) (x : Name) (xs : List Name) (r : List Instr) → Reaches g → owns g < 64 → CodeFits r → CodeFits (codeStores place g x xs r)
+  unfolding codeStores
+  fits-stores g x [] r h w z = (loc-fits g x h w, z)
+  fits-stores g x (y ∷ ys) r h w z = (loc-fits g x h w, fits-stores g y ys r h w z)
+
+  fits-call : (g : List Mark) (t : Option Sort) (x : Name) (es : Expressions) (b : ℕ) (r : List Instr) → Reaches g → owns g < 64 → SmallEs es → symbolsEs es + 1 < 8192 → endCall (scopes g) t es b < 8192 → CodeFits r → CodeFits (codeCall place g t x es b r)
+  fits-call g none x es b r h w s i e z = fitsEs g es b _ h w s (omega arith) (omega arith) ((target-most (declaring x) x g h, omega (arith, levels-most (declaring x) g), omega (arith, count-most es)), z)
+  fits-call g (some t) x es b r h w s i e z = (tt, fitsEs g es (suc b) _ h w s (omega arith) (omega arith) ((target-most (declaring x) x g h, omega (arith, levels-most (declaring x) g), omega (arith, count-most es)), z))
+
+  fits-command : (c : Command) (g : List Mark) (x : Name) (es : Expressions) (b : ℕ) (r : List Instr) → Reaches g → owns g < 64 → SmallEs es → SmallC c → symbolsC c ≤ symbolsEs es → symbolsEs es + 1 < 8192 → endCommand (scopes g) c es b < 8192 → CodeFits r → CodeFits (codeCommand place c g x es b r)
+  fits-command (routine-of p) g x es b r h w s v j i e z = fits-call g (sortOf p) x es b r h w s i e z
+  fits-command (absolute-of y) g x es b r h w s v j i e z = fitsE g y b _ h w v (omega arith) (omega arith) (tt, (tt, z))
+  fits-command greatest-of g x es b r h w s v j i e z = (omega arith, (tt, z))
+  fits-command (input-to y u) g x es b r h w s v j i e z = fitsE g y b _ h w v (omega arith) (omega arith) (loc-fits g u h w, z)
+  fits-command (output-of y y') g x es b r h w s v j i e z = fitsE g y b _ h w (v .0) (omega arith) (omega (arith, growE (scopes g) y' (endE (scopes g) y b))) (fitsE g y' (endE (scopes g) y b) _ h w (v .1) (omega arith) (omega arith) (tt, z))
+  fits-command no-command g x es b r h w s v j i e z = z
+
+  mutual
+    unfolding endS codeS symbolsS deepS
+
+    fitsS : (g : List Mark) (m : ℕ) (s : Statement) (b : ℕ) (r : List Instr) → Reaches g → owns g + deepS s < 64 → m + deepS s < 64 → reach g + symbolsS s < 8191 → SmallS s → endS (scopes g) s b < 8191 → CodeFits r → CodeFits (codeS place g m s b r)
+    fitsS g m dummy b r h w n i v e z = z
+    fitsS g m (assignment x xs q y) b r h w n i v e z = fitsE g y b _ h (omega arith) v (omega arith) (omega (arith, grow-stores xs (endE (scopes g) y b))) (fits-stores g x xs r h (omega arith) z)
+    fitsS g m (procedure x es) b r h w n i v e z = fits-command (command (meaning (scopes g) x) es) g x es b r h (omega arith) v (small-command (meaning (scopes g) x) es v) (few (meaning (scopes g) x) es) (omega (arith, actuals-most es)) (omega arith) z
+    fitsS g m (when q c s) b r h w n i v e z =
+        let a = suc (endE (scopes g) c b) in
+        let u = growS (scopes g) s a in
+        fitsE g c b _ h (omega arith) (v .0) (omega arith) (omega arith) ((tt, omega arith), fitsS g m s a r h (omega arith) (omega arith) (omega arith) (v .1) e z)
+    fitsS g m (either q c s t) b r h w n i v e z =
+        let a = suc (endE (scopes g) c b) in
+        let k = suc (endS (scopes g) s a) in
+        let u = growS (scopes g) s a in
+        let u₁ = growS (scopes g) t k in
+        fitsE g c b _ h (omega arith) (v .0) (omega arith) (omega arith) ((tt, omega arith), fitsS g m s a _ h (omega arith) (omega arith) (omega arith) (v .1) (omega arith) (omega arith, fitsS g m t k r h (omega arith) (omega arith) (omega arith) (v .2) e z))
+    fitsS g m (repeat x l ls s) b r h w n i v e z =
+        let a = endL (scopes g) (l ∷ ls) b in
+        let u = growS (scopes g) s a in
+        fitsL g m x (l ∷ ls) a (suc (endS (scopes g) s a)) b _ h (omega arith) (omega arith) (omega arith) (omega arith) (v .0) (omega arith) (omega arith) (fitsS g (suc m) s a _ h (omega arith) (omega arith) (omega arith) (v .1) (omega arith) (omega arith, z))
+    fitsS g m (compound ss) b r h w n i v e z = fitsSs g m ss b r h (omega arith) (omega arith) (omega arith) v e z
+    fitsS g m (block q ds ss) b r h w n i v e z =
+        let g' : List Mark = blk (reach g) ds (suc b) ∷ g in
+        let a = endDs (scopes g') ds (suc b) in
+        let u = growSs (scopes g') ss a in
+        let k = block-cells ds in
+        let h' : Reaches g' = (omega arith, omega arith, h) in
+        ((omega arith, omega arith), fitsDs g' ds (suc b) _ h' (omega arith) (omega arith) (v .0) (omega arith) (fitsSs g' m ss a _ h' (omega arith) (omega arith) (omega arith) (v .1) (omega arith) (omega arith, z)))
+
+    fitsSs : (g : List Mark) (m : ℕ) (ss : Statements) (b : ℕ) (r : List Instr) → Reaches g → owns g + deepSs ss < 64 → m + deepSs ss < 64 → reach g + symbolsSs ss < 8191 → SmallSs ss → endSs (scopes g) ss b < 8191 → CodeFits r → CodeFits (codeSs place g m ss b r)
+    fitsSs g m (last s) b r h w n i v e z = fitsS g m s b r h w n (omega arith) v e z
+    fitsSs g m (first s ss) b r h w n i v e z = fitsS g m s b _ h (omega arith) (omega arith) (omega arith) (v .0) (omega (arith, growSs (scopes g) ss (endS (scopes g) s b))) (fitsSs g m ss (endS (scopes g) s b) r h (omega arith) (omega arith) (omega arith) (v .1) e z)
+
+    fitsDs : (g : List Mark) (ds : Declarations) (b : ℕ) (r : List Instr) → Reaches g → owns g + deepDs ds < 63 → symbolsDs ds < 8191 → SmallDs ds → endDs (scopes g) ds b < 8191 → CodeFits r → CodeFits (codeDs place g ds b r)
+    fitsDs g no-more b r h w i v e z = z
+    fitsDs g (variables t xs ds) b r h w i v e z = fitsDs g ds b r h w (omega arith) v e z
+    fitsDs g (declare p ds) b r h w i v e z = fitsP g p b _ h (omega arith) (omega arith) (v .0) (omega (arith, growDs (scopes g) ds (endP (scopes g) p b))) (fitsDs g ds (endP (scopes g) p b) r h (omega arith) (omega arith) (v .1) e z)
+
+    fitsP : (g : List Mark) (p : Procedure) (b : ℕ) (r : List Instr) → Reaches g → owns g + deepP p < 63 → symbolsP p < 8191 → SmallP p → endP (scopes g) p b < 8191 → CodeFits r → CodeFits (codeP place g p b r)
+    fitsP g (heading t f xs vs ss s) b r h w i v e z =
+        let k = body-cells (heading t f xs vs ss s) in
+        let k' = listed-most xs in
+        fitsS (own (heading t f xs vs ss s) ∷ g) 0 s b _ (omega arith, omega arith, h) (omega arith) (omega arith) (omega arith) v (omega arith) (tt, z)
+
+  -- ---- whole programs
+
+  pub ends : (s : Statement) → Whole s → symbolsS s ≤ 2048 → endS [] s 0 < 8191
+  unfolding endS symbolsS
+  ends dummy h i = absurd h
+  ends (assignment x xs q e) h i = absurd h
+  ends (procedure x es) h i = absurd h
+  ends (when q c s) h i = absurd h
+  ends (either q c s t) h i = absurd h
+  ends (repeat x l ls s) h i = absurd h
+  ends (compound ss) h i = omega (arith, sizeSs [] ss 0)
+  ends (block q ds ss) h i = omega (arith, sizeDs (ofBlock ds ∷ []) ds 1, sizeSs (ofBlock ds ∷ []) ss (endDs (ofBlock ds ∷ []) ds 1))
+
+  -- "An accepted program always fits": every operand of its code is in range
+  pub in-range : (s : Statement) → Limited s → CodeFits (code place s)
+  unfolding code
+  in-range s l = fitsS [] 0 s 0 (END ∷ []) tt (omega (arith, l .depth)) (omega (arith, l .depth)) (omega (arith, l .symbols)) (l .numbers) (ends s (l .whole) (l .symbols)) (tt, tt)

@@ -1,0 +1,55 @@
+-- Demand 3 is no empty promise: wrong machines do not keep it, shown by computed programs. Assumes nothing.
+use Prim.Native.Nat.{ℕ, zero, suc, _+_, _*_, _≤_, min}
+use native.Mathlib.Omega.{arith}
+use mathlib.Core.Path.{_≡_, refl, ap, sym, _∙_}
+use mathlib.Core.List.{List, [], _∷_}
+use lib.IntN.{ℤ, pos}
+use lib.ListN.{length}
+use Rattle.answers.specs.Answers.{stopNumber}
+use Rattle.answers.specs.declared.Stop.{Stop}
+use Rattle.answers.specs.declared.Stop.the-variants.{Ended, Limit}
+use Rattle.symbols.specs.Names.{sameName, equal as equalBytes}
+use Rattle.machine.specs.Values.{whole, apply1, apply2, past}
+use Rattle.machine.specs.Run.{done, run}
+use Rattle.machine.specs.Data.{lift, guard, check, newCells, newest, onValue, back, look, put, reading, valued, hold, unhold, held, input, space, rest, spend, taking, writing, work, test, openBlock, closeBlock, enter, given, leave}
+use Rattle.machine.specs.Instructions.{Instr}
+use Rattle.machine.specs.Machine.{Finish}
+use Rattle.names.specs.Scopes.{has, specified, variablesIn, inBlock, inBody, findIn, findGiven, meaning}
+use Rattle.rules.specs.Entered.{total, before, cut, declaring, bodyOfThis, cellOf}
+use Rattle.rules.specs.Calls.{count, primary, command}
+use Rattle.rules.specs.Rules.{evaluate, perform, calling, sstep, source}
+use Rattle.rules.specs.Samples.{factorial}
+use Rattle.translating.specs.Scoped.{nearest, Scoped}
+use Rattle.translating.specs.Listed.{machineIn}
+use Rattle.translating.specs.Faithful.{Machine, Faithful}
+
+-- M12, by the source rules: 120 after 80 steps
+scoped : Scoped factorial
+unfolding factorial nearest bodyOfThis count primary command meaning findIn findGiven inBlock inBody variablesIn specified has sameName equalBytes total
+scoped = (((((refl, tt), ((tt, tt), tt, (((refl, refl), (tt, tt), tt), tt))), tt), (tt, ((refl, refl), tt, tt))))
+
+runs : source (λ q. q) factorial [] 100 9 400 ≡ done Ended 80 (record { written = pos 120 ∷ []; taken = 0 })
+unfolding run sstep lift guard check newCells newest onValue back look put reading valued hold unhold held input space rest spend taking writing work test openBlock closeBlock enter given leave whole apply1 apply2 past cut cellOf declaring bodyOfThis total before evaluate perform calling count primary command meaning findIn findGiven inBlock inBody variablesIn specified has sameName equalBytes factorial
+runs = refl
+
+-- "A machine that stops at once with nothing written breaks demand 3 on any program that writes a number."
+abbrev lazy : Machine
+lazy p input limit room space = record { stop = Ended; done = 1; taken = 0; written = [] }
+
+pub not-lazy : Faithful lazy → ⊥
+not-lazy f =
+    let w = f (λ q. q) factorial scoped [] 100 9 .enough 1296 400 80 Ended _ runs (omega arith) in
+    let e : _≡_ {A = ℕ} 0 1 = ap length (w .1 .0) in
+    omega arith
+
+-- "One that performs the first statement and then only counts breaks it on M12": whatever the first n instructions are, and it writes what they write
+abbrev counting : ℕ → Machine
+counting n p input limit room space =
+    let f = machineIn p input (min limit n) room space in
+    record { stop = Limit; done = limit; taken = f .taken; written = f .written }
+
+pub not-counting : (n : ℕ) → Faithful (counting n) → ⊥
+not-counting n f =
+    let w = f (λ q. q) factorial scoped [] 100 9 .enough 1296 400 80 Ended _ runs (omega arith) in
+    let e : _≡_ {A = ℕ} 20 0 = ap stopNumber (w .0) in
+    omega arith

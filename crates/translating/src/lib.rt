@@ -1,0 +1,1 @@
+// The translation of a program to code.
