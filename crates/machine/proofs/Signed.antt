@@ -1,5 +1,5 @@
--- Signed numbers, once for every width: `mag` of a sum, a difference, a product and a quotient is bounded, so that 64 bits hold what two
--- numbers of 32 bits give; and what the code learns from a test of bits.
+-- Signed numbers: `mag` of a sum, a difference, a product and a quotient is bounded, so that 64 bits hold what two numbers of 32 bits give; and
+-- what the code learns from a test of bits. The tests of bits are for any width; the ranges are stated for 32 and for 64, not yet once over it.
 use mathlib.Core.Path.{_≡_, refl, sym, subst, ap, _∙_}
 use mathlib.Core.Bool.{Bool, true, false, cond, not, Bool·beq, false≢true, true≢false}
 use Prim.Native.Nat.{ℕ, zero, suc, _+_, _-_, _*_, _/_, _^_, _≤_, _<_}
