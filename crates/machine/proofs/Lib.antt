@@ -7,5 +7,4 @@ pub mod Works
 pub mod Told
 pub mod Execs
 pub mod Limits
-pub mod Words
 pub mod Runs
