@@ -96,7 +96,7 @@ environment =
     record { spelling = "outinteger"; sort = none; actuals = an integer ∷ an integer ∷ [] } ∷
     []
 
--- ---- meanings: "Each name means the innermost declaration or formal around it, else the environment's"
+-- ---- meanings. Demand 2: "Each name means the innermost declaration or formal around it, else the environment's"
 
 -- what is declared, with the scopes from its own outward; a number of the environment; or nothing
 pub data Meaning : Type 0 where

@@ -93,6 +93,6 @@ cellAs n v (declared d g) x = cellFor n v (d .thing) x
 cellAs n v (given i e) x = n
 cellAs n v nothing x = n
 
--- "Each name means the innermost declaration or formal around it, else the environment's"
+-- Demand 2: "Each name means the innermost declaration or formal around it, else the environment's"
 unfoldable pub cellOf : ℕ → List Entry → Name → ℕ
 cellOf n v x = cellAs n v (meaning (scopesOf v) x) x

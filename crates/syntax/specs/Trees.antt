@@ -30,7 +30,7 @@ word first d b i = b
 word before d b i = b - 1
 word depth d b i = d
 
--- "four 16-bit words a node"
+-- the four words of a node, as docs/TABLE.md lays them down
 abbrev pub nodeWords : Node → ℕ → ℕ → ℕ → List ℕ
 nodeWords n d b i = n .kind ∷ word (n .symbol) d b i ∷ word (n .one) d b i ∷ word (n .two) d b i ∷ []
 

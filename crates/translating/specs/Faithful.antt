@@ -21,7 +21,7 @@ Machine = List Instr → List ℤ → ℕ → ℕ → ℕ → Finish
 abbrev pub Begins : List ℤ → List ℤ → Type 0
 Begins x y = (z : List ℤ) × (y ≡ x ++ z)
 
--- "same .. outputs, numbers taken"
+-- Demand 3: "same answer, place, outputs and numbers taken": the last two of these
 abbrev pub Tells : Finish → Trace → Type 0
 Tells f o = (f .written ≡ o .written) × (f .taken ≡ o .taken)
 

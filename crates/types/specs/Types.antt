@@ -85,7 +85,7 @@ wantedBy (declared d g) = thingWants (d .thing)
 wantedBy (given k e) = e .actuals
 wantedBy nothing = []
 
--- an integer variable or formal: "variable or formal of a type"
+-- "integer variable or formal", for the type given
 abbrev pub thingOf : Sort → Thing → Bool
 thingOf t (variable s) = alike s t
 thingOf t (formal none) = true
