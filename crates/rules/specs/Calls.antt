@@ -6,10 +6,6 @@ use mathlib.Core.Option.{Option, none, some}
 use Rattle.names.specs.Program.{Name, Sort, Procedure, Expression, number, logical, name, call, signed, operated, chosen, nested, Expressions, done, then}
 use Rattle.names.specs.Scopes.{Thing, variable, routine, formal, Declared, sortOf, Meaning, declared, given, nothing}
 
-unfoldable pub count : Expressions → ℕ
-count done = 0
-count (then e es) = suc (count es)
-
 -- ---- in an expression
 
 -- a variable or formal; a procedure with a type; iabs; maxint; or what no accepted program has there

@@ -11,10 +11,10 @@ use lib.ListN.{length}
 use borrow.Author.Tests.{eqb-true}
 use Rattle.symbols.specs.Text.{bytes}
 use Rattle.symbols.specs.Names.{sameName}
-use Rattle.names.specs.Program.{Name, Sort, integer, boolean, Expression, number, logical, name, call, signed, operated, chosen, nested, Expressions, done, then, Element, value, while, step, Statement, dummy, assignment, procedure, when, either, repeat, compound, block, Statements, last, first, Declarations, none as no-more, variables, declare, Procedure, heading, firstSymbol}
+use Rattle.names.specs.Program.{Name, Sort, integer, boolean, Expression, number, logical, name, call, signed, operated, chosen, nested, Expressions, done, then, count, Element, value, while, step, Statement, dummy, assignment, procedure, when, either, repeat, compound, block, Statements, last, first, Declarations, none as no-more, variables, declare, Procedure, heading, firstSymbol}
 use Rattle.names.specs.Scopes.{Thing, variable, routine, formal, Declared, Scope, ofBlock, ofBody, nameOf, sortOf, formalsOf, specificationsOf, specified, inBody, Wanted, an, variable-of, Given, environment, findIn, findGiven, innermost, Meaning, declared, given, nothing, meaning}
 use Rattle.names.specs.Uses.{Use, used, usesE, usesEs, usesL, usesS, usesSs, usesD, usesP, scopesS, Fault, unmeant, meantOrNot, joined, nameFaults, at}
-use Rattle.types.specs.Types.{alike, unlike, apart, when-so, Judged, judge, applied, plainly, thingIn, inExpression, wantedBy, wants, isVariable, thingOf, isName, count, sortE, misfit, misfits, faultsE, faultsEs, ownSort, ownResult, thingLeft, asLeft, leftOf, faultsLeft, thingCalled, miscalled, faultsFor, faultsL, faultsS, faultsSs, faultsD, faultsP, typeFaults}
+use Rattle.types.specs.Types.{alike, unlike, apart, when-so, Judged, judge, applied, plainly, thingIn, inExpression, wantedBy, wants, isVariable, thingOf, isName, sortE, misfit, misfits, faultsE, faultsEs, ownSort, ownResult, thingLeft, asLeft, leftOf, faultsLeft, thingCalled, miscalled, faultsFor, faultsL, faultsS, faultsSs, faultsD, faultsP, typeFaults}
 use Rattle.rules.specs.Entered.{cellsOf, total, oneIf, results, cellsIn, bodyOfThis}
 use Rattle.rules.specs.Calls.{Primary, held, function, absolute, greatest, no-primary, primary, Command, routine-of, absolute-of, greatest-of, input-to, output-of, no-command, command, into, thingTold, givenTold}
 use Rattle.translating.specs.Scoped.{nearest, HasCell, CellAs, OkV, OkVs, MeansAs, OkCall, OkPrimary, OkE, OkEs, OkL, OkCommand, OkS, OkSs, OkDs, OkP, Scoped}
@@ -103,12 +103,6 @@ in-order (s ∷ g) x = go (findIn (Rattle.names.specs.Scopes.declares s) x) (in
     go (some d) h = tt
 
 -- ---- names
-
--- the two counts of actuals are one
-count-same : (es : Expressions) → count es ≡ Rattle.rules.specs.Calls.count es
-unfolding count Rattle.rules.specs.Calls.count
-count-same done = refl
-count-same (then e es) = ap suc (count-same es)
 
 true-false : true ≡ false → ⊥
 true-false h = let z : _≡_ {A = ℕ} 0 1 = cc in omega arith
@@ -212,12 +206,11 @@ module _ (g : List Scope) where
       (meant-left (usesE g e) (usesEs g es) a, meant-right (usesE g e) (usesEs g es) a)
 
   ok-call : (x : Name) (e : Expression) (es : Expressions) → Meant (usesE g (call x e es)) → faultsE g (call x e es) ≡ []
-      → OkPrimary g x (suc (Rattle.rules.specs.Calls.count es)) (primary (meaning g x) (then e es))
+      → OkPrimary g x (suc (count es)) (primary (meaning g x) (then e es))
   unfolding usesE faultsE count
   ok-call x e es u f =
-      subst (λ (n : ℕ). OkPrimary g x (suc n) (primary (meaning g x) (then e es))) (count-same es)
-      (prim g x (then e es) (meaning g x) refl (meant-one g x (usesE g e ++ usesEs g es) u) (in-order g x)
-      (not-so (inExpression (meaning g x) (suc (count es)) .wrong) (x .symbol) (empty-left (when-so (inExpression (meaning g x) (suc (count es)) .wrong) (x .symbol)) _ f)))
+      prim g x (then e es) (meaning g x) refl (meant-one g x (usesE g e ++ usesEs g es) u) (in-order g x)
+      (not-so (inExpression (meaning g x) (suc (count es)) .wrong) (x .symbol) (empty-left (when-so (inExpression (meaning g x) (suc (count es)) .wrong) (x .symbol)) _ f))
 
   signed-uses : (q : ℕ) (o : Rattle.names.specs.Program.Sign) (e : Expression) → Meant (usesE g (signed q o e)) → Meant (usesE g e)
   unfolding usesE
@@ -377,7 +370,6 @@ module _ (g : List Scope) (x : Name) where
   told-thing es d h (formal s) e f w k = absurd (true-false w)
   told-thing es d h (routine p) e f w k =
       let n = eqb-true (length (formalsOf p)) (count es) (not-false (eqb (length (formalsOf p)) (count es)) w) in
-      let c = count-same es in
       let m = total-body p in
       ((means-as g x d h p e f, omega arith), k)
 

@@ -15,10 +15,10 @@ use Rattle.machine.specs.Run.{Event, quiet, Out, halt, next}
 use Rattle.machine.specs.Data.{Data, cells, Res, bad, wrong, good, lift, guard, Act, push, load, store, assign, reserve, forget, receive, send, keep, bump, unary, binary, actOn, work, downs, Two, yea, nay, either as byTest, Test, condition, upto, testOn, test, downsT, openBlock, closeBlock, enter, Fate, kept, gone, stays, leave}
 use Rattle.machine.specs.Instructions.{Instr, DO, IF, GO, CALL, NEXT}
 use Rattle.machine.specs.Machine.{Frame, fr, Mach, ms, frameAt, baseOf, base, walk, floor, cellIn, stray, exec, obey}
-use Rattle.names.specs.Program.{Name, Sort, Sign, positive, negative, negation, Expression, number, logical, name, call, signed, operated, chosen, nested, Expressions, done, then, Element, value, while, step, Statement, dummy, assignment, procedure, when, either, repeat, compound, block, Statements, last, first, Declarations, Procedure, heading}
+use Rattle.names.specs.Program.{Name, Sort, Sign, positive, negative, negation, Expression, number, logical, name, call, signed, operated, chosen, nested, Expressions, done, then, count, Element, value, while, step, Statement, dummy, assignment, procedure, when, either, repeat, compound, block, Statements, last, first, Declarations, Procedure, heading}
 use Rattle.names.specs.Scopes.{Thing, routine, Scope, ofBlock, ofBody, sortOf, bodyOf, Meaning, declared, given, nothing, meaning}
 use Rattle.rules.specs.Entered.{Entry, entered, scopesOf, oneIf, cellsIn, cut, declaring, cellOf}
-use Rattle.rules.specs.Calls.{count, Primary, held, function, absolute, greatest, no-primary, primary, Command, routine-of, absolute-of, greatest-of, input-to, output-of, no-command, command, thingTold, into, givenTold}
+use Rattle.rules.specs.Calls.{Primary, held, function, absolute, greatest, no-primary, primary, Command, routine-of, absolute-of, greatest-of, input-to, output-of, no-command, command, thingTold, into, givenTold}
 use Rattle.rules.specs.Rules.{Choice, expressions, statements, only, whiling, Stepping, stepping, Task, ev, evs, ex, exs, stores, loop, act, unchanged, drop, pick, hold, tested, add, invoke, close, return, State, st, noRule, binaryOf, maxint, doing, testing, at, applied, evaluate, calls, perform, entering, calling, sstep}
 use Rattle.translating.specs.Translate.{Mark, blk, own, scopes, cutG, levels, loc, reach, target, endName, endE, endEs, endL, onward, endStores, endCall, endCommand, endS, endSs, endDs, CALLS, codeName, codeE, codeEs, codeL, codeStores, codeCall, codeCommand, codeS, codeSs, codeDs, codeP}
 use Rattle.translating.specs.Scoped.{OkV, OkVs, OkE, OkEs, OkL, OkS, OkSs, OkP, OkCall, OkPrimary, OkCommand, MeansAs}

@@ -12,9 +12,10 @@ use Rattle.machine.specs.Values.{whole, apply1, apply2, past}
 use Rattle.machine.specs.Run.{run}
 use Rattle.machine.specs.Data.{lift, guard, check, newCells, newest, onValue, back, look, put, reading, valued, hold, unhold, held, input, space, rest, spend, taking, writing, work, test, openBlock, closeBlock, enter, given, leave}
 use Rattle.machine.specs.Machine.{Finish, finish, frameAt, walk, cellIn, exec, obey}
+use Rattle.names.specs.Program.{count}
 use Rattle.names.specs.Scopes.{has, specified, variablesIn, inBlock, inBody, findIn, findGiven, meaning}
 use Rattle.rules.specs.Entered.{total, before, declaring, bodyOfThis}
-use Rattle.rules.specs.Calls.{count, primary, command}
+use Rattle.rules.specs.Calls.{primary, command}
 use Rattle.rules.specs.Samples.{Row, empty, s1, one-call, as-statement, needed, both-sides, over-i, m6, m7, below-three, mixed, factorial, callers, table}
 use Rattle.translating.specs.Translate.{cutG, levels, loc, endE, endEs, endL, endStores, endS, endSs, endDs, endP, entry, codeE, codeEs, codeL, codeStores, codeS, codeSs, codeDs, codeP, code}
 use Rattle.translating.specs.Listed.{instructionAt, stepIn, machineIn}

@@ -14,9 +14,10 @@ use Rattle.machine.specs.Run.{done, run}
 use Rattle.machine.specs.Data.{lift, guard, check, newCells, newest, onValue, back, look, put, reading, valued, hold, unhold, held, input, space, rest, spend, taking, writing, work, test, openBlock, closeBlock, enter, given, leave}
 use Rattle.machine.specs.Instructions.{Instr}
 use Rattle.machine.specs.Machine.{Finish}
+use Rattle.names.specs.Program.{count}
 use Rattle.names.specs.Scopes.{has, specified, variablesIn, inBlock, inBody, findIn, findGiven, meaning}
 use Rattle.rules.specs.Entered.{total, before, cut, declaring, bodyOfThis, cellOf}
-use Rattle.rules.specs.Calls.{count, primary, command}
+use Rattle.rules.specs.Calls.{primary, command}
 use Rattle.rules.specs.Rules.{evaluate, perform, calling, sstep, source}
 use Rattle.rules.specs.Samples.{factorial}
 use Rattle.translating.specs.Scoped.{nearest, Scoped}
@@ -29,7 +30,7 @@ unfolding factorial nearest bodyOfThis count primary command meaning findIn find
 scoped = (((((refl, tt), ((tt, tt), tt, (((refl, refl), (tt, tt), tt), tt))), tt), (tt, ((refl, refl), tt, tt))))
 
 runs : source (λ q. q) factorial [] 100 9 400 ≡ done Ended 80 (record { written = pos 120 ∷ []; taken = 0 })
-unfolding run sstep lift guard check newCells newest onValue back look put reading valued hold unhold held input space rest spend taking writing work test openBlock closeBlock enter given leave whole apply1 apply2 past cut cellOf declaring bodyOfThis total before evaluate perform calling count primary command meaning findIn findGiven inBlock inBody variablesIn specified has sameName equalBytes factorial
+unfolding run sstep lift guard check newCells newest onValue back look put reading valued hold unhold held input space rest spend taking writing work test openBlock closeBlock enter given leave whole apply1 apply2 past cut cellOf declaring bodyOfThis total before evaluate perform calling primary command meaning findIn findGiven inBlock inBody variablesIn specified has sameName equalBytes factorial
 runs = refl
 
 -- "A machine that stops at once with nothing written breaks demand 3 on any program that writes a number."

@@ -9,10 +9,9 @@ use lib.ListN.{length}
 use Rattle.machine.specs.Data.{Data, cells, Act, actOn, forget, keep, bump, upto, condition, Fate, stays}
 use Rattle.machine.specs.Instructions.{Instr, END, DO, IF, JUMP, LEAVE, RETURN, GO, NEXT}
 use Rattle.machine.specs.Machine.{Frame, fr, Mach, ms, base}
-use Rattle.names.specs.Program.{Name, Sort, Sign, positive, negative, negation, Expression, number, logical, name, call, signed, operated, chosen, nested, Expressions, done, then, Element, value, while, step, Statement, dummy, assignment, procedure, when, either, repeat, compound, block, Statements, last, first, Declarations, Procedure}
+use Rattle.names.specs.Program.{Name, Sort, Sign, positive, negative, negation, Expression, number, logical, name, call, signed, operated, chosen, nested, Expressions, done, then, count, Element, value, while, step, Statement, dummy, assignment, procedure, when, either, repeat, compound, block, Statements, last, first, Declarations, Procedure}
 use Rattle.names.specs.Scopes.{ofBlock, ofBody, meaning}
 use Rattle.rules.specs.Entered.{Entry, cellsIn}
-use Rattle.rules.specs.Calls.{count}
 use Rattle.rules.specs.Rules.{Choice, expressions, statements, only, whiling, Stepping, stepping, Task, ev, evs, ex, exs, stores, loop, act, unchanged, drop, pick, hold, tested, add, invoke, close, return, State, st, at}
 use Rattle.translating.specs.Translate.{Mark, blk, own, scopes, loc, reach, endE, endEs, endL, onward, endStores, endS, endSs, CALLS, codeE, codeEs, codeL, codeStores, codeS, codeSs}
 use Rattle.translating.specs.Scoped.{OkV, OkVs, OkE, OkEs, OkL, OkS, OkSs, OkCall}

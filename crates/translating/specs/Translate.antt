@@ -9,10 +9,10 @@ use Rattle.machine.specs.Values
 use Rattle.machine.specs.Values.{truth}
 use Rattle.machine.specs.Data.{push, load, store, assign, reserve, forget, receive, send, keep, bump, unary, binary, condition, upto, Fate, kept, gone}
 use Rattle.machine.specs.Instructions.{Loc, lc, Instr, END, DO, IF, JUMP, ENTER, LEAVE, CALL, RETURN, GO, NEXT}
-use Rattle.names.specs.Program.{Name, Sort, Sign, positive, negative, negation, Expression, number, logical, name, call, signed, operated, chosen, nested, Expressions, done, then, Element, value, while, step, Statement, dummy, assignment, procedure, when, either, repeat, compound, block, Statements, last, first, Declarations, none as no-more, variables, declare, Procedure, heading}
+use Rattle.names.specs.Program.{Name, Sort, Sign, positive, negative, negation, Expression, number, logical, name, call, signed, operated, chosen, nested, Expressions, done, then, count, Element, value, while, step, Statement, dummy, assignment, procedure, when, either, repeat, compound, block, Statements, last, first, Declarations, none as no-more, variables, declare, Procedure, heading}
 use Rattle.names.specs.Scopes.{Thing, variable, routine, formal, Declared, Scope, ofBlock, ofBody, nameOf, sortOf, same, Meaning, declared, given, nothing, meaning}
 use Rattle.rules.specs.Entered.{cellsIn, placeIn, oneIf, declaring, bodyOfThis}
-use Rattle.rules.specs.Calls.{count, Primary, held, function, absolute, greatest, no-primary, primary, Command, routine-of, absolute-of, greatest-of, input-to, output-of, no-command, command}
+use Rattle.rules.specs.Calls.{Primary, held, function, absolute, greatest, no-primary, primary, Command, routine-of, absolute-of, greatest-of, input-to, output-of, no-command, command}
 use Rattle.rules.specs.Rules.{binaryOf, maxint, at}
 
 -- ---- what the translator knows of the scopes around, the innermost first

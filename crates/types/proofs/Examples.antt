@@ -7,10 +7,10 @@ use mathlib.Core.List.{List, [], _∷_}
 use mathlib.Core.Option.{Option, none, some}
 use Rattle.symbols.specs.Text.{bytes}
 use Rattle.symbols.specs.Names.{sameName, equal as same-bytes}
-use Rattle.names.specs.Program.{Name, Sort, Specification, Statement, none as no-more, integer, boolean, negative, plus, equal, number, name, signed, operated, chosen, nested, done, then, value, dummy, assignment, procedure, when, repeat, compound, block, last, first, variables, declare, heading, firstSymbol}
+use Rattle.names.specs.Program.{Name, Sort, Specification, Statement, none as no-more, integer, boolean, negative, plus, equal, number, name, signed, operated, chosen, nested, done, then, count, value, dummy, assignment, procedure, when, repeat, compound, block, last, first, variables, declare, heading, firstSymbol}
 use Rattle.names.specs.Scopes.{has, specified, variablesIn, inBlock, inBody, findIn, findGiven, meaning}
 use Rattle.names.specs.Uses.{usesE, usesEs, usesL, usesS, usesSs, usesD, usesP, scopesS, scopesSs, scopesD, scopesP, each, twiceIn, allNames, missing, headingIn, joined, nameFaults, least, Fault}
-use Rattle.types.specs.Types.{inExpression, wants, wantedBy, isVariable, isName, count, sortE, misfit, misfits, faultsE, faultsEs, ownSort, asLeft, faultsLeft, miscalled, faultsL, faultsS, faultsSs, faultsD, faultsP, typeFaults, leastOf}
+use Rattle.types.specs.Types.{inExpression, wants, wantedBy, isVariable, isName, sortE, misfit, misfits, faultsE, faultsEs, ownSort, asLeft, faultsLeft, miscalled, faultsL, faultsS, faultsSs, faultsD, faultsP, typeFaults, leastOf}
 
 abbrev n : ℕ → String → Name
 n i s = record { symbol = i; letters = bytes s }

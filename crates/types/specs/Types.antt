@@ -6,7 +6,7 @@ use mathlib.Core.List.{List, [], _∷_, _++_, map}
 use mathlib.Core.Option.{Option, none, some}
 use lib.Dec.{eqb, ltb}
 use lib.ListN.{length}
-use Rattle.names.specs.Program.{Name, Sort, integer, boolean, Sign, positive, negative, negation, Operator, times, over, plus, minus, less, atMost, equal, atLeast, greater, unequal, and, or, impl, equiv, Expression, number, logical, name, call, signed, operated, chosen, nested, Expressions, done, then, Element, value, while, step, Statement, dummy, assignment, procedure, when, either, repeat, compound, block, Statements, last, first, Declarations, none as no-more, variables, declare, Procedure, heading, firstSymbol}
+use Rattle.names.specs.Program.{Name, Sort, integer, boolean, Sign, positive, negative, negation, Operator, times, over, plus, minus, less, atMost, equal, atLeast, greater, unequal, and, or, impl, equiv, Expression, number, logical, name, call, signed, operated, chosen, nested, Expressions, done, then, count, Element, value, while, step, Statement, dummy, assignment, procedure, when, either, repeat, compound, block, Statements, last, first, Declarations, none as no-more, variables, declare, Procedure, heading, firstSymbol}
 use Rattle.names.specs.Scopes.{Thing, variable, routine, formal, Declared, nameOf, sortOf, formalsOf, specificationsOf, specified, Scope, ofBlock, ofBody, Wanted, an, variable-of, Given, Meaning, declared, given, nothing, meaning}
 
 -- ---- types that are known, and those that are not: what has none "causes no other fault"
@@ -149,10 +149,6 @@ gives impl = boolean
 gives equiv = boolean
 
 -- ---- expressions
-
-unfoldable pub count : Expressions → ℕ
-count done = 0
-count (then e es) = suc (count es)
 
 -- g: the scopes around
 unfoldable pub sortE : List Scope → Expression → Option Sort
