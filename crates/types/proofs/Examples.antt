@@ -10,7 +10,7 @@ use Rattle.symbols.specs.Names.{sameName, equal as same-bytes}
 use Rattle.names.specs.Program.{Name, Sort, Specification, Statement, none as no-more, integer, boolean, negative, plus, equal, number, name, signed, operated, chosen, nested, done, then, count, value, dummy, assignment, procedure, when, repeat, compound, block, last, first, variables, declare, heading, firstSymbol}
 use Rattle.names.specs.Scopes.{has, specified, variablesIn, inBlock, inBody, findIn, findGiven, meaning}
 use Rattle.names.specs.Uses.{usesE, usesEs, usesL, usesS, usesSs, usesD, usesP, scopesS, scopesSs, scopesD, scopesP, each, twiceIn, allNames, missing, headingIn, joined, nameFaults, least, Fault}
-use Rattle.types.specs.Types.{inExpression, wants, wantedBy, isVariable, isName, sortE, misfit, misfits, faultsE, faultsEs, ownSort, asLeft, faultsLeft, miscalled, faultsL, faultsS, faultsSs, faultsD, faultsP, typeFaults, leastOf}
+use Rattle.types.specs.Types.{inExpression, wants, wantedBy, isVariable, isName, sortE, misfit, misfits, faultsE, faultsEs, ownSort, asLeft, faultsLeft, miscalled, faultsL, faultsS, faultsSs, faultsD, faultsP, typeFaults, typeFault}
 
 abbrev n : ℕ → String → Name
 n i s = record { symbol = i; letters = bytes s }
@@ -18,11 +18,11 @@ n i s = record { symbol = i; letters = bytes s }
 abbrev sp : Sort → List Name → Specification
 sp t l = record { sort = t; names = l }
 
--- a program; the least fault of names, as (symbol, answer); the symbol of the least type fault
+-- a program; the least fault of names and the least of types, each as (symbol, answer)
 record Row : Type 0 where
   tree : Statement
   names : Option Fault
-  types : Option ℕ
+  types : Option Fault
 
 abbrev fine : Statement → Row
 fine s = record { tree = s; names = none; types = none }
@@ -31,7 +31,7 @@ abbrev misnamed : Statement → ℕ → ℕ → Row
 misnamed s q a = record { tree = s; names = some (record { symbol = q; answer = a }); types = none }
 
 abbrev mistyped : Statement → ℕ → Row
-mistyped s q = record { tree = s; names = none; types = some q }
+mistyped s q = record { tree = s; names = none; types = some (record { symbol = q; answer = 10 }) }
 
 abbrev rows : List Row
 rows =
@@ -71,7 +71,7 @@ rows =
 
 -- "Each group is finished before the next": types are looked at where names are right
 abbrev Typed : Row → Option Fault → Type 0
-Typed r none = leastOf (typeFaults (r .tree)) ≡ r .types
+Typed r none = typeFault (r .tree) ≡ r .types
 Typed r (some f) = Unit {0}
 
 abbrev Right : List Row → Type 0
@@ -79,5 +79,5 @@ Right [] = Unit {0}
 Right (r ∷ l) = (least (nameFaults (r .tree)) ≡ r .names) × Typed r (r .names) × Right l
 
 pub readings : Right rows
-unfolding sameName same-bytes firstSymbol has specified variablesIn inBlock inBody findIn findGiven meaning usesE usesEs usesL usesS usesSs usesD usesP scopesS scopesSs scopesD scopesP each twiceIn allNames missing headingIn joined nameFaults least inExpression wants wantedBy isVariable isName count sortE misfit misfits faultsE faultsEs ownSort asLeft faultsLeft miscalled faultsL faultsS faultsSs faultsD faultsP typeFaults leastOf
+unfolding sameName same-bytes firstSymbol has specified variablesIn inBlock inBody findIn findGiven meaning usesE usesEs usesL usesS usesSs usesD usesP scopesS scopesSs scopesD scopesP each twiceIn allNames missing headingIn joined nameFaults least inExpression wants wantedBy isVariable isName count sortE misfit misfits faultsE faultsEs ownSort asLeft faultsLeft miscalled faultsL faultsS faultsSs faultsD faultsP typeFaults typeFault
 readings = (refl, tt, (refl, tt, (refl, tt, (refl, refl, (refl, refl, (refl, refl, (refl, refl, (refl, refl, (refl, refl, (refl, refl, (refl, refl, (refl, refl, (refl, refl, (refl, refl, (refl, refl, (refl, refl, tt))))))))))))))))

@@ -4,10 +4,12 @@ use Prim.Native.Nat.{ℕ, zero, suc}
 use mathlib.Core.Bool.{Bool, true, false, cond, not, _&&_, _||_}
 use mathlib.Core.List.{List, [], _∷_, _++_, map}
 use mathlib.Core.Option.{Option, none, some}
-use lib.Dec.{eqb, ltb}
+use lib.Dec.{eqb}
 use lib.ListN.{length}
+use Rattle.answers.specs.Numbers.{types}
 use Rattle.names.specs.Program.{Name, Sort, integer, boolean, Sign, positive, negative, negation, Operator, times, over, plus, minus, less, atMost, equal, atLeast, greater, unequal, and, or, impl, equiv, Expression, number, logical, name, call, signed, operated, chosen, nested, Expressions, done, then, count, Element, value, while, step, Statement, dummy, assignment, procedure, when, either, repeat, compound, block, Statements, last, first, Declarations, none as no-more, variables, declare, Procedure, heading, firstSymbol}
 use Rattle.names.specs.Scopes.{Thing, variable, routine, formal, Declared, nameOf, sortOf, formalsOf, specificationsOf, specified, Scope, ofBlock, ofBody, Wanted, an, variable-of, Given, Meaning, declared, given, nothing, meaning}
+use Rattle.names.specs.Uses.{Fault, least}
 
 -- ---- types that are known, and those that are not: what has none "causes no other fault"
 
@@ -269,14 +271,10 @@ unfoldable mutual
   pub faultsP : List Scope → Procedure → List ℕ
   faultsP g (heading t f xs vs ss b) = faultsS (ofBody (heading t f xs vs ss b) ∷ g) b
 
--- the type faults of a program; the least is answer 10's symbol
+-- the type faults of a program
 unfoldable pub typeFaults : Statement → List ℕ
 typeFaults s = faultsS [] s
 
-abbrev pub sooner : ℕ → Option ℕ → Option ℕ
-sooner q none = some q
-sooner q (some r) = some (cond (ltb r q) r q)
-
-unfoldable pub leastOf : List ℕ → Option ℕ
-leastOf [] = none
-leastOf (q ∷ l) = sooner q (leastOf l)
+-- 10: "type fault above": "in a group the smallest place wins"
+unfoldable pub typeFault : Statement → Option Fault
+typeFault s = least (map (λ q. record { symbol = q; answer = types }) (typeFaults s))
