@@ -77,9 +77,9 @@ declares (ofBody p) = inBody p
 
 -- ---- "The environment holds iabs (0), maxint (1), ininteger (2), outinteger (3) and may be hidden."
 
--- what an actual must be: an expression of a type, or a variable or formal of it alone
+-- what an actual must be: an expression of a type, or of any where a formal has no specification; or a variable or formal of a type alone
 pub data Wanted : Type 0 where
-  an : Sort → Wanted
+  an : Option Sort → Wanted
   variable-of : Sort → Wanted
 
 pub record Given : Type 0 where
@@ -90,10 +90,10 @@ pub record Given : Type 0 where
 -- an outermost scope: a name's place in the list is its number
 abbrev pub environment : List Given
 environment =
-    record { spelling = "iabs"; sort = some integer; actuals = an integer ∷ [] } ∷
+    record { spelling = "iabs"; sort = some integer; actuals = an (some integer) ∷ [] } ∷
     record { spelling = "maxint"; sort = some integer; actuals = [] } ∷
-    record { spelling = "ininteger"; sort = none; actuals = an integer ∷ variable-of integer ∷ [] } ∷
-    record { spelling = "outinteger"; sort = none; actuals = an integer ∷ an integer ∷ [] } ∷
+    record { spelling = "ininteger"; sort = none; actuals = an (some integer) ∷ variable-of integer ∷ [] } ∷
+    record { spelling = "outinteger"; sort = none; actuals = an (some integer) ∷ an (some integer) ∷ [] } ∷
     []
 
 -- ---- meanings. Demand 2: "Each name means the innermost declaration or formal around it, else the environment's"

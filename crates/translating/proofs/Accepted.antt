@@ -71,10 +71,10 @@ meant-rest u us h = empty-right (unmeant u) (joined unmeant us) h
 -- ---- the environment's numbers and entries go together
 
 data Numbered : ℕ → Given → Type 0 where
-  is-iabs : {e : Given} → e .actuals ≡ an integer ∷ [] → Numbered 0 e
+  is-iabs : {e : Given} → e .actuals ≡ an (some integer) ∷ [] → Numbered 0 e
   is-maxint : {e : Given} → e .actuals ≡ [] → Numbered 1 e
-  is-in : {e : Given} → e .sort ≡ none → e .actuals ≡ an integer ∷ variable-of integer ∷ [] → Numbered 2 e
-  is-out : {e : Given} → e .sort ≡ none → e .actuals ≡ an integer ∷ an integer ∷ [] → Numbered 3 e
+  is-in : {e : Given} → e .sort ≡ none → e .actuals ≡ an (some integer) ∷ variable-of integer ∷ [] → Numbered 2 e
+  is-out : {e : Given} → e .sort ≡ none → e .actuals ≡ an (some integer) ∷ an (some integer) ∷ [] → Numbered 3 e
 
 abbrev InOrder : Meaning → Type 0
 InOrder (declared d g) = Unit {0}
@@ -388,7 +388,7 @@ module _ (g : List Scope) (x : Name) where
 called : (w n : ℕ) → not (eqb w n) ≡ false → w ≡ n
 called w n h = eqb-true w n (not-false (eqb w n) h)
 
-second-fits : (g : List Scope) (e f : Expression) (ws : List Wanted) → ws ≡ an integer ∷ variable-of integer ∷ [] → misfits g ws (then e (then f done)) ≡ [] → isName g integer f ≡ true
+second-fits : (g : List Scope) (e f : Expression) (ws : List Wanted) → ws ≡ an (some integer) ∷ variable-of integer ∷ [] → misfits g ws (then e (then f done)) ≡ [] → isName g integer f ≡ true
 unfolding misfits misfit
 second-fits g e f ws h m =
     let m' = subst (λ (l : List Wanted). misfits g l (then e (then f done)) ≡ []) h m in

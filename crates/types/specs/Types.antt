@@ -68,14 +68,9 @@ inExpression nothing n = judge none false
 
 -- ---- actuals
 
--- what a procedure's formals want
+-- what a procedure's formals want, one for each
 unfoldable pub wants : Procedure → List Name → List Wanted
-wants p [] = []
-wants p (x ∷ xs) = wanted (specified (specificationsOf p) x) (wants p xs)
-  where
-    wanted : Option Sort → List Wanted → List Wanted
-    wanted none l = l
-    wanted (some t) l = an t ∷ l
+wants p xs = map (λ x. an (specified (specificationsOf p) x)) xs
 
 abbrev pub thingWants : Thing → List Wanted
 thingWants (variable t) = []
@@ -165,7 +160,7 @@ sortE g (nested q e) = sortE g e
 
 -- "a wrong actual .. at its first symbol"
 unfoldable pub misfit : List Scope → Wanted → Expression → Bool
-misfit g (an t) e = unlike (sortE g e) t
+misfit g (an t) e = apart t (sortE g e)
 misfit g (variable-of t) e = not (isName g t e)
 
 unfoldable pub misfits : List Scope → List Wanted → Expressions → List ℕ
