@@ -1,4 +1,4 @@
--- The paper's two examples, as programs: "A count of uses, then its triples".
+-- The paper's two examples, as programs: "A count of uses, then its triples"; and one for "may be hidden".
 use Prim.Native.Nat.{ℕ}
 use Prim.Native.String.{String}
 use mathlib.Core.Path.{_≡_, refl}
@@ -27,6 +27,10 @@ S2 =
     (first (block 4 (variables integer (n 6 "a" ∷ []) no-more) (last (assignment (n 8 "a") [] 9 (number 10 2))))
     (last (assignment (n 13 "a") [] 14 (number 15 1))))
 
+-- 'begin' 'integer' maxint; maxint := 1 'end'
+abbrev hiding : Statement
+hiding = block 0 (variables integer (n 2 "maxint" ∷ []) no-more) (last (assignment (n 4 "maxint") [] 5 (number 6 1)))
+
 -- each name means the innermost declaration around it: two variables of one name stay two
 pub s1 : (rows S1 ≡ row 4 1 2 ∷ []) × (least (nameFaults S1) ≡ none)
 unfolding sameName equal has variablesIn inBlock findIn findGiven meaning usesE usesS usesSs usesD scopesS scopesSs scopesD each twiceIn headingIn joined nameFaults least rows
@@ -35,3 +39,8 @@ s1 = (refl, refl)
 pub s2 : (rows S2 ≡ row 8 1 6 ∷ row 13 1 2 ∷ []) × (least (nameFaults S2) ≡ none)
 unfolding sameName equal has variablesIn inBlock findIn findGiven meaning usesE usesS usesSs usesD scopesS scopesSs scopesD each twiceIn headingIn joined nameFaults least rows
 s2 = (refl, refl)
+
+-- the environment is outermost: a declaration hides its name
+pub hidden : (rows hiding ≡ row 4 1 2 ∷ []) × (least (nameFaults hiding) ≡ none)
+unfolding sameName equal has variablesIn inBlock findIn findGiven meaning usesE usesS usesSs usesD scopesS scopesSs scopesD each twiceIn headingIn joined nameFaults least rows
+hidden = (refl, refl)
