@@ -1,99 +1,157 @@
--- Signed numbers: `mag` of a sum, a difference, a product and a quotient is bounded, so that 64 bits hold what two numbers of 32 bits give; and
--- what the code learns from a test of bits. The tests of bits are for any width; the ranges are stated for 32 and for 64, not yet once over it.
+-- Signed numbers, each law once over the width: a number that fits is read back from its bits, what an operation gives at one width fits a wider
+-- one, since its `mag` is bounded, and a test of bits is a test of the numbers. A use names its widths, where the powers of 2 compute.
 use mathlib.Core.Path.{_≡_, refl, sym, subst, ap, _∙_}
 use mathlib.Core.Bool.{Bool, true, false, cond, not, Bool·beq, false≢true, true≢false}
 use Prim.Native.Nat.{ℕ, zero, suc, _+_, _-_, _*_, _/_, _^_, _≤_, _<_}
-use native.Mathlib.Nat.{mul-le-mul, le-trans, lt-of-le-of-lt, div-le-self}
+use native.Mathlib.Nat.{mul-le-mul, le-trans, le-of-lt, lt-of-lt-of-le, lt-of-le-of-lt, div-le-self, pow-suc}
 use native.Mathlib.Omega.{arith}
-use lib.IntN.{ℤ, pos, negsuc, negℤ, natAbs, subℕ, _+ℤ_, _-ℤ_, _*ℤ_, +ℤ-idl}
+use lib.IntN.{ℤ, pos, negsuc, negℤ, natAbs, _+ℤ_, _-ℤ_, _*ℤ_, +ℤ-idl}
 use lib.Signed.{mag, ltZ, quotZ}
-use lib.Dec.{ltb, eqb, lit<}
-use lib.Pow.{pow-pos}
-use mir.Syntax.{Width, w32, w64}
-use mir.Val.{SFits, toZ, ofZ, hbits}
+use lib.Dec.{T, leb, ltb, eqb, ltb→lt, leb→le, le→leb, lit<}
+use lib.Pow.{pow-pos, pow-mono, pow-lt, pow-add}
+use mir.Syntax.{Width, w8, w16, w32, w64, w128}
+use mir.Val.{SFits, toZ, ofZ, bits, hbits}
 use mir.Facts.{toZ-ofZ, sfits-widen, toZ-pos}
 use borrow.Author.Tests.{ltb-true, ltb-false, le-ltb, lt-ltb, eq-eqb, ne-eqb, eqb-true, eqb-false}
 use Rattle.machine.specs.Values.{isZero, same, truth, sign, whole}
 use Rattle.machine.specs.declared.Value.{Value}
 use Rattle.machine.specs.declared.Value.the-variants.{Is}
 
+-- ---- how large a result is. `mag` is what a width bounds; `natAbs`, one more below 0, is the same for a number and its negative
+
 mag-cond : (t : Bool) (a b : ℕ) → mag (cond t (negsuc (b - suc a)) (pos (a - b))) ≤ a + b
 mag-cond true a b = omega arith
 mag-cond false a b = omega arith
 
-pub mag-add : (a b : ℤ) → mag (a +ℤ b) ≤ mag a + mag b + 1
+mag-add : (a b : ℤ) → mag (a +ℤ b) ≤ mag a + mag b + 1
 mag-add (pos a) (pos b) = omega arith
 mag-add (pos a) (negsuc b) = omega (arith, mag-cond (ltb a (suc b)) a (suc b))
 mag-add (negsuc a) (pos b) = omega (arith, mag-cond (ltb b (suc a)) b (suc a))
 mag-add (negsuc a) (negsuc b) = omega arith
 
-pub mag-neg : (a : ℤ) → mag (negℤ a) ≤ mag a + 1
-mag-neg (pos zero) = omega arith
-mag-neg (pos (suc n)) = omega arith
-mag-neg (negsuc n) = omega arith
+mag-abs : (a : ℤ) → mag a ≤ natAbs a
+mag-abs (pos n) = omega arith
+mag-abs (negsuc n) = omega arith
+
+abs-mag : (a : ℤ) → natAbs a ≤ mag a + 1
+abs-mag (pos n) = omega arith
+abs-mag (negsuc n) = omega arith
+
+abs-neg : (a : ℤ) → natAbs (negℤ a) ≡ natAbs a
+abs-neg (pos zero) = refl
+abs-neg (pos (suc n)) = refl
+abs-neg (negsuc n) = refl
+
+-- a difference of naturals is no larger than the greater of the two
+abs-cond : (t : Bool) (a b : ℕ) {k : ℕ} → a ≤ k → suc b ≤ k → natAbs (cond t (negsuc (suc b - suc a)) (pos (a - suc b))) ≤ k
+abs-cond true a b h l = omega arith
+abs-cond false a b h l = omega arith
+
+abs-sub : (a b : ℤ) → natAbs (a -ℤ b) ≤ mag a + mag b + 1
+abs-sub (pos a) (pos zero) = omega arith
+abs-sub (pos a) (pos (suc b)) = abs-cond (ltb a (suc b)) a b (omega arith) (omega arith)
+abs-sub (pos a) (negsuc b) = omega arith
+abs-sub (negsuc a) (pos zero) = abs-cond (ltb 0 (suc a)) 0 a (omega arith) (omega arith)
+abs-sub (negsuc a) (pos (suc b)) = omega arith
+abs-sub (negsuc a) (negsuc b) = abs-cond (ltb (suc b) (suc a)) (suc b) a (omega arith) (omega arith)
 
 mag-negpos : (n : ℕ) → mag (negℤ (pos n)) ≤ n
 mag-negpos zero = omega arith
 mag-negpos (suc n) = omega arith
 
-pub mag-mul : (a b : ℤ) → mag (a *ℤ b) ≤ suc (mag a) * suc (mag b)
+mag-mul : (a b : ℤ) → mag (a *ℤ b) ≤ suc (mag a) * suc (mag b)
 mag-mul (pos a) (pos b) = mul-le-mul (omega arith) (omega arith)
 mag-mul (pos a) (negsuc b) = le-trans (mag-negpos (a * suc b)) (mul-le-mul (omega arith) (omega arith))
 mag-mul (negsuc a) (pos b) = le-trans (mag-negpos (suc a * b)) (mul-le-mul (omega arith) (omega arith))
 mag-mul (negsuc a) (negsuc b) = mul-le-mul (omega arith) (omega arith)
 
-pub mag-quot : (a b : ℤ) → mag (quotZ a b) ≤ suc (mag a)
+mag-quot : (a b : ℤ) → mag (quotZ a b) ≤ suc (mag a)
 mag-quot (pos a) (pos b) = omega (arith, div-le-self a b)
 mag-quot (pos a) (negsuc b) = omega (arith, mag-negpos (a / suc b), div-le-self a (suc b))
 mag-quot (negsuc a) (pos b) = omega (arith, mag-negpos (suc a / b), div-le-self (suc a) b)
 mag-quot (negsuc a) (negsuc b) = div-le-self (suc a) (suc b)
 
-module _ {a b : ℤ} (ha : SFits w32 a) (hb : SFits w32 b) where
-  pub sum-fits : SFits w64 (a +ℤ b)
-  sum-fits = record { sfits = omega (arith, mag-add a b, ha .sfits, hb .sfits) }
+-- a sign does not make a number larger
+abs-signed : (d x : ℤ) → natAbs (d *ℤ sign x) ≤ natAbs d
+abs-signed (pos n) (pos zero) = omega arith
+abs-signed (pos n) (pos (suc m)) = omega arith
+abs-signed (pos n) (negsuc m) = omega (arith, abs-neg (pos (n * 1)))
+abs-signed (negsuc n) (pos zero) = omega (arith, abs-neg (pos (suc n * 0)))
+abs-signed (negsuc n) (pos (suc m)) = omega (arith, abs-neg (pos (suc n * 1)))
+abs-signed (negsuc n) (negsuc m) = omega arith
 
-  pub diff-fits : SFits w64 (a -ℤ b)
-  diff-fits = record { sfits = omega (arith, mag-add a (negℤ b), mag-neg b, ha .sfits, hb .sfits) }
-
-  pub prod-fits : SFits w64 (a *ℤ b)
-  prod-fits =
-      record { sfits = lt-of-le-of-lt (le-trans (mag-mul a b) (mul-le-mul (ha .sfits) (hb .sfits))) (lit< tt) }
-
-  pub quot-fits : SFits w64 (quotZ a b)
-  quot-fits = record { sfits = omega (arith, mag-quot a b, ha .sfits) }
-
--- against the ends of i32
-pub low-out : (x : ℤ) → ltZ x (negsuc 2147483647) ≡ true → ltb (mag x) 2147483648 ≡ false
-low-out (pos n) e = absurd (false≢true e)
-low-out (negsuc n) e = le-ltb n 2147483648 (ltb-true 2147483647 n e)
-
-pub high-out : (x : ℤ) → ltZ (pos 2147483647) x ≡ true → ltb (mag x) 2147483648 ≡ false
-high-out (pos n) e = le-ltb n 2147483648 (ltb-true 2147483647 n e)
-high-out (negsuc n) e = absurd (false≢true e)
-
-pub between : (x : ℤ) → ltZ x (negsuc 2147483647) ≡ false → ltZ (pos 2147483647) x ≡ false → SFits w32 x
-between (pos n) e f = record { sfits = omega (arith, ltb-false 2147483647 n f) }
-between (negsuc n) e f = record { sfits = omega (arith, ltb-false 2147483647 n e) }
-
--- what the machine reads back from the bits of an i32 that went through 64 bits is the number
-pub wide-same : {a : ℤ} → SFits w32 a → toZ w64 (ofZ w64 (toZ w32 (ofZ w32 a))) ≡ a
-wide-same {a} h = ap (λ (z : ℤ). toZ w64 (ofZ w64 z)) (toZ-ofZ h) ∙ toZ-ofZ (sfits-widen tt h)
-
-pub wide-fits : {a : ℤ} → SFits w32 a → SFits w64 (toZ w32 (ofZ w32 a))
-wide-fits {a} h = subst (SFits w64) (sym (toZ-ofZ h)) (sfits-widen tt h)
+-- ---- a number at its width and at a wider one. The hypothesis on the two widths is `tt` where they are known
 
 -- a number that a variant or a slice holds, read back from its bits
-pub back32 : (v : ℤ) → mag v < 2147483648 → toZ w32 (ofZ w32 v) ≡ v
-back32 v h = toZ-ofZ (record { sfits = h })
+pub read-back : (w : Width) (a : ℤ) → mag a < 2 ^ hbits w → toZ w (ofZ w a) ≡ a
+read-back w a h = toZ-ofZ (record { sfits = h })
 
-pub back64 : (v : ℤ) → mag v < 9223372036854775808 → toZ w64 (ofZ w64 v) ≡ v
-back64 v h = toZ-ofZ (record { sfits = h })
+-- and it fits again
+pub again : (w : Width) (a : ℤ) → mag a < 2 ^ hbits w → SFits w (toZ w (ofZ w a))
+again w a h = rw (read-back w a h) (record { sfits = h })
 
--- a word past the half, less 2 ^ 32, is its two's complement number
-pub word-neg : (w : ℕ) → 2147483648 ≤ w → w < 4294967296 → toZ w64 w -ℤ pos 4294967296 ≡ toZ w32 w
-word-neg w l h =
-    let p : w < 9223372036854775808 = omega arith in
-    simp (toZ-pos w64 p, lt-ltb w 4294967296 h, le-ltb w 2147483648 l)
+-- as wide or wider: the number itself, though it goes through the bits
+module _ (v w : Width) (narrower : T (leb (hbits v) (hbits w))) {a : ℤ} (h : SFits v a) where
+  pub wide-same : toZ w (ofZ w (toZ v (ofZ v a))) ≡ a
+  wide-same = ap (λ (z : ℤ). toZ w (ofZ w z)) (toZ-ofZ h) ∙ toZ-ofZ (sfits-widen narrower h)
+
+  pub wide-fits : SFits w (toZ v (ofZ v a))
+  wide-fits = subst (SFits w) (sym (toZ-ofZ h)) (sfits-widen narrower h)
+
+-- one bit more holds a sum, a difference, one times a sign, a negative and a quotient
+module _ (v w : Width) (wider : T (ltb (hbits v) (hbits w))) where
+  twice : 2 ^ hbits v + 2 ^ hbits v ≤ 2 ^ hbits w
+  twice = omega (arith, pow-suc 2 (hbits v), pow-mono (ltb→lt (hbits v) (hbits w) wider))
+
+  module _ {a b : ℤ} (ha : SFits v a) (hb : SFits v b) where
+    pub sum-fits : SFits w (a +ℤ b)
+    sum-fits = record { sfits = omega (arith, mag-add a b, ha .sfits, hb .sfits, twice) }
+
+    pub diff-fits : SFits w (a -ℤ b)
+    diff-fits = record { sfits = omega (arith, mag-abs (a -ℤ b), abs-sub a b, ha .sfits, hb .sfits, twice) }
+
+    pub past-fits : (x : ℤ) → SFits w ((a -ℤ b) *ℤ sign x)
+    past-fits x = record { sfits = omega (arith, mag-abs ((a -ℤ b) *ℤ sign x), abs-signed (a -ℤ b) x, abs-sub a b, ha .sfits, hb .sfits, twice) }
+
+  pub neg-fits : {a : ℤ} → SFits v a → SFits w (negℤ a)
+  neg-fits {a} h = record { sfits = omega (arith, mag-abs (negℤ a), abs-neg a, abs-mag a, h .sfits, twice) }
+
+  pub quot-fits : {a : ℤ} (b : ℤ) → SFits v a → SFits w (quotZ a b)
+  quot-fits {a} b h = record { sfits = omega (arith, mag-quot a b, h .sfits, twice) }
+
+-- twice the bits hold a product
+pub prod-fits : (v w : Width) → T (ltb (hbits v + hbits v) (hbits w)) → {a b : ℤ} → SFits v a → SFits v b → SFits w (a *ℤ b)
+prod-fits v w double {a} {b} ha hb =
+    record {
+      sfits =
+          lt-of-le-of-lt
+          (le-trans (mag-mul a b) (mul-le-mul (ha .sfits) (hb .sfits)))
+          (subst (λ (n : ℕ). n < 2 ^ hbits w) (pow-add 2 (hbits v) (hbits v)) (pow-lt (ltb→lt (hbits v + hbits v) (hbits w) double)));
+    }
+
+-- ---- the ends of a width
+
+pub low-out : (w : Width) (x : ℤ) → ltZ x (negsuc (2 ^ hbits w - 1)) ≡ true → ltb (mag x) (2 ^ hbits w) ≡ false
+low-out w (pos n) e = absurd (false≢true e)
+low-out w (negsuc n) e = le-ltb n (2 ^ hbits w) (omega (arith, ltb-true (2 ^ hbits w - 1) n e))
+
+pub high-out : (w : Width) (x : ℤ) → ltZ (pos (2 ^ hbits w - 1)) x ≡ true → ltb (mag x) (2 ^ hbits w) ≡ false
+high-out w (pos n) e = le-ltb n (2 ^ hbits w) (omega (arith, ltb-true (2 ^ hbits w - 1) n e))
+high-out w (negsuc n) e = absurd (false≢true e)
+
+pub between : (w : Width) (x : ℤ) → ltZ x (negsuc (2 ^ hbits w - 1)) ≡ false → ltZ (pos (2 ^ hbits w - 1)) x ≡ false → SFits w x
+between w (pos n) e f = record { sfits = omega (arith, ltb-false (2 ^ hbits w - 1) n f, pow-pos (hbits w)) }
+between w (negsuc n) e f = record { sfits = omega (arith, ltb-false (2 ^ hbits w - 1) n e, pow-pos (hbits w)) }
+
+below-zero : (m n : ℕ) → m < n → pos m -ℤ pos n ≡ negsuc (n - suc m)
+below-zero m zero h = absurd (omega arith)
+below-zero m (suc n) h = simp (lt-ltb m (suc n) h)
+
+-- a word past the half, less 2 ^ its bits, is its two's complement number
+pub word-neg : (v w : Width) → T (leb (bits v) (hbits w)) → (n : ℕ) → 2 ^ hbits v ≤ n → n < 2 ^ bits v → toZ w n -ℤ pos (2 ^ bits v) ≡ toZ v n
+word-neg v w narrower n l h =
+    let p : n < 2 ^ hbits w = lt-of-lt-of-le h (pow-mono (leb→le (bits v) (hbits w) narrower)) in
+    rw (toZ-pos w p, below-zero n (2 ^ bits v) h, le-ltb n (2 ^ hbits v) l)
 
 -- ---- tests on bits, for any width
 
@@ -144,39 +202,36 @@ sign-zero (pos zero) e = refl
 sign-zero (pos (suc n)) e = absurd (omega (arith, eqb-true (suc n) 0 e))
 sign-zero (negsuc n) e = absurd (false≢true e)
 
-pub sign-mag : (x : ℤ) → mag (sign x) ≤ 1
+sign-mag : (x : ℤ) → mag (sign x) ≤ 1
 sign-mag (pos zero) = omega arith
 sign-mag (pos (suc n)) = omega arith
 sign-mag (negsuc n) = omega arith
 
-pub past-fits : {a b : ℤ} (x : ℤ) → SFits w32 a → SFits w32 b → SFits w64 ((a -ℤ b) *ℤ sign x)
-past-fits {a} {b} x ha hb =
-    record {
-      sfits =
-          lt-of-le-of-lt
-          (le-trans (mag-mul (a -ℤ b) (sign x)) (mul-le-mul {n₂ = 4294967299} {m₂ = 2} (omega (arith, mag-add a (negℤ b), mag-neg b, ha .sfits, hb .sfits)) (omega (arith, sign-mag x))))
-          (lit< tt);
-    }
+-- 1 is a number of every width
+one-below : (w : Width) → 1 < 2 ^ hbits w
+one-below w8 = lit< tt
+one-below w16 = lit< tt
+one-below w32 = lit< tt
+one-below w64 = lit< tt
+one-below w128 = lit< tt
 
-pub sign-fits : (x : ℤ) → SFits w64 (sign x)
-sign-fits x = record { sfits = omega (arith, sign-mag x) }
+pub sign-fits : (w : Width) (x : ℤ) → SFits w (sign x)
+sign-fits w x = record { sfits = omega (arith, sign-mag x, one-below w) }
 
--- ---- the greatest and least numbers
-
-pub neg-fits : {a : ℤ} → SFits w32 a → SFits w64 (negℤ a)
-neg-fits {a} h = record { sfits = omega (arith, mag-neg a, h .sfits) }
+-- ---- the absolute value, and the whole numbers
 
 pub absolute-below : (x : ℤ) → ltZ x (pos 0) ≡ true → negℤ x ≡ pos (natAbs x)
 absolute-below (pos n) e = absurd (omega (arith, ltb-true n 0 e))
 absolute-below (negsuc n) e = refl
 
-pub whole-is : (x : ℤ) → SFits w32 x → whole x ≡ Is x
-unfolding whole
-whole-is x h = simp (lt-ltb (mag x) 2147483648 (h .sfits))
-
 pub absolute-above : (x : ℤ) → ltZ x (pos 0) ≡ false → pos (natAbs x) ≡ x
 absolute-above (pos n) e = refl
 absolute-above (negsuc n) e = absurd (true≢false e)
+
+-- `whole` is a range of the rules, of 32 bits alone
+pub whole-is : (x : ℤ) → SFits w32 x → whole x ≡ Is x
+unfolding whole
+whole-is x h = simp (lt-ltb (mag x) 2147483648 (h .sfits))
 
 -- ---- what a comparison of bits says
 
@@ -195,9 +250,9 @@ module _ (w : Width) where
       same-zero (pos n) = refl
       same-zero (negsuc n) = refl
 
-pub truth-fits : (b : Bool) → SFits w32 (truth b)
-truth-fits true = record { sfits = omega arith }
-truth-fits false = record { sfits = omega arith }
+pub truth-fits : (w : Width) (b : Bool) → SFits w (truth b)
+truth-fits w true = record { sfits = one-below w }
+truth-fits w false = record { sfits = pow-pos (hbits w) }
 
 pub zero-minus : (a : ℤ) → pos 0 -ℤ a ≡ negℤ a
 zero-minus a = +ℤ-idl (negℤ a)
@@ -213,22 +268,21 @@ equal-false false = refl
 pub not-zero-bits : (w : Width) {x : ℤ} → SFits w x → isZero x ≡ false → ofZ w x ≡ 0 → ⊥
 not-zero-bits w {x} h e z = true≢false (sym (zero-yes w h z) ∙ e)
 
--- a number that was read back fits again
-pub again : (v : ℤ) → mag v < 2147483648 → SFits w32 (toZ w32 (ofZ w32 v))
-again v h = rw (back32 v h) (record { sfits = h })
+-- the sum of two numbers that went through a wider width
+module _ (v w : Width) (wider : T (ltb (hbits v) (hbits w))) {a b : ℤ} (ha : SFits v a) (hb : SFits v b) where
+  narrower : T (leb (hbits v) (hbits w))
+  narrower = le→leb (hbits v) (hbits w) (le-of-lt (ltb→lt (hbits v) (hbits w) wider))
 
--- the sum of two numbers that went through 64 bits
-pub sum-again : {a b : ℤ} → SFits w32 a → SFits w32 b
-    → toZ w64 (ofZ w64 (toZ w64 (ofZ w64 (toZ w32 (ofZ w32 a))) +ℤ toZ w64 (ofZ w64 (toZ w32 (ofZ w32 b))))) ≡ a +ℤ b
-sum-again {a} {b} ha hb = rw (wide-same ha, wide-same hb) (toZ-ofZ (sum-fits ha hb))
+  pub sum-again : toZ w (ofZ w (toZ w (ofZ w (toZ v (ofZ v a))) +ℤ toZ w (ofZ w (toZ v (ofZ v b))))) ≡ a +ℤ b
+  sum-again = rw (wide-same v w narrower ha, wide-same v w narrower hb) (toZ-ofZ (sum-fits v w wider ha hb))
 
-pub sum-again-fits : {a b : ℤ} → SFits w32 a → SFits w32 b → SFits w64 (toZ w64 (ofZ w64 (toZ w32 (ofZ w32 a))) +ℤ toZ w64 (ofZ w64 (toZ w32 (ofZ w32 b))))
-sum-again-fits {a} {b} ha hb = rw (wide-same ha, wide-same hb) (sum-fits ha hb)
+  pub sum-again-fits : SFits w (toZ w (ofZ w (toZ v (ofZ v a))) +ℤ toZ w (ofZ w (toZ v (ofZ v b))))
+  sum-again-fits = rw (wide-same v w narrower ha, wide-same v w narrower hb) (sum-fits v w wider ha hb)
 
 -- ---- the channel
 
-pub one-yes : {k : ℤ} → SFits w32 k → ofZ w32 k ≡ 1 → same k (pos 1) ≡ true
-one-yes {k} h e = same-yes (same-number {w = w32} {x = k} {y = pos 1} h (record { sfits = lit< tt }) e)
+pub one-yes : (w : Width) {k : ℤ} → SFits w k → ofZ w k ≡ 1 → same k (pos 1) ≡ true
+one-yes w {k} h e = same-yes (same-number {w = w} {x = k} {y = pos 1} h (record { sfits = one-below w }) e)
 
-pub one-no : (k : ℤ) → (ofZ w32 k ≡ 1 → ⊥) → same k (pos 1) ≡ false
-one-no k h = same-no k (pos 1) (λ e. h (ap (ofZ w32) e))
+pub one-no : (w : Width) (k : ℤ) → (ofZ w k ≡ 1 → ⊥) → same k (pos 1) ≡ false
+one-no w k h = same-no k (pos 1) (λ e. h (ap (ofZ w) e))

@@ -1,10 +1,11 @@
 -- A number of 32 bits is what the cell holds; any other stands for an unassigned one.
 use Rattle.machine.specs.Model.{roomOf, cellAt, cellOf}
-use Rattle.machine.proofs.Signed.{low-out, high-out, between, back64}
+use Rattle.machine.proofs.Signed.{low-out, high-out, between, read-back}
 use lib.ListN.{getD}
 use lib.IntN.{pos}
 use Prim.Native.Nat.{_*_}
 use native.Mathlib.Omega.{arith}
+use mir.Syntax.{w32, w64}
 use mir.Facts.{toZ-ofZ}
 use borrow.Author.Tests.{lt-ltb}
 use lib.Signed.{mag}
@@ -27,25 +28,25 @@ returns : tie.Need-returns
 unfolding cellAt cellOf
 returns c =
     let z = getD (c .before .before .args .store .now) (1 * c .before .before .args .c) (pos 0) in
-    simp (low-out z (simp (back64 z (c .before .x .given)) at (c .if1 .taken)))
+    simp (low-out w32 z (simp (read-back w64 z (c .before .x .given)) at (c .if1 .taken)))
 
 returns-2 : tie.Need-returns-2
 unfolding cellAt cellOf
 returns-2 c =
     let z = getD (c .before .before .before .args .store .now) (1 * c .before .before .before .args .c) (pos 0) in
-    simp (high-out z (simp (back64 z (c .before .before .x .given)) at (c .if2 .taken)))
+    simp (high-out w32 z (simp (read-back w64 z (c .before .before .x .given)) at (c .if2 .taken)))
 
 cast-t9 : tie.Need-cast-t9
 cast-t9 c =
     let z = getD (c .before .before .before .args .store .now) (1 * c .before .before .before .args .c) (pos 0) in
-    rw (back64 z (c .before .before .x .given)) (between z (simp (back64 z (c .before .before .x .given)) at (c .before .if1 .left)) (simp (back64 z (c .before .before .x .given)) at (c .if2 .left)))
+    rw (read-back w64 z (c .before .before .x .given)) (between w32 z (simp (read-back w64 z (c .before .before .x .given)) at (c .before .if1 .left)) (simp (read-back w64 z (c .before .before .x .given)) at (c .if2 .left)))
 
 returns-3 : tie.Need-returns-3
 unfolding cellAt cellOf
 returns-3 c =
     let z = getD (c .before .before .before .args .store .now) (1 * c .before .before .before .args .c) (pos 0) in
-    let h = between z (simp (back64 z (c .before .before .x .given)) at (c .before .if1 .left)) (simp (back64 z (c .before .before .x .given)) at (c .if2 .left)) in
-    simp (back64 z (c .before .before .x .given), toZ-ofZ h, lt-ltb (mag z) 2147483648 (h .sfits))
+    let h = between w32 z (simp (read-back w64 z (c .before .before .x .given)) at (c .before .if1 .left)) (simp (read-back w64 z (c .before .before .x .given)) at (c .if2 .left)) in
+    simp (read-back w64 z (c .before .before .x .given), toZ-ofZ h, lt-ltb (mag z) 2147483648 (h .sfits))
 
 pub cell-at-spec : {M : Type 1} → statement M
 cell-at-spec =

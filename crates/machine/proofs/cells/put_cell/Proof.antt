@@ -1,5 +1,6 @@
 -- The cell's number is set where it stands.
 use Rattle.machine.specs.Model.{roomOf, putAt, numberOf}
+use mir.Syntax.{w32, w64}
 use Rattle.machine.proofs.Signed.{wide-fits, wide-same}
 use native.Mathlib.Omega.{arith}
 use borrow.Author.Needs.{needs}
@@ -24,7 +25,7 @@ enum-known-x : tie.Need-enum-known-x
 enum-known-x c = search needs
 
 cast-store : tie.Need-cast-store
-cast-store c = wide-fits {a = c .before .x .given .0 .0} (record { sfits = c .known-told .given .0 .1 })
+cast-store c = wide-fits w32 w64 tt {a = c .before .x .given .0 .0} (record { sfits = c .known-told .given .0 .1 })
 
 mul-t9 : tie.Need-mul-t9
 mul-t9 c = search needs
@@ -49,7 +50,7 @@ same-length-2 c = search needs
 
 returns-2 : tie.Need-returns-2
 unfolding putAt numberOf
-returns-2 c = simp (c .before .x .given .1, wide-same {a = c .before .x .given .0 .0} (record { sfits = c .known-told .given .0 .1 }))
+returns-2 c = simp (c .before .x .given .1, wide-same w32 w64 tt {a = c .before .x .given .0 .0} (record { sfits = c .known-told .given .0 .1 }))
 
 pub put-cell-spec : {M : Type 1} → statement M
 put-cell-spec =

@@ -4,7 +4,8 @@ use mathlib.Core.Path.{sym, ap, _∙_}
 use Rattle.machine.specs.Values.{whole}
 use Rattle.machine.proofs.Works.{add-out, add-unset, add-fault, add-some}
 use Rattle.machine.proofs.Kept.{cell-in, cell-out, look-data, refused}
-use Rattle.machine.proofs.Signed.{back32, wide-fits, sum-again, sum-again-fits}
+use mir.Syntax.{w32, w64}
+use Rattle.machine.proofs.Signed.{read-back, wide-fits, sum-again, sum-again-fits}
 use borrow.Author.Needs.{needs}
 use Rattle.machine.proofs.loops.add.Statement.{statement}
 use Rattle.machine.proofs.loops.add.Tie as tie
@@ -25,13 +26,13 @@ enum-known-v : tie.Need-enum-known-v
 enum-known-v c = search needs
 
 cast-whole : tie.Need-cast-whole
-cast-whole c = wide-fits {a = c .before .v .given .0 .0} (record { sfits = c .known-told .given .0 .1 })
+cast-whole c = wide-fits w32 w64 tt {a = c .before .v .given .0 .0} (record { sfits = c .known-told .given .0 .1 })
 
 cast-whole-2 : tie.Need-cast-whole-2
-cast-whole-2 c = wide-fits (c .before .before .before .before .before .before .before .fits .x)
+cast-whole-2 c = wide-fits w32 w64 tt (c .before .before .before .before .before .before .before .fits .x)
 
 add-whole : tie.Need-add-whole
-add-whole c = sum-again-fits {a = c .before .v .given .0 .0} (record { sfits = c .known-told .given .0 .1 }) (c .before .before .before .before .before .before .before .fits .x)
+add-whole c = sum-again-fits w32 w64 tt {a = c .before .v .given .0 .0} (record { sfits = c .known-told .given .0 .1 }) (c .before .before .before .before .before .before .before .fits .x)
 
 whole-requires : tie.Need-whole-requires
 whole-requires c κs = search needs
@@ -60,7 +61,7 @@ same-length-2 c = search needs
 
 returns-3 : tie.Need-returns-3
 returns-3 c =
-    let w = sym (c .before .before .a .given .1) ∙ c .before .before .before .before .whole .ensures ∙ ap whole (sum-again {a = c .before .before .before .before .before .before .v .given .0 .0} (record { sfits = c .before .before .before .before .before .known-told .given .0 .1 }) (c .before .before .before .before .before .before .before .before .before .before .before .before .fits .x)) in
+    let w = sym (c .before .before .a .given .1) ∙ c .before .before .before .before .whole .ensures ∙ ap whole (sum-again w32 w64 tt {a = c .before .before .before .before .before .before .v .given .0 .0} (record { sfits = c .before .before .before .before .before .known-told .given .0 .1 }) (c .before .before .before .before .before .before .before .before .before .before .before .before .fits .x)) in
     (λ b i o. refused (c .new2 .ensures) ∙ add-fault _ (dataOf (c .before .before .before .before .before .before .before .before .before .before .before .before .args .n) b (c .before .before .before .before .before .before .before .before .before .before .before .before .args .store .now) i o) (c .before .before .before .before .before .before .before .before .before .before .before .before .args .q) (c .before .before .before .before .before .before .before .before .before .before .before .before .args .c) (c .before .before .before .before .before .before .before .before .before .before .before .before .args .x) (cell-in (c .before .before .before .before .before .before .before .before .before .before .before .before .args .n) b (c .before .before .before .before .before .before .before .before .before .before .before .before .args .store .now) i o (c .before .before .before .before .before .before .before .before .before .before .before .before .args .c) (c .before .before .before .before .before .before .before .before .before .before .if1 .left)) (look-data (c .before .before .before .before .before .before .before .before .before .before .before .before .args .n) b (c .before .before .before .before .before .before .before .before .before .before .before .before .args .store .now) i o (c .before .before .before .before .before .before .before .before .before .before .before .before .args .c) (c .before .before .before .before .before .before .before .before .before .before .if1 .left) ∙ sym (c .before .before .before .before .before .before .before .before .cell-at .ensures) ∙ c .before .before .before .before .before .before .v .given .1) w, tt)
 
 same-length-3 : tie.Need-same-length-3
@@ -68,11 +69,11 @@ same-length-3 c = search needs
 
 returns-4 : tie.Need-returns-4
 returns-4 c =
-    let w = sym (c .before .before .before .before .s .given .1) ∙ c .before .before .before .before .before .before .whole .ensures ∙ ap whole (sum-again {a = c .before .before .before .before .before .before .before .before .v .given .0 .0} (record { sfits = c .before .before .before .before .before .before .before .known-told .given .0 .1 }) (c .before .before .before .before .before .before .before .before .before .before .before .before .before .before .fits .x)) in (
+    let w = sym (c .before .before .before .before .s .given .1) ∙ c .before .before .before .before .before .before .whole .ensures ∙ ap whole (sum-again w32 w64 tt {a = c .before .before .before .before .before .before .before .before .v .given .0 .0} (record { sfits = c .before .before .before .before .before .before .before .known-told .given .0 .1 }) (c .before .before .before .before .before .before .before .before .before .before .before .before .before .before .fits .x)) in (
       λ a i o.
           c .before .put .ensures .0 a i o
           ∙ add-some _ (dataOf (c .before .before .before .before .before .before .before .before .before .before .before .before .before .before .args .n) a (c .before .before .before .before .before .before .before .before .before .before .before .before .before .before .args .store .now) i o) (c .before .before .before .before .before .before .before .before .before .before .before .before .before .before .args .q) (c .before .before .before .before .before .before .before .before .before .before .before .before .before .before .args .c) (c .before .before .before .before .before .before .before .before .before .before .before .before .before .before .args .x) (cell-in (c .before .before .before .before .before .before .before .before .before .before .before .before .before .before .args .n) a (c .before .before .before .before .before .before .before .before .before .before .before .before .before .before .args .store .now) i o (c .before .before .before .before .before .before .before .before .before .before .before .before .before .before .args .c) (c .before .before .before .before .before .before .before .before .before .before .before .before .if1 .left)) (look-data (c .before .before .before .before .before .before .before .before .before .before .before .before .before .before .args .n) a (c .before .before .before .before .before .before .before .before .before .before .before .before .before .before .args .store .now) i o (c .before .before .before .before .before .before .before .before .before .before .before .before .before .before .args .c) (c .before .before .before .before .before .before .before .before .before .before .before .before .if1 .left) ∙ sym (c .before .before .before .before .before .before .before .before .before .before .cell-at .ensures) ∙ c .before .before .before .before .before .before .before .before .v .given .1)
-          w (back32 (c .before .before .before .before .s .given .0 .0) (c .before .before .before .known-told3 .given .0 .1)),
+          w (read-back w32 (c .before .before .before .before .s .given .0 .0) (c .before .before .before .known-told3 .given .0 .1)),
       c .before .put .ensures .1,
     )
 

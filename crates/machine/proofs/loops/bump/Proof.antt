@@ -2,7 +2,8 @@
 use mathlib.Core.Path.{_∙_}
 use Rattle.machine.proofs.Works.{bump-none, bump-some}
 use Rattle.machine.proofs.Told.{held-none, held-some}
-use Rattle.machine.proofs.Signed.{back32}
+use mir.Syntax.{w32}
+use Rattle.machine.proofs.Signed.{read-back}
 use borrow.Author.Needs.{needs}
 use Rattle.machine.proofs.loops.bump.Statement.{statement}
 use Rattle.machine.proofs.loops.bump.Tie as tie
@@ -30,7 +31,7 @@ same-length-2 c = search needs
 
 returns-2 : tie.Need-returns-2
 returns-2 c = (
-  λ a i o. c .before .add .ensures .0 a i o ∙ bump-some _ _ (c .before .before .before .before .before .before .before .before .args .q) (c .before .before .before .before .before .before .before .before .args .c) (λ f. held-some (c .before .before .before .before .before .before .before .before .args .n) a (c .before .before .before .before .before .before .before .before .args .store .now) i o f (c .before .before .before .before .x .given .1) (c .before .before .before .before .before .before .held .ensures)) (back32 (c .before .before .before .before .x .given .0 .0) (c .before .before .before .known-told .given .0 .1)),
+  λ a i o. c .before .add .ensures .0 a i o ∙ bump-some _ _ (c .before .before .before .before .before .before .before .before .args .q) (c .before .before .before .before .before .before .before .before .args .c) (λ f. held-some (c .before .before .before .before .before .before .before .before .args .n) a (c .before .before .before .before .before .before .before .before .args .store .now) i o f (c .before .before .before .before .x .given .1) (c .before .before .before .before .before .before .held .ensures)) (read-back w32 (c .before .before .before .before .x .given .0 .0) (c .before .before .before .known-told .given .0 .1)),
   c .before .add .ensures .1,
 )
 

@@ -1,7 +1,8 @@
 -- A held cell holds a number.
 use mathlib.Core.Path.{refl, sym, _∙_}
 use Rattle.machine.proofs.Told.{step-number, bound-number, both-held}
-use Rattle.machine.proofs.Signed.{back32}
+use mir.Syntax.{w32}
+use Rattle.machine.proofs.Signed.{read-back}
 use borrow.Author.Needs.{needs}
 use Rattle.machine.proofs.loops.held.Statement.{statement}
 use Rattle.machine.proofs.loops.held.Tie as tie
@@ -50,7 +51,7 @@ returns-4 c = (
   c .before .before .before .before .before .before .before .before .before .if1 .left,
   refl,
   both-held (c .before .before .before .before .before .before .before .before .before .before .pre) (c .before .before .before .before .before .before .before .before .room .ensures) (c .before .before .before .before .before .before .before .before .before .if1 .left) (sym (c .before .before .before .before .before .before .before .cell-at .ensures) ∙ c .before .before .before .before .before .x .given .1) (sym (c .before .before .before .cell-at2 .ensures) ∙ c .before .y .given .1)
-      (back32 (c .before .before .before .before .before .x .given .0 .0) (c .before .before .before .before .known-told .given .0 .1)) (back32 (c .before .y .given .0 .0) (c .known-told2 .given .0 .1)),
+      (read-back w32 (c .before .before .before .before .before .x .given .0 .0) (c .before .before .before .before .known-told .given .0 .1)) (read-back w32 (c .before .y .given .0 .0) (c .known-told2 .given .0 .1)),
 )
 
 pub held-spec : {M : Type 1} → statement M

@@ -6,7 +6,7 @@ use Rattle.machine.proofs.Kept.{saw-two, saw-no-two, pair-sound, pair-r
 use Rattle.machine.proofs.Told.{first-less, two-held, two-held-sound, held-trace, held-written}
 use borrow.Author.Needs.{sfits-of, needs}
 use mir.Syntax.{w32}
-use Rattle.machine.proofs.Signed.{back32}
+use Rattle.machine.proofs.Signed.{read-back}
 use Rattle.machine.proofs.loops.keep.Statement.{statement}
 use Rattle.machine.proofs.loops.keep.Tie as tie
 
@@ -42,8 +42,8 @@ returns-2 c =
     let s = c .before .before .before .before .before .before .before .before .before .before .before .args .store .now in
     let h = pair-room (c .before .before .before .before .before .before .before .before .before .before .before .args .n) (c .before .before .before .before .before .before .before .x .given .1) (c .before .before .before .before .before .before .before .before .before .newest-two .ensures .1) (c .before .before .before .before .before .before .before .before .before .before .before .pre) in
     let g = pair-sound (c .before .before .before .before .before .before .before .before .before .before .before .args .n) (c .before .before .before .before .before .before .before .x .given .1) (c .before .before .before .before .before .before .before .before .before .newest-two .ensures .1) (c .before .before .before .before .before .before .before .before .before .before .before .pre) in
-    let bx = back32 (c .before .before .before .before .before .before .before .x .given .0 .0) (c .before .before .before .before .before .before .known-told .given .0 .1) in
-    let by = back32 (c .before .before .before .before .before .before .before .x .given .0 .1 .0) (c .before .before .before .before .before .before .known-told .given .1 .0 .1) in
+    let bx = read-back w32 (c .before .before .before .before .before .before .before .x .given .0 .0) (c .before .before .before .before .before .before .known-told .given .0 .1) in
+    let by = read-back w32 (c .before .before .before .before .before .before .before .x .given .0 .1 .0) (c .before .before .before .before .before .before .known-told .given .1 .0 .1) in
     let fx = sfits-of {w = w32} {z = c .before .before .before .before .before .before .before .x .given .0 .0} (c .before .before .before .before .before .before .known-told .given .0 .1) in
     let fy = sfits-of {w = w32} {z = c .before .before .before .before .before .before .before .x .given .0 .1 .0} (c .before .before .before .before .before .before .known-told .given .1 .0 .1) in (
       λ a i o.

@@ -2,7 +2,8 @@
 use mathlib.Core.Path.{_∙_}
 use Rattle.machine.proofs.Works.{upto-none, upto-some}
 use Rattle.machine.proofs.Told.{held-none, held-some, held-least}
-use Rattle.machine.proofs.Signed.{back32}
+use mir.Syntax.{w32}
+use Rattle.machine.proofs.Signed.{read-back}
 use borrow.Author.Needs.{needs}
 use Rattle.machine.proofs.loops.upto.Statement.{statement}
 use Rattle.machine.proofs.loops.upto.Tie as tie
@@ -24,7 +25,7 @@ returns c = (λ a i o. upto-none _ _ (c .before .before .before .args .q) (c .be
 
 returns-2 : tie.Need-returns-2
 returns-2 c = (
-  λ a i o. c .goes-on .ensures .0 a i o ∙ upto-some _ _ (c .before .before .before .before .before .args .q) (c .before .before .before .before .before .args .c) (λ f. held-some (c .before .before .before .before .before .args .n) a (c .before .before .before .before .before .args .store .now) i o f (c .before .before .x .given .1) (c .before .before .before .before .held .ensures)) (back32 (c .before .before .x .given .0 .0) (c .before .known-told .given .0 .1)) (back32 (c .before .before .x .given .0 .1 .0) (c .before .known-told .given .1 .0 .1)),
+  λ a i o. c .goes-on .ensures .0 a i o ∙ upto-some _ _ (c .before .before .before .before .before .args .q) (c .before .before .before .before .before .args .c) (λ f. held-some (c .before .before .before .before .before .args .n) a (c .before .before .before .before .before .args .store .now) i o f (c .before .before .x .given .1) (c .before .before .before .before .held .ensures)) (read-back w32 (c .before .before .x .given .0 .0) (c .before .known-told .given .0 .1)) (read-back w32 (c .before .before .x .given .0 .1 .0) (c .before .known-told .given .1 .0 .1)),
   c .goes-on .ensures .1,
 )
 

@@ -3,7 +3,8 @@ use mathlib.Core.Path.{_∙_}
 use native.Mathlib.Omega.{arith}
 use Rattle.machine.proofs.Works.{assign-none, assign-out, assign-in}
 use Rattle.machine.proofs.Kept.{cell-in, cell-out, saw, saw-none, used-sound, used-room, used-trace, used-did, put-sound, put-room, put-is}
-use Rattle.machine.proofs.Signed.{back32}
+use mir.Syntax.{w32}
+use Rattle.machine.proofs.Signed.{read-back}
 use borrow.Author.Needs.{needs}
 use Rattle.machine.proofs.operations.assign.Statement.{statement}
 use Rattle.machine.proofs.operations.assign.Tie as tie
@@ -45,7 +46,7 @@ same-length-3 c = search needs
 returns-3 : tie.Need-returns-3
 returns-3 c =
     let s = c .before .before .before .before .before .before .before .before .before .before .before .before .before .args .store .now in
-    let b = back32 (c .before .before .before .before .before .before .before .before .before .v .given .0 .0) (c .before .before .before .before .before .before .before .before .known-told .given .0 .1) in
+    let b = read-back w32 (c .before .before .before .before .before .before .before .before .before .v .given .0 .0) (c .before .before .before .before .before .before .before .before .known-told .given .0 .1) in
     let g = used-sound (c .before .before .before .before .before .before .before .before .before .before .before .before .before .args .n) (c .before .before .before .before .before .before .before .before .before .v .given .1) (c .before .before .before .before .before .before .before .before .before .before .before .newest .ensures .1) (c .before .before .before .before .before .before .before .before .before .before .before .before .before .pre) in (
       λ a i o.
           c .before .back .ensures .0 a i o

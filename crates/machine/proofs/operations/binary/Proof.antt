@@ -4,7 +4,8 @@ use native.Mathlib.Omega.{arith}
 use Rattle.machine.specs.Instructions.{binaryOf}
 use Rattle.machine.proofs.Works.{binary-none, binary-some}
 use Rattle.machine.proofs.Kept.{saw-two, saw-no-two, pair-sound, pair-room, pair-trace, pair-did}
-use Rattle.machine.proofs.Signed.{back32}
+use mir.Syntax.{w32}
+use Rattle.machine.proofs.Signed.{read-back}
 use borrow.Author.Needs.{needs}
 use Rattle.machine.proofs.operations.binary.Statement.{statement}
 use Rattle.machine.proofs.operations.binary.Tie as tie
@@ -39,7 +40,7 @@ returns-2 c = (
       c .before .give .ensures .0 a i o
       ∙ binary-some _ _ (c .before .before .before .before .before .before .before .before .before .args .q) (binaryOf (c .before .before .before .before .before .before .before .before .before .args .k)) (saw-two (c .before .before .before .before .before .before .before .before .before .args .n) a (c .before .before .before .before .before .before .before .before .before .args .store .now) i o (c .before .before .before .before .before .x .given .1) (c .before .before .before .before .before .before .before .newest-two .ensures .0 a i o))
       (pair-trace (c .before .before .before .before .before .before .before .before .before .args .n) (c .before .before .before .before .before .x .given .1) (c .before .before .before .before .before .before .before .newest-two .ensures .1) o) (c .before .before .binary .ensures)
-      (back32 (c .before .before .before .before .before .x .given .0 .0) (c .before .before .before .before .known-told .given .0 .1)) (back32 (c .before .before .before .before .before .x .given .0 .1 .0) (c .before .before .before .before .known-told .given .1 .0 .1)),
+      (read-back w32 (c .before .before .before .before .before .x .given .0 .0) (c .before .before .before .before .known-told .given .0 .1)) (read-back w32 (c .before .before .before .before .before .x .given .0 .1 .0) (c .before .before .before .before .known-told .given .1 .0 .1)),
   pair-did (c .before .before .before .before .before .before .before .before .before .args .n) (c .before .before .before .before .before .x .given .1) (c .before .before .before .before .before .before .before .newest-two .ensures .1) (c .before .give .result) (c .before .give .last .1 .0) (c .before .give .ensures .1),
 )
 

@@ -1,7 +1,8 @@
 -- The value, or the fault.
 use mathlib.Core.Path.{_∙_}
 use Rattle.machine.proofs.Kept.{refused, valued-fault, valued-is}
-use Rattle.machine.proofs.Signed.{back32}
+use mir.Syntax.{w32}
+use Rattle.machine.proofs.Signed.{read-back}
 use borrow.Author.Needs.{needs}
 use Rattle.machine.proofs.operations.give.Statement.{statement}
 use Rattle.machine.proofs.operations.give.Tie as tie
@@ -25,7 +26,7 @@ same-length : tie.Need-same-length
 same-length c = search needs
 
 returns-2 : tie.Need-returns-2
-returns-2 c = (λ a i o. c .before .back .ensures .0 a i o ∙ valued-is _ _ _ _ (c .before .before .before .before .v2 .given .1) (back32 (c .before .before .before .before .v2 .given .0 .0) (c .before .before .before .known-told2 .given .0 .1)), c .before .back .ensures .1)
+returns-2 c = (λ a i o. c .before .back .ensures .0 a i o ∙ valued-is _ _ _ _ (c .before .before .before .before .v2 .given .1) (read-back w32 (c .before .before .before .before .v2 .given .0 .0) (c .before .before .before .known-told2 .given .0 .1)), c .before .back .ensures .1)
 
 pub give-spec : {M : Type 1} → statement M
 give-spec =

@@ -2,7 +2,8 @@
 use mathlib.Core.Path.{sym, _∙_}
 use Rattle.machine.proofs.Works.{load-out, load-unset, load-holds}
 use Rattle.machine.proofs.Kept.{cell-in, cell-out, look-data, refused}
-use Rattle.machine.proofs.Signed.{back32, again}
+use mir.Syntax.{w32}
+use Rattle.machine.proofs.Signed.{read-back, again}
 use borrow.Author.Needs.{needs}
 use Rattle.machine.proofs.operations.load.Statement.{statement}
 use Rattle.machine.proofs.operations.load.Tie as tie
@@ -23,7 +24,7 @@ enum-known-v : tie.Need-enum-known-v
 enum-known-v c = search needs
 
 new-cell-requires : tie.Need-new-cell-requires
-new-cell-requires c κs = (c .before .before .before .before .before .before .before .before .pre, again (c .before .before .v .given .0 .0) (c .before .known-told .given .0 .1))
+new-cell-requires c κs = (c .before .before .before .before .before .before .before .before .pre, again w32 (c .before .before .v .given .0 .0) (c .before .known-told .given .0 .1))
 
 same-length : tie.Need-same-length
 same-length c = search needs
@@ -41,7 +42,7 @@ returns-3 : tie.Need-returns-3
 returns-3 c =
     let n = c .before .before .before .before .before .before .before .before .before .before .args .n in
     let s = c .before .before .before .before .before .before .before .before .before .before .args .store .now in (
-      λ a i o. c .before .new-cell .ensures .0 a i o ∙ load-holds _ _ (c .before .before .before .before .before .before .before .before .before .before .args .q) (c .before .before .before .before .before .before .before .before .before .before .args .c) (cell-in n a s i o (c .before .before .before .before .before .before .before .before .before .before .args .c) (c .before .before .before .before .before .before .before .before .if1 .left)) (look-data n a s i o (c .before .before .before .before .before .before .before .before .before .before .args .c) (c .before .before .before .before .before .before .before .before .if1 .left) ∙ sym (c .before .before .before .before .before .before .cell-at .ensures) ∙ c .before .before .before .before .v .given .1) (back32 (c .before .before .before .before .v .given .0 .0) (c .before .before .before .known-told .given .0 .1)),
+      λ a i o. c .before .new-cell .ensures .0 a i o ∙ load-holds _ _ (c .before .before .before .before .before .before .before .before .before .before .args .q) (c .before .before .before .before .before .before .before .before .before .before .args .c) (cell-in n a s i o (c .before .before .before .before .before .before .before .before .before .before .args .c) (c .before .before .before .before .before .before .before .before .if1 .left)) (look-data n a s i o (c .before .before .before .before .before .before .before .before .before .before .args .c) (c .before .before .before .before .before .before .before .before .if1 .left) ∙ sym (c .before .before .before .before .before .before .cell-at .ensures) ∙ c .before .before .before .before .v .given .1) (read-back w32 (c .before .before .before .before .v .given .0 .0) (c .before .before .before .known-told .given .0 .1)),
       c .before .new-cell .ensures .1,
     )
 

@@ -1,7 +1,8 @@
 -- The newest cell is the last one in use.
 use mathlib.Core.Path.{refl, sym, _∙_}
 use Rattle.machine.proofs.Kept.{newest-none, newest-unset, newest-holds}
-use Rattle.machine.proofs.Signed.{back32, bits-pos}
+use mir.Syntax.{w32}
+use Rattle.machine.proofs.Signed.{read-back, bits-pos}
 use borrow.Author.Needs.{needs}
 use Rattle.machine.proofs.operations.newest.Statement.{statement}
 use Rattle.machine.proofs.operations.newest.Tie as tie
@@ -30,7 +31,7 @@ returns-2 c = (λ a i o. newest-unset (c .before .before .before .before .args .
 returns-3 : tie.Need-returns-3
 returns-3 c =
     let h = bits-pos _ (c .before .before .before .before .if1 .left) in
-    (λ a i o. newest-holds (c .before .before .before .before .before .args .n) a (c .before .before .before .before .before .args .store .now) i o h (sym (c .before .before .before .cell-at .ensures) ∙ c .before .v .given .1) (back32 (c .before .v .given .0 .0) (c .known-told .given .0 .1)), (h, refl))
+    (λ a i o. newest-holds (c .before .before .before .before .before .args .n) a (c .before .before .before .before .before .args .store .now) i o h (sym (c .before .before .before .cell-at .ensures) ∙ c .before .v .given .1) (read-back w32 (c .before .v .given .0 .0) (c .known-told .given .0 .1)), (h, refl))
 
 pub newest-spec : {M : Type 1} → statement M
 newest-spec =

@@ -1,7 +1,8 @@
 -- The newer value is used first.
 use Rattle.machine.proofs.Works.{two-none, two-short, two-some}
 use Rattle.machine.proofs.Kept.{saw, saw-none, used-sound, used-twice}
-use Rattle.machine.proofs.Signed.{back32}
+use mir.Syntax.{w32}
+use Rattle.machine.proofs.Signed.{read-back}
 use borrow.Author.Needs.{needs}
 use Rattle.machine.proofs.operations.newest_two.Statement.{statement}
 use Rattle.machine.proofs.operations.newest_two.Tie as tie
@@ -37,7 +38,7 @@ returns-3 c =
     let s = c .before .before .before .before .before .before .before .before .args .store .now in (
       λ a i o f.
           two-some f _ (saw (c .before .before .before .before .before .before .before .before .args .n) a s i o (c .before .before .before .before .before .y .given .1) (c .before .before .before .before .before .before .before .newest .ensures .0 a i o)) (saw (c .before .before .before .before .before .y .given .0 .1 .0) a s i o (c .before .x .given .1) (c .before .before .before .newest2 .ensures .0 a i o))
-          (back32 (c .before .x .given .0 .0) (c .known-told2 .given .0 .1)) (back32 (c .before .before .before .before .before .y .given .0 .0) (c .before .before .before .before .known-told .given .0 .1)),
+          (read-back w32 (c .before .x .given .0 .0) (c .known-told2 .given .0 .1)) (read-back w32 (c .before .before .before .before .before .y .given .0 .0) (c .before .before .before .before .known-told .given .0 .1)),
       used-twice (c .before .before .before .before .before .before .before .before .args .n) (c .before .before .before .before .before .y .given .1) (c .before .before .before .before .before .before .before .newest .ensures .1) (c .before .x .given .1) (c .before .before .before .newest2 .ensures .1),
     )
 

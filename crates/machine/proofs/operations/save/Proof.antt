@@ -2,7 +2,8 @@
 use mathlib.Core.Path.{_∙_}
 use Rattle.machine.proofs.Works.{save-none, save-out, save-in}
 use Rattle.machine.proofs.Kept.{cell-in, cell-out, saw, saw-none, used-sound, used-trace, used-did}
-use Rattle.machine.proofs.Signed.{back32}
+use mir.Syntax.{w32}
+use Rattle.machine.proofs.Signed.{read-back}
 use borrow.Author.Needs.{needs}
 use Rattle.machine.proofs.operations.save.Statement.{statement}
 use Rattle.machine.proofs.operations.save.Tie as tie
@@ -42,7 +43,7 @@ returns-3 c =
       λ a i o.
           c .before .put .ensures .0 a i o
           ∙ save-in _ _ (c .before .before .before .before .before .before .before .before .before .before .args .c) (saw (c .before .before .before .before .before .before .before .before .before .before .args .n) a s i o (c .before .before .before .before .before .before .v .given .1) (c .before .before .before .before .before .before .before .before .newest .ensures .0 a i o)) (cell-in (c .before .before .before .before .before .before .v .given .0 .1 .0) a s i o (c .before .before .before .before .before .before .before .before .before .before .args .c) (c .before .before .before .if1 .left))
-          (back32 (c .before .before .before .before .before .before .v .given .0 .0) (c .before .before .before .before .before .known-told .given .0 .1)) (used-trace (c .before .before .before .before .before .before .before .before .before .before .args .n) (c .before .before .before .before .before .before .v .given .1) (c .before .before .before .before .before .before .before .before .newest .ensures .1) o),
+          (read-back w32 (c .before .before .before .before .before .before .v .given .0 .0) (c .before .before .before .before .before .known-told .given .0 .1)) (used-trace (c .before .before .before .before .before .before .before .before .before .before .args .n) (c .before .before .before .before .before .before .v .given .1) (c .before .before .before .before .before .before .before .before .newest .ensures .1) o),
       used-did (c .before .before .before .before .before .before .before .before .before .before .args .n) (c .before .before .before .before .before .before .v .given .1) (c .before .before .before .before .before .before .before .before .newest .ensures .1) (c .before .put .result) (c .before .put .last .1 .0) (c .before .put .ensures .1),
     )
 

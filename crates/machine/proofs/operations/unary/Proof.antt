@@ -3,7 +3,8 @@ use mathlib.Core.Path.{_∙_}
 use Rattle.machine.specs.Instructions.{unaryOf}
 use Rattle.machine.proofs.Works.{unary-none, unary-some}
 use Rattle.machine.proofs.Kept.{saw, saw-none, used-sound, used-room, used-trace, used-did}
-use Rattle.machine.proofs.Signed.{back32}
+use mir.Syntax.{w32}
+use Rattle.machine.proofs.Signed.{read-back}
 use borrow.Author.Needs.{needs}
 use Rattle.machine.proofs.operations.unary.Statement.{statement}
 use Rattle.machine.proofs.operations.unary.Tie as tie
@@ -37,7 +38,7 @@ returns-2 c = (
   λ a i o.
       c .before .give .ensures .0 a i o
       ∙ unary-some _ _ (c .before .before .before .before .before .before .before .before .before .args .q) (unaryOf (c .before .before .before .before .before .before .before .before .before .args .k)) (saw (c .before .before .before .before .before .before .before .before .before .args .n) a (c .before .before .before .before .before .before .before .before .before .args .store .now) i o (c .before .before .before .before .before .x .given .1) (c .before .before .before .before .before .before .before .newest .ensures .0 a i o))
-      (used-trace (c .before .before .before .before .before .before .before .before .before .args .n) (c .before .before .before .before .before .x .given .1) (c .before .before .before .before .before .before .before .newest .ensures .1) o) (c .before .before .unary .ensures) (back32 (c .before .before .before .before .before .x .given .0 .0) (c .before .before .before .before .known-told .given .0 .1)),
+      (used-trace (c .before .before .before .before .before .before .before .before .before .args .n) (c .before .before .before .before .before .x .given .1) (c .before .before .before .before .before .before .before .newest .ensures .1) o) (c .before .before .unary .ensures) (read-back w32 (c .before .before .before .before .before .x .given .0 .0) (c .before .before .before .before .known-told .given .0 .1)),
   used-did (c .before .before .before .before .before .before .before .before .before .args .n) (c .before .before .before .before .before .x .given .1) (c .before .before .before .before .before .before .before .newest .ensures .1) (c .before .give .result) (c .before .give .last .1 .0) (c .before .give .ensures .1),
 )
 

@@ -18,14 +18,14 @@ new-requires : tie.Need-new-requires
 new-requires c κs = search needs
 
 returns : tie.Need-returns
-returns c = (λ a s i. refused (c .new .ensures) ∙ writing-channel _ _ (c .before .before .args .q) (c .before .before .args .k) (c .before .before .args .v) (one-no (c .before .before .args .k) (c .before .if1 .taken)), λ s g. refl)
+returns c = (λ a s i. refused (c .new .ensures) ∙ writing-channel _ _ (c .before .before .args .q) (c .before .before .args .k) (c .before .before .args .v) (one-no w32 (c .before .before .args .k) (c .before .if1 .taken)), λ s g. refl)
 
 new-requires-2 : tie.Need-new-requires-2
 new-requires-2 c κs = search needs
 
 returns-2 : tie.Need-returns-2
 returns-2 c =
-    (λ a s i. refused (c .new2 .ensures) ∙ writing-full _ _ (c .before .before .before .args .q) (c .before .before .before .args .k) (c .before .before .before .args .v) (one-yes (c .before .before .before .fits .k) (c .before .before .if1 .left)) (space-none (c .before .before .before .args .n) a s i (c .before .before .before .args .output .now) (c .before .if2 .taken)), λ s g. refl)
+    (λ a s i. refused (c .new2 .ensures) ∙ writing-full _ _ (c .before .before .before .args .q) (c .before .before .before .args .k) (c .before .before .before .args .v) (one-yes w32 (c .before .before .before .fits .k) (c .before .before .if1 .left)) (space-none (c .before .before .before .args .n) a s i (c .before .before .before .args .output .now) (c .before .if2 .taken)), λ s g. refl)
 
 mul-v : tie.Need-mul-v
 mul-v c = search needs
@@ -44,7 +44,7 @@ returns-3 c =
     let v = toZ w32 (ofZ w32 (c .before .before .args .v)) in
     let o = c .before .before .args .output .now in (
       λ a s i.
-          writing-some _ _ (c .before .before .args .q) (c .before .before .args .k) (c .before .before .args .v) (one-yes (c .before .before .fits .k) (c .before .if1 .left)) (space-some (c .before .before .args .n) a s i o (c .if2 .left)) (spend-data (c .before .before .args .n) a s i o v)
+          writing-some _ _ (c .before .before .args .q) (c .before .before .args .k) (c .before .before .args .v) (one-yes w32 (c .before .before .fits .k) (c .before .if1 .left)) (space-some (c .before .before .args .n) a s i o (c .if2 .left)) (spend-data (c .before .before .args .n) a s i o v)
           (wrote-trace (c .before .before .args .n) a s i o v (c .if2 .left) ∙ ap (λ (z : ℤ). say (traceOf (c .before .before .args .n) o) (wrote z)) (toZ-ofZ (c .before .before .fits .v))),
       λ s g. (wrote-sound (c .before .before .args .n) s g, wrote-length (c .before .before .args .n .written) o v (c .if2 .left), wrote-rest (c .before .before .args .n .written) o v),
     )

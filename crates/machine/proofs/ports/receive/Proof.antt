@@ -2,7 +2,8 @@
 use mathlib.Core.Path.{_∙_}
 use Rattle.machine.proofs.Works.{receive-none, receive-some}
 use Rattle.machine.proofs.Kept.{saw, saw-none, used-sound, used-trace, used-did}
-use Rattle.machine.proofs.Signed.{back32}
+use mir.Syntax.{w32}
+use Rattle.machine.proofs.Signed.{read-back}
 use borrow.Author.Needs.{needs}
 use Rattle.machine.proofs.ports.receive.Statement.{statement}
 use Rattle.machine.proofs.ports.receive.Tie as tie
@@ -33,7 +34,7 @@ returns-2 c = (
   λ a o.
       c .before .take-in .ensures .0 a o
       ∙ receive-some _ _ (c .before .before .before .before .before .before .before .before .args .q) (c .before .before .before .before .before .before .before .before .args .c) (saw (c .before .before .before .before .before .before .before .before .args .n) a (c .before .before .before .before .before .before .before .before .args .store .now) (c .before .before .before .before .before .before .before .before .args .input .now) o (c .before .before .before .before .k .given .1) (c .before .before .before .before .before .before .newest .ensures .0 a _ o))
-      (used-trace (c .before .before .before .before .before .before .before .before .args .n) (c .before .before .before .before .k .given .1) (c .before .before .before .before .before .before .newest .ensures .1) o) (back32 (c .before .before .before .before .k .given .0 .0) (c .before .before .before .known-told .given .0 .1)),
+      (used-trace (c .before .before .before .before .before .before .before .before .args .n) (c .before .before .before .before .k .given .1) (c .before .before .before .before .before .before .newest .ensures .1) o) (read-back w32 (c .before .before .before .before .k .given .0 .0) (c .before .before .before .known-told .given .0 .1)),
   used-did (c .before .before .before .before .before .before .before .before .args .n) (c .before .before .before .before .k .given .1) (c .before .before .before .before .before .before .newest .ensures .1) (c .before .take-in .result) (c .before .take-in .last .1 .1 .0) (c .before .take-in .ensures .1),
 )
 

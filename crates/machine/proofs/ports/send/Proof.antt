@@ -3,7 +3,8 @@ use mathlib.Core.Path.{refl, _∙_}
 use native.Mathlib.Omega.{arith}
 use Rattle.machine.proofs.Works.{send-none, send-some}
 use Rattle.machine.proofs.Kept.{saw-two, saw-no-two, pair-sound, pair-trace, pair-written}
-use Rattle.machine.proofs.Signed.{back32}
+use mir.Syntax.{w32}
+use Rattle.machine.proofs.Signed.{read-back}
 use borrow.Author.Needs.{needs}
 use Rattle.machine.proofs.ports.send.Statement.{statement}
 use Rattle.machine.proofs.ports.send.Tie as tie
@@ -32,7 +33,7 @@ returns-2 c = (
       c .before .put-out .ensures .0 a (c .before .before .before .before .before .before .before .args .store .now) i
       ∙ send-some _ _ (c .before .before .before .before .before .before .before .args .q) (saw-two (c .before .before .before .before .before .before .before .args .n) a (c .before .before .before .before .before .before .before .args .store .now) i (c .before .before .before .before .before .before .before .args .output .now) (c .before .before .before .before .k .given .1) (c .before .before .before .before .before .before .newest-two .ensures .0 a i _))
       (pair-trace (c .before .before .before .before .before .before .before .args .n) (c .before .before .before .before .k .given .1) (c .before .before .before .before .before .before .newest-two .ensures .1) (c .before .before .before .before .before .before .before .args .output .now))
-      (back32 (c .before .before .before .before .k .given .0 .0) (c .before .before .before .known-told .given .0 .1)) (back32 (c .before .before .before .before .k .given .0 .1 .0) (c .before .before .before .known-told .given .1 .0 .1)),
+      (read-back w32 (c .before .before .before .before .k .given .0 .0) (c .before .before .before .known-told .given .0 .1)) (read-back w32 (c .before .before .before .before .k .given .0 .1 .0) (c .before .before .before .known-told .given .1 .0 .1)),
   c .before .put-out .ensures .1 (c .before .before .before .before .before .before .before .args .store .now) (pair-sound (c .before .before .before .before .before .before .before .args .n) (c .before .before .before .before .k .given .1) (c .before .before .before .before .before .before .newest-two .ensures .1) (c .before .before .before .before .before .before .before .pre .0)),
 )
 

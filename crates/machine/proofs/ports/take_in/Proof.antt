@@ -4,7 +4,8 @@ use mathlib.Core.Path.{refl, _∙_}
 use Rattle.machine.proofs.Works.{taking-out, taking-channel, taking-ended, taking-some}
 use Rattle.machine.proofs.Kept.{cell-in, cell-out, refused, sound-as}
 use Rattle.machine.proofs.Told.{input-none, input-some, rest-data, took-sound, tookOne}
-use Rattle.machine.proofs.Signed.{back32, one-yes, one-no}
+use mir.Syntax.{w32}
+use Rattle.machine.proofs.Signed.{read-back, one-yes, one-no}
 use lib.ListN.{getD}
 use lib.IntN.{pos}
 use borrow.Author.Needs.{needs}
@@ -19,14 +20,14 @@ new-requires c κs = search needs
 
 returns-2 : tie.Need-returns-2
 returns-2 c =
-    (λ a o. refused (c .new .ensures) ∙ taking-channel _ (dataOf (c .before .before .before .before .args .n) a (c .before .before .before .before .args .store .now) (c .before .before .before .before .args .input .now) o) (c .before .before .before .before .args .q) (c .before .before .before .before .args .c) (c .before .before .before .before .args .k) (cell-in (c .before .before .before .before .args .n) a (c .before .before .before .before .args .store .now) (c .before .before .before .before .args .input .now) o (c .before .before .before .before .args .c) (c .before .before .if1 .left)) (one-no (c .before .before .before .before .args .k) (c .before .if2 .taken)), tt)
+    (λ a o. refused (c .new .ensures) ∙ taking-channel _ (dataOf (c .before .before .before .before .args .n) a (c .before .before .before .before .args .store .now) (c .before .before .before .before .args .input .now) o) (c .before .before .before .before .args .q) (c .before .before .before .before .args .c) (c .before .before .before .before .args .k) (cell-in (c .before .before .before .before .args .n) a (c .before .before .before .before .args .store .now) (c .before .before .before .before .args .input .now) o (c .before .before .before .before .args .c) (c .before .before .if1 .left)) (one-no w32 (c .before .before .before .before .args .k) (c .before .if2 .taken)), tt)
 
 new-requires-2 : tie.Need-new-requires-2
 new-requires-2 c κs = search needs
 
 returns-3 : tie.Need-returns-3
 returns-3 c =
-    (λ a o. refused (c .new2 .ensures) ∙ taking-ended _ (dataOf (c .before .before .before .before .before .args .n) a (c .before .before .before .before .before .args .store .now) (c .before .before .before .before .before .args .input .now) o) (c .before .before .before .before .before .args .q) (c .before .before .before .before .before .args .c) (c .before .before .before .before .before .args .k) (cell-in (c .before .before .before .before .before .args .n) a (c .before .before .before .before .before .args .store .now) (c .before .before .before .before .before .args .input .now) o (c .before .before .before .before .before .args .c) (c .before .before .before .if1 .left)) (one-yes (c .before .before .before .before .before .fits .k) (c .before .before .if2 .left)) (input-none (c .before .before .before .before .before .args .n) a (c .before .before .before .before .before .args .store .now) (c .before .before .before .before .before .args .input .now) o (c .before .if3 .taken)), tt)
+    (λ a o. refused (c .new2 .ensures) ∙ taking-ended _ (dataOf (c .before .before .before .before .before .args .n) a (c .before .before .before .before .before .args .store .now) (c .before .before .before .before .before .args .input .now) o) (c .before .before .before .before .before .args .q) (c .before .before .before .before .before .args .c) (c .before .before .before .before .before .args .k) (cell-in (c .before .before .before .before .before .args .n) a (c .before .before .before .before .before .args .store .now) (c .before .before .before .before .before .args .input .now) o (c .before .before .before .before .before .args .c) (c .before .before .before .if1 .left)) (one-yes w32 (c .before .before .before .before .before .fits .k) (c .before .before .if2 .left)) (input-none (c .before .before .before .before .before .args .n) a (c .before .before .before .before .before .args .store .now) (c .before .before .before .before .before .args .input .now) o (c .before .if3 .taken)), tt)
 
 mul-v : tie.Need-mul-v
 mul-v c = search needs
@@ -48,8 +49,8 @@ returns-4 c =
     let i = c .before .before .before .before .before .before .before .before .args .input .now in (
       λ a o.
           c .before .put .ensures .0 a i o
-          ∙ taking-some _ (dataOf (c .before .before .before .before .before .before .before .before .args .n) a (c .before .before .before .before .before .before .before .before .args .store .now) (c .before .before .before .before .before .before .before .before .args .input .now) o) (c .before .before .before .before .before .before .before .before .args .q) (c .before .before .before .before .before .before .before .before .args .c) (c .before .before .before .before .before .before .before .before .args .k) (cell-in (c .before .before .before .before .before .before .before .before .args .n) a (c .before .before .before .before .before .before .before .before .args .store .now) i o (c .before .before .before .before .before .before .before .before .args .c) (c .before .before .before .before .before .before .if1 .left)) (one-yes (c .before .before .before .before .before .before .before .before .fits .k) (c .before .before .before .before .before .if2 .left))
-          (input-some (c .before .before .before .before .before .before .before .before .args .n) a (c .before .before .before .before .before .before .before .before .args .store .now) i o (c .before .before .before .before .if3 .left)) (back32 (getD i (c .before .before .before .before .before .before .before .before .args .n .taken) (pos 0)) (c .before .before .before .v .given)) refl (rest-data (c .before .before .before .before .before .before .before .before .args .n) a (c .before .before .before .before .before .before .before .before .args .store .now) i o),
+          ∙ taking-some _ (dataOf (c .before .before .before .before .before .before .before .before .args .n) a (c .before .before .before .before .before .before .before .before .args .store .now) (c .before .before .before .before .before .before .before .before .args .input .now) o) (c .before .before .before .before .before .before .before .before .args .q) (c .before .before .before .before .before .before .before .before .args .c) (c .before .before .before .before .before .before .before .before .args .k) (cell-in (c .before .before .before .before .before .before .before .before .args .n) a (c .before .before .before .before .before .before .before .before .args .store .now) i o (c .before .before .before .before .before .before .before .before .args .c) (c .before .before .before .before .before .before .if1 .left)) (one-yes w32 (c .before .before .before .before .before .before .before .before .fits .k) (c .before .before .before .before .before .if2 .left))
+          (input-some (c .before .before .before .before .before .before .before .before .args .n) a (c .before .before .before .before .before .before .before .before .args .store .now) i o (c .before .before .before .before .if3 .left)) (read-back w32 (getD i (c .before .before .before .before .before .before .before .before .args .n .taken) (pos 0)) (c .before .before .before .v .given)) refl (rest-data (c .before .before .before .before .before .before .before .before .args .n) a (c .before .before .before .before .before .before .before .before .args .store .now) i o),
       sound-as (c .before .before .before .before .before .before .before .before .args .n) (tookOne (c .before .before .before .before .before .before .before .before .args .n)) (c .before .put .result) (c .before .put .last .1 .0) refl (c .before .put .ensures .1),
     )
 

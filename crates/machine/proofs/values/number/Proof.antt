@@ -13,12 +13,12 @@ cast-result-2 : tie.Need-cast-result-2
 cast-result-2 c = search needs
 
 sub-result : tie.Need-sub-result
-sub-result c = rw (word-neg (c .before .args .w) (c .if1 .left) (c .before .fits .w .fits)) (sfits-widen {w = w32} tt (sfits-toZ (c .before .fits .w)))
+sub-result c = rw (word-neg w32 w64 tt (c .before .args .w) (c .if1 .left) (c .before .fits .w .fits)) (sfits-widen {w = w32} tt (sfits-toZ (c .before .fits .w)))
 
 cast-result-3 : tie.Need-cast-result-3
 cast-result-3 c =
     let h = sfits-toZ (c .before .fits .w) in
-    rw (word-neg (c .before .args .w) (c .if1 .left) (c .before .fits .w .fits), toZ-ofZ (sfits-widen {w = w32} {w′ = w64} tt h)) h
+    rw (word-neg w32 w64 tt (c .before .args .w) (c .if1 .left) (c .before .fits .w .fits), toZ-ofZ (sfits-widen {w = w32} {w′ = w64} tt h)) h
 
 returns : tie.Need-returns
 returns c = search needs
@@ -26,7 +26,7 @@ returns c = search needs
 returns-2 : tie.Need-returns-2
 returns-2 c =
     let h = sfits-toZ (c .before .fits .w) in
-    rw (word-neg (c .before .args .w) (c .if1 .left) (c .before .fits .w .fits), toZ-ofZ (sfits-widen {w = w32} {w′ = w64} tt h), toZ-ofZ h)
+    rw (word-neg w32 w64 tt (c .before .args .w) (c .if1 .left) (c .before .fits .w .fits), toZ-ofZ (sfits-widen {w = w32} {w′ = w64} tt h), toZ-ofZ h)
 
 pub number-spec : {M : Type 1} → statement M
 number-spec =

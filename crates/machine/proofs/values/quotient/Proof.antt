@@ -12,13 +12,13 @@ unfolding apply2
 returns c = simp (zero-yes w32 (c .before .fits .y) (c .if1 .taken))
 
 cast-whole : tie.Need-cast-whole
-cast-whole c = wide-fits (c .before .fits .x)
+cast-whole c = wide-fits w32 w64 tt (c .before .fits .x)
 
 cast-whole-2 : tie.Need-cast-whole-2
-cast-whole-2 c = wide-fits (c .before .fits .y)
+cast-whole-2 c = wide-fits w32 w64 tt (c .before .fits .y)
 
 div-whole : tie.Need-div-whole
-div-whole c = (simp (toZ-ofZ (c .before .fits .y)) (bits-pos _ (not-zero-bits w64 (sfits-widen tt (c .before .fits .y)) (zero-no w32 (c .before .args .y) (c .if1 .left)))), rw (wide-same (c .before .fits .x), wide-same (c .before .fits .y)) (quot-fits (c .before .fits .x) (c .before .fits .y)))
+div-whole c = (simp (toZ-ofZ (c .before .fits .y)) (bits-pos _ (not-zero-bits w64 (sfits-widen tt (c .before .fits .y)) (zero-no w32 (c .before .args .y) (c .if1 .left)))), rw (wide-same w32 w64 tt (c .before .fits .x), wide-same w32 w64 tt (c .before .fits .y)) (quot-fits w32 w64 tt (c .before .args .y) (c .before .fits .x)))
 
 whole-requires : tie.Need-whole-requires
 whole-requires c κs = search needs
@@ -26,7 +26,7 @@ whole-requires c κs = search needs
 returns-2 : tie.Need-returns-2
 unfolding apply2
 returns-2 c =
-    simp (zero-no w32 (c .before .before .args .y) (c .before .if1 .left)) (simp (wide-same (c .before .before .fits .x), wide-same (c .before .before .fits .y), toZ-ofZ (quot-fits (c .before .before .fits .x) (c .before .before .fits .y))) at (c .whole .ensures))
+    simp (zero-no w32 (c .before .before .args .y) (c .before .if1 .left)) (simp (wide-same w32 w64 tt (c .before .before .fits .x), wide-same w32 w64 tt (c .before .before .fits .y), toZ-ofZ (quot-fits w32 w64 tt (c .before .before .args .y) (c .before .before .fits .x))) at (c .whole .ensures))
 
 pub quotient-spec : {M : Type 1} → statement M
 quotient-spec =
