@@ -219,6 +219,18 @@ fn step(
     obey(at, live, n, w % 64, w / 64, v, input, store, output, own)
 }
 
+// What a run answers that ends so, with its counts at the end.
+fn ended(stop: Stop, done: u64, n: Counts) -> Ran
+    ensures { λ r. ⌜ r ≡ record { stop = stop; done = done; taken = n .taken; written = n .written } ⌝ }
+{
+    Ran {
+        stop,
+        done,
+        taken: n.taken,
+        written: n.written,
+    }
+}
+
 // Instruction after instruction, the limit tested before each.
 fn drive(
     code: &[u32],
@@ -243,12 +255,7 @@ fn drive(
     while done < limit {
         match step(at, live, n, code, input, store, output, own) {
             Outcome::Stops(stop) => {
-                return Ran {
-                    stop,
-                    done: done + 1,
-                    taken: n.taken,
-                    written: n.written,
-                };
+                return ended(stop, done + 1, n);
             }
             Outcome::Goes(a, l, m) => {
                 at = a;
@@ -258,12 +265,7 @@ fn drive(
         }
         done += 1;
     }
-    Ran {
-        stop: Stop::Limit,
-        done,
-        taken: n.taken,
-        written: n.written,
-    }
+    ended(Stop::Limit, done, n)
 }
 
 // Every number becomes zero.
