@@ -5,13 +5,13 @@ use native.Mathlib.Omega.{arith}
 use borrow.Author.Tests.{ne-eqb, lt-ltb, le-ltb}
 use lib.Dec.{eqb, ltb}
 use mathlib.Core.Bool.{Bool, true, false, cond}
-use mathlib.Core.Option.{Option, none, some}
+use mathlib.Core.Option.{none, some}
 use lib.IntN.{ℤ}
 use mir.Syntax.{w32}
 use mir.Val.{toZ}
 use Rattle.machine.specs.Values.{equiv, Unary, Binary}
-use Rattle.machine.specs.Data.{Act, push, load, store, assign, reserve, forget, receive, send, keep, bump, unary, binary, actOn, downs, Test, condition, upto, Fate, kept, gone}
-use Rattle.machine.specs.Instructions.{binaryOf, unaryOf, actOf, decode, variable, high, mid, low, Instr, END, DO, IF, JUMP, ENTER, LEAVE, CALL, RETURN, GO, NEXT}
+use Rattle.machine.specs.Data.{Act, push, load, store, assign, reserve, forget, receive, send, keep, bump, unary, binary, actOn, condition, upto, kept, gone}
+use Rattle.machine.specs.Instructions.{binaryOf, unaryOf, actOf, decode, variable, high, mid, low, END, DO, IF, JUMP, ENTER, LEAVE, CALL, RETURN, GO, NEXT}
 
 -- a number that is not m
 pub apart : (k m : ℕ) → m < k → eqb k m ≡ false

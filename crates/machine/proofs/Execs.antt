@@ -7,7 +7,7 @@ use Prim.Native.Nat.{ℕ, zero, suc, _+_, _-_, _*_, _/_, _%_, _≤_, _<_}
 use native.Mathlib.Omega.{arith}
 use native.Mathlib.Nat.{not-suc-le-zero}
 use native.Mathlib.Numerals.{add-one}
-use lib.Dec.{leb, ltb, eqb}
+use lib.Dec.{leb, eqb}
 use lib.ListN.{length, getD}
 use lib.IntN.{ℤ}
 use borrow.Author.Tests.{le-leb, lt-leb, eq-eqb, ne-eqb, lt-ltb, le-ltb}
@@ -23,14 +23,14 @@ use Rattle.machine.specs.declared.Chosen.the-variants.{Yes, No, Bad as B
 use Rattle.answers.specs.declared.Refusal.{Refusal}
 use Rattle.machine.specs.declared.Outcome.{Outcome}
 use Rattle.machine.specs.declared.Outcome.the-variants.{Goes, Stops}
-use Rattle.machine.specs.Run.{Trace, quiet, Out, halt, next}
-use Rattle.machine.specs.Data.{Data, dat, cells, Res, bad, wrong, good, lift, guard, check, Act, actOn, downs, work, Test, condition, upto, testOn, downsT, test, either, openBlock, closeBlock, enter, leave, Fate, kept, gone}
-use Rattle.machine.specs.Instructions.{Loc, lc, Instr, END, DO, IF, JUMP, ENTER, LEAVE, CALL, RETURN, GO, NEXT, variable, high, mid, actOf, decode, fetch}
+use Rattle.machine.specs.Run.{Trace}
+use Rattle.machine.specs.Data.{Data, cells, Res, bad, wrong, good, lift, guard, check, Act, actOn, downs, work, Test, upto, testOn, downsT, test, either, openBlock, closeBlock, enter, leave, Fate, kept, gone}
+use Rattle.machine.specs.Instructions.{Loc, Instr, END, DO, IF, JUMP, ENTER, LEAVE, CALL, RETURN, GO, NEXT, variable, high, mid, actOf, decode, fetch}
 use Rattle.machine.specs.Machine.{Frame, fr, Mach, ms, base, floor, walk, cellIn, stray, exec, obey, step}
-use Rattle.machine.specs.Model.{After, fine, ill, lost, told, Went, goes, halted, stepped, lifted, dataOf, traceOf, seenD, seenT, seenO, machOf, wordOf, noteOf, begun, positionsOf, fateOf, framesOf, Lives, Sound, SoundD, SoundT, SoundO, SoundG}
+use Rattle.machine.specs.Model.{After, told, goes, halted, stepped, lifted, dataOf, traceOf, seenD, seenT, seenO, machOf, wordOf, noteOf, begun, positionsOf, fateOf, framesOf, Lives, Sound, SoundD, SoundT, SoundO, SoundG}
 use Rattle.machine.proofs.Decode.{act-on}
 use Rattle.machine.proofs.Stacks.{cells-length}
-use Rattle.machine.proofs.Frames.{frames-length, positions-length, begun-frames, begun-positions, begun-lives, push-positions, pop-positions, frames-own, lives-note, lives-count, note-other}
+use Rattle.machine.proofs.Frames.{frames-length, positions-length, begun-frames, begun-positions, begun-lives, push-positions, pop-positions, frames-own, lives-note, lives-count}
 
 lift-stepped : {A : Type 0} (w : Stop) (f : A → Mach) (t : Trace) (r : Res A) → stepped t (lift w 1 f r) ≡ lifted w f (told t r)
 unfolding stepped lift lifted told

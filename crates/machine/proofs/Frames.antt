@@ -7,9 +7,8 @@ use native.Mathlib.Omega.{arith}
 use native.Mathlib.Nat.{not-suc-le-zero, le-of-suc-le-suc, eq-or-lt-of-le}
 use lib.ListN.{length, getD, set, length-set}
 use native.Mathlib.Numerals.{add-one}
-use mathlib.Core.Bool.{true, false}
 use lib.Seq.{getD-set-same, getD-set-other}
-use Rattle.machine.specs.Machine.{Frame, fr, frameAt, linkOf, baseOf, walk, base}
+use Rattle.machine.specs.Machine.{Frame, fr, frameAt, baseOf, walk, base}
 use Rattle.machine.specs.Model.{wordOf, noteOf, stacked, positionsOf, fateOf, framesOf, begun, Lives}
 
 pub frames-length : (l : List ℕ) (n : ℕ) → length (framesOf l n) ≡ n

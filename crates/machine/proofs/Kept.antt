@@ -1,17 +1,17 @@
 -- The data that the counts and the store hold: what each change of a count or a cell is on them.
 use mathlib.Core.Path.{_≡_, refl, sym, ap, _∙_}
-use mathlib.Core.List.{List, [], _∷_, _++_}
-use Prim.Native.Nat.{ℕ, zero, suc, _+_, _-_, _≤_, _<_}
+use mathlib.Core.List.{List, [], _∷_}
+use Prim.Native.Nat.{ℕ, suc, _+_, _-_, _≤_, _<_}
 use native.Mathlib.Omega.{arith}
-use lib.ListN.{length, getD, set, drop, replicate, length-replicate}
-use lib.Dec.{ltb, leb}
+use lib.ListN.{length, drop, length-replicate}
+use lib.Dec.{ltb}
 use mathlib.Core.Bool.{true, false}
 use mathlib.Core.Path.{subst}
 use mathlib.Core.Logic.{_≢_, ⊎-elim}
 use native.Mathlib.Nat.{eq-or-lt-of-le, le-of-suc-le-suc}
 use native.Mathlib.Numerals.{add-one}
 use borrow.Author.Tests.{lt-ltb, le-ltb, le-leb, lt-leb}
-use lib.IntN.{ℤ, pos}
+use lib.IntN.{ℤ}
 use mir.Syntax.{w32}
 use mir.Val.{SFits}
 use Rattle.machine.specs.declared.Cell.{Cell}
@@ -31,10 +31,10 @@ use Rattle.answers.specs.declared.Answer.{Answer}
 use Rattle.answers.specs.declared.Refusal.{Refusal}
 use Rattle.answers.specs.Answers.{refusal}
 use Rattle.answers.specs.Numbers.{cells as noCell}
-use Rattle.machine.specs.Run.{Trace, quiet, wrote}
-use Rattle.machine.specs.Data.{Data, dat, cells, Res, bad, wrong, good, check, Took, value, nothing, newest, two, back, put, look, hold, unhold, newCells, openBlock, valued, Two}
+use Rattle.machine.specs.Run.{Trace, quiet}
+use Rattle.machine.specs.Data.{Data, dat, cells, Res, bad, wrong, good, check, value, nothing, newest, two, back, put, look, newCells, openBlock, valued, Two}
 use Rattle.machine.specs.Model.{Fitting, cellAt, putAt, roomOf, unassigned, cellsOf, heldIn, heldOf, dataOf, traceOf, seenU, onPair, After, told, fine, ill, fewer, holding, UsedIn, PairIn, Sound, SoundD, SoundT}
-use Rattle.machine.proofs.Stacks.{sound-unassigned, put-same, put-other, sound-put, sound-same, cells-unassigned, held-unassigned, room-unassigned, room-put, cells-length, cells-put, cells-new, cells-cons, cells-get, cells-set, cells-drop, held-length, held-put, held-new, held-cons2, held-drop}
+use Rattle.machine.proofs.Stacks.{sound-unassigned, put-same, put-other, sound-put, sound-same, cells-unassigned, held-unassigned, room-unassigned, room-put, cells-length, cells-put, cells-new, cells-cons, cells-get, cells-set, held-length, held-put, held-new}
 
 -- one cell more
 abbrev pub more : ℕ → Counts → Counts

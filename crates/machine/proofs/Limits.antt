@@ -4,7 +4,7 @@ use mathlib.Core.Path.{_≡_, refl, sym, ap, subst, _∙_}
 use mathlib.Core.Bool.{Bool, true, false, cond}
 use mathlib.Core.List.{List, [], _∷_, _++_, append-nil}
 use mathlib.Core.Option.{Option, none, some}
-use Prim.Native.Nat.{ℕ, zero, suc, _+_, _-_, _/_, _≤_, _<_, min}
+use Prim.Native.Nat.{ℕ, zero, suc, _+_, _-_, _≤_, _<_, min}
 use native.Mathlib.Omega.{arith}
 use native.Mathlib.Nat.{not-suc-le-zero, le-of-suc-le-suc, sub-zero, zero-min, min-zero, suc-min-suc}
 use native.Mathlib.Numerals.{add-one}
@@ -19,11 +19,11 @@ use Rattle.machine.specs.declared.Counts.{Counts}
 use Rattle.machine.specs.declared.Ran.{Ran}
 use Rattle.machine.specs.declared.Outcome.{Outcome}
 use Rattle.machine.specs.declared.Outcome.the-variants.{Goes, Stops}
-use Rattle.machine.specs.Run.{Trace, untold, say, Event, quiet, wrote, took, Out, halt, next, End, done, over, after, run}
+use Rattle.machine.specs.Run.{Trace, untold, say, quiet, wrote, took, Out, halt, next, End, done, over, after, run}
 use Rattle.machine.specs.Data.{Data, Res, bad, wrong, good, lift}
 use Rattle.machine.specs.Instructions.{Instr, END, DO, IF, JUMP, ENTER, LEAVE, CALL, RETURN, GO, NEXT, fetch, decode}
-use Rattle.machine.specs.Machine.{Frame, fr, Mach, ms, exec, obey, step, Finish, finish, start, machine, used, exit, afterwards}
-use Rattle.machine.specs.Model.{Went, goes, halted, stepped, dataOf, traceOf, machOf, roomOf, cellsOf, heldOf, stacked, positionsOf, framesOf, wordOf, Sound, Lives, SoundG, seenO, cellAt, heldIn, Drove}
+use Rattle.machine.specs.Machine.{Frame, fr, Mach, ms, exec, obey, step, finish, start, machine, used, exit, afterwards}
+use Rattle.machine.specs.Model.{goes, halted, stepped, traceOf, machOf, roomOf, cellsOf, heldOf, stacked, positionsOf, framesOf, wordOf, Sound, Lives, SoundG, seenO, Drove}
 
 -- ---- every instruction counts one
 

@@ -5,7 +5,6 @@ use mathlib.Core.Path.{_≡_, refl, ap}
 use mathlib.Core.List.{List, [], _∷_}
 use lib.IntN.{ℤ, pos, negsuc}
 use Rattle.answers.specs.Answers.{refusal}
-use Rattle.answers.specs.declared.Stop.{Stop}
 use Rattle.answers.specs.declared.Stop.the-variants.{Ended, Limit, Fault, Wrong}
 use Rattle.machine.specs.Values.{whole, over, apply1, apply2, past}
 use Rattle.machine.specs.declared.Value.{Value}
@@ -13,7 +12,7 @@ use Rattle.machine.specs.declared.Value.the-variants.{Is, Fault as Refus
 use Rattle.machine.specs.Run.{run}
 use Rattle.machine.specs.Data.{work, test, openBlock, closeBlock, enter, leave, given, newCells, newest, onValue, back, look, put, reading, valued, hold, unhold, held, input, space, rest, spend, taking, writing, lift, guard, check}
 use Rattle.machine.specs.Instructions.{fetch, decode, actOf, unaryOf, binaryOf}
-use Rattle.machine.specs.Machine.{machine, finish, step, obey, exec, frameAt, walk, cellIn, Finish, afterwards}
+use Rattle.machine.specs.Machine.{machine, finish, step, obey, exec, frameAt, walk, cellIn, afterwards}
 
 -- ended: ENTER@0 1 1; CONST@10 1; STORE 0 0; CONST@20 1; LOAD@22 0 0; OUT@15; LEAVE 1; END
 ended : machine (3 ∷ 8193 ∷ 652 ∷ 1 ∷ 14 ∷ 0 ∷ 1292 ∷ 1 ∷ 1421 ∷ 0 ∷ 979 ∷ 0 ∷ 4 ∷ 8192 ∷ 1 ∷ 0 ∷ []) ([]) 1000 6 3 ≡ record { stop = Ended; done = 8; taken = 0; written = pos 1 ∷ [] }

@@ -14,7 +14,6 @@ use mir.Val.{SFits, toZ, ofZ, bits, hbits}
 use mir.Facts.{toZ-ofZ, sfits-widen, toZ-pos}
 use borrow.Author.Tests.{ltb-true, ltb-false, le-ltb, lt-ltb, eq-eqb, ne-eqb, eqb-true, eqb-false}
 use Rattle.machine.specs.Values.{isZero, same, truth, sign, whole}
-use Rattle.machine.specs.declared.Value.{Value}
 use Rattle.machine.specs.declared.Value.the-variants.{Is}
 
 -- ---- how large a result is. `mag` is what a width bounds; `natAbs`, one more below 0, is the same for a number and its negative

@@ -1,13 +1,12 @@
 -- The data that the counts and the store hold, for input and output, held values, blocks and activations.
-use mathlib.Core.Path.{_≡_, refl, sym, ap, ap₂, subst, _∙_}
+use mathlib.Core.Path.{_≡_, refl, ap, ap₂, subst, _∙_}
 use mathlib.Core.Bool.{Bool, true, false, cond}
-use mathlib.Core.List.{List, [], _∷_, _++_}
+use mathlib.Core.List.{List, [], _∷_}
 use Prim.Native.Nat.{ℕ, zero, suc, _+_, _-_, _≤_, _<_}
 use native.Mathlib.Omega.{arith}
-use native.Mathlib.Nat.{not-suc-le-zero}
 use native.Mathlib.Numerals.{add-one}
-use lib.Dec.{ltb, leb}
-use lib.ListN.{length, getD, set, take, drop, length-set, drop-of-length-le}
+use lib.Dec.{ltb}
+use lib.ListN.{length, getD, set, drop, length-set, drop-of-length-le}
 use lib.Seq.{drop-cons, take-suc-set, drop-set-lt}
 use lib.IntN.{ℤ, pos}
 use mir.Syntax.{w32}
@@ -20,9 +19,9 @@ use Rattle.machine.specs.declared.Counts.{Counts}
 use Rattle.machine.specs.declared.Pair.{Pair}
 use Rattle.machine.specs.declared.Pair.the-variants.{Values as Values2, Nothing as Nothing2}
 use Rattle.machine.specs.Values.{past}
-use Rattle.machine.specs.Run.{Trace, say, quiet, wrote, took}
-use Rattle.machine.specs.Data.{Data, dat, Lent, Res, wrong, good, guard, input, space, rest, spend, hold, unhold, held, closeBlock, Fate, kept, gone, given, leave}
-use Rattle.machine.specs.Model.{Fitting, cellAt, putAt, roomOf, cellsOf, heldIn, heldOf, dataOf, traceOf, After, told, fine, ill, lost, holding, HeldIn, Sound}
+use Rattle.machine.specs.Run.{say, wrote}
+use Rattle.machine.specs.Data.{Data, dat, Lent, Res, wrong, guard, input, space, rest, spend, hold, unhold, held, closeBlock, kept, gone, given, leave}
+use Rattle.machine.specs.Model.{cellAt, putAt, roomOf, cellsOf, heldOf, dataOf, traceOf, told, fine, ill, lost, holding, HeldIn, Sound}
 use Rattle.machine.proofs.Stacks.{cells-length, cells-cons, cells-drop, held-cons2, held-drop, room-put, sound-same}
 use Rattle.machine.proofs.Kept.{hold-data, sound-hold, held-number}
 

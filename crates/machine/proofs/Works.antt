@@ -1,20 +1,19 @@
 -- What each operation on the data comes to, by what it finds: the cells' numbers and values are given, and no store, count or word is known here.
-use mathlib.Core.Path.{_≡_, refl, sym, ap, ap₂, _∙_}
-use mathlib.Core.Bool.{Bool, true, false, cond}
-use mathlib.Core.List.{List, [], _∷_, _++_}
-use Prim.Native.Nat.{ℕ, zero, suc, _+_, _-_}
-use lib.Dec.{ltb, leb}
+use mathlib.Core.Path.{_≡_, refl, sym, ap}
+use mathlib.Core.Bool.{true, false, cond}
+use mathlib.Core.List.{List, [], _∷_}
+use Prim.Native.Nat.{ℕ}
+use lib.Dec.{ltb}
 use lib.IntN.{ℤ, pos, _+ℤ_}
 use Rattle.answers.specs.declared.Answer.{Answer}
 use Rattle.answers.specs.Numbers.{unassigned, inputEnded, outputFull, channel}
-use Rattle.machine.specs.declared.Cell.{Cell}
 use Rattle.machine.specs.declared.Cell.the-variants.{Unset, Holds}
 use Rattle.machine.specs.declared.Value.{Value}
 use Rattle.machine.specs.declared.Value.the-variants.{Is, Fault}
 use Rattle.machine.specs.Values.{isZero, same, past, whole, Unary, apply1, Binary, apply2}
 use Rattle.machine.specs.Run.{Trace, say, quiet, wrote, took}
-use Rattle.machine.specs.Data.{Data, cells, Res, bad, wrong, good, guard, check, Took, value, nothing, newest, onValue, one, two, back, put, look, newCells, reading, valued, within, onChannel, taking, writing, input, space, rest, spend, hold, unhold, held, Act, push, load, store, assign, reserve, forget, receive, send, keep, bump, unary, binary, work, Two, yea, nay, Test, condition, upto, test}
-use Rattle.machine.specs.Model.{After, fine, ill, lost, told}
+use Rattle.machine.specs.Data.{Data, cells, Res, wrong, good, guard, check, value, nothing, newest, onValue, two, back, put, look, newCells, reading, valued, within, onChannel, taking, writing, input, space, rest, spend, hold, unhold, held, Act, push, load, store, assign, reserve, forget, receive, send, keep, bump, unary, binary, work, Two, yea, nay, condition, upto, test}
+use Rattle.machine.specs.Model.{fine, ill, lost, told}
 
 -- ---- values used
 

@@ -1,6 +1,6 @@
 -- What the source rules and the machine share: the data, and the operations on them with their faults. An operation takes a cell's number,
 -- never a scope, a level or an address. Assumes nothing: these are definitions.
-use Prim.Native.Nat.{ℕ, zero, suc, _+_, _-_}
+use Prim.Native.Nat.{ℕ, suc, _+_, _-_}
 use mathlib.Core.Bool.{Bool, true, false, cond}
 use mathlib.Core.List.{List, [], _∷_, _++_}
 use lib.ListN.{length, getD, set, drop, replicate}

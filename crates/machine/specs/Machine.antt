@@ -1,17 +1,17 @@
 -- The machine, for any words at all: where it is; the return positions of the running activation; the activations, the newest first; the data.
 -- Assumes nothing: these are definitions.
 use Prim.Native.Nat.{ℕ, zero, suc, _+_, _-_, min}
-use mathlib.Core.Bool.{Bool, true, false, cond}
+use mathlib.Core.Bool.{cond}
 use mathlib.Core.List.{List, [], _∷_, _++_}
 use mathlib.Core.Option.{Option, none, some}
 use lib.Dec.{leb, eqb}
-use lib.ListN.{getD, length, take, drop, replicate}
+use lib.ListN.{getD, length, drop, replicate}
 use lib.IntN.{ℤ, pos}
 use Rattle.answers.specs.declared.Stop.{Stop}
 use Rattle.answers.specs.declared.Stop.the-variants.{Ended, Limit, Wrong}
 use Rattle.machine.specs.declared.Ran.{Ran}
-use Rattle.machine.specs.Run.{Trace, untold, Out, halt, next, End, done, over, run, Event, quiet}
-use Rattle.machine.specs.Data.{Data, dat, cells, actOn, testOn, Fate, kept, gone, lift, guard, downs, downsT, work, test, either, openBlock, closeBlock, enter, leave}
+use Rattle.machine.specs.Run.{untold, Out, halt, next, End, done, over, run, quiet}
+use Rattle.machine.specs.Data.{Data, dat, cells, actOn, testOn, Fate, gone, lift, guard, downs, downsT, work, test, either, openBlock, closeBlock, enter, leave}
 use Rattle.machine.specs.Instructions.{Loc, lc, Instr, END, DO, IF, JUMP, ENTER, LEAVE, CALL, RETURN, GO, NEXT, fetch}
 
 -- an activation: where to return to, its first cell, the activation around it, the fate of its first cell, the call's place, and the return

@@ -15,7 +15,7 @@ use crate::ports;
 use crate::values;
 use answers::Stop;
 ghost use mathlib.Core.Path.{_≡_};
-ghost use mathlib.Core.List.{List, _++_};
+ghost use mathlib.Core.List.{List};
 ghost use Prim.Native.Nat.{ℕ, _≤_, _<_, min};
 ghost use lib.IntN.{ℤ, pos};
 ghost use lib.ListN.{length, take, replicate};

@@ -2,7 +2,7 @@
 use crate::Value;
 use answers::Answer;
 ghost use mathlib.Core.Path.{_≡_};
-ghost use Prim.Native.Nat.{ℕ, _≤_, _<_};
+ghost use Prim.Native.Nat.{_≤_, _<_};
 ghost use lib.IntN.{ℤ};
 ghost use mir.Syntax.{w32};
 ghost use mir.Val.{toZ};
