@@ -42,3 +42,22 @@ pub fn same_name(source: &[u8], a: Place, b: Place) -> bool
     }
     source.len() <= j
 }
+
+// Whether the name at a place of the source is spelled so.
+pub fn spells(source: &[u8], a: Place, word: &[u8]) -> bool
+    ensures { λ r. ⌜ r ≡ sameName (now (word .entry)) (lettersAt (now (source .entry)) (a .at)) ⌝ }
+{
+    let mut i = 0;
+    let mut j = next_letter(source, a.at);
+    while i < word.len() {
+        if source.len() <= j {
+            return false;
+        }
+        if word[i] != source[j] {
+            return false;
+        }
+        i += 1;
+        j = next_letter(source, j + 1);
+    }
+    source.len() <= j
+}
