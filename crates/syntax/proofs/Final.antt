@@ -24,6 +24,7 @@ use Rattle.syntax.proofs.Laws.{Low, low, kept-top}
 use Rattle.syntax.proofs.Tell.{Found, Stuck, Why, five, six, six-end, tell}
 use Rattle.syntax.proofs.Meet.{Trip, clear, trips, trip, answer as says, spot, place, trip-ends, Before, trip-first, Ends, fine-kept, meet}
 use Rattle.syntax.proofs.Peeks.{inside}
+use Rattle.syntax.proofs.Exclusive.{shorter, front-of, not-both, one-wrong, wrong-deep, same-place}
 
 -- ---- no symbol of a tree is `:`
 abbrev Small : List ℕ → Type 0
@@ -105,16 +106,6 @@ agree-take ks rest other k l e m h =
 
 take-longer : (ks rest other : List ℕ) (k : ℕ) → k < length ks → other ≡ take (k + 1) ks ++ rest → k < length other
 take-longer ks rest other k l e = omega (arith, length-take-le (k + 1) ks (omega arith), simp length-append at (ap length e))
-
-shorter : (ks : List ℕ) (a b : ℕ) → a ≤ b → Viable (take b ks) → Viable (take a ks)
-shorter ks a b l v = record {
-  tree = v .tree;
-  rest = drop a (take b ks) ++ v .rest;
-  whole = v .whole ∙ ap (λ (x : List ℕ). x ++ v .rest) (sym (take-append-drop a (take b ks)) ∙ ap (λ (x : List ℕ). x ++ drop a (take b ks)) (take-take a b ks l)) ∙ append-assoc (take a ks) (drop a (take b ks)) (v .rest);
-}
-
-pub front-of : (ks : List ℕ) (t : Syn program) → yield t ≡ ks → (a : ℕ) → Viable (take a ks)
-front-of ks t e a = record { tree = t; rest = drop a ks; whole = e ∙ sym (take-append-drop a ks) }
 
 bad-got : {A : Type 0} {n k j : ℕ} {t : A} → bad n k ≡ got t j → ⊥
 bad-got e = let z : _≡_ {A = ℕ} 0 1 = cc in omega arith
@@ -245,32 +236,6 @@ module _ (ks : List ℕ) where
         apart : (u : Syn program) → j < length (yield u) → (T : Trip) → Ends T (0 + length (yield u)) → got t j ≡ says u T → ⊥
         apart u l (clear x) e q = let z : j ≡ x = cc in omega arith
         apart u l (trips m) e q = bad-got (sym q)
-
-  -- ---- the three exclude one another
-  not-both : {k : ℕ} → Accepted ks → Wrong ks k → ⊥
-  not-both {k} a w = go (decLt k (length ks))
-    where
-      go : Dec (k < length ks) → ⊥
-      go (yes l) = w .not-on l (front-of ks (a .tree) (a .keeps .spelled) (k + 1))
-      go (no l) = w .not-end (omega (arith, w .inside)) (a .tree) (a .keeps .spelled)
-
-  one-wrong : {a b : ℕ} → Wrong ks a → Wrong ks b → a < b → ⊥
-  one-wrong {a} {b} v w l = v .not-on (omega (arith, w .inside)) (shorter ks (a + 1) b (omega arith) (w .viable))
-
-  wrong-deep : {a b : ℕ} → Wrong ks a → FirstDeep ks b → ⊥
-  wrong-deep {a} {b} w h = go (decLt b a)
-    where
-      go : Dec (b < a) → ⊥
-      go (yes l) = w .earlier b l (h .deep)
-      go (no l) = w .not-on (omega (arith, h .deep .inside)) (shorter ks (a + 1) (b + 1) (omega arith) (h .deep .viable))
-
-  same-place : {a b : ℕ} → (a < b → ⊥) → (b < a → ⊥) → a ≡ b
-  same-place {a} {b} p q = go (decLt a b) (decLt b a)
-    where
-      go : Dec (a < b) → Dec (b < a) → a ≡ b
-      go (yes l) y = absurd (p l)
-      go (no l) (yes m) = absurd (q m)
-      go (no l) (no m) = omega arith
 
   read-refused : {j b k : ℕ} {a : Answer} → Read j b ≡ Refused a k → ⊥
   read-refused q = let z : _≡_ {A = ℕ} 0 1 = cc in omega arith

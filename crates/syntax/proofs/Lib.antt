@@ -5,6 +5,7 @@ pub mod Laws
 pub mod Second
 pub mod Tell
 pub mod Meet
+pub mod Exclusive
 pub mod Final
 pub mod Room
 pub mod Lemmas
