@@ -4,3 +4,6 @@ pub mod ReadOff
 pub mod Nodes
 pub mod Outline
 pub mod Uses
+pub mod Rows
+pub mod Model
+pub mod Identity

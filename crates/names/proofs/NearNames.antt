@@ -1,0 +1,252 @@
+-- The faults of names are small: the answers are 7, 8 and 9, and each stands at a name of the program. A scope's own faults stand at names of its
+-- block or procedure, whatever is around it; so do the uses.
+use Prim.Native.Nat.{ℕ, _≤_, _<_}
+use native.Mathlib.Omega.{arith}
+use mathlib.Core.Bool.{Bool, true, false, cond, _||_}
+use mathlib.Core.List.{List, [], _∷_, _++_, map}
+use Rattle.answers.specs.Numbers.{twice, heading as badHeading}
+use Rattle.names.specs.Program.{Name, Sort, Expression, number, logical, name, call, signed, operated, chosen, nested, Expressions, done, then, Element, value, while, step, Specification, Statement, dummy, assignment, procedure, when, either, repeat, compound, block, Statements, last, first, Declarations, none as no-more, variables, declare, Procedure, heading}
+use Rattle.names.specs.Scopes.{Scope, ofBlock, ofBody, has, nameOf, formalsOf, valuesOf, specificationsOf, Declared, variablesIn, inBlock, Meaning, declared, given, nothing, meaning}
+use Rattle.names.specs.Uses.{Use, used, usesE, usesEs, usesL, usesS, usesSs, usesD, usesP, scopesS, scopesSs, scopesD, scopesP, Fault, at, each, namesIn, twiceIn, allNames, stray, missing, headingIn, innermost, meantOrNot, unmeant, joined, nameFaults}
+use Rattle.names.proofs.AllNames.{AllE, AllEs, AllLs, AllN, AllSp, AllS, AllSs, AllD, AllP}
+use Rattle.names.proofs.Least.{Small, Near}
+use Rattle.names.proofs.Weaken.{mapAll}
+
+-- ---- faults side by side
+
+pub near-append : (a b : List Fault) → Near a → Near b → Near (a ++ b)
+near-append [] b h k = k
+near-append (f ∷ a) b h k = (h .0, near-append a b (h .1) k)
+
+pub small-append : (a b : List Fault) → Small a → Small b → Small (a ++ b)
+small-append [] b h k = k
+small-append (f ∷ a) b h k = (h .0, small-append a b (h .1) k)
+
+near-if : (b : Bool) (f : Fault) (l : List Fault) → f .symbol < 65536 → Near l → Near (cond b (f ∷ l) l)
+near-if true f l h k = (h, k)
+near-if false f l h k = k
+
+small-if : (b : Bool) (f : Fault) (l : List Fault) → f .answer < 16 → Small l → Small (cond b (f ∷ l) l)
+small-if true f l h k = (h, k)
+small-if false f l h k = k
+
+-- ---- answers
+
+small-each : (n : ℕ) (test : List Name → Name → Bool) (seen l : List Name) → n < 16 → Small (each n test seen l)
+unfolding each
+small-each n test seen [] h = tt
+small-each n test seen (x ∷ l) h = small-if (test seen x) (at x n) (each n test (x ∷ seen) l) h (small-each n test (x ∷ seen) l h)
+
+small-twice : (s : Scope) → Small (twiceIn s)
+unfolding twiceIn
+small-twice (ofBlock d) = small-each twice has [] (namesIn (ofBlock d)) (omega arith)
+small-twice (ofBody p) = small-each twice has (nameOf p ∷ []) (formalsOf p) (omega arith)
+
+small-heading : (s : Scope) → Small (headingIn s)
+unfolding headingIn
+small-heading (ofBlock d) = tt
+small-heading (ofBody p) =
+    let l = allNames (specificationsOf p) in
+    let lacks = missing (formalsOf p) (valuesOf p) || missing (formalsOf p) l in
+    let a = each badHeading (stray (formalsOf p)) [] (valuesOf p) in
+    let b = each badHeading (stray (formalsOf p)) [] l in
+    let c : List Fault = cond lacks (at (nameOf p) badHeading ∷ []) [] in
+    small-append a (b ++ c) (small-each badHeading (stray (formalsOf p)) [] (valuesOf p) (omega arith))
+    (small-append b c (small-each badHeading (stray (formalsOf p)) [] l (omega arith)) (small-if lacks (at (nameOf p) badHeading) [] (omega arith) tt))
+
+small-scopes : (gs : List (List Scope)) → Small (joined innermost gs)
+unfolding joined
+small-scopes [] = tt
+small-scopes ([] ∷ gs) = small-scopes gs
+small-scopes ((s ∷ g) ∷ gs) =
+    small-append (innermost (s ∷ g)) (joined innermost gs) (small-append (twiceIn s) (headingIn s) (small-twice s) (small-heading s)) (small-scopes gs)
+
+small-meant : (m : Meaning) (x : Name) → Small (meantOrNot m x)
+small-meant (declared d g) x = tt
+small-meant (given n e) x = tt
+small-meant nothing x = (omega arith, tt)
+
+small-uses : (us : List Use) → Small (joined unmeant us)
+unfolding joined
+small-uses [] = tt
+small-uses (u ∷ us) = small-append (unmeant u) (joined unmeant us) (small-meant (meaning (u .around) (u .name)) (u .name)) (small-uses us)
+
+pub small-names : (s : Statement) → Small (nameFaults s)
+unfolding nameFaults
+small-names s = small-append (joined innermost (scopesS [] s)) (joined unmeant (usesS [] s)) (small-scopes (scopesS [] s)) (small-uses (usesS [] s))
+
+-- ---- the names of a scope, and of the scopes of a part of a program: only the innermost counts, which is the part's own
+
+abbrev AllScope : (Name → Type 0) → Scope → Type 0
+AllScope Q (ofBlock d) = AllD Q d
+AllScope Q (ofBody p) = AllP Q p
+
+data AllScopes (Q : Name → Type 0) : List (List Scope) → Type 0 where
+  no-scope : AllScopes Q []
+  a-scope : {s : Scope} {g : List Scope} {gs : List (List Scope)} → AllScope Q s → AllScopes Q gs → AllScopes Q ((s ∷ g) ∷ gs)
+
+data AllUses (Q : Name → Type 0) : List Use → Type 0 where
+  no-use : AllUses Q []
+  a-use : {x : Name} {g : List Scope} {us : List Use} → Q x → AllUses Q us → AllUses Q (used g x ∷ us)
+
+module _ (Q : Name → Type 0) where
+  with-scopes : {a b : List (List Scope)} → AllScopes Q a → AllScopes Q b → AllScopes Q (a ++ b)
+  with-scopes no-scope k = k
+  with-scopes (a-scope h hs) k = a-scope h (with-scopes hs k)
+
+  mutual
+    unfolding scopesS
+
+    scopes-statement : (g : List Scope) (s : Statement) → AllS Q s → AllScopes Q (scopesS g s)
+    scopes-statement g dummy h = no-scope
+    scopes-statement g (assignment x xs q e) h = no-scope
+    scopes-statement g (procedure x es) h = no-scope
+    scopes-statement g (when q c s) h = scopes-statement g s (h .1)
+    scopes-statement g (either q c s t) h = with-scopes (scopes-statement g s (h .1)) (scopes-statement g t (h .2))
+    scopes-statement g (repeat x l ls s) h = scopes-statement g s (h .3)
+    scopes-statement g (compound ss) h = scopes-statements g ss h
+    scopes-statement g (block q d ss) h = a-scope (h .0) (with-scopes (scopes-declarations (ofBlock d ∷ g) d (h .0)) (scopes-statements (ofBlock d ∷ g) ss (h .1)))
+
+    scopes-statements : (g : List Scope) (ss : Statements) → AllSs Q ss → AllScopes Q (scopesSs g ss)
+    scopes-statements g (last s) h = scopes-statement g s h
+    scopes-statements g (first s ss) h = with-scopes (scopes-statement g s (h .0)) (scopes-statements g ss (h .1))
+
+    scopes-declarations : (g : List Scope) (d : Declarations) → AllD Q d → AllScopes Q (scopesD g d)
+    scopes-declarations g no-more h = no-scope
+    scopes-declarations g (variables t xs d) h = scopes-declarations g d (h .1)
+    scopes-declarations g (declare p d) h = with-scopes (scopes-procedure g p (h .0)) (scopes-declarations g d (h .1))
+
+    scopes-procedure : (g : List Scope) (p : Procedure) → AllP Q p → AllScopes Q (scopesP g p)
+    scopes-procedure g (heading t f xs vs ss b) h = a-scope h (scopes-statement (ofBody (heading t f xs vs ss b) ∷ g) b (h .4))
+
+  -- ---- the uses
+
+  with-uses : {a b : List Use} → AllUses Q a → AllUses Q b → AllUses Q (a ++ b)
+  with-uses no-use k = k
+  with-uses (a-use h hs) k = a-use h (with-uses hs k)
+
+  mutual
+    unfolding usesE
+
+    uses-expression : (g : List Scope) (e : Expression) → AllE Q e → AllUses Q (usesE g e)
+    uses-expression g (number q v) h = no-use
+    uses-expression g (logical q b) h = no-use
+    uses-expression g (name x) h = a-use h no-use
+    uses-expression g (call x e es) h = a-use (h .0) (with-uses (uses-expression g e (h .1)) (uses-expressions g es (h .2)))
+    uses-expression g (signed q o e) h = uses-expression g e h
+    uses-expression g (operated q o e f) h = with-uses (uses-expression g e (h .0)) (uses-expression g f (h .1))
+    uses-expression g (chosen q r c e f) h = with-uses (uses-expression g c (h .0)) (with-uses (uses-expression g e (h .1)) (uses-expression g f (h .2)))
+    uses-expression g (nested q e) h = uses-expression g e h
+
+    uses-expressions : (g : List Scope) (es : Expressions) → AllEs Q es → AllUses Q (usesEs g es)
+    uses-expressions g done h = no-use
+    uses-expressions g (then e es) h = with-uses (uses-expression g e (h .0)) (uses-expressions g es (h .1))
+
+  uses-elements : (g : List Scope) (ls : List Element) → AllLs Q ls → AllUses Q (usesL g ls)
+  unfolding usesL
+  uses-elements g [] h = no-use
+  uses-elements g (value e ∷ l) h = with-uses (uses-expression g e (h .0)) (uses-elements g l (h .1))
+  uses-elements g (while q e c ∷ l) h =
+      with-uses (uses-expression g e (h .0 .0)) (with-uses (uses-expression g c (h .0 .1)) (uses-elements g l (h .1)))
+  uses-elements g (step q e f i ∷ l) h =
+      with-uses (uses-expression g e (h .0 .0))
+      (with-uses (uses-expression g f (h .0 .1)) (with-uses (uses-expression g i (h .0 .2)) (uses-elements g l (h .1))))
+
+  uses-left : (g : List Scope) (xs : List Name) → AllN Q xs → AllUses Q (map (used g) xs)
+  uses-left g [] h = no-use
+  uses-left g (x ∷ xs) h = a-use (h .0) (uses-left g xs (h .1))
+
+  mutual
+    unfolding usesS
+
+    uses-statement : (g : List Scope) (s : Statement) → AllS Q s → AllUses Q (usesS g s)
+    uses-statement g dummy h = no-use
+    uses-statement g (assignment x xs q e) h = a-use (h .0) (with-uses (uses-left g xs (h .1)) (uses-expression g e (h .2)))
+    uses-statement g (procedure x es) h = a-use (h .0) (uses-expressions g es (h .1))
+    uses-statement g (when q c s) h = with-uses (uses-expression g c (h .0)) (uses-statement g s (h .1))
+    uses-statement g (either q c s t) h = with-uses (uses-expression g c (h .0)) (with-uses (uses-statement g s (h .1)) (uses-statement g t (h .2)))
+    uses-statement g (repeat x l ls s) h = a-use (h .0) (with-uses (uses-elements g (l ∷ ls) (h .1, h .2)) (uses-statement g s (h .3)))
+    uses-statement g (compound ss) h = uses-statements g ss h
+    uses-statement g (block q d ss) h = with-uses (uses-declarations (ofBlock d ∷ g) d (h .0)) (uses-statements (ofBlock d ∷ g) ss (h .1))
+
+    uses-statements : (g : List Scope) (ss : Statements) → AllSs Q ss → AllUses Q (usesSs g ss)
+    uses-statements g (last s) h = uses-statement g s h
+    uses-statements g (first s ss) h = with-uses (uses-statement g s (h .0)) (uses-statements g ss (h .1))
+
+    uses-declarations : (g : List Scope) (d : Declarations) → AllD Q d → AllUses Q (usesD g d)
+    uses-declarations g no-more h = no-use
+    uses-declarations g (variables t xs d) h = uses-declarations g d (h .1)
+    uses-declarations g (declare p d) h = with-uses (uses-procedure g p (h .0)) (uses-declarations g d (h .1))
+
+    uses-procedure : (g : List Scope) (p : Procedure) → AllP Q p → AllUses Q (usesP g p)
+    uses-procedure g (heading t f xs vs ss b) h = uses-statement (ofBody (heading t f xs vs ss b) ∷ g) b (h .4)
+
+  -- ---- lists of names
+
+  with-names : (a b : List Name) → AllN Q a → AllN Q b → AllN Q (a ++ b)
+  with-names [] b h k = k
+  with-names (x ∷ a) b h k = (h .0, with-names a b (h .1) k)
+
+  names-specified : (ss : List Specification) → AllSp Q ss → AllN Q (allNames ss)
+  unfolding allNames
+  names-specified [] h = tt
+  names-specified (s ∷ ss) h = with-names (s .names) (allNames ss) (h .0) (names-specified ss (h .1))
+
+  names-variables : (t : Sort) (xs : List Name) (l : List Declared) → AllN Q xs → AllN Q (map (λ d. d .name) l) → AllN Q (map (λ d. d .name) (variablesIn t xs ++ l))
+  unfolding variablesIn
+  names-variables t [] l h k = k
+  names-variables t (x ∷ xs) l h k = (h .0, names-variables t xs l (h .1) k)
+
+  names-block : (d : Declarations) → AllD Q d → AllN Q (namesIn (ofBlock d))
+  unfolding inBlock
+  names-block no-more h = tt
+  names-block (variables t xs d) h = names-variables t xs (inBlock d) (h .0) (names-block d (h .1))
+  names-block (declare (heading t f xs vs ss b) d) h = (h .0 .0, names-block d (h .1))
+
+-- ---- symbols
+
+abbrev Close : Name → Type 0
+Close x = x .symbol < 65536
+
+near-each : (n : ℕ) (test : List Name → Name → Bool) (seen l : List Name) → AllN Close l → Near (each n test seen l)
+unfolding each
+near-each n test seen [] h = tt
+near-each n test seen (x ∷ l) h = near-if (test seen x) (at x n) (each n test (x ∷ seen) l) (h .0) (near-each n test (x ∷ seen) l (h .1))
+
+near-scope : (s : Scope) → AllScope Close s → Near (twiceIn s ++ headingIn s)
+unfolding twiceIn headingIn
+near-scope (ofBlock d) h = near-append (each twice has [] (namesIn (ofBlock d))) [] (near-each twice has [] (namesIn (ofBlock d)) (names-block Close d h)) tt
+near-scope (ofBody (heading t f xs vs ss b)) h =
+    let l = allNames ss in
+    let lacks = missing xs vs || missing xs l in
+    let a = each badHeading (stray xs) [] vs in
+    let b = each badHeading (stray xs) [] l in
+    let c : List Fault = cond lacks (at f badHeading ∷ []) [] in
+    near-append (each twice has (f ∷ []) xs) (a ++ (b ++ c)) (near-each twice has (f ∷ []) xs (h .1))
+    (near-append a (b ++ c) (near-each badHeading (stray xs) [] vs (h .2))
+    (near-append b c (near-each badHeading (stray xs) [] l (names-specified Close ss (h .3))) (near-if lacks (at f badHeading) [] (h .0) tt)))
+
+near-scopes : (gs : List (List Scope)) → AllScopes Close gs → Near (joined innermost gs)
+unfolding joined
+near-scopes [] no-scope = tt
+near-scopes ((s ∷ g) ∷ gs) (a-scope h k) = near-append (innermost (s ∷ g)) (joined innermost gs) (near-scope s h) (near-scopes gs k)
+
+near-meant : (m : Meaning) (x : Name) → Close x → Near (meantOrNot m x)
+near-meant (declared d g) x h = tt
+near-meant (given n e) x h = tt
+near-meant nothing x h = (h, tt)
+
+near-uses : (us : List Use) → AllUses Close us → Near (joined unmeant us)
+unfolding joined
+near-uses [] no-use = tt
+near-uses (u ∷ us) (a-use h k) = near-append (unmeant u) (joined unmeant us) (near-meant (meaning (u .around) (u .name)) (u .name) h) (near-uses us k)
+
+pub near-names : (n : ℕ) (s : Statement) → n ≤ 65536 → AllS (λ x. x .symbol < n) s → Near (nameFaults s)
+unfolding nameFaults
+near-names n s m h =
+    let k : AllS Close s = mapAll s closer h in
+    near-append (joined innermost (scopesS [] s)) (joined unmeant (usesS [] s)) (near-scopes (scopesS [] s) (scopes-statement Close [] s k))
+    (near-uses (usesS [] s) (uses-statement Close [] s k))
+  where
+    closer : (x : Name) → x .symbol < n → Close x
+    closer x l = omega (arith, l, m)

@@ -1,0 +1,108 @@
+-- `names::outline::walk` meets its contract: the nodes that are left, folded from here, give the whole.
+-- Assumes nothing.
+use mathlib.Core.Path.{_≡_, refl, sym, ap, _∙_}
+use Prim.Native.Nat.{_+_, _*_, _-_, _≤_}
+use native.Mathlib.Omega.{arith}
+use lib.ListN.{length, drop}
+use Rattle.names.specs.Rows.{opensOf, foldNodes, outlineNode, outlineOf}
+use Rattle.names.specs.Model.{seeOutline, OutlineWithin}
+use Rattle.names.proofs.RowLaws.{fold-on, fold-end}
+use Rattle.names.proofs.OutlineLaws.{within-le}
+use Rattle.names.proofs.outline.walk.Statement.{statement}
+use Rattle.names.proofs.outline.walk.Tie as tie
+
+abbrev Inv-loop : tie.InvT-loop
+Inv-loop nodes ids rows₀ marks₀ stack₀ o₀ i₀ rows marks stack o i =
+    (4 * i ≤ length nodes)
+    × (foldNodes (outlineNode ids) (drop (4 * i) nodes) (seeOutline o rows marks stack) ≡ outlineOf ids nodes)
+    × OutlineWithin o i
+
+abbrev μ-loop : tie.MeasureT-loop
+μ-loop nodes ids rows₀ marks₀ stack₀ o₀ i₀ rows marks stack o i = length nodes - i
+
+loop-holds : tie.Need-loop-holds Inv-loop μ-loop
+unfolding opensOf outlineOf
+loop-holds c = (omega arith, refl, record { rows = omega arith; marks = omega arith; around = record { deep = omega arith; many = omega arith } })
+
+mul-loop : tie.Need-mul-loop Inv-loop μ-loop
+mul-loop c = omega arith
+
+add-loop : tie.Need-add-loop Inv-loop μ-loop
+add-loop c = omega arith
+
+mul-at : tie.Need-mul-at Inv-loop μ-loop
+mul-at c = omega arith
+
+mul-node : tie.Need-mul-node Inv-loop μ-loop
+mul-node c = omega arith
+
+shared-slice-read-node : tie.Need-shared-slice-read-node Inv-loop μ-loop
+shared-slice-read-node c = omega arith
+
+add-node : tie.Need-add-node Inv-loop μ-loop
+add-node c = omega arith
+
+mul-node-2 : tie.Need-mul-node-2 Inv-loop μ-loop
+mul-node-2 c = omega arith
+
+shared-slice-read-node-2 : tie.Need-shared-slice-read-node-2 Inv-loop μ-loop
+shared-slice-read-node-2 c = omega arith
+
+add-node-2 : tie.Need-add-node-2 Inv-loop μ-loop
+add-node-2 c = omega arith
+
+mul-node-3 : tie.Need-mul-node-3 Inv-loop μ-loop
+mul-node-3 c = omega arith
+
+shared-slice-read-node-3 : tie.Need-shared-slice-read-node-3 Inv-loop μ-loop
+shared-slice-read-node-3 c = omega arith
+
+node-requires : tie.Need-node-requires Inv-loop μ-loop
+node-requires c κs = let l = c .before .before .before .before .before .before .before .loop in within-le (l .o) (l .i) 8191 (omega arith) (l .inv .2)
+
+add-i : tie.Need-add-i Inv-loop μ-loop
+add-i c = omega arith
+
+loop-less : tie.Need-loop-less Inv-loop μ-loop
+loop-less c = omega arith
+
+loop-again : tie.Need-loop-again Inv-loop μ-loop
+loop-again c =
+    let l = c .before .before .before .before .before .before .before .before .loop in (
+      omega arith,
+      ap (foldNodes (outlineNode (c .before .before .before .before .before .before .before .before .before .before .args .ids .now)) (drop (4 * (l .i + 1)) (c .before .before .before .before .before .before .before .before .before .before .args .nodes .now))) (c .node .ensures .0 _)
+          ∙ sym (fold-on (outlineNode (c .before .before .before .before .before .before .before .before .before .before .args .ids .now)) (c .before .before .before .before .before .before .before .before .before .before .args .nodes .now) (l .i) _ (c .before .before .before .before .before .before .before .loop-test .taken))
+          ∙ l .inv .1,
+      c .node .ensures .1 (l .i) (l .inv .2),
+    )
+
+returns : tie.Need-returns Inv-loop μ-loop
+returns c =
+    let l = c .before .loop in (
+      sym (fold-end (outlineNode (c .before .before .before .args .ids .now)) (c .before .before .before .args .nodes .now) (l .i) _ (c .loop-test .left)) ∙ l .inv .1,
+      within-le (l .o) (l .i) 8192 (omega arith) (l .inv .2),
+    )
+
+pub walk-spec : {M : Type 1} → statement M
+walk-spec =
+    tie.close
+    (tie.spec
+    Inv-loop
+    μ-loop
+    loop-holds
+    mul-loop
+    add-loop
+    mul-at
+    mul-node
+    shared-slice-read-node
+    add-node
+    mul-node-2
+    shared-slice-read-node-2
+    add-node-2
+    mul-node-3
+    shared-slice-read-node-3
+    node-requires
+    add-i
+    loop-less
+    loop-again
+    returns)

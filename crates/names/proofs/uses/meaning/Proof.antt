@@ -1,0 +1,75 @@
+-- `uses::meaning` searches the scopes that are open, from the innermost outward.
+-- The invariant: what the name means in the scopes that are left is what it means in all of them.
+use Prim.Native.Nat.{_≤_}
+use mathlib.Core.Path.{_≡_, refl, sym, _∙_}
+use native.Mathlib.Omega.{arith}
+use borrow.Author.Needs.{needs}
+use Rattle.names.specs.Rows.{opensOf, meantIn}
+use Rattle.names.proofs.UseLaws.{meant-here, meant-outward, meant-outside, outside-word, here-word}
+use Rattle.names.proofs.uses.meaning.Statement.{statement}
+use Rattle.names.proofs.uses.meaning.Tie as tie
+
+abbrev Inv-loop : tie.InvT-loop
+Inv-loop rows ids depth stack id d₀ d = (d ≤ depth) × (meantIn ids rows (opensOf d stack) id ≡ meantIn ids rows (opensOf depth stack) id)
+
+abbrev μ-loop : tie.MeasureT-loop
+μ-loop rows ids depth stack id d₀ d = d
+
+loop-holds : tie.Need-loop-holds Inv-loop μ-loop
+loop-holds c = (omega arith, refl)
+
+sub-d : tie.Need-sub-d Inv-loop μ-loop
+sub-d c = omega arith
+
+mul-t10 : tie.Need-mul-t10 Inv-loop μ-loop
+mul-t10 c = omega arith
+
+element-copy-out-t13 : tie.Need-element-copy-out-t13 Inv-loop μ-loop
+element-copy-out-t13 c = omega arith
+
+find-requires : tie.Need-find-requires Inv-loop μ-loop
+find-requires c κs = search needs
+
+returns : tie.Need-returns Inv-loop μ-loop
+returns c =
+    let a = c .before .before .before .before .before .before .args in
+    let l = c .before .before .before .before .loop in
+    let f = c .before .find in
+    let t = c .if1 .taken in
+    (meant-here (a .ids .now) (a .rows .now) (a .stack .now) (l .d) (a .id) (f .result) (c .before .before .before .loop-test .taken) (f .ensures) t ∙ l .inv .1, here-word (a .rows .now) (f .result) (c .before .before .before .before .before .before .pre .0) t)
+
+loop-less : tie.Need-loop-less Inv-loop μ-loop
+loop-less c = omega arith
+
+loop-again : tie.Need-loop-again Inv-loop μ-loop
+loop-again c =
+    let a = c .before .before .before .before .before .before .args in
+    let l = c .before .before .before .before .loop in
+    let f = c .before .find in
+    (omega arith, sym (meant-outward (a .ids .now) (a .rows .now) (a .stack .now) (l .d) (a .id) (f .result) (c .before .before .before .loop-test .taken) (f .ensures) (c .if1 .left)) ∙ l .inv .1)
+
+outside-requires : tie.Need-outside-requires Inv-loop μ-loop
+outside-requires c κs = search needs
+
+returns-2 : tie.Need-returns-2 Inv-loop μ-loop
+returns-2 c =
+    let a = c .before .before .before .before .args in
+    let l = c .before .before .loop in
+    (c .outside .ensures ∙ meant-outside (a .ids .now) (a .rows .now) (a .stack .now) (l .d) (a .id) (c .before .loop-test .left) ∙ l .inv .1, rw (c .outside .ensures) (outside-word (a .id)))
+
+pub meaning-spec : {M : Type 1} → statement M
+meaning-spec =
+    tie.close
+    (tie.spec
+    Inv-loop
+    μ-loop
+    loop-holds
+    sub-d
+    mul-t10
+    element-copy-out-t13
+    find-requires
+    returns
+    loop-less
+    loop-again
+    outside-requires
+    returns-2)

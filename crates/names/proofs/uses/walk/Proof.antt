@@ -1,0 +1,93 @@
+-- `uses::walk` is the fold over the nodes.
+-- The invariant: what the nodes from i on make of what is seen so far is what all nodes make; each node adds at most one use and one scope.
+use Prim.Native.Nat.{_+_, _-_, _*_, _≤_}
+use mathlib.Core.Path.{_≡_, refl, sym, _∙_}
+use native.Mathlib.Omega.{arith}
+use lib.ListN.{length, getD, drop}
+use Rattle.names.specs.Rows.{foldNodes, opensOf, useNode, usesOf}
+use Rattle.names.specs.Model.{seeUses, UsesWithin}
+use Rattle.names.proofs.RowLaws.{fold-end}
+use Rattle.names.proofs.UseLaws.{fold-next}
+use Rattle.names.proofs.uses.walk.Statement.{statement}
+use Rattle.names.proofs.uses.walk.Tie as tie
+
+abbrev Inv-loop : tie.InvT-loop
+Inv-loop nodes rows ids stack₀ uses₀ u₀ i₀ stack uses u i = (i ≤ 8192) × UsesWithin u i × (foldNodes (useNode ids rows) (drop (4 * i) nodes) (seeUses u uses stack) ≡ usesOf ids rows nodes)
+
+abbrev μ-loop : tie.MeasureT-loop
+μ-loop nodes rows ids stack₀ uses₀ u₀ i₀ stack uses u i = length nodes - i
+
+loop-holds : tie.Need-loop-holds Inv-loop μ-loop
+unfolding usesOf opensOf
+loop-holds c = (omega arith, omega arith, refl)
+
+mul-loop : tie.Need-mul-loop Inv-loop μ-loop
+mul-loop c = omega arith
+
+add-loop : tie.Need-add-loop Inv-loop μ-loop
+add-loop c = omega arith
+
+mul-at : tie.Need-mul-at Inv-loop μ-loop
+mul-at c = omega arith
+
+mul-node : tie.Need-mul-node Inv-loop μ-loop
+mul-node c = omega arith
+
+shared-slice-read-node : tie.Need-shared-slice-read-node Inv-loop μ-loop
+shared-slice-read-node c = omega arith
+
+add-node : tie.Need-add-node Inv-loop μ-loop
+add-node c = omega arith
+
+mul-node-2 : tie.Need-mul-node-2 Inv-loop μ-loop
+mul-node-2 c = omega arith
+
+shared-slice-read-node-2 : tie.Need-shared-slice-read-node-2 Inv-loop μ-loop
+shared-slice-read-node-2 c = omega arith
+
+node-requires : tie.Need-node-requires Inv-loop μ-loop
+node-requires c κs = (omega arith, c .before .before .before .before .before .before .before .before .pre .1)
+
+add-i : tie.Need-add-i Inv-loop μ-loop
+add-i c = omega arith
+
+loop-less : tie.Need-loop-less Inv-loop μ-loop
+loop-less c = omega arith
+
+loop-again : tie.Need-loop-again Inv-loop μ-loop
+loop-again c =
+    let a = c .before .before .before .before .before .before .before .before .before .args in
+    let l = c .before .before .before .before .before .before .loop in
+    let n = c .node in (
+      omega arith,
+      n .ensures .1 (l .i) (l .inv .1),
+      fold-next (useNode (a .ids .now) (a .rows .now)) (a .nodes .now) (l .i) (seeUses (l .u) (l .uses) (l .stack)) _ (c .before .before .before .before .before .loop-test .taken) (n .ensures .0 (getD (a .nodes .now) (4 * l .i + 2) 0) (getD (a .nodes .now) (4 * l .i + 3) 0))
+          ∙ l .inv .2,
+    )
+
+returns : tie.Need-returns Inv-loop μ-loop
+returns c =
+    let a = c .before .before .before .before .args in
+    let l = c .before .loop in
+    (sym (fold-end (useNode (a .ids .now) (a .rows .now)) (a .nodes .now) (l .i) (seeUses (l .u) (l .uses) (l .stack)) (c .loop-test .left)) ∙ l .inv .2, omega arith)
+
+pub walk-spec : {M : Type 1} → statement M
+walk-spec =
+    tie.close
+    (tie.spec
+    Inv-loop
+    μ-loop
+    loop-holds
+    mul-loop
+    add-loop
+    mul-at
+    mul-node
+    shared-slice-read-node
+    add-node
+    mul-node-2
+    shared-slice-read-node-2
+    node-requires
+    add-i
+    loop-less
+    loop-again
+    returns)
