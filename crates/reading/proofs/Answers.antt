@@ -1,0 +1,150 @@
+-- What each stage of the job answers, in terms of what it was lent: these are the last steps of its functions' proofs.
+use Prim.Native.Nat.{ℕ, zero, suc, pred, _+_, _-_, _<_, _≤_, min}
+use mathlib.Core.Path.{_≡_, refl, sym, ap, subst, _∙_}
+use mathlib.Core.List.{List, [], _∷_, _++_, map}
+use mathlib.Core.Option.{Option, none, some}
+use native.Mathlib.Omega.{arith}
+use native.Mathlib.Nat.{zero-add}
+use lib.ListN.{length, getD, take, drop, take-append-drop}
+use Rattle.answers.specs.Numbers.{types}
+use Rattle.answers.specs.declared.Verdict.the-variants.{Accepted, Refused}
+use Rattle.syntax.specs.Grammar.{program as Grammar-program}
+use Rattle.syntax.specs.Trees.{Syn, nil, tok, sub, yield}
+use Rattle.syntax.specs.Verdict.{zeros}
+use Rattle.names.specs.Program.{Name, Statement}
+use Rattle.names.specs.Uses.{Fault, nameFaults, sooner, least, joined, innermost, unmeant, scopesS, usesS}
+use Rattle.names.specs.Nodes.{nodesS}
+use Rattle.names.specs.Outline.{rowsS}
+use Rattle.names.specs.Rows.{faultOf, noFault, outlineOf, usesOf}
+use Rattle.names.proofs.AllNames.{AllS}
+use Rattle.names.proofs.Weaken.{mapAll}
+use Rattle.names.proofs.NearNames.{near-names, small-names}
+use Rattle.names.proofs.NearNodes.{SymbolsWithin, none as no-node, one, nodes-before-end}
+use Rattle.names.proofs.TreeRows.{marksS}
+use Rattle.names.proofs.Resolved.{Matches}
+use Rattle.types.specs.Types.{typeFaults}
+use Rattle.types.specs.Passes.{typedOf}
+use Rattle.types.proofs.NearTypes.{near-types, small-types}
+use Rattle.reading.specs.Table.{tableOf}
+use Rattle.reading.specs.Reading.{placeIn, refusedAt, cleared, filled, Judged, parsed}
+use Rattle.reading.specs.Model.{placeOf, Wrote, tableModel, Ready, Known, Outlined, Named}
+use Rattle.reading.proofs.SamePlaces.{SymbolsBelow}
+use Rattle.reading.proofs.TableWords.{table-words}
+use Rattle.reading.proofs.Fits.{table-room, rows-room, nodes-room}
+use Rattle.reading.proofs.Whole.{letters, worth, program, Good, all-good, nodes-are, rows-are, marks-are, uses-match, worst, at-fault, no-name-fault, mistake, mistaken, accepts}
+
+-- ---- lists without a fault
+
+none-empty : (l : List Fault) → least l ≡ none → l ≡ []
+unfolding least
+none-empty [] q = refl
+none-empty (f ∷ l) q = absurd (go (least l) q)
+  where
+    some-none : {A : Type 0} {x : A} → some x ≡ none → ⊥
+    some-none e = let z : _≡_ {A = ℕ} 0 1 = cc in omega arith
+
+    go : (o : Option Fault) → sooner f o ≡ none → ⊥
+    go none e = some-none e
+    go (some g) e = some-none e
+
+right-empty : (a b : List Fault) → a ++ b ≡ [] → b ≡ []
+right-empty [] b q = q
+right-empty (x ∷ a) b q = absurd (cons-nil q)
+  where
+    cons-nil : {y : Fault} {l : List Fault} → (y ∷ l) ≡ [] → ⊥
+    cons-nil {y} {l} e = let z : suc (length l) ≡ 0 = ap length e in omega arith
+
+unmeant-none : (s : Statement) → least (nameFaults s) ≡ none → joined unmeant (usesS [] s) ≡ []
+unfolding nameFaults
+unmeant-none s q = right-empty (joined innermost (scopesS [] s)) (joined unmeant (usesS [] s)) (none-empty (nameFaults s) q)
+
+-- ---- the whole table is written over zeros
+
+drop-zeros : (k m : ℕ) → drop k (zeros m) ≡ zeros (m - k)
+unfolding zeros
+drop-zeros zero m = let e : m ≡ m - 0 = omega arith in ap zeros e
+drop-zeros (suc k) zero = let e : 0 ≡ 0 - suc k = omega arith in ap zeros e
+drop-zeros (suc k) (suc m) = let e : m - k ≡ suc m - suc k = omega arith in drop-zeros k m ∙ ap zeros e
+
+pub wrote-filled : (new words : List ℕ) → Wrote cleared new 0 words → new ≡ filled words
+wrote-filled new words w =
+    sym (take-append-drop (0 + length words) new)
+    ∙ ap (λ x. x ++ drop (0 + length words) new) (w .put)
+    ∙ ap (λ x. words ++ x) (w .kept ∙ drop-zeros (0 + length words) 32768 ∙ ap (λ k. zeros (32768 - k)) (zero-add (length words)))
+
+-- every node's symbol comes before the end
+strictly : {n : ℕ} {ws : List ℕ} → SymbolsWithin n ws → SymbolsBelow (suc n) ws
+strictly no-node = tt
+strictly (one h hs) = (omega arith, strictly hs)
+
+loosely : {n : ℕ} {ws : List ℕ} → SymbolsWithin n ws → (m : ℕ) → n ≤ m → SymbolsWithin m ws
+loosely no-node m l = no-node
+loosely {n} (one {s = s} h hs) m l = let k : s ≤ m = omega arith in one k (loosely hs m l)
+
+module _ {source places nodes ids : List ℕ} {n : ℕ} (known : Known source places nodes ids n) where
+  few : length (yield (known .ready .program .tree)) ≤ 2048
+  few = omega (arith, ap length (known .ready .program .keeps .spelled), known .ready .places-in .count, known .ready .places-in .few)
+
+  pub rows-fit : length (rowsS 0 0 (program known)) ≤ 32768
+  rows-fit = rows-room (worth known) (letters known) (known .ready .program .tree) few
+
+  pub nodes-fit : length nodes ≤ 32760
+  nodes-fit = subst (λ ws. length ws ≤ 32760) (sym (nodes-are known)) (nodes-room (worth known) (letters known) (known .ready .program .tree) few)
+
+  below : AllS (λ x. x .symbol < n) (program known)
+  below = mapAll (program known) (λ x g. g .1) (all-good known)
+
+  -- 7 to 9, and none
+  pub names-refused : worst known rows-fit < noFault → Judged source (refusedAt source (faultOf (worst known rows-fit))) cleared
+  names-refused l = at-fault known rows-fit (small-names (program known)) l
+
+  pub names-right : (worst known rows-fit < noFault → ⊥) → least (nameFaults (program known)) ≡ none
+  names-right l = no-name-fault known rows-fit (near-names n (program known) (omega (arith, known .ready .places-in .few)) below) (small-names (program known)) l
+
+  -- the symbols of the nodes
+  some-symbols : (t : Syn Grammar-program) → (m : ℕ) × (length (yield t) ≡ suc m)
+  unfolding yield
+  some-symbols (tok (sub p t (tok nil))) = (length (yield t ++ (1 ∷ [])), refl)
+
+  within : (m : ℕ) → length (yield (known .ready .program .tree)) ≡ suc m → SymbolsWithin m (nodesS 1 (program known))
+  within m e = subst (SymbolsWithin m) (sym (known .ready .words) ∙ nodes-are known) (nodes-before-end (known .ready .program .tree) m e)
+
+  count-is : length (yield (known .ready .program .tree)) ≡ n
+  count-is = ap length (known .ready .program .keeps .spelled) ∙ sym (known .ready .places-in .count)
+
+  below-nodes : SymbolsBelow n (nodesS 1 (program known))
+  below-nodes =
+      let m = some-symbols (known .ready .program .tree) in
+      subst (λ k. SymbolsBelow k (nodesS 1 (program known))) (sym (m .1) ∙ count-is) (strictly (within (m .0) (m .1)))
+
+  within-nodes : SymbolsWithin n (nodesS 1 (program known))
+  within-nodes =
+      let m = some-symbols (known .ready .program .tree) in
+      loosely (within (m .0) (m .1)) n (omega (arith, m .1, count-is))
+
+  module _ (right : least (nameFaults (program known)) ≡ none) where
+    -- 10
+    pub types-refused : mistake known rows-fit < noFault → Judged source (refusedAt source (faultOf (mistake known rows-fit))) cleared
+    types-refused l = mistaken known rows-fit right (small-types (program known)) l
+
+    -- the table is the paper's
+    pub table-is : tableModel (placeOf places) (outlineOf ids nodes .rows) nodes (usesOf ids (outlineOf ids nodes .rows) nodes .uses) ≡ tableOf (placeIn source) (program known)
+    table-is =
+        ap (λ r. tableModel (placeOf places) r nodes (usesOf ids (outlineOf ids nodes .rows) nodes .uses)) (rows-are known)
+        ∙ ap (λ ws. tableModel (placeOf places) (rowsS 0 0 (program known)) ws (usesOf ids (outlineOf ids nodes .rows) nodes .uses)) (nodes-are known)
+        ∙ table-words ids (marksS 0 0 (program known)) (usesOf ids (outlineOf ids nodes .rows) nodes .uses) n (placeOf places) (placeIn source) (known .ready .places-in .placed) (program known) below below-nodes (uses-match known rows-fit) (unmeant-none (program known) right)
+
+    pub table-fits : length (tableModel (placeOf places) (outlineOf ids nodes .rows) nodes (usesOf ids (outlineOf ids nodes .rows) nodes .uses)) ≤ 32768
+    table-fits =
+        subst (λ w. length w ≤ 32768)
+        (sym
+        (ap (λ r. tableModel (placeOf places) r nodes (usesOf ids (outlineOf ids nodes .rows) nodes .uses)) (rows-are known)
+        ∙ ap (λ ws. tableModel (placeOf places) (rowsS 0 0 (program known)) ws (usesOf ids (outlineOf ids nodes .rows) nodes .uses)) (nodes-are known)))
+        (table-room (worth known) (letters known) (known .ready .program .tree) (placeOf places) (usesOf ids (outlineOf ids nodes .rows) nodes .uses) few)
+
+    -- 0
+    pub types-right : (mistake known rows-fit < noFault → ⊥) → (new : List ℕ)
+        → Wrote cleared new 0 (tableModel (placeOf places) (outlineOf ids nodes .rows) nodes (usesOf ids (outlineOf ids nodes .rows) nodes .uses)) → Judged source Accepted new
+    types-right l new w =
+        subst (Judged source Accepted) (sym (wrote-filled new _ w ∙ ap filled table-is))
+        (accepts known rows-fit right (near-types n (program known) (omega (arith, known .ready .places-in .few)) within-nodes) (small-types (program known)) l)

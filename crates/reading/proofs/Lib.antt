@@ -1,0 +1,12 @@
+pub mod Answers
+pub mod Examples
+pub mod Few
+pub mod Fits
+pub mod Only
+pub mod Places
+pub mod SamePlaces
+pub mod Stages
+pub mod TableWords
+pub mod UseWords
+pub mod Whole
+pub mod Writing

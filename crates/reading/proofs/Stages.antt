@@ -1,0 +1,183 @@
+-- From the arrays to the definitions: what scanning and parsing left says that the symbols, and then the program, stand.
+use Prim.Native.Nat.{ℕ, zero, suc, _+_, _-_, _<_, _≤_}
+use mathlib.Core.Path.{_≡_, refl, sym, ap, subst, _∙_}
+use mathlib.Core.List.{List, [], _∷_, _++_, map}
+use mathlib.Core.Option.{Option, none, some}
+use native.Mathlib.Omega.{arith}
+use native.Mathlib.Decide.{decLt, ℕ-discrete}
+use lib.ListN.{length, getD, take, drop, length-append, length-map, length-drop, List·getD-append}
+use lib.Seq.{take-append-seam, getD-append-add, getD-drop, take-append-le}
+use Rattle.answers.specs.Numbers.{grammar, depth}
+use Rattle.answers.specs.Answers.{answer, refusal}
+use Rattle.answers.specs.declared.Answer.{Answer}
+use Rattle.answers.specs.declared.Refusal.{Refusal}
+use Rattle.answers.specs.declared.Verdict.the-variants.{Refused}
+use Rattle.symbols.specs.Symbols.{kind}
+use Rattle.symbols.specs.Kinds.{symbolOf}
+use Rattle.symbols.specs.Scan.{Found, Scan, scan}
+use Rattle.symbols.specs.Steps.{answerOf, kindsOf, placesOf, over, Filled}
+use Rattle.symbols.specs.declared.Symbol.{Symbol}
+use Rattle.symbols.specs.declared.Symbol.the-variants.{Begin, End, If, Then, Else, For, Do, Step, Until, While, Comment, Integer, Boolean, Procedure, Value, True, False, And, Or, Not, Impl, Equiv, Plus, Minus, Times, Divide, Less, LessEqual, Equal, GreaterEqual, Greater, NotEqual, Comma, Colon, Becomes, Semicolon, Open, Close, Name, Number}
+use Rattle.symbols.specs.declared.Scanned.{Scanned as Told}
+use Rattle.symbols.specs.declared.Scanned.the-variants.{Read as Symbols-read, Refused as Symbols-refused}
+use Rattle.syntax.specs.Text.{text}
+use Rattle.syntax.specs.Trees.{nodesOf}
+use Rattle.syntax.specs.Program.{Wrong, FirstDeep}
+use Rattle.syntax.specs.Verdict.{zeros, Verdict, Whole}
+use Rattle.syntax.specs.declared.Parsed.{Parsed as Outcome}
+use Rattle.syntax.specs.declared.Parsed.the-variants.{Read as Program-read, Refused as Program-refused}
+use Rattle.reading.specs.Reading.{symbols, kindsIn, placeIn, cleared, Scanned, Parsed, Judged, unreadable, ungrammatical, too-deep}
+use Rattle.reading.specs.Model.{Narrow, Symbols, Ready}
+use Rattle.reading.proofs.Places.{place-inside}
+
+-- ---- a stored kind gives itself
+
+same-kind : (s : Symbol) → kind (symbolOf (kind s) 0) ≡ kind s
+unfolding symbolOf
+same-kind Begin = refl
+same-kind End = refl
+same-kind If = refl
+same-kind Then = refl
+same-kind Else = refl
+same-kind For = refl
+same-kind Do = refl
+same-kind Step = refl
+same-kind Until = refl
+same-kind While = refl
+same-kind Comment = refl
+same-kind Integer = refl
+same-kind Boolean = refl
+same-kind Procedure = refl
+same-kind Value = refl
+same-kind True = refl
+same-kind False = refl
+same-kind And = refl
+same-kind Or = refl
+same-kind Not = refl
+same-kind Impl = refl
+same-kind Equiv = refl
+same-kind Plus = refl
+same-kind Minus = refl
+same-kind Times = refl
+same-kind Divide = refl
+same-kind Less = refl
+same-kind LessEqual = refl
+same-kind Equal = refl
+same-kind GreaterEqual = refl
+same-kind Greater = refl
+same-kind NotEqual = refl
+same-kind Comma = refl
+same-kind Colon = refl
+same-kind Becomes = refl
+same-kind Semicolon = refl
+same-kind Open = refl
+same-kind Close = refl
+same-kind Name = refl
+same-kind (Number v) = refl
+
+pub text-is : (l : List Found) → text (kindsOf l) ≡ kindsOf l
+unfolding text
+text-is [] = refl
+text-is (f ∷ l) = ap₂ (same-kind (f .symbol)) (text-is l)
+  where
+    ap₂ : {a b : ℕ} {u v : List ℕ} → a ≡ b → u ≡ v → (a ∷ u) ≡ (b ∷ v)
+    ap₂ p q = cc
+
+-- ---- what scanning answered
+
+answered : (s : Scan) (n : ℕ) → answerOf s ≡ Symbols-read n → (s .refused ≡ none) × (length (s .found) ≡ n)
+unfolding answerOf
+answered s n q = go (s .refused) refl
+  where
+    read-refused : {m : ℕ} {r : Refusal} → Symbols-refused r ≡ Symbols-read m → ⊥
+    read-refused e = let z : _≡_ {A = ℕ} 0 1 = cc in omega arith
+
+    same-count : {a b : ℕ} → Symbols-read a ≡ Symbols-read b → a ≡ b
+    same-count e = cc
+
+    go : (o : Option Refusal) → s .refused ≡ o → (s .refused ≡ none) × (length (s .found) ≡ n)
+    go none e = (e, same-count (rw e at q))
+    go (some r) e = absurd (read-refused (rw e at q))
+
+refused-as : (s : Scan) (r : Refusal) → answerOf s ≡ Symbols-refused r → s .refused ≡ some r
+unfolding answerOf
+refused-as s r q = go (s .refused) refl
+  where
+    refused-read : {m : ℕ} {x : Refusal} → Symbols-read m ≡ Symbols-refused x → ⊥
+    refused-read e = let z : _≡_ {A = ℕ} 0 1 = cc in omega arith
+
+    same-refusal : {a b : Refusal} → Symbols-refused a ≡ Symbols-refused b → a ≡ b
+    same-refusal e = cc
+
+    go : (o : Option Refusal) → s .refused ≡ o → s .refused ≡ some r
+    go none e = absurd (refused-read (rw e at q))
+    go (some x) e = e ∙ ap some (same-refusal (rw e at q))
+
+-- 3 and 4
+pub unread : {source kinds kinds' places places' values values' : List ℕ} {t : Told} → Filled symbols source t kinds kinds' places places' values values'
+    → length source ≤ 16384 → (r : Refusal) → t ≡ Symbols-refused r → Judged source (Refused r) cleared
+unread {source} f l r q = unreadable l r (refused-as (scan symbols source) r (sym (f .answers) ∙ q))
+
+-- the symbols stand
+zero-behind : (new old : List ℕ) (k : ℕ) → ((j : ℕ) → getD old j 0 ≡ 0) → length new ≤ k → getD (over new old) k 0 ≡ 0
+zero-behind new old k z l =
+    let e : k ≡ length new + (k - length new) = omega arith in
+    ap (λ j. getD (over new old) j 0) e ∙ getD-append-add new (drop (length new) old) (k - length new) 0 ∙ getD-drop (length new) old (k - length new) 0 ∙ z (length new + (k - length new))
+
+default-free : (l : List ℕ) (k a b : ℕ) → k < length l → getD l k a ≡ getD l k b
+default-free [] k a b h = absurd (omega arith)
+default-free (x ∷ l) zero a b h = refl
+default-free (x ∷ l) (suc k) a b h = default-free l k a b (omega arith)
+
+pub stand : {source kinds kinds' places places' values values' : List ℕ} {t : Told} → Filled symbols source t kinds kinds' places places' values values'
+    → length source ≤ 16384 → length kinds' ≡ 2048 → ((j : ℕ) → getD places j 0 ≡ 0) → (n : ℕ) → t ≡ Symbols-read n → Symbols source kinds' places' n
+stand {source} {kinds} {kinds'} {places} {places'} f l size z n q =
+    let found = scan symbols source .found in
+    let a = answered (scan symbols source) n (sym (f .answers) ∙ q) in
+    let ks : length (kindsOf found) ≡ n = length-map found (λ f. kind (f .symbol)) ∙ a .1 in
+    let ps : length (placesOf found) ≡ n = length-map found (λ f. f .place) ∙ a .1 in
+    let few : n ≤ 2048 = omega (arith, ks, sym size ∙ ap length (f .kinded) ∙ length-append (kindsOf found) (drop (length (kindsOf found)) kinds)) in
+    let placed : (k : ℕ) → k < n → getD places' k 0 ≡ placeIn source k =
+    λ k h. ap (λ p. getD p k 0) (f .placed) ∙ List·getD-append (placesOf found) (drop (length (placesOf found)) places) 0 k (omega (arith, ps)) ∙ default-free (placesOf found) k 0 (length source) (omega (arith, ps)) in
+    record {
+      scanned = record { short = l; whole = a .0 };
+      kinded = ap (take n) (f .kinded) ∙ ap (λ m. take m (over (kindsOf found) kinds)) (sym ks) ∙ take-append-seam (kindsOf found) (drop (length (kindsOf found)) kinds);
+      places-in = record { count = sym ks; few = few; placed = placed; narrow = λ k. narrow-at (decLt k n) (placed k) ps };
+    }
+  where
+    narrow-at : {k n : ℕ} → Dec (k < n) → (k < n → getD places' k 0 ≡ placeIn source k) → length (placesOf (scan symbols source .found)) ≡ n → getD places' k 0 < 65536
+    narrow-at {k} (yes h) e ps = omega (arith, e h, place-inside symbols source k, l)
+    narrow-at {k} (no h) e ps = omega (arith, ap (λ p. getD p k 0) (f .placed) ∙ zero-behind (placesOf (scan symbols source .found)) places k z (omega (arith, ps)))
+
+-- ---- what parsing answered
+
+module _ {source kinds places : List ℕ} {n : ℕ} (s : Symbols source kinds places n) where
+  kinds-are : text (take n kinds) ≡ kindsIn source
+  kinds-are = ap text (s .kinded) ∙ text-is (scan symbols source .found)
+
+  -- the program stands
+  pub ready : {new : List ℕ} {r : Outcome} → Verdict (text (take n kinds)) new r → (j b : ℕ) → r ≡ Program-read j b → Ready source places (take b new) n
+  ready {new} v j b q =
+      let w : Whole (kindsIn source) new j b = subst (λ ks. Whole ks new j b) kinds-are (v .accepted j b q) in
+      record {
+        program = record { scanned = s .scanned; tree = w .tree; keeps = w .keeps };
+        places-in = s .places-in;
+        words = ap (take b) (w .wrote) ∙ ap (λ m. take m (nodesOf (w .tree) ++ zeros (32768 - b))) (w .words) ∙ take-append-seam (nodesOf (w .tree)) (zeros (32768 - b));
+      }
+
+  -- 5 and 6
+  pub refusals : {new : List ℕ} {r : Outcome} → Verdict (text (take n kinds)) new r → (a : Answer) (k : ℕ) → r ≡ Program-refused a k
+      → Judged source (Refused (refusal (a .number) (placeIn source k))) cleared
+  refusals {new} {r} v a k q = go (ℕ-discrete (a .number) grammar)
+    where
+      said : (m : ℕ) → a .number ≡ m → r ≡ Program-refused (answer m) k
+      said m e = q ∙ ap (λ i. Program-refused (answer i) k) e
+
+      go : Dec (a .number ≡ grammar) → Judged source (Refused (refusal (a .number) (placeIn source k))) cleared
+      go (yes e) =
+          subst (λ m. Judged source (Refused (refusal m (placeIn source k))) cleared) (sym e)
+          (ungrammatical (s .scanned) k (subst (λ ks. Wrong ks k) kinds-are (v .wrong k (said grammar e))))
+      go (no e) =
+          let d : a .number ≡ depth = ap (λ x. x .number) (v .numbers a k q (λ x. e (ap (λ y. y .number) x))) in
+          subst (λ m. Judged source (Refused (refusal m (placeIn source k))) cleared) (sym d)
+          (too-deep (s .scanned) k (subst (λ ks. FirstDeep ks k) kinds-are (v .deep k (said depth d))))
