@@ -29,21 +29,13 @@ unfoldable pub CountsWithin : List Call → ℕ → Type 0
 CountsWithin [] i = Unit {0}
 CountsWithin (c ∷ l) i = (c .count ≤ i) × CountsWithin l i
 
--- there is room behind i nodes, u of them uses
-pub record Within (t : Seen) (words : List ℕ) (u i : ℕ) : Type 0 where
-  pub uses : t .uses ≤ u
-  pub rows : t .rows ≤ i
-  pub depth : t .depth ≤ i
-  pub calls : t .calls ≤ i
-  pub bodies : t .bodies ≤ i
-  pub counts : CountsWithin (callsOf (t .calls) words) i
-
--- r needs no more room than t; or no more than one node may add
-abbrev pub Stays : Seen → Seen → Type 0
-Stays t r = (words : List ℕ) (u i : ℕ) → Within t words u i → Within r words u i
-
-abbrev pub Grows : Seen → List ℕ → Seen → List ℕ → Type 0
-Grows t words r after = (u i : ℕ) → Within t words u i → Within r after u (i + 1)
+-- there is room behind i nodes
+pub record Within (i : ℕ) (st : State) : Type 0 where
+  pub rows : st .rows ≤ i
+  pub depth : length (st .stack) ≤ i
+  pub calls : length (st .calls) ≤ i
+  pub bodies : length (st .bodies) ≤ i
+  pub counts : CountsWithin (st .calls) i
 
 -- a meaning that may be looked up: every number that a use is kept as gives one
 abbrev pub MeantWithin : Meant → Type 0

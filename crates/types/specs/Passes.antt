@@ -208,15 +208,30 @@ nextUse (w ∷ ws) st = withUse w ws st
 unfoldable pub judged : Judgement → ℕ → State → State
 judged j s st = pushed (j .sort) (noted (j .wrong) s st)
 
+unfoldable pub calledAs : ℕ → State → State
+calledAs depth st = withCalls (record { meaning = st .last; depth = depth; count = 0 } ∷ st .calls) st
+
+abbrev pub oneMore : Call → Call
+oneMore c = record { meaning = c .meaning; depth = c .depth; count = c .count + 1 }
+
+-- a node that is of no name
+unfoldable pub plainTyped : ℕ → ℕ → ℕ → State → State
+plainTyped k s a st =
+    cond (eqb k n-number) (pushed 1 st)
+    (cond (eqb k n-logical) (pushed 2 st)
+    (cond (eqb k n-unary) (signedAs a s st)
+    (cond (eqb k n-binary) (operatedAs a s st)
+    (cond (eqb k n-then || eqb k n-while) (takenAs 2 s st)
+    (cond (eqb k n-start || eqb k n-amount) (takenAs 1 s st)
+    (cond (eqb k n-condition-end) (chosenAs s st)
+    (cond (eqb k n-assign) (assignedAs s st) st)))))))
+
 module _ (ids rows marks : List ℕ) where
   -- a name without actuals: as a statement, or as a primary
   unfoldable pub namedAs : ℕ → ℕ → ℕ → State → State
   namedAs s depth u st =
       cond (eqb u 1) (noted (miscalledOf rows (meantOf (st .last)) 0) s st)
       (withBare depth (judged (primaryOf ids rows marks (meantOf (st .last)) 0) s st))
-
-  unfoldable pub calledAs : ℕ → State → State
-  calledAs depth st = withCalls (record { meaning = st .last; depth = depth; count = 0 } ∷ st .calls) st
 
   unfoldable pub leftAs : ℕ → State → State
   leftAs s st =
@@ -236,9 +251,6 @@ module _ (ids rows marks : List ℕ) where
   misfitOf (Variable want) alone t m = not alone || not (variableOf ids rows marks m want)
   misfitOf Anything alone t m = false
 
-  abbrev pub oneMore : Call → Call
-  oneMore c = record { meaning = c .meaning; depth = c .depth; count = c .count + 1 }
-
   -- bare: the depth of the name, if one was the node before
   unfoldable pub actualIn : List Call → ℕ → ℕ → State → State
   actualIn [] bare s st = popped st
@@ -251,18 +263,6 @@ module _ (ids rows marks : List ℕ) where
   callEnded (c ∷ l) s u st =
       cond (eqb u 1) (noted (miscalledOf rows (meantOf (c .meaning)) (c .count)) s (withCalls l st))
       (judged (primaryOf ids rows marks (meantOf (c .meaning)) (c .count)) s (withCalls l st))
-
-  -- a node that is of no name
-  unfoldable pub plainTyped : ℕ → ℕ → ℕ → State → State
-  plainTyped k s a st =
-      cond (eqb k n-number) (pushed 1 st)
-      (cond (eqb k n-logical) (pushed 2 st)
-      (cond (eqb k n-unary) (signedAs a s st)
-      (cond (eqb k n-binary) (operatedAs a s st)
-      (cond (eqb k n-then || eqb k n-while) (takenAs 2 s st)
-      (cond (eqb k n-start || eqb k n-amount) (takenAs 1 s st)
-      (cond (eqb k n-condition-end) (chosenAs s st)
-      (cond (eqb k n-assign) (assignedAs s st) st)))))))
 
   -- what a node adds
   unfoldable pub typeNode : ℕ → ℕ → ℕ → ℕ → State → State

@@ -1,5 +1,7 @@
 // Paper 01, "Names and types": the type faults of a program.
 pub mod sorts; // types by number, and the operators
+pub mod meanings; // what a name that means something is used as
+pub mod walking; // the nodes with a stack of types
 
 // A type, 0 where it has none, and whether the name is at fault.
 pub struct Judgement {

@@ -1,0 +1,63 @@
+-- `types::meanings::is_variable` meets its contract: a case for each kind of meaning.
+use mathlib.Core.Path.{sym, subst, _∙_}
+use native.Mathlib.Omega.{arith}
+use borrow.Author.Tests.{eq-eqb, ne-eqb}
+use borrow.Author.Needs.{needs}
+use Rattle.types.specs.Passes.{variableOf}
+use Rattle.types.specs.Model.{MeantWithin}
+use Rattle.types.proofs.meanings.is_variable.Statement.{statement}
+use Rattle.types.proofs.meanings.is_variable.Tie as tie
+use Rattle.types.proofs.meanings.is_variable.Reads as reads
+use Rattle.types.proofs.meanings.is_variable.Lts as lts
+use Rattle.types.proofs.meanings.sort_of.Reads as sort-of-reads
+use Rattle.types.proofs.meanings.word.Reads as word-reads
+use Rattle.types.proofs.sorts.apart.Reads as apart-reads
+
+enum-known-m : tie.Need-enum-known-m
+enum-known-m c = search needs
+
+word-requires : tie.Need-word-requires
+word-requires c κs = let h = subst MeantWithin (c .before .m .given .1) (c .before .before .before .before .before .pre .2) in (omega arith, omega arith)
+
+returns : tie.Need-returns
+unfolding variableOf
+returns c = simp (c .before .before .before .m .given .1, eq-eqb _ _ (sym (c .before .word .ensures) ∙ c .if1 .taken))
+
+sort-of-requires : tie.Need-sort-of-requires
+sort-of-requires c κs = let h = subst MeantWithin (c .before .before .before .m .given .1) (c .before .before .before .before .before .before .before .pre .2) in (omega arith, omega arith)
+
+apart-requires : tie.Need-apart-requires
+apart-requires c κs = search needs
+
+enum-told : tie.Need-enum-told
+enum-told c = search needs
+
+enum-told-2 : tie.Need-enum-told-2
+enum-told-2 c = search needs
+
+returns-2 : tie.Need-returns-2
+unfolding variableOf
+returns-2 c = simp (c .before .before .before .before .before .m .given .1, ne-eqb _ _ (λ e. c .before .before .if1 .left (c .before .before .before .word .ensures ∙ e)), c .apart .ensures, c .before .sort-of .ensures)
+
+returns-3 : tie.Need-returns-3
+unfolding variableOf
+returns-3 c = simp (c .enum-told .given .1)
+
+returns-4 : tie.Need-returns-4
+unfolding variableOf
+returns-4 c = simp (c .enum-told2 .given .1)
+
+pub is-variable-spec : {M : Type 1} → statement M
+is-variable-spec =
+    tie.close
+    (tie.spec
+    enum-known-m
+    word-requires
+    returns
+    sort-of-requires
+    apart-requires
+    enum-told
+    enum-told-2
+    returns-2
+    returns-3
+    returns-4)

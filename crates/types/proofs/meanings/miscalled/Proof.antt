@@ -1,0 +1,63 @@
+-- `types::meanings::miscalled` meets its contract: a case for each kind of meaning.
+use mathlib.Core.Path.{sym, subst, _∙_}
+use native.Mathlib.Omega.{arith}
+use borrow.Author.Tests.{eq-eqb, ne-eqb}
+use borrow.Author.Needs.{needs}
+use Rattle.types.specs.Passes.{miscalledOf}
+use Rattle.types.specs.Model.{MeantWithin}
+use Rattle.types.proofs.meanings.miscalled.Statement.{statement}
+use Rattle.types.proofs.meanings.miscalled.Tie as tie
+use Rattle.types.proofs.meanings.miscalled.Reads as reads
+use Rattle.types.proofs.meanings.miscalled.Lts as lts
+use Rattle.types.proofs.meanings.formals.Reads as formals-reads
+use Rattle.types.proofs.meanings.given_formals.Reads as given-formals-reads
+use Rattle.types.proofs.meanings.word.Reads as word-reads
+
+enum-known-m : tie.Need-enum-known-m
+enum-known-m c = search needs
+
+word-requires : tie.Need-word-requires
+word-requires c κs = let h = subst MeantWithin (c .before .m .given .1) (c .before .before .before .before .pre .1) in (omega arith, omega arith)
+
+formals-requires : tie.Need-formals-requires
+formals-requires c κs = let h = subst MeantWithin (c .before .before .before .m .given .1) (c .before .before .before .before .before .before .pre .1) in (omega arith, omega arith)
+
+returns : tie.Need-returns
+unfolding miscalledOf
+returns c = simp (c .before .before .before .before .m .given .1, eq-eqb _ _ (sym (c .before .before .word .ensures) ∙ c .before .if1 .taken), c .formals .ensures .0)
+
+enum-known-m-2 : tie.Need-enum-known-m-2
+enum-known-m-2 c = search needs
+
+given-formals-requires : tie.Need-given-formals-requires
+given-formals-requires c κs = search needs
+
+enum-told : tie.Need-enum-told
+enum-told c = search needs
+
+returns-2 : tie.Need-returns-2
+unfolding miscalledOf
+returns-2 c = simp (c .before .before .before .m .given .1, ne-eqb _ _ (λ e. c .if1 .left (c .before .word .ensures ∙ e)))
+
+returns-3 : tie.Need-returns-3
+unfolding miscalledOf
+returns-3 c = simp (c .before .before .m2 .given .1, c .given-formals .ensures)
+
+returns-4 : tie.Need-returns-4
+unfolding miscalledOf
+returns-4 c = simp (c .enum-told .given .1)
+
+pub miscalled-spec : {M : Type 1} → statement M
+miscalled-spec =
+    tie.close
+    (tie.spec
+    enum-known-m
+    word-requires
+    formals-requires
+    returns
+    enum-known-m-2
+    given-formals-requires
+    enum-told
+    returns-2
+    returns-3
+    returns-4)

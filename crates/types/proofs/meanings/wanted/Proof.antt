@@ -1,0 +1,81 @@
+-- `types::meanings::wanted` meets its contract: a case for each kind of meaning. A formal's number is near its procedure's.
+use mathlib.Core.Path.{sym, subst, _∙_}
+use native.Mathlib.Omega.{arith}
+use borrow.Author.Tests.{le-leb, lt-leb, eq-eqb, ne-eqb}
+use borrow.Author.Needs.{needs}
+use Rattle.types.specs.Passes.{wantOf}
+use Rattle.types.specs.Model.{MeantWithin}
+use Rattle.types.proofs.meanings.wanted.Statement.{statement}
+use Rattle.types.proofs.meanings.wanted.Tie as tie
+use Rattle.types.proofs.meanings.wanted.Reads as reads
+use Rattle.types.proofs.meanings.wanted.Lts as lts
+use Rattle.types.proofs.meanings.formals.Reads as formals-reads
+use Rattle.types.proofs.meanings.given_wants.Reads as given-wants-reads
+use Rattle.types.proofs.meanings.sort_of.Reads as sort-of-reads
+use Rattle.types.proofs.meanings.word.Reads as word-reads
+
+enum-known-m : tie.Need-enum-known-m
+enum-known-m c = search needs
+
+word-requires : tie.Need-word-requires
+word-requires c κs = let h = subst MeantWithin (c .before .m .given .1) (c .before .before .before .before .before .pre .2) in (omega arith, omega arith)
+
+returns : tie.Need-returns
+unfolding wantOf
+returns c = simp (c .before .before .before .m .given .1, ne-eqb _ _ (λ e. c .if1 .taken (c .before .word .ensures ∙ e)))
+
+formals-requires : tie.Need-formals-requires
+formals-requires c κs = let h = subst MeantWithin (c .before .before .before .m .given .1) (c .before .before .before .before .before .before .before .pre .2) in (omega arith, omega arith)
+
+returns-2 : tie.Need-returns-2
+unfolding wantOf
+returns-2 c = simp (c .before .before .before .before .before .m .given .1, eq-eqb _ _ (sym (c .before .before .before .word .ensures) ∙ c .before .before .if1 .left), le-leb _ _ (rw (c .before .formals .ensures .0) at (c .if2 .taken)))
+
+add-t12 : tie.Need-add-t12
+add-t12 c = let h = subst MeantWithin (c .before .before .before .before .before .before .m .given .1) (c .before .before .before .before .before .before .before .before .before .before .pre .2) in omega arith
+
+add-t13 : tie.Need-add-t13
+add-t13 c = let h = subst MeantWithin (c .before .before .before .before .before .before .m .given .1) (c .before .before .before .before .before .before .before .before .before .before .pre .2) in omega arith
+
+sort-of-requires : tie.Need-sort-of-requires
+sort-of-requires c κs = let h = subst MeantWithin (c .before .before .before .before .before .before .m .given .1) (c .before .before .before .before .before .before .before .before .before .before .pre .2) in (omega arith, omega arith)
+
+enum-known-m-2 : tie.Need-enum-known-m-2
+enum-known-m-2 c = search needs
+
+given-wants-requires : tie.Need-given-wants-requires
+given-wants-requires c κs = search needs
+
+enum-told : tie.Need-enum-told
+enum-told c = search needs
+
+returns-3 : tie.Need-returns-3
+unfolding wantOf
+returns-3 c = simp (c .before .before .before .before .before .before .before .m .given .1, eq-eqb _ _ (sym (c .before .before .before .before .before .word .ensures) ∙ c .before .before .before .before .if1 .left), lt-leb _ _ (rw (c .before .before .before .formals .ensures .0) at (c .before .before .if2 .left)), c .sort-of .ensures)
+
+returns-4 : tie.Need-returns-4
+unfolding wantOf
+returns-4 c = simp (c .before .before .m2 .given .1) (c .given-wants .ensures)
+
+returns-5 : tie.Need-returns-5
+unfolding wantOf
+returns-5 c = simp (c .enum-told .given .1)
+
+pub wanted-spec : {M : Type 1} → statement M
+wanted-spec =
+    tie.close
+    (tie.spec
+    enum-known-m
+    word-requires
+    returns
+    formals-requires
+    returns-2
+    add-t12
+    add-t13
+    sort-of-requires
+    enum-known-m-2
+    given-wants-requires
+    enum-told
+    returns-3
+    returns-4
+    returns-5)

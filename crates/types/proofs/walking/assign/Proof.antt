@@ -1,0 +1,32 @@
+-- `types::walking::assign` meets its contract: what its callees say, one behind the other.
+use mathlib.Core.Path.{refl, _∙_}
+use Rattle.types.specs.Passes.{assignedAs, withLeft}
+use Rattle.types.proofs.Stacks.{apart-ap, noted-ap}
+use borrow.Author.Needs.{needs}
+use Rattle.types.proofs.walking.assign.Statement.{statement}
+use Rattle.types.proofs.walking.assign.Tie as tie
+use Rattle.types.proofs.walking.assign.Reads as reads
+use Rattle.types.proofs.walking.assign.Lts as lts
+use Rattle.types.proofs.sorts.apart.Reads as apart-reads
+use Rattle.types.proofs.walking.note.Reads as note-reads
+use Rattle.types.proofs.walking.pop.Reads as pop-reads
+use Rattle.types.proofs.walking.top.Reads as top-reads
+
+pop-requires : tie.Need-pop-requires
+pop-requires c κs = search needs
+
+top-requires : tie.Need-top-requires
+top-requires c κs = search needs
+
+apart-requires : tie.Need-apart-requires
+apart-requires c κs = search needs
+
+note-requires : tie.Need-note-requires
+note-requires c κs = search needs
+
+returns : tie.Need-returns
+unfolding assignedAs withLeft
+returns c = λ u d b. c .note .ensures .0 u _ d b ∙ noted-ap _ (c .before .apart .ensures ∙ apart-ap refl (c .before .before .top .ensures)) (c .before .before .before .pop .ensures .0 u _ d b)
+
+pub assign-spec : {M : Type 1} → statement M
+assign-spec = tie.close (tie.spec pop-requires top-requires apart-requires note-requires returns)

@@ -1,0 +1,67 @@
+-- `types::walking::misfit` meets its contract: a case for each want.
+use mathlib.Core.Path.{sym, subst}
+use Rattle.types.specs.Model.{MeantWithin}
+use Rattle.types.specs.Passes.{misfitOf}
+use Rattle.types.proofs.Stacks.{meant-within}
+use borrow.Author.Needs.{needs}
+use Rattle.types.proofs.walking.misfit.Statement.{statement}
+use Rattle.types.proofs.walking.misfit.Tie as tie
+use Rattle.types.proofs.walking.misfit.Reads as reads
+use Rattle.types.proofs.walking.misfit.Lts as lts
+use Rattle.names.proofs.uses.meant.Reads as meant-reads
+use Rattle.types.proofs.meanings.is_variable.Reads as is-variable-reads
+use Rattle.types.proofs.sorts.apart.Reads as apart-reads
+use Rattle.types.proofs.walking.top.Reads as top-reads
+
+enum-known-wanted : tie.Need-enum-known-wanted
+enum-known-wanted c = search needs
+
+top-requires : tie.Need-top-requires
+top-requires c κs = search needs
+
+apart-requires : tie.Need-apart-requires
+apart-requires c κs = search needs
+
+enum-known-wanted-2 : tie.Need-enum-known-wanted-2
+enum-known-wanted-2 c = search needs
+
+returns : tie.Need-returns
+unfolding misfitOf
+returns c = simp (c .before .before .wanted2 .given .1, c .if1 .taken)
+
+meant-requires : tie.Need-meant-requires
+meant-requires c κs = search needs
+
+is-variable-requires : tie.Need-is-variable-requires
+is-variable-requires c κs = (c .before .before .before .before .before .before .before .pre .1, c .before .before .before .before .before .before .before .pre .2, subst MeantWithin (sym (c .meant .ensures)) (meant-within (c .before .before .before .before .before .before .before .args .t .last)))
+
+enum-told : tie.Need-enum-told
+enum-told c = search needs
+
+returns-2 : tie.Need-returns-2
+unfolding misfitOf
+returns-2 c = simp (c .before .before .before .wanted .given .1, c .apart .ensures, c .before .top .ensures)
+
+returns-3 : tie.Need-returns-3
+unfolding misfitOf
+returns-3 c = simp (c .before .before .before .before .wanted2 .given .1, c .before .before .if1 .left, c .is-variable .ensures, c .before .meant .ensures)
+
+returns-4 : tie.Need-returns-4
+unfolding misfitOf
+returns-4 c = simp (c .enum-told .given .1)
+
+pub misfit-spec : {M : Type 1} → statement M
+misfit-spec =
+    tie.close
+    (tie.spec
+    enum-known-wanted
+    top-requires
+    apart-requires
+    enum-known-wanted-2
+    returns
+    meant-requires
+    is-variable-requires
+    enum-told
+    returns-2
+    returns-3
+    returns-4)

@@ -1,0 +1,63 @@
+-- `types::walking::name` meets its contract: as a statement or as a primary, by the test.
+use mathlib.Core.Path.{_≡_, refl, sym, ap, subst, _∙_}
+use borrow.Author.Tests.{eq-eqb, ne-eqb}
+use Rattle.names.specs.declared.Meant.{Meant}
+use Rattle.types.specs.declared.Judgement.{Judgement}
+use Rattle.types.specs.Model.{MeantWithin}
+use Rattle.types.specs.Passes.{namedAs, judged, withBare, miscalledOf, primaryOf}
+use Rattle.types.proofs.Stacks.{meant-within, noted-ap, pushed-ap}
+use borrow.Author.Needs.{needs}
+use Rattle.types.proofs.walking.name.Statement.{statement}
+use Rattle.types.proofs.walking.name.Tie as tie
+use Rattle.types.proofs.walking.name.Reads as reads
+use Rattle.types.proofs.walking.name.Lts as lts
+use Rattle.names.proofs.uses.meant.Reads as meant-reads
+use Rattle.types.proofs.meanings.in_expression.Reads as in-expression-reads
+use Rattle.types.proofs.meanings.miscalled.Reads as miscalled-reads
+use Rattle.types.proofs.walking.note.Reads as note-reads
+use Rattle.types.proofs.walking.push.Reads as push-reads
+
+meant-requires : tie.Need-meant-requires
+meant-requires c κs = search needs
+
+miscalled-requires : tie.Need-miscalled-requires
+miscalled-requires c κs = (c .before .before .before .before .pre .1, subst MeantWithin (sym (c .before .meant .ensures)) (meant-within (c .before .before .before .before .args .t .last)))
+
+note-requires : tie.Need-note-requires
+note-requires c κs = search needs
+
+returns : tie.Need-returns
+unfolding namedAs
+returns c =
+    λ u d b. simp (eq-eqb _ _ (c .before .before .if1 .taken))
+    (c .note .ensures .0 u _ d b ∙ noted-ap _ (c .before .miscalled .ensures ∙ ap (λ (m : Meant). miscalledOf (c .before .before .before .before .before .before .args .rows .now) m 0) (c .before .before .before .meant .ensures)) refl)
+
+in-expression-requires : tie.Need-in-expression-requires
+in-expression-requires c κs = (c .before .before .before .before .pre .1, c .before .before .before .before .pre .2, subst MeantWithin (sym (c .before .meant .ensures)) (meant-within (c .before .before .before .before .args .t .last)))
+
+note-requires-2 : tie.Need-note-requires-2
+note-requires-2 c κs = search needs
+
+push-requires : tie.Need-push-requires
+push-requires c κs = search needs
+
+returns-2 : tie.Need-returns-2
+unfolding namedAs judged withBare
+returns-2 c =
+    let j = c .before .before .before .in-expression .ensures ∙ ap (λ (m : Meant). primaryOf (c .before .before .before .before .before .before .before .before .args .ids .now) (c .before .before .before .before .before .before .before .before .args .rows .now) (c .before .before .before .before .before .before .before .before .args .marks .now) m 0) (c .before .before .before .before .before .meant .ensures) in
+    λ u d b. simp (ne-eqb _ _ (c .before .before .before .before .if1 .left))
+    (ap (withBare (c .before .before .before .before .before .before .before .before .args .depth)) (c .push .ensures u d b
+    ∙ pushed-ap (ap (λ (z : Judgement). z .sort) j) (c .before .before .note2 .ensures .0 u _ d b ∙ noted-ap _ (ap (λ (z : Judgement). z .wrong) j) refl)))
+
+pub name-spec : {M : Type 1} → statement M
+name-spec =
+    tie.close
+    (tie.spec
+    meant-requires
+    miscalled-requires
+    note-requires
+    returns
+    in-expression-requires
+    note-requires-2
+    push-requires
+    returns-2)

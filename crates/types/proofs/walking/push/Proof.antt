@@ -1,0 +1,21 @@
+-- `types::walking::push` meets its contract: the word written is the new head.
+use Rattle.types.specs.Passes.{pushed, withStack}
+use borrow.Author.Needs.{needs}
+use Rattle.types.proofs.walking.push.Statement.{statement}
+use Rattle.types.proofs.walking.push.Tie as tie
+use Rattle.types.proofs.walking.push.Reads as reads
+use Rattle.types.proofs.walking.push.Lts as lts
+use Rattle.types.proofs.walking.put.Reads as put-reads
+
+put-requires : tie.Need-put-requires
+put-requires c κs = search needs
+
+add-t : tie.Need-add-t
+add-t c = search needs
+
+returns : tie.Need-returns
+unfolding pushed withStack
+returns c = λ u d b. rw (c .put .ensures)
+
+pub push-spec : {M : Type 1} → statement M
+push-spec = tie.close (tie.spec put-requires add-t returns)

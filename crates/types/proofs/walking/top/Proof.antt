@@ -1,0 +1,28 @@
+-- `types::walking::top` meets its contract: the last word of those on the stack.
+use Rattle.names.specs.Rows.{opensOf}
+use Rattle.types.specs.Passes.{topOf}
+use Rattle.types.proofs.Stacks.{opens-top}
+use borrow.Author.Needs.{needs}
+use Rattle.types.proofs.walking.top.Statement.{statement}
+use Rattle.types.proofs.walking.top.Tie as tie
+use Rattle.types.proofs.walking.top.Reads as reads
+use Rattle.types.proofs.walking.top.Lts as lts
+
+returns : tie.Need-returns
+unfolding opensOf topOf
+returns c = rw (c .if1 .taken)
+
+sub-result : tie.Need-sub-result
+sub-result c = search needs
+
+mul-result : tie.Need-mul-result
+mul-result c = search needs
+
+element-copy-out-result : tie.Need-element-copy-out-result
+element-copy-out-result c = search needs
+
+returns-2 : tie.Need-returns-2
+returns-2 c = opens-top (c .before .before .before .before .args .t .depth) (c .before .before .before .before .args .stack .now) (c .before .before .if1 .left)
+
+pub top-spec : {M : Type 1} → statement M
+top-spec = tie.close (tie.spec returns sub-result mul-result element-copy-out-result returns-2)

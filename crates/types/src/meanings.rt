@@ -1,0 +1,272 @@
+// What a name that means something is used as.
+use crate::Judgement;
+use crate::Want;
+use crate::sorts;
+use answers::Declaration;
+use answers::Environment;
+use names::Meant;
+use names::Sought;
+use names::rows::find;
+use names::rows::identity_of;
+use syntax::nodes;
+ghost use mathlib.Core.Path.{_≡_};
+ghost use Prim.Native.Nat.{_≤_, _<_};
+ghost use lib.ListN.{length};
+ghost use Rattle.names.specs.Rows.{opensOf};
+ghost use Rattle.types.specs.Passes.{wordIn, specifiedIn, sortIn, formalsIn, givenSort, givenFormals, appliedAs, plainlyAs, primaryOf, miscalledOf, givenWants, wantOf, variableOf, ownOf, leftOf};
+ghost use Rattle.types.specs.Model.{MeantWithin};
+
+// A word of a row.
+fn word(rows: &[u16], n: usize, k: usize) -> u16
+    requires { ⌜ (n < 80000) × (k < 4) ⌝ }
+    ensures { λ r. ⌜ r ≡ wordIn (now (rows .entry)) n k ⌝ }
+{
+    let at = 4 * n + k;
+    if at < rows.len() { rows[at] } else { 0 }
+}
+
+// The type that specifications give a formal.
+fn specified(marks: &[u16], ids: &[u16; 2048], scope: u16, symbol: u16) -> u16
+    requires { ⌜ length (now marks) ≤ 32768 ⌝ }
+    ensures { λ r. ⌜ r ≡ specifiedIn (now (ids .entry)) (now (marks .entry)) scope symbol ⌝ }
+{
+    let want = Sought {
+        low: nodes::SPECIFIED,
+        high: nodes::SPECIFIED,
+        scope,
+        id: identity_of(ids, symbol),
+    };
+    word(marks, find(marks, ids, want), 3)
+}
+
+// The type of a declaration or formal.
+fn sort_of(rows: &[u16], marks: &[u16], ids: &[u16; 2048], d: Declaration) -> u16
+    requires { ⌜ (length (now marks) ≤ 32768) × (d .number < 80000) ⌝ }
+    ensures { λ r. ⌜ r ≡ sortIn (now (ids .entry)) (now (rows .entry)) (now (marks .entry)) (d .number) ⌝ }
+{
+    if word(rows, d.number, 0) == nodes::FORMAL {
+        return specified(marks, ids, word(rows, d.number, 2), word(rows, d.number, 1));
+    }
+    word(rows, d.number, 3)
+}
+
+// How many formals stand behind a procedure.
+fn formals(rows: &[u16], d: Declaration) -> usize
+    requires { ⌜ (length (now rows) ≤ 32768) × (d .number < 65536) ⌝ }
+    ensures { λ r. ⌜ r ≡ formalsIn (now (rows .entry)) (d .number) ⌝ }
+    ensures { λ r. ⌜ r ≤ 8192 ⌝ }
+{
+    let mut n = 0;
+    while d.number + 1 + n < rows.len() / 4 {
+        if word(rows, d.number + 1 + n, 0) != nodes::FORMAL {
+            return n;
+        }
+        n += 1;
+    }
+    n
+}
+
+// The type of what the environment gives.
+fn given_sort(e: Environment) -> u16
+    ensures { λ r. ⌜ r ≡ givenSort (e .number) ⌝ }
+{
+    if e.number < 2 {
+        sorts::INTEGER
+    } else {
+        sorts::NONE
+    }
+}
+
+// How many actuals it takes.
+fn given_formals(e: Environment) -> usize
+    ensures { λ r. ⌜ r ≡ givenFormals (e .number) ⌝ }
+{
+    let number = e.number;
+    match number {
+        0 => 1,
+        1 => 0,
+        _ => 2,
+    }
+}
+
+// A procedure's name in an expression.
+fn applied(sort: u16, wants: usize, has: usize) -> Judgement
+    ensures { λ r. ⌜ r ≡ appliedAs sort wants has ⌝ }
+{
+    if sort == sorts::NONE {
+        return Judgement { sort, wrong: true };
+    }
+    Judgement {
+        sort,
+        wrong: wants != has,
+    }
+}
+
+// A variable or formal in an expression.
+fn plainly(sort: u16, has: usize) -> Judgement
+    ensures { λ r. ⌜ r ≡ plainlyAs sort has ⌝ }
+{
+    if has == 0 {
+        return Judgement { sort, wrong: false };
+    }
+    Judgement {
+        sort: sorts::NONE,
+        wrong: true,
+    }
+}
+
+// A name with `has` actuals as a primary.
+pub fn in_expression(
+    rows: &[u16],
+    marks: &[u16],
+    ids: &[u16; 2048],
+    m: Meant,
+    has: usize,
+) -> Judgement
+    requires { ⌜ (length (now rows) ≤ 32768) × (length (now marks) ≤ 32768) × MeantWithin m ⌝ }
+    ensures { λ r. ⌜ r ≡ primaryOf (now (ids .entry)) (now (rows .entry)) (now (marks .entry)) m has ⌝ }
+{
+    match m {
+        Meant::Declared(d) => {
+            let sort = sort_of(rows, marks, ids, d);
+            if word(rows, d.number, 0) == nodes::PROCEDURE {
+                return applied(sort, formals(rows, d), has);
+            }
+            plainly(sort, has)
+        }
+        Meant::Given(e) => applied(given_sort(e), given_formals(e), has),
+        Meant::Nothing => Judgement {
+            sort: sorts::NONE,
+            wrong: false,
+        },
+    }
+}
+
+// Whether a name with `has` actuals is wrong as a statement.
+pub fn miscalled(rows: &[u16], m: Meant, has: usize) -> bool
+    requires { ⌜ (length (now rows) ≤ 32768) × MeantWithin m ⌝ }
+    ensures { λ r. ⌜ r ≡ miscalledOf (now (rows .entry)) m has ⌝ }
+{
+    match m {
+        Meant::Declared(d) => {
+            if word(rows, d.number, 0) == nodes::PROCEDURE {
+                return formals(rows, d) != has;
+            }
+            true
+        }
+        Meant::Given(e) => given_formals(e) != has,
+        Meant::Nothing => false,
+    }
+}
+
+// What the environment wants of actual k.
+fn given_wants(e: Environment, k: usize) -> Want
+    ensures { λ r. ⌜ r ≡ givenWants (e .number) k ⌝ }
+{
+    if given_formals(e) <= k {
+        return Want::Nothing;
+    }
+    if e.number != 2 {
+        return Want::An(sorts::INTEGER);
+    }
+    if k != 1 {
+        return Want::An(sorts::INTEGER);
+    }
+    Want::Variable(sorts::INTEGER)
+}
+
+// What is wanted of actual k of a name.
+pub fn wanted(rows: &[u16], marks: &[u16], ids: &[u16; 2048], m: Meant, k: usize) -> Want
+    requires { ⌜ (length (now rows) ≤ 32768) × (length (now marks) ≤ 32768) × MeantWithin m ⌝ }
+    ensures { λ r. ⌜ r ≡ wantOf (now (ids .entry)) (now (rows .entry)) (now (marks .entry)) m k ⌝ }
+{
+    match m {
+        Meant::Declared(d) => {
+            if word(rows, d.number, 0) != nodes::PROCEDURE {
+                return Want::Nothing;
+            }
+            if formals(rows, d) <= k {
+                return Want::Nothing;
+            }
+            let f = Declaration {
+                number: d.number + 1 + k,
+            };
+            Want::An(sort_of(rows, marks, ids, f))
+        }
+        Meant::Given(e) => given_wants(e, k),
+        Meant::Nothing => Want::Nothing,
+    }
+}
+
+// Whether a name is a variable or formal of a type.
+pub fn is_variable(rows: &[u16], marks: &[u16], ids: &[u16; 2048], m: Meant, sort: u16) -> bool
+    requires { ⌜ (length (now rows) ≤ 32768) × (length (now marks) ≤ 32768) × MeantWithin m ⌝ }
+    ensures { λ r. ⌜ r ≡ variableOf (now (ids .entry)) (now (rows .entry)) (now (marks .entry)) m sort ⌝ }
+{
+    match m {
+        Meant::Declared(d) => {
+            if word(rows, d.number, 0) == nodes::PROCEDURE {
+                return false;
+            }
+            !sorts::apart(sort_of(rows, marks, ids, d), sort)
+        }
+        Meant::Given(_) => false,
+        Meant::Nothing => true,
+    }
+}
+
+// The type of the nearest open body that is the procedure's own, as what a left part is. `count` are open.
+fn own_result(rows: &[u16], d: Declaration, bodies: &[u16], count: usize) -> Judgement
+    requires { ⌜ (d .number < 65536) × (count ≤ length (now bodies)) ⌝ }
+    ensures { λ r. ⌜ r ≡ ownOf (now (rows .entry)) (wordIn (now (rows .entry)) (d .number) 1) (opensOf count (now (bodies .entry))) ⌝ }
+{
+    let mut n = count;
+    while 0 < n {
+        n -= 1;
+        let b = bodies[n] as usize;
+        if word(rows, b, 1) == word(rows, d.number, 1) {
+            let sort = word(rows, b, 3);
+            return Judgement {
+                sort,
+                wrong: sort == sorts::NONE,
+            };
+        }
+    }
+    Judgement {
+        sort: sorts::NONE,
+        wrong: true,
+    }
+}
+
+// A name as a left part.
+pub fn as_left(
+    rows: &[u16],
+    marks: &[u16],
+    ids: &[u16; 2048],
+    m: Meant,
+    bodies: &[u16],
+    count: usize,
+) -> Judgement
+    requires { ⌜ (length (now rows) ≤ 32768) × (length (now marks) ≤ 32768) × MeantWithin m × (count ≤ length (now bodies)) ⌝ }
+    ensures { λ r. ⌜ r ≡ leftOf (now (ids .entry)) (now (rows .entry)) (now (marks .entry)) (opensOf count (now (bodies .entry))) m ⌝ }
+{
+    match m {
+        Meant::Declared(d) => {
+            if word(rows, d.number, 0) == nodes::PROCEDURE {
+                return own_result(rows, d, bodies, count);
+            }
+            Judgement {
+                sort: sort_of(rows, marks, ids, d),
+                wrong: false,
+            }
+        }
+        Meant::Given(_) => Judgement {
+            sort: sorts::NONE,
+            wrong: true,
+        },
+        Meant::Nothing => Judgement {
+            sort: sorts::NONE,
+            wrong: false,
+        },
+    }
+}

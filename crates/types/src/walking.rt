@@ -1,0 +1,518 @@
+// The nodes with a stack of types.
+use crate::Judgement;
+use crate::Seen;
+use crate::Want;
+use crate::meanings;
+use crate::sorts;
+use answers::Answer;
+use names::Meant;
+use names::faults;
+use names::uses::meant;
+use syntax::nodes;
+ghost use mathlib.Core.Path.{_≡_};
+ghost use mathlib.Core.List.{List, [], _∷_};
+ghost use Prim.Native.Nat.{ℕ, _+_, _*_, _≤_, _<_};
+ghost use lib.Dec.{eqb};
+ghost use lib.ListN.{length, drop};
+ghost use Rattle.names.specs.Rows.{opensOf, meantOf, isUse};
+ghost use Rattle.types.specs.Passes.{noted, withRows, withBodies, topOf, below, pushed, popped, takenAs, signedAs, operatedAs, chosenAs, assignedAs, nextUse, namedAs, calledAs, leftAs, useTyped, misfitOf, oneMore, actualIn, callEnded, plainTyped, typeNode, typedOf};
+ghost use Rattle.types.specs.Model.{see, callAt, callsOf, begun, Within, CountsWithin};
+
+// A type fault at a symbol, where a test says so.
+fn note(mut t: Seen, wrong: bool, symbol: u16) -> Seen
+    ensures { λ r. ⌜ ((u s c b : List ℕ) → see r u s c b ≡ noted wrong symbol (see t u s c b)) ⌝ }
+    ensures { λ r. ⌜ r .depth ≡ t .depth ⌝ }
+{
+    if wrong {
+        t.least = faults::noted(t.least, symbol, Answer::TYPES);
+        return t;
+    }
+    t
+}
+
+// Word n of a stack is written.
+fn put(stack: &mut [u16], n: usize, word: u16)
+    requires { ⌜ n < length (now stack) ⌝ }
+    ensures { λ _. ⌜ opensOf (n + 1) (now (stack .exit)) ≡ word ∷ opensOf n (now (stack .entry)) ⌝ }
+{
+    stack[n] = word;
+}
+
+// A type is put on the stack.
+fn push(mut t: Seen, sort: u16, stack: &mut [u16; 8192]) -> Seen
+    requires { ⌜ t .depth < 8192 ⌝ }
+    ensures { λ r. ⌜ ((u c b : List ℕ) → see r u (now (stack .exit)) c b ≡ pushed sort (see t u (now (stack .entry)) c b)) ⌝ }
+{
+    let at = t.depth;
+    put(stack, at, sort);
+    t.depth = at + 1;
+    t
+}
+
+// The type on top.
+fn top(t: Seen, stack: &[u16; 8192]) -> u16
+    requires { ⌜ t .depth ≤ 8192 ⌝ }
+    ensures { λ r. ⌜ r ≡ topOf (opensOf (t .depth) (now (stack .entry))) ⌝ }
+{
+    if t.depth == 0 {
+        return 0;
+    }
+    stack[t.depth - 1]
+}
+
+// It is taken away.
+fn pop(mut t: Seen) -> Seen
+    ensures { λ r. ⌜ ((u s c b : List ℕ) → see r u s c b ≡ popped (see t u s c b)) ⌝ }
+    ensures { λ r. ⌜ r .depth ≤ t .depth ⌝ }
+{
+    if t.depth == 0 {
+        return t;
+    }
+    t.depth -= 1;
+    t
+}
+
+// A type is taken, which should be this one; a fault is at the symbol.
+fn take(t: Seen, sort: u16, symbol: u16, stack: &[u16; 8192]) -> Seen
+    requires { ⌜ t .depth ≤ 8192 ⌝ }
+    ensures { λ r. ⌜ ((u c b : List ℕ) → see r u (now (stack .entry)) c b ≡ takenAs sort symbol (see t u (now (stack .entry)) c b)) ⌝ }
+    ensures { λ r. ⌜ r .depth ≤ t .depth ⌝ }
+{
+    note(pop(t), sorts::apart(top(t, stack), sort), symbol)
+}
+
+// An operator between two operands.
+fn binary(t: Seen, symbol: u16, kind: u16, stack: &mut [u16; 8192]) -> Seen
+    requires { ⌜ t .depth < 8192 ⌝ }
+    ensures { λ r. ⌜ ((u c b : List ℕ) → see r u (now (stack .exit)) c b ≡ operatedAs kind symbol (see t u (now (stack .entry)) c b)) ⌝ }
+{
+    let sort = sorts::takes(kind);
+    let one = take(t, sort, symbol, stack);
+    let both = take(one, sort, symbol, stack);
+    push(both, sorts::gives(kind), stack)
+}
+
+// A sign or 'not'.
+fn unary(t: Seen, symbol: u16, kind: u16, stack: &mut [u16; 8192]) -> Seen
+    requires { ⌜ t .depth < 8192 ⌝ }
+    ensures { λ r. ⌜ ((u c b : List ℕ) → see r u (now (stack .exit)) c b ≡ signedAs kind symbol (see t u (now (stack .entry)) c b)) ⌝ }
+{
+    let sort = sorts::sign_takes(kind);
+    push(take(t, sort, symbol, stack), sort, stack)
+}
+
+// The end of a conditional expression: the type of the 'then' part stays.
+fn conditional(t: Seen, symbol: u16, stack: &[u16; 8192]) -> Seen
+    requires { ⌜ t .depth ≤ 8192 ⌝ }
+    ensures { λ r. ⌜ ((u c b : List ℕ) → see r u (now (stack .entry)) c b ≡ chosenAs symbol (see t u (now (stack .entry)) c b)) ⌝ }
+{
+    let otherwise = top(t, stack);
+    let p = pop(t);
+    note(p, sorts::apart(top(p, stack), otherwise), symbol)
+}
+
+// The next use: what it means.
+fn next_use(mut t: Seen, uses: &[u16]) -> Seen
+    ensures { λ r. ⌜ ((s c b : List ℕ) → see r (now (uses .entry)) s c b ≡ nextUse (drop (t .uses) (now (uses .entry))) (see t (now (uses .entry)) s c b)) ⌝ }
+    ensures { λ r. ⌜ (r .depth ≡ t .depth) × (r .calls ≡ t .calls) × (r .bodies ≡ t .bodies) ⌝ }
+{
+    let at = t.uses;
+    if at < uses.len() {
+        t.uses = at + 1;
+        t.last = uses[at];
+        return t;
+    }
+    t
+}
+
+// A name without actuals: as a primary, or as a statement.
+fn name(
+    t: Seen,
+    symbol: u16,
+    depth: u16,
+    as_statement: u16,
+    rows: &[u16],
+    marks: &[u16],
+    ids: &[u16; 2048],
+    stack: &mut [u16; 8192],
+) -> Seen
+    requires { ⌜ (t .depth < 8192) × (length (now rows) ≤ 32768) × (length (now marks) ≤ 32768) ⌝ }
+    ensures { λ r. ⌜ ((u c b : List ℕ) → see r u (now (stack .exit)) c b ≡ namedAs (now (ids .entry)) (now (rows .entry)) (now (marks .entry)) symbol depth as_statement (see t u (now (stack .entry)) c b)) ⌝ }
+{
+    let m = meant(t.last);
+    if as_statement == 1 {
+        return note(t, meanings::miscalled(rows, m, 0), symbol);
+    }
+    let j = meanings::in_expression(rows, marks, ids, m, 0);
+    let mut p = push(note(t, j.wrong, symbol), j.sort, stack);
+    p.bare = depth;
+    p
+}
+
+// Three words of call n are written.
+fn begin(calls: &mut [u16], n: usize, meaning: u16, depth: u16)
+    requires { ⌜ (n < 8192) × (3 * n + 2 < length (now calls)) ⌝ }
+    ensures { λ _. ⌜ callsOf (n + 1) (now (calls .exit)) ≡ begun meaning depth ∷ callsOf n (now (calls .entry)) ⌝ }
+{
+    let first = 3 * n;
+    calls[first] = meaning;
+    let second = first + 1;
+    calls[second] = depth;
+    let third = first + 2;
+    calls[third] = 0;
+}
+
+// A call begins: its name's meaning, its depth, and no actual so far are kept.
+fn call(mut t: Seen, depth: u16, calls: &mut [u16; 24576]) -> Seen
+    requires { ⌜ t .calls < 8192 ⌝ }
+    ensures { λ r. ⌜ ((u s b : List ℕ) → see r u s (now (calls .exit)) b ≡ calledAs depth (see t u s (now (calls .entry)) b)) ⌝ }
+{
+    let at = t.calls;
+    begin(calls, at, t.last, depth);
+    t.calls = at + 1;
+    t
+}
+
+// Call n has one more actual.
+fn one_more(calls: &mut [u16], n: usize)
+    requires { ⌜ (n < 8192) × (3 * n + 2 < length (now calls)) × (callAt (now calls) n .count < 65535) ⌝ }
+    ensures { λ _. ⌜ callsOf (n + 1) (now (calls .exit)) ≡ oneMore (callAt (now (calls .entry)) n) ∷ callsOf n (now (calls .entry)) ⌝ }
+{
+    let at = 3 * n + 2;
+    let count = calls[at];
+    calls[at] = count + 1;
+}
+
+// How many actuals call n had so far.
+fn actuals(calls: &[u16], n: usize) -> usize
+    requires { ⌜ (n < 8192) × (3 * n + 2 < length (now calls)) ⌝ }
+    ensures { λ r. ⌜ r ≡ callAt (now (calls .entry)) n .count ⌝ }
+{
+    let at = 3 * n + 2;
+    calls[at] as usize
+}
+
+// Whether a name at a depth is one level deeper than call n: an actual that is a name alone.
+fn is_alone(calls: &[u16], n: usize, bare: u16) -> bool
+    requires { ⌜ (n < 8192) × (3 * n + 2 < length (now calls)) ⌝ }
+    ensures { λ r. ⌜ r ≡ eqb bare (callAt (now (calls .entry)) n .depth + 1) ⌝ }
+{
+    let at = 3 * n + 1;
+    let depth = calls[at] as usize;
+    bare as usize == depth + 1
+}
+
+// Whether an actual is not what is wanted; alone: it is a name alone.
+fn misfit(
+    t: Seen,
+    wanted: Want,
+    alone: bool,
+    rows: &[u16],
+    marks: &[u16],
+    ids: &[u16; 2048],
+    stack: &[u16; 8192],
+) -> bool
+    requires { ⌜ (t .depth ≤ 8192) × (length (now rows) ≤ 32768) × (length (now marks) ≤ 32768) ⌝ }
+    ensures { λ r. ⌜ r ≡ misfitOf (now (ids .entry)) (now (rows .entry)) (now (marks .entry)) wanted alone (topOf (opensOf (t .depth) (now (stack .entry)))) (meantOf (t .last)) ⌝ }
+{
+    match wanted {
+        Want::An(sort) => sorts::apart(top(t, stack), sort),
+        Want::Variable(sort) => {
+            if !alone {
+                return true;
+            }
+            !meanings::is_variable(rows, marks, ids, meant(t.last), sort)
+        }
+        Want::Nothing => false,
+    }
+}
+
+// The end of an actual.
+fn actual(
+    t: Seen,
+    bare: u16,
+    symbol: u16,
+    rows: &[u16],
+    marks: &[u16],
+    ids: &[u16; 2048],
+    stack: &[u16; 8192],
+    calls: &mut [u16; 24576],
+) -> Seen
+    requires { ⌜ (t .depth ≤ 8192) × (t .calls ≤ 8192) × CountsWithin (callsOf (t .calls) (now calls)) 8191 × (length (now rows) ≤ 32768) × (length (now marks) ≤ 32768) ⌝ }
+    ensures { λ r. ⌜ ((u b : List ℕ) → see r u (now (stack .entry)) (now (calls .exit)) b ≡ actualIn (now (ids .entry)) (now (rows .entry)) (now (marks .entry)) (callsOf (t .calls) (now (calls .entry))) bare symbol (see t u (now (stack .entry)) (now (calls .entry)) b)) ⌝ }
+{
+    if t.calls == 0 {
+        return pop(t);
+    }
+    let n = t.calls - 1;
+    let m = meant(calls[3 * n]);
+    let has = actuals(calls, n);
+    let w = meanings::wanted(rows, marks, ids, m, has);
+    let alone = is_alone(calls, n, bare);
+    let wrong = misfit(t, w, alone, rows, marks, ids, stack);
+    one_more(calls, n);
+    note(pop(t), wrong, symbol)
+}
+
+// The end of a call: as a primary, or as a statement.
+fn call_end(
+    mut t: Seen,
+    symbol: u16,
+    as_statement: u16,
+    rows: &[u16],
+    marks: &[u16],
+    ids: &[u16; 2048],
+    stack: &mut [u16; 8192],
+    calls: &[u16; 24576],
+) -> Seen
+    requires { ⌜ (t .depth < 8192) × (t .calls ≤ 8192) × (length (now rows) ≤ 32768) × (length (now marks) ≤ 32768) ⌝ }
+    ensures { λ r. ⌜ ((u b : List ℕ) → see r u (now (stack .exit)) (now (calls .entry)) b ≡ callEnded (now (ids .entry)) (now (rows .entry)) (now (marks .entry)) (callsOf (t .calls) (now (calls .entry))) symbol as_statement (see t u (now (stack .entry)) (now (calls .entry)) b)) ⌝ }
+{
+    if t.calls == 0 {
+        return t;
+    }
+    let n = t.calls - 1;
+    let m = meant(calls[3 * n]);
+    let has = actuals(calls, n);
+    t.calls = n;
+    if as_statement == 1 {
+        return note(t, meanings::miscalled(rows, m, has), symbol);
+    }
+    let j = meanings::in_expression(rows, marks, ids, m, has);
+    push(note(t, j.wrong, symbol), j.sort, stack)
+}
+
+// A left part: "or is not of the first one's type".
+fn left(
+    mut t: Seen,
+    symbol: u16,
+    rows: &[u16],
+    marks: &[u16],
+    ids: &[u16; 2048],
+    bodies: &[u16; 8192],
+) -> Seen
+    requires { ⌜ (t .bodies ≤ 8192) × (length (now rows) ≤ 32768) × (length (now marks) ≤ 32768) ⌝ }
+    ensures { λ r. ⌜ ((u s c : List ℕ) → see r u s c (now (bodies .entry)) ≡ leftAs (now (ids .entry)) (now (rows .entry)) (now (marks .entry)) symbol (see t u s c (now (bodies .entry)))) ⌝ }
+{
+    let j = meanings::as_left(rows, marks, ids, meant(t.last), bodies, t.bodies);
+    if t.begun {
+        if j.wrong {
+            return note(t, true, symbol);
+        }
+        return note(t, sorts::apart(t.left, j.sort), symbol);
+    }
+    t.begun = true;
+    t.left = j.sort;
+    note(t, j.wrong, symbol)
+}
+
+// The end of an assignment.
+fn assign(mut t: Seen, symbol: u16, stack: &[u16; 8192]) -> Seen
+    requires { ⌜ t .depth ≤ 8192 ⌝ }
+    ensures { λ r. ⌜ ((u c b : List ℕ) → see r u (now (stack .entry)) c b ≡ assignedAs symbol (see t u (now (stack .entry)) c b)) ⌝ }
+{
+    t.begun = false;
+    note(pop(t), sorts::apart(t.left, top(t, stack)), symbol)
+}
+
+// A procedure's body is entered.
+fn body(mut t: Seen, bodies: &mut [u16; 8192]) -> Seen
+    requires { ⌜ (t .bodies < 8192) × (t .rows < 8192) ⌝ }
+    ensures { λ r. ⌜ ((u s c : List ℕ) → see r u s c (now (bodies .exit)) ≡ withRows (t .rows + 1) (withBodies (t .rows ∷ opensOf (t .bodies) (now (bodies .entry))) (see t u s c (now (bodies .entry))))) ⌝ }
+{
+    let at = t.bodies;
+    put(bodies, at, t.rows as u16);
+    t.bodies = at + 1;
+    t.rows += 1;
+    t
+}
+
+// It is left.
+fn body_end(mut t: Seen) -> Seen
+    ensures { λ r. ⌜ ((u s c b : List ℕ) → see r u s c b ≡ withBodies (below (opensOf (t .bodies) b)) (see t u s c b)) ⌝ }
+{
+    if t.bodies == 0 {
+        return t;
+    }
+    t.bodies -= 1;
+    t
+}
+
+// A node of an expression that is no name.
+fn plain(t: Seen, kind: u16, symbol: u16, one: u16, stack: &mut [u16; 8192]) -> Seen
+    requires { ⌜ t .depth < 8192 ⌝ }
+    ensures { λ r. ⌜ ((u c b : List ℕ) → see r u (now (stack .exit)) c b ≡ plainTyped kind symbol one (see t u (now (stack .entry)) c b)) ⌝ }
+{
+    match kind {
+        nodes::NUMBER => push(t, sorts::INTEGER, stack),
+        nodes::LOGICAL => push(t, sorts::BOOLEAN, stack),
+        nodes::UNARY => unary(t, symbol, one, stack),
+        nodes::BINARY => binary(t, symbol, one, stack),
+        nodes::THEN | nodes::WHILE => take(t, sorts::BOOLEAN, symbol, stack),
+        nodes::START | nodes::AMOUNT => take(t, sorts::INTEGER, symbol, stack),
+        nodes::CONDITION_END => conditional(t, symbol, stack),
+        nodes::ASSIGN => assign(t, symbol, stack),
+        _ => t,
+    }
+}
+
+// A node of a name's use.
+fn use_node(
+    t: Seen,
+    kind: u16,
+    symbol: u16,
+    one: u16,
+    two: u16,
+    uses: &[u16],
+    rows: &[u16],
+    marks: &[u16],
+    ids: &[u16; 2048],
+    stack: &mut [u16; 8192],
+    calls: &mut [u16; 24576],
+    bodies: &[u16; 8192],
+) -> Seen
+    requires { ⌜ (t .depth < 8192) × (t .calls < 8192) × (t .bodies ≤ 8192) × (length (now rows) ≤ 32768) × (length (now marks) ≤ 32768) ⌝ }
+    ensures { λ r. ⌜ see r (now (uses .entry)) (now (stack .exit)) (now (calls .exit)) (now (bodies .entry)) ≡ useTyped (now (ids .entry)) (now (rows .entry)) (now (marks .entry)) kind symbol one two (nextUse (drop (t .uses) (now (uses .entry))) (see t (now (uses .entry)) (now (stack .entry)) (now (calls .entry)) (now (bodies .entry)))) ⌝ }
+{
+    let n = next_use(t, uses);
+    match kind {
+        nodes::USE => name(n, symbol, one, two, rows, marks, ids, stack),
+        nodes::CALL => call(n, one, calls),
+        nodes::LEFT => left(n, symbol, rows, marks, ids, bodies),
+        _ => note(
+            n,
+            !meanings::is_variable(rows, marks, ids, meant(n.last), sorts::INTEGER),
+            symbol,
+        ),
+    }
+}
+
+// Whether a node is a name's use.
+fn is_use(kind: u16) -> bool
+    ensures { λ r. ⌜ r ≡ isUse kind ⌝ }
+{
+    match kind {
+        nodes::FOR => true,
+        nodes::LEFT => true,
+        nodes::USE => true,
+        nodes::CALL => true,
+        _ => false,
+    }
+}
+
+// What a node adds.
+fn node(
+    mut t: Seen,
+    kind: u16,
+    symbol: u16,
+    one: u16,
+    two: u16,
+    uses: &[u16],
+    rows: &[u16],
+    marks: &[u16],
+    ids: &[u16; 2048],
+    stack: &mut [u16; 8192],
+    calls: &mut [u16; 24576],
+    bodies: &mut [u16; 8192],
+) -> Seen
+    requires { ⌜ Within 8191 (see t (now uses) (now stack) (now calls) (now bodies)) × (length (now rows) ≤ 32768) × (length (now marks) ≤ 32768) ⌝ }
+    ensures { λ r. ⌜ see r (now (uses .entry)) (now (stack .exit)) (now (calls .exit)) (now (bodies .exit)) ≡ typeNode (now (ids .entry)) (now (rows .entry)) (now (marks .entry)) kind symbol one two (see t (now (uses .entry)) (now (stack .entry)) (now (calls .entry)) (now (bodies .entry))) ⌝ }
+{
+    let bare = t.bare;
+    t.bare = 0;
+    if is_use(kind) {
+        return use_node(
+            t,
+            kind,
+            symbol,
+            one,
+            two,
+            uses,
+            rows,
+            marks,
+            ids,
+            stack,
+            calls,
+            bodies,
+        );
+    }
+    match kind {
+        nodes::ACTUAL => actual(t, bare, symbol, rows, marks, ids, stack, calls),
+        nodes::CALL_END => call_end(t, symbol, two, rows, marks, ids, stack, calls),
+        nodes::VARIABLE | nodes::FORMAL => {
+            t.rows += 1;
+            t
+        }
+        nodes::PROCEDURE => body(t, bodies),
+        nodes::PROCEDURE_END => body_end(t),
+        _ => plain(t, kind, symbol, one, stack),
+    }
+}
+
+// All nodes.
+fn walk(
+    nodes: &[u16],
+    uses: &[u16],
+    rows: &[u16],
+    marks: &[u16],
+    ids: &[u16; 2048],
+    stack: &mut [u16; 8192],
+    calls: &mut [u16; 24576],
+    bodies: &mut [u16; 8192],
+) -> usize
+    requires { ⌜ (length (now nodes) ≤ 32768) × (length (now rows) ≤ 32768) × (length (now marks) ≤ 32768) ⌝ }
+    ensures { λ r. ⌜ r ≡ typedOf (now (ids .entry)) (now (rows .entry)) (now (marks .entry)) (now (uses .entry)) (now (nodes .entry)) ⌝ }
+{
+    let mut t = Seen {
+        uses: 0,
+        rows: 0,
+        depth: 0,
+        calls: 0,
+        bodies: 0,
+        begun: false,
+        left: 0,
+        bare: 0,
+        last: 8196,
+        least: faults::NONE,
+    };
+    let mut i = 0;
+    while 4 * i + 3 < nodes.len() {
+        let at = 4 * i;
+        t = node(
+            t,
+            nodes[at],
+            nodes[at + 1],
+            nodes[at + 2],
+            nodes[at + 3],
+            uses,
+            rows,
+            marks,
+            ids,
+            stack,
+            calls,
+            bodies,
+        );
+        i += 1;
+    }
+    t.least
+}
+
+// The least type fault of a program, of which the nodes, the uses and the declarations are lent.
+pub fn check(nodes: &[u16], uses: &[u16], rows: &[u16], marks: &[u16], ids: &[u16; 2048]) -> usize
+    requires { ⌜ (length (now nodes) ≤ 32768) × (length (now rows) ≤ 32768) × (length (now marks) ≤ 32768) ⌝ }
+    ensures { λ r. ⌜ r ≡ typedOf (now (ids .entry)) (now (rows .entry)) (now (marks .entry)) (now (uses .entry)) (now (nodes .entry)) ⌝ }
+{
+    let mut stack = [0u16; 8192];
+    let mut calls = [0u16; 24576];
+    let mut bodies = [0u16; 8192];
+    walk(
+        nodes,
+        uses,
+        rows,
+        marks,
+        ids,
+        &mut stack,
+        &mut calls,
+        &mut bodies,
+    )
+}
