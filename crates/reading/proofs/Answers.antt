@@ -7,7 +7,8 @@ use native.Mathlib.Omega.{arith}
 use native.Mathlib.Nat.{zero-add}
 use lib.ListN.{length, getD, take, drop, take-append-drop}
 use Rattle.answers.specs.Numbers.{types}
-use Rattle.answers.specs.declared.Verdict.the-variants.{Accepted, Refused}
+use Rattle.answers.specs.declared.Verdict.{Verdict}
+use Rattle.answers.specs.declared.Verdict.the-variants.{Accepted}
 use Rattle.syntax.specs.Grammar.{program as Grammar-program}
 use Rattle.syntax.specs.Trees.{Syn, nil, tok, sub, yield}
 use Rattle.syntax.specs.Verdict.{zeros}
@@ -148,3 +149,66 @@ module _ {source places nodes ids : List ℕ} {n : ℕ} (known : Known source pl
     types-right l new w =
         subst (Judged source Accepted) (sym (wrote-filled new _ w ∙ ap filled table-is))
         (accepts known rows-fit right (near-types n (program known) (omega (arith, known .ready .places-in .few)) within-nodes) (small-types (program known)) l)
+
+-- ---- the same in terms of the slices that are lent
+
+-- whatever equals what is judged
+as-judged : {source : List ℕ} {v v₂ : Verdict} {w w₂ : List ℕ} → v ≡ v₂ → w ≡ w₂ → Judged source v₂ w₂ → Judged source v w
+as-judged {source} {v} {v₂} {w} {w₂} e q j = subst (λ x. Judged source x w) (sym e) (subst (Judged source v₂) (sym q) j)
+
+module _ {source places nodes ids rows marks : List ℕ} {n : ℕ} (o : Outlined source places nodes ids rows marks n) where
+  pub rows-short : length rows ≤ 32768
+  rows-short = subst (λ r. length r ≤ 32768) (sym (o .rowed ∙ rows-are (o .known))) (rows-fit (o .known))
+
+  pub nodes-short : length nodes ≤ 32760
+  nodes-short = nodes-fit (o .known)
+
+  worst-here : (least fault : ℕ) → least ≡ outlineOf ids nodes .least → fault ≡ min least (usesOf ids rows nodes .least) → fault ≡ worst (o .known) (rows-fit (o .known))
+  worst-here least fault a b = b ∙ ap (λ k. min k (usesOf ids rows nodes .least)) a ∙ ap (λ r. min (outlineOf ids nodes .least) (usesOf ids r nodes .least)) (o .rowed)
+
+  -- 7 to 9
+  pub stage-refused : (least fault : ℕ) → least ≡ outlineOf ids nodes .least → fault ≡ min least (usesOf ids rows nodes .least) → fault < noFault
+      → (v : Verdict) (w : List ℕ) → v ≡ refusedAt source (faultOf fault) → w ≡ cleared → Judged source v w
+  stage-refused least fault a b l v w e q =
+      let k = worst-here least fault a b in
+      as-judged (e ∙ ap (λ x. refusedAt source (faultOf x)) k) q (names-refused (o .known) (subst (λ x. x < noFault) k l))
+
+  -- no name is at fault
+  pub stage-on : (least fault : ℕ) (uses : List ℕ) → least ≡ outlineOf ids nodes .least → fault ≡ min least (usesOf ids rows nodes .least) → (fault < noFault → ⊥)
+      → uses ≡ usesOf ids rows nodes .uses → Named source places nodes ids rows marks uses n
+  stage-on least fault uses a b l u =
+      let k = worst-here least fault a b in
+      record { outlined = o; used = u; faultless = names-right (o .known) (λ m. l (subst (λ x. x < noFault) (sym k) m)) }
+
+module _ {source places nodes ids rows marks uses : List ℕ} {n : ℕ} (m : Named source places nodes ids rows marks uses n) where
+  abbrev all-known : Known source places nodes ids n
+  all-known = m .outlined .known
+
+  uses-here : uses ≡ usesOf ids (outlineOf ids nodes .rows) nodes .uses
+  uses-here = m .used ∙ ap (λ r. usesOf ids r nodes .uses) (m .outlined .rowed)
+
+  mistake-here : (fault : ℕ) → fault ≡ typedOf ids rows marks uses nodes → fault ≡ mistake all-known (rows-fit all-known)
+  mistake-here fault e =
+      e ∙ ap (λ r. typedOf ids r marks uses nodes) (m .outlined .rowed) ∙ ap (λ k. typedOf ids (outlineOf ids nodes .rows) k uses nodes) (m .outlined .marked)
+      ∙ ap (λ u. typedOf ids (outlineOf ids nodes .rows) (outlineOf ids nodes .marks) u nodes) uses-here
+
+  table-here : tableModel (placeOf places) rows nodes uses ≡ tableModel (placeOf places) (outlineOf ids nodes .rows) nodes (usesOf ids (outlineOf ids nodes .rows) nodes .uses)
+  table-here = ap (λ r. tableModel (placeOf places) r nodes uses) (m .outlined .rowed) ∙ ap (tableModel (placeOf places) (outlineOf ids nodes .rows) nodes) uses-here
+
+  -- the table has room
+  pub table-short : length (tableModel (placeOf places) rows nodes uses) ≤ 32768
+  table-short = subst (λ w. length w ≤ 32768) (sym table-here) (table-fits all-known (m .faultless))
+
+  -- 10
+  pub last-refused : (fault : ℕ) → fault ≡ typedOf ids rows marks uses nodes → fault < noFault → (v : Verdict) (w : List ℕ)
+      → v ≡ refusedAt source (faultOf fault) → w ≡ cleared → Judged source v w
+  last-refused fault a l v w e q =
+      let k = mistake-here fault a in
+      as-judged (e ∙ ap (λ x. refusedAt source (faultOf x)) k) q (types-refused all-known (m .faultless) (subst (λ x. x < noFault) k l))
+
+  -- 0
+  pub last-accepted : (fault : ℕ) → fault ≡ typedOf ids rows marks uses nodes → (fault < noFault → ⊥) → (old new : List ℕ) → old ≡ cleared
+      → Wrote old new 0 (tableModel (placeOf places) rows nodes uses) → Judged source Accepted new
+  last-accepted fault a l old new q w =
+      types-right all-known (m .faultless) (λ h. l (subst (λ x. x < noFault) (sym (mistake-here fault a)) h)) new
+      (subst (Wrote cleared new 0) table-here (subst (λ x. Wrote x new 0 (tableModel (placeOf places) rows nodes uses)) q w))

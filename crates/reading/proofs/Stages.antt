@@ -5,7 +5,7 @@ use mathlib.Core.List.{List, [], _∷_, _++_, map}
 use mathlib.Core.Option.{Option, none, some}
 use native.Mathlib.Omega.{arith}
 use native.Mathlib.Decide.{decLt, ℕ-discrete}
-use lib.ListN.{length, getD, take, drop, length-append, length-map, length-drop, List·getD-append}
+use lib.ListN.{length, getD, take, drop, length-append, length-map, length-drop, List·getD-append, List·getD-eq-default}
 use lib.Seq.{take-append-seam, getD-append-add, getD-drop, take-append-le}
 use Rattle.answers.specs.Numbers.{grammar, depth}
 use Rattle.answers.specs.Answers.{answer, refusal}
@@ -27,7 +27,7 @@ use Rattle.syntax.specs.Verdict.{zeros, Verdict, Whole}
 use Rattle.syntax.specs.declared.Parsed.{Parsed as Outcome}
 use Rattle.syntax.specs.declared.Parsed.the-variants.{Read as Program-read, Refused as Program-refused}
 use Rattle.reading.specs.Reading.{symbols, kindsIn, placeIn, cleared, Scanned, Parsed, Judged, unreadable, ungrammatical, too-deep}
-use Rattle.reading.specs.Model.{Narrow, Symbols, Ready}
+use Rattle.reading.specs.Model.{Narrow, Placed, Symbols, Ready}
 use Rattle.reading.proofs.Places.{place-inside}
 
 -- ---- a stored kind gives itself
@@ -148,6 +148,12 @@ stand {source} {kinds} {kinds'} {places} {places'} f l size z n q =
     narrow-at : {k n : ℕ} → Dec (k < n) → (k < n → getD places' k 0 ≡ placeIn source k) → length (placesOf (scan symbols source .found)) ≡ n → getD places' k 0 < 65536
     narrow-at {k} (yes h) e ps = omega (arith, e h, place-inside symbols source k, l)
     narrow-at {k} (no h) e ps = omega (arith, ap (λ p. getD p k 0) (f .placed) ∙ zero-behind (placesOf (scan symbols source .found)) places k z (omega (arith, ps)))
+
+-- behind the last symbol stands the source's length
+pub place-behind : {source places : List ℕ} {n : ℕ} → Placed source places n → (k : ℕ) → n ≤ k → placeIn source k ≡ length source
+place-behind {source} p k l =
+    let found = scan symbols source .found in
+    List·getD-eq-default (placesOf found) (length source) {n = k} (omega (arith, p .count, length-map found (λ f. kind (f .symbol)), length-map found (λ f. f .place)))
 
 -- ---- what parsing answered
 
