@@ -1,18 +1,20 @@
 -- What each stage of the job answers, in terms of what it was lent: these are the last steps of its functions' proofs.
-use Prim.Native.Nat.{ℕ, zero, suc, pred, _+_, _-_, _<_, _≤_, min}
+use Prim.Native.Nat.{ℕ, zero, suc, _+_, _-_, _<_, _≤_, min}
 use mathlib.Core.Path.{_≡_, refl, sym, ap, subst, _∙_}
-use mathlib.Core.List.{List, [], _∷_, _++_, map}
+use mathlib.Core.List.{List, [], _∷_, _++_}
 use mathlib.Core.Option.{Option, none, some}
 use native.Mathlib.Omega.{arith}
 use native.Mathlib.Nat.{zero-add}
-use lib.ListN.{length, getD, take, drop, take-append-drop}
-use Rattle.answers.specs.Numbers.{types}
+use lib.ListN.{length, take, drop, take-append-drop, length-take}
+use Rattle.answers.specs.Numbers.{short}
+use Rattle.answers.specs.Answers.{refusal}
+use Rattle.answers.specs.declared.Refusal.{Refusal}
 use Rattle.answers.specs.declared.Verdict.{Verdict}
-use Rattle.answers.specs.declared.Verdict.the-variants.{Accepted}
+use Rattle.answers.specs.declared.Verdict.the-variants.{Accepted, Refused}
 use Rattle.syntax.specs.Grammar.{program as Grammar-program}
 use Rattle.syntax.specs.Trees.{Syn, nil, tok, sub, yield}
 use Rattle.syntax.specs.Verdict.{zeros}
-use Rattle.names.specs.Program.{Name, Statement}
+use Rattle.names.specs.Program.{Statement}
 use Rattle.names.specs.Uses.{Fault, nameFaults, sooner, least, joined, innermost, unmeant, scopesS, usesS}
 use Rattle.names.specs.Nodes.{nodesS}
 use Rattle.names.specs.Outline.{rowsS}
@@ -22,21 +24,19 @@ use Rattle.names.proofs.Weaken.{mapAll}
 use Rattle.names.proofs.NearNames.{near-names, small-names}
 use Rattle.names.proofs.NearNodes.{SymbolsWithin, none as no-node, one, nodes-before-end}
 use Rattle.names.proofs.TreeRows.{marksS}
-use Rattle.names.proofs.Resolved.{Matches}
-use Rattle.types.specs.Types.{typeFaults}
 use Rattle.types.specs.Passes.{typedOf}
 use Rattle.types.proofs.NearTypes.{near-types, small-types}
 use Rattle.reading.specs.Table.{tableOf}
-use Rattle.reading.specs.Reading.{placeIn, refusedAt, cleared, filled, Judged, parsed}
-use Rattle.reading.specs.Model.{placeOf, Wrote, tableModel, Ready, Known, Outlined, Named}
+use Rattle.reading.specs.Reading.{placeIn, refusedAt, room, cleared, filled, Judged, Reads, too-short}
+use Rattle.reading.specs.Model.{placeOf, Wrote, tableModel, Known, Outlined, Named}
 use Rattle.reading.proofs.SamePlaces.{SymbolsBelow}
 use Rattle.reading.proofs.TableWords.{table-words}
 use Rattle.reading.proofs.Fits.{table-room, rows-room, nodes-room}
-use Rattle.reading.proofs.Whole.{letters, worth, program, Good, all-good, nodes-are, rows-are, marks-are, uses-match, worst, at-fault, no-name-fault, mistake, mistaken, accepts}
+use Rattle.reading.proofs.Whole.{letters, worth, program, all-good, nodes-are, rows-are, uses-match, worst, at-fault, no-name-fault, mistake, mistaken, accepts}
 
 -- ---- lists without a fault
 
-none-empty : (l : List Fault) → least l ≡ none → l ≡ []
+pub none-empty : (l : List Fault) → least l ≡ none → l ≡ []
 unfolding least
 none-empty [] q = refl
 none-empty (f ∷ l) q = absurd (go (least l) q)
@@ -55,7 +55,7 @@ right-empty (x ∷ a) b q = absurd (cons-nil q)
     cons-nil : {y : Fault} {l : List Fault} → (y ∷ l) ≡ [] → ⊥
     cons-nil {y} {l} e = let z : suc (length l) ≡ 0 = ap length e in omega arith
 
-unmeant-none : (s : Statement) → least (nameFaults s) ≡ none → joined unmeant (usesS [] s) ≡ []
+pub unmeant-none : (s : Statement) → least (nameFaults s) ≡ none → joined unmeant (usesS [] s) ≡ []
 unfolding nameFaults
 unmeant-none s q = right-empty (joined innermost (scopesS [] s)) (joined unmeant (usesS [] s)) (none-empty (nameFaults s) q)
 
@@ -91,6 +91,9 @@ module _ {source places nodes ids : List ℕ} {n : ℕ} (known : Known source pl
 
   pub nodes-fit : length nodes ≤ 32760
   nodes-fit = subst (λ ws. length ws ≤ 32760) (sym (nodes-are known)) (nodes-room (worth known) (letters known) (known .ready .program .tree) few)
+
+  pub nodes-within : length nodes ≤ 32768
+  nodes-within = omega (arith, nodes-fit)
 
   below : AllS (λ x. x .symbol < n) (program known)
   below = mapAll (program known) (λ x g. g .1) (all-good known)
@@ -153,32 +156,48 @@ module _ {source places nodes ids : List ℕ} {n : ℕ} (known : Known source pl
 -- ---- the same in terms of the slices that are lent
 
 -- whatever equals what is judged
-as-judged : {source : List ℕ} {v v₂ : Verdict} {w w₂ : List ℕ} → v ≡ v₂ → w ≡ w₂ → Judged source v₂ w₂ → Judged source v w
+pub as-judged : {source : List ℕ} {v v₂ : Verdict} {w w₂ : List ℕ} → v ≡ v₂ → w ≡ w₂ → Judged source v₂ w₂ → Judged source v w
 as-judged {source} {v} {v₂} {w} {w₂} e q j = subst (λ x. Judged source x w) (sym e) (subst (Judged source v₂) (sym q) j)
+
+-- 1
+pub as-short : {source table : List ℕ} {r : Refusal} → length table < room → r ≡ refusal short 0 → Reads source table (Refused r) table
+as-short {source} {table} l e = subst (λ x. Reads source table (Refused x) table) (sym e) (too-short l)
+
+-- the first words are no more than was asked for
+pub part-short : (part all : List ℕ) (k n : ℕ) → part ≡ take k all → k ≤ n → length part ≤ n
+part-short part all k n e l = omega (arith, ap length e, length-take k all)
+
+length-zeros : (m : ℕ) → length (zeros m) ≡ m
+unfolding zeros
+length-zeros zero = refl
+length-zeros (suc m) = ap suc (length-zeros m)
 
 module _ {source places nodes ids rows marks : List ℕ} {n : ℕ} (o : Outlined source places nodes ids rows marks n) where
   pub rows-short : length rows ≤ 32768
   rows-short = subst (λ r. length r ≤ 32768) (sym (o .rowed ∙ rows-are (o .known))) (rows-fit (o .known))
 
-  pub nodes-short : length nodes ≤ 32760
-  nodes-short = nodes-fit (o .known)
+  pub nodes-short : length nodes ≤ 32768
+  nodes-short = nodes-within (o .known)
 
-  worst-here : (least fault : ℕ) → least ≡ outlineOf ids nodes .least → fault ≡ min least (usesOf ids rows nodes .least) → fault ≡ worst (o .known) (rows-fit (o .known))
-  worst-here least fault a b = b ∙ ap (λ k. min k (usesOf ids rows nodes .least)) a ∙ ap (λ r. min (outlineOf ids nodes .least) (usesOf ids r nodes .least)) (o .rowed)
+  -- of the faults that the two passes found, the lesser
+  worst-here : (first second fault : ℕ) → first ≡ outlineOf ids nodes .least → second ≡ usesOf ids rows nodes .least → fault ≡ min first second
+      → fault ≡ worst (o .known) (rows-fit (o .known))
+  worst-here first second fault a b e =
+      e ∙ ap (min first) (b ∙ ap (λ r. usesOf ids r nodes .least) (o .rowed)) ∙ ap (λ k. min k (usesOf ids (outlineOf ids nodes .rows) nodes .least)) a
 
   -- 7 to 9
-  pub stage-refused : (least fault : ℕ) → least ≡ outlineOf ids nodes .least → fault ≡ min least (usesOf ids rows nodes .least) → fault < noFault
+  pub stage-refused : (first second fault : ℕ) → first ≡ outlineOf ids nodes .least → second ≡ usesOf ids rows nodes .least → fault ≡ min first second → fault < noFault
       → (v : Verdict) (w : List ℕ) → v ≡ refusedAt source (faultOf fault) → w ≡ cleared → Judged source v w
-  stage-refused least fault a b l v w e q =
-      let k = worst-here least fault a b in
+  stage-refused first second fault a b m l v w e q =
+      let k = worst-here first second fault a b m in
       as-judged (e ∙ ap (λ x. refusedAt source (faultOf x)) k) q (names-refused (o .known) (subst (λ x. x < noFault) k l))
 
   -- no name is at fault
-  pub stage-on : (least fault : ℕ) (uses : List ℕ) → least ≡ outlineOf ids nodes .least → fault ≡ min least (usesOf ids rows nodes .least) → (fault < noFault → ⊥)
-      → uses ≡ usesOf ids rows nodes .uses → Named source places nodes ids rows marks uses n
-  stage-on least fault uses a b l u =
-      let k = worst-here least fault a b in
-      record { outlined = o; used = u; faultless = names-right (o .known) (λ m. l (subst (λ x. x < noFault) (sym k) m)) }
+  pub stage-on : (first second fault : ℕ) (uses part : List ℕ) → first ≡ outlineOf ids nodes .least → second ≡ usesOf ids rows nodes .least → fault ≡ min first second
+      → (fault < noFault → ⊥) → uses ≡ part → part ≡ usesOf ids rows nodes .uses → Named source places nodes ids rows marks uses n
+  stage-on first second fault uses part a b m l u v =
+      let k = worst-here first second fault a b m in
+      record { outlined = o; used = u ∙ v; faultless = names-right (o .known) (λ h. l (subst (λ x. x < noFault) (sym k) h)) }
 
 module _ {source places nodes ids rows marks uses : List ℕ} {n : ℕ} (m : Named source places nodes ids rows marks uses n) where
   abbrev all-known : Known source places nodes ids n
@@ -198,6 +217,9 @@ module _ {source places nodes ids rows marks uses : List ℕ} {n : ℕ} (m : Nam
   -- the table has room
   pub table-short : length (tableModel (placeOf places) rows nodes uses) ≤ 32768
   table-short = subst (λ w. length w ≤ 32768) (sym table-here) (table-fits all-known (m .faultless))
+
+  pub table-enters : (w : List ℕ) → w ≡ cleared → length (tableModel (placeOf places) rows nodes uses) ≤ length w
+  table-enters w q = subst (λ k. length (tableModel (placeOf places) rows nodes uses) ≤ k) (sym (ap length q ∙ length-zeros room)) table-short
 
   -- 10
   pub last-refused : (fault : ℕ) → fault ≡ typedOf ids rows marks uses nodes → fault < noFault → (v : Verdict) (w : List ℕ)

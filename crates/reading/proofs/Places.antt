@@ -1,6 +1,5 @@
 -- The places of a source's symbols: each is a byte of the source, and they rise. So the smallest place is the smallest symbol's.
 use Prim.Native.Nat.{ℕ, zero, suc, pred, _+_, _<_, _≤_}
-use mathlib.Core.Path.{_≡_, refl, sym, ap, subst, _∙_}
 use mathlib.Core.List.{List, [], _∷_}
 use native.Mathlib.Omega.{arith}
 use lib.ListN.{length, getD}
@@ -10,6 +9,7 @@ use Rattle.symbols.specs.declared.Context.{Context}
 use Rattle.symbols.specs.declared.Context.the-variants.{Plain}
 use Rattle.symbols.specs.declared.Turn.{Turn}
 use Rattle.symbols.specs.declared.Turn.the-variants.{Pass, Keep, Refuse}
+use Rattle.symbols.proofs.Within.{Stays, stays}
 
 -- places from lo on and below hi, each behind the one before
 abbrev pub Rising : ℕ → ℕ → List Found → Type 0
@@ -66,3 +66,26 @@ earlier lo hi (suc j) (suc k) (f ∷ l) r h m = earlier (f .place + 1) hi j k l 
 pub sooner-place : (n : ℕ) (source : List ℕ) (j k : ℕ) → j < k → k < length (scan n source .found)
     → getD (placesOf (scan n source .found)) j (length source) < getD (placesOf (scan n source .found)) k (length source)
 sooner-place n source j k h m = earlier 0 (length source) j k (scan n source .found) (places-rise n source) h m
+
+-- ---- there are no more symbols than may come: one is kept only where one more may come
+
+few-turn : (n p m : ℕ) (t : Turn) (same less : Context → ℕ → Scan) → Stays n m t
+    → ((c : Context) (k : ℕ) → length (same c k .found) ≤ n) → ((c : Context) (k : ℕ) → length (less c k .found) ≤ pred n)
+    → length (then p t same less .found) ≤ n
+few-turn n p m (Pass c k) same less h s l = s c k
+few-turn zero p m (Keep x c k) same less h s l = absurd (omega (arith, h .1))
+few-turn (suc n) p m (Keep x c k) same less h s l = omega (arith, l c k)
+few-turn n p m (Refuse a) same less h s l = omega arith
+
+few-from : (n : ℕ) (c : Context) (p k : ℕ) (bs : List ℕ) → length (scanFrom n c p k bs .found) ≤ n
+unfolding scanFrom
+few-from n c p zero [] = omega arith
+few-from n c p (suc k) [] = omega arith
+few-from n c p (suc k) (b ∷ bs) = few-from n c (p + 1) k bs
+few-from n c p zero (b ∷ bs) =
+    few-turn n p (length bs) (turn n c b bs) (λ c' k. scanFrom n c' (p + 1) k bs) (λ c' k. scanFrom (pred n) c' (p + 1) k bs) (stays n c b bs)
+    (λ c' k. few-from n c' (p + 1) k bs) (λ c' k. few-from (pred n) c' (p + 1) k bs)
+
+pub few-symbols : (n : ℕ) (source : List ℕ) → length (scan n source .found) ≤ n
+unfolding scan
+few-symbols n source = few-from n Plain 0 0 source

@@ -1,12 +1,12 @@
 -- From the arrays to the definitions: what scanning and parsing left says that the symbols, and then the program, stand.
-use Prim.Native.Nat.{ℕ, zero, suc, _+_, _-_, _<_, _≤_}
+use Prim.Native.Nat.{ℕ, zero, suc, _+_, _-_, _<_, _≤_, min}
 use mathlib.Core.Path.{_≡_, refl, sym, ap, subst, _∙_}
-use mathlib.Core.List.{List, [], _∷_, _++_, map}
+use mathlib.Core.List.{List, [], _∷_, _++_}
 use mathlib.Core.Option.{Option, none, some}
 use native.Mathlib.Omega.{arith}
 use native.Mathlib.Decide.{decLt, ℕ-discrete}
-use lib.ListN.{length, getD, take, drop, length-append, length-map, length-drop, List·getD-append, List·getD-eq-default}
-use lib.Seq.{take-append-seam, getD-append-add, getD-drop, take-append-le}
+use lib.ListN.{length, getD, take, drop, replicate, length-append, length-map, List·getD-append, List·getD-eq-default}
+use lib.Seq.{take-append-seam, getD-append-add, getD-drop}
 use Rattle.answers.specs.Numbers.{grammar, depth}
 use Rattle.answers.specs.Answers.{answer, refusal}
 use Rattle.answers.specs.declared.Answer.{Answer}
@@ -26,9 +26,10 @@ use Rattle.syntax.specs.Program.{Wrong, FirstDeep}
 use Rattle.syntax.specs.Verdict.{zeros, Verdict, Whole}
 use Rattle.syntax.specs.declared.Parsed.{Parsed as Outcome}
 use Rattle.syntax.specs.declared.Parsed.the-variants.{Read as Program-read, Refused as Program-refused}
-use Rattle.reading.specs.Reading.{symbols, kindsIn, placeIn, cleared, Scanned, Parsed, Judged, unreadable, ungrammatical, too-deep}
-use Rattle.reading.specs.Model.{Narrow, Placed, Symbols, Ready}
-use Rattle.reading.proofs.Places.{place-inside}
+use Rattle.reading.specs.Reading.{symbols, kindsIn, placeIn, cleared, Judged, unreadable, ungrammatical, too-deep}
+use Rattle.names.specs.Identity.{Identified}
+use Rattle.reading.specs.Model.{Placed, Symbols, Ready, Known}
+use Rattle.reading.proofs.Places.{place-inside, few-symbols}
 
 -- ---- a stored kind gives itself
 
@@ -129,14 +130,19 @@ default-free [] k a b h = absurd (omega arith)
 default-free (x ∷ l) zero a b h = refl
 default-free (x ∷ l) (suc k) a b h = default-free l k a b (omega arith)
 
+pub all-zero : (n j : ℕ) → _≡_ {A = ℕ} (getD (replicate n 0) j 0) 0
+all-zero zero j = refl
+all-zero (suc n) zero = refl
+all-zero (suc n) (suc j) = all-zero n j
+
 pub stand : {source kinds kinds' places places' values values' : List ℕ} {t : Told} → Filled symbols source t kinds kinds' places places' values values'
-    → length source ≤ 16384 → length kinds' ≡ 2048 → ((j : ℕ) → getD places j 0 ≡ 0) → (n : ℕ) → t ≡ Symbols-read n → Symbols source kinds' places' n
-stand {source} {kinds} {kinds'} {places} {places'} f l size z n q =
+    → length source ≤ 16384 → ((j : ℕ) → getD places j 0 ≡ 0) → (n : ℕ) → t ≡ Symbols-read n → Symbols source kinds' places' n
+stand {source} {kinds} {kinds'} {places} {places'} f l z n q =
     let found = scan symbols source .found in
     let a = answered (scan symbols source) n (sym (f .answers) ∙ q) in
     let ks : length (kindsOf found) ≡ n = length-map found (λ f. kind (f .symbol)) ∙ a .1 in
     let ps : length (placesOf found) ≡ n = length-map found (λ f. f .place) ∙ a .1 in
-    let few : n ≤ 2048 = omega (arith, ks, sym size ∙ ap length (f .kinded) ∙ length-append (kindsOf found) (drop (length (kindsOf found)) kinds)) in
+    let few : n ≤ 2048 = omega (arith, a .1, few-symbols symbols source) in
     let placed : (k : ℕ) → k < n → getD places' k 0 ≡ placeIn source k =
     λ k h. ap (λ p. getD p k 0) (f .placed) ∙ List·getD-append (placesOf found) (drop (length (placesOf found)) places) 0 k (omega (arith, ps)) ∙ default-free (placesOf found) k 0 (length source) (omega (arith, ps)) in
     record {
@@ -156,6 +162,12 @@ place-behind {source} p k l =
     List·getD-eq-default (placesOf found) (length source) {n = k} (omega (arith, p .count, length-map found (λ f. kind (f .symbol)), length-map found (λ f. f .place)))
 
 -- ---- what parsing answered
+
+-- the nodes are some of the words
+pub nodes-inside : {ks new : List ℕ} {r : Outcome} → Verdict ks new r → (j b : ℕ) → r ≡ Program-read j b → b ≤ length new
+nodes-inside {ks} {new} v j b q =
+    let w = v .accepted j b q in
+    omega (arith, w .words, ap length (w .wrote), length-append (nodesOf (w .tree)) (zeros (32768 - b)))
 
 module _ {source kinds places : List ℕ} {n : ℕ} (s : Symbols source kinds places n) where
   kinds-are : text (take n kinds) ≡ kindsIn source
@@ -187,3 +199,10 @@ module _ {source kinds places : List ℕ} {n : ℕ} (s : Symbols source kinds pl
           let d : a .number ≡ depth = ap (λ x. x .number) (v .numbers a k q (λ x. e (ap (λ y. y .number) x))) in
           subst (λ m. Judged source (Refused (refusal m (placeIn source k))) cleared) (sym d)
           (too-deep (s .scanned) k (subst (λ ks. FirstDeep ks k) kinds-are (v .deep k (said depth d))))
+
+-- ---- every symbol has its identity
+
+pub known : {source places nodes ids : List ℕ} {n : ℕ} → Ready source places nodes n → Identified source places ids (min n 2048) → Known source places nodes ids n
+known {source} {places} {ids = ids} {n} r i =
+    let all : min n 2048 ≡ n = omega (arith, r .places-in .few) in
+    record { ready = r; identified = subst (Identified source places ids) all i }

@@ -14,3 +14,10 @@ pub mod Ranges
 pub mod Lengths
 pub mod Widths
 pub mod OnWords
+pub mod Built
+pub mod Counted
+pub mod Numbers
+pub mod Deep
+pub mod Limits
+pub mod Rising
+pub mod Sites

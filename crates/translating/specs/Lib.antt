@@ -4,3 +4,5 @@ pub mod Listed
 pub mod Words
 pub mod Sizes
 pub mod Faithful
+pub mod Layout
+pub mod Emission

@@ -1,0 +1,26 @@
+-- `reading::reading::refused` meets its contract: number and symbol are read off the fault. Assumes nothing.
+use mathlib.Core.Path.{ap, _∙_}
+use Rattle.answers.specs.Answers.{refusal}
+use Rattle.answers.specs.declared.Verdict.the-variants.{Refused}
+use borrow.Author.Needs.{needs}
+use Rattle.reading.proofs.reading.refused.Statement.{statement}
+use Rattle.reading.proofs.reading.refused.Tie as tie
+use Rattle.reading.proofs.reading.refused.Reads as reads
+use Rattle.reading.proofs.reading.refused.Lts as lts
+use Rattle.answers.proofs.Refusal.new.Reads as new-reads
+use Rattle.reading.proofs.reading.place_at.Reads as place-at-reads
+
+place-at-requires : tie.Need-place-at-requires
+place-at-requires c κs = search needs
+
+cast-number : tie.Need-cast-number
+cast-number c = search needs
+
+new-requires : tie.Need-new-requires
+new-requires c κs = search needs
+
+returns : tie.Need-returns
+returns c = ap Refused (c .new .ensures ∙ ap (refusal _) (c .before .place-at .ensures))
+
+pub refused-spec : {M : Type 1} → statement M
+refused-spec = tie.close (tie.spec place-at-requires cast-number new-requires returns)

@@ -1,0 +1,180 @@
+-- Where nothing in a tree begins deeper than 64, no statement of the program that it is nests deeper. For each class: how deep what the part gives is,
+-- where the part opens at most d levels; for each production: that it opens them as the statement counts them. Then one induction over trees.
+use Prim.Native.Nat.{ℕ, zero, suc, _+_, _-_, _≤_}
+use mathlib.Core.Path.{_≡_, refl}
+use mathlib.Core.Bool.{true, false}
+use mathlib.Core.List.{List, [], _∷_, _++_}
+use mathlib.Core.Option.{Option, none, some}
+use native.Mathlib.Omega.{arith}
+use lib.ListN.{length}
+use Rattle.syntax.specs.Grammar.{Class, block, inner, head, tail, declarations, declaration, declared, type, procedure, heading, formals, values, specifications, list, others, statements, statement, consequence, alternative, repetition, for-clause, elements, further, element, progress, stepping, amount, unconditional, named, right, expression, otherwise, level, more, negation, relation, comparison, primary, actuals, actual, further-actuals, Item, sy, rd, put, rhs, program}
+use Rattle.syntax.specs.Grammar.{Prod, begin-end, a-block, a-compound, a-tail, a-head, some-declarations, no-declaration, typed, untyped, variables, function, integer, boolean, a-procedure, a-heading, some-formals, no-formals, some-values, no-values, a-specification, no-specification, a-list, another, no-other, a-statement, no-statement, conditional, repeated, plain, then-for, then-plain, an-else, no-else, a-for, a-clause, for-list, another-element, no-element, an-element, once, while, by-steps, a-step, an-amount, dummy, compound, with-name, assignment, call, left, value, a-condition, simple, an-otherwise, chain, signed, again, no-more, a-not, no-not, a-relation, compare, no-comparison, number, true-value, false-value, a-name, in-parentheses, with, bare, an-actual, another-actual, no-actual}
+use Rattle.syntax.specs.Trees.{Syn, nil, tok, act, sub, yield, Begins, here, down, flat, over, past, skip}
+use Rattle.syntax.specs.Program.{levels, Keeps}
+use Rattle.syntax.proofs.Unique.{shallow-tree}
+use Rattle.names.specs.Program as P
+use Rattle.names.specs.Program.{Name, Sort, Expression, Statement, Declarations}
+use Rattle.names.specs.ReadOff.{Sem, Makes, nameAt, build, read, programOf}
+use Rattle.translating.specs.Sizes.{deepS, deepSs, deepDs, deepP}
+
+-- ---- what a part gives that opens at most d levels. A body is one level below its declarations, as the statements of their block are
+
+abbrev Deep : (X : Class) → ℕ → Sem X → Type 0
+Deep block d s = deepS s ≤ d
+Deep inner d f = (q : ℕ) → deepS (f q) ≤ d
+Deep head d ds = deepDs ds ≤ d - 1
+Deep tail d ss = suc (deepSs ss) ≤ d
+Deep declarations d ds = deepDs ds ≤ d - 1
+Deep declaration d f = (ds : Declarations) → deepDs ds ≤ d - 1 → deepDs (f ds) ≤ d - 1
+Deep declared d f = (t : Sort) (ds : Declarations) → deepDs ds ≤ d - 1 → deepDs (f t ds) ≤ d - 1
+Deep type d t = Unit {0}
+Deep procedure d f = (t : Option Sort) → suc (deepP (f t)) ≤ d
+Deep heading d f = (t : Option Sort) (s : Statement) → deepP (f t s) ≡ deepS s
+Deep formals d xs = Unit {0}
+Deep values d xs = Unit {0}
+Deep specifications d ss = Unit {0}
+Deep (list e) d xs = Unit {0}
+Deep (others e) d xs = Unit {0}
+Deep statements d f = (s : Statement) → suc (deepS s) ≤ d → suc (deepSs (f s)) ≤ d
+Deep statement d s = deepS s ≤ d
+Deep consequence d f = (q : ℕ) (c : Expression) → deepS (f q c) ≤ d
+Deep alternative d f = (q : ℕ) (c : Expression) (s : Statement) → suc (deepS s) ≤ d → deepS (f q c s) ≤ d
+Deep repetition d s = deepS s ≤ d
+Deep for-clause d f = (s : Statement) → suc (deepS s) ≤ d → deepS (f s) ≤ d
+Deep elements d f = (x : Name) (s : Statement) → suc (deepS s) ≤ d → deepS (f x s) ≤ d
+Deep further d ls = Unit {0}
+Deep element d l = Unit {0}
+Deep progress d f = Unit {0}
+Deep stepping d f = Unit {0}
+Deep amount d e = Unit {0}
+Deep unconditional d s = deepS s ≤ d
+Deep named d f = (x : Name) → deepS (f x) ≤ d
+Deep right d f = (x : Name) (xs : List Name) (q : ℕ) → deepS (f x xs q) ≤ d
+Deep expression d e = Unit {0}
+Deep otherwise d f = Unit {0}
+Deep (level l) d e = Unit {0}
+Deep (more l) d f = Unit {0}
+Deep negation d e = Unit {0}
+Deep relation d e = Unit {0}
+Deep comparison d f = Unit {0}
+Deep primary d e = Unit {0}
+Deep (actuals u) d es = Unit {0}
+Deep actual d e = Unit {0}
+Deep further-actuals d es = Unit {0}
+
+module _ (worth : ℕ → ℕ) (letters : ℕ → List ℕ) where
+  -- ---- the induction
+
+  -- f makes of the items what K wants, where they open at most d levels; a part that is a level deeper opens one fewer
+  abbrev Good : (is : List Item) (d : ℕ) (R : Type 0) → Makes is R → (R → Type 0) → Type 0
+  Good [] d R f K = K f
+  Good (sy k ∷ is) d R f K = (i : ℕ) → Good is d R (f i) K
+  Good (put n ∷ is) d R f K = Good is d R f K
+  Good (rd false X ∷ is) d R f K = (v : Sem X) → Deep X d v → Good is d R (f v) K
+  Good (rd true X ∷ is) d R f K = (v : Sem X) (e : ℕ) → d ≡ suc e → Deep X e v → Good is d R (f v) K
+
+  abbrev Fits : {X : Class} → Prod X → Type 0
+  Fits {X} p = (d : ℕ) → Good (rhs p) d (Sem X) (build worth letters p) (Deep X d)
+
+  module _ (fits : (X : Class) (p : Prod X) → Fits p) where
+    runs : {is : List Item} (t : Syn is) (d i : ℕ) (R : Type 0) (f : Makes is R) (K : R → Type 0)
+        → ((m : ℕ) → Begins d m is t → ⊥) → Good is d R f K → K (read worth letters R t i f)
+    unfolding read
+    runs nil d i R f K n g = g
+    runs (tok s) d i R f K n g = runs s d (i + 1) R (f i) K (λ m b. n (suc m) (past b refl)) (g i)
+    runs (act s) d i R f K n g = runs s d i R f K (λ m b. n m (skip b)) g
+    runs (sub {b = false} {X = X} p t s) d i R f K n g =
+        let v = read worth letters (Sem X) t i (build worth letters p) in
+        let h : Deep X d v = runs t d i (Sem X) (build worth letters p) (Deep X d) (λ m b. n m (flat b)) (fits X p d) in
+        runs s d (i + length (yield t)) R (f v) K (λ m b. n (length (yield t) + m) (over b refl)) (g v h)
+    runs (sub {b = true} p t s) zero i R f K n g = absurd (n 0 here)
+    runs (sub {b = true} {X = X} p t s) (suc d) i R f K n g =
+        let v = read worth letters (Sem X) t i (build worth letters p) in
+        let h : Deep X d v = runs t d i (Sem X) (build worth letters p) (Deep X d) (λ m b. n m (down b)) (fits X p d) in
+        runs s (suc d) (i + length (yield t)) R (f v) K (λ m b. n (length (yield t) + m) (over b refl)) (g v d refl h)
+
+  -- ---- the productions
+
+  fits : {X : Class} (p : Prod X) → Fits p
+  unfolding build deepS
+  fits begin-end = λ d b f h e. h b
+  fits a-block = λ d ds h ss k q. omega arith
+  fits a-compound = λ d ss h q. h
+  fits a-tail = λ d s e z h f k. k s (omega arith)
+  fits a-head = λ d f h q ds k. h ds k
+  fits some-declarations = λ d ds h. h
+  fits no-declaration = λ d. omega arith
+  fits typed = λ d t h f k ds m. k t ds m
+  fits untyped = λ d q f h ds m. omega (arith, h none)
+  fits variables = λ d xs h t ds m. m
+  fits function = λ d q f h t ds m. omega (arith, h (some t))
+  fits integer = λ d q. tt
+  fits boolean = λ d q. tt
+  fits a-procedure = λ d f h s e z k t. omega (arith, h t s)
+  fits a-heading = λ d x xs h q vs k ss m t s. refl
+  fits some-formals = λ d q xs h r. tt
+  fits no-formals = λ d. tt
+  fits some-values = λ d q xs h r. tt
+  fits no-values = λ d. tt
+  fits a-specification = λ d t h xs k q ss m. tt
+  fits no-specification = λ d. tt
+  fits (a-list e) = λ d x xs h. tt
+  fits (another e) = λ d q xs h. tt
+  fits (no-other e) = λ d. tt
+  fits a-statement = λ d q ss h s k. omega arith
+  fits no-statement = λ d s h. h
+  fits conditional = λ d q c h r f k. k q c
+  fits repeated = λ d s h. h
+  fits plain = λ d s h. h
+  fits then-for = λ d s e z h q c. omega arith
+  fits then-plain = λ d s e z h f k q c. k q c s (omega arith)
+  fits an-else = λ d r t e z h q c s k. omega arith
+  fits no-else = λ d q c s h. h
+  fits a-for = λ d f h s e z k. h s (omega arith)
+  fits a-clause = λ d q x f h s k. h (nameAt worth letters x) s k
+  fits for-list = λ d q l h ls k r x s m. m
+  fits another-element = λ d q l h ls k. tt
+  fits no-element = λ d. tt
+  fits an-element = λ d e h f k. tt
+  fits once = λ d. tt
+  fits while = λ d q c h. tt
+  fits by-steps = λ d f h. tt
+  fits a-step = λ d q f h r g k. tt
+  fits an-amount = λ d e h. tt
+  fits dummy = λ d. omega arith
+  fits compound = λ d s h. h
+  fits with-name = λ d x f h. h (nameAt worth letters x)
+  fits assignment = λ d q f h x. h x [] q
+  fits call = λ d es h x. omega arith
+  fits left = λ d y q f h x xs r. h x (xs ++ (nameAt worth letters y ∷ [])) q
+  fits value = λ d e h x xs q. omega arith
+  fits a-condition = λ d q c n z h r e n' z' k f m. tt
+  fits simple = λ d e h. tt
+  fits an-otherwise = λ d r f n z h. tt
+  fits (chain l) = λ d e h f k. tt
+  fits (signed o) = λ d q e h f k. tt
+  fits (again o) = λ d q e h f k. tt
+  fits (no-more l) = λ d. tt
+  fits a-not = λ d q e h. tt
+  fits no-not = λ d e h. tt
+  fits a-relation = λ d e h f k. tt
+  fits (compare r) = λ d q f h. tt
+  fits no-comparison = λ d. tt
+  fits number = λ d q. tt
+  fits true-value = λ d q. tt
+  fits false-value = λ d q. tt
+  fits a-name = λ d x es h. tt
+  fits in-parentheses = λ d q e n z h r. tt
+  fits (with u) = λ d q e h es k r. tt
+  fits (bare u) = λ d. tt
+  fits an-actual = λ d e n z h. tt
+  fits another-actual = λ d q e h es k. tt
+  fits no-actual = λ d. tt
+
+  -- "The greatest depth is 64"
+  pub deep : (t : Syn program) → ((m : ℕ) → Begins levels m program t → ⊥) → deepS (programOf worth letters t) ≤ 63
+  unfolding programOf
+  deep t n = runs (λ X p. fits p) t levels 0 Statement (build worth letters begin-end) (λ s. deepS s ≤ 63) n (fits begin-end levels)
+
+  pub deep-kept : {ks : List ℕ} (t : Syn program) → Keeps ks t → deepS (programOf worth letters t) ≤ 63
+  deep-kept t k = deep t (shallow-tree t k)

@@ -1,0 +1,182 @@
+-- The declarations of the program that a tree is come in source order: the symbols of their rows rise, and are the text's. For each class: that the
+-- rows of a part lie within its symbols, with what a production around it adds before or behind; for each production: that they follow. Then Built.
+use Prim.Native.Nat.{ℕ, suc, _+_, _≤_}
+use mathlib.Core.List.{List, [], _∷_, _++_}
+use mathlib.Core.Option.{Option, none, some}
+use native.Mathlib.Omega.{arith}
+use lib.ListN.{length}
+use Rattle.syntax.specs.Grammar.{Class, block, inner, head, tail, declarations, declaration, declared, type, procedure, heading, formals, values, specifications, list, others, statements, statement, consequence, alternative, repetition, for-clause, elements, further, element, progress, stepping, amount, unconditional, named, right, expression, otherwise, level, more, negation, relation, comparison, primary, actuals, actual, further-actuals, program}
+use Rattle.syntax.specs.Grammar.{Prod, begin-end, a-block, a-compound, a-tail, a-head, some-declarations, no-declaration, typed, untyped, variables, function, integer, boolean, a-procedure, a-heading, some-formals, no-formals, some-values, no-values, a-specification, no-specification, a-list, another, no-other, a-statement, no-statement, conditional, repeated, plain, then-for, then-plain, an-else, no-else, a-for, a-clause, for-list, another-element, no-element, an-element, once, while, by-steps, a-step, an-amount, dummy, compound, with-name, assignment, call, left, value, a-condition, simple, an-otherwise, chain, signed, again, no-more, a-not, no-not, a-relation, compare, no-comparison, number, true-value, false-value, a-name, in-parentheses, with, bare, an-actual, another-actual, no-actual}
+use Rattle.syntax.specs.Trees.{Syn, yield}
+use Rattle.syntax.specs.NodeKinds.{n-variable, n-formal}
+use Rattle.names.specs.Program as P
+use Rattle.names.specs.Program.{Name, Sort, Expression, Statement, Statements, Declarations, Procedure}
+use Rattle.names.specs.ReadOff.{Sem, nameAt, build, programOf}
+use Rattle.names.specs.Nodes.{sortNumber}
+use Rattle.names.specs.Outline.{sizeS, sizeD, sizeP, rowsN, rowsS, rowsSs, rowsD, rowsP}
+use Rattle.translating.proofs.Built.{Fits, built}
+
+-- ---- rows of four words: their symbols, the second words, rise from a on, and all are before b
+
+pub data Rising : ℕ → ℕ → List ℕ → Type 0 where
+  no-row : {a b : ℕ} → a ≤ b → Rising a b []
+  row : {a b k x q t : ℕ} {ws : List ℕ} → a ≤ x → Rising (suc x) b ws → Rising a b (k ∷ x ∷ q ∷ t ∷ ws)
+
+-- within more symbols
+pub widen : {a b c d : ℕ} {ws : List ℕ} → c ≤ a → b ≤ d → Rising a b ws → Rising c d ws
+widen {c = c} {d = d} h l (no-row m) = let z : c ≤ d = omega arith in no-row z
+widen {c = c} h l (row {x = x} m r) = let z : c ≤ x = omega arith in row z (widen (omega arith) l r)
+
+pub follow : {a b c : ℕ} {u v : List ℕ} → Rising a b u → Rising b c v → Rising a c (u ++ v)
+follow (no-row h) r = widen h (omega arith) r
+follow (row h s) r = row h (follow s r)
+
+-- none, and one for the symbol that comes first
+nowhere : (i : ℕ) → Rising i i []
+nowhere i = let z : i ≤ i = omega arith in no-row z
+
+at : {b k q t : ℕ} {ws : List ℕ} (i : ℕ) → Rising (i + 1) b ws → Rising i b (k ∷ i ∷ q ∷ t ∷ ws)
+at {b} i r = let z : i ≤ i = omega arith in row {b = b} z (widen (omega arith) (omega arith) r)
+
+-- ---- what a part gives that has the symbols from i on, before j; whatever the scopes' numbers
+
+abbrev InNames : ℕ → ℕ → List Name → Type 0
+InNames i j xs = (k q t : ℕ) → Rising i j (rowsN k q t xs)
+
+abbrev InS : ℕ → ℕ → Statement → Type 0
+InS i j s = (c q : ℕ) → Rising i j (rowsS c q s)
+
+abbrev InSs : ℕ → ℕ → Statements → Type 0
+InSs i j ss = (c q : ℕ) → Rising i j (rowsSs c q ss)
+
+abbrev InD : ℕ → ℕ → Declarations → Type 0
+InD i j ds = (c q : ℕ) → Rising i j (rowsD c q ds)
+
+abbrev InP : ℕ → ℕ → Procedure → Type 0
+InP i j p = (c q : ℕ) → Rising i j (rowsP c q p)
+
+abbrev Rise : (X : Class) → ℕ → ℕ → Sem X → Type 0
+Rise block i j s = InS i j s
+Rise inner i j f = (p : ℕ) → InS i j (f p)
+Rise head i j ds = InD i j ds
+Rise tail i j ss = InSs i j ss
+Rise declarations i j ds = InD i j ds
+Rise declaration i j f = (ds : Declarations) (n : ℕ) → InD j n ds → InD i n (f ds)
+Rise declared i j f = (t : Sort) (ds : Declarations) (n : ℕ) → InD j n ds → InD i n (f t ds)
+Rise type i j t = Unit {0}
+Rise procedure i j f = (t : Option Sort) → InP i j (f t)
+Rise heading i j f = (t : Option Sort) (s : Statement) (n : ℕ) → InS j n s → InP i n (f t s)
+Rise formals i j xs = InNames i j xs
+Rise values i j xs = Unit {0}
+Rise specifications i j ss = Unit {0}
+Rise (list e) i j xs = InNames i j xs
+Rise (others e) i j xs = InNames i j xs
+Rise statements i j f = (s : Statement) (a : ℕ) → InS a i s → InSs a j (f s)
+Rise statement i j s = InS i j s
+Rise consequence i j f = (p : ℕ) (e : Expression) → InS i j (f p e)
+Rise alternative i j f = (p : ℕ) (e : Expression) (s : Statement) (a : ℕ) → InS a i s → InS a j (f p e s)
+Rise repetition i j s = InS i j s
+Rise for-clause i j f = (s : Statement) (n : ℕ) → InS j n s → InS i n (f s)
+Rise elements i j f = (x : Name) (s : Statement) (n : ℕ) → InS j n s → InS i n (f x s)
+Rise further i j ls = Unit {0}
+Rise element i j l = Unit {0}
+Rise progress i j f = Unit {0}
+Rise stepping i j f = Unit {0}
+Rise amount i j e = Unit {0}
+Rise unconditional i j s = InS i j s
+Rise named i j f = (x : Name) → InS i j (f x)
+Rise right i j f = (x : Name) (xs : List Name) (q : ℕ) → InS i j (f x xs q)
+Rise expression i j e = Unit {0}
+Rise otherwise i j f = Unit {0}
+Rise (level l) i j e = Unit {0}
+Rise (more l) i j f = Unit {0}
+Rise negation i j e = Unit {0}
+Rise relation i j e = Unit {0}
+Rise comparison i j f = Unit {0}
+Rise primary i j e = Unit {0}
+Rise (actuals u) i j es = Unit {0}
+Rise actual i j e = Unit {0}
+Rise further-actuals i j es = Unit {0}
+
+-- ---- the productions
+
+module _ (worth : ℕ → ℕ) (letters : ℕ → List ℕ) where
+  fits : {X : Class} (p : Prod X) → Fits worth letters (λ i. Unit {0}) Rise p
+  unfolding build rowsN rowsS
+  fits begin-end = λ i b f j l h e c q. widen (omega arith) (omega arith) (h i c q)
+  fits a-block = λ i ds j l h ss j' l' k p c q. follow (h (c + 1) (c + 1)) (k (c + 1 + sizeD ds) (c + 1))
+  fits a-compound = λ i ss j l h p. h
+  fits a-tail = λ i s j l h f j' l' k. k s i h
+  fits a-head = λ i f j l h p ds j' l' k. h ds j' (λ c q. widen (omega arith) (omega arith) (k c q))
+  fits some-declarations = λ i ds j l h. h
+  fits no-declaration = λ i c q. nowhere i
+  fits typed = λ i t j l h f j' l' k ds n m c q. widen l (omega arith) (k t ds n m c q)
+  fits untyped = λ i p f j l h ds n m c q. follow (widen (omega arith) (omega arith) (h none c q)) (m (c + sizeP (f none)) q)
+  fits variables = λ i xs j l h t ds n m c q. follow (h n-variable q (sortNumber (some t))) (m c q)
+  fits function = λ i p f j l h t ds n m c q. follow (widen (omega arith) (omega arith) (h (some t) c q)) (m (c + sizeP (f (some t))) q)
+  fits integer = λ i q. tt
+  fits boolean = λ i q. tt
+  fits a-procedure = λ i f j l h s j' l' k t. h t s j' k
+  fits a-heading = λ i x xs j l h p vs j' l' k ss j'' l'' m t s n r c q. at i (follow (widen (omega arith) (omega arith) (h n-formal (c + 1) 0)) (r (c + 1) (c + 1)))
+  fits some-formals = λ i p xs j l h r k q t. widen (omega arith) (omega arith) (h k q t)
+  fits no-formals = λ i k q t. nowhere i
+  fits some-values = λ i q xs j l h r. tt
+  fits no-values = λ i. tt
+  fits a-specification = λ i t j l h xs j' l' k q ss j'' l'' m. tt
+  fits no-specification = λ i. tt
+  fits (a-list e) = λ i x xs j l h k q t. at i (h k q t)
+  fits (another e) = λ i p xs j l h k q t. widen (omega arith) (omega arith) (h k q t)
+  fits (no-other e) = λ i k q t. nowhere i
+  fits a-statement = λ i p ss j l h s a k c q. follow (k c q) (widen (omega arith) (omega arith) (h (c + sizeS s) q))
+  fits no-statement = λ i s a h. h
+  fits conditional = λ i p e j l h r f j' l' k c q. widen (omega arith) (omega arith) (k i e c q)
+  fits repeated = λ i s j l h. h
+  fits plain = λ i s j l h. h
+  fits then-for = λ i s j l h p e. h
+  fits then-plain = λ i s j l h f j' l' k p e. k p e s i h
+  fits an-else = λ i r t j l h p e s a k c q. follow (k c q) (widen (omega arith) (omega arith) (h (c + sizeS s) q))
+  fits no-else = λ i p e s a h. h
+  fits a-for = λ i f j l h s j' l' k. h s j' k
+  fits a-clause = λ i p x f j l h s n k c q. widen (omega arith) (omega arith) (h (nameAt worth letters (i + 1)) s n k c q)
+  fits for-list = λ i p d j l h ds j' l' k r x s n m c q. widen (omega arith) (omega arith) (m c q)
+  fits another-element = λ i q d j l h ds j' l' k. tt
+  fits no-element = λ i. tt
+  fits an-element = λ i e j l h f j' l' k. tt
+  fits once = λ i. tt
+  fits while = λ i q c j l h. tt
+  fits by-steps = λ i f j l h. tt
+  fits a-step = λ i q f j l h r g j' l' k. tt
+  fits an-amount = λ i e j l h. tt
+  fits dummy = λ i c q. nowhere i
+  fits compound = λ i s j l h. h
+  fits with-name = λ i x f j l h c q. widen (omega arith) (omega arith) (h (nameAt worth letters i) c q)
+  fits assignment = λ i p f j l h x c q. widen (omega arith) (omega arith) (h x [] i c q)
+  fits call = λ i es j l h x c q. no-row l
+  fits left = λ i y p f j l h x xs r c q. widen (omega arith) (omega arith) (h x (xs ++ (nameAt worth letters i ∷ [])) (i + 1) c q)
+  fits value = λ i e j l h x xs p c q. no-row l
+  fits a-condition = λ i q c j l h r e j' l' k f j'' l'' m. tt
+  fits simple = λ i e j l h. tt
+  fits an-otherwise = λ i r f j l h. tt
+  fits (chain n) = λ i e j l h f j' l' k. tt
+  fits (signed o) = λ i q e j l h f j' l' k. tt
+  fits (again o) = λ i q e j l h f j' l' k. tt
+  fits (no-more n) = λ i. tt
+  fits a-not = λ i q e j l h. tt
+  fits no-not = λ i e j l h. tt
+  fits a-relation = λ i e j l h f j' l' k. tt
+  fits (compare r) = λ i q f j l h. tt
+  fits no-comparison = λ i. tt
+  fits number = λ i q. tt
+  fits true-value = λ i q. tt
+  fits false-value = λ i q. tt
+  fits a-name = λ i x es j l h. tt
+  fits in-parentheses = λ i q e j l h r. tt
+  fits (with u) = λ i q e j l h es j' l' k r. tt
+  fits (bare u) = λ i. tt
+  fits an-actual = λ i e j l h. tt
+  fits another-actual = λ i q e j l h es j' l' k. tt
+  fits no-actual = λ i. tt
+
+  -- "in source order"
+  pub rising : (t : Syn program) → Rising 0 (length (yield t)) (rowsS 0 0 (programOf worth letters t))
+  rising t = built worth letters (λ i. Unit {0}) Rise (λ X p. fits p) t (λ i h. tt) 0 0
