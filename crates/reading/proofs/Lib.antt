@@ -1,9 +1,12 @@
 pub mod Answers
 pub mod Examples
+pub mod FaultNumbers
 pub mod Few
 pub mod Fits
+pub mod LeastFault
 pub mod Only
 pub mod Places
+pub mod Promises
 pub mod SamePlaces
 pub mod Stages
 pub mod TableWords

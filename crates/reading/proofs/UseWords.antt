@@ -30,11 +30,11 @@ AllMean us = joined unmeant us ≡ []
 cons-nil : {A : Type 0} {x : A} {l : List A} → x ∷ l ≡ [] → ⊥
 cons-nil e = let z : _≡_ {A = ℕ} 0 1 = cc in omega arith
 
-nil-both : {A : Type 0} (a b : List A) → a ++ b ≡ [] → (a ≡ []) × (b ≡ [])
+pub nil-both : {A : Type 0} (a b : List A) → a ++ b ≡ [] → (a ≡ []) × (b ≡ [])
 nil-both [] b e = (refl, e)
 nil-both (x ∷ a) b e = absurd (cons-nil e)
 
-meant-split : (us us' : List Use) → AllMean (us ++ us') → AllMean us × AllMean us'
+pub meant-split : (us us' : List Use) → AllMean (us ++ us') → AllMean us × AllMean us'
 meant-split us us' h = nil-both (joined unmeant us) (joined unmeant us') (sym (joined-append unmeant us us') ∙ h)
 
 -- each has one row
@@ -43,7 +43,7 @@ one-row (declared d g) x h = refl
 one-row (given n e) x h = refl
 one-row nothing x h = absurd (cons-nil h)
 
-rows-length : (us : List Use) → AllMean us → length (joined rowOf us) ≡ length us
+pub rows-length : (us : List Use) → AllMean us → length (joined rowOf us) ≡ length us
 unfolding joined
 rows-length [] h = refl
 rows-length (u ∷ us) h =
@@ -61,7 +61,7 @@ words-length ids R M ws us h k = matches-length ids R M ws us h ∙ sym (rows-le
 kind-back : (t : Thing) → 4 + thingKind t - 4 ≡ thingKind t
 kind-back t = omega arith
 
-kind-some : (t : Thing) → eqb (thingKind t) 0 ≡ false
+pub kind-some : (t : Thing) → eqb (thingKind t) 0 ≡ false
 kind-some (variable t) = refl
 kind-some (routine p) = refl
 kind-some (formal t) = refl

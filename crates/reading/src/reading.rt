@@ -113,6 +113,7 @@ fn resolved(
     if fault < faults::NONE {
         return refused(fault, source, places, count);
     }
+    // By a reference to the whole array the slice's length is known.
     let lent = &uses;
     let used = front(lent, u.count);
     typed(source, words, places, count, nodes, ids, rows, marks, used)
@@ -133,6 +134,7 @@ fn declared(
     let mut rows = [0u16; 32768];
     let mut marks = [0u16; 32768];
     let o = outline(nodes, ids, &mut rows, &mut marks);
+    // By references to the whole arrays the slices' lengths are known.
     let all_rows = &rows;
     let all_marks = &marks;
     let r = front(all_rows, 4 * o.rows);

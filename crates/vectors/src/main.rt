@@ -44,13 +44,22 @@ fn number_at(text: &[u8], from: usize) -> Numeral {
     Numeral { value, next: i }
 }
 
+// A word; 0 where there is none.
+fn word_at(words: &[u16], i: usize) -> u16 {
+    if i < words.len() {
+        return words[i];
+    }
+    0
+}
+
 // Whether the numbers from `from` on are these words.
 fn same_words(words: &[u16], text: &[u8], from: usize) -> bool {
     let mut at = from;
     let mut i = 0;
     while i < words.len() {
         let listed = number_at(text, at);
-        if listed.value != words[i] as u64 {
+        let word = word_at(words, i);
+        if listed.value != word as u64 {
             return false;
         }
         at = listed.next;
@@ -65,10 +74,8 @@ fn same_uses(table: &[u16], text: &[u8], from: usize) -> bool {
     if listed.value == UNLISTED {
         return true;
     }
-    if table.len() < 32768 {
-        return false;
-    }
-    let end = 3 * table[0] as usize + 1;
+    let uses = word_at(table, 0);
+    let end = 3 * uses as usize + 1;
     if table.len() < end {
         return false;
     }
@@ -104,7 +111,7 @@ fn name_end(text: &[u8], from: usize) -> usize
 
 // The bytes of a file; none, and a word about it, where it is missing.
 fn load(name: &[u8], buf: &mut [u8; 65536]) -> usize
-    ensures { λ r. ⌜ r ≤ 65536 ⌝ }
+    ensures { λ r. ⌜ r ≤ length (now (buf .exit)) ⌝ }
 {
     let fd = os::open_read(name);
     if fd < 0 {
