@@ -21,3 +21,9 @@ pub mod Deep
 pub mod Limits
 pub mod Rising
 pub mod Sites
+pub mod Values
+pub mod Accepting
+pub mod Written
+pub mod LayoutPass
+pub mod Laid
+pub mod Promised

@@ -17,7 +17,7 @@ use Rattle.translating.proofs.Ranges.{in-range}
 use Rattle.translating.proofs.Words.{same-machine}
 
 -- a machine that finishes as another one does, follows as it does
-follows-as : (m m' : Machine) (place : ℕ → ℕ) (s : Statement) (input : List ℤ) (room space : ℕ) → ((limit : ℕ) → m (code place s) input limit room space ≡ m' (code place s) input limit room space) → Follows m' place s input room space → Follows m place s input room space
+pub follows-as : (m m' : Machine) (place : ℕ → ℕ) (s : Statement) (input : List ℤ) (room space : ℕ) → ((limit : ℕ) → m (code place s) input limit room space ≡ m' (code place s) input limit room space) → Follows m' place s input room space → Follows m place s input room space
 follows-as m m' place s input room space h f = record {
   same-answer = λ limit. rw (h limit) (f .same-answer limit);
   enough = λ limit t n q o. rw (h limit) (f .enough limit t n q o);

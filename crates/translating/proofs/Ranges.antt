@@ -201,16 +201,16 @@ count-most (then e es) = omega (arith, count-most es)
 
 -- ---- a scope has fewer cells than its declarations have symbols
 
-listed-most : (xs : List Name) → length xs ≤ listed xs
+pub listed-most : (xs : List Name) → length xs ≤ listed xs
 listed-most [] = omega arith
 listed-most (x ∷ xs) = omega arith
 
-total-variables : (t : Sort) (xs : List Name) (l : List Declared) → total (variablesIn t xs ++ l) ≡ length xs + total l
+pub total-variables : (t : Sort) (xs : List Name) (l : List Declared) → total (variablesIn t xs ++ l) ≡ length xs + total l
 unfolding variablesIn total
 total-variables t [] l = omega arith
 total-variables t (x ∷ xs) l = omega (arith, total-variables t xs l)
 
-block-cells : (ds : Declarations) → total (inBlock ds) ≤ symbolsDs ds
+pub block-cells : (ds : Declarations) → total (inBlock ds) ≤ symbolsDs ds
 unfolding inBlock total symbolsS
 block-cells no-more = omega arith
 block-cells (variables t xs ds) = omega (arith, total-variables t xs (inBlock ds), listed-most xs, block-cells ds)
@@ -221,11 +221,11 @@ unfolding total
 total-formals ss [] = refl
 total-formals ss (x ∷ xs) = omega (arith, total-formals ss xs)
 
-body-cells : (p : Procedure) → cellsIn (ofBody p) ≡ oneIf (sortOf p) + length (formalsOf p)
+pub body-cells : (p : Procedure) → cellsIn (ofBody p) ≡ oneIf (sortOf p) + length (formalsOf p)
 unfolding inBody
 body-cells p = omega (arith, total-formals (specificationsOf p) (formalsOf p))
 
-one-most : (t : Option Sort) → oneIf t ≤ 1
+pub one-most : (t : Option Sort) → oneIf t ≤ 1
 one-most none = omega arith
 one-most (some t) = omega arith
 

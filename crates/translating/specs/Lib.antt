@@ -6,3 +6,5 @@ pub mod Sizes
 pub mod Faithful
 pub mod Layout
 pub mod Emission
+pub mod Job
+pub mod ByPlace
