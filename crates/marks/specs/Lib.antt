@@ -1,0 +1,4 @@
+pub mod Parsing
+pub mod Rows
+pub mod Models
+pub mod Marks
