@@ -27,3 +27,4 @@ pub mod Written
 pub mod LayoutPass
 pub mod Laid
 pub mod Promised
+pub mod Sectioned

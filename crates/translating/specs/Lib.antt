@@ -8,3 +8,4 @@ pub mod Layout
 pub mod Emission
 pub mod Job
 pub mod ByPlace
+pub mod Sections
