@@ -25,6 +25,9 @@ pub mod Values
 pub mod Accepting
 pub mod Written
 pub mod LayoutPass
-pub mod Laid
+pub mod LaidOut
 pub mod Promised
 pub mod Sectioned
+pub mod Spreading
+pub mod Stacked
+pub mod NextUses

@@ -1,5 +1,5 @@
 -- What the passes of the translator are told: places rise with symbols, declaring names come in source order, and the table of the layout has, for
--- every declaring name, its level and offset. These are definitions; Laid proves the last of layoutOf, Emitted takes them.
+-- every declaring name, its level and offset. These are definitions; LaidOut proves the last of layoutOf, Emitted takes them.
 use Prim.Native.Nat.{ℕ, suc, _+_, _≤_, _<_}
 use mathlib.Core.Path.{_≡_}
 use mathlib.Core.List.{List, [], _∷_}

@@ -9,3 +9,4 @@ pub mod Emission
 pub mod Job
 pub mod ByPlace
 pub mod Sections
+pub mod Model

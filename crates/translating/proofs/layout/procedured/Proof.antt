@@ -1,0 +1,53 @@
+-- `translating::layout::procedured` meets its contract: the scope opens, then the activation is its own.
+use mathlib.Core.Path.{_≡_, ap, _∙_}
+use mathlib.Core.List.{[]}
+use lib.ListN.{set}
+use Prim.Native.Nat.{_+_}
+use Rattle.translating.specs.Layout.{Laying, packed, oneOf, blocked, procedured}
+use borrow.Author.Needs.{needs}
+use Rattle.translating.proofs.layout.procedured.Statement.{statement}
+use Rattle.translating.proofs.layout.procedured.Tie as tie
+use Rattle.translating.proofs.layout.procedured.Reads as reads
+use Rattle.translating.proofs.layout.procedured.Lts as lts
+use Rattle.translating.proofs.layout.blocked.Reads as blocked-reads
+use Rattle.translating.proofs.layout.one_of.Reads as one-of-reads
+use Rattle.translating.proofs.parts.packed.Reads as packed-reads
+use Rattle.translating.proofs.parts.set_word.Reads as set-word-reads
+
+one-of-requires : tie.Need-one-of-requires
+one-of-requires c κs = search needs
+
+packed-requires : tie.Need-packed-requires
+packed-requires c κs = search needs
+
+set-word-requires : tie.Need-set-word-requires
+set-word-requires c κs = search needs
+
+blocked-requires : tie.Need-blocked-requires
+blocked-requires c κs = search needs
+
+add-r : tie.Need-add-r
+add-r c = search needs
+
+same-length : tie.Need-same-length
+same-length c = search needs
+
+returns : tie.Need-returns
+unfolding procedured blocked
+returns c =
+    let s = c .before .before .before .before .before .before .before .before .before .before .args .t .sort in
+    let w = set (c .before .before .before .before .before .before .before .before .before .before .args .table .now) (c .before .before .before .before .before .before .before .before .before .before .args .place) (packed (c .before .before .before .before .before .before .before .before .before .before .args .t .level) (oneOf s) 0) in
+    rw (c .before .before .before .before .before .set-word .ensures, c .before .before .before .before .before .before .packed .ensures .0, c .before .before .before .before .before .before .before .before .one-of .ensures)
+    (ap (λ (z : Laying). record { sort = z .sort; level = z .level + 1; reach = oneOf s; around = z .around; table = w }) (c .before .blocked .ensures .0 []))
+
+pub procedured-spec : {M : Type 1} → statement M
+procedured-spec =
+    tie.close
+    (tie.spec
+    one-of-requires
+    packed-requires
+    set-word-requires
+    blocked-requires
+    add-r
+    same-length
+    returns)

@@ -1,0 +1,22 @@
+-- `translating::putting::push` meets its contract: the thing written is the new head.
+use mathlib.Core.Path.{refl}
+use Rattle.translating.specs.Emission.{pushed, withOpen}
+use borrow.Author.Needs.{needs}
+use Rattle.translating.proofs.putting.push.Statement.{statement}
+use Rattle.translating.proofs.putting.push.Tie as tie
+use Rattle.translating.proofs.putting.push.Reads as reads
+use Rattle.translating.proofs.putting.push.Lts as lts
+use Rattle.translating.proofs.putting.write.Reads as write-reads
+
+write-requires : tie.Need-write-requires
+write-requires c κs = search needs
+
+add-t : tie.Need-add-t
+add-t c = search needs
+
+returns : tie.Need-returns
+unfolding pushed withOpen
+returns c = (λ us co ah en. rw (c .write .ensures), (record { slots = refl; level = refl; loops = refl; cells = refl; lefts = refl }, refl))
+
+pub push-spec : {M : Type 1} → statement M
+push-spec = tie.close (tie.spec write-requires add-t returns)

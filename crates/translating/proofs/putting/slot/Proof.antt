@@ -1,0 +1,18 @@
+-- `translating::putting::slot` meets its contract: one more is counted.
+use mathlib.Core.Path.{refl}
+use Rattle.translating.specs.Emission.{withSlot}
+use borrow.Author.Needs.{needs}
+use Rattle.translating.proofs.putting.slot.Statement.{statement}
+use Rattle.translating.proofs.putting.slot.Tie as tie
+use Rattle.translating.proofs.putting.slot.Reads as reads
+use Rattle.translating.proofs.putting.slot.Lts as lts
+
+add-t : tie.Need-add-t
+add-t c = search needs
+
+returns : tie.Need-returns
+unfolding withSlot
+returns c = λ us op co ah en. refl
+
+pub slot-spec : {M : Type 1} → statement M
+slot-spec = tie.close (tie.spec add-t returns)

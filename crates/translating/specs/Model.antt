@@ -1,0 +1,87 @@
+-- How the arrays of the code hold what Layout and Emission speak of, and what the functions need of them. No part of the paper.
+use Prim.Native.Nat.{ℕ, zero, suc, _+_, _*_, _≤_, _<_}
+use mathlib.Core.Path.{_≡_}
+use mathlib.Core.List.{List, [], _∷_}
+use lib.ListN.{length, getD, drop}
+use Rattle.names.specs.Rows.{opensOf}
+use Rattle.translating.specs.Layout.{Laying}
+use Rattle.translating.specs.Emission.{State, Opened, opened}
+use Rattle.translating.specs.declared.Laid.{Laid}
+use Rattle.translating.specs.declared.Writing.{Writing}
+use Rattle.translating.specs.declared.Thing.{Thing}
+
+-- ---- where cells lie
+
+abbrev pub lain : Laid → List ℕ → List ℕ → Laying
+lain t around table = record { sort = t .sort; level = t .level; reach = t .reach; around = opensOf (t .open) around; table = table }
+
+abbrev pub unlaidIn : List ℕ → Laying
+unlaidIn table = record { sort = 0; level = 0; reach = 0; around = []; table = table }
+
+unfoldable pub AllWithin : List ℕ → ℕ → Type 0
+AllWithin [] i = Unit {0}
+AllWithin (n ∷ l) i = (n ≤ i) × AllWithin l i
+
+-- behind i nodes there are no more activations, cells and scopes
+pub record Spread (i : ℕ) (st : Laying) : Type 0 where
+  pub level : st .level ≤ i
+  pub reach : st .reach ≤ i
+  pub open-scopes : length (st .around) ≤ i
+  pub outside : AllWithin (st .around) i
+
+-- ---- the code
+
+-- four numbers a thing
+abbrev pub thingAt : List ℕ → ℕ → Opened
+thingAt things n = opened (getD things (4 * n) 0) (getD things (4 * n + 1) 0) (getD things (4 * n + 2) 0) (getD things (4 * n + 3) 0)
+
+unfoldable pub thingsOf : ℕ → List ℕ → List Opened
+thingsOf zero things = []
+thingsOf (suc n) things = thingAt things n ∷ thingsOf n things
+
+abbrev pub seen : Thing → Opened
+seen f = opened (f .first) (f .second) (f .third) (f .fourth)
+
+abbrev pub see : Writing → List ℕ → List ℕ → List ℕ → List ℕ → List ℕ → State
+see t uses things code ahead entries =
+    record { uses = drop (t .uses) uses; at = t .at; slots = t .slots; level = t .level; loops = t .loops; cells = t .cells; lefts = t .lefts; awaits = t .awaits; variable = t .variable; open-ones = thingsOf (t .open) things; code = code; ahead = ahead; entries = entries }
+
+-- the counts that an instruction, or something opened or closed, leaves alone
+pub record Alike (t r : Writing) : Type 0 where
+  pub slots : r .slots ≡ t .slots
+  pub level : r .level ≡ t .level
+  pub loops : r .loops ≡ t .loops
+  pub cells : r .cells ≡ t .cells
+  pub lefts : r .lefts ≡ t .lefts
+
+-- what is open behind i nodes: its second number is a word, or what a use means; the others are counts, places and kinds
+pub record Slim (i : ℕ) (f : Opened) : Type 0 where
+  pub first : f .first ≤ 65536 + 6 * i
+  pub second : f .second < 4294967296
+  pub third : f .third ≤ 65536 + 6 * i
+  pub fourth : f .fourth ≤ 65536 + 6 * i
+
+unfoldable pub AllSlim : ℕ → List Opened → Type 0
+AllSlim i [] = Unit {0}
+AllSlim i (f ∷ l) = Slim i f × AllSlim i l
+
+-- the counts behind i nodes: no node adds more than six to one
+pub record Small (i : ℕ) (st : State) : Type 0 where
+  pub at : st .at + st .lefts ≤ 65536 + 6 * i
+  pub slots : st .slots ≤ 65536 + 6 * i
+  pub level : st .level ≤ 65536 + 6 * i
+  pub loops : st .loops ≤ 65536 + 6 * i
+  pub cells : st .cells ≤ 65536 + 6 * i
+  pub variable : st .variable < 4294967296
+  pub many : length (st .open-ones) ≤ i
+  pub things : AllSlim i (st .open-ones)
+
+-- the same of a state's numbers alone
+pub record Fit (t : Writing) : Type 0 where
+  pub at : t .at + t .lefts < 131072
+  pub slots : t .slots < 131072
+  pub level : t .level < 131072
+  pub loops : t .loops < 131072
+  pub cells : t .cells < 131072
+  pub variable : t .variable < 4294967296
+  pub open-ones : t .open < 8192
