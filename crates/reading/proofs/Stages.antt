@@ -86,7 +86,7 @@ text-is (f ∷ l) = ap₂ (same-kind (f .symbol)) (text-is l)
 
 -- ---- what scanning answered
 
-answered : (s : Scan) (n : ℕ) → answerOf s ≡ Symbols-read n → (s .refused ≡ none) × (length (s .found) ≡ n)
+pub answered : (s : Scan) (n : ℕ) → answerOf s ≡ Symbols-read n → (s .refused ≡ none) × (length (s .found) ≡ n)
 unfolding answerOf
 answered s n q = go (s .refused) refl
   where
@@ -100,7 +100,7 @@ answered s n q = go (s .refused) refl
     go none e = (e, same-count (rw e at q))
     go (some r) e = absurd (read-refused (rw e at q))
 
-refused-as : (s : Scan) (r : Refusal) → answerOf s ≡ Symbols-refused r → s .refused ≡ some r
+pub refused-as : (s : Scan) (r : Refusal) → answerOf s ≡ Symbols-refused r → s .refused ≡ some r
 unfolding answerOf
 refused-as s r q = go (s .refused) refl
   where

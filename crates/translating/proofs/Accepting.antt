@@ -27,7 +27,7 @@ use Rattle.translating.proofs.Limits.{limited}
 use Rattle.translating.proofs.Numbers.{NumbersS, Worth, numbers, numbers-so}
 use Rattle.translating.proofs.Rising as Order
 use Rattle.translating.proofs.Sites.{Climbs, Rising, no-row, row}
-use Rattle.translating.proofs.Values.{small-values, value-at}
+use Rattle.translating.proofs.SmallValues.{small-values, value-at}
 
 -- ---- lists
 

@@ -21,7 +21,7 @@ pub mod Deep
 pub mod Limits
 pub mod Rising
 pub mod Sites
-pub mod Values
+pub mod SmallValues
 pub mod Accepting
 pub mod Written
 pub mod LayoutPass
@@ -31,3 +31,5 @@ pub mod Sectioned
 pub mod Spreading
 pub mod Stacked
 pub mod NextUses
+pub mod ByPlaceLaws
+pub mod FoundFirst

@@ -8,5 +8,5 @@ pub mod Layout
 pub mod Emission
 pub mod Job
 pub mod ByPlace
-pub mod Sections
+pub mod TableParts
 pub mod Model
