@@ -33,3 +33,4 @@ pub mod Stacked
 pub mod NextUses
 pub mod ByPlaceLaws
 pub mod FoundFirst
+pub mod AfterRead
