@@ -24,7 +24,8 @@ use Rattle.translating.specs.Layout.{sites}
 use Rattle.translating.specs.ByPlace.{valuesAt}
 use Rattle.translating.proofs.Accepted.{accepted-scoped}
 use Rattle.translating.proofs.Limits.{limited}
-use Rattle.translating.proofs.Numbers.{NumbersS, Worth, numbers, numbers-so}
+use Rattle.translating.proofs.NumbersOf.{NumbersS}
+use Rattle.translating.proofs.Numbers.{Worth, numbers, numbers-so}
 use Rattle.translating.proofs.Rising as Order
 use Rattle.translating.proofs.Sites.{Climbs, Rising, no-row, row}
 use Rattle.translating.proofs.SmallValues.{small-values, value-at}

@@ -19,7 +19,7 @@ use Rattle.translating.specs.Layout.{sites, packed, layoutOf}
 use Rattle.translating.specs.Sizes.{symbolsS, symbolsSs, symbolsDs, symbolsP, deepS, deepSs, deepDs, deepP, Limited}
 use Rattle.translating.proofs.Ranges.{one-most, listed-most, total-variables, block-cells, body-cells}
 use Rattle.translating.proofs.Sites.{Climbs, Rising, Lying, LaidS, LaidSs, LaidDs, LaidP}
-use Rattle.translating.proofs.Written.{writtenN, writtenS, writtenSs, writtenD, writtenP, Found, found-split, found}
+use Rattle.translating.proofs.LaidWords.{writtenN, writtenS, writtenSs, writtenD, writtenP, Found, found-split, found}
 use Rattle.translating.proofs.LayoutPass.{layout-writes}
 
 -- in range, nothing is cut off

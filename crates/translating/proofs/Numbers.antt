@@ -14,53 +14,8 @@ use Rattle.names.specs.Program as P
 use Rattle.names.specs.Program.{Name, Sort, Expression, Expressions, Element, Statement, Statements, Declarations, Procedure}
 use Rattle.names.specs.ReadOff.{Sem, operandOf, operatorOf, signOf, applied, nameAt, build, programOf}
 use Rattle.translating.specs.Sizes.{SmallE, SmallEs, SmallL, SmallS, SmallSs, SmallDs, SmallP}
+use Rattle.translating.proofs.NumbersOf.{NumbersE, NumbersEs, NumbersL, NumbersS, NumbersSs, NumbersDs, NumbersP}
 use Rattle.translating.proofs.Built.{Fits, built}
-
--- ---- that every number is so: of the number of its symbol, and what it is worth
-
-abbrev mutual
-  pub NumbersE : (ℕ → ℕ → Type 0) → Expression → Type 0
-  NumbersE Q (P.number q n) = Q q n
-  NumbersE Q (P.logical q b) = Unit {0}
-  NumbersE Q (P.name x) = Unit {0}
-  NumbersE Q (P.call x e es) = NumbersE Q e × NumbersEs Q es
-  NumbersE Q (P.signed q o e) = NumbersE Q e
-  NumbersE Q (P.operated q o e f) = NumbersE Q e × NumbersE Q f
-  NumbersE Q (P.chosen q r c e f) = NumbersE Q c × NumbersE Q e × NumbersE Q f
-  NumbersE Q (P.nested q e) = NumbersE Q e
-
-  pub NumbersEs : (ℕ → ℕ → Type 0) → Expressions → Type 0
-  NumbersEs Q P.done = Unit {0}
-  NumbersEs Q (P.then e es) = NumbersE Q e × NumbersEs Q es
-
-abbrev pub NumbersL : (ℕ → ℕ → Type 0) → List Element → Type 0
-NumbersL Q [] = Unit {0}
-NumbersL Q (P.value e ∷ l) = NumbersE Q e × NumbersL Q l
-NumbersL Q (P.while q e c ∷ l) = NumbersE Q e × NumbersE Q c × NumbersL Q l
-NumbersL Q (P.step q e f h ∷ l) = NumbersE Q e × NumbersE Q f × NumbersE Q h × NumbersL Q l
-
-abbrev mutual
-  pub NumbersS : (ℕ → ℕ → Type 0) → Statement → Type 0
-  NumbersS Q P.dummy = Unit {0}
-  NumbersS Q (P.assignment x xs q e) = NumbersE Q e
-  NumbersS Q (P.procedure x es) = NumbersEs Q es
-  NumbersS Q (P.when q c s) = NumbersE Q c × NumbersS Q s
-  NumbersS Q (P.either q c s t) = NumbersE Q c × NumbersS Q s × NumbersS Q t
-  NumbersS Q (P.repeat x l ls s) = NumbersL Q (l ∷ ls) × NumbersS Q s
-  NumbersS Q (P.compound ss) = NumbersSs Q ss
-  NumbersS Q (P.block q ds ss) = NumbersDs Q ds × NumbersSs Q ss
-
-  pub NumbersSs : (ℕ → ℕ → Type 0) → Statements → Type 0
-  NumbersSs Q (P.last s) = NumbersS Q s
-  NumbersSs Q (P.first s ss) = NumbersS Q s × NumbersSs Q ss
-
-  pub NumbersDs : (ℕ → ℕ → Type 0) → Declarations → Type 0
-  NumbersDs Q P.none = Unit {0}
-  NumbersDs Q (P.variables t xs ds) = NumbersDs Q ds
-  NumbersDs Q (P.declare p ds) = NumbersP Q p × NumbersDs Q ds
-
-  pub NumbersP : (ℕ → ℕ → Type 0) → Procedure → Type 0
-  NumbersP Q (P.heading t f xs vs ss s) = NumbersS Q s
 
 -- ---- what is so of every number is so when it is weakened
 

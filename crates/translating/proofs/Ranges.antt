@@ -21,14 +21,14 @@ use Rattle.translating.specs.Sizes.{symbolsE, symbolsEs, actuals, symbol
 
 -- ---- code does not end before it begins
 
-grow-name : (pr : Primary) (f : ℕ → ℕ) → ((b : ℕ) → b ≤ f b) → (b : ℕ) → b ≤ endName pr f b
+pub grow-name : (pr : Primary) (f : ℕ → ℕ) → ((b : ℕ) → b ≤ f b) → (b : ℕ) → b ≤ endName pr f b
 grow-name held f h b = omega arith
 grow-name (function p) f h b = omega (arith, h (suc b))
 grow-name absolute f h b = omega (arith, h b)
 grow-name greatest f h b = omega arith
 grow-name no-primary f h b = omega arith
 
-grow-sign : (o : Sign) (b : ℕ) → b ≤ endSign o b
+pub grow-sign : (o : Sign) (b : ℕ) → b ≤ endSign o b
 grow-sign positive b = omega arith
 grow-sign negative b = omega arith
 grow-sign negation b = omega arith
@@ -59,7 +59,7 @@ growL g (step q e f h ∷ l) b =
     let a = suc (endE g e b) in
     omega (arith, growE g e b, growE g f a, growE g h (endE g f a), growL g l (suc (suc (suc (suc (suc (endE g h (endE g f a))))))))
 
-grow-stores : (xs : List Name) (b : ℕ) → b ≤ endStores xs b
+pub grow-stores : (xs : List Name) (b : ℕ) → b ≤ endStores xs b
 unfolding endStores
 grow-stores [] b = omega arith
 grow-stores (y ∷ ys) b = omega (arith, grow-stores ys (suc b))
@@ -116,7 +116,7 @@ abbrev endAt : Mark → List Mark → ℕ
 endAt (blk o ds b) g = endDs (ofBlock ds ∷ scopes g) ds b
 endAt (own p) g = 0
 
-abbrev owns : List Mark → ℕ
+abbrev pub owns : List Mark → ℕ
 owns [] = 0
 owns (blk o ds b ∷ g) = owns g
 owns (own p ∷ g) = suc (owns g)

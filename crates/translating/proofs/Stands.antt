@@ -22,7 +22,7 @@ procedureOf (formal t) = none
 procedureOf (routine p) = some p
 
 -- a procedure is found behind variables
-behind : (t : Sort) (xs : List Name) (l : List Declared) (x : Name) (d : Declared) (p : Procedure) → findIn (variablesIn t xs ++ l) x ≡ some d → d .thing ≡ routine p → findIn l x ≡ some d
+pub behind : (t : Sort) (xs : List Name) (l : List Declared) (x : Name) (d : Declared) (p : Procedure) → findIn (variablesIn t xs ++ l) x ≡ some d → d .thing ≡ routine p → findIn l x ≡ some d
 unfolding variablesIn findIn
 behind t [] l x d p e e' = e
 behind t (y ∷ ys) l x d p e e' = go (same y x) (λ e. behind t ys l x d p e e') e

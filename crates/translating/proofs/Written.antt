@@ -1,142 +1,380 @@
--- The words that the first pass writes, of each part of a program and in source order, each at the place of a symbol. They are those of the rows of
--- declaring names, whose symbols rise and with them the places: so no word is overwritten, and each is found in the table at the end.
-use Prim.Native.Nat.{ℕ, suc, _+_, _<_}
+-- What some nodes do in the pass that writes code: the state is what is around a part, its frame, and what goes through it, its flow. Parts that follow
+-- one another are passed one after the other; if the tables tell what lies ahead, the words written are those of the part's code.
+use Prim.Native.Nat.{ℕ, zero, suc, _+_, _*_, _-_, _≤_, _<_}
 use native.Mathlib.Omega.{arith}
-use mathlib.Core.Path.{_≡_, refl, _∙_}
-use mathlib.Core.List.{List, [], _∷_, _++_}
-use mathlib.Core.Option.{some}
-use lib.ListN.{length, getD, set, length-set}
-use lib.Seq.{getD-set-same, getD-set-other}
-use Rattle.syntax.specs.NodeKinds.{n-variable, n-formal}
-use Rattle.names.specs.Program.{Name, Statement, dummy, assignment, procedure, when, either, repeat, compound, block, Statements, last, first, Declarations, none as no-more, variables, declare, Procedure, heading}
-use Rattle.names.specs.Scopes.{ofBlock, ofBody}
-use Rattle.names.specs.Nodes.{sortNumber}
-use Rattle.names.specs.Outline.{sizeS, sizeD, sizeP, rowsN, rowsS, rowsSs, rowsD, rowsP}
-use Rattle.rules.specs.Entered.{cellsIn, oneIf}
-use Rattle.translating.specs.Layout.{sites, packed}
-use Rattle.translating.proofs.Sites.{Climbs, Rising, no-row, row}
+use native.Mathlib.Numerals.{add-one}
+use mathlib.Core.Path.{_≡_, refl, sym, ap, _∙_}
+use mathlib.Core.Bool.{Bool, true, false, cond}
+use mathlib.Core.List.{List, [], _∷_, _++_, map, append-assoc, append-nil}
+use lib.ListN.{length, getD, drop, set, length-append, length-set}
+use Rattle.machine.specs.Instructions.{Instr}
+use Rattle.names.specs.Nodes.{node}
+use Rattle.names.specs.Rows.{foldNodes, isUse}
+use lib.Dec.{eqb}
+use Rattle.names.specs.Scopes.{Thing, variable, routine, formal, Scope, Meaning, declared, given, nothing, meaning}
+use Rattle.names.specs.Uses.{Use, used, joined, Row, rowIn, rowOf, thingKind}
+use Rattle.names.specs.Program.{Name}
+use Rattle.reading.specs.Table.{useWords, hasNone, nodeWords}
+use Rattle.translating.specs.Translate.{Mark}
+use Rattle.translating.specs.Words.{Parts, partsOf, firstWord, words, InstrFits, CodeFits}
+use Rattle.translating.specs.Emission.{Opened, opened, State, put, withOpen, withSlot, noted, withUses, kindNext, meansNext, othersNext, useNode, codeNode}
+use Rattle.translating.proofs.Shown.{shown, shown-next, shown-set, shown-zero, shown-two}
+use Rattle.translating.proofs.SlotLists.{Fills, no-slot, then-slots, slots-past}
+use Rattle.translating.proofs.Ranges.{owns}
 
--- a word, and the symbol at whose place it is written
-pub record Written : Type 0 where
-  pub symbol : ℕ
-  pub word : ℕ
+-- what the pass is told
+pub record Tables : Type 0 where
+  pub place : ℕ → ℕ
+  pub values : List ℕ
+  pub layout : List ℕ
+  pub ahead : List ℕ
+  pub entries : List ℕ
 
-abbrev pub written : ℕ → ℕ → Written
-written k w = record { symbol = k; word = w }
+-- what is around a part
+pub record Frame : Type 0 where
+  pub level : ℕ
+  pub loops : ℕ
+  pub cells : ℕ
+  pub lefts : ℕ
+  pub awaits : ℕ
+  pub opens : List Opened
 
--- ---- those of a part: u activations are around, o cells of the running one's scopes
+-- what goes through it: the uses to come, the address, the last variable that a number is taken to, the words so far, the slots so far, and the
+-- entries of procedures
+pub record Flow : Type 0 where
+  pub uses : List Use
+  pub at : ℕ
+  pub variable : ℕ
+  pub code : List ℕ
+  pub slots : List ℕ
+  pub entries : List ℕ
+  pub long : length code ≡ 2 * at
 
--- names that have cells
-unfoldable pub writtenN : ℕ → ℕ → List Name → List Written
-writtenN u o [] = []
-writtenN u o (x ∷ xs) = written (x .symbol) (packed u o 0) ∷ writtenN u (o + 1) xs
+-- ---- uses as words
 
-unfoldable mutual
-  pub writtenS : ℕ → ℕ → Statement → List Written
-  writtenS u o dummy = []
-  writtenS u o (assignment x xs q e) = []
-  writtenS u o (procedure x es) = []
-  writtenS u o (when q c s) = writtenS u o s
-  writtenS u o (either q c s t) = writtenS u o s ++ writtenS u o t
-  writtenS u o (repeat x l ls s) = writtenS u o s
-  writtenS u o (compound ss) = writtenSs u o ss
-  writtenS u o (block q ds ss) = writtenD u o ds ++ writtenSs u (o + cellsIn (ofBlock ds)) ss
+pub usesAs : (ℕ → ℕ) → List Use → List ℕ
+usesAs place us = joined (useWords place) (joined rowOf us)
 
-  pub writtenSs : ℕ → ℕ → Statements → List Written
-  writtenSs u o (last s) = writtenS u o s
-  writtenSs u o (first s ss) = writtenS u o s ++ writtenSs u o ss
+pub uses-all : (place : ℕ → ℕ) (us : List Use) → usesAs place us ≡ joined (useWords place) (joined rowOf us)
+unfolding usesAs
+uses-all place us = refl
 
-  pub writtenD : ℕ → ℕ → Declarations → List Written
-  writtenD u o no-more = []
-  writtenD u o (variables t xs ds) = writtenN u o xs ++ writtenD u (o + length xs) ds
-  writtenD u o (declare p ds) = writtenP u p ++ writtenD u o ds
+abbrev pub kindOf : Meaning → ℕ
+kindOf (declared d g) = thingKind (d .thing)
+kindOf (given n e) = 0
+kindOf nothing = 0
 
-  pub writtenP : ℕ → Procedure → List Written
-  writtenP u (heading t f xs vs ss s) =
-      written (f .symbol) (packed u (oneIf t) 0)
-      ∷ (writtenN (suc u) (oneIf t) xs ++ writtenS (suc u) (cellsIn (ofBody (heading t f xs vs ss s))) s)
+abbrev pub meansOf : (ℕ → ℕ) → Meaning → ℕ
+meansOf place (declared d g) = place (d .name .symbol)
+meansOf place (given n e) = n
+meansOf place nothing = 0
 
--- ---- one word for each row, of the same symbol
+abbrev pub Meant : Meaning → Type 0
+Meant (declared d g) = Unit {0}
+Meant (given n e) = Unit {0}
+Meant nothing = ⊥
 
-data Alike : List ℕ → List Written → Type 0 where
-  no-word : Alike [] []
-  a-word : {k s q t w : ℕ} {rs : List ℕ} {ws : List Written} → Alike rs ws → Alike (k ∷ s ∷ q ∷ t ∷ rs) (written s w ∷ ws)
+declared-means : (t : Thing) (m n : ℕ) → cond (eqb (thingKind t) 0) m n ≡ n
+declared-means (variable t) m n = refl
+declared-means (routine p) m n = refl
+declared-means (formal t) m n = refl
 
-alike-append : {rs rs' : List ℕ} {ws ws' : List Written} → Alike rs ws → Alike rs' ws' → Alike (rs ++ rs') (ws ++ ws')
-alike-append no-word b = b
-alike-append (a-word a) b = a-word (alike-append a b)
+-- the next use is three words
+pub use-words : (place : ℕ → ℕ) (g : List Scope) (x : Name) (us : List Use) → Meant (meaning g x)
+    → usesAs place (used g x ∷ us) ≡ place (x .symbol) ∷ kindOf (meaning g x) ∷ meansOf place (meaning g x) ∷ usesAs place us
+unfolding usesAs joined useWords
+use-words place g x us h = go (meaning g x) h
+  where
+    go : (m : Meaning) → Meant m
+        → joined (useWords place) (rowIn m x ++ joined rowOf us) ≡ place (x .symbol) ∷ kindOf m ∷ meansOf place m ∷ joined (useWords place) (joined rowOf us)
+    go (declared d k) h =
+        ap (λ (n : ℕ). place (x .symbol) ∷ thingKind (d .thing) ∷ n ∷ joined (useWords place) (joined rowOf us)) (declared-means (d .thing) (d .name .symbol) (place (d .name .symbol)))
+    go (given n e) h = refl
+    go nothing h = absurd h
 
-alikeN : (k q t u o : ℕ) (xs : List Name) → Alike (rowsN k q t xs) (writtenN u o xs)
-unfolding rowsN writtenN
-alikeN k q t u o [] = no-word
-alikeN k q t u o (x ∷ xs) = a-word (alikeN k q t u (o + 1) xs)
+-- ---- the state
 
-mutual
-  unfolding rowsS writtenS
+abbrev pub real : (ℕ → ℕ) → Frame → Flow → State
+real place fr fl =
+    record { uses = usesAs place (fl .uses); at = fl .at; slots = length (fl .slots); level = fr .level; loops = fr .loops; cells = fr .cells; lefts = fr .lefts; awaits = fr .awaits; variable = fl .variable; open-ones = fr .opens; code = shown 16384 (fl .code); ahead = shown 8192 (fl .slots); entries = fl .entries }
 
-  alikeS : (c q u o : ℕ) (s : Statement) → Alike (rowsS c q s) (writtenS u o s)
-  alikeS c q u o dummy = no-word
-  alikeS c q u o (assignment x xs p e) = no-word
-  alikeS c q u o (procedure x es) = no-word
-  alikeS c q u o (when p e s) = alikeS c q u o s
-  alikeS c q u o (either p e s t) = alike-append (alikeS c q u o s) (alikeS (c + sizeS s) q u o t)
-  alikeS c q u o (repeat x l ls s) = alikeS c q u o s
-  alikeS c q u o (compound ss) = alikeSs c q u o ss
-  alikeS c q u o (block p ds ss) =
-      alike-append (alikeD (c + 1) (c + 1) u o ds) (alikeSs (c + 1 + sizeD ds) (c + 1) u (o + cellsIn (ofBlock ds)) ss)
+abbrev pub withOpens : List Opened → Frame → Frame
+withOpens l fr = record { level = fr .level; loops = fr .loops; cells = fr .cells; lefts = fr .lefts; awaits = fr .awaits; opens = l }
 
-  alikeSs : (c q u o : ℕ) (ss : Statements) → Alike (rowsSs c q ss) (writtenSs u o ss)
-  alikeSs c q u o (last s) = alikeS c q u o s
-  alikeSs c q u o (first s ss) = alike-append (alikeS c q u o s) (alikeSs (c + sizeS s) q u o ss)
+-- an instruction more
+pub wrote-long : (c : List ℕ) (b w v : ℕ) → length c ≡ 2 * b → length (c ++ (w ∷ v ∷ [])) ≡ 2 * suc b
+wrote-long c b w v h = omega (arith, length-append c (w ∷ v ∷ []))
 
-  alikeD : (c q u o : ℕ) (ds : Declarations) → Alike (rowsD c q ds) (writtenD u o ds)
-  alikeD c q u o no-more = no-word
-  alikeD c q u o (variables t xs ds) = alike-append (alikeN n-variable q (sortNumber (some t)) u o xs) (alikeD c q u (o + length xs) ds)
-  alikeD c q u o (declare p ds) = alike-append (alikeP c q u p) (alikeD (c + sizeP p) q u o ds)
+abbrev pub wrote : ℕ → ℕ → ℕ → Flow → Flow
+wrote o p v fl =
+    record { uses = fl .uses; at = suc (fl .at); variable = fl .variable; code = fl .code ++ ((o + 64 * p) ∷ v ∷ []); slots = fl .slots; entries = fl .entries; long = wrote-long (fl .code) (fl .at) (o + 64 * p) v (fl .long) }
 
-  alikeP : (c q u : ℕ) (p : Procedure) → Alike (rowsP c q p) (writtenP u p)
-  alikeP c q u (heading t f xs vs ss s) =
-      a-word (alike-append (alikeN n-formal (c + 1) 0 (suc u) (oneIf t) xs) (alikeS (c + 1) (c + 1) (suc u) (cellsIn (ofBody (heading t f xs vs ss s))) s))
+-- other slots, other uses
+abbrev pub slotted : List ℕ → Flow → Flow
+slotted l fl =
+    record { uses = fl .uses; at = fl .at; variable = fl .variable; code = fl .code; slots = l; entries = fl .entries; long = fl .long }
 
--- ---- the table they are written in
+abbrev pub taken : List Use → Flow → Flow
+taken us fl =
+    record { uses = us; at = fl .at; variable = fl .variable; code = fl .code; slots = fl .slots; entries = fl .entries; long = fl .long }
 
-module _ (place : ℕ → ℕ) where
-  unfoldable pub writes : List ℕ → List Written → List ℕ
-  writes T [] = T
-  writes T (w ∷ ws) = writes (set T (place (w .symbol)) (w .word)) ws
+abbrev pub varied : ℕ → Flow → Flow
+varied v fl = record { uses = fl .uses; at = fl .at; variable = v; code = fl .code; slots = fl .slots; entries = fl .entries; long = fl .long }
 
-  pub writes-append : (T : List ℕ) (ws ws' : List Written) → writes T (ws ++ ws') ≡ writes (writes T ws) ws'
-  unfolding writes
-  writes-append T [] ws' = refl
-  writes-append T (w ∷ ws) ws' = writes-append (set T (place (w .symbol)) (w .word)) ws ws'
+pub put-real : (place : ℕ → ℕ) (o p v : ℕ) (fr : Frame) (fl : Flow) → put o p v (real place fr fl) ≡ real place fr (wrote o p v fl)
+unfolding put
+put-real place o p v fr fl = rw (shown-two 16384 (fl .at) (fl .code) (o + 64 * p) v (fl .long), add-one (fl .at))
 
-  -- each is found in the table L
-  abbrev pub Found : List ℕ → List Written → Type 0
-  Found L [] = Unit {0}
-  Found L (w ∷ ws) = (getD L (place (w .symbol)) 0 ≡ w .word) × Found L ws
+pub slot-real : (place : ℕ → ℕ) (fr : Frame) (fl : Flow) → withSlot (real place fr fl) ≡ real place fr (slotted (fl .slots ++ (0 ∷ [])) fl)
+unfolding withSlot
+slot-real place fr fl = rw (← shown-zero 8192 (fl .slots), length-append (fl .slots) (0 ∷ []))
 
-  pub found-split : (L : List ℕ) (ws ws' : List Written) → Found L (ws ++ ws') → Found L ws × Found L ws'
-  found-split L [] ws' h = (tt, h)
-  found-split L (w ∷ ws) ws' h = let r = found-split L ws ws' (h .1) in ((h .0, r .0), r .1)
+pub noted-real : (place : ℕ → ℕ) (i v : ℕ) (fr : Frame) (fl : Flow) → i < length (fl .slots)
+    → noted i v (real place fr fl) ≡ real place fr (slotted (set (fl .slots) i v) fl)
+unfolding noted
+noted-real place i v fr fl h = rw (shown-set 8192 (fl .slots) i v h, length-set (fl .slots) i v)
 
-  module _ (n : ℕ) (climbs : Climbs place n) where
-    -- what is written later is at other places
-    kept : {rs : List ℕ} {ws : List Written} {lo : ℕ} (T : List ℕ) (j : ℕ) → Alike rs ws → Rising n lo rs → j < lo
-        → getD (writes T ws) (place j) 0 ≡ getD T (place j) 0
-    unfolding writes
-    kept T j no-word no-row h = refl
-    kept T j (a-word {s = s} {w = w} a) (row l m r) h =
-        let sooner = climbs .sooner j s (omega arith) m in
-        kept (set T (place s) w) j a r (omega arith) ∙ getD-set-other T (place s) (place j) w 0 (λ e. omega arith)
+-- ---- nodes with places
 
-    all-found : {rs : List ℕ} {ws : List Written} {lo : ℕ} (T : List ℕ) → length T ≡ sites → Alike rs ws → Rising n lo rs → Found (writes T ws) ws
-    unfolding writes
-    all-found T e no-word no-row = tt
-    all-found T e (a-word {s = s} {w = w} a) (row l m r) =
-        let inside = climbs .inside s m in
-        let T' = set T (place s) w in
-        (kept T' s a r (omega arith) ∙ getD-set-same T (place s) w 0 (omega arith), all-found T' (length-set T (place s) w ∙ e) a r)
+-- the pass over nodes as the table has them is the pass that looks places up
+pub run-places : {S : Type 0} (place : ℕ → ℕ) (f : ℕ → ℕ → ℕ → ℕ → S → S) (ws : List ℕ) (st : S)
+    → foldNodes f (nodeWords place ws) st ≡ foldNodes (λ k s a b. f k (cond (hasNone place k) 0 (place s)) a b) ws st
+unfolding foldNodes nodeWords
+run-places place f [] st = refl
+run-places place f (k ∷ []) st = refl
+run-places place f (k ∷ s ∷ []) st = refl
+run-places place f (k ∷ s ∷ a ∷ []) st = refl
+run-places place f (k ∷ s ∷ a ∷ b ∷ ws) st = run-places place f ws (f k (cond (hasNone place k) 0 (place s)) a b st)
 
-    -- of a program
-    pub found : (T : List ℕ) → length T ≡ sites → (c q u o : ℕ) (s : Statement) → Rising n 0 (rowsS c q s) → Found (writes T (writtenS u o s)) (writtenS u o s)
-    found T e c q u o s r = all-found T e (alikeS c q u o s) r
+module _ (tb : Tables) where
+  unfoldable pub step : ℕ → ℕ → ℕ → ℕ → State → State
+  step k s a b st = codeNode (tb .values) (tb .layout) (tb .ahead) (tb .entries) k (cond (hasNone (tb .place) k) 0 (tb .place s)) a b st
+
+  abbrev pub run : List ℕ → State → State
+  run = foldNodes step
+
+  abbrev pub state : Frame → Flow → State
+  state = real (tb .place)
+
+  pub record Goes (ws : List ℕ) (s t : State) : Type 0 where
+    pub so : (rest : List ℕ) → run (ws ++ rest) s ≡ run rest t
+
+  -- ---- what some nodes do: in the frame fr, which becomes fr'; us: the uses behind; e: the address behind; A: what lies ahead in front of what lies
+  -- ahead behind; E: the entries; C: their code in front of what follows; R: what must be right of the tables
+
+  pub record Passed (R : Type 0) (fr fr' : Frame) (ws : List ℕ) (us : List Use) (e : ℕ) (A E : List ℕ → List ℕ) (C : List Instr → List Instr) (fl : Flow) : Type 0 where
+    pub next : Flow
+    pub goes : Goes ws (state fr fl) (state fr' next)
+    pub uses : next .uses ≡ us
+    pub at : next .at ≡ e
+    pub fills : Fills (fl .slots) (next .slots) A
+    pub enters : next .entries ≡ E (fl .entries)
+    pub right : R → (k : List ℕ) (r : List Instr) → drop (length (fl .slots)) (tb .ahead) ≡ A k → CodeFits (C r) → (next .code ++ words r ≡ fl .code ++ words (C r)) × CodeFits r
+
+  -- a frame in the scopes g, with h left parts before and m for statements around
+  pub record Fits (g : List Mark) (h m : ℕ) (fr : Frame) : Type 0 where
+    pub level : fr .level ≡ owns g
+    pub loops : fr .loops ≡ m
+    pub lefts : fr .lefts ≡ h
+    pub awaits : fr .awaits ≡ 0
+
+  -- a part with its uses, from the address b to e, wherever it stands
+  pub record Emits (R : Type 0) (g : List Mark) (h m : ℕ) (ws : List ℕ) (vs : List Use) (b e : ℕ) (A E : List ℕ → List ℕ) (C : List Instr → List Instr) : Type 0 where
+    pub pass : (us : List Use) (fr : Frame) (fl : Flow) → Fits g h m fr → fl .uses ≡ vs ++ us → fl .at ≡ b → Passed R fr fr ws us e A E C fl
+
+-- the words of an instruction, behind others
+pub wrote-right : (i : Instr) (o p v : ℕ) (c : List ℕ) (r : List Instr) → o + 64 * p ≡ firstWord (partsOf i) → v ≡ partsOf i .operand
+    → (c ++ ((o + 64 * p) ∷ v ∷ [])) ++ words r ≡ c ++ words (i ∷ r)
+unfolding words
+wrote-right i o p v c r e e' = rw (e, e') (append-assoc c (firstWord (partsOf i) ∷ partsOf i .operand ∷ []) (words r))
+
+-- ---- nodes one by one
+
+module _ {tb : Tables} where
+  pub goes-node : (k s a b : ℕ) {st st' : State} → step tb k s a b st ≡ st' → Goes tb (node k s a b) st st'
+  unfolding foldNodes
+  goes-node k s a b e = record { so = λ rest. ap (run tb rest) e }
+
+  pub goes-then : {ws ws' : List ℕ} {s t u : State} → Goes tb ws s t → Goes tb ws' t u → Goes tb (ws ++ ws') s u
+  goes-then {ws} {ws'} {s} x y = record { so = λ rest. ap (λ (l : List ℕ). run tb l s) (append-assoc ws ws' rest) ∙ x .so (ws' ++ rest) ∙ y .so rest }
+
+  pub goes-to : {ws : List ℕ} {s t u : State} → Goes tb ws s t → t ≡ u → Goes tb ws s u
+  goes-to x e = record { so = λ rest. x .so rest ∙ ap (run tb rest) e }
+
+  -- ---- one after the other
+
+  infixr 20 _and-then_
+  pub _and-then_ : {R : Type 0} {fr fr₁ fr₂ : Frame} {ws ws' : List ℕ} {us us' : List Use} {e e' : ℕ} {A A' E E' : List ℕ → List ℕ} {C C' : List Instr → List Instr} {fl : Flow}
+      (x : Passed tb R fr fr₁ ws us e A E C fl) → Passed tb R fr₁ fr₂ ws' us' e' A' E' C' (x .next)
+      → Passed tb R fr fr₂ (ws ++ ws') us' e' (λ k. A (A' k)) (λ t. E' (E t)) (λ r. C (C' r)) fl
+  _and-then_ {A' = A'} {E' = E'} {C' = C'} x y =
+      record {
+        next = y .next;
+        goes = goes-then (x .goes) (y .goes);
+        uses = y .uses;
+        at = y .at;
+        fills = then-slots (x .fills) (y .fills);
+        enters = y .enters ∙ ap E' (x .enters);
+        right = λ w k r d c.
+            let p = x .right w (A' k) (C' r) d c in
+            let q = y .right w k r (slots-past (tb .ahead) (A' k) (x .fills) d) (p .1) in
+            (q .0 ∙ p .0, q .1);
+      }
+
+  infixr 20 _followed-by_
+  pub _followed-by_ : {R : Type 0} {g : List Mark} {h m : ℕ} {ws ws' : List ℕ} {vs vs' : List Use} {b c e : ℕ} {A A' E E' : List ℕ → List ℕ} {C C' : List Instr → List Instr}
+      → Emits tb R g h m ws vs b c A E C → Emits tb R g h m ws' vs' c e A' E' C'
+      → Emits tb R g h m (ws ++ ws') (vs ++ vs') b e (λ k. A (A' k)) (λ t. E' (E t)) (λ r. C (C' r))
+  _followed-by_ {vs = vs} {vs' = vs'} x y =
+      record {
+        pass = λ us fr fl w u b.
+            let p = x .pass (vs' ++ us) fr fl w (u ∙ append-assoc vs vs' us) b in
+            p and-then (y .pass us fr (p .next) w (p .uses) (p .at));
+      }
+
+  -- a last part with no use
+  infixr 20 _closed-by_
+  pub _closed-by_ : {R : Type 0} {g : List Mark} {h m : ℕ} {ws ws' : List ℕ} {vs : List Use} {b c e : ℕ} {A A' E E' : List ℕ → List ℕ} {C C' : List Instr → List Instr}
+      → Emits tb R g h m ws vs b c A E C → Emits tb R g h m ws' [] c e A' E' C'
+      → Emits tb R g h m (ws ++ ws') vs b e (λ k. A (A' k)) (λ t. E' (E t)) (λ r. C (C' r))
+  _closed-by_ x y =
+      record {
+        pass = λ us fr fl w u b.
+            let p = x .pass us fr fl w u b in
+            p and-then (y .pass us fr (p .next) w (p .uses) (p .at));
+      }
+
+  -- no node
+  pub passed-nothing : {R : Type 0} {fr : Frame} {us : List Use} {e : ℕ} {fl : Flow} → fl .uses ≡ us → fl .at ≡ e → Passed tb R fr fr [] us e (λ k. k) (λ t. t) (λ r. r) fl
+  passed-nothing {fl = fl} u i =
+      record { next = fl; goes = record { so = λ rest. refl }; uses = u; at = i; fills = no-slot; enters = refl; right = λ w k r d c. (refl, c) }
+
+-- ---- a node that writes instructions
+
+abbrev pub putAll : List Parts → State → State
+putAll [] st = st
+putAll (p ∷ ps) st = putAll ps (put (p .operation) (p .place) (p .operand) st)
+
+abbrev pub wroteAll : List Parts → Flow → Flow
+wroteAll [] fl = fl
+wroteAll (p ∷ ps) fl = wroteAll ps (wrote (p .operation) (p .place) (p .operand) fl)
+
+pub puts-real : (place : ℕ → ℕ) (ps : List Parts) (fr : Frame) (fl : Flow) → putAll ps (real place fr fl) ≡ real place fr (wroteAll ps fl)
+puts-real place [] fr fl = refl
+puts-real place (p ∷ ps) fr fl = ap (putAll ps) (put-real place (p .operation) (p .place) (p .operand) fr fl) ∙ puts-real place ps fr (wrote (p .operation) (p .place) (p .operand) fl)
+
+-- the address behind some instructions
+abbrev pub past : List Parts → ℕ → ℕ
+past [] e = e
+past (p ∷ ps) e = past ps (suc e)
+
+-- these are the instructions' parts
+abbrev pub Same : List Parts → List Instr → Type 0
+Same [] [] = Unit {0}
+Same [] (i ∷ is) = ⊥
+Same (p ∷ ps) [] = ⊥
+Same (p ∷ ps) (i ∷ is) = (p ≡ partsOf i) × Same ps is
+
+-- what stays as it was
+pub record Kept (ps : List Parts) (e : ℕ) (fl fl' : Flow) : Type 0 where
+  pub uses : fl' .uses ≡ fl .uses
+  pub at : fl' .at ≡ past ps e
+  pub slots : fl' .slots ≡ fl .slots
+  pub entries : fl' .entries ≡ fl .entries
+  pub code : (is : List Instr) (r : List Instr) → Same ps is → fl' .code ++ words r ≡ fl .code ++ words (is ++ r)
+
+pub wrote-all : (ps : List Parts) (e : ℕ) (fl : Flow) → fl .at ≡ e → Kept ps e fl (wroteAll ps fl)
+wrote-all [] e fl i = record { uses = refl; at = i; slots = refl; entries = refl; code = none }
+  where
+    none : (is : List Instr) (r : List Instr) → Same [] is → fl .code ++ words r ≡ fl .code ++ words (is ++ r)
+    none [] r s = refl
+    none (i ∷ is) r s = absurd s
+wrote-all (p ∷ ps) e fl i =
+    let w = wrote-all ps (suc e) (wrote (p .operation) (p .place) (p .operand) fl) (ap suc i) in
+    record { uses = w .uses; at = w .at; slots = w .slots; entries = w .entries; code = more (w .code) }
+  where
+    more : ((is : List Instr) (r : List Instr) → Same ps is → wroteAll ps (wrote (p .operation) (p .place) (p .operand) fl) .code ++ words r ≡ (fl .code ++ (firstWord p ∷ p .operand ∷ [])) ++ words (is ++ r))
+        → (is : List Instr) (r : List Instr) → Same (p ∷ ps) is → wroteAll ps (wrote (p .operation) (p .place) (p .operand) fl) .code ++ words r ≡ fl .code ++ words (is ++ r)
+    more f [] r s = absurd s
+    more f (i ∷ is) r s = f is r (s .1) ∙ wrote-right i (p .operation) (p .place) (p .operand) (fl .code) (is ++ r) (ap firstWord (s .0)) (ap (λ (p : Parts). p .operand) (s .0))
+
+pub fits-apart : (is r : List Instr) → CodeFits (is ++ r) → CodeFits is × CodeFits r
+fits-apart [] r h = (tt, h)
+fits-apart (i ∷ is) r h =
+    let w = fits-apart is r (h .1) in
+    ((h .0, w .0), w .1)
+
+module _ {tb : Tables} where
+  pub passed-all : {R : Type 0} {fr fr' : Frame} {us : List Use} {e : ℕ} (is : List Instr) (ps : List Parts) (k s a b : ℕ) {fl : Flow}
+      → step tb k s a b (state tb fr fl) ≡ putAll ps (state tb fr' (taken us fl)) → fl .at ≡ e → (R → CodeFits is → Same ps is)
+      → Passed tb R fr fr' (node k s a b) us (past ps e) (λ k. k) (λ t. t) (λ r. is ++ r) fl
+  passed-all {fr' = fr'} {us = us} {e = e} is ps k s a b {fl} i j h =
+      let w = wrote-all ps e (taken us fl) j in
+      record {
+        next = wroteAll ps (taken us fl);
+        goes = goes-node k s a b (i ∙ puts-real (tb .place) ps fr' (taken us fl));
+        uses = w .uses;
+        at = w .at;
+        fills = rw (w .slots) no-slot;
+        enters = w .entries;
+        right = λ z k r d c.
+            let f = fits-apart is r c in
+            (w .code is r (h z (f .0)), f .1);
+      }
+
+  -- the same address, the same code
+  pub passed-as : {R : Type 0} {fr fr' : Frame} {ws : List ℕ} {us : List Use} {e : ℕ} {A E : List ℕ → List ℕ} {C : List Instr → List Instr} {fl : Flow} (e' : ℕ) (C' : List Instr → List Instr)
+      → e ≡ e' → ((r : List Instr) → C r ≡ C' r) → Passed tb R fr fr' ws us e A E C fl → Passed tb R fr fr' ws us e' A E C' fl
+  passed-as {fl = fl} e' C' i f x =
+      record {
+        next = x .next;
+        goes = x .goes;
+        uses = x .uses;
+        at = x .at ∙ i;
+        fills = x .fills;
+        enters = x .enters;
+        right = λ z k r d c.
+            let q = x .right z k r d (rw (f r) c) in
+            (q .0 ∙ ap (λ (l : List Instr). fl .code ++ words l) (f r), q .1);
+      }
+
+  -- the same nodes
+  pub passed-words : {R : Type 0} {fr fr' : Frame} {ws : List ℕ} {us : List Use} {e : ℕ} {A E : List ℕ → List ℕ} {C : List Instr → List Instr} {fl : Flow} (ws' : List ℕ)
+      → ws ≡ ws' → Passed tb R fr fr' ws us e A E C fl → Passed tb R fr fr' ws' us e A E C fl
+  passed-words {fr = fr} {fl = fl} ws' i x =
+      record {
+        next = x .next;
+        goes = record { so = λ rest. ap (λ (l : List ℕ). run tb (l ++ rest) (state tb fr fl)) (sym i) ∙ x .goes .so rest };
+        uses = x .uses;
+        at = x .at;
+        fills = x .fills;
+        enters = x .enters;
+        right = x .right;
+      }
+
+  -- a node that writes nothing
+  pub passed-idle : {R : Type 0} {fr fr' : Frame} {us : List Use} {e : ℕ} (k s a b : ℕ) {fl : Flow} → step tb k s a b (state tb fr fl) ≡ state tb fr' fl
+      → fl .uses ≡ us → fl .at ≡ e → Passed tb R fr fr' (node k s a b) us e (λ k. k) (λ t. t) (λ r. r) fl
+  passed-idle k s a b {fl} e u i =
+      record { next = fl; goes = goes-node k s a b e; uses = u; at = i; fills = no-slot; enters = refl; right = λ w k r d c. (refl, c) }
+
+  -- as a part
+  pub emits-all : {R : Type 0} {g : List Mark} {h m : ℕ} {b : ℕ} (is : List Instr) (ps : List Parts) (k s a b' : ℕ)
+      → ((fr : Frame) (fl : Flow) → step tb k s a b' (state tb fr fl) ≡ putAll ps (state tb fr fl)) → (R → CodeFits is → Same ps is)
+      → Emits tb R g h m (node k s a b') [] b (past ps b) (λ k. k) (λ t. t) (λ r. is ++ r)
+  emits-all is ps k s a b' i h =
+      record {
+        pass = λ us fr fl w u j. passed-all is ps k s a b' (i fr fl ∙ ap (λ (us : List Use). putAll ps (state tb fr (taken us fl))) u) j h;
+      }
+
+-- ---- a use: its kind and what it means, from its words
+
+module _ (tb : Tables) where
+  pub use-step : (n s a b : ℕ) (fr : Frame) (fl : Flow) (gs : List Scope) (x : Name) (us : List Use) (k m : ℕ) → isUse n ≡ true → hasNone (tb .place) n ≡ false
+      → fl .uses ≡ used gs x ∷ us → Meant (meaning gs x) → kindOf (meaning gs x) ≡ k → meansOf (tb .place) (meaning gs x) ≡ m
+      → step tb n s a b (state tb fr fl) ≡ useNode (tb .values) (tb .layout) (tb .ahead) (tb .entries) n k m b (tb .place s) a (state tb fr (taken us fl))
+  unfolding step codeNode withUses kindNext meansNext othersNext
+  use-step n s a b fr fl gs x us k m i j u w e e' =
+      let z : usesAs (tb .place) (fl .uses) ≡ tb .place (x .symbol) ∷ k ∷ m ∷ usesAs (tb .place) us =
+      ap (usesAs (tb .place)) u ∙ use-words (tb .place) gs x us w ∙ ap (λ (k : ℕ). tb .place (x .symbol) ∷ k ∷ meansOf (tb .place) (meaning gs x) ∷ usesAs (tb .place) us) e ∙ ap (λ (m : ℕ). tb .place (x .symbol) ∷ k ∷ m ∷ usesAs (tb .place) us) e' in
+      rw (i, j, z)

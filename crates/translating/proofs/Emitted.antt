@@ -1,0 +1,114 @@
+-- The words that the pass over a program's table writes are the words of its translation: done once, the pass finds what lies ahead and where procedures
+-- begin; done again with these tables, it writes the code. Assumes nothing.
+use Prim.Native.Nat.{ℕ, zero, suc, _+_, _*_, _-_, _≤_, _<_}
+use native.Mathlib.Omega.{arith}
+use mathlib.Core.Path.{_≡_, refl, sym, ap, subst, _∙_}
+use mathlib.Core.Bool.{cond}
+use mathlib.Core.List.{List, [], _∷_, _++_, append-assoc, append-nil}
+use lib.ListN.{length, getD, drop, replicate, length-replicate}
+use Rattle.machine.specs.Instructions.{END}
+use Rattle.names.specs.Program.{Statement}
+use Rattle.names.specs.Nodes.{nodesS}
+use Rattle.names.specs.Rows.{foldNodes}
+use Rattle.names.specs.Uses.{usesS, joined, rows}
+use Rattle.names.specs.Outline.{rowsS}
+use Rattle.reading.specs.Table.{useWords, hasNone, nodeWords}
+use Rattle.translating.specs.Translate.{codeS, code, endS}
+use Rattle.translating.specs.Words.{words, CodeFits}
+use Rattle.translating.specs.Scoped.{Scoped}
+use Rattle.translating.specs.Sizes.{Limited}
+use Rattle.translating.specs.Layout.{sites}
+use Rattle.translating.specs.Emission.{State, put, fresh, codeNode, emitted, codeOf}
+use Rattle.translating.proofs.NumbersOf.{NumbersS}
+use Rattle.translating.proofs.Sites.{Climbs, Rising, LaidS}
+use Rattle.translating.proofs.Ranges.{ends, in-range}
+use Rattle.translating.proofs.Lengths.{fits-words}
+use Rattle.translating.proofs.Shown.{shown, shown-none, shown-whole}
+use Rattle.translating.proofs.SlotLists.{Fills, more-slots, aheadS, fewS}
+use Rattle.translating.proofs.EntryTables.{enteredS, RightS, filledS, agree-refl}
+use Rattle.translating.proofs.Written.{Tables, Frame, Flow, usesAs, uses-all, real, wrote, put-real, run-places, step, run, state, Passed, Fits, Emits}
+use Rattle.translating.proofs.WrittenStatements.{emitsS}
+
+-- nothing around, nothing behind
+abbrev outermost : Frame
+outermost = record { level = 0; loops = 0; cells = 0; lefts = 0; awaits = 0; opens = [] }
+
+abbrev begun : Statement → Flow
+begun s = record { uses = usesS [] s; at = 0; variable = 0; code = []; slots = []; entries = replicate sites 0; long = refl }
+
+fresh-is : (place : ℕ → ℕ) (s : Statement) → fresh (joined (useWords place) (rows s)) ≡ real place outermost (begun s)
+unfolding rows
+fresh-is place s = rw (uses-all place (usesS [] s), shown-none 16384, shown-none 8192)
+
+module _ (place : ℕ → ℕ) (values layout : List ℕ) (s : Statement) (ok : Scoped s) (numbers : NumbersS (λ q v. getD values (place q) 0 ≡ v) s) (laid : LaidS place layout 0 0 s) where
+  abbrev told : List ℕ → List ℕ → Tables
+  told ahead entries = record { place = place; values = values; layout = layout; ahead = ahead; entries = entries }
+
+  -- a pass over all nodes
+  whole : (R : Type 0) (ahead entries : List ℕ) → (R → RightS place entries [] s 0)
+      → Passed (told ahead entries) R outermost outermost (nodesS 1 s) [] (endS [] s 0) (aheadS [] s 0) (enteredS place [] s 0) (codeS place [] 0 s 0) (begun s)
+  whole R ahead entries right =
+      emitsS (told ahead entries) R [] 0 s 1 0 (λ z. tt) right tt ok numbers laid .pass [] outermost (begun s) (record { level = refl; loops = refl; lefts = refl; awaits = refl }) (sym (append-nil (usesS [] s))) refl
+
+  ran : (R : Type 0) (ahead entries : List ℕ) (right : R → RightS place entries [] s 0)
+      → emitted values layout ahead entries (nodeWords place (nodesS 1 s)) (joined (useWords place) (rows s)) ≡ real place outermost (wrote 1 0 0 (whole R ahead entries right .next))
+  unfolding emitted step foldNodes
+  ran R ahead entries right =
+      let tb = told ahead entries in
+      let p = whole R ahead entries right in
+      ap (put 1 0 0)
+      (run-places place (codeNode values layout ahead entries) (nodesS 1 s) (fresh (joined (useWords place) (rows s)))
+      ∙ ap (run tb (nodesS 1 s)) (fresh-is place s)
+      ∙ ap (λ (l : List ℕ). run tb l (real place outermost (begun s))) (sym (append-nil (nodesS 1 s)))
+      ∙ p .goes .so [])
+      ∙ put-real place 1 0 0 outermost (p .next)
+
+  -- ---- the first run: its tables
+
+  first : Passed (told [] []) ⊥ outermost outermost (nodesS 1 s) [] (endS [] s 0) (aheadS [] s 0) (enteredS place [] s 0) (codeS place [] 0 s 0) (begun s)
+  first = whole ⊥ [] [] (λ z. absurd z)
+
+  abbrev slots : List ℕ
+  slots = first .next .slots
+
+  abbrev entries : List ℕ
+  entries = enteredS place [] s 0 (replicate sites 0)
+
+  -- ---- the second
+
+  second : RightS place entries [] s 0
+      → Passed (told (shown 8192 slots) entries) (Unit {0}) outermost outermost (nodesS 1 s) [] (endS [] s 0) (aheadS [] s 0) (enteredS place [] s 0) (codeS place [] 0 s 0) (begun s)
+  second right = whole (Unit {0}) (shown 8192 slots) entries (λ z. right)
+
+  twice : (right : RightS place entries [] s 0)
+      → codeOf values layout (nodeWords place (nodesS 1 s)) (joined (useWords place) (rows s)) ≡ shown 16384 (second right .next .code ++ (1 ∷ 0 ∷ []))
+  unfolding codeOf first second
+  twice right =
+      let nodes = nodeWords place (nodesS 1 s) in
+      let uses = joined (useWords place) (rows s) in
+      ap (λ (st : State). emitted values layout (st .ahead) (st .entries) nodes uses .code) (ran ⊥ [] [] (λ z. absurd z))
+      ∙ ap (λ (l : List ℕ). emitted values layout (shown 8192 slots) l nodes uses .code) (first .enters)
+      ∙ ap (λ (st : State). st .code) (ran (Unit {0}) (shown 8192 slots) entries (λ z. right))
+
+  -- the table of what lies ahead is right
+  few-slots : Limited s → length slots ≤ 8192
+  few-slots l = omega (arith, ap length (more-slots (first .fills)), fewS [] s 0 [], ends place s (l .whole) (l .symbols))
+
+  ahead-right : Limited s → shown 8192 slots ≡ aheadS [] s 0 (replicate (8192 - length slots) 0)
+  ahead-right l = shown-whole 8192 slots (few-slots l) ∙ first .fills .so (replicate (8192 - length slots) 0)
+
+  written : Limited s → (right : RightS place entries [] s 0) → second right .next .code ++ (1 ∷ 0 ∷ []) ≡ words (code place s)
+  unfolding code words
+  written l right = second right .right tt (replicate (8192 - length slots) 0) (END ∷ []) (ahead-right l) (in-range place s l) .0
+
+-- the words of the pass are the words of the translation, and zeros behind them
+pub emitted-code : (place : ℕ → ℕ) (n : ℕ) (values layout : List ℕ) (s : Statement) → Climbs place n → Rising n 0 (rowsS 0 0 s) → Scoped s → Limited s
+    → NumbersS (λ q v. getD values (place q) 0 ≡ v) s → LaidS place layout 0 0 s
+    → codeOf values layout (nodeWords place (nodesS 1 s)) (joined (useWords place) (rows s)) ≡ words (code place s) ++ replicate (16384 - length (words (code place s))) 0
+emitted-code place n values layout s climbs rising ok limited numbers laid =
+    let zeros : List ℕ = replicate sites 0 in
+    let filled = filledS place n climbs sites (climbs .inside) [] s 0 0 0 0 [] zeros (length-replicate {A = ℕ} sites 0) (rw (append-nil (rowsS 0 0 s)) rising) in
+    let right : RightS place (enteredS place [] s 0 zeros) [] s 0 = filled .right (enteredS place [] s 0 zeros) (agree-refl place (filled .high) (enteredS place [] s 0 zeros)) in
+    twice place values layout s ok numbers laid right
+    ∙ ap (shown 16384) (written place values layout s ok numbers laid limited right)
+    ∙ shown-whole 16384 (words (code place s)) (fits-words place s limited)

@@ -1,0 +1,272 @@
+-- What the pass that writes code finds for a name: the table of the layout tells the level and offset of a variable or formal, the level of a procedure
+-- and whether it has a result; the table of the entries tells where a procedure begins.
+use Prim.Native.Nat.{ℕ, zero, suc, _+_, _*_, _-_, _≤_, _<_, _/_, _%_}
+use native.Mathlib.Omega.{arith}
+use mathlib.Core.Path.{_≡_, refl, sym, ap, subst, _∙_}
+use mathlib.Core.Bool.{Bool, true, false, cond}
+use mathlib.Core.List.{List, [], _∷_, _++_, map}
+use mathlib.Core.Option.{Option, none, some, Option·none-ne-some}
+use lib.Dec.{eqb}
+use lib.ListN.{length, getD}
+use borrow.Author.Tests.{eqb-true}
+use Rattle.symbols.specs.Text.{bytes}
+use Rattle.symbols.specs.Names.{sameName}
+use Rattle.machine.specs.Instructions.{Loc, lc, pack, high, mid}
+use Rattle.names.specs.Program.{Name, Sort, Specification, Declarations, none as no-more, variables, declare, Procedure, heading}
+use Rattle.names.specs.Scopes.{Thing, variable, routine, formal, Declared, Scope, ofBlock, ofBody, declares, variablesIn, inBlock, inBody, specified, specificationsOf, formalsOf, nameOf, sortOf, same, findIn, Given, environment, findGiven, innermost, Meaning, declared, given, nothing, meaning}
+use Rattle.rules.specs.Entered.{results, oneIf, isSome, declaring, bodyOfThis}
+use Rattle.translating.specs.Translate.{Mark, blk, own, scopeAt, scopes, offset, cutG, levels, amongG, offsetOf, locFor, locAs, loc, entry, target}
+use Rattle.translating.specs.Scoped.{nearest, HasCell, CellAs, OkV}
+use Rattle.translating.specs.Words.{beside, LocFits}
+use Rattle.translating.specs.Layout.{packed}
+use Rattle.translating.specs.Emission.{cellOf, resultOf}
+use Rattle.translating.proofs.Sites.{Lying, Lies}
+use Rattle.translating.proofs.Ranges.{owns}
+use Rattle.names.specs.Uses.{thingKind}
+use Rattle.translating.proofs.Written.{kindOf, meansOf}
+use Rattle.translating.proofs.Words.{high-pack, mid-pack}
+use Rattle.translating.proofs.Stands.{procedureOf, behind}
+
+-- ---- what is found is what is declared
+
+no-given : (n : ℕ) (l : List Given) (x : Name) (d : Declared) (g : List Scope) → findGiven n l x ≡ declared d g → ⊥
+unfolding findGiven
+no-given n [] x d g e = never e
+  where
+    never : nothing ≡ declared d g → ⊥
+    never e = let z : _≡_ {A = ℕ} 0 1 = cc in omega arith
+no-given n (y ∷ l) x d g e = go (sameName (bytes (y .spelling)) (x .letters)) (no-given (n + 1) l x d g) e
+  where
+    go : (b : Bool) → (findGiven (n + 1) l x ≡ declared d g → ⊥) → cond b (given n y) (findGiven (n + 1) l x) ≡ declared d g → ⊥
+    go true f e = let z : _≡_ {A = ℕ} 0 1 = cc in omega arith
+    go false f e = f e
+
+-- a procedure is declared by its own name
+variables-name : (t : Sort) (xs : List Name) (l : List Declared) (x : Name) (d : Declared) (p : Procedure)
+    → (findIn l x ≡ some d → d .name ≡ nameOf p) → findIn (variablesIn t xs ++ l) x ≡ some d → d .thing ≡ routine p → d .name ≡ nameOf p
+variables-name t xs l x d p f e e' = f (behind t xs l x d p e e')
+
+block-name : (ds : Declarations) (x : Name) (d : Declared) (p : Procedure) → findIn (inBlock ds) x ≡ some d → d .thing ≡ routine p → d .name ≡ nameOf p
+unfolding inBlock findIn
+block-name no-more x d p e e' = absurd (Option·none-ne-some d e)
+block-name (variables t xs ds) x d p e e' = variables-name t xs (inBlock ds) x d p (λ e. block-name ds x d p e e') e e'
+block-name (declare q ds) x d p e e' = go (same (nameOf q) x) (λ e. block-name ds x d p e e') e
+  where
+    go : (b : Bool) → (findIn (inBlock ds) x ≡ some d → d .name ≡ nameOf p) → cond b (some (record { name = nameOf q; thing = routine q })) (findIn (inBlock ds) x) ≡ some d → d .name ≡ nameOf p
+    go true f e =
+        let e₁ : record { name = nameOf q; thing = routine q } ≡ d = cc in
+        let e₂ : routine q ≡ routine p = ap (λ d. d .thing) e₁ ∙ e' in
+        let e₃ : q ≡ p = cc in
+        sym (ap (λ d. d .name) e₁) ∙ ap nameOf e₃
+    go false f e = f e
+
+-- a formal is no procedure
+formals-none : (ss : List Specification) (xs : List Name) (x : Name) (d : Declared) (p : Procedure)
+    → findIn (map (λ x. record { name = x; thing = formal (specified ss x) }) xs) x ≡ some d → d .thing ≡ routine p → ⊥
+unfolding findIn
+formals-none ss [] x d p e e' = Option·none-ne-some d e
+formals-none ss (y ∷ ys) x d p e e' = go (same y x) (λ e. formals-none ss ys x d p e e') e
+  where
+    go : (b : Bool) → (findIn (map (λ x. record { name = x; thing = formal (specified ss x) }) ys) x ≡ some d → ⊥)
+        → cond b (some (record { name = y; thing = formal (specified ss y) })) (findIn (map (λ x. record { name = x; thing = formal (specified ss x) }) ys) x) ≡ some d → ⊥
+    go true f e =
+        let e₁ : record { name = y; thing = formal (specified ss y) } ≡ d = cc in
+        let e₂ : formal (specified ss y) ≡ routine p = ap (λ d. d .thing) e₁ ∙ e' in
+        Option·none-ne-some p (ap procedureOf e₂)
+    go false f e = f e
+
+body-none : (q : Procedure) (x : Name) (d : Declared) (p : Procedure) → findIn (inBody q) x ≡ some d → d .thing ≡ routine p → ⊥
+unfolding inBody
+body-none q x d p e e' = formals-none (specificationsOf q) (formalsOf q) x d p e e'
+
+routine-name : (s : Scope) (x : Name) (d : Declared) (p : Procedure) → findIn (declares s) x ≡ some d → d .thing ≡ routine p → d .name ≡ nameOf p
+routine-name (ofBlock ds) x d p e e' = block-name ds x d p e e'
+routine-name (ofBody q) x d p e e' = absurd (body-none q x d p e e')
+
+pub meant-name : (g : List Scope) (x : Name) (d : Declared) (h : List Scope) (p : Procedure) → meaning g x ≡ declared d h → d .thing ≡ routine p → d .name ≡ nameOf p
+unfolding meaning
+meant-name [] x d h p e e' = absurd (no-given 0 environment x d h e)
+meant-name (s ∷ g) x d h p e e' = go (findIn (declares s) x) refl (λ e. meant-name g x d h p e e') e
+  where
+    go : (f : Option Declared) → findIn (declares s) x ≡ f → (meaning g x ≡ declared d h → d .name ≡ nameOf p) → innermost f (s ∷ g) (meaning g x) ≡ declared d h → d .name ≡ nameOf p
+    go none i f e = f e
+    go (some d') i f e =
+        let i' : findIn (declares s) x ≡ some d = cc in
+        routine-name s x d p i' e'
+
+module _ (place : ℕ → ℕ) (L : List ℕ) where
+  -- the layout is right for the scopes around
+  abbrev pub Known : List Mark → Type 0
+  Known [] = Unit {0}
+  Known (blk o ds b ∷ g) = Lies place L (owns g) o (ofBlock ds) × Known g
+  Known (own p ∷ g) = Lies place L (suc (owns g)) 0 (ofBody p) × (getD L (place (nameOf p .symbol)) 0 ≡ pack (owns g) (oneIf (sortOf p)) 0) × Known g
+
+  -- the scope that declares a name: its level, and what the layout has
+  pub record Stands (g : List Mark) (x : Name) (d : Declared) : Type 0 where
+    pub level : ℕ
+    pub out : level + levels (declaring x) g ≡ owns g
+    pub lies : Lying place L level (amongG (cutG (declaring x) g) x) (d .thing) (d .name .symbol)
+
+  pub stands : (g : List Mark) (x : Name) (d : Declared) (h : List Scope) → Known g → meaning (scopes g) x ≡ declared d h → Stands g x d
+  unfolding meaning levels cutG declaring
+  stands [] x d h k e = absurd (no-given 0 environment x d h e)
+  stands (blk o ds b ∷ g) x d h k e = go (findIn (inBlock ds) x) refl (stands g x d h (k .1)) e
+    where
+      go : (f : Option Declared) → findIn (inBlock ds) x ≡ f → (meaning (scopes g) x ≡ declared d h → Stands g x d)
+          → innermost f (ofBlock ds ∷ scopes g) (meaning (scopes g) x) ≡ declared d h → Stands (blk o ds b ∷ g) x d
+      go none i f e =
+          let w = f e in
+          record { level = w .level; out = rw i (w .out); lies = rw i (w .lies) }
+      go (some d') i f e =
+          let i' : findIn (inBlock ds) x ≡ some d = cc in
+          record { level = owns g; out = rw i (omega arith); lies = rw i (k .0 x d i') }
+  stands (own p ∷ g) x d h k e = go (findIn (inBody p) x) refl (stands g x d h (k .2)) e
+    where
+      go : (f : Option Declared) → findIn (inBody p) x ≡ f → (meaning (scopes g) x ≡ declared d h → Stands g x d)
+          → innermost f (ofBody p ∷ scopes g) (meaning (scopes g) x) ≡ declared d h → Stands (own p ∷ g) x d
+      go none i f e =
+          let w = f e in
+          record { level = w .level; out = rw i (omega (arith, w .out)); lies = rw i (w .lies) }
+      go (some d') i f e =
+          let i' : findIn (inBody p) x ≡ some d = cc in
+          record { level = suc (owns g); out = rw i (omega arith); lies = rw i (k .0 x d i') }
+
+  -- the nearest body of a procedure with a result: the level of its declaration, which the layout has
+  pub record Returns (g : List Mark) (p : Procedure) : Type 0 where
+    pub level : ℕ
+    pub out : suc level + levels (bodyOfThis p) g ≡ owns g
+    pub first : offsetOf (cutG (bodyOfThis p) g) ≡ 0
+    pub word : high (getD L (place (nameOf p .symbol)) 0) ≡ level
+
+  few-results : (t : Option Sort) → oneIf t < 8192
+  few-results none = omega arith
+  few-results (some t) = omega arith
+
+  pub returns : (g : List Mark) (p : Procedure) → Known g → nearest (scopes g) p ≡ 1 → Returns g p
+  unfolding nearest levels cutG bodyOfThis
+  returns [] p k e = absurd (never e)
+    where
+      never : _≡_ {A = ℕ} 0 1 → ⊥
+      never z = omega arith
+  returns (blk o ds b ∷ g) p k e =
+      let w = returns g p (k .1) e in
+      record { level = w .level; out = w .out; first = w .first; word = w .word }
+  returns (own q ∷ g) p k e = go (eqb (nameOf q .symbol) (nameOf p .symbol)) refl (returns g p (k .2)) e
+    where
+      go : (t : Bool) → eqb (nameOf q .symbol) (nameOf p .symbol) ≡ t → (nearest (scopes g) p ≡ 1 → Returns g p)
+          → cond t (oneIf (sortOf q)) (nearest (scopes g) p) ≡ 1 → Returns (own q ∷ g) p
+      go true i f e =
+          let j : nameOf q .symbol ≡ nameOf p .symbol = eqb-true (nameOf q .symbol) (nameOf p .symbol) i in
+          record {
+            level = owns g;
+            out = rw i (omega arith);
+            first = rw i refl;
+            word = rw (← j, k .1) (high-pack (owns g) (oneIf (sortOf q)) 0 (few-results (sortOf q)) (omega arith));
+          }
+      go false i f e =
+          let w = f e in
+          record { level = w .level; out = rw i (omega (arith, w .out)); first = rw i (w .first); word = w .word }
+
+  as-thing : (g : List Mark) (x : Name) (d : Declared) (t : Thing) → d .thing ≡ t → (w : Stands g x d)
+      → Lying place L (w .level) (amongG (cutG (declaring x) g) x) t (d .name .symbol)
+  as-thing g x d t i w = subst (λ (t : Thing). Lying place L (w .level) (amongG (cutG (declaring x) g) x) t (d .name .symbol)) i (w .lies)
+
+  -- ---- words
+
+  packed-is : (u o l : ℕ) → u < 64 → o < 8192 → l < 8192 → packed u o l ≡ pack u o l
+  packed-is u o l h i j = omega arith
+
+  -- levels out from a level to another one around
+  outward : (level u n : ℕ) → level + u ≡ n → n - level ≡ u
+  outward level u n e = omega arith
+
+  module _ (values ahead entries : List ℕ) where
+    cell-found : (k level o u m : ℕ) → eqb k 2 ≡ false → getD L m 0 ≡ pack level o 0 → o < 8192 → u < 64 → (n : ℕ) → level + u ≡ n
+        → cellOf values L ahead entries n k m ≡ pack u o 0
+    unfolding cellOf
+    cell-found k level o u m f e h w n i =
+        rw (f, e, high-pack level o 0 h (omega arith), mid-pack level o 0 h (omega arith), outward level u n i) (packed-is u o 0 w h (omega arith))
+
+    cell-result : (level u m : ℕ) → high (getD L m 0) ≡ level → u < 64 → (n : ℕ) → suc level + u ≡ n → cellOf values L ahead entries n 2 m ≡ pack u 0 0
+    unfolding cellOf
+    cell-result level u m e w n i =
+        let z : n - (level + 1) ≡ u = omega arith in
+        rw (e, z) (packed-is u 0 0 w (omega arith) (omega arith))
+
+    -- a name that has a cell
+    pub cell-is : (g : List Mark) (x : Name) → Known g → OkV (scopes g) x → LocFits (loc g x)
+        → cellOf values L ahead entries (owns g) (kindOf (meaning (scopes g) x)) (meansOf place (meaning (scopes g) x)) ≡ beside (loc g x) 0
+    unfolding loc
+    cell-is g x k ok fits = go (meaning (scopes g) x) refl ok fits
+      where
+        thing : (d : Declared) (h : List Scope) → meaning (scopes g) x ≡ declared d h → (t : Thing) → d .thing ≡ t → HasCell (scopes g) t → LocFits (locFor g t x)
+            → cellOf values L ahead entries (owns g) (thingKind t) (place (d .name .symbol)) ≡ beside (locFor g t x) 0
+        thing d h e (variable t) i ok fits =
+            let w = stands g x d h k e in
+            let y = as-thing g x d (variable t) i w in
+            cell-found 1 (w .level) _ (levels (declaring x) g) (place (d .name .symbol)) refl (y .0) (y .1) (fits .0) (owns g) (w .out)
+        thing d h e (formal t) i ok fits =
+            let w = stands g x d h k e in
+            let y = as-thing g x d (formal t) i w in
+            cell-found 3 (w .level) _ (levels (declaring x) g) (place (d .name .symbol)) refl (y .0) (y .1) (fits .0) (owns g) (w .out)
+        thing d h e (routine p) i ok fits =
+            let w = returns g p k ok in
+            let j = meant-name (scopes g) x d h p e i in
+            rw (j, w .first) (cell-result (w .level) (levels (bodyOfThis p) g) (place (nameOf p .symbol)) (w .word) (fits .0) (owns g) (w .out))
+
+        go : (M : Meaning) → meaning (scopes g) x ≡ M → CellAs (scopes g) M → LocFits (locAs g M x)
+            → cellOf values L ahead entries (owns g) (kindOf M) (meansOf place M) ≡ beside (locAs g M x) 0
+        go (declared d h) e ok fits = thing d h e (d .thing) refl ok fits
+        go (given n y) e ok fits = absurd ok
+        go nothing e ok fits = absurd ok
+
+    -- whether a procedure has a result
+    pub result-is : (g : List Mark) (x : Name) (d : Declared) (h : List Scope) (p : Procedure) → Known g → meaning (scopes g) x ≡ declared d h → d .thing ≡ routine p
+        → resultOf values L ahead entries 2 (place (d .name .symbol)) ≡ oneIf (sortOf p)
+    unfolding resultOf
+    result-is g x d h p k e i =
+        let w = stands g x d h k e in
+        let y : getD L (place (d .name .symbol)) 0 ≡ pack (w .level) (oneIf (sortOf p)) 0 = as-thing g x d (routine p) i w in
+        rw y (mid-pack (w .level) (oneIf (sortOf p)) 0 (few-results (sortOf p)) (omega arith))
+
+  -- the levels out to a procedure's declaration
+  pub levels-is : (g : List Mark) (x : Name) (d : Declared) (h : List Scope) (p : Procedure) → Known g → meaning (scopes g) x ≡ declared d h → d .thing ≡ routine p
+      → owns g - high (getD L (place (d .name .symbol)) 0) ≡ levels (declaring x) g
+  levels-is g x d h p k e i =
+      let w = stands g x d h k e in
+      let y : getD L (place (d .name .symbol)) 0 ≡ pack (w .level) (oneIf (sortOf p)) 0 = as-thing g x d (routine p) i w in
+      rw (y, high-pack (w .level) (oneIf (sortOf p)) 0 (few-results (sortOf p)) (omega arith)) (outward (w .level) (levels (declaring x) g) (owns g) (w .out))
+
+-- ---- entries
+
+module _ (place : ℕ → ℕ) (T : List ℕ) where
+  -- the table has where the procedures of the scopes around begin
+  abbrev pub Targets : List Mark → Type 0
+  Targets [] = Unit {0}
+  Targets (blk o ds b ∷ g) =
+      ((x : Name) (d : Declared) (p : Procedure) → findIn (inBlock ds) x ≡ some d → d .thing ≡ routine p → getD T (place (d .name .symbol)) 0 ≡ entry (ofBlock ds ∷ scopes g) ds b x)
+      × Targets g
+  Targets (own p ∷ g) = Targets g
+
+  pub target-is : (g : List Mark) (x : Name) (d : Declared) (h : List Scope) (p : Procedure) → Targets g → meaning (scopes g) x ≡ declared d h → d .thing ≡ routine p
+      → getD T (place (d .name .symbol)) 0 ≡ target (cutG (declaring x) g) x
+  unfolding meaning cutG declaring
+  target-is [] x d h p k e i = absurd (no-given 0 environment x d h e)
+  target-is (blk o ds b ∷ g) x d h p k e i = go (findIn (inBlock ds) x) refl (λ e. target-is g x d h p (k .1) e i) e
+    where
+      go : (f : Option Declared) → findIn (inBlock ds) x ≡ f → (meaning (scopes g) x ≡ declared d h → getD T (place (d .name .symbol)) 0 ≡ target (cutG (declaring x) g) x)
+          → innermost f (ofBlock ds ∷ scopes g) (meaning (scopes g) x) ≡ declared d h
+          → getD T (place (d .name .symbol)) 0 ≡ target (cond (isSome (findIn (inBlock ds) x)) (blk o ds b ∷ g) (cutG (declaring x) g)) x
+      go none j f e = rw j (f e)
+      go (some d') j f e =
+          let j' : findIn (inBlock ds) x ≡ some d = cc in
+          rw j (k .0 x d p j' i)
+  target-is (own q ∷ g) x d h p k e i = go (findIn (inBody q) x) refl (λ e. target-is g x d h p k e i) e
+    where
+      go : (f : Option Declared) → findIn (inBody q) x ≡ f → (meaning (scopes g) x ≡ declared d h → getD T (place (d .name .symbol)) 0 ≡ target (cutG (declaring x) g) x)
+          → innermost f (ofBody q ∷ scopes g) (meaning (scopes g) x) ≡ declared d h
+          → getD T (place (d .name .symbol)) 0 ≡ target (cond (isSome (findIn (inBody q) x)) (own q ∷ g) (cutG (declaring x) g)) x
+      go none j f e = rw j (f e)
+      go (some d') j f e =
+          let j' : findIn (inBody q) x ≡ some d = cc in
+          absurd (body-none q x d p j' i)

@@ -1,0 +1,359 @@
+-- The elements of a for statement in the pass that writes code: each goes to the body, which a slot tells, and on to where its own slot tells; the
+-- last one's slot is filled behind the loop. Assumes nothing.
+use Prim.Native.Nat.{ℕ, zero, suc, _+_, _*_, _-_, _≤_, _<_, _/_, _%_}
+use native.Mathlib.Omega.{arith}
+use native.Mathlib.Numerals.{add-one}
+use mathlib.Core.Path.{_≡_, refl, sym, ap, subst, _∙_}
+use mathlib.Core.Bool.{Bool, true, false, cond, _||_}
+use mathlib.Core.List.{List, [], _∷_, _++_, append-assoc, append-nil}
+use lib.ListN.{length, getD, drop, set, length-append, length-set}
+use lib.Seq.{set-append-seam}
+use Rattle.machine.specs.Data.{store, keep, bump, condition, upto}
+use Rattle.machine.specs.Instructions.{Loc, lc, Instr, DO, IF, JUMP, GO, pack, high, mid}
+use Rattle.syntax.specs.NodeKinds.{n-start, n-once, n-while, n-step, n-amount}
+use Rattle.names.specs.Program.{Name, Expression, firstSymbol, Element, value, while, step as by-step}
+use Rattle.names.specs.Scopes.{Scope}
+use Rattle.names.specs.Nodes.{node, mark, amountNodes, nodesE, nodesL, nodesLs}
+use Rattle.names.specs.Rows.{isUse}
+use Rattle.names.specs.Uses.{Use, usesE, usesL}
+use Rattle.reading.specs.Table.{hasNone}
+use Rattle.translating.specs.Translate.{Mark, scopes, loc, endE, endL, onward, codeE, codeL}
+use Rattle.translating.specs.Words.{Parts, beside, partsOf, LocFits, CodeFits, words}
+use Rattle.translating.specs.Layout.{packed}
+use Rattle.translating.specs.Scoped.{OkE, OkL}
+use Rattle.translating.specs.Emission.{Opened, opened, State, put, withOpen, withSlot, noted, replaced, top, below, aheadAt, element, bodied, stepping, elementNode, plainNode, codeNode}
+use Rattle.translating.proofs.NumbersOf.{NumbersE, NumbersL}
+use Rattle.translating.proofs.SlotLists.{Fills, no-slot, a-slot, then-slots, slot-read, slot-past, slots-past, there, aheadE, aheadX, aheadL, endX, end-element}
+use Rattle.translating.proofs.Written.{Tables, Frame, Flow, withOpens, wrote, slotted, taken, slot-real, noted-real, putAll, wroteAll, puts-real, past, Same, Kept, wrote-all, fits-apart, step, state, Goes, Passed, Fits, Emits, goes-node, goes-then, _and-then_, passed-all, passed-idle, passed-words}
+use Rattle.translating.proofs.Words.{high-pack, mid-pack}
+use Rattle.translating.proofs.WrittenChoices.{address, fits-open}
+use Rattle.translating.proofs.WrittenExpressions.{parts, Numbered, IsE, emitsE}
+use Rattle.translating.proofs.NameWords.{Known, Targets}
+use Rattle.translating.proofs.Ranges.{owns}
+
+-- a frame within a for statement: the slot of its body's address, its variable's word and place, the address of the element
+abbrev pub inLoop : ℕ → ℕ → ℕ → ℕ → Frame → Frame
+inLoop s v p a fr = withOpens (opened s v p a ∷ fr .opens) fr
+
+module _ (tb : Tables) where
+  -- behind an element: it goes on there
+  element-real : (s v p a : ℕ) (fr : Frame) (fl : Flow)
+      → element (tb .values) (tb .layout) (tb .ahead) (tb .entries) (opened s v p a) (state tb (inLoop s v p a fr) fl)
+      ≡ state tb (inLoop s v p (fl .at) fr) (slotted (fl .slots ++ (there (fl .at) ∷ [])) fl)
+  unfolding element replaced withOpen below
+  element-real s v p a fr fl =
+      let S = fl .slots in
+      let fr' = inLoop s v p (fl .at) fr in
+      ap (noted (length S) (there (fl .at))) (slot-real (tb .place) fr' fl)
+      ∙ noted-real (tb .place) (length S) (there (fl .at)) fr' (slotted (S ++ (0 ∷ [])) fl) (omega (arith, length-append S (0 ∷ [])))
+      ∙ ap (λ (l : List ℕ). state tb fr' (slotted l fl)) (set-append-seam S 0 [] (there (fl .at)))
+
+  -- ---- an element, or some: A: what lies ahead in their expressions; C: their code, with the address of the body and the one where they go on
+
+  pub record Turned (R : Type 0) (s v p a : ℕ) (fr : Frame) (ws : List ℕ) (us : List Use) (e : ℕ) (A : List ℕ → List ℕ) (C : ℕ → ℕ → List Instr → List Instr) (fl : Flow) : Type 0 where
+    pub next : Flow
+    pub front : List ℕ
+    pub goes : Goes tb ws (state tb (inLoop s v p a fr) fl) (state tb (inLoop s v p e fr) next)
+    pub uses : next .uses ≡ us
+    pub at : next .at ≡ e
+    pub slots : next .slots ≡ front ++ (there e ∷ [])
+    pub fills : Fills (fl .slots) front A
+    pub enters : next .entries ≡ fl .entries
+    pub right : R → (i o : ℕ) (k : List ℕ) (r : List Instr) → getD (tb .ahead) s 0 ≡ there i → drop (length (fl .slots)) (tb .ahead) ≡ A (there o ∷ k) → CodeFits (C i o r)
+        → (next .code ++ words r ≡ fl .code ++ words (C i o r)) × CodeFits r
+
+  -- the node behind an element
+  turn : {R : Type 0} {s v p a : ℕ} {fr : Frame} {ws : List ℕ} {us : List Use} {e : ℕ} {A : List ℕ → List ℕ} {C : List Instr → List Instr} {fl : Flow}
+      (x : Passed tb R (inLoop s v p a fr) (inLoop s v p a fr) ws us e A (λ t. t) C fl) (is : ℕ → ℕ → List Instr) (ps : List Parts) (n q : ℕ)
+      → step tb n q 0 0 (state tb (inLoop s v p a fr) (x .next)) ≡ element (tb .values) (tb .layout) (tb .ahead) (tb .entries) (opened s v p a) (putAll ps (state tb (inLoop s v p a fr) (x .next)))
+      → (R → (i o : ℕ) → getD (tb .ahead) s 0 ≡ there i → getD (tb .ahead) (length (x .next .slots)) 0 ≡ there o → CodeFits (is i o) → Same ps (is i o))
+      → Turned R s v p a fr (ws ++ mark n q) us (past ps e) A (λ i o r. C (is i o ++ r)) fl
+  turn {s = s} {v = v} {p = p} {a = a} {fr = fr} {e = e} {A = A} {fl = fl} x is ps n q i h =
+      let w = wrote-all ps e (x .next) (x .at) in
+      let fl' = wroteAll ps (x .next) in
+      record {
+        next = slotted (fl' .slots ++ (there (past ps e) ∷ [])) fl';
+        front = fl' .slots;
+        goes =
+            goes-then (x .goes)
+            (goes-node n q 0 0
+            (i
+            ∙ ap (element (tb .values) (tb .layout) (tb .ahead) (tb .entries) (opened s v p a)) (puts-real (tb .place) ps (inLoop s v p a fr) (x .next))
+            ∙ element-real s v p a fr fl'
+            ∙ ap (λ (n : ℕ). state tb (inLoop s v p n fr) (slotted (fl' .slots ++ (there n ∷ [])) fl')) (w .at)));
+        uses = w .uses ∙ x .uses;
+        at = w .at;
+        slots = refl;
+        fills = rw (w .slots) (x .fills);
+        enters = w .entries ∙ x .enters;
+        right = λ z i o k r b d c.
+            let p₁ = x .right z (there o ∷ k) (is i o ++ r) d c in
+            let f = fits-apart (is i o) r (p₁ .1) in
+            let l = slot-read (tb .ahead) (x .next .slots) k (there o) (slots-past (tb .ahead) (there o ∷ k) (x .fills) d) in
+            (w .code (is i o) r (h z i o b l (f .0)) ∙ p₁ .0, f .1);
+      }
+
+  -- one after the other
+  turn-then : {R : Type 0} {s v p a : ℕ} {fr : Frame} {ws ws' : List ℕ} {us us' : List Use} {e e' : ℕ} {A A' : List ℕ → List ℕ} {C C' : ℕ → ℕ → List Instr → List Instr} {fl : Flow}
+      (x : Turned R s v p a fr ws us e A C fl) → Turned R s v p e fr ws' us' e' A' C' (x .next)
+      → Turned R s v p a fr (ws ++ ws') us' e' (λ k. A (there e ∷ A' k)) (λ i n r. C i e (C' i n r)) fl
+  turn-then {e = e} {A' = A'} {C' = C'} x y =
+      record {
+        next = y .next;
+        front = y .front;
+        goes = goes-then (x .goes) (y .goes);
+        uses = y .uses;
+        at = y .at;
+        slots = y .slots;
+        fills = then-slots (x .fills) (then-slots (a-slot (there e)) (rw (x .slots) at (y .fills)));
+        enters = y .enters ∙ x .enters;
+        right = λ z i n k r b d c.
+            let p₁ = x .right z i e (A' (there n ∷ k)) (C' i n r) b d c in
+            let d₁ = slot-past (tb .ahead) (x .front) (A' (there n ∷ k)) (there e) (there e) (slots-past (tb .ahead) (there e ∷ A' (there n ∷ k)) (x .fills) d) in
+            let p₂ = y .right z i n k r b (rw (x .slots) d₁) (p₁ .1) in
+            (p₂ .0 ∙ p₁ .0, p₂ .1);
+      }
+
+  -- ---- the nodes
+
+  start-step : (n s v p a : ℕ) (fr : Frame) (fl : Flow) → step tb n-start n 0 0 (state tb (inLoop s v p a fr) fl) ≡ putAll (parts 14 0 v ∷ []) (state tb (inLoop s v p a fr) fl)
+  unfolding step codeNode isUse elementNode top
+  start-step n s v p a fr fl = refl
+
+  amount-step : (n : ℕ) (fr : Frame) (fl : Flow) → step tb n-amount n 0 0 (state tb fr fl) ≡ state tb fr fl
+  unfolding step codeNode isUse plainNode
+  amount-step n fr fl = refl
+
+  abbrev ahead-of : ℕ → ℕ
+  ahead-of i = getD (tb .ahead) i 0
+
+  abbrev onceParts : ℕ → Frame → Flow → List Parts
+  onceParts s fr fl = parts 8 0 (packed (fr .loops) (ahead-of (length (fl .slots))) (ahead-of s)) ∷ []
+
+  once-step : (s v p a : ℕ) (fr : Frame) (fl : Flow)
+      → step tb n-once 0 0 0 (state tb (inLoop s v p a fr) fl) ≡ element (tb .values) (tb .layout) (tb .ahead) (tb .entries) (opened s v p a) (putAll (onceParts s fr fl) (state tb (inLoop s v p a fr) fl))
+  unfolding step codeNode isUse elementNode bodied aheadAt top
+  once-step s v p a fr fl = refl
+
+  abbrev whileParts : ℕ → ℕ → Frame → Flow → List Parts
+  whileParts s a fr fl = parts 10 0 (there (ahead-of (length (fl .slots)))) ∷ parts 8 0 (packed (fr .loops) a (ahead-of s)) ∷ []
+
+  while-step : (q s v p a : ℕ) (fr : Frame) (fl : Flow)
+      → step tb n-while q 0 0 (state tb (inLoop s v p a fr) fl) ≡ element (tb .values) (tb .layout) (tb .ahead) (tb .entries) (opened s v p a) (putAll (whileParts s a fr fl) (state tb (inLoop s v p a fr) fl))
+  unfolding step codeNode isUse elementNode bodied aheadAt top put
+  while-step q s v p a fr fl = refl
+
+  abbrev stepParts : ℕ → ℕ → ℕ → ℕ → Frame → Flow → List Parts
+  stepParts q s v p fr fl =
+      parts 20 0 0 ∷
+      parts 11 p (packed (high v) (mid v) (ahead-of (length (fl .slots)))) ∷
+      parts 8 0 (packed (fr .loops) (fl .at + 3) (ahead-of s)) ∷ parts 21 (tb .place q) v ∷ parts 2 0 (there (fl .at + 1)) ∷ []
+
+  step-step : (q s v p a : ℕ) (fr : Frame) (fl : Flow)
+      → step tb n-step q 0 0 (state tb (inLoop s v p a fr) fl) ≡ element (tb .values) (tb .layout) (tb .ahead) (tb .entries) (opened s v p a) (putAll (stepParts q s v p fr fl) (state tb (inLoop s v p a fr) fl))
+  unfolding step codeNode isUse hasNone elementNode stepping bodied aheadAt top put
+  step-step q s v p a fr fl = refl
+
+  -- ---- words
+
+  go-word : (n m o i u w : ℕ) → n ≡ m → u ≡ there o → w ≡ there i → (m < 64) × (i < 8192) × (o < 8192) → packed n u w ≡ pack m o i
+  go-word n m o i u w e f g h = omega arith
+
+  go-back : (n m o i u w : ℕ) → n ≡ m → u ≡ o → w ≡ there i → (m < 64) × (i < 8192) × (o < 8192) → packed n u w ≡ pack m o i
+  go-back n m o i u w e f g h = omega arith
+
+  jump-word : (u n : ℕ) → u ≡ n → n < 8192 → there u ≡ pack 0 0 n
+  jump-word u n e h = omega arith
+
+  upto-word : (v o u : ℕ) (l : Loc) → v ≡ beside l 0 → u ≡ there o → LocFits l → o < 8192 → packed (high v) (mid v) u ≡ beside l o
+  upto-word v o u (lc a b) e f h i = rw (e, high-pack a b 0 (h .1) (omega arith), mid-pack a b 0 (h .1) (omega arith), f) (omega arith)
+
+-- ---- the elements
+
+abbrev usesX : List Scope → Element → List Use
+usesX g (value e) = usesE g e
+usesX g (while q e c) = usesE g e ++ usesE g c
+usesX g (by-step q e f h) = usesE g e ++ (usesE g f ++ usesE g h)
+
+uses-more : (g : List Scope) (l : Element) (ls : List Element) → usesL g (l ∷ ls) ≡ usesX g l ++ usesL g ls
+unfolding usesL
+uses-more g (value e) ls = refl
+uses-more g (while q e f) ls = sym (append-assoc (usesE g e) (usesE g f) (usesL g ls))
+uses-more g (by-step q e f h) ls = simp append-assoc
+
+abbrev OkX : List Scope → Element → Type 0
+OkX g (value e) = OkE g e
+OkX g (while q e c) = OkE g e × OkE g c
+OkX g (by-step q e f h) = OkE g e × OkE g f × OkE g h
+
+ok-more : (g : List Scope) (l : Element) (ls : List Element) → OkL g (l ∷ ls) → OkX g l × OkL g ls
+ok-more g (value e) ls ok = ok
+ok-more g (while q e c) ls ok = ((ok .0, ok .1), ok .2)
+ok-more g (by-step q e f h) ls ok = ((ok .0, ok .1, ok .2), ok .3)
+
+abbrev NumbersX : (ℕ → ℕ → Type 0) → Element → Type 0
+NumbersX Q (value e) = NumbersE Q e
+NumbersX Q (while q e c) = NumbersE Q e × NumbersE Q c
+NumbersX Q (by-step q e f h) = NumbersE Q e × NumbersE Q f × NumbersE Q h
+
+numbers-more : (Q : ℕ → ℕ → Type 0) (l : Element) (ls : List Element) → NumbersL Q (l ∷ ls) → NumbersX Q l × NumbersL Q ls
+numbers-more Q (value e) ls ok = ok
+numbers-more Q (while q e c) ls ok = ((ok .0, ok .1), ok .2)
+numbers-more Q (by-step q e f h) ls ok = ((ok .0, ok .1, ok .2), ok .3)
+
+-- one element's code: in the scopes g and m for statements, over x; i: the body, o: where it goes on
+abbrev codeX : Tables → List Mark → ℕ → Name → Element → ℕ → ℕ → ℕ → List Instr → List Instr
+codeX tb g m x (value e) b i o r = codeE (tb .place) g e b (DO (store (loc g x)) ∷ GO m i o ∷ r)
+codeX tb g m x (while q e c) b i o r =
+    let a = suc (endE (scopes g) e b) in
+    codeE (tb .place) g e b (DO (store (loc g x)) ∷ codeE (tb .place) g c a (IF condition o ∷ GO m i b ∷ r))
+codeX tb g m x (by-step q e f h) b i o r =
+    let a = suc (endE (scopes g) e b) in
+    let n = endE (scopes g) h (endE (scopes g) f a) in
+    codeE (tb .place) g e b
+    (DO (store (loc g x)) ∷
+    codeE (tb .place) g f a
+    (codeE (tb .place) g h (endE (scopes g) f a)
+    (DO keep ∷ IF (upto (tb .place (x .symbol)) (loc g x)) o ∷ GO m i (suc (suc (suc n))) ∷ DO (bump (tb .place q) (loc g x)) ∷ JUMP (suc n) ∷ r)))
+
+module _ {tb : Tables} where
+  turned-words : {R : Type 0} {s v p a : ℕ} {fr : Frame} {ws : List ℕ} {us : List Use} {e : ℕ} {A : List ℕ → List ℕ} {C : ℕ → ℕ → List Instr → List Instr} {fl : Flow} (ws' : List ℕ) → ws ≡ ws'
+      → Turned tb R s v p a fr ws us e A C fl → Turned tb R s v p a fr ws' us e A C fl
+  turned-words ws' i x = rw i at x
+
+  turned-end : {R : Type 0} {s v p a : ℕ} {fr : Frame} {ws : List ℕ} {us : List Use} {e : ℕ} {A : List ℕ → List ℕ} {C : ℕ → ℕ → List Instr → List Instr} {fl : Flow} (e' : ℕ) → e ≡ e'
+      → Turned tb R s v p a fr ws us e A C fl → Turned tb R s v p a fr ws us e' A C fl
+  turned-end e' i x = rw i at x
+
+  turned-code : {R : Type 0} {s v p a : ℕ} {fr : Frame} {ws : List ℕ} {us : List Use} {e : ℕ} {A : List ℕ → List ℕ} {C : ℕ → ℕ → List Instr → List Instr} {fl : Flow} (C' : ℕ → ℕ → List Instr → List Instr)
+      → ((i o : ℕ) (r : List Instr) → C i o r ≡ C' i o r) → Turned tb R s v p a fr ws us e A C fl → Turned tb R s v p a fr ws us e A C' fl
+  turned-code {fl = fl} C' f x =
+      record {
+        next = x .next;
+        front = x .front;
+        goes = x .goes;
+        uses = x .uses;
+        at = x .at;
+        slots = x .slots;
+        fills = x .fills;
+        enters = x .enters;
+        right = λ z i o k r b d c.
+            let q = x .right z i o k r b d (rw (f i o r) c) in
+            (q .0 ∙ ap (λ (l : List Instr). fl .code ++ words l) (f i o r), q .1);
+      }
+
+module _ (tb : Tables) (R : Type 0) (g : List Mark) (right : R → Targets (tb .place) (tb .entries) g) (known : Known (tb .place) (tb .layout) g) (m : ℕ) (x : Name) (s v : ℕ) (word : LocFits (loc g x) → v ≡ beside (loc g x) 0) where
+  abbrev F : ℕ → Frame → Frame
+  F a fr = inLoop s v (tb .place (x .symbol)) a fr
+
+  -- the start: an expression, and the store
+  abbrev startWords : ℕ → Expression → List ℕ
+  startWords d e = nodesE d e ++ mark n-start (firstSymbol e)
+
+  start-passed : (e : Expression) (d b : ℕ) → OkE (scopes g) e → NumbersE (Numbered tb) e → (us : List Use) (fr : Frame) (fl : Flow) → Fits tb g 0 m fr → fl .uses ≡ usesE (scopes g) e ++ us → fl .at ≡ b
+      → Passed tb R (F b fr) (F b fr) (startWords d e) us (suc (endE (scopes g) e b)) (aheadE (scopes g) e b) (λ t. t) (λ r. codeE (tb .place) g e b (DO (store (loc g x)) ∷ r)) fl
+  start-passed e d b ok n us fr fl w u a =
+      let p = tb .place (x .symbol) in
+      let y = emitsE tb R g right known 0 m e d b ok n .pass us (F b fr) fl (fits-open (opened s v p b ∷ fr .opens) w) u a in
+      y
+      and-then (passed-all (DO (store (loc g x)) ∷ []) (parts 14 0 v ∷ []) n-start (firstSymbol e) 0 0
+      (start-step tb (firstSymbol e) s v p b fr (y .next) ∙ ap (λ (us : List Use). putAll (parts 14 0 v ∷ []) (state tb (F b fr) (taken us (y .next)))) (y .uses))
+      (y .at) (λ z c. (ap (parts 14 0) (word (c .0)), tt)))
+
+  -- an amount of a step: an expression
+  amount-passed : (e : Expression) (d b k : ℕ) → OkE (scopes g) e → NumbersE (Numbered tb) e → (us : List Use) (fr : Frame) (fl : Flow) → Fits tb g 0 m fr → fl .uses ≡ usesE (scopes g) e ++ us → fl .at ≡ b
+      → Passed tb R (F k fr) (F k fr) (amountNodes d e) us (endE (scopes g) e b) (aheadE (scopes g) e b) (λ t. t) (codeE (tb .place) g e b) fl
+  amount-passed e d b k ok n us fr fl w u a =
+      let p = tb .place (x .symbol) in
+      let y = emitsE tb R g right known 0 m e d b ok n .pass us (F k fr) fl (fits-open (opened s v p k ∷ fr .opens) w) u a in
+      y and-then (passed-idle n-amount (firstSymbol e) 0 0 (amount-step tb (firstSymbol e) (F k fr) (y .next)) (y .uses) (y .at))
+
+  abbrev IsX : Element → ℕ → ℕ → Type 0
+  IsX l d b =
+      (us : List Use) (fr : Frame) (fl : Flow) → Fits tb g 0 m fr → fl .uses ≡ usesX (scopes g) l ++ us → fl .at ≡ b
+      → Turned tb R s v (tb .place (x .symbol)) b fr (nodesL d l) us (endX (scopes g) l b) (aheadX (scopes g) l b) (codeX tb g m x l b) fl
+
+  value-turned : (e : Expression) (d b : ℕ) → OkE (scopes g) e → NumbersE (Numbered tb) e → IsX (value e) d b
+  unfolding nodesL endX aheadX
+  value-turned e d b ok n us fr fl w u a =
+      let p = tb .place (x .symbol) in
+      let y = start-passed e d b ok n us fr fl w u a in
+      turned-words (nodesL d (value e)) (append-assoc (nodesE d e) (mark n-start (firstSymbol e)) (mark n-once 0))
+      (turn tb y (λ i o. GO m i o ∷ []) (onceParts tb s fr (y .next)) n-once 0 (once-step tb s v p b fr (y .next))
+      (λ z i o h l c. (ap (parts 8 0) (go-word tb (fr .loops) m o i _ _ (w .loops) l h (c .0)), tt)))
+
+  while-turned : (q : ℕ) (e c : Expression) (d b : ℕ) → OkX (scopes g) (while q e c) → NumbersX (Numbered tb) (while q e c) → IsX (while q e c) d b
+  unfolding nodesL endX aheadX
+  while-turned q e c d b ok n us fr fl w u a =
+      let p = tb .place (x .symbol) in
+      let f = suc (endE (scopes g) e b) in
+      let ue = usesE (scopes g) e in
+      let uc = usesE (scopes g) c in
+      let y = start-passed e d b (ok .0) (n .0) (uc ++ us) fr fl w (u ∙ append-assoc ue uc us) a in
+      let y' = emitsE tb R g right known 0 m c d f (ok .1) (n .1) .pass us (F b fr) (y .next) (fits-open (opened s v p b ∷ fr .opens) w) (y .uses) (y .at) in
+      let t = y and-then y' in
+      turned-words (nodesL d (while q e c)) (simp append-assoc)
+      (turn tb t (λ i o. IF condition o ∷ GO m i b ∷ []) (whileParts tb s b fr (t .next)) n-while q (while-step tb q s v p b fr (t .next))
+      (λ z i o h l c. (ap (parts 10 0) (address _ o l (c .0 .1)), (ap (parts 8 0) (go-back tb (fr .loops) m b i _ _ (w .loops) refl h (c .1 .0)), tt))))
+
+  -- behind the amounts, which end at n
+  step-end : (q n b : ℕ) {ws : List ℕ} {us : List Use} {A : List ℕ → List ℕ} {C : List Instr → List Instr} {fr : Frame} {fl : Flow} → Fits tb g 0 m fr
+      → Passed tb R (F b fr) (F b fr) ws us n A (λ t. t) C fl
+      → Turned tb R s v (tb .place (x .symbol)) b fr (ws ++ mark n-step q) us (suc (suc (suc (suc (suc n))))) A (λ i o r. C (DO keep ∷ IF (upto (tb .place (x .symbol)) (loc g x)) o ∷ GO m i (suc (suc (suc n))) ∷ DO (bump (tb .place q) (loc g x)) ∷ JUMP (suc n) ∷ r)) fl
+  step-end q n b {fr = fr} w t =
+      let p = tb .place (x .symbol) in
+      let at₁ : t .next .at + 1 ≡ suc n = add-one (t .next .at) ∙ ap suc (t .at) in
+      let at₃ : t .next .at + 3 ≡ suc (suc (suc n)) = omega (arith, t .at) in
+      turn tb t (λ i o. DO keep ∷ IF (upto p (loc g x)) o ∷ GO m i (suc (suc (suc n))) ∷ DO (bump (tb .place q) (loc g x)) ∷ JUMP (suc n) ∷ []) (stepParts tb q s v p fr (t .next)) n-step q (step-step tb q s v p b fr (t .next))
+      (λ z i o h l c.
+      (refl,
+      (ap (parts 11 p) (upto-word tb v o _ (loc g x) (word (c .1 .0 .0)) l (c .1 .0 .0) (c .1 .0 .1)),
+      (ap (parts 8 0) (go-back tb (fr .loops) m (suc (suc (suc n))) i _ _ (w .loops) at₃ h (c .1 .1 .0)),
+      (ap (parts 21 (tb .place q)) (word (c .1 .1 .1 .0)), (ap (parts 2 0) (jump-word tb _ (suc n) at₁ (c .1 .1 .1 .1 .0)), tt))))))
+
+  step-turned : (q : ℕ) (e f h : Expression) (d b : ℕ) → OkX (scopes g) (by-step q e f h) → NumbersX (Numbered tb) (by-step q e f h) → IsX (by-step q e f h) d b
+  unfolding nodesL endX aheadX
+  step-turned q e f h d b ok n us fr fl w u a =
+      let k = suc (endE (scopes g) e b) in
+      let k' = endE (scopes g) f k in
+      let ue = usesE (scopes g) e in
+      let uf = usesE (scopes g) f in
+      let uh = usesE (scopes g) h in
+      let y₁ = start-passed e d b (ok .0) (n .0) ((uf ++ uh) ++ us) fr fl w (u ∙ append-assoc ue (uf ++ uh) us) a in
+      let y₂ = amount-passed f d k b (ok .1) (n .1) (uh ++ us) fr (y₁ .next) w (y₁ .uses ∙ append-assoc uf uh us) (y₁ .at) in
+      let y₃ = amount-passed h d k' b (ok .2) (n .2) us fr (y₂ .next) w (y₂ .uses) (y₂ .at) in
+      turned-words (nodesL d (by-step q e f h)) (simp append-assoc) (step-end q (endE (scopes g) h k') b w (y₁ and-then y₂ and-then y₃))
+
+  element-turned : (l : Element) (d b : ℕ) → OkX (scopes g) l → NumbersX (Numbered tb) l → IsX l d b
+  element-turned (value e) d b ok n = value-turned e d b ok n
+  element-turned (while q e c) d b ok n = while-turned q e c d b ok n
+  element-turned (by-step q e f h) d b ok n = step-turned q e f h d b ok n
+
+  -- the code of elements is that of the first in front of the others'
+  code-more : (l : Element) (ls : List Element) (b i n : ℕ) (r : List Instr)
+      → codeX tb g m x l b i (onward ls (endX (scopes g) l b) n) (codeL (tb .place) g m x ls i n (endX (scopes g) l b) r) ≡ codeL (tb .place) g m x (l ∷ ls) i n b r
+  unfolding codeL endX
+  code-more (value e) ls b i n r = refl
+  code-more (while q e c) ls b i n r = refl
+  code-more (by-step q e f h) ls b i n r = refl
+
+  abbrev IsL : Element → List Element → ℕ → ℕ → Type 0
+  IsL l ls d b =
+      (us : List Use) (fr : Frame) (fl : Flow) → Fits tb g 0 m fr → fl .uses ≡ usesL (scopes g) (l ∷ ls) ++ us → fl .at ≡ b
+      → Turned tb R s v (tb .place (x .symbol)) b fr (nodesL d l ++ nodesLs d ls) us (endL (scopes g) (l ∷ ls) b) (aheadL (scopes g) l ls b) (λ i n r. codeL (tb .place) g m x (l ∷ ls) i n b r) fl
+
+  pub elements-turned : (l : Element) (ls : List Element) (d b : ℕ) → OkL (scopes g) (l ∷ ls) → NumbersL (Numbered tb) (l ∷ ls) → IsL l ls d b
+  unfolding nodesLs usesL aheadL endL codeL
+  elements-turned l [] d b ok n = λ us fr fl w u a.
+      let y = element-turned l d b (ok-more (scopes g) l [] ok .0) (numbers-more (Numbered tb) l [] n .0) us fr fl w (u ∙ ap (λ (z : List Use). z ++ us) (uses-more (scopes g) l []) ∙ append-assoc (usesX (scopes g) l) [] us) a in
+      turned-code (λ i n r. codeL (tb .place) g m x (l ∷ []) i n b r) (λ i n r. code-more l [] b i n r)
+      (turned-end (endL (scopes g) (l ∷ []) b) (sym (end-element (scopes g) l [] b)) (turned-words (nodesL d l ++ []) (sym (append-nil (nodesL d l))) y))
+  elements-turned l (l' ∷ ls) d b ok n = λ us fr fl w u a.
+      let ok' = ok-more (scopes g) l (l' ∷ ls) ok in
+      let n' = numbers-more (Numbered tb) l (l' ∷ ls) n in
+      let e = endX (scopes g) l b in
+      let vs = usesL (scopes g) (l' ∷ ls) in
+      let y = element-turned l d b (ok' .0) (n' .0) (vs ++ us) fr fl w (u ∙ ap (λ (z : List Use). z ++ us) (uses-more (scopes g) l (l' ∷ ls)) ∙ append-assoc (usesX (scopes g) l) vs us) a in
+      let z = elements-turned l' ls d e (ok' .1) (n' .1) us fr (y .next) w (y .uses) (y .at) in
+      turned-code (λ i n r. codeL (tb .place) g m x (l ∷ l' ∷ ls) i n b r) (λ i n r. code-more l (l' ∷ ls) b i n r)
+      (turned-end (endL (scopes g) (l ∷ l' ∷ ls) b) (sym (end-element (scopes g) l (l' ∷ ls) b)) (turn-then tb y z))
