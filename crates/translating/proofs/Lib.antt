@@ -50,3 +50,5 @@ pub mod WrittenBlocks
 pub mod WrittenStatements
 pub mod Emitted
 pub mod Coded
+pub mod LeftParts
+pub mod Counters

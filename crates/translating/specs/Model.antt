@@ -54,27 +54,27 @@ pub record Alike (t r : Writing) : Type 0 where
   pub cells : r .cells ≡ t .cells
   pub lefts : r .lefts ≡ t .lefts
 
--- what is open behind i nodes: its second number is a word, or what a use means; the others are counts, places and kinds
-pub record Slim (i : ℕ) (f : Opened) : Type 0 where
-  pub first : f .first ≤ 65536 + 6 * i
+-- something open: its second number is a word, or what a use means; the others are counts, places and kinds, up to b
+pub record Slim (b : ℕ) (f : Opened) : Type 0 where
+  pub first : f .first ≤ b
   pub second : f .second < 4294967296
-  pub third : f .third ≤ 65536 + 6 * i
-  pub fourth : f .fourth ≤ 65536 + 6 * i
+  pub third : f .third ≤ b
+  pub fourth : f .fourth ≤ b
 
 unfoldable pub AllSlim : ℕ → List Opened → Type 0
-AllSlim i [] = Unit {0}
-AllSlim i (f ∷ l) = Slim i f × AllSlim i l
+AllSlim b [] = Unit {0}
+AllSlim b (f ∷ l) = Slim b f × AllSlim b l
 
--- the counts behind i nodes: no node adds more than six to one
-pub record Small (i : ℕ) (st : State) : Type 0 where
-  pub at : st .at + st .lefts ≤ 65536 + 6 * i
-  pub slots : st .slots ≤ 65536 + 6 * i
-  pub level : st .level ≤ 65536 + 6 * i
-  pub loops : st .loops ≤ 65536 + 6 * i
-  pub cells : st .cells ≤ 65536 + 6 * i
+-- counts up to b, and no more than n things open
+pub record Small (b n : ℕ) (st : State) : Type 0 where
+  pub at : st .at + st .lefts ≤ b
+  pub slots : st .slots ≤ b
+  pub level : st .level ≤ b
+  pub loops : st .loops ≤ b
+  pub cells : st .cells ≤ b
   pub variable : st .variable < 4294967296
-  pub many : length (st .open-ones) ≤ i
-  pub things : AllSlim i (st .open-ones)
+  pub many : length (st .open-ones) ≤ n
+  pub things : AllSlim b (st .open-ones)
 
 -- the same of a state's numbers alone
 pub record Fit (t : Writing) : Type 0 where

@@ -207,7 +207,7 @@ fn awaited(c: Thing) -> usize
 
 // The end of an actual.
 pub fn actual_in(t: Writing, c: Thing, things: &mut [usize; 32768]) -> Writing
-    requires { ⌜ Fit t × Slim 8191 (seen c) ⌝ }
+    requires { ⌜ Fit t × Slim 131071 (seen c) ⌝ }
     ensures { λ r. ⌜ ((vs ly ks es us co ah en : List ℕ) → see r us (now (things .exit)) co ah en ≡ actualIn vs ly ks es (seen c) (see t us (now (things .entry)) co ah en)) ⌝ }
 {
     let mut r = putting::replace(t, things, c.first, c.second, c.third + 1, 0);
@@ -225,7 +225,7 @@ pub fn call_ended(
     entries: &[u32],
     code: &mut [u32],
 ) -> Writing
-    requires { ⌜ Fit t × Slim 8191 (seen c) × (u < 65536) × (place < 65536) ⌝ }
+    requires { ⌜ Fit t × Slim 131071 (seen c) × (u < 65536) × (place < 65536) ⌝ }
     ensures { λ r. ⌜ ((vs ks us op ah en : List ℕ) → see r us op (now (code .exit)) ah en ≡ callEnded vs (now (layout .entry)) ks (now (entries .entry)) (seen c) place u (see t us op (now (code .entry)) ah en)) ⌝ }
 {
     if c.first == 2 {

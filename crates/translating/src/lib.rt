@@ -3,6 +3,8 @@ pub mod parts; // the parts of an operand, and words of 32 bits
 pub mod layout; // where the cells of a program lie
 pub mod putting; // an instruction, and what is open
 pub mod calls; // names, calls and their actuals
+pub mod loops; // for statements
+pub mod flow; // conditions, blocks and procedures
 pub mod values; // the values of numbers, by place
 pub mod sections; // the sections of a table
 

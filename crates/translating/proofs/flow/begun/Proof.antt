@@ -1,0 +1,35 @@
+-- `translating::flow::begun` meets its contract: the block's cells and its first statement are noted, and its variables are kept.
+use mathlib.Core.Path.{_≡_, refl, sym, ap, _∙_}
+use lib.ListN.{set}
+use Rattle.translating.specs.Layout.{packed}
+use Rattle.translating.specs.Emission.{noted, replaced, withOpen}
+use borrow.Author.Needs.{needs}
+use Rattle.translating.proofs.flow.begun.Statement.{statement}
+use Rattle.translating.proofs.flow.begun.Tie as tie
+use Rattle.translating.proofs.flow.begun.Reads as reads
+use Rattle.translating.proofs.flow.begun.Lts as lts
+use Rattle.translating.proofs.parts.packed.Reads as packed-reads
+use Rattle.translating.proofs.parts.set_word.Reads as set-word-reads
+use Rattle.translating.proofs.putting.replace.Reads as replace-reads
+
+packed-requires : tie.Need-packed-requires
+packed-requires c κs = search needs
+
+set-word-requires : tie.Need-set-word-requires
+set-word-requires c κs = search needs
+
+replace-requires : tie.Need-replace-requires
+replace-requires c κs = search needs
+
+same-length : tie.Need-same-length
+same-length c = search needs
+
+returns : tie.Need-returns
+unfolding noted replaced withOpen
+returns c =
+    let w = set (c .before .before .before .before .before .before .before .before .args .next-ahead .now) (c .before .before .before .before .before .before .before .before .args .c .first) (packed 0 (c .before .before .before .before .before .before .before .before .args .t .cells) (c .before .before .before .before .before .before .before .before .args .t .at)) in
+    λ us co en. rw (c .before .before .before .before .set-word .ensures, c .before .before .before .before .before .packed .ensures .0) (c .replace .ensures .0 us co w en)
+
+pub begun-spec : {M : Type 1} → statement M
+begun-spec =
+    tie.close (tie.spec packed-requires set-word-requires replace-requires same-length returns)

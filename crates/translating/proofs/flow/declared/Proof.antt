@@ -1,0 +1,33 @@
+-- `translating::flow::declared` meets its contract: its address is known, and an activation more is around, with no for statement.
+use mathlib.Core.Path.{_≡_, refl, sym, ap, _∙_}
+use Prim.Native.Nat.{_+_}
+use lib.ListN.{set}
+use Rattle.translating.specs.Emission.{State, pushed, within, withEntry, withOpen}
+use borrow.Author.Needs.{needs}
+use Rattle.translating.proofs.flow.declared.Statement.{statement}
+use Rattle.translating.proofs.flow.declared.Tie as tie
+use Rattle.translating.proofs.flow.declared.Reads as reads
+use Rattle.translating.proofs.flow.declared.Lts as lts
+use Rattle.translating.proofs.parts.set_word.Reads as set-word-reads
+use Rattle.translating.proofs.putting.push.Reads as push-reads
+
+set-word-requires : tie.Need-set-word-requires
+set-word-requires c κs = search needs
+
+push-requires : tie.Need-push-requires
+push-requires c κs = search needs
+
+add-r : tie.Need-add-r
+add-r c = search needs
+
+same-length : tie.Need-same-length
+same-length c = search needs
+
+returns : tie.Need-returns
+unfolding within pushed withOpen withEntry
+returns c =
+    let w = set (c .before .before .before .before .before .before .before .before .args .next-entries .now) (c .before .before .before .before .before .before .before .before .args .place) (c .before .before .before .before .before .before .before .before .args .t .at) in
+    λ us co ah. rw (c .before .before .before .before .before .set-word .ensures) (ap (λ (z : State). within (z .level + 1) 0 (z .cells) z) (c .before .push .ensures .0 us co ah w))
+
+pub declared-spec : {M : Type 1} → statement M
+declared-spec = tie.close (tie.spec set-word-requires push-requires add-r same-length returns)
