@@ -1,0 +1,260 @@
+/* bench [INSTRUCTIONS [ROUNDS]]: instructions a second of three loops, through the library and in the machine of own.h, one after the other in each
+ * round; then the time of reading (and translating) the largest sources. Times are of this process on this processor: under an emulator only the
+ * ratio of the two machines means something. */
+#define _POSIX_C_SOURCE 199309L
+#include <stdio.h>
+#include <stdlib.h>
+#include <string.h>
+#include <time.h>
+
+#include "deed.h"
+#include "own.h"
+#include "words.h"
+
+static double seconds(void)
+{
+    struct timespec t;
+    clock_gettime(CLOCK_MONOTONIC, &t);
+    return (double)t.tv_sec + 1e-9 * (double)t.tv_nsec;
+}
+
+/* ---- the machine */
+
+static struct code code;
+static int64_t store[DEED_CELLS];
+static int32_t output[1], own_output[1];
+
+/* a := a + b, for ever: loads, additions, stores and jumps. */
+static void loads_adds_stores_jumps(uint64_t limit)
+{
+    (void)limit;
+    put(&code, ENTER, parts(0, 2, 1));
+    put(&code, CONST, 0);
+    put(&code, STORE, parts(0, 0, 0));
+    put(&code, CONST, 1);
+    put(&code, STORE, parts(0, 1, 0));
+    put(&code, LOAD, parts(0, 0, 0)); /* 5 */
+    put(&code, LOAD, parts(0, 1, 0));
+    put(&code, PLUS, 0);
+    put(&code, STORE, parts(0, 0, 0));
+    put(&code, JUMP, 5);
+}
+
+/* 'for' i := 1 'step' 1 'until' n 'do' s := i - s, as a source's is laid down. */
+static void step_until(uint64_t limit)
+{
+    put(&code, ENTER, parts(0, 2, 1));
+    put(&code, CONST, 0);
+    put(&code, STORE, parts(0, 1, 0));
+    put(&code, CONST, 1);
+    put(&code, STORE, parts(0, 0, 0));
+    put(&code, CONST, 1);
+    put(&code, CONST, (uint32_t)(limit / 9 + 1));
+    put(&code, HOLD, 0);
+    put(&code, TEST, parts(0, 0, 17)); /* 8 */
+    put(&code, GO, parts(0, 10, 12));
+    put(&code, ADD, parts(0, 0, 0));
+    put(&code, JUMP, 8);
+    put(&code, LOAD, parts(0, 0, 0)); /* 12 */
+    put(&code, LOAD, parts(0, 1, 0));
+    put(&code, LESS, 0);
+    put(&code, STORE, parts(0, 1, 0));
+    put(&code, NEXT, 0);
+    put(&code, LEAVE, parts(0, 2, 0)); /* 17 */
+    put(&code, END, 0);
+}
+
+/* f(40), where f(n) is n for n < 2 and else f(n - 1) + f(n - 2): calls, conditions and results. */
+static void calls(uint64_t limit)
+{
+    (void)limit;
+    put(&code, JUMP, 20);
+    put(&code, LOAD, parts(0, 1, 0)); /* 1 */
+    put(&code, CONST, 2);
+    put(&code, BELOW, 0);
+    put(&code, UNLESS, 8);
+    put(&code, LOAD, parts(0, 1, 0));
+    put(&code, STORE, parts(0, 0, 0));
+    put(&code, RETURN, 0);
+    put(&code, RESULT, 0); /* 8 */
+    put(&code, LOAD, parts(0, 1, 0));
+    put(&code, CONST, 1);
+    put(&code, LESS, 0);
+    put(&code, CALL_NEEDED, parts(1, 2, 1));
+    put(&code, RESULT, 0);
+    put(&code, LOAD, parts(0, 1, 0));
+    put(&code, CONST, 2);
+    put(&code, LESS, 0);
+    put(&code, CALL_NEEDED, parts(1, 2, 1));
+    put(&code, PLUS, 0);
+    put(&code, JUMP, 6);
+    put(&code, RESULT, 0); /* 20 */
+    put(&code, CONST, 40);
+    put(&code, CALL_NEEDED, parts(0, 2, 1));
+    put(&code, DROP, 0);
+    put(&code, END, 0);
+}
+
+static int by_size(const void *a, const void *b)
+{
+    double x = *(const double *)a, y = *(const double *)b;
+    return x < y ? -1 : x > y;
+}
+
+static void time_code(const char *name, void (*lay)(uint64_t), uint64_t limit, int rounds)
+{
+    double library[50], own[50], ratio[50];
+    struct own_ran l = {0, 0, 0, 0, 0}, o = l;
+    code.length = 0;
+    lay(limit);
+    for (int i = 0; i < rounds; i++) {
+        double t0 = seconds();
+        l.number = deed_run(code.word, code.length, output, 0, limit, store, DEED_CELLS, output, 1, &l.place, &l.done, &l.taken, &l.written);
+        double t1 = seconds();
+        o = own_run(code.word, code.length, own_output, 0, limit, DEED_CELLS, own_output, 1);
+        double t2 = seconds();
+        library[i] = (double)l.done / (t1 - t0) / 1e6;
+        own[i] = (double)o.done / (t2 - t1) / 1e6;
+        ratio[i] = library[i] / own[i];
+        if (l.number != o.number || l.place != o.place || l.done != o.done)
+            printf("the two differ\n");
+    }
+    qsort(library, (size_t)rounds, sizeof library[0], by_size);
+    qsort(own, (size_t)rounds, sizeof own[0], by_size);
+    qsort(ratio, (size_t)rounds, sizeof ratio[0], by_size);
+    printf("%-28s %11llu instructions, answer %2u: library %7.1f, own %7.1f million a second, ratio %.2f (%.2f to %.2f)\n", name,
+           (unsigned long long)l.done, l.number, library[rounds / 2], own[rounds / 2], ratio[rounds / 2], ratio[0], ratio[rounds - 1]);
+}
+
+/* ---- sources */
+
+static uint8_t source[DEED_SOURCE + 100];
+static size_t length;
+static uint16_t table[DEED_TABLE];
+
+static void say(const char *s)
+{
+    size_t n = strlen(s);
+    if (length + n <= sizeof source) {
+        memcpy(source + length, s, n);
+        length += n;
+    }
+}
+
+static void say_name(const char *front, unsigned k)
+{
+    char name[64];
+    snprintf(name, sizeof name, "%s%03u", front, k);
+    say(name);
+}
+
+/* Blanks, so that the source has all the bytes that it may have, before its last 'end'. */
+static void fill_up(void)
+{
+    while (length + 5 < DEED_SOURCE)
+        say(" ");
+    say("'end'");
+}
+
+/* Few names, 2,048 symbols. */
+static void plain(void)
+{
+    say("'begin' 'integer' a, b, c; a := b := 1");
+    for (unsigned i = 0; i < 254; i++)
+        say("; c := a + b % 3");
+    fill_up();
+}
+
+/* As many names as there can be, each used once. */
+static void many_names(const char *front, unsigned count)
+{
+    say("'begin''integer' ");
+    for (unsigned i = 0; i < count; i++) {
+        if (i != 0)
+            say(",");
+        say_name(front, i);
+    }
+    for (unsigned i = 0; i < count; i++) {
+        say(";");
+        say_name(front, i);
+        say(":=0");
+    }
+    fill_up();
+}
+
+static void short_names(void) { many_names("n", 340); }
+
+/* 32 letters each, alike but for the last three. */
+static void long_names(void) { many_names("abcdefghijklmnopqrstuvwxyzabc", 230); }
+
+/* Procedures in procedures, to the greatest depth. */
+static void deep(void)
+{
+    say("'begin'");
+    for (unsigned i = 0; i < 31; i++) {
+        say(" 'integer' 'procedure' ");
+        say_name("p", i);
+        say("(x, y); 'value' x, y; 'integer' x, y; 'begin'");
+    }
+    say(" 'integer' z; z := x + y");
+    for (unsigned i = 31; i != 0; i--) {
+        say(" 'end'; ");
+        if (i != 1) {
+            say_name("p", i - 2);
+            say(" := ");
+        }
+        say_name("p", i - 1);
+        say("(");
+        say(i == 1 ? "1, 2)" : "x, y) * 2 - (x + 3)");
+    }
+    fill_up();
+}
+
+/* One note. */
+static void notes(void)
+{
+    say("'begin''comment'");
+    while (length + 6 < DEED_SOURCE)
+        say("x");
+    say(";");
+    fill_up();
+}
+
+static void time_source(const char *name, void (*make)(void))
+{
+    size_t place = 0;
+    unsigned answer = 0, times = 0;
+    length = 0;
+    make();
+    double t0 = seconds(), t1 = t0;
+    for (; t1 - t0 < 0.5; t1 = seconds(), times++)
+        answer = deed_read(source, length, table, DEED_TABLE, &place);
+    printf("read %-16s %5zu bytes, answer %u at %zu, %5u uses: %9.1f microseconds\n", name, length, answer, place, table[0], (t1 - t0) / times * 1e6);
+#ifdef DEED_TRANSLATE
+    static uint32_t words[DEED_CODE];
+    times = 0;
+    t0 = t1 = seconds();
+    for (; t1 - t0 < 0.5; t1 = seconds(), times++)
+        answer = deed_translate(source, length, words, DEED_CODE, &place);
+    printf("translate %-11s %5zu bytes, answer %u at %zu:              %9.1f microseconds\n", name, length, answer, place, (t1 - t0) / times * 1e6);
+#endif
+}
+
+int main(int argc, char **argv)
+{
+    uint64_t limit = argc > 1 ? strtoul(argv[1], NULL, 10) : 100000000;
+    int rounds = argc > 2 ? atoi(argv[2]) : 5;
+    if (limit == 0 || rounds < 1 || rounds > 50) {
+        fprintf(stderr, "usage: bench [INSTRUCTIONS [ROUNDS]]\n");
+        return 2;
+    }
+    time_code("loads, adds, stores, jumps", loads_adds_stores_jumps, limit, rounds);
+    time_code("'step' 'until'", step_until, limit, rounds);
+    time_code("calls", calls, limit, rounds);
+    time_source("plain", plain);
+    time_source("short names", short_names);
+    time_source("long names", long_names);
+    time_source("deep", deep);
+    time_source("a note", notes);
+    return 0;
+}

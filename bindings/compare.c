@@ -1,0 +1,247 @@
+/* compare COUNT [FILE..]: COUNT random sources, and COUNT random codes with their input, store and output, each handed to the library and to the
+ * scanner and machine of own.h; shows each difference, and how many were compared. The files are sources that are changed at random. The seed is
+ * fixed. Ends with 1 where something differs. */
+#include <stdio.h>
+#include <stdlib.h>
+#include <string.h>
+
+#include "codes.h"
+#include "deed.h"
+#include "own.h"
+#include "sources.h"
+
+/* Stands around what is lent: the library must leave it alone. */
+enum { MARGIN = 16 };
+
+static unsigned long differences;
+static unsigned long sources_seen[30], runs_seen[30];
+
+static void differs(const char *what, unsigned long number)
+{
+    differences++;
+    printf("%s %lu differs: ", what, number);
+}
+
+/* ---- sources */
+
+enum { TABLE = DEED_TABLE + 64 };
+
+static struct text text;
+static struct own_scan scan;
+static uint16_t table[TABLE + 2 * MARGIN], before[TABLE + 2 * MARGIN];
+
+static void show_text(void)
+{
+    printf("; %zu bytes: ", text.length);
+    for (size_t i = 0; i < text.length && i < 400; i++)
+        printf(text.byte[i] < 32 || text.byte[i] > 126 || text.byte[i] == '\\' ? "\\x%02x" : "%c", text.byte[i]);
+    printf("\n");
+}
+
+/* The letters and digits of the name at a place. */
+static size_t letters_at(size_t at, uint8_t *letters)
+{
+    size_t n = 0;
+    for (size_t i = at; i < text.length && n < 33; i++) {
+        if (own_letter(text.byte[i]) || own_digit(text.byte[i]))
+            letters[n++] = text.byte[i];
+        else if (!own_blank(text.byte[i]))
+            break;
+    }
+    letters[n] = 0;
+    return n;
+}
+
+/* Whether a name begins at a place, by the own scanner. */
+static int is_name(size_t at)
+{
+    for (size_t i = 0; i < scan.count; i++)
+        if (scan.at[i] == at)
+            return scan.name[i];
+    return 0;
+}
+
+static int is_symbol(size_t at)
+{
+    for (size_t i = 0; i < scan.count; i++)
+        if (scan.at[i] == at)
+            return 1;
+    return 0;
+}
+
+/* Each use of an accepted source is a name, in order, and what it names is spelled as it is. */
+static const char *wrong_uses(const uint16_t *words)
+{
+    static const char *const environment[] = {"iabs", "maxint", "ininteger", "outinteger"};
+    uint8_t used[34], named[34];
+    for (unsigned i = 0; i < words[0]; i++) {
+        const uint16_t *use = words + 1 + 3 * i;
+        if (!is_name(use[0]) || (i > 0 && use[0] <= use[-3]))
+            return "a use is no name, or not in order";
+        letters_at(use[0], used);
+        if (use[1] == 0) {
+            if (use[2] > 3 || strcmp(environment[use[2]], (char *)used) != 0)
+                return "a use of the environment is spelled otherwise";
+        } else {
+            letters_at(use[2], named);
+            if (use[1] > 3 || !is_name(use[2]) || strcmp((char *)used, (char *)named) != 0)
+                return "a use and its declaration are spelled otherwise";
+        }
+    }
+    return NULL;
+}
+
+/* What is wrong with the answer and the table; NULL where nothing is. */
+static const char *wrong_answer(size_t lent, unsigned number, size_t place)
+{
+    static const uint16_t zeros[DEED_TABLE];
+    const uint16_t *words = table + MARGIN;
+    if (lent < DEED_TABLE)
+        return number != 1 || place != 0 ? "1 at 0 is due" : memcmp(table, before, sizeof table) != 0 ? "the table has changed" : NULL;
+    if (memcmp(table, before, MARGIN * sizeof table[0]) != 0
+        || memcmp(words + DEED_TABLE, before + MARGIN + DEED_TABLE, (TABLE + MARGIN - DEED_TABLE) * sizeof table[0]) != 0)
+        return "words outside the first 32,768 have changed";
+    if (number != 0 && memcmp(words, zeros, sizeof zeros) != 0)
+        return "words of a refused source are not zero";
+    if (text.length > DEED_SOURCE)
+        return number != 2 || place != DEED_SOURCE ? "2 at 16,384 is due" : NULL;
+    own_scan(text.byte, text.length, &scan);
+    if (scan.number != 0)
+        return number != scan.number || place != scan.place ? "the own scanner has another answer" : NULL;
+    if (number == 0)
+        return place != 0 ? "acceptance has the place 0" : wrong_uses(words);
+    if (number < 5 || number > 10)
+        return "the own scanner has no fault";
+    if (!is_symbol(place) && !(number == 5 && place == text.length))
+        return "the place is no symbol's";
+    return NULL;
+}
+
+static void compare_source(unsigned long k)
+{
+    size_t lent = once_in(30) ? below(DEED_TABLE) : DEED_TABLE + below(TABLE - DEED_TABLE), place = 99999;
+    random_source(&text);
+    memcpy(table, before, sizeof table);
+    unsigned number = deed_read(text.byte, text.length, table + MARGIN, lent, &place);
+    const char *wrong = wrong_answer(lent, number, place);
+    if (number < 30)
+        sources_seen[number]++;
+    if (wrong != NULL) {
+        differs("source", k);
+        printf("%s: library %u at %zu, own %u at %zu", wrong, number, place, scan.number, scan.place);
+        show_text();
+    }
+}
+
+/* ---- runs */
+
+enum { STORE_ROOM = DEED_CELLS + 200, INPUTS = 12, OUTPUTS = 60 };
+
+static struct code code;
+static int32_t input[INPUTS];
+static int64_t store[STORE_ROOM + 2 * MARGIN], store_before[STORE_ROOM + 2 * MARGIN];
+static int32_t output[OUTPUTS + 2 * MARGIN], own_output[OUTPUTS + 2 * MARGIN];
+
+static const char *wrong_run(struct own_ran l, struct own_ran o, size_t lent)
+{
+    size_t used = lent < DEED_CELLS ? lent : DEED_CELLS;
+    if (l.number != o.number || l.place != o.place)
+        return "another answer or place";
+    if (l.done != o.done || l.taken != o.taken || l.written != o.written)
+        return "other counts";
+    if (memcmp(output, own_output, sizeof output) != 0)
+        return "another output";
+    for (size_t i = 0; i < used; i++)
+        if (store[MARGIN + i] != 0)
+            return "a store number that is not zero";
+    if (memcmp(store, store_before, MARGIN * sizeof store[0]) != 0
+        || memcmp(store + MARGIN + used, store_before + MARGIN + used, sizeof store - (MARGIN + used) * sizeof store[0]) != 0)
+        return "a store number behind those that are used has changed";
+    return NULL;
+}
+
+static void show_ran(const char *who, struct own_ran r)
+{
+    printf("; %s %u at %zu, done %llu, taken %zu, written %zu", who, r.number, r.place, (unsigned long long)r.done, r.taken, r.written);
+}
+
+/* One run of both, on what stands in `code` and `input`; hands back what the library answers. */
+static struct own_ran compare_run(unsigned long k, size_t inputs, uint64_t limit, size_t lent, size_t outputs)
+{
+    struct own_ran l, o;
+    for (size_t i = 0; i < OUTPUTS + 2 * MARGIN; i++)
+        output[i] = own_output[i] = (int32_t)random_word();
+    memcpy(store, store_before, sizeof store);
+    l.number = deed_run(code.word, code.length, input, inputs, limit, store + MARGIN, lent, output + MARGIN, outputs, &l.place, &l.done, &l.taken, &l.written);
+    o = own_run(code.word, code.length, input, inputs, limit, lent, own_output + MARGIN, outputs);
+    const char *wrong = wrong_run(l, o, lent);
+    if (l.number < 30)
+        runs_seen[l.number]++;
+    if (wrong != NULL) {
+        differs("run", k);
+        printf("%s", wrong);
+        show_ran("library", l);
+        show_ran("own", o);
+        printf("; input %zu, limit %llu, store %zu, output %zu; %zu words:", inputs, (unsigned long long)limit, lent, outputs, code.length);
+        for (size_t i = 0; i < code.length && i < 400; i++)
+            printf(" %lu", (unsigned long)code.word[i]);
+        printf("\n");
+    }
+    return l;
+}
+
+static void compare_code(unsigned long k)
+{
+    static const int32_t edges[] = {0, 1, -1, 5, 12, 13, 254, 255, 256, INT32_MAX, INT32_MIN, INT32_MIN + 1};
+    size_t inputs = below(INPUTS + 1), outputs = below(once_in(3) ? 3 : OUTPUTS + 1);
+    size_t lent = once_in(10) ? DEED_CELLS - 100 + below(300) : once_in(3) ? below(24) : once_in(3) ? below(400) : 100 + below(8000);
+    uint64_t limit = once_in(8) ? below(40) : once_in(3) ? below(500) : 1000 + below(20000);
+    random_code(&code);
+    for (size_t i = 0; i < INPUTS; i++)
+        input[i] = once_in(2) ? edges[below(12)] : (int32_t)below(20);
+    struct own_ran r = compare_run(k, inputs, limit, lent, outputs);
+    /* A run that stops by itself answers so under the greatest limit too, and under each smaller one it is cut. */
+    if (r.number != 20 && once_in(4))
+        compare_run(k, inputs, UINT64_MAX, lent, outputs);
+    if (r.done <= 60 && once_in(20))
+        for (uint64_t i = 0; i <= r.done + 1; i++)
+            compare_run(k, inputs, i, lent, outputs);
+}
+
+/* ---- the whole */
+
+static void show_seen(const char *what, const unsigned long *seen)
+{
+    unsigned long sum = 0;
+    for (unsigned i = 0; i < 30; i++)
+        sum += seen[i];
+    printf("%lu %s; answers", sum, what);
+    for (unsigned i = 0; i < 30; i++)
+        if (seen[i] != 0)
+            printf(" %u: %lu", i, seen[i]);
+    printf("\n");
+}
+
+int main(int argc, char **argv)
+{
+    unsigned long count = argc > 1 ? strtoul(argv[1], NULL, 10) : 0;
+    if (count == 0) {
+        fprintf(stderr, "usage: compare COUNT [FILE..]\n");
+        return 2;
+    }
+    for (int i = 2; i < argc; i++)
+        load_file(argv[i]);
+    random_state = 60;
+    for (size_t i = 0; i < sizeof before / sizeof before[0]; i++)
+        before[i] = (uint16_t)random_word();
+    for (size_t i = 0; i < sizeof store_before / sizeof store_before[0]; i++)
+        store_before[i] = (int64_t)(((uint64_t)random_word() << 32) | random_word());
+    for (unsigned long k = 0; k < count; k++)
+        compare_source(k);
+    show_seen("sources compared", sources_seen);
+    for (unsigned long k = 0; k < count; k++)
+        compare_code(k);
+    show_seen("runs compared", runs_seen);
+    printf("%lu differ\n", differences);
+    return differences == 0 ? 0 : 1;
+}

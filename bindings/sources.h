@@ -1,0 +1,259 @@
+/* Random sources: bytes, words and signs, and changed files. */
+#ifndef SOURCES_H
+#define SOURCES_H
+
+#include <stdio.h>
+#include <stdlib.h>
+#include <string.h>
+
+#include "random.h"
+
+enum { TEXT = 40000, FILES = 2000 };
+
+struct text {
+    size_t length;
+    uint8_t byte[TEXT];
+};
+
+/* The files that are changed. */
+static struct { size_t length; uint8_t *byte; } file[FILES];
+static size_t files;
+
+static void load_file(const char *name)
+{
+    FILE *f = fopen(name, "rb");
+    if (f == NULL || files == FILES) {
+        fprintf(stderr, "%s cannot be read\n", name);
+        exit(2);
+    }
+    uint8_t *byte = malloc(TEXT);
+    file[files].length = fread(byte, 1, TEXT, f);
+    file[files].byte = byte;
+    files++;
+    fclose(f);
+}
+
+static void put_byte(struct text *t, uint8_t b)
+{
+    if (t->length < TEXT)
+        t->byte[t->length++] = b;
+}
+
+static void put_text(struct text *t, const char *s)
+{
+    while (*s != 0)
+        put_byte(t, (uint8_t)*s++);
+}
+
+static void put_blanks(struct text *t)
+{
+    while (once_in(3))
+        put_byte(t, (uint8_t)" \t\r\n"[below(4)]);
+}
+
+static void put_name(struct text *t, unsigned length)
+{
+    static const char letters[] = "abcxyzABCXYZ0189";
+    put_byte(t, (uint8_t)letters[below(12)]);
+    for (unsigned i = 1; i < length; i++) {
+        if (once_in(12))
+            put_blanks(t);
+        put_byte(t, (uint8_t)letters[below(16)]);
+    }
+}
+
+static void put_number(struct text *t, unsigned length)
+{
+    static const char *const edges[] = {"2147483647", "2147483648", "2147483646", "21474836470", "0000000000002147483647", "4294967296", "18446744073709551616"};
+    if (once_in(8)) {
+        put_text(t, edges[below(7)]);
+        return;
+    }
+    for (unsigned i = 0; i < length; i++) {
+        if (once_in(12))
+            put_blanks(t);
+        put_byte(t, (uint8_t)('0' + below(10)));
+    }
+}
+
+static const char *const words[] = {
+    "'begin'", "'end'", "'if'", "'then'", "'else'", "'for'", "'do'", "'step'", "'until'", "'while'", "'comment'", "'integer'", "'Boolean'", "'procedure'",
+    "'value'", "'true'", "'false'", "'and'", "'or'", "'not'", "'impl'", "'equiv'",
+};
+static const char *const signs[] = {"+", "-", "*", "%", "<", "<=", "=", ">=", ">", "#", ",", ":", ":=", ";", "(", ")", "< =", ": =", "> \n="};
+static const char *const wrong[] = {"'", "''", "'Begin'", "'begin '", "' end'", "'boolean'", "'go to'", "'real'", "'ends'", "'en'", "!", "\"", "/", "_", "~", "\f", "\v", "\x80", "\xff", "'end", "."};
+
+/* One symbol, or now and then something that is none. */
+static void put_symbol(struct text *t, unsigned faults)
+{
+    switch (below(12)) {
+    case 0: case 1: case 2:
+        put_text(t, words[below(22)]);
+        break;
+    case 3: case 4: case 5:
+        put_text(t, signs[below(19)]);
+        break;
+    case 6: case 7:
+        put_name(t, once_in(faults) ? 30 + below(6) : 1 + below(8));
+        break;
+    case 8:
+        put_number(t, once_in(faults) ? 8 + below(6) : 1 + below(6));
+        break;
+    case 9: /* a note, or a misplaced one */
+        put_text(t, once_in(3) ? "'comment'" : once_in(2) ? "; 'comment'" : "'begin' 'comment'");
+        for (unsigned i = below(8); i != 0; i--)
+            put_byte(t, (uint8_t)below(256));
+        put_text(t, once_in(faults) ? "" : ";");
+        break;
+    case 10: /* a remark */
+        put_text(t, "'end'");
+        put_blanks(t);
+        put_name(t, 1 + below(40));
+        break;
+    default:
+        if (once_in(faults))
+            put_text(t, wrong[below(21)]);
+        else
+            put_text(t, ";");
+    }
+}
+
+static void random_bytes(struct text *t)
+{
+    unsigned length = below(once_in(10) ? 600 : 40);
+    for (unsigned i = 0; i < length; i++)
+        put_byte(t, (uint8_t)(once_in(4) ? below(256) : " \n'';:=<>aZ09(,"[below(15)]));
+}
+
+static void random_symbols(struct text *t)
+{
+    unsigned count = below(once_in(20) ? 400 : 30), faults = 2 + below(200);
+    for (unsigned i = 0; i < count; i++) {
+        put_blanks(t);
+        put_symbol(t, faults);
+    }
+}
+
+/* About 2,048 symbols, or about 16,384 bytes. */
+static void random_long(struct text *t)
+{
+    if (once_in(2)) {
+        static const char *const many[] = {";", "'if'", "a:=", "a+", "> =", "<=", "<", ">", ": \t=", "1<", "a1 2", "'end'x", "=", ":"};
+        const char *sort = many[below(14)];
+        unsigned count = (strlen(sort) > 1 && below(2) ? 1020 : 2040) + below(16);
+        for (unsigned i = 0; i < count; i++)
+            put_text(t, sort);
+        put_text(t, once_in(2) ? "" : once_in(2) ? "'comment';" : once_in(2) ? "!" : "'end' and so on");
+        return;
+    }
+    unsigned length = 16370 + below(30);
+    put_text(t, "'begin'");
+    if (once_in(2))
+        put_text(t, "'comment'");
+    while (t->length < length)
+        put_byte(t, (uint8_t)(once_in(100) ? ' ' : '\n'));
+    put_text(t, once_in(2) ? ";'end'" : "'end'");
+}
+
+/* A piece of a program that the grammar has, so that later answers come too. */
+static void put_statement(struct text *t, unsigned depth)
+{
+    switch (depth == 0 ? 0 : below(7)) {
+    case 0: put_text(t, "a := b + 1"); break;
+    case 1: put_text(t, "outinteger(1, a % 2)"); break;
+    case 2:
+        put_text(t, "'begin' 'integer' a, c; a := 2;");
+        put_statement(t, depth - 1);
+        put_text(t, "'end'");
+        break;
+    case 3:
+        put_text(t, "'if' a < b 'then' 'begin'");
+        put_statement(t, depth - 1);
+        put_text(t, "'end' 'else' ");
+        put_statement(t, depth - 1);
+        break;
+    case 4:
+        put_text(t, "'for' a := 1, b 'while' a > 2, 1 'step' 2 'until' 9 'do' ");
+        put_statement(t, depth - 1);
+        break;
+    case 5: put_text(t, "p(a, 1)"); break;
+    default: put_text(t, "a := b := f('true') * 3"); break;
+    }
+}
+
+static void random_program(struct text *t)
+{
+    put_text(t, "'begin' 'integer' a, b; 'procedure' p(x, y); 'value' x, y; 'integer' x, y; ");
+    put_statement(t, 2);
+    put_text(t, "; 'integer' 'procedure' f(l); 'value' l; 'Boolean' l; f := 'if' l 'then' 1 'else' 0; ");
+    for (unsigned i = below(6); i != 0; i--) {
+        put_statement(t, 3);
+        put_text(t, ";");
+    }
+    put_statement(t, 3);
+    put_text(t, " 'end'");
+}
+
+static void drop_bytes(struct text *t, size_t from, size_t count)
+{
+    if (count > t->length - from)
+        count = t->length - from;
+    memmove(t->byte + from, t->byte + from + count, t->length - from - count);
+    t->length -= count;
+}
+
+static void insert_text(struct text *t, size_t at, const struct text *piece)
+{
+    if (t->length + piece->length > TEXT)
+        return;
+    memmove(t->byte + at + piece->length, t->byte + at, t->length - at);
+    memcpy(t->byte + at, piece->byte, piece->length);
+    t->length += piece->length;
+}
+
+/* Some of: a byte changed, some left out, some put in, a piece doubled. */
+static void change(struct text *t, unsigned times)
+{
+    static struct text piece;
+    for (unsigned i = 0; i < times; i++) {
+        size_t at = below((uint32_t)t->length + 1);
+        piece.length = 0;
+        switch (below(6)) {
+        case 0:
+            if (at < t->length)
+                t->byte[at] = (uint8_t)(once_in(4) ? below(256) : "'; =a0(\n"[below(8)]);
+            break;
+        case 1: drop_bytes(t, at, 1 + below(3)); break;
+        case 2: drop_bytes(t, at, 1 + below(30)); break;
+        case 3: put_symbol(&piece, 20); insert_text(t, at, &piece); break;
+        case 4: put_blanks(&piece); insert_text(t, at, &piece); break;
+        default:
+            piece.length = t->length - at < 40 ? t->length - at : 40;
+            memcpy(piece.byte, t->byte + at, piece.length);
+            insert_text(t, below((uint32_t)t->length + 1), &piece);
+        }
+    }
+}
+
+static void random_source(struct text *t)
+{
+    t->length = 0;
+    unsigned sort = below(100);
+    if (sort < 20)
+        random_bytes(t);
+    else if (sort < 50)
+        random_symbols(t);
+    else if (sort < 53)
+        random_long(t);
+    else if (sort < 70 || files == 0) {
+        random_program(t);
+        change(t, below(3));
+    } else {
+        size_t k = below((uint32_t)files);
+        memcpy(t->byte, file[k].byte, file[k].length);
+        t->length = file[k].length;
+        change(t, below(6));
+    }
+}
+
+#endif

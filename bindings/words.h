@@ -1,0 +1,47 @@
+/* The machine's words, laid down one instruction after the other (docs/MACHINE.md). */
+#ifndef WORDS_H
+#define WORDS_H
+
+#include <stddef.h>
+#include <stdint.h>
+
+enum operation {
+    END = 1, JUMP, ENTER, LEAVE, CALL_NEEDED, CALL, RETURN, GO, NEXT, UNLESS, TEST, CONST, LOAD, STORE, ASSIGN, RESULT, DROP, IN, OUT, HOLD, ADD, MINUS, NOT,
+    IABS, PLUS, LESS, TIMES, OVER, BELOW, AT_MOST, EQUAL, AT_LEAST, ABOVE, UNEQUAL, AND, OR, IMPL, EQUIV
+};
+
+enum { WORDS = 16500 };
+
+struct code {
+    size_t length;
+    uint32_t word[WORDS];
+};
+
+/* The next instruction's address. */
+static inline uint32_t here(const struct code *c) { return (uint32_t)(c->length / 2); }
+
+static inline void put(struct code *c, uint32_t operation, uint32_t operand)
+{
+    if (c->length + 2 > WORDS)
+        return;
+    /* The place tells the instruction: no two have the same. */
+    c->word[c->length] = operation + 64 * (here(c) + 1000);
+    c->word[c->length + 1] = operand;
+    c->length += 2;
+}
+
+static inline uint32_t parts(uint32_t high, uint32_t mid, uint32_t low) { return (high << 26) | ((mid & 8191) << 13) | (low & 8191); }
+
+static inline void put_address(struct code *c, uint32_t at, uint32_t low)
+{
+    if (2 * (size_t)at + 1 < WORDS)
+        c->word[2 * at + 1] = (c->word[2 * at + 1] & ~8191u) | (low & 8191);
+}
+
+static inline void put_position(struct code *c, uint32_t at, uint32_t mid)
+{
+    if (2 * (size_t)at + 1 < WORDS)
+        c->word[2 * at + 1] = (c->word[2 * at + 1] & ~(8191u << 13)) | ((mid & 8191) << 13);
+}
+
+#endif

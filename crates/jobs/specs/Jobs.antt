@@ -1,0 +1,32 @@
+-- What a job gives to C: a number for each result that its Rattle function answers in an enum or a struct. Assumes nothing: these are definitions.
+use Prim.Native.Nat.{ℕ}
+use mathlib.Core.Path.{_≡_}
+use mathlib.Core.List.{List}
+use lib.IntN.{ℤ}
+use Rattle.answers.specs.Answers.{numberOf, placeOf, stopNumber, stopPlace}
+use Rattle.answers.specs.declared.Verdict.{Verdict}
+use Rattle.machine.specs.Machine.{Exit}
+
+-- read and translate: the number and the place are those of a verdict of which P holds
+pub record Answers (P : Verdict → Type 0) (number place : ℕ) : Type 0 where
+  pub verdict : Verdict
+  pub holds : P verdict
+  pub numbered : number ≡ numberOf verdict
+  pub placed : place ≡ placeOf verdict
+
+-- run: the numbers, and what the store and the output hold afterwards
+pub record Given : Type 0 where
+  pub number : ℕ
+  pub place : ℕ
+  pub done : ℕ
+  pub taken : ℕ
+  pub written : ℕ
+  pub store : List ℤ
+  pub output : List ℤ
+
+abbrev pub given : ℕ → ℕ → ℕ → ℕ → ℕ → List ℤ → List ℤ → Given
+given n p d t w s o = record { number = n; place = p; done = d; taken = t; written = w; store = s; output = o }
+
+unfoldable pub exitOf : Exit → Given
+exitOf e =
+    given (stopNumber (e .ran .stop)) (stopPlace (e .ran .stop)) (e .ran .done) (e .ran .taken) (e .ran .written) (e .store) (e .output)

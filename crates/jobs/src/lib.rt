@@ -1,0 +1,43 @@
+// The jobs as C functions, for programs in other languages: `bindings/deed.h` declares them. A slice comes as a pointer and a length, and each
+// result behind the answer's number goes to where a reference points.
+use machine::run;
+use reading::reading::read;
+ghost use mathlib.Core.Path.{_≡_};
+ghost use lib.ListN.{length, take};
+ghost use Rattle.machine.specs.Machine.{machine as machineOf, afterwards, used};
+ghost use Rattle.jobs.specs.Jobs.{Answers, exitOf, given};
+ghost use Rattle.reading.specs.Reading.{Reads};
+
+// Source to table: the answer's number, and its place.
+#[no_mangle]
+pub extern "C" fn deed_read(source: &[u8], table: &mut [u16], place: &mut usize) -> u16
+    ensures { λ r. ⌜ Answers (λ v. Reads (now (source .entry)) (now (table .entry)) v (now (table .exit))) r (now (place .exit)) ⌝ }
+{
+    let verdict = read(source, table);
+    *place = verdict.place();
+    verdict.answer().number
+}
+
+// Code to a run: the answer's number; its place, the instructions done, the numbers taken and the numbers written.
+#[no_mangle]
+pub extern "C" fn deed_run(
+    code: &[u32],
+    input: &[i32],
+    limit: u64,
+    store: &mut [i64],
+    output: &mut [i32],
+    place: &mut usize,
+    done: &mut u64,
+    taken: &mut usize,
+    written: &mut usize,
+) -> u16
+    ensures { λ r. ⌜ given r (now (place .exit)) (now (done .exit)) (now (taken .exit)) (now (written .exit)) (now (store .exit)) (now (output .exit)) ≡ exitOf (afterwards (machineOf (take 16384 (now (code .entry))) (now (input .entry)) limit (used (now (store .entry))) (length (now (output .entry)))) (now (store .entry)) (now (output .entry))) ⌝ }
+{
+    let ran = run(code, input, limit, store, output);
+    let stop = ran.stop;
+    *place = stop.place();
+    *done = ran.done;
+    *taken = ran.taken;
+    *written = ran.written;
+    stop.answer().number
+}

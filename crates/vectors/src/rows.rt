@@ -1,0 +1,69 @@
+// The rows of `index`: each names a source and the text with what is to come of it.
+use crate::reads;
+use crate::runs;
+use crate::tally::Tally;
+use crate::tally::print;
+ghost use Prim.Native.Nat.{_+_, _≤_};
+ghost use lib.ListN.{length};
+
+// A row: the two names, 24 bytes each, and the line's end.
+const ROW: usize = 49;
+
+// Where the name in the row that starts at `from` ends.
+fn name_end(text: &[u8], from: usize) -> usize
+    requires { ⌜ from ≤ length (now text) ⌝ }
+    ensures { λ r. ⌜ (from ≤ r) × (r ≤ length (now (text .entry))) ⌝ }
+{
+    let mut i = from;
+    while i < text.len() {
+        if text[i] == 32 {
+            return i;
+        }
+        i += 1;
+    }
+    i
+}
+
+// The bytes of a file; none, and a word about it, where it is missing.
+pub fn load(name: &[u8], buf: &mut [u8; 65536]) -> usize
+    ensures { λ r. ⌜ r ≤ length (now (buf .exit)) ⌝ }
+{
+    let fd = os::open_read(name);
+    if fd < 0 {
+        print(name);
+        print(b" is missing\n");
+        return 0;
+    }
+    let n = io::read_full(fd, buf);
+    libc::close(fd);
+    n
+}
+
+// A source read, translated and run, and compared.
+fn compare(t: Tally, name: &[u8], source: &[u8], text: &[u8]) -> Tally {
+    let told = reads::compare(t.source(), name, source, text);
+    runs::compare(told, name, source, text)
+}
+
+// The row at `from`.
+fn row(t: Tally, index: &[u8], from: usize) -> Tally
+    requires { ⌜ from + 49 ≤ length (now index) ⌝ }
+{
+    let mut source = io::large_buffer();
+    let mut text = io::large_buffer();
+    let end = name_end(index, from);
+    let n = load(&index[from..end], &mut source);
+    let last = name_end(index, from + 24);
+    let m = load(&index[from + 24..last], &mut text);
+    compare(t, &index[from..end], &source[..n], &text[..m])
+}
+
+pub fn rows(index: &[u8]) -> Tally {
+    let mut t = Tally::new();
+    let mut at: usize = 0;
+    while ROW <= index.len() - at {
+        t = row(t, index, at);
+        at += ROW;
+    }
+    t
+}

@@ -1,0 +1,88 @@
+// What the sources and their runs came to, counted, and a line for each difference.
+use libc::STDOUT_FILENO;
+
+pub fn print(text: &[u8]) {
+    io::write_all(STDOUT_FILENO, text);
+}
+
+fn print_count(n: u32) {
+    io::print_decimal(STDOUT_FILENO, n as u64);
+}
+
+// The sources, the runs and the differences so far; and of the run with the most instructions for its steps, how many of each.
+pub struct Tally {
+    pub sources: u32,
+    pub runs: u32,
+    pub differences: u32,
+    pub done: u32,
+    pub steps: u32,
+}
+
+// One more; the greatest number stays.
+fn more(n: u32) -> u32 {
+    if n < 4294967295 {
+        return n + 1;
+    }
+    n
+}
+
+fn product(a: u32, b: u32) -> u64 {
+    a as u64 * b as u64
+}
+
+impl Tally {
+    pub fn new() -> Tally {
+        Tally {
+            sources: 0,
+            runs: 0,
+            differences: 0,
+            done: 0,
+            steps: 1,
+        }
+    }
+
+    pub fn source(mut self) -> Tally {
+        self.sources = more(self.sources);
+        self
+    }
+
+    pub fn run(mut self) -> Tally {
+        self.runs = more(self.runs);
+        self
+    }
+
+    // Where what was found is not what is listed, a line that says of what source, and of what.
+    pub fn check(mut self, same: bool, name: &[u8], what: &[u8]) -> Tally {
+        if same {
+            return self;
+        }
+        print(name);
+        print(b": ");
+        print(what);
+        print(b"\n");
+        self.differences = more(self.differences);
+        self
+    }
+
+    // A run that did so many instructions for so many steps.
+    pub fn most(mut self, done: u32, steps: u32) -> Tally {
+        if product(self.done, steps) < product(done, self.steps) {
+            self.done = done;
+            self.steps = steps;
+        }
+        self
+    }
+
+    pub fn show(self) {
+        print_count(self.sources);
+        print(b" sources, ");
+        print_count(self.runs);
+        print(b" runs, ");
+        print_count(self.differences);
+        print(b" differences\nat most ");
+        print_count(self.done);
+        print(b" instructions for ");
+        print_count(self.steps);
+        print(b" steps\n");
+    }
+}

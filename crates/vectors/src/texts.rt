@@ -1,0 +1,87 @@
+// Numbers in a text: digits, behind a minus sign or none, and one byte between two numbers.
+ghost use Prim.Native.Nat.{_≤_, _<_};
+
+// A number, and where the next one begins.
+pub struct Numeral {
+    pub minus: bool,
+    pub value: u64,
+    pub next: usize,
+}
+
+fn is_digit(b: u8) -> bool {
+    48 <= b && b <= 57
+}
+
+// The number whose digits begin at `from`.
+fn digits_at(text: &[u8], from: usize, minus: bool) -> Numeral
+    ensures { λ r. ⌜ r .value < 10000000000 ⌝ }
+{
+    let mut value: u64 = 0;
+    let mut i = from;
+    while i < text.len() {
+        let b = text[i];
+        if !is_digit(b) {
+            return Numeral {
+                minus,
+                value,
+                next: i + 1,
+            };
+        }
+        value = (10 * value + (b % 16) as u64) % 10000000000;
+        i += 1;
+    }
+    Numeral {
+        minus,
+        value,
+        next: i,
+    }
+}
+
+// The number that begins at `from`; 0 behind the end.
+pub fn number_at(text: &[u8], from: usize) -> Numeral
+    ensures { λ r. ⌜ r .value < 10000000000 ⌝ }
+{
+    if from < text.len() {
+        if text[from] == 45 {
+            return digits_at(text, from + 1, true);
+        }
+    }
+    digits_at(text, from, false)
+}
+
+// A number as one of 32 bits; 0 where it is none.
+pub fn whole(n: Numeral) -> i32 {
+    let value = n.value;
+    if 2147483648 < value {
+        return 0;
+    }
+    if n.minus {
+        return (0 - value as i64) as i32;
+    }
+    if value == 2147483648 {
+        return 0;
+    }
+    value as i32
+}
+
+// A number, and no more than `most`.
+pub fn clipped(value: u64, most: usize) -> usize
+    ensures { λ r. ⌜ r ≤ most ⌝ }
+{
+    if most as u64 <= value {
+        return most;
+    }
+    value as usize
+}
+
+// Where the text goes on behind its first line.
+pub fn second_line(text: &[u8]) -> usize {
+    let mut i = 0;
+    while i < text.len() {
+        if text[i] == 10 {
+            return i + 1;
+        }
+        i += 1;
+    }
+    i
+}
