@@ -1,0 +1,110 @@
+// Files and arguments, brought in whole or not at all.
+use crate::text::complain;
+ghost use mathlib.Core.Path.{_≡_};
+ghost use Prim.Native.Nat.{_+_, _≤_};
+ghost use Rattle.io.specs.Counts.{Counts};
+ghost use lib.ListN.{length};
+
+// What was brought in: whether it is good, and how many bytes.
+pub struct Loaded {
+    pub good: bool,
+    pub count: usize,
+}
+
+fn nothing() -> Loaded
+    ensures { λ r. ⌜ r .count ≤ 0 ⌝ }
+{
+    Loaded {
+        good: false,
+        count: 0,
+    }
+}
+
+// Says why a file cannot be had.
+fn fail(name: &[u8]) {
+    complain(b"deed: ");
+    os::fail(name);
+}
+
+// The rest of a file of which the first n bytes are there; it is closed.
+fn rest(fd: i32, room: &mut [u8], n: usize) -> Loaded
+    requires { ⌜ n ≤ length (now room) ⌝ }
+    ensures { λ r. ⌜ Counts (r .count) (now (room .exit)) ⌝ }
+{
+    let more = io::read_full(fd, &mut room[n..]);
+    libc::close(fd);
+    Loaded {
+        good: true,
+        count: n + more,
+    }
+}
+
+// The first bytes of a file, as many as there is room for.
+pub fn load(name: &[u8], room: &mut [u8]) -> Loaded
+    ensures { λ r. ⌜ Counts (r .count) (now (room .exit)) ⌝ }
+{
+    let fd = os::open_read(name);
+    if fd < 0 {
+        fail(name);
+        return nothing();
+    }
+    let got = libc::read(fd, room);
+    if got < 0 {
+        fail(name);
+        libc::close(fd);
+        return nothing();
+    }
+    let n = io::count(got, room);
+    rest(fd, room, n)
+}
+
+fn copy(from: &[u8], room: &mut [u8], at: usize)
+    requires { ⌜ at + length (now from) ≤ length (now room) ⌝ }
+    ensures { λ _. ⌜ length (now (room .exit)) ≡ length (now (room .entry)) ⌝ }
+{
+    let mut i: usize = 0;
+    while i < from.len() {
+        room[at + i] = from[i];
+        i += 1;
+    }
+}
+
+// Puts argument i at a place of the line, which is zero from there on; gives the place behind its zero, or 0 where the
+// argument does not fit.
+fn put_argument(i: usize, line: &mut [u8], at: usize) -> usize
+    requires { ⌜ at ≤ length (now line) ⌝ }
+    ensures { λ r. ⌜ r ≤ length (now (line .exit)) ⌝ }
+    ensures { λ _. ⌜ length (now (line .exit)) ≡ length (now (line .entry)) ⌝ }
+{
+    let mut space = io::buffer();
+    let n = os::arg(i, &mut space);
+    if os::errno() != 0 {
+        return 0;
+    }
+    if line.len() - at <= n {
+        return 0;
+    }
+    copy(&space[..n], line, at);
+    at + n + 1
+}
+
+// The arguments as a line of words.
+pub fn arguments(line: &mut [u8]) -> Loaded
+    ensures { λ r. ⌜ Counts (r .count) (now (line .exit)) ⌝ }
+{
+    let n = os::arg_count();
+    let mut at: usize = 0;
+    let mut i: usize = 1;
+    while i < n {
+        at = put_argument(i, line, at);
+        if at == 0 {
+            complain(b"deed: the arguments are too long\n");
+            return nothing();
+        }
+        i += 1;
+    }
+    Loaded {
+        good: true,
+        count: at,
+    }
+}

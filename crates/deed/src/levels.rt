@@ -1,0 +1,172 @@
+// The begins counted: each scope with its level, its place and what it declares. A scope is a block or a procedure's
+// body, as docs/TABLE.md numbers them; a compound statement is none.
+use crate::text::say;
+use crate::text::say_blanks;
+use crate::text::say_name;
+use crate::text::say_number;
+use crate::text::say_spot;
+use crate::uses::sections_of;
+use crate::uses::word;
+use answers::Place;
+use symbols::names::same_name;
+use syntax::nodes;
+ghost use Prim.Native.Nat.{_<_, _≤_, _+_};
+
+// The kind of the node whose words begin at `at`.
+fn kind_at(table: &[u16], at: usize) -> u16 {
+    if at < table.len() { table[at] } else { 0 }
+}
+
+fn opens(kind: u16) -> bool {
+    match kind {
+        nodes::BLOCK | nodes::PROCEDURE => true,
+        _ => false,
+    }
+}
+
+fn closes(kind: u16) -> bool {
+    match kind {
+        nodes::BLOCK_END | nodes::PROCEDURE_END => true,
+        _ => false,
+    }
+}
+
+fn say_type(number: usize) {
+    match number {
+        1 => say(b"integer "),
+        2 => say(b"Boolean "),
+        _ => {}
+    }
+}
+
+// Whether the node whose words begin at `at` specifies the formal at a place.
+fn specifies(source: &[u8], table: &[u16], at: usize, place: usize) -> bool
+    requires { ⌜ at < 2097152 ⌝ }
+{
+    if kind_at(table, at) != nodes::SPECIFIED {
+        return false;
+    }
+    let named = word(table, at + 1);
+    same_name(source, Place { at: named }, Place { at: place })
+}
+
+// The type that the specifications say of the formal at a place; its procedure's words begin at `node`.
+fn specified(source: &[u8], table: &[u16], node: usize, place: usize) -> usize
+    requires { ⌜ node < 1048576 ⌝ }
+{
+    let mut said: usize = 0;
+    let mut at = node;
+    while at < 1114112 {
+        let kind = kind_at(table, at);
+        if kind == nodes::BODY {
+            return 0;
+        }
+        if kind == nodes::TYPE {
+            said = word(table, at + 2);
+        }
+        if specifies(source, table, at, place) {
+            return said;
+        }
+        at += 4;
+    }
+    0
+}
+
+// The declaration whose words begin at `at`, of a scope whose node stands at `node`.
+fn show_declaration(source: &[u8], table: &[u16], at: usize, node: usize)
+    requires { ⌜ (at < 1048576) × (node < 1048576) ⌝ }
+{
+    let place = word(table, at);
+    match word(table, at + 1) {
+        1 => {
+            say_type(word(table, at + 3));
+            say(b"variable ");
+        }
+        2 => {
+            say_type(word(table, at + 3));
+            say(b"procedure ");
+        }
+        _ => {
+            say_type(specified(source, table, node, place));
+            say(b"formal ");
+        }
+    }
+    say_name(source, place);
+    say(b" at ");
+    say_spot(source, place);
+    say(b"\n");
+}
+
+// What the scope with a number declares.
+fn show_declared(source: &[u8], table: &[u16], scope: usize, node: usize, level: usize)
+    requires { ⌜ (node < 1048576) × (level < 65536) ⌝ }
+{
+    let s = sections_of(table);
+    let from = s.declarations + 1;
+    let n = word(table, s.declarations);
+    let mut k: usize = 0;
+    while k < n {
+        let at = from + 4 * k;
+        if word(table, at + 2) == scope {
+            say_blanks(2 * level);
+            show_declaration(source, table, at, node);
+        }
+        k += 1;
+    }
+}
+
+// The scope that a node opens.
+fn show_scope(source: &[u8], table: &[u16], scope: usize, node: usize, level: usize)
+    requires { ⌜ (node < 1048576) × (0 < level) × (level < 65536) ⌝ }
+{
+    let place = word(table, node + 1);
+    say_blanks(2 * level - 2);
+    say(b"level ");
+    say_number(level as u64);
+    if kind_at(table, node) == nodes::BLOCK {
+        say(b", block at ");
+    } else {
+        say(b", body of ");
+        say_name(source, place);
+        say(b" at ");
+    }
+    say_spot(source, place);
+    say(b"\n");
+    show_declared(source, table, scope, node, level);
+}
+
+// 1 for a node that opens a scope.
+fn opened(kind: u16) -> usize
+    ensures { λ r. ⌜ r ≤ 1 ⌝ }
+{
+    if opens(kind) { 1 } else { 0 }
+}
+
+// The level behind a node.
+fn level_behind(kind: u16, level: usize) -> usize
+    requires { ⌜ level < 65536 ⌝ }
+    ensures { λ r. ⌜ r ≤ level + 1 ⌝ }
+{
+    if closes(kind) && 0 < level {
+        return level - 1;
+    }
+    level + opened(kind)
+}
+
+pub fn show_levels(source: &[u8], table: &[u16]) {
+    let s = sections_of(table);
+    let n = word(table, s.nodes);
+    let mut level: usize = 0;
+    let mut scope: usize = 0;
+    let mut k: usize = 0;
+    while k < n {
+        let node = s.nodes + 1 + 4 * k;
+        let kind = kind_at(table, node);
+        scope += opened(kind);
+        level = level_behind(kind, level);
+        if opens(kind) && 0 < level {
+            show_scope(source, table, scope, node, level);
+        }
+        k += 1;
+    }
+}

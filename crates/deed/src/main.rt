@@ -1,0 +1,119 @@
+// The tool `deed`: it asks the proved jobs and shows their answers. Its arguments are one command; `deed do FILE` takes
+// the commands of a file, one a line.
+use asking::is_word;
+use asking::next_word;
+use files::arguments;
+use files::load;
+use jobs::help;
+use jobs::obey;
+use jobs::usage;
+use symbols::text::is_blank;
+use text::complain;
+use text::say;
+ghost use Prim.Native.Nat.{_≤_};
+ghost use Rattle.io.specs.Counts.{Counts};
+ghost use lib.ListN.{length};
+
+mod asking; // a line of words
+mod files; // files and arguments
+mod jobs; // what is done for a line
+mod levels; // deed levels
+mod text; // lines, columns, printing
+mod uses; // deed uses
+mod words; // sentences for answers
+
+// A line's words are ended by zeros here, by blanks in a file.
+fn unblanked(b: u8) -> u8 {
+    if is_blank(b) { 0 } else { b }
+}
+
+fn words_row(text: &[u8], row: &mut [u8]) -> usize
+    ensures { λ r. ⌜ Counts r (now (row .exit)) ⌝ }
+{
+    let mut i: usize = 0;
+    while i < text.len() {
+        if row.len() <= i {
+            return i;
+        }
+        row[i] = unblanked(text[i]);
+        i += 1;
+    }
+    i
+}
+
+// One line of a file of commands.
+fn obey_text(text: &[u8]) {
+    let mut row = io::large_buffer();
+    let n = words_row(text, &mut row);
+    say(b"> ");
+    say(text);
+    say(b"\n");
+    obey(&row[..n]);
+}
+
+fn line_end(text: &[u8], from: usize) -> usize
+    requires { ⌜ from ≤ length (now text) ⌝ }
+    ensures { λ r. ⌜ (from ≤ r) × (r ≤ length (now (text .entry))) ⌝ }
+{
+    let mut i = from;
+    while i < text.len() {
+        if text[i] == b'\n' {
+            return i;
+        }
+        i += 1;
+    }
+    i
+}
+
+fn obey_each(text: &[u8]) {
+    let mut at: usize = 0;
+    while at < text.len() {
+        let end = line_end(text, at);
+        obey_text(&text[at..end]);
+        at = end + 1;
+    }
+}
+
+// The commands of a file. One that fills the room may go on behind it, and no part of it is done.
+fn obey_file(name: &[u8]) {
+    let mut room = io::large_buffer();
+    let got = load(name, &mut room);
+    let n = got.count;
+    if !got.good {
+        usage();
+        return;
+    }
+    if 65536 <= n {
+        complain(b"deed: a file of commands has under 65,536 bytes\n");
+        return;
+    }
+    obey_each(&room[..n]);
+}
+
+fn start(line: &[u8]) {
+    if line.len() == 0 {
+        help();
+        return;
+    }
+    let w = next_word(line, 0);
+    let to = w.to;
+    if is_word(line, w.from, to, b"do") {
+        let file = next_word(line, to);
+        let a = file.from;
+        let b = file.to;
+        obey_file(&line[a..b]);
+        return;
+    }
+    obey(line);
+}
+
+fn main() {
+    let mut line = io::large_buffer();
+    let got = arguments(&mut line);
+    let n = got.count;
+    if got.good {
+        start(&line[..n]);
+    } else {
+        usage();
+    }
+}

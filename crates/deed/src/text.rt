@@ -1,0 +1,218 @@
+// A source as people see it: lines and columns, a line with a mark under a place, the letters of a name. And what is
+// printed: to standard output what was asked for, to standard error what was wrong with the asking.
+use libc::STDERR_FILENO;
+use libc::STDOUT_FILENO;
+use symbols::text::is_blank;
+use symbols::text::is_name_byte;
+ghost use Prim.Native.Nat.{_≤_};
+ghost use Rattle.io.specs.Counts.{Counts};
+ghost use lib.ListN.{length};
+
+// No source is longer than the room that it is read into.
+const LONGEST: usize = 65536;
+
+// How far from its beginning a place is shown in the line as it stands; of a longer line only the part around it is.
+const NEAR: usize = 80;
+
+// How much of a long line stands before the place.
+const BEFORE: usize = 60;
+
+pub fn say(text: &[u8]) {
+    io::write_all(STDOUT_FILENO, text);
+}
+
+pub fn say_number(n: u64) {
+    io::print_decimal(STDOUT_FILENO, n);
+}
+
+pub fn complain(text: &[u8]) {
+    io::write_all(STDERR_FILENO, text);
+}
+
+// The least of two.
+pub fn least(a: usize, b: usize) -> usize
+    ensures { λ r. ⌜ (r ≤ a) × (r ≤ b) ⌝ }
+{
+    if a < b { a } else { b }
+}
+
+// A place as people count: line and column from 1, and the byte at which its line begins.
+pub struct Spot {
+    pub line: u64,
+    pub column: u64,
+    pub start: usize,
+}
+
+pub fn spot_of(source: &[u8], place: usize) -> Spot
+    ensures { λ r. ⌜ r .start ≤ place ⌝ }
+{
+    let end = least(place, LONGEST);
+    let mut line: u64 = 1;
+    let mut start: usize = 0;
+    let mut i: usize = 0;
+    while i < end {
+        if source.len() <= i {
+            break;
+        }
+        if source[i] == b'\n' {
+            line += 1;
+            start = i + 1;
+        }
+        i += 1;
+    }
+    Spot {
+        line,
+        column: (end - start) as u64 + 1,
+        start,
+    }
+}
+
+// LINE:COLUMN.
+pub fn say_spot(source: &[u8], place: usize) {
+    let s = spot_of(source, place);
+    say_number(s.line);
+    say(b":");
+    say_number(s.column);
+}
+
+// Where what is shown of a line begins.
+fn shown_from(start: usize, place: usize) -> usize
+    requires { ⌜ start ≤ place ⌝ }
+    ensures { λ r. ⌜ r ≤ place ⌝ }
+{
+    if place - start < NEAR {
+        return start;
+    }
+    place - BEFORE
+}
+
+// A byte as it is shown: nothing in a source moves the cursor but a tab.
+fn shown(b: u8) -> u8 {
+    match b {
+        9 => 9,
+        13 => 32,
+        0..=31 => 63,
+        127 => 63,
+        _ => b,
+    }
+}
+
+// The bytes of a line from a place on, as many as the row takes; gives how many.
+fn line_row(source: &[u8], from: usize, row: &mut [u8]) -> usize
+    ensures { λ r. ⌜ Counts r (now (row .exit)) ⌝ }
+{
+    let mut n: usize = 0;
+    let mut i = from;
+    while i < source.len() {
+        if row.len() <= n {
+            return n;
+        }
+        if source[i] == b'\n' {
+            return n;
+        }
+        row[n] = shown(source[i]);
+        n += 1;
+        i += 1;
+    }
+    n
+}
+
+// What stands under a byte before the mark: a tab under a tab, a blank under anything else, and nothing under a byte
+// that only goes on with a character.
+fn under(b: u8) -> u8 {
+    match b {
+        9 => 9,
+        128..=191 => 0,
+        _ => 32,
+    }
+}
+
+// What stands before the mark, as many bytes as the row takes; gives how many.
+fn mark_row(source: &[u8], from: usize, place: usize, row: &mut [u8]) -> usize
+    ensures { λ r. ⌜ Counts r (now (row .exit)) ⌝ }
+{
+    let mut n: usize = 0;
+    let mut i = from;
+    while i < place {
+        if source.len() <= i {
+            return n;
+        }
+        if row.len() <= n {
+            return n;
+        }
+        let b = under(source[i]);
+        if b != 0 {
+            row[n] = b;
+            n += 1;
+        }
+        i += 1;
+    }
+    n
+}
+
+fn say_line(source: &[u8], from: usize) {
+    let mut row = [0u8; 100];
+    let n = line_row(source, from, &mut row);
+    say(&row[..n]);
+    say(b"\n");
+}
+
+fn say_mark(source: &[u8], from: usize, place: usize) {
+    let mut row = [0u8; 100];
+    let n = mark_row(source, from, place, &mut row);
+    say(b"    ");
+    say(&row[..n]);
+    say(b"^\n");
+}
+
+// The line of a place, and a mark under the place.
+pub fn show_line(source: &[u8], place: usize) {
+    let s = spot_of(source, place);
+    let start = s.start;
+    let from = shown_from(start, place);
+    if start < from {
+        say(b" .. ");
+    } else {
+        say(b"    ");
+    }
+    say_line(source, from);
+    say_mark(source, from, place);
+}
+
+// The letters and digits of the name at a place, as many as the row takes; gives how many.
+fn name_row(source: &[u8], at: usize, row: &mut [u8]) -> usize
+    ensures { λ r. ⌜ Counts r (now (row .exit)) ⌝ }
+{
+    let mut n: usize = 0;
+    let mut i = at;
+    while i < source.len() {
+        let b = source[i];
+        if is_name_byte(b) {
+            if row.len() <= n {
+                return n;
+            }
+            row[n] = b;
+            n += 1;
+        } else if !is_blank(b) {
+            return n;
+        }
+        i += 1;
+    }
+    n
+}
+
+// The name at a place, without the blanks in it.
+pub fn say_name(source: &[u8], at: usize) {
+    let mut row = [0u8; 32];
+    let n = name_row(source, at, &mut row);
+    say(&row[..n]);
+}
+
+// Blanks.
+pub fn say_blanks(n: usize) {
+    let mut i: usize = 0;
+    while i < n {
+        say(b" ");
+        i += 1;
+    }
+}
