@@ -1,19 +1,21 @@
 -- The counts stay small: no node adds more than six to one, nor opens more than one thing. So behind i nodes the counts are at most 65,536, which a
 -- place or a kind may be, and six a node; the second number of each thing that is open is a word of 32 bits, or what a use means.
-use mathlib.Core.Path.{_≡_, refl, sym, ap, _∙_}
-use mathlib.Core.Bool.{Bool, true, false, cond, _&&_, _||_}
+use mathlib.Core.Path.{subst}
+use mathlib.Core.Bool.{Bool, true, false, cond, _||_}
 use mathlib.Core.List.{List, [], _∷_}
-use Prim.Native.Nat.{ℕ, zero, suc, _+_, _*_, _-_, _≤_, _<_}
+use Prim.Native.Nat.{ℕ, _+_, _-_, _≤_, _<_}
 use native.Mathlib.Omega.{arith}
 use lib.Dec.{eqb}
-use lib.ListN.{length, getD}
+use lib.ListN.{getD}
 use Rattle.machine.specs.Instructions.{high, mid}
 use Rattle.syntax.specs.NodeKinds.{n-block, n-statements, n-variable, n-procedure, n-procedure-end, n-then, n-else, n-start, n-once, n-while, n-do, n-for-end, n-left, n-assign, n-unary, n-binary, n-number, n-logical, n-use, n-call, n-call-end, n-actual}
 use Rattle.names.specs.Rows.{isUse}
 use Rattle.translating.specs.Layout.{packed}
-use Rattle.translating.specs.Emission.{State, Opened, opened, put, withOpen, withSlot, noted, within, withLefts, withVariable, withUses, withEntry, top, below, pushed, popped, replaced, kindNext, meansNext, othersNext, operationOf, signed, largest, aheadAt, cellOf, resultOf, calledWith, resultFor, dropped, named, namedOr, calling, actualIn, callEnded, repeated, useNode, element, bodied, stepping, elementNode, loopNode, choiceNode, blockNode, procedureNode, stored, leftsOf, behindLefts, assigned, plainNode, isElement, isChoice, isBlock, codeNode}
-use Rattle.translating.specs.Model.{Slim, AllSlim, Small}
-use Rattle.translating.proofs.LeftParts.{slim-below, fewer-below, slim-behind, fewer-behind, length-lefts, storing}
+use Rattle.translating.specs.Emission.{State, Opened, put, withOpen, withSlot, noted, within, withLefts, withVariable, withUses, withEntry, top, pushed, popped, replaced, kindNext, meansNext, othersNext, signed, largest, cellOf, resultOf, calledWith, resultFor, dropped, named, namedOr, calling, actualIn, callEnded, repeated, useNode, element, bodied, stepping, elementNode, loopNode, choiceNode, blockNode, procedureNode, leftsOf, assigned, plainNode, isElement, isChoice, isBlock, codeNode}
+use Rattle.translating.specs.declared.Writing.{Writing}
+use Rattle.translating.specs.Model.{thingsOf, see, Slim, AllSlim, Small, Fit}
+use Rattle.translating.proofs.Stacked.{length-things}
+use Rattle.translating.proofs.LeftParts.{slim-below, fewer-below, slim-behind, fewer-behind, behind-things, length-lefts, storing}
 
 -- ---- what is open
 
@@ -453,3 +455,34 @@ module _ (vs ly ks es : List ℕ) {b n : ℕ} (st : State) (h : Small b n st) wh
       (either (isBlock vs ly ks es k) (in-block vs ly ks es st h f s k p)
       (either (eqb k n-procedure || eqb k n-procedure-end) (in-procedure vs ly ks es st h f s k p)
       (in-plain k p a))))))))
+
+-- ---- of the code's numbers
+
+-- the arrays besides do not matter
+pub small-alone : {b n : ℕ} (t : Writing) (us op co ah en : List ℕ) → Small b n (see t us op co ah en) → Small b n (see t [] op [] [] [])
+small-alone t us op co ah en h =
+    record {
+      at = h .at;
+      slots = h .slots;
+      level = h .level;
+      loops = h .loops;
+      cells = h .cells;
+      variable = h .variable;
+      many = h .many;
+      things = h .things;
+    }
+
+pub fit : (t : Writing) (op : List ℕ) → Small 131071 8191 (see t [] op [] [] []) → Fit t
+fit t op h =
+    let a = h .at in
+    let c = h .slots in
+    let e = h .level in
+    let f = h .loops in
+    let g = h .cells in
+    let k = h .many in
+    let l = length-things (t .open) op in
+    record { at = omega arith; slots = omega arith; level = omega arith; loops = omega arith; cells = omega arith; variable = h .variable; open-ones = omega arith }
+
+-- a left part's word
+pub left-word : (b m n : ℕ) (op : List ℕ) → AllSlim b (thingsOf m op) → top (thingsOf (m - n) op) .second < 4294967296
+left-word b m n op h = slim-top b (thingsOf (m - n) op) (subst (AllSlim b) (behind-things [] [] [] [] n m op) (slim-behind [] [] [] [] b n (thingsOf m op) h)) .second

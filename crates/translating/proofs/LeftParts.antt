@@ -2,7 +2,7 @@
 use mathlib.Core.Path.{_≡_, refl, sym, ap, _∙_}
 use mathlib.Core.Bool.{cond}
 use mathlib.Core.List.{List, [], _∷_}
-use Prim.Native.Nat.{ℕ, zero, suc, _+_, _-_, _≤_}
+use Prim.Native.Nat.{ℕ, zero, suc, _+_, _-_, _≤_, _<_}
 use native.Mathlib.Omega.{arith}
 use native.Mathlib.Numerals.{add-one}
 use lib.Dec.{eqb}
@@ -63,6 +63,14 @@ module _ (vs ly ks es : List ℕ) where
   unfolding stored leftsOf behindLefts
   stored-on zero l st = refl
   stored-on (suc n) l st = let d : suc n ≡ 0 → ⊥ = λ e. omega arith in rw (add-one, ne-eqb (suc n) 0 d) (stored-more n l st)
+
+  pub stored-step : (n m : ℕ) (op : List ℕ) (st : State) → 0 < n
+      → stored vs ly ks es (leftsOf vs ly ks es n (thingsOf m op) []) st ≡ stored vs ly ks es (leftsOf vs ly ks es (n - 1) (thingsOf m op) []) (put (cond (eqb (n - 1) 0) 14 15) 0 (top (thingsOf (m - (n - 1)) op) .second) st)
+  stored-step n m op st h =
+      let e : n ≡ n - 1 + 1 = omega arith in
+      ap (λ (i : ℕ). stored vs ly ks es (leftsOf vs ly ks es i (thingsOf m op) []) st) e
+      ∙ stored-on (n - 1) (thingsOf m op) st
+      ∙ ap (λ (l : List Opened). stored vs ly ks es (leftsOf vs ly ks es (n - 1) (thingsOf m op) []) (put (cond (eqb (n - 1) 0) 14 15) 0 (top l .second) st)) (behind-things (n - 1) m op)
 
   pub slim-behind : (b n : ℕ) (l : List Opened) → AllSlim b l → AllSlim b (behindLefts vs ly ks es n l)
   unfolding behindLefts

@@ -52,3 +52,5 @@ pub mod Emitted
 pub mod Coded
 pub mod LeftParts
 pub mod Counters
+pub mod Handed
+pub mod Dispatch

@@ -1,7 +1,7 @@
 -- The next use, three words behind those that were passed: its kind, what it means, and the uses behind it. Where fewer are left there is none.
-use mathlib.Core.Path.{_≡_, refl, sym, ap, _∙_}
+use mathlib.Core.Path.{_≡_, refl, sym, _∙_}
 use mathlib.Core.List.{List, [], _∷_}
-use Prim.Native.Nat.{ℕ, zero, suc, _+_, _-_, _<_, _≤_}
+use Prim.Native.Nat.{ℕ, _+_, _-_, _<_, _≤_}
 use native.Mathlib.Omega.{arith}
 use lib.ListN.{length, getD, drop, length-drop}
 use lib.Seq.{getD-drop, drop-drop, drop-length}
@@ -73,3 +73,29 @@ module _ (ws : List ℕ) (n : ℕ) where
 
   pub others-nowhere : length ws - n ≤ 2 → drop (length ws) ws ≡ othersNext (drop n ws)
   others-nowhere h = drop-length ws ∙ sym (others-none (drop n ws) (gone h))
+
+-- ---- words of 16 bits
+
+kind-word : (l : List ℕ) → ((i : ℕ) → getD l i 0 < 65536) → kindNext l < 65536
+unfolding kindNext
+kind-word [] h = omega arith
+kind-word (p ∷ []) h = omega arith
+kind-word (p ∷ k ∷ []) h = omega arith
+kind-word (p ∷ k ∷ m ∷ l) h = h 1
+
+means-word : (l : List ℕ) → ((i : ℕ) → getD l i 0 < 65536) → meansNext l < 65536
+unfolding meansNext
+means-word [] h = omega arith
+means-word (p ∷ []) h = omega arith
+means-word (p ∷ k ∷ []) h = omega arith
+means-word (p ∷ k ∷ m ∷ l) h = h 2
+
+module _ (ws : List ℕ) (n : ℕ) (h : (i : ℕ) → getD ws i 0 < 65536) where
+  later : (i : ℕ) → getD (drop n ws) i 0 < 65536
+  later i = rw (getD-drop n ws i 0) (h (n + i))
+
+  pub kind-small : kindNext (drop n ws) < 65536
+  kind-small = kind-word (drop n ws) later
+
+  pub means-small : meansNext (drop n ws) < 65536
+  means-small = means-word (drop n ws) later

@@ -1,10 +1,10 @@
 -- The sections of a program's table are the words of its uses and of its nodes: each stands behind its count, and the counts are those of words of
 -- three and of four.
-use Prim.Native.Nat.{ℕ, suc, _+_, _*_}
+use Prim.Native.Nat.{ℕ, suc, _+_, _*_, _≤_}
 use native.Mathlib.Omega.{arith}
 use mathlib.Core.Path.{_≡_, refl, sym, ap, _∙_}
 use mathlib.Core.List.{List, [], _∷_, _++_, append-assoc}
-use lib.ListN.{length, getD, take, drop, length-append}
+use lib.ListN.{length, getD, take, drop, length-append, length-take, length-drop}
 use lib.Seq.{take-append-seam, getD-append-add}
 use Rattle.names.specs.Program.{Statement}
 use Rattle.names.specs.Nodes.{nodesS}
@@ -111,3 +111,11 @@ module _ (place : ℕ → ℕ) where
         ∙ between (front ++ (fours (nodesS 1 s) ∷ [])) ns rest (nodesAt laid-out + 1) (4 * getD laid-out (nodesAt laid-out) 0)
         (omega (arith, nodes-at, length-append front (fours (nodesS 1 s) ∷ [])))
         (ap (λ k. 4 * k) nodes-count ∙ node-words (nodesS 1 s))
+
+-- no more nodes than words
+pub nodes-few : (t : List ℕ) → length t ≤ 32768 → length (nodesIn t) ≤ 32768
+unfolding nodesIn
+nodes-few t h =
+    let k = nodesAt t + 1 in
+    let n = 4 * getD t (nodesAt t) 0 in
+    omega (arith, length-take n (drop k t), length-drop k t)

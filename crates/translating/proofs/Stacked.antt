@@ -1,13 +1,13 @@
 -- What is open as it stands in an array, four numbers a thing, newest first: a thing written, the newest one, what is below.
 use mathlib.Core.Path.{_≡_, refl, _∙_}
 use mathlib.Core.Logic.{_≢_}
-use mathlib.Core.List.{List, [], _∷_}
+use mathlib.Core.List.{List, _∷_}
 use Prim.Native.Nat.{ℕ, zero, suc, _+_, _*_, _-_, _<_, _≤_}
 use native.Mathlib.Omega.{arith}
 use native.Mathlib.Numerals.{add-one}
 use lib.ListN.{length, getD, set, length-set}
 use lib.Seq.{getD-set-same, getD-set-other}
-use Rattle.translating.specs.Emission.{Opened, opened, top, below}
+use Rattle.translating.specs.Emission.{opened, top, below}
 use Rattle.translating.specs.Model.{thingAt, thingsOf}
 
 pub things-top : (n : ℕ) (s : List ℕ) → (n ≡ 0 → ⊥) → thingAt s (n - 1) ≡ top (thingsOf n s)

@@ -208,9 +208,11 @@ module _ {tb : Tables} {R : Type 0} {wd ws : List ℕ} {us us' : List Use} {c i 
         right = λ w k r f g.
             let v = slot-read (tb .ahead) (fl .slots) (A (B k)) (packed 0 n i) f in
             let p₁ = y .right w (B k) (D (LEAVE n ∷ r)) (slot-past (tb .ahead) (fl .slots) (A (B k)) 0 (packed 0 n i) f) (g .1) in
-            let p₂ = z .right w k (LEAVE n ∷ r) (slots-past (tb .ahead) (B k) filled f) (p₁ .1) in
-            (wrote-right (LEAVE n) 4 0 (packed 0 c 0) (z .next .code) r refl (leave-word c n cn (p₂ .1 .0))
-            ∙ p₂ .0
-            ∙ p₁ .0
-            ∙ wrote-right (ENTER (tb .place q) n i) 3 (tb .place q) _ (fl .code) (C (D (LEAVE n ∷ r))) refl (enter-word _ n i v (g .0)), p₂ .1 .1);
+            let p₂ = z .right w k (LEAVE n ∷ r) (slots-past (tb .ahead) (B k) filled f) (p₁ .1) in (
+              wrote-right (LEAVE n) 4 0 (packed 0 c 0) (z .next .code) r refl (leave-word c n cn (p₂ .1 .0))
+                  ∙ p₂ .0
+                  ∙ p₁ .0
+                  ∙ wrote-right (ENTER (tb .place q) n i) 3 (tb .place q) _ (fl .code) (C (D (LEAVE n ∷ r))) refl (enter-word _ n i v (g .0)),
+              p₂ .1 .1,
+            );
       }

@@ -153,12 +153,14 @@ module _ {tb : Tables} {R : Type 0} {wc we wf : List ℕ} {us us' us'' : List Us
             let p₂ = s .right y k₁ (JUMP e ∷ Cf r) (slot-past (tb .ahead) (p .next .slots) (Ae k₁) 0 (there (suc n)) d₁) (p₁ .1 .1) in
             let d₂ = slots-past (tb .ahead) k₁ filled d₁ in
             let l₂ = slot-read (tb .ahead) l (Af k) (there e) d₂ in
-            let p₃ = z .right y k r (slot-past (tb .ahead) l (Af k) 0 (there e) d₂) (p₂ .1 .1) in
-            (p₃ .0
-            ∙ wrote-right (JUMP e) 2 0 _ (s .next .code) (Cf r) refl (address _ e l₂ (p₂ .1 .0))
-            ∙ p₂ .0
-            ∙ wrote-right (IF condition (suc n)) 10 0 _ (p .next .code) (Ce (JUMP e ∷ Cf r)) refl (address _ (suc n) l₁ (p₁ .1 .0 .1))
-            ∙ p₁ .0, p₃ .1);
+            let p₃ = z .right y k r (slot-past (tb .ahead) l (Af k) 0 (there e) d₂) (p₂ .1 .1) in (
+              p₃ .0
+                  ∙ wrote-right (JUMP e) 2 0 _ (s .next .code) (Cf r) refl (address _ e l₂ (p₂ .1 .0))
+                  ∙ p₂ .0
+                  ∙ wrote-right (IF condition (suc n)) 10 0 _ (p .next .code) (Ce (JUMP e ∷ Cf r)) refl (address _ (suc n) l₁ (p₁ .1 .0 .1))
+                  ∙ p₁ .0,
+              p₃ .1,
+            );
       }
 
 module _ {tb : Tables} {R : Type 0} {g : List Mark} {h m : ℕ} where

@@ -305,11 +305,16 @@ module _ (tb : Tables) (R : Type 0) (g : List Mark) (right : R → Targets (tb .
       let at₁ : t .next .at + 1 ≡ suc n = add-one (t .next .at) ∙ ap suc (t .at) in
       let at₃ : t .next .at + 3 ≡ suc (suc (suc n)) = omega (arith, t .at) in
       turn tb t (λ i o. DO keep ∷ IF (upto p (loc g x)) o ∷ GO m i (suc (suc (suc n))) ∷ DO (bump (tb .place q) (loc g x)) ∷ JUMP (suc n) ∷ []) (stepParts tb q s v p fr (t .next)) n-step q (step-step tb q s v p b fr (t .next))
-      (λ z i o h l c.
-      (refl,
-      (ap (parts 11 p) (upto-word tb v o _ (loc g x) (word (c .1 .0 .0)) l (c .1 .0 .0) (c .1 .0 .1)),
-      (ap (parts 8 0) (go-back tb (fr .loops) m (suc (suc (suc n))) i _ _ (w .loops) at₃ h (c .1 .1 .0)),
-      (ap (parts 21 (tb .place q)) (word (c .1 .1 .1 .0)), (ap (parts 2 0) (jump-word tb _ (suc n) at₁ (c .1 .1 .1 .1 .0)), tt))))))
+      (λ z i o h l c. (
+        refl,
+        (
+          ap (parts 11 p) (upto-word tb v o _ (loc g x) (word (c .1 .0 .0)) l (c .1 .0 .0) (c .1 .0 .1)),
+          (
+            ap (parts 8 0) (go-back tb (fr .loops) m (suc (suc (suc n))) i _ _ (w .loops) at₃ h (c .1 .1 .0)),
+            (ap (parts 21 (tb .place q)) (word (c .1 .1 .1 .0)), (ap (parts 2 0) (jump-word tb _ (suc n) at₁ (c .1 .1 .1 .1 .0)), tt)),
+          ),
+        ),
+      ))
 
   step-turned : (q : ℕ) (e f h : Expression) (d b : ℕ) → OkX (scopes g) (by-step q e f h) → NumbersX (Numbered tb) (by-step q e f h) → IsX (by-step q e f h) d b
   unfolding nodesL endX aheadX

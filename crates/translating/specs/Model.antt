@@ -1,11 +1,14 @@
 -- How the arrays of the code hold what Layout and Emission speak of, and what the functions need of them. No part of the paper.
 use Prim.Native.Nat.{ℕ, zero, suc, _+_, _*_, _≤_, _<_}
 use mathlib.Core.Path.{_≡_}
+use mathlib.Core.Bool.{cond, _||_}
 use mathlib.Core.List.{List, [], _∷_}
+use lib.Dec.{eqb}
 use lib.ListN.{length, getD, drop}
-use Rattle.names.specs.Rows.{opensOf}
+use Rattle.syntax.specs.NodeKinds.{n-do, n-for-end, n-procedure, n-procedure-end}
+use Rattle.names.specs.Rows.{opensOf, foldNodes}
 use Rattle.translating.specs.Layout.{Laying}
-use Rattle.translating.specs.Emission.{State, Opened, opened}
+use Rattle.translating.specs.Emission.{State, Opened, opened, put, top, elementNode, loopNode, choiceNode, blockNode, procedureNode, plainNode, isElement, isChoice, isBlock, codeNode}
 use Rattle.translating.specs.declared.Laid.{Laid}
 use Rattle.translating.specs.declared.Writing.{Writing}
 use Rattle.translating.specs.declared.Thing.{Thing}
@@ -85,3 +88,23 @@ pub record Fit (t : Writing) : Type 0 where
   pub cells : t .cells < 131072
   pub variable : t .variable < 4294967296
   pub open-ones : t .open < 8192
+
+-- ---- the pass
+
+-- what a node adds that is of no name and no call
+unfoldable pub restNode : List ℕ → List ℕ → List ℕ → List ℕ → ℕ → ℕ → ℕ → State → State
+restNode values layout ahead entries k p a st =
+    cond (isElement values layout ahead entries k) (elementNode values layout ahead entries k (top (st .open-ones)) p st)
+    (cond (eqb k n-do || eqb k n-for-end) (loopNode values layout ahead entries k (top (st .open-ones)) st)
+    (cond (isChoice values layout ahead entries k) (choiceNode values layout ahead entries k (top (st .open-ones)) st)
+    (cond (isBlock values layout ahead entries k) (blockNode values layout ahead entries k (top (st .open-ones)) p st)
+    (cond (eqb k n-procedure || eqb k n-procedure-end) (procedureNode values layout ahead entries k (top (st .open-ones)) p st)
+    (plainNode values layout ahead entries k p a st)))))
+
+-- nothing is known, in arrays that may hold anything
+abbrev pub freshIn : List ℕ → List ℕ → List ℕ → List ℕ → State
+freshIn uses code ahead entries =
+    record { uses = uses; at = 0; slots = 0; level = 0; loops = 0; cells = 0; lefts = 0; awaits = 0; variable = 0; open-ones = []; code = code; ahead = ahead; entries = entries }
+
+abbrev pub emittedFrom : List ℕ → List ℕ → List ℕ → List ℕ → List ℕ → State → State
+emittedFrom values layout ahead entries nodes st = put 1 0 0 (foldNodes (codeNode values layout ahead entries) nodes st)

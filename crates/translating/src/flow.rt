@@ -9,7 +9,7 @@ ghost use mathlib.Core.List.{List};
 ghost use Prim.Native.Nat.{ℕ, _+_, _-_, _<_};
 ghost use Rattle.translating.specs.Layout.{packed};
 ghost use Rattle.translating.specs.Emission.{put, noted, within, withSlot, withEntry, pushed, popped, replaced, aheadAt, choiceNode, blockNode, procedureNode};
-ghost use Rattle.translating.specs.Model.{seen, see, Slim, Fit};
+ghost use Rattle.translating.specs.Model.{seen, see, Fit};
 
 // Behind a condition: the slot of where it goes on.
 fn conditioned(t: Writing, ahead: &[u32], things: &mut [usize; 32768], code: &mut [u32]) -> Writing

@@ -7,6 +7,8 @@ pub mod loops; // for statements
 pub mod flow; // conditions, blocks and procedures
 pub mod values; // the values of numbers, by place
 pub mod sections; // the sections of a table
+pub mod emission; // the pass over the nodes
+pub mod translating; // the job
 
 // What is known behind some nodes of where cells lie: the type before; the activations around; the cells of the running
 // activation's scopes; how many scopes are open.

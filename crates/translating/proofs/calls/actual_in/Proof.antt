@@ -1,15 +1,12 @@
 -- `translating::calls::actual_in` meets its contract: the call has one actual more, and what it awaits next is known.
-use mathlib.Core.Path.{_≡_, refl, sym, ap, _∙_}
+-- Assumes nothing.
+use mathlib.Core.Path.{ap}
 use mathlib.Core.Bool.{cond, _&&_}
 use lib.Dec.{eqb}
 use Rattle.translating.specs.Emission.{State, actualIn, withVariable, withOpen, replaced}
 use borrow.Author.Needs.{needs}
 use Rattle.translating.proofs.calls.actual_in.Statement.{statement}
 use Rattle.translating.proofs.calls.actual_in.Tie as tie
-use Rattle.translating.proofs.calls.actual_in.Reads as reads
-use Rattle.translating.proofs.calls.actual_in.Lts as lts
-use Rattle.translating.proofs.calls.awaited.Reads as awaited-reads
-use Rattle.translating.proofs.putting.replace.Reads as replace-reads
 
 add-replace : tie.Need-add-replace
 add-replace c = search needs

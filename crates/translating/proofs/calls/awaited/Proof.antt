@@ -1,10 +1,8 @@
 -- `translating::calls::awaited` meets its contract: by the three tests.
-use mathlib.Core.Path.{_≡_, refl, sym, ap, _∙_}
+-- Assumes nothing.
 use borrow.Author.Tests.{eq-eqb, ne-eqb}
 use Rattle.translating.proofs.calls.awaited.Statement.{statement}
 use Rattle.translating.proofs.calls.awaited.Tie as tie
-use Rattle.translating.proofs.calls.awaited.Reads as reads
-use Rattle.translating.proofs.calls.awaited.Lts as lts
 
 returns : tie.Need-returns
 returns c = simp (eq-eqb _ _ (c .before .before .before .before .if1 .taken), eq-eqb _ _ (c .before .before .if2 .taken), eq-eqb _ _ (c .if3 .taken))

@@ -1,15 +1,11 @@
 -- `translating::calls::call_ended` meets its contract: by the kind of what is called, and of the environment by its number.
-use mathlib.Core.Path.{_≡_, refl, sym, ap, _∙_}
+-- Assumes nothing.
+use mathlib.Core.Path.{ap, _∙_}
 use borrow.Author.Tests.{eq-eqb, ne-eqb}
 use Rattle.translating.specs.Emission.{callEnded, dropped}
 use borrow.Author.Needs.{needs}
 use Rattle.translating.proofs.calls.call_ended.Statement.{statement}
 use Rattle.translating.proofs.calls.call_ended.Tie as tie
-use Rattle.translating.proofs.calls.call_ended.Reads as reads
-use Rattle.translating.proofs.calls.call_ended.Lts as lts
-use Rattle.translating.proofs.calls.called_with.Reads as called-with-reads
-use Rattle.translating.proofs.calls.dropped.Reads as dropped-reads
-use Rattle.translating.proofs.putting.put.Reads as put-reads
 
 called-with-requires : tie.Need-called-with-requires
 called-with-requires c κs = search needs

@@ -1,17 +1,9 @@
 -- `translating::calls::called_with` meets its contract: the three parts of the operand are the model's.
-use mathlib.Core.Path.{_≡_, refl, sym, ap, _∙_}
+-- Assumes nothing.
 use Rattle.translating.specs.Emission.{calledWith}
 use borrow.Author.Needs.{needs}
 use Rattle.translating.proofs.calls.called_with.Statement.{statement}
 use Rattle.translating.proofs.calls.called_with.Tie as tie
-use Rattle.translating.proofs.calls.called_with.Reads as reads
-use Rattle.translating.proofs.calls.called_with.Lts as lts
-use Rattle.translating.proofs.calls.result_of.Reads as result-of-reads
-use Rattle.translating.proofs.parts.high.Reads as high-reads
-use Rattle.translating.proofs.parts.less.Reads as less-reads
-use Rattle.translating.proofs.parts.packed.Reads as packed-reads
-use Rattle.translating.proofs.parts.word_at.Reads as word-at-reads
-use Rattle.translating.proofs.putting.put.Reads as put-reads
 
 word-at-requires : tie.Need-word-at-requires
 word-at-requires c κs = search needs

@@ -1,13 +1,10 @@
 -- `translating::calls::calling` meets its contract: a result's cell, then the call is open.
-use mathlib.Core.Path.{_≡_, refl, sym, ap, _∙_}
+-- Assumes nothing.
+use mathlib.Core.Path.{ap, _∙_}
 use Rattle.translating.specs.Emission.{calling, pushed}
 use borrow.Author.Needs.{needs}
 use Rattle.translating.proofs.calls.calling.Statement.{statement}
 use Rattle.translating.proofs.calls.calling.Tie as tie
-use Rattle.translating.proofs.calls.calling.Reads as reads
-use Rattle.translating.proofs.calls.calling.Lts as lts
-use Rattle.translating.proofs.calls.result_for.Reads as result-for-reads
-use Rattle.translating.proofs.putting.push.Reads as push-reads
 
 result-for-requires : tie.Need-result-for-requires
 result-for-requires c κs = search needs

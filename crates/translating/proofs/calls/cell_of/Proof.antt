@@ -1,17 +1,10 @@
 -- `translating::calls::cell_of` meets its contract: by the test, from the parts of the word.
-use mathlib.Core.Path.{_≡_, refl, sym, ap, _∙_}
+-- Assumes nothing.
 use borrow.Author.Tests.{eq-eqb, ne-eqb}
 use Rattle.translating.specs.Emission.{cellOf}
 use borrow.Author.Needs.{needs}
 use Rattle.translating.proofs.calls.cell_of.Statement.{statement}
 use Rattle.translating.proofs.calls.cell_of.Tie as tie
-use Rattle.translating.proofs.calls.cell_of.Reads as reads
-use Rattle.translating.proofs.calls.cell_of.Lts as lts
-use Rattle.translating.proofs.parts.high.Reads as high-reads
-use Rattle.translating.proofs.parts.less.Reads as less-reads
-use Rattle.translating.proofs.parts.mid.Reads as mid-reads
-use Rattle.translating.proofs.parts.packed.Reads as packed-reads
-use Rattle.translating.proofs.parts.word_at.Reads as word-at-reads
 
 word-at-requires : tie.Need-word-at-requires
 word-at-requires c κs = search needs

@@ -1,13 +1,10 @@
 -- `translating::calls::dropped` meets its contract: by the test.
-use mathlib.Core.Path.{_≡_, refl, sym, ap, _∙_}
+-- Assumes nothing.
 use borrow.Author.Tests.{eq-eqb, ne-eqb}
 use Rattle.translating.specs.Emission.{dropped}
 use borrow.Author.Needs.{needs}
 use Rattle.translating.proofs.calls.dropped.Statement.{statement}
 use Rattle.translating.proofs.calls.dropped.Tie as tie
-use Rattle.translating.proofs.calls.dropped.Reads as reads
-use Rattle.translating.proofs.calls.dropped.Lts as lts
-use Rattle.translating.proofs.putting.put.Reads as put-reads
 
 returns : tie.Need-returns
 unfolding dropped

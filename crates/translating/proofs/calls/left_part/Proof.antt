@@ -1,14 +1,11 @@
 -- `translating::calls::left_part` meets its contract: its cell is kept, and one left part more is counted.
-use mathlib.Core.Path.{_≡_, refl, sym, ap, _∙_}
+-- Assumes nothing.
+use mathlib.Core.Path.{ap}
 use Prim.Native.Nat.{_+_}
 use Rattle.translating.specs.Emission.{State, withLefts, pushed, withOpen}
 use borrow.Author.Needs.{needs}
 use Rattle.translating.proofs.calls.left_part.Statement.{statement}
 use Rattle.translating.proofs.calls.left_part.Tie as tie
-use Rattle.translating.proofs.calls.left_part.Reads as reads
-use Rattle.translating.proofs.calls.left_part.Lts as lts
-use Rattle.translating.proofs.calls.cell_of.Reads as cell-of-reads
-use Rattle.translating.proofs.putting.push.Reads as push-reads
 
 cell-of-requires : tie.Need-cell-of-requires
 cell-of-requires c κs = search needs

@@ -1,17 +1,11 @@
 -- `translating::calls::named` meets its contract: by the kind of what the name means.
-use mathlib.Core.Path.{_≡_, refl, sym, ap, _∙_}
+-- Assumes nothing.
+use mathlib.Core.Path.{ap, _∙_}
 use borrow.Author.Tests.{eq-eqb, ne-eqb}
 use Rattle.translating.specs.Emission.{named, dropped, calledWith}
 use borrow.Author.Needs.{needs}
 use Rattle.translating.proofs.calls.named.Statement.{statement}
 use Rattle.translating.proofs.calls.named.Tie as tie
-use Rattle.translating.proofs.calls.named.Reads as reads
-use Rattle.translating.proofs.calls.named.Lts as lts
-use Rattle.translating.proofs.calls.called_with.Reads as called-with-reads
-use Rattle.translating.proofs.calls.cell_of.Reads as cell-of-reads
-use Rattle.translating.proofs.calls.dropped.Reads as dropped-reads
-use Rattle.translating.proofs.calls.result_for.Reads as result-for-reads
-use Rattle.translating.proofs.putting.put.Reads as put-reads
 
 put-requires : tie.Need-put-requires
 put-requires c κs = search needs

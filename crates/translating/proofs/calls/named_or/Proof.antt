@@ -1,14 +1,10 @@
 -- `translating::calls::named_or` meets its contract: by what is awaited.
-use mathlib.Core.Path.{_≡_, refl, sym, ap, _∙_}
+-- Assumes nothing.
 use borrow.Author.Tests.{eq-eqb, ne-eqb}
 use Rattle.translating.specs.Emission.{namedOr, withVariable}
 use borrow.Author.Needs.{needs}
 use Rattle.translating.proofs.calls.named_or.Statement.{statement}
 use Rattle.translating.proofs.calls.named_or.Tie as tie
-use Rattle.translating.proofs.calls.named_or.Reads as reads
-use Rattle.translating.proofs.calls.named_or.Lts as lts
-use Rattle.translating.proofs.calls.cell_of.Reads as cell-of-reads
-use Rattle.translating.proofs.calls.named.Reads as named-reads
 
 named-requires : tie.Need-named-requires
 named-requires c κs = search needs

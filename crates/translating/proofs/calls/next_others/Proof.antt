@@ -1,4 +1,5 @@
 -- `translating::calls::next_others` meets its contract: three words are passed, or all.
+-- Assumes nothing.
 use native.Mathlib.Omega.{arith}
 use mathlib.Core.Path.{refl}
 use Prim.Native.Nat.{_-_, _<_, _≤_}
@@ -8,9 +9,6 @@ use Rattle.translating.proofs.NextUses.{others-here, others-nowhere}
 use borrow.Author.Needs.{needs}
 use Rattle.translating.proofs.calls.next_others.Statement.{statement}
 use Rattle.translating.proofs.calls.next_others.Tie as tie
-use Rattle.translating.proofs.calls.next_others.Reads as reads
-use Rattle.translating.proofs.calls.next_others.Lts as lts
-use Rattle.translating.proofs.parts.less.Reads as less-reads
 
 less-requires : tie.Need-less-requires
 less-requires c κs = search needs

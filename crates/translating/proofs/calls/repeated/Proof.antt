@@ -1,14 +1,10 @@
 -- `translating::calls::repeated` meets its contract: it is open, and one address more lies ahead.
-use mathlib.Core.Path.{_≡_, refl, sym, ap, _∙_}
+-- Assumes nothing.
+use mathlib.Core.Path.{ap, _∙_}
 use Rattle.translating.specs.Emission.{repeated, withSlot}
 use borrow.Author.Needs.{needs}
 use Rattle.translating.proofs.calls.repeated.Statement.{statement}
 use Rattle.translating.proofs.calls.repeated.Tie as tie
-use Rattle.translating.proofs.calls.repeated.Reads as reads
-use Rattle.translating.proofs.calls.repeated.Lts as lts
-use Rattle.translating.proofs.calls.cell_of.Reads as cell-of-reads
-use Rattle.translating.proofs.putting.push.Reads as push-reads
-use Rattle.translating.proofs.putting.slot.Reads as slot-reads
 
 cell-of-requires : tie.Need-cell-of-requires
 cell-of-requires c κs = search needs

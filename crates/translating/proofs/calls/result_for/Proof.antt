@@ -1,15 +1,12 @@
 -- `translating::calls::result_for` meets its contract: by the test.
-use mathlib.Core.Path.{_≡_, refl, sym, ap, _∙_}
+-- Assumes nothing.
+use mathlib.Core.Path.{refl, sym, _∙_}
 use borrow.Author.Tests.{eq-eqb, ne-eqb}
 use Rattle.translating.specs.Emission.{resultFor}
 use native.Mathlib.Omega.{arith}
 use borrow.Author.Needs.{needs}
 use Rattle.translating.proofs.calls.result_for.Statement.{statement}
 use Rattle.translating.proofs.calls.result_for.Tie as tie
-use Rattle.translating.proofs.calls.result_for.Reads as reads
-use Rattle.translating.proofs.calls.result_for.Lts as lts
-use Rattle.translating.proofs.calls.result_of.Reads as result-of-reads
-use Rattle.translating.proofs.putting.put.Reads as put-reads
 
 result-of-requires : tie.Need-result-of-requires
 result-of-requires c κs = search needs

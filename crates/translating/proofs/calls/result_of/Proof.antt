@@ -1,15 +1,11 @@
 -- `translating::calls::result_of` meets its contract: by the test.
-use mathlib.Core.Path.{_≡_, refl, sym, ap, _∙_}
+-- Assumes nothing.
 use borrow.Author.Tests.{eq-eqb, ne-eqb}
 use Rattle.translating.specs.Emission.{resultOf}
 use native.Mathlib.Omega.{arith}
 use borrow.Author.Needs.{needs}
 use Rattle.translating.proofs.calls.result_of.Statement.{statement}
 use Rattle.translating.proofs.calls.result_of.Tie as tie
-use Rattle.translating.proofs.calls.result_of.Reads as reads
-use Rattle.translating.proofs.calls.result_of.Lts as lts
-use Rattle.translating.proofs.parts.mid.Reads as mid-reads
-use Rattle.translating.proofs.parts.word_at.Reads as word-at-reads
 
 word-at-requires : tie.Need-word-at-requires
 word-at-requires c κs = search needs

@@ -1,20 +1,12 @@
 -- `translating::calls::use_node` meets its contract: what the next use means, then the arm of the node's kind.
-use mathlib.Core.Path.{_≡_, refl, sym, ap, _∙_}
-use borrow.Author.Tests.{eq-eqb, ne-eqb}
+-- Assumes nothing.
+use mathlib.Core.Path.{ap, _∙_}
+use borrow.Author.Tests.{ne-eqb}
 use Prim.Native.Nat.{_+_}
 use Rattle.translating.specs.Emission.{State, useNode, namedOr, calling, cellOf, pushed, withLefts, repeated}
 use borrow.Author.Needs.{needs}
 use Rattle.translating.proofs.calls.use_node.Statement.{statement}
 use Rattle.translating.proofs.calls.use_node.Tie as tie
-use Rattle.translating.proofs.calls.use_node.Reads as reads
-use Rattle.translating.proofs.calls.use_node.Lts as lts
-use Rattle.translating.proofs.calls.calling.Reads as calling-reads
-use Rattle.translating.proofs.calls.left_part.Reads as left-part-reads
-use Rattle.translating.proofs.calls.named_or.Reads as named-or-reads
-use Rattle.translating.proofs.calls.next_kind.Reads as next-kind-reads
-use Rattle.translating.proofs.calls.next_means.Reads as next-means-reads
-use Rattle.translating.proofs.calls.next_others.Reads as next-others-reads
-use Rattle.translating.proofs.calls.repeated.Reads as repeated-reads
 
 next-kind-requires : tie.Need-next-kind-requires
 next-kind-requires c κs = search needs

@@ -1,16 +1,11 @@
 -- `translating::flow::begun` meets its contract: the block's cells and its first statement are noted, and its variables are kept.
-use mathlib.Core.Path.{_≡_, refl, sym, ap, _∙_}
+-- Assumes nothing.
 use lib.ListN.{set}
 use Rattle.translating.specs.Layout.{packed}
 use Rattle.translating.specs.Emission.{noted, replaced, withOpen}
 use borrow.Author.Needs.{needs}
 use Rattle.translating.proofs.flow.begun.Statement.{statement}
 use Rattle.translating.proofs.flow.begun.Tie as tie
-use Rattle.translating.proofs.flow.begun.Reads as reads
-use Rattle.translating.proofs.flow.begun.Lts as lts
-use Rattle.translating.proofs.parts.packed.Reads as packed-reads
-use Rattle.translating.proofs.parts.set_word.Reads as set-word-reads
-use Rattle.translating.proofs.putting.replace.Reads as replace-reads
 
 packed-requires : tie.Need-packed-requires
 packed-requires c κs = search needs

@@ -1,15 +1,10 @@
 -- `translating::flow::block_node` meets its contract: each kind puts the tests of `blockNode` right.
-use mathlib.Core.Path.{_≡_, refl, sym, ap, _∙_}
+-- Assumes nothing.
 use borrow.Author.Tests.{ne-eqb}
 use Rattle.translating.specs.Emission.{blockNode}
 use borrow.Author.Needs.{needs}
 use Rattle.translating.proofs.flow.block_node.Statement.{statement}
 use Rattle.translating.proofs.flow.block_node.Tie as tie
-use Rattle.translating.proofs.flow.block_node.Reads as reads
-use Rattle.translating.proofs.flow.block_node.Lts as lts
-use Rattle.translating.proofs.flow.begun.Reads as begun-reads
-use Rattle.translating.proofs.flow.entered.Reads as entered-reads
-use Rattle.translating.proofs.flow.left.Reads as left-reads
 
 entered-requires : tie.Need-entered-requires
 entered-requires c κs = search needs

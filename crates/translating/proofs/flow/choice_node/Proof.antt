@@ -1,15 +1,10 @@
 -- `translating::flow::choice_node` meets its contract: each kind puts the tests of `choiceNode` right.
-use mathlib.Core.Path.{_≡_, refl, sym, ap, _∙_}
+-- Assumes nothing.
 use borrow.Author.Tests.{ne-eqb}
 use Rattle.translating.specs.Emission.{choiceNode}
 use borrow.Author.Needs.{needs}
 use Rattle.translating.proofs.flow.choice_node.Statement.{statement}
 use Rattle.translating.proofs.flow.choice_node.Tie as tie
-use Rattle.translating.proofs.flow.choice_node.Reads as reads
-use Rattle.translating.proofs.flow.choice_node.Lts as lts
-use Rattle.translating.proofs.flow.conditioned.Reads as conditioned-reads
-use Rattle.translating.proofs.flow.joined.Reads as joined-reads
-use Rattle.translating.proofs.flow.otherwise.Reads as otherwise-reads
 
 conditioned-requires : tie.Need-conditioned-requires
 conditioned-requires c κs = search needs

@@ -1,16 +1,10 @@
 -- `translating::flow::conditioned` meets its contract: the instruction, then it is open, and one address more lies ahead.
-use mathlib.Core.Path.{_≡_, refl, sym, ap, _∙_}
+-- Assumes nothing.
+use mathlib.Core.Path.{ap, _∙_}
 use Rattle.translating.specs.Emission.{pushed, withSlot, aheadAt}
 use borrow.Author.Needs.{needs}
 use Rattle.translating.proofs.flow.conditioned.Statement.{statement}
 use Rattle.translating.proofs.flow.conditioned.Tie as tie
-use Rattle.translating.proofs.flow.conditioned.Reads as reads
-use Rattle.translating.proofs.flow.conditioned.Lts as lts
-use Rattle.translating.proofs.parts.packed.Reads as packed-reads
-use Rattle.translating.proofs.parts.word_at.Reads as word-at-reads
-use Rattle.translating.proofs.putting.push.Reads as push-reads
-use Rattle.translating.proofs.putting.put.Reads as put-reads
-use Rattle.translating.proofs.putting.slot.Reads as slot-reads
 
 word-at-requires : tie.Need-word-at-requires
 word-at-requires c κs = search needs

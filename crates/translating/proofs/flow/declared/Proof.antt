@@ -1,15 +1,12 @@
 -- `translating::flow::declared` meets its contract: its address is known, and an activation more is around, with no for statement.
-use mathlib.Core.Path.{_≡_, refl, sym, ap, _∙_}
+-- Assumes nothing.
+use mathlib.Core.Path.{ap}
 use Prim.Native.Nat.{_+_}
 use lib.ListN.{set}
 use Rattle.translating.specs.Emission.{State, pushed, within, withEntry, withOpen}
 use borrow.Author.Needs.{needs}
 use Rattle.translating.proofs.flow.declared.Statement.{statement}
 use Rattle.translating.proofs.flow.declared.Tie as tie
-use Rattle.translating.proofs.flow.declared.Reads as reads
-use Rattle.translating.proofs.flow.declared.Lts as lts
-use Rattle.translating.proofs.parts.set_word.Reads as set-word-reads
-use Rattle.translating.proofs.putting.push.Reads as push-reads
 
 set-word-requires : tie.Need-set-word-requires
 set-word-requires c κs = search needs

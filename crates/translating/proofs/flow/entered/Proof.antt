@@ -1,15 +1,10 @@
 -- `translating::flow::entered` meets its contract: the instruction, then the block is open with no variable so far.
-use mathlib.Core.Path.{_≡_, refl, sym, ap, _∙_}
+-- Assumes nothing.
+use mathlib.Core.Path.{ap, _∙_}
 use Rattle.translating.specs.Emission.{State, put, pushed, within, withOpen, withSlot, aheadAt}
 use borrow.Author.Needs.{needs}
 use Rattle.translating.proofs.flow.entered.Statement.{statement}
 use Rattle.translating.proofs.flow.entered.Tie as tie
-use Rattle.translating.proofs.flow.entered.Reads as reads
-use Rattle.translating.proofs.flow.entered.Lts as lts
-use Rattle.translating.proofs.parts.word_at.Reads as word-at-reads
-use Rattle.translating.proofs.putting.push.Reads as push-reads
-use Rattle.translating.proofs.putting.put.Reads as put-reads
-use Rattle.translating.proofs.putting.slot.Reads as slot-reads
 
 word-at-requires : tie.Need-word-at-requires
 word-at-requires c κs = search needs

@@ -1,16 +1,11 @@
 -- `translating::flow::joined` meets its contract: the address is noted, and the condition is closed.
-use mathlib.Core.Path.{_≡_, refl, sym, ap, _∙_}
+-- Assumes nothing.
 use lib.ListN.{set}
 use Rattle.translating.specs.Layout.{packed}
 use Rattle.translating.specs.Emission.{noted, popped, withOpen}
 use borrow.Author.Needs.{needs}
 use Rattle.translating.proofs.flow.joined.Statement.{statement}
 use Rattle.translating.proofs.flow.joined.Tie as tie
-use Rattle.translating.proofs.flow.joined.Reads as reads
-use Rattle.translating.proofs.flow.joined.Lts as lts
-use Rattle.translating.proofs.parts.packed.Reads as packed-reads
-use Rattle.translating.proofs.parts.set_word.Reads as set-word-reads
-use Rattle.translating.proofs.putting.pop.Reads as pop-reads
 
 packed-requires : tie.Need-packed-requires
 packed-requires c κs = search needs

@@ -1,14 +1,10 @@
 -- `translating::flow::left` meets its contract: the instruction, then the block is closed, and the one around goes on.
-use mathlib.Core.Path.{_≡_, refl, sym, ap, _∙_}
+-- Assumes nothing.
+use mathlib.Core.Path.{ap, _∙_}
 use Rattle.translating.specs.Emission.{State, put, popped, within, withOpen}
 use borrow.Author.Needs.{needs}
 use Rattle.translating.proofs.flow.left.Statement.{statement}
 use Rattle.translating.proofs.flow.left.Tie as tie
-use Rattle.translating.proofs.flow.left.Reads as reads
-use Rattle.translating.proofs.flow.left.Lts as lts
-use Rattle.translating.proofs.parts.packed.Reads as packed-reads
-use Rattle.translating.proofs.putting.pop.Reads as pop-reads
-use Rattle.translating.proofs.putting.put.Reads as put-reads
 
 packed-requires : tie.Need-packed-requires
 packed-requires c κs = search needs

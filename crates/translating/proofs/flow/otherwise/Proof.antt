@@ -1,21 +1,14 @@
 -- `translating::flow::otherwise` meets its contract: the address is noted, the instruction written, and another slot is open.
-use mathlib.Core.Path.{_≡_, refl, sym, ap, _∙_}
+-- Assumes nothing.
+use mathlib.Core.Path.{ap, _∙_}
 use native.Mathlib.Omega.{arith}
 use Prim.Native.Nat.{_+_}
 use lib.ListN.{set}
 use Rattle.translating.specs.Layout.{packed}
-use Rattle.translating.specs.Emission.{State, noted, put, replaced, withOpen, withSlot, aheadAt}
+use Rattle.translating.specs.Emission.{noted, put, replaced, withOpen, withSlot, aheadAt}
 use borrow.Author.Needs.{needs}
 use Rattle.translating.proofs.flow.otherwise.Statement.{statement}
 use Rattle.translating.proofs.flow.otherwise.Tie as tie
-use Rattle.translating.proofs.flow.otherwise.Reads as reads
-use Rattle.translating.proofs.flow.otherwise.Lts as lts
-use Rattle.translating.proofs.parts.packed.Reads as packed-reads
-use Rattle.translating.proofs.parts.set_word.Reads as set-word-reads
-use Rattle.translating.proofs.parts.word_at.Reads as word-at-reads
-use Rattle.translating.proofs.putting.put.Reads as put-reads
-use Rattle.translating.proofs.putting.replace.Reads as replace-reads
-use Rattle.translating.proofs.putting.slot.Reads as slot-reads
 
 word-at-requires : tie.Need-word-at-requires
 word-at-requires c κs = search needs

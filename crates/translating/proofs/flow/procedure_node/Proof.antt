@@ -1,14 +1,10 @@
 -- `translating::flow::procedure_node` meets its contract: by the kind.
-use mathlib.Core.Path.{_≡_, refl, sym, ap, _∙_}
+-- Assumes nothing.
 use borrow.Author.Tests.{ne-eqb}
 use Rattle.translating.specs.Emission.{procedureNode}
 use borrow.Author.Needs.{needs}
 use Rattle.translating.proofs.flow.procedure_node.Statement.{statement}
 use Rattle.translating.proofs.flow.procedure_node.Tie as tie
-use Rattle.translating.proofs.flow.procedure_node.Reads as reads
-use Rattle.translating.proofs.flow.procedure_node.Lts as lts
-use Rattle.translating.proofs.flow.declared.Reads as declared-reads
-use Rattle.translating.proofs.flow.returned.Reads as returned-reads
 
 declared-requires : tie.Need-declared-requires
 declared-requires c κs = search needs

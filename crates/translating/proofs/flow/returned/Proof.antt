@@ -1,15 +1,11 @@
 -- `translating::flow::returned` meets its contract: the instruction, then an activation fewer is around.
-use mathlib.Core.Path.{_≡_, refl, sym, ap, _∙_}
+-- Assumes nothing.
+use mathlib.Core.Path.{ap, _∙_}
 use Prim.Native.Nat.{_-_}
 use Rattle.translating.specs.Emission.{State, put, popped, within, withOpen}
 use borrow.Author.Needs.{needs}
 use Rattle.translating.proofs.flow.returned.Statement.{statement}
 use Rattle.translating.proofs.flow.returned.Tie as tie
-use Rattle.translating.proofs.flow.returned.Reads as reads
-use Rattle.translating.proofs.flow.returned.Lts as lts
-use Rattle.translating.proofs.parts.less.Reads as less-reads
-use Rattle.translating.proofs.putting.pop.Reads as pop-reads
-use Rattle.translating.proofs.putting.put.Reads as put-reads
 
 put-requires : tie.Need-put-requires
 put-requires c κs = search needs

@@ -1,12 +1,10 @@
 -- `translating::layout::blocked` meets its contract: the number written is the new head.
+-- Assumes nothing.
 use Rattle.translating.specs.Layout.{blocked}
 use mathlib.Core.Path.{refl}
 use borrow.Author.Needs.{needs}
 use Rattle.translating.proofs.layout.blocked.Statement.{statement}
 use Rattle.translating.proofs.layout.blocked.Tie as tie
-use Rattle.translating.proofs.layout.blocked.Reads as reads
-use Rattle.translating.proofs.layout.blocked.Lts as lts
-use Rattle.translating.proofs.layout.keep.Reads as keep-reads
 
 keep-requires : tie.Need-keep-requires
 keep-requires c κs = search needs

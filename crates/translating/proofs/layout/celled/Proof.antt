@@ -1,12 +1,9 @@
 -- `translating::layout::celled` meets its contract: the word is written, and one cell more is taken.
+-- Assumes nothing.
 use Rattle.translating.specs.Layout.{celled}
 use borrow.Author.Needs.{needs}
 use Rattle.translating.proofs.layout.celled.Statement.{statement}
 use Rattle.translating.proofs.layout.celled.Tie as tie
-use Rattle.translating.proofs.layout.celled.Reads as reads
-use Rattle.translating.proofs.layout.celled.Lts as lts
-use Rattle.translating.proofs.parts.packed.Reads as packed-reads
-use Rattle.translating.proofs.parts.set_word.Reads as set-word-reads
 
 packed-requires : tie.Need-packed-requires
 packed-requires c κs = search needs

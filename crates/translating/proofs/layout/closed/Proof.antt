@@ -1,12 +1,11 @@
 -- `translating::layout::closed` meets its contract: what stands below is the tail.
+-- Assumes nothing.
 use Rattle.names.specs.Rows.{opensOf}
 use Rattle.translating.specs.Layout.{closed, outermost, further}
 use Rattle.translating.proofs.Spreading.{opens-outermost, opens-further}
 use borrow.Author.Needs.{needs}
 use Rattle.translating.proofs.layout.closed.Statement.{statement}
 use Rattle.translating.proofs.layout.closed.Tie as tie
-use Rattle.translating.proofs.layout.closed.Reads as reads
-use Rattle.translating.proofs.layout.closed.Lts as lts
 
 returns : tie.Need-returns
 unfolding closed outermost further opensOf

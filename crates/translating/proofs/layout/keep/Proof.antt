@@ -1,10 +1,9 @@
 -- `translating::layout::keep` meets its contract: the number written is the new head.
+-- Assumes nothing.
 use Rattle.names.proofs.RowLaws.{opens-enter}
 use borrow.Author.Needs.{needs}
 use Rattle.translating.proofs.layout.keep.Statement.{statement}
 use Rattle.translating.proofs.layout.keep.Tie as tie
-use Rattle.translating.proofs.layout.keep.Reads as reads
-use Rattle.translating.proofs.layout.keep.Lts as lts
 
 mul-around : tie.Need-mul-around
 mul-around c = search needs

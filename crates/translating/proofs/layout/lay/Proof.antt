@@ -1,7 +1,6 @@
 -- `translating::layout::lay` meets its contract. The loop's invariant: behind i nodes the layout has spread no further than i, and what the nodes from
 -- here on make of it is what all of them make of nothing.
 use mathlib.Core.Path.{_≡_, refl, sym, ap, subst, _∙_}
-use mathlib.Core.List.{[]}
 use native.Mathlib.Omega.{arith}
 use Prim.Native.Nat.{_+_, _*_, _-_, _≤_}
 use lib.ListN.{length, getD, drop}
@@ -13,9 +12,6 @@ use Rattle.translating.specs.Model.{lain, unlaidIn, AllWithin, Spread}
 use Rattle.translating.proofs.Spreading.{spread-node, spread-up}
 use Rattle.translating.proofs.layout.lay.Statement.{statement}
 use Rattle.translating.proofs.layout.lay.Tie as tie
-use Rattle.translating.proofs.layout.lay.Reads as reads
-use Rattle.translating.proofs.layout.lay.Lts as lts
-use Rattle.translating.proofs.layout.lay_node.Reads as lay-node-reads
 
 abbrev Inv-loop : tie.InvT-loop
 Inv-loop nodes around₀ table₀ t₀ i₀ around table t i =

@@ -1,5 +1,6 @@
 -- `translating::layout::lay_node` meets its contract: each kind puts the tests of `layNode` right.
-use mathlib.Core.Path.{_≡_, sym, _∙_}
+-- Assumes nothing.
+use mathlib.Core.Path.{sym, _∙_}
 use mathlib.Core.Logic.{inl, inr}
 use native.Mathlib.Omega.{arith}
 use borrow.Author.Tests.{ne-eqb}
@@ -9,13 +10,6 @@ use Rattle.translating.proofs.Spreading.{length-opens, node-celled}
 use borrow.Author.Needs.{needs}
 use Rattle.translating.proofs.layout.lay_node.Statement.{statement}
 use Rattle.translating.proofs.layout.lay_node.Tie as tie
-use Rattle.translating.proofs.layout.lay_node.Reads as reads
-use Rattle.translating.proofs.layout.lay_node.Lts as lts
-use Rattle.translating.proofs.layout.blocked.Reads as blocked-reads
-use Rattle.translating.proofs.layout.celled.Reads as celled-reads
-use Rattle.translating.proofs.layout.closed.Reads as closed-reads
-use Rattle.translating.proofs.layout.procedured.Reads as procedured-reads
-use Rattle.translating.proofs.parts.less.Reads as less-reads
 
 celled-requires : tie.Need-celled-requires
 celled-requires c κs = search needs

@@ -1,5 +1,6 @@
 -- `translating::layout::layout` meets its contract: all words are zero where the pass begins.
-use mathlib.Core.Path.{_≡_, ap, _∙_}
+-- Assumes nothing.
+use mathlib.Core.Path.{ap, _∙_}
 use mathlib.Core.List.{List}
 use Prim.Native.Nat.{ℕ}
 use lib.ListN.{replicate}
@@ -9,10 +10,6 @@ use Rattle.translating.specs.Model.{unlaidIn}
 use borrow.Author.Needs.{needs}
 use Rattle.translating.proofs.layout.layout.Statement.{statement}
 use Rattle.translating.proofs.layout.layout.Tie as tie
-use Rattle.translating.proofs.layout.layout.Reads as reads
-use Rattle.translating.proofs.layout.layout.Lts as lts
-use Rattle.translating.proofs.layout.lay.Reads as lay-reads
-use Rattle.translating.proofs.parts.clear.Reads as clear-reads
 
 clear-requires : tie.Need-clear-requires
 clear-requires c κs = search needs

@@ -1,10 +1,9 @@
 -- `translating::layout::one_of` meets its contract: by the test.
+-- Assumes nothing.
 use borrow.Author.Tests.{eq-eqb, ne-eqb}
 use Rattle.translating.specs.Layout.{oneOf}
 use Rattle.translating.proofs.layout.one_of.Statement.{statement}
 use Rattle.translating.proofs.layout.one_of.Tie as tie
-use Rattle.translating.proofs.layout.one_of.Reads as reads
-use Rattle.translating.proofs.layout.one_of.Lts as lts
 
 returns : tie.Need-returns
 unfolding oneOf

@@ -1,5 +1,6 @@
 -- `translating::layout::procedured` meets its contract: the scope opens, then the activation is its own.
-use mathlib.Core.Path.{_≡_, ap, _∙_}
+-- Assumes nothing.
+use mathlib.Core.Path.{ap}
 use mathlib.Core.List.{[]}
 use lib.ListN.{set}
 use Prim.Native.Nat.{_+_}
@@ -7,12 +8,6 @@ use Rattle.translating.specs.Layout.{Laying, packed, oneOf, blocked, pro
 use borrow.Author.Needs.{needs}
 use Rattle.translating.proofs.layout.procedured.Statement.{statement}
 use Rattle.translating.proofs.layout.procedured.Tie as tie
-use Rattle.translating.proofs.layout.procedured.Reads as reads
-use Rattle.translating.proofs.layout.procedured.Lts as lts
-use Rattle.translating.proofs.layout.blocked.Reads as blocked-reads
-use Rattle.translating.proofs.layout.one_of.Reads as one-of-reads
-use Rattle.translating.proofs.parts.packed.Reads as packed-reads
-use Rattle.translating.proofs.parts.set_word.Reads as set-word-reads
 
 one-of-requires : tie.Need-one-of-requires
 one-of-requires c κs = search needs

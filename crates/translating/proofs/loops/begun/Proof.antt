@@ -1,5 +1,6 @@
 -- `translating::loops::begun` meets its contract: the body's address is noted, and one for statement more is around.
-use mathlib.Core.Path.{_≡_, refl, sym, ap, _∙_}
+-- Assumes nothing.
+use mathlib.Core.Path.{ap}
 use Prim.Native.Nat.{_+_}
 use lib.ListN.{set}
 use Rattle.translating.specs.Layout.{packed}
@@ -7,12 +8,6 @@ use Rattle.translating.specs.Emission.{State, within, noted, withOpen, r
 use borrow.Author.Needs.{needs}
 use Rattle.translating.proofs.loops.begun.Statement.{statement}
 use Rattle.translating.proofs.loops.begun.Tie as tie
-use Rattle.translating.proofs.loops.begun.Reads as reads
-use Rattle.translating.proofs.loops.begun.Lts as lts
-use Rattle.translating.proofs.parts.less.Reads as less-reads
-use Rattle.translating.proofs.parts.packed.Reads as packed-reads
-use Rattle.translating.proofs.parts.set_word.Reads as set-word-reads
-use Rattle.translating.proofs.putting.replace.Reads as replace-reads
 
 packed-requires : tie.Need-packed-requires
 packed-requires c κs = search needs

@@ -1,14 +1,9 @@
 -- `translating::loops::bodied` meets its contract: the three parts of the operand are the model's.
-use mathlib.Core.Path.{_≡_, refl, sym, ap, _∙_}
+-- Assumes nothing.
 use Rattle.translating.specs.Emission.{bodied, aheadAt}
 use borrow.Author.Needs.{needs}
 use Rattle.translating.proofs.loops.bodied.Statement.{statement}
 use Rattle.translating.proofs.loops.bodied.Tie as tie
-use Rattle.translating.proofs.loops.bodied.Reads as reads
-use Rattle.translating.proofs.loops.bodied.Lts as lts
-use Rattle.translating.proofs.parts.packed.Reads as packed-reads
-use Rattle.translating.proofs.parts.word_at.Reads as word-at-reads
-use Rattle.translating.proofs.putting.put.Reads as put-reads
 
 word-at-requires : tie.Need-word-at-requires
 word-at-requires c κs = search needs

@@ -1,17 +1,12 @@
 -- `translating::loops::element` meets its contract: the address is noted, and the next slot is the one that lies ahead.
-use mathlib.Core.Path.{_≡_, refl, sym, ap, _∙_}
+-- Assumes nothing.
+use mathlib.Core.Path.{ap, _∙_}
 use lib.ListN.{set}
 use Rattle.translating.specs.Layout.{packed}
 use Rattle.translating.specs.Emission.{element, noted, withSlot, withOpen, replaced}
 use borrow.Author.Needs.{needs}
 use Rattle.translating.proofs.loops.element.Statement.{statement}
 use Rattle.translating.proofs.loops.element.Tie as tie
-use Rattle.translating.proofs.loops.element.Reads as reads
-use Rattle.translating.proofs.loops.element.Lts as lts
-use Rattle.translating.proofs.parts.packed.Reads as packed-reads
-use Rattle.translating.proofs.parts.set_word.Reads as set-word-reads
-use Rattle.translating.proofs.putting.replace.Reads as replace-reads
-use Rattle.translating.proofs.putting.slot.Reads as slot-reads
 
 packed-requires : tie.Need-packed-requires
 packed-requires c κs = search needs

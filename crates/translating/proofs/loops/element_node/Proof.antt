@@ -1,18 +1,12 @@
 -- `translating::loops::element_node` meets its contract: each kind puts the tests of `elementNode` right.
-use mathlib.Core.Path.{_≡_, refl, sym, ap, _∙_}
-use borrow.Author.Tests.{eq-eqb, ne-eqb}
+-- Assumes nothing.
+use mathlib.Core.Path.{ap, _∙_}
+use borrow.Author.Tests.{ne-eqb}
 use Rattle.translating.specs.Emission.{element, elementNode}
 use Rattle.translating.specs.Model.{seen}
 use borrow.Author.Needs.{needs}
 use Rattle.translating.proofs.loops.element_node.Statement.{statement}
 use Rattle.translating.proofs.loops.element_node.Tie as tie
-use Rattle.translating.proofs.loops.element_node.Reads as reads
-use Rattle.translating.proofs.loops.element_node.Lts as lts
-use Rattle.translating.proofs.loops.element.Reads as element-reads
-use Rattle.translating.proofs.loops.once.Reads as once-reads
-use Rattle.translating.proofs.loops.stepping.Reads as stepping-reads
-use Rattle.translating.proofs.loops.whiled.Reads as whiled-reads
-use Rattle.translating.proofs.putting.put.Reads as put-reads
 
 put-requires : tie.Need-put-requires
 put-requires c κs = search needs

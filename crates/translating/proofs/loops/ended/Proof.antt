@@ -1,5 +1,6 @@
 -- `translating::loops::ended` meets its contract: back to the position noted, and one for statement fewer is around.
-use mathlib.Core.Path.{_≡_, refl, sym, ap, _∙_}
+-- Assumes nothing.
+use mathlib.Core.Path.{ap, _∙_}
 use Prim.Native.Nat.{_+_, _-_}
 use lib.ListN.{set}
 use Rattle.translating.specs.Layout.{packed}
@@ -7,13 +8,6 @@ use Rattle.translating.specs.Emission.{State, put, within, noted, popped
 use borrow.Author.Needs.{needs}
 use Rattle.translating.proofs.loops.ended.Statement.{statement}
 use Rattle.translating.proofs.loops.ended.Tie as tie
-use Rattle.translating.proofs.loops.ended.Reads as reads
-use Rattle.translating.proofs.loops.ended.Lts as lts
-use Rattle.translating.proofs.parts.less.Reads as less-reads
-use Rattle.translating.proofs.parts.packed.Reads as packed-reads
-use Rattle.translating.proofs.parts.set_word.Reads as set-word-reads
-use Rattle.translating.proofs.putting.pop.Reads as pop-reads
-use Rattle.translating.proofs.putting.put.Reads as put-reads
 
 less-requires : tie.Need-less-requires
 less-requires c κs = search needs

@@ -1,14 +1,10 @@
 -- `translating::loops::loop_node` meets its contract: by the kind.
-use mathlib.Core.Path.{_≡_, refl, sym, ap, _∙_}
-use borrow.Author.Tests.{eq-eqb, ne-eqb}
+-- Assumes nothing.
+use borrow.Author.Tests.{ne-eqb}
 use Rattle.translating.specs.Emission.{loopNode}
 use borrow.Author.Needs.{needs}
 use Rattle.translating.proofs.loops.loop_node.Statement.{statement}
 use Rattle.translating.proofs.loops.loop_node.Tie as tie
-use Rattle.translating.proofs.loops.loop_node.Reads as reads
-use Rattle.translating.proofs.loops.loop_node.Lts as lts
-use Rattle.translating.proofs.loops.begun.Reads as begun-reads
-use Rattle.translating.proofs.loops.ended.Reads as ended-reads
 
 begun-requires : tie.Need-begun-requires
 begun-requires c κs = search needs

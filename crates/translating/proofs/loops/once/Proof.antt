@@ -1,15 +1,11 @@
 -- `translating::loops::once` meets its contract: to the body, and the element ends.
-use mathlib.Core.Path.{_≡_, refl, sym, ap, _∙_}
+-- Assumes nothing.
+use mathlib.Core.Path.{ap, _∙_}
 use Rattle.translating.specs.Emission.{element, bodied, aheadAt}
 use Rattle.translating.specs.Model.{seen}
 use borrow.Author.Needs.{needs}
 use Rattle.translating.proofs.loops.once.Statement.{statement}
 use Rattle.translating.proofs.loops.once.Tie as tie
-use Rattle.translating.proofs.loops.once.Reads as reads
-use Rattle.translating.proofs.loops.once.Lts as lts
-use Rattle.translating.proofs.loops.bodied.Reads as bodied-reads
-use Rattle.translating.proofs.loops.element.Reads as element-reads
-use Rattle.translating.proofs.parts.word_at.Reads as word-at-reads
 
 word-at-requires : tie.Need-word-at-requires
 word-at-requires c κs = search needs

@@ -1,21 +1,14 @@
 -- `translating::loops::stepping` meets its contract: five instructions, one after the other.
-use mathlib.Core.Path.{_≡_, refl, sym, ap, _∙_}
+-- Assumes nothing.
+use mathlib.Core.Path.{ap, _∙_}
 use native.Mathlib.Omega.{arith}
 use Prim.Native.Nat.{_+_}
 use Rattle.translating.specs.Layout.{packed}
 use Rattle.translating.specs.Emission.{State, put, bodied, stepping, aheadAt}
-use Rattle.translating.specs.Model.{seen, see}
+use Rattle.translating.specs.Model.{seen}
 use borrow.Author.Needs.{needs}
 use Rattle.translating.proofs.loops.stepping.Statement.{statement}
 use Rattle.translating.proofs.loops.stepping.Tie as tie
-use Rattle.translating.proofs.loops.stepping.Reads as reads
-use Rattle.translating.proofs.loops.stepping.Lts as lts
-use Rattle.translating.proofs.loops.bodied.Reads as bodied-reads
-use Rattle.translating.proofs.parts.high.Reads as high-reads
-use Rattle.translating.proofs.parts.mid.Reads as mid-reads
-use Rattle.translating.proofs.parts.packed.Reads as packed-reads
-use Rattle.translating.proofs.parts.word_at.Reads as word-at-reads
-use Rattle.translating.proofs.putting.put.Reads as put-reads
 
 word-at-requires : tie.Need-word-at-requires
 word-at-requires c κs = search needs

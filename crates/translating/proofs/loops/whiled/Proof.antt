@@ -1,17 +1,11 @@
 -- `translating::loops::whiled` meets its contract: the condition, to the body, and the element ends.
-use mathlib.Core.Path.{_≡_, refl, sym, ap, _∙_}
+-- Assumes nothing.
+use mathlib.Core.Path.{ap, _∙_}
 use Rattle.translating.specs.Emission.{element, bodied, aheadAt}
 use Rattle.translating.specs.Model.{seen}
 use borrow.Author.Needs.{needs}
 use Rattle.translating.proofs.loops.whiled.Statement.{statement}
 use Rattle.translating.proofs.loops.whiled.Tie as tie
-use Rattle.translating.proofs.loops.whiled.Reads as reads
-use Rattle.translating.proofs.loops.whiled.Lts as lts
-use Rattle.translating.proofs.loops.bodied.Reads as bodied-reads
-use Rattle.translating.proofs.loops.element.Reads as element-reads
-use Rattle.translating.proofs.parts.packed.Reads as packed-reads
-use Rattle.translating.proofs.parts.word_at.Reads as word-at-reads
-use Rattle.translating.proofs.putting.put.Reads as put-reads
 
 word-at-requires : tie.Need-word-at-requires
 word-at-requires c κs = search needs

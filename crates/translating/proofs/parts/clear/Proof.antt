@@ -1,4 +1,5 @@
 -- `translating::parts::clear` meets its contract: so many words are zero already.
+-- Assumes nothing.
 use mathlib.Core.Path.{_≡_, refl, ap, _∙_}
 use mathlib.Core.List.{List, _++_, append-nil}
 use Prim.Native.Nat.{ℕ, _≤_, _-_, _<_}
@@ -9,8 +10,6 @@ use lib.Seq.{drop-length}
 use lib.ListN.{length, drop, replicate, set, length-set}
 use Rattle.translating.proofs.parts.clear.Statement.{statement}
 use Rattle.translating.proofs.parts.clear.Tie as tie
-use Rattle.translating.proofs.parts.clear.Reads as reads
-use Rattle.translating.proofs.parts.clear.Lts as lts
 
 filled : (i : ℕ) (d : List ℕ) {x : List ℕ} → i ≡ length d → x ≡ replicate i 0 ++ drop i d → x ≡ replicate (length d) 0
 filled i d e h = h ∙ rw (e, drop-length d, append-nil {A = ℕ} (replicate (length d) 0))

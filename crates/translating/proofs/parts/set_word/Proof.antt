@@ -1,11 +1,10 @@
 -- `translating::parts::set_word` meets its contract: behind the last word `set` changes nothing.
+-- Assumes nothing.
 use mathlib.Core.Path.{sym}
 use lib.Seq.{set-out}
 use borrow.Author.Needs.{needs}
 use Rattle.translating.proofs.parts.set_word.Statement.{statement}
 use Rattle.translating.proofs.parts.set_word.Tie as tie
-use Rattle.translating.proofs.parts.set_word.Reads as reads
-use Rattle.translating.proofs.parts.set_word.Lts as lts
 
 cast-words : tie.Need-cast-words
 cast-words c = search needs

@@ -1,12 +1,11 @@
 -- `translating::parts::word_at` meets its contract: a word of 32 bits fits, and behind the last one `getD` gives 0.
+-- Assumes nothing.
 use native.Mathlib.Omega.{arith}
 use lib.ListN.{List·getD-eq-default}
 use mathlib.Core.Path.{refl, sym}
 use borrow.Author.Needs.{needs}
 use Rattle.translating.proofs.parts.word_at.Statement.{statement}
 use Rattle.translating.proofs.parts.word_at.Tie as tie
-use Rattle.translating.proofs.parts.word_at.Reads as reads
-use Rattle.translating.proofs.parts.word_at.Lts as lts
 
 mul-result : tie.Need-mul-result
 mul-result c = search needs

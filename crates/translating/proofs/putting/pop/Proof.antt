@@ -1,4 +1,5 @@
 -- `translating::putting::pop` meets its contract: one thing fewer is the tail.
+-- Assumes nothing.
 use mathlib.Core.Path.{refl}
 use native.Mathlib.Omega.{arith}
 use Rattle.translating.specs.Emission.{popped, withOpen, below}
@@ -7,8 +8,6 @@ use Rattle.translating.proofs.Stacked.{things-below}
 use borrow.Author.Needs.{needs}
 use Rattle.translating.proofs.putting.pop.Statement.{statement}
 use Rattle.translating.proofs.putting.pop.Tie as tie
-use Rattle.translating.proofs.putting.pop.Reads as reads
-use Rattle.translating.proofs.putting.pop.Lts as lts
 
 returns : tie.Need-returns
 unfolding popped withOpen below thingsOf

@@ -1,12 +1,10 @@
 -- `translating::putting::push` meets its contract: the thing written is the new head.
+-- Assumes nothing.
 use mathlib.Core.Path.{refl}
 use Rattle.translating.specs.Emission.{pushed, withOpen}
 use borrow.Author.Needs.{needs}
 use Rattle.translating.proofs.putting.push.Statement.{statement}
 use Rattle.translating.proofs.putting.push.Tie as tie
-use Rattle.translating.proofs.putting.push.Reads as reads
-use Rattle.translating.proofs.putting.push.Lts as lts
-use Rattle.translating.proofs.putting.write.Reads as write-reads
 
 write-requires : tie.Need-write-requires
 write-requires c κs = search needs

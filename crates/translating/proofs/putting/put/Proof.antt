@@ -1,12 +1,10 @@
 -- `translating::putting::put` meets its contract: the two words are written, one after the other.
+-- Assumes nothing.
 use mathlib.Core.Path.{refl}
 use Rattle.translating.specs.Emission.{put}
 use borrow.Author.Needs.{needs}
 use Rattle.translating.proofs.putting.put.Statement.{statement}
 use Rattle.translating.proofs.putting.put.Tie as tie
-use Rattle.translating.proofs.putting.put.Reads as reads
-use Rattle.translating.proofs.putting.put.Lts as lts
-use Rattle.translating.proofs.parts.set_word.Reads as set-word-reads
 
 mul-set-word : tie.Need-mul-set-word
 mul-set-word c = search needs

@@ -1,14 +1,10 @@
 -- `translating::putting::replace` meets its contract: the newest is closed, then another opens.
+-- Assumes nothing.
 use mathlib.Core.Path.{_∙_, ap}
-use mathlib.Core.List.{[]}
 use Rattle.translating.specs.Emission.{pushed, popped, replaced, withOpen}
 use borrow.Author.Needs.{needs}
 use Rattle.translating.proofs.putting.replace.Statement.{statement}
 use Rattle.translating.proofs.putting.replace.Tie as tie
-use Rattle.translating.proofs.putting.replace.Reads as reads
-use Rattle.translating.proofs.putting.replace.Lts as lts
-use Rattle.translating.proofs.putting.pop.Reads as pop-reads
-use Rattle.translating.proofs.putting.push.Reads as push-reads
 
 pop-requires : tie.Need-pop-requires
 pop-requires c κs = search needs

@@ -1,11 +1,10 @@
 -- `translating::putting::slot` meets its contract: one more is counted.
+-- Assumes nothing.
 use mathlib.Core.Path.{refl}
 use Rattle.translating.specs.Emission.{withSlot}
 use borrow.Author.Needs.{needs}
 use Rattle.translating.proofs.putting.slot.Statement.{statement}
 use Rattle.translating.proofs.putting.slot.Tie as tie
-use Rattle.translating.proofs.putting.slot.Reads as reads
-use Rattle.translating.proofs.putting.slot.Lts as lts
 
 add-t : tie.Need-add-t
 add-t c = search needs

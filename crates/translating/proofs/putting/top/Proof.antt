@@ -1,4 +1,5 @@
 -- `translating::putting::top` meets its contract: the last thing of those that are open.
+-- Assumes nothing.
 use mathlib.Core.Path.{_∙_}
 use Rattle.translating.specs.Emission.{top}
 use Rattle.translating.specs.Model.{thingsOf}
@@ -6,9 +7,6 @@ use Rattle.translating.proofs.Stacked.{things-top}
 use borrow.Author.Needs.{needs}
 use Rattle.translating.proofs.putting.top.Statement.{statement}
 use Rattle.translating.proofs.putting.top.Tie as tie
-use Rattle.translating.proofs.putting.top.Reads as reads
-use Rattle.translating.proofs.putting.top.Lts as lts
-use Rattle.translating.proofs.putting.thing.Reads as thing-reads
 
 returns : tie.Need-returns
 unfolding top thingsOf

@@ -1,4 +1,5 @@
 -- `translating::putting::write` meets its contract: the four numbers written are the new head.
+-- Assumes nothing.
 use native.Mathlib.Omega.{arith}
 use Prim.Native.Nat.{_+_, _*_}
 use lib.ListN.{set, length-set}
@@ -6,8 +7,6 @@ use Rattle.translating.proofs.Stacked.{things-write}
 use borrow.Author.Needs.{needs}
 use Rattle.translating.proofs.putting.write.Statement.{statement}
 use Rattle.translating.proofs.putting.write.Tie as tie
-use Rattle.translating.proofs.putting.write.Reads as reads
-use Rattle.translating.proofs.putting.write.Lts as lts
 
 mul-at : tie.Need-mul-at
 mul-at c = search needs

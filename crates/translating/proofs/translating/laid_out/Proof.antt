@@ -1,0 +1,28 @@
+-- `translating::translating::laid_out` meets its contract: the layout that is lent is that of the nodes.
+-- Assumes nothing.
+use mathlib.Core.Path.{ap, _∙_}
+use Rattle.translating.specs.Emission.{codeOf}
+use borrow.Author.Needs.{needs}
+use Rattle.translating.proofs.translating.laid_out.Statement.{statement}
+use Rattle.translating.proofs.translating.laid_out.Tie as tie
+use Rattle.translating.proofs.translating.laid_out.Reads as reads
+use Rattle.translating.proofs.translating.laid_out.Lts as lts
+use Rattle.translating.proofs.layout.layout.Reads as layout-reads
+use Rattle.translating.proofs.translating.twice.Reads as twice-reads
+
+layout-requires : tie.Need-layout-requires
+layout-requires c κs = search needs
+
+twice-requires : tie.Need-twice-requires
+twice-requires c κs = search needs
+
+same-length : tie.Need-same-length
+same-length c = search needs
+
+returns : tie.Need-returns
+returns c =
+    let a = c .before .before .before .before .before .before .before .before .before .before .before .before .args in
+    c .before .before .twice .ensures ∙ ap (λ l. codeOf (a .values .now) l (a .nodes .now) (a .uses .now)) (c .before .before .before .before .before .before .layout .ensures)
+
+pub laid-out-spec : {M : Type 1} → statement M
+laid-out-spec = tie.close (tie.spec layout-requires twice-requires same-length returns)

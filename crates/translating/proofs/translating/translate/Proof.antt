@@ -1,0 +1,49 @@
+-- `translating::translating::translate` meets its contract: too short a code is 1, and of any other the first 16,384 words are written; demand 3 holds of them.
+-- Assumes nothing.
+use mathlib.Core.Path.{sym}
+use lib.Seq.{length-take-le}
+use Rattle.translating.specs.Job.{enough}
+use Rattle.translating.proofs.Handed.{as-short}
+use Rattle.translating.proofs.Promised.{faith}
+use borrow.Author.Needs.{needs}
+use Rattle.translating.proofs.translating.translate.Statement.{statement}
+use Rattle.translating.proofs.translating.translate.Tie as tie
+use Rattle.translating.proofs.translating.translate.Reads as reads
+use Rattle.translating.proofs.translating.translate.Lts as lts
+use Rattle.answers.proofs.Refusal.new.Reads as new-reads
+use Rattle.translating.proofs.translating.judged.Reads as judged-reads
+
+new-requires : tie.Need-new-requires
+new-requires c κs = search needs
+
+returns : tie.Need-returns
+returns c = (as-short (c .before .if1 .taken) (c .new .ensures), tt)
+
+slice-relend-prefix-judged : tie.Need-slice-relend-prefix-judged
+slice-relend-prefix-judged c = search needs
+
+slice-aggregate-judged : tie.Need-slice-aggregate-judged
+slice-aggregate-judged c = sym (length-take-le 16384 (c .before .before .before .before .args .code .now) (c .before .if1 .left))
+
+judged-requires : tie.Need-judged-requires
+judged-requires c κs = length-take-le 16384 (c .before .before .before .before .args .code .now) (c .before .if1 .left)
+
+same-length : tie.Need-same-length
+same-length c = search needs
+
+returns-2 : tie.Need-returns-2
+returns-2 c =
+    let w = enough (c .before .before .before .before .if1 .left) _ _ (c .before .before .judged .ensures) in
+    (w, faith w)
+
+pub translate-spec : {M : Type 1} → statement M
+translate-spec =
+    tie.close
+    (tie.spec
+    new-requires
+    returns
+    slice-relend-prefix-judged
+    slice-aggregate-judged
+    judged-requires
+    same-length
+    returns-2)
