@@ -1,6 +1,8 @@
 /* bench [INSTRUCTIONS [ROUNDS]]: instructions a second of three loops, through the library and in the machine of own.h, one after the other in each
  * round; then the time of reading (and translating) the largest sources. Times are of this process on this processor: under an emulator only the
- * ratio of the two machines means something. */
+ * ratio of the two machines means something.
+ * bench INSTRUCTIONS library, bench INSTRUCTIONS own: the first loop once, in one of the two, and nothing else (`bindings/run count` counts what it
+ * takes of the processor's instructions). */
 #define _POSIX_C_SOURCE 199309L
 #include <stdio.h>
 #include <stdlib.h>
@@ -11,10 +13,11 @@
 #include "own.h"
 #include "words.h"
 
+/* Of the processor, so that other programs on the machine count little. */
 static double seconds(void)
 {
     struct timespec t;
-    clock_gettime(CLOCK_MONOTONIC, &t);
+    clock_gettime(CLOCK_PROCESS_CPUTIME_ID, &t);
     return (double)t.tv_sec + 1e-9 * (double)t.tv_nsec;
 }
 
@@ -95,6 +98,18 @@ static void calls(uint64_t limit)
     put(&code, END, 0);
 }
 
+static struct own_ran through_library(uint64_t limit)
+{
+    struct own_ran r;
+    r.number = deed_run(code.word, code.length, output, 0, limit, store, DEED_CELLS, output, 1, &r.place, &r.done, &r.taken, &r.written);
+    return r;
+}
+
+static struct own_ran through_own(uint64_t limit)
+{
+    return own_run(code.word, code.length, own_output, 0, limit, DEED_CELLS, own_output, 1);
+}
+
 static int by_size(const void *a, const void *b)
 {
     double x = *(const double *)a, y = *(const double *)b;
@@ -109,9 +124,9 @@ static void time_code(const char *name, void (*lay)(uint64_t), uint64_t limit, i
     lay(limit);
     for (int i = 0; i < rounds; i++) {
         double t0 = seconds();
-        l.number = deed_run(code.word, code.length, output, 0, limit, store, DEED_CELLS, output, 1, &l.place, &l.done, &l.taken, &l.written);
+        l = through_library(limit);
         double t1 = seconds();
-        o = own_run(code.word, code.length, own_output, 0, limit, DEED_CELLS, own_output, 1);
+        o = through_own(limit);
         double t2 = seconds();
         library[i] = (double)l.done / (t1 - t0) / 1e6;
         own[i] = (double)o.done / (t2 - t1) / 1e6;
@@ -243,6 +258,10 @@ static void time_source(const char *name, void (*make)(void))
 int main(int argc, char **argv)
 {
     uint64_t limit = argc > 1 ? strtoul(argv[1], NULL, 10) : 100000000;
+    if (argc > 2 && (strcmp(argv[2], "library") == 0 || strcmp(argv[2], "own") == 0)) {
+        loads_adds_stores_jumps(limit);
+        return (argv[2][0] == 'l' ? through_library(limit) : through_own(limit)).number == DEED_LIMIT ? 0 : 1;
+    }
     int rounds = argc > 2 ? atoi(argv[2]) : 5;
     if (limit == 0 || rounds < 1 || rounds > 50) {
         fprintf(stderr, "usage: bench [INSTRUCTIONS [ROUNDS]]\n");

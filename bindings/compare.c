@@ -208,6 +208,55 @@ static void compare_code(unsigned long k)
             compare_run(k, inputs, i, lent, outputs);
 }
 
+#ifdef DEED_TRANSLATE
+/* ---- translations: answered as read answers, and run alike by both machines */
+
+enum { CODE = DEED_CODE + 64 };
+
+static unsigned long translations_seen[30];
+static uint32_t words_after[CODE + 2 * MARGIN], words_before[CODE + 2 * MARGIN];
+
+static const char *wrong_translation(size_t lent, unsigned number, size_t place)
+{
+    static const uint32_t zeros[DEED_CODE];
+    const uint32_t *after = words_after + MARGIN;
+    size_t read_place = 0;
+    unsigned read = deed_read(text.byte, text.length, table + MARGIN, TABLE, &read_place);
+    if (lent < DEED_CODE)
+        return number != 1 || place != 0 ? "1 at 0 is due" : memcmp(words_after, words_before, sizeof words_after) != 0 ? "the code has changed" : NULL;
+    if (number != read || place != read_place)
+        return "read has another answer";
+    if (memcmp(words_after, words_before, MARGIN * sizeof words_after[0]) != 0
+        || memcmp(after + DEED_CODE, words_before + MARGIN + DEED_CODE, (CODE + MARGIN - DEED_CODE) * sizeof words_after[0]) != 0)
+        return "words outside the first 16,384 have changed";
+    return number != 0 && memcmp(after, zeros, sizeof zeros) != 0 ? "words of a refused source are not zero" : NULL;
+}
+
+static void compare_translation(unsigned long k)
+{
+    size_t lent = once_in(30) ? below(DEED_CODE) : DEED_CODE + below(CODE - DEED_CODE), place = 99999;
+    random_source(&text);
+    memcpy(words_after, words_before, sizeof words_after);
+    unsigned number = deed_translate(text.byte, text.length, words_after + MARGIN, lent, &place);
+    const char *wrong = wrong_translation(lent, number, place);
+    if (number < 30)
+        translations_seen[number]++;
+    if (wrong == NULL && number == 0) {
+        memcpy(code.word, words_after + MARGIN, DEED_CODE * sizeof code.word[0]);
+        code.length = DEED_CODE;
+        for (size_t i = 0; i < INPUTS; i++)
+            input[i] = (int32_t)below(20);
+        if (compare_run(k, below(INPUTS + 1), 1000 + below(20000), once_in(4) ? below(24) : DEED_CELLS, below(OUTPUTS + 1)).number == 29)
+            wrong = "a translated program stops with 29";
+    }
+    if (wrong != NULL) {
+        differs("translation", k);
+        printf("%s: %u at %zu", wrong, number, place);
+        show_text();
+    }
+}
+#endif
+
 /* ---- the whole */
 
 static void show_seen(const char *what, const unsigned long *seen)
@@ -241,6 +290,13 @@ int main(int argc, char **argv)
     show_seen("sources compared", sources_seen);
     for (unsigned long k = 0; k < count; k++)
         compare_code(k);
+#ifdef DEED_TRANSLATE
+    for (size_t i = 0; i < sizeof words_before / sizeof words_before[0]; i++)
+        words_before[i] = random_word();
+    for (unsigned long k = 0; k < count; k++)
+        compare_translation(k);
+    show_seen("translations compared", translations_seen);
+#endif
     show_seen("runs compared", runs_seen);
     printf("%lu differ\n", differences);
     return differences == 0 ? 0 : 1;

@@ -11,7 +11,7 @@ pub struct Loaded {
     pub count: usize,
 }
 
-fn nothing() -> Loaded
+pub fn nothing() -> Loaded
     ensures { λ r. ⌜ r .count ≤ 0 ⌝ }
 {
     Loaded {
@@ -26,17 +26,29 @@ fn fail(name: &[u8]) {
     os::fail(name);
 }
 
-// The rest of a file of which the first n bytes are there; it is closed.
+// The rest of a file of which the first n bytes are there.
 fn rest(fd: i32, room: &mut [u8], n: usize) -> Loaded
     requires { ⌜ n ≤ length (now room) ⌝ }
     ensures { λ r. ⌜ Counts (r .count) (now (room .exit)) ⌝ }
 {
     let more = io::read_full(fd, &mut room[n..]);
-    libc::close(fd);
     Loaded {
         good: true,
         count: n + more,
     }
+}
+
+// The first bytes of an open file, as many as there is room for.
+pub fn take_in(fd: i32, name: &[u8], room: &mut [u8]) -> Loaded
+    ensures { λ r. ⌜ Counts (r .count) (now (room .exit)) ⌝ }
+{
+    let got = libc::read(fd, room);
+    if got < 0 {
+        fail(name);
+        return nothing();
+    }
+    let n = io::count(got, room);
+    rest(fd, room, n)
 }
 
 // The first bytes of a file, as many as there is room for.
@@ -48,14 +60,9 @@ pub fn load(name: &[u8], room: &mut [u8]) -> Loaded
         fail(name);
         return nothing();
     }
-    let got = libc::read(fd, room);
-    if got < 0 {
-        fail(name);
-        libc::close(fd);
-        return nothing();
-    }
-    let n = io::count(got, room);
-    rest(fd, room, n)
+    let got = take_in(fd, name, room);
+    libc::close(fd);
+    got
 }
 
 fn copy(from: &[u8], room: &mut [u8], at: usize)

@@ -3,59 +3,27 @@ use crate::asking::Job;
 use crate::asking::is_plain;
 use crate::asking::job_of;
 use crate::asking::next_word;
+use crate::code::show_code;
 use crate::files::load;
+use crate::given::Sizes;
+use crate::given::past_options;
+use crate::given::put_input;
+use crate::given::sizes_of;
+use crate::help::help;
+use crate::help::misused;
+use crate::help::usage;
 use crate::levels::show_levels;
-use crate::text::complain;
+use crate::running::run_source;
 use crate::text::say;
 use crate::text::say_number;
 use crate::uses::say_use_words;
 use crate::uses::show_uses;
-use crate::words::show_refusal;
+use crate::words::show_answer;
 use answers::Verdict;
 use reading::reading::read;
+use translating::translating::translate;
 ghost use Prim.Native.Nat.{_≤_};
 ghost use lib.ListN.{length};
-
-pub fn usage() {
-    complain(b"usage: deed [--plain] read | uses | levels FILE\n");
-    complain(b"       deed do FILE\n");
-    complain(b"       deed help\n");
-}
-
-fn misused(what: &[u8], word: &[u8]) {
-    complain(b"deed: ");
-    complain(what);
-    complain(word);
-    complain(b"\n");
-    usage();
-}
-
-pub fn help() {
-    say(b"deed: reads a deed's program, written in ALGOL 60, and says what it finds\n\n");
-    say(
-        b"  deed read FILE    whether the program is accepted; if not, the refusal: line and column, number,\n",
-    );
-    say(b"                    words, and a mark under the place\n");
-    say(
-        b"  deed uses FILE    each use of a name: line and column, name, kind, and where its declaration stands\n",
-    );
-    say(
-        b"  deed levels FILE  each block and each procedure's body: its level, its place and what it declares\n",
-    );
-    say(
-        b"  deed do FILE      the commands that FILE holds, one a line, each shown before what it gives\n",
-    );
-    say(b"  deed help         these lines\n\n");
-    say(
-        b"A FILE that is read has at most 16,384 bytes. Lines and columns are counted from 1, in bytes.\n\n",
-    );
-    say(
-        b"With --plain, read and uses give other programs one line of numbers: the answer and its place in bytes from 0;\n",
-    );
-    say(
-        b"for uses then the words of the use section, which are the number of uses and three numbers a use.\n",
-    );
-}
 
 // What reading found, as one line of numbers.
 fn show_plain(v: Verdict, table: &[u16], uses: bool) {
@@ -96,7 +64,20 @@ fn tell(name: &[u8], source: &[u8], plain: bool, job: Job) {
     }
     match v {
         Verdict::Accepted => show_accepted(name, source, &table, job),
-        Verdict::Refused(r) => show_refusal(name, source, r.answer.number, r.place.at),
+        Verdict::Refused(r) => {
+            show_answer(name, source, b": refused, ", r.answer.number, r.place.at)
+        }
+    }
+}
+
+// The translation of a source.
+fn tell_code(name: &[u8], source: &[u8]) {
+    let mut code = [0u32; 16384];
+    match translate(source, &mut code) {
+        Verdict::Accepted => show_code(source, &code),
+        Verdict::Refused(r) => {
+            show_answer(name, source, b": refused, ", r.answer.number, r.place.at)
+        }
     }
 }
 
@@ -108,10 +89,62 @@ fn on_file(name: &[u8], plain: bool, job: Job) {
         return;
     }
     let n = got.count;
-    tell(name, &room[..n], plain, job);
+    match job {
+        Job::Code => tell_code(name, &room[..n]),
+        _ => tell(name, &room[..n], plain, job),
+    }
 }
 
-// A job on the file that the next word names.
+// A run of the file that a word of the line names, on the numbers behind it.
+fn run_file(line: &[u8], from: usize, to: usize, sizes: Sizes)
+    requires { ⌜ (from ≤ to) × (to ≤ length (now line)) ⌝ }
+{
+    let mut input = [0i32; 32768];
+    let mut room = io::large_buffer();
+    let put = put_input(line, to, &mut input);
+    if !put.good {
+        usage();
+        return;
+    }
+    let got = load(&line[from..to], &mut room);
+    if !got.good {
+        usage();
+        return;
+    }
+    let n = got.count;
+    run_source(
+        &line[from..to],
+        &room[..n],
+        is_plain(line),
+        &input,
+        put.count,
+        sizes,
+    );
+}
+
+// A run of the file that the next word but options names.
+fn run_next(line: &[u8], at: usize)
+    requires { ⌜ at ≤ length (now line) ⌝ }
+{
+    let sizes = sizes_of(line, at);
+    let w = next_word(line, past_options(line, at));
+    let from = w.from;
+    let to = w.to;
+    if !sizes.good {
+        misused(
+            b"-l, -c and -o want a number, -c at most 8192, -o at most 65536",
+            b"",
+        );
+        return;
+    }
+    if from == to {
+        misused(b"a FILE is missing", b"");
+        return;
+    }
+    run_file(line, from, to, sizes);
+}
+
+// A job on the file that the next word names, and on nothing else.
 fn on_next(line: &[u8], at: usize, job: Job)
     requires { ⌜ at ≤ length (now line) ⌝ }
 {
@@ -132,6 +165,14 @@ fn on_next(line: &[u8], at: usize, job: Job)
     on_file(&line[from..to], is_plain(line), job);
 }
 
+// Whether a job has an answer for other programs.
+fn takes_plain(job: Job) -> bool {
+    match job {
+        Job::Read | Job::Uses | Job::Run => true,
+        _ => false,
+    }
+}
+
 // Does what a line asks.
 pub fn obey(line: &[u8]) {
     let w = next_word(line, 0);
@@ -141,13 +182,13 @@ pub fn obey(line: &[u8]) {
     match job {
         Job::Help => help(),
         Job::Other => misused(b"there is no such command: ", &line[from..to]),
-        Job::Levels => {
-            if is_plain(line) {
-                misused(b"--plain goes with read and uses", b"");
+        Job::Run => run_next(line, to),
+        _ => {
+            if is_plain(line) && !takes_plain(job) {
+                misused(b"--plain goes with read, uses and run", b"");
             } else {
                 on_next(line, to, job);
             }
         }
-        _ => on_next(line, to, job),
     }
 }

@@ -1,50 +1,35 @@
 // The tool `deed`: it asks the proved jobs and shows their answers. Its arguments are one command; `deed do FILE` takes
 // the commands of a file, one a line.
 use asking::is_word;
+use asking::line_of;
 use asking::next_word;
 use files::arguments;
 use files::load;
-use jobs::help;
+use help::help;
+use help::usage;
 use jobs::obey;
-use jobs::usage;
-use symbols::text::is_blank;
 use text::complain;
 use text::say;
 ghost use Prim.Native.Nat.{_≤_};
-ghost use Rattle.io.specs.Counts.{Counts};
 ghost use lib.ListN.{length};
 
 mod asking; // a line of words
+mod code; // deed code
 mod files; // files and arguments
+mod given; // what a run is given
+mod help; // what the tool says of itself
 mod jobs; // what is done for a line
 mod levels; // deed levels
+mod numerals; // numbers as digits
+mod running; // deed run
 mod text; // lines, columns, printing
 mod uses; // deed uses
 mod words; // sentences for answers
 
-// A line's words are ended by zeros here, by blanks in a file.
-fn unblanked(b: u8) -> u8 {
-    if is_blank(b) { 0 } else { b }
-}
-
-fn words_row(text: &[u8], row: &mut [u8]) -> usize
-    ensures { λ r. ⌜ Counts r (now (row .exit)) ⌝ }
-{
-    let mut i: usize = 0;
-    while i < text.len() {
-        if row.len() <= i {
-            return i;
-        }
-        row[i] = unblanked(text[i]);
-        i += 1;
-    }
-    i
-}
-
 // One line of a file of commands.
 fn obey_text(text: &[u8]) {
     let mut row = io::large_buffer();
-    let n = words_row(text, &mut row);
+    let n = line_of(text, &mut row);
     say(b"> ");
     say(text);
     say(b"\n");

@@ -162,15 +162,26 @@ fn say_answer(number: u16, source: &[u8], place: usize) {
     }
 }
 
-// A refusal as people want it: file, line and column, number, sentence, and the line with a mark under the place.
-pub fn show_refusal(name: &[u8], source: &[u8], number: u16, place: usize) {
+// An answer as people want it: file, line and column, how it was given, number, sentence, and the line with a mark under
+// the place.
+pub fn show_answer(name: &[u8], source: &[u8], how: &[u8], number: u16, place: usize) {
     say(name);
     say(b":");
     say_spot(source, place);
-    say(b": refused, ");
+    say(how);
     say_number(number as u64);
     say(b": ");
     say_answer(number, source, place);
     say(b"\n");
     show_line(source, place);
+}
+
+// A run's answer that has no place in the source.
+pub fn show_placeless(name: &[u8], how: &[u8], number: u16) {
+    say(name);
+    say(how);
+    say_number(number as u64);
+    say(b": ");
+    say_run(number);
+    say(b"\n");
 }

@@ -1,4 +1,4 @@
--- What run's contract says, number by number; and that there is one result for each source and each table.
+-- What run's contract says, number by number; and that C's numbers, too, are one for each source and what is lent.
 -- Assumes nothing.
 use Prim.Native.Nat.{ℕ}
 use mathlib.Core.Path.{_≡_, sym, ap, _∙_}
@@ -10,6 +10,8 @@ use Rattle.machine.specs.Machine.{Exit, exit}
 use Rattle.machine.specs.declared.Ran.{Ran}
 use Rattle.reading.specs.Reading.{Reads}
 use Rattle.reading.proofs.Only.{only}
+use Rattle.translating.specs.Job.{Translates}
+use Rattle.translating.proofs.Promised.{only as only-translation}
 use Rattle.jobs.specs.Jobs.{Answers, given, exitOf}
 
 pub given-exit : {n p : ℕ} (r : Ran) (s o : List ℤ) {e : Exit} → exit r s o ≡ e → n ≡ stopNumber (r .stop) → p ≡ stopPlace (r .stop)
@@ -19,9 +21,17 @@ given-exit {n} {p} r s o h a b =
     ap (λ k. given k p (r .done) (r .taken) (r .written) s o) a ∙ ap (λ k. given (stopNumber (r .stop)) k (r .done) (r .taken) (r .written) s o) b
     ∙ ap exitOf h
 
--- C's numbers, too, are one for each source and each table
-pub one-read : {source table after after₂ : List ℕ} {n p n₂ p₂ : ℕ}
-    → Answers (λ v. Reads source table v after) n p → Answers (λ v. Reads source table v after₂) n₂ p₂ → (n ≡ n₂) × (p ≡ p₂) × (after ≡ after₂)
-one-read a b =
-    let e = only (a .holds) (b .holds) in
+-- of a job R that has one verdict and leaves one list of words
+pub one-answer : {R : Verdict → List ℕ → Type 0} {w w₂ : List ℕ} {n p n₂ p₂ : ℕ} → ((v v₂ : Verdict) (w w₂ : List ℕ) → R v w → R v₂ w₂ → (v ≡ v₂) × (w ≡ w₂))
+    → Answers (λ v. R v w) n p → Answers (λ v. R v w₂) n₂ p₂ → (n ≡ n₂) × (p ≡ p₂) × (w ≡ w₂)
+one-answer {w = w} {w₂ = w₂} one a b =
+    let e = one (a .verdict) (b .verdict) w w₂ (a .holds) (b .holds) in
     (a .numbered ∙ ap numberOf (e .0) ∙ sym (b .numbered), a .placed ∙ ap placeOf (e .0) ∙ sym (b .placed), e .1)
+
+pub one-read : {source table w w₂ : List ℕ} {n p n₂ p₂ : ℕ} → Answers (λ v. Reads source table v w) n p → Answers (λ v. Reads source table v w₂) n₂ p₂
+    → (n ≡ n₂) × (p ≡ p₂) × (w ≡ w₂)
+one-read {source} {table} = one-answer {R = Reads source table} (λ v v₂ w w₂ a b. only a b)
+
+pub one-translation : {text old w w₂ : List ℕ} {n p n₂ p₂ : ℕ} → Answers (λ v. Translates text old v w) n p → Answers (λ v. Translates text old v w₂) n₂ p₂
+    → (n ≡ n₂) × (p ≡ p₂) × (w ≡ w₂)
+one-translation {text} {old} = one-answer {R = Translates text old} (λ v v₂ w w₂ a b. only-translation a b)

@@ -2,11 +2,13 @@
 // result behind the answer's number goes to where a reference points.
 use machine::run;
 use reading::reading::read;
+use translating::translating::translate;
 ghost use mathlib.Core.Path.{_≡_};
 ghost use lib.ListN.{length, take};
 ghost use Rattle.machine.specs.Machine.{machine as machineOf, afterwards, used};
 ghost use Rattle.jobs.specs.Jobs.{Answers, exitOf, given};
 ghost use Rattle.reading.specs.Reading.{Reads};
+ghost use Rattle.translating.specs.Job.{Translates};
 
 // Source to table: the answer's number, and its place.
 #[no_mangle]
@@ -14,6 +16,16 @@ pub extern "C" fn deed_read(source: &[u8], table: &mut [u16], place: &mut usize)
     ensures { λ r. ⌜ Answers (λ v. Reads (now (source .entry)) (now (table .entry)) v (now (table .exit))) r (now (place .exit)) ⌝ }
 {
     let verdict = read(source, table);
+    *place = verdict.place();
+    verdict.answer().number
+}
+
+// Source to code: the answer's number, and its place.
+#[no_mangle]
+pub extern "C" fn deed_translate(source: &[u8], code: &mut [u32], place: &mut usize) -> u16
+    ensures { λ r. ⌜ Answers (λ v. Translates (now (source .entry)) (now (code .entry)) v (now (code .exit))) r (now (place .exit)) ⌝ }
+{
+    let verdict = translate(source, code);
     *place = verdict.place();
     verdict.answer().number
 }

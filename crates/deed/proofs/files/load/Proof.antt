@@ -8,9 +8,6 @@ use Rattle.deed.proofs.files.load.Tie as tie
 returns : tie.Need-returns
 returns c = counts _ _ (search needs)
 
-returns-2 : tie.Need-returns-2
-returns-2 c = counts _ _ (search needs)
-
 pub load-spec : {M : Type 1} → statement M
 load-spec =
     tie.close
@@ -19,12 +16,6 @@ load-spec =
     (λ c κs. search needs)
     (λ c κs. search needs)
     returns
-    (λ c κs. search needs)
-    (λ c κs. search needs)
-    (λ c κs. search needs)
-    (λ c κs. search needs)
-    (λ c. search needs)
-    returns-2
     (λ c κs. search needs)
     (λ c κs. search needs)
     (λ c. search needs)

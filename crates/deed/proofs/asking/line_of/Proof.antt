@@ -1,4 +1,4 @@
--- `deed::words_row` meets its contract. No more bytes are put than the row takes.
+-- `deed::asking::line_of` meets its contract. No more bytes are put than the row takes.
 -- Assumes nothing.
 use Prim.Native.Nat.{_-_, _≤_}
 use mathlib.Core.Path.{_≡_}
@@ -6,8 +6,8 @@ use lib.ListN.{length-set}
 use Rattle.io.proofs.Counting.{counts}
 use borrow.Author.Needs.{needs}
 use lib.ListN.{length}
-use Rattle.deed.proofs.words_row.Statement.{statement}
-use Rattle.deed.proofs.words_row.Tie as tie
+use Rattle.deed.proofs.asking.line_of.Statement.{statement}
+use Rattle.deed.proofs.asking.line_of.Tie as tie
 
 abbrev Inv-loop : tie.InvT-loop
 Inv-loop text row₀ i₀ row i = (length row ≡ length row₀) × (i ≤ length text) × (i ≤ length row)
@@ -24,8 +24,8 @@ loop-again c = simp length-set (search needs)
 returns-2 : tie.Need-returns-2 Inv-loop μ-loop
 returns-2 c = counts _ _ (search needs)
 
-pub words-row-spec : {M : Type 1} → statement M
-words-row-spec =
+pub line-of-spec : {M : Type 1} → statement M
+line-of-spec =
     tie.close
     (tie.spec
     Inv-loop

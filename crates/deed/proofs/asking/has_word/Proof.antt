@@ -1,27 +1,25 @@
--- `deed::asking::is_plain` meets its contract. The next word begins behind this one.
+-- `deed::asking::has_word` meets its contract. The next word begins behind this one.
 -- Assumes nothing.
 use Prim.Native.Nat.{_-_}
-use mathlib.Core.Path.{_≡_}
 use borrow.Author.Needs.{needs}
 use lib.ListN.{length}
-use Rattle.deed.proofs.asking.is_plain.Statement.{statement}
-use Rattle.deed.proofs.asking.is_plain.Tie as tie
+use Rattle.deed.proofs.asking.has_word.Statement.{statement}
+use Rattle.deed.proofs.asking.has_word.Tie as tie
 
 abbrev Inv-loop : tie.InvT-loop
-Inv-loop line at₀ t4 at = (7 ≡ length t4)
+Inv-loop line from text at₀ at = Unit {0}
 
 abbrev μ-loop : tie.MeasureT-loop
-μ-loop line at₀ t4 at = length line - at
+μ-loop line from text at₀ at = length line - at
 
-pub is-plain-spec : {M : Type 1} → statement M
-is-plain-spec =
+pub has-word-spec : {M : Type 1} → statement M
+has-word-spec =
     tie.close
     (tie.spec
     Inv-loop
     μ-loop
     (λ c. search needs)
     (λ c κs. search needs)
-    (λ c. search needs)
     (λ c κs. search needs)
     (λ c. search needs)
     (λ c. search needs)

@@ -1,0 +1,191 @@
+// The translation, instruction by instruction, in the words of docs/MACHINE.md.
+use crate::text::say;
+use crate::text::say_blanks;
+use crate::text::say_number;
+use crate::text::say_spot;
+
+fn say_control(operation: u32) {
+    match operation {
+        1 => say(b"END"),
+        2 => say(b"JUMP"),
+        3 => say(b"ENTER"),
+        4 => say(b"LEAVE"),
+        5 => say(b"CALL needed"),
+        6 => say(b"CALL"),
+        7 => say(b"RETURN"),
+        8 => say(b"GO"),
+        9 => say(b"NEXT"),
+        10 => say(b"UNLESS"),
+        _ => say(b"TEST"),
+    }
+}
+
+fn say_data(operation: u32) {
+    match operation {
+        12 => say(b"CONST"),
+        13 => say(b"LOAD"),
+        14 => say(b"STORE"),
+        15 => say(b"ASSIGN"),
+        16 => say(b"RESULT"),
+        17 => say(b"DROP"),
+        18 => say(b"IN"),
+        19 => say(b"OUT"),
+        20 => say(b"HOLD"),
+        21 => say(b"ADD"),
+        22 => say(b"MINUS"),
+        23 => say(b"NOT"),
+        _ => say(b"IABS"),
+    }
+}
+
+fn say_operator(operation: u32) {
+    match operation {
+        25 => say(b"+"),
+        26 => say(b"-"),
+        27 => say(b"*"),
+        28 => say(b"%"),
+        29 => say(b"<"),
+        30 => say(b"<="),
+        31 => say(b"="),
+        32 => say(b">="),
+        33 => say(b">"),
+        34 => say(b"#"),
+        35 => say(b"and"),
+        36 => say(b"or"),
+        37 => say(b"impl"),
+        38 => say(b"equiv"),
+        _ => say(b"no operation"),
+    }
+}
+
+fn say_operation(operation: u32) {
+    match operation {
+        0..=11 => say_control(operation),
+        12..=24 => say_data(operation),
+        _ => say_operator(operation),
+    }
+}
+
+// The parts of an operand.
+fn high(v: u32) -> u64 {
+    (v / 67108864) as u64
+}
+
+fn mid(v: u32) -> u64 {
+    (v / 8192 % 8192) as u64
+}
+
+fn low(v: u32) -> u64 {
+    (v % 8192) as u64
+}
+
+// A name of a part, and the part.
+fn say_part(name: &[u8], n: u64) {
+    say(name);
+    say_number(n);
+}
+
+// A variable: activations out, and the offset from the first cell there.
+fn say_variable(v: u32) {
+    say_part(b" cell ", mid(v));
+    say_part(b", levels out ", high(v));
+}
+
+// The number of a CONST, in two's complement.
+fn say_constant(v: u32) {
+    if v < 2147483648 {
+        say_part(b" ", v as u64);
+    } else {
+        say_part(b" -", 4294967296 - v as u64);
+    }
+}
+
+// The operands of control instructions.
+fn say_route(operation: u32, v: u32) {
+    match operation {
+        2 | 10 => say_part(b" to ", low(v)),
+        3 => {
+            say_part(b" cells ", mid(v));
+            say_part(b", to ", low(v));
+        }
+        4 => say_part(b" cells ", mid(v)),
+        5 | 6 => {
+            say_part(b" to ", low(v));
+            say_part(b", levels out ", high(v));
+            say_part(b", cells ", mid(v));
+        }
+        8 => {
+            say_part(b" to ", low(v));
+            say_part(b", back to ", mid(v));
+            say_part(b", nesting ", high(v));
+        }
+        9 => say_part(b" nesting ", high(v)),
+        _ => {}
+    }
+}
+
+fn say_operands(operation: u32, v: u32) {
+    match operation {
+        11 => {
+            say_variable(v);
+            say_part(b", to ", low(v));
+        }
+        12 => say_constant(v),
+        13 | 14 | 15 | 18 | 21 => say_variable(v),
+        _ => say_route(operation, v),
+    }
+}
+
+// Whether an instruction carries a place of the source.
+fn placed(operation: u32) -> bool {
+    match operation {
+        3 | 5 | 6 | 11 | 12 | 13 | 16 | 18 | 19 => true,
+        21..=38 => true,
+        _ => false,
+    }
+}
+
+// So many blanks that what follows numbers of four digits is in one column.
+fn say_indent(address: usize) {
+    if address < 10 {
+        say_blanks(3);
+    } else if address < 100 {
+        say_blanks(2);
+    } else if address < 1000 {
+        say_blanks(1);
+    }
+}
+
+fn wide(n: u32) -> usize {
+    n as usize
+}
+
+fn show_instruction(source: &[u8], address: usize, first: u32, second: u32) {
+    let operation = first % 64;
+    say_indent(address);
+    say_number(address as u64);
+    say(b"  ");
+    say_operation(operation);
+    say_operands(operation, second);
+    if placed(operation) {
+        say(b"  at ");
+        say_spot(source, wide(first / 64));
+    }
+    say(b"\n");
+}
+
+// The instructions, up to the first word that is none.
+pub fn show_code(source: &[u8], code: &[u32]) {
+    let mut k: usize = 0;
+    while k < 8192 {
+        let at = 2 * k;
+        if code.len() <= at + 1 {
+            return;
+        }
+        if code[at] % 64 == 0 {
+            return;
+        }
+        show_instruction(source, k, code[at], code[at + 1]);
+        k += 1;
+    }
+}

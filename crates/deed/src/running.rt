@@ -1,0 +1,140 @@
+// A run of a source, and its answer shown.
+use crate::given::Sizes;
+use crate::numerals::say_whole;
+use crate::text::least;
+use crate::text::say;
+use crate::text::say_number;
+use crate::words::show_answer;
+use crate::words::show_placeless;
+use answers::Stop;
+use answers::Verdict;
+use machine::Ran;
+use translating::translating::translate;
+
+// The outputs, each between two texts.
+fn show_output(before: &[u8], output: &[i32], after: &[u8]) {
+    let mut i: usize = 0;
+    while i < output.len() {
+        say(before);
+        say_whole(output[i] as i64);
+        say(after);
+        i += 1;
+    }
+}
+
+fn show_counts(ran: Ran) {
+    say(b"instructions done: ");
+    say_number(ran.done);
+    say(b", numbers taken: ");
+    say_number(ran.taken as u64);
+    say(b", numbers written: ");
+    say_number(ran.written as u64);
+    say(b"\n");
+}
+
+// How a run stopped, for people.
+fn show_end(name: &[u8], source: &[u8], stop: Stop) {
+    match stop {
+        Stop::Ended => {
+            say(name);
+            say(b": ended\n");
+        }
+        Stop::Fault(r) => show_answer(name, source, b": stopped, ", r.answer.number, r.place.at),
+        _ => show_placeless(name, b": stopped, ", stop.answer().number),
+    }
+}
+
+// A run's answer, as one line of numbers.
+fn show_plain(answer: u16, place: usize, done: u64, taken: usize, written: usize, output: &[i32]) {
+    say_number(answer as u64);
+    say(b" ");
+    say_number(place as u64);
+    say(b" ");
+    say_number(done);
+    say(b" ");
+    say_number(taken as u64);
+    say(b" ");
+    say_number(written as u64);
+    show_output(b" ", output, b"");
+    say(b"\n");
+}
+
+// What a run gave; its outputs are the first of these.
+fn show_ran(name: &[u8], source: &[u8], plain: bool, ran: Ran, output: &[i32]) {
+    let stop = ran.stop;
+    let n = least(ran.written, output.len());
+    let wrote = &output[0..n];
+    if plain {
+        let answer = stop.answer().number;
+        show_plain(
+            answer,
+            stop.place(),
+            ran.done,
+            ran.taken,
+            ran.written,
+            wrote,
+        );
+        return;
+    }
+    show_output(b"", wrote, b"\n");
+    show_end(name, source, stop);
+    show_counts(ran);
+}
+
+// Runs code on the first of some numbers, in no more cells and with no more room than asked.
+fn run_within(
+    code: &[u32],
+    input: &[i32],
+    count: usize,
+    sizes: Sizes,
+    store: &mut [i64],
+    output: &mut [i32],
+) -> Ran {
+    let taken = least(count, input.len());
+    let cells = least(sizes.cells, store.len());
+    let room = least(sizes.room, output.len());
+    machine::run(
+        code,
+        &input[0..taken],
+        sizes.limit,
+        &mut store[0..cells],
+        &mut output[0..room],
+    )
+}
+
+fn run_code(
+    name: &[u8],
+    source: &[u8],
+    plain: bool,
+    code: &[u32],
+    input: &[i32],
+    count: usize,
+    sizes: Sizes,
+) {
+    let mut store = [0i64; 8192];
+    let mut output = [0i32; 65536];
+    let ran = run_within(code, input, count, sizes, &mut store, &mut output);
+    show_ran(name, source, plain, ran, &output);
+}
+
+// Translates a source and runs it on the first of some numbers.
+pub fn run_source(
+    name: &[u8],
+    source: &[u8],
+    plain: bool,
+    input: &[i32],
+    count: usize,
+    sizes: Sizes,
+) {
+    let mut code = [0u32; 16384];
+    match translate(source, &mut code) {
+        Verdict::Accepted => run_code(name, source, plain, &code, input, count, sizes),
+        Verdict::Refused(r) => {
+            if plain {
+                show_plain(r.answer.number, r.place.at, 0, 0, 0, &input[0..0]);
+            } else {
+                show_answer(name, source, b": refused, ", r.answer.number, r.place.at);
+            }
+        }
+    }
+}
