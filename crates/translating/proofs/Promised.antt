@@ -32,7 +32,7 @@ use Rattle.translating.specs.Job.{room, filled, codeIn, Translated, refu
 use Rattle.translating.proofs.Lengths.{fits-words}
 use Rattle.translating.proofs.Ranges.{in-range}
 use Rattle.translating.proofs.Words.{same-machine}
-use Rattle.translating.proofs.Correct.{machine-answers}
+use Rattle.translating.proofs.Correct.{machine-answers, source-answers}
 use Rattle.translating.proofs.OnWords.{follows-as, onWords, faithful-words}
 use Rattle.translating.proofs.Accepting.{within-limits, well-scoped}
 
@@ -152,3 +152,8 @@ never-wrong {text} {old} (enough h v ws (accepted p n t)) input limit cells spac
     ap (λ ws. machine ws input limit cells space) (take-filled (codeIn p) (drop room old) (code-fits p))
     ∙ same-machine (code (placeIn text) (parsed p)) (room - length (codeIn p)) (in-range (placeIn text) (parsed p) (within-limits p)) input limit cells space in
     subst (λ (f : Finish). Ordinary (f .stop) ⊎ (f .stop ≡ Limit)) (sym e) (machine-answers (placeIn text) (parsed p) (well-scoped p n t) input cells space limit)
+
+-- of an accepted source the source rules answer nothing but 0 and 21 to 28
+pub rules-answers : {text : List ℕ} (p : Parsed text) → least (nameFaults (parsed p)) ≡ none → typeFault (parsed p) ≡ none → (input : List ℤ) (cells space t n : ℕ) (q : Stop) (o : Trace)
+    → source (placeIn text) (parsed p) input cells space t ≡ done q n o → Ordinary q
+rules-answers {text} p named typed input cells space t n q o e = source-answers (placeIn text) (parsed p) (well-scoped p named typed) input cells space t n q o e
