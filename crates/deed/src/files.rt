@@ -1,5 +1,5 @@
 // Files and arguments, brought in whole or not at all.
-use crate::text::complain;
+use showing::text::complain;
 ghost use mathlib.Core.Path.{_≡_};
 ghost use Prim.Native.Nat.{_+_, _≤_};
 ghost use Rattle.io.specs.Counts.{Counts};

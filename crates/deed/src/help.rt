@@ -1,6 +1,6 @@
 // What the tool says of itself.
-use crate::text::complain;
-use crate::text::say;
+use showing::text::complain;
+use showing::text::say;
 
 pub fn usage() {
     complain(b"usage: deed read | uses | levels | code FILE\n");

@@ -8,23 +8,17 @@ use files::load;
 use help::help;
 use help::usage;
 use jobs::obey;
-use text::complain;
-use text::say;
+use showing::text::complain;
+use showing::text::say;
 ghost use Prim.Native.Nat.{_≤_};
 ghost use lib.ListN.{length};
 
 mod asking; // a line of words
-mod code; // deed code
 mod files; // files and arguments
 mod given; // what a run is given
 mod help; // what the tool says of itself
 mod jobs; // what is done for a line
-mod levels; // deed levels
-mod numerals; // numbers as digits
 mod running; // deed run
-mod text; // lines, columns, printing
-mod uses; // deed uses
-mod words; // sentences for answers
 
 // One line of a file of commands.
 fn obey_text(text: &[u8]) {

@@ -1,14 +1,14 @@
 // A run of a source, and its answer shown.
 use crate::given::Sizes;
-use crate::numerals::say_whole;
-use crate::text::least;
-use crate::text::say;
-use crate::text::say_number;
-use crate::words::show_answer;
-use crate::words::show_placeless;
 use answers::Stop;
 use answers::Verdict;
 use machine::Ran;
+use showing::numerals::say_whole;
+use showing::text::least;
+use showing::text::say;
+use showing::text::say_number;
+use showing::words::show_answer;
+use showing::words::show_placeless;
 use translating::translating::translate;
 
 // The outputs, each between two texts.
