@@ -22,8 +22,8 @@ use Rattle.reading.specs.Table.{fours, useWords, declarationWords, hasNone, nod
 use Rattle.rules.specs.Entered.{total, before, cut, declaring, bodyOfThis, cellOf}
 use Rattle.rules.specs.Calls.{primary, command}
 use Rattle.rules.specs.Rules.{evaluate, perform, calling, sstep}
-use Rattle.translating.specs.Translate.{cutG, levels, loc, endE, endL, endStores, endS, entry, codeE, codeL, codeStores, codeS, code}
-use Rattle.translating.specs.Words.{words}
+use Rattle.translation.specs.Translate.{cutG, levels, loc, endE, endL, endStores, endS, entry, codeE, codeL, codeStores, codeS, code}
+use Rattle.translation.specs.Words.{words}
 use Rattle.marks.specs.Parsing.{among, parse}
 use Rattle.marks.specs.Models.{readOf, comes, says}
 use Rattle.marks.specs.Marks.{copies, marks}

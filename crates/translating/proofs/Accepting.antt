@@ -18,11 +18,11 @@ use Rattle.types.specs.Types.{typeFaults, typeFault}
 use Rattle.reading.specs.Reading.{symbols, placeIn, Parsed, parsed}
 use Rattle.reading.proofs.Answers.{none-empty, unmeant-none}
 use Rattle.reading.proofs.Places.{sooner-place, few-symbols, Rising as PlacesRise, places-rise}
-use Rattle.translating.specs.Scoped.{Scoped}
-use Rattle.translating.specs.Sizes.{Limited}
+use Rattle.translation.specs.Scoped.{Scoped}
+use Rattle.translation.specs.Sizes.{Limited}
 use Rattle.translating.specs.Layout.{sites}
 use Rattle.translating.specs.ByPlace.{valuesAt}
-use Rattle.translating.proofs.Accepted.{accepted-scoped}
+use Rattle.translation.proofs.Accepted.{accepted-scoped}
 use Rattle.translating.proofs.Limits.{limited}
 use Rattle.translating.proofs.NumbersOf.{NumbersS}
 use Rattle.translating.proofs.Numbers.{Worth, numbers, numbers-so}

@@ -15,7 +15,7 @@ use Rattle.syntax.proofs.Unique.{shallow-tree}
 use Rattle.names.specs.Program as P
 use Rattle.names.specs.Program.{Name, Sort, Expression, Statement, Declarations}
 use Rattle.names.specs.ReadOff.{Sem, Makes, nameAt, build, read, programOf}
-use Rattle.translating.specs.Sizes.{deepS, deepSs, deepDs, deepP}
+use Rattle.translation.specs.Sizes.{deepS, deepSs, deepDs, deepP}
 
 -- ---- what a part gives that opens at most d levels. A body is one level below its declarations, as the statements of their block are
 

@@ -13,16 +13,16 @@ use Rattle.names.specs.Rows.{foldNodes}
 use Rattle.names.specs.Uses.{usesS, joined, rows}
 use Rattle.names.specs.Outline.{rowsS}
 use Rattle.reading.specs.Table.{useWords, hasNone, nodeWords}
-use Rattle.translating.specs.Translate.{codeS, code, endS}
-use Rattle.translating.specs.Words.{words, CodeFits}
-use Rattle.translating.specs.Scoped.{Scoped}
-use Rattle.translating.specs.Sizes.{Limited}
+use Rattle.translation.specs.Translate.{codeS, code, endS}
+use Rattle.translation.specs.Words.{words, CodeFits}
+use Rattle.translation.specs.Scoped.{Scoped}
+use Rattle.translation.specs.Sizes.{Limited}
 use Rattle.translating.specs.Layout.{sites}
 use Rattle.translating.specs.Emission.{State, put, fresh, codeNode, emitted, codeOf}
 use Rattle.translating.proofs.NumbersOf.{NumbersS}
 use Rattle.translating.proofs.Sites.{Climbs, Rising, LaidS}
-use Rattle.translating.proofs.Ranges.{ends, in-range}
-use Rattle.translating.proofs.Lengths.{fits-words}
+use Rattle.translation.proofs.Ranges.{ends, in-range}
+use Rattle.translation.proofs.Lengths.{fits-words}
 use Rattle.translating.proofs.Shown.{shown, shown-none, shown-whole}
 use Rattle.translating.proofs.SlotLists.{Fills, more-slots, aheadS, fewS}
 use Rattle.translating.proofs.EntryTables.{enteredS, RightS, filledS, agree-refl}

@@ -13,10 +13,10 @@ use Rattle.names.specs.Program.{Name, Sort, Expression, Element, Statement, dum
 use Rattle.names.specs.Scopes.{Thing, variable, routine, formal, Declared, Scope, ofBlock, ofBody, nameOf, same, variablesIn, inBlock, findIn}
 use Rattle.names.specs.Nodes.{node, sortNumber}
 use Rattle.names.specs.Outline.{sizeS, sizeD, sizeP, rowsN, rowsS, rowsSs, rowsD, rowsP}
-use Rattle.translating.specs.Translate.{endE, endL, endS, endSs, endDs, endP, entry}
+use Rattle.translation.specs.Translate.{endE, endL, endS, endSs, endDs, endP, entry}
 use Rattle.translating.specs.Layout.{sites}
 use Rattle.translating.proofs.Sites.{Climbs, Rising, no-row, row}
-use Rattle.translating.proofs.Stands.{behind}
+use Rattle.translation.proofs.Stands.{behind}
 
 module _ (place : ℕ → ℕ) where
   -- ---- the table behind a tree whose code begins at b

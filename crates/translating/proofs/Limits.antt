@@ -8,7 +8,7 @@ use Rattle.syntax.specs.Grammar.{a-block, a-compound, program}
 use Rattle.syntax.specs.Trees.{Syn, nil, tok, act, sub, yield}
 use Rattle.syntax.specs.Program.{Keeps}
 use Rattle.names.specs.ReadOff.{build, read, programOf}
-use Rattle.translating.specs.Sizes.{Whole, Limited}
+use Rattle.translation.specs.Sizes.{Whole, Limited}
 use Rattle.translating.proofs.Counted.{counted}
 use Rattle.translating.proofs.Deep.{deep-kept}
 use Rattle.translating.proofs.Numbers.{small}

@@ -15,17 +15,17 @@ use Rattle.machine.specs.Instructions.{Loc, lc, pack, high, mid}
 use Rattle.names.specs.Program.{Name, Sort, Specification, Declarations, none as no-more, variables, declare, Procedure, heading}
 use Rattle.names.specs.Scopes.{Thing, variable, routine, formal, Declared, Scope, ofBlock, ofBody, declares, variablesIn, inBlock, inBody, specified, specificationsOf, formalsOf, nameOf, sortOf, same, findIn, Given, environment, findGiven, innermost, Meaning, declared, given, nothing, meaning}
 use Rattle.rules.specs.Entered.{results, oneIf, isSome, declaring, bodyOfThis}
-use Rattle.translating.specs.Translate.{Mark, blk, own, scopeAt, scopes, offset, cutG, levels, amongG, offsetOf, locFor, locAs, loc, entry, target}
-use Rattle.translating.specs.Scoped.{nearest, HasCell, CellAs, OkV}
-use Rattle.translating.specs.Words.{beside, LocFits}
+use Rattle.translation.specs.Translate.{Mark, blk, own, scopeAt, scopes, offset, cutG, levels, amongG, offsetOf, locFor, locAs, loc, entry, target}
+use Rattle.translation.specs.Scoped.{nearest, HasCell, CellAs, OkV}
+use Rattle.translation.specs.Words.{beside, LocFits}
 use Rattle.translating.specs.Layout.{packed}
 use Rattle.translating.specs.Emission.{cellOf, resultOf}
 use Rattle.translating.proofs.Sites.{Lying, Lies}
-use Rattle.translating.proofs.Ranges.{owns}
+use Rattle.translation.proofs.Ranges.{owns}
 use Rattle.names.specs.Uses.{thingKind}
 use Rattle.translating.proofs.Written.{kindOf, meansOf}
-use Rattle.translating.proofs.Words.{high-pack, mid-pack}
-use Rattle.translating.proofs.Stands.{procedureOf, behind}
+use Rattle.translation.proofs.Words.{high-pack, mid-pack}
+use Rattle.translation.proofs.Stands.{procedureOf, behind}
 
 -- ---- what is found is what is declared
 

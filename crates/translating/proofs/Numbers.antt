@@ -13,7 +13,7 @@ use Rattle.syntax.specs.Trees.{Syn, yield}
 use Rattle.names.specs.Program as P
 use Rattle.names.specs.Program.{Name, Sort, Expression, Expressions, Element, Statement, Statements, Declarations, Procedure}
 use Rattle.names.specs.ReadOff.{Sem, operandOf, operatorOf, signOf, applied, nameAt, build, programOf}
-use Rattle.translating.specs.Sizes.{SmallE, SmallEs, SmallL, SmallS, SmallSs, SmallDs, SmallP}
+use Rattle.translation.specs.Sizes.{SmallE, SmallEs, SmallL, SmallS, SmallSs, SmallDs, SmallP}
 use Rattle.translating.proofs.NumbersOf.{NumbersE, NumbersEs, NumbersL, NumbersS, NumbersSs, NumbersDs, NumbersP}
 use Rattle.translating.proofs.Built.{Fits, built}
 

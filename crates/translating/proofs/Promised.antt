@@ -24,16 +24,16 @@ use Rattle.rules.specs.Rules.{State, source}
 use Rattle.machine.proofs.Limits.{zero-words}
 use Rattle.reading.specs.Reading.{placeIn, Parsed, parsed, accepted as judged-right}
 use Rattle.reading.proofs.Only.{one-program, one-judgement}
-use Rattle.translating.specs.Translate.{code}
-use Rattle.translating.specs.Words.{words}
-use Rattle.translating.specs.Faithful.{Begins, Ordinary, Follows}
-use Rattle.translating.specs.Listed.{machineIn}
+use Rattle.translation.specs.Translate.{code}
+use Rattle.translation.specs.Words.{words}
+use Rattle.translation.specs.Faithful.{Begins, Ordinary, Follows}
+use Rattle.translation.specs.Listed.{machineIn}
 use Rattle.translating.specs.Job.{room, filled, codeIn, Translated, refused, accepted, Translates, too-short, enough, onThese, RunsAs, Shown, Deed}
-use Rattle.translating.proofs.Lengths.{fits-words}
-use Rattle.translating.proofs.Ranges.{in-range}
-use Rattle.translating.proofs.Words.{same-machine}
-use Rattle.translating.proofs.Correct.{machine-answers, source-answers}
-use Rattle.translating.proofs.OnWords.{follows-as, onWords, faithful-words}
+use Rattle.translation.proofs.Lengths.{fits-words}
+use Rattle.translation.proofs.Ranges.{in-range}
+use Rattle.translation.proofs.Words.{same-machine}
+use Rattle.translation.proofs.Correct.{machine-answers, source-answers}
+use Rattle.translation.proofs.OnWords.{follows-as, onWords, faithful-words}
 use Rattle.translating.proofs.Accepting.{within-limits, well-scoped}
 
 -- ---- the words that are left

@@ -12,9 +12,9 @@ use Rattle.names.specs.Program.{Name, Sort, Expression, number, logical, name, 
 use Rattle.names.specs.Scopes.{Scope, ofBlock, ofBody, sortOf, meaning}
 use Rattle.rules.specs.Entered.{cellsIn}
 use Rattle.rules.specs.Calls.{Primary, held, function, absolute, greatest, no-primary, primary, Command, routine-of, absolute-of, greatest-of, input-to, output-of, no-command, command}
-use Rattle.translating.specs.Translate.{endName, endSign, endE, endEs, endL, endStores, endCall, endCommand, endS, endSs, endDs, endP}
+use Rattle.translation.specs.Translate.{endName, endSign, endE, endEs, endL, endStores, endCall, endCommand, endS, endSs, endDs, endP}
 use Rattle.translating.specs.Layout.{packed}
-use Rattle.translating.proofs.Ranges.{grow-name, grow-sign, grow-stores}
+use Rattle.translation.proofs.Ranges.{grow-name, grow-sign, grow-stores}
 
 -- ---- slots taken and filled
 

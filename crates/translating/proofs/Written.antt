@@ -15,12 +15,12 @@ use Rattle.names.specs.Scopes.{Thing, variable, routine, formal, Scope, Meaning
 use Rattle.names.specs.Uses.{Use, used, joined, Row, rowIn, rowOf, thingKind}
 use Rattle.names.specs.Program.{Name}
 use Rattle.reading.specs.Table.{useWords, hasNone, nodeWords}
-use Rattle.translating.specs.Translate.{Mark}
-use Rattle.translating.specs.Words.{Parts, partsOf, firstWord, words, InstrFits, CodeFits}
+use Rattle.translation.specs.Translate.{Mark}
+use Rattle.translation.specs.Words.{Parts, partsOf, firstWord, words, InstrFits, CodeFits}
 use Rattle.translating.specs.Emission.{Opened, opened, State, put, withOpen, withSlot, noted, withUses, kindNext, meansNext, othersNext, useNode, codeNode}
 use Rattle.translating.proofs.Shown.{shown, shown-next, shown-set, shown-zero, shown-two}
 use Rattle.translating.proofs.SlotLists.{Fills, no-slot, then-slots, slots-past}
-use Rattle.translating.proofs.Ranges.{owns}
+use Rattle.translation.proofs.Ranges.{owns}
 
 -- what the pass is told
 pub record Tables : Type 0 where

@@ -16,16 +16,16 @@ use Rattle.names.specs.Nodes.{node, mark, nodesE, nodesLeft, nodesS}
 use Rattle.names.specs.Rows.{isUse}
 use Rattle.names.specs.Uses.{Use, used, usesE, usesS}
 use Rattle.reading.specs.Table.{hasNone}
-use Rattle.translating.specs.Translate.{Mark, scopes, loc, endE, endStores, endS, codeE, codeStores, codeS}
-use Rattle.translating.specs.Words.{Parts, beside, partsOf, LocFits, CodeFits, words}
-use Rattle.translating.specs.Scoped.{OkV, OkVs, OkE}
+use Rattle.translation.specs.Translate.{Mark, scopes, loc, endE, endStores, endS, codeE, codeStores, codeS}
+use Rattle.translation.specs.Words.{Parts, beside, partsOf, LocFits, CodeFits, words}
+use Rattle.translation.specs.Scoped.{OkV, OkVs, OkE}
 use Rattle.translating.specs.Emission.{Opened, opened, State, put, withOpen, withLefts, pushed, top, below, cellOf, useNode, stored, leftsOf, behindLefts, assigned, plainNode, codeNode}
 use Rattle.translating.proofs.NumbersOf.{NumbersE}
 use Rattle.translating.proofs.SlotLists.{aheadE, aheadS}
 use Rattle.translating.proofs.Written.{Tables, Frame, Flow, kindOf, meansOf, Meant, withOpens, taken, putAll, past, Same, step, state, Goes, Passed, Fits, Emits, goes-node, _and-then_, passed-nothing, passed-all, passed-as, use-step}
 use Rattle.translating.proofs.NameWords.{Known, Targets}
 use Rattle.translating.proofs.WrittenExpressions.{parts, cell-meant, cell-word, Numbered, emitsE}
-use Rattle.translating.proofs.Ranges.{owns}
+use Rattle.translation.proofs.Ranges.{owns}
 
 -- ---- left parts kept, newest first
 

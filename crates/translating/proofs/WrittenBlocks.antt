@@ -15,8 +15,8 @@ use Rattle.names.specs.Nodes.{node, mark, sortNumber, nodesN, nodesSp}
 use Rattle.names.specs.Rows.{isUse}
 use Rattle.names.specs.Uses.{Use}
 use Rattle.reading.specs.Table.{hasNone}
-use Rattle.translating.specs.Translate.{Mark}
-use Rattle.translating.specs.Words.{words}
+use Rattle.translation.specs.Translate.{Mark}
+use Rattle.translation.specs.Words.{words}
 use Rattle.translating.specs.Layout.{packed}
 use Rattle.translating.specs.Emission.{Opened, opened, State, put, withOpen, withSlot, within, withEntry, noted, pushed, popped, replaced, top, below, aheadAt, blockNode, procedureNode, plainNode, codeNode}
 use Rattle.translating.proofs.SlotLists.{Fills, no-slot, longer, then-slots, refill, slot-read, slot-past, slots-past}

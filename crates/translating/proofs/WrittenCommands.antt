@@ -22,9 +22,9 @@ use Rattle.reading.specs.Table.{hasNone}
 use Rattle.rules.specs.Entered.{oneIf, declaring}
 use Rattle.rules.specs.Calls.{Command, routine-of, absolute-of, greatest-of, input-to, output-of, no-command, thingTold, into, givenTold, command}
 use Rattle.rules.specs.Rules.{maxint}
-use Rattle.translating.specs.Translate.{Mark, scopes, loc, cutG, levels, target, endE, endEs, endCall, endCommand, CALLS, codeE, codeEs, codeCall, codeCommand}
-use Rattle.translating.specs.Words.{Parts, beside, partsOf, LocFits, CodeFits}
-use Rattle.translating.specs.Scoped.{CellAs, OkV, OkE, OkEs, OkCommand}
+use Rattle.translation.specs.Translate.{Mark, scopes, loc, cutG, levels, target, endE, endEs, endCall, endCommand, CALLS, codeE, codeEs, codeCall, codeCommand}
+use Rattle.translation.specs.Words.{Parts, beside, partsOf, LocFits, CodeFits}
+use Rattle.translation.specs.Scoped.{CellAs, OkV, OkE, OkEs, OkCommand}
 use Rattle.translating.specs.Layout.{packed}
 use Rattle.translating.specs.Emission.{Opened, opened, State, put, withOpen, withVariable, replaced, top, below, largest, cellOf, resultOf, calledWith, resultFor, dropped, named, namedOr, actualIn, callEnded, useNode, codeNode}
 use Rattle.translating.proofs.NumbersOf.{NumbersE, NumbersEs}
@@ -33,7 +33,7 @@ use Rattle.translating.proofs.Written.{Tables, Frame, Flow, kindOf, mea
 use Rattle.translating.proofs.WrittenChoices.{fits-open}
 use Rattle.translating.proofs.NameWords.{Known, Targets, result-is}
 use Rattle.translating.proofs.WrittenExpressions.{parts, Numbered, cell-meant, cell-word, call-word, name-step, inCall, counted, counted-is, Quiet, typed-step, plain-step, actual-step, ended-step, IsE, IsEs, then-actuals, call-end, given-call, emitsE, emitsEs}
-use Rattle.translating.proofs.Ranges.{owns}
+use Rattle.translation.proofs.Ranges.{owns}
 
 module _ (tb : Tables) where
   -- ---- names alone

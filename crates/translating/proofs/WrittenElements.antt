@@ -17,19 +17,19 @@ use Rattle.names.specs.Nodes.{node, mark, amountNodes, nodesE, nodesL, nodesLs}
 use Rattle.names.specs.Rows.{isUse}
 use Rattle.names.specs.Uses.{Use, usesE, usesL}
 use Rattle.reading.specs.Table.{hasNone}
-use Rattle.translating.specs.Translate.{Mark, scopes, loc, endE, endL, onward, codeE, codeL}
-use Rattle.translating.specs.Words.{Parts, beside, partsOf, LocFits, CodeFits, words}
+use Rattle.translation.specs.Translate.{Mark, scopes, loc, endE, endL, onward, codeE, codeL}
+use Rattle.translation.specs.Words.{Parts, beside, partsOf, LocFits, CodeFits, words}
 use Rattle.translating.specs.Layout.{packed}
-use Rattle.translating.specs.Scoped.{OkE, OkL}
+use Rattle.translation.specs.Scoped.{OkE, OkL}
 use Rattle.translating.specs.Emission.{Opened, opened, State, put, withOpen, withSlot, noted, replaced, top, below, aheadAt, element, bodied, stepping, elementNode, plainNode, codeNode}
 use Rattle.translating.proofs.NumbersOf.{NumbersE, NumbersL}
 use Rattle.translating.proofs.SlotLists.{Fills, no-slot, a-slot, then-slots, slot-read, slot-past, slots-past, there, aheadE, aheadX, aheadL, endX, end-element}
 use Rattle.translating.proofs.Written.{Tables, Frame, Flow, withOpens, wrote, slotted, taken, slot-real, noted-real, putAll, wroteAll, puts-real, past, Same, Kept, wrote-all, fits-apart, step, state, Goes, Passed, Fits, Emits, goes-node, goes-then, _and-then_, passed-all, passed-idle, passed-words}
-use Rattle.translating.proofs.Words.{high-pack, mid-pack}
+use Rattle.translation.proofs.Words.{high-pack, mid-pack}
 use Rattle.translating.proofs.WrittenChoices.{address, fits-open}
 use Rattle.translating.proofs.WrittenExpressions.{parts, Numbered, IsE, emitsE}
 use Rattle.translating.proofs.NameWords.{Known, Targets}
-use Rattle.translating.proofs.Ranges.{owns}
+use Rattle.translation.proofs.Ranges.{owns}
 
 -- a frame within a for statement: the slot of its body's address, its variable's word and place, the address of the element
 abbrev pub inLoop : ℕ → ℕ → ℕ → ℕ → Frame → Frame

@@ -23,9 +23,9 @@ use Rattle.reading.specs.Table.{hasNone}
 use Rattle.rules.specs.Entered.{oneIf, declaring}
 use Rattle.rules.specs.Calls.{Primary, held, function, absolute, greatest, no-primary, withType, alone, thingAs, givenAs, primary}
 use Rattle.rules.specs.Rules.{binaryOf, maxint}
-use Rattle.translating.specs.Translate.{Mark, scopes, loc, cutG, levels, target, endName, endSign, endE, endEs, CALLS, codeName, codeSign, codeE, codeEs}
-use Rattle.translating.specs.Words.{Parts, beside, partsOf, LocFits, CodeFits, binaryNumber}
-use Rattle.translating.specs.Scoped.{CellAs, OkV, OkPrimary, OkE, OkEs}
+use Rattle.translation.specs.Translate.{Mark, scopes, loc, cutG, levels, target, endName, endSign, endE, endEs, CALLS, codeName, codeSign, codeE, codeEs}
+use Rattle.translation.specs.Words.{Parts, beside, partsOf, LocFits, CodeFits, binaryNumber}
+use Rattle.translation.specs.Scoped.{CellAs, OkV, OkPrimary, OkE, OkEs}
 use Rattle.translating.specs.Layout.{packed}
 use Rattle.translating.specs.Emission.{Opened, opened, State, put, withOpen, withVariable, pushed, popped, replaced, top, below, signed as signedAs, operationOf, largest, cellOf, resultOf, calledWith, resultFor, dropped, named, namedOr, calling, actualIn, callEnded, useNode, plainNode, codeNode}
 use Rattle.translating.proofs.NumbersOf.{NumbersE, NumbersEs}
@@ -33,7 +33,7 @@ use Rattle.translating.proofs.SlotLists.{aheadName, aheadE, aheadEs}
 use Rattle.translating.proofs.Written.{Tables, Frame, Flow, kindOf, meansOf, Meant, withOpens, taken, putAll, past, Same, step, state, Goes, Passed, Fits, Emits, goes-node, goes-then, _and-then_, _followed-by_, _closed-by_, passed-nothing, passed-all, passed-idle, emits-all, use-step}
 use Rattle.translating.proofs.WrittenChoices.{fits-open, closing, one-way, two-way}
 use Rattle.translating.proofs.NameWords.{Known, Targets, cell-is, result-is, levels-is, target-is}
-use Rattle.translating.proofs.Ranges.{owns}
+use Rattle.translation.proofs.Ranges.{owns}
 
 abbrev pub parts : ℕ → ℕ → ℕ → Parts
 parts o p v = record { operation = o; place = p; operand = v }

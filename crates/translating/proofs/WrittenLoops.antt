@@ -16,10 +16,10 @@ use Rattle.names.specs.Nodes.{node, mark, nodesL, nodesLs, nodesS}
 use Rattle.names.specs.Rows.{isUse}
 use Rattle.names.specs.Uses.{Use, used, usesL, usesS}
 use Rattle.reading.specs.Table.{hasNone}
-use Rattle.translating.specs.Translate.{Mark, scopes, loc, endL, endS, codeL, codeS}
-use Rattle.translating.specs.Words.{words}
+use Rattle.translation.specs.Translate.{Mark, scopes, loc, endL, endS, codeL, codeS}
+use Rattle.translation.specs.Words.{words}
 use Rattle.translating.specs.Layout.{packed}
-use Rattle.translating.specs.Scoped.{OkV, OkL}
+use Rattle.translation.specs.Scoped.{OkV, OkL}
 use Rattle.translating.specs.Emission.{Opened, opened, State, put, withOpen, withSlot, within, noted, pushed, popped, replaced, top, below, cellOf, repeated, useNode, loopNode, codeNode}
 use Rattle.translating.proofs.NumbersOf.{NumbersL}
 use Rattle.translating.proofs.SlotLists.{Fills, longer, then-slots, refill, slot-read, slot-past, slots-past, there, aheadL, aheadS}
@@ -28,7 +28,7 @@ use Rattle.translating.proofs.WrittenExpressions.{Numbered, cell-meant,
 use Rattle.translating.proofs.WrittenElements.{inLoop, Turned, elements-turned}
 use Rattle.translating.proofs.NameWords.{Known, Targets}
 use Rattle.translating.proofs.EntryTables.{enteredS}
-use Rattle.translating.proofs.Ranges.{owns}
+use Rattle.translation.proofs.Ranges.{owns}
 
 -- a frame within a body, with the slot of where its loop goes on
 abbrev inBody : ℕ → Frame → Frame

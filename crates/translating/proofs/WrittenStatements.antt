@@ -16,8 +16,8 @@ use Rattle.names.specs.Nodes.{node, mark, sortNumber, nodesN, nodesSp, nodesS, 
 use Rattle.names.specs.Uses.{Use, usesS, usesSs, usesD, usesP}
 use Rattle.rules.specs.Entered.{total, cellsIn}
 use Rattle.rules.specs.Calls.{command}
-use Rattle.translating.specs.Translate.{Mark, blk, own, scopes, reach, endE, endL, endS, endSs, endDs, endP, codeS, codeSs, codeDs, codeP}
-use Rattle.translating.specs.Scoped.{OkS, OkSs, OkDs, OkP}
+use Rattle.translation.specs.Translate.{Mark, blk, own, scopes, reach, endE, endL, endS, endSs, endDs, endP, codeS, codeSs, codeDs, codeP}
+use Rattle.translation.specs.Scoped.{OkS, OkSs, OkDs, OkP}
 use Rattle.translating.proofs.NumbersOf.{NumbersS, NumbersSs, NumbersDs, NumbersP}
 use Rattle.translating.proofs.Sites.{LaidS, LaidSs, LaidDs, LaidP}
 use Rattle.translating.proofs.SlotLists.{aheadS, aheadSs, aheadDs, aheadP}
@@ -30,7 +30,7 @@ use Rattle.translating.proofs.WrittenAssignments.{assignment-part}
 use Rattle.translating.proofs.WrittenCommands.{command-part}
 use Rattle.translating.proofs.WrittenLoops.{loop-part}
 use Rattle.translating.proofs.WrittenBlocks.{inBlock, withCells, inProcedure, withEntries, blockFlow, cellsBehind, declared-passed, nothing-part, heading-part, procedure-passed, block-passed}
-use Rattle.translating.proofs.Ranges.{owns, total-variables}
+use Rattle.translation.proofs.Ranges.{owns, total-variables}
 use Rattle.translating.specs.Layout.{packed}
 
 -- ---- the cells of declarations

@@ -19,9 +19,9 @@ use Rattle.machine.specs.Run.{Trace, done, over}
 use Rattle.machine.specs.Machine.{machine, used}
 use Rattle.machine.specs.declared.Ran.{Ran}
 use Rattle.rules.specs.Rules.{State, source}
-use Rattle.translating.specs.Translate.{code}
-use Rattle.translating.specs.Words.{words}
-use Rattle.translating.specs.Faithful.{Machine, Begins, Follows}
+use Rattle.translation.specs.Translate.{code}
+use Rattle.translation.specs.Words.{words}
+use Rattle.translation.specs.Faithful.{Machine, Begins, Follows}
 
 -- ---- the first 16,384 words of the code
 

@@ -1,9 +1,3 @@
-pub mod Translate
-pub mod Scoped
-pub mod Listed
-pub mod Words
-pub mod Sizes
-pub mod Faithful
 pub mod Layout
 pub mod Emission
 pub mod Job

@@ -15,9 +15,9 @@ use Rattle.machine.specs.Machine.{Frame, fr, frameAt, linkOf, baseOf, base, wal
 use Rattle.names.specs.Program.{Name, Sort, Specification, Declarations, Procedure}
 use Rattle.names.specs.Scopes.{Thing, variable, routine, formal, Declared, Scope, ofBlock, ofBody, declares, inBlock, inBody, specified, specificationsOf, formalsOf, same, findIn, findGiven, Given, Meaning, declared, given, nothing, innermost, meaning}
 use Rattle.rules.specs.Entered.{Entry, entered, scopeOf, scopesOf, cellsOf, total, results, cellsIn, before, placeIn, cut, isSome, declaring, bodyOfThis, among, firstOr, cellFor, cellAs, cellOf}
-use Rattle.translating.specs.Translate.{Mark, blk, own, scopeAt, scopes, offset, cutG, levels, amongG, offsetOf, locFor, locAs, loc, target, codeDs}
-use Rattle.translating.specs.Scoped.{nearest, HasCell, CellAs, OkV, MeansAs, OkDs}
-use Rattle.translating.proofs.Stands.{procedureOf, CodeAt, Ready, ready}
+use Rattle.translation.specs.Translate.{Mark, blk, own, scopeAt, scopes, offset, cutG, levels, amongG, offsetOf, locFor, locAs, loc, target, codeDs}
+use Rattle.translation.specs.Scoped.{nearest, HasCell, CellAs, OkV, MeansAs, OkDs}
+use Rattle.translation.proofs.Stands.{procedureOf, CodeAt, Ready, ready}
 
 -- ---- scopes
 

@@ -17,8 +17,8 @@ use Rattle.names.specs.Scopes.{has, specified, variablesIn, inBlock, inBody, fi
 use Rattle.rules.specs.Entered.{total, before, declaring, bodyOfThis}
 use Rattle.rules.specs.Calls.{primary, command}
 use Rattle.rules.specs.Samples.{Row, empty, s1, one-call, as-statement, needed, both-sides, over-i, m6, m7, below-three, mixed, factorial, callers, table}
-use Rattle.translating.specs.Translate.{cutG, levels, loc, endE, endEs, endL, endStores, endS, endSs, endDs, endP, entry, codeE, codeEs, codeL, codeStores, codeS, codeSs, codeDs, codeP, code}
-use Rattle.translating.specs.Listed.{instructionAt, stepIn, machineIn}
+use Rattle.translation.specs.Translate.{cutG, levels, loc, endE, endEs, endL, endStores, endS, endSs, endDs, endP, entry, codeE, codeEs, codeL, codeStores, codeS, codeSs, codeDs, codeP, code}
+use Rattle.translation.specs.Listed.{instructionAt, stepIn, machineIn}
 
 -- how it stopped, what it wrote, how many numbers it took; and whether the instructions were few enough
 pub record Came : Type 0 where

@@ -11,8 +11,8 @@ use Rattle.machine.specs.Instructions.{Instr}
 use Rattle.machine.specs.Machine.{Finish}
 use Rattle.names.specs.Program.{Statement}
 use Rattle.rules.specs.Rules.{State, source}
-use Rattle.translating.specs.Translate.{code}
-use Rattle.translating.specs.Scoped.{Scoped}
+use Rattle.translation.specs.Translate.{code}
+use Rattle.translation.specs.Scoped.{Scoped}
 
 abbrev pub Machine : Type 0
 Machine = List Instr → List ℤ → ℕ → ℕ → ℕ → Finish

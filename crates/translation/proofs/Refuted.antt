@@ -20,9 +20,9 @@ use Rattle.rules.specs.Entered.{total, before, cut, declaring, bodyOfThis, cell
 use Rattle.rules.specs.Calls.{primary, command}
 use Rattle.rules.specs.Rules.{evaluate, perform, calling, sstep, source}
 use Rattle.rules.specs.Samples.{factorial}
-use Rattle.translating.specs.Scoped.{nearest, Scoped}
-use Rattle.translating.specs.Listed.{machineIn}
-use Rattle.translating.specs.Faithful.{Machine, Faithful}
+use Rattle.translation.specs.Scoped.{nearest, Scoped}
+use Rattle.translation.specs.Listed.{machineIn}
+use Rattle.translation.specs.Faithful.{Machine, Faithful}
 
 -- M12, by the source rules: 120 after 80 steps
 scoped : Scoped factorial

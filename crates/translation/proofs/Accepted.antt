@@ -17,7 +17,7 @@ use Rattle.names.specs.Uses.{Use, used, usesE, usesEs, usesL, usesS, usesSs, us
 use Rattle.types.specs.Types.{alike, unlike, apart, when-so, Judged, judge, applied, plainly, thingIn, inExpression, wantedBy, wants, isVariable, thingOf, isName, sortE, misfit, misfits, faultsE, faultsEs, ownSort, ownResult, thingLeft, asLeft, leftOf, faultsLeft, thingCalled, miscalled, faultsFor, faultsL, faultsS, faultsSs, faultsD, faultsP, typeFaults}
 use Rattle.rules.specs.Entered.{cellsOf, total, oneIf, results, cellsIn, bodyOfThis}
 use Rattle.rules.specs.Calls.{Primary, held, function, absolute, greatest, no-primary, primary, Command, routine-of, absolute-of, greatest-of, input-to, output-of, no-command, command, into, thingTold, givenTold}
-use Rattle.translating.specs.Scoped.{nearest, HasCell, CellAs, OkV, OkVs, MeansAs, OkCall, OkPrimary, OkE, OkEs, OkL, OkCommand, OkS, OkSs, OkDs, OkP, Scoped}
+use Rattle.translation.specs.Scoped.{nearest, HasCell, CellAs, OkV, OkVs, MeansAs, OkCall, OkPrimary, OkE, OkEs, OkL, OkCommand, OkS, OkSs, OkDs, OkP, Scoped}
 
 -- ---- empty lists
 

@@ -16,7 +16,7 @@ use Rattle.machine.specs.declared.Value.the-variants.{Is, Fault}
 use Rattle.machine.specs.Values.{whole, isZero, same, Unary, minus, negation, absolute, apply1, Binary, plus, less, times, over, below, atMost, equal, atLeast, above, unequal, and, or, impl, equiv, apply2, past}
 use Rattle.machine.specs.Run.{Event, quiet}
 use Rattle.machine.specs.Data.{Lent, Data, dat, cells, Res, bad, wrong, good, guard, check, newCells, newest, onValue, back, look, put, reading, valued, hold, unhold, held, input, space, rest, spend, taking, writing, Act, push, load, store, assign, reserve, forget, receive, send, keep, bump, unary, binary, actOn, work, downs, Two, yea, nay, Test, condition, upto, testOn, test, downsT, openBlock, closeBlock, enter, Fate, kept, gone, stays, given, leave}
-use Rattle.translating.proofs.Chain.{Vars, VarsT}
+use Rattle.translation.proofs.Chain.{Vars, VarsT}
 
 -- ---- kinds of cells
 

@@ -14,15 +14,15 @@ use Rattle.machine.specs.Instructions.{Instr, END}
 use Rattle.machine.specs.Machine.{Mach, Finish, finish, start}
 use Rattle.names.specs.Program.{Statement}
 use Rattle.rules.specs.Rules.{State, beginning, source, sstep}
-use Rattle.translating.specs.Translate.{codeS, code}
-use Rattle.translating.specs.Scoped.{Scoped}
-use Rattle.translating.specs.Listed.{stepIn, machineIn}
-use Rattle.translating.specs.Faithful.{Begins, Tells, Ordinary, Follows, Faithful}
-use Rattle.translating.proofs.Sim as Sim
-use Rattle.translating.proofs.Stands.{CodeAt, pastS, whole}
-use Rattle.translating.proofs.Chain.{root}
-use Rattle.translating.proofs.Rel.{t-ex, at-end, at-task, Stand, stands, Rel, rel, size}
-use Rattle.translating.proofs.Diagram.{diag}
+use Rattle.translation.specs.Translate.{codeS, code}
+use Rattle.translation.specs.Scoped.{Scoped}
+use Rattle.translation.specs.Listed.{stepIn, machineIn}
+use Rattle.translation.specs.Faithful.{Begins, Tells, Ordinary, Follows, Faithful}
+use Rattle.translation.proofs.Sim as Sim
+use Rattle.translation.proofs.Stands.{CodeAt, pastS, whole}
+use Rattle.translation.proofs.Chain.{root}
+use Rattle.translation.proofs.Rel.{t-ex, at-end, at-task, Stand, stands, Rel, rel, size}
+use Rattle.translation.proofs.Diagram.{diag}
 
 module _ (place : ℕ → ℕ) (s : Statement) (ok : Scoped s) (input : List ℤ) (room space : ℕ) where
   abbrev P : List Instr

@@ -13,12 +13,12 @@ use Rattle.names.specs.Program.{Name, Sort, Sign, positive, negative, negation,
 use Rattle.names.specs.Scopes.{ofBlock, ofBody, meaning}
 use Rattle.rules.specs.Entered.{Entry, cellsIn}
 use Rattle.rules.specs.Rules.{Choice, expressions, statements, only, whiling, Stepping, stepping, Task, ev, evs, ex, exs, stores, loop, act, unchanged, drop, pick, hold, tested, add, invoke, close, return, State, st, at}
-use Rattle.translating.specs.Translate.{Mark, blk, own, scopes, loc, reach, endE, endEs, endL, onward, endStores, endS, endSs, CALLS, codeE, codeEs, codeL, codeStores, codeS, codeSs}
-use Rattle.translating.specs.Scoped.{OkV, OkVs, OkE, OkEs, OkL, OkS, OkSs, OkCall}
-use Rattle.translating.specs.Listed.{instructionAt}
-use Rattle.translating.proofs.Stands.{CodeAt}
-use Rattle.translating.proofs.Chain.{Chain, Vars}
-use Rattle.translating.proofs.Fits.{Kind, val, any, FitsD, takes, gives, needs, holds, more-of, before, left}
+use Rattle.translation.specs.Translate.{Mark, blk, own, scopes, loc, reach, endE, endEs, endL, onward, endStores, endS, endSs, CALLS, codeE, codeEs, codeL, codeStores, codeS, codeSs}
+use Rattle.translation.specs.Scoped.{OkV, OkVs, OkE, OkEs, OkL, OkS, OkSs, OkCall}
+use Rattle.translation.specs.Listed.{instructionAt}
+use Rattle.translation.proofs.Stands.{CodeAt}
+use Rattle.translation.proofs.Chain.{Chain, Vars}
+use Rattle.translation.proofs.Fits.{Kind, val, any, FitsD, takes, gives, needs, holds, more-of, before, left}
 
 -- ---- what is owed: instructions that no step has paid for yet
 

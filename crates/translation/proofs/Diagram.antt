@@ -20,16 +20,16 @@ use Rattle.names.specs.Scopes.{Thing, routine, Scope, ofBlock, ofBody, sortOf, 
 use Rattle.rules.specs.Entered.{Entry, entered, scopesOf, oneIf, cellsIn, cut, declaring, cellOf}
 use Rattle.rules.specs.Calls.{Primary, held, function, absolute, greatest, no-primary, primary, Command, routine-of, absolute-of, greatest-of, input-to, output-of, no-command, command, thingTold, into, givenTold}
 use Rattle.rules.specs.Rules.{Choice, expressions, statements, only, whiling, Stepping, stepping, Task, ev, evs, ex, exs, stores, loop, act, unchanged, drop, pick, hold, tested, add, invoke, close, return, State, st, noRule, binaryOf, maxint, doing, testing, at, applied, evaluate, calls, perform, entering, calling, sstep}
-use Rattle.translating.specs.Translate.{Mark, blk, own, scopes, cutG, levels, loc, reach, target, endName, endE, endEs, endL, onward, endStores, endCall, endCommand, endS, endSs, endDs, CALLS, codeName, codeE, codeEs, codeL, codeStores, codeCall, codeCommand, codeS, codeSs, codeDs, codeP}
-use Rattle.translating.specs.Scoped.{OkV, OkVs, OkE, OkEs, OkL, OkS, OkSs, OkP, OkCall, OkPrimary, OkCommand, MeansAs}
-use Rattle.translating.specs.Listed.{instructionAt, stepIn}
-use Rattle.translating.specs.Faithful.{Ordinary}
-use Rattle.translating.proofs.Sim as Sim
-use Rattle.translating.proofs.Sim.{hop, free, both, stop}
-use Rattle.translating.proofs.Fits.{Kind, val, any, FitsD, Fits2, All, takes, gives, takesT, needs, holds, needsT, vars, varsT, taken-length, takes-on, gives-on, takesT-length, takesT-on, downs-on, downsT-on, fits-cells, more-of, more-length, more-once, more-on, guard-yes, works, works-test, open-fits, close-fits, enter-fits, before, left, leave-fits, handed, left-on, before-length}
-use Rattle.translating.proofs.Stands.{CodeAt, pastE, pastEs, pastL, past-stores, past-sign, pastS, pastSs, pastDs, Ready}
-use Rattle.translating.proofs.Chain.{Vars, VarsT, Chain, root, inner, link, at-newest, chain-outer, chain-cut, chain-more, chain-scopes, found, same-act, same-test, chain-new, called}
-use Rattle.translating.proofs.Rel.{owes, owed, slack, owed-most, heldT, heldK, Level, StepAt, AtT, t-ev, t-evs, t-ex, t-exs, t-stores, t-act, t-unchanged, t-drop, t-invoke, t-expressions, t-statements, t-only, t-loop, t-whiling, t-hold, t-tested, t-add, Does, over-jump, at-go, at-next, at-end, at-task, at-close, at-ret, Stand, stands, Rel, rel, sizeE, sizeEs, sizeL, sizeS, sizeSs, sizeT, sizeK, size}
+use Rattle.translation.specs.Translate.{Mark, blk, own, scopes, cutG, levels, loc, reach, target, endName, endE, endEs, endL, onward, endStores, endCall, endCommand, endS, endSs, endDs, CALLS, codeName, codeE, codeEs, codeL, codeStores, codeCall, codeCommand, codeS, codeSs, codeDs, codeP}
+use Rattle.translation.specs.Scoped.{OkV, OkVs, OkE, OkEs, OkL, OkS, OkSs, OkP, OkCall, OkPrimary, OkCommand, MeansAs}
+use Rattle.translation.specs.Listed.{instructionAt, stepIn}
+use Rattle.translation.specs.Faithful.{Ordinary}
+use Rattle.translation.proofs.Sim as Sim
+use Rattle.translation.proofs.Sim.{hop, free, both, stop}
+use Rattle.translation.proofs.Fits.{Kind, val, any, FitsD, Fits2, All, takes, gives, takesT, needs, holds, needsT, vars, varsT, taken-length, takes-on, gives-on, takesT-length, takesT-on, downs-on, downsT-on, fits-cells, more-of, more-length, more-once, more-on, guard-yes, works, works-test, open-fits, close-fits, enter-fits, before, left, leave-fits, handed, left-on, before-length}
+use Rattle.translation.proofs.Stands.{CodeAt, pastE, pastEs, pastL, past-stores, past-sign, pastS, pastSs, pastDs, Ready}
+use Rattle.translation.proofs.Chain.{Vars, VarsT, Chain, root, inner, link, at-newest, chain-outer, chain-cut, chain-more, chain-scopes, found, same-act, same-test, chain-new, called}
+use Rattle.translation.proofs.Rel.{owes, owed, slack, owed-most, heldT, heldK, Level, StepAt, AtT, t-ev, t-evs, t-ex, t-exs, t-stores, t-act, t-unchanged, t-drop, t-invoke, t-expressions, t-statements, t-only, t-loop, t-whiling, t-hold, t-tested, t-add, Does, over-jump, at-go, at-next, at-end, at-task, at-close, at-ret, Stand, stands, Rel, rel, sizeE, sizeEs, sizeL, sizeS, sizeSs, sizeT, sizeK, size}
 
 -- the expressions of a command are among its actuals
 abbrev sizeC : Command → ℕ

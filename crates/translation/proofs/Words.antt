@@ -18,8 +18,8 @@ use Rattle.machine.specs.Data.{Act, push, load, store, assign, reserve, forget,
 use Rattle.machine.specs.Instructions.{Loc, lc, Instr, END, DO, IF, JUMP, ENTER, LEAVE, CALL, RETURN, GO, NEXT, pack, high, mid, low, variable, unaryOf, binaryOf, actOf, decode, instruction, fetch}
 use Rattle.machine.specs.Run.{untold, run}
 use Rattle.machine.specs.Machine.{Mach, ms, obey, step, finish, start, machine}
-use Rattle.translating.specs.Words.{Parts, beside, partsOfAct, partsOf, firstWord, words, LocFits, ActFits, InstrFits, CodeFits}
-use Rattle.translating.specs.Listed.{instructionAt, stepIn, machineIn}
+use Rattle.translation.specs.Words.{Parts, beside, partsOfAct, partsOf, firstWord, words, LocFits, ActFits, InstrFits, CodeFits}
+use Rattle.translation.specs.Listed.{instructionAt, stepIn, machineIn}
 
 -- ---- one packing, read back
 

@@ -9,10 +9,10 @@ use Rattle.machine.specs.Instructions.{Instr, END}
 use Rattle.names.specs.Program.{Name, Sort, Sign, positive, negative, negation, Expression, number, logical, name, call, signed, operated, chosen, nested, Expressions, done, then, Element, value, while, step, Statement, dummy, assignment, procedure, when, either, repeat, compound, block, Statements, last, first, Declarations, none as no-more, variables, declare, Procedure, heading}
 use Rattle.names.specs.Scopes.{Scope, ofBlock, sortOf, meaning}
 use Rattle.rules.specs.Calls.{Primary, held, function, absolute, greatest, no-primary, primary, Command, routine-of, absolute-of, greatest-of, input-to, output-of, no-command, command}
-use Rattle.translating.specs.Translate.{Mark, blk, own, scopes, reach, endName, endSign, endE, endEs, endL, endStores, endCall, endCommand, endS, endSs, endDs, endP, codeName, codeSign, codeE, codeEs, codeL, codeStores, codeCall, codeCommand, codeS, codeSs, codeDs, codeP, code}
-use Rattle.translating.specs.Words.{words}
-use Rattle.translating.specs.Sizes.{symbolsS, Whole, Limited}
-use Rattle.translating.proofs.Ranges.{ends}
+use Rattle.translation.specs.Translate.{Mark, blk, own, scopes, reach, endName, endSign, endE, endEs, endL, endStores, endCall, endCommand, endS, endSs, endDs, endP, codeName, codeSign, codeE, codeEs, codeL, codeStores, codeCall, codeCommand, codeS, codeSs, codeDs, codeP, code}
+use Rattle.translation.specs.Words.{words}
+use Rattle.translation.specs.Sizes.{symbolsS, Whole, Limited}
+use Rattle.translation.proofs.Ranges.{ends}
 
 -- code r that stands at b ends at k
 data Ends (r : List Instr) (b k : ℕ) : Type 0 where

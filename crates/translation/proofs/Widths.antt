@@ -12,11 +12,11 @@ use Rattle.machine.specs.Instructions.{lc, Instr, END, DO, IF, JUMP, ENTER, LEA
 use Rattle.names.specs.Program.{Name, Sort, Sign, positive, negative, negation, Expression, number, logical, name, call, signed, operated, chosen, nested, Expressions, done, then, Element, value, while, step, Statement, dummy, assignment, procedure, when, either, repeat, compound, block, Statements, last, first, Declarations, none as no-more, variables, declare, Procedure, heading}
 use Rattle.names.specs.Scopes.{sortOf, meaning}
 use Rattle.rules.specs.Calls.{Primary, held, function, absolute, greatest, no-primary, primary, Command, routine-of, absolute-of, greatest-of, input-to, output-of, no-command, command}
-use Rattle.translating.specs.Translate.{Mark, blk, own, scopes, reach, endE, codeName, codeSign, codeE, codeEs, codeL, codeStores, codeCall, codeCommand, codeS, codeSs, codeDs, codeP, code}
-use Rattle.translating.specs.Words.{partsOfAct, partsOf, firstWord, words, ActFits, InstrFits, CodeFits, PlacesFit, WordsFit}
-use Rattle.translating.specs.Sizes.{Limited}
-use Rattle.translating.proofs.Words.{act-below}
-use Rattle.translating.proofs.Ranges.{in-range}
+use Rattle.translation.specs.Translate.{Mark, blk, own, scopes, reach, endE, codeName, codeSign, codeE, codeEs, codeL, codeStores, codeCall, codeCommand, codeS, codeSs, codeDs, codeP, code}
+use Rattle.translation.specs.Words.{partsOfAct, partsOf, firstWord, words, ActFits, InstrFits, CodeFits, PlacesFit, WordsFit}
+use Rattle.translation.specs.Sizes.{Limited}
+use Rattle.translation.proofs.Words.{act-below}
+use Rattle.translation.proofs.Ranges.{in-range}
 
 act-operand : (a : Act _) → ActFits a → partsOfAct a .operand < 4294967296
 act-operand (push q v) h = ofZ-fits w32 v (record { sfits = h }) .fits

@@ -10,10 +10,10 @@ use Rattle.machine.specs.Instructions.{Instr}
 use Rattle.names.specs.Program.{Name, Sort, Sign, positive, negative, negation, Expression, number, logical, name, call, signed, operated, chosen, nested, Expressions, done, then, Element, value, while, step, Statement, dummy, assignment, procedure, when, either, repeat, compound, block, Statements, last, first, Declarations, none as no-more, variables, declare, Procedure, heading}
 use Rattle.names.specs.Scopes.{Thing, variable, routine, formal, Declared, Scope, ofBlock, ofBody, nameOf, sortOf, same, variablesIn, inBlock, findIn, meaning}
 use Rattle.rules.specs.Calls.{Primary, held, function, absolute, greatest, no-primary, primary, Command, routine-of, absolute-of, greatest-of, input-to, output-of, no-command, command}
-use Rattle.translating.specs.Translate.{Mark, scopes, endName, endE, endEs, endL, endStores, endCall, endCommand, endS, endSs, endDs, endP, entry, codeName, codeSign, codeE, codeEs, codeL, codeStores, codeCall, codeCommand, codeS, codeSs, codeDs, codeP}
-use Rattle.translating.specs.Translate.{endSign}
-use Rattle.translating.specs.Scoped.{OkDs, OkP}
-use Rattle.translating.specs.Listed.{instructionAt}
+use Rattle.translation.specs.Translate.{Mark, scopes, endName, endE, endEs, endL, endStores, endCall, endCommand, endS, endSs, endDs, endP, entry, codeName, codeSign, codeE, codeEs, codeL, codeStores, codeCall, codeCommand, codeS, codeSs, codeDs, codeP}
+use Rattle.translation.specs.Translate.{endSign}
+use Rattle.translation.specs.Scoped.{OkDs, OkP}
+use Rattle.translation.specs.Listed.{instructionAt}
 
 -- the procedure that a thing is
 abbrev pub procedureOf : Thing → Option Procedure

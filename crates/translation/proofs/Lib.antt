@@ -1,0 +1,16 @@
+pub mod Examples
+pub mod Sim
+pub mod Stands
+pub mod Chain
+pub mod Fits
+pub mod Rel
+pub mod Diagram
+pub mod Correct
+pub mod Refuted
+pub mod Accepted
+pub mod Words
+pub mod Sizes
+pub mod Ranges
+pub mod Lengths
+pub mod Widths
+pub mod OnWords
