@@ -1,4 +1,4 @@
--- Paper 01, "Numbered answers" and "The jobs": what translate answers for a source and code, and what the code holds afterwards.
+-- Paper 01, "Numbered answers": what translate ("source to code") answers for a source and code, and what the code holds afterwards.
 use Prim.Native.Nat.{ℕ, _+_, _*_, _-_, _<_, _≤_}
 use mathlib.Core.Path.{_≡_}
 use mathlib.Core.List.{List, _++_}
@@ -38,7 +38,7 @@ codeIn {text} p = words (code (placeIn text) (parsed p))
 
 -- the answer to a source, and the words
 pub data Translated (text : List ℕ) : Verdict → List ℕ → Type 0 where
-  -- "same refusals as read"; "After any other refusal the first .. 16,384 code words are zero"
+  -- what read refuses, with the same number and place; "After any other refusal the first .. 16,384 code words (translate) are zero"
   refused : (r : Refusal) → Judged text (Refused r) cleared → Translated text (Refused r) (replicate room 0)
   -- 0
   accepted : (p : Parsed text) → least (nameFaults (parsed p)) ≡ none → typeFault (parsed p) ≡ none → Translated text Accepted (filled (codeIn p))
@@ -66,14 +66,14 @@ abbrev pub Shown : Ran → List ℤ → List ℤ → Trace → Type 0
 Shown r output output' o = (output' ≡ o .written ++ drop (length (o .written)) output) × (r .taken ≡ o .taken) × (r .written ≡ length (o .written))
 
 pub record Deed {text : List ℕ} (p : Parsed text) (input : List ℤ) (limit : ℕ) (store output output' : List ℤ) (r : Ran) : Type 0 where
-  -- (1) "if the machine stops before its limit, the source run stops with the same answer, place, outputs and numbers taken"
+  -- (1) if the machine stops before its limit, the source run stops with the same answer, place, outputs and numbers taken
   pub same-answer : (¬ (r .stop ≡ Limit)) → (t n : ℕ) × (o : Trace) × (source (placeIn text) (parsed p) input (used store) (length output) t ≡ done (r .stop) n o) × Shown r output output' o
-  -- (2) "if the source run stops after n steps .. a limit of 16n + 16 is always enough"
+  -- (2) if the source run stops after n steps, a limit of 16 n + 16 is always enough
   pub enough : (t n : ℕ) (q : Stop) (o : Trace) → source (placeIn text) (parsed p) input (used store) (length output) t ≡ done q n o → 16 * n + 16 ≤ limit
       → (r .stop ≡ q) × Shown r output output' o
-  -- (3) "a machine stopped by its limit has written a beginning of what the source run writes"
+  -- (3) a machine stopped by its limit has written a beginning of what the source run writes
   pub a-beginning : (t n : ℕ) (q : Stop) (o : Trace) → r .stop ≡ Limit → source (placeIn text) (parsed p) input (used store) (length output) t ≡ done q n o
       → Begins (take (r .written) output') (o .written)
-  -- ".. and no less than its first n steps write when the limit is 16n + 16 or more"
+  -- .. and no less than its first n steps write when the limit is 16 n + 16 or more
   pub so-much : (t n : ℕ) (o : Trace) (s : State) → r .stop ≡ Limit → source (placeIn text) (parsed p) input (used store) (length output) t ≡ over n o s → 16 * n + 16 ≤ limit
       → Begins (o .written) (take (r .written) output')
