@@ -20,7 +20,7 @@ use Rattle.reading.proofs.Answers.{none-empty, unmeant-none}
 use Rattle.reading.proofs.Places.{sooner-place, few-symbols, Rising as PlacesRise, places-rise}
 use Rattle.translation.specs.Scoped.{Scoped}
 use Rattle.translation.specs.Sizes.{Limited}
-use Rattle.translating.specs.Layout.{sites}
+use Rattle.emitting.specs.Layout.{sites}
 use Rattle.translating.specs.ByPlace.{valuesAt}
 use Rattle.translation.proofs.Accepted.{accepted-scoped}
 use Rattle.translating.proofs.Limits.{limited}

@@ -10,8 +10,8 @@ use Rattle.names.specs.Nodes.{nodesS}
 use Rattle.names.specs.Uses.{rows, joined}
 use Rattle.reading.specs.Table.{useWords, nodeWords}
 use Rattle.reading.specs.Reading.{symbols, placeIn, parsed}
-use Rattle.translating.specs.Layout.{sites, layoutOf}
-use Rattle.translating.specs.Emission.{codeOf}
+use Rattle.emitting.specs.Layout.{sites, layoutOf}
+use Rattle.emitting.specs.Emission.{codeOf}
 use Rattle.translating.specs.ByPlace.{setAll, valuesAt}
 use Rattle.translating.specs.TableParts.{usesIn, nodesIn}
 use Rattle.translating.specs.Job.{filled, codeIn}

@@ -17,8 +17,8 @@ use Rattle.translation.specs.Translate.{codeS, code, endS}
 use Rattle.translation.specs.Words.{words, CodeFits}
 use Rattle.translation.specs.Scoped.{Scoped}
 use Rattle.translation.specs.Sizes.{Limited}
-use Rattle.translating.specs.Layout.{sites}
-use Rattle.translating.specs.Emission.{State, put, fresh, codeNode, emitted, codeOf}
+use Rattle.emitting.specs.Layout.{sites}
+use Rattle.emitting.specs.Emission.{State, put, fresh, codeNode, emitted, codeOf}
 use Rattle.translating.proofs.NumbersOf.{NumbersS}
 use Rattle.translating.proofs.Sites.{Climbs, Rising, LaidS}
 use Rattle.translation.proofs.Ranges.{ends, in-range}

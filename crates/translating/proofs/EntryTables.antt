@@ -14,7 +14,7 @@ use Rattle.names.specs.Scopes.{Thing, variable, routine, formal, Declared, Scop
 use Rattle.names.specs.Nodes.{node, sortNumber}
 use Rattle.names.specs.Outline.{sizeS, sizeD, sizeP, rowsN, rowsS, rowsSs, rowsD, rowsP}
 use Rattle.translation.specs.Translate.{endE, endL, endS, endSs, endDs, endP, entry}
-use Rattle.translating.specs.Layout.{sites}
+use Rattle.emitting.specs.Layout.{sites}
 use Rattle.translating.proofs.Sites.{Climbs, Rising, no-row, row}
 use Rattle.translation.proofs.Stands.{behind}
 

@@ -13,8 +13,8 @@ use Rattle.symbols.specs.Scan.{scan}
 use Rattle.symbols.specs.Steps.{placesOf, valuesOf}
 use Rattle.reading.specs.Reading.{Reads}
 use Rattle.reading.specs.Reading as R
-use Rattle.translating.specs.Layout.{layoutOf}
-use Rattle.translating.specs.Emission.{emitted, codeOf}
+use Rattle.emitting.specs.Layout.{layoutOf}
+use Rattle.emitting.specs.Emission.{emitted, codeOf}
 use Rattle.translating.specs.ByPlace.{setAll}
 use Rattle.translating.specs.TableParts.{usesIn, nodesIn}
 use Rattle.translating.specs.Job.{room, Translated, refused, accepted, Translates, too-short}

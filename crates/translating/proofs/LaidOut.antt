@@ -15,7 +15,7 @@ use Rattle.names.specs.Nodes.{nodesS}
 use Rattle.names.specs.Outline.{rowsS}
 use Rattle.reading.specs.Table.{nodeWords}
 use Rattle.rules.specs.Entered.{cellsOf, total, oneIf, cellsIn, before}
-use Rattle.translating.specs.Layout.{sites, packed, layoutOf}
+use Rattle.emitting.specs.Layout.{sites, packed, layoutOf}
 use Rattle.translation.specs.Sizes.{symbolsS, symbolsSs, symbolsDs, symbolsP, deepS, deepSs, deepDs, deepP, Limited}
 use Rattle.translation.proofs.Ranges.{one-most, listed-most, total-variables, block-cells, body-cells}
 use Rattle.translating.proofs.Sites.{Climbs, Rising, Lying, LaidS, LaidSs, LaidDs, LaidP}

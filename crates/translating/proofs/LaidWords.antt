@@ -13,7 +13,7 @@ use Rattle.names.specs.Scopes.{ofBlock, ofBody}
 use Rattle.names.specs.Nodes.{sortNumber}
 use Rattle.names.specs.Outline.{sizeS, sizeD, sizeP, rowsN, rowsS, rowsSs, rowsD, rowsP}
 use Rattle.rules.specs.Entered.{cellsIn, oneIf}
-use Rattle.translating.specs.Layout.{sites, packed}
+use Rattle.emitting.specs.Layout.{sites, packed}
 use Rattle.translating.proofs.Sites.{Climbs, Rising, no-row, row}
 
 -- a word, and the symbol at whose place it is written

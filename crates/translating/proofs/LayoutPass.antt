@@ -14,7 +14,7 @@ use Rattle.names.specs.Nodes.{node, mark, sortNumber, nodesE, nodesEs, amountNo
 use Rattle.names.specs.Rows.{foldNodes}
 use Rattle.reading.specs.Table.{hasNone, nodeWords}
 use Rattle.rules.specs.Entered.{total, cellsIn, oneIf}
-use Rattle.translating.specs.Layout.{sites, packed, Laying, unlaid, oneOf, outermost, further, celled, procedured, blocked, closed, typed, layNode, layoutOf}
+use Rattle.emitting.specs.Layout.{sites, packed, Laying, unlaid, oneOf, outermost, further, celled, procedured, blocked, closed, typed, layNode, layoutOf}
 use Rattle.translation.proofs.Ranges.{total-variables, body-cells}
 use Rattle.translating.proofs.LaidWords.{Written, written, writtenN, writtenS, writtenSs, writtenD, writtenP, writes, writes-append}
 

@@ -12,9 +12,6 @@ pub mod LayoutPass
 pub mod LaidOut
 pub mod Promised
 pub mod Sectioned
-pub mod Spreading
-pub mod Stacked
-pub mod NextUses
 pub mod ByPlaceLaws
 pub mod FoundFirst
 pub mod AfterRead
@@ -34,7 +31,4 @@ pub mod WrittenBlocks
 pub mod WrittenStatements
 pub mod Emitted
 pub mod Coded
-pub mod LeftParts
-pub mod Counters
 pub mod Handed
-pub mod Dispatch

@@ -18,8 +18,8 @@ use Rattle.rules.specs.Entered.{results, oneIf, isSome, declaring, bodyOfThis}
 use Rattle.translation.specs.Translate.{Mark, blk, own, scopeAt, scopes, offset, cutG, levels, amongG, offsetOf, locFor, locAs, loc, entry, target}
 use Rattle.translation.specs.Scoped.{nearest, HasCell, CellAs, OkV}
 use Rattle.translation.specs.Words.{beside, LocFits}
-use Rattle.translating.specs.Layout.{packed}
-use Rattle.translating.specs.Emission.{cellOf, resultOf}
+use Rattle.emitting.specs.Layout.{packed}
+use Rattle.emitting.specs.Emission.{cellOf, resultOf}
 use Rattle.translating.proofs.Sites.{Lying, Lies}
 use Rattle.translation.proofs.Ranges.{owns}
 use Rattle.names.specs.Uses.{thingKind}

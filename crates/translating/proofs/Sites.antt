@@ -9,7 +9,7 @@ use Rattle.machine.specs.Instructions.{pack}
 use Rattle.names.specs.Program.{Name, Statement, dummy, assignment, procedure, when, either, repeat, compound, block, Statements, last, first, Declarations, none as no-more, variables, declare, Procedure, heading}
 use Rattle.names.specs.Scopes.{Thing, variable, routine, formal, Declared, Scope, ofBlock, ofBody, declares, findIn, sortOf}
 use Rattle.rules.specs.Entered.{cellsIn, placeIn, oneIf}
-use Rattle.translating.specs.Layout.{sites}
+use Rattle.emitting.specs.Layout.{sites}
 
 -- the places of n symbols rise, and are within a source
 pub record Climbs (place : ℕ → ℕ) (n : ℕ) : Type 0 where

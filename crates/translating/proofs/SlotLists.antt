@@ -13,7 +13,7 @@ use Rattle.names.specs.Scopes.{Scope, ofBlock, ofBody, sortOf, meaning}
 use Rattle.rules.specs.Entered.{cellsIn}
 use Rattle.rules.specs.Calls.{Primary, held, function, absolute, greatest, no-primary, primary, Command, routine-of, absolute-of, greatest-of, input-to, output-of, no-command, command}
 use Rattle.translation.specs.Translate.{endName, endSign, endE, endEs, endL, endStores, endCall, endCommand, endS, endSs, endDs, endP}
-use Rattle.translating.specs.Layout.{packed}
+use Rattle.emitting.specs.Layout.{packed}
 use Rattle.translation.proofs.Ranges.{grow-name, grow-sign, grow-stores}
 
 -- ---- slots taken and filled

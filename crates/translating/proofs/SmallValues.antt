@@ -29,7 +29,7 @@ use Rattle.symbols.specs.declared.Turn.the-variants.{Pass, Keep, Refuse}
 use Rattle.symbols.specs.declared.Symbol.{Symbol}
 use Rattle.symbols.specs.declared.Symbol.the-variants.{Comment, Name, Number}
 use Rattle.reading.proofs.Places.{Rising, places-rise}
-use Rattle.translating.specs.Layout.{sites}
+use Rattle.emitting.specs.Layout.{sites}
 use Rattle.translating.specs.ByPlace.{setAll, valuesAt}
 
 -- ---- every value has 32 bits

@@ -17,7 +17,7 @@ use Rattle.names.specs.Program.{Name}
 use Rattle.reading.specs.Table.{useWords, hasNone, nodeWords}
 use Rattle.translation.specs.Translate.{Mark}
 use Rattle.translation.specs.Words.{Parts, partsOf, firstWord, words, InstrFits, CodeFits}
-use Rattle.translating.specs.Emission.{Opened, opened, State, put, withOpen, withSlot, noted, withUses, kindNext, meansNext, othersNext, useNode, codeNode}
+use Rattle.emitting.specs.Emission.{Opened, opened, State, put, withOpen, withSlot, noted, withUses, kindNext, meansNext, othersNext, useNode, codeNode}
 use Rattle.translating.proofs.Shown.{shown, shown-next, shown-set, shown-zero, shown-two}
 use Rattle.translating.proofs.SlotLists.{Fills, no-slot, then-slots, slots-past}
 use Rattle.translation.proofs.Ranges.{owns}

@@ -19,7 +19,7 @@ use Rattle.reading.specs.Table.{hasNone}
 use Rattle.translation.specs.Translate.{Mark, scopes, loc, endE, endStores, endS, codeE, codeStores, codeS}
 use Rattle.translation.specs.Words.{Parts, beside, partsOf, LocFits, CodeFits, words}
 use Rattle.translation.specs.Scoped.{OkV, OkVs, OkE}
-use Rattle.translating.specs.Emission.{Opened, opened, State, put, withOpen, withLefts, pushed, top, below, cellOf, useNode, stored, leftsOf, behindLefts, assigned, plainNode, codeNode}
+use Rattle.emitting.specs.Emission.{Opened, opened, State, put, withOpen, withLefts, pushed, top, below, cellOf, useNode, stored, leftsOf, behindLefts, assigned, plainNode, codeNode}
 use Rattle.translating.proofs.NumbersOf.{NumbersE}
 use Rattle.translating.proofs.SlotLists.{aheadE, aheadS}
 use Rattle.translating.proofs.Written.{Tables, Frame, Flow, kindOf, meansOf, Meant, withOpens, taken, putAll, past, Same, step, state, Goes, Passed, Fits, Emits, goes-node, _and-then_, passed-nothing, passed-all, passed-as, use-step}

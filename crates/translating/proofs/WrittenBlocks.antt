@@ -17,8 +17,8 @@ use Rattle.names.specs.Uses.{Use}
 use Rattle.reading.specs.Table.{hasNone}
 use Rattle.translation.specs.Translate.{Mark}
 use Rattle.translation.specs.Words.{words}
-use Rattle.translating.specs.Layout.{packed}
-use Rattle.translating.specs.Emission.{Opened, opened, State, put, withOpen, withSlot, within, withEntry, noted, pushed, popped, replaced, top, below, aheadAt, blockNode, procedureNode, plainNode, codeNode}
+use Rattle.emitting.specs.Layout.{packed}
+use Rattle.emitting.specs.Emission.{Opened, opened, State, put, withOpen, withSlot, within, withEntry, noted, pushed, popped, replaced, top, below, aheadAt, blockNode, procedureNode, plainNode, codeNode}
 use Rattle.translating.proofs.SlotLists.{Fills, no-slot, longer, then-slots, refill, slot-read, slot-past, slots-past}
 use Rattle.translating.proofs.Written.{Tables, Frame, Flow, withOpens, wrote, slotted, taken, put-real, slot-real, noted-real, step, state, Goes, Passed, Fits, Emits, wrote-right, goes-node, goes-then, _and-then_, _followed-by_, passed-nothing, passed-idle, emits-all}
 

@@ -16,9 +16,9 @@ use Rattle.names.specs.Rows.{isUse}
 use Rattle.names.specs.Uses.{Use}
 use Rattle.reading.specs.Table.{hasNone}
 use Rattle.translation.specs.Translate.{Mark}
-use Rattle.translating.specs.Layout.{packed}
+use Rattle.emitting.specs.Layout.{packed}
 use Rattle.translation.specs.Words.{words}
-use Rattle.translating.specs.Emission.{Opened, opened, State, put, withOpen, withSlot, noted, pushed, popped, replaced, top, below, aheadAt, choiceNode, codeNode}
+use Rattle.emitting.specs.Emission.{Opened, opened, State, put, withOpen, withSlot, noted, pushed, popped, replaced, top, below, aheadAt, choiceNode, codeNode}
 use Rattle.translating.proofs.SlotLists.{Fills, longer, then-slots, refill, slot-read, slot-past, slots-past, there}
 use Rattle.translating.proofs.Written.{Tables, Frame, Flow, real, withOpens, wrote, slotted, put-real, slot-real, noted-real, step, state, Goes, Passed, Fits, Emits, wrote-right, goes-node, goes-then}
 

@@ -25,8 +25,8 @@ use Rattle.rules.specs.Rules.{maxint}
 use Rattle.translation.specs.Translate.{Mark, scopes, loc, cutG, levels, target, endE, endEs, endCall, endCommand, CALLS, codeE, codeEs, codeCall, codeCommand}
 use Rattle.translation.specs.Words.{Parts, beside, partsOf, LocFits, CodeFits}
 use Rattle.translation.specs.Scoped.{CellAs, OkV, OkE, OkEs, OkCommand}
-use Rattle.translating.specs.Layout.{packed}
-use Rattle.translating.specs.Emission.{Opened, opened, State, put, withOpen, withVariable, replaced, top, below, largest, cellOf, resultOf, calledWith, resultFor, dropped, named, namedOr, actualIn, callEnded, useNode, codeNode}
+use Rattle.emitting.specs.Layout.{packed}
+use Rattle.emitting.specs.Emission.{Opened, opened, State, put, withOpen, withVariable, replaced, top, below, largest, cellOf, resultOf, calledWith, resultFor, dropped, named, namedOr, actualIn, callEnded, useNode, codeNode}
 use Rattle.translating.proofs.NumbersOf.{NumbersE, NumbersEs}
 use Rattle.translating.proofs.SlotLists.{no-slot, aheadE, aheadEs, aheadCall, aheadCommand}
 use Rattle.translating.proofs.Written.{Tables, Frame, Flow, kindOf, meansOf, Meant, withOpens, taken, varied, wrote, put-real, putAll, past, Same, step, state, Goes, Passed, Fits, Emits, wrote-right, goes-node, goes-then, _and-then_, passed-nothing, passed-all, passed-idle, passed-words, use-step}

@@ -19,9 +19,9 @@ use Rattle.names.specs.Uses.{Use, usesE, usesL}
 use Rattle.reading.specs.Table.{hasNone}
 use Rattle.translation.specs.Translate.{Mark, scopes, loc, endE, endL, onward, codeE, codeL}
 use Rattle.translation.specs.Words.{Parts, beside, partsOf, LocFits, CodeFits, words}
-use Rattle.translating.specs.Layout.{packed}
+use Rattle.emitting.specs.Layout.{packed}
 use Rattle.translation.specs.Scoped.{OkE, OkL}
-use Rattle.translating.specs.Emission.{Opened, opened, State, put, withOpen, withSlot, noted, replaced, top, below, aheadAt, element, bodied, stepping, elementNode, plainNode, codeNode}
+use Rattle.emitting.specs.Emission.{Opened, opened, State, put, withOpen, withSlot, noted, replaced, top, below, aheadAt, element, bodied, stepping, elementNode, plainNode, codeNode}
 use Rattle.translating.proofs.NumbersOf.{NumbersE, NumbersL}
 use Rattle.translating.proofs.SlotLists.{Fills, no-slot, a-slot, then-slots, slot-read, slot-past, slots-past, there, aheadE, aheadX, aheadL, endX, end-element}
 use Rattle.translating.proofs.Written.{Tables, Frame, Flow, withOpens, wrote, slotted, taken, slot-real, noted-real, putAll, wroteAll, puts-real, past, Same, Kept, wrote-all, fits-apart, step, state, Goes, Passed, Fits, Emits, goes-node, goes-then, _and-then_, passed-all, passed-idle, passed-words}

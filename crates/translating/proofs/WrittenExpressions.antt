@@ -26,8 +26,8 @@ use Rattle.rules.specs.Rules.{binaryOf, maxint}
 use Rattle.translation.specs.Translate.{Mark, scopes, loc, cutG, levels, target, endName, endSign, endE, endEs, CALLS, codeName, codeSign, codeE, codeEs}
 use Rattle.translation.specs.Words.{Parts, beside, partsOf, LocFits, CodeFits, binaryNumber}
 use Rattle.translation.specs.Scoped.{CellAs, OkV, OkPrimary, OkE, OkEs}
-use Rattle.translating.specs.Layout.{packed}
-use Rattle.translating.specs.Emission.{Opened, opened, State, put, withOpen, withVariable, pushed, popped, replaced, top, below, signed as signedAs, operationOf, largest, cellOf, resultOf, calledWith, resultFor, dropped, named, namedOr, calling, actualIn, callEnded, useNode, plainNode, codeNode}
+use Rattle.emitting.specs.Layout.{packed}
+use Rattle.emitting.specs.Emission.{Opened, opened, State, put, withOpen, withVariable, pushed, popped, replaced, top, below, signed as signedAs, operationOf, largest, cellOf, resultOf, calledWith, resultFor, dropped, named, namedOr, calling, actualIn, callEnded, useNode, plainNode, codeNode}
 use Rattle.translating.proofs.NumbersOf.{NumbersE, NumbersEs}
 use Rattle.translating.proofs.SlotLists.{aheadName, aheadE, aheadEs}
 use Rattle.translating.proofs.Written.{Tables, Frame, Flow, kindOf, meansOf, Meant, withOpens, taken, putAll, past, Same, step, state, Goes, Passed, Fits, Emits, goes-node, goes-then, _and-then_, _followed-by_, _closed-by_, passed-nothing, passed-all, passed-idle, emits-all, use-step}

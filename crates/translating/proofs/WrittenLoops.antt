@@ -18,9 +18,9 @@ use Rattle.names.specs.Uses.{Use, used, usesL, usesS}
 use Rattle.reading.specs.Table.{hasNone}
 use Rattle.translation.specs.Translate.{Mark, scopes, loc, endL, endS, codeL, codeS}
 use Rattle.translation.specs.Words.{words}
-use Rattle.translating.specs.Layout.{packed}
+use Rattle.emitting.specs.Layout.{packed}
 use Rattle.translation.specs.Scoped.{OkV, OkL}
-use Rattle.translating.specs.Emission.{Opened, opened, State, put, withOpen, withSlot, within, noted, pushed, popped, replaced, top, below, cellOf, repeated, useNode, loopNode, codeNode}
+use Rattle.emitting.specs.Emission.{Opened, opened, State, put, withOpen, withSlot, within, noted, pushed, popped, replaced, top, below, cellOf, repeated, useNode, loopNode, codeNode}
 use Rattle.translating.proofs.NumbersOf.{NumbersL}
 use Rattle.translating.proofs.SlotLists.{Fills, longer, then-slots, refill, slot-read, slot-past, slots-past, there, aheadL, aheadS}
 use Rattle.translating.proofs.Written.{Tables, Frame, Flow, kindOf, meansOf, withOpens, wrote, slotted, taken, put-real, slot-real, noted-real, step, state, Goes, Passed, Fits, Emits, wrote-right, goes-node, goes-then, passed-words, use-step}

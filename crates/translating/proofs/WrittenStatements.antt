@@ -31,7 +31,7 @@ use Rattle.translating.proofs.WrittenCommands.{command-part}
 use Rattle.translating.proofs.WrittenLoops.{loop-part}
 use Rattle.translating.proofs.WrittenBlocks.{inBlock, withCells, inProcedure, withEntries, blockFlow, cellsBehind, declared-passed, nothing-part, heading-part, procedure-passed, block-passed}
 use Rattle.translation.proofs.Ranges.{owns, total-variables}
-use Rattle.translating.specs.Layout.{packed}
+use Rattle.emitting.specs.Layout.{packed}
 
 -- ---- the cells of declarations
 

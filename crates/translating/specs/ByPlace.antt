@@ -2,7 +2,7 @@
 use Prim.Native.Nat.{ℕ}
 use mathlib.Core.List.{List, [], _∷_}
 use lib.ListN.{set, replicate}
-use Rattle.translating.specs.Layout.{sites}
+use Rattle.emitting.specs.Layout.{sites}
 
 -- value after value, each set at its place
 unfoldable pub setAll : List ℕ → List ℕ → List ℕ → List ℕ

@@ -1,6 +1,3 @@
-pub mod Layout
-pub mod Emission
 pub mod Job
 pub mod ByPlace
 pub mod TableParts
-pub mod Model

@@ -1,13 +1,13 @@
 // The job `translate`: a source to code, or a numbered refusal with its place. It works from the table that `read` makes.
-use crate::emission::emit;
-use crate::layout::layout;
-use crate::parts;
 use crate::sections::nodes_in;
 use crate::sections::uses_in;
 use crate::values::valued;
 use answers::Answer;
 use answers::Refusal;
 use answers::Verdict;
+use emitting::emission::emit;
+use emitting::layout::layout;
+use emitting::parts;
 use reading::reading::read;
 ghost use mathlib.Core.Path.{_≡_};
 ghost use mathlib.Core.Option.{none};
@@ -15,8 +15,8 @@ ghost use Prim.Native.Nat.{_≤_};
 ghost use lib.ListN.{length, replicate};
 ghost use Rattle.symbols.specs.Scan.{scan};
 ghost use Rattle.symbols.specs.Steps.{placesOf, valuesOf};
-ghost use Rattle.translating.specs.Layout.{layoutOf};
-ghost use Rattle.translating.specs.Emission.{emitted, codeOf};
+ghost use Rattle.emitting.specs.Layout.{layoutOf};
+ghost use Rattle.emitting.specs.Emission.{emitted, codeOf};
 ghost use Rattle.translating.specs.ByPlace.{setAll};
 ghost use Rattle.translating.specs.TableParts.{nodesIn, usesIn};
 ghost use Rattle.translating.specs.Job.{Translated, Translates, RunsAs};

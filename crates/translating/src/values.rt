@@ -1,5 +1,5 @@
 // The values of a source's numbers, each at the place of its symbol.
-use crate::parts;
+use emitting::parts;
 use symbols::Scanned;
 use symbols::scanning::scan;
 ghost use mathlib.Core.Path.{_≡_};

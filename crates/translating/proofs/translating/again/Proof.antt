@@ -3,7 +3,7 @@ use Rattle.translating.proofs.translating.again.Statement.{statement}
 use Rattle.translating.proofs.translating.again.Tie as tie
 use Rattle.translating.proofs.translating.again.Reads as reads
 use Rattle.translating.proofs.translating.again.Lts as lts
-use Rattle.translating.proofs.emission.emit.Reads as emit-reads
+use Rattle.emitting.proofs.emission.emit.Reads as emit-reads
 
 slice-aggregate-emit : tie.Need-slice-aggregate-emit
 slice-aggregate-emit c = search needs

@@ -10,7 +10,7 @@ use Rattle.translating.proofs.translating.judged.Tie as tie
 use Rattle.translating.proofs.translating.judged.Reads as reads
 use Rattle.translating.proofs.translating.judged.Lts as lts
 use Rattle.reading.proofs.reading.read.Reads as read-reads
-use Rattle.translating.proofs.parts.clear.Reads as clear-reads
+use Rattle.emitting.proofs.parts.clear.Reads as clear-reads
 use Rattle.translating.proofs.translating.coded.Reads as coded-reads
 
 clear-requires : tie.Need-clear-requires

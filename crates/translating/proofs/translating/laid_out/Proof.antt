@@ -1,13 +1,13 @@
 -- `translating::translating::laid_out` meets its contract: the layout that is lent is that of the nodes.
 -- Assumes nothing.
 use mathlib.Core.Path.{ap, _∙_}
-use Rattle.translating.specs.Emission.{codeOf}
+use Rattle.emitting.specs.Emission.{codeOf}
 use borrow.Author.Needs.{needs}
 use Rattle.translating.proofs.translating.laid_out.Statement.{statement}
 use Rattle.translating.proofs.translating.laid_out.Tie as tie
 use Rattle.translating.proofs.translating.laid_out.Reads as reads
 use Rattle.translating.proofs.translating.laid_out.Lts as lts
-use Rattle.translating.proofs.layout.layout.Reads as layout-reads
+use Rattle.emitting.proofs.layout.layout.Reads as layout-reads
 use Rattle.translating.proofs.translating.twice.Reads as twice-reads
 
 layout-requires : tie.Need-layout-requires

@@ -6,7 +6,7 @@ use Rattle.translating.proofs.translating.twice.Statement.{statement}
 use Rattle.translating.proofs.translating.twice.Tie as tie
 use Rattle.translating.proofs.translating.twice.Reads as reads
 use Rattle.translating.proofs.translating.twice.Lts as lts
-use Rattle.translating.proofs.emission.emit.Reads as emit-reads
+use Rattle.emitting.proofs.emission.emit.Reads as emit-reads
 use Rattle.translating.proofs.translating.again.Reads as again-reads
 
 slice-aggregate-nothing : tie.Need-slice-aggregate-nothing

@@ -11,8 +11,8 @@ use Rattle.translating.proofs.values.by_place.Statement.{statement}
 use Rattle.translating.proofs.values.by_place.Tie as tie
 use Rattle.translating.proofs.values.by_place.Reads as reads
 use Rattle.translating.proofs.values.by_place.Lts as lts
-use Rattle.translating.proofs.parts.set_word.Reads as set-word-reads
-use Rattle.translating.proofs.parts.word_at.Reads as word-at-reads
+use Rattle.emitting.proofs.parts.set_word.Reads as set-word-reads
+use Rattle.emitting.proofs.parts.word_at.Reads as word-at-reads
 
 abbrev Inv-loop : tie.InvT-loop
 Inv-loop places found count values₀ k₀ values k =

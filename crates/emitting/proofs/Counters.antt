@@ -1,0 +1,488 @@
+-- The counts stay small: no node adds more than six to one, nor opens more than one thing. So behind i nodes the counts are at most 65,536, which a
+-- place or a kind may be, and six a node; the second number of each thing that is open is a word of 32 bits, or what a use means.
+use mathlib.Core.Path.{subst}
+use mathlib.Core.Bool.{Bool, true, false, cond, _||_}
+use mathlib.Core.List.{List, [], _∷_}
+use Prim.Native.Nat.{ℕ, _+_, _-_, _≤_, _<_}
+use native.Mathlib.Omega.{arith}
+use lib.Dec.{eqb}
+use lib.ListN.{getD}
+use Rattle.machine.specs.Instructions.{high, mid}
+use Rattle.syntax.specs.NodeKinds.{n-block, n-statements, n-variable, n-procedure, n-procedure-end, n-then, n-else, n-start, n-once, n-while, n-do, n-for-end, n-left, n-assign, n-unary, n-binary, n-number, n-logical, n-use, n-call, n-call-end, n-actual}
+use Rattle.names.specs.Rows.{isUse}
+use Rattle.emitting.specs.Layout.{packed}
+use Rattle.emitting.specs.Emission.{State, Opened, put, withOpen, withSlot, noted, within, withLefts, withVariable, withUses, withEntry, top, pushed, popped, replaced, kindNext, meansNext, othersNext, signed, largest, cellOf, resultOf, calledWith, resultFor, dropped, named, namedOr, calling, actualIn, callEnded, repeated, useNode, element, bodied, stepping, elementNode, loopNode, choiceNode, blockNode, procedureNode, leftsOf, assigned, plainNode, isElement, isChoice, isBlock, codeNode}
+use Rattle.emitting.specs.declared.Writing.{Writing}
+use Rattle.emitting.specs.Model.{thingsOf, see, Slim, AllSlim, Small, Fit}
+use Rattle.emitting.proofs.Stacked.{length-things}
+use Rattle.emitting.proofs.LeftParts.{slim-below, fewer-below, slim-behind, fewer-behind, behind-things, length-lefts, storing}
+
+-- ---- what is open
+
+slim-up : {b d : ℕ} (f : Opened) → b ≤ d → Slim b f → Slim d f
+slim-up f q h =
+    let a = h .first in
+    let c = h .third in
+    let e = h .fourth in
+    record { first = omega arith; second = h .second; third = omega arith; fourth = omega arith }
+
+pub all-up : {b d : ℕ} (l : List Opened) → b ≤ d → AllSlim b l → AllSlim d l
+unfolding AllSlim
+all-up [] q h = h
+all-up (f ∷ l) q h = (slim-up f q (h .0), all-up l q (h .1))
+
+pub slim-top : (b : ℕ) (l : List Opened) → AllSlim b l → Slim b (top l)
+unfolding AllSlim top
+slim-top b [] h = record { first = omega arith; second = omega arith; third = omega arith; fourth = omega arith }
+slim-top b (f ∷ l) h = h .0
+
+-- ---- the parts of a state
+
+module _ {b n : ℕ} where
+  either : (x : Bool) {st su : State} → Small b n st → Small b n su → Small b n (cond x st su)
+  either true p q = p
+  either false p q = q
+
+module _ {b n : ℕ} (st : State) (h : Small b n st) where
+  pub small-up : {d m : ℕ} → b ≤ d → n ≤ m → Small d m st
+  small-up q r =
+      let a = h .at in
+      let c = h .slots in
+      let e = h .level in
+      let f = h .loops in
+      let g = h .cells in
+      let k = h .many in
+      record {
+        at = omega arith;
+        slots = omega arith;
+        level = omega arith;
+        loops = omega arith;
+        cells = omega arith;
+        variable = h .variable;
+        many = omega arith;
+        things = all-up (st .open-ones) q (h .things);
+      }
+
+  one-more : b ≤ b + 1
+  one-more = omega arith
+
+  in-put : (o p v : ℕ) → Small (b + 1) n (put o p v st)
+  unfolding put
+  in-put o p v =
+      let a = h .at in
+      let c = h .slots in
+      let e = h .level in
+      let f = h .loops in
+      let g = h .cells in
+      record {
+        at = omega arith;
+        slots = omega arith;
+        level = omega arith;
+        loops = omega arith;
+        cells = omega arith;
+        variable = h .variable;
+        many = h .many;
+        things = all-up (st .open-ones) one-more (h .things);
+      }
+
+  in-pushed : (v w x y : ℕ) → v ≤ b → w < 4294967296 → x ≤ b → y ≤ b → Small b (n + 1) (pushed v w x y st)
+  unfolding pushed withOpen AllSlim
+  in-pushed v w x y p q r s =
+      let k = h .many in
+      record {
+        at = h .at;
+        slots = h .slots;
+        level = h .level;
+        loops = h .loops;
+        cells = h .cells;
+        variable = h .variable;
+        many = omega arith;
+        things = (record { first = p; second = q; third = r; fourth = s }, h .things);
+      }
+
+  in-replaced : (v w x y : ℕ) → v ≤ b → w < 4294967296 → x ≤ b → y ≤ b → Small b (n + 1) (replaced v w x y st)
+  unfolding replaced withOpen AllSlim
+  in-replaced v w x y p q r s =
+      let k = fewer-below n (st .open-ones) (h .many) in
+      record {
+        at = h .at;
+        slots = h .slots;
+        level = h .level;
+        loops = h .loops;
+        cells = h .cells;
+        variable = h .variable;
+        many = omega arith;
+        things = (record { first = p; second = q; third = r; fourth = s }, slim-below b (st .open-ones) (h .things));
+      }
+
+  in-popped : Small b n (popped st)
+  unfolding popped withOpen
+  in-popped =
+      record {
+        at = h .at;
+        slots = h .slots;
+        level = h .level;
+        loops = h .loops;
+        cells = h .cells;
+        variable = h .variable;
+        many = fewer-below n (st .open-ones) (h .many);
+        things = slim-below b (st .open-ones) (h .things);
+      }
+
+  in-slot : Small (b + 1) n (withSlot st)
+  unfolding withSlot
+  in-slot =
+      let a = h .at in
+      let c = h .slots in
+      let e = h .level in
+      let f = h .loops in
+      let g = h .cells in
+      record {
+        at = omega arith;
+        slots = omega arith;
+        level = omega arith;
+        loops = omega arith;
+        cells = omega arith;
+        variable = h .variable;
+        many = h .many;
+        things = all-up (st .open-ones) one-more (h .things);
+      }
+
+  in-noted : (i v : ℕ) → Small b n (noted i v st)
+  unfolding noted
+  in-noted i v =
+      record {
+        at = h .at;
+        slots = h .slots;
+        level = h .level;
+        loops = h .loops;
+        cells = h .cells;
+        variable = h .variable;
+        many = h .many;
+        things = h .things;
+      }
+
+  in-within : (v w x : ℕ) → v ≤ b → w ≤ b → x ≤ b → Small b n (within v w x st)
+  unfolding within
+  in-within v w x p q r =
+      record {
+        at = h .at;
+        slots = h .slots;
+        level = p;
+        loops = q;
+        cells = r;
+        variable = h .variable;
+        many = h .many;
+        things = h .things;
+      }
+
+  in-lefts : Small (b + 1) n (withLefts (st .lefts + 1) st)
+  unfolding withLefts
+  in-lefts =
+      let a = h .at in
+      let c = h .slots in
+      let e = h .level in
+      let f = h .loops in
+      let g = h .cells in
+      record {
+        at = omega arith;
+        slots = omega arith;
+        level = omega arith;
+        loops = omega arith;
+        cells = omega arith;
+        variable = h .variable;
+        many = h .many;
+        things = all-up (st .open-ones) one-more (h .things);
+      }
+
+  in-variable : (v w : ℕ) → w < 4294967296 → Small b n (withVariable v w st)
+  unfolding withVariable
+  in-variable v w p =
+      record {
+        at = h .at;
+        slots = h .slots;
+        level = h .level;
+        loops = h .loops;
+        cells = h .cells;
+        variable = p;
+        many = h .many;
+        things = h .things;
+      }
+
+  in-uses : (l : List ℕ) → Small b n (withUses l st)
+  unfolding withUses
+  in-uses l =
+      record {
+        at = h .at;
+        slots = h .slots;
+        level = h .level;
+        loops = h .loops;
+        cells = h .cells;
+        variable = h .variable;
+        many = h .many;
+        things = h .things;
+      }
+
+  in-entry : (p : ℕ) → Small b n (withEntry p st)
+  unfolding withEntry
+  in-entry p =
+      record {
+        at = h .at;
+        slots = h .slots;
+        level = h .level;
+        loops = h .loops;
+        cells = h .cells;
+        variable = h .variable;
+        many = h .many;
+        things = h .things;
+      }
+
+-- an operand of three parts is a word
+pub packed-word : (u o l : ℕ) → packed u o l < 4294967296
+packed-word u o l = omega arith
+
+either-word : (x : Bool) {v w : ℕ} → v < 4294967296 → w < 4294967296 → cond x v w < 4294967296
+either-word true p q = p
+either-word false p q = q
+
+-- ---- names and calls
+
+module _ (vs ly ks es : List ℕ) where
+  pub cell-word : (level k m : ℕ) → cellOf vs ly ks es level k m < 4294967296
+  unfolding cellOf
+  cell-word level k m = let w = getD ly m 0 in either-word (eqb k 2) (packed-word (level - (high w + 1)) 0 0) (packed-word (level - high w) (mid w) 0)
+
+module _ (vs ly ks es : List ℕ) {b n : ℕ} (st : State) (h : Small b n st) where
+  in-called : (k m a u p : ℕ) → Small (b + 1) n (calledWith vs ly ks es k m a u p st)
+  unfolding calledWith
+  in-called k m a u p = in-put st h _ p _
+
+  in-result : (k m p : ℕ) → Small (b + 1) n (resultFor vs ly ks es k m p st)
+  unfolding resultFor
+  in-result k m p = either (eqb (resultOf vs ly ks es k m) 0) (small-up st h (omega arith) (omega arith)) (in-put st h 16 p 0)
+
+  in-dropped : (u : ℕ) → Small (b + 1) n (dropped vs ly ks es u st)
+  unfolding dropped
+  in-dropped u = either (eqb u 0) (small-up st h (omega arith) (omega arith)) (in-put st h 17 0 0)
+
+  in-bodied : (f : Opened) (r : ℕ) → Small (b + 1) n (bodied vs ly ks es f r st)
+  unfolding bodied
+  in-bodied f r = in-put st h 8 0 _
+
+module _ (vs ly ks es : List ℕ) {b n : ℕ} (st : State) (h : Small b n st) where
+  in-named : (k m u p : ℕ) → Small (b + 1 + 1) n (named vs ly ks es k m u p st)
+  unfolding named
+  in-named k m u p =
+      either (eqb k 0) (in-dropped vs ly ks es _ (in-put st h 12 p largest) u)
+      (either (eqb k 2) (in-called vs ly ks es _ (in-result vs ly ks es st h k m p) k m 0 u p)
+      (small-up _ (in-put st h 13 p _) (omega arith) (omega arith)))
+
+  in-named-or : (k m u p : ℕ) → Small (b + 1 + 1) n (namedOr vs ly ks es k m u p st)
+  unfolding namedOr
+  in-named-or k m u p =
+      either (eqb (st .awaits) 0) (in-named k m u p)
+      (in-variable st (small-up st h (omega arith) (omega arith)) 0 _ (cell-word vs ly ks es (st .level) k m))
+
+  in-calling : (k m p : ℕ) → k ≤ b → m < 4294967296 → Small (b + 1) (n + 1) (calling vs ly ks es k m p st)
+  unfolding calling
+  in-calling k m p q r = in-pushed _ (in-result vs ly ks es st h k m p) k m 0 0 (omega arith) r (omega arith) (omega arith)
+
+  in-left : (k m : ℕ) → Small (b + 1) (n + 1) (withLefts (st .lefts + 1) (pushed 0 (cellOf vs ly ks es (st .level) k m) 0 0 st))
+  unfolding pushed withOpen
+  in-left k m = in-lefts _ (in-pushed st h 0 _ 0 0 (omega arith) (cell-word vs ly ks es (st .level) k m) (omega arith) (omega arith))
+
+  in-repeated : (k m p : ℕ) → p ≤ b → Small (b + 1) (n + 1) (repeated vs ly ks es k m p st)
+  unfolding repeated
+  in-repeated k m p q =
+      let a = h .at in
+      in-slot _ (in-pushed st h (st .slots) _ p (st .at) (h .slots) (cell-word vs ly ks es (st .level) k m) q (omega arith))
+
+  in-use : (i k m u p a : ℕ) → k ≤ b → m < 4294967296 → p ≤ b → Small (b + 6) (n + 1) (useNode vs ly ks es i k m u p a st)
+  unfolding useNode
+  in-use i k m u p a q r s =
+      either (eqb i n-use) (small-up _ (in-named-or k m u p) (omega arith) (omega arith))
+      (either (eqb i n-call) (small-up _ (in-calling k m p q r) (omega arith) (omega arith))
+      (either (eqb i n-left) (small-up _ (in-left k m) (omega arith) (omega arith))
+      (small-up _ (in-repeated k m p s) (omega arith) (omega arith))))
+
+  in-actual : (f : Opened) → Slim b f → Small (b + 6) (n + 1) (actualIn vs ly ks es f st)
+  unfolding actualIn
+  in-actual f s =
+      let x = s .first in
+      let y = s .third in
+      in-variable _ (in-replaced st (small-up st h (omega arith) (omega arith)) (f .first) (f .second) (f .third + 1) 0 (omega arith) (s .second) (omega arith) (omega arith)) _ _ (h .variable)
+
+  in-call-ended : (f : Opened) (p u : ℕ) → Small (b + 6) (n + 1) (callEnded vs ly ks es f p u st)
+  unfolding callEnded
+  in-call-ended f p u =
+      either (eqb (f .first) 2) (small-up _ (in-called vs ly ks es st h 2 (f .second) (f .third) u p) (omega arith) (omega arith))
+      (either (eqb (f .second) 0) (small-up _ (in-dropped vs ly ks es _ (in-put st h 24 p 0) u) (omega arith) (omega arith))
+      (either (eqb (f .second) 2) (small-up _ (in-put st h 18 p _) (omega arith) (omega arith))
+      (small-up _ (in-put st h 19 p 0) (omega arith) (omega arith))))
+
+  -- ---- for statements
+
+  in-element : (f : Opened) → Slim b f → Small (b + 1) (n + 1) (element vs ly ks es f st)
+  unfolding element
+  in-element f s =
+      let a = h .at in
+      in-noted _ (in-slot _ (in-replaced st h (f .first) (f .second) (f .third) (st .at) (s .first) (s .second) (s .third) (omega arith))) _ _
+
+  in-stepping : (f : Opened) (p : ℕ) → Small (b + 1 + 1 + 1 + 1 + 1) n (stepping vs ly ks es f p st)
+  unfolding stepping
+  in-stepping f p = in-put _ (in-put _ (in-bodied vs ly ks es _ (in-put _ (in-put st h 20 0 0) 11 (f .third) _) f _) 21 p (f .second)) 2 0 _
+
+module _ (vs ly ks es : List ℕ) {b n : ℕ} (st : State) (h : Small b n st) (f : Opened) (s : Slim b f) where
+  in-elements : (k p : ℕ) → Small (b + 6) (n + 1) (elementNode vs ly ks es k f p st)
+  unfolding elementNode
+  in-elements k p =
+      either (eqb k n-start) (small-up _ (in-put st h 14 0 (f .second)) (omega arith) (omega arith))
+      (either (eqb k n-once) (small-up _ (in-element vs ly ks es _ (in-bodied vs ly ks es st h f _) f (slim-up f (omega arith) s)) (omega arith) (omega arith))
+      (either (eqb k n-while) (small-up _ (in-element vs ly ks es _ (in-bodied vs ly ks es _ (in-put st h 10 0 _) f _) f (slim-up f (omega arith) s)) (omega arith) (omega arith))
+      (small-up _ (in-element vs ly ks es _ (in-stepping vs ly ks es st h f p) f (slim-up f (omega arith) s)) (omega arith) (omega arith))))
+
+  in-loop : (k : ℕ) → Small (b + 6) (n + 1) (loopNode vs ly ks es k f st)
+  unfolding loopNode
+  in-loop k =
+      let x = h .slots in
+      let y = h .loops in
+      let z = h .level in
+      let w = h .cells in
+      either (eqb k n-do)
+      (in-within _ (in-noted _ (in-replaced st (small-up st h (omega arith) (omega arith)) (st .slots - 1) 0 0 0 (omega arith) (omega arith) (omega arith) (omega arith)) _ _) (st .level) (st .loops + 1) (st .cells) (omega arith) (omega arith) (omega arith))
+      (small-up _ (in-noted _ (in-popped _ (in-within _ (in-put st h 9 0 _) (st .level) (st .loops - 1) (st .cells) (omega arith) (omega arith) (omega arith))) _ _) (omega arith) (omega arith))
+
+  -- ---- conditions, blocks, procedures
+
+  in-choice : (k : ℕ) → Small (b + 6) (n + 1) (choiceNode vs ly ks es k f st)
+  unfolding choiceNode
+  in-choice k =
+      let x = h .slots in
+      either (eqb k n-then)
+      (small-up _ (in-slot _ (in-pushed _ (in-put st h 10 0 _) (st .slots) 0 0 0 (omega arith) (omega arith) (omega arith) (omega arith))) (omega arith) (omega arith))
+      (either (eqb k n-else)
+      (small-up _ (in-noted _ (in-slot _ (in-replaced _ (in-put st h 2 0 _) (st .slots) 0 0 0 (omega arith) (omega arith) (omega arith) (omega arith))) _ _) (omega arith) (omega arith))
+      (small-up _ (in-noted _ (in-popped st h) _ _) (omega arith) (omega arith)))
+
+  in-block : (k p : ℕ) → Small (b + 6) (n + 1) (blockNode vs ly ks es k f p st)
+  unfolding blockNode
+  in-block k p =
+      let x = h .slots in
+      let y = h .loops in
+      let z = h .level in
+      let w = h .cells in
+      let q = s .fourth in
+      either (eqb k n-block)
+      (small-up _ (in-within _ (in-slot _ (in-pushed _ (in-put st h 3 p _) (st .slots) 0 0 (st .cells) (omega arith) (omega arith) (omega arith) (omega arith))) (st .level) (st .loops) 0 (omega arith) (omega arith) (omega arith)) (omega arith) (omega arith))
+      (either (eqb k n-statements)
+      (small-up _ (in-noted _ (in-replaced st h (f .first) 0 (st .cells) (f .fourth) (s .first) (omega arith) (h .cells) (s .fourth)) _ _) (omega arith) (omega arith))
+      (small-up _ (in-within _ (in-popped _ (in-put st h 4 0 _)) (st .level) (st .loops) (f .fourth) (omega arith) (omega arith) (omega arith)) (omega arith) (omega arith)))
+
+  in-procedure : (k p : ℕ) → Small (b + 6) (n + 1) (procedureNode vs ly ks es k f p st)
+  unfolding procedureNode
+  in-procedure k p =
+      let y = h .loops in
+      let z = h .level in
+      let w = h .cells in
+      let q = s .first in
+      either (eqb k n-procedure)
+      (in-within _ (in-pushed _ (in-entry st (small-up st h (omega arith) (omega arith)) p) (st .loops) 0 0 0 (omega arith) (omega arith) (omega arith) (omega arith)) (st .level + 1) 0 (st .cells) (omega arith) (omega arith) (omega arith))
+      (small-up _ (in-within _ (in-popped _ (in-put st h 7 0 0)) (st .level - 1) (f .first) (st .cells) (omega arith) (omega arith) (omega arith)) (omega arith) (omega arith))
+
+-- ---- what is left
+
+in-signed : {b n : ℕ} (st : State) → Small b n st → (k p : ℕ) → Small (b + 1) n (signed k p st)
+unfolding signed
+in-signed st h k p = either (eqb k 19) (in-put st h 23 p 0) (either (eqb k 23) (in-put st h 22 p 0) (small-up st h (omega arith) (omega arith)))
+
+module _ (vs ly ks es : List ℕ) {b n : ℕ} (st : State) (h : Small b n st) where
+  -- as many instructions as there were left parts
+  in-assigned : Small b n (assigned vs ly ks es st)
+  unfolding assigned withLefts withOpen
+  in-assigned =
+      let l = leftsOf vs ly ks es (st .lefts) (st .open-ones) [] in
+      let r = storing vs ly ks es l st in
+      let e = length-lefts vs ly ks es (st .lefts) (st .open-ones) [] in
+      let a = h .at in
+      let x = r .at in
+      let y = r .slots in
+      let z = r .level in
+      let w = r .loops in
+      let v = r .cells in
+      let u = r .variable in
+      let c = h .slots in
+      let d = h .level in
+      let f = h .loops in
+      let g = h .cells in
+      let i = h .variable in
+      record {
+        at = omega arith;
+        slots = omega arith;
+        level = omega arith;
+        loops = omega arith;
+        cells = omega arith;
+        variable = omega arith;
+        many = fewer-behind vs ly ks es n (st .lefts) (st .open-ones) (h .many);
+        things = slim-behind vs ly ks es b (st .lefts) (st .open-ones) (h .things);
+      }
+
+  in-plain : (k p a : ℕ) → Small (b + 6) (n + 1) (plainNode vs ly ks es k p a st)
+  unfolding plainNode
+  in-plain k p a =
+      let y = h .loops in
+      let z = h .level in
+      let w = h .cells in
+      either (eqb k n-number) (small-up _ (in-put st h 12 p _) (omega arith) (omega arith))
+      (either (eqb k n-logical) (small-up _ (in-put st h 12 p a) (omega arith) (omega arith))
+      (either (eqb k n-unary) (small-up _ (in-signed st h a p) (omega arith) (omega arith))
+      (either (eqb k n-binary) (small-up _ (in-put st h _ p 0) (omega arith) (omega arith))
+      (either (eqb k n-assign) (small-up _ in-assigned (omega arith) (omega arith))
+      (either (eqb k n-variable) (in-within st (small-up st h (omega arith) (omega arith)) (st .level) (st .loops) (st .cells + 1) (omega arith) (omega arith) (omega arith))
+      (small-up st h (omega arith) (omega arith)))))))
+
+  -- what a node adds
+  pub small-node : 65536 ≤ b → (k p a c : ℕ) → p < 65536 → kindNext (st .uses) < 65536 → meansNext (st .uses) < 65536 → Small (b + 6) (n + 1) (codeNode vs ly ks es k p a c st)
+  unfolding codeNode
+  small-node q k p a c r i j =
+      let f = top (st .open-ones) in
+      let s = slim-top b (st .open-ones) (h .things) in
+      either (isUse k) (in-use vs ly ks es _ (in-uses st h (othersNext (st .uses))) k _ _ c p a (omega arith) (omega arith) (omega arith))
+      (either (eqb k n-actual) (in-actual vs ly ks es st h f s)
+      (either (eqb k n-call-end) (in-call-ended vs ly ks es _ (in-popped st h) f p c)
+      (either (isElement vs ly ks es k) (in-elements vs ly ks es st h f s k p)
+      (either (eqb k n-do || eqb k n-for-end) (in-loop vs ly ks es st h f s k)
+      (either (isChoice vs ly ks es k) (in-choice vs ly ks es st h f s k)
+      (either (isBlock vs ly ks es k) (in-block vs ly ks es st h f s k p)
+      (either (eqb k n-procedure || eqb k n-procedure-end) (in-procedure vs ly ks es st h f s k p)
+      (in-plain k p a))))))))
+
+-- ---- of the code's numbers
+
+-- the arrays besides do not matter
+pub small-alone : {b n : ℕ} (t : Writing) (us op co ah en : List ℕ) → Small b n (see t us op co ah en) → Small b n (see t [] op [] [] [])
+small-alone t us op co ah en h =
+    record {
+      at = h .at;
+      slots = h .slots;
+      level = h .level;
+      loops = h .loops;
+      cells = h .cells;
+      variable = h .variable;
+      many = h .many;
+      things = h .things;
+    }
+
+pub fit : (t : Writing) (op : List ℕ) → Small 131071 8191 (see t [] op [] [] []) → Fit t
+fit t op h =
+    let a = h .at in
+    let c = h .slots in
+    let e = h .level in
+    let f = h .loops in
+    let g = h .cells in
+    let k = h .many in
+    let l = length-things (t .open) op in
+    record { at = omega arith; slots = omega arith; level = omega arith; loops = omega arith; cells = omega arith; variable = h .variable; open-ones = omega arith }
+
+-- a left part's word
+pub left-word : (b m n : ℕ) (op : List ℕ) → AllSlim b (thingsOf m op) → top (thingsOf (m - n) op) .second < 4294967296
+left-word b m n op h = slim-top b (thingsOf (m - n) op) (subst (AllSlim b) (behind-things [] [] [] [] n m op) (slim-behind [] [] [] [] b n (thingsOf m op) h)) .second

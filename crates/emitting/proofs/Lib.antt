@@ -1,0 +1,6 @@
+pub mod Spreading
+pub mod Stacked
+pub mod NextUses
+pub mod LeftParts
+pub mod Counters
+pub mod Dispatch

@@ -1,0 +1,24 @@
+-- `translating::calls::left_part` meets its contract: its cell is kept, and one left part more is counted.
+-- Assumes nothing.
+use mathlib.Core.Path.{ap}
+use Prim.Native.Nat.{_+_}
+use Rattle.emitting.specs.Emission.{State, withLefts, pushed, withOpen}
+use borrow.Author.Needs.{needs}
+use Rattle.emitting.proofs.calls.left_part.Statement.{statement}
+use Rattle.emitting.proofs.calls.left_part.Tie as tie
+
+cell-of-requires : tie.Need-cell-of-requires
+cell-of-requires c κs = search needs
+
+push-requires : tie.Need-push-requires
+push-requires c κs = search needs
+
+add-r : tie.Need-add-r
+add-r c = search needs
+
+returns : tie.Need-returns
+unfolding withLefts pushed withOpen
+returns c = λ vs ks es us co ah en. rw (c .before .before .cell-of .ensures .0 vs ks es) at (ap (λ (z : State). withLefts (z .lefts + 1) z) (c .before .push .ensures .0 us co ah en))
+
+pub left-part-spec : {M : Type 1} → statement M
+left-part-spec = tie.close (tie.spec cell-of-requires push-requires add-r returns)

@@ -1,0 +1,115 @@
+-- `translating::emission::node` meets its contract: a use, the end of an actual or a call, or the rest.
+-- Assumes nothing.
+use mathlib.Core.Path.{sym, ap, subst, _∙_}
+use native.Mathlib.Omega.{arith}
+use borrow.Author.Tests.{ne-eqb}
+use Rattle.names.specs.Rows.{isUse}
+use Rattle.emitting.specs.Emission.{State, Opened, codeNode, actualIn, callEnded, popped}
+use Rattle.emitting.specs.Model.{thingsOf, seen, see, Slim, restNode}
+use Rattle.emitting.proofs.Counters.{fit, slim-top}
+use borrow.Author.Needs.{needs}
+use Rattle.emitting.proofs.emission.node.Statement.{statement}
+use Rattle.emitting.proofs.emission.node.Tie as tie
+
+is-use-requires : tie.Need-is-use-requires
+is-use-requires c κs = search needs
+
+use-node-requires : tie.Need-use-node-requires
+use-node-requires c κs = let p = c .before .before .before .before .before .before .before .before .before .before .before .before .fits .place in let u = c .before .before .before .before .before .before .before .before .before .before .before .before .fits .two in (fit (c .before .before .before .before .before .before .before .before .before .before .before .before .args .t) (c .before .before .before .before .before .before .before .before .before .before .before .before .args .things .now) (c .before .before .before .before .before .before .before .before .before .before .before .before .pre), omega arith, omega arith)
+
+same-length : tie.Need-same-length
+same-length c = search needs
+
+returns : tie.Need-returns
+unfolding codeNode
+returns c = simp (sym (c .before .before .before .before .before .before .is-use .ensures) ∙ c .before .before .before .before .before .if1 .taken) (c .before .before .use-node .ensures (c .before .before .before .before .before .before .before .before .before .before .before .before .before .before .before .args .values .now) (c .before .before .before .before .before .before .before .before .before .before .before .before .before .before .before .args .ahead .now) (c .before .before .before .before .before .before .before .before .before .before .before .before .before .before .before .args .next-ahead .now) (c .before .before .before .before .before .before .before .before .before .before .before .before .before .before .before .args .next-entries .now) (c .before .before .before .before .before .before .before .before .before .before .before .before .before .before .before .args .one))
+
+top-requires : tie.Need-top-requires
+top-requires c κs = let g = fit (c .before .before .before .before .before .before .before .before .before .before .before .before .args .t) (c .before .before .before .before .before .before .before .before .before .before .before .before .args .things .now) (c .before .before .before .before .before .before .before .before .before .before .before .before .pre) .open-ones in omega arith
+
+actual-in-requires : tie.Need-actual-in-requires
+actual-in-requires c κs = (fit (c .before .before .before .before .before .before .before .before .before .before .before .before .before .before .args .t) (c .before .before .before .before .before .before .before .before .before .before .before .before .before .before .args .things .now) (c .before .before .before .before .before .before .before .before .before .before .before .before .before .before .pre), subst (Slim 131071) (sym (c .before .top .ensures)) (slim-top 131071 (thingsOf (c .before .before .before .before .before .before .before .before .before .before .before .before .before .before .args .t .open) (c .before .before .before .before .before .before .before .before .before .before .before .before .before .before .args .things .now)) (c .before .before .before .before .before .before .before .before .before .before .before .before .before .before .pre .things)))
+
+top-requires-2 : tie.Need-top-requires-2
+top-requires-2 c κs = let g = fit (c .before .before .before .before .before .before .before .before .before .before .before .before .args .t) (c .before .before .before .before .before .before .before .before .before .before .before .before .args .things .now) (c .before .before .before .before .before .before .before .before .before .before .before .before .pre) .open-ones in omega arith
+
+pop-requires : tie.Need-pop-requires
+pop-requires c κs = search needs
+
+call-ended-requires : tie.Need-call-ended-requires
+call-ended-requires c κs =
+    let g = fit (c .before .before .before .before .before .before .before .before .before .before .before .before .before .before .before .args .t) (c .before .before .before .before .before .before .before .before .before .before .before .before .before .before .before .args .things .now) (c .before .before .before .before .before .before .before .before .before .before .before .before .before .before .before .pre) in
+    let a = g .at in
+    let b = g .slots in
+    let d = g .level in
+    let e = g .loops in
+    let f = g .cells in
+    let h = g .variable in
+    let i = g .open-ones in
+    let p = c .before .pop .ensures .1 in
+    let q = p .0 in
+    let q₁ = q .slots in
+    let q₂ = q .level in
+    let q₃ = q .loops in
+    let q₄ = q .cells in
+    let q₅ = q .lefts in
+    let r = p .1 in
+    let s = p .2 in
+    let u = p .3 in
+    let x = c .before .before .before .before .before .before .before .before .before .before .before .before .before .before .before .fits .place in
+    let y = c .before .before .before .before .before .before .before .before .before .before .before .before .before .before .before .fits .two in
+    (record { at = omega arith; slots = omega arith; level = omega arith; loops = omega arith; cells = omega arith; variable = omega arith; open-ones = omega arith }, subst (Slim 131071) (sym (c .before .before .top2 .ensures)) (slim-top 131071 (thingsOf (c .before .before .before .before .before .before .before .before .before .before .before .before .before .before .before .args .t .open) (c .before .before .before .before .before .before .before .before .before .before .before .before .before .before .before .args .things .now)) (c .before .before .before .before .before .before .before .before .before .before .before .before .before .before .before .pre .things)), omega arith, omega arith)
+
+rest-node-requires : tie.Need-rest-node-requires
+rest-node-requires c κs = search needs
+
+returns-2 : tie.Need-returns-2
+unfolding codeNode isUse
+returns-2 c = simp (c .before .before .before .before .match .keys1) (c .actual-in .ensures (c .before .before .before .before .before .before .before .before .before .before .before .before .before .before .before .args .values .now) (c .before .before .before .before .before .before .before .before .before .before .before .before .before .before .before .args .layout .now) (c .before .before .before .before .before .before .before .before .before .before .before .before .before .before .before .args .ahead .now) (c .before .before .before .before .before .before .before .before .before .before .before .before .before .before .before .args .entries .now) (c .before .before .before .before .before .before .before .before .before .before .before .before .before .before .before .args .uses .now) (c .before .before .before .before .before .before .before .before .before .before .before .before .before .before .before .args .code .now) (c .before .before .before .before .before .before .before .before .before .before .before .before .before .before .before .args .next-ahead .now) (c .before .before .before .before .before .before .before .before .before .before .before .before .before .before .before .args .next-entries .now) ∙ ap (λ (f : Opened). actualIn (c .before .before .before .before .before .before .before .before .before .before .before .before .before .before .before .args .values .now) (c .before .before .before .before .before .before .before .before .before .before .before .before .before .before .before .args .layout .now) (c .before .before .before .before .before .before .before .before .before .before .before .before .before .before .before .args .ahead .now) (c .before .before .before .before .before .before .before .before .before .before .before .before .before .before .before .args .entries .now) f (see (c .before .before .before .before .before .before .before .before .before .before .before .before .before .before .before .args .t) (c .before .before .before .before .before .before .before .before .before .before .before .before .before .before .before .args .uses .now) (c .before .before .before .before .before .before .before .before .before .before .before .before .before .before .before .args .things .now) (c .before .before .before .before .before .before .before .before .before .before .before .before .before .before .before .args .code .now) (c .before .before .before .before .before .before .before .before .before .before .before .before .before .before .before .args .next-ahead .now) (c .before .before .before .before .before .before .before .before .before .before .before .before .before .before .before .args .next-entries .now))) (c .before .before .top .ensures))
+
+same-length-2 : tie.Need-same-length-2
+same-length-2 c = search needs
+
+returns-3 : tie.Need-returns-3
+unfolding codeNode isUse
+returns-3 c =
+    let g = seen (c .before .before .before .before .before .top2 .result) in
+    simp (c .before .before .before .before .before .before .before .match .keys2)
+    (c .before .before .call-ended .ensures (c .before .before .before .before .before .before .before .before .before .before .before .before .before .before .before .before .before .before .args .values .now) (c .before .before .before .before .before .before .before .before .before .before .before .before .before .before .before .before .before .before .args .ahead .now) (c .before .before .before .before .before .before .before .before .before .before .before .before .before .before .before .before .before .before .args .uses .now) (c .before .before .before .before .before .before .before .before .before .before .before .before .before .before .before .before .before .before .args .things .now) (c .before .before .before .before .before .before .before .before .before .before .before .before .before .before .before .before .before .before .args .next-ahead .now) (c .before .before .before .before .before .before .before .before .before .before .before .before .before .before .before .before .before .before .args .next-entries .now)
+    ∙ ap (λ (z : State). callEnded (c .before .before .before .before .before .before .before .before .before .before .before .before .before .before .before .before .before .before .args .values .now) (c .before .before .before .before .before .before .before .before .before .before .before .before .before .before .before .before .before .before .args .layout .now) (c .before .before .before .before .before .before .before .before .before .before .before .before .before .before .before .before .before .before .args .ahead .now) (c .before .before .before .before .before .before .before .before .before .before .before .before .before .before .before .before .before .before .args .entries .now) g (c .before .before .before .before .before .before .before .before .before .before .before .before .before .before .before .before .before .before .args .place) (c .before .before .before .before .before .before .before .before .before .before .before .before .before .before .before .before .before .before .args .two) z) (c .before .before .before .before .pop .ensures .0 (c .before .before .before .before .before .before .before .before .before .before .before .before .before .before .before .before .before .before .args .uses .now) (c .before .before .before .before .before .before .before .before .before .before .before .before .before .before .before .before .before .before .args .things .now) (c .before .before .before .before .before .before .before .before .before .before .before .before .before .before .before .before .before .before .args .code .now) (c .before .before .before .before .before .before .before .before .before .before .before .before .before .before .before .before .before .before .args .next-ahead .now) (c .before .before .before .before .before .before .before .before .before .before .before .before .before .before .before .before .before .before .args .next-entries .now))
+    ∙ ap (λ (f : Opened). callEnded (c .before .before .before .before .before .before .before .before .before .before .before .before .before .before .before .before .before .before .args .values .now) (c .before .before .before .before .before .before .before .before .before .before .before .before .before .before .before .before .before .before .args .layout .now) (c .before .before .before .before .before .before .before .before .before .before .before .before .before .before .before .before .before .before .args .ahead .now) (c .before .before .before .before .before .before .before .before .before .before .before .before .before .before .before .before .before .before .args .entries .now) f (c .before .before .before .before .before .before .before .before .before .before .before .before .before .before .before .before .before .before .args .place) (c .before .before .before .before .before .before .before .before .before .before .before .before .before .before .before .before .before .before .args .two) (popped (see (c .before .before .before .before .before .before .before .before .before .before .before .before .before .before .before .before .before .before .args .t) (c .before .before .before .before .before .before .before .before .before .before .before .before .before .before .before .before .before .before .args .uses .now) (c .before .before .before .before .before .before .before .before .before .before .before .before .before .before .before .before .before .before .args .things .now) (c .before .before .before .before .before .before .before .before .before .before .before .before .before .before .before .before .before .before .args .code .now) (c .before .before .before .before .before .before .before .before .before .before .before .before .before .before .before .before .before .before .args .next-ahead .now) (c .before .before .before .before .before .before .before .before .before .before .before .before .before .before .before .before .before .before .args .next-entries .now)))) (c .before .before .before .before .before .top2 .ensures))
+
+same-length-3 : tie.Need-same-length-3
+same-length-3 c = search needs
+
+same-length-4 : tie.Need-same-length-4
+same-length-4 c = search needs
+
+same-length-5 : tie.Need-same-length-5
+same-length-5 c = search needs
+
+returns-4 : tie.Need-returns-4
+unfolding codeNode restNode
+returns-4 c = simp (sym (c .before .before .before .before .before .before .before .before .before .before .before .before .before .is-use .ensures) ∙ c .before .before .before .before .before .before .before .before .before .before .before .before .if1 .left, ne-eqb _ _ (c .before .before .before .before .before .before .before .before .before .before .before .match .rest .1), ne-eqb _ _ (c .before .before .before .before .before .before .before .before .before .before .before .match .rest .0 .1)) (c .before .before .before .before .before .before .rest-node .ensures (c .before .before .before .before .before .before .before .before .before .before .before .before .before .before .before .before .before .before .before .before .before .before .args .layout .now) (c .before .before .before .before .before .before .before .before .before .before .before .before .before .before .before .before .before .before .before .before .before .before .args .entries .now) (c .before .before .before .before .before .before .before .before .before .before .before .before .before .before .before .before .before .before .before .before .before .before .args .uses .now))
+
+pub node-spec : {M : Type 1} → statement M
+node-spec =
+    tie.close
+    (tie.spec
+    is-use-requires
+    use-node-requires
+    same-length
+    returns
+    top-requires
+    actual-in-requires
+    top-requires-2
+    pop-requires
+    call-ended-requires
+    rest-node-requires
+    returns-2
+    same-length-2
+    returns-3
+    same-length-3
+    same-length-4
+    same-length-5
+    returns-4)

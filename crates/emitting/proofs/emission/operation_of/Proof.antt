@@ -1,0 +1,33 @@
+-- `translating::emission::operation_of` meets its contract: by the two tests.
+-- Assumes nothing.
+use borrow.Author.Tests.{lt-ltb, le-ltb}
+use native.Mathlib.Omega.{arith}
+use Rattle.emitting.specs.Emission.{operationOf}
+use borrow.Author.Needs.{needs}
+use Rattle.emitting.proofs.emission.operation_of.Statement.{statement}
+use Rattle.emitting.proofs.emission.operation_of.Tie as tie
+
+add-result : tie.Need-add-result
+add-result c = search needs
+
+returns : tie.Need-returns
+unfolding operationOf
+returns c = (simp (lt-ltb _ _ (c .if1 .taken)), omega arith)
+
+add-result-2 : tie.Need-add-result-2
+add-result-2 c = search needs
+
+returns-2 : tie.Need-returns-2
+unfolding operationOf
+returns-2 c = (simp (le-ltb _ _ (c .before .if1 .left), lt-ltb _ _ (c .if2 .taken)), omega arith)
+
+add-result-3 : tie.Need-add-result-3
+add-result-3 c = search needs
+
+returns-3 : tie.Need-returns-3
+unfolding operationOf
+returns-3 c = (simp (le-ltb _ _ (c .before .if1 .left), le-ltb _ _ (c .if2 .left)), omega arith)
+
+pub operation-of-spec : {M : Type 1} → statement M
+operation-of-spec =
+    tie.close (tie.spec add-result returns add-result-2 returns-2 add-result-3 returns-3)

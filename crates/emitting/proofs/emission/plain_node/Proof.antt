@@ -1,0 +1,99 @@
+-- `translating::emission::plain_node` meets its contract: each kind puts the tests of `plainNode` right.
+-- Assumes nothing.
+use borrow.Author.Tests.{ne-eqb}
+use Rattle.emitting.specs.Emission.{plainNode, within}
+use borrow.Author.Needs.{needs}
+use Rattle.emitting.proofs.emission.plain_node.Statement.{statement}
+use Rattle.emitting.proofs.emission.plain_node.Tie as tie
+
+word-at-requires : tie.Need-word-at-requires
+word-at-requires c κs = search needs
+
+put-requires : tie.Need-put-requires
+put-requires c κs = search needs
+
+put-requires-2 : tie.Need-put-requires-2
+put-requires-2 c κs = search needs
+
+signed-requires : tie.Need-signed-requires
+signed-requires c κs = search needs
+
+operation-of-requires : tie.Need-operation-of-requires
+operation-of-requires c κs = search needs
+
+put-requires-3 : tie.Need-put-requires-3
+put-requires-3 c κs = search needs
+
+assigned-requires : tie.Need-assigned-requires
+assigned-requires c κs = search needs
+
+add-t : tie.Need-add-t
+add-t c = search needs
+
+same-length : tie.Need-same-length
+same-length c = search needs
+
+returns : tie.Need-returns
+unfolding plainNode
+returns c = λ ly ks es us ah en. simp (c .before .before .before .before .before .match .keys1) (rw (c .before .before .before .before .word-at .ensures .0) at (c .before .before .put .ensures .0 us (c .before .before .before .before .before .before .before .before .args .things .now) ah en))
+
+same-length-2 : tie.Need-same-length-2
+same-length-2 c = search needs
+
+returns-2 : tie.Need-returns-2
+unfolding plainNode
+returns-2 c = λ ly ks es us ah en. simp (c .before .before .before .before .match .keys2) (c .before .before .put2 .ensures .0 us (c .before .before .before .before .before .before .before .args .things .now) ah en)
+
+same-length-3 : tie.Need-same-length-3
+same-length-3 c = search needs
+
+returns-3 : tie.Need-returns-3
+unfolding plainNode
+returns-3 c = λ ly ks es us ah en. simp (c .before .before .before .before .match .keys3) (c .before .before .signed .ensures us (c .before .before .before .before .before .before .before .args .things .now) ah en)
+
+same-length-4 : tie.Need-same-length-4
+same-length-4 c = search needs
+
+returns-4 : tie.Need-returns-4
+unfolding plainNode
+returns-4 c = λ ly ks es us ah en. simp (c .before .before .before .before .before .match .keys4) (rw (c .before .before .before .operation-of .ensures .0) at (c .before .before .put3 .ensures .0 us (c .before .before .before .before .before .before .before .before .args .things .now) ah en))
+
+same-length-5 : tie.Need-same-length-5
+same-length-5 c = search needs
+
+returns-5 : tie.Need-returns-5
+unfolding plainNode
+returns-5 c = λ ly ks es us ah en. simp (c .before .before .before .before .match .keys5) (c .before .before .assigned .ensures (c .before .before .before .before .before .before .before .args .values .now) ly ks es us ah en)
+
+returns-6 : tie.Need-returns-6
+unfolding plainNode within
+returns-6 c = λ ly ks es us ah en. simp (c .before .match .keys6)
+
+returns-7 : tie.Need-returns-7
+unfolding plainNode
+returns-7 c = λ ly ks es us ah en. simp (ne-eqb _ _ (c .match .rest .1), ne-eqb _ _ (c .match .rest .0 .1), ne-eqb _ _ (c .match .rest .0 .0 .1), ne-eqb _ _ (c .match .rest .0 .0 .0 .1), ne-eqb _ _ (c .match .rest .0 .0 .0 .0 .1), ne-eqb _ _ (c .match .rest .0 .0 .0 .0 .0 .1))
+
+pub plain-node-spec : {M : Type 1} → statement M
+plain-node-spec =
+    tie.close
+    (tie.spec
+    word-at-requires
+    put-requires
+    put-requires-2
+    signed-requires
+    operation-of-requires
+    put-requires-3
+    assigned-requires
+    add-t
+    same-length
+    returns
+    same-length-2
+    returns-2
+    same-length-3
+    returns-3
+    same-length-4
+    returns-4
+    same-length-5
+    returns-5
+    returns-6
+    returns-7)

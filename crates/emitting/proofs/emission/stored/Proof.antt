@@ -1,0 +1,97 @@
+-- `translating::emission::stored` meets its contract. The loop's invariant: n left parts are to be stored yet, and with them the state comes to what
+-- all of them make of the first one.
+use mathlib.Core.Path.{_≡_, refl, sym, ap, _∙_}
+use native.Mathlib.Omega.{arith}
+use mathlib.Core.List.{List, []}
+use Prim.Native.Nat.{ℕ, _+_, _-_, _≤_}
+use lib.ListN.{length}
+use borrow.Author.Needs.{needs}
+use Rattle.emitting.specs.Emission.{top, stored, leftsOf}
+use Rattle.emitting.specs.Model.{thingsOf, see}
+use Rattle.emitting.proofs.LeftParts.{stored-step}
+use Rattle.emitting.proofs.Counters.{left-word}
+use Rattle.emitting.proofs.emission.stored.Statement.{statement}
+use Rattle.emitting.proofs.emission.stored.Tie as tie
+
+abbrev Inv-loop : tie.InvT-loop
+Inv-loop t₀ things code₀ n₀ t code n =
+    (n ≤ t₀ .lefts)
+    × (t .open ≡ t₀ .open)
+    × (t .at + n ≡ t₀ .at + t₀ .lefts)
+    × (length code ≡ length code₀)
+    × ((vs ly ks es us ah en : List ℕ) → stored vs ly ks es (leftsOf vs ly ks es n (thingsOf (t₀ .open) things) []) (see t us things code ah en) ≡ stored vs ly ks es (leftsOf vs ly ks es (t₀ .lefts) (thingsOf (t₀ .open) things) []) (see t₀ us things code₀ ah en))
+
+abbrev μ-loop : tie.MeasureT-loop
+μ-loop t₀ things code₀ n₀ t code n = n
+
+loop-holds : tie.Need-loop-holds Inv-loop μ-loop
+loop-holds c = (omega arith, refl, refl, refl, λ vs ly ks es us ah en. refl)
+
+sub-n : tie.Need-sub-n Inv-loop μ-loop
+sub-n c = omega arith
+
+left-word-requires : tie.Need-left-word-requires Inv-loop μ-loop
+left-word-requires c κs = let e = c .before .loop .inv .1 in let h = c .before .before .before .pre .1 in omega arith
+
+storing-requires : tie.Need-storing-requires Inv-loop μ-loop
+storing-requires c κs = search needs
+
+put-requires : tie.Need-put-requires Inv-loop μ-loop
+put-requires c κs =
+    let m = c .before .before .before .before .before .before .args .t .open in
+    let n = c .before .before .before .before .loop .n - 1 in
+    let s = c .before .before .before .before .before .before .args .things .now in
+    let q : c .before .before .left-word .result ≡ top (thingsOf (m - n) s) .second = rw (c .before .before .before .before .loop .inv .1) at (c .before .before .left-word .ensures) in
+    let w = left-word 131071 m n s (c .before .before .before .before .before .before .pre .2) in
+    let a = c .before .before .before .before .loop .inv .2 in
+    let b = c .before .before .before .before .before .before .pre .0 in
+    let d = c .storing .ensures .1 in
+    let h = c .before .before .before .loop-test .taken in
+    (omega arith, omega arith, omega arith)
+
+loop-less : tie.Need-loop-less Inv-loop μ-loop
+loop-less c = omega arith
+
+loop-again : tie.Need-loop-again Inv-loop μ-loop
+loop-again c =
+    let m = c .before .before .before .before .before .before .before .before .before .args .t .open in
+    let n = c .before .before .before .before .before .before .before .loop .n - 1 in
+    let s = c .before .before .before .before .before .before .before .before .before .args .things .now in
+    let h = c .before .before .before .before .before .before .loop-test .taken in
+    let q : c .before .before .before .before .before .left-word .result ≡ top (thingsOf (m - n) s) .second = rw (c .before .before .before .before .before .before .before .loop .inv .1) at (c .before .before .before .before .before .left-word .ensures) in
+    let a = c .before .before .before .before .before .before .before .loop .inv .2 in
+    let b = c .before .before .put .ensures .1 .1 in
+    let i = c .before .before .before .before .before .before .before .loop .inv .0 in (
+      omega arith,
+      c .before .before .put .ensures .1 .2 ∙ c .before .before .before .before .before .before .before .loop .inv .1,
+      omega arith,
+      c .before .before .put .kept .1 .0 ∙ c .before .before .before .before .before .before .before .loop .inv .3,
+      λ vs ly ks es us ah en. ap (stored vs ly ks es (leftsOf vs ly ks es n (thingsOf m s) [])) (rw (c .before .before .before .storing .ensures .0, q) at (c .before .before .put .ensures .0 us s ah en))
+          ∙ sym (stored-step vs ly ks es (c .before .before .before .before .before .before .before .loop .n) m s (see (c .before .before .before .before .before .before .before .loop .t) us s (c .before .before .before .before .before .before .before .loop .code) ah en) h) ∙ c .before .before .before .before .before .before .before .loop .inv .4 vs ly ks es us ah en,
+    )
+
+same-length : tie.Need-same-length Inv-loop μ-loop
+same-length c = c .before .loop .inv .3
+
+returns : tie.Need-returns Inv-loop μ-loop
+unfolding stored leftsOf
+returns c =
+    let h = c .loop-test .left in
+    let z : c .before .loop .n ≡ 0 = omega arith in
+    λ vs ly ks es us ah en. rw z at (c .before .loop .inv .4 vs ly ks es us ah en)
+
+pub stored-spec : {M : Type 1} → statement M
+stored-spec =
+    tie.close
+    (tie.spec
+    Inv-loop
+    μ-loop
+    loop-holds
+    sub-n
+    left-word-requires
+    storing-requires
+    put-requires
+    loop-less
+    loop-again
+    same-length
+    returns)

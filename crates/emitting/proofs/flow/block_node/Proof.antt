@@ -1,0 +1,51 @@
+-- `translating::flow::block_node` meets its contract: each kind puts the tests of `blockNode` right.
+-- Assumes nothing.
+use borrow.Author.Tests.{ne-eqb}
+use Rattle.emitting.specs.Emission.{blockNode}
+use borrow.Author.Needs.{needs}
+use Rattle.emitting.proofs.flow.block_node.Statement.{statement}
+use Rattle.emitting.proofs.flow.block_node.Tie as tie
+
+entered-requires : tie.Need-entered-requires
+entered-requires c κs = search needs
+
+begun-requires : tie.Need-begun-requires
+begun-requires c κs = search needs
+
+left-requires : tie.Need-left-requires
+left-requires c κs = search needs
+
+same-length : tie.Need-same-length
+same-length c = search needs
+
+returns : tie.Need-returns
+unfolding blockNode
+returns c = λ vs ly es us en. simp (c .before .before .before .before .before .match .keys1) (c .before .before .entered .ensures vs ly es us (c .before .before .before .before .before .before .before .before .before .args .next-ahead .now) en)
+
+same-length-2 : tie.Need-same-length-2
+same-length-2 c = search needs
+
+returns-2 : tie.Need-returns-2
+unfolding blockNode
+returns-2 c = λ vs ly es us en. simp (c .before .before .before .before .before .match .keys2) (c .before .before .begun .ensures us (c .before .before .before .before .before .before .before .before .before .args .code .now) en)
+
+same-length-3 : tie.Need-same-length-3
+same-length-3 c = search needs
+
+returns-3 : tie.Need-returns-3
+unfolding blockNode
+returns-3 c = λ vs ly es us en. simp (ne-eqb _ _ (c .before .before .before .before .match .rest .1), ne-eqb _ _ (c .before .before .before .before .match .rest .0 .1)) (c .before .before .left .ensures us (c .before .before .before .before .before .before .before .before .args .things .now) (c .before .before .before .before .before .before .before .before .args .next-ahead .now) en)
+
+pub block-node-spec : {M : Type 1} → statement M
+block-node-spec =
+    tie.close
+    (tie.spec
+    entered-requires
+    begun-requires
+    left-requires
+    same-length
+    returns
+    same-length-2
+    returns-2
+    same-length-3
+    returns-3)

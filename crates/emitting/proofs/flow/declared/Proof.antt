@@ -1,0 +1,30 @@
+-- `translating::flow::declared` meets its contract: its address is known, and an activation more is around, with no for statement.
+-- Assumes nothing.
+use mathlib.Core.Path.{ap}
+use Prim.Native.Nat.{_+_}
+use lib.ListN.{set}
+use Rattle.emitting.specs.Emission.{State, pushed, within, withEntry, withOpen}
+use borrow.Author.Needs.{needs}
+use Rattle.emitting.proofs.flow.declared.Statement.{statement}
+use Rattle.emitting.proofs.flow.declared.Tie as tie
+
+set-word-requires : tie.Need-set-word-requires
+set-word-requires c κs = search needs
+
+push-requires : tie.Need-push-requires
+push-requires c κs = search needs
+
+add-r : tie.Need-add-r
+add-r c = search needs
+
+same-length : tie.Need-same-length
+same-length c = search needs
+
+returns : tie.Need-returns
+unfolding within pushed withOpen withEntry
+returns c =
+    let w = set (c .before .before .before .before .before .before .before .before .args .next-entries .now) (c .before .before .before .before .before .before .before .before .args .place) (c .before .before .before .before .before .before .before .before .args .t .at) in
+    λ us co ah. rw (c .before .before .before .before .before .set-word .ensures) (ap (λ (z : State). within (z .level + 1) 0 (z .cells) z) (c .before .push .ensures .0 us co ah w))
+
+pub declared-spec : {M : Type 1} → statement M
+declared-spec = tie.close (tie.spec set-word-requires push-requires add-r same-length returns)

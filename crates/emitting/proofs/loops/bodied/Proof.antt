@@ -1,0 +1,26 @@
+-- `translating::loops::bodied` meets its contract: the three parts of the operand are the model's.
+-- Assumes nothing.
+use Rattle.emitting.specs.Emission.{bodied, aheadAt}
+use borrow.Author.Needs.{needs}
+use Rattle.emitting.proofs.loops.bodied.Statement.{statement}
+use Rattle.emitting.proofs.loops.bodied.Tie as tie
+
+word-at-requires : tie.Need-word-at-requires
+word-at-requires c κs = search needs
+
+packed-requires : tie.Need-packed-requires
+packed-requires c κs = search needs
+
+put-requires : tie.Need-put-requires
+put-requires c κs = search needs
+
+same-length : tie.Need-same-length
+same-length c = search needs
+
+returns : tie.Need-returns
+unfolding bodied aheadAt
+returns c = (λ vs ly es us op ah en. rw (c .before .before .before .before .packed .ensures .0, c .before .before .before .before .before .word-at .ensures .0) at (c .before .before .put .ensures .0 us op ah en), c .before .before .put .ensures .1)
+
+pub bodied-spec : {M : Type 1} → statement M
+bodied-spec =
+    tie.close (tie.spec word-at-requires packed-requires put-requires same-length returns)

@@ -1,0 +1,49 @@
+-- `translating::loops::whiled` meets its contract: the condition, to the body, and the element ends.
+-- Assumes nothing.
+use mathlib.Core.Path.{ap, _∙_}
+use Rattle.emitting.specs.Emission.{element, bodied, aheadAt}
+use Rattle.emitting.specs.Model.{seen}
+use borrow.Author.Needs.{needs}
+use Rattle.emitting.proofs.loops.whiled.Statement.{statement}
+use Rattle.emitting.proofs.loops.whiled.Tie as tie
+
+word-at-requires : tie.Need-word-at-requires
+word-at-requires c κs = search needs
+
+packed-requires : tie.Need-packed-requires
+packed-requires c κs = search needs
+
+put-requires : tie.Need-put-requires
+put-requires c κs = search needs
+
+bodied-requires : tie.Need-bodied-requires
+bodied-requires c κs = search needs
+
+element-requires : tie.Need-element-requires
+element-requires c κs = search needs
+
+same-length : tie.Need-same-length
+same-length c = search needs
+
+same-length-2 : tie.Need-same-length-2
+same-length-2 c = search needs
+
+returns : tie.Need-returns
+unfolding aheadAt
+returns c =
+    let f = c .before .before .before .before .before .before .before .before .before .before .before .before .before .before .before .before .before .before .args .f in
+    λ vs ly es us en. rw (c .before .before .before .before .before .before .before .before .before .before .before .before .before .packed .ensures .0, c .before .before .before .before .before .before .before .before .before .before .before .before .before .before .word-at .ensures .0) at
+    (c .before .before .element .ensures vs ly (c .before .before .before .before .before .before .before .before .before .before .before .before .before .before .before .before .before .before .args .ahead .now) es us _ en ∙ ap (element vs ly (c .before .before .before .before .before .before .before .before .before .before .before .before .before .before .before .before .before .before .args .ahead .now) es (seen f)) (c .before .before .before .before .before .before .before .bodied .ensures .0 vs ly es us (c .before .before .before .before .before .before .before .before .before .before .before .before .before .before .before .before .before .before .args .things .now) (c .before .before .before .before .before .before .before .before .before .before .before .before .before .before .before .before .before .before .args .next-ahead .now) en ∙ ap (bodied vs ly (c .before .before .before .before .before .before .before .before .before .before .before .before .before .before .before .before .before .before .args .ahead .now) es (seen f) (f .fourth)) (c .before .before .before .before .before .before .before .before .before .before .before .put .ensures .0 us (c .before .before .before .before .before .before .before .before .before .before .before .before .before .before .before .before .before .before .args .things .now) (c .before .before .before .before .before .before .before .before .before .before .before .before .before .before .before .before .before .before .args .next-ahead .now) en)))
+
+pub whiled-spec : {M : Type 1} → statement M
+whiled-spec =
+    tie.close
+    (tie.spec
+    word-at-requires
+    packed-requires
+    put-requires
+    bodied-requires
+    element-requires
+    same-length
+    same-length-2
+    returns)

@@ -1,0 +1,318 @@
+-- How the code is written: one pass over the nodes of a program's table, with its uses, the layout of its cells and the values of its numbers. The
+-- pass takes the addresses that lie ahead from tables, and fills such tables itself: done once with nothing in them, it finds them; done again with
+-- those, it writes the code. This is the model of the code and no part of the paper; proofs/ has that it comes to what Translate says.
+use Prim.Native.Nat.{ℕ, zero, suc, _+_, _*_, _-_}
+use mathlib.Core.Bool.{Bool, cond, _&&_, _||_}
+use mathlib.Core.List.{List, [], _∷_}
+use lib.Dec.{eqb, ltb}
+use lib.ListN.{getD, set, replicate}
+use Rattle.machine.specs.Instructions.{high, mid}
+use Rattle.syntax.specs.NodeKinds.{n-block, n-statements, n-block-end, n-variable, n-procedure, n-procedure-end, n-then, n-else, n-if-end, n-for, n-start, n-once, n-while, n-step, n-do, n-for-end, n-left, n-assign, n-condition-end, n-unary, n-binary, n-number, n-logical, n-use, n-call, n-call-end, n-actual}
+use Rattle.names.specs.Rows.{foldNodes, isUse}
+use Rattle.emitting.specs.Layout.{packed, sites}
+
+-- ---- what is known behind some nodes
+
+-- something open, or a left part; what each number is stands where it is opened. The second is a word, or what a use means; the others are counts,
+-- places and kinds
+pub record Opened : Type 0 where
+  pub first : ℕ
+  pub second : ℕ
+  pub third : ℕ
+  pub fourth : ℕ
+
+abbrev pub opened : ℕ → ℕ → ℕ → ℕ → Opened
+opened a b c d = record { first = a; second = b; third = c; fourth = d }
+
+-- the uses to come, three words each; the address of the next instruction; how many addresses lie ahead so far; the activations and the for
+-- statements of the running one that are around; the variables of the block so far; the left parts before; 1 where a name stands that a number is
+-- taken to, and the last such variable; what is open, newest first; the words; the addresses that lay ahead; those of procedures, by place
+pub record State : Type 0 where
+  pub uses : List ℕ
+  pub at : ℕ
+  pub slots : ℕ
+  pub level : ℕ
+  pub loops : ℕ
+  pub cells : ℕ
+  pub lefts : ℕ
+  pub awaits : ℕ
+  pub variable : ℕ
+  pub open-ones : List Opened
+  pub code : List ℕ
+  pub ahead : List ℕ
+  pub entries : List ℕ
+
+-- as many words, and as many addresses ahead, as there may be
+abbrev pub codeRoom : ℕ
+codeRoom = 16384
+
+abbrev pub slotRoom : ℕ
+slotRoom = 8192
+
+abbrev pub fresh : List ℕ → State
+fresh uses =
+    record { uses = uses; at = 0; slots = 0; level = 0; loops = 0; cells = 0; lefts = 0; awaits = 0; variable = 0; open-ones = []; code = replicate codeRoom 0; ahead = replicate slotRoom 0; entries = replicate sites 0 }
+
+-- ---- the parts of a state
+
+-- an instruction: operation, place, operand
+unfoldable pub put : ℕ → ℕ → ℕ → State → State
+put o p v st =
+    record { uses = st .uses; at = st .at + 1; slots = st .slots; level = st .level; loops = st .loops; cells = st .cells; lefts = st .lefts; awaits = st .awaits; variable = st .variable; open-ones = st .open-ones; code = set (set (st .code) (2 * st .at) (o + 64 * p)) (2 * st .at + 1) v; ahead = st .ahead; entries = st .entries }
+
+unfoldable pub withOpen : List Opened → State → State
+withOpen l st =
+    record { uses = st .uses; at = st .at; slots = st .slots; level = st .level; loops = st .loops; cells = st .cells; lefts = st .lefts; awaits = st .awaits; variable = st .variable; open-ones = l; code = st .code; ahead = st .ahead; entries = st .entries }
+
+-- one address more lies ahead
+unfoldable pub withSlot : State → State
+withSlot st =
+    record { uses = st .uses; at = st .at; slots = st .slots + 1; level = st .level; loops = st .loops; cells = st .cells; lefts = st .lefts; awaits = st .awaits; variable = st .variable; open-ones = st .open-ones; code = st .code; ahead = st .ahead; entries = st .entries }
+
+-- what lay ahead at a slot
+unfoldable pub noted : ℕ → ℕ → State → State
+noted i v st =
+    record { uses = st .uses; at = st .at; slots = st .slots; level = st .level; loops = st .loops; cells = st .cells; lefts = st .lefts; awaits = st .awaits; variable = st .variable; open-ones = st .open-ones; code = st .code; ahead = set (st .ahead) i v; entries = st .entries }
+
+unfoldable pub within : ℕ → ℕ → ℕ → State → State
+within level loops cells st =
+    record { uses = st .uses; at = st .at; slots = st .slots; level = level; loops = loops; cells = cells; lefts = st .lefts; awaits = st .awaits; variable = st .variable; open-ones = st .open-ones; code = st .code; ahead = st .ahead; entries = st .entries }
+
+unfoldable pub withLefts : ℕ → State → State
+withLefts n st =
+    record { uses = st .uses; at = st .at; slots = st .slots; level = st .level; loops = st .loops; cells = st .cells; lefts = n; awaits = st .awaits; variable = st .variable; open-ones = st .open-ones; code = st .code; ahead = st .ahead; entries = st .entries }
+
+unfoldable pub withVariable : ℕ → ℕ → State → State
+withVariable awaits v st =
+    record { uses = st .uses; at = st .at; slots = st .slots; level = st .level; loops = st .loops; cells = st .cells; lefts = st .lefts; awaits = awaits; variable = v; open-ones = st .open-ones; code = st .code; ahead = st .ahead; entries = st .entries }
+
+unfoldable pub withUses : List ℕ → State → State
+withUses l st =
+    record { uses = l; at = st .at; slots = st .slots; level = st .level; loops = st .loops; cells = st .cells; lefts = st .lefts; awaits = st .awaits; variable = st .variable; open-ones = st .open-ones; code = st .code; ahead = st .ahead; entries = st .entries }
+
+unfoldable pub withEntry : ℕ → State → State
+withEntry p st =
+    record { uses = st .uses; at = st .at; slots = st .slots; level = st .level; loops = st .loops; cells = st .cells; lefts = st .lefts; awaits = st .awaits; variable = st .variable; open-ones = st .open-ones; code = st .code; ahead = st .ahead; entries = set (st .entries) p (st .at) }
+
+unfoldable pub top : List Opened → Opened
+top [] = opened 0 0 0 0
+top (x ∷ l) = x
+
+unfoldable pub below : List Opened → List Opened
+below [] = []
+below (x ∷ l) = l
+
+unfoldable pub pushed : ℕ → ℕ → ℕ → ℕ → State → State
+pushed a b c d st = withOpen (opened a b c d ∷ st .open-ones) st
+
+unfoldable pub popped : State → State
+popped st = withOpen (below (st .open-ones)) st
+
+-- another one in place of the newest
+unfoldable pub replaced : ℕ → ℕ → ℕ → ℕ → State → State
+replaced a b c d st = withOpen (opened a b c d ∷ below (st .open-ones)) st
+
+-- ---- uses: the next one's kind and what it means; none are zeros
+
+unfoldable pub kindNext : List ℕ → ℕ
+kindNext (p ∷ k ∷ m ∷ l) = k
+kindNext (p ∷ k ∷ []) = 0
+kindNext (p ∷ []) = 0
+kindNext [] = 0
+
+unfoldable pub meansNext : List ℕ → ℕ
+meansNext (p ∷ k ∷ m ∷ l) = m
+meansNext (p ∷ k ∷ []) = 0
+meansNext (p ∷ []) = 0
+meansNext [] = 0
+
+unfoldable pub othersNext : List ℕ → List ℕ
+othersNext (p ∷ k ∷ m ∷ l) = l
+othersNext (p ∷ k ∷ []) = []
+othersNext (p ∷ []) = []
+othersNext [] = []
+
+-- ---- operators, by their symbols' kinds: 17 'and', 18 'or', 20 'impl', 21 'equiv', 22 `+` to 31 `#`; 19 is 'not'
+
+unfoldable pub operationOf : ℕ → ℕ
+operationOf k = cond (ltb k 19) (k + 18) (cond (ltb k 22) (k + 17) (k + 3))
+
+unfoldable pub signed : ℕ → ℕ → State → State
+signed k p st = cond (eqb k 19) (put 23 p 0 st) (cond (eqb k 23) (put 22 p 0 st) st)
+
+-- ---- the pass. values: of numbers, by place; layout: as Layout has it; ahead, entries: what is known already of what lies ahead
+
+-- the largest whole number
+abbrev pub largest : ℕ
+largest = 2147483647
+
+module _ (values layout ahead entries : List ℕ) where
+  unfoldable pub aheadAt : ℕ → ℕ
+  aheadAt i = getD ahead i 0
+
+  -- a use of kind k that means m, as a variable; of a procedure its result
+  unfoldable pub cellOf : ℕ → ℕ → ℕ → ℕ
+  cellOf level k m =
+      let w = getD layout m 0 in
+      cond (eqb k 2) (packed (level - (high w + 1)) 0 0) (packed (level - high w) (mid w) 0)
+
+  -- 1 where it is a procedure with a result
+  unfoldable pub resultOf : ℕ → ℕ → ℕ
+  resultOf k m = cond (eqb k 2) (mid (getD layout m 0)) 0
+
+  -- a call of it with n actuals; u: 0 as a primary, 1 as a statement
+  unfoldable pub calledWith : ℕ → ℕ → ℕ → ℕ → ℕ → State → State
+  calledWith k m n u p st =
+      put (5 + u) p (packed (st .level - high (getD layout m 0)) (resultOf k m + n) (getD entries m 0)) st
+
+  unfoldable pub resultFor : ℕ → ℕ → ℕ → State → State
+  resultFor k m p st = cond (eqb (resultOf k m) 0) st (put 16 p 0 st)
+
+  -- what a statement does not need
+  unfoldable pub dropped : ℕ → State → State
+  dropped u st = cond (eqb u 0) st (put 17 0 0 st)
+
+  -- a name alone; a variable, a procedure, maxint
+  unfoldable pub named : ℕ → ℕ → ℕ → ℕ → State → State
+  named k m u p st =
+      cond (eqb k 0) (dropped u (put 12 p largest st))
+      (cond (eqb k 2) (calledWith k m 0 u p (resultFor k m p st))
+      (put 13 p (cellOf (st .level) k m) st))
+
+  -- the second actual of ininteger is stored to, not loaded
+  unfoldable pub namedOr : ℕ → ℕ → ℕ → ℕ → State → State
+  namedOr k m u p st = cond (eqb (st .awaits) 0) (named k m u p st) (withVariable 0 (cellOf (st .level) k m) st)
+
+  -- an open call: kind, meaning, actuals so far
+  unfoldable pub calling : ℕ → ℕ → ℕ → State → State
+  calling k m p st = pushed k m 0 0 (resultFor k m p st)
+
+  unfoldable pub actualIn : Opened → State → State
+  actualIn c st =
+      withVariable (cond (eqb (c .first) 0 && (eqb (c .second) 2 && eqb (c .third) 0)) 1 0) (st .variable)
+      (replaced (c .first) (c .second) (c .third + 1) 0 st)
+
+  unfoldable pub callEnded : Opened → ℕ → ℕ → State → State
+  callEnded c p u st =
+      cond (eqb (c .first) 2) (calledWith 2 (c .second) (c .third) u p st)
+      (cond (eqb (c .second) 0) (dropped u (put 24 p 0 st))
+      (cond (eqb (c .second) 2) (put 18 p (st .variable) st)
+      (put 19 p 0 st)))
+
+  -- a for statement with its elements: slot of the body's address, the variable, its place, the address of the element
+  unfoldable pub repeated : ℕ → ℕ → ℕ → State → State
+  repeated k m p st = withSlot (pushed (st .slots) (cellOf (st .level) k m) p (st .at) st)
+
+  unfoldable pub useNode : ℕ → ℕ → ℕ → ℕ → ℕ → ℕ → State → State
+  useNode n k m b p a st =
+      cond (eqb n n-use) (namedOr k m b p st)
+      (cond (eqb n n-call) (calling k m p st)
+      (cond (eqb n n-left) (withLefts (st .lefts + 1) (pushed 0 (cellOf (st .level) k m) 0 0 st))
+      (repeated k m p st)))
+
+  -- behind an element: it goes on there, if it is not the last
+  unfoldable pub element : Opened → State → State
+  element f st = noted (st .slots) (packed 0 0 (st .at)) (withSlot (replaced (f .first) (f .second) (f .third) (st .at) st))
+
+  -- to the body, with the place to return to
+  unfoldable pub bodied : Opened → ℕ → State → State
+  bodied f r st = put 8 0 (packed (st .loops) r (aheadAt (f .first))) st
+
+  -- the five instructions of a step element
+  unfoldable pub stepping : Opened → ℕ → State → State
+  stepping f p st =
+      put 2 0 (packed 0 0 (st .at + 1))
+      (put 21 p (f .second)
+      (bodied f (st .at + 3) (put 11 (f .third) (packed (high (f .second)) (mid (f .second)) (aheadAt (st .slots))) (put 20 0 0 st))))
+
+  unfoldable pub elementNode : ℕ → Opened → ℕ → State → State
+  elementNode k f p st =
+      cond (eqb k n-start) (put 14 0 (f .second) st)
+      (cond (eqb k n-once) (element f (bodied f (aheadAt (st .slots)) st))
+      (cond (eqb k n-while) (element f (bodied f (f .fourth) (put 10 0 (packed 0 0 (aheadAt (st .slots))) st)))
+      (element f (stepping f p st))))
+
+  -- behind the last element: the slot of where it goes on, which is behind the loop
+  unfoldable pub loopNode : ℕ → Opened → State → State
+  loopNode k f st =
+      cond (eqb k n-do) (within (st .level) (st .loops + 1) (st .cells) (noted (f .first) (packed 0 0 (st .at)) (replaced (st .slots - 1) 0 0 0 st)))
+      (noted (f .first) (packed 0 0 (st .at + 1)) (popped (within (st .level) (st .loops - 1) (st .cells) (put 9 0 (packed (st .loops - 1) 0 0) st))))
+
+  -- a condition: the slot of where it goes on
+  unfoldable pub choiceNode : ℕ → Opened → State → State
+  choiceNode k c st =
+      cond (eqb k n-then) (withSlot (pushed (st .slots) 0 0 0 (put 10 0 (packed 0 0 (aheadAt (st .slots))) st)))
+      (cond (eqb k n-else) (noted (c .first) (packed 0 0 (st .at + 1)) (withSlot (replaced (st .slots) 0 0 0 (put 2 0 (packed 0 0 (aheadAt (st .slots))) st))))
+      (noted (c .first) (packed 0 0 (st .at)) (popped st)))
+
+  -- a block: slot of its cells and its first statement; its own variables, and those of the block around
+  unfoldable pub blockNode : ℕ → Opened → ℕ → State → State
+  blockNode k c p st =
+      cond (eqb k n-block) (within (st .level) (st .loops) 0 (withSlot (pushed (st .slots) 0 0 (st .cells) (put 3 p (aheadAt (st .slots)) st))))
+      (cond (eqb k n-statements) (noted (c .first) (packed 0 (st .cells) (st .at)) (replaced (c .first) 0 (st .cells) (c .fourth) st))
+      (within (st .level) (st .loops) (c .fourth) (popped (put 4 0 (packed 0 (c .third) 0) st))))
+
+  -- a procedure: the for statements around
+  unfoldable pub procedureNode : ℕ → Opened → ℕ → State → State
+  procedureNode k c p st =
+      cond (eqb k n-procedure) (within (st .level + 1) 0 (st .cells) (pushed (st .loops) 0 0 0 (withEntry p st)))
+      (within (st .level - 1) (c .first) (st .cells) (popped (put 7 0 0 st)))
+
+  -- left parts, from the first to the last
+  unfoldable pub stored : List Opened → State → State
+  stored [] st = st
+  stored (x ∷ []) st = put 14 0 (x .second) st
+  stored (x ∷ y ∷ l) st = stored (y ∷ l) (put 15 0 (x .second) st)
+
+  unfoldable pub leftsOf : ℕ → List Opened → List Opened → List Opened
+  leftsOf zero l acc = acc
+  leftsOf (suc n) l acc = leftsOf n (below l) (top l ∷ acc)
+
+  unfoldable pub behindLefts : ℕ → List Opened → List Opened
+  behindLefts zero l = l
+  behindLefts (suc n) l = behindLefts n (below l)
+
+  unfoldable pub assigned : State → State
+  assigned st = withLefts 0 (withOpen (behindLefts (st .lefts) (st .open-ones)) (stored (leftsOf (st .lefts) (st .open-ones) []) st))
+
+  unfoldable pub plainNode : ℕ → ℕ → ℕ → State → State
+  plainNode k p a st =
+      cond (eqb k n-number) (put 12 p (getD values p 0) st)
+      (cond (eqb k n-logical) (put 12 p a st)
+      (cond (eqb k n-unary) (signed a p st)
+      (cond (eqb k n-binary) (put (operationOf a) p 0 st)
+      (cond (eqb k n-assign) (assigned st)
+      (cond (eqb k n-variable) (within (st .level) (st .loops) (st .cells + 1) st)
+      st)))))
+
+  abbrev pub isElement : ℕ → Bool
+  isElement k = eqb k n-start || (eqb k n-once || (eqb k n-while || eqb k n-step))
+
+  abbrev pub isChoice : ℕ → Bool
+  isChoice k = eqb k n-then || (eqb k n-else || (eqb k n-if-end || eqb k n-condition-end))
+
+  abbrev pub isBlock : ℕ → Bool
+  isBlock k = eqb k n-block || (eqb k n-statements || eqb k n-block-end)
+
+  -- what a node adds
+  unfoldable pub codeNode : ℕ → ℕ → ℕ → ℕ → State → State
+  codeNode k p a b st =
+      cond (isUse k) (useNode k (kindNext (st .uses)) (meansNext (st .uses)) b p a (withUses (othersNext (st .uses)) st))
+      (cond (eqb k n-actual) (actualIn (top (st .open-ones)) st)
+      (cond (eqb k n-call-end) (callEnded (top (st .open-ones)) p b (popped st))
+      (cond (isElement k) (elementNode k (top (st .open-ones)) p st)
+      (cond (eqb k n-do || eqb k n-for-end) (loopNode k (top (st .open-ones)) st)
+      (cond (isChoice k) (choiceNode k (top (st .open-ones)) st)
+      (cond (isBlock k) (blockNode k (top (st .open-ones)) p st)
+      (cond (eqb k n-procedure || eqb k n-procedure-end) (procedureNode k (top (st .open-ones)) p st)
+      (plainNode k p a st))))))))
+
+  -- all nodes, and the end
+  unfoldable pub emitted : List ℕ → List ℕ → State
+  emitted nodes uses = put 1 0 0 (foldNodes codeNode nodes (fresh uses))
+
+-- twice: what lies ahead is found, then the code is written
+unfoldable pub codeOf : List ℕ → List ℕ → List ℕ → List ℕ → List ℕ
+codeOf values layout nodes uses =
+    let found = emitted values layout [] [] nodes uses in
+    emitted values layout (found .ahead) (found .entries) nodes uses .code

@@ -1,0 +1,366 @@
+// The nodes with what is known behind some of them.
+use crate::Writing;
+use crate::calls;
+use crate::flow;
+use crate::loops;
+use crate::parts;
+use crate::putting;
+use syntax::nodes;
+ghost use mathlib.Core.Path.{_≡_};
+ghost use mathlib.Core.Bool.{cond, _||_};
+ghost use mathlib.Core.List.{List, []};
+ghost use Prim.Native.Nat.{ℕ, _+_, _-_, _≤_, _<_};
+ghost use lib.Dec.{eqb};
+ghost use lib.ListN.{length};
+ghost use Rattle.syntax.specs.NodeKinds.{n-do, n-for-end, n-procedure, n-procedure-end};
+ghost use Rattle.names.specs.Rows.{isUse};
+ghost use Rattle.emitting.specs.Emission.{top, operationOf, signed, stored, leftsOf, assigned, plainNode, isElement, isChoice, isBlock, codeNode, emitted};
+ghost use Rattle.emitting.specs.Model.{thingsOf, see, AllSlim, Small, Fit, restNode, freshIn, emittedFrom};
+
+// The operation of an operator, by its symbol's kind.
+fn operation_of(k: usize) -> usize
+    requires { ⌜ k < 65536 ⌝ }
+    ensures { λ r. ⌜ r ≡ operationOf k ⌝ }
+    ensures { λ r. ⌜ r < 131072 ⌝ }
+{
+    if k < 19 {
+        return k + 18;
+    }
+    if k < 22 {
+        return k + 17;
+    }
+    k + 3
+}
+
+// A sign or 'not'.
+fn signed(t: Writing, k: usize, place: usize, code: &mut [u32]) -> Writing
+    requires { ⌜ (t .at < 131072) × (place < 65536) ⌝ }
+    ensures { λ r. ⌜ ((us op ah en : List ℕ) → see r us op (now (code .exit)) ah en ≡ signed k place (see t us op (now (code .entry)) ah en)) ⌝ }
+{
+    if k == 19 {
+        return putting::put(t, code, 23, place, 0);
+    }
+    if k == 23 {
+        return putting::put(t, code, 22, place, 0);
+    }
+    t
+}
+
+// The word of the left part with n behind it.
+fn left_word(mut t: Writing, things: &[usize; 32768], n: usize) -> usize
+    requires { ⌜ t .open ≤ 8192 ⌝ }
+    ensures { λ r. ⌜ r ≡ top (thingsOf (t .open - n) (now (things .entry))) .second ⌝ }
+{
+    t.open = parts::less(t.open, n);
+    let f = putting::top(t, things);
+    f.second
+}
+
+// The operation that stores to a left part with n behind it.
+fn storing(n: usize) -> usize
+    ensures { λ r. ⌜ r ≡ cond (eqb n 0) 14 15 ⌝ }
+    ensures { λ r. ⌜ r < 16 ⌝ }
+{
+    if n == 0 { 14 } else { 15 }
+}
+
+// Left parts, from the first to the last.
+fn stored(mut t: Writing, things: &[usize; 32768], code: &mut [u32]) -> Writing
+    requires { ⌜ (t .at + t .lefts < 131072) × (t .open ≤ 8192) × AllSlim 131071 (thingsOf (t .open) (now things)) ⌝ }
+    ensures { λ r. ⌜ ((vs ly ks es us ah en : List ℕ) → see r us (now (things .entry)) (now (code .exit)) ah en ≡ stored vs ly ks es (leftsOf vs ly ks es (t .lefts) (thingsOf (t .open) (now (things .entry))) []) (see t us (now (things .entry)) (now (code .entry)) ah en)) ⌝ }
+{
+    let mut n = t.lefts;
+    while 0 < n {
+        n -= 1;
+        let v = left_word(t, things, n);
+        t = putting::put(t, code, storing(n), 0, v);
+    }
+    t
+}
+
+// The end of an assignment.
+fn assigned(t: Writing, things: &[usize; 32768], code: &mut [u32]) -> Writing
+    requires { ⌜ (t .at + t .lefts < 131072) × (t .open ≤ 8192) × AllSlim 131071 (thingsOf (t .open) (now things)) ⌝ }
+    ensures { λ r. ⌜ ((vs ly ks es us ah en : List ℕ) → see r us (now (things .entry)) (now (code .exit)) ah en ≡ assigned vs ly ks es (see t us (now (things .entry)) (now (code .entry)) ah en)) ⌝ }
+{
+    let mut r = stored(t, things, code);
+    r.open = parts::less(t.open, t.lefts);
+    r.lefts = 0;
+    r
+}
+
+// A node that is of no name and opens nothing.
+fn plain_node(
+    mut t: Writing,
+    kind: u16,
+    place: usize,
+    one: usize,
+    values: &[u32],
+    things: &[usize; 32768],
+    code: &mut [u32],
+) -> Writing
+    requires { ⌜ Fit t × AllSlim 131071 (thingsOf (t .open) (now things)) × (place < 65536) × (one < 65536) ⌝ }
+    ensures { λ r. ⌜ ((ly ks es us ah en : List ℕ) → see r us (now (things .entry)) (now (code .exit)) ah en ≡ plainNode (now (values .entry)) ly ks es kind place one (see t us (now (things .entry)) (now (code .entry)) ah en)) ⌝ }
+{
+    match kind {
+        nodes::NUMBER => {
+            let v = parts::word_at(values, place);
+            putting::put(t, code, 12, place, v)
+        }
+        nodes::LOGICAL => putting::put(t, code, 12, place, one),
+        nodes::UNARY => signed(t, one, place, code),
+        nodes::BINARY => putting::put(t, code, operation_of(one), place, 0),
+        nodes::ASSIGN => assigned(t, things, code),
+        nodes::VARIABLE => {
+            t.cells += 1;
+            t
+        }
+        _ => t,
+    }
+}
+
+// Whether a node is of a use.
+fn is_use(kind: u16) -> bool
+    ensures { λ r. ⌜ r ≡ isUse kind ⌝ }
+{
+    match kind {
+        nodes::FOR => true,
+        nodes::LEFT => true,
+        nodes::USE => true,
+        nodes::CALL => true,
+        _ => false,
+    }
+}
+
+// Whether it is of an element.
+fn is_element(kind: u16) -> bool
+    ensures { λ r. ⌜ ((vs ly ks es : List ℕ) → r ≡ isElement vs ly ks es kind) ⌝ }
+{
+    match kind {
+        nodes::START => true,
+        nodes::ONCE => true,
+        nodes::WHILE => true,
+        nodes::STEP => true,
+        _ => false,
+    }
+}
+
+// Whether it is around a loop's body.
+fn is_loop(kind: u16) -> bool
+    ensures { λ r. ⌜ r ≡ eqb kind n-do || eqb kind n-for-end ⌝ }
+{
+    match kind {
+        nodes::DO => true,
+        nodes::FOR_END => true,
+        _ => false,
+    }
+}
+
+// Whether it is of a condition.
+fn is_choice(kind: u16) -> bool
+    ensures { λ r. ⌜ ((vs ly ks es : List ℕ) → r ≡ isChoice vs ly ks es kind) ⌝ }
+{
+    match kind {
+        nodes::THEN => true,
+        nodes::ELSE => true,
+        nodes::IF_END => true,
+        nodes::CONDITION_END => true,
+        _ => false,
+    }
+}
+
+// Whether it is of a block.
+fn is_block(kind: u16) -> bool
+    ensures { λ r. ⌜ ((vs ly ks es : List ℕ) → r ≡ isBlock vs ly ks es kind) ⌝ }
+{
+    match kind {
+        nodes::BLOCK => true,
+        nodes::STATEMENTS => true,
+        nodes::BLOCK_END => true,
+        _ => false,
+    }
+}
+
+// Whether it is of a procedure.
+fn is_procedure(kind: u16) -> bool
+    ensures { λ r. ⌜ r ≡ eqb kind n-procedure || eqb kind n-procedure-end ⌝ }
+{
+    match kind {
+        nodes::PROCEDURE => true,
+        nodes::PROCEDURE_END => true,
+        _ => false,
+    }
+}
+
+// What a node adds that is of no name and no call.
+fn rest_node(
+    t: Writing,
+    kind: u16,
+    place: usize,
+    one: usize,
+    values: &[u32],
+    ahead: &[u32],
+    things: &mut [usize; 32768],
+    next_ahead: &mut [u32],
+    next_entries: &mut [u32],
+    code: &mut [u32],
+) -> Writing
+    requires { ⌜ Small 131071 8191 (see t [] (now things) [] [] []) × (place < 65536) × (one < 65536) ⌝ }
+    ensures { λ r. ⌜ ((ly es us : List ℕ) → see r us (now (things .exit)) (now (code .exit)) (now («next_ahead» .exit)) (now («next_entries» .exit)) ≡ restNode (now (values .entry)) ly (now (ahead .entry)) es kind place one (see t us (now (things .entry)) (now (code .entry)) (now («next_ahead» .entry)) (now («next_entries» .entry)))) ⌝ }
+{
+    let c = putting::top(t, things);
+    if is_element(kind) {
+        return loops::element_node(t, kind, c, place, ahead, things, next_ahead, code);
+    }
+    if is_loop(kind) {
+        return loops::loop_node(t, kind, c, things, next_ahead, code);
+    }
+    if is_choice(kind) {
+        return flow::choice_node(t, kind, c, ahead, things, next_ahead, code);
+    }
+    if is_block(kind) {
+        return flow::block_node(t, kind, c, place, ahead, things, next_ahead, code);
+    }
+    if is_procedure(kind) {
+        return flow::procedure_node(t, kind, c, place, things, next_entries, code);
+    }
+    plain_node(t, kind, place, one, values, things, code)
+}
+
+// What a node adds.
+fn node(
+    t: Writing,
+    kind: u16,
+    place: u16,
+    one: u16,
+    two: u16,
+    uses: &[u16],
+    values: &[u32],
+    layout: &[u32],
+    ahead: &[u32],
+    entries: &[u32],
+    things: &mut [usize; 32768],
+    next_ahead: &mut [u32],
+    next_entries: &mut [u32],
+    code: &mut [u32],
+) -> Writing
+    requires { ⌜ Small 131071 8191 (see t [] (now things) [] [] []) ⌝ }
+    ensures { λ r. ⌜ see r (now (uses .entry)) (now (things .exit)) (now (code .exit)) (now («next_ahead» .exit)) (now («next_entries» .exit)) ≡ codeNode (now (values .entry)) (now (layout .entry)) (now (ahead .entry)) (now (entries .entry)) kind place one two (see t (now (uses .entry)) (now (things .entry)) (now (code .entry)) (now («next_ahead» .entry)) (now («next_entries» .entry))) ⌝ }
+{
+    let p = place as usize;
+    let u = two as usize;
+    if is_use(kind) {
+        return calls::use_node(t, kind, p, u, uses, layout, entries, things, code);
+    }
+    match kind {
+        nodes::ACTUAL => {
+            let c = putting::top(t, things);
+            calls::actual_in(t, c, things)
+        }
+        nodes::CALL_END => {
+            let c = putting::top(t, things);
+            calls::call_ended(putting::pop(t), c, p, u, layout, entries, code)
+        }
+        _ => rest_node(
+            t,
+            kind,
+            p,
+            one as usize,
+            values,
+            ahead,
+            things,
+            next_ahead,
+            next_entries,
+            code,
+        ),
+    }
+}
+
+// All nodes, and the end.
+fn walk(
+    nodes: &[u16],
+    uses: &[u16],
+    values: &[u32],
+    layout: &[u32],
+    ahead: &[u32],
+    entries: &[u32],
+    things: &mut [usize; 32768],
+    next_ahead: &mut [u32],
+    next_entries: &mut [u32],
+    code: &mut [u32],
+)
+    requires { ⌜ length (now nodes) ≤ 32768 ⌝ }
+    ensures { λ _. ⌜ now (code .exit) ≡ emittedFrom (now (values .entry)) (now (layout .entry)) (now (ahead .entry)) (now (entries .entry)) (now (nodes .entry)) (freshIn (now (uses .entry)) (now (code .entry)) (now («next_ahead» .entry)) (now («next_entries» .entry))) .code ⌝ }
+    ensures { λ _. ⌜ now («next_ahead» .exit) ≡ emittedFrom (now (values .entry)) (now (layout .entry)) (now (ahead .entry)) (now (entries .entry)) (now (nodes .entry)) (freshIn (now (uses .entry)) (now (code .entry)) (now («next_ahead» .entry)) (now («next_entries» .entry))) .ahead ⌝ }
+    ensures { λ _. ⌜ now («next_entries» .exit) ≡ emittedFrom (now (values .entry)) (now (layout .entry)) (now (ahead .entry)) (now (entries .entry)) (now (nodes .entry)) (freshIn (now (uses .entry)) (now (code .entry)) (now («next_ahead» .entry)) (now («next_entries» .entry))) .entries ⌝ }
+{
+    let mut t = Writing {
+        uses: 0,
+        at: 0,
+        slots: 0,
+        level: 0,
+        loops: 0,
+        cells: 0,
+        lefts: 0,
+        awaits: 0,
+        variable: 0,
+        open: 0,
+    };
+    let mut i = 0;
+    while 4 * i + 3 < nodes.len() {
+        let at = 4 * i;
+        t = node(
+            t,
+            nodes[at],
+            nodes[at + 1],
+            nodes[at + 2],
+            nodes[at + 3],
+            uses,
+            values,
+            layout,
+            ahead,
+            entries,
+            things,
+            next_ahead,
+            next_entries,
+            code,
+        );
+        i += 1;
+    }
+    putting::put(t, code, 1, 0, 0);
+}
+
+// The code of a program's nodes, with the addresses ahead and the procedures' as they are known; and those that are found.
+pub fn emit(
+    nodes: &[u16],
+    uses: &[u16],
+    values: &[u32],
+    layout: &[u32],
+    ahead: &[u32],
+    entries: &[u32],
+    next_ahead: &mut [u32],
+    next_entries: &mut [u32],
+    code: &mut [u32],
+)
+    requires { ⌜ (length (now nodes) ≤ 32768) × (length (now «next_ahead») ≡ 8192) × (length (now «next_entries») ≡ 16384) × (length (now code) ≡ 16384) ⌝ }
+    ensures { λ _. ⌜ now (code .exit) ≡ emitted (now (values .entry)) (now (layout .entry)) (now (ahead .entry)) (now (entries .entry)) (now (nodes .entry)) (now (uses .entry)) .code ⌝ }
+    ensures { λ _. ⌜ now («next_ahead» .exit) ≡ emitted (now (values .entry)) (now (layout .entry)) (now (ahead .entry)) (now (entries .entry)) (now (nodes .entry)) (now (uses .entry)) .ahead ⌝ }
+    ensures { λ _. ⌜ now («next_entries» .exit) ≡ emitted (now (values .entry)) (now (layout .entry)) (now (ahead .entry)) (now (entries .entry)) (now (nodes .entry)) (now (uses .entry)) .entries ⌝ }
+{
+    let mut things = [0usize; 32768];
+    parts::clear(next_ahead);
+    parts::clear(next_entries);
+    parts::clear(code);
+    walk(
+        nodes,
+        uses,
+        values,
+        layout,
+        ahead,
+        entries,
+        &mut things,
+        next_ahead,
+        next_entries,
+        code,
+    )
+}

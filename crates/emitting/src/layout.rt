@@ -1,0 +1,134 @@
+// Where the cells of a program lie: the first pass over the nodes.
+use crate::Laid;
+use crate::parts;
+use syntax::nodes;
+ghost use mathlib.Core.Path.{_≡_};
+ghost use mathlib.Core.List.{List, _∷_};
+ghost use Prim.Native.Nat.{ℕ, _+_, _≤_, _<_};
+ghost use lib.ListN.{length};
+ghost use Rattle.names.specs.Rows.{opensOf, foldNodes};
+ghost use Rattle.emitting.specs.Layout.{oneOf, celled, blocked, procedured, closed, layNode, layoutOf};
+ghost use Rattle.emitting.specs.Model.{lain, unlaidIn, Spread};
+
+// 1 where there is a type.
+fn one_of(sort: usize) -> usize
+    ensures { λ r. ⌜ r ≡ oneOf sort ⌝ }
+{
+    if sort == 0 { 0 } else { 1 }
+}
+
+// A variable or a formal: it has the next cell.
+fn celled(mut t: Laid, place: usize, table: &mut [u32]) -> Laid
+    requires { ⌜ t .reach < 65536 ⌝ }
+    ensures { λ r. ⌜ ((a : List ℕ) → lain r a (now (table .exit)) ≡ celled place (lain t a (now (table .entry)))) ⌝ }
+{
+    parts::set_word(table, place, parts::packed(t.level, t.reach, 0));
+    t.reach += 1;
+    t
+}
+
+// A number of an array is written.
+fn keep(around: &mut [usize], n: usize, reach: usize)
+    requires { ⌜ n < length (now around) ⌝ }
+    ensures { λ _. ⌜ opensOf (n + 1) (now (around .exit)) ≡ reach ∷ opensOf n (now (around .entry)) ⌝ }
+{
+    around[n] = reach;
+}
+
+// A block opens: the cells outside are kept.
+fn blocked(mut t: Laid, around: &mut [usize; 8192]) -> Laid
+    requires { ⌜ t .open < 8192 ⌝ }
+    ensures { λ r. ⌜ ((w : List ℕ) → lain r (now (around .exit)) w ≡ blocked (lain t (now (around .entry)) w)) ⌝ }
+    ensures { λ r. ⌜ r .level ≡ t .level ⌝ }
+{
+    let at = t.open;
+    keep(around, at, t.reach);
+    t.open = at + 1;
+    t
+}
+
+// A procedure opens: its result is the first cell of its activation.
+fn procedured(t: Laid, place: usize, around: &mut [usize; 8192], table: &mut [u32]) -> Laid
+    requires { ⌜ (t .open < 8192) × (t .level < 65536) ⌝ }
+    ensures { λ r. ⌜ lain r (now (around .exit)) (now (table .exit)) ≡ procedured place (lain t (now (around .entry)) (now (table .entry))) ⌝ }
+{
+    let one = one_of(t.sort);
+    parts::set_word(table, place, parts::packed(t.level, one, 0));
+    let mut r = blocked(t, around);
+    r.level += 1;
+    r.reach = one;
+    r
+}
+
+// The innermost scope closes, back to so many activations around.
+fn closed(mut t: Laid, level: usize, around: &[usize; 8192]) -> Laid
+    requires { ⌜ t .open ≤ 8192 ⌝ }
+    ensures { λ r. ⌜ ((w : List ℕ) → lain r (now (around .entry)) w ≡ closed level (lain t (now (around .entry)) w)) ⌝ }
+{
+    t.level = level;
+    let n = t.open;
+    if n == 0 {
+        t.reach = 0;
+        return t;
+    }
+    let at = n - 1;
+    t.open = at;
+    t.reach = around[at];
+    t
+}
+
+// What a node adds.
+fn lay_node(
+    mut t: Laid,
+    kind: u16,
+    place: u16,
+    sort: u16,
+    around: &mut [usize; 8192],
+    table: &mut [u32],
+) -> Laid
+    requires { ⌜ Spread 8191 (lain t (now around) (now table)) ⌝ }
+    ensures { λ r. ⌜ ((b : ℕ) → lain r (now (around .exit)) (now (table .exit)) ≡ layNode kind place sort b (lain t (now (around .entry)) (now (table .entry)))) ⌝ }
+{
+    match kind {
+        nodes::TYPE => {
+            t.sort = sort as usize;
+            t
+        }
+        nodes::VARIABLE | nodes::FORMAL => celled(t, place as usize, table),
+        nodes::PROCEDURE => procedured(t, place as usize, around, table),
+        nodes::PROCEDURE_END => closed(t, parts::less(t.level, 1), around),
+        nodes::BLOCK => blocked(t, around),
+        nodes::BLOCK_END => closed(t, t.level, around),
+        _ => t,
+    }
+}
+
+// All nodes.
+fn lay(nodes: &[u16], around: &mut [usize; 8192], table: &mut [u32])
+    requires { ⌜ length (now nodes) ≤ 32768 ⌝ }
+    ensures { λ _. ⌜ now (table .exit) ≡ foldNodes layNode (now (nodes .entry)) (unlaidIn (now (table .entry))) .table ⌝ }
+{
+    let mut t = Laid {
+        sort: 0,
+        level: 0,
+        reach: 0,
+        open: 0,
+    };
+    let mut i = 0;
+    while 4 * i + 3 < nodes.len() {
+        let at = 4 * i;
+        t = lay_node(t, nodes[at], nodes[at + 1], nodes[at + 2], around, table);
+        i += 1;
+    }
+}
+
+// For each declaring name, by its place: the activations around its scope, and the offset of its cell in its activation; of
+// a procedure whether it has a result.
+pub fn layout(nodes: &[u16], table: &mut [u32; 16384])
+    requires { ⌜ length (now nodes) ≤ 32768 ⌝ }
+    ensures { λ _. ⌜ now (table .exit) ≡ layoutOf (now (nodes .entry)) ⌝ }
+{
+    let mut around = [0usize; 8192];
+    parts::clear(table);
+    lay(nodes, &mut around, table)
+}
