@@ -8,7 +8,7 @@ use native.Mathlib.Omega.{arith}
 use lib.Dec.{eqb}
 use lib.ListN.{getD}
 use Rattle.machine.specs.Instructions.{high, mid}
-use Rattle.syntax.specs.NodeKinds.{n-block, n-statements, n-variable, n-procedure, n-procedure-end, n-then, n-else, n-start, n-once, n-while, n-do, n-for-end, n-left, n-assign, n-unary, n-binary, n-number, n-logical, n-use, n-call, n-call-end, n-actual}
+use Rattle.grammar.specs.NodeKinds.{n-block, n-statements, n-variable, n-procedure, n-procedure-end, n-then, n-else, n-start, n-once, n-while, n-do, n-for-end, n-left, n-assign, n-unary, n-binary, n-number, n-logical, n-use, n-call, n-call-end, n-actual}
 use Rattle.names.specs.Rows.{isUse}
 use Rattle.emitting.specs.Layout.{packed}
 use Rattle.emitting.specs.Emission.{State, Opened, put, withOpen, withSlot, noted, within, withLefts, withVariable, withUses, withEntry, top, pushed, popped, replaced, kindNext, meansNext, othersNext, signed, largest, cellOf, resultOf, calledWith, resultFor, dropped, named, namedOr, calling, actualIn, callEnded, repeated, useNode, element, bodied, stepping, elementNode, loopNode, choiceNode, blockNode, procedureNode, leftsOf, assigned, plainNode, isElement, isChoice, isBlock, codeNode}

@@ -4,7 +4,7 @@ use mathlib.Core.Bool.{Bool, true, false, cond, _||_}
 use mathlib.Core.List.{List}
 use Prim.Native.Nat.{ℕ}
 use lib.Dec.{eqb}
-use Rattle.syntax.specs.NodeKinds.{n-do, n-for-end, n-procedure, n-procedure-end}
+use Rattle.grammar.specs.NodeKinds.{n-do, n-for-end, n-procedure, n-procedure-end}
 use Rattle.emitting.specs.Emission.{State, top, elementNode, loopNode, choiceNode, blockNode, procedureNode, plainNode, isElement, isChoice, isBlock}
 use Rattle.emitting.specs.Model.{restNode}
 

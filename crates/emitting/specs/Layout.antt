@@ -7,7 +7,7 @@ use mathlib.Core.List.{List, [], _∷_}
 use lib.Dec.{eqb}
 use lib.ListN.{set, replicate}
 use Rattle.machine.specs.Instructions.{pack}
-use Rattle.syntax.specs.NodeKinds.{n-block, n-block-end, n-type, n-variable, n-procedure, n-formal, n-procedure-end}
+use Rattle.grammar.specs.NodeKinds.{n-block, n-block-end, n-type, n-variable, n-procedure, n-formal, n-procedure-end}
 use Rattle.names.specs.Rows.{foldNodes}
 
 -- an operand of three parts, each in its range

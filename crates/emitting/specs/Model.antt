@@ -5,7 +5,7 @@ use mathlib.Core.Bool.{cond, _||_}
 use mathlib.Core.List.{List, [], _∷_}
 use lib.Dec.{eqb}
 use lib.ListN.{length, getD, drop}
-use Rattle.syntax.specs.NodeKinds.{n-do, n-for-end, n-procedure, n-procedure-end}
+use Rattle.grammar.specs.NodeKinds.{n-do, n-for-end, n-procedure, n-procedure-end}
 use Rattle.names.specs.Rows.{opensOf, foldNodes}
 use Rattle.emitting.specs.Layout.{Laying}
 use Rattle.emitting.specs.Emission.{State, Opened, opened, put, top, elementNode, loopNode, choiceNode, blockNode, procedureNode, plainNode, isElement, isChoice, isBlock, codeNode}

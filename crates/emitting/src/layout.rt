@@ -1,7 +1,7 @@
 // Where the cells of a program lie: the first pass over the nodes.
 use crate::Laid;
 use crate::parts;
-use syntax::nodes;
+use grammar::nodes;
 ghost use mathlib.Core.Path.{_≡_};
 ghost use mathlib.Core.List.{List, _∷_};
 ghost use Prim.Native.Nat.{ℕ, _+_, _≤_, _<_};

@@ -14,14 +14,14 @@ use Rattle.answers.specs.declared.Answer.{Answer}
 use Rattle.answers.specs.declared.Refusal.{Refusal}
 use Rattle.answers.specs.declared.Verdict.the-variants.{Refused}
 use Rattle.symbols.specs.Scan.{scan}
-use Rattle.syntax.specs.Grammar.{program}
-use Rattle.syntax.specs.Trees.{Syn}
-use Rattle.syntax.specs.Program.{levels}
-use Rattle.syntax.specs.Verdict.{zeros, Verdict}
-use Rattle.syntax.specs.Text.{kindAt}
-use Rattle.syntax.specs.Run.{Res, got, bad, Run, rd-bad, level}
-use Rattle.syntax.specs.declared.Parsed.the-variants.{Refused as No}
-use Rattle.syntax.proofs.Final.{read-keeps, over-verdict, bad-verdict}
+use Rattle.grammar.specs.Grammar.{program}
+use Rattle.grammar.specs.Trees.{Syn}
+use Rattle.grammar.specs.Program.{levels}
+use Rattle.grammar.specs.Verdict.{zeros, Verdict}
+use Rattle.grammar.specs.Text.{kindAt}
+use Rattle.grammar.specs.Run.{Res, got, bad, Run, rd-bad, level}
+use Rattle.grammar.specs.declared.Parsed.the-variants.{Refused as No}
+use Rattle.grammar.proofs.Final.{read-keeps, over-verdict, bad-verdict}
 use Rattle.names.specs.Program.{Statement}
 use Rattle.names.specs.Uses.{Fault, nameFaults, least}
 use Rattle.types.specs.Types.{typeFault}

@@ -4,8 +4,8 @@ use mathlib.Core.Path.{_≡_, refl}
 use mathlib.Core.List.{map}
 use Rattle.symbols.specs.Names.{blank, letter, digit, inName, these, reach, valueFrom, equal as equalBytes, sameName}
 use Rattle.symbols.specs.Scan.{before as beforeByte, closed, spelled, named, word, gap, followed, sign, sized, name, valued as valuedLexeme, number as numberLexeme, lexeme, behind, endsRemark, note, counted, judged, turn, scanFrom, scan}
-use Rattle.syntax.specs.Trees.{yield}
-use Rattle.syntax.specs.Text.{kindAt}
+use Rattle.grammar.specs.Trees.{yield}
+use Rattle.grammar.specs.Text.{kindAt}
 use Rattle.machine.specs.Values.{whole, apply1, apply2, past}
 use Rattle.machine.specs.Run.{run}
 use Rattle.machine.specs.Data.{lift, guard, check, newCells, newest, onValue, back, look, put, reading, valued, hold, unhold, held, input, space, rest, spend, taking, writing, work, test, openBlock, closeBlock, enter, given, leave}

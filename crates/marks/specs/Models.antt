@@ -11,11 +11,11 @@ use Rattle.answers.specs.declared.Refusal.{Refusal}
 use Rattle.answers.specs.declared.Verdict.{Verdict}
 use Rattle.answers.specs.declared.Verdict.the-variants.{Accepted, Refused}
 use Rattle.symbols.specs.Scan.{scan}
-use Rattle.syntax.specs.Grammar.{program}
-use Rattle.syntax.specs.Trees.{Syn}
-use Rattle.syntax.specs.Program.{levels}
-use Rattle.syntax.specs.Text.{kindAt}
-use Rattle.syntax.specs.Run.{Res, got, bad}
+use Rattle.grammar.specs.Grammar.{program}
+use Rattle.grammar.specs.Trees.{Syn}
+use Rattle.grammar.specs.Program.{levels}
+use Rattle.grammar.specs.Text.{kindAt}
+use Rattle.grammar.specs.Run.{Res, got, bad}
 use Rattle.machine.specs.Run.{untold, End, done, over, run as go}
 use Rattle.machine.specs.Machine.{Mach, step, Finish, finish, start}
 use Rattle.names.specs.Program.{Statement}

@@ -4,10 +4,10 @@ use mathlib.Core.Bool.{Bool, true, false, _||_}
 use mathlib.Core.List.{List, [], _∷_}
 use mathlib.Core.Option.{Option, none, some}
 use lib.Dec.{eqb}
-use Rattle.syntax.specs.Grammar.{Class, Node, Item, sy, rd, put, Prod, rhs}
-use Rattle.syntax.specs.Trees.{Syn, nil, tok, act, sub}
-use Rattle.syntax.specs.Tables.{Choice, none as no-choice, some as takes, choose}
-use Rattle.syntax.specs.Run.{Res, got, bad, after}
+use Rattle.grammar.specs.Grammar.{Class, Node, Item, sy, rd, put, Prod, rhs}
+use Rattle.grammar.specs.Trees.{Syn, nil, tok, act, sub}
+use Rattle.grammar.specs.Tables.{Choice, none as no-choice, some as takes, choose}
+use Rattle.grammar.specs.Run.{Res, got, bad, after}
 
 unfoldable pub among : ℕ → List ℕ → Bool
 among c [] = false

@@ -11,7 +11,7 @@ use lib.Dec.{eqb, leb}
 use lib.ListN.{length, getD, length-append, List·getD-eq-default}
 use lib.Seq.{getD-append-add}
 use borrow.Author.Tests.{eqb-true, eqb-false, eq-eqb, ne-eqb, lt-ltb}
-use Rattle.syntax.specs.NodeKinds.{n-variable, n-procedure, n-formal, n-value, n-specified}
+use Rattle.grammar.specs.NodeKinds.{n-variable, n-procedure, n-formal, n-value, n-specified}
 use Rattle.names.specs.Program.{Name, Sort, integer, Expression, Specification, Statement, dummy, assignment, procedure, when, either, repeat, compound, block, Statements, last, first, Declarations, none as no-more, variables, declare, Procedure, heading}
 use Rattle.names.specs.Scopes.{same, has, Thing, variable, routine, formal, Declared, sortOf, formalsOf, specificationsOf, specified, variablesIn, Scope, ofBlock, ofBody, inBlock, inBody, declares, an, variable-of, Given, environment, Meaning, declared, given, nothing, findIn, findGiven, innermost, meaning}
 use Rattle.names.specs.Uses.{thingKind}

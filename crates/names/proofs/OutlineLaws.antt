@@ -11,7 +11,7 @@ use borrow.Author.Tests.{ne-eqb}
 use lib.Dec.{eqb}
 use lib.ListN.{take}
 use Rattle.answers.specs.Numbers.{twice, heading}
-use Rattle.syntax.specs.NodeKinds.{n-block, n-block-end, n-type, n-variable, n-procedure, n-formal, n-value, n-specified, n-body, n-procedure-end}
+use Rattle.grammar.specs.NodeKinds.{n-block, n-block-end, n-type, n-variable, n-procedure, n-formal, n-value, n-specified, n-body, n-procedure-end}
 use Rattle.names.specs.Rows.{identityIn, hasRow, declaredIn, markedIn, notedIf, hereIn, outward, missingIn, Known, entered, left, headed, noted, withRow, withMark, typed, declared, procedured, formalled, marked, bodied, outlineNode}
 use Rattle.names.specs.Model.{seeOpen, seeOutline, OutlineWithin, PutRow}
 use Rattle.names.specs.declared.Open.{Open}

@@ -5,7 +5,7 @@ use mathlib.Core.Path.{_≡_, refl, sym, ap, subst, _∙_}
 use mathlib.Core.List.{List, [], _∷_, _++_, append-nil, append-assoc}
 use native.Mathlib.Nat.{le-trans, le-refl}
 use native.Mathlib.Omega.{arith}
-use Rattle.syntax.specs.NodeKinds.{n-block, n-block-end, n-type, n-procedure, n-procedure-end, n-then, n-else, n-start, n-once, n-while, n-step, n-amount, n-left, n-condition-end, n-unary, n-binary, n-number, n-logical, n-use, n-call, n-call-end, n-actual}
+use Rattle.grammar.specs.NodeKinds.{n-block, n-block-end, n-type, n-procedure, n-procedure-end, n-then, n-else, n-start, n-once, n-while, n-step, n-amount, n-left, n-condition-end, n-unary, n-binary, n-number, n-logical, n-use, n-call, n-call-end, n-actual}
 use Rattle.names.specs.Program.{Name, Expression, number, logical, name, call, signed, operated, chosen, nested, Expressions, done, then, Element, value, while, step, firstSymbol}
 use Rattle.names.specs.Nodes.{node, mark, signKind, operatorKind, truth, nodesE, nodesEs, nodesL, nodesLs, nodesLeft, nodesCall}
 use Rattle.names.specs.Rows.{foldNodes, noFault, hereIn, outward, Known, entered, left, typed, headed, procedured, outlineNode}

@@ -10,7 +10,7 @@ use native.Mathlib.Omega.{arith}
 use lib.Dec.{eqb, leb}
 use borrow.Author.Tests.{eq-eqb, ne-eqb, eqb-true, eqb-false}
 use Rattle.answers.specs.Numbers.{twice, heading as badHeading}
-use Rattle.syntax.specs.NodeKinds.{n-block, n-statements, n-block-end, n-type, n-variable, n-procedure, n-formal, n-value, n-specified, n-body, n-procedure-end, n-then, n-else, n-if-end, n-for, n-do, n-for-end, n-assign}
+use Rattle.grammar.specs.NodeKinds.{n-block, n-statements, n-block-end, n-type, n-variable, n-procedure, n-formal, n-value, n-specified, n-body, n-procedure-end, n-then, n-else, n-if-end, n-for, n-do, n-for-end, n-assign}
 use Rattle.names.specs.Program.{Name, Sort, Expression, Expressions, Element, Specification, Statement, dummy, assignment, procedure, when, either, repeat, compound, block, Statements, last, first, Declarations, none as no-more, variables, declare, Procedure, heading}
 use Rattle.names.specs.Scopes.{same, has, Declared, Scope, ofBlock, ofBody, inBlock, variablesIn, nameOf}
 use Rattle.names.specs.Uses.{Fault, each, namesIn, twiceIn, headingIn, allNames, stray, missing, innermost, joined, scopesS, scopesSs, scopesD, scopesP}

@@ -10,7 +10,7 @@ use lib.Dec.{eqb}
 use lib.ListN.{length, take, drop}
 use borrow.Author.Tests.{lt-ltb, le-ltb}
 use Rattle.answers.specs.Numbers.{undeclared}
-use Rattle.syntax.specs.NodeKinds.{n-block, n-statements, n-block-end, n-type, n-variable, n-procedure, n-formal, n-value, n-specified, n-body, n-procedure-end, n-then, n-else, n-if-end, n-for, n-start, n-once, n-while, n-step, n-amount, n-do, n-for-end, n-left, n-assign, n-condition-end, n-unary, n-binary, n-number, n-logical, n-use, n-call, n-call-end, n-actual}
+use Rattle.grammar.specs.NodeKinds.{n-block, n-statements, n-block-end, n-type, n-variable, n-procedure, n-formal, n-value, n-specified, n-body, n-procedure-end, n-then, n-else, n-if-end, n-for, n-start, n-once, n-while, n-step, n-amount, n-do, n-for-end, n-left, n-assign, n-condition-end, n-unary, n-binary, n-number, n-logical, n-use, n-call, n-call-end, n-actual}
 use Rattle.names.specs.Program.{Name, Expression, number, logical, name, call, signed, operated, chosen, nested, Expressions, done, then, Element, value, while, step, Specification, Statement, dummy, assignment, procedure, when, either, repeat, compound, block, Statements, last, first, Declarations, none as no-more, variables, declare, Procedure, heading, firstSymbol}
 use Rattle.names.specs.Scopes.{Scope, ofBlock, ofBody, Given, environment, Meaning, declared, given, nothing, meaning}
 use Rattle.names.specs.Uses.{Use, used, usesE, usesEs, usesL, usesS, usesSs, usesD, usesP, Fault, meantOrNot, unmeant, joined}

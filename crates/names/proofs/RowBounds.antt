@@ -4,7 +4,7 @@ use Prim.Native.Nat.{ℕ, _+_, _≤_, _<_}
 use mathlib.Core.List.{List, [], _∷_}
 use mathlib.Core.Option.{some}
 use native.Mathlib.Omega.{arith}
-use Rattle.syntax.specs.NodeKinds.{n-variable, n-formal, n-value, n-specified}
+use Rattle.grammar.specs.NodeKinds.{n-variable, n-formal, n-value, n-specified}
 use Rattle.names.specs.Program.{Specification, Statement, dummy, assignment, procedure, when, either, repeat, compound, block, Statements, last, first, Declarations, none as no-more, variables, declare, Procedure, heading}
 use Rattle.names.specs.Nodes.{sortNumber}
 use Rattle.names.specs.Outline.{sizeS, sizeSs, sizeD, sizeP, rowsS, rowsSs, rowsD, rowsP}

@@ -12,7 +12,7 @@ use Rattle.names.specs.Scopes.{same, has}
 use Rattle.names.specs.Uses.{Fault, at, each, missing, joined}
 use Rattle.names.specs.Rows.{faultKey, noFault, leastKey, notedIf, identityIn, sought, hasRow, completeIn, missingIn, markedIn}
 use Rattle.names.specs.declared.Sought.{Sought}
-use Rattle.syntax.specs.NodeKinds.{n-formal, n-value, n-specified}
+use Rattle.grammar.specs.NodeKinds.{n-formal, n-value, n-specified}
 use Rattle.names.proofs.AllNames.{AllN}
 use Rattle.names.specs.Outline.{rowsN}
 

@@ -6,7 +6,7 @@ use mathlib.Core.List.{List, [], _∷_, _++_}
 use lib.Dec.{eqb, leb, ltb}
 use lib.ListN.{length, getD, take}
 use Rattle.answers.specs.Numbers.{twice, undeclared, heading}
-use Rattle.syntax.specs.NodeKinds.{n-block, n-block-end, n-type, n-variable, n-procedure, n-formal, n-value, n-specified, n-body, n-procedure-end, n-for, n-left, n-use, n-call}
+use Rattle.grammar.specs.NodeKinds.{n-block, n-block-end, n-type, n-variable, n-procedure, n-formal, n-value, n-specified, n-body, n-procedure-end, n-for, n-left, n-use, n-call}
 use Rattle.names.specs.Uses.{Fault}
 use Rattle.names.specs.declared.Sought.{Sought}
 use Rattle.names.specs.declared.Meant.{Meant}

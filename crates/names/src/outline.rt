@@ -11,7 +11,7 @@ use crate::scopes::enter;
 use crate::scopes::here;
 use crate::scopes::leave;
 use answers::Answer;
-use syntax::nodes;
+use grammar::nodes;
 ghost use mathlib.Core.Path.{_≡_};
 ghost use mathlib.Core.Bool.{not, _&&_, _||_};
 ghost use mathlib.Core.List.{List};

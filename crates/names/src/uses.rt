@@ -12,7 +12,7 @@ use crate::scopes::leave;
 use answers::Answer;
 use answers::Declaration;
 use answers::Environment;
-use syntax::nodes;
+use grammar::nodes;
 ghost use mathlib.Core.Path.{_≡_};
 ghost use mathlib.Core.List.{[], _∷_, _++_};
 ghost use Prim.Native.Nat.{ℕ, _+_, _≤_, _<_};

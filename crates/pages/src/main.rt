@@ -1,5 +1,6 @@
 // Shows the symbols of the source that its argument names, and whether they are a program, or the refusal. With no
 // argument it runs the sources that the file `index` lists and says which answers differ from those listed.
+use grammar::Parsed;
 use libc::STDOUT_FILENO;
 use symbols::Scanned;
 use symbols::Symbol;
@@ -7,7 +8,6 @@ use symbols::kinds::decode;
 use symbols::scanning::scan;
 use symbols::text::is_blank;
 use symbols::text::is_name_byte;
-use syntax::Parsed;
 use syntax::parse;
 ghost use Prim.Native.Nat.{_+_, _<_, _≤_};
 ghost use lib.ListN.{length};

@@ -11,9 +11,9 @@ use Rattle.answers.specs.Answers.{refusal}
 use Rattle.answers.specs.declared.Refusal.{Refusal}
 use Rattle.answers.specs.declared.Verdict.{Verdict}
 use Rattle.answers.specs.declared.Verdict.the-variants.{Accepted, Refused}
-use Rattle.syntax.specs.Grammar.{program as Grammar-program}
-use Rattle.syntax.specs.Trees.{Syn, nil, tok, sub, yield}
-use Rattle.syntax.specs.Verdict.{zeros}
+use Rattle.grammar.specs.Grammar.{program as Grammar-program}
+use Rattle.grammar.specs.Trees.{Syn, nil, tok, sub, yield}
+use Rattle.grammar.specs.Verdict.{zeros}
 use Rattle.names.specs.Program.{Statement}
 use Rattle.names.specs.Uses.{Fault, nameFaults, sooner, least, joined, innermost, unmeant, scopesS, usesS}
 use Rattle.names.specs.Nodes.{nodesS}

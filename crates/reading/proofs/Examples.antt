@@ -14,13 +14,13 @@ use Rattle.symbols.specs.Text.{bytes}
 use Rattle.symbols.specs.Names.{blank, letter, digit, inName, these, reach, valueFrom, equal, sameName}
 use Rattle.symbols.specs.Scan.{before, closed, spelled, named, word, gap, followed, sign, sized, name, valued, number as numberLexeme, lexeme, behind, endsRemark, note, counted, judged, turn, scanFrom, scan}
 use Rattle.symbols.specs.Steps.{kindsOf}
-use Rattle.syntax.specs.declared.Level.the-variants.{Product, Sum, Conjunction, Disjunction, Implication, Equivalence}
-use Rattle.syntax.specs.declared.Entry.the-variants.{Variable}
-use Rattle.syntax.specs.Grammar.{program, rhs, begin-end, a-block, a-tail, a-head, no-declaration, typed, variables, integer, a-list, no-other, a-statement, no-statement, plain, compound, with-name, assignment, value, simple, chain, no-more, no-not, a-relation, no-comparison, number}
-use Rattle.syntax.specs.Trees.{Syn, nil, tok, act, sub, yield}
-use Rattle.syntax.specs.Program.{Keeps}
-use Rattle.syntax.proofs.Meet.{trip}
-use Rattle.syntax.proofs.Unique.{clear-keeps}
+use Rattle.grammar.specs.declared.Level.the-variants.{Product, Sum, Conjunction, Disjunction, Implication, Equivalence}
+use Rattle.grammar.specs.declared.Entry.the-variants.{Variable}
+use Rattle.grammar.specs.Grammar.{program, rhs, begin-end, a-block, a-tail, a-head, no-declaration, typed, variables, integer, a-list, no-other, a-statement, no-statement, plain, compound, with-name, assignment, value, simple, chain, no-more, no-not, a-relation, no-comparison, number}
+use Rattle.grammar.specs.Trees.{Syn, nil, tok, act, sub, yield}
+use Rattle.grammar.specs.Program.{Keeps}
+use Rattle.grammar.proofs.Meet.{trip}
+use Rattle.grammar.proofs.Unique.{clear-keeps}
 use Rattle.names.specs.ReadOff.{build, read, programOf}
 use Rattle.names.specs.Scopes.{has, variablesIn, inBlock, findIn, findGiven, meaning}
 use Rattle.names.specs.Uses.{usesE, usesS, usesSs, usesD, scopesS, scopesSs, scopesD, each, twiceIn, headingIn, joined, nameFaults, least, rows}

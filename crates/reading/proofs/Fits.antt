@@ -7,11 +7,11 @@ use mathlib.Core.List.{List, [], _∷_, _++_, append-nil, append-assoc}
 use mathlib.Core.Option.{some}
 use native.Mathlib.Omega.{arith}
 use lib.ListN.{length, length-append}
-use Rattle.syntax.specs.NodeKinds.{n-block, n-statements, n-block-end, n-type, n-variable, n-procedure, n-formal, n-value, n-specified, n-body, n-procedure-end, n-then, n-else, n-if-end, n-for, n-start, n-once, n-while, n-step, n-amount, n-do, n-for-end, n-left, n-assign, n-condition-end, n-unary, n-binary, n-number, n-logical, n-use, n-call, n-call-end, n-actual}
-use Rattle.syntax.specs.Grammar.{program}
-use Rattle.syntax.specs.Trees.{Syn, yield, nodesOf}
-use Rattle.syntax.specs.Tables.{pick}
-use Rattle.syntax.proofs.Room.{count, table-fits}
+use Rattle.grammar.specs.NodeKinds.{n-block, n-statements, n-block-end, n-type, n-variable, n-procedure, n-formal, n-value, n-specified, n-body, n-procedure-end, n-then, n-else, n-if-end, n-for, n-start, n-once, n-while, n-step, n-amount, n-do, n-for-end, n-left, n-assign, n-condition-end, n-unary, n-binary, n-number, n-logical, n-use, n-call, n-call-end, n-actual}
+use Rattle.grammar.specs.Grammar.{program}
+use Rattle.grammar.specs.Trees.{Syn, yield, nodesOf}
+use Rattle.grammar.specs.Tables.{pick}
+use Rattle.grammar.proofs.Room.{count, table-fits}
 use Rattle.names.specs.Program.{Name, Expression, number, logical, name, call, signed, operated, chosen, nested, Expressions, done, then, Element, value, while, step, Specification, Statement, dummy, assignment, procedure, when, either, repeat, compound, block, Statements, last, first, Declarations, none as no-more, variables, declare, Procedure, heading, firstSymbol}
 use Rattle.names.specs.ReadOff.{programOf}
 use Rattle.names.specs.Nodes.{node, signKind, operatorKind, truth, sortNumber, nodesE, nodesEs, nodesL, nodesLs, nodesN, nodesSp, nodesLeft, nodesCall, nodesS, nodesSs, nodesD, nodesP}

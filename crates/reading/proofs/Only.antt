@@ -9,9 +9,9 @@ use Rattle.answers.specs.Numbers.{grammar, depth}
 use Rattle.answers.specs.Answers.{refusal}
 use Rattle.answers.specs.declared.Verdict.{Verdict}
 use Rattle.answers.specs.declared.Verdict.the-variants.{Accepted, Refused}
-use Rattle.syntax.specs.Program.{Accepted as Keeping}
-use Rattle.syntax.proofs.Exclusive.{not-both, one-wrong, wrong-deep, same-place}
-use Rattle.syntax.proofs.Unique.{unique}
+use Rattle.grammar.specs.Program.{Accepted as Keeping}
+use Rattle.grammar.proofs.Exclusive.{not-both, one-wrong, wrong-deep, same-place}
+use Rattle.grammar.proofs.Unique.{unique}
 use Rattle.names.specs.Uses.{nameFaults, least}
 use Rattle.types.specs.Types.{typeFault}
 use Rattle.reading.specs.Table.{tableOf}

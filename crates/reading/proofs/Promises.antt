@@ -13,7 +13,7 @@ use Rattle.answers.specs.Numbers.{undeclared}
 use Rattle.answers.specs.Answers.{refusal, numberOf, placeOf}
 use Rattle.answers.specs.declared.Verdict.{Verdict}
 use Rattle.answers.specs.declared.Verdict.the-variants.{Accepted, Refused}
-use Rattle.syntax.specs.Verdict.{zeros}
+use Rattle.grammar.specs.Verdict.{zeros}
 use Rattle.names.specs.Program.{Name, Statement}
 use Rattle.names.specs.Scopes.{Scope, Declared, Given, Meaning, declared, given, nothing, meaning}
 use Rattle.names.specs.Uses.{Use, usesS, Fault, at, nameFaults, before, least, joined, unmeant, meantOrNot, thingKind, rowIn, rowOf, rows}

@@ -7,7 +7,7 @@ use mathlib.Core.List.{List, [], _∷_, _++_, map}
 use mathlib.Core.Option.{Option, none, some}
 use Rattle.symbols.specs.Names.{sameName}
 use Rattle.symbols.specs.Text.{bytes}
-use Rattle.syntax.specs.NodeKinds.{n-variable, n-formal}
+use Rattle.grammar.specs.NodeKinds.{n-variable, n-formal}
 use Rattle.names.specs.Program.{Name, Expression, number, logical, name, call, signed, operated, chosen, nested, Expressions, done, then, Element, value, while, step, Statement, dummy, assignment, procedure, when, either, repeat, compound, block, Statements, last, first, Declarations, none as no-more, variables, declare, Procedure, heading}
 use Rattle.names.specs.Scopes.{same, Thing, variable, formal, Declared, nameOf, specified, variablesIn, Scope, ofBlock, ofBody, inBlock, inBody, declares, Given, environment, Meaning, declared, given, nothing, findIn, findGiven, innermost, meaning}
 use Rattle.names.specs.Uses.{Use, used, usesE, usesEs, usesL, usesS, usesSs, usesD, usesP, joined, rowIn, rowOf, rows}

@@ -20,12 +20,12 @@ use Rattle.symbols.specs.declared.Symbol.{Symbol}
 use Rattle.symbols.specs.declared.Symbol.the-variants.{Begin, End, If, Then, Else, For, Do, Step, Until, While, Comment, Integer, Boolean, Procedure, Value, True, False, And, Or, Not, Impl, Equiv, Plus, Minus, Times, Divide, Less, LessEqual, Equal, GreaterEqual, Greater, NotEqual, Comma, Colon, Becomes, Semicolon, Open, Close, Name, Number}
 use Rattle.symbols.specs.declared.Scanned.{Scanned as Told}
 use Rattle.symbols.specs.declared.Scanned.the-variants.{Read as Symbols-read, Refused as Symbols-refused}
-use Rattle.syntax.specs.Text.{text}
-use Rattle.syntax.specs.Trees.{nodesOf}
-use Rattle.syntax.specs.Program.{Wrong, FirstDeep}
-use Rattle.syntax.specs.Verdict.{zeros, Verdict, Whole}
-use Rattle.syntax.specs.declared.Parsed.{Parsed as Outcome}
-use Rattle.syntax.specs.declared.Parsed.the-variants.{Read as Program-read, Refused as Program-refused}
+use Rattle.grammar.specs.Text.{text}
+use Rattle.grammar.specs.Trees.{nodesOf}
+use Rattle.grammar.specs.Program.{Wrong, FirstDeep}
+use Rattle.grammar.specs.Verdict.{zeros, Verdict, Whole}
+use Rattle.grammar.specs.declared.Parsed.{Parsed as Outcome}
+use Rattle.grammar.specs.declared.Parsed.the-variants.{Read as Program-read, Refused as Program-refused}
 use Rattle.reading.specs.Reading.{symbols, kindsIn, placeIn, cleared, Judged, unreadable, ungrammatical, too-deep}
 use Rattle.names.specs.Identity.{Identified}
 use Rattle.reading.specs.Model.{Placed, Symbols, Ready, Known}

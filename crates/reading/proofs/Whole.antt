@@ -10,7 +10,7 @@ use Rattle.answers.specs.declared.Verdict.the-variants.{Accepted}
 use Rattle.symbols.specs.Names.{lettersAt, sameName}
 use Rattle.symbols.specs.Scan.{scan}
 use Rattle.symbols.specs.Steps.{valuesOf}
-use Rattle.syntax.specs.Trees.{yield, nodesOf}
+use Rattle.grammar.specs.Trees.{yield, nodesOf}
 use Rattle.names.specs.Program.{Name, Statement}
 use Rattle.names.specs.Scopes.{Given, environment, same}
 use Rattle.names.specs.Uses.{Fault, nameFaults, least, joined, innermost, unmeant, scopesS, usesS}

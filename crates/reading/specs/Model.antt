@@ -8,7 +8,7 @@ use lib.ListN.{length, getD, take, drop}
 use Rattle.names.specs.Rows.{isUse, meantOf}
 use Rattle.names.specs.declared.Meant.{Meant}
 use Rattle.names.specs.declared.Meant.the-variants.{Declared, Given, Nothing}
-use Rattle.syntax.specs.Trees.{nodesOf}
+use Rattle.grammar.specs.Trees.{nodesOf}
 use Rattle.names.specs.Identity.{Identified}
 use Rattle.names.specs.Rows.{outlineOf, usesOf}
 use Rattle.names.specs.Uses.{nameFaults, least}

@@ -14,10 +14,10 @@ use Rattle.answers.specs.declared.Verdict.the-variants.{Accepted, Refused}
 use Rattle.symbols.specs.Names.{lettersAt}
 use Rattle.symbols.specs.Scan.{scan}
 use Rattle.symbols.specs.Steps.{kindsOf, placesOf, valuesOf}
-use Rattle.syntax.specs.Grammar.{program}
-use Rattle.syntax.specs.Trees.{Syn}
-use Rattle.syntax.specs.Program.{Keeps, Wrong, FirstDeep}
-use Rattle.syntax.specs.Verdict.{zeros}
+use Rattle.grammar.specs.Grammar.{program}
+use Rattle.grammar.specs.Trees.{Syn}
+use Rattle.grammar.specs.Program.{Keeps, Wrong, FirstDeep}
+use Rattle.grammar.specs.Verdict.{zeros}
 use Rattle.names.specs.Program.{Statement}
 use Rattle.names.specs.ReadOff.{programOf}
 use Rattle.names.specs.Uses.{Fault, nameFaults, least}

@@ -4,7 +4,7 @@ use mathlib.Core.Bool.{Bool, cond, _||_}
 use mathlib.Core.List.{List, [], _∷_, _++_}
 use lib.Dec.{eqb}
 use lib.ListN.{length}
-use Rattle.syntax.specs.NodeKinds.{n-type, n-else, n-once, n-do}
+use Rattle.grammar.specs.NodeKinds.{n-type, n-else, n-once, n-do}
 use Rattle.names.specs.Program.{Statement}
 use Rattle.names.specs.Nodes.{nodesS}
 use Rattle.names.specs.Outline.{declarations}

@@ -1,7 +1,7 @@
 // The table: uses, declarations and nodes, each after its count.
+use grammar::nodes;
 use names::Meant;
 use names::uses::meant;
-use syntax::nodes;
 ghost use mathlib.Core.Path.{_≡_};
 ghost use mathlib.Core.List.{List, [], _∷_};
 ghost use Prim.Native.Nat.{ℕ, _+_, _-_, _≤_, _<_};

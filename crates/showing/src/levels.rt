@@ -8,8 +8,8 @@ use crate::text::say_spot;
 use crate::uses::sections_of;
 use crate::uses::word;
 use answers::Place;
+use grammar::nodes;
 use symbols::names::same_name;
-use syntax::nodes;
 ghost use Prim.Native.Nat.{_<_, _≤_, _+_};
 
 // The kind of the node whose words begin at `at`.

@@ -8,19 +8,19 @@ use native.Mathlib.Decide.{ℕ-discrete}
 use lib.Dec.{eqb}
 use borrow.Author.Tests.{ne-eqb, eq-eqb}
 use Rattle.symbols.specs.Symbols.{kind}
-use Rattle.syntax.specs.Grammar.{Op, times, over, plus, minus, and, or, implies, equals, opSymbol, Relation, less, lessEqual, equal, greaterEqual, greater, notEqual, relationSymbol}
-use Rattle.syntax.specs.Grammar.{operand}
-use Rattle.syntax.specs.Grammar.{inner, declarations, declaration, declared, type, formals, values, specifications, others, statements, statement, consequence, alternative, further, progress, unconditional, named, right, expression, level, more, negation, comparison, primary, actuals, further-actuals}
-use Rattle.syntax.specs.Grammar.{a-compound, no-declaration, typed, variables, no-formals, no-values, no-specification, no-other, no-statement, plain, then-plain, no-else, no-element, once, dummy, call, left, value, simple, chain, signed, again, no-more, no-not, compare, no-comparison, number, bare, no-actual}
-use Rattle.syntax.specs.declared.Entry.{Entry}
-use Rattle.syntax.specs.declared.Use.{Use}
-use Rattle.syntax.specs.declared.Level.{Level}
-use Rattle.syntax.specs.declared.Level.the-variants.{Product, Sum, Conjunction, Disjunction, Implication, Equivalence}
-use Rattle.syntax.specs.Tables.{none, some, pick, choose}
-use Rattle.syntax.specs.Run.{In, now}
+use Rattle.grammar.specs.Grammar.{Op, times, over, plus, minus, and, or, implies, equals, opSymbol, Relation, less, lessEqual, equal, greaterEqual, greater, notEqual, relationSymbol}
+use Rattle.grammar.specs.Grammar.{operand}
+use Rattle.grammar.specs.Grammar.{inner, declarations, declaration, declared, type, formals, values, specifications, others, statements, statement, consequence, alternative, further, progress, unconditional, named, right, expression, level, more, negation, comparison, primary, actuals, further-actuals}
+use Rattle.grammar.specs.Grammar.{a-compound, no-declaration, typed, variables, no-formals, no-values, no-specification, no-other, no-statement, plain, then-plain, no-else, no-element, once, dummy, call, left, value, simple, chain, signed, again, no-more, no-not, compare, no-comparison, number, bare, no-actual}
+use Rattle.grammar.specs.declared.Entry.{Entry}
+use Rattle.grammar.specs.declared.Use.{Use}
+use Rattle.grammar.specs.declared.Level.{Level}
+use Rattle.grammar.specs.declared.Level.the-variants.{Product, Sum, Conjunction, Disjunction, Implication, Equivalence}
+use Rattle.grammar.specs.Tables.{none, some, pick, choose}
+use Rattle.grammar.specs.Run.{In, now}
 use Rattle.syntax.specs.Operators.{operatorOf, relationOf}
-use Rattle.syntax.proofs.Sets.{disjoint, apart}
-use Rattle.syntax.proofs.Room.{slack, spare}
+use Rattle.grammar.proofs.Sets.{disjoint, apart}
+use Rattle.grammar.proofs.Room.{slack, spare}
 
 pub in-not : {c k : ℕ} (l : List ℕ) → In c l → disjoint (k ∷ []) l ≡ true → c ≡ k → ⊥
 in-not {k = k} l h d e = apart (k ∷ []) l d (now e) h

@@ -7,18 +7,18 @@ use mathlib.Core.Bool.{Bool, true, false}
 use lib.ListN.{length, length-append, take}
 use Rattle.answers.specs.Answers.{answer}
 use Rattle.answers.specs.declared.Answer.{Answer}
-use Rattle.syntax.specs.Grammar.{Class, operand, Node, Item, sy, rd, put, Prod, rhs}
-use Rattle.syntax.specs.Trees.{Syn, nil, tok, act, sub, yield, word, nodes, below}
-use Rattle.syntax.specs.Tables.{some, none, choose}
-use Rattle.syntax.specs.Run.{got, bad, In, now, after, level, deep}
-use Rattle.syntax.specs.Run.{Run, end, sy-no, sy-got, sy-bad, put-got, put-bad, rd-six, rd-five, rd-none, rd-bad, rd-more, rd-got}
-use Rattle.syntax.specs.Text.{kindAt}
+use Rattle.grammar.specs.Grammar.{Class, operand, Node, Item, sy, rd, put, Prod, rhs}
+use Rattle.grammar.specs.Trees.{Syn, nil, tok, act, sub, yield, word, nodes, below}
+use Rattle.grammar.specs.Tables.{some, none, choose}
+use Rattle.grammar.specs.Run.{got, bad, In, now, after, level, deep}
+use Rattle.grammar.specs.Run.{Run, end, sy-no, sy-got, sy-bad, put-got, put-bad, rd-six, rd-five, rd-none, rd-bad, rd-more, rd-got}
+use Rattle.grammar.specs.Text.{kindAt}
 use Rattle.syntax.specs.Says.{left, behind, Put, Got, Says, Limits}
-use Rattle.syntax.specs.declared.Level.{Level}
-use Rattle.syntax.specs.declared.Parsed.{Parsed}
-use Rattle.syntax.specs.declared.Parsed.the-variants.{Read, Refused}
-use Rattle.syntax.proofs.Sets.{subset, subset-in, disjoint, apart}
-use Rattle.syntax.proofs.Room.{count, slack, spare}
+use Rattle.grammar.specs.declared.Level.{Level}
+use Rattle.grammar.specs.declared.Parsed.{Parsed}
+use Rattle.grammar.specs.declared.Parsed.the-variants.{Read, Refused}
+use Rattle.grammar.proofs.Sets.{subset, subset-in, disjoint, apart}
+use Rattle.grammar.proofs.Room.{count, slack, spare}
 
 -- ---- answers
 read-refused : {j b k : ℕ} {n : Answer} → Read j b ≡ Refused n k → ⊥

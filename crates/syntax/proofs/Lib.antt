@@ -1,17 +1,4 @@
-pub mod Sets
-pub mod Peeks
-pub mod Buds
-pub mod Laws
-pub mod Second
-pub mod Tell
-pub mod Meet
-pub mod Exclusive
-pub mod Final
-pub mod Room
 pub mod Lemmas
 pub mod Choices
 pub mod Words
 pub mod Whole
-pub mod Unique
-pub mod Instructions
-pub mod Depth

@@ -8,16 +8,16 @@ use lib.ListN.{length, take}
 use lib.Seq.{take-all}
 use Rattle.answers.specs.Answers.{answer}
 use Rattle.answers.specs.declared.Answer.{Answer}
-use Rattle.syntax.specs.Grammar.{block, rd, begin-end, program}
-use Rattle.syntax.specs.Trees.{Syn, nodes, nodesOf}
-use Rattle.syntax.specs.Program.{levels}
-use Rattle.syntax.specs.Verdict.{zeros, room, Verdict}
-use Rattle.syntax.specs.Text.{text, kindAt}
-use Rattle.syntax.specs.Run.{Run, got, bad, end, rd-got, level}
+use Rattle.grammar.specs.Grammar.{block, rd, begin-end, program}
+use Rattle.grammar.specs.Trees.{Syn, nodes, nodesOf}
+use Rattle.grammar.specs.Program.{levels}
+use Rattle.grammar.specs.Verdict.{zeros, room, Verdict}
+use Rattle.grammar.specs.Text.{text, kindAt}
+use Rattle.grammar.specs.Run.{Run, got, bad, end, rd-got, level}
 use Rattle.syntax.specs.Says.{left, Clear, Got}
-use Rattle.syntax.specs.declared.Parsed.{Parsed}
-use Rattle.syntax.specs.declared.Parsed.the-variants.{Read, Refused}
-use Rattle.syntax.proofs.Final.{read-keeps, read-verdict, over-verdict, bad-verdict}
+use Rattle.grammar.specs.declared.Parsed.{Parsed}
+use Rattle.grammar.specs.declared.Parsed.the-variants.{Read, Refused}
+use Rattle.grammar.proofs.Final.{read-keeps, read-verdict, over-verdict, bad-verdict}
 
 -- the program that was read
 record Program (ks mid : List ℕ) (F : List ℕ) (j b : ℕ) : Type 0 where

@@ -7,7 +7,7 @@ use native.Mathlib.Decide.{decLe}
 use native.Mathlib.Numerals.{add-one}
 use lib.ListN.{length, take, set, length-set}
 use lib.Seq.{take-suc-set, take-all}
-use Rattle.syntax.specs.Verdict.{zeros}
+use Rattle.grammar.specs.Verdict.{zeros}
 use Rattle.syntax.specs.Says.{Put}
 
 front : (old : List ℕ) (a b x : ℕ) → b ≡ a + 1 → a < length old → take b (set old a x) ≡ take a old ++ (x ∷ [])

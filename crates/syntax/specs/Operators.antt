@@ -1,9 +1,9 @@
 -- Operators by their kinds, as the reader finds them: 0, the kind of 'begin', stands for none. This serves contracts and is no part of the paper.
 use Prim.Native.Nat.{ℕ}
 use lib.Dec.{eqb}
-use Rattle.syntax.specs.Tables.{pick}
-use Rattle.syntax.specs.declared.Level.{Level}
-use Rattle.syntax.specs.declared.Level.the-variants.{Product, Sum, Conjunction, Disjunction, Implication, Equivalence}
+use Rattle.grammar.specs.Tables.{pick}
+use Rattle.grammar.specs.declared.Level.{Level}
+use Rattle.grammar.specs.declared.Level.the-variants.{Product, Sum, Conjunction, Disjunction, Implication, Equivalence}
 
 abbrev pub one : ℕ → ℕ → ℕ → ℕ
 one c k other = pick (eqb c k) k other

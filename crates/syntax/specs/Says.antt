@@ -5,13 +5,13 @@ use mathlib.Core.Bool.{Bool, true, false}
 use mathlib.Core.List.{List, [], _∷_, _++_}
 use lib.ListN.{length, take}
 use Rattle.answers.specs.declared.Answer.{Answer}
-use Rattle.syntax.specs.Grammar.{Item}
-use Rattle.syntax.specs.Trees.{Syn, yield, nodes}
-use Rattle.syntax.specs.Verdict.{zeros}
-use Rattle.syntax.specs.Text.{kindAt}
-use Rattle.syntax.specs.Run.{Run, got, bad}
-use Rattle.syntax.specs.declared.Parsed.{Parsed}
-use Rattle.syntax.specs.declared.Parsed.the-variants.{Read, Refused}
+use Rattle.grammar.specs.Grammar.{Item}
+use Rattle.grammar.specs.Trees.{Syn, yield, nodes}
+use Rattle.grammar.specs.Verdict.{zeros}
+use Rattle.grammar.specs.Text.{kindAt}
+use Rattle.grammar.specs.Run.{Run, got, bad}
+use Rattle.grammar.specs.declared.Parsed.{Parsed}
+use Rattle.grammar.specs.declared.Parsed.the-variants.{Read, Refused}
 
 -- the levels left at a depth: "The greatest depth is 64."
 abbrev pub left : ℕ → ℕ

@@ -1,21 +1,21 @@
 // Expressions: their readers call each other, with remaining symbols or binding falling.
-use crate::Level;
-use crate::Parsed;
-use crate::Use;
 use crate::limits;
-use crate::nodes;
 use crate::operators::operator;
 use crate::operators::relational;
 use crate::text::peek;
 use crate::writing::put;
 use answers::Answer;
+use grammar::Level;
+use grammar::Parsed;
+use grammar::Use;
+use grammar::nodes;
 use symbols::Symbol;
 ghost use mathlib.Core.Path.{_≡_};
 ghost use mathlib.Core.List.{[], _∷_};
 ghost use Prim.Native.Nat.{_+_};
-ghost use Rattle.syntax.specs.Grammar.{part, deeper, rhs, useNumber, level as a-level, operand as an-operand, expression as an-expression, a-condition, otherwise as an-otherwise, chain as a-chain, more as the-more, negation as a-negation, relation as a-relation, comparison as a-comparison, primary as a-primary, actuals as the-actuals, actual as an-actual, further-actuals};
-ghost use Rattle.syntax.specs.declared.Level.the-variants.{Sum, Equivalence};
-ghost use Rattle.syntax.specs.Text.{text, kindAt};
+ghost use Rattle.grammar.specs.Grammar.{part, deeper, rhs, useNumber, level as a-level, operand as an-operand, expression as an-expression, a-condition, otherwise as an-otherwise, chain as a-chain, more as the-more, negation as a-negation, relation as a-relation, comparison as a-comparison, primary as a-primary, actuals as the-actuals, actual as an-actual, further-actuals};
+ghost use Rattle.grammar.specs.declared.Level.the-variants.{Sum, Equivalence};
+ghost use Rattle.grammar.specs.Text.{text, kindAt};
 ghost use Rattle.syntax.specs.Says.{Room, Behind, Tells};
 
 pub fn expression(kinds: &[u8], pos: usize, depth: u16, nodes: &mut [u16], free: usize) -> Parsed

@@ -1,15 +1,15 @@
 // Types, lists of names and procedure headings.
-use crate::Entry;
-use crate::Parsed;
-use crate::nodes;
 use crate::text::peek;
 use crate::writing::put;
 use answers::Answer;
+use grammar::Entry;
+use grammar::Parsed;
+use grammar::nodes;
 use symbols::Symbol;
 ghost use mathlib.Core.List.{[], _∷_};
-ghost use Rattle.syntax.specs.Grammar.{part, type, list as a-list, formals as the-formals, values as the-values, specifications as the-specifications, heading as a-heading, entryNode};
+ghost use Rattle.grammar.specs.Grammar.{part, type, list as a-list, formals as the-formals, values as the-values, specifications as the-specifications, heading as a-heading, entryNode};
 ghost use mathlib.Core.Path.{_≡_};
-ghost use Rattle.syntax.specs.Text.{text};
+ghost use Rattle.grammar.specs.Text.{text};
 ghost use Rattle.syntax.specs.Says.{Room, TellsAll};
 
 // 'integer' or 'Boolean'.

@@ -1,50 +1,20 @@
 // Paper 01, "Symbols to program".
 use answers::Answer;
+use grammar::Parsed;
 ghost use mathlib.Core.Path.{_≡_};
 ghost use lib.ListN.{length, take};
 ghost use Prim.Native.Nat.{_≤_};
-ghost use Rattle.syntax.specs.Text.{text};
-ghost use Rattle.syntax.specs.Verdict.{room, Verdict};
+ghost use Rattle.grammar.specs.Text.{text};
+ghost use Rattle.grammar.specs.Verdict.{room, Verdict};
 
 mod clauses; // what begins with a name, and for clauses
 mod expressions; // expressions
 mod headings; // types, lists of names, procedure headings
 mod limits; // what is said where something too deep would begin
-pub mod nodes; // the kinds of the nodes
 mod operators; // operators by their level
 mod statements; // statements, blocks and declarations
 mod text; // the symbols
 mod writing; // the words of the nodes
-
-// The levels of binding at which operands are chained, tightest first.
-pub enum Level {
-    Product,
-    Sum,
-    Conjunction,
-    Disjunction,
-    Implication,
-    Equivalence,
-}
-
-// What a list of names has: variables, formals, names of the value part or of a specification.
-pub enum Entry {
-    Variable,
-    Formal,
-    Valued,
-    Specified,
-}
-
-// What a name stands as, with its actuals if it has some.
-pub enum Use {
-    AsPrimary,
-    AsStatement,
-}
-
-// What a reader answers: the number of the next symbol and the words written so far, or the refusal's number and its symbol's.
-pub enum Parsed {
-    Read { next: usize, used: usize },
-    Refused { answer: Answer, at: usize },
-}
 
 // Reads the first count symbols, of which the kinds are lent, as a program; there are at most 2,048. The nodes of a program that is
 // accepted stand in the first words, and all other words are zero.

@@ -1,12 +1,12 @@
 // What is said where something of depth 65 would begin: 6 if the symbol can stand there, else 5.
-use crate::Parsed;
 use crate::text::peek;
 use answers::Answer;
+use grammar::Parsed;
 use symbols::Symbol;
 ghost use mathlib.Core.List.{[], _∷_};
-ghost use Rattle.syntax.specs.Grammar.{part, deeper, expression as an-expression, level, statement as a-statement, consequence as a-consequence};
-ghost use Rattle.syntax.specs.declared.Level.the-variants.{Equivalence};
-ghost use Rattle.syntax.specs.Text.{text};
+ghost use Rattle.grammar.specs.Grammar.{part, deeper, expression as an-expression, level, statement as a-statement, consequence as a-consequence};
+ghost use Rattle.grammar.specs.declared.Level.the-variants.{Equivalence};
+ghost use Rattle.grammar.specs.Text.{text};
 ghost use Rattle.syntax.specs.Says.{Limits, LimitsAll, behind};
 
 // An expression.

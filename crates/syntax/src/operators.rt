@@ -1,5 +1,5 @@
 // Operators by their kinds; 0, the kind of 'begin', stands for none.
-use crate::Level;
+use grammar::Level;
 use symbols::Symbol;
 ghost use mathlib.Core.Path.{_≡_};
 ghost use Rattle.symbols.specs.Symbols.{kind};

@@ -1,6 +1,4 @@
 // Statements, blocks and declarations: their readers call each other, with remaining symbols or depth falling.
-use crate::Entry;
-use crate::Parsed;
 use crate::clauses::for_clause;
 use crate::clauses::named;
 use crate::expressions::expression;
@@ -8,17 +6,19 @@ use crate::headings::heading;
 use crate::headings::list;
 use crate::headings::type_symbol;
 use crate::limits;
-use crate::nodes;
 use crate::text::peek;
 use crate::writing::put;
 use answers::Answer;
+use grammar::Entry;
+use grammar::Parsed;
+use grammar::nodes;
 use symbols::Symbol;
 ghost use mathlib.Core.Path.{_≡_};
 ghost use mathlib.Core.List.{[], _∷_};
 ghost use mathlib.Core.Bool.{true, false};
 ghost use Prim.Native.Nat.{_+_};
-ghost use Rattle.syntax.specs.Grammar.{part, deeper, rhs, block as a-block, inner as an-inner, head as a-head, tail as a-tail, declarations as the-declarations, declaration as a-declaration, declared as a-declared, procedure as a-procedure, statements as the-statements, statement as a-statement, conditional as a-conditional, consequence as a-consequence, alternative as an-alternative, repetition as a-repetition, unconditional as an-unconditional};
-ghost use Rattle.syntax.specs.Text.{text, kindAt};
+ghost use Rattle.grammar.specs.Grammar.{part, deeper, rhs, block as a-block, inner as an-inner, head as a-head, tail as a-tail, declarations as the-declarations, declaration as a-declaration, declared as a-declared, procedure as a-procedure, statements as the-statements, statement as a-statement, conditional as a-conditional, consequence as a-consequence, alternative as an-alternative, repetition as a-repetition, unconditional as an-unconditional};
+ghost use Rattle.grammar.specs.Text.{text, kindAt};
 ghost use Rattle.syntax.specs.Says.{behind, Room, Behind, Tells, Says};
 
 // 'begin' .. 'end'.

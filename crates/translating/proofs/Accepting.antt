@@ -11,7 +11,7 @@ use Rattle.symbols.specs.Symbols.{kind}
 use Rattle.symbols.specs.Names.{lettersAt}
 use Rattle.symbols.specs.Scan.{Found, scan}
 use Rattle.symbols.specs.Steps.{placesOf, valuesOf}
-use Rattle.syntax.specs.Trees.{yield}
+use Rattle.grammar.specs.Trees.{yield}
 use Rattle.names.specs.Uses.{Fault, nameFaults, least, joined, unmeant, usesS}
 use Rattle.names.specs.Outline.{rowsS}
 use Rattle.types.specs.Types.{typeFaults, typeFault}

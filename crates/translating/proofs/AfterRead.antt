@@ -8,7 +8,7 @@ use lib.ListN.{length, drop}
 use Rattle.answers.specs.declared.Refusal.{Refusal}
 use Rattle.answers.specs.declared.Verdict.{Verdict}
 use Rattle.answers.specs.declared.Verdict.the-variants.{Accepted, Refused}
-use Rattle.syntax.specs.Verdict.{zeros}
+use Rattle.grammar.specs.Verdict.{zeros}
 use Rattle.names.specs.Uses.{nameFaults, least}
 use Rattle.types.specs.Types.{typeFault}
 use Rattle.reading.specs.Table.{tableOf}

@@ -5,8 +5,8 @@ use mathlib.Core.Path.{_≡_, subst}
 use mathlib.Core.List.{List, [], _∷_}
 use native.Mathlib.Omega.{arith}
 use lib.ListN.{length, length-append}
-use Rattle.syntax.specs.Grammar.{Class, block, Item, sy, rd, put, Prod, begin-end, rhs, program}
-use Rattle.syntax.specs.Trees.{Syn, nil, tok, act, sub, yield}
+use Rattle.grammar.specs.Grammar.{Class, block, Item, sy, rd, put, Prod, begin-end, rhs, program}
+use Rattle.grammar.specs.Trees.{Syn, nil, tok, act, sub, yield}
 use Rattle.names.specs.ReadOff.{Sem, Makes, build, read, programOf}
 
 module _ (worth : ℕ → ℕ) (letters : ℕ → List ℕ) (At : ℕ → Type 0) (Is : (X : Class) → ℕ → ℕ → Sem X → Type 0) where

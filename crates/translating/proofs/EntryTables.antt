@@ -8,7 +8,7 @@ use mathlib.Core.List.{List, [], _∷_, _++_, append-assoc, append-nil}
 use mathlib.Core.Option.{Option, none, some, Option·none-ne-some}
 use lib.ListN.{length, getD, set, length-set}
 use lib.Seq.{getD-set-same, getD-set-other}
-use Rattle.syntax.specs.NodeKinds.{n-variable, n-procedure, n-formal}
+use Rattle.grammar.specs.NodeKinds.{n-variable, n-procedure, n-formal}
 use Rattle.names.specs.Program.{Name, Sort, Expression, Element, Statement, dummy, assignment, procedure, when, either, repeat, compound, block, Statements, last, first, Declarations, none as no-more, variables, declare, Procedure, heading}
 use Rattle.names.specs.Scopes.{Thing, variable, routine, formal, Declared, Scope, ofBlock, ofBody, nameOf, same, variablesIn, inBlock, findIn}
 use Rattle.names.specs.Nodes.{node, sortNumber}

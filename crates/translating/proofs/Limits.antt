@@ -4,9 +4,9 @@ use Prim.Native.Nat.{ℕ, _≤_, _<_}
 use mathlib.Core.List.{List}
 use native.Mathlib.Omega.{arith}
 use lib.ListN.{length}
-use Rattle.syntax.specs.Grammar.{a-block, a-compound, program}
-use Rattle.syntax.specs.Trees.{Syn, nil, tok, act, sub, yield}
-use Rattle.syntax.specs.Program.{Keeps}
+use Rattle.grammar.specs.Grammar.{a-block, a-compound, program}
+use Rattle.grammar.specs.Trees.{Syn, nil, tok, act, sub, yield}
+use Rattle.grammar.specs.Program.{Keeps}
 use Rattle.names.specs.ReadOff.{build, read, programOf}
 use Rattle.translation.specs.Sizes.{Whole, Limited}
 use Rattle.translating.proofs.Counted.{counted}

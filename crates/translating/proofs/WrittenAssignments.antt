@@ -9,7 +9,7 @@ use mathlib.Core.List.{List, [], _∷_, _++_, map, append-assoc, append-nil}
 use lib.ListN.{length, getD, drop, set}
 use Rattle.machine.specs.Data.{store, assign}
 use Rattle.machine.specs.Instructions.{Instr, DO}
-use Rattle.syntax.specs.NodeKinds.{n-left, n-assign}
+use Rattle.grammar.specs.NodeKinds.{n-left, n-assign}
 use Rattle.names.specs.Program.{Name, Expression, Statement, assignment}
 use Rattle.names.specs.Scopes.{Scope, Meaning, meaning}
 use Rattle.names.specs.Nodes.{node, mark, nodesE, nodesLeft, nodesS}

@@ -9,7 +9,7 @@ use mathlib.Core.List.{List, [], _∷_, _++_, append-assoc, append-nil}
 use mathlib.Core.Option.{Option, none, some}
 use lib.ListN.{length, getD, drop, set, length-append, length-set}
 use Rattle.machine.specs.Instructions.{Instr, ENTER, LEAVE, RETURN, pack}
-use Rattle.syntax.specs.NodeKinds.{n-block, n-statements, n-block-end, n-type, n-variable, n-procedure, n-formal, n-value, n-specified, n-body, n-procedure-end}
+use Rattle.grammar.specs.NodeKinds.{n-block, n-statements, n-block-end, n-type, n-variable, n-procedure, n-formal, n-value, n-specified, n-body, n-procedure-end}
 use Rattle.names.specs.Program.{Name, Specification}
 use Rattle.names.specs.Nodes.{node, mark, sortNumber, nodesN, nodesSp}
 use Rattle.names.specs.Rows.{isUse}

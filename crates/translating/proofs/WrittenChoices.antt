@@ -10,7 +10,7 @@ use lib.ListN.{length, getD, drop, set, length-append, length-set}
 use lib.Seq.{set-append-left}
 use Rattle.machine.specs.Data.{condition}
 use Rattle.machine.specs.Instructions.{Instr, IF, JUMP, pack}
-use Rattle.syntax.specs.NodeKinds.{n-then, n-else, n-if-end, n-condition-end}
+use Rattle.grammar.specs.NodeKinds.{n-then, n-else, n-if-end, n-condition-end}
 use Rattle.names.specs.Nodes.{node, mark}
 use Rattle.names.specs.Rows.{isUse}
 use Rattle.names.specs.Uses.{Use}

@@ -12,7 +12,7 @@ use lib.ListN.{length, getD}
 use Rattle.machine.specs.Values
 use Rattle.machine.specs.Data.{push, reserve, unary, forget, receive, send, gone}
 use Rattle.machine.specs.Instructions.{Instr, DO, CALL, pack, high}
-use Rattle.syntax.specs.NodeKinds.{n-use, n-call, n-call-end, n-actual}
+use Rattle.grammar.specs.NodeKinds.{n-use, n-call, n-call-end, n-actual}
 use Rattle.names.specs.Program.{Name, Sort, Expression, number, logical, name, call, signed, operated, chosen, nested, Expressions, done, then, count, firstSymbol, Procedure}
 use Rattle.names.specs.Scopes.{Thing, variable, routine, formal, Declared, Scope, sortOf, Given, Meaning, declared, given, nothing, meaning}
 use Rattle.names.specs.Nodes.{node, mark, callNodes, nodesE, nodesEs, nodesCall}

@@ -10,7 +10,7 @@ use lib.ListN.{length, getD, drop, set, length-append, length-set}
 use lib.Seq.{set-append-seam}
 use Rattle.machine.specs.Data.{store, keep, bump, condition, upto}
 use Rattle.machine.specs.Instructions.{Loc, lc, Instr, DO, IF, JUMP, GO, pack, high, mid}
-use Rattle.syntax.specs.NodeKinds.{n-start, n-once, n-while, n-step, n-amount}
+use Rattle.grammar.specs.NodeKinds.{n-start, n-once, n-while, n-step, n-amount}
 use Rattle.names.specs.Program.{Name, Expression, firstSymbol, Element, value, while, step as by-step}
 use Rattle.names.specs.Scopes.{Scope}
 use Rattle.names.specs.Nodes.{node, mark, amountNodes, nodesE, nodesL, nodesLs}

@@ -13,7 +13,7 @@ use lib.ListN.{length, getD, drop, set}
 use Rattle.machine.specs.Values
 use Rattle.machine.specs.Data.{push, load, reserve, unary, binary, Fate, kept}
 use Rattle.machine.specs.Instructions.{Instr, DO, CALL, pack, high}
-use Rattle.syntax.specs.NodeKinds.{n-then, n-else, n-condition-end, n-unary, n-binary, n-number, n-logical, n-use, n-call, n-call-end, n-actual}
+use Rattle.grammar.specs.NodeKinds.{n-then, n-else, n-condition-end, n-unary, n-binary, n-number, n-logical, n-use, n-call, n-call-end, n-actual}
 use Rattle.names.specs.Program.{Name, Sort, Sign, positive, negative, negation, Operator, times, over, plus, minus, less, atMost, equal, atLeast, greater, unequal, and, or, impl, equiv, Expression, number, logical, name, call, signed, operated, chosen, nested, Expressions, done, then, count, firstSymbol, Procedure}
 use Rattle.names.specs.Scopes.{Thing, variable, routine, formal, Declared, Scope, sortOf, Given, Meaning, declared, given, nothing, meaning}
 use Rattle.names.specs.Nodes.{node, mark, truth, signKind, operatorKind, callNodes, nodesE, nodesEs}

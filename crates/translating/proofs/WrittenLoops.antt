@@ -9,7 +9,7 @@ use mathlib.Core.List.{List, [], _∷_, _++_, append-assoc, append-nil}
 use lib.ListN.{length, getD, drop, set, length-append, length-set}
 use lib.Seq.{set-append-left}
 use Rattle.machine.specs.Instructions.{Instr, NEXT, pack}
-use Rattle.syntax.specs.NodeKinds.{n-for, n-do, n-for-end}
+use Rattle.grammar.specs.NodeKinds.{n-for, n-do, n-for-end}
 use Rattle.names.specs.Program.{Name, Element, Statement, repeat}
 use Rattle.names.specs.Scopes.{Scope, meaning}
 use Rattle.names.specs.Nodes.{node, mark, nodesL, nodesLs, nodesS}

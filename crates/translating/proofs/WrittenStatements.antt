@@ -9,7 +9,7 @@ use mathlib.Core.List.{List, [], _∷_, _++_, append-assoc, append-nil}
 use mathlib.Core.Option.{Option, none, some}
 use lib.ListN.{length, getD, drop, set}
 use Rattle.machine.specs.Instructions.{Instr}
-use Rattle.syntax.specs.NodeKinds.{n-type, n-variable, n-procedure, n-formal, n-value, n-body, n-procedure-end}
+use Rattle.grammar.specs.NodeKinds.{n-type, n-variable, n-procedure, n-formal, n-value, n-body, n-procedure-end}
 use Rattle.names.specs.Program.{Name, Sort, Specification, Statement, dummy, assignment, procedure, when, either, repeat, compound, block, Statements, last, first, Declarations, none as no-more, variables, declare, Procedure, heading}
 use Rattle.names.specs.Scopes.{Scope, ofBlock, ofBody, inBlock as declaredIn, meaning}
 use Rattle.names.specs.Nodes.{node, mark, sortNumber, nodesN, nodesSp, nodesS, nodesSs, nodesD, nodesP}

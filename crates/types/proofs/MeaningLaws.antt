@@ -11,7 +11,7 @@ use lib.Dec.{eqb, leb, leb·zero, leb·suc-zero, leb·suc-suc, eqb·suc-zero}
 use lib.ListN.{length, getD, drop}
 use lib.Seq.{drop-cons, getD-drop}
 use borrow.Author.Tests.{le-leb}
-use Rattle.syntax.specs.NodeKinds.{n-formal}
+use Rattle.grammar.specs.NodeKinds.{n-formal}
 use Rattle.symbols.specs.Text.{bytes}
 use Rattle.symbols.specs.Names.{sameName}
 use Rattle.names.specs.Program.{Name, Sort, integer, boolean, Specification, Declarations, none as no-more, variables, declare, Procedure}

@@ -6,7 +6,7 @@ use Prim.Native.Nat.{ℕ, zero, suc, _+_, _≤_}
 use native.Mathlib.Omega.{arith}
 use lib.Dec.{eqb}
 use lib.ListN.{length}
-use Rattle.syntax.specs.NodeKinds.{n-variable, n-procedure, n-formal, n-procedure-end, n-then, n-while, n-start, n-amount, n-left, n-assign, n-condition-end, n-unary, n-binary, n-number, n-logical, n-use, n-call, n-call-end, n-actual}
+use Rattle.grammar.specs.NodeKinds.{n-variable, n-procedure, n-formal, n-procedure-end, n-then, n-while, n-start, n-amount, n-left, n-assign, n-condition-end, n-unary, n-binary, n-number, n-logical, n-use, n-call, n-call-end, n-actual}
 use Rattle.names.specs.Rows.{isUse, meantOf}
 use Rattle.types.specs.declared.Judgement.{Judgement}
 use Rattle.types.specs.Passes.{State, Call, noted, withStack, withCalls, withBodies, withRows, withLeft, withBare, withUse, below, pushed, popped, takenAs, signedAs, operatedAs, chosenAs, assignedAs, nextUse, judged, calledAs, oneMore, plainTyped, namedAs, leftAs, leftOf, useTyped, actualIn, callEnded, typeNode}

@@ -7,7 +7,7 @@ use native.Mathlib.Omega.{arith}
 use lib.Dec.{eqb}
 use lib.ListN.{length, getD, drop}
 use borrow.Author.Tests.{eq-eqb, ne-eqb}
-use Rattle.syntax.specs.NodeKinds.{n-formal}
+use Rattle.grammar.specs.NodeKinds.{n-formal}
 use Rattle.names.specs.Rows.{findRow, sought, opensOf}
 use Rattle.names.specs.declared.Sought.{Sought}
 use Rattle.names.proofs.RowLaws.{row-on, row-end}

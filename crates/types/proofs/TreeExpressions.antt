@@ -9,7 +9,7 @@ use mathlib.Core.List.{List, [], _∷_, _++_, append-assoc}
 use mathlib.Core.Option.{Option, some}
 use lib.Dec.{eqb}
 use borrow.Author.Tests.{eq-eqb, ne-eqb}
-use Rattle.syntax.specs.NodeKinds.{n-then, n-else, n-condition-end, n-unary, n-binary, n-number, n-logical, n-use, n-call, n-call-end, n-actual}
+use Rattle.grammar.specs.NodeKinds.{n-then, n-else, n-condition-end, n-unary, n-binary, n-number, n-logical, n-use, n-call, n-call-end, n-actual}
 use Rattle.names.specs.Program.{Name, Sort, boolean, Sign, Operator, Expression, number, logical, name, call, signed, operated, chosen, nested, Expressions, done, then, count, firstSymbol}
 use Rattle.names.specs.Scopes.{Scope, Wanted, an, variable-of, Meaning, meaning}
 use Rattle.names.proofs.Around.{Means}

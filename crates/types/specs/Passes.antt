@@ -6,7 +6,7 @@ use mathlib.Core.List.{List, [], _∷_}
 use lib.Dec.{eqb, leb, ltb}
 use lib.ListN.{length, getD, drop}
 use Rattle.answers.specs.Numbers.{types}
-use Rattle.syntax.specs.NodeKinds.{n-variable, n-procedure, n-formal, n-specified, n-procedure-end, n-then, n-for, n-start, n-while, n-amount, n-left, n-assign, n-condition-end, n-unary, n-binary, n-number, n-logical, n-use, n-call, n-call-end, n-actual}
+use Rattle.grammar.specs.NodeKinds.{n-variable, n-procedure, n-formal, n-specified, n-procedure-end, n-then, n-for, n-start, n-while, n-amount, n-left, n-assign, n-condition-end, n-unary, n-binary, n-number, n-logical, n-use, n-call, n-call-end, n-actual}
 use Rattle.names.specs.Rows.{foldNodes, identityIn, findRow, markedIn, isUse, meantOf, noFault, notedIf}
 use Rattle.names.specs.declared.Meant.{Meant}
 use Rattle.names.specs.declared.Meant.the-variants.{Declared, Given, Nothing}

@@ -1,7 +1,7 @@
 -- `syntax::front` meets its contract. Assumes nothing.
 use mathlib.Core.Path.{sym}
 use native.Mathlib.Omega.{arith}
-use Rattle.syntax.specs.Run.{now}
+use Rattle.grammar.specs.Run.{now}
 use Rattle.syntax.specs.Says.{left}
 use lib.Seq.{length-take-le}
 use Rattle.syntax.proofs.Whole.{cut}

@@ -2,9 +2,9 @@
 use mathlib.Core.Path.{sym, _∙_}
 use mathlib.Core.List.{[], _∷_}
 use native.Mathlib.Omega.{arith}
-use Rattle.syntax.specs.Run.{now}
+use Rattle.grammar.specs.Run.{now}
 use Rattle.syntax.specs.Says.{left}
-use Rattle.syntax.proofs.Peeks.{inside, text-length}
+use Rattle.grammar.proofs.Peeks.{inside, text-length}
 use Rattle.syntax.proofs.Whole.{all-read, more-left, refused}
 use borrow.Author.Needs.{needs}
 use Rattle.syntax.proofs.program.Statement.{statement}

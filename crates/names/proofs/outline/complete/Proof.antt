@@ -5,7 +5,7 @@ use mathlib.Core.Bool.{Bool, false, _&&_}
 use mathlib.Core.List.{List}
 use Prim.Native.Nat.{ℕ}
 use borrow.Author.Tests.{not-true, not-false}
-use Rattle.syntax.specs.NodeKinds.{n-value, n-specified}
+use Rattle.grammar.specs.NodeKinds.{n-value, n-specified}
 use Rattle.names.specs.Rows.{identityIn, hasRow, markedIn, completeIn}
 use borrow.Author.Needs.{needs}
 use Rattle.names.proofs.outline.complete.Statement.{statement}

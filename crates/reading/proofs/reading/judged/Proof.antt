@@ -2,7 +2,7 @@
 -- Assumes nothing.
 use mathlib.Core.Path.{ap, _∙_}
 use Rattle.answers.specs.declared.Verdict.the-variants.{Refused}
-use Rattle.syntax.specs.Verdict.{zeros}
+use Rattle.grammar.specs.Verdict.{zeros}
 use Rattle.reading.specs.Reading.{too-long}
 use Rattle.reading.proofs.Answers.{as-judged}
 use borrow.Author.Needs.{needs}

@@ -5,15 +5,15 @@ use mathlib.Core.List.{[], _∷_}
 use Prim.Native.Nat.{ℕ, _+_, _-_, _*_, _<_}
 use native.Mathlib.Omega.{arith}
 use lib.ListN.{length}
-use Rattle.syntax.specs.Grammar.{put}
-use Rattle.syntax.specs.Tables.{choose}
-use Rattle.syntax.specs.Run.{now}
-use Rattle.syntax.specs.Text.{text, kindAt}
+use Rattle.grammar.specs.Grammar.{put}
+use Rattle.grammar.specs.Tables.{choose}
+use Rattle.grammar.specs.Run.{now}
+use Rattle.grammar.specs.Text.{text, kindAt}
 use Rattle.syntax.specs.Says.{left}
-use Rattle.syntax.proofs.Peeks.{inside, is-at, is-not, but}
+use Rattle.grammar.proofs.Peeks.{inside, is-at, is-not, but}
 use Rattle.syntax.proofs.Lemmas.{says-limit, space, s-end, s-sy, s-no, s-put, s-none, s-prod, s-part, s-bad, s-last, s-deeper}
-use Rattle.syntax.specs.Grammar as G
-use Rattle.syntax.specs.declared.Level.the-variants as L
+use Rattle.grammar.specs.Grammar as G
+use Rattle.grammar.specs.declared.Level.the-variants as L
 use Rattle.syntax.proofs.Choices as C
 use Rattle.syntax.specs.Operators.{operatorOf, relationOf}
 use Rattle.syntax.proofs.Lemmas.{s-operand}

@@ -2,13 +2,13 @@
 use mathlib.Core.Path.{refl, ap}
 use mathlib.Core.List.{[], _∷_}
 use Prim.Native.Nat.{ℕ}
-use Rattle.syntax.specs.Tables.{choose}
-use Rattle.syntax.specs.Run.{now, level, rd-six, rd-five, rd-bad}
+use Rattle.grammar.specs.Tables.{choose}
+use Rattle.grammar.specs.Run.{now, level, rd-six, rd-five, rd-bad}
 use Rattle.syntax.specs.Says.{left}
-use Rattle.syntax.proofs.Peeks.{is-at, is-in, is-not, but}
+use Rattle.grammar.proofs.Peeks.{is-at, is-in, is-not, but}
 use Rattle.syntax.proofs.Lemmas.{limits, may, may-end, may-not, may-not-end}
 use Rattle.syntax.proofs.Choices as C
-use Rattle.syntax.specs.Grammar.{consequence}
+use Rattle.grammar.specs.Grammar.{consequence}
 use Rattle.syntax.proofs.Choices.{in-not}
 use borrow.Author.Needs.{needs}
 use Rattle.syntax.proofs.limits.consequence.Statement.{statement}

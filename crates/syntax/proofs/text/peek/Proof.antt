@@ -1,9 +1,9 @@
 -- `syntax::text::peek` meets its contract. Assumes nothing.
 use mathlib.Core.Path.{sym, ap, _∙_}
-use Rattle.syntax.specs.Run.{now}
+use Rattle.grammar.specs.Run.{now}
 use Rattle.syntax.specs.Says.{left}
 use Rattle.symbols.specs.Symbols.{kind}
-use Rattle.syntax.proofs.Peeks.{text-at, text-past}
+use Rattle.grammar.proofs.Peeks.{text-at, text-past}
 use borrow.Author.Needs.{needs}
 use Rattle.syntax.proofs.text.peek.Statement.{statement}
 use Rattle.syntax.proofs.text.peek.Tie as tie

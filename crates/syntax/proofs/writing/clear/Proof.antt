@@ -2,7 +2,7 @@
 use Prim.Native.Nat.{_-_}
 use native.Mathlib.Omega.{arith}
 use lib.ListN.{length}
-use Rattle.syntax.specs.Run.{now}
+use Rattle.grammar.specs.Run.{now}
 use Rattle.syntax.specs.Says.{left}
 use lib.ListN.{length-set}
 use Rattle.syntax.proofs.Words.{Cleared, not-yet, one-more, all-clear}

@@ -3,7 +3,7 @@ use native.Mathlib.Omega.{arith}
 use borrow.Author.Needs.{needs}
 use Rattle.types.specs.Passes.{specifiedIn}
 use Rattle.names.specs.Rows.{markedIn}
-use Rattle.syntax.specs.NodeKinds.{n-specified}
+use Rattle.grammar.specs.NodeKinds.{n-specified}
 use Rattle.types.proofs.RowWords.{find-bound}
 use Rattle.types.proofs.meanings.specified.Statement.{statement}
 use Rattle.types.proofs.meanings.specified.Tie as tie

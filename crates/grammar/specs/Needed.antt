@@ -2,8 +2,8 @@
 use Prim.Native.Nat.{ℕ, _+_}
 use mathlib.Core.List.{List, [], _∷_}
 use lib.ListN.{getD}
-use Rattle.syntax.specs.Grammar.{Item}
-use Rattle.syntax.specs.Trees.{Syn, nil, tok, act, sub}
+use Rattle.grammar.specs.Grammar.{Item}
+use Rattle.grammar.specs.Trees.{Syn, nil, tok, act, sub}
 
 -- by the node's kind, in the order of the kinds
 abbrev pub needed : ℕ → ℕ

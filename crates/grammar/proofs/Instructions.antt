@@ -3,14 +3,14 @@ use mathlib.Core.List.{List, [], _∷_}
 use Prim.Native.Nat.{ℕ, _+_, _*_, _≤_}
 use native.Mathlib.Omega.{arith}
 use lib.ListN.{length, length-append}
-use Rattle.syntax.specs.Grammar.{times, over, plus, minus, and, or, implies, equals, less, lessEqual, equal, greaterEqual, greater, notEqual}
-use Rattle.syntax.specs.Grammar.{Class, block, inner, head, tail, declarations, declaration, declared, type, procedure, heading, formals, values, specifications, list, others, statements, statement, consequence, alternative, repetition, for-clause, elements, further, element, progress, stepping, amount, unconditional, named, right, expression, otherwise, level, more, negation, relation, comparison, primary, actuals, actual, further-actuals}
-use Rattle.syntax.specs.Grammar.{Prod, begin-end, a-block, a-compound, a-tail, a-head, some-declarations, no-declaration, typed, untyped, variables, function, integer, boolean, a-procedure, a-heading, some-formals, no-formals, some-values, no-values, a-specification, no-specification, a-list, another, no-other, a-statement, no-statement, conditional, repeated, plain, then-for, then-plain, an-else, no-else, a-for, a-clause, for-list, another-element, no-element, an-element, once, while, by-steps, a-step, an-amount, dummy, compound, with-name, assignment, call, left, value, a-condition, simple, an-otherwise, chain, signed, again, no-more, a-not, no-not, a-relation, compare, no-comparison, number, true-value, false-value, a-name, in-parentheses, with, bare, an-actual, another-actual, no-actual}
-use Rattle.syntax.specs.declared.Entry.the-variants.{Variable, Formal, Valued, Specified}
-use Rattle.syntax.specs.declared.Level.the-variants.{Product, Sum, Conjunction, Disjunction, Implication, Equivalence}
-use Rattle.syntax.specs.Grammar.{Item, sy, rd, put, rhs, program}
-use Rattle.syntax.specs.Trees.{Syn, nil, tok, act, sub, yield}
-use Rattle.syntax.specs.Needed.{needed, instructions}
+use Rattle.grammar.specs.Grammar.{times, over, plus, minus, and, or, implies, equals, less, lessEqual, equal, greaterEqual, greater, notEqual}
+use Rattle.grammar.specs.Grammar.{Class, block, inner, head, tail, declarations, declaration, declared, type, procedure, heading, formals, values, specifications, list, others, statements, statement, consequence, alternative, repetition, for-clause, elements, further, element, progress, stepping, amount, unconditional, named, right, expression, otherwise, level, more, negation, relation, comparison, primary, actuals, actual, further-actuals}
+use Rattle.grammar.specs.Grammar.{Prod, begin-end, a-block, a-compound, a-tail, a-head, some-declarations, no-declaration, typed, untyped, variables, function, integer, boolean, a-procedure, a-heading, some-formals, no-formals, some-values, no-values, a-specification, no-specification, a-list, another, no-other, a-statement, no-statement, conditional, repeated, plain, then-for, then-plain, an-else, no-else, a-for, a-clause, for-list, another-element, no-element, an-element, once, while, by-steps, a-step, an-amount, dummy, compound, with-name, assignment, call, left, value, a-condition, simple, an-otherwise, chain, signed, again, no-more, a-not, no-not, a-relation, compare, no-comparison, number, true-value, false-value, a-name, in-parentheses, with, bare, an-actual, another-actual, no-actual}
+use Rattle.grammar.specs.declared.Entry.the-variants.{Variable, Formal, Valued, Specified}
+use Rattle.grammar.specs.declared.Level.the-variants.{Product, Sum, Conjunction, Disjunction, Implication, Equivalence}
+use Rattle.grammar.specs.Grammar.{Item, sy, rd, put, rhs, program}
+use Rattle.grammar.specs.Trees.{Syn, nil, tok, act, sub, yield}
+use Rattle.grammar.specs.Needed.{needed, instructions}
 
 abbrev over-four : Class → ℕ
 over-four block = 0
