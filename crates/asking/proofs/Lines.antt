@@ -6,13 +6,13 @@ use Prim.Native.Nat.{ℕ, zero, suc, _+_, _-_, _≤_, _<_, min}
 use native.Mathlib.Omega.{arith}
 use native.Mathlib.Numerals.{add-one}
 use lib.Dec.{eqb, leb}
-use lib.ListN.{length, getD, take, drop, set, length-map, drop-of-length-le, List·getD-map}
+use lib.ListN.{length, getD, take, drop, set, length-map, length-drop, drop-of-length-le, List·getD-map}
 use lib.Seq.{drop-drop, drop-nil, length-take-le, take-suc, set-at, append-snoc}
 use borrow.Author.Tests.{eq-eqb, ne-eqb, le-leb, lt-leb, leb-true, leb-false}
 use Rattle.symbols.specs.Names.{equal}
 use Rattle.symbols.specs.Scan.{before}
 use Rattle.symbols.proofs.Laws.{peel, before-take, equal-length}
-use Rattle.asking.specs.Words.{ended, cut, wordsOf, has, plain, asked, askedFrom, part, isPart, zeros, unblanked, WordFrom, NextWord}
+use Rattle.asking.specs.Words.{ended, cut, wordsOf, has, plain, asked, askedFrom, part, isPart, zeros, unblanked, WordFrom}
 use Rattle.asking.specs.declared.words.Word.{Word}
 
 -- ---- zeros from a place on
@@ -124,13 +124,19 @@ module _ (line : List ℕ) (at : ℕ) (w : Word) (h : WordFrom line at w) where
       let d : drop (length (before 0 bs)) bs ≡ drop (w .to) line = drop-drop (length (before 0 bs)) (w .from) line ∙ ap (λ (n : ℕ). drop n line) (sym (h .ends)) in
       e ∙ cut-run [] bs ∙ rw (run-is, d)
 
-  pub word-none : w .from ≡ w .to → wordsOf (drop at line) ≡ []
-  unfolding cut ended
-  word-none e =
+  nothing-left : w .from ≡ w .to → drop (w .from) line ≡ []
+  nothing-left e =
       let bs = drop (w .from) line in
       let n : length (before 0 bs) ≡ 0 = omega (arith, h .ends) in
       let z : zeros bs ≡ 0 = rw behind-zeros (zeros-gone (drop at line)) in
-      words-zeros (drop at line) ∙ ap wordsOf (sym behind-zeros ∙ run-none bs z n)
+      run-none bs z n
+
+  pub word-end : w .from ≡ w .to → w .to ≡ length line
+  word-end e = omega (arith, length-drop (w .from) line, ap length (nothing-left e), h .ordered, h .inside)
+
+  pub word-none : w .from ≡ w .to → wordsOf (drop at line) ≡ []
+  unfolding cut ended
+  word-none e = words-zeros (drop at line) ∙ ap wordsOf (sym behind-zeros ∙ nothing-left e)
 
   pub word-first : w .from < w .to → wordsOf (drop at line) ≡ part line (w .from) (w .to) ∷ wordsOf (drop (w .to) line)
   word-first l = words-run ∙ ended-some (part line (w .from) (w .to)) (wordsOf (drop (w .to) line)) (omega (arith, run-long))

@@ -67,10 +67,12 @@ pub record WordFrom (line : List ℕ) (at : ℕ) (w : Word) : Type 0 where
   pub ordered : w .from ≤ w .to
   pub inside : w .to ≤ length line
 
--- w is the first word from `at` on that is not --plain; it is empty where there is none. The last three are for callers
-pub record NextWord (line : List ℕ) (at : ℕ) (w : Word) : Type 0 where
-  pub none : w .from ≡ w .to → askedFrom line at ≡ []
-  pub first : w .from < w .to → askedFrom line at ≡ part line (w .from) (w .to) ∷ askedFrom line (w .to)
+-- of words that a line has from each place on, w is the first from `at` on; where there is none, it is
+-- empty and at the line's end. The last three are for callers
+pub record First (words : ℕ → List (List ℕ)) (line : List ℕ) (at : ℕ) (w : Word) : Type 0 where
+  pub none : w .from ≡ w .to → words at ≡ []
+  pub end : w .from ≡ w .to → w .to ≡ length line
+  pub first : w .from < w .to → words at ≡ part line (w .from) (w .to) ∷ words (w .to)
   pub onward : min at (length line) ≤ w .from
   pub ordered : w .from ≤ w .to
   pub inside : w .to ≤ length line

@@ -5,7 +5,7 @@ use symbols::text::same_bytes;
 ghost use mathlib.Core.Path.{_≡_};
 ghost use Prim.Native.Nat.{_+_};
 ghost use lib.ListN.{drop};
-ghost use Rattle.asking.specs.Words.{wordsOf, zeros, has, plain, isPart, unblanked, WordFrom, NextWord, LineOf};
+ghost use Rattle.asking.specs.Words.{wordsOf, zeros, has, plain, askedFrom, isPart, unblanked, WordFrom, First, LineOf};
 
 // A word of a line: its first byte, and the byte behind it. Where there is none, both are the line's end.
 pub struct Word {
@@ -91,7 +91,7 @@ fn is_plain_word(line: &[u8], from: usize, to: usize) -> bool
 
 // The next word from `at` on that is not --plain.
 pub fn next_word(line: &[u8], at: usize) -> Word
-    ensures { λ r. ⌜ NextWord (now (line .entry)) at r ⌝ }
+    ensures { λ r. ⌜ First (askedFrom (now (line .entry))) (now (line .entry)) at r ⌝ }
 {
     let mut i = at;
     loop {

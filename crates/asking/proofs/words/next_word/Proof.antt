@@ -7,7 +7,7 @@ use lib.ListN.{length, drop}
 use borrow.Author.Tests.{not-true, not-false}
 use borrow.Author.Needs.{needs}
 use Rattle.asking.specs.Words.{askedFrom}
-use Rattle.asking.proofs.Lines.{plain-long, plain-passed, asked-none, asked-first}
+use Rattle.asking.proofs.Lines.{word-end, plain-long, plain-passed, asked-none, asked-first}
 use Rattle.asking.proofs.words.next_word.Statement.{statement}
 use Rattle.asking.proofs.words.next_word.Tie as tie
 
@@ -28,6 +28,7 @@ returns c =
     let e = sym (c .before .is-plain-word .ensures) ∙ not-true _ (c .if1 .taken) in
     record {
       none = λ k. c .before .before .before .loop .inv .0 ∙ asked-none s (c .before .before .before .loop .i) w h k;
+      end = word-end s (c .before .before .before .loop .i) w h;
       first = λ k. c .before .before .before .loop .inv .0 ∙ asked-first s (c .before .before .before .loop .i) w h e k;
       onward = omega (arith, h .onward);
       ordered = h .ordered;
