@@ -1,4 +1,4 @@
--- The options of a run: each is a word with a number behind it. These definitions are over the words that a line asks, which has no --plain.
+-- The options of a run: each is a word with a number behind it. These definitions are over the words that a line asks, among which is no --plain.
 use Prim.Native.Nat.{ℕ, _≤_, min}
 use mathlib.Core.Path.{_≡_}
 use mathlib.Core.Bool.{Bool, true, false, cond, _&&_, _||_}

@@ -9,7 +9,7 @@ ghost use Rattle.asking.specs.Words.{First};
 ghost use Rattle.asking.specs.Options.{isOption, isAside, numbersFrom, Behind, Past};
 
 // Whether a word is an option's.
-pub fn is_option(word: &[u8]) -> bool
+fn is_option(word: &[u8]) -> bool
     ensures { λ r. ⌜ r ≡ isOption (now (word .entry)) ⌝ }
 {
     if same_bytes(word, b"-l") {
@@ -22,7 +22,7 @@ pub fn is_option(word: &[u8]) -> bool
 }
 
 // Whether a word of a run's command is no number of the run.
-pub fn is_aside(word: &[u8]) -> bool
+fn is_aside(word: &[u8]) -> bool
     ensures { λ r. ⌜ r ≡ isAside (now (word .entry)) ⌝ }
 {
     if same_bytes(word, b"-") {

@@ -1,10 +1,10 @@
--- `showing::numerals::say_whole` meets its contract. The magnitude of a number below 0 is one more than −1 less it.
+-- `showing::text::say_whole` meets its contract. The magnitude of a number below 0 is one more than −1 less it.
 -- Assumes nothing.
 use mir.Facts.{toZ-ofZ}
 use Rattle.showing.proofs.Shown.{shown, rest-fits, rest-shown, rest-more}
 use borrow.Author.Needs.{needs}
-use Rattle.showing.proofs.numerals.say_whole.Statement.{statement}
-use Rattle.showing.proofs.numerals.say_whole.Tie as tie
+use Rattle.showing.proofs.text.say_whole.Statement.{statement}
+use Rattle.showing.proofs.text.say_whole.Tie as tie
 
 cast-say-number : tie.Need-cast-say-number
 cast-say-number c = rw (toZ-ofZ (c .before .fits .x)) (shown (c .before .args .x) (c .before .fits .x) (simp (toZ-ofZ (c .before .fits .x)) at (c .if1 .taken)))
