@@ -1,117 +1,19 @@
-// What a run is given: how large it may be, and its numbers.
-use crate::asking::has_word;
-use crate::asking::is_word;
-use crate::asking::line_of;
-use crate::asking::next_word;
-use crate::asking::word_from;
+// The numbers that a run is given.
 use crate::files::Loaded;
 use crate::files::nothing;
 use crate::files::take_in;
+use asking::numerals::Whole;
+use asking::numerals::whole_in;
+use asking::options::next_number;
+use asking::words::Word;
+use asking::words::has_word;
+use asking::words::line_of;
+use asking::words::word_from;
 use libc::STDIN_FILENO;
-use showing::numerals::Natural;
-use showing::numerals::natural_in;
-use showing::numerals::whole_in;
 use showing::text::complain;
 ghost use mathlib.Core.Path.{_≡_};
-ghost use Prim.Native.Nat.{_≤_};
+ghost use Prim.Native.Nat.{_≤_, min};
 ghost use lib.ListN.{length};
-
-// Instructions at most, where nothing else is asked.
-const LIMIT: u64 = 1000000;
-
-const CELLS: u64 = 8192;
-
-const ROOM: u64 = 65536;
-
-// How large a run may be, where that was asked as it can be.
-pub struct Sizes {
-    pub good: bool,
-    pub limit: u64,
-    pub cells: usize,
-    pub room: usize,
-}
-
-// The number behind an option's word from `from` on; the usual one where the option is not there.
-fn option(line: &[u8], from: usize, name: &[u8], usual: u64) -> Natural {
-    let mut at = from;
-    while at < line.len() {
-        let w = next_word(line, at);
-        let to = w.to;
-        if is_word(line, w.from, to, name) {
-            let v = next_word(line, to);
-            let a = v.from;
-            let b = v.to;
-            return natural_in(&line[a..b], 0);
-        }
-        at = to + 1;
-    }
-    Natural {
-        good: true,
-        value: usual,
-    }
-}
-
-// What a line asks of a run's size, from `from` on.
-pub fn sizes_of(line: &[u8], from: usize) -> Sizes {
-    let limit = option(line, from, b"-l", LIMIT);
-    let cells = option(line, from, b"-c", CELLS);
-    let room = option(line, from, b"-o", ROOM);
-    let within = cells.value <= CELLS && room.value <= ROOM;
-    Sizes {
-        good: limit.good && cells.good && room.good && within,
-        limit: limit.value,
-        cells: cells.value as usize,
-        room: room.value as usize,
-    }
-}
-
-fn is_option(line: &[u8], from: usize, to: usize) -> bool
-    requires { ⌜ (from ≤ to) × (to ≤ length (now line)) ⌝ }
-{
-    is_word(line, from, to, b"-l")
-        || is_word(line, from, to, b"-c")
-        || is_word(line, from, to, b"-o")
-}
-
-// Whether a word of the command is no number of the run.
-fn is_aside(line: &[u8], from: usize, to: usize) -> bool
-    requires { ⌜ (from ≤ to) × (to ≤ length (now line)) ⌝ }
-{
-    if is_word(line, from, to, b"-") || is_word(line, from, to, b"--plain") {
-        return true;
-    }
-    is_option(line, from, to)
-}
-
-// The place behind a word, and behind the number of one that is an option.
-fn behind(line: &[u8], from: usize, to: usize) -> usize
-    requires { ⌜ (from ≤ to) × (to ≤ length (now line)) ⌝ }
-    ensures { λ r. ⌜ (to ≤ r) × (r ≤ length (now (line .entry))) ⌝ }
-{
-    if is_option(line, from, to) {
-        let v = next_word(line, to);
-        return v.to;
-    }
-    to
-}
-
-// The place behind the options that stand first from `from` on.
-pub fn past_options(line: &[u8], from: usize) -> usize
-    requires { ⌜ from ≤ length (now line) ⌝ }
-    ensures { λ r. ⌜ r ≤ length (now (line .entry)) ⌝ }
-{
-    let mut at = from;
-    while at < line.len() {
-        let w = next_word(line, at);
-        let a = w.from;
-        let b = w.to;
-        if !is_option(line, a, b) {
-            return at;
-        }
-        at = behind(line, a, b) + 1;
-    }
-    line.len()
-}
 
 fn misspelled(text: &[u8]) {
     complain(b"deed: this is no whole number from -2147483648 to 2147483647: ");
@@ -123,16 +25,14 @@ fn misspelled(text: &[u8]) {
 fn put_number(text: &[u8], input: &mut [i32], n: usize) -> Loaded
     ensures { λ _. ⌜ length (now (input .exit)) ≡ length (now (input .entry)) ⌝ }
 {
-    let v = whole_in(text);
-    if !v.good {
+    let Whole::Is(x) = whole_in(text) else {
         misspelled(text);
         return nothing();
-    }
+    };
     if input.len() <= n {
         complain(b"deed: there are too many numbers\n");
         return nothing();
     }
-    let x = v.value;
     input[n] = x;
     Loaded {
         good: true,
@@ -140,25 +40,14 @@ fn put_number(text: &[u8], input: &mut [i32], n: usize) -> Loaded
     }
 }
 
-// Puts what a word is, if it is a number, behind n others. In a command a word may be something else.
-fn put_word(
-    line: &[u8],
-    from: usize,
-    to: usize,
-    command: bool,
-    input: &mut [i32],
-    n: usize,
-) -> Loaded
-    requires { ⌜ (from ≤ to) × (to ≤ length (now line)) ⌝ }
-    ensures { λ _. ⌜ length (now (input .exit)) ≡ length (now (input .entry)) ⌝ }
+// The next word of a line that is to be a number. In a command some words are something else.
+fn number_word(line: &[u8], at: usize, command: bool) -> Word
+    ensures { λ r. ⌜ (min at (length (now (line .entry))) ≤ r .from) × (r .from ≤ r .to) × (r .to ≤ length (now (line .entry))) ⌝ }
 {
-    if from == to || command && is_aside(line, from, to) {
-        return Loaded {
-            good: true,
-            count: n,
-        };
+    if command {
+        return next_number(line, at);
     }
-    put_number(&line[from..to], input, n)
+    word_from(line, at)
 }
 
 // Puts the numbers of a line, from `from` on, behind n others.
@@ -168,15 +57,18 @@ fn put_numbers(line: &[u8], from: usize, command: bool, input: &mut [i32], n: us
     let mut at = from;
     let mut count = n;
     while at < line.len() {
-        let w = word_from(line, at);
+        let w = number_word(line, at, command);
         let a = w.from;
         let b = w.to;
-        let put = put_word(line, a, b, command, input, count);
+        if a == b {
+            return Loaded { good: true, count };
+        }
+        let put = put_number(&line[a..b], input, count);
         if !put.good {
             return put;
         }
         count = put.count;
-        at = behind(line, a, b) + 1;
+        at = b;
     }
     Loaded { good: true, count }
 }

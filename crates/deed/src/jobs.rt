@@ -1,18 +1,19 @@
 // Does what a line asks: the proved jobs' answers are shown, to people and, with --plain, to other programs.
-use crate::asking::Job;
-use crate::asking::is_plain;
-use crate::asking::job_of;
-use crate::asking::next_word;
 use crate::files::load;
-use crate::given::Sizes;
-use crate::given::past_options;
 use crate::given::put_input;
-use crate::given::sizes_of;
 use crate::help::help;
 use crate::help::misused;
 use crate::help::usage;
 use crate::running::run_source;
 use answers::Verdict;
+use asking::jobs::Job;
+use asking::jobs::job_of;
+use asking::options::past_options;
+use asking::sizes::Asked;
+use asking::sizes::Sizes;
+use asking::sizes::sizes_of;
+use asking::words::is_plain;
+use asking::words::next_word;
 use reading::reading::read;
 use showing::code::show_code;
 use showing::levels::show_levels;
@@ -123,20 +124,17 @@ fn run_file(line: &[u8], from: usize, to: usize, sizes: Sizes)
 }
 
 // A run of the file that the next word but options names.
-fn run_next(line: &[u8], at: usize)
-    requires { ⌜ at ≤ length (now line) ⌝ }
-{
-    let sizes = sizes_of(line, at);
-    let w = next_word(line, past_options(line, at));
-    let from = w.from;
-    let to = w.to;
-    if !sizes.good {
+fn run_next(line: &[u8], at: usize) {
+    let Asked::Are(sizes) = sizes_of(line, at) else {
         misused(
             b"-l, -c and -o want a number, -c at most 8192, -o at most 65536",
             b"",
         );
         return;
-    }
+    };
+    let w = next_word(line, past_options(line, at));
+    let from = w.from;
+    let to = w.to;
     if from == to {
         misused(b"a FILE is missing", b"");
         return;
@@ -145,9 +143,7 @@ fn run_next(line: &[u8], at: usize)
 }
 
 // A job on the file that the next word names, and on nothing else.
-fn on_next(line: &[u8], at: usize, job: Job)
-    requires { ⌜ at ≤ length (now line) ⌝ }
-{
+fn on_next(line: &[u8], at: usize, job: Job) {
     let w = next_word(line, at);
     let from = w.from;
     let to = w.to;

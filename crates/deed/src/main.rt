@@ -1,8 +1,8 @@
 // The tool `deed`: it asks the proved jobs and shows their answers. Its arguments are one command; `deed do FILE` takes
 // the commands of a file, one a line.
-use asking::is_word;
-use asking::line_of;
-use asking::next_word;
+use asking::words::is_word;
+use asking::words::line_of;
+use asking::words::next_word;
 use files::arguments;
 use files::load;
 use help::help;
@@ -10,12 +10,10 @@ use help::usage;
 use jobs::obey;
 use showing::text::complain;
 use showing::text::say;
-ghost use Prim.Native.Nat.{_≤_};
-ghost use lib.ListN.{length};
+use symbols::text::find;
 
-mod asking; // a line of words
 mod files; // files and arguments
-mod given; // what a run is given
+mod given; // the numbers of a run
 mod help; // what the tool says of itself
 mod jobs; // what is done for a line
 mod running; // deed run
@@ -30,24 +28,10 @@ fn obey_text(text: &[u8]) {
     obey(&row[..n]);
 }
 
-fn line_end(text: &[u8], from: usize) -> usize
-    requires { ⌜ from ≤ length (now text) ⌝ }
-    ensures { λ r. ⌜ (from ≤ r) × (r ≤ length (now (text .entry))) ⌝ }
-{
-    let mut i = from;
-    while i < text.len() {
-        if text[i] == b'\n' {
-            return i;
-        }
-        i += 1;
-    }
-    i
-}
-
 fn obey_each(text: &[u8]) {
     let mut at: usize = 0;
     while at < text.len() {
-        let end = line_end(text, at);
+        let end = find(text, at, b'\n');
         obey_text(&text[at..end]);
         at = end + 1;
     }

@@ -1,12 +1,12 @@
 // A run of a source, and its answer shown.
-use crate::given::Sizes;
 use answers::Stop;
 use answers::Verdict;
+use asking::sizes::Sizes;
 use machine::Ran;
-use showing::numerals::say_whole;
 use showing::text::least;
 use showing::text::say;
 use showing::text::say_number;
+use showing::text::say_whole;
 use showing::words::show_answer;
 use showing::words::show_placeless;
 use translating::translating::translate;

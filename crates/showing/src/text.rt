@@ -25,6 +25,16 @@ pub fn say_number(n: u64) {
     io::print_decimal(STDOUT_FILENO, n);
 }
 
+// A number, with the sign - where it is below 0.
+pub fn say_whole(x: i64) {
+    if x >= 0 {
+        say_number(x as u64);
+        return;
+    }
+    say(b"-");
+    say_number((-1 - x) as u64 + 1);
+}
+
 pub fn complain(text: &[u8]) {
     io::write_all(STDERR_FILENO, text);
 }

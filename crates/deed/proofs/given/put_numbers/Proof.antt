@@ -1,4 +1,4 @@
--- `deed::given::put_numbers` meets its contract. The next word begins behind this one.
+-- `deed::given::put_numbers` meets its contract. The next number begins behind this one, which is not empty.
 -- Assumes nothing.
 use Prim.Native.Nat.{_-_}
 use mathlib.Core.Path.{_≡_}
@@ -21,10 +21,13 @@ put-numbers-spec =
     μ-loop
     (λ c. search needs)
     (λ c κs. search needs)
-    (λ c κs. search needs)
     (λ c. search needs)
     (λ c. search needs)
+    (λ c. search needs)
+    (λ c. search needs)
+    (λ c. search needs)
     (λ c κs. search needs)
+    (λ c. search needs)
     (λ c. search needs)
     (λ c. search needs)
     (λ c. search needs)

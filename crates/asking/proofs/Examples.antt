@@ -1,0 +1,137 @@
+-- What people type, read by computation: numbers at the limits, signs, words of a line, and the options of a run.
+use Prim.Native.Nat.{ℕ}
+use Prim.Native.String.{String}
+use mathlib.Core.Path.{_≡_, refl}
+use mathlib.Core.Bool.{Bool, true, false}
+use mathlib.Core.List.{List, [], _∷_, map}
+use mathlib.Core.Option.{Option, none, some}
+use lib.IntN.{ℤ, pos, negsuc}
+use Rattle.symbols.specs.Text.{bytes}
+use Rattle.symbols.specs.Names.{blank, digit, valueFrom, equal}
+use Rattle.asking.specs.Numerals.{digits, spelled, numberOf, naturalOf, counted, negated, within, integerOf, wholeOf}
+use Rattle.asking.specs.Words.{ended, cut, wordsOf, has, plain, asked, unblanked}
+use Rattle.asking.specs.Jobs.{jobIn, jobOf}
+use Rattle.asking.specs.Options.{isOption, firstNumber, optionOf, together, sizesOf, pastOptions, numbersIn}
+use Rattle.asking.specs.declared.jobs.Job.the-variants.{Run, Other}
+use Rattle.asking.specs.declared.sizes.Asked.{Asked}
+use Rattle.asking.specs.declared.sizes.Asked.the-variants.{Are, Not}
+
+-- ---- numbers
+
+-- a text, and the whole number of 32 bits that it is
+record Row : Type 0 where
+  text : String
+  is : Option ℤ
+
+abbrev reads : String → ℤ → Row
+reads t z = record { text = t; is = some z }
+
+abbrev fails : String → Row
+fails t = record { text = t; is = none }
+
+abbrev rows : List Row
+rows =
+    reads "2147483647" (pos 2147483647) ∷
+    fails "2147483648" ∷
+    reads "-2147483648" (negsuc 2147483647) ∷
+    fails "-2147483649" ∷
+    reads "+5" (pos 5) ∷
+    reads "-0" (pos 0) ∷
+    reads "007" (pos 7) ∷
+    fails "" ∷
+    fails "-" ∷
+    fails "+" ∷
+    fails "--5" ∷
+    fails "1 2" ∷
+    fails "two" ∷
+    -- what is past 64 bits, so that it cannot come round to a small number
+    fails "18446744073709551617" ∷
+    []
+
+abbrev Right : List Row → Type 0
+Right [] = Unit {0}
+Right (r ∷ l) = (wholeOf (bytes (r .text)) ≡ r .is) × Right l
+
+pub whole-numbers : Right rows
+unfolding wholeOf integerOf within negated counted numberOf spelled digits digit valueFrom
+whole-numbers = (refl, (refl, (refl, (refl, (refl, (refl, (refl, (refl, (refl, (refl, (refl, (refl, (refl, (refl, tt))))))))))))))
+
+pub largest-natural : naturalOf (bytes "18446744073709551615") ≡ some 18446744073709551615
+unfolding naturalOf spelled digits digit valueFrom
+largest-natural = refl
+
+pub too-large-natural : naturalOf (bytes "18446744073709551616") ≡ none
+unfolding naturalOf spelled digits digit valueFrom
+too-large-natural = refl
+
+pub natural-without-sign : naturalOf (bytes "+5") ≡ none
+unfolding naturalOf spelled digits digit valueFrom
+natural-without-sign = refl
+
+-- ---- words, of a text whose blanks are the zeros of a line
+
+abbrev line : String → List ℕ
+line t = map unblanked (bytes t)
+
+pub words-of-line : wordsOf (line "run a.alg -l 5 ") ≡ bytes "run" ∷ bytes "a.alg" ∷ bytes "-l" ∷ bytes "5" ∷ []
+unfolding cut ended unblanked blank
+words-of-line = refl
+
+-- empty words are none, and the last word needs no zero behind it
+pub empty-words : wordsOf (line "  run   a.alg") ≡ bytes "run" ∷ bytes "a.alg" ∷ []
+unfolding cut ended unblanked blank
+empty-words = refl
+
+pub no-words : wordsOf (line "   ") ≡ []
+unfolding cut ended unblanked blank
+no-words = refl
+
+-- every --plain is passed over, and no part of a word is one
+pub plain-passed-over : asked (wordsOf (line "--plain run --plain --plain a --plainer")) ≡ bytes "run" ∷ bytes "a" ∷ bytes "--plainer" ∷ []
+unfolding asked equal cut ended unblanked blank
+plain-passed-over = refl
+
+pub plain-is-there : has (wordsOf (line "run a --plain")) plain ≡ true
+unfolding has equal cut ended unblanked blank
+plain-is-there = refl
+
+pub plain-is-not-there : has (wordsOf (line "run a --plai n")) plain ≡ false
+unfolding has equal cut ended unblanked blank
+plain-is-not-there = refl
+
+-- ---- jobs and options
+
+pub job-run : jobOf (bytes "run") ≡ Run
+unfolding jobOf jobIn equal
+job-run = refl
+
+pub job-other : jobOf (bytes "Run") ≡ Other
+unfolding jobOf jobIn equal
+job-other = refl
+
+abbrev sizesIn : String → Asked
+sizesIn t = sizesOf (asked (wordsOf (line t)))
+
+pub usual-sizes : sizesIn "a 1200 25" ≡ Are (record { limit = 1000000; cells = 8192; room = 65536 })
+unfolding sizesOf together optionOf firstNumber naturalOf spelled digits digit valueFrom asked equal cut ended unblanked blank
+usual-sizes = refl
+
+pub asked-sizes : sizesIn "-o 0 a -l --plain 7 1200 -c 8192 -l 8" ≡ Are (record { limit = 7; cells = 8192; room = 0 })
+unfolding sizesOf together optionOf firstNumber naturalOf spelled digits digit valueFrom asked equal cut ended unblanked blank
+asked-sizes = refl
+
+pub too-many-cells : sizesIn "a -c 8193" ≡ Not
+unfolding sizesOf together optionOf firstNumber naturalOf spelled digits digit valueFrom asked equal cut ended unblanked blank
+too-many-cells = refl
+
+pub missing-limit : sizesIn "a -l" ≡ Not
+unfolding sizesOf together optionOf firstNumber naturalOf spelled digits digit valueFrom asked equal cut ended unblanked blank
+missing-limit = refl
+
+pub file-behind-options : pastOptions (wordsOf (line "-o 1 -l 5 a 1200 -c 3")) ≡ bytes "a" ∷ bytes "1200" ∷ bytes "-c" ∷ bytes "3" ∷ []
+unfolding pastOptions isOption equal cut ended unblanked blank
+file-behind-options = refl
+
+pub numbers-of-run : numbersIn false (wordsOf (line "1200 -c 3 - 25 -o -l 2")) ≡ bytes "1200" ∷ bytes "25" ∷ bytes "2" ∷ []
+unfolding numbersIn isOption equal cut ended unblanked blank
+numbers-of-run = refl

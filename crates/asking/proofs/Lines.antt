@@ -1,0 +1,214 @@
+-- Laws of Words: where the next word of a line stands, by the words of what is left of the line.
+use mathlib.Core.Path.{_≡_, refl, sym, ap, _∙_}
+use mathlib.Core.Bool.{Bool, true, false, cond, _&&_, _||_, and-false, true≢false, false≢true}
+use mathlib.Core.List.{List, [], _∷_, _++_, map, append-nil, append-assoc}
+use Prim.Native.Nat.{ℕ, zero, suc, _+_, _-_, _≤_, _<_, min}
+use native.Mathlib.Omega.{arith}
+use native.Mathlib.Numerals.{add-one}
+use lib.Dec.{eqb, leb}
+use lib.ListN.{length, getD, take, drop, set, length-map, length-drop, drop-of-length-le, List·getD-map}
+use lib.Seq.{drop-drop, drop-nil, length-take-le, take-suc, set-at, append-snoc}
+use borrow.Author.Tests.{eq-eqb, ne-eqb, le-leb, lt-leb, leb-true, leb-false}
+use Rattle.symbols.specs.Names.{equal}
+use Rattle.symbols.specs.Scan.{before}
+use Rattle.symbols.proofs.Laws.{peel, before-take, equal-length}
+use Rattle.asking.specs.Words.{ended, cut, wordsOf, has, plain, asked, askedFrom, part, isPart, zeros, unblanked, WordFrom}
+use Rattle.asking.specs.declared.words.Word.{Word}
+
+-- ---- zeros from a place on
+
+module _ (s : List ℕ) (i : ℕ) where
+  pub zeros-on : i < length s → getD s i 0 ≡ 0 → zeros (drop i s) ≡ suc (zeros (drop (i + 1) s))
+  unfolding zeros
+  zeros-on h e = rw (peel s i h, eq-eqb (getD s i 0) 0 e)
+
+  pub zeros-stop : i < length s → (getD s i 0 ≡ 0 → ⊥) → zeros (drop i s) ≡ 0
+  unfolding zeros
+  zeros-stop h e = rw (peel s i h, ne-eqb (getD s i 0) 0 e)
+
+  pub zeros-end : length s ≤ i → zeros (drop i s) ≡ 0
+  unfolding zeros
+  zeros-end h = rw (drop-of-length-le s h)
+
+pub zeros-most : (bs : List ℕ) → zeros bs ≤ length bs
+unfolding zeros
+zeros-most [] = omega arith
+zeros-most (b ∷ bs) = go (eqb b 0) (zeros-most bs)
+  where
+    go : (t : Bool) → zeros bs ≤ length bs → cond t (suc (zeros bs)) 0 ≤ suc (length bs)
+    go true h = omega arith
+    go false h = omega arith
+
+pub before-most : (q : ℕ) (bs : List ℕ) → length (before q bs) ≤ length bs
+unfolding before
+before-most q [] = omega arith
+before-most q (b ∷ bs) = go (eqb b q) (before-most q bs)
+  where
+    go : (t : Bool) → length (before q bs) ≤ length bs → length (cond t [] (b ∷ before q bs)) ≤ suc (length bs)
+    go true h = omega arith
+    go false h = omega arith
+
+-- behind the zeros there is none
+zeros-gone : (bs : List ℕ) → zeros (drop (zeros bs) bs) ≡ 0
+unfolding zeros
+zeros-gone [] = refl
+zeros-gone (b ∷ bs) = go (eqb b 0) refl (zeros-gone bs)
+  where
+    go : (t : Bool) → eqb b 0 ≡ t → zeros (drop (zeros bs) bs) ≡ 0 → zeros (drop (cond t (suc (zeros bs)) 0) (b ∷ bs)) ≡ 0
+    go true e h = h
+    go false e h = rw e
+
+-- ---- the words of a line, by its zeros and by its first run of other bytes
+
+words-zeros : (bs : List ℕ) → wordsOf bs ≡ wordsOf (drop (zeros bs) bs)
+unfolding zeros cut ended
+words-zeros [] = refl
+words-zeros (b ∷ bs) = go (eqb b 0) refl (words-zeros bs)
+  where
+    go : (t : Bool) → eqb b 0 ≡ t → cut [] bs ≡ cut [] (drop (zeros bs) bs)
+        → cond t (cut [] bs) (cut (b ∷ []) bs) ≡ cut [] (drop (cond t (suc (zeros bs)) 0) (b ∷ bs))
+    go true e h = h
+    go false e h = rw e
+
+cut-run : (w bs : List ℕ) → cut w bs ≡ ended (w ++ before 0 bs) (cut [] (drop (length (before 0 bs)) bs))
+unfolding before cut ended
+cut-run w [] = rw (append-nil w)
+cut-run w (b ∷ bs) = go (eqb b 0) refl (cut-run (w ++ (b ∷ [])) bs)
+  where
+    go : (t : Bool) → eqb b 0 ≡ t → cut (w ++ (b ∷ [])) bs ≡ ended (w ++ (b ∷ []) ++ before 0 bs) (cut [] (drop (length (before 0 bs)) bs))
+        → cond t (ended w (cut [] bs)) (cut (w ++ (b ∷ [])) bs) ≡ ended (w ++ cond t [] (b ∷ before 0 bs)) (cut [] (drop (length (cond t [] (b ∷ before 0 bs))) (b ∷ bs)))
+    go true e h = rw (append-nil w, e)
+    go false e h = h ∙ rw (append-assoc w (b ∷ []) (before 0 bs))
+
+-- where no zero stands first and nothing before a zero, nothing is left
+run-none : (bs : List ℕ) → zeros bs ≡ 0 → length (before 0 bs) ≡ 0 → bs ≡ []
+unfolding zeros before
+run-none [] z n = refl
+run-none (b ∷ bs) z n = go (eqb b 0) z n
+  where
+    go : (t : Bool) → cond t (suc (zeros bs)) 0 ≡ 0 → length (cond t [] (b ∷ before 0 bs)) ≡ 0 → b ∷ bs ≡ []
+    go true z n = absurd (omega arith)
+    go false z n = absurd (omega arith)
+
+ended-some : (w : List ℕ) (ws : List (List ℕ)) → 0 < length w → ended w ws ≡ w ∷ ws
+unfolding ended
+ended-some [] ws h = absurd (omega arith)
+ended-some (b ∷ w) ws h = refl
+
+-- ---- the next word
+
+module _ (line : List ℕ) (at : ℕ) (w : Word) (h : WordFrom line at w) where
+  behind-zeros : drop (w .from) line ≡ drop (zeros (drop at line)) (drop at line)
+  behind-zeros = go (leb at (length line)) refl
+    where
+      go : (t : Bool) → leb at (length line) ≡ t → drop (w .from) line ≡ drop (zeros (drop at line)) (drop at line)
+      go true e =
+          let f : w .from ≡ at + zeros (drop at line) = omega (arith, h .starts, leb-true at (length line) e) in
+          rw f (sym (drop-drop (zeros (drop at line)) at line))
+      go false e =
+          let l = leb-false at (length line) e in
+          let k : length line ≤ w .from = omega (arith, h .starts) in
+          let m : length line ≤ at = omega arith in
+          rw (drop-of-length-le line k, drop-of-length-le line m) (sym (drop-nil (zeros [])))
+
+  run-is : part line (w .from) (w .to) ≡ before 0 (drop (w .from) line)
+  run-is = let e : w .to - w .from ≡ length (before 0 (drop (w .from) line)) = omega (arith, h .ends) in rw e (before-take 0 (drop (w .from) line))
+
+  run-long : length (part line (w .from) (w .to)) ≡ w .to - w .from
+  run-long = ap length run-is ∙ omega (arith, h .ends)
+
+  words-run : wordsOf (drop at line) ≡ ended (part line (w .from) (w .to)) (wordsOf (drop (w .to) line))
+  words-run =
+      let bs = drop (w .from) line in
+      let e : wordsOf (drop at line) ≡ wordsOf bs = words-zeros (drop at line) ∙ ap wordsOf (sym behind-zeros) in
+      let d : drop (length (before 0 bs)) bs ≡ drop (w .to) line = drop-drop (length (before 0 bs)) (w .from) line ∙ ap (λ (n : ℕ). drop n line) (sym (h .ends)) in
+      e ∙ cut-run [] bs ∙ rw (run-is, d)
+
+  nothing-left : w .from ≡ w .to → drop (w .from) line ≡ []
+  nothing-left e =
+      let bs = drop (w .from) line in
+      let n : length (before 0 bs) ≡ 0 = omega (arith, h .ends) in
+      let z : zeros bs ≡ 0 = rw behind-zeros (zeros-gone (drop at line)) in
+      run-none bs z n
+
+  pub word-end : w .from ≡ w .to → w .to ≡ length line
+  word-end e = omega (arith, length-drop (w .from) line, ap length (nothing-left e), h .ordered, h .inside)
+
+  pub word-none : w .from ≡ w .to → wordsOf (drop at line) ≡ []
+  unfolding cut ended
+  word-none e = words-zeros (drop at line) ∙ ap wordsOf (sym behind-zeros ∙ nothing-left e)
+
+  pub word-first : w .from < w .to → wordsOf (drop at line) ≡ part line (w .from) (w .to) ∷ wordsOf (drop (w .to) line)
+  word-first l = words-run ∙ ended-some (part line (w .from) (w .to)) (wordsOf (drop (w .to) line)) (omega (arith, run-long))
+
+-- ---- the bytes from a place up to another
+
+module _ (line : List ℕ) (from to : ℕ) (text : List ℕ) where
+  pub part-here : from ≤ to → to ≤ length line → isPart line from to text ≡ equal (part line from to) text
+  unfolding isPart
+  part-here h k = rw (le-leb from to h, le-leb to (length line) k)
+
+  pub part-turned : to < from → isPart line from to text ≡ false
+  unfolding isPart
+  part-turned h = rw (lt-leb from to h)
+
+  pub part-outside : length line < to → isPart line from to text ≡ false
+  unfolding isPart
+  part-outside h = rw (lt-leb to (length line) h, and-false (leb from to))
+
+-- ---- a word among those of a line
+
+module _ (line : List ℕ) (at : ℕ) (w : Word) (h : WordFrom line at w) (text : List ℕ) where
+  pub has-none : w .from ≡ w .to → has (wordsOf (drop at line)) text ≡ false
+  unfolding has
+  has-none e = rw (word-none line at w h e)
+
+  pub has-here : w .from < w .to → isPart line (w .from) (w .to) text ≡ true → has (wordsOf (drop at line)) text ≡ true
+  unfolding has
+  has-here l e = rw (word-first line at w h l, sym (part-here line (w .from) (w .to) text (h .ordered) (h .inside)) ∙ e)
+
+  pub has-later : w .from < w .to → isPart line (w .from) (w .to) text ≡ false → has (wordsOf (drop at line)) text ≡ has (wordsOf (drop (w .to) line)) text
+  unfolding has
+  has-later l e = rw (word-first line at w h l, sym (part-here line (w .from) (w .to) text (h .ordered) (h .inside)) ∙ e)
+
+pub has-nothing : (line text : List ℕ) (at : ℕ) → length line ≤ at → has (wordsOf (drop at line)) text ≡ false
+unfolding has cut ended
+has-nothing line text at h = rw (drop-of-length-le line h)
+
+-- ---- words but --plain
+
+module _ (line : List ℕ) (at : ℕ) (w : Word) (h : WordFrom line at w) where
+  pub plain-long : isPart line (w .from) (w .to) plain ≡ true → w .from < w .to
+  plain-long e = go (leb (w .to) (w .from)) refl
+    where
+      go : (t : Bool) → leb (w .to) (w .from) ≡ t → w .from < w .to
+      go true f =
+          let l = leb-true (w .to) (w .from) f in
+          let n : length (part line (w .from) (w .to)) ≡ 7 → ⊥ = λ q. omega (arith, run-long line at w h, q) in
+          absurd (false≢true (sym (equal-length (part line (w .from) (w .to)) plain n) ∙ sym (part-here line (w .from) (w .to) plain (h .ordered) (h .inside)) ∙ e))
+      go false f = leb-false (w .to) (w .from) f
+
+  pub plain-passed : isPart line (w .from) (w .to) plain ≡ true → askedFrom line at ≡ askedFrom line (w .to)
+  unfolding asked
+  plain-passed e = rw (word-first line at w h (plain-long e), sym (part-here line (w .from) (w .to) plain (h .ordered) (h .inside)) ∙ e)
+
+  pub asked-none : w .from ≡ w .to → askedFrom line at ≡ []
+  unfolding asked
+  asked-none e = rw (word-none line at w h e)
+
+  pub asked-first : isPart line (w .from) (w .to) plain ≡ false → w .from < w .to
+      → askedFrom line at ≡ part line (w .from) (w .to) ∷ askedFrom line (w .to)
+  unfolding asked
+  asked-first e l = rw (word-first line at w h l, sym (part-here line (w .from) (w .to) plain (h .ordered) (h .inside)) ∙ e)
+
+-- ---- a text as a line: one byte more of it is put into the row
+
+module _ (text row : List ℕ) (i : ℕ) (h : i < length text) (k : i < length row) where
+  pub row-more : set (take i (map unblanked text) ++ drop i row) i (unblanked (getD text i 0)) ≡ take (i + 1) (map unblanked text) ++ drop (i + 1) row
+  row-more =
+      let m = map unblanked text in
+      let v = unblanked (getD text i 0) in
+      let l : i < length m = omega (arith, length-map text unblanked) in
+      let n : length (take i m) ≡ i = length-take-le i m (omega arith) in
+      let e : take (i + 1) m ≡ take i m ++ (v ∷ []) = rw (add-one i) (take-suc m i (unblanked 0) l ∙ ap (λ (x : ℕ). take i m ++ (x ∷ [])) (List·getD-map unblanked text i 0)) in
+      rw (peel row i k, e) (set-at (take i m) (getD row i 0) (drop (i + 1) row) v i n ∙ sym (append-snoc (take i m) v (drop (i + 1) row)))

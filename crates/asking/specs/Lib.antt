@@ -1,0 +1,4 @@
+pub mod Numerals
+pub mod Words
+pub mod Jobs
+pub mod Options

@@ -1,0 +1,128 @@
+// A line of words, each ended by a zero, so that a word can hold blanks. An empty word is none.
+use symbols::text::find;
+use symbols::text::is_blank;
+use symbols::text::same_bytes;
+ghost use mathlib.Core.Path.{_≡_};
+ghost use Prim.Native.Nat.{_+_};
+ghost use lib.ListN.{drop};
+ghost use Rattle.asking.specs.Words.{wordsOf, zeros, has, plain, askedFrom, isPart, unblanked, WordFrom, First, LineOf};
+
+// A word of a line: its first byte, and the byte behind it. Where there is none, both are the line's end.
+pub struct Word {
+    pub from: usize,
+    pub to: usize,
+}
+
+// The first place from `at` on that has no zero.
+fn zeros_end(line: &[u8], at: usize) -> usize
+    ensures { λ r. ⌜ r ≡ at + zeros (drop at (now (line .entry))) ⌝ }
+{
+    let mut i = at;
+    while i < line.len() {
+        if line[i] != 0 {
+            return i;
+        }
+        i += 1;
+    }
+    i
+}
+
+// The next word from `at` on.
+pub fn word_from(line: &[u8], at: usize) -> Word
+    ensures { λ r. ⌜ WordFrom (now (line .entry)) at r ⌝ }
+{
+    if line.len() <= at {
+        return Word {
+            from: line.len(),
+            to: line.len(),
+        };
+    }
+    let from = zeros_end(line, at);
+    let to = find(line, from, 0);
+    Word { from, to }
+}
+
+// Whether the bytes from `from` up to `to` are this text. Where there are no such bytes they are not.
+pub fn is_word(line: &[u8], from: usize, to: usize, text: &[u8]) -> bool
+    ensures { λ r. ⌜ r ≡ isPart (now (line .entry)) from to (now (text .entry)) ⌝ }
+{
+    if to < from {
+        return false;
+    }
+    if line.len() < to {
+        return false;
+    }
+    same_bytes(&line[from..to], text)
+}
+
+// Whether the line has this word from `from` on.
+pub fn has_word(line: &[u8], from: usize, text: &[u8]) -> bool
+    ensures { λ r. ⌜ r ≡ has (wordsOf (drop from (now (line .entry)))) (now (text .entry)) ⌝ }
+{
+    let mut at = from;
+    while at < line.len() {
+        let w = word_from(line, at);
+        let a = w.from;
+        let b = w.to;
+        if a == b {
+            return false;
+        }
+        if is_word(line, a, b, text) {
+            return true;
+        }
+        at = b;
+    }
+    false
+}
+
+// Whether the line has the word --plain.
+pub fn is_plain(line: &[u8]) -> bool
+    ensures { λ r. ⌜ r ≡ has (wordsOf (now (line .entry))) plain ⌝ }
+{
+    has_word(line, 0, b"--plain")
+}
+
+// Whether the bytes from `from` up to `to` are --plain.
+fn is_plain_word(line: &[u8], from: usize, to: usize) -> bool
+    ensures { λ r. ⌜ r ≡ isPart (now (line .entry)) from to plain ⌝ }
+{
+    is_word(line, from, to, b"--plain")
+}
+
+// The next word from `at` on that is not --plain.
+pub fn next_word(line: &[u8], at: usize) -> Word
+    ensures { λ r. ⌜ First (askedFrom (now (line .entry))) (now (line .entry)) at r ⌝ }
+{
+    let mut i = at;
+    loop {
+        let w = word_from(line, i);
+        let a = w.from;
+        let b = w.to;
+        if !is_plain_word(line, a, b) {
+            return w;
+        }
+        i = b;
+    }
+}
+
+// A byte of a text whose words are ended by blanks, as one of a line.
+fn unblank(b: u8) -> u8
+    ensures { λ r. ⌜ r ≡ unblanked b ⌝ }
+{
+    if is_blank(b) { 0 } else { b }
+}
+
+// A text as a line, as much as the row takes; gives how many bytes.
+pub fn line_of(text: &[u8], row: &mut [u8]) -> usize
+    ensures { λ r. ⌜ LineOf (now (text .entry)) (now (row .entry)) r (now (row .exit)) ⌝ }
+{
+    let mut i: usize = 0;
+    while i < text.len() {
+        if row.len() <= i {
+            return i;
+        }
+        row[i] = unblank(text[i]);
+        i += 1;
+    }
+    i
+}
