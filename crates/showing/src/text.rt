@@ -4,9 +4,11 @@ use libc::STDERR_FILENO;
 use libc::STDOUT_FILENO;
 use symbols::text::is_blank;
 use symbols::text::is_name_byte;
-ghost use Prim.Native.Nat.{_≤_};
+ghost use mathlib.Core.Path.{_≡_};
+ghost use Prim.Native.Nat.{_≤_, min};
 ghost use Rattle.io.specs.Counts.{Counts};
 ghost use lib.ListN.{length};
+ghost use Rattle.showing.specs.Pages.{lineOf, columnOf, startOf};
 
 // No source is longer than the room that it is read into.
 const LONGEST: usize = 65536;
@@ -31,7 +33,7 @@ pub fn complain(text: &[u8]) {
 
 // The least of two.
 pub fn least(a: usize, b: usize) -> usize
-    ensures { λ r. ⌜ (r ≤ a) × (r ≤ b) ⌝ }
+    ensures { λ r. ⌜ r ≡ min a b ⌝ }
 {
     if a < b { a } else { b }
 }
@@ -43,7 +45,11 @@ pub struct Spot {
     pub start: usize,
 }
 
+// The spot of a place, also of one behind the end of the source; one past the longest source is cut.
 pub fn spot_of(source: &[u8], place: usize) -> Spot
+    ensures line { λ r. ⌜ r .line ≡ lineOf (now (source .entry)) (min place 65536) ⌝ }
+    ensures column { λ r. ⌜ r .column ≡ columnOf (now (source .entry)) (min place 65536) ⌝ }
+    ensures start { λ r. ⌜ r .start ≡ startOf (now (source .entry)) (min place 65536) ⌝ }
     ensures { λ r. ⌜ r .start ≤ place ⌝ }
 {
     let end = least(place, LONGEST);
