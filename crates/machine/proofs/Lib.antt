@@ -1,4 +1,5 @@
 pub mod Signed
+pub mod Wholes
 pub mod Decode
 pub mod Stacks
 pub mod Frames

@@ -1,1 +1,3 @@
-pub mod Shown
+pub mod Lines
+pub mod Rows
+pub mod Examples

@@ -4,9 +4,13 @@ use libc::STDERR_FILENO;
 use libc::STDOUT_FILENO;
 use symbols::text::is_blank;
 use symbols::text::is_name_byte;
-ghost use Prim.Native.Nat.{_≤_};
+ghost use mathlib.Core.Path.{_≡_};
+ghost use mathlib.Core.Bool.{cond};
+ghost use Prim.Native.Nat.{_≤_, min};
 ghost use Rattle.io.specs.Counts.{Counts};
 ghost use lib.ListN.{length};
+ghost use Rattle.showing.specs.Pages.{lineOf, columnOf, startOf, Fills, shownByte, shownFrom, goesOn, underByte, marksFrom};
+ghost use Rattle.symbols.specs.Names.{lettersAt};
 
 // No source is longer than the room that it is read into.
 const LONGEST: usize = 65536;
@@ -41,7 +45,7 @@ pub fn complain(text: &[u8]) {
 
 // The least of two.
 pub fn least(a: usize, b: usize) -> usize
-    ensures { λ r. ⌜ (r ≤ a) × (r ≤ b) ⌝ }
+    ensures { λ r. ⌜ r ≡ min a b ⌝ }
 {
     if a < b { a } else { b }
 }
@@ -53,7 +57,11 @@ pub struct Spot {
     pub start: usize,
 }
 
+// The spot of a place, also of one behind the end of the source; one past the longest source is cut.
 pub fn spot_of(source: &[u8], place: usize) -> Spot
+    ensures line { λ r. ⌜ r .line ≡ lineOf (now (source .entry)) (min place 65536) ⌝ }
+    ensures column { λ r. ⌜ r .column ≡ columnOf (now (source .entry)) (min place 65536) ⌝ }
+    ensures start { λ r. ⌜ r .start ≡ startOf (now (source .entry)) (min place 65536) ⌝ }
     ensures { λ r. ⌜ r .start ≤ place ⌝ }
 {
     let end = least(place, LONGEST);
@@ -97,7 +105,9 @@ fn shown_from(start: usize, place: usize) -> usize
 }
 
 // A byte as it is shown: nothing in a source moves the cursor but a tab.
-fn shown(b: u8) -> u8 {
+fn shown(b: u8) -> u8
+    ensures { λ r. ⌜ r ≡ shownByte b ⌝ }
+{
     match b {
         9 => 9,
         13 => 32,
@@ -109,6 +119,7 @@ fn shown(b: u8) -> u8 {
 
 // The bytes of a line from a place on, as many as the row takes; gives how many.
 fn line_row(source: &[u8], from: usize, row: &mut [u8]) -> usize
+    ensures { λ r. ⌜ Fills (shownFrom (now (source .entry)) from) (now (row .entry)) (now (row .exit)) r ⌝ }
     ensures { λ r. ⌜ Counts r (now (row .exit)) ⌝ }
 {
     let mut n: usize = 0;
@@ -129,7 +140,9 @@ fn line_row(source: &[u8], from: usize, row: &mut [u8]) -> usize
 
 // What stands under a byte before the mark: a tab under a tab, a blank under anything else, and nothing under a byte
 // that only goes on with a character.
-fn under(b: u8) -> u8 {
+fn under(b: u8) -> u8
+    ensures { λ r. ⌜ r ≡ cond (goesOn b) 0 (underByte b) ⌝ }
+{
     match b {
         9 => 9,
         128..=191 => 0,
@@ -139,6 +152,7 @@ fn under(b: u8) -> u8 {
 
 // What stands before the mark, as many bytes as the row takes; gives how many.
 fn mark_row(source: &[u8], from: usize, place: usize, row: &mut [u8]) -> usize
+    ensures { λ r. ⌜ Fills (marksFrom (now (source .entry)) from place) (now (row .entry)) (now (row .exit)) r ⌝ }
     ensures { λ r. ⌜ Counts r (now (row .exit)) ⌝ }
 {
     let mut n: usize = 0;
@@ -191,6 +205,7 @@ pub fn show_line(source: &[u8], place: usize) {
 
 // The letters and digits of the name at a place, as many as the row takes; gives how many.
 fn name_row(source: &[u8], at: usize, row: &mut [u8]) -> usize
+    ensures { λ r. ⌜ Fills (lettersAt (now (source .entry)) at) (now (row .entry)) (now (row .exit)) r ⌝ }
     ensures { λ r. ⌜ Counts r (now (row .exit)) ⌝ }
 {
     let mut n: usize = 0;

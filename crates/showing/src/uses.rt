@@ -4,9 +4,13 @@ use crate::text::say;
 use crate::text::say_name;
 use crate::text::say_number;
 use crate::text::say_spot;
+ghost use mathlib.Core.Path.{_≡_};
 ghost use Prim.Native.Nat.{_<_, _≤_};
+ghost use lib.ListN.{getD};
+ghost use Rattle.showing.specs.Pages.{rowsAt, nodesAt};
 
 fn wide(word: u16) -> usize
+    ensures { λ r. ⌜ r ≡ word ⌝ }
     ensures { λ r. ⌜ r < 65536 ⌝ }
 {
     word as usize
@@ -14,6 +18,7 @@ fn wide(word: u16) -> usize
 
 // A word of the table; 0 behind its end.
 pub fn word(table: &[u16], at: usize) -> usize
+    ensures { λ r. ⌜ r ≡ getD (now (table .entry)) at 0 ⌝ }
     ensures { λ r. ⌜ r < 65536 ⌝ }
 {
     if at < table.len() {
@@ -29,6 +34,8 @@ pub struct Sections {
 }
 
 pub fn sections_of(table: &[u16]) -> Sections
+    ensures declarations { λ r. ⌜ r .declarations ≡ rowsAt (now (table .entry)) ⌝ }
+    ensures nodes { λ r. ⌜ r .nodes ≡ nodesAt (now (table .entry)) ⌝ }
     ensures { λ r. ⌜ r .declarations < 262144 ⌝ }
     ensures { λ r. ⌜ r .nodes < 524288 ⌝ }
 {

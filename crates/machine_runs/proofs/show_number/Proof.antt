@@ -1,6 +1,6 @@
 -- The magnitude of a number below 0 is one more than −1 less it.
 use mir.Facts.{toZ-ofZ}
-use Rattle.machine_runs.proofs.Shown.{shown, rest-fits, rest-shown, rest-more}
+use Rattle.machine.proofs.Wholes.{shown, rest-fits, rest-shown, rest-more}
 use borrow.Author.Needs.{needs}
 use Rattle.machine_runs.proofs.show_number.Statement.{statement}
 use Rattle.machine_runs.proofs.show_number.Tie as tie

@@ -3,7 +3,7 @@ use Prim.Native.Nat.{_≤_, _-_}
 use borrow.Author.Needs.{needs}
 use lib.ListN.{length, getD}
 use lib.IntN.{pos}
-use Rattle.machine_runs.proofs.Shown.{wide}
+use Rattle.machine.proofs.Wholes.{wide}
 use Rattle.machine_runs.proofs.show_output.Statement.{statement}
 use Rattle.machine_runs.proofs.show_output.Tie as tie
 

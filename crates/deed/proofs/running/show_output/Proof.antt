@@ -3,7 +3,7 @@
 use Prim.Native.Nat.{_-_, _≤_}
 use lib.ListN.{getD}
 use lib.IntN.{pos}
-use Rattle.showing.proofs.Shown.{wide}
+use Rattle.machine.proofs.Wholes.{wide}
 use borrow.Author.Needs.{needs}
 use lib.ListN.{length}
 use Rattle.deed.proofs.running.show_output.Statement.{statement}

@@ -1,31 +1,67 @@
--- `showing::text::line_row` meets its contract. No more bytes are put than the row takes.
+-- `showing::text::line_row` meets its contract. The row holds the first n bytes of the line as they are shown, and the others are ahead from i on.
 -- Assumes nothing.
-use Prim.Native.Nat.{_-_, _≤_}
-use mathlib.Core.Path.{_≡_}
-use lib.ListN.{length-set}
+use Prim.Native.Nat.{ℕ, _+_, _-_, _≤_, _<_}
+use mathlib.Core.Path.{_≡_, refl, sym, ap, _∙_}
+use mathlib.Core.Bool.{true, false}
+use mathlib.Core.List.{List, [], _∷_}
+use lib.Dec.{eqb}
+use lib.ListN.{length, getD, drop, drop-of-length-le}
 use Rattle.io.proofs.Counting.{counts}
 use borrow.Author.Needs.{needs}
-use lib.ListN.{length}
+use borrow.Author.Tests.{eq-eqb, ne-eqb}
+use Rattle.symbols.specs.Scan.{before}
+use Rattle.symbols.proofs.Laws.{peel}
+use Rattle.showing.specs.Pages.{shownByte, shownFrom}
+use Rattle.showing.proofs.Rows.{Filled, first, full, ended, put}
 use Rattle.showing.proofs.text.line_row.Statement.{statement}
 use Rattle.showing.proofs.text.line_row.Tie as tie
 
+-- ---- what is shown from i on, by what is shown from i + 1 on
+
+module _ (s : List ℕ) (i : ℕ) where
+  shown-on : i < length s → eqb (getD s i 0) 10 ≡ false → shownFrom s i ≡ shownByte (getD s i 0) ∷ shownFrom s (i + 1)
+  unfolding shownFrom before
+  shown-on h e = rw (peel s i h, e)
+
+  shown-stop : i < length s → eqb (getD s i 0) 10 ≡ true → shownFrom s i ≡ []
+  unfolding shownFrom before
+  shown-stop h e = rw (peel s i h, e)
+
+  shown-end : length s ≤ i → shownFrom s i ≡ []
+  unfolding shownFrom before
+  shown-end h = rw (drop-of-length-le s h)
+
+-- ---- the answers
+
 abbrev Inv-loop : tie.InvT-loop
-Inv-loop source from row₀ n₀ i₀ row n i = (length row ≡ length row₀) × (n ≤ length row)
+Inv-loop source from row₀ n₀ i₀ row n i = Filled (shownFrom source from) row₀ row (shownFrom source i) n
 
 abbrev μ-loop : tie.MeasureT-loop
 μ-loop source from row₀ n₀ i₀ row n i = length source - i
 
+loop-holds : tie.Need-loop-holds Inv-loop μ-loop
+loop-holds c = first _ _
+
 returns : tie.Need-returns Inv-loop μ-loop
-returns c = counts _ _ (search needs)
+returns c = (full (c .before .before .loop .inv) (c .if1 .taken), counts _ _ (search needs))
 
 returns-2 : tie.Need-returns-2 Inv-loop μ-loop
-returns-2 c = counts _ _ (search needs)
+returns-2 c =
+    let s = c .before .before .before .before .before .before .before .args .source .now in
+    let l = c .before .before .before .before .loop in
+    (ended (l .inv) (shown-stop s (l .i) (c .before .before .before .loop-test .taken) (eq-eqb (getD s (l .i) 0) 10 (c .if2 .taken))), counts _ _ (search needs))
 
 loop-again : tie.Need-loop-again Inv-loop μ-loop
-loop-again c = simp length-set (search needs)
+loop-again c =
+    let s = c .before .before .before .before .before .before .before .before .before .args .source .now in
+    let l = c .before .before .before .before .before .before .loop in
+    let t = shown-on s (l .i) (c .before .before .before .before .before .loop-test .taken) (ne-eqb (getD s (l .i) 0) 10 (c .before .before .if2 .left)) in
+    put (l .inv) (c .shown .result) _ (t ∙ ap (λ b. b ∷ shownFrom s (l .i + 1)) (sym (c .shown .ensures))) (c .before .before .before .before .if1 .left)
 
 returns-3 : tie.Need-returns-3 Inv-loop μ-loop
-returns-3 c = counts _ _ (search needs)
+returns-3 c =
+    let l = c .before .loop in
+    (ended (l .inv) (shown-end (c .before .before .before .before .args .source .now) (l .i) (c .loop-test .left)), counts _ _ (search needs))
 
 pub line-row-spec : {M : Type 1} → statement M
 line-row-spec =
@@ -33,7 +69,7 @@ line-row-spec =
     (tie.spec
     Inv-loop
     μ-loop
-    (λ c. search needs)
+    loop-holds
     (λ c. search needs)
     returns
     (λ c. search needs)

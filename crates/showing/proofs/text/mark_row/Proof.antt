@@ -1,33 +1,99 @@
--- `showing::text::mark_row` meets its contract. No more bytes are put than the row takes.
+-- `showing::text::mark_row` meets its contract. The row holds the first n bytes of what stands before the mark, and the others are ahead from i on.
 -- Assumes nothing.
-use Prim.Native.Nat.{_-_, _≤_}
+use Prim.Native.Nat.{ℕ, suc, _+_, _-_, _≤_, _<_}
 use native.Mathlib.Omega.{arith}
-use mathlib.Core.Path.{_≡_, ap}
-use lib.ListN.{length-set}
-use Rattle.io.proofs.Counting.{counts}
+use mathlib.Core.Path.{_≡_, refl, sym, ap, _∙_}
+use mathlib.Core.Bool.{Bool, true, false, cond}
+use mathlib.Core.List.{List, [], _∷_}
 use mathlib.Core.Logic.{⊎-elim}
+use lib.Dec.{eqb}
+use lib.ListN.{length, getD, take, drop, drop-of-length-le}
+use lib.Seq.{take-nil}
+use Rattle.io.proofs.Counting.{counts}
 use borrow.Author.Needs.{needs}
-use lib.ListN.{length}
+use Rattle.symbols.proofs.Laws.{peel}
+use Rattle.showing.specs.Pages.{goesOn, underByte, under, marksFrom}
+use Rattle.showing.proofs.Rows.{Filled, first, full, ended, passed, put}
 use Rattle.showing.proofs.text.mark_row.Statement.{statement}
 use Rattle.showing.proofs.text.mark_row.Tie as tie
 
+-- ---- what stands before the mark from i on, by what stands there from i + 1 on
+
+stands : (b : ℕ) → underByte b ≡ 0 → ⊥
+unfolding underByte
+stands b = go (eqb b 9)
+  where
+    go : (t : Bool) → _≡_ {A = ℕ} (cond t 9 32) 0 → ⊥
+    go true e = omega arith
+    go false e = omega arith
+
+one : (t : Bool) (x r : ℕ) (l : List ℕ) → r ≡ cond t 0 x → (r ≡ 0 → ⊥) → cond t l (x ∷ l) ≡ r ∷ l
+one true x r l e n = absurd (n e)
+one false x r l e n = ap (λ y. y ∷ l) (sym e)
+
+nothing : (t : Bool) (x r : ℕ) (l : List ℕ) → (x ≡ 0 → ⊥) → r ≡ cond t 0 x → r ≡ 0 → cond t l (x ∷ l) ≡ l
+nothing true x r l p e n = refl
+nothing false x r l p e n = absurd (p (sym e ∙ n))
+
+module _ (s : List ℕ) (i place : ℕ) where
+  marks-stop : place ≤ i → marksFrom s i place ≡ []
+  unfolding marksFrom under
+  marks-stop h = let z : place - i ≡ 0 = omega arith in rw z
+
+  marks-end : length s ≤ i → marksFrom s i place ≡ []
+  unfolding marksFrom under
+  marks-end h = rw (drop-of-length-le s h, take-nil)
+
+  module _ (h : i < length s) (k : i < place) where
+    next : marksFrom s i place ≡ under (getD s i 0 ∷ take (place - (i + 1)) (drop (i + 1) s))
+    unfolding marksFrom
+    next = let z : place - i ≡ suc (place - (i + 1)) = omega arith in rw (z, peel s i h)
+
+    marks-on : (r : ℕ) → r ≡ cond (goesOn (getD s i 0)) 0 (underByte (getD s i 0)) → (r ≡ 0 → ⊥) → marksFrom s i place ≡ r ∷ marksFrom s (i + 1) place
+    unfolding marksFrom under
+    marks-on r e n = next ∙ one (goesOn (getD s i 0)) (underByte (getD s i 0)) r (marksFrom s (i + 1) place) e n
+
+    marks-pass : (r : ℕ) → r ≡ cond (goesOn (getD s i 0)) 0 (underByte (getD s i 0)) → r ≡ 0 → marksFrom s i place ≡ marksFrom s (i + 1) place
+    unfolding marksFrom under
+    marks-pass r e n = next ∙ nothing (goesOn (getD s i 0)) (underByte (getD s i 0)) r (marksFrom s (i + 1) place) (stands (getD s i 0)) e n
+
+-- ---- the answers
+
 abbrev Inv-loop : tie.InvT-loop
-Inv-loop source from place row₀ n₀ i₀ row n i = (length row ≡ length row₀) × (n ≤ length row)
+Inv-loop source from place row₀ n₀ i₀ row n i = Filled (marksFrom source from place) row₀ row (marksFrom source i place) n
 
 abbrev μ-loop : tie.MeasureT-loop
 μ-loop source from place row₀ n₀ i₀ row n i = place - i
 
+loop-holds : tie.Need-loop-holds Inv-loop μ-loop
+loop-holds c = first _ _
+
 returns : tie.Need-returns Inv-loop μ-loop
-returns c = counts _ _ (search needs)
+returns c =
+    let a = c .before .before .before .before .before .args in
+    let l = c .before .before .loop in
+    (ended (l .inv) (marks-end (a .source .now) (l .i) (a .place) (c .if1 .taken)), counts _ _ (search needs))
 
 returns-2 : tie.Need-returns-2 Inv-loop μ-loop
-returns-2 c = counts _ _ (search needs)
+returns-2 c = (full (c .before .before .before .loop .inv) (c .if2 .taken), counts _ _ (search needs))
 
 loop-again : tie.Need-loop-again Inv-loop μ-loop
-loop-again c = ⊎-elim (λ w. (omega (arith, simp length-set at (ap length (w .1))), omega (arith, simp length-set at (ap length (w .1)), w .2))) (λ w. (omega (arith, ap length (w .1)), omega (arith, ap length (w .1), w .2))) (c .if3 .came)
+loop-again c =
+    let a = c .before .before .before .before .before .before .before .before .before .args in
+    let l = c .before .before .before .before .before .before .loop in
+    let h = c .before .before .before .before .if1 .left in
+    let k = c .before .before .before .before .before .loop-test .taken in
+    let u = c .before .under in
+    ⊎-elim
+    (λ w. rw (w .1, w .2) (put (l .inv) (u .result) _ (marks-on (a .source .now) (l .i) (a .place) h k (u .result) (u .ensures) (w .0 .taken)) (c .before .before .before .if2 .left)))
+    (λ w. rw (w .1, w .2) (passed (l .inv) _ (marks-pass (a .source .now) (l .i) (a .place) h k (u .result) (u .ensures) (w .0 .left))))
+    (c .if3 .came)
 
 returns-3 : tie.Need-returns-3 Inv-loop μ-loop
-returns-3 c = counts _ _ (search needs)
+returns-3 c =
+    let a = c .before .before .before .before .args in
+    let l = c .before .loop in
+    (ended (l .inv) (marks-stop (a .source .now) (l .i) (a .place) (c .loop-test .left)), counts _ _ (search needs))
 
 pub mark-row-spec : {M : Type 1} → statement M
 mark-row-spec =
@@ -35,7 +101,7 @@ mark-row-spec =
     (tie.spec
     Inv-loop
     μ-loop
-    (λ c. search needs)
+    loop-holds
     (λ c. search needs)
     returns
     (λ c. search needs)

@@ -1,7 +1,7 @@
 -- `showing::text::say_whole` meets its contract. The magnitude of a number below 0 is one more than −1 less it.
 -- Assumes nothing.
 use mir.Facts.{toZ-ofZ}
-use Rattle.showing.proofs.Shown.{shown, rest-fits, rest-shown, rest-more}
+use Rattle.machine.proofs.Wholes.{shown, rest-fits, rest-shown, rest-more}
 use borrow.Author.Needs.{needs}
 use Rattle.showing.proofs.text.say_whole.Statement.{statement}
 use Rattle.showing.proofs.text.say_whole.Tie as tie

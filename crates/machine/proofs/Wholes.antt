@@ -1,4 +1,4 @@
--- A number of 64 bits that is not below 0 is a count, and so is −1 less one that is.
+-- Whole numbers as they are shown: one of 64 bits that is not below 0 is a count, and so is −1 less one that is below 0.
 use mathlib.Core.Path.{_≡_, refl, sym, ap}
 use mathlib.Core.Bool.{Bool, true, false, cond, true≢false, false≢true}
 use Prim.Native.Nat.{ℕ, zero, suc, _+_, _-_, _≤_, _<_}

@@ -1,0 +1,70 @@
+-- What the tool shows of a source and of a table: lines and columns as people count them. These are definitions of the tool and no part of the paper.
+use Prim.Native.Nat.{ℕ, zero, suc, _+_, _-_, _*_, min}
+use mathlib.Core.Path.{_≡_}
+use mathlib.Core.Bool.{Bool, cond, _&&_, _||_}
+use mathlib.Core.List.{List, [], _∷_, _++_, map}
+use lib.Dec.{eqb, leb, ltb}
+use lib.ListN.{length, getD, take, drop}
+use Rattle.symbols.specs.Scan.{before}
+
+-- ---- lines and columns
+
+-- a newline stands at a place; behind the end of the source there is none
+abbrev pub newline : List ℕ → ℕ → Bool
+newline source p = eqb (getD source p 0) 10
+
+-- where the line of a place begins: behind the last newline before the place, and at 0 where there is none
+unfoldable pub startOf : List ℕ → ℕ → ℕ
+startOf source zero = 0
+startOf source (suc p) = cond (newline source p) (suc p) (startOf source p)
+
+-- its number: 1, and one more for each newline before the place
+unfoldable pub lineOf : List ℕ → ℕ → ℕ
+lineOf source zero = 1
+lineOf source (suc p) = cond (newline source p) (suc (lineOf source p)) (lineOf source p)
+
+-- how far the place is in its line, from 1
+unfoldable pub columnOf : List ℕ → ℕ → ℕ
+columnOf source p = p - startOf source p + 1
+
+-- ---- rows
+
+-- a text at the front of a row, n bytes of it, as many as the row takes; behind them the row is as it was
+pub record Fills (text row after : List ℕ) (n : ℕ) : Type 0 where
+  pub counted : n ≡ min (length text) (length row)
+  pub stands : after ≡ take n text ++ drop n row
+
+-- a byte as it is shown: nothing in a source moves the cursor but a tab
+unfoldable pub shownByte : ℕ → ℕ
+shownByte b = cond (eqb b 9) 9 (cond (eqb b 13) 32 (cond (leb b 31 || eqb b 127) 63 b))
+
+-- what is shown of a line from a place on
+unfoldable pub shownFrom : List ℕ → ℕ → List ℕ
+shownFrom source p = map shownByte (before 10 (drop p source))
+
+-- a byte that only goes on with a character, and takes no column
+unfoldable pub goesOn : ℕ → Bool
+goesOn b = leb 128 b && leb b 191
+
+-- what stands under any other: a tab under a tab, or else a blank
+unfoldable pub underByte : ℕ → ℕ
+underByte b = cond (eqb b 9) 9 32
+
+-- what stands under bytes
+unfoldable pub under : List ℕ → List ℕ
+under [] = []
+under (b ∷ bs) = cond (goesOn b) (under bs) (underByte b ∷ under bs)
+
+-- what stands before the mark under a place, below what is shown of its line from p on
+unfoldable pub marksFrom : List ℕ → ℕ → ℕ → List ℕ
+marksFrom source p place = under (take (place - p) (drop p source))
+
+-- ---- the sections of a table: a count of uses and three words for each, a count of declarations and four words for each, a count of nodes
+
+-- where the count of the declarations stands
+unfoldable pub rowsAt : List ℕ → ℕ
+rowsAt t = 1 + 3 * getD t 0 0
+
+-- where that of the nodes stands
+unfoldable pub nodesAt : List ℕ → ℕ
+nodesAt t = rowsAt t + 1 + 4 * getD t (rowsAt t) 0
