@@ -1,11 +1,14 @@
--- What the tool shows of a source and of a table: lines and columns as people count them. These are definitions of the tool and no part of the paper.
+-- What the tool shows of a source and of a table: lines and columns as people count them, rows of bytes, sections, levels. These are definitions of
+-- the tool and no part of the paper.
 use Prim.Native.Nat.{ℕ, zero, suc, _+_, _-_, _*_, min}
 use mathlib.Core.Path.{_≡_}
 use mathlib.Core.Bool.{Bool, cond, _&&_, _||_}
 use mathlib.Core.List.{List, [], _∷_, _++_, map}
 use lib.Dec.{eqb, leb, ltb}
 use lib.ListN.{length, getD, take, drop}
+use Rattle.symbols.specs.Names.{inName, reach, lettersAt, sameName}
 use Rattle.symbols.specs.Scan.{before}
+use Rattle.grammar.specs.NodeKinds.{n-block, n-block-end, n-procedure, n-procedure-end, n-specified}
 
 -- ---- lines and columns
 
@@ -38,11 +41,15 @@ pub record Fills (text row after : List ℕ) (n : ℕ) : Type 0 where
 unfoldable pub shownByte : ℕ → ℕ
 shownByte b = cond (eqb b 9) 9 (cond (eqb b 13) 32 (cond (leb b 31 || eqb b 127) 63 b))
 
+-- where what is shown of a line begins: with the line, or 60 bytes before a place that is 80 or more behind its beginning
+unfoldable pub shownStart : ℕ → ℕ → ℕ
+shownStart start place = cond (ltb (place - start) 80) start (place - 60)
+
 -- what is shown of a line from a place on
 unfoldable pub shownFrom : List ℕ → ℕ → List ℕ
 shownFrom source p = map shownByte (before 10 (drop p source))
 
--- a byte that only goes on with a character, and takes no column
+-- a byte that only goes on with a character: in UTF-8 each but its first
 unfoldable pub goesOn : ℕ → Bool
 goesOn b = leb 128 b && leb b 191
 
@@ -68,3 +75,26 @@ rowsAt t = 1 + 3 * getD t 0 0
 -- where that of the nodes stands
 unfoldable pub nodesAt : List ℕ → ℕ
 nodesAt t = rowsAt t + 1 + 4 * getD t (rowsAt t) 0
+
+-- ---- levels
+
+-- the nodes that open a scope, and those that close one
+unfoldable pub opens : ℕ → Bool
+opens kind = eqb kind n-block || eqb kind n-procedure
+
+unfoldable pub closes : ℕ → Bool
+closes kind = eqb kind n-block-end || eqb kind n-procedure-end
+
+-- the level behind a node: one less where it closes a scope, one more where it opens one
+unfoldable pub levelBehind : ℕ → ℕ → ℕ
+levelBehind kind level = cond (closes kind) (level - 1) (level + cond (opens kind) 1 0)
+
+-- ---- names
+
+-- the byte behind the name at a place and the blanks behind it; 0 where the source ends
+unfoldable pub byteBehind : List ℕ → ℕ → ℕ
+byteBehind source p = getD source (p + reach inName (drop p source)) 0
+
+-- the node at a word of the table specifies the formal at a place
+unfoldable pub specifies : List ℕ → List ℕ → ℕ → ℕ → Bool
+specifies source t k place = eqb (getD t k 0) n-specified && sameName (lettersAt source (getD t (k + 1) 0)) (lettersAt source place)

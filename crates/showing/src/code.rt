@@ -3,6 +3,8 @@ use crate::text::say;
 use crate::text::say_blanks;
 use crate::text::say_number;
 use crate::text::say_spot;
+ghost use mathlib.Core.Path.{_≡_};
+ghost use Rattle.machine.specs.Instructions as Instructions;
 
 fn say_control(operation: u32) {
     match operation {
@@ -67,15 +69,21 @@ fn say_operation(operation: u32) {
 }
 
 // The parts of an operand.
-fn high(v: u32) -> u64 {
+fn high(v: u32) -> u64
+    ensures { λ r. ⌜ r ≡ Instructions.high v ⌝ }
+{
     (v / 67108864) as u64
 }
 
-fn mid(v: u32) -> u64 {
+fn mid(v: u32) -> u64
+    ensures { λ r. ⌜ r ≡ Instructions.mid v ⌝ }
+{
     (v / 8192 % 8192) as u64
 }
 
-fn low(v: u32) -> u64 {
+fn low(v: u32) -> u64
+    ensures { λ r. ⌜ r ≡ Instructions.low v ⌝ }
+{
     (v % 8192) as u64
 }
 
@@ -156,7 +164,9 @@ fn say_indent(address: usize) {
     }
 }
 
-fn wide(n: u32) -> usize {
+fn wide(n: u32) -> usize
+    ensures { λ r. ⌜ r ≡ n ⌝ }
+{
     n as usize
 }
 

@@ -10,21 +10,32 @@ use crate::uses::word;
 use answers::Place;
 use grammar::nodes;
 use symbols::names::same_name;
+ghost use mathlib.Core.Path.{_≡_};
+ghost use mathlib.Core.Bool.{cond};
 ghost use Prim.Native.Nat.{_<_, _≤_, _+_};
+ghost use lib.ListN.{getD};
+ghost use Rattle.showing.specs.Pages as Pages;
+ghost use Rattle.showing.specs.Pages.{levelBehind};
 
 // The kind of the node whose words begin at `at`.
-fn kind_at(table: &[u16], at: usize) -> u16 {
+fn kind_at(table: &[u16], at: usize) -> u16
+    ensures { λ r. ⌜ r ≡ getD (now (table .entry)) at 0 ⌝ }
+{
     if at < table.len() { table[at] } else { 0 }
 }
 
-fn opens(kind: u16) -> bool {
+fn opens(kind: u16) -> bool
+    ensures { λ r. ⌜ r ≡ Pages.opens kind ⌝ }
+{
     match kind {
         nodes::BLOCK | nodes::PROCEDURE => true,
         _ => false,
     }
 }
 
-fn closes(kind: u16) -> bool {
+fn closes(kind: u16) -> bool
+    ensures { λ r. ⌜ r ≡ Pages.closes kind ⌝ }
+{
     match kind {
         nodes::BLOCK_END | nodes::PROCEDURE_END => true,
         _ => false,
@@ -42,6 +53,7 @@ fn say_type(number: usize) {
 // Whether the node whose words begin at `at` specifies the formal at a place.
 fn specifies(source: &[u8], table: &[u16], at: usize, place: usize) -> bool
     requires { ⌜ at < 2097152 ⌝ }
+    ensures { λ r. ⌜ r ≡ Pages.specifies (now (source .entry)) (now (table .entry)) at place ⌝ }
 {
     if kind_at(table, at) != nodes::SPECIFIED {
         return false;
@@ -137,6 +149,7 @@ fn show_scope(source: &[u8], table: &[u16], scope: usize, node: usize, level: us
 
 // 1 for a node that opens a scope.
 fn opened(kind: u16) -> usize
+    ensures { λ r. ⌜ r ≡ cond (Pages.opens kind) 1 0 ⌝ }
     ensures { λ r. ⌜ r ≤ 1 ⌝ }
 {
     if opens(kind) { 1 } else { 0 }
@@ -145,6 +158,7 @@ fn opened(kind: u16) -> usize
 // The level behind a node.
 fn level_behind(kind: u16, level: usize) -> usize
     requires { ⌜ level < 65536 ⌝ }
+    ensures { λ r. ⌜ r ≡ levelBehind kind level ⌝ }
     ensures { λ r. ⌜ r ≤ level + 1 ⌝ }
 {
     if closes(kind) && 0 < level {

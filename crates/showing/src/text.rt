@@ -9,7 +9,7 @@ ghost use mathlib.Core.Bool.{cond};
 ghost use Prim.Native.Nat.{_≤_, min};
 ghost use Rattle.io.specs.Counts.{Counts};
 ghost use lib.ListN.{length};
-ghost use Rattle.showing.specs.Pages.{lineOf, columnOf, startOf, Fills, shownByte, shownFrom, goesOn, underByte, marksFrom};
+ghost use Rattle.showing.specs.Pages.{lineOf, columnOf, startOf, Fills, shownByte, shownStart, shownFrom, goesOn, underByte, marksFrom};
 ghost use Rattle.symbols.specs.Names.{lettersAt};
 
 // No source is longer than the room that it is read into.
@@ -96,6 +96,7 @@ pub fn say_spot(source: &[u8], place: usize) {
 // Where what is shown of a line begins.
 fn shown_from(start: usize, place: usize) -> usize
     requires { ⌜ start ≤ place ⌝ }
+    ensures { λ r. ⌜ r ≡ shownStart start place ⌝ }
     ensures { λ r. ⌜ r ≤ place ⌝ }
 {
     if place - start < NEAR {

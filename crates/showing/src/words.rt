@@ -8,9 +8,14 @@ use symbols::text::is_blank;
 use symbols::text::is_digit;
 use symbols::text::is_letter;
 use symbols::text::is_name_byte;
+ghost use mathlib.Core.Path.{_≡_};
+ghost use lib.ListN.{getD};
+ghost use Rattle.showing.specs.Pages.{byteBehind};
 
 // A byte of the source; 0 behind its end.
-fn byte_at(source: &[u8], at: usize) -> u8 {
+fn byte_at(source: &[u8], at: usize) -> u8
+    ensures { λ r. ⌜ r ≡ getD (now (source .entry)) at 0 ⌝ }
+{
     if at < source.len() { source[at] } else { 0 }
 }
 
@@ -68,8 +73,10 @@ fn say_type_of_word(a: u8, b: u8) {
     }
 }
 
-// The byte behind the name at a place and the blanks behind it.
-fn byte_behind(source: &[u8], at: usize) -> u8 {
+// The byte behind the name at a place and the blanks behind it; 0 where the source ends.
+fn byte_behind(source: &[u8], at: usize) -> u8
+    ensures { λ r. ⌜ r ≡ byteBehind (now (source .entry)) at ⌝ }
+{
     let mut i = at;
     while i < source.len() {
         let b = source[i];

@@ -1,7 +1,7 @@
 -- `showing::text::name_row` meets its contract. The row holds the first n letters, and the others are ahead from i on.
 -- Assumes nothing.
 use Prim.Native.Nat.{_-_}
-use mathlib.Core.Path.{refl, sym, _∙_}
+use mathlib.Core.Path.{sym, _∙_}
 use mathlib.Core.Logic.{⊎-elim}
 use lib.ListN.{length, getD, drop}
 use Rattle.io.proofs.Counting.{counts}
