@@ -11,7 +11,6 @@ use crate::cells::put_cell;
 use crate::cells::room;
 use crate::values;
 use answers::Answer;
-use answers::Refusal;
 ghost use mathlib.Core.Path.{_≡_};
 ghost use mathlib.Core.List.{List, [], _∷_};
 ghost use Prim.Native.Nat.{ℕ, _+_, _≤_, _<_};
@@ -86,7 +85,7 @@ pub fn new_cell(mut n: Counts, store: &mut [i64], q: usize, x: Cell) -> Did
     let k = n.cells;
     let h = n.held;
     if k + h >= room(store) {
-        return Did::Bad(Refusal::new(Answer::CELLS, q));
+        return Did::Bad(Answer::CELLS, q);
     }
     put_cell(store, k, x);
     n.cells = k + 1;
@@ -103,7 +102,7 @@ pub fn load(n: Counts, store: &mut [i64], q: usize, c: usize) -> Did
         return Did::Stray;
     }
     match cell_at(store, c) {
-        Cell::Unset => Did::Bad(Refusal::new(Answer::UNASSIGNED, q)),
+        Cell::Unset => Did::Bad(Answer::UNASSIGNED, q),
         Cell::Holds(v) => new_cell(n, store, q, Cell::Holds(v)),
     }
 }
@@ -162,7 +161,7 @@ fn give(n: Counts, store: &mut [i64], q: usize, v: Value) -> Did
     ensures { λ r. ⌜ SoundD n r (now (store .exit)) ⌝ }
 {
     match v {
-        Value::Fault(a) => Did::Bad(Refusal::new(a, q)),
+        Value::Fault(a) => Did::Bad(a, q),
         Value::Is(x) => back(n, store, x),
     }
 }

@@ -1,6 +1,6 @@
 -- The value, or the fault.
 use mathlib.Core.Path.{_∙_}
-use Rattle.machine.proofs.Kept.{refused, valued-fault, valued-is}
+use Rattle.machine.proofs.Kept.{valued-fault, valued-is}
 use mir.Syntax.{w32}
 use Rattle.machine.proofs.Signed.{read-back}
 use borrow.Author.Needs.{needs}
@@ -10,9 +10,6 @@ use Rattle.machine.proofs.operations.give.Tie as tie
 enum-known-v : tie.Need-enum-known-v
 enum-known-v c = search needs
 
-new-requires : tie.Need-new-requires
-new-requires c κs = search needs
-
 enum-known-v-2 : tie.Need-enum-known-v-2
 enum-known-v-2 c = search needs
 
@@ -20,7 +17,7 @@ back-requires : tie.Need-back-requires
 back-requires c κs = search needs
 
 returns : tie.Need-returns
-returns c = (λ a i o. refused (c .new .ensures) ∙ valued-fault _ _ _ _ (c .before .before .v .given .1), tt)
+returns c = (λ a i o. valued-fault _ _ _ _ (c .before .v .given .1), tt)
 
 same-length : tie.Need-same-length
 same-length c = search needs
@@ -31,4 +28,4 @@ returns-2 c = (λ a i o. c .before .back .ensures .0 a i o ∙ valued-is _ _ _ _
 pub give-spec : {M : Type 1} → statement M
 give-spec =
     tie.close
-    (tie.spec enum-known-v new-requires enum-known-v-2 back-requires returns same-length returns-2)
+    (tie.spec enum-known-v enum-known-v-2 back-requires returns same-length returns-2)
