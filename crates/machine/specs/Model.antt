@@ -15,6 +15,8 @@ use Rattle.answers.specs.declared.Stop.the-variants.{Ended, Fault as Faulty}
 use Rattle.answers.specs.Answers.{refusal}
 use Rattle.machine.specs.declared.Cell.{Cell}
 use Rattle.machine.specs.declared.Cell.the-variants.{Unset, Holds}
+use Rattle.machine.specs.declared.Value.{Value}
+use Rattle.machine.specs.declared.Value.the-variants.{Is, Fault}
 use Rattle.machine.specs.declared.Counts.{Counts}
 use Rattle.machine.specs.declared.Used.{Used}
 use Rattle.machine.specs.declared.Used.the-variants.{Value as Value1, Nothing as Nothing1}
@@ -174,6 +176,11 @@ seenO (Strays c) s l i o = halted (stray c)
 abbrev pub Fitting : Cell → Type 0
 Fitting Unset = Unit {0}
 Fitting (Holds v) = SFits w32 v
+
+-- a value that a cell can hold
+abbrev pub FittingV : Value → Type 0
+FittingV (Is v) = SFits w32 v
+FittingV (Fault a) = Unit {0}
 
 -- cells in use and held cells are apart, and a held cell holds a number
 pub record Sound (n : Counts) (s : List ℤ) : Type 0 where

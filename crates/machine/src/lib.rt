@@ -21,9 +21,9 @@ pub enum Cell {
     Holds(i32),
 }
 
-// What an operator gives: a whole number of 32 bits, or its fault.
+// What an operator gives: a whole number of 32 bits, or its fault. It stands in 64 bits, so that it is handed on without being packed.
 pub enum Value {
-    Is(i32),
+    Is(i64),
     Fault(Answer),
 }
 

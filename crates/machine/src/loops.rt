@@ -82,7 +82,7 @@ fn add(n: Counts, store: &mut [i64], q: usize, c: usize, x: i32) -> Did
         Cell::Unset => Did::Bad(Answer::UNASSIGNED, q),
         Cell::Holds(v) => match values::whole(v as i64 + x as i64) {
             Value::Fault(a) => Did::Bad(a, q),
-            Value::Is(s) => put(n, store, c, s),
+            Value::Is(s) => put(n, store, c, s as i32),
         },
     }
 }

@@ -18,7 +18,7 @@ ghost use lib.IntN.{ℤ};
 ghost use Rattle.machine.specs.Run.{Event};
 ghost use Rattle.machine.specs.Data.{Data, Res, Act, Test, newest as newestOf, two, back as backOf, put as putOf, newCells, valued};
 ghost use Rattle.machine.specs.Instructions.{unaryOf, binaryOf};
-ghost use Rattle.machine.specs.Model.{Fitting, Sound, SoundD, SoundT, Does, Tests, UsedIn, PairIn, dataOf, traceOf, seenU, seenD, onPair, told, fine, roomOf};
+ghost use Rattle.machine.specs.Model.{Fitting, FittingV, Sound, SoundD, SoundT, Does, Tests, UsedIn, PairIn, dataOf, traceOf, seenU, seenD, onPair, told, fine, roomOf};
 
 // The value in the newest cell, which goes.
 pub fn newest(mut n: Counts, store: &[i64]) -> Used
@@ -156,13 +156,13 @@ pub fn forget(n: Counts, store: &[i64]) -> Did
 
 // A value in the place of those that were used, or an operator's fault.
 fn give(n: Counts, store: &mut [i64], q: usize, v: Value) -> Did
-    requires { ⌜ Sound n (now store) × (n .cells + n .held < roomOf (now store)) ⌝ }
+    requires { ⌜ Sound n (now store) × (n .cells + n .held < roomOf (now store)) × FittingV v ⌝ }
     ensures { λ r. ⌜ ((a : ℕ) (i o : List ℤ) → seenD r a (now (store .exit)) i o ≡ told (traceOf n o) (valued q (λ w. Res.good Event.quiet (backOf w (dataOf n a (now (store .entry)) i o))) v)) ⌝ }
     ensures { λ r. ⌜ SoundD n r (now (store .exit)) ⌝ }
 {
     match v {
         Value::Fault(a) => Did::Bad(a, q),
-        Value::Is(x) => back(n, store, x),
+        Value::Is(x) => back(n, store, x as i32),
     }
 }
 

@@ -5,7 +5,7 @@ use Rattle.machine.specs.Values.{whole}
 use Rattle.machine.proofs.Works.{add-out, add-unset, add-fault, add-some}
 use Rattle.machine.proofs.Kept.{cell-in, cell-out, look-data}
 use mir.Syntax.{w32, w64}
-use Rattle.machine.proofs.Signed.{read-back, wide-fits, sum-again, sum-again-fits}
+use Rattle.machine.proofs.Signed.{wide-fits, sum-again, sum-again-fits, narrow-fits, narrow-same, is-fits}
 use borrow.Author.Needs.{needs}
 use Rattle.machine.proofs.loops.add.Statement.{statement}
 use Rattle.machine.proofs.loops.add.Tie as tie
@@ -40,6 +40,9 @@ enum-known-a c = search needs
 enum-known-s : tie.Need-enum-known-s
 enum-known-s c = search needs
 
+cast-put : tie.Need-cast-put
+cast-put c = narrow-fits w32 w64 tt {a = c .before .before .s .given .0 .0} (is-fits _ (c .before .before .before .before .whole .ensures) (c .before .before .s .given .1))
+
 put-requires : tie.Need-put-requires
 put-requires c κs = search needs
 
@@ -67,7 +70,7 @@ returns-4 c =
       λ a i o.
           c .before .put .ensures .0 a i o
           ∙ add-some _ (dataOf (c .before .before .before .before .before .before .before .before .before .before .before .before .before .before .args .n) a (c .before .before .before .before .before .before .before .before .before .before .before .before .before .before .args .store .now) i o) (c .before .before .before .before .before .before .before .before .before .before .before .before .before .before .args .q) (c .before .before .before .before .before .before .before .before .before .before .before .before .before .before .args .c) (c .before .before .before .before .before .before .before .before .before .before .before .before .before .before .args .x) (cell-in (c .before .before .before .before .before .before .before .before .before .before .before .before .before .before .args .n) a (c .before .before .before .before .before .before .before .before .before .before .before .before .before .before .args .store .now) i o (c .before .before .before .before .before .before .before .before .before .before .before .before .before .before .args .c) (c .before .before .before .before .before .before .before .before .before .before .before .before .if1 .left)) (look-data (c .before .before .before .before .before .before .before .before .before .before .before .before .before .before .args .n) a (c .before .before .before .before .before .before .before .before .before .before .before .before .before .before .args .store .now) i o (c .before .before .before .before .before .before .before .before .before .before .before .before .before .before .args .c) (c .before .before .before .before .before .before .before .before .before .before .before .before .if1 .left) ∙ sym (c .before .before .before .before .before .before .before .before .before .before .cell-at .ensures) ∙ c .before .before .before .before .before .before .before .before .v .given .1)
-          w (read-back w32 (c .before .before .before .before .s .given .0 .0) (c .before .before .before .known-told3 .given .0 .1)),
+          w (narrow-same w32 w64 tt (is-fits _ (c .before .before .before .before .before .before .whole .ensures) (c .before .before .before .before .s .given .1))),
       c .before .put .ensures .1,
     )
 
@@ -85,6 +88,7 @@ add-spec =
     whole-requires
     enum-known-a
     enum-known-s
+    cast-put
     put-requires
     same-length
     returns-2
