@@ -20,9 +20,9 @@ use Rattle.machine.specs.declared.Did.{Did}
 use Rattle.machine.specs.declared.Did.the-variants.{Good, Bad, Stray}
 use Rattle.machine.specs.declared.Chosen.{Chosen}
 use Rattle.machine.specs.declared.Chosen.the-variants.{Yes, No, Bad as BadT, Stray as StrayT}
-use Rattle.answers.specs.declared.Refusal.{Refusal}
+use Rattle.answers.specs.declared.Answer.{Answer}
 use Rattle.machine.specs.declared.Outcome.{Outcome}
-use Rattle.machine.specs.declared.Outcome.the-variants.{Goes, Stops}
+use Rattle.machine.specs.declared.Outcome.the-variants.{Goes, Strays}
 use Rattle.machine.specs.Run.{Trace}
 use Rattle.machine.specs.Data.{Data, cells, Res, bad, wrong, good, lift, guard, check, Act, actOn, downs, work, Test, upto, testOn, downsT, test, either, openBlock, closeBlock, enter, leave, Fate, kept, gone}
 use Rattle.machine.specs.Instructions.{Loc, Instr, END, DO, IF, JUMP, ENTER, LEAVE, CALL, RETURN, GO, NEXT, variable, high, mid, actOf, decode, fetch}
@@ -168,13 +168,13 @@ return-lifted t pc ps l a d {w = w} h e g k m p = rw (e, k, m, p, needed-fate w,
 
 pub did-quiet : (n : Counts) (r : Did) (s o : List ℤ) → SoundD n r s → n .written ≤ length o → SoundO r s o o
 did-quiet n (Good m) s o g h = (g .0, omega (arith, g .1), refl)
-did-quiet n (Bad r) s o g h = refl
+did-quiet n (Bad x q) s o g h = refl
 did-quiet n Stray s o g h = refl
 
 -- ---- outcomes
 
-module _ {r : Outcome} {q : Stop} (e : r ≡ Stops q) where
-  pub strayed : (s : List ℤ) (l : List ℕ) (i o : List ℤ) → seenO r s l i o ≡ halted q
+module _ {r : Outcome} {pc : ℕ} (e : r ≡ Strays pc) where
+  pub strayed : (s : List ℤ) (l : List ℕ) (i o : List ℤ) → seenO r s l i o ≡ halted (stray pc)
   strayed s l i o = ap (λ (x : Outcome). seenO x s l i o) e
 
   pub strayed-sound : (s : List ℤ) (l : List ℕ) (o o' : List ℤ) → o' ≡ o → SoundG r s l o o'
@@ -185,7 +185,7 @@ module _ (w : Stop) (pc a : ℕ) (s i o : List ℤ) (l : List ℕ) {d : Did} whe
   unfolding lifted
   lift-good e = rw e
 
-  pub lift-bad : {r : Refusal} → d ≡ Bad r → halted (Faulty r) ≡ lifted w (ms pc (positionsOf l a) (framesOf l a)) (seenD d a s i o)
+  pub lift-bad : {x : Answer} {q : ℕ} → d ≡ Bad x q → halted (Faulty (refusal (x .number) q)) ≡ lifted w (ms pc (positionsOf l a) (framesOf l a)) (seenD d a s i o)
   unfolding lifted
   lift-bad e = rw e
 
@@ -197,7 +197,7 @@ module _ (s o o' : List ℤ) (l : List ℕ) {d : Did} (g : SoundO d s o o') wher
   pub good-sound : {m : Counts} (pc a : ℕ) → d ≡ Good m → Lives l a → SoundG (Goes pc a m) s l o o'
   good-sound pc a e v = let h = subst (λ (x : Did). SoundO x s o o') e g in (h .0, v, h .1, h .2)
 
-  pub bad-sound : {r : Refusal} → d ≡ Bad r → o' ≡ o
+  pub bad-sound : {x : Answer} {q : ℕ} → d ≡ Bad x q → o' ≡ o
   bad-sound e = subst (λ (x : Did). SoundO x s o o') e g
 
   pub none-sound : d ≡ Stray → o' ≡ o
@@ -214,7 +214,7 @@ module _ (w : Stop) (at other a : ℕ) (s i o : List ℤ) (l : List ℕ) {c : Ch
   unfolding lifted
   test-no e = rw e
 
-  pub test-bad : {r : Refusal} → c ≡ BadT r → halted (Faulty r) ≡ lifted w (either (ms (suc at) (positionsOf l a) (framesOf l a)) (ms other (positionsOf l a) (framesOf l a))) (seenT c a s i o)
+  pub test-bad : {x : Answer} {q : ℕ} → c ≡ BadT x q → halted (Faulty (refusal (x .number) q)) ≡ lifted w (either (ms (suc at) (positionsOf l a) (framesOf l a)) (ms other (positionsOf l a) (framesOf l a))) (seenT c a s i o)
   unfolding lifted
   test-bad e = rw e
 

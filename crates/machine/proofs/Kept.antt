@@ -28,12 +28,10 @@ use Rattle.machine.specs.declared.Chosen.the-variants.{Yes, No, Bad as B
 use Rattle.machine.specs.declared.Value.{Value}
 use Rattle.machine.specs.declared.Value.the-variants.{Is, Fault}
 use Rattle.answers.specs.declared.Answer.{Answer}
-use Rattle.answers.specs.declared.Refusal.{Refusal}
-use Rattle.answers.specs.Answers.{refusal}
 use Rattle.answers.specs.Numbers.{cells as noCell}
 use Rattle.machine.specs.Run.{Trace, quiet}
-use Rattle.machine.specs.Data.{Data, dat, cells, Res, bad, wrong, good, check, value, nothing, newest, two, back, put, look, newCells, openBlock, valued, Two}
-use Rattle.machine.specs.Model.{Fitting, cellAt, putAt, roomOf, unassigned, cellsOf, heldIn, heldOf, dataOf, traceOf, seenU, onPair, After, told, fine, ill, fewer, holding, UsedIn, PairIn, Sound, SoundD, SoundT}
+use Rattle.machine.specs.Data.{Data, dat, cells, Res, bad, wrong, good, check, value, nothing, newest, two, back, put, look, newCells, openBlock, valued}
+use Rattle.machine.specs.Model.{Fitting, cellAt, putAt, roomOf, unassigned, cellsOf, heldIn, heldOf, dataOf, traceOf, seenU, onPair, told, fine, ill, fewer, holding, UsedIn, PairIn, Sound, SoundD, SoundT}
 use Rattle.machine.proofs.Stacks.{sound-unassigned, put-same, put-other, sound-put, sound-same, cells-unassigned, held-unassigned, room-unassigned, room-put, cells-length, cells-put, cells-new, cells-cons, cells-get, cells-set, held-length, held-put, held-new}
 
 -- one cell more
@@ -212,13 +210,13 @@ fewer-fewer n m l e f =
 
 pub sound-as : (n m : Counts) (r : Did) (s : List ℤ) → m .written ≡ n .written → SoundD m r s → SoundD n r s
 sound-as n m (Good l) s e h = (h .0, h .1 ∙ e)
-sound-as n m (Bad r) s e h = tt
+sound-as n m (Bad x q) s e h = tt
 sound-as n m Stray s e h = tt
 
 pub test-as : (n m : Counts) (r : Chosen) (s : List ℤ) → m .written ≡ n .written → SoundT m r s → SoundT n r s
 test-as n m (Yes l) s e h = (h .0, h .1 ∙ e)
 test-as n m (No l) s e h = (h .0, h .1 ∙ e)
-test-as n m (BadT r) s e h = tt
+test-as n m (BadT x q) s e h = tt
 test-as n m StrayT s e h = tt
 
 pub written-as : (k : ℕ) (n m : Counts) → m ≡ fewer k n → m .written ≡ n .written
@@ -237,13 +235,6 @@ held-number n s k g h e = let z : _≡_ {A = Cell} Unset (Holds (heldIn (cellAt 
 
 pub trace-as : (k : ℕ) (n m : Counts) (o : List ℤ) → m ≡ fewer k n → traceOf m o ≡ traceOf n o
 trace-as k n m o e = ap (λ (l : Counts). traceOf l o) e
-
--- a refusal that was made
-pub refused : {a q : ℕ} {r : Refusal} → r ≡ refusal a q → _≡_ {A = After Data} (ill (r .answer .number) (r .place .at)) (ill a q)
-refused e = rw e
-
-pub refusedT : {a q : ℕ} {r : Refusal} → r ≡ refusal a q → _≡_ {A = After Two} (ill (r .answer .number) (r .place .at)) (ill a q)
-refusedT e = rw e
 
 -- ---- what a function that used values says of the counts
 

@@ -18,7 +18,7 @@ use Rattle.answers.specs.declared.Stop.the-variants.{Limit, Wrong}
 use Rattle.machine.specs.declared.Counts.{Counts}
 use Rattle.machine.specs.declared.Ran.{Ran}
 use Rattle.machine.specs.declared.Outcome.{Outcome}
-use Rattle.machine.specs.declared.Outcome.the-variants.{Goes, Stops}
+use Rattle.machine.specs.declared.Outcome.the-variants.{Goes}
 use Rattle.machine.specs.Run.{Trace, untold, say, quiet, wrote, took, Out, halt, next, End, done, over, after, run}
 use Rattle.machine.specs.Data.{Data, Res, bad, wrong, good, lift}
 use Rattle.machine.specs.Instructions.{Instr, END, DO, IF, JUMP, ENTER, LEAVE, CALL, RETURN, GO, NEXT, fetch, decode}
@@ -167,12 +167,13 @@ module _ {code : List ℕ} {input : List ℤ} {limit : ℕ} {store₀ output₀ 
   module _ (h : d < limit) {r : Outcome} (store' output' : List ℤ) (own' : List ℕ)
       (e : seenO r store' own' input output' ≡ stepped (traceOf n output) (step code (machOf at live n store own input output)))
       (g : SoundG r store' own' output output') where
-    pub driven-stop : {q : Stop} → r ≡ Stops q
+    -- what stops the run is what the instruction came to, and it wrote nothing
+    pub driven-stop : {x : Outcome} {q : Stop} → r ≡ x → seenO x store' own' input output' ≡ halted q → (SoundG x store' own' output output' → output' ≡ output)
         → Drove (record { stop = q; done = d + 1; taken = n .taken; written = n .written }) output₀ output' (machine code input limit (roomOf store₀) (length output₀))
     unfolding machine
-    driven-stop {q} z =
-        let k : output' ≡ output = subst (λ (x : Outcome). SoundG x store' own' output output') z g in
-        let t = sym (subst (λ (x : Outcome). seenO x store' own' input output' ≡ stepped (traceOf n output) (step code (machOf at live n store own input output))) z e) in
+    driven-stop z w s =
+        let k : output' ≡ output = s (subst (λ (y : Outcome). SoundG y store' own' output output') z g) in
+        let t = sym e ∙ ap (λ (y : Outcome). seenO y store' own' input output') z ∙ w in
         rw k (drove-done n output output₀ d (v .wrote) (v .behind) (sym (v .same) ∙ run-stop code (machOf at live n store own input output) limit d d (traceOf n output) h t))
 
     pub driving-on : {a l : ℕ} {m : Counts} → r ≡ Goes a l m → length store' ≡ length store → length output' ≡ length output

@@ -1,20 +1,24 @@
 -- Signed numbers, each law once over the width: a number that fits is read back from its bits, what an operation gives at one width fits a wider
 -- one, since its `mag` is bounded, and a test of bits is a test of the numbers. A use names its widths, where the powers of 2 compute.
 use mathlib.Core.Path.{_≡_, refl, sym, subst, ap, _∙_}
-use mathlib.Core.Bool.{Bool, true, false, cond, not, Bool·beq, false≢true, true≢false}
+use mathlib.Core.Bool.{Bool, true, false, cond, not, _&&_, _||_, Bool·beq, false≢true, true≢false}
 use Prim.Native.Nat.{ℕ, zero, suc, _+_, _-_, _*_, _/_, _^_, _≤_, _<_}
 use native.Mathlib.Nat.{mul-le-mul, le-trans, le-of-lt, lt-of-lt-of-le, lt-of-le-of-lt, div-le-self, pow-suc}
 use native.Mathlib.Omega.{arith}
 use lib.IntN.{ℤ, pos, negsuc, negℤ, natAbs, _+ℤ_, _-ℤ_, _*ℤ_, +ℤ-idl}
-use lib.Signed.{mag, ltZ, quotZ}
+use lib.Signed.{mag, ltZ, leZ, quotZ}
 use lib.Dec.{T, leb, ltb, eqb, ltb→lt, leb→le, le→leb, lit<}
 use lib.Pow.{pow-pos, pow-mono, pow-lt, pow-add}
 use mir.Syntax.{Width, w8, w16, w32, w64, w128}
 use mir.Val.{SFits, toZ, ofZ, bits, hbits}
 use mir.Facts.{toZ-ofZ, sfits-widen, toZ-pos}
 use borrow.Author.Tests.{ltb-true, ltb-false, le-ltb, lt-ltb, eq-eqb, ne-eqb, eqb-true, eqb-false}
-use Rattle.machine.specs.Values.{isZero, same, truth, sign, whole}
-use Rattle.machine.specs.declared.Value.the-variants.{Is}
+use Rattle.answers.specs.Numbers.{range, zeroDivisor}
+use Rattle.answers.specs.Answers.{answer}
+use Rattle.machine.specs.Values.{isZero, same, truth, isTrue, sign, whole, Unary, minus, negation, absolute, apply1, Binary, plus, less, times, over, below, atMost, equal, atLeast, above, unequal, and, or, impl, equiv, apply2}
+use Rattle.machine.specs.declared.Value.{Value}
+use Rattle.machine.specs.declared.Value.the-variants.{Is, Fault}
+use Rattle.machine.specs.Model.{FittingV}
 
 -- ---- how large a result is. `mag` is what a width bounds; `natAbs`, one more below 0, is the same for a number and its negative
 
@@ -96,6 +100,13 @@ module _ (v w : Width) (narrower : T (leb (hbits v) (hbits w))) {a : ℤ} (h : S
 
   pub wide-fits : SFits w (toZ v (ofZ v a))
   wide-fits = subst (SFits w) (sym (toZ-ofZ h)) (sfits-widen narrower h)
+
+  -- and back from the wider one
+  pub narrow-same : toZ v (ofZ v (toZ w (ofZ w a))) ≡ a
+  narrow-same = ap (λ (z : ℤ). toZ v (ofZ v z)) (toZ-ofZ (sfits-widen narrower h)) ∙ toZ-ofZ h
+
+  pub narrow-fits : SFits v (toZ w (ofZ w a))
+  narrow-fits = subst (SFits v) (sym (toZ-ofZ (sfits-widen narrower h))) h
 
 -- one bit more holds a sum, a difference, one times a sign, a negative and a quotient
 module _ (v w : Width) (wider : T (ltb (hbits v) (hbits w))) where
@@ -252,6 +263,46 @@ module _ (w : Width) where
 pub truth-fits : (w : Width) (b : Bool) → SFits w (truth b)
 truth-fits w true = record { sfits = one-below w }
 truth-fits w false = record { sfits = pow-pos (hbits w) }
+
+-- ---- what an operator gives fits a cell
+
+pub whole-fits : (x : ℤ) → FittingV (whole x)
+unfolding whole
+whole-fits x = go (ltb (mag x) 2147483648) refl
+  where
+    go : (b : Bool) → ltb (mag x) 2147483648 ≡ b → FittingV (cond b (Is x) (Fault (answer range)))
+    go true e = record { sfits = ltb-true (mag x) 2147483648 e }
+    go false e = tt
+
+pub is-fits : (x : ℤ) {w : Value} {z : ℤ} → w ≡ whole x → w ≡ Is z → SFits w32 z
+is-fits x e g = subst FittingV (sym e ∙ g) (whole-fits x)
+
+pub unary-fits : (o : Unary) (x : ℤ) → FittingV (apply1 o x)
+unfolding apply1
+unary-fits minus x = whole-fits (negℤ x)
+unary-fits negation x = truth-fits w32 (isZero x)
+unary-fits absolute x = whole-fits (pos (natAbs x))
+
+pub binary-fits : (o : Binary) (x y : ℤ) → FittingV (apply2 o x y)
+unfolding apply2
+binary-fits plus x y = whole-fits (x +ℤ y)
+binary-fits less x y = whole-fits (x -ℤ y)
+binary-fits times x y = whole-fits (x *ℤ y)
+binary-fits over x y = go (isZero y)
+  where
+    go : (b : Bool) → FittingV (cond b (Fault (answer zeroDivisor)) (whole (quotZ x y)))
+    go true = tt
+    go false = whole-fits (quotZ x y)
+binary-fits below x y = truth-fits w32 (ltZ x y)
+binary-fits atMost x y = truth-fits w32 (leZ x y)
+binary-fits equal x y = truth-fits w32 (same x y)
+binary-fits atLeast x y = truth-fits w32 (leZ y x)
+binary-fits above x y = truth-fits w32 (ltZ y x)
+binary-fits unequal x y = truth-fits w32 (not (same x y))
+binary-fits and x y = truth-fits w32 (isTrue x && isTrue y)
+binary-fits or x y = truth-fits w32 (isTrue x || isTrue y)
+binary-fits impl x y = truth-fits w32 (not (isTrue x) || isTrue y)
+binary-fits equiv x y = truth-fits w32 (Bool·beq (isTrue x) (isTrue y))
 
 pub zero-minus : (a : ℤ) → pos 0 -ℤ a ≡ negℤ a
 zero-minus a = +ℤ-idl (negℤ a)

@@ -11,10 +11,12 @@ use lib.Signed.{mag}
 use mir.Syntax.{w32}
 use mir.Val.{SFits}
 use Rattle.answers.specs.declared.Stop.{Stop}
-use Rattle.answers.specs.declared.Stop.the-variants.{Fault as Faulty}
+use Rattle.answers.specs.declared.Stop.the-variants.{Ended, Fault as Faulty}
 use Rattle.answers.specs.Answers.{refusal}
 use Rattle.machine.specs.declared.Cell.{Cell}
 use Rattle.machine.specs.declared.Cell.the-variants.{Unset, Holds}
+use Rattle.machine.specs.declared.Value.{Value}
+use Rattle.machine.specs.declared.Value.the-variants.{Is, Fault}
 use Rattle.machine.specs.declared.Counts.{Counts}
 use Rattle.machine.specs.declared.Used.{Used}
 use Rattle.machine.specs.declared.Used.the-variants.{Value as Value1, Nothing as Nothing1}
@@ -25,10 +27,10 @@ use Rattle.machine.specs.declared.Did.the-variants.{Good, Bad, Stray}
 use Rattle.machine.specs.declared.Chosen.{Chosen}
 use Rattle.machine.specs.declared.Chosen.the-variants.{Yes, No, Bad as BadT, Stray as StrayT}
 use Rattle.machine.specs.declared.Outcome.{Outcome}
-use Rattle.machine.specs.declared.Outcome.the-variants.{Goes, Stops}
+use Rattle.machine.specs.declared.Outcome.the-variants.{Goes, Ends, Faults, Strays}
 use Rattle.machine.specs.Run.{Trace, say, Out, halt, next}
 use Rattle.machine.specs.Data.{Data, dat, Res, bad, wrong, good, Took, value, nothing, Two, yea, nay, Fate, kept, gone, Act, work, Test, test}
-use Rattle.machine.specs.Machine.{Frame, fr, Mach, ms, Finish}
+use Rattle.machine.specs.Machine.{Frame, fr, Mach, ms, Finish, stray}
 use Rattle.machine.specs.declared.Ran.{Ran}
 
 -- ---- cells in the store
@@ -104,13 +106,13 @@ onPair f Nothing2 a s i o = wrong
 
 abbrev pub seenD : Did → ℕ → List ℤ → List ℤ → List ℤ → After Data
 seenD (Good n) a s i o = fine (dataOf n a s i o) (traceOf n o)
-seenD (Bad r) a s i o = ill (r .answer .number) (r .place .at)
+seenD (Bad x q) a s i o = ill (x .number) q
 seenD Stray a s i o = lost
 
 abbrev pub seenT : Chosen → ℕ → List ℤ → List ℤ → List ℤ → After Two
 seenT (Yes n) a s i o = fine (yea (dataOf n a s i o)) (traceOf n o)
 seenT (No n) a s i o = fine (nay (dataOf n a s i o)) (traceOf n o)
-seenT (BadT r) a s i o = ill (r .answer .number) (r .place .at)
+seenT (BadT x q) a s i o = ill (x .number) q
 seenT StrayT a s i o = lost
 
 -- ---- the machine's own memory
@@ -164,7 +166,9 @@ lifted w f lost = halted w
 
 abbrev pub seenO : Outcome → List ℤ → List ℕ → List ℤ → List ℤ → Went
 seenO (Goes pc a n) s l i o = goes (machOf pc a n s l i o) (traceOf n o)
-seenO (Stops q) s l i o = halted q
+seenO Ends s l i o = halted Ended
+seenO (Faults x q) s l i o = halted (Faulty (refusal (x .number) q))
+seenO (Strays c) s l i o = halted (stray c)
 
 -- ---- what the code relies on
 
@@ -172,6 +176,11 @@ seenO (Stops q) s l i o = halted q
 abbrev pub Fitting : Cell → Type 0
 Fitting Unset = Unit {0}
 Fitting (Holds v) = SFits w32 v
+
+-- a value that a cell can hold
+abbrev pub FittingV : Value → Type 0
+FittingV (Is v) = SFits w32 v
+FittingV (Fault a) = Unit {0}
 
 -- cells in use and held cells are apart, and a held cell holds a number
 pub record Sound (n : Counts) (s : List ℤ) : Type 0 where
@@ -209,19 +218,19 @@ Tests t n r s = (a : ℕ) (i o : List ℤ) → seenT r a s i o ≡ told (traceOf
 
 abbrev pub SoundD : Counts → Did → List ℤ → Type 0
 SoundD n (Good m) s = Sound m s × (m .written ≡ n .written)
-SoundD n (Bad r) s = Unit {0}
+SoundD n (Bad x q) s = Unit {0}
 SoundD n Stray s = Unit {0}
 
 abbrev pub SoundT : Counts → Chosen → List ℤ → Type 0
 SoundT n (Yes m) s = Sound m s × (m .written ≡ n .written)
 SoundT n (No m) s = Sound m s × (m .written ≡ n .written)
-SoundT n (BadT r) s = Unit {0}
+SoundT n (BadT x q) s = Unit {0}
 SoundT n StrayT s = Unit {0}
 
 -- what is written stays, and so does what lies behind it
 abbrev pub SoundO : Did → List ℤ → List ℤ → List ℤ → Type 0
 SoundO (Good m) s o o' = Sound m s × (m .written ≤ length o') × (drop (m .written) o' ≡ drop (m .written) o)
-SoundO (Bad r) s o o' = o' ≡ o
+SoundO (Bad x q) s o o' = o' ≡ o
 SoundO Stray s o o' = o' ≡ o
 
 -- the activations around are older ones, and each has room for its positions
@@ -234,7 +243,9 @@ pub record Lives (l : List ℕ) (a : ℕ) : Type 0 where
 -- after an instruction: what is written stays, and so does what lies behind it
 abbrev pub SoundG : Outcome → List ℤ → List ℕ → List ℤ → List ℤ → Type 0
 SoundG (Goes pc a n) s l o o' = Sound n s × Lives l a × (n .written ≤ length o') × (drop (n .written) o' ≡ drop (n .written) o)
-SoundG (Stops q) s l o o' = o' ≡ o
+SoundG Ends s l o o' = o' ≡ o
+SoundG (Faults x q) s l o o' = o' ≡ o
+SoundG (Strays c) s l o o' = o' ≡ o
 
 -- a run was as f says, with the output o before it
 pub record Drove (r : Ran) (o o' : List ℤ) (f : Finish) : Type 0 where

@@ -6,7 +6,6 @@ use crate::cells::cell_at;
 use crate::cells::put_cell;
 use crate::cells::room;
 use answers::Answer;
-use answers::Refusal;
 ghost use mathlib.Core.Path.{_≡_};
 ghost use mathlib.Core.Bool.{cond};
 ghost use mathlib.Core.List.{List};
@@ -36,7 +35,7 @@ pub fn open(mut n: Counts, store: &mut [i64], q: usize, k: usize) -> Did
     let c = n.cells;
     let h = n.held;
     if c + h + k > room(store) {
-        return Did::Bad(Refusal::new(Answer::CELLS, q));
+        return Did::Bad(Answer::CELLS, q);
     }
     unassign(store, c, k);
     n.cells = c + k;
@@ -66,7 +65,7 @@ pub fn leave(mut n: Counts, store: &[i64], needed: bool, q: usize, b: usize) -> 
             return Did::Stray;
         }
         match cell_at(store, b) {
-            Cell::Unset => Did::Bad(Refusal::new(Answer::UNASSIGNED, q)),
+            Cell::Unset => Did::Bad(Answer::UNASSIGNED, q),
             Cell::Holds(_) => {
                 n.cells = b + 1;
                 Did::Good(n)

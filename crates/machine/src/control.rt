@@ -9,10 +9,7 @@ use crate::activations::first_cell;
 use crate::activations::note;
 use crate::activations::word;
 use crate::blocks;
-use answers::Address;
 use answers::Answer;
-use answers::Refusal;
-use answers::Stop;
 ghost use mathlib.Core.Path.{_≡_};
 ghost use mathlib.Core.List.{List};
 ghost use Prim.Native.Nat.{ℕ, suc, _+_, _≤_, _<_};
@@ -25,9 +22,9 @@ ghost use Rattle.machine.specs.Model.{Sound, SoundT, SoundO, SoundG, Liv
 
 // 29 at the counter.
 pub fn stray(at: u32) -> Outcome
-    ensures { λ r. ⌜ r ≡ Outcome.Stops (strayOf at) ⌝ }
+    ensures { λ r. ⌜ r ≡ Outcome.Strays at ⌝ }
 {
-    Outcome::Stops(Stop::Wrong(Address { at }))
+    Outcome::Strays(at)
 }
 
 // On to `next`, or the stop that the operation came to.
@@ -37,7 +34,7 @@ pub fn lift(at: u32, next: u32, live: usize, did: Did) -> Outcome
 {
     match did {
         Did::Good(n) => Outcome::Goes(next, live, n),
-        Did::Bad(r) => Outcome::Stops(Stop::Fault(r)),
+        Did::Bad(a, q) => Outcome::Faults(a, q),
         Did::Stray => stray(at),
     }
 }
@@ -51,7 +48,7 @@ pub fn lift_test(at: u32, other: u32, live: usize, chosen: Chosen) -> Outcome
     match chosen {
         Chosen::Yes(n) => Outcome::Goes(at + 1, live, n),
         Chosen::No(n) => Outcome::Goes(other, live, n),
-        Chosen::Bad(r) => Outcome::Stops(Stop::Fault(r)),
+        Chosen::Bad(a, q) => Outcome::Faults(a, q),
         Chosen::Stray => stray(at),
     }
 }
@@ -101,7 +98,7 @@ pub fn call(
         return stray(at);
     }
     if live >= 256 {
-        return Outcome::Stops(Stop::Fault(Refusal::new(Answer::ACTIVATIONS, q as usize)));
+        return Outcome::Faults(Answer::ACTIVATIONS, q as usize);
     }
     let outer = around(own, live, v / 67108864);
     begin(own, live + 1, at, c - k, outer, needed, q);

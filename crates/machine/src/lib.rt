@@ -1,7 +1,6 @@
 // The machine: it runs code words, any words at all, and stops by itself at its limit. docs/MACHINE.md has its instructions, and specs/ what
 // they do.
 use answers::Answer;
-use answers::Refusal;
 use answers::Stop;
 
 mod activations;
@@ -22,9 +21,9 @@ pub enum Cell {
     Holds(i32),
 }
 
-// What an operator gives: a whole number of 32 bits, or its fault.
+// What an operator gives: a whole number of 32 bits, or its fault. It stands in 64 bits, so that it is handed on without being packed.
 pub enum Value {
-    Is(i32),
+    Is(i64),
     Fault(Answer),
 }
 
@@ -48,10 +47,10 @@ pub enum Pair {
     Nothing,
 }
 
-// What an operation on the data came to: it is done, or its fault, or it found no value or no such cell.
+// What an operation on the data came to: it is done, or its fault and the place, or it found no value or no such cell.
 pub enum Did {
     Good(Counts),
-    Bad(Refusal),
+    Bad(Answer, usize),
     Stray,
 }
 
@@ -59,14 +58,17 @@ pub enum Did {
 pub enum Chosen {
     Yes(Counts),
     No(Counts),
-    Bad(Refusal),
+    Bad(Answer, usize),
     Stray,
 }
 
-// What an instruction came to: the next counter, the live activations and the counts; or a stop.
+// What an instruction came to: the next counter, the live activations and the counts; or a stop: the end, a fault and its place, or 29 at
+// the counter.
 pub enum Outcome {
     Goes(u32, usize, Counts),
-    Stops(Stop),
+    Ends,
+    Faults(Answer, usize),
+    Strays(u32),
 }
 
 // What a run answers.

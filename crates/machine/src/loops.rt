@@ -12,7 +12,6 @@ use crate::operations::newest_two;
 use crate::operations::put;
 use crate::values;
 use answers::Answer;
-use answers::Refusal;
 ghost use mathlib.Core.Path.{_≡_};
 ghost use mathlib.Core.Bool.{cond};
 ghost use mathlib.Core.List.{List};
@@ -80,10 +79,10 @@ fn add(n: Counts, store: &mut [i64], q: usize, c: usize, x: i32) -> Did
         return Did::Stray;
     }
     match cell_at(store, c) {
-        Cell::Unset => Did::Bad(Refusal::new(Answer::UNASSIGNED, q)),
+        Cell::Unset => Did::Bad(Answer::UNASSIGNED, q),
         Cell::Holds(v) => match values::whole(v as i64 + x as i64) {
-            Value::Fault(a) => Did::Bad(Refusal::new(a, q)),
-            Value::Is(s) => put(n, store, c, s),
+            Value::Fault(a) => Did::Bad(a, q),
+            Value::Is(s) => put(n, store, c, s as i32),
         },
     }
 }
@@ -111,7 +110,7 @@ fn goes_on(mut n: Counts, store: &[i64], q: usize, c: usize, x: i32, y: i32) -> 
         return Chosen::Stray;
     }
     match cell_at(store, c) {
-        Cell::Unset => Chosen::Bad(Refusal::new(Answer::UNASSIGNED, q)),
+        Cell::Unset => Chosen::Bad(Answer::UNASSIGNED, q),
         Cell::Holds(v) => {
             if values::past(v, x, y) {
                 n.held = h - 2;

@@ -8,7 +8,6 @@ use crate::operations::newest;
 use crate::operations::newest_two;
 use crate::operations::put;
 use answers::Answer;
-use answers::Refusal;
 ghost use mathlib.Core.Path.{_≡_};
 ghost use mathlib.Core.List.{List};
 ghost use Prim.Native.Nat.{ℕ, _≤_};
@@ -28,10 +27,10 @@ fn take_in(mut n: Counts, input: &[i32], store: &mut [i64], q: usize, c: usize, 
         return Did::Stray;
     }
     if k != 1 {
-        return Did::Bad(Refusal::new(Answer::CHANNEL, q));
+        return Did::Bad(Answer::CHANNEL, q);
     }
     if t >= input.len() {
-        return Did::Bad(Refusal::new(Answer::INPUT_ENDED, q));
+        return Did::Bad(Answer::INPUT_ENDED, q);
     }
     let v = input[t];
     n.taken = t + 1;
@@ -58,10 +57,10 @@ fn put_out(mut n: Counts, output: &mut [i32], q: usize, k: i32, v: i32) -> Did
 {
     let w = n.written;
     if k != 1 {
-        return Did::Bad(Refusal::new(Answer::CHANNEL, q));
+        return Did::Bad(Answer::CHANNEL, q);
     }
     if w >= output.len() {
-        return Did::Bad(Refusal::new(Answer::OUTPUT_FULL, q));
+        return Did::Bad(Answer::OUTPUT_FULL, q);
     }
     output[w] = v;
     n.written = w + 1;

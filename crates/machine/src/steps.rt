@@ -13,6 +13,8 @@ use crate::loops;
 use crate::operations;
 use crate::ports;
 use crate::values;
+use answers::Address;
+use answers::Refusal;
 use answers::Stop;
 ghost use mathlib.Core.Path.{_≡_};
 ghost use mathlib.Core.List.{List};
@@ -170,7 +172,7 @@ fn obey(
 {
     match k {
         0 => stray(at),
-        1 => Outcome::Stops(Stop::Ended),
+        1 => Outcome::Ends,
         2 => Outcome::Goes(v % 8192, live, n),
         3 => control::lift(
             at,
@@ -254,14 +256,14 @@ fn drive(
     let mut done: u64 = 0;
     while done < limit {
         match step(at, live, n, code, input, store, output, own) {
-            Outcome::Stops(stop) => {
-                return ended(stop, done + 1, n);
-            }
             Outcome::Goes(a, l, m) => {
                 at = a;
                 live = l;
                 n = m;
             }
+            Outcome::Ends => return ended(Stop::Ended, done + 1, n),
+            Outcome::Faults(a, q) => return ended(Stop::Fault(Refusal::new(a, q)), done + 1, n),
+            Outcome::Strays(c) => return ended(Stop::Wrong(Address { at: c }), done + 1, n),
         }
         done += 1;
     }

@@ -19,11 +19,11 @@ pub fn whole(x: i64) -> Value
     if x > 2147483647 {
         return Value::Fault(Answer::RANGE);
     }
-    Value::Is(x as i32)
+    Value::Is(x)
 }
 
 // 'true' as 1 and 'false' as 0.
-pub fn truth(b: bool) -> i32
+pub fn truth(b: bool) -> i64
     ensures { λ r. ⌜ r ≡ truthOf b ⌝ }
 {
     if b { 1 } else { 0 }
@@ -68,7 +68,7 @@ pub fn unary(k: u32, x: i32) -> Value
             if x < 0 {
                 return whole(0 - x as i64);
             }
-            Value::Is(x)
+            Value::Is(x as i64)
         }
     }
 }

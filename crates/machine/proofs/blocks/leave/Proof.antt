@@ -1,7 +1,6 @@
 -- The cells from the first one on go; a result that is needed stays.
 use mathlib.Core.Path.{refl, sym, _∙_}
 use native.Mathlib.Omega.{arith}
-use Rattle.machine.proofs.Kept.{refused}
 use Rattle.machine.proofs.Told.{leave-gone-out, leave-gone, leave-kept-out, leave-unset, leave-kept, cut-sound}
 use borrow.Author.Needs.{needs}
 use Rattle.machine.proofs.blocks.leave.Statement.{statement}
@@ -16,9 +15,6 @@ cell-at-requires c κs = search needs
 enum-told : tie.Need-enum-told
 enum-told c = search needs
 
-new-requires : tie.Need-new-requires
-new-requires c κs = search needs
-
 enum-told-2 : tie.Need-enum-told-2
 enum-told-2 c = search needs
 
@@ -29,7 +25,7 @@ returns-2 : tie.Need-returns-2
 returns-2 c = (λ a i o. leave-gone-out (c .before .before .before .args .n) a (c .before .before .before .args .store .now) i o (c .before .before .before .args .q) (c .before .before .before .args .b) (c .before .before .if1 .left) (c .if3 .taken), tt)
 
 returns-3 : tie.Need-returns-3
-returns-3 c = (λ a i o. refused (c .new .ensures) ∙ leave-unset (c .before .before .before .before .before .before .before .args .n) a (c .before .before .before .before .before .before .before .args .store .now) i o (c .before .before .before .before .before .before .before .args .q) (c .before .before .before .before .before .before .before .args .b) (c .before .before .before .before .before .before .if1 .taken) (c .before .before .before .before .if2 .left) (sym (c .before .before .before .cell-at .ensures) ∙ c .before .enum-told .given .1), tt)
+returns-3 c = (λ a i o. leave-unset (c .before .before .before .before .before .before .args .n) a (c .before .before .before .before .before .before .args .store .now) i o (c .before .before .before .before .before .before .args .q) (c .before .before .before .before .before .before .args .b) (c .before .before .before .before .before .if1 .taken) (c .before .before .before .if2 .left) (sym (c .before .before .cell-at .ensures) ∙ c .enum-told .given .1), tt)
 
 returns-4 : tie.Need-returns-4
 returns-4 c = (
@@ -47,7 +43,6 @@ leave-spec =
     returns
     cell-at-requires
     enum-told
-    new-requires
     enum-told-2
     add-n
     returns-2

@@ -1,7 +1,7 @@
 -- All the cells at once, where there are as many.
-use mathlib.Core.Path.{refl, _∙_}
+use mathlib.Core.Path.{refl}
 use native.Mathlib.Omega.{arith}
-use Rattle.machine.proofs.Kept.{open-full, open-done, refused, open-sound}
+use Rattle.machine.proofs.Kept.{open-full, open-done, open-sound}
 use Prim.Native.Nat.{_+_, _≤_}
 use Rattle.machine.specs.Model.{roomOf}
 use borrow.Author.Needs.{needs}
@@ -17,14 +17,11 @@ add-if1-2 c = omega (arith, c .pre .0 .room, c .pre .0 .few)
 room-requires : tie.Need-room-requires
 room-requires c κs = search needs
 
-new-requires : tie.Need-new-requires
-new-requires c κs = search needs
-
 same-length : tie.Need-same-length
 same-length c = search needs
 
 returns : tie.Need-returns
-returns c = (λ a i o. refused (c .new .ensures) ∙ open-full (c .before .before .before .before .args .n) a (c .before .before .before .before .args .store .now) i o _ (c .before .before .before .before .args .k) (omega (arith, c .before .if1 .taken, c .before .before .room .ensures)), tt)
+returns c = (λ a i o. open-full (c .before .before .before .args .n) a (c .before .before .before .args .store .now) i o _ (c .before .before .before .args .k) (omega (arith, c .if1 .taken, c .before .room .ensures)), tt)
 
 unassign-requires : tie.Need-unassign-requires
 unassign-requires c κs = omega (arith, c .before .if1 .left, c .before .before .room .ensures)
@@ -47,7 +44,6 @@ open-spec =
     add-if1
     add-if1-2
     room-requires
-    new-requires
     same-length
     returns
     unassign-requires

@@ -1,10 +1,8 @@
 -- The k newest cells become those of a new activation.
-use mathlib.Core.Path.{refl, ap, _∙_}
+use mathlib.Core.Path.{refl, _∙_}
 use native.Mathlib.Nat.{le-refl}
-use Rattle.answers.specs.declared.Refusal.{Refusal}
-use Rattle.answers.specs.declared.Stop.the-variants.{Fault as Faulty}
 use Rattle.machine.specs.Instructions.{high, mid, low}
-use Rattle.machine.specs.Model.{halted, fateOf}
+use Rattle.machine.specs.Model.{fateOf}
 use Rattle.machine.proofs.Execs.{strayed, strayed-sound, call-stray, call-full, call-done, call-sound, room-no}
 use borrow.Author.Needs.{needs}
 use Rattle.machine.proofs.control.call.Statement.{statement}
@@ -28,12 +26,9 @@ returns c = (
   λ s o g h. strayed-sound (c .stray .ensures) s _ o o refl,
 )
 
-new-requires : tie.Need-new-requires
-new-requires c κs = search needs
-
 returns-2 : tie.Need-returns-2
 returns-2 c = (
-  λ s i o. ap (λ (x : Refusal). halted (Faulty x)) (c .new .ensures) ∙ call-full (c .before .before .before .before .before .args .n) (c .before .before .before .before .before .args .live) s i o (c .before .before .before .before .before .args .own .now) (c .before .before .before .before .before .args .at) (c .before .before .before .before .before .args .q) (low (c .before .before .before .before .before .args .v)) (high (c .before .before .before .before .before .args .v)) (mid (c .before .before .before .before .before .args .v)) (fateOf (c .before .before .before .before .before .args .needed)) (c .before .before .before .first-cell .ensures .0 (c .before .before .before .before .before .args .live) (le-refl _)) (c .before .before .if1 .left) (c .before .if2 .taken),
+  λ s i o. call-full (c .before .before .before .before .args .n) (c .before .before .before .before .args .live) s i o (c .before .before .before .before .args .own .now) (c .before .before .before .before .args .at) (c .before .before .before .before .args .q) (low (c .before .before .before .before .args .v)) (high (c .before .before .before .before .args .v)) (mid (c .before .before .before .before .args .v)) (fateOf (c .before .before .before .before .args .needed)) (c .before .before .first-cell .ensures .0 (c .before .before .before .before .args .live) (le-refl _)) (c .before .if1 .left) (c .if2 .taken),
   λ s o g h. refl,
 )
 
@@ -67,7 +62,6 @@ call-spec =
     add-if1
     stray-requires
     returns
-    new-requires
     returns-2
     around-requires
     add-begin

@@ -9,8 +9,8 @@ use Rattle.machine.proofs.control.lift_test.Tie as tie
 enum-known-chosen : tie.Need-enum-known-chosen
 enum-known-chosen c = search needs
 
-add-t9 : tie.Need-add-t9
-add-t9 c = search needs
+add-t10 : tie.Need-add-t10
+add-t10 c = search needs
 
 enum-known-chosen-2 : tie.Need-enum-known-chosen-2
 enum-known-chosen-2 c = search needs
@@ -41,7 +41,7 @@ lift-test-spec =
     tie.close
     (tie.spec
     enum-known-chosen
-    add-t9
+    add-t10
     enum-known-chosen-2
     enum-known-chosen-3
     enum-told

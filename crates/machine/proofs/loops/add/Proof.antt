@@ -3,9 +3,9 @@ use Rattle.machine.specs.Model.{dataOf}
 use mathlib.Core.Path.{sym, ap, _∙_}
 use Rattle.machine.specs.Values.{whole}
 use Rattle.machine.proofs.Works.{add-out, add-unset, add-fault, add-some}
-use Rattle.machine.proofs.Kept.{cell-in, cell-out, look-data, refused}
+use Rattle.machine.proofs.Kept.{cell-in, cell-out, look-data}
 use mir.Syntax.{w32, w64}
-use Rattle.machine.proofs.Signed.{read-back, wide-fits, sum-again, sum-again-fits}
+use Rattle.machine.proofs.Signed.{wide-fits, sum-again, sum-again-fits, narrow-fits, narrow-same, is-fits}
 use borrow.Author.Needs.{needs}
 use Rattle.machine.proofs.loops.add.Statement.{statement}
 use Rattle.machine.proofs.loops.add.Tie as tie
@@ -18,9 +18,6 @@ cell-at-requires c κs = search needs
 
 enum-told : tie.Need-enum-told
 enum-told c = search needs
-
-new-requires : tie.Need-new-requires
-new-requires c κs = search needs
 
 enum-known-v : tie.Need-enum-known-v
 enum-known-v c = search needs
@@ -40,11 +37,11 @@ whole-requires c κs = search needs
 enum-known-a : tie.Need-enum-known-a
 enum-known-a c = search needs
 
-new-requires-2 : tie.Need-new-requires-2
-new-requires-2 c κs = search needs
-
 enum-known-s : tie.Need-enum-known-s
 enum-known-s c = search needs
+
+cast-put : tie.Need-cast-put
+cast-put c = narrow-fits w32 w64 tt {a = c .before .before .s .given .0 .0} (is-fits _ (c .before .before .before .before .whole .ensures) (c .before .before .s .given .1))
 
 put-requires : tie.Need-put-requires
 put-requires c κs = search needs
@@ -54,15 +51,15 @@ same-length c = search needs
 
 returns-2 : tie.Need-returns-2
 returns-2 c =
-    (λ a i o. refused (c .new .ensures) ∙ add-unset _ (dataOf (c .before .before .before .before .before .before .before .args .n) a (c .before .before .before .before .before .before .before .args .store .now) i o) (c .before .before .before .before .before .before .before .args .q) (c .before .before .before .before .before .before .before .args .c) (c .before .before .before .before .before .before .before .args .x) (cell-in (c .before .before .before .before .before .before .before .args .n) a (c .before .before .before .before .before .before .before .args .store .now) i o (c .before .before .before .before .before .before .before .args .c) (c .before .before .before .before .before .if1 .left)) (look-data (c .before .before .before .before .before .before .before .args .n) a (c .before .before .before .before .before .before .before .args .store .now) i o (c .before .before .before .before .before .before .before .args .c) (c .before .before .before .before .before .if1 .left) ∙ sym (c .before .before .before .cell-at .ensures) ∙ c .before .enum-told .given .1), tt)
+    (λ a i o. add-unset _ (dataOf (c .before .before .before .before .before .before .args .n) a (c .before .before .before .before .before .before .args .store .now) i o) (c .before .before .before .before .before .before .args .q) (c .before .before .before .before .before .before .args .c) (c .before .before .before .before .before .before .args .x) (cell-in (c .before .before .before .before .before .before .args .n) a (c .before .before .before .before .before .before .args .store .now) i o (c .before .before .before .before .before .before .args .c) (c .before .before .before .before .if1 .left)) (look-data (c .before .before .before .before .before .before .args .n) a (c .before .before .before .before .before .before .args .store .now) i o (c .before .before .before .before .before .before .args .c) (c .before .before .before .before .if1 .left) ∙ sym (c .before .before .cell-at .ensures) ∙ c .enum-told .given .1), tt)
 
 same-length-2 : tie.Need-same-length-2
 same-length-2 c = search needs
 
 returns-3 : tie.Need-returns-3
 returns-3 c =
-    let w = sym (c .before .before .a .given .1) ∙ c .before .before .before .before .whole .ensures ∙ ap whole (sum-again w32 w64 tt {a = c .before .before .before .before .before .before .v .given .0 .0} (record { sfits = c .before .before .before .before .before .known-told .given .0 .1 }) (c .before .before .before .before .before .before .before .before .before .before .before .before .fits .x)) in
-    (λ b i o. refused (c .new2 .ensures) ∙ add-fault _ (dataOf (c .before .before .before .before .before .before .before .before .before .before .before .before .args .n) b (c .before .before .before .before .before .before .before .before .before .before .before .before .args .store .now) i o) (c .before .before .before .before .before .before .before .before .before .before .before .before .args .q) (c .before .before .before .before .before .before .before .before .before .before .before .before .args .c) (c .before .before .before .before .before .before .before .before .before .before .before .before .args .x) (cell-in (c .before .before .before .before .before .before .before .before .before .before .before .before .args .n) b (c .before .before .before .before .before .before .before .before .before .before .before .before .args .store .now) i o (c .before .before .before .before .before .before .before .before .before .before .before .before .args .c) (c .before .before .before .before .before .before .before .before .before .before .if1 .left)) (look-data (c .before .before .before .before .before .before .before .before .before .before .before .before .args .n) b (c .before .before .before .before .before .before .before .before .before .before .before .before .args .store .now) i o (c .before .before .before .before .before .before .before .before .before .before .before .before .args .c) (c .before .before .before .before .before .before .before .before .before .before .if1 .left) ∙ sym (c .before .before .before .before .before .before .before .before .cell-at .ensures) ∙ c .before .before .before .before .before .before .v .given .1) w, tt)
+    let w = sym (c .before .a .given .1) ∙ c .before .before .before .whole .ensures ∙ ap whole (sum-again w32 w64 tt {a = c .before .before .before .before .before .v .given .0 .0} (record { sfits = c .before .before .before .before .known-told .given .0 .1 }) (c .before .before .before .before .before .before .before .before .before .before .before .fits .x)) in
+    (λ b i o. add-fault _ (dataOf (c .before .before .before .before .before .before .before .before .before .before .before .args .n) b (c .before .before .before .before .before .before .before .before .before .before .before .args .store .now) i o) (c .before .before .before .before .before .before .before .before .before .before .before .args .q) (c .before .before .before .before .before .before .before .before .before .before .before .args .c) (c .before .before .before .before .before .before .before .before .before .before .before .args .x) (cell-in (c .before .before .before .before .before .before .before .before .before .before .before .args .n) b (c .before .before .before .before .before .before .before .before .before .before .before .args .store .now) i o (c .before .before .before .before .before .before .before .before .before .before .before .args .c) (c .before .before .before .before .before .before .before .before .before .if1 .left)) (look-data (c .before .before .before .before .before .before .before .before .before .before .before .args .n) b (c .before .before .before .before .before .before .before .before .before .before .before .args .store .now) i o (c .before .before .before .before .before .before .before .before .before .before .before .args .c) (c .before .before .before .before .before .before .before .before .before .if1 .left) ∙ sym (c .before .before .before .before .before .before .before .cell-at .ensures) ∙ c .before .before .before .before .before .v .given .1) w, tt)
 
 same-length-3 : tie.Need-same-length-3
 same-length-3 c = search needs
@@ -73,7 +70,7 @@ returns-4 c =
       λ a i o.
           c .before .put .ensures .0 a i o
           ∙ add-some _ (dataOf (c .before .before .before .before .before .before .before .before .before .before .before .before .before .before .args .n) a (c .before .before .before .before .before .before .before .before .before .before .before .before .before .before .args .store .now) i o) (c .before .before .before .before .before .before .before .before .before .before .before .before .before .before .args .q) (c .before .before .before .before .before .before .before .before .before .before .before .before .before .before .args .c) (c .before .before .before .before .before .before .before .before .before .before .before .before .before .before .args .x) (cell-in (c .before .before .before .before .before .before .before .before .before .before .before .before .before .before .args .n) a (c .before .before .before .before .before .before .before .before .before .before .before .before .before .before .args .store .now) i o (c .before .before .before .before .before .before .before .before .before .before .before .before .before .before .args .c) (c .before .before .before .before .before .before .before .before .before .before .before .before .if1 .left)) (look-data (c .before .before .before .before .before .before .before .before .before .before .before .before .before .before .args .n) a (c .before .before .before .before .before .before .before .before .before .before .before .before .before .before .args .store .now) i o (c .before .before .before .before .before .before .before .before .before .before .before .before .before .before .args .c) (c .before .before .before .before .before .before .before .before .before .before .before .before .if1 .left) ∙ sym (c .before .before .before .before .before .before .before .before .before .before .cell-at .ensures) ∙ c .before .before .before .before .before .before .before .before .v .given .1)
-          w (read-back w32 (c .before .before .before .before .s .given .0 .0) (c .before .before .before .known-told3 .given .0 .1)),
+          w (narrow-same w32 w64 tt (is-fits _ (c .before .before .before .before .before .before .whole .ensures) (c .before .before .before .before .s .given .1))),
       c .before .put .ensures .1,
     )
 
@@ -84,15 +81,14 @@ add-spec =
     returns
     cell-at-requires
     enum-told
-    new-requires
     enum-known-v
     cast-whole
     cast-whole-2
     add-whole
     whole-requires
     enum-known-a
-    new-requires-2
     enum-known-s
+    cast-put
     put-requires
     same-length
     returns-2

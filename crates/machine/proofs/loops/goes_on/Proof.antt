@@ -4,7 +4,7 @@ use mathlib.Core.Path.{refl, sym, _∙_}
 use mir.Syntax.{w32}
 use mir.Facts.{toZ-ofZ}
 use Rattle.machine.proofs.Works.{past-out, past-unset, past-left, past-on}
-use Rattle.machine.proofs.Kept.{cell-in, cell-out, look-data, refusedT}
+use Rattle.machine.proofs.Kept.{cell-in, cell-out, look-data}
 use Rattle.machine.proofs.Told.{past-is, unhold-data, unhold-sound}
 use Rattle.machine.proofs.Signed.{read-back}
 use borrow.Author.Needs.{needs}
@@ -19,9 +19,6 @@ cell-at-requires c κs = search needs
 
 enum-told : tie.Need-enum-told
 enum-told c = search needs
-
-new-requires : tie.Need-new-requires
-new-requires c κs = search needs
 
 enum-known-v : tie.Need-enum-known-v
 enum-known-v c = search needs
@@ -43,7 +40,7 @@ returns-2 c = (
 
 returns-3 : tie.Need-returns-3
 returns-3 c =
-    (λ a i o. refusedT (c .new .ensures) ∙ past-unset _ (dataOf (c .before .before .before .before .before .before .args .n) a (c .before .before .before .before .before .before .args .store .now) i o) (c .before .before .before .before .before .before .args .q) (c .before .before .before .before .before .before .args .c) (c .before .before .before .before .before .before .args .x) (c .before .before .before .before .before .before .args .y) (cell-in (c .before .before .before .before .before .before .args .n) a (c .before .before .before .before .before .before .args .store .now) i o (c .before .before .before .before .before .before .args .c) (c .before .before .before .before .if1 .left)) (look-data (c .before .before .before .before .before .before .args .n) a (c .before .before .before .before .before .before .args .store .now) i o (c .before .before .before .before .before .before .args .c) (c .before .before .before .before .if1 .left) ∙ sym (c .before .before .before .cell-at .ensures) ∙ c .before .enum-told .given .1), tt)
+    (λ a i o. past-unset _ (dataOf (c .before .before .before .before .before .args .n) a (c .before .before .before .before .before .args .store .now) i o) (c .before .before .before .before .before .args .q) (c .before .before .before .before .before .args .c) (c .before .before .before .before .before .args .x) (c .before .before .before .before .before .args .y) (cell-in (c .before .before .before .before .before .args .n) a (c .before .before .before .before .before .args .store .now) i o (c .before .before .before .before .before .args .c) (c .before .before .before .if1 .left)) (look-data (c .before .before .before .before .before .args .n) a (c .before .before .before .before .before .args .store .now) i o (c .before .before .before .before .before .args .c) (c .before .before .before .if1 .left) ∙ sym (c .before .before .cell-at .ensures) ∙ c .enum-told .given .1), tt)
 
 returns-4 : tie.Need-returns-4
 returns-4 c = (
@@ -61,7 +58,6 @@ goes-on-spec =
     returns
     cell-at-requires
     enum-told
-    new-requires
     enum-known-v
     past-requires
     sub-n

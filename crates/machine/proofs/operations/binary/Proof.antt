@@ -1,11 +1,12 @@
 -- The operator's value takes the place of the two that were used.
-use mathlib.Core.Path.{_∙_}
+use mathlib.Core.Path.{sym, subst, _∙_}
 use native.Mathlib.Omega.{arith}
 use Rattle.machine.specs.Instructions.{binaryOf}
+use Rattle.machine.specs.Model.{FittingV}
 use Rattle.machine.proofs.Works.{binary-none, binary-some}
 use Rattle.machine.proofs.Kept.{saw-two, saw-no-two, pair-sound, pair-room, pair-trace, pair-did}
 use mir.Syntax.{w32}
-use Rattle.machine.proofs.Signed.{read-back}
+use Rattle.machine.proofs.Signed.{read-back, binary-fits}
 use borrow.Author.Needs.{needs}
 use Rattle.machine.proofs.operations.binary.Statement.{statement}
 use Rattle.machine.proofs.operations.binary.Tie as tie
@@ -23,7 +24,7 @@ binary-requires : tie.Need-binary-requires
 binary-requires c κs = search needs
 
 give-requires : tie.Need-give-requires
-give-requires c κs = (pair-sound (c .before .before .before .before .before .before .before .args .n) (c .before .before .before .x .given .1) (c .before .before .before .before .before .newest-two .ensures .1) (c .before .before .before .before .before .before .before .pre .0), omega (arith, pair-room (c .before .before .before .before .before .before .before .args .n) (c .before .before .before .x .given .1) (c .before .before .before .before .before .newest-two .ensures .1) (c .before .before .before .before .before .before .before .pre .0)))
+give-requires c κs = (pair-sound (c .before .before .before .before .before .before .before .args .n) (c .before .before .before .x .given .1) (c .before .before .before .before .before .newest-two .ensures .1) (c .before .before .before .before .before .before .before .pre .0), omega (arith, pair-room (c .before .before .before .before .before .before .before .args .n) (c .before .before .before .x .given .1) (c .before .before .before .before .before .newest-two .ensures .1) (c .before .before .before .before .before .before .before .pre .0)), subst FittingV (sym (c .binary .ensures)) (binary-fits _ _ _))
 
 same-length : tie.Need-same-length
 same-length c = search needs

@@ -1,7 +1,7 @@
 -- The cell is in use and holds a number.
 use mathlib.Core.Path.{sym, _∙_}
 use Rattle.machine.proofs.Works.{load-out, load-unset, load-holds}
-use Rattle.machine.proofs.Kept.{cell-in, cell-out, look-data, refused}
+use Rattle.machine.proofs.Kept.{cell-in, cell-out, look-data}
 use mir.Syntax.{w32}
 use Rattle.machine.proofs.Signed.{read-back, again}
 use borrow.Author.Needs.{needs}
@@ -17,9 +17,6 @@ cell-at-requires c κs = search needs
 enum-told : tie.Need-enum-told
 enum-told c = search needs
 
-new-requires : tie.Need-new-requires
-new-requires c κs = search needs
-
 enum-known-v : tie.Need-enum-known-v
 enum-known-v c = search needs
 
@@ -31,9 +28,9 @@ same-length c = search needs
 
 returns-2 : tie.Need-returns-2
 returns-2 c =
-    let n = c .before .before .before .before .before .before .before .args .n in
-    let s = c .before .before .before .before .before .before .before .args .store .now in
-    (λ a i o. refused (c .new .ensures) ∙ load-unset _ _ (c .before .before .before .before .before .before .before .args .q) (c .before .before .before .before .before .before .before .args .c) (cell-in n a s i o (c .before .before .before .before .before .before .before .args .c) (c .before .before .before .before .before .if1 .left)) (look-data n a s i o (c .before .before .before .before .before .before .before .args .c) (c .before .before .before .before .before .if1 .left) ∙ sym (c .before .before .before .cell-at .ensures) ∙ c .before .enum-told .given .1), tt)
+    let n = c .before .before .before .before .before .before .args .n in
+    let s = c .before .before .before .before .before .before .args .store .now in
+    (λ a i o. load-unset _ _ (c .before .before .before .before .before .before .args .q) (c .before .before .before .before .before .before .args .c) (cell-in n a s i o (c .before .before .before .before .before .before .args .c) (c .before .before .before .before .if1 .left)) (look-data n a s i o (c .before .before .before .before .before .before .args .c) (c .before .before .before .before .if1 .left) ∙ sym (c .before .before .cell-at .ensures) ∙ c .enum-told .given .1), tt)
 
 same-length-2 : tie.Need-same-length-2
 same-length-2 c = search needs
@@ -53,7 +50,6 @@ load-spec =
     returns
     cell-at-requires
     enum-told
-    new-requires
     enum-known-v
     new-cell-requires
     same-length

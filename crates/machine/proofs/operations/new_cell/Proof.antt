@@ -1,7 +1,7 @@
 -- One cell more, where there is one.
-use mathlib.Core.Path.{refl, _∙_}
+use mathlib.Core.Path.{refl}
 use native.Mathlib.Omega.{arith}
-use Rattle.machine.proofs.Kept.{new-full, new-done, new-sound, refused}
+use Rattle.machine.proofs.Kept.{new-full, new-done, new-sound}
 use borrow.Author.Needs.{needs}
 use Rattle.machine.proofs.operations.new_cell.Statement.{statement}
 use Rattle.machine.proofs.operations.new_cell.Tie as tie
@@ -12,14 +12,11 @@ add-if1 c = search needs
 room-requires : tie.Need-room-requires
 room-requires c κs = search needs
 
-new-requires : tie.Need-new-requires
-new-requires c κs = search needs
-
 same-length : tie.Need-same-length
 same-length c = search needs
 
 returns : tie.Need-returns
-returns c = (λ a i o. refused (c .new .ensures) ∙ new-full (c .before .before .before .before .args .n) a (c .before .before .before .before .args .store .now) i o _ _ (omega (arith, c .before .if1 .taken, c .before .before .room .ensures)), tt)
+returns c = (λ a i o. new-full (c .before .before .before .args .n) a (c .before .before .before .args .store .now) i o _ _ (omega (arith, c .if1 .taken, c .before .room .ensures)), tt)
 
 put-cell-requires : tie.Need-put-cell-requires
 put-cell-requires c κs = search needs
@@ -42,7 +39,6 @@ new-cell-spec =
     (tie.spec
     add-if1
     room-requires
-    new-requires
     same-length
     returns
     put-cell-requires

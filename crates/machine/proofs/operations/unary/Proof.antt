@@ -1,10 +1,11 @@
 -- The operator's value takes the place of the one that was used.
-use mathlib.Core.Path.{_∙_}
+use mathlib.Core.Path.{sym, subst, _∙_}
 use Rattle.machine.specs.Instructions.{unaryOf}
+use Rattle.machine.specs.Model.{FittingV}
 use Rattle.machine.proofs.Works.{unary-none, unary-some}
 use Rattle.machine.proofs.Kept.{saw, saw-none, used-sound, used-room, used-trace, used-did}
 use mir.Syntax.{w32}
-use Rattle.machine.proofs.Signed.{read-back}
+use Rattle.machine.proofs.Signed.{read-back, unary-fits}
 use borrow.Author.Needs.{needs}
 use Rattle.machine.proofs.operations.unary.Statement.{statement}
 use Rattle.machine.proofs.operations.unary.Tie as tie
@@ -22,7 +23,7 @@ unary-requires : tie.Need-unary-requires
 unary-requires c κs = search needs
 
 give-requires : tie.Need-give-requires
-give-requires c κs = (used-sound (c .before .before .before .before .before .before .before .args .n) (c .before .before .before .x .given .1) (c .before .before .before .before .before .newest .ensures .1) (c .before .before .before .before .before .before .before .pre .0), used-room (c .before .before .before .before .before .before .before .args .n) (c .before .before .before .x .given .1) (c .before .before .before .before .before .newest .ensures .1) (c .before .before .before .before .before .before .before .pre .0))
+give-requires c κs = (used-sound (c .before .before .before .before .before .before .before .args .n) (c .before .before .before .x .given .1) (c .before .before .before .before .before .newest .ensures .1) (c .before .before .before .before .before .before .before .pre .0), used-room (c .before .before .before .before .before .before .before .args .n) (c .before .before .before .x .given .1) (c .before .before .before .before .before .newest .ensures .1) (c .before .before .before .before .before .before .before .pre .0), subst FittingV (sym (c .unary .ensures)) (unary-fits _ _))
 
 same-length : tie.Need-same-length
 same-length c = search needs

@@ -7,25 +7,18 @@ use mir.Facts.{toZ-ofZ}
 use Rattle.machine.specs.Run.{say, wrote}
 use Rattle.machine.specs.Model.{traceOf}
 use Rattle.machine.proofs.Works.{writing-channel, writing-full, writing-some}
-use Rattle.machine.proofs.Kept.{refused}
 use Rattle.machine.proofs.Told.{space-none, space-some, spend-data, wrote-trace, wrote-rest, wrote-length, wrote-sound}
 use Rattle.machine.proofs.Signed.{one-yes, one-no}
 use borrow.Author.Needs.{needs}
 use Rattle.machine.proofs.ports.put_out.Statement.{statement}
 use Rattle.machine.proofs.ports.put_out.Tie as tie
 
-new-requires : tie.Need-new-requires
-new-requires c κs = search needs
-
 returns : tie.Need-returns
-returns c = (λ a s i. refused (c .new .ensures) ∙ writing-channel _ _ (c .before .before .args .q) (c .before .before .args .k) (c .before .before .args .v) (one-no w32 (c .before .before .args .k) (c .before .if1 .taken)), λ s g. refl)
-
-new-requires-2 : tie.Need-new-requires-2
-new-requires-2 c κs = search needs
+returns c = (λ a s i. writing-channel _ _ (c .before .args .q) (c .before .args .k) (c .before .args .v) (one-no w32 (c .before .args .k) (c .if1 .taken)), λ s g. refl)
 
 returns-2 : tie.Need-returns-2
 returns-2 c =
-    (λ a s i. refused (c .new2 .ensures) ∙ writing-full _ _ (c .before .before .before .args .q) (c .before .before .before .args .k) (c .before .before .before .args .v) (one-yes w32 (c .before .before .before .fits .k) (c .before .before .if1 .left)) (space-none (c .before .before .before .args .n) a s i (c .before .before .before .args .output .now) (c .before .if2 .taken)), λ s g. refl)
+    (λ a s i. writing-full _ _ (c .before .before .args .q) (c .before .before .args .k) (c .before .before .args .v) (one-yes w32 (c .before .before .fits .k) (c .before .if1 .left)) (space-none (c .before .before .args .n) a s i (c .before .before .args .output .now) (c .if2 .taken)), λ s g. refl)
 
 mul-v : tie.Need-mul-v
 mul-v c = search needs
@@ -53,9 +46,7 @@ pub put-out-spec : {M : Type 1} → statement M
 put-out-spec =
     tie.close
     (tie.spec
-    new-requires
     returns
-    new-requires-2
     returns-2
     mul-v
     slice-set-from-v

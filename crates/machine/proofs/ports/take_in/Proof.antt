@@ -2,7 +2,7 @@
 use Rattle.machine.specs.Model.{dataOf}
 use mathlib.Core.Path.{refl, _∙_}
 use Rattle.machine.proofs.Works.{taking-out, taking-channel, taking-ended, taking-some}
-use Rattle.machine.proofs.Kept.{cell-in, cell-out, refused, sound-as}
+use Rattle.machine.proofs.Kept.{cell-in, cell-out, sound-as}
 use Rattle.machine.proofs.Told.{input-none, input-some, rest-data, took-sound, tookOne}
 use mir.Syntax.{w32}
 use Rattle.machine.proofs.Signed.{read-back, one-yes, one-no}
@@ -15,19 +15,13 @@ use Rattle.machine.proofs.ports.take_in.Tie as tie
 returns : tie.Need-returns
 returns c = (λ a o. taking-out _ (dataOf (c .before .before .args .n) a (c .before .before .args .store .now) (c .before .before .args .input .now) o) (c .before .before .args .q) (c .before .before .args .c) (c .before .before .args .k) (cell-out (c .before .before .args .n) a (c .before .before .args .store .now) (c .before .before .args .input .now) o (c .before .before .args .c) (c .if1 .taken)), tt)
 
-new-requires : tie.Need-new-requires
-new-requires c κs = search needs
-
 returns-2 : tie.Need-returns-2
 returns-2 c =
-    (λ a o. refused (c .new .ensures) ∙ taking-channel _ (dataOf (c .before .before .before .before .args .n) a (c .before .before .before .before .args .store .now) (c .before .before .before .before .args .input .now) o) (c .before .before .before .before .args .q) (c .before .before .before .before .args .c) (c .before .before .before .before .args .k) (cell-in (c .before .before .before .before .args .n) a (c .before .before .before .before .args .store .now) (c .before .before .before .before .args .input .now) o (c .before .before .before .before .args .c) (c .before .before .if1 .left)) (one-no w32 (c .before .before .before .before .args .k) (c .before .if2 .taken)), tt)
-
-new-requires-2 : tie.Need-new-requires-2
-new-requires-2 c κs = search needs
+    (λ a o. taking-channel _ (dataOf (c .before .before .before .args .n) a (c .before .before .before .args .store .now) (c .before .before .before .args .input .now) o) (c .before .before .before .args .q) (c .before .before .before .args .c) (c .before .before .before .args .k) (cell-in (c .before .before .before .args .n) a (c .before .before .before .args .store .now) (c .before .before .before .args .input .now) o (c .before .before .before .args .c) (c .before .if1 .left)) (one-no w32 (c .before .before .before .args .k) (c .if2 .taken)), tt)
 
 returns-3 : tie.Need-returns-3
 returns-3 c =
-    (λ a o. refused (c .new2 .ensures) ∙ taking-ended _ (dataOf (c .before .before .before .before .before .args .n) a (c .before .before .before .before .before .args .store .now) (c .before .before .before .before .before .args .input .now) o) (c .before .before .before .before .before .args .q) (c .before .before .before .before .before .args .c) (c .before .before .before .before .before .args .k) (cell-in (c .before .before .before .before .before .args .n) a (c .before .before .before .before .before .args .store .now) (c .before .before .before .before .before .args .input .now) o (c .before .before .before .before .before .args .c) (c .before .before .before .if1 .left)) (one-yes w32 (c .before .before .before .before .before .fits .k) (c .before .before .if2 .left)) (input-none (c .before .before .before .before .before .args .n) a (c .before .before .before .before .before .args .store .now) (c .before .before .before .before .before .args .input .now) o (c .before .if3 .taken)), tt)
+    (λ a o. taking-ended _ (dataOf (c .before .before .before .before .args .n) a (c .before .before .before .before .args .store .now) (c .before .before .before .before .args .input .now) o) (c .before .before .before .before .args .q) (c .before .before .before .before .args .c) (c .before .before .before .before .args .k) (cell-in (c .before .before .before .before .args .n) a (c .before .before .before .before .args .store .now) (c .before .before .before .before .args .input .now) o (c .before .before .before .before .args .c) (c .before .before .if1 .left)) (one-yes w32 (c .before .before .before .before .fits .k) (c .before .if2 .left)) (input-none (c .before .before .before .before .args .n) a (c .before .before .before .before .args .store .now) (c .before .before .before .before .args .input .now) o (c .if3 .taken)), tt)
 
 mul-v : tie.Need-mul-v
 mul-v c = search needs
@@ -59,9 +53,7 @@ take-in-spec =
     tie.close
     (tie.spec
     returns
-    new-requires
     returns-2
-    new-requires-2
     returns-3
     mul-v
     shared-slice-copy-out-v

@@ -2,7 +2,7 @@
 use Prim.Native.Nat.{_-_}
 use native.Mathlib.Omega.{arith}
 use borrow.Author.Needs.{needs}
-use mathlib.Core.Path.{_∙_}
+use mathlib.Core.Path.{refl, _∙_}
 use Rattle.machine.proofs.Limits.{Driving, driving-start, driving-on, driven-stop, driven-over}
 use Rattle.machine.proofs.steps.drive.Statement.{statement}
 use Rattle.machine.proofs.steps.drive.Tie as tie
@@ -19,26 +19,71 @@ loop-holds c = driving-start (c .before .args .code .now) (c .before .args .inpu
 step-requires : tie.Need-step-requires Inv-loop μ-loop
 step-requires c κs = (c .before .before .before .before .loop .inv .sound, c .before .before .before .before .loop .inv .lives, c .before .before .before .before .loop .inv .wrote, c .before .before .before .before .before .before .pre .0)
 
-enum-known-stop : tie.Need-enum-known-stop Inv-loop μ-loop
-enum-known-stop c = search needs
+enum-known-a : tie.Need-enum-known-a Inv-loop μ-loop
+enum-known-a c = search needs
+
+enum-told : tie.Need-enum-told Inv-loop μ-loop
+enum-told c = search needs
 
 add-ended : tie.Need-add-ended Inv-loop μ-loop
-add-ended c = omega (arith, c .before .before .before .before .before .before .before .before .before .loop-test .taken)
+add-ended c = omega (arith, c .before .before .before .before .before .before .before .before .loop-test .taken)
 
 ended-requires : tie.Need-ended-requires Inv-loop μ-loop
 ended-requires c κs = search needs
 
 same-length : tie.Need-same-length Inv-loop μ-loop
-same-length c = c .before .before .before .before .before .before .step .kept .1 .1 .1 .1 .1 .0 ∙ c .before .before .before .before .before .before .before .before .before .before .before .loop .inv .long-store
+same-length c = c .before .before .before .before .before .step .kept .1 .1 .1 .1 .1 .0 ∙ c .before .before .before .before .before .before .before .before .before .before .loop .inv .long-store
 
 same-length-2 : tie.Need-same-length-2 Inv-loop μ-loop
-same-length-2 c = c .before .before .before .before .before .before .step .kept .1 .1 .1 .1 .1 .1 .0 ∙ c .before .before .before .before .before .before .before .before .before .before .before .loop .inv .long-output
+same-length-2 c = c .before .before .before .before .before .step .kept .1 .1 .1 .1 .1 .1 .0 ∙ c .before .before .before .before .before .before .before .before .before .before .loop .inv .long-output
 
 returns : tie.Need-returns Inv-loop μ-loop
-returns c = rw (c .ended .ensures) (driven-stop (c .before .before .before .before .before .before .before .before .before .before .before .loop .inv) (c .before .before .before .before .before .before .before .before .before .before .loop-test .taken) (c .before .before .before .before .before .before .step .last .1 .1 .1 .1 .1 .0) (c .before .before .before .before .before .before .step .last .1 .1 .1 .1 .1 .1 .0) (c .before .before .before .before .before .before .step .last .1 .1 .1 .1 .1 .1 .1 .0) (c .before .before .before .before .before .before .step .ensures .0) (c .before .before .before .before .before .before .step .ensures .1) (c .before .before .stop .given .1))
+returns c =
+    let s = c .before .before .before .before .before .step in
+    rw (c .ended .ensures) (driven-stop (c .before .before .before .before .before .before .before .before .before .before .loop .inv) (c .before .before .before .before .before .before .before .before .before .loop-test .taken) (s .last .1 .1 .1 .1 .1 .0) (s .last .1 .1 .1 .1 .1 .1 .0) (s .last .1 .1 .1 .1 .1 .1 .1 .0) (s .ensures .0) (s .ensures .1) (c .before .enum-told .given .1) refl (λ k. k))
 
-enum-known-a : tie.Need-enum-known-a Inv-loop μ-loop
-enum-known-a c = search needs
+enum-known-a-2 : tie.Need-enum-known-a-2 Inv-loop μ-loop
+enum-known-a-2 c = search needs
+
+new-requires : tie.Need-new-requires Inv-loop μ-loop
+new-requires c κs = search needs
+
+add-ended-2 : tie.Need-add-ended-2 Inv-loop μ-loop
+add-ended-2 c = omega (arith, c .before .before .before .before .before .before .before .before .before .before .loop-test .taken)
+
+ended-requires-2 : tie.Need-ended-requires-2 Inv-loop μ-loop
+ended-requires-2 c κs = search needs
+
+same-length-3 : tie.Need-same-length-3 Inv-loop μ-loop
+same-length-3 c = c .before .before .before .before .before .before .before .step .kept .1 .1 .1 .1 .1 .0 ∙ c .before .before .before .before .before .before .before .before .before .before .before .before .loop .inv .long-store
+
+same-length-4 : tie.Need-same-length-4 Inv-loop μ-loop
+same-length-4 c = c .before .before .before .before .before .before .before .step .kept .1 .1 .1 .1 .1 .1 .0 ∙ c .before .before .before .before .before .before .before .before .before .before .before .before .loop .inv .long-output
+
+returns-2 : tie.Need-returns-2 Inv-loop μ-loop
+returns-2 c =
+    let s = c .before .before .before .before .before .before .before .step in
+    rw (c .ended2 .ensures, c .before .new .ensures) (driven-stop (c .before .before .before .before .before .before .before .before .before .before .before .before .loop .inv) (c .before .before .before .before .before .before .before .before .before .before .before .loop-test .taken) (s .last .1 .1 .1 .1 .1 .0) (s .last .1 .1 .1 .1 .1 .1 .0) (s .last .1 .1 .1 .1 .1 .1 .1 .0) (s .ensures .0) (s .ensures .1) (c .before .before .before .a2 .given .1) refl (λ k. k))
+
+enum-known-c : tie.Need-enum-known-c Inv-loop μ-loop
+enum-known-c c = search needs
+
+add-ended-3 : tie.Need-add-ended-3 Inv-loop μ-loop
+add-ended-3 c = omega (arith, c .before .before .before .before .before .before .before .before .before .loop-test .taken)
+
+ended-requires-3 : tie.Need-ended-requires-3 Inv-loop μ-loop
+ended-requires-3 c κs = search needs
+
+same-length-5 : tie.Need-same-length-5 Inv-loop μ-loop
+same-length-5 c = c .before .before .before .before .before .before .step .kept .1 .1 .1 .1 .1 .0 ∙ c .before .before .before .before .before .before .before .before .before .before .before .loop .inv .long-store
+
+same-length-6 : tie.Need-same-length-6 Inv-loop μ-loop
+same-length-6 c = c .before .before .before .before .before .before .step .kept .1 .1 .1 .1 .1 .1 .0 ∙ c .before .before .before .before .before .before .before .before .before .before .before .loop .inv .long-output
+
+returns-3 : tie.Need-returns-3 Inv-loop μ-loop
+returns-3 c =
+    let s = c .before .before .before .before .before .before .step in
+    rw (c .ended3 .ensures) (driven-stop (c .before .before .before .before .before .before .before .before .before .before .before .loop .inv) (c .before .before .before .before .before .before .before .before .before .before .loop-test .taken) (s .last .1 .1 .1 .1 .1 .0) (s .last .1 .1 .1 .1 .1 .1 .0) (s .last .1 .1 .1 .1 .1 .1 .1 .0) (s .ensures .0) (s .ensures .1) (c .before .before .c .given .1) refl (λ k. k))
 
 add-done : tie.Need-add-done Inv-loop μ-loop
 add-done c = omega (arith, c .before .before .before .before .before .before .before .before .before .loop-test .taken)
@@ -49,17 +94,17 @@ loop-less c = omega (arith, c .before .before .before .before .before .before .b
 loop-again : tie.Need-loop-again Inv-loop μ-loop
 loop-again c = driving-on (c .before .before .before .before .before .before .before .before .before .before .loop .inv) (c .before .before .before .before .before .before .before .before .before .loop-test .taken) (c .before .before .before .before .before .step .last .1 .1 .1 .1 .1 .0) (c .before .before .before .before .before .step .last .1 .1 .1 .1 .1 .1 .0) (c .before .before .before .before .before .step .last .1 .1 .1 .1 .1 .1 .1 .0) (c .before .before .before .before .before .step .ensures .0) (c .before .before .before .before .before .step .ensures .1) (c .before .a .given .1) (c .before .before .before .before .before .step .kept .1 .1 .1 .1 .1 .0) (c .before .before .before .before .before .step .kept .1 .1 .1 .1 .1 .1 .0)
 
-ended-requires-2 : tie.Need-ended-requires-2 Inv-loop μ-loop
-ended-requires-2 c κs = search needs
+ended-requires-4 : tie.Need-ended-requires-4 Inv-loop μ-loop
+ended-requires-4 c κs = search needs
 
-same-length-3 : tie.Need-same-length-3 Inv-loop μ-loop
-same-length-3 c = c .before .before .loop .inv .long-store
+same-length-7 : tie.Need-same-length-7 Inv-loop μ-loop
+same-length-7 c = c .before .before .loop .inv .long-store
 
-same-length-4 : tie.Need-same-length-4 Inv-loop μ-loop
-same-length-4 c = c .before .before .loop .inv .long-output
+same-length-8 : tie.Need-same-length-8 Inv-loop μ-loop
+same-length-8 c = c .before .before .loop .inv .long-output
 
-returns-2 : tie.Need-returns-2 Inv-loop μ-loop
-returns-2 c = rw (c .ended2 .ensures) (driven-over (c .before .before .loop .inv) (c .before .loop-test .left))
+returns-4 : tie.Need-returns-4 Inv-loop μ-loop
+returns-4 c = rw (c .ended4 .ensures) (driven-over (c .before .before .loop .inv) (c .before .loop-test .left))
 
 pub drive-spec : {M : Type 1} → statement M
 drive-spec =
@@ -69,17 +114,30 @@ drive-spec =
     μ-loop
     loop-holds
     step-requires
-    enum-known-stop
+    enum-known-a
+    enum-told
     add-ended
     ended-requires
     same-length
     same-length-2
     returns
-    enum-known-a
-    add-done
-    loop-less
-    loop-again
+    enum-known-a-2
+    new-requires
+    add-ended-2
     ended-requires-2
     same-length-3
     same-length-4
-    returns-2)
+    returns-2
+    enum-known-c
+    add-ended-3
+    ended-requires-3
+    same-length-5
+    same-length-6
+    returns-3
+    add-done
+    loop-less
+    loop-again
+    ended-requires-4
+    same-length-7
+    same-length-8
+    returns-4)

@@ -1,6 +1,6 @@
 -- Each of the three groups, by its numbers.
 use mathlib.Core.Path.{sym}
-use mir.Syntax.{w32}
+use mir.Syntax.{w64}
 use mir.Facts.{toZ-ofZ}
 use Rattle.machine.proofs.Signed.{truth-fits}
 use borrow.Author.Needs.{needs}
@@ -33,7 +33,7 @@ truth-requires c κs = search needs
 
 returns-3 : tie.Need-returns-3
 returns-3 c =
-    simp (c .truth .ensures, toZ-ofZ (truth-fits w32 (c .before .connective .result)))
+    simp (c .truth .ensures, toZ-ofZ (truth-fits w64 (c .before .connective .result)))
     (c .before .connective .ensures (c .before .before .before .before .before .before .args .x) (c .before .before .before .before .before .before .args .y) (sym (simp (toZ-ofZ (c .before .before .before .before .before .before .fits .x)) at (c .before .before .before .is-true .ensures))) (sym (simp (toZ-ofZ (c .before .before .before .before .before .before .fits .y)) at (c .before .before .is-true2 .ensures))))
 
 pub binary-spec : {M : Type 1} → statement M

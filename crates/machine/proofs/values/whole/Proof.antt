@@ -14,13 +14,10 @@ returns-2 : tie.Need-returns-2
 unfolding whole
 returns-2 c = simp (high-out w32 (c .before .before .args .x) (simp (toZ-ofZ (c .before .before .fits .x)) at (c .if2 .taken)))
 
-cast-t5 : tie.Need-cast-t5
-cast-t5 c = rw (toZ-ofZ (c .before .before .fits .x)) (between w32 (c .before .before .args .x) (simp (toZ-ofZ (c .before .before .fits .x)) at (c .before .if1 .left)) (simp (toZ-ofZ (c .before .before .fits .x)) at (c .if2 .left)))
-
 returns-3 : tie.Need-returns-3
 returns-3 c =
     let h = between w32 (c .before .before .args .x) (simp (toZ-ofZ (c .before .before .fits .x)) at (c .before .if1 .left)) (simp (toZ-ofZ (c .before .before .fits .x)) at (c .if2 .left)) in
-    simp (toZ-ofZ (c .before .before .fits .x), toZ-ofZ h, whole-is (c .before .before .args .x) h)
+    simp (toZ-ofZ (c .before .before .fits .x), whole-is (c .before .before .args .x) h)
 
 pub whole-spec : {M : Type 1} → statement M
-whole-spec = tie.close (tie.spec returns returns-2 cast-t5 returns-3)
+whole-spec = tie.close (tie.spec returns returns-2 returns-3)
