@@ -39,15 +39,6 @@ zeros-most (b ∷ bs) = go (eqb b 0) (zeros-most bs)
     go true h = omega arith
     go false h = omega arith
 
-pub before-most : (q : ℕ) (bs : List ℕ) → length (before q bs) ≤ length bs
-unfolding before
-before-most q [] = omega arith
-before-most q (b ∷ bs) = go (eqb b q) (before-most q bs)
-  where
-    go : (t : Bool) → length (before q bs) ≤ length bs → length (cond t [] (b ∷ before q bs)) ≤ suc (length bs)
-    go true h = omega arith
-    go false h = omega arith
-
 -- behind the zeros there is none
 zeros-gone : (bs : List ℕ) → zeros (drop (zeros bs) bs) ≡ 0
 unfolding zeros

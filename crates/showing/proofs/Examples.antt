@@ -6,7 +6,8 @@ use native.Mathlib.Omega.{arith}
 use Rattle.symbols.specs.Text.{bytes}
 use Rattle.symbols.specs.Names.{blank, letter, digit, inName, these, lettersAt}
 use Rattle.symbols.specs.Scan.{before}
-use Rattle.showing.specs.Pages.{startOf, lineOf, columnOf, Fills, shownByte, shownFrom, goesOn, underByte, under, marksFrom, rowsAt, nodesAt}
+use Rattle.showing.specs.Pages.{startOf, lineOf, columnOf, Fills, shownByte, shownFrom, goesOn, underByte, under, marksFrom}
+use Rattle.grammar.specs.TableParts.{rowsAt, nodesAt}
 
 -- ---- places
 

@@ -66,16 +66,6 @@ under (b ∷ bs) = cond (goesOn b) (under bs) (underByte b ∷ under bs)
 unfoldable pub marksFrom : List ℕ → ℕ → ℕ → List ℕ
 marksFrom source p place = under (take (place - p) (drop p source))
 
--- ---- the sections of a table: a count of uses and three words for each, a count of declarations and four words for each, a count of nodes
-
--- where the count of the declarations stands
-unfoldable pub rowsAt : List ℕ → ℕ
-rowsAt t = 1 + 3 * getD t 0 0
-
--- where that of the nodes stands
-unfoldable pub nodesAt : List ℕ → ℕ
-nodesAt t = rowsAt t + 1 + 4 * getD t (rowsAt t) 0
-
 -- ---- levels
 
 -- the nodes that open a scope, and those that close one

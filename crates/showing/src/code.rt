@@ -1,70 +1,59 @@
 // The translation, instruction by instruction, in the words of docs/MACHINE.md.
 use crate::text::say;
 use crate::text::say_blanks;
+use crate::text::say_nth;
 use crate::text::say_number;
 use crate::text::say_spot;
 ghost use mathlib.Core.Path.{_≡_};
 ghost use Rattle.machine.specs.Instructions as Instructions;
 
-fn say_control(operation: u32) {
-    match operation {
-        1 => say(b"END"),
-        2 => say(b"JUMP"),
-        3 => say(b"ENTER"),
-        4 => say(b"LEAVE"),
-        5 => say(b"CALL needed"),
-        6 => say(b"CALL"),
-        7 => say(b"RETURN"),
-        8 => say(b"GO"),
-        9 => say(b"NEXT"),
-        10 => say(b"UNLESS"),
-        _ => say(b"TEST"),
-    }
-}
-
-fn say_data(operation: u32) {
-    match operation {
-        12 => say(b"CONST"),
-        13 => say(b"LOAD"),
-        14 => say(b"STORE"),
-        15 => say(b"ASSIGN"),
-        16 => say(b"RESULT"),
-        17 => say(b"DROP"),
-        18 => say(b"IN"),
-        19 => say(b"OUT"),
-        20 => say(b"HOLD"),
-        21 => say(b"ADD"),
-        22 => say(b"MINUS"),
-        23 => say(b"NOT"),
-        _ => say(b"IABS"),
-    }
-}
-
-fn say_operator(operation: u32) {
-    match operation {
-        25 => say(b"+"),
-        26 => say(b"-"),
-        27 => say(b"*"),
-        28 => say(b"%"),
-        29 => say(b"<"),
-        30 => say(b"<="),
-        31 => say(b"="),
-        32 => say(b">="),
-        33 => say(b">"),
-        34 => say(b"#"),
-        35 => say(b"and"),
-        36 => say(b"or"),
-        37 => say(b"impl"),
-        38 => say(b"equiv"),
-        _ => say(b"no operation"),
-    }
-}
-
+// The operations' names, a line a number from 0 on.
 fn say_operation(operation: u32) {
-    match operation {
-        0..=11 => say_control(operation),
-        12..=24 => say_data(operation),
-        _ => say_operator(operation),
+    if operation < 39 {
+        say_nth(
+            b"no operation
+END
+JUMP
+ENTER
+LEAVE
+CALL needed
+CALL
+RETURN
+GO
+NEXT
+UNLESS
+TEST
+CONST
+LOAD
+STORE
+ASSIGN
+RESULT
+DROP
+IN
+OUT
+HOLD
+ADD
+MINUS
+NOT
+IABS
++
+-
+*
+%
+<
+<=
+=
+>=
+>
+#
+and
+or
+impl
+equiv",
+            wide(operation),
+        );
+    } else {
+        say(b"no operation");
     }
 }
 

@@ -2,6 +2,7 @@
 // printed: to standard output what was asked for, to standard error what was wrong with the asking.
 use libc::STDERR_FILENO;
 use libc::STDOUT_FILENO;
+use symbols::text::find;
 use symbols::text::is_blank;
 use symbols::text::is_name_byte;
 ghost use mathlib.Core.Path.{_≡_};
@@ -232,6 +233,21 @@ pub fn say_name(source: &[u8], at: usize) {
     let mut row = [0u8; 32];
     let n = name_row(source, at, &mut row);
     say(&row[..n]);
+}
+
+// Line n of a text, from 0 on; nothing behind the last one.
+pub fn say_nth(text: &[u8], n: usize) {
+    let mut at: usize = 0;
+    let mut i: usize = 0;
+    while i < n {
+        let end = find(text, at, b'\n');
+        if text.len() <= end {
+            return;
+        }
+        at = end + 1;
+        i += 1;
+    }
+    say(&text[at..find(text, at, b'\n')]);
 }
 
 // Blanks.

@@ -7,7 +7,7 @@ use crate::text::say_spot;
 ghost use mathlib.Core.Path.{_≡_};
 ghost use Prim.Native.Nat.{_<_, _≤_};
 ghost use lib.ListN.{getD};
-ghost use Rattle.showing.specs.Pages.{rowsAt, nodesAt};
+ghost use Rattle.grammar.specs.TableParts.{rowsAt, nodesAt};
 
 fn wide(word: u16) -> usize
     ensures { λ r. ⌜ r ≡ word ⌝ }

@@ -200,6 +200,15 @@ module _ (s : List ℕ) (i : ℕ) where
 unlike : (s : Symbol) → Unknown ≡ Word s → ⊥
 unlike s e = let z : _≡_ {A = ℕ} 0 1 = cc in omega arith
 
+pub before-most : (q : ℕ) (bs : List ℕ) → length (before q bs) ≤ length bs
+unfolding before
+before-most q [] = omega arith
+before-most q (b ∷ bs) = go (eqb b q) (before-most q bs)
+  where
+    go : (t : Bool) → length (before q bs) ≤ length bs → length (cond t [] (b ∷ before q bs)) ≤ suc (length bs)
+    go true h = omega arith
+    go false h = omega arith
+
 pub before-take : (q : ℕ) (bs : List ℕ) → take (length (before q bs)) bs ≡ before q bs
 unfolding before
 before-take q [] = refl

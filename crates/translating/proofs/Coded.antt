@@ -13,7 +13,7 @@ use Rattle.reading.specs.Reading.{symbols, placeIn, parsed}
 use Rattle.emitting.specs.Layout.{sites, layoutOf}
 use Rattle.emitting.specs.Emission.{codeOf}
 use Rattle.translating.specs.ByPlace.{setAll, valuesAt}
-use Rattle.translating.specs.TableParts.{usesIn, nodesIn}
+use Rattle.grammar.specs.TableParts.{usesIn, nodesIn}
 use Rattle.translating.specs.Job.{filled, codeIn}
 use Rattle.translating.proofs.Accepting.{found, within-limits, climbing, in-order, numbered, well-scoped}
 use Rattle.translating.proofs.AfterRead.{Taken}

@@ -16,7 +16,7 @@ use Rattle.reading.specs.Reading as R
 use Rattle.emitting.specs.Layout.{layoutOf}
 use Rattle.emitting.specs.Emission.{emitted, codeOf}
 use Rattle.translating.specs.ByPlace.{setAll}
-use Rattle.translating.specs.TableParts.{usesIn, nodesIn}
+use Rattle.grammar.specs.TableParts.{usesIn, nodesIn}
 use Rattle.translating.specs.Job.{room, Translated, refused, accepted, Translates, too-short}
 use Rattle.translating.proofs.AfterRead.{Taken, taken, handed-on}
 use Rattle.translating.proofs.Coded.{coded}

@@ -11,7 +11,7 @@ use Rattle.names.specs.Nodes.{nodesS}
 use Rattle.names.specs.Outline.{declarations}
 use Rattle.names.specs.Uses.{Row, rows, joined}
 use Rattle.reading.specs.Table.{fours, useWords, declarationWords, nodeWords, tableOf}
-use Rattle.translating.specs.TableParts.{part, rowsAt, nodesAt, usesIn, nodesIn}
+use Rattle.grammar.specs.TableParts.{part, rowsAt, nodesAt, usesIn, nodesIn}
 
 -- ---- lists
 

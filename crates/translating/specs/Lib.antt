@@ -1,3 +1,2 @@
 pub mod Job
 pub mod ByPlace
-pub mod TableParts

@@ -18,7 +18,7 @@ ghost use Rattle.symbols.specs.Steps.{placesOf, valuesOf};
 ghost use Rattle.emitting.specs.Layout.{layoutOf};
 ghost use Rattle.emitting.specs.Emission.{emitted, codeOf};
 ghost use Rattle.translating.specs.ByPlace.{setAll};
-ghost use Rattle.translating.specs.TableParts.{nodesIn, usesIn};
+ghost use Rattle.grammar.specs.TableParts.{nodesIn, usesIn};
 ghost use Rattle.translating.specs.Job.{Translated, Translates, RunsAs};
 
 // The code, where what lies ahead is known.

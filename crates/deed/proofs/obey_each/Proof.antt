@@ -4,7 +4,7 @@ use Prim.Native.Nat.{_-_, _≤_}
 use native.Mathlib.Omega.{arith}
 use borrow.Author.Needs.{needs}
 use lib.ListN.{length, drop, length-drop}
-use Rattle.asking.proofs.Lines.{before-most}
+use Rattle.symbols.proofs.Laws.{before-most}
 use Rattle.deed.proofs.obey_each.Statement.{statement}
 use Rattle.deed.proofs.obey_each.Tie as tie
 

@@ -6,7 +6,8 @@ use lib.ListN.{length, drop, length-drop}
 use borrow.Author.Needs.{needs}
 use Rattle.symbols.specs.Scan.{before}
 use Rattle.symbols.proofs.Laws.{before-end}
-use Rattle.asking.proofs.Lines.{zeros-most, zeros-end, before-most}
+use Rattle.symbols.proofs.Laws.{before-most}
+use Rattle.asking.proofs.Lines.{zeros-most, zeros-end}
 use Rattle.asking.proofs.words.word_from.Statement.{statement}
 use Rattle.asking.proofs.words.word_from.Tie as tie
 

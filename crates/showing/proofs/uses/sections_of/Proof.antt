@@ -5,7 +5,7 @@ use native.Mathlib.Omega.{arith}
 use mathlib.Core.Path.{_≡_, ap, _∙_}
 use lib.ListN.{getD}
 use borrow.Author.Needs.{needs}
-use Rattle.showing.specs.Pages.{rowsAt, nodesAt}
+use Rattle.grammar.specs.TableParts.{rowsAt, nodesAt}
 use Rattle.showing.proofs.uses.sections_of.Statement.{statement}
 use Rattle.showing.proofs.uses.sections_of.Tie as tie
 

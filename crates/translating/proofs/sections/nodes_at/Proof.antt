@@ -3,7 +3,7 @@
 use Prim.Native.Nat.{_+_, _*_}
 use mathlib.Core.Path.{_≡_, ap, _∙_}
 use lib.ListN.{getD}
-use Rattle.translating.specs.TableParts.{rowsAt, nodesAt}
+use Rattle.grammar.specs.TableParts.{rowsAt, nodesAt}
 use borrow.Author.Needs.{needs}
 use Rattle.translating.proofs.sections.nodes_at.Statement.{statement}
 use Rattle.translating.proofs.sections.nodes_at.Tie as tie

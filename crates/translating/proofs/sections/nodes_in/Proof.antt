@@ -3,7 +3,7 @@
 use Prim.Native.Nat.{_+_, _*_}
 use mathlib.Core.Path.{_≡_, ap, _∙_}
 use lib.ListN.{getD, take}
-use Rattle.translating.specs.TableParts.{part, nodesAt, nodesIn}
+use Rattle.grammar.specs.TableParts.{part, nodesAt, nodesIn}
 use borrow.Author.Needs.{needs}
 use Rattle.translating.proofs.sections.nodes_in.Statement.{statement}
 use Rattle.translating.proofs.sections.nodes_in.Tie as tie

@@ -2,7 +2,7 @@
 -- Assumes nothing.
 use Prim.Native.Nat.{_+_, _*_}
 use mathlib.Core.Path.{ap}
-use Rattle.translating.specs.TableParts.{rowsAt}
+use Rattle.grammar.specs.TableParts.{rowsAt}
 use borrow.Author.Needs.{needs}
 use Rattle.translating.proofs.sections.rows_at.Statement.{statement}
 use Rattle.translating.proofs.sections.rows_at.Tie as tie

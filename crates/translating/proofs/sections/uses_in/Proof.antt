@@ -3,7 +3,7 @@
 use Prim.Native.Nat.{_*_}
 use mathlib.Core.Path.{ap, _∙_}
 use lib.ListN.{take}
-use Rattle.translating.specs.TableParts.{part, usesIn}
+use Rattle.grammar.specs.TableParts.{part, usesIn}
 use borrow.Author.Needs.{needs}
 use Rattle.translating.proofs.sections.uses_in.Statement.{statement}
 use Rattle.translating.proofs.sections.uses_in.Tie as tie
