@@ -1,31 +1,29 @@
 // Hand-written code for each instruction and each answer, run and shown: the answer and its place, the counts, and every lent word. Before a run
 // each store number is 7 and each output number 9. A comment names the instructions: operation @ place and operands.
 use machine::Ran;
+use showing::text::say;
+use showing::text::say_number;
+use showing::text::say_whole;
 ghost use Prim.Native.Nat.{_≤_};
 
 // A whole number, after a blank.
 fn show_number(x: i64) {
-    if x >= 0 {
-        io::write_all(1, b" ");
-        io::print_decimal(1, x as u64);
-        return;
-    }
-    io::write_all(1, b" -");
-    io::print_decimal(1, (-1 - x) as u64 + 1);
+    say(b" ");
+    say_whole(x);
 }
 
 fn show_counts(r: Ran) {
     let stop = r.stop;
-    io::write_all(1, b": ");
-    io::print_decimal(1, stop.answer().number as u64);
-    io::write_all(1, b" at ");
-    io::print_decimal(1, stop.place() as u64);
-    io::write_all(1, b", done ");
-    io::print_decimal(1, r.done);
-    io::write_all(1, b", taken ");
-    io::print_decimal(1, r.taken as u64);
-    io::write_all(1, b", written ");
-    io::print_decimal(1, r.written as u64);
+    say(b": ");
+    say_number(stop.answer().number as u64);
+    say(b" at ");
+    say_number(stop.place() as u64);
+    say(b", done ");
+    say_number(r.done);
+    say(b", taken ");
+    say_number(r.taken as u64);
+    say(b", written ");
+    say_number(r.written as u64);
 }
 
 fn show_store(store: &[i64]) {
@@ -45,13 +43,13 @@ fn show_output(output: &[i32]) {
 }
 
 fn show(label: &[u8], r: Ran, store: &[i64], output: &[i32]) {
-    io::write_all(1, label);
+    say(label);
     show_counts(r);
-    io::write_all(1, b"; store");
+    say(b"; store");
     show_store(store);
-    io::write_all(1, b"; output");
+    say(b"; output");
     show_output(output);
-    io::write_all(1, b"\n");
+    say(b"\n");
 }
 
 // A run, and what it leaves.

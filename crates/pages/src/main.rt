@@ -1,13 +1,14 @@
 // Shows the symbols of the source that its argument names, and whether they are a program, or the refusal. With no
 // argument it runs the sources that the file `index` lists and says which answers differ from those listed.
 use grammar::Parsed;
-use libc::STDOUT_FILENO;
+use showing::text::say;
+use showing::text::say_name;
+use showing::text::say_nth;
+use showing::text::say_number;
 use symbols::Scanned;
 use symbols::Symbol;
 use symbols::kinds::decode;
 use symbols::scanning::scan;
-use symbols::text::is_blank;
-use symbols::text::is_name_byte;
 use syntax::parse;
 ghost use Prim.Native.Nat.{_+_, _<_, _≤_};
 ghost use lib.ListN.{length};
@@ -15,91 +16,63 @@ ghost use lib.ListN.{length};
 // A row of `index`: a name of 24 bytes, an answer of 3 digits, a place or count of 6.
 const ROW: usize = 36;
 
-fn print(text: &[u8]) {
-    io::write_all(STDOUT_FILENO, text);
-}
-
-fn print_number(n: u64) {
-    io::print_decimal(STDOUT_FILENO, n);
-}
-
-// The letters and digits of the name at `at`.
-fn print_name(source: &[u8], at: usize) {
-    let mut i = at;
-    while i < source.len() {
-        let b = source[i];
-        if is_name_byte(b) {
-            print(&[b]);
-        } else if !is_blank(b) {
-            return;
-        }
-        i += 1;
+// A symbol's text: a name's letters stand in the source, a number's value beside its kind, and the others here, a line a kind.
+fn say_symbol(source: &[u8], kind: u8, value: u32, at: usize) {
+    match decode(kind, value) {
+        Symbol::Name => say_name(source, at),
+        Symbol::Number(v) => say_number(v as u64),
+        _ => say_nth(
+            b"'begin'
+'end'
+'if'
+'then'
+'else'
+'for'
+'do'
+'step'
+'until'
+'while'
+'comment'
+'integer'
+'Boolean'
+'procedure'
+'value'
+'true'
+'false'
+'and'
+'or'
+'not'
+'impl'
+'equiv'
++
+-
+*
+%
+<
+<=
+=
+>=
+>
+#
+,
+:
+:=
+;
+(
+)",
+            kind as usize,
+        ),
     }
 }
 
-fn print_word(s: Symbol) {
-    match s {
-        Symbol::Begin => print(b"'begin'"),
-        Symbol::End => print(b"'end'"),
-        Symbol::If => print(b"'if'"),
-        Symbol::Then => print(b"'then'"),
-        Symbol::Else => print(b"'else'"),
-        Symbol::For => print(b"'for'"),
-        Symbol::Do => print(b"'do'"),
-        Symbol::Step => print(b"'step'"),
-        Symbol::Until => print(b"'until'"),
-        Symbol::While => print(b"'while'"),
-        Symbol::Comment => print(b"'comment'"),
-        Symbol::Integer => print(b"'integer'"),
-        Symbol::Boolean => print(b"'Boolean'"),
-        Symbol::Procedure => print(b"'procedure'"),
-        Symbol::Value => print(b"'value'"),
-        Symbol::True => print(b"'true'"),
-        Symbol::False => print(b"'false'"),
-        Symbol::And => print(b"'and'"),
-        Symbol::Or => print(b"'or'"),
-        Symbol::Not => print(b"'not'"),
-        Symbol::Impl => print(b"'impl'"),
-        Symbol::Equiv => print(b"'equiv'"),
-        _ => print_sign(s),
-    }
+fn show_symbol(source: &[u8], kind: u8, value: u32, at: usize) {
+    say_number(at as u64);
+    say(b" ");
+    say_symbol(source, kind, value, at);
+    say(b"\n");
 }
 
-fn print_sign(s: Symbol) {
-    match s {
-        Symbol::Plus => print(b"+"),
-        Symbol::Minus => print(b"-"),
-        Symbol::Times => print(b"*"),
-        Symbol::Divide => print(b"%"),
-        Symbol::Less => print(b"<"),
-        Symbol::LessEqual => print(b"<="),
-        Symbol::Equal => print(b"="),
-        Symbol::GreaterEqual => print(b">="),
-        Symbol::Greater => print(b">"),
-        Symbol::NotEqual => print(b"#"),
-        Symbol::Comma => print(b","),
-        Symbol::Colon => print(b":"),
-        Symbol::Becomes => print(b":="),
-        Symbol::Semicolon => print(b";"),
-        Symbol::Open => print(b"("),
-        Symbol::Close => print(b")"),
-        Symbol::Number(v) => print_number(v as u64),
-        _ => {}
-    }
-}
-
-fn print_symbol(source: &[u8], s: Symbol, at: usize) {
-    print_number(at as u64);
-    print(b" ");
-    if let Symbol::Name = s {
-        print_name(source, at);
-    } else {
-        print_word(s);
-    }
-    print(b"\n");
-}
-
-fn print_symbols(
+fn show_symbols(
     source: &[u8],
     n: usize,
     kinds: &[u8; 2048],
@@ -109,7 +82,7 @@ fn print_symbols(
     let mut i = 0;
     while i < n {
         if i < 2048 {
-            print_symbol(source, decode(kinds[i], values[i]), places[i]);
+            show_symbol(source, kinds[i], values[i], places[i]);
         }
         i += 1;
     }
@@ -122,10 +95,10 @@ pub struct Told {
 }
 
 fn refused(answer: u16, place: usize) -> Told {
-    print_number(answer as u64);
-    print(b" at ");
-    print_number(place as u64);
-    print(b"\n");
+    say_number(answer as u64);
+    say(b" at ");
+    say_number(place as u64);
+    say(b"\n");
     Told {
         answer,
         number: place,
@@ -147,7 +120,7 @@ fn judge(source: &[u8], n: usize, kinds: &[u8; 2048], places: &[usize; 2048]) ->
     let mut nodes = [0u16; 32768];
     match parse(kinds, n, &mut nodes) {
         Parsed::Read { next: _, used: _ } => {
-            print(b"a program\n");
+            say(b"a program\n");
             Told {
                 answer: 0,
                 number: n,
@@ -167,10 +140,10 @@ fn tell(source: &[u8], shown: bool) -> Told {
     let mut values = [0u32; 2048];
     match scan(source, 2048, &mut kinds, &mut places, &mut values) {
         Scanned::Read(n) => {
-            print_number(n as u64);
-            print(b" symbols\n");
+            say_number(n as u64);
+            say(b" symbols\n");
             if shown {
-                print_symbols(source, n, &kinds, &places, &values);
+                show_symbols(source, n, &kinds, &places, &values);
             }
             judge(source, n, &kinds, &places)
         }
@@ -229,11 +202,11 @@ fn run_row(index: &[u8], from: usize) -> bool
 {
     let end = name_end(index, from);
     let mut buf = io::large_buffer();
-    print(&index[from..end]);
-    print(b": ");
+    say(&index[from..end]);
+    say(b": ");
     let fd = os::open_read(&index[from..end]);
     if fd < 0 {
-        print(b"missing\n");
+        say(b"missing\n");
         return false;
     }
     let n = io::read_full(fd, &mut buf);
@@ -244,7 +217,7 @@ fn run_row(index: &[u8], from: usize) -> bool
     if told.answer as usize == answer && told.number == number {
         return true;
     }
-    print(b"  differs\n");
+    say(b"  differs\n");
     false
 }
 
@@ -256,11 +229,11 @@ fn differs(index: &[u8], from: usize) -> u64
     if run_row(index, from) { 0 } else { 1 }
 }
 
-fn print_counts(rows: u64, differing: u64) {
-    print_number(rows);
-    print(b" sources, ");
-    print_number(differing);
-    print(b" differ\n");
+fn say_counts(rows: u64, differing: u64) {
+    say_number(rows);
+    say(b" sources, ");
+    say_number(differing);
+    say(b" differ\n");
 }
 
 fn run_rows(index: &[u8]) {
@@ -272,7 +245,7 @@ fn run_rows(index: &[u8]) {
         differing += differs(index, at);
         at += ROW;
     }
-    print_counts(rows, differing);
+    say_counts(rows, differing);
 }
 
 fn run_index() {

@@ -1,11 +1,11 @@
--- `pages::print_symbols` meets its contract. Each index is tested.
+-- `pages::show_symbols` meets its contract. Each index is tested.
 -- Assumes nothing.
 use Prim.Native.Nat.{ℕ, _+_, _-_, _≤_, _<_}
 use native.Mathlib.Omega.{arith}
 use borrow.Author.Needs.{needs}
 use lib.ListN.{length}
-use Rattle.pages.proofs.print_symbols.Statement.{statement}
-use Rattle.pages.proofs.print_symbols.Tie as tie
+use Rattle.pages.proofs.show_symbols.Statement.{statement}
+use Rattle.pages.proofs.show_symbols.Tie as tie
 
 abbrev Inv-loop : tie.InvT-loop
 Inv-loop source n kinds places values i₀ i = Unit {0}
@@ -13,8 +13,8 @@ Inv-loop source n kinds places values i₀ i = Unit {0}
 abbrev μ-loop : tie.MeasureT-loop
 μ-loop source n kinds places values i₀ i = n - i
 
-pub print-symbols-spec : {M : Type 1} → statement M
-print-symbols-spec =
+pub show-symbols-spec : {M : Type 1} → statement M
+show-symbols-spec =
     tie.close
     (tie.spec
     Inv-loop
