@@ -1,13 +1,18 @@
 -- What is listed of a source, and what a tally of differences comes to. No part of the paper.
 use Prim.Native.Nat.{ℕ, _+_, _*_, _%_, min}
 use Prim.Native.Char.{code}
-use mathlib.Core.Bool.{Bool, true, false, cond}
+use mathlib.Core.Path.{_≡_}
+use mathlib.Core.Bool.{Bool, true, false, cond, _&&_, _||_}
 use mathlib.Core.List.{List, [], _∷_}
-use lib.Dec.{eqb, ltb}
+use lib.Dec.{eqb, ltb, leb}
 use lib.IntN.{ℤ, pos, negℤ}
-use lib.ListN.{length, getD, drop}
+use lib.ListN.{length, getD, take, drop, replicate}
 use lib.Signed.{mag}
+use Rattle.answers.specs.Numbers.{accepted}
+use Rattle.answers.specs.Answers.{numberOf, placeOf}
+use Rattle.answers.specs.declared.Verdict.{Verdict}
 use Rattle.symbols.specs.Names.{digit, valueFrom}
+use Rattle.reading.specs.Reading.{Reads}
 use Rattle.vectors.specs.declared.texts.Numeral.{Numeral}
 use Rattle.vectors.specs.declared.tally.Tally.{Tally}
 
@@ -77,3 +82,44 @@ mostOf done steps t =
     cond (ltb (t .done * steps) (done * t .steps))
     (record { sources = t .sources; runs = t .runs; differences = t .differences; done = done; steps = steps })
     t
+
+-- ---- read, against the first line: the answer, its place, and how many words the uses have, with these words
+
+-- whether an answer and its place are those listed
+abbrev pub answeredBy : Verdict → List ℕ → Bool
+answeredBy v text = eqb (numberOf v) (numberAt text 0 .value) && eqb (placeOf v) (numberAt text (numberAt text 0 .next) .value)
+
+abbrev pub acceptedBy : Verdict → Bool
+acceptedBy v = eqb (numberOf v) accepted
+
+-- how many words of uses are listed; 99999 where they are not
+abbrev pub usesListed : List ℕ → Numeral
+usesListed text = numberAt text (numberAt text (numberAt text 0 .next) .next)
+
+-- whether the numbers from a place on are these words
+unfoldable pub sameWords : List ℕ → List ℕ → ℕ → Bool
+sameWords [] text from = true
+sameWords (w ∷ ws) text from = eqb (numberAt text from .value) w && sameWords ws text (numberAt text from .next)
+
+-- how many words the uses of a table have: three for each
+abbrev pub useLength : List ℕ → ℕ
+useLength table = 3 * getD table 0 0
+
+-- whether the uses of a table, which stand behind their number, are those listed
+unfoldable pub sameUses : List ℕ → List ℕ → Bool
+sameUses table text =
+    eqb (usesListed text .value) 99999
+    || (leb (useLength table + 1) (length table)
+    && (eqb (usesListed text .value) (useLength table)
+    && sameWords (take (useLength table) (drop 1 table)) text (usesListed text .next)))
+
+-- the tally after a source was read with this answer and this table
+abbrev pub afterRead : Verdict → List ℕ → List ℕ → Tally → Tally
+afterRead v table text t = cond (acceptedBy v) (checked (sameUses table text) (checked (answeredBy v text) t)) (checked (answeredBy v text) t)
+
+-- .. which are the answer of `read`, and the table that it leaves
+pub record ReadTold (source text : List ℕ) (t r : Tally) : Type 0 where
+  pub verdict : Verdict
+  pub table : List ℕ
+  pub reads : Reads source (replicate 32768 0) verdict table
+  pub told : r ≡ afterRead verdict table text t
