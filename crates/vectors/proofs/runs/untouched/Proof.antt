@@ -1,19 +1,40 @@
--- `vectors::runs::untouched` ends. Each index is tested.
+-- `vectors::runs::untouched` meets its contract. The numbers from i on are those that are left to compare.
 -- Assumes nothing.
+use mathlib.Core.Path.{_≡_, refl, sym, _∙_}
+use mathlib.Core.Bool.{true, false}
 use Prim.Native.Nat.{ℕ, _+_, _-_, _≤_, _<_}
-use lib.ListN.{length}
+use lib.Dec.{lit<}
+use lib.IntN.{ℤ, pos}
+use lib.ListN.{length, getD, drop}
+use mir.Syntax.{w32}
+use mir.Val.{SFits, ofZ}
+use borrow.Author.Tests.{eq-eqb, ne-eqb}
+use Rattle.machine.specs.Values.{same}
+use Rattle.machine.proofs.Signed.{same-bits}
+use Rattle.vectors.specs.Ended.{allAre}
+use Rattle.vectors.proofs.Laws.{all-on, all-off, all-end}
 use borrow.Author.Needs.{needs}
 use Rattle.vectors.proofs.runs.untouched.Statement.{statement}
 use Rattle.vectors.proofs.runs.untouched.Tie as tie
 
+-- a number is this one where its bits are
+this-one : SFits w32 (pos 9)
+this-one = record { sfits = lit< tt }
+
+is-this : (z : ℤ) → SFits w32 z → ofZ w32 z ≡ 9 → same z (pos 9) ≡ true
+is-this z f e = sym (same-bits w32 {x = z} {y = pos 9} f this-one) ∙ eq-eqb (ofZ w32 z) 9 e
+
+is-other : (z : ℤ) → SFits w32 z → (ofZ w32 z ≡ 9 → ⊥) → same z (pos 9) ≡ false
+is-other z f e = sym (same-bits w32 {x = z} {y = pos 9} f this-one) ∙ ne-eqb (ofZ w32 z) 9 e
+
 abbrev Inv-loop : tie.InvT-loop
-Inv-loop output from i₀ i = from ≤ i
+Inv-loop output from i₀ i = (from ≤ i) × (allAre (pos 9) (drop from output) ≡ allAre (pos 9) (drop i output))
 
 abbrev μ-loop : tie.MeasureT-loop
 μ-loop output from i₀ i = length output - i
 
 loop-holds : tie.Need-loop-holds Inv-loop μ-loop
-loop-holds c = search needs
+loop-holds c = (search needs, refl)
 
 mul-if1 : tie.Need-mul-if1 Inv-loop μ-loop
 mul-if1 c = search needs
@@ -22,7 +43,11 @@ shared-slice-copy-out-if1 : tie.Need-shared-slice-copy-out-if1 Inv-loop μ-loop
 shared-slice-copy-out-if1 c = search needs
 
 returns : tie.Need-returns Inv-loop μ-loop
-returns c = search needs
+returns c =
+    let s = c .before .before .before .before .args .output .now in
+    let l = c .before .before .before .loop in
+    let e = is-other (getD s (l .i) (pos 0)) (record { sfits = c .before .if12 .given }) (c .if1 .taken) in
+    sym (l .inv .1 ∙ all-off (pos 9) s (l .i) (c .before .before .loop-test .taken) e)
 
 add-i : tie.Need-add-i Inv-loop μ-loop
 add-i c = search needs
@@ -31,10 +56,17 @@ loop-less : tie.Need-loop-less Inv-loop μ-loop
 loop-less c = search needs
 
 loop-again : tie.Need-loop-again Inv-loop μ-loop
-loop-again c = search needs
+loop-again c =
+    let s = c .before .before .before .before .args .output .now in
+    let l = c .before .before .before .loop in
+    let e = is-this (getD s (l .i) (pos 0)) (record { sfits = c .before .if12 .given }) (c .if1 .left) in
+    (search needs, l .inv .1 ∙ all-on (pos 9) s (l .i) (c .before .before .loop-test .taken) e)
 
 returns-2 : tie.Need-returns-2 Inv-loop μ-loop
-returns-2 c = search needs
+returns-2 c =
+    let s = c .before .before .args .output .now in
+    let l = c .before .loop in
+    sym (l .inv .1 ∙ all-end (pos 9) s (l .i) (c .loop-test .left))
 
 pub untouched-spec : {M : Type 1} → statement M
 untouched-spec =
