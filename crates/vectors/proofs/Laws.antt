@@ -9,10 +9,13 @@ use lib.IntN.{ℤ, pos}
 use lib.ListN.{length, getD, drop, drop-of-length-le}
 use lib.Seq.{drop-cons, drop-drop}
 use lib.Dec.{eqb}
+use mir.Syntax.{Width}
+use mir.Val.{SFits, ofZ}
 use borrow.Author.Tests.{eq-eqb, ne-eqb}
 use Rattle.answers.specs.Answers.{stopNumber, stopPlace}
 use Rattle.answers.specs.declared.Stop.{Stop}
 use Rattle.machine.specs.Values.{same}
+use Rattle.machine.proofs.Signed.{same-bits}
 use Rattle.vectors.specs.Listed.{numberAt, wholeOf}
 use Rattle.vectors.specs.Ended.{stoppedBy, numbers, after, begins, allAre}
 
@@ -30,9 +33,18 @@ or-yes x y e = rw e
 pub or-no : (x y : Bool) → x ≡ false → y ≡ (x || y)
 or-no x y e = rw e
 
-and-true : (x : Bool) → x ≡ (x && true)
+pub and-true : (x : Bool) → x ≡ (x && true)
 and-true true = refl
 and-true false = refl
+
+-- ---- a number is another one where its bits are
+
+module _ (w : Width) (x y : ℤ) (f : SFits w x) (g : SFits w y) where
+  pub same-yes : ofZ w x ≡ ofZ w y → same x y ≡ true
+  same-yes e = sym (same-bits w {x = x} {y = y} f g) ∙ eq-eqb (ofZ w x) (ofZ w y) e
+
+  pub same-no : (ofZ w x ≡ ofZ w y → ⊥) → same x y ≡ false
+  same-no e = sym (same-bits w {x = x} {y = y} f g) ∙ ne-eqb (ofZ w x) (ofZ w y) e
 
 -- ---- an answer, then its place
 

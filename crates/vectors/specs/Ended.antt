@@ -1,7 +1,7 @@
 -- What `translate` and `run` answer and leave, against what is listed of a source, as a tally. The second line of a text has: how many inputs, the
 -- inputs, the lengths of store and output, the limit; the answer, its place, how many numbers are taken (negative: not listed), how many are written,
 -- those numbers, and the steps (negative: not listed).
-use Prim.Native.Nat.{ℕ, zero, suc, _+_, _*_, _-_, min}
+use Prim.Native.Nat.{ℕ, zero, suc, _+_, _*_, min}
 use mathlib.Core.Path.{_≡_}
 use mathlib.Core.Bool.{Bool, true, false, cond, _&&_, _||_}
 use mathlib.Core.List.{List, [], _∷_}

@@ -1,6 +1,6 @@
 -- `vectors::reads::accepted` meets its contract. The answer's number is compared with 0.
 -- Assumes nothing.
-use mathlib.Core.Path.{_≡_, ap}
+use mathlib.Core.Path.{ap}
 use Prim.Native.Nat.{ℕ}
 use lib.Dec.{eqb}
 use borrow.Author.Needs.{needs}

@@ -5,7 +5,6 @@ use mathlib.Core.List.{List}
 use Prim.Native.Nat.{ℕ}
 use Rattle.vectors.specs.declared.tally.Tally.{Tally}
 use Rattle.vectors.specs.Listed.{oneSource, ReadTold}
-use Rattle.vectors.specs.Ended.{RowTold}
 use borrow.Author.Needs.{needs}
 use Rattle.vectors.proofs.rows.compare.Statement.{statement}
 use Rattle.vectors.proofs.rows.compare.Tie as tie

@@ -1,31 +1,20 @@
 -- `vectors::runs::all_zero` meets its contract. The numbers from i on are those that are left to compare.
 -- Assumes nothing.
 use mathlib.Core.Path.{_≡_, refl, sym, _∙_}
-use mathlib.Core.Bool.{true, false}
-use Prim.Native.Nat.{ℕ, _+_, _-_, _≤_, _<_}
+use Prim.Native.Nat.{_-_, _≤_}
 use lib.Dec.{lit<}
-use lib.IntN.{ℤ, pos}
+use lib.IntN.{pos}
 use lib.ListN.{length, getD, drop}
 use mir.Syntax.{w64}
-use mir.Val.{SFits, ofZ}
-use borrow.Author.Tests.{eq-eqb, ne-eqb}
-use Rattle.machine.specs.Values.{same}
-use Rattle.machine.proofs.Signed.{same-bits}
+use mir.Val.{SFits}
 use Rattle.vectors.specs.Ended.{allAre}
-use Rattle.vectors.proofs.Laws.{all-on, all-off, all-end}
+use Rattle.vectors.proofs.Laws.{same-yes, same-no, all-on, all-off, all-end}
 use borrow.Author.Needs.{needs}
 use Rattle.vectors.proofs.runs.all_zero.Statement.{statement}
 use Rattle.vectors.proofs.runs.all_zero.Tie as tie
 
--- a number is this one where its bits are
 this-one : SFits w64 (pos 0)
 this-one = record { sfits = lit< tt }
-
-is-this : (z : ℤ) → SFits w64 z → ofZ w64 z ≡ 0 → same z (pos 0) ≡ true
-is-this z f e = sym (same-bits w64 {x = z} {y = pos 0} f this-one) ∙ eq-eqb (ofZ w64 z) 0 e
-
-is-other : (z : ℤ) → SFits w64 z → (ofZ w64 z ≡ 0 → ⊥) → same z (pos 0) ≡ false
-is-other z f e = sym (same-bits w64 {x = z} {y = pos 0} f this-one) ∙ ne-eqb (ofZ w64 z) 0 e
 
 abbrev Inv-loop : tie.InvT-loop
 Inv-loop store i₀ i = (i ≤ length store) × (allAre (pos 0) store ≡ allAre (pos 0) (drop i store))
@@ -46,7 +35,7 @@ returns : tie.Need-returns Inv-loop μ-loop
 returns c =
     let s = c .before .before .before .before .args .store .now in
     let l = c .before .before .before .loop in
-    let e = is-other (getD s (l .i) (pos 0)) (record { sfits = c .before .if12 .given }) (c .if1 .taken) in
+    let e = same-no w64 (getD s (l .i) (pos 0)) (pos 0) (record { sfits = c .before .if12 .given }) this-one (c .if1 .taken) in
     sym (l .inv .1 ∙ all-off (pos 0) s (l .i) (c .before .before .loop-test .taken) e)
 
 add-i : tie.Need-add-i Inv-loop μ-loop
@@ -59,7 +48,7 @@ loop-again : tie.Need-loop-again Inv-loop μ-loop
 loop-again c =
     let s = c .before .before .before .before .args .store .now in
     let l = c .before .before .before .loop in
-    let e = is-this (getD s (l .i) (pos 0)) (record { sfits = c .before .if12 .given }) (c .if1 .left) in
+    let e = same-yes w64 (getD s (l .i) (pos 0)) (pos 0) (record { sfits = c .before .if12 .given }) this-one (c .if1 .left) in
     (search needs, l .inv .1 ∙ all-on (pos 0) s (l .i) (c .before .before .loop-test .taken) e)
 
 returns-2 : tie.Need-returns-2 Inv-loop μ-loop

@@ -1,7 +1,7 @@
 -- `vectors::runs::holds` meets its contract. A number is another one where its bits are.
 -- Assumes nothing.
-use mathlib.Core.Path.{_≡_, refl, sym, _∙_}
-use mathlib.Core.Bool.{Bool, true, false, _&&_}
+use mathlib.Core.Path.{_≡_, _∙_}
+use mathlib.Core.Bool.{false}
 use mathlib.Core.List.{List, [], _∷_}
 use Prim.Native.Nat.{ℕ, _≤_, _<_}
 use lib.IntN.{ℤ, pos}
@@ -11,13 +11,10 @@ use mir.Syntax.{w32}
 use Rattle.machine.specs.Values.{same}
 use Rattle.machine.proofs.Signed.{same-bits}
 use Rattle.vectors.specs.Ended.{begins}
+use Rattle.vectors.proofs.Laws.{and-true}
 use borrow.Author.Needs.{needs}
 use Rattle.vectors.proofs.runs.holds.Statement.{statement}
 use Rattle.vectors.proofs.runs.holds.Tie as tie
-
-and-true : (x : Bool) → x ≡ (x && true)
-and-true true = refl
-and-true false = refl
 
 there : (x : ℤ) (s : List ℤ) (i : ℕ) → i < length s → same (getD s i (pos 0)) x ≡ begins (x ∷ []) (drop i s)
 unfolding begins

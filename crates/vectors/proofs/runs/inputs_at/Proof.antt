@@ -10,7 +10,7 @@ use lib.IntN.{ℤ}
 use lib.ListN.{length, length-set, set, take}
 use lib.Seq.{take-suc-set, take-length}
 use mir.Syntax.{w32}
-use mir.Val.{SFits, toZ, ofZ}
+use mir.Val.{toZ, ofZ}
 use mir.Facts.{toZ-ofZ}
 use Rattle.vectors.specs.declared.texts.Numeral.{Numeral}
 use Rattle.vectors.specs.Listed.{numberAt, wholeOf}

@@ -1,13 +1,10 @@
 -- `vectors::runs::ran` meets its contract. What the run hands back and leaves is compared.
 -- Assumes nothing.
-use mathlib.Core.Path.{_≡_, refl, sym, ap, _∙_}
-use mathlib.Core.Bool.{Bool, true, false, _&&_, _||_}
-use mathlib.Core.List.{List, [], _∷_}
-use mathlib.Core.Logic.{⊎-elim}
-use Prim.Native.Nat.{ℕ, _+_, _≤_, _<_, min}
-use lib.Dec.{eqb, ltb}
+use mathlib.Core.Path.{_≡_, ap, _∙_}
+use mathlib.Core.Bool.{Bool}
+use mathlib.Core.List.{List}
+use Prim.Native.Nat.{ℕ}
 use lib.IntN.{ℤ, pos}
-use lib.ListN.{length, take, drop}
 use Rattle.machine.specs.Machine.{Exit, exit}
 use Rattle.machine.specs.declared.Ran.{Ran}
 use Rattle.vectors.specs.declared.tally.Tally.{Tally}

@@ -5,25 +5,20 @@ use mathlib.Core.Bool.{Bool, true, false, _&&_}
 use mathlib.Core.List.{List, [], _∷_}
 use mathlib.Core.Logic.{⊎-elim}
 use Prim.Native.Nat.{ℕ, _+_, _-_, _≤_, _<_}
-use native.Mathlib.Omega.{arith}
 use native.Mathlib.Nat.{sub-zero}
 use lib.IntN.{ℤ}
 use lib.ListN.{drop}
 use mir.Syntax.{w32}
-use mir.Val.{SFits, toZ, ofZ}
+use mir.Val.{toZ, ofZ}
 use mir.Facts.{toZ-ofZ}
 use borrow.Author.Tests.{not-true, not-false}
 use Rattle.vectors.specs.declared.texts.Numeral.{Numeral}
 use Rattle.vectors.specs.Listed.{numberAt, wholeOf}
 use Rattle.vectors.specs.Ended.{numbers, after, begins}
-use Rattle.vectors.proofs.Laws.{numbers-on, numbers-end, after-on, after-end, begins-one, begins-none}
+use Rattle.vectors.proofs.Laws.{numbers-on, numbers-end, after-on, after-end, begins-one, begins-none, and-true}
 use borrow.Author.Needs.{needs}
 use Rattle.vectors.proofs.runs.same_outputs.Statement.{statement}
 use Rattle.vectors.proofs.runs.same_outputs.Tie as tie
-
-and-true : (x : Bool) → (x && true) ≡ x
-and-true true = refl
-and-true false = refl
 
 module _ (text : List ℕ) (output : List ℤ) (count i at : ℕ) (n : Numeral) (next : n ≡ numberAt text at) (h : i < count) where
   after-one : after text (count - i) at ≡ after text (count - (i + 1)) (n .next)
@@ -86,7 +81,7 @@ returns c =
     let a = c .before .before .before .args in
     let l = c .before .loop in
     let e = numbers-end (a .text .now) (a .count) (l .i) (l .at) (c .loop-test .left) in (
-      sym (l .inv .1 ∙ rw (e, begins-none (drop (l .i) (a .output .now))) (and-true (l .same))),
+      sym (l .inv .1 ∙ rw (e, begins-none (drop (l .i) (a .output .now))) (sym (and-true (l .same)))),
       sym (l .inv .2 ∙ after-end (a .text .now) (a .count) (l .i) (l .at) (c .loop-test .left)),
     )
 

@@ -1,31 +1,20 @@
 -- `vectors::runs::untouched` meets its contract. The numbers from i on are those that are left to compare.
 -- Assumes nothing.
 use mathlib.Core.Path.{_≡_, refl, sym, _∙_}
-use mathlib.Core.Bool.{true, false}
-use Prim.Native.Nat.{ℕ, _+_, _-_, _≤_, _<_}
+use Prim.Native.Nat.{_-_, _≤_}
 use lib.Dec.{lit<}
-use lib.IntN.{ℤ, pos}
+use lib.IntN.{pos}
 use lib.ListN.{length, getD, drop}
 use mir.Syntax.{w32}
-use mir.Val.{SFits, ofZ}
-use borrow.Author.Tests.{eq-eqb, ne-eqb}
-use Rattle.machine.specs.Values.{same}
-use Rattle.machine.proofs.Signed.{same-bits}
+use mir.Val.{SFits}
 use Rattle.vectors.specs.Ended.{allAre}
-use Rattle.vectors.proofs.Laws.{all-on, all-off, all-end}
+use Rattle.vectors.proofs.Laws.{same-yes, same-no, all-on, all-off, all-end}
 use borrow.Author.Needs.{needs}
 use Rattle.vectors.proofs.runs.untouched.Statement.{statement}
 use Rattle.vectors.proofs.runs.untouched.Tie as tie
 
--- a number is this one where its bits are
 this-one : SFits w32 (pos 9)
 this-one = record { sfits = lit< tt }
-
-is-this : (z : ℤ) → SFits w32 z → ofZ w32 z ≡ 9 → same z (pos 9) ≡ true
-is-this z f e = sym (same-bits w32 {x = z} {y = pos 9} f this-one) ∙ eq-eqb (ofZ w32 z) 9 e
-
-is-other : (z : ℤ) → SFits w32 z → (ofZ w32 z ≡ 9 → ⊥) → same z (pos 9) ≡ false
-is-other z f e = sym (same-bits w32 {x = z} {y = pos 9} f this-one) ∙ ne-eqb (ofZ w32 z) 9 e
 
 abbrev Inv-loop : tie.InvT-loop
 Inv-loop output from i₀ i = (from ≤ i) × (allAre (pos 9) (drop from output) ≡ allAre (pos 9) (drop i output))
@@ -46,7 +35,7 @@ returns : tie.Need-returns Inv-loop μ-loop
 returns c =
     let s = c .before .before .before .before .args .output .now in
     let l = c .before .before .before .loop in
-    let e = is-other (getD s (l .i) (pos 0)) (record { sfits = c .before .if12 .given }) (c .if1 .taken) in
+    let e = same-no w32 (getD s (l .i) (pos 0)) (pos 9) (record { sfits = c .before .if12 .given }) this-one (c .if1 .taken) in
     sym (l .inv .1 ∙ all-off (pos 9) s (l .i) (c .before .before .loop-test .taken) e)
 
 add-i : tie.Need-add-i Inv-loop μ-loop
@@ -59,7 +48,7 @@ loop-again : tie.Need-loop-again Inv-loop μ-loop
 loop-again c =
     let s = c .before .before .before .before .args .output .now in
     let l = c .before .before .before .loop in
-    let e = is-this (getD s (l .i) (pos 0)) (record { sfits = c .before .if12 .given }) (c .if1 .left) in
+    let e = same-yes w32 (getD s (l .i) (pos 0)) (pos 9) (record { sfits = c .before .if12 .given }) this-one (c .if1 .left) in
     (search needs, l .inv .1 ∙ all-on (pos 9) s (l .i) (c .before .before .loop-test .taken) e)
 
 returns-2 : tie.Need-returns-2 Inv-loop μ-loop

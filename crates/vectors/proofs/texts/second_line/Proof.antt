@@ -1,6 +1,6 @@
 -- `vectors::texts::second_line` meets its contract. The bytes passed, and the place in the others, are the place in all of them.
 -- Assumes nothing.
-use mathlib.Core.Path.{_≡_, refl}
+use mathlib.Core.Path.{_≡_}
 use mathlib.Core.List.{List}
 use Prim.Native.Nat.{ℕ, _+_, _-_, _≤_, _<_}
 use native.Mathlib.Omega.{arith}

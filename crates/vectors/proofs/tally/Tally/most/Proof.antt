@@ -1,6 +1,6 @@
 -- `vectors::tally::Tally::most` meets its contract. The test compares the two products.
 -- Assumes nothing.
-use mathlib.Core.Path.{_≡_, sym}
+use mathlib.Core.Path.{sym}
 use Prim.Native.Nat.{_*_, _≤_, _<_}
 use borrow.Author.Tests.{lt-ltb, le-ltb}
 use Rattle.vectors.specs.Listed.{mostOf}
