@@ -3,8 +3,10 @@ use crate::reads;
 use crate::runs;
 use crate::tally::Tally;
 use crate::tally::print;
-ghost use Prim.Native.Nat.{_+_, _≤_};
+ghost use mathlib.Core.List.{List};
+ghost use Prim.Native.Nat.{ℕ, _+_, _/_, _≤_};
 ghost use lib.ListN.{length};
+ghost use Rattle.vectors.specs.Ended.{RowTold, Rows};
 
 // A row: the two names, 24 bytes each, and the line's end.
 const ROW: usize = 49;
@@ -40,7 +42,9 @@ pub fn load(name: &[u8], buf: &mut [u8; 65536]) -> usize
 }
 
 // A source read, translated and run, and compared.
-fn compare(t: Tally, name: &[u8], source: &[u8], text: &[u8]) -> Tally {
+fn compare(t: Tally, name: &[u8], source: &[u8], text: &[u8]) -> Tally
+    ensures { λ r. ⌜ RowTold (now (source .entry)) (now (text .entry)) t r ⌝ }
+{
     let told = reads::compare(t.source(), name, source, text);
     runs::compare(told, name, source, text)
 }
@@ -48,6 +52,7 @@ fn compare(t: Tally, name: &[u8], source: &[u8], text: &[u8]) -> Tally {
 // The row at `from`.
 fn row(t: Tally, index: &[u8], from: usize) -> Tally
     requires { ⌜ from + 49 ≤ length (now index) ⌝ }
+    ensures { λ r. ⌜ ((source text : List ℕ) × RowTold source text t r) ⌝ }
 {
     let mut source = io::large_buffer();
     let mut text = io::large_buffer();
@@ -58,7 +63,10 @@ fn row(t: Tally, index: &[u8], from: usize) -> Tally
     compare(t, &index[from..end], &source[..n], &text[..m])
 }
 
-pub fn rows(index: &[u8]) -> Tally {
+// Every row counts, whatever its files hold.
+pub fn rows(index: &[u8]) -> Tally
+    ensures { λ r. ⌜ Rows (length (now (index .entry)) / 49) r ⌝ }
+{
     let mut t = Tally::new();
     let mut at: usize = 0;
     while ROW <= index.len() - at {

@@ -14,7 +14,12 @@ use machine::Ran;
 use machine::run;
 use translating::translating::translate;
 ghost use mathlib.Core.Path.{_≡_};
-ghost use lib.ListN.{length};
+ghost use Prim.Native.Nat.{_-_};
+ghost use lib.IntN.{pos};
+ghost use lib.ListN.{length, drop};
+ghost use mathlib.Core.List.{[], _∷_};
+ghost use Rattle.vectors.specs.Ended.{numbers, after, begins, allAre, allWords, afterSteps, afterWritten, afterStop, afterExit, runOf, freshStore, freshOutput, afterSupplied, afterListed, strays, afterRefused, TranslateTold};
+ghost use Rattle.vectors.specs.Listed.{numberAt};
 
 // The words that are lent hold this before, and the words behind the first 16,384 afterwards.
 const BEFORE: u32 = 7;
@@ -23,7 +28,9 @@ const BEFORE: u32 = 7;
 const UNWRITTEN: i32 = 9;
 
 // Whether each word from `from` to `to` is this one.
-fn all_words(words: &[u32], from: usize, to: usize, word: u32) -> bool {
+fn all_words(words: &[u32], from: usize, to: usize, word: u32) -> bool
+    ensures { λ r. ⌜ r ≡ allWords (now (words .entry)) from (to - from) word ⌝ }
+{
     let mut i = from;
     while i < to {
         if words.len() <= i {
@@ -37,7 +44,9 @@ fn all_words(words: &[u32], from: usize, to: usize, word: u32) -> bool {
     true
 }
 
-fn all_zero(store: &[i64]) -> bool {
+fn all_zero(store: &[i64]) -> bool
+    ensures { λ r. ⌜ r ≡ allAre (pos 0) (now (store .entry)) ⌝ }
+{
     let mut i = 0;
     while i < store.len() {
         if store[i] != 0 {
@@ -48,7 +57,9 @@ fn all_zero(store: &[i64]) -> bool {
     true
 }
 
-fn untouched(output: &[i32], from: usize) -> bool {
+fn untouched(output: &[i32], from: usize) -> bool
+    ensures { λ r. ⌜ r ≡ allAre (pos 9) (drop from (now (output .entry))) ⌝ }
+{
     let mut i = from;
     while i < output.len() {
         if output[i] != UNWRITTEN {
@@ -60,7 +71,9 @@ fn untouched(output: &[i32], from: usize) -> bool {
 }
 
 // Whether the code is no instruction at its start.
-fn stray(code: &[u32], limit: u64) -> bool {
+fn stray(code: &[u32], limit: u64) -> bool
+    ensures { λ r. ⌜ r ≡ strays (now (code .entry)) limit ⌝ }
+{
     let input = [0i32; 1];
     let mut store = [0i64; 1];
     let mut output = [0i32; 1];
@@ -70,7 +83,9 @@ fn stray(code: &[u32], limit: u64) -> bool {
 }
 
 // The code of a refused source.
-fn refused(t: Tally, name: &[u8], code: &[u32]) -> Tally {
+fn refused(t: Tally, name: &[u8], code: &[u32]) -> Tally
+    ensures { λ r. ⌜ r ≡ afterRefused (now (code .entry)) t ⌝ }
+{
     let told = t.check(
         all_words(code, 0, 16384, 0),
         name,
@@ -84,7 +99,10 @@ fn refused(t: Tally, name: &[u8], code: &[u32]) -> Tally {
 }
 
 // The numbers from `from` on, as many as there is room for; and where the next one begins.
-fn inputs_at(text: &[u8], from: usize, input: &mut [i32]) -> usize {
+fn inputs_at(text: &[u8], from: usize, input: &mut [i32]) -> usize
+    ensures { λ r. ⌜ r ≡ after (now (text .entry)) (length (now (input .entry))) from ⌝ }
+    ensures { λ _. ⌜ now (input .exit) ≡ numbers (now (text .entry)) (length (now (input .entry))) from ⌝ }
+{
     let mut at = from;
     let mut i = 0;
     while i < input.len() {
@@ -103,7 +121,10 @@ pub struct Same {
 }
 
 // Whether the output begins with the `count` numbers from `from` on.
-fn same_outputs(output: &[i32], count: u64, text: &[u8], from: usize) -> Same {
+fn same_outputs(output: &[i32], count: u64, text: &[u8], from: usize) -> Same
+    ensures { λ r. ⌜ r .same ≡ begins (numbers (now (text .entry)) count from) (now (output .entry)) ⌝ }
+    ensures { λ r. ⌜ r .next ≡ after (now (text .entry)) count from ⌝ }
+{
     let mut same = true;
     let mut at = from;
     let mut i: u64 = 0;
@@ -119,7 +140,9 @@ fn same_outputs(output: &[i32], count: u64, text: &[u8], from: usize) -> Same {
 }
 
 // Whether the output has this number there.
-fn holds(output: &[i32], i: u64, x: i32) -> bool {
+fn holds(output: &[i32], i: u64, x: i32) -> bool
+    ensures { λ r. ⌜ r ≡ begins (x ∷ []) (drop i (now (output .entry))) ⌝ }
+{
     let k = i as usize;
     if k < output.len() {
         return output[k] == x;
@@ -128,7 +151,9 @@ fn holds(output: &[i32], i: u64, x: i32) -> bool {
 }
 
 // The instructions done, against the listed steps.
-fn counted(t: Tally, name: &[u8], done: u64, steps: Numeral) -> Tally {
+fn counted(t: Tally, name: &[u8], done: u64, steps: Numeral) -> Tally
+    ensures { λ r. ⌜ r ≡ afterSteps done steps t ⌝ }
+{
     if steps.minus {
         return t;
     }
@@ -142,7 +167,9 @@ fn counted(t: Tally, name: &[u8], done: u64, steps: Numeral) -> Tally {
 }
 
 // What a run wrote and did, against what is listed from `from` on.
-fn written(t: Tally, name: &[u8], r: Ran, output: &[i32], text: &[u8], from: usize) -> Tally {
+fn written(t: Tally, name: &[u8], r: Ran, output: &[i32], text: &[u8], from: usize) -> Tally
+    ensures { λ u. ⌜ u ≡ afterWritten r (now (output .entry)) (now (text .entry)) (numberAt (now (text .entry)) from) t ⌝ }
+{
     let count = number_at(text, from);
     let outputs = same_outputs(output, count.value, text, count.next);
     let told = t.check(
@@ -159,7 +186,9 @@ fn written(t: Tally, name: &[u8], r: Ran, output: &[i32], text: &[u8], from: usi
 }
 
 // How a run stopped and what it took, against what is listed from `from` on.
-fn stopped(t: Tally, name: &[u8], r: Ran, output: &[i32], text: &[u8], from: usize) -> Tally {
+fn stopped(t: Tally, name: &[u8], r: Ran, output: &[i32], text: &[u8], from: usize) -> Tally
+    ensures { λ u. ⌜ u ≡ afterStop r (now (output .entry)) (now (text .entry)) from t ⌝ }
+{
     let answer = number_at(text, from);
     let place = number_at(text, answer.next);
     let taken = number_at(text, place.next);
@@ -188,7 +217,9 @@ fn ran(
     output: &mut [i32],
     text: &[u8],
     from: usize,
-) -> Tally {
+) -> Tally
+    ensures { λ r. ⌜ r ≡ afterExit (runOf (now (code .entry)) (now (input .entry)) limit (now (store .entry)) (now (output .entry))) (now (text .entry)) from t ⌝ }
+{
     let r = run(code, input, limit, store, output);
     let told = t.check(all_zero(store), name, b"a store number is left");
     stopped(told, name, r, output, text, from)
@@ -201,13 +232,13 @@ fn fresh_input() -> [i32; 128]
 }
 
 fn fresh_store() -> [i64; 8192]
-    ensures { λ r. ⌜ 8192 ≡ length r ⌝ }
+    ensures { λ r. ⌜ r ≡ freshStore ⌝ }
 {
     [7; 8192]
 }
 
 fn fresh_output() -> [i32; 512]
-    ensures { λ r. ⌜ 512 ≡ length r ⌝ }
+    ensures { λ r. ⌜ r ≡ freshOutput ⌝ }
 {
     [UNWRITTEN; 512]
 }
@@ -220,7 +251,9 @@ fn supplied(
     input: &mut [i32],
     text: &[u8],
     from: usize,
-) -> Tally {
+) -> Tally
+    ensures { λ r. ⌜ r ≡ afterSupplied (now (code .entry)) (numbers (now (text .entry)) (length (now (input .entry))) from) (now (text .entry)) (after (now (text .entry)) (length (now (input .entry))) from) t ⌝ }
+{
     let mut store = fresh_store();
     let mut output = fresh_output();
     let next = inputs_at(text, from, input);
@@ -243,7 +276,9 @@ fn supplied(
 }
 
 // The code of an accepted source, run as is listed from `from` on.
-fn listed(t: Tally, name: &[u8], code: &[u32], text: &[u8], from: usize) -> Tally {
+fn listed(t: Tally, name: &[u8], code: &[u32], text: &[u8], from: usize) -> Tally
+    ensures { λ r. ⌜ r ≡ afterListed (now (code .entry)) (now (text .entry)) from t ⌝ }
+{
     let mut input = fresh_input();
     let count = number_at(text, from);
     let inputs = clipped(count.value, 128);
@@ -251,7 +286,9 @@ fn listed(t: Tally, name: &[u8], code: &[u32], text: &[u8], from: usize) -> Tall
 }
 
 // A source translated, and compared; and run, where a run is listed.
-pub fn compare(t: Tally, name: &[u8], source: &[u8], text: &[u8]) -> Tally {
+pub fn compare(t: Tally, name: &[u8], source: &[u8], text: &[u8]) -> Tally
+    ensures { λ r. ⌜ TranslateTold (now (source .entry)) (now (text .entry)) t r ⌝ }
+{
     let mut code = [BEFORE; 16386];
     let verdict = translate(source, &mut code);
     let told = t.check(

@@ -1,5 +1,8 @@
 // What the sources and their runs came to, counted, and a line for each difference.
 use libc::STDOUT_FILENO;
+ghost use mathlib.Core.Path.{_≡_};
+ghost use Prim.Native.Nat.{_*_};
+ghost use Rattle.vectors.specs.Listed.{more as moreOf, nothing, oneSource, oneRun, checked, mostOf};
 
 pub fn print(text: &[u8]) {
     io::write_all(STDOUT_FILENO, text);
@@ -19,19 +22,25 @@ pub struct Tally {
 }
 
 // One more; the greatest number stays.
-fn more(n: u32) -> u32 {
+fn more(n: u32) -> u32
+    ensures { λ r. ⌜ r ≡ moreOf n ⌝ }
+{
     if n < 4294967295 {
         return n + 1;
     }
     n
 }
 
-fn product(a: u32, b: u32) -> u64 {
+fn product(a: u32, b: u32) -> u64
+    ensures { λ r. ⌜ r ≡ a * b ⌝ }
+{
     a as u64 * b as u64
 }
 
 impl Tally {
-    pub fn new() -> Tally {
+    pub fn new() -> Tally
+        ensures { λ r. ⌜ r ≡ nothing ⌝ }
+    {
         Tally {
             sources: 0,
             runs: 0,
@@ -41,18 +50,24 @@ impl Tally {
         }
     }
 
-    pub fn source(mut self) -> Tally {
+    pub fn source(mut self) -> Tally
+        ensures { λ r. ⌜ r ≡ oneSource self ⌝ }
+    {
         self.sources = more(self.sources);
         self
     }
 
-    pub fn run(mut self) -> Tally {
+    pub fn run(mut self) -> Tally
+        ensures { λ r. ⌜ r ≡ oneRun self ⌝ }
+    {
         self.runs = more(self.runs);
         self
     }
 
     // Where what was found is not what is listed, a line that says of what source, and of what.
-    pub fn check(mut self, same: bool, name: &[u8], what: &[u8]) -> Tally {
+    pub fn check(mut self, same: bool, name: &[u8], what: &[u8]) -> Tally
+        ensures { λ r. ⌜ r ≡ checked same self ⌝ }
+    {
         if same {
             return self;
         }
@@ -65,7 +80,9 @@ impl Tally {
     }
 
     // A run that did so many instructions for so many steps.
-    pub fn most(mut self, done: u32, steps: u32) -> Tally {
+    pub fn most(mut self, done: u32, steps: u32) -> Tally
+        ensures { λ r. ⌜ r ≡ mostOf done steps self ⌝ }
+    {
         if product(self.done, steps) < product(done, self.steps) {
             self.done = done;
             self.steps = steps;

@@ -1,5 +1,8 @@
 // Numbers in a text: digits, behind a minus sign or none, and one byte between two numbers.
-ghost use Prim.Native.Nat.{_≤_, _<_};
+ghost use mathlib.Core.Path.{_≡_};
+ghost use Prim.Native.Nat.{_<_, min};
+ghost use Rattle.symbols.specs.Names.{digit};
+ghost use Rattle.vectors.specs.Listed.{digitsAt, numberAt, wholeOf, secondLine};
 
 // A number, and where the next one begins.
 pub struct Numeral {
@@ -8,13 +11,16 @@ pub struct Numeral {
     pub next: usize,
 }
 
-fn is_digit(b: u8) -> bool {
+fn is_digit(b: u8) -> bool
+    ensures { λ r. ⌜ r ≡ digit b ⌝ }
+{
     48 <= b && b <= 57
 }
 
 // The number whose digits begin at `from`.
 fn digits_at(text: &[u8], from: usize, minus: bool) -> Numeral
     ensures { λ r. ⌜ r .value < 10000000000 ⌝ }
+    ensures { λ r. ⌜ r ≡ digitsAt (now (text .entry)) from minus ⌝ }
 {
     let mut value: u64 = 0;
     let mut i = from;
@@ -40,6 +46,7 @@ fn digits_at(text: &[u8], from: usize, minus: bool) -> Numeral
 // The number that begins at `from`; 0 behind the end.
 pub fn number_at(text: &[u8], from: usize) -> Numeral
     ensures { λ r. ⌜ r .value < 10000000000 ⌝ }
+    ensures { λ r. ⌜ r ≡ numberAt (now (text .entry)) from ⌝ }
 {
     if from < text.len() {
         if text[from] == 45 {
@@ -50,7 +57,9 @@ pub fn number_at(text: &[u8], from: usize) -> Numeral
 }
 
 // A number as one of 32 bits; 0 where it is none.
-pub fn whole(n: Numeral) -> i32 {
+pub fn whole(n: Numeral) -> i32
+    ensures { λ r. ⌜ r ≡ wholeOf n ⌝ }
+{
     let value = n.value;
     if 2147483648 < value {
         return 0;
@@ -66,7 +75,7 @@ pub fn whole(n: Numeral) -> i32 {
 
 // A number, and no more than `most`.
 pub fn clipped(value: u64, most: usize) -> usize
-    ensures { λ r. ⌜ r ≤ most ⌝ }
+    ensures { λ r. ⌜ r ≡ min value most ⌝ }
 {
     if most as u64 <= value {
         return most;
@@ -75,7 +84,9 @@ pub fn clipped(value: u64, most: usize) -> usize
 }
 
 // Where the text goes on behind its first line.
-pub fn second_line(text: &[u8]) -> usize {
+pub fn second_line(text: &[u8]) -> usize
+    ensures { λ r. ⌜ r ≡ secondLine (now (text .entry)) ⌝ }
+{
     let mut i = 0;
     while i < text.len() {
         if text[i] == 10 {

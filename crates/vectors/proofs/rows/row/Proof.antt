@@ -1,4 +1,4 @@
--- `vectors::rows::row` meets its contract. What was loaded is no longer than the buffer.
+-- `vectors::rows::row` meets its contract. What was loaded is no longer than the buffer, and is what the row is of.
 -- Assumes nothing.
 use native.Mathlib.Omega.{arith}
 use lib.ListN.{length-take}
@@ -77,7 +77,7 @@ compare-requires : tie.Need-compare-requires
 compare-requires c κs = search needs
 
 returns : tie.Need-returns
-returns c = search needs
+returns c = (_, _, c .compare .ensures)
 
 pub row-spec : {M : Type 1} → statement M
 row-spec =

@@ -1,13 +1,31 @@
--- `vectors::rows::rows` meets its contract. A row is within the index.
+-- `vectors::rows::rows` meets its contract. A row is within the index, and each is counted.
 -- Assumes nothing.
-use Prim.Native.Nat.{ℕ, _+_, _-_, _≤_, _<_}
+use mathlib.Core.Path.{_≡_, refl}
+use Prim.Native.Nat.{ℕ, _+_, _-_, _/_, _%_, _≤_, _<_}
+use native.Mathlib.Omega.{arith}
 use lib.ListN.{length}
+use Rattle.vectors.specs.declared.tally.Tally.{Tally}
+use Rattle.vectors.specs.Listed.{nothing}
+use Rattle.vectors.specs.Ended.{Rows, none, more}
 use borrow.Author.Needs.{needs}
 use Rattle.vectors.proofs.rows.rows.Statement.{statement}
 use Rattle.vectors.proofs.rows.rows.Tie as tie
 
+empty : (t : Tally) → t ≡ nothing → Rows (0 / 49) t
+empty t e = rw e none
+
+one-more : (at : ℕ) (t : Tally) → Rows (at / 49 + 1) t → Rows ((at + 49) / 49) t
+one-more at t rs =
+    let e : (at + 49) / 49 ≡ at / 49 + 1 = omega arith in
+    rw e rs
+
+all-of-them : (at n : ℕ) (t : Tally) → at ≤ n → n - at < 49 → at % 49 ≡ 0 → Rows (at / 49) t → Rows (n / 49) t
+all-of-them at n t h k z rs =
+    let e : n / 49 ≡ at / 49 = omega arith in
+    rw e rs
+
 abbrev Inv-loop : tie.InvT-loop
-Inv-loop index t₀ at₀ t at = at ≤ length index
+Inv-loop index t₀ at₀ t at = (at ≤ length index) × (at % 49 ≡ 0) × Rows (at / 49) t
 
 abbrev μ-loop : tie.MeasureT-loop
 μ-loop index t₀ at₀ t at = length index - at
@@ -16,7 +34,7 @@ new-requires : tie.Need-new-requires Inv-loop μ-loop
 new-requires c κs = search needs
 
 loop-holds : tie.Need-loop-holds Inv-loop μ-loop
-loop-holds c = search needs
+loop-holds c = (search needs, refl, empty (c .new .result) (c .new .ensures))
 
 sub-loop : tie.Need-sub-loop Inv-loop μ-loop
 sub-loop c = search needs
@@ -31,10 +49,15 @@ loop-less : tie.Need-loop-less Inv-loop μ-loop
 loop-less c = search needs
 
 loop-again : tie.Need-loop-again Inv-loop μ-loop
-loop-again c = search needs
+loop-again c =
+    let l = c .before .before .loop in
+    let w = c .row .ensures in
+    (search needs, omega (arith, l .inv .1), one-more (l .at) (c .row .result) (more (l .inv .2) (w .0) (w .1) (c .row .result) (w .2)))
 
 returns : tie.Need-returns Inv-loop μ-loop
-returns c = search needs
+returns c =
+    let l = c .before .loop in
+    all-of-them (l .at) (length (c .before .before .before .before .args .index .now)) (l .t) (l .inv .0) (c .loop-test .left) (l .inv .1) (l .inv .2)
 
 pub rows-spec : {M : Type 1} → statement M
 rows-spec =

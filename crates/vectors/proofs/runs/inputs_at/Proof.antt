@@ -1,21 +1,48 @@
--- `vectors::runs::inputs_at` ends, and the input is as long as before.
+-- `vectors::runs::inputs_at` meets its contract. The numbers that are stored, and those that are left to read, are all of them.
 -- Assumes nothing.
-use mathlib.Core.Path.{_≡_}
+use mathlib.Core.Path.{_≡_, refl, sym, ap, _∙_}
+use mathlib.Core.List.{List, [], _∷_, _++_, append-assoc, append-nil}
 use Prim.Native.Nat.{ℕ, _+_, _-_, _≤_, _<_}
-use lib.ListN.{length, length-set}
 use native.Mathlib.Omega.{arith}
+use native.Mathlib.Nat.{sub-zero}
+use native.Mathlib.Numerals.{add-one}
+use lib.IntN.{ℤ}
+use lib.ListN.{length, length-set, set, take}
+use lib.Seq.{take-suc-set, take-length}
+use mir.Syntax.{w32}
+use mir.Val.{toZ, ofZ}
+use mir.Facts.{toZ-ofZ}
+use Rattle.vectors.specs.declared.texts.Numeral.{Numeral}
+use Rattle.vectors.specs.Listed.{numberAt, wholeOf}
+use Rattle.vectors.specs.Ended.{numbers, after}
+use Rattle.vectors.proofs.Laws.{numbers-on, numbers-end, after-on, after-end}
 use borrow.Author.Needs.{needs}
 use Rattle.vectors.proofs.runs.inputs_at.Statement.{statement}
 use Rattle.vectors.proofs.runs.inputs_at.Tie as tie
 
+module _ (text : List ℕ) (count i at : ℕ) (n : Numeral) (next : n ≡ numberAt text at) where
+  after-one : i < count → after text (count - i) at ≡ after text (count - (i + 1)) (n .next)
+  after-one h = after-on text count i at h ∙ ap (λ (m : Numeral). after text (count - (i + 1)) (m .next)) (sym next)
+
+  -- one number more is stored, and one fewer left
+  stored-one : (s : List ℤ) (x : ℤ) → i < count → i < length s → x ≡ wholeOf n → take i s ++ numbers text (count - i) at ≡ take (i + 1) (set s i x) ++ numbers text (count - (i + 1)) (n .next)
+  stored-one s x h k e =
+      let f : take (i + 1) (set s i x) ≡ take i s ++ (x ∷ []) = rw add-one (take-suc-set s i x k) in
+      let g : numbers text (count - i) at ≡ x ∷ numbers text (count - (i + 1)) (n .next) = numbers-on text count i at h ∙ rw (e, next) in
+      rw (f, g) (sym (append-assoc (take i s) (x ∷ []) (numbers text (count - (i + 1)) (n .next))))
+
 abbrev Inv-loop : tie.InvT-loop
-Inv-loop text from input₀ at₀ i₀ input at i = (i ≤ length input) × (length input ≡ length input₀)
+Inv-loop text from input₀ at₀ i₀ input at i =
+    (i ≤ length input)
+    × (length input ≡ length input₀)
+    × (after text (length input₀) from ≡ after text (length input₀ - i) at)
+    × (numbers text (length input₀) from ≡ take i input ++ numbers text (length input₀ - i) at)
 
 abbrev μ-loop : tie.MeasureT-loop
 μ-loop text from input₀ at₀ i₀ input at i = length input - i
 
 loop-holds : tie.Need-loop-holds Inv-loop μ-loop
-loop-holds c = search needs
+loop-holds c = (search needs, refl, rw sub-zero, rw sub-zero)
 
 number-at-requires : tie.Need-number-at-requires Inv-loop μ-loop
 number-at-requires c κs = search needs
@@ -36,13 +63,31 @@ loop-less : tie.Need-loop-less Inv-loop μ-loop
 loop-less c = simp length-set (omega arith)
 
 loop-again : tie.Need-loop-again Inv-loop μ-loop
-loop-again c = simp length-set (omega arith, c .before .before .before .loop .inv .1)
+loop-again c =
+    let a = c .before .before .before .before .before .args in
+    let l = c .before .before .before .loop in
+    let n = c .before .number-at .result in
+    let x : toZ w32 (ofZ w32 (c .whole .result)) ≡ wholeOf n = toZ-ofZ {w = w32} {z = c .whole .result} (record { sfits = c .whole .ok }) ∙ c .whole .ensures in
+    let h = c .before .before .loop-test .taken in
+    let k : l .i < length (a .input .now) = omega (arith, l .inv .1) in (
+      simp length-set (omega arith),
+      simp length-set (l .inv .1),
+      l .inv .2 ∙ after-one (a .text .now) (length (a .input .now)) (l .i) (l .at) n (c .before .number-at .ensures .1) k,
+      l .inv .3 ∙ stored-one (a .text .now) (length (a .input .now)) (l .i) (l .at) n (c .before .number-at .ensures .1) (l .input) (toZ w32 (ofZ w32 (c .whole .result))) k h x,
+    )
 
 same-length : tie.Need-same-length Inv-loop μ-loop
 same-length c = search needs
 
 returns : tie.Need-returns Inv-loop μ-loop
-returns c = search needs
+returns c =
+    let a = c .before .before .before .args in
+    let l = c .before .loop in
+    let k : length (a .input .now) ≤ l .i = omega (arith, l .inv .1, c .loop-test .left) in
+    let z : l .i ≡ length (l .input) = omega (arith, l .inv .0, c .loop-test .left) in (
+      sym (l .inv .2 ∙ after-end (a .text .now) (length (a .input .now)) (l .i) (l .at) k),
+      sym (l .inv .3 ∙ rw (numbers-end (a .text .now) (length (a .input .now)) (l .i) (l .at) k, append-nil (take (l .i) (l .input)), z) (take-length (l .input))),
+    )
 
 pub inputs-at-spec : {M : Type 1} → statement M
 inputs-at-spec =

@@ -1,19 +1,29 @@
--- `vectors::runs::untouched` ends. Each index is tested.
+-- `vectors::runs::untouched` meets its contract. The numbers from i on are those that are left to compare.
 -- Assumes nothing.
-use Prim.Native.Nat.{ℕ, _+_, _-_, _≤_, _<_}
-use lib.ListN.{length}
+use mathlib.Core.Path.{_≡_, refl, sym, _∙_}
+use Prim.Native.Nat.{_-_, _≤_}
+use lib.Dec.{lit<}
+use lib.IntN.{pos}
+use lib.ListN.{length, getD, drop}
+use mir.Syntax.{w32}
+use mir.Val.{SFits}
+use Rattle.vectors.specs.Ended.{allAre}
+use Rattle.vectors.proofs.Laws.{same-yes, same-no, all-on, all-off, all-end}
 use borrow.Author.Needs.{needs}
 use Rattle.vectors.proofs.runs.untouched.Statement.{statement}
 use Rattle.vectors.proofs.runs.untouched.Tie as tie
 
+this-one : SFits w32 (pos 9)
+this-one = record { sfits = lit< tt }
+
 abbrev Inv-loop : tie.InvT-loop
-Inv-loop output from i₀ i = from ≤ i
+Inv-loop output from i₀ i = (from ≤ i) × (allAre (pos 9) (drop from output) ≡ allAre (pos 9) (drop i output))
 
 abbrev μ-loop : tie.MeasureT-loop
 μ-loop output from i₀ i = length output - i
 
 loop-holds : tie.Need-loop-holds Inv-loop μ-loop
-loop-holds c = search needs
+loop-holds c = (search needs, refl)
 
 mul-if1 : tie.Need-mul-if1 Inv-loop μ-loop
 mul-if1 c = search needs
@@ -22,7 +32,11 @@ shared-slice-copy-out-if1 : tie.Need-shared-slice-copy-out-if1 Inv-loop μ-loop
 shared-slice-copy-out-if1 c = search needs
 
 returns : tie.Need-returns Inv-loop μ-loop
-returns c = search needs
+returns c =
+    let s = c .before .before .before .before .args .output .now in
+    let l = c .before .before .before .loop in
+    let e = same-no w32 (getD s (l .i) (pos 0)) (pos 9) (record { sfits = c .before .if12 .given }) this-one (c .if1 .taken) in
+    sym (l .inv .1 ∙ all-off (pos 9) s (l .i) (c .before .before .loop-test .taken) e)
 
 add-i : tie.Need-add-i Inv-loop μ-loop
 add-i c = search needs
@@ -31,10 +45,17 @@ loop-less : tie.Need-loop-less Inv-loop μ-loop
 loop-less c = search needs
 
 loop-again : tie.Need-loop-again Inv-loop μ-loop
-loop-again c = search needs
+loop-again c =
+    let s = c .before .before .before .before .args .output .now in
+    let l = c .before .before .before .loop in
+    let e = same-yes w32 (getD s (l .i) (pos 0)) (pos 9) (record { sfits = c .before .if12 .given }) this-one (c .if1 .left) in
+    (search needs, l .inv .1 ∙ all-on (pos 9) s (l .i) (c .before .before .loop-test .taken) e)
 
 returns-2 : tie.Need-returns-2 Inv-loop μ-loop
-returns-2 c = search needs
+returns-2 c =
+    let s = c .before .before .args .output .now in
+    let l = c .before .loop in
+    sym (l .inv .1 ∙ all-end (pos 9) s (l .i) (c .loop-test .left))
 
 pub untouched-spec : {M : Type 1} → statement M
 untouched-spec =

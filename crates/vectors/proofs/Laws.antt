@@ -1,0 +1,116 @@
+-- Laws of the definitions in Ended: what is compared from a place on, by what is compared from the next one on.
+use mathlib.Core.Path.{_≡_, refl, sym, ap, _∙_}
+use mathlib.Core.Bool.{Bool, true, false, _&&_, _||_}
+use mathlib.Core.List.{List, [], _∷_}
+use Prim.Native.Nat.{ℕ, zero, suc, _+_, _-_, _≤_, _<_}
+use native.Mathlib.Omega.{arith}
+use native.Mathlib.Numerals.{add-one}
+use lib.IntN.{ℤ, pos}
+use lib.ListN.{length, getD, drop, drop-of-length-le}
+use lib.Seq.{drop-cons, drop-drop}
+use lib.Dec.{eqb}
+use mir.Syntax.{Width}
+use mir.Val.{SFits, ofZ}
+use borrow.Author.Tests.{eq-eqb, ne-eqb}
+use Rattle.answers.specs.Answers.{stopNumber, stopPlace}
+use Rattle.answers.specs.declared.Stop.{Stop}
+use Rattle.machine.specs.Values.{same}
+use Rattle.machine.proofs.Signed.{same-bits}
+use Rattle.vectors.specs.Listed.{numberAt, wholeOf}
+use Rattle.vectors.specs.Ended.{stoppedBy, numbers, after, begins, allAre}
+
+-- ---- tests in a row
+
+pub and-yes : (x y : Bool) → x ≡ true → y ≡ (x && y)
+and-yes x y e = rw e
+
+pub and-no : (x y : Bool) → x ≡ false → x ≡ (x && y)
+and-no x y e = rw e
+
+pub or-yes : (x y : Bool) → x ≡ true → x ≡ (x || y)
+or-yes x y e = rw e
+
+pub or-no : (x y : Bool) → x ≡ false → y ≡ (x || y)
+or-no x y e = rw e
+
+pub and-true : (x : Bool) → x ≡ (x && true)
+and-true true = refl
+and-true false = refl
+
+-- ---- a number is another one where its bits are
+
+module _ (w : Width) (x y : ℤ) (f : SFits w x) (g : SFits w y) where
+  pub same-yes : ofZ w x ≡ ofZ w y → same x y ≡ true
+  same-yes e = sym (same-bits w {x = x} {y = y} f g) ∙ eq-eqb (ofZ w x) (ofZ w y) e
+
+  pub same-no : (ofZ w x ≡ ofZ w y → ⊥) → same x y ≡ false
+  same-no e = sym (same-bits w {x = x} {y = y} f g) ∙ ne-eqb (ofZ w x) (ofZ w y) e
+
+-- ---- an answer, then its place
+
+module _ (s : Stop) (a n m : ℕ) (answer : a ≡ stopNumber s) where
+  pub same-stop : (p : ℕ) → p ≡ stopPlace s → a ≡ n → eqb p m ≡ stoppedBy s n m
+  same-stop p f h =
+      let k : eqb (stopNumber s) n ≡ true = eq-eqb (stopNumber s) n (sym answer ∙ h) in
+      rw k (ap (λ (q : ℕ). eqb q m) f)
+
+  pub other-stop : (a ≡ n → ⊥) → eqb a n ≡ stoppedBy s n m
+  other-stop h =
+      let k : eqb (stopNumber s) n ≡ false = ne-eqb (stopNumber s) n (λ e. h (answer ∙ e)) in
+      rw k (ne-eqb a n h)
+
+-- ---- each number is this one
+
+module _ (x : ℤ) (s : List ℤ) (i : ℕ) where
+  all-peel : i < length s → allAre x (drop i s) ≡ (same (getD s i (pos 0)) x && allAre x (drop (i + 1) s))
+  unfolding allAre
+  all-peel h = rw (drop-cons s i (pos 0) h, add-one i)
+
+  pub all-on : i < length s → same (getD s i (pos 0)) x ≡ true → allAre x (drop i s) ≡ allAre x (drop (i + 1) s)
+  all-on h e = all-peel h ∙ rw e
+
+  pub all-off : i < length s → same (getD s i (pos 0)) x ≡ false → allAre x (drop i s) ≡ false
+  all-off h e = all-peel h ∙ rw e
+
+  pub all-end : length s ≤ i → allAre x (drop i s) ≡ true
+  unfolding allAre
+  all-end h = rw (drop-of-length-le s h)
+
+-- ---- numbers begin with these
+
+one-begins : (x : ℤ) (xs ys : List ℤ) → begins (x ∷ xs) ys ≡ (begins (x ∷ []) ys && begins xs (drop 1 ys))
+unfolding begins
+one-begins x xs [] = refl
+one-begins x xs (y ∷ ys) = ap (λ (b : Bool). b && begins xs ys) (and-true (same y x))
+
+pub begins-one : (x : ℤ) (xs ys : List ℤ) (i : ℕ) → begins (x ∷ xs) (drop i ys) ≡ (begins (x ∷ []) (drop i ys) && begins xs (drop (i + 1) ys))
+begins-one x xs ys i = one-begins x xs (drop i ys) ∙ ap (λ (l : List ℤ). begins (x ∷ []) (drop i ys) && begins xs l) (drop-drop 1 i ys)
+
+pub begins-none : (ys : List ℤ) → begins [] ys ≡ true
+unfolding begins
+begins-none ys = refl
+
+-- ---- the numbers that are left, of so many
+
+module _ (text : List ℕ) (count i at : ℕ) where
+  left : i < count → count - i ≡ suc (count - (i + 1))
+  left h = omega arith
+
+  none-left : count ≤ i → count - i ≡ zero
+  none-left h = omega arith
+
+  pub numbers-on : i < count → numbers text (count - i) at ≡ wholeOf (numberAt text at) ∷ numbers text (count - (i + 1)) (numberAt text at .next)
+  unfolding numbers
+  numbers-on h = rw (left h)
+
+  pub numbers-end : count ≤ i → numbers text (count - i) at ≡ []
+  unfolding numbers
+  numbers-end h = rw (none-left h)
+
+  pub after-on : i < count → after text (count - i) at ≡ after text (count - (i + 1)) (numberAt text at .next)
+  unfolding after
+  after-on h = rw (left h)
+
+  pub after-end : count ≤ i → after text (count - i) at ≡ at
+  unfolding after
+  after-end h = rw (none-left h)

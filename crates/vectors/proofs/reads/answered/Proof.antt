@@ -1,0 +1,64 @@
+-- `vectors::reads::answered` meets its contract. The first number is compared, then the second.
+-- Assumes nothing.
+use mathlib.Core.Path.{_≡_}
+use mathlib.Core.Bool.{true, false}
+use mathlib.Core.List.{List}
+use Prim.Native.Nat.{ℕ}
+use lib.Dec.{eqb}
+use borrow.Author.Tests.{eq-eqb, ne-eqb}
+use Rattle.answers.specs.Answers.{numberOf, placeOf}
+use Rattle.answers.specs.declared.Verdict.{Verdict}
+use Rattle.vectors.specs.declared.texts.Numeral.{Numeral}
+use Rattle.vectors.specs.Listed.{numberAt, answeredBy}
+use borrow.Author.Needs.{needs}
+use Rattle.vectors.proofs.reads.answered.Statement.{statement}
+use Rattle.vectors.proofs.reads.answered.Tie as tie
+
+module _ (v : Verdict) (text : List ℕ) (a : ℕ) (n : Numeral) (answer : a ≡ numberOf v) (first : n ≡ numberAt text 0) where
+  same-answer : (p : ℕ) (m : Numeral) → a ≡ n .value → p ≡ placeOf v → m ≡ numberAt text (n .next) → eqb p (m .value) ≡ answeredBy v text
+  same-answer p m h place second =
+      let k : eqb (numberOf v) (numberAt text 0 .value) ≡ true = eq-eqb (numberOf v) (numberAt text 0 .value) (cc) in
+      rw k (cc)
+
+  other-answer : (a ≡ n .value → ⊥) → eqb a (n .value) ≡ answeredBy v text
+  other-answer h =
+      let k : eqb (numberOf v) (numberAt text 0 .value) ≡ false = ne-eqb (numberOf v) (numberAt text 0 .value) (λ e. h (cc)) in
+      rw k (ne-eqb a (n .value) h)
+
+number-at-requires : tie.Need-number-at-requires
+number-at-requires c κs = search needs
+
+number-at-requires-2 : tie.Need-number-at-requires-2
+number-at-requires-2 c κs = search needs
+
+answer-requires : tie.Need-answer-requires
+answer-requires c κs = search needs
+
+cast-if1 : tie.Need-cast-if1
+cast-if1 c = search needs
+
+place-requires : tie.Need-place-requires
+place-requires c κs = search needs
+
+returns : tie.Need-returns
+returns c =
+    let a = c .before .before .before .before .before .before .before .before .before .args in
+    same-answer (a .verdict) (a .text .now) (c .before .before .before .before .before .answer .result .number) (c .before .before .before .before .before .before .before .number-at .result) (c .before .before .before .before .before .answer .ensures) (c .before .before .before .before .before .before .before .number-at .ensures .1)
+    (c .before .place .result) (c .before .before .before .before .before .before .number-at2 .result) (c .before .before .if1 .taken) (c .before .place .ensures) (c .before .before .before .before .before .before .number-at2 .ensures .1)
+
+returns-2 : tie.Need-returns-2
+returns-2 c =
+    let a = c .before .before .before .before .before .before .before .args in
+    other-answer (a .verdict) (a .text .now) (c .before .before .before .answer .result .number) (c .before .before .before .before .before .number-at .result) (c .before .before .before .answer .ensures) (c .before .before .before .before .before .number-at .ensures .1) (c .if1 .left)
+
+pub answered-spec : {M : Type 1} → statement M
+answered-spec =
+    tie.close
+    (tie.spec
+    number-at-requires
+    number-at-requires-2
+    answer-requires
+    cast-if1
+    place-requires
+    returns
+    returns-2)
