@@ -166,6 +166,14 @@ module _ (k q v : ℕ) where
   unfolding decode
   code-11 e = rw e
 
+  pub code-13 : k ≡ 13 → decode k q v ≡ some (DO (load q (variable v)))
+  unfolding decode actOf
+  code-13 e = rw e
+
+  pub code-14 : k ≡ 14 → decode k q v ≡ some (DO (store (variable v)))
+  unfolding decode actOf
+  code-14 e = rw e
+
   pub code-act : 12 ≤ k → k < 39 → decode k q v ≡ some (DO (actOf k q (variable v) v))
   unfolding decode
   code-act h b = rw (apart k 0 (omega arith), apart k 1 (omega arith), apart k 2 (omega arith), apart k 3 (omega arith), apart k 4 (omega arith), apart k 5 (omega arith), apart k 6 (omega arith), apart k 7 (omega arith), apart k 8 (omega arith), apart k 9 (omega arith), apart k 10 (omega arith), apart k 11 (omega arith), lt-ltb k 39 b)

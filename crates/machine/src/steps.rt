@@ -21,7 +21,7 @@ ghost use mathlib.Core.List.{List};
 ghost use Prim.Native.Nat.{ℕ, _≤_, _<_, min};
 ghost use lib.IntN.{ℤ, pos};
 ghost use lib.ListN.{length, take, replicate};
-ghost use Rattle.machine.specs.Data.{Test, work as workOf, downs as downsOf};
+ghost use Rattle.machine.specs.Data.{Act, Test, work as workOf, downs as downsOf};
 ghost use Rattle.machine.specs.Instructions.{Loc, Instr, variable, low, actOf, decode};
 ghost use Rattle.machine.specs.Machine.{cellIn, exec, obey as obeyOf, step as stepOf, machine as machineOf, exit, afterwards, used as usedOf};
 ghost use Rattle.machine.specs.Model.{Sound, SoundO, SoundG, Lives, Drove, dataOf, traceOf, machOf, seenD, seenO, told, stepped, positionsOf, framesOf, wordOf, roomOf};
@@ -120,6 +120,40 @@ fn act(
     control::lift(at, at + 1, live, work(k, q, c, v, n, input, store, output))
 }
 
+// The number of a variable in a new cell. LOAD and STORE are every other instruction of most programs, so they are told by the first choice.
+fn load(
+    at: u32,
+    live: usize,
+    n: Counts,
+    q: usize,
+    v: u32,
+    store: &mut [i64],
+    own: &[u32; 17990],
+) -> Outcome
+    requires { ⌜ Sound n (now store) × Lives (now own) live × (at < 8192) ⌝ }
+    ensures { λ r. ⌜ ((i o : List ℤ) → seenO r (now (store .exit)) (now (own .entry)) i o ≡ stepped (traceOf n o) (exec (Instr.DO (Act.load q (variable v))) at (positionsOf (now (own .entry)) live) (framesOf (now (own .entry)) live) (dataOf n live (now (store .entry)) i o))) ⌝ }
+    ensures { λ r. ⌜ ((o : List ℤ) → n .written ≤ length o → SoundG r (now (store .exit)) (now (own .entry)) o o) ⌝ }
+{
+    if first_cell(own, live) > n.cells {
+        return stray(at);
+    }
+    let c = cell_of(live, own, v);
+    control::lift(at, at + 1, live, operations::load(n, store, q, c))
+}
+
+// The newest value to a variable.
+fn save(at: u32, live: usize, n: Counts, v: u32, store: &mut [i64], own: &[u32; 17990]) -> Outcome
+    requires { ⌜ Sound n (now store) × Lives (now own) live × (at < 8192) ⌝ }
+    ensures { λ r. ⌜ ((i o : List ℤ) → seenO r (now (store .exit)) (now (own .entry)) i o ≡ stepped (traceOf n o) (exec (Instr.DO (Act.store (variable v))) at (positionsOf (now (own .entry)) live) (framesOf (now (own .entry)) live) (dataOf n live (now (store .entry)) i o))) ⌝ }
+    ensures { λ r. ⌜ ((o : List ℤ) → n .written ≤ length o → SoundG r (now (store .exit)) (now (own .entry)) o o) ⌝ }
+{
+    if first_cell(own, live) + 1 > n.cells {
+        return stray(at);
+    }
+    let c = cell_of(live, own, v);
+    control::lift(at, at + 1, live, operations::save(n, store, c))
+}
+
 // A condition.
 fn unless(at: u32, live: usize, n: Counts, v: u32, store: &[i64], own: &[u32; 17990]) -> Outcome
     requires { ⌜ Sound n (now store) × Lives (now own) live × (at < 8192) ⌝ }
@@ -188,6 +222,8 @@ fn obey(
         9 => control::next(at, live, n, own, v),
         10 => unless(at, live, n, v, store, own),
         11 => upto(at, live, n, q as usize, v, store, own),
+        13 => load(at, live, n, q as usize, v, store, own),
+        14 => save(at, live, n, v, store, own),
         _ => {
             if k < 39 {
                 return act(at, live, n, k, q as usize, v, input, store, output, own);

@@ -4,7 +4,7 @@ use native.Mathlib.Omega.{arith}
 use Rattle.machine.specs.Instructions.{high, mid, low}
 use Rattle.machine.specs.Model.{lifted}
 use Rattle.machine.proofs.Execs.{strayed, strayed-sound, obeyed, obeyed-none, jump-goes, end-halts, enter-lifted, did-quiet, fate-kept, fate-gone, same-fate}
-use Rattle.machine.proofs.Decode.{code-0, code-1, code-2, code-3, code-4, code-5, code-6, code-7, code-8, code-9, code-10, code-11, code-act, code-none, next-up}
+use Rattle.machine.proofs.Decode.{code-0, code-1, code-2, code-3, code-4, code-5, code-6, code-7, code-8, code-9, code-10, code-11, code-13, code-14, code-act, code-none, next-up}
 use borrow.Author.Needs.{needs}
 use Rattle.machine.proofs.steps.obey.Statement.{statement}
 use Rattle.machine.proofs.steps.obey.Tie as tie
@@ -48,9 +48,15 @@ unless-requires c κs = search needs
 upto-requires : tie.Need-upto-requires
 upto-requires c κs = search needs
 
+load-requires : tie.Need-load-requires
+load-requires c κs = search needs
+
+save-requires : tie.Need-save-requires
+save-requires c κs = search needs
+
 act-requires : tie.Need-act-requires
 act-requires c κs =
-    let r = c .before .before .before .before .match .rest in
+    let r = c .before .before .before .before .match .rest .0 .0 in
     (c .before .before .before .before .before .pre .0, c .before .before .before .before .before .pre .1, c .before .before .before .before .before .pre .2, c .before .before .before .before .before .pre .3, (next-up 11 _ (next-up 10 _ (next-up 9 _ (next-up 8 _ (next-up 7 _ (next-up 6 _ (next-up 5 _ (next-up 4 _ (next-up 3 _ (next-up 2 _ (next-up 1 _ (next-up 0 _ (omega arith) (r .0 .0 .0 .0 .0 .0 .0 .0 .0 .0 .0 .1)) (r .0 .0 .0 .0 .0 .0 .0 .0 .0 .0 .1)) (r .0 .0 .0 .0 .0 .0 .0 .0 .0 .1)) (r .0 .0 .0 .0 .0 .0 .0 .0 .1)) (r .0 .0 .0 .0 .0 .0 .0 .1)) (r .0 .0 .0 .0 .0 .0 .1)) (r .0 .0 .0 .0 .0 .1)) (r .0 .0 .0 .0 .1)) (r .0 .0 .0 .1)) (r .0 .0 .1)) (r .0 .1)) (r .1)), c .before .before .before .if1 .taken)
 
 same-length : tie.Need-same-length
@@ -61,7 +67,7 @@ same-length-2 c = search needs
 
 returns : tie.Need-returns
 returns c =
-    let r = c .before .before .before .before .before .before .before .match .rest in
+    let r = c .before .before .before .before .before .before .before .match .rest .0 .0 in
     (c .before .before .act .ensures .0 ∙ obeyed _ (c .before .before .before .before .before .before .before .before .args .at) _ _ _ (code-act (c .before .before .before .before .before .before .before .before .args .k) (c .before .before .before .before .before .before .before .before .args .q) (c .before .before .before .before .before .before .before .before .args .v) (next-up 11 _ (next-up 10 _ (next-up 9 _ (next-up 8 _ (next-up 7 _ (next-up 6 _ (next-up 5 _ (next-up 4 _ (next-up 3 _ (next-up 2 _ (next-up 1 _ (next-up 0 _ (omega arith) (r .0 .0 .0 .0 .0 .0 .0 .0 .0 .0 .0 .1)) (r .0 .0 .0 .0 .0 .0 .0 .0 .0 .0 .1)) (r .0 .0 .0 .0 .0 .0 .0 .0 .0 .1)) (r .0 .0 .0 .0 .0 .0 .0 .0 .1)) (r .0 .0 .0 .0 .0 .0 .0 .1)) (r .0 .0 .0 .0 .0 .0 .1)) (r .0 .0 .0 .0 .0 .1)) (r .0 .0 .0 .0 .1)) (r .0 .0 .0 .1)) (r .0 .0 .1)) (r .0 .1)) (r .1)) (c .before .before .before .before .before .before .if1 .taken)), c .before .before .act .ensures .1)
 
 stray-requires-2 : tie.Need-stray-requires-2
@@ -121,8 +127,20 @@ same-length-6 c = search needs
 returns-13 : tie.Need-returns-13
 returns-13 c = (c .upto .ensures .0 (c .before .before .before .before .args .input .now) (c .before .before .before .before .args .output .now) ∙ obeyed _ (c .before .before .before .before .args .at) _ _ _ (code-11 (c .before .before .before .before .args .k) (c .before .before .before .before .args .q) (c .before .before .before .before .args .v) (c .before .before .before .match .keys12)), c .upto .ensures .1 (c .before .before .before .before .args .output .now) (c .before .before .before .before .pre .2))
 
+same-length-7 : tie.Need-same-length-7
+same-length-7 c = search needs
+
 returns-14 : tie.Need-returns-14
-returns-14 c = (strayed (c .stray2 .ensures) _ _ _ _ ∙ obeyed-none _ (c .before .before .before .args .at) _ _ _ (code-none (c .before .before .before .args .k) (c .before .before .before .args .q) (c .before .before .before .args .v) (c .before .if1 .left)), strayed-sound (c .stray2 .ensures) _ _ _ _ refl)
+returns-14 c = (c .before .load .ensures .0 (c .before .before .before .before .before .args .input .now) (c .before .before .before .before .before .args .output .now) ∙ obeyed _ (c .before .before .before .before .before .args .at) _ _ _ (code-13 (c .before .before .before .before .before .args .k) (c .before .before .before .before .before .args .q) (c .before .before .before .before .before .args .v) (c .before .before .before .before .match .keys13)), c .before .load .ensures .1 (c .before .before .before .before .before .args .output .now) (c .before .before .before .before .before .pre .2))
+
+same-length-8 : tie.Need-same-length-8
+same-length-8 c = search needs
+
+returns-15 : tie.Need-returns-15
+returns-15 c = (c .before .save .ensures .0 (c .before .before .before .before .before .args .input .now) (c .before .before .before .before .before .args .output .now) ∙ obeyed _ (c .before .before .before .before .before .args .at) _ _ _ (code-14 (c .before .before .before .before .before .args .k) (c .before .before .before .before .before .args .q) (c .before .before .before .before .before .args .v) (c .before .before .before .before .match .keys14)), c .before .save .ensures .1 (c .before .before .before .before .before .args .output .now) (c .before .before .before .before .before .pre .2))
+
+returns-16 : tie.Need-returns-16
+returns-16 c = (strayed (c .stray2 .ensures) _ _ _ _ ∙ obeyed-none _ (c .before .before .before .args .at) _ _ _ (code-none (c .before .before .before .args .k) (c .before .before .before .args .q) (c .before .before .before .args .v) (c .before .if1 .left)), strayed-sound (c .stray2 .ensures) _ _ _ _ refl)
 
 pub obey-spec : {M : Type 1} → statement M
 obey-spec =
@@ -141,6 +159,8 @@ obey-spec =
     next-requires
     unless-requires
     upto-requires
+    load-requires
+    save-requires
     act-requires
     same-length
     same-length-2
@@ -162,4 +182,8 @@ obey-spec =
     returns-12
     same-length-6
     returns-13
-    returns-14)
+    same-length-7
+    returns-14
+    same-length-8
+    returns-15
+    returns-16)
