@@ -1,19 +1,23 @@
 -- No difference is forgotten: what the contracts say together. The count of differences never falls, and where it is 0 at the end each row was answered
 -- as is listed, by read and by translate. Assumes nothing.
-use mathlib.Core.Path.{_≡_, refl}
-use mathlib.Core.Bool.{Bool, true, false, cond, _&&_, _||_}
+use mathlib.Core.Path.{_≡_, refl, ap}
+use mathlib.Core.Bool.{Bool, true, false, cond, _&&_, _||_, true≢false}
 use mathlib.Core.List.{List}
 use Prim.Native.Nat.{ℕ, _+_, _*_, _≤_, _<_}
 use native.Mathlib.Omega.{arith}
 use lib.Dec.{eqb, ltb, leb}
 use lib.IntN.{ℤ, pos}
 use lib.ListN.{length, drop}
+use Rattle.answers.specs.Answers.{numberOf, refusal}
 use Rattle.answers.specs.declared.Verdict.{Verdict}
+use Rattle.answers.specs.declared.Verdict.the-variants.{Refused}
+use Rattle.symbols.specs.Names.{digit, valueFrom}
+use Rattle.symbols.specs.Text.{bytes}
 use Rattle.machine.specs.Machine.{Exit}
 use Rattle.machine.specs.declared.Ran.{Ran}
 use Rattle.vectors.specs.declared.texts.Numeral.{Numeral}
 use Rattle.vectors.specs.declared.tally.Tally.{Tally}
-use Rattle.vectors.specs.Listed.{numberAt, secondLine, oneRun, oneSource, checked, mostOf, answeredBy, acceptedBy, sameUses, afterRead}
+use Rattle.vectors.specs.Listed.{digits, behind, digitsAt, numberAt, secondLine, nothing, oneRun, oneSource, checked, mostOf, answeredBy, acceptedBy, sameUses, afterRead}
 use Rattle.vectors.specs.Ended.{begins, numbers, after, allAre, allWords, stoppedBy, strays, afterSteps, afterWritten, afterTaken, afterPlace, afterStop, afterExit, afterSupplied, afterListed, afterRefused, afterAccepted, afterTranslate, RowTold, Rows, none, more}
 
 -- the count of 32 bits, and that it does not fall
@@ -151,3 +155,14 @@ no-difference (more {t = t} rs source text r row) e =
     let k = row-keeps row s .no-less in
     let z : t .differences ≡ 0 = omega arith in
     (no-difference rs z, answer-of _ (λ f. omega (arith, read-counts row s f (omega arith))), answer-of _ (λ f. omega (arith, translate-counts row s f (omega arith))))
+
+-- ---- wrong programs
+
+-- a check that does not count
+pub not-uncounted : ((same : Bool) (t : Tally) → t ≡ checked same t) → ⊥
+not-uncounted gives = let z : _≡_ {A = ℕ} 0 1 = ap (λ (t : Tally). t .differences) (gives false nothing) in omega arith
+
+-- a comparison that leaves the place out: 3 at 5 is not 3 at 4
+pub not-answer-alone : ((v : Verdict) (text : List ℕ) → eqb (numberOf v) (numberAt text 0 .value) ≡ answeredBy v text) → ⊥
+unfolding numberAt digitsAt digits behind digit valueFrom
+not-answer-alone gives = true≢false (gives (Refused (refusal 3 5)) (bytes "3 4 0"))
