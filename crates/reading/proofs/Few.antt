@@ -1,6 +1,7 @@
 -- The declarations and uses among a program's nodes are as few as its names: each is written behind a name of its own. A name allows one, and
 -- a part that begins behind a name may write one more; the law of the grammar's Weights gives the bound.
 use Prim.Native.Nat.{ℕ, _+_, _≤_}
+use mathlib.Core.Path.{refl}
 use mathlib.Core.Bool.{Bool, _||_}
 use mathlib.Core.List.{List, [], _∷_}
 use native.Mathlib.Omega.{arith}
@@ -10,7 +11,7 @@ use Rattle.grammar.specs.Grammar.{named as behind-name, actuals, program}
 use Rattle.grammar.specs.declared.Use.the-variants.{AsPrimary}
 use Rattle.grammar.specs.Trees.{Syn, yield, nodesOf}
 use Rattle.grammar.specs.Tables.{pick}
-use Rattle.grammar.proofs.Productions.{Every}
+use Rattle.grammar.proofs.Productions.{Passes}
 use Rattle.grammar.proofs.Weights.{rows, Weights, Fits, written}
 use Rattle.grammar.proofs.Room.{names}
 use Rattle.names.specs.Rows.{isUse}
@@ -41,9 +42,9 @@ ones = record {
   leaves = rows [];
 }
 
-fits : Every (Fits ones)
+fits : Passes (Fits ones)
 unfolding isUse isDeclared
-fits = record { of-declarations = omega arith; of-statements = omega arith; of-expressions = omega arith }
+fits = refl
 
 -- each is behind a name of its own
 pub few : (t : Syn program) → named (nodesOf t) ≤ names (yield t)
