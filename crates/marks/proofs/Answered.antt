@@ -1,5 +1,6 @@
--- What is computed for a source is what `read` answers to it: each stage of the model with the paper's definition of that stage. The parser's
--- answer is the relation's, and what the relation says of a list of symbols is in crate `syntax`.
+-- What the model answers to a source, where its fuel reaches, is what the paper says of that source (`read-right`): each stage of the model with the
+-- paper's definition of that stage. The parser's answer is the relation's (Parses), and what the relation says of a list of symbols is in
+-- proofs/Final of crate `grammar`.
 use Prim.Native.Nat.{ℕ}
 use mathlib.Core.Path.{_≡_, refl, ap}
 use mathlib.Core.Bool.{Bool, true, false}

@@ -1,4 +1,5 @@
--- A parser that the prover can run: what `Run` of crate `syntax` says as a relation, computed with so much fuel. No part of the paper.
+-- A parser that the prover can run: what `Run` of crate `grammar` says as a relation, computed with so much fuel; none where the fuel does not
+-- reach. No part of the paper.
 use Prim.Native.Nat.{ℕ, zero, suc, _+_}
 use mathlib.Core.Bool.{Bool, true, false, _||_}
 use mathlib.Core.List.{List, [], _∷_}
