@@ -73,9 +73,9 @@ low-top (rd b X ∷ is) = go (ltb (rank X) 40) (top X) (null X) (low-top is)
 
 -- ---- every list has a run
 
-record Ran (ks : List ℕ) (d : ℕ) (F : List ℕ) (is : List Item) (i : ℕ) : Type 0 where
-  result : Res (Syn is)
-  run : Run (kindAt ks) d F is i result
+pub record Ran (ks : List ℕ) (d : ℕ) (F : List ℕ) (is : List Item) (i : ℕ) : Type 0 where
+  pub result : Res (Syn is)
+  pub run : Run (kindAt ks) d F is i result
 
 not-end : (k : ℕ) (is : List Item) → clean any-class never (sy k ∷ is) ≡ true → (k ≡ 33 → ⊥) × (clean any-class never is ≡ true)
 not-end k is c = go (mem k never) refl c
@@ -168,13 +168,13 @@ module _ (ks : List ℕ) where
   can zero d F X p i b e = absurd (omega arith)
   can (suc m) d F X p i b e = items m (can m) d F (rhs p) i (rank X) (never-has p refl) (descends p) b (omega arith)
 
-  the-run : Ran ks levels (33 ∷ []) program 0
-  the-run = items (left 0 40) (can (left 0 40)) levels (33 ∷ []) program 0 40 refl (low-top program) (omega arith) (omega arith)
+  pub run-at : (d : ℕ) → Ran ks d (33 ∷ []) program 0
+  run-at d = items (left 0 40) (can (left 0 40)) d (33 ∷ []) program 0 40 refl (low-top program) (omega arith) (omega arith)
 
   -- ---- one of the three
 
   at-least-one : (a : Finding) × Finds ks a
-  at-least-one = of (the-run .result) (the-run .run)
+  at-least-one = of (run-at levels .result) (run-at levels .run)
     where
       of : (r : Res (Syn program)) → Run (kindAt ks) levels (33 ∷ []) program 0 r → (a : Finding) × Finds ks a
       of (got t j) v = elim (ℕ-discrete j (length ks)) [
