@@ -1,32 +1,33 @@
--- Every list of symbols is exactly one of a program, a 5 and a 6. At most one by Exclusive; one at least, since every list has a run: a part that
--- begins where what holds it began is of a lower class, and otherwise a symbol was read.
+-- Every list of symbols is exactly one of a program, a 5 and a 6 (`exactly-one`). At most one by Exclusive; one at least, since every list has a
+-- run: a part that begins where what holds it began is of a lower class, and otherwise a symbol was read.
 use mathlib.Core.Path.{_≡_, refl, sym, _∙_}
-use mathlib.Core.List.{List, [], _∷_}
+use mathlib.Core.List.{List, [], _∷_, _++_}
 use Prim.Native.Nat.{ℕ, zero, suc, _+_, _-_, _*_, _≤_, _<_}
 use native.Mathlib.Omega.{arith}
-use native.Mathlib.Decide.{ℕ-discrete}
+use native.Mathlib.Decide.{ℕ-discrete, decLt}
 use mathlib.Core.Bool.{Bool, true, false}
 use lib.Dec.{eqb, ltb}
-use lib.ListN.{length}
+use lib.ListN.{length, length-append, take}
 use borrow.Author.Tests.{ltb-true}
+use Rattle.symbols.specs.Symbols.{kind}
+use Rattle.symbols.specs.declared.Symbol.the-variants.{Comment}
 use Rattle.grammar.specs.Grammar.{Class, inner, head, tail, declarations, declaration, declared, procedure, specifications, statement, consequence, repetition, element, progress, amount, unconditional, named, right, expression, level, negation, relation, actual}
 use Rattle.grammar.specs.Grammar.{Prod, Item, sy, rd, put, rhs, program}
 use Rattle.grammar.specs.declared.Level.the-variants.{Product, Sum, Conjunction, Disjunction, Implication, Equivalence}
 use Rattle.grammar.specs.Trees.{Syn, nil, tok, act, sub, yield}
-use Rattle.grammar.specs.Program.{levels, Finding, accepted, wrong-at, deep-at, Finds}
+use Rattle.grammar.specs.Program.{levels, Viable, Finding, accepted, wrong-at, deep-at, Finds}
 use Rattle.grammar.specs.Tables.{Choice, none, some, pick, choose, null}
 use Rattle.grammar.specs.Text.{kindAt}
 use Rattle.grammar.specs.Run.{Res, got, bad, In, now, later, after, Goes, level as at-level, deep}
 use Rattle.grammar.specs.Run.{Run, end, sy-no, sy-got, sy-bad, put-got, put-bad, rd-six, rd-five, rd-none, rd-bad, rd-more, rd-got}
-use Rattle.grammar.proofs.Sets.{both, left-of, right-of, mem, mem-in, in-mem, true-false}
+use Rattle.grammar.proofs.Sets.{both, left-of, right-of, mem, mem-in, in-mem, in-left, true-false}
 use Rattle.grammar.proofs.Productions.{seat, tested-class, tested}
 use Rattle.grammar.proofs.Laws.{nul, empties, clean, never, any-class, never-has}
-use Rattle.grammar.proofs.Second.{no-colon}
+use Rattle.grammar.proofs.Second.{no-comment, no-colon}
 use Rattle.grammar.proofs.Tell.{Found, tell}
-use Rattle.grammar.proofs.Meet.{nonempty}
 use Rattle.grammar.proofs.Peeks.{inside}
 use Rattle.grammar.proofs.Final.{spells-within, bad-wrong, bad-deep, bad-number, got-all, got-over, j-within}
-use Rattle.grammar.proofs.Exclusive.{at-most-one}
+use Rattle.grammar.proofs.Exclusive.{front-of, at-most-one}
 
 -- ---- no class begins with itself
 
@@ -72,6 +73,19 @@ low-top (rd b X ∷ is) = go (ltb (rank X) 40) (top X) (null X) (low-top is)
     go false e c h = true-false e
 
 -- ---- every list has a run
+
+-- a tree of items that cannot be empty
+nonempty : {is : List Item} (s : Syn is) → nul is ≡ false → 0 < length (yield s)
+unfolding yield
+nonempty nil h = true-false (sym h)
+nonempty (tok s) h = omega arith
+nonempty (act s) h = nonempty s h
+nonempty (sub {X = X} {is = is} p t s) h = go (null X) refl (nul (rhs p)) refl h (λ q. nonempty t q) (λ z. nonempty s z)
+  where
+    go : (a : Bool) → null X ≡ a → (b : Bool) → nul (rhs p) ≡ b → pick a (nul is) false ≡ false → (nul (rhs p) ≡ false → 0 < length (yield t)) → (nul is ≡ false → 0 < length (yield s)) → 0 < length (yield t ++ yield s)
+    go true e b q z u v = omega (arith, v z, length-append (yield t) (yield s))
+    go false e true q z u v = true-false (sym e ∙ empties p q)
+    go false e false q z u v = omega (arith, u q, length-append (yield t) (yield s))
 
 pub record Ran (ks : List ℕ) (d : ℕ) (F : List ℕ) (is : List Item) (i : ℕ) : Type 0 where
   pub result : Res (Syn is)
@@ -185,3 +199,32 @@ module _ (ks : List ℕ) where
 
   pub exactly-one : (a : Finding) × Finds ks a × ((b : Finding) → Finds ks b → b ≡ a)
   exactly-one = (at-least-one .0, at-least-one .1, (λ b h. at-most-one ks b (at-least-one .0) h (at-least-one .1)))
+
+-- ---- 'comment' that is a symbol is a fault of grammar
+
+in-take : (ks : List ℕ) (m n : ℕ) {c : ℕ} → kindAt ks m ≡ c → m < length ks → m < n → In c (take n ks)
+unfolding kindAt
+in-take [] m n e l h = absurd (omega arith)
+in-take (k ∷ ks) m zero e l h = absurd (omega arith)
+in-take (k ∷ ks) zero (suc n) e l h = now (sym e)
+in-take (k ∷ ks) (suc m) (suc n) e l h = later (in-take ks m n e (omega arith) (omega arith))
+
+-- found at it, or before it
+abbrev pub By : Finding → ℕ → Type 0
+By accepted m = ⊥
+By (wrong-at k) m = k ≤ m
+By (deep-at k) m = k < m
+
+pub comment-found : (ks : List ℕ) (m : ℕ) → kindAt ks m ≡ kind Comment → (a : Finding) → Finds ks a → By a m
+comment-found ks m e a h = go a h
+  where
+    l : m < length ks
+    l = inside ks m e (λ z. omega arith)
+
+    none-has : (n : ℕ) → Viable (take n ks) → m < n → ⊥
+    none-has n v q = no-comment (v .tree) (rw (v .whole) (in-left (v .rest) (in-take ks m n e l q)))
+
+    go : (a : Finding) → Finds ks a → By a m
+    go accepted h = none-has (m + 1) (front-of ks (h .tree) (h .keeps .spelled) (m + 1)) (omega arith)
+    go (wrong-at k) h = elim (decLt m k) [ yes q ↦ absurd (none-has k (h .viable) q) | no q ↦ omega arith ]
+    go (deep-at k) h = elim (decLt k m) [ yes q ↦ q | no q ↦ absurd (none-has (k + 1) (h .deep .viable) (omega arith)) ]

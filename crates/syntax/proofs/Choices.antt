@@ -116,9 +116,6 @@ module _ {c : ℕ} where
   pub else-further-actuals : (c ≡ 32 → ⊥) → choose further-actuals c 0 ≡ some no-actual
   else-further-actuals p0 = simp (ne-eqb _ _ p0)
 
-pub differ : {c k m : ℕ} → c ≡ k → c ≡ m → (k ≡ m → ⊥) → ⊥
-differ p q h = h (sym p ∙ q)
-
 -- ---- operators
 
 -- the operator that was found
