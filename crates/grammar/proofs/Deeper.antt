@@ -1,4 +1,5 @@
--- Each thing that the paper calls one deeper than what holds it is: a program where it is at 64 is accepted, and where it is at 65 it is a 6. Computed.
+-- Each thing that the paper calls one deeper than what holds it is so, computed at the limit. Each way below holds a thing in another: where the inner
+-- one is at depth 64 the program is accepted, and where it would be at 65, that is a 6 at its first symbol.
 -- "A statement inside 'begin', after 'then', 'else' or 'do', or as a procedure body is one deeper than what holds it. So is an expression in
 -- parentheses, an actual, or any of the three parts of a conditional expression."
 use mathlib.Core.Path.{_≡_, refl, subst}
@@ -42,7 +43,7 @@ alone p t =
 abbrev whole : Syn (rhs (chain Equivalence)) → Syn (rhs simple)
 whole t = sub (chain Equivalence) t nil
 
--- 1; true; (1); (true); begin end; for i := 1 do
+-- 1; true; (..); begin end; for i := 1 do ..
 abbrev one : Syn (rhs (chain Equivalence))
 one = alone number (tok (act nil))
 
