@@ -12,8 +12,7 @@ use Rattle.answers.specs.declared.Verdict.{Verdict}
 use Rattle.answers.specs.declared.Verdict.the-variants.{Accepted, Refused}
 use Rattle.symbols.specs.Text.{bytes}
 use Rattle.symbols.specs.Names.{blank, letter, digit, inName, these, reach, valueFrom, equal, sameName}
-use Rattle.symbols.specs.Scan.{before, closed, spelled, named, word, gap, followed, sign, sized, name, valued, number as numberLexeme, lexeme, behind, endsRemark, note, counted, judged, turn, scanFrom, scan}
-use Rattle.symbols.specs.Steps.{kindsOf}
+use Rattle.symbols.specs.Scan.{before, closed, spelled, named, word, gap, followed, sign, sized, name, valued, number as numberLexeme, lexeme, behind, endsRemark, note, counted, judged, turn, scanFrom, scan, kindsOf}
 use Rattle.grammar.specs.declared.Level.the-variants.{Product, Sum, Conjunction, Disjunction, Implication, Equivalence}
 use Rattle.grammar.specs.declared.Entry.the-variants.{Variable}
 use Rattle.grammar.specs.Grammar.{program, rhs, begin-end, a-block, a-tail, a-head, no-declaration, typed, variables, integer, a-list, no-other, a-statement, no-statement, plain, compound, with-name, assignment, value, simple, chain, no-more, no-not, a-relation, no-comparison, number}

@@ -3,8 +3,7 @@ use Prim.Native.Nat.{ℕ, zero, suc, pred, _+_, _<_, _≤_}
 use mathlib.Core.List.{List, [], _∷_}
 use native.Mathlib.Omega.{arith}
 use lib.ListN.{length, getD}
-use Rattle.symbols.specs.Scan.{Found, Scan, then, turn, scanFrom, scan}
-use Rattle.symbols.specs.Steps.{placesOf}
+use Rattle.symbols.specs.Scan.{Found, Scan, then, turn, scanFrom, scan, placesOf}
 use Rattle.symbols.specs.declared.Context.{Context}
 use Rattle.symbols.specs.declared.Context.the-variants.{Plain}
 use Rattle.symbols.specs.declared.Turn.{Turn}

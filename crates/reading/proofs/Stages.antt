@@ -14,8 +14,8 @@ use Rattle.answers.specs.declared.Refusal.{Refusal}
 use Rattle.answers.specs.declared.Verdict.the-variants.{Refused}
 use Rattle.symbols.specs.Symbols.{kind}
 use Rattle.symbols.specs.Kinds.{symbolOf}
-use Rattle.symbols.specs.Scan.{Found, Scan, scan}
-use Rattle.symbols.specs.Steps.{answerOf, kindsOf, placesOf, over, Filled}
+use Rattle.symbols.specs.Scan.{Found, Scan, scan, kindsOf, placesOf}
+use Rattle.symbols.specs.Steps.{answerOf, over, Filled}
 use Rattle.symbols.specs.declared.Symbol.{Symbol}
 use Rattle.symbols.specs.declared.Symbol.the-variants.{Begin, End, If, Then, Else, For, Do, Step, Until, While, Comment, Integer, Boolean, Procedure, Value, True, False, And, Or, Not, Impl, Equiv, Plus, Minus, Times, Divide, Less, LessEqual, Equal, GreaterEqual, Greater, NotEqual, Comma, Colon, Becomes, Semicolon, Open, Close, Name, Number}
 use Rattle.symbols.specs.declared.Scanned.{Scanned as Told}

@@ -8,8 +8,7 @@ use lib.Dec.{eqb}
 use lib.ListN.{length, getD}
 use Rattle.answers.specs.declared.Verdict.the-variants.{Accepted}
 use Rattle.symbols.specs.Names.{lettersAt, sameName}
-use Rattle.symbols.specs.Scan.{scan}
-use Rattle.symbols.specs.Steps.{valuesOf}
+use Rattle.symbols.specs.Scan.{scan, valuesOf}
 use Rattle.grammar.specs.Trees.{yield, nodesOf}
 use Rattle.names.specs.Program.{Name, Statement}
 use Rattle.names.specs.Scopes.{Given, environment, same}

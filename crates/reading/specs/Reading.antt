@@ -12,8 +12,7 @@ use Rattle.answers.specs.declared.Refusal.{Refusal}
 use Rattle.answers.specs.declared.Verdict.{Verdict}
 use Rattle.answers.specs.declared.Verdict.the-variants.{Accepted, Refused}
 use Rattle.symbols.specs.Names.{lettersAt}
-use Rattle.symbols.specs.Scan.{scan}
-use Rattle.symbols.specs.Steps.{kindsOf, placesOf, valuesOf}
+use Rattle.symbols.specs.Scan.{scan, kindsOf, placesOf, valuesOf}
 use Rattle.grammar.specs.Grammar.{program}
 use Rattle.grammar.specs.Trees.{Syn}
 use Rattle.grammar.specs.Program.{Keeps, Wrong, FirstDeep}

@@ -8,10 +8,9 @@ use native.Mathlib.Omega.{arith}
 use lib.ListN.{length, set, drop, length-append, length-map}
 use Rattle.answers.specs.declared.Refusal.{Refusal}
 use Rattle.symbols.proofs.Resume.{from, said, resume, Onward, onward, joined, one-more, over-more, over-length, map-more}
-use Rattle.symbols.specs.Symbols.{kind}
-use Rattle.symbols.specs.Kinds.{valueOf}
-use Rattle.symbols.specs.Scan.{Found, Scan, scan, kept, whole}
-use Rattle.symbols.specs.Steps.{stepAt, answerOf, over, kindsOf, placesOf, valuesOf, Filled}
+use Rattle.symbols.specs.Symbols.{kind, valueOf}
+use Rattle.symbols.specs.Scan.{Found, Scan, scan, kept, whole, kindsOf, placesOf, valuesOf}
+use Rattle.symbols.specs.Steps.{stepAt, answerOf, over, Filled}
 use Rattle.symbols.specs.declared.Symbol.{Symbol}
 use Rattle.symbols.specs.declared.Context.the-variants.{Plain}
 use Rattle.symbols.specs.declared.Cursor.{Cursor}

@@ -267,7 +267,7 @@ joined-alike alone twin qa qt b e xs ys = go (gaps xs)
         rw (d, f (b ∷ ys), k, getD-right xs (b ∷ ys) (suc (gap ys)), p, f ys, getD-right xs ys (gap ys), q) (on (eqb (getD ys (gap ys) 0) 61) h)
 
 -- any other sign is one byte, whatever follows
-plain-sign : (x : ℕ) (bs : List ℕ) → eqb x 60 ≡ false → eqb x 62 ≡ false → eqb x 58 ≡ false → sign signs x bs ≡ sign signs x []
+pub plain-sign : (x : ℕ) (bs : List ℕ) → eqb x 60 ≡ false → eqb x 62 ≡ false → eqb x 58 ≡ false → sign signs x bs ≡ sign signs x []
 unfolding sign
 plain-sign x bs p q r = rw (p, q, r)
 

@@ -7,3 +7,4 @@ pub mod Filling
 pub mod Follows
 pub mod Sources
 pub mod Examples
+pub mod FirstFault

@@ -285,7 +285,7 @@ endContext c [] = c
 endContext c (f ∷ l) = endContext (behind (f .symbol)) l
 
 -- passing keeps the context, and a symbol has its own behind it
-abbrev Kin : Context → Turn → Type 0
+abbrev pub Kin : Context → Turn → Type 0
 Kin c (Pass d k) = d ≡ c
 Kin c (Keep s d k) = d ≡ behind s
 Kin c (Refuse a) = Unit {0}
@@ -314,7 +314,7 @@ kin-judged n Opens Nothing bs = tt
 kin-judged n Plain Nothing bs = tt
 kin-judged n Remark Nothing bs = tt
 
-kin : (n : ℕ) (c : Context) (x : ℕ) (bs : List ℕ) → Kin c (turn n c x bs)
+pub kin : (n : ℕ) (c : Context) (x : ℕ) (bs : List ℕ) → Kin c (turn n c x bs)
 unfolding turn
 kin n c x bs = kin-pick (blank x) c (Pass c 0) (judged n c (lexeme x bs) bs) refl (kin-judged n c (lexeme x bs) bs)
 

@@ -2,7 +2,7 @@
 use Prim.Native.Nat.{ℕ, zero, suc, pred, _+_}
 use Prim.Native.Char.{code}
 use mathlib.Core.Bool.{Bool, true, false, cond, _&&_, _||_}
-use mathlib.Core.List.{List, [], _∷_}
+use mathlib.Core.List.{List, [], _∷_, map}
 use mathlib.Core.Option.{Option, none, some}
 use lib.ListN.{length, getD, drop}
 use lib.Dec.{eqb, ltb}
@@ -12,7 +12,7 @@ use Rattle.answers.specs.declared.Answer.{Answer}
 use Rattle.answers.specs.declared.Refusal.{Refusal}
 use Rattle.symbols.specs.Text.{bytes}
 use Rattle.symbols.specs.Names.{blank, letter, digit, inName, reach, letters, value, equal}
-use Rattle.symbols.specs.Symbols.{Delimiter, words, Sign, one, two, signs, is}
+use Rattle.symbols.specs.Symbols.{Delimiter, words, Sign, one, two, signs, kind, is, valueOf}
 use Rattle.symbols.specs.declared.Context.{Context}
 use Rattle.symbols.specs.declared.Context.the-variants.{Opens, Plain, Remark}
 use Rattle.symbols.specs.declared.words.Spelled.{Spelled}
@@ -136,7 +136,7 @@ pub record Found : Type 0 where
   pub place : ℕ
 
 -- the symbols in order, each with "its first byte"; and the refusal that ended them, if one did. The first thing that is wrong has the
--- smallest place, so that it is the one to answer: "then 3 and 4 by smallest place"
+-- smallest place, so that it is the one to answer: "then 3 and 4 by smallest place" (`first-fault` in proofs/FirstFault)
 pub record Scan : Type 0 where
   pub found : List Found
   pub refused : Option Refusal
@@ -166,3 +166,13 @@ scanFrom n c p zero (b ∷ bs) =
 -- a source, of which n symbols may come: "symbol 2,049" is one too many where n is 2,048
 unfoldable pub scan : ℕ → List ℕ → Scan
 scan n source = scanFrom n Plain 0 0 source
+
+-- of the symbols found: their kinds, their places, and the values of those that are numbers
+abbrev pub kindsOf : List Found → List ℕ
+kindsOf = map (λ f. kind (f .symbol))
+
+abbrev pub placesOf : List Found → List ℕ
+placesOf = map (λ f. f .place)
+
+abbrev pub valuesOf : List Found → List ℕ
+valuesOf = map (λ f. valueOf (f .symbol))

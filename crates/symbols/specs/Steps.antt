@@ -4,17 +4,18 @@ use Prim.Native.Nat.{ℕ, _+_, _≤_, min}
 use mathlib.Core.Path.{_≡_}
 use Prim.Native.Char.{code}
 use mathlib.Core.Bool.{Bool, cond}
-use mathlib.Core.List.{List, [], _∷_, _++_, map}
+use mathlib.Core.List.{List, [], _∷_, _++_}
 use mathlib.Core.Option.{Option, none, some}
 use lib.ListN.{length, getD, take, drop}
 use lib.Dec.{eqb, ltb}
 use Rattle.answers.specs.Numbers.{noSymbol}
 use Rattle.answers.specs.Answers.{answer, refusal}
 use Rattle.answers.specs.declared.Refusal.{Refusal}
-use Rattle.symbols.specs.Symbols.{Delimiter, words, kind}
+use Rattle.symbols.specs.Symbols.{Delimiter, words}
 use Rattle.symbols.specs.Names.{letters}
-use Rattle.symbols.specs.Kinds.{valueOf}
-use Rattle.symbols.specs.Scan.{gap, followed, lexeme, turn, Found, Scan, scan}
+use Rattle.symbols.specs.Scan.{gap, followed, lexeme, turn, Scan, scan}
+-- passed on: what the lent arrays hold is said by these
+pub use Rattle.symbols.specs.Scan.{kindsOf, placesOf, valuesOf}
 use Rattle.symbols.specs.declared.Symbol.{Symbol}
 use Rattle.symbols.specs.declared.Context.{Context}
 use Rattle.symbols.specs.declared.Lexeme.{Lexeme}
@@ -85,15 +86,6 @@ answerOf r = ended (r .refused) (length (r .found))
 
 abbrev pub over : {A : Type 0} → List A → List A → List A
 over new old = new ++ drop (length new) old
-
-abbrev pub kindsOf : List Found → List ℕ
-kindsOf = map (λ f. kind (f .symbol))
-
-abbrev pub placesOf : List Found → List ℕ
-placesOf = map (λ f. f .place)
-
-abbrev pub valuesOf : List Found → List ℕ
-valuesOf = map (λ f. valueOf (f .symbol))
 
 -- what scanning hands back and leaves, for every source: the answer; and each array, which had these contents before and has those after
 pub record Filled (limit : ℕ) (source : List ℕ) (r : Scanned) (kinds kinds' places places' values values' : List ℕ) : Type 0 where

@@ -117,3 +117,46 @@ kind (Number v) = 39
 -- the same symbol, a number's value aside
 abbrev pub is : Symbol → Symbol → Bool
 is a b = eqb (kind a) (kind b)
+
+-- the value of a number; any other symbol has none
+abbrev pub valueOf : Symbol → ℕ
+valueOf Begin = 0
+valueOf End = 0
+valueOf If = 0
+valueOf Then = 0
+valueOf Else = 0
+valueOf For = 0
+valueOf Do = 0
+valueOf Step = 0
+valueOf Until = 0
+valueOf While = 0
+valueOf Comment = 0
+valueOf Integer = 0
+valueOf Boolean = 0
+valueOf Procedure = 0
+valueOf Value = 0
+valueOf True = 0
+valueOf False = 0
+valueOf And = 0
+valueOf Or = 0
+valueOf Not = 0
+valueOf Impl = 0
+valueOf Equiv = 0
+valueOf Plus = 0
+valueOf Minus = 0
+valueOf Times = 0
+valueOf Divide = 0
+valueOf Less = 0
+valueOf LessEqual = 0
+valueOf Equal = 0
+valueOf GreaterEqual = 0
+valueOf Greater = 0
+valueOf NotEqual = 0
+valueOf Comma = 0
+valueOf Colon = 0
+valueOf Becomes = 0
+valueOf Semicolon = 0
+valueOf Open = 0
+valueOf Close = 0
+valueOf Name = 0
+valueOf (Number v) = v

@@ -9,8 +9,7 @@ use lib.ListN.{length, getD, length-map}
 use Rattle.answers.specs.Numbers.{types}
 use Rattle.symbols.specs.Symbols.{kind}
 use Rattle.symbols.specs.Names.{lettersAt}
-use Rattle.symbols.specs.Scan.{Found, scan}
-use Rattle.symbols.specs.Steps.{placesOf, valuesOf}
+use Rattle.symbols.specs.Scan.{Found, scan, placesOf, valuesOf}
 use Rattle.grammar.specs.Trees.{yield}
 use Rattle.names.specs.Uses.{Fault, nameFaults, least, joined, unmeant, usesS}
 use Rattle.names.specs.Outline.{rowsS}

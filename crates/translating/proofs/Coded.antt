@@ -4,8 +4,7 @@ use Prim.Native.Nat.{ℕ}
 use mathlib.Core.Path.{_≡_, ap, _∙_}
 use mathlib.Core.List.{List}
 use lib.ListN.{length, replicate}
-use Rattle.symbols.specs.Scan.{scan}
-use Rattle.symbols.specs.Steps.{placesOf, valuesOf}
+use Rattle.symbols.specs.Scan.{scan, placesOf, valuesOf}
 use Rattle.names.specs.Nodes.{nodesS}
 use Rattle.names.specs.Uses.{rows, joined}
 use Rattle.reading.specs.Table.{useWords, nodeWords}

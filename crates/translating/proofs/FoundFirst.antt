@@ -8,9 +8,9 @@ use mathlib.Core.Option.{none, some}
 use lib.ListN.{length, take, drop, length-map}
 use lib.Seq.{take-append-seam}
 use Rattle.answers.specs.declared.Refusal.{Refusal}
-use Rattle.symbols.specs.Kinds.{valueOf}
-use Rattle.symbols.specs.Scan.{scan}
-use Rattle.symbols.specs.Steps.{placesOf, valuesOf, over, Filled}
+use Rattle.symbols.specs.Symbols.{valueOf}
+use Rattle.symbols.specs.Scan.{scan, placesOf, valuesOf}
+use Rattle.symbols.specs.Steps.{over, Filled}
 use Rattle.symbols.specs.declared.Scanned.{Scanned}
 use Rattle.symbols.specs.declared.Scanned.the-variants.{Read, Refused}
 use Rattle.reading.proofs.Stages.{answered, refused-as}

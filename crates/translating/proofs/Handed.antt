@@ -9,8 +9,7 @@ use Rattle.answers.specs.Answers.{refusal}
 use Rattle.answers.specs.declared.Refusal.{Refusal}
 use Rattle.answers.specs.declared.Verdict.{Verdict}
 use Rattle.answers.specs.declared.Verdict.the-variants.{Accepted, Refused}
-use Rattle.symbols.specs.Scan.{scan}
-use Rattle.symbols.specs.Steps.{placesOf, valuesOf}
+use Rattle.symbols.specs.Scan.{scan, placesOf, valuesOf}
 use Rattle.reading.specs.Reading.{Reads}
 use Rattle.reading.specs.Reading as R
 use Rattle.emitting.specs.Layout.{layoutOf}

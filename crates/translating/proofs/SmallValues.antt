@@ -14,10 +14,8 @@ use Rattle.answers.specs.Numbers.{noSymbol}
 use Rattle.answers.specs.Answers.{answer}
 use Rattle.symbols.specs.Text.{bytes}
 use Rattle.symbols.specs.Names.{blank, letter, digit, inName, reach, value, equal, letters}
-use Rattle.symbols.specs.Symbols.{Delimiter, words, Sign, one, two, signs, is}
-use Rattle.symbols.specs.Kinds.{valueOf}
-use Rattle.symbols.specs.Scan.{closed, before, spelled, named, word, followed, gap, sign, sized, name, valued, number, lexeme, endsRemark, note, counted, judged, turn, Found, Scan, then, scanFrom, scan}
-use Rattle.symbols.specs.Steps.{placesOf, valuesOf}
+use Rattle.symbols.specs.Symbols.{Delimiter, words, Sign, one, two, signs, is, valueOf}
+use Rattle.symbols.specs.Scan.{closed, before, spelled, named, word, followed, gap, sign, sized, name, valued, number, lexeme, endsRemark, note, counted, judged, turn, Found, Scan, then, scanFrom, scan, placesOf, valuesOf}
 use Rattle.symbols.specs.declared.Context.{Context}
 use Rattle.symbols.specs.declared.Context.the-variants.{Opens, Plain, Remark}
 use Rattle.symbols.specs.declared.words.Spelled.{Spelled}

@@ -5,8 +5,7 @@ use symbols::scanning::scan;
 ghost use mathlib.Core.Path.{_≡_};
 ghost use mathlib.Core.Option.{none};
 ghost use lib.ListN.{take};
-ghost use Rattle.symbols.specs.Scan.{scan};
-ghost use Rattle.symbols.specs.Steps.{placesOf, valuesOf};
+ghost use Rattle.symbols.specs.Scan.{scan, placesOf, valuesOf};
 ghost use Rattle.translating.specs.ByPlace.{setAll};
 
 // The first of the values found, each at its place.
