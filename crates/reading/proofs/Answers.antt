@@ -139,12 +139,7 @@ module _ {source places nodes ids : List ℕ} {n : ℕ} (known : Known source pl
         ∙ table-words ids (marksS 0 0 (program known)) (usesOf ids (outlineOf ids nodes .rows) nodes .uses) n (placeOf places) (placeIn source) (known .ready .places-in .placed) (program known) below below-nodes (uses-match known rows-fit) (unmeant-none (program known) right)
 
     pub table-fits : length (tableModel (placeOf places) (outlineOf ids nodes .rows) nodes (usesOf ids (outlineOf ids nodes .rows) nodes .uses)) ≤ 32768
-    table-fits =
-        subst (λ w. length w ≤ 32768)
-        (sym
-        (ap (λ r. tableModel (placeOf places) r nodes (usesOf ids (outlineOf ids nodes .rows) nodes .uses)) (rows-are known)
-        ∙ ap (λ ws. tableModel (placeOf places) (rowsS 0 0 (program known)) ws (usesOf ids (outlineOf ids nodes .rows) nodes .uses)) (nodes-are known)))
-        (table-room (worth known) (letters known) (known .ready .program .tree) (placeOf places) (usesOf ids (outlineOf ids nodes .rows) nodes .uses) few)
+    table-fits = subst (λ w. length w ≤ 32768) (sym table-is) (table-room (worth known) (letters known) (known .ready .program .tree) (placeIn source) few)
 
     -- 0
     pub types-right : (mistake known rows-fit < noFault → ⊥) → (new : List ℕ)
@@ -167,7 +162,7 @@ as-short {source} {table} l e = subst (λ x. Reads source table (Refused x) tabl
 pub part-short : (part all : List ℕ) (k n : ℕ) → part ≡ take k all → k ≤ n → length part ≤ n
 part-short part all k n e l = omega (arith, ap length e, length-take k all)
 
-length-zeros : (m : ℕ) → length (zeros m) ≡ m
+pub length-zeros : (m : ℕ) → length (zeros m) ≡ m
 unfolding zeros
 length-zeros zero = refl
 length-zeros (suc m) = ap suc (length-zeros m)

@@ -127,9 +127,6 @@ fixed {table} l r r₂ =
     let z : _≡_ {A = ℕ} 1 2 = ap (λ w. getD w 0 0) e in
     omega arith
 
--- one that leaves a table of zeros untouched
-pub untouched : {table words : List ℕ} {v : Verdict} → room ≤ length table → getD table 0 0 ≡ 0 → Reads S1 table v words → words ≡ table → ⊥
-untouched l h r q =
-    let e = sym (only r (enough l Accepted (filled table1) s1) .1) ∙ q in
-    let z : _≡_ {A = ℕ} 1 0 = ap (λ w. getD w 0 0) e ∙ h in
-    omega arith
+-- one that leaves a table, whatever it holds, untouched for both
+pub untouched : {table words words₂ : List ℕ} {v v₂ : Verdict} → room ≤ length table → Reads S1 table v words → Reads S2 table v₂ words₂ → words ≡ table → words₂ ≡ table → ⊥
+untouched {table} {v = v} {v₂} l r r₂ e e₂ = fixed l (subst (Reads S1 table v) e r) (subst (Reads S2 table v₂) e₂ r₂)

@@ -1,28 +1,16 @@
 -- Which numbers each group of answers has: scanning 3 and 4, a scope's own faults 7 and 9, a use 8, types 10. So a number tells its group; and what
 -- is least among faults is one of them.
-use Prim.Native.Nat.{ℕ, zero, suc, pred, _+_, _≤_}
-use Prim.Native.Char.{code}
-use mathlib.Core.Path.{_≡_, refl, sym, ap, _∙_}
+use Prim.Native.Nat.{ℕ, _≤_}
+use mathlib.Core.Path.{_≡_, refl, sym, ap, subst, _∙_}
 use mathlib.Core.Logic.{_⊎_, inl, inr}
 use mathlib.Core.Bool.{Bool, true, false, cond, _||_}
 use mathlib.Core.List.{List, [], _∷_, _++_, map, List·Memᴰ, List·Memᴰ·head, List·Memᴰ·tail, Memᴰ·cast, Memᴰ·append-left, Memᴰ·append-right, List·Memᴰ·append-cases, List·Memᴰ·not-nil, List·Memᴰ·eq-of-singleton}
 use mathlib.Core.Option.{Option, none, some}
 use native.Mathlib.Omega.{arith}
-use lib.ListN.{length, drop}
-use Rattle.answers.specs.Numbers.{noSymbol, twice, undeclared, heading as badHeading, types}
-use Rattle.answers.specs.Answers.{answer}
+use Rattle.answers.specs.Numbers.{noSymbol, tooLarge, twice, undeclared, heading as badHeading, types}
 use Rattle.answers.specs.declared.Refusal.{Refusal}
-use Rattle.symbols.specs.Symbols.{is}
-use Rattle.symbols.specs.Names.{blank}
-use Rattle.symbols.specs.Scan.{before as beforeByte, closed, lexeme, endsRemark, note, counted, judged, turn, Scan, then, scanFrom, scan}
-use Rattle.symbols.specs.declared.Context.{Context}
-use Rattle.symbols.specs.declared.Context.the-variants.{Opens, Plain, Remark}
-use Rattle.symbols.specs.declared.Lexeme.{Lexeme}
-use Rattle.symbols.specs.declared.Lexeme.the-variants.{Is, Large, Nothing}
-use Rattle.symbols.specs.declared.Symbol.{Symbol}
-use Rattle.symbols.specs.declared.Symbol.the-variants.{Comment}
-use Rattle.symbols.specs.declared.Turn.{Turn}
-use Rattle.symbols.specs.declared.Turn.the-variants.{Pass, Keep, Refuse}
+use Rattle.symbols.specs.Scan.{scan}
+use Rattle.symbols.proofs.FirstFault.{three-or-four}
 use Rattle.names.specs.Program.{Name, Statement}
 use Rattle.names.specs.Scopes.{Scope, ofBlock, ofBody, has, nameOf, formalsOf, valuesOf, specificationsOf, Meaning, declared, given, nothing, meaning}
 use Rattle.names.specs.Uses.{Use, usesS, scopesS, Fault, at, each, namesIn, twiceIn, allNames, stray, missing, headingIn, innermost, meantOrNot, unmeant, joined, nameFaults, before, sooner, least}
@@ -30,74 +18,12 @@ use Rattle.types.specs.Types.{typeFaults, typeFault}
 
 -- ---- 3 and 4
 
-abbrev Early : Turn → Type 0
-Early (Pass c k) = Unit {0}
-Early (Keep s c k) = Unit {0}
-Early (Refuse a) = a .number ≤ 4
-
-early-if : (b : Bool) (t u : Turn) → Early t → Early u → Early (cond b t u)
-early-if true t u h k = h
-early-if false t u h k = k
-
-early-note : (k : ℕ) (bs : List ℕ) → Early (note k bs)
-unfolding note
-early-note k bs =
-    let rest = drop k bs in
-    early-if (closed (code ";") rest) (Pass Opens (k + (length (beforeByte (code ";") rest) + 1))) (Refuse (answer noSymbol)) tt (omega arith)
-
-early-counted : (n : ℕ) (s : Symbol) (k : ℕ) → Early (counted n s k)
-unfolding counted
-early-counted zero s k = omega arith
-early-counted (suc n) s k = tt
-
-early-judged : (n : ℕ) (c : Context) (x : Lexeme) (bs : List ℕ) → Early (judged n c x bs)
-unfolding judged
-early-judged n Opens (Is s k) bs = early-if (is s Comment) (note k bs) (counted n s k) (early-note k bs) (early-counted n s k)
-early-judged n Plain (Is s k) bs = early-counted n s k
-early-judged n Remark (Is s k) bs = early-if (endsRemark s) (counted n s k) (Pass Remark k) (early-counted n s k) tt
-early-judged n Opens (Large k) bs = omega arith
-early-judged n Plain (Large k) bs = omega arith
-early-judged n Remark (Large k) bs = tt
-early-judged n Opens Nothing bs = omega arith
-early-judged n Plain Nothing bs = omega arith
-early-judged n Remark Nothing bs = omega arith
-
-early-turn : (n : ℕ) (c : Context) (b : ℕ) (bs : List ℕ) → Early (turn n c b bs)
-unfolding turn
-early-turn n c b bs = early-if (blank b) (Pass c 0) (judged n c (lexeme b bs) bs) tt (early-judged n c (lexeme b bs) bs)
-
-abbrev EarlyIf : Option Refusal → Type 0
-EarlyIf none = Unit {0}
-EarlyIf (some r) = r .answer .number ≤ 4
-
-early-then : (p : ℕ) (t : Turn) (same less : Context → ℕ → Scan) → Early t → ((c : Context) (k : ℕ) → EarlyIf (same c k .refused))
-    → ((c : Context) (k : ℕ) → EarlyIf (less c k .refused)) → EarlyIf (then p t same less .refused)
-early-then p (Pass c k) same less h s l = s c k
-early-then p (Keep x c k) same less h s l = l c k
-early-then p (Refuse a) same less h s l = h
-
-early-from : (n : ℕ) (c : Context) (p k : ℕ) (bs : List ℕ) → EarlyIf (scanFrom n c p k bs .refused)
-unfolding scanFrom
-early-from n c p zero [] = tt
-early-from n c p (suc k) [] = tt
-early-from n c p (suc k) (b ∷ bs) = early-from n c (p + 1) k bs
-early-from n c p zero (b ∷ bs) =
-    early-then p (turn n c b bs) (λ c' k. scanFrom n c' (p + 1) k bs) (λ c' k. scanFrom (pred n) c' (p + 1) k bs) (early-turn n c b bs)
-    (λ c' k. early-from n c' (p + 1) k bs) (λ c' k. early-from (pred n) c' (p + 1) k bs)
-
 pub early-number : (n : ℕ) (source : List ℕ) (r : Refusal) → scan n source .refused ≡ some r → r .answer .number ≤ 4
-unfolding scan
-early-number n source r e = go (scanFrom n Plain 0 0 source .refused) (early-from n Plain 0 0 source) e
+early-number n source r e = go (three-or-four n source r e)
   where
-    no-other : {a b : Refusal} → some a ≡ some b → a .answer .number ≡ b .answer .number
-    no-other q = cc
-
-    never : {b : Refusal} → none ≡ some b → ⊥
-    never q = let z : _≡_ {A = ℕ} 0 1 = cc in omega arith
-
-    go : (o : Option Refusal) → EarlyIf o → o ≡ some r → r .answer .number ≤ 4
-    go none h q = absurd (never q)
-    go (some x) h q = omega (arith, h, no-other q)
+    go : (r .answer .number ≡ noSymbol) ⊎ (r .answer .number ≡ tooLarge) → r .answer .number ≤ 4
+    go (inl q) = omega arith
+    go (inr q) = omega arith
 
 -- ---- the least fault is one of the faults
 
@@ -132,60 +58,59 @@ none-among (x ∷ l) f q m = go (least l) q
     go none e = some-none e
     go (some y) e = some-none e
 
--- ---- faults of which none has the number n
+-- ---- faults of which each has a number of some kind
 
-abbrev Apart : ℕ → List Fault → Type 0
-Apart n [] = Unit {0}
-Apart n (f ∷ l) = (f .answer ≡ n → ⊥) × Apart n l
+abbrev Each : (ℕ → Type 0) → List Fault → Type 0
+Each P [] = Unit {0}
+Each P (f ∷ l) = P (f .answer) × Each P l
 
-apart-among : (n : ℕ) (l : List Fault) (f : Fault) → Apart n l → List·Memᴰ f l → f .answer ≡ n → ⊥
-apart-among n [] f h m e = List·Memᴰ·not-nil m
-apart-among n (x ∷ l) f h (List·Memᴰ·head q) e = h .0 (sym (ap (λ y. y .answer) q) ∙ e)
-apart-among n (x ∷ l) f h (List·Memᴰ·tail m) e = apart-among n l f (h .1) m e
+each-among : (P : ℕ → Type 0) (l : List Fault) (f : Fault) → Each P l → List·Memᴰ f l → P (f .answer)
+each-among P [] f h m = absurd (List·Memᴰ·not-nil m)
+each-among P (x ∷ l) f h (List·Memᴰ·head q) = subst (λ y. P (y .answer)) (sym q) (h .0)
+each-among P (x ∷ l) f h (List·Memᴰ·tail m) = each-among P l f (h .1) m
 
-apart-append : (n : ℕ) (a b : List Fault) → Apart n a → Apart n b → Apart n (a ++ b)
-apart-append n [] b h k = k
-apart-append n (f ∷ a) b h k = (h .0, apart-append n a b (h .1) k)
+each-append : (P : ℕ → Type 0) (a b : List Fault) → Each P a → Each P b → Each P (a ++ b)
+each-append P [] b h k = k
+each-append P (f ∷ a) b h k = (h .0, each-append P a b (h .1) k)
 
-apart-if : (n : ℕ) (t : Bool) (f : Fault) (l : List Fault) → (f .answer ≡ n → ⊥) → Apart n l → Apart n (cond t (f ∷ l) l)
-apart-if n true f l h k = (h, k)
-apart-if n false f l h k = k
+each-if : (P : ℕ → Type 0) (t : Bool) (f : Fault) (l : List Fault) → P (f .answer) → Each P l → Each P (cond t (f ∷ l) l)
+each-if P true f l h k = (h, k)
+each-if P false f l h k = k
 
-apart-each : (n m : ℕ) (test : List Name → Name → Bool) (seen l : List Name) → (m ≡ n → ⊥) → Apart n (each m test seen l)
+each-name : (P : ℕ → Type 0) (m : ℕ) (test : List Name → Name → Bool) (seen l : List Name) → P m → Each P (each m test seen l)
 unfolding each
-apart-each n m test seen [] h = tt
-apart-each n m test seen (x ∷ l) h = apart-if n (test seen x) (at x m) (each m test (x ∷ seen) l) h (apart-each n m test (x ∷ seen) l h)
+each-name P m test seen [] h = tt
+each-name P m test seen (x ∷ l) h = each-if P (test seen x) (at x m) (each m test (x ∷ seen) l) h (each-name P m test (x ∷ seen) l h)
 
--- a scope's own faults are no 8
-seven : twice ≡ undeclared → ⊥
-seven e = omega arith
+-- a scope's own faults are 7 and 9
+module _ (P : ℕ → Type 0) (seven : P twice) (nine : P badHeading) where
+  each-twice : (s : Scope) → Each P (twiceIn s)
+  unfolding twiceIn
+  each-twice (ofBlock d) = each-name P twice has [] (namesIn (ofBlock d)) seven
+  each-twice (ofBody p) = each-name P twice has (nameOf p ∷ []) (formalsOf p) seven
 
-nine : badHeading ≡ undeclared → ⊥
-nine e = omega arith
+  each-heading : (s : Scope) → Each P (headingIn s)
+  unfolding headingIn
+  each-heading (ofBlock d) = tt
+  each-heading (ofBody p) =
+      let l = allNames (specificationsOf p) in
+      let lacks = missing (formalsOf p) (valuesOf p) || missing (formalsOf p) l in
+      let a = each badHeading (stray (formalsOf p)) [] (valuesOf p) in
+      let b = each badHeading (stray (formalsOf p)) [] l in
+      let c : List Fault = cond lacks (at (nameOf p) badHeading ∷ []) [] in
+      each-append P a (b ++ c) (each-name P badHeading (stray (formalsOf p)) [] (valuesOf p) nine)
+      (each-append P b c (each-name P badHeading (stray (formalsOf p)) [] l nine) (each-if P lacks (at (nameOf p) badHeading) [] nine tt))
 
-apart-twice : (s : Scope) → Apart undeclared (twiceIn s)
-unfolding twiceIn
-apart-twice (ofBlock d) = apart-each undeclared twice has [] (namesIn (ofBlock d)) seven
-apart-twice (ofBody p) = apart-each undeclared twice has (nameOf p ∷ []) (formalsOf p) seven
+  each-scope : (gs : List (List Scope)) → Each P (joined innermost gs)
+  unfolding joined
+  each-scope [] = tt
+  each-scope ([] ∷ gs) = each-scope gs
+  each-scope ((s ∷ g) ∷ gs) =
+      each-append P (innermost (s ∷ g)) (joined innermost gs) (each-append P (twiceIn s) (headingIn s) (each-twice s) (each-heading s)) (each-scope gs)
 
-apart-heading : (s : Scope) → Apart undeclared (headingIn s)
-unfolding headingIn
-apart-heading (ofBlock d) = tt
-apart-heading (ofBody p) =
-    let l = allNames (specificationsOf p) in
-    let lacks = missing (formalsOf p) (valuesOf p) || missing (formalsOf p) l in
-    let a = each badHeading (stray (formalsOf p)) [] (valuesOf p) in
-    let b = each badHeading (stray (formalsOf p)) [] l in
-    let c : List Fault = cond lacks (at (nameOf p) badHeading ∷ []) [] in
-    apart-append undeclared a (b ++ c) (apart-each undeclared badHeading (stray (formalsOf p)) [] (valuesOf p) nine)
-    (apart-append undeclared b c (apart-each undeclared badHeading (stray (formalsOf p)) [] l nine) (apart-if undeclared lacks (at (nameOf p) badHeading) [] nine tt))
-
-apart-scopes : (gs : List (List Scope)) → Apart undeclared (joined innermost gs)
-unfolding joined
-apart-scopes [] = tt
-apart-scopes ([] ∷ gs) = apart-scopes gs
-apart-scopes ((s ∷ g) ∷ gs) =
-    apart-append undeclared (innermost (s ∷ g)) (joined innermost gs) (apart-append undeclared (twiceIn s) (headingIn s) (apart-twice s) (apart-heading s)) (apart-scopes gs)
+-- they are no 8
+no-eight : (gs : List (List Scope)) → Each (λ m. m ≡ undeclared → ⊥) (joined innermost gs)
+no-eight = each-scope (λ m. m ≡ undeclared → ⊥) (λ e. omega arith) (λ e. omega arith)
 
 -- ---- 8: a use that means nothing
 
@@ -220,7 +145,7 @@ unfolding nameFaults
 eight-among s f m e = go (List·Memᴰ·append-cases (joined innermost (scopesS [] s)) m)
   where
     go : List·Memᴰ f (joined innermost (scopesS [] s)) ⊎ List·Memᴰ f (joined unmeant (usesS [] s)) → Unmeant (usesS [] s) f
-    go (inl h) = absurd (apart-among undeclared (joined innermost (scopesS [] s)) f (apart-scopes (scopesS [] s)) h e)
+    go (inl h) = absurd (each-among (λ m. m ≡ undeclared → ⊥) (joined innermost (scopesS [] s)) f (no-eight (scopesS [] s)) h e)
     go (inr h) = unmeant-among (usesS [] s) f h
 
 -- and each such use has its 8
@@ -240,6 +165,18 @@ among-unmeant (v ∷ us) u (List·Memᴰ·tail m) e = Memᴰ·append-right (unme
 pub has-eight : (s : Statement) (u : Use) → List·Memᴰ u (usesS [] s) → meaning (u .around) (u .name) ≡ nothing → List·Memᴰ (at (u .name) undeclared) (nameFaults s)
 unfolding nameFaults
 has-eight s u m e = Memᴰ·append-right (joined innermost (scopesS [] s)) (among-unmeant (usesS [] s) u m e)
+
+-- so the faults of names are 7, 8 and 9
+abbrev pub SevenToNine : ℕ → Type 0
+SevenToNine m = (m ≡ twice) ⊎ ((m ≡ undeclared) ⊎ (m ≡ badHeading))
+
+pub seven-to-nine : (s : Statement) (f : Fault) → List·Memᴰ f (nameFaults s) → SevenToNine (f .answer)
+unfolding nameFaults
+seven-to-nine s f m = go (List·Memᴰ·append-cases (joined innermost (scopesS [] s)) m)
+  where
+    go : List·Memᴰ f (joined innermost (scopesS [] s)) ⊎ List·Memᴰ f (joined unmeant (usesS [] s)) → SevenToNine (f .answer)
+    go (inl h) = each-among SevenToNine (joined innermost (scopesS [] s)) f (each-scope SevenToNine (inl refl) (inr (inr refl)) (scopesS [] s)) h
+    go (inr h) = inr (inl (ap (λ x. x .answer) (unmeant-among (usesS [] s) f h .fault)))
 
 -- ---- 10
 

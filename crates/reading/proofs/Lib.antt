@@ -1,9 +1,11 @@
+pub mod AlwaysFits
 pub mod Answers
 pub mod Examples
 pub mod FaultNumbers
 pub mod Few
 pub mod Fits
 pub mod LeastFault
+pub mod Numbered
 pub mod Only
 pub mod Places
 pub mod Promises

@@ -56,6 +56,20 @@ rows-length (u ∷ us) h =
 pub words-length : (ids R M ws : List ℕ) (us : List Use) → Matches ids R M ws us → AllMean us → length ws ≡ length (joined rowOf us)
 words-length ids R M ws us h k = matches-length ids R M ws us h ∙ sym (rows-length us k)
 
+-- ---- the uses of a for list
+
+-- the uses of one element
+abbrev pub usesOne : List Scope → Element → List Use
+usesOne g (value e) = usesE g e
+usesOne g (while q e f) = usesE g e ++ usesE g f
+usesOne g (step q e f h) = usesE g e ++ (usesE g f ++ usesE g h)
+
+pub uses-more : (g : List Scope) (l : Element) (ls : List Element) → usesL g (l ∷ ls) ≡ usesOne g l ++ usesL g ls
+unfolding usesL
+uses-more g (value e) ls = refl
+uses-more g (while q e f) ls = sym (append-assoc (usesE g e) (usesE g f) (usesL g ls))
+uses-more g (step q e f h) ls = simp append-assoc
+
 -- ---- one use
 
 kind-back : (t : Thing) → 4 + thingKind t - 4 ≡ thingKind t
@@ -177,18 +191,6 @@ module _ (place : ℕ → ℕ) (ids R M : List ℕ) where
     pub writesEs : (g : List Scope) (d : ℕ) (es : Expressions) → Writes (nodesEs d es) (usesEs g es)
     writesEs g d done = no-nodes
     writesEs g d (then e es) = writesE g d e and-then passed n-actual (firstSymbol e) 0 0 refl and-then writesEs g d es
-
-  -- the uses of one element
-  abbrev usesOne : List Scope → Element → List Use
-  usesOne g (value e) = usesE g e
-  usesOne g (while q e f) = usesE g e ++ usesE g f
-  usesOne g (step q e f h) = usesE g e ++ (usesE g f ++ usesE g h)
-
-  uses-more : (g : List Scope) (l : Element) (ls : List Element) → usesL g (l ∷ ls) ≡ usesOne g l ++ usesL g ls
-  unfolding usesL
-  uses-more g (value e) ls = refl
-  uses-more g (while q e f) ls = sym (append-assoc (usesE g e) (usesE g f) (usesL g ls))
-  uses-more g (step q e f h) ls = simp append-assoc
 
   writes-one : (g : List Scope) (d : ℕ) (l : Element) → Writes (nodesL d l) (usesOne g l)
   unfolding nodesL isUse

@@ -49,7 +49,7 @@ refusedAt source f = Refused (refusal (f .answer) (placeIn source (f .symbol)))
 abbrev pub room : ℕ
 room = 32768
 
--- "after acceptance unused ones among them are zero"
+-- "after acceptance unused ones among them are zero"; "An accepted program always fits" (proofs/AlwaysFits)
 abbrev pub filled : List ℕ → List ℕ
 filled words = words ++ zeros (room - length words)
 
@@ -75,7 +75,7 @@ parsed {source} p = programIn source (p .tree)
 pub data Judged (source : List ℕ) : Verdict → List ℕ → Type 0 where
   -- 2: "source over 16,384 bytes", at 16,384
   too-long : 16384 < length source → Judged source (Refused (refusal long 16384)) cleared
-  -- 3 and 4
+  -- 3 and 4: what comes before the place is read whole (`smallest-place` in proofs/Numbered)
   unreadable : length source ≤ 16384 → (r : Refusal) → scan symbols source .refused ≡ some r → Judged source (Refused r) cleared
   -- 5
   ungrammatical : Scanned source → (k : ℕ) → Wrong (kindsIn source) k → Judged source (Refused (refusal grammar (placeIn source k))) cleared

@@ -1,0 +1,213 @@
+-- Paper 01, "Numbered answers": which number read answers, at which place, row by row of the paper's table. A row says when its number is given; the
+-- numbers are those that `numberOf` gives to the cases of an answer, and the places those of `placeOf`.
+use Prim.Native.Nat.{ℕ, zero, suc, _+_, _<_, _≤_}
+use mathlib.Core.Path.{_≡_, refl, sym, ap, subst, _∙_}
+use mathlib.Core.Logic.{_↔_, _⊎_, inl, inr}
+use mathlib.Core.List.{List, [], _∷_, _++_}
+use mathlib.Core.Option.{none, some}
+use native.Mathlib.Omega.{arith}
+use lib.ListN.{length, getD, drop}
+use Rattle.answers.specs.Numbers.{accepted as zeroth, short, long, noSymbol, tooLarge, grammar, depth, twice, undeclared, heading, types}
+use Rattle.answers.specs.Answers.{refusal, numberOf, placeOf}
+use Rattle.answers.specs.declared.Refusal.{Refusal}
+use Rattle.answers.specs.declared.Verdict.{Verdict}
+use Rattle.answers.specs.declared.Verdict.the-variants.{Accepted, Refused}
+use Rattle.symbols.specs.Scan.{scan}
+use Rattle.symbols.proofs.FirstFault.{FirstFault, first-fault, three-or-four}
+use Rattle.grammar.specs.Program.{Wrong, FirstDeep}
+use Rattle.names.specs.Uses.{Fault, nameFaults, least}
+use Rattle.types.specs.Types.{typeFault}
+use Rattle.reading.specs.Table.{tableOf}
+use Rattle.reading.specs.Reading.{symbols, kindsIn, placeIn, room, filled, cleared, Scanned, Parsed, parsed, Judged, too-long, unreadable, ungrammatical, too-deep, misnamed, mistyped, accepted, Reads, too-short, enough}
+use Rattle.reading.proofs.Only.{only}
+use Rattle.reading.proofs.FaultNumbers.{SevenToNine, seven-to-nine, least-among, ten-only}
+
+module _ (source table : List ℕ) where
+  -- the answer is n at the place q
+  pub record Answers (n q : ℕ) : Type 0 where
+    pub verdict : Verdict
+    pub words : List ℕ
+    pub reads : Reads source table verdict words
+    pub number : numberOf verdict ≡ n
+    pub place : placeOf verdict ≡ q
+
+  -- what is refused with 3 or 4
+  abbrev pub Unread : ℕ → ℕ → Type 0
+  Unread n q = (room ≤ length table) × (length source ≤ 16384) × (scan symbols source .refused ≡ some (refusal n q))
+
+  -- the least fault of names is n
+  abbrev pub Misnamed : ℕ → ℕ → Type 0
+  Misnamed n q =
+      (room ≤ length table)
+      × (p : Parsed source) × (k : ℕ) × (least (nameFaults (parsed p)) ≡ some (record { symbol = k; answer = n })) × (q ≡ placeIn source k)
+
+  -- no fault of names, and the least of types
+  abbrev pub Mistyped : ℕ → Type 0
+  Mistyped q =
+      (room ≤ length table)
+      × (p : Parsed source) × (k : ℕ)
+      × (least (nameFaults (parsed p)) ≡ none) × (typeFault (parsed p) ≡ some (record { symbol = k; answer = types })) × (q ≡ placeIn source k)
+
+  -- "No. | Given exactly when | Place": the rows 0 to 10, in this order
+  abbrev pub rows : List (ℕ → Type 0)
+  rows =
+      -- 0: "accepted"; 0
+      (λ q. (room ≤ length table) × (p : Parsed source) × (least (nameFaults (parsed p)) ≡ none) × (typeFault (parsed p) ≡ none) × (q ≡ 0)) ∷
+      -- 1: "read's table under 32,768 words"; 0
+      (λ q. (length table < room) × (q ≡ 0)) ∷
+      -- 2: "source over 16,384 bytes"; 16,384
+      (λ q. (room ≤ length table) × (16384 < length source) × (q ≡ 16384)) ∷
+      -- 3 and 4: "its first byte"
+      Unread noSymbol ∷
+      Unread tooLarge ∷
+      -- 5: "grammar: the first symbol that no program can have there, or the source's end where none can end"; "there"
+      (λ q. (room ≤ length table) × Scanned source × (k : ℕ) × Wrong (kindsIn source) k × (q ≡ placeIn source k)) ∷
+      -- 6: "depth 65"; "where it would begin"
+      (λ q. (room ≤ length table) × Scanned source × (k : ℕ) × FirstDeep (kindsIn source) k × (q ≡ placeIn source k)) ∷
+      -- 7, 8 and 9: at the names
+      Misnamed twice ∷
+      Misnamed undeclared ∷
+      Misnamed heading ∷
+      -- 10: "type fault above"
+      Mistyped ∷
+      []
+
+  -- of no other number
+  abbrev pub Given : ℕ → ℕ → Type 0
+  Given n q = getD rows n (λ i. ⊥) q
+
+  -- ---- an answer is in its row
+
+  unread : (r : Refusal) → room ≤ length table → length source ≤ 16384 → scan symbols source .refused ≡ some r → Given (r .answer .number) (r .place .at)
+  unread r l h e = go (three-or-four symbols source r e)
+    where
+      here : (n : ℕ) → r .answer .number ≡ n → Unread n (r .place .at)
+      here n q = (l, h, e ∙ ap (λ k. some (refusal k (r .place .at))) q)
+
+      go : (r .answer .number ≡ noSymbol) ⊎ (r .answer .number ≡ tooLarge) → Given (r .answer .number) (r .place .at)
+      go (inl q) = subst (λ n. Given n (r .place .at)) (sym q) (here noSymbol q)
+      go (inr q) = subst (λ n. Given n (r .place .at)) (sym q) (here tooLarge q)
+
+  named : (p : Parsed source) (f : Fault) → room ≤ length table → least (nameFaults (parsed p)) ≡ some f → Given (f .answer) (placeIn source (f .symbol))
+  named p f l e = go (seven-to-nine (parsed p) f (least-among (nameFaults (parsed p)) f e))
+    where
+      here : (n : ℕ) → f .answer ≡ n → Misnamed n (placeIn source (f .symbol))
+      here n q = (l, p, f .symbol, e ∙ ap (λ k. some (record { symbol = f .symbol; answer = k })) q, refl)
+
+      go : SevenToNine (f .answer) → Given (f .answer) (placeIn source (f .symbol))
+      go (inl q) = subst (λ n. Given n (placeIn source (f .symbol))) (sym q) (here twice q)
+      go (inr (inl q)) = subst (λ n. Given n (placeIn source (f .symbol))) (sym q) (here undeclared q)
+      go (inr (inr q)) = subst (λ n. Given n (placeIn source (f .symbol))) (sym q) (here heading q)
+
+  typed : (p : Parsed source) (f : Fault) → room ≤ length table → least (nameFaults (parsed p)) ≡ none → typeFault (parsed p) ≡ some f
+      → Given (f .answer) (placeIn source (f .symbol))
+  typed p f l e t =
+      let q = ten-only (parsed p) f t in
+      subst (λ n. Given n (placeIn source (f .symbol))) (sym q) (l, p, f .symbol, e, t ∙ ap (λ k. some (record { symbol = f .symbol; answer = k })) q, refl)
+
+  judged : {v : Verdict} {words : List ℕ} → room ≤ length table → Judged source v words → Given (numberOf v) (placeOf v)
+  judged l (too-long h) = (l, h, refl)
+  judged l (unreadable h r e) = unread r l h e
+  judged l (ungrammatical s k w) = (l, s, k, w, refl)
+  judged l (too-deep s k d) = (l, s, k, d, refl)
+  judged l (misnamed p f e) = named p f l e
+  judged l (mistyped p f e t) = typed p f l e t
+  judged l (accepted p e t) = (l, p, e, t, refl)
+
+  in-row : {v : Verdict} {new : List ℕ} → Reads source table v new → Given (numberOf v) (placeOf v)
+  in-row (too-short l) = (l, refl)
+  in-row (enough l v words j) = judged l j
+
+  -- ---- and a row has its answer
+
+  abbrev Rows : ℕ → List (ℕ → Type 0) → Type 0
+  Rows i [] = Unit {0}
+  Rows i (C ∷ l) = ((q : ℕ) → C q → Answers i q) × Rows (i + 1) l
+
+  answered : (v : Verdict) (words : List ℕ) → room ≤ length table → Judged source v words → (q : ℕ) → q ≡ placeOf v → Answers (numberOf v) q
+  answered v words l j q e = record { verdict = v; words = words ++ drop room table; reads = enough l v words j; number = refl; place = sym e }
+
+  not-read : (n q : ℕ) → Unread n q → Answers n q
+  not-read n q h = answered (Refused (refusal n q)) cleared (h .0) (unreadable (h .1) (refusal n q) (h .2)) q refl
+
+  not-named : (n q : ℕ) → Misnamed n q → Answers n q
+  not-named n q h =
+      answered (Refused (refusal n (placeIn source (h .2)))) cleared (h .0) (misnamed (h .1) (record { symbol = h .2; answer = n }) (h .3)) q (h .4)
+
+  not-typed : (q : ℕ) → Mistyped q → Answers types q
+  not-typed q h =
+      answered (Refused (refusal types (placeIn source (h .2)))) cleared (h .0) (mistyped (h .1) (record { symbol = h .2; answer = types }) (h .3) (h .4)) q (h .5)
+
+  all-rows : Rows 0 rows
+  all-rows = (
+    λ q h. answered Accepted (filled (tableOf (placeIn source) (parsed (h .1)))) (h .0) (accepted (h .1) (h .2) (h .3)) q (h .4),
+    (
+      λ q h. record { verdict = Refused (refusal short 0); words = table; reads = too-short (h .0); number = refl; place = sym (h .1) },
+      (
+        λ q h. answered (Refused (refusal long 16384)) cleared (h .0) (too-long (h .1)) q (h .2),
+        (
+          not-read noSymbol,
+          (
+            not-read tooLarge,
+            (
+              λ q h. answered (Refused (refusal grammar (placeIn source (h .2)))) cleared (h .0) (ungrammatical (h .1) (h .2) (h .3)) q (h .4),
+              (
+                λ q h. answered (Refused (refusal depth (placeIn source (h .2)))) cleared (h .0) (too-deep (h .1) (h .2) (h .3)) q (h .4),
+                (
+                  not-named twice,
+                  (
+                    not-named undeclared,
+                    (
+                      not-named heading,
+                      (
+                        not-typed,
+                        tt,
+                      ),
+                    ),
+                  ),
+                ),
+              ),
+            ),
+          ),
+        ),
+      ),
+    ),
+  )
+
+  look-up : (i n : ℕ) (l : List (ℕ → Type 0)) → Rows i l → (q : ℕ) → getD l n (λ k. ⊥) q → Answers (i + n) q
+  look-up i n [] r q h = absurd h
+  look-up i zero (C ∷ l) r q h = let e : i ≡ i + 0 = omega arith in subst (λ k. Answers k q) e (r .0 q h)
+  look-up i (suc n) (C ∷ l) r q h = let e : i + 1 + n ≡ i + suc n = omega arith in subst (λ k. Answers k q) e (look-up (i + 1) n l (r .1) q h)
+
+  -- read answers n at q exactly when the row of n says so
+  pub numbered : (n q : ℕ) → Answers n q ↔ Given n q
+  numbered n q = (
+    λ a. subst (λ k. Given k q) (a .number) (subst (Given (numberOf (a .verdict))) (a .place) (in-row (a .reads))),
+    λ g. let e : 0 + n ≡ n = omega arith in subst (λ k. Answers k q) e (look-up 0 n rows all-rows q g),
+  )
+
+  -- and there is no other number
+  in-list : (l : List (ℕ → Type 0)) (n q : ℕ) → getD l n (λ k. ⊥) q → n < length l
+  in-list [] n q h = absurd h
+  in-list (C ∷ l) zero q h = omega arith
+  in-list (C ∷ l) (suc n) q h = omega (arith, in-list l n q h)
+
+  pub to-ten : {v : Verdict} {new : List ℕ} → Reads source table v new → numberOf v ≤ 10
+  to-ten {v} r = omega (arith, in-list rows (numberOf v) (placeOf v) (in-row r))
+
+  -- 0 is acceptance
+  pub zero-is-accepted : {v : Verdict} {new : List ℕ} → Reads source table v new → (numberOf v ≡ zeroth) ↔ (v ≡ Accepted)
+  zero-is-accepted {v} r = (
+    λ e. let g : Given 0 (placeOf v) = subst (λ k. Given k (placeOf v)) e (in-row r) in only r (enough (g .0) Accepted _ (accepted (g .1) (g .2) (g .3))) .0,
+    λ e. ap numberOf e,
+  )
+
+  -- ---- 3 and 4: nothing before the place is at fault
+
+  pub smallest-place : {v : Verdict} {new : List ℕ} → Reads source table v new → (numberOf v ≡ noSymbol) ⊎ (numberOf v ≡ tooLarge)
+      → FirstFault symbols source (refusal (numberOf v) (placeOf v))
+  smallest-place {v} r h = first-fault symbols source (refusal (numberOf v) (placeOf v)) (go h)
+    where
+      go : (numberOf v ≡ noSymbol) ⊎ (numberOf v ≡ tooLarge) → scan symbols source .refused ≡ some (refusal (numberOf v) (placeOf v))
+      go (inl e) = let g : Unread noSymbol (placeOf v) = subst (λ k. Given k (placeOf v)) e (in-row r) in g .2 ∙ ap (λ k. some (refusal k (placeOf v))) (sym e)
+      go (inr e) = let g : Unread tooLarge (placeOf v) = subst (λ k. Given k (placeOf v)) e (in-row r) in g .2 ∙ ap (λ k. some (refusal k (placeOf v))) (sym e)
