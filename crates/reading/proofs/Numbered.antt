@@ -1,5 +1,5 @@
--- Paper 01, "Numbered answers": which number read answers, at which place, row by row of the paper's table. A row says when its number is given; the
--- numbers are those that `numberOf` gives to the cases of an answer, and the places those of `placeOf`.
+-- Paper 01, "Numbered answers", row by row: read answers a number at a place exactly when the row of that number says so. The numbers are those that
+-- `numberOf` gives to the cases of an answer, and the places those of `placeOf`.
 use Prim.Native.Nat.{ℕ, zero, suc, _+_, _<_, _≤_}
 use mathlib.Core.Path.{_≡_, refl, sym, ap, subst, _∙_}
 use mathlib.Core.Logic.{_↔_, _⊎_, inl, inr}
@@ -31,48 +31,62 @@ module _ (source table : List ℕ) where
     pub number : numberOf verdict ≡ n
     pub place : placeOf verdict ≡ q
 
-  -- what is refused with 3 or 4
+  -- ---- "No. | Given exactly when | Place"
+
+  -- 0: "accepted"; 0
+  abbrev pub Taken : ℕ → Type 0
+  Taken q = (room ≤ length table) × (p : Parsed source) × (least (nameFaults (parsed p)) ≡ none) × (typeFault (parsed p) ≡ none) × (q ≡ 0)
+
+  -- 1: "read's table under 32,768 words"; 0
+  abbrev pub Short : ℕ → Type 0
+  Short q = (length table < room) × (q ≡ 0)
+
+  -- 2: "source over 16,384 bytes"; 16,384
+  abbrev pub Long : ℕ → Type 0
+  Long q = (room ≤ length table) × (16384 < length source) × (q ≡ 16384)
+
+  -- 3 and 4; "its first byte"
   abbrev pub Unread : ℕ → ℕ → Type 0
   Unread n q = (room ≤ length table) × (length source ≤ 16384) × (scan symbols source .refused ≡ some (refusal n q))
 
-  -- the least fault of names is n
+  -- 5: "grammar: the first symbol that no program can have there, or the source's end where none can end"; "there; for the end, the source's length"
+  abbrev pub Ungrammatical : ℕ → Type 0
+  Ungrammatical q = (room ≤ length table) × Scanned source × (k : ℕ) × Wrong (kindsIn source) k × (q ≡ placeIn source k)
+
+  -- 6: "depth 65"; "where it would begin; for a dummy statement, the next symbol"
+  abbrev pub Deep : ℕ → Type 0
+  Deep q = (room ≤ length table) × Scanned source × (k : ℕ) × FirstDeep (kindsIn source) k × (q ≡ placeIn source k)
+
+  -- 7, 8 and 9: the least fault of names; at its name
   abbrev pub Misnamed : ℕ → ℕ → Type 0
   Misnamed n q =
       (room ≤ length table)
       × (p : Parsed source) × (k : ℕ) × (least (nameFaults (parsed p)) ≡ some (record { symbol = k; answer = n })) × (q ≡ placeIn source k)
 
-  -- no fault of names, and the least of types
+  -- 10: "type fault above"; "as above"
   abbrev pub Mistyped : ℕ → Type 0
   Mistyped q =
       (room ≤ length table)
       × (p : Parsed source) × (k : ℕ)
       × (least (nameFaults (parsed p)) ≡ none) × (typeFault (parsed p) ≡ some (record { symbol = k; answer = types })) × (q ≡ placeIn source k)
 
-  -- "No. | Given exactly when | Place": the rows 0 to 10, in this order
+  -- the rows 0 to 10
   abbrev pub rows : List (ℕ → Type 0)
   rows =
-      -- 0: "accepted"; 0
-      (λ q. (room ≤ length table) × (p : Parsed source) × (least (nameFaults (parsed p)) ≡ none) × (typeFault (parsed p) ≡ none) × (q ≡ 0)) ∷
-      -- 1: "read's table under 32,768 words"; 0
-      (λ q. (length table < room) × (q ≡ 0)) ∷
-      -- 2: "source over 16,384 bytes"; 16,384
-      (λ q. (room ≤ length table) × (16384 < length source) × (q ≡ 16384)) ∷
-      -- 3 and 4: "its first byte"
+      Taken ∷
+      Short ∷
+      Long ∷
       Unread noSymbol ∷
       Unread tooLarge ∷
-      -- 5: "grammar: the first symbol that no program can have there, or the source's end where none can end"; "there"
-      (λ q. (room ≤ length table) × Scanned source × (k : ℕ) × Wrong (kindsIn source) k × (q ≡ placeIn source k)) ∷
-      -- 6: "depth 65"; "where it would begin"
-      (λ q. (room ≤ length table) × Scanned source × (k : ℕ) × FirstDeep (kindsIn source) k × (q ≡ placeIn source k)) ∷
-      -- 7, 8 and 9: at the names
+      Ungrammatical ∷
+      Deep ∷
       Misnamed twice ∷
       Misnamed undeclared ∷
       Misnamed heading ∷
-      -- 10: "type fault above"
       Mistyped ∷
       []
 
-  -- of no other number
+  -- the row of n; no other number is given
   abbrev pub Given : ℕ → ℕ → Type 0
   Given n q = getD rows n (λ i. ⊥) q
 
@@ -120,15 +134,31 @@ module _ (source table : List ℕ) where
 
   -- ---- and a row has its answer
 
-  abbrev Rows : ℕ → List (ℕ → Type 0) → Type 0
-  Rows i [] = Unit {0}
-  Rows i (C ∷ l) = ((q : ℕ) → C q → Answers i q) × Rows (i + 1) l
+  infixr 20 _also_
+  data Rows : ℕ → List (ℕ → Type 0) → Type 1 where
+    that-is-all : {i : ℕ} → Rows i []
+    _also_ : {i : ℕ} {C : ℕ → Type 0} {l : List (ℕ → Type 0)} → ((q : ℕ) → C q → Answers i q) → Rows (i + 1) l → Rows i (C ∷ l)
 
   answered : (v : Verdict) (words : List ℕ) → room ≤ length table → Judged source v words → (q : ℕ) → q ≡ placeOf v → Answers (numberOf v) q
   answered v words l j q e = record { verdict = v; words = words ++ drop room table; reads = enough l v words j; number = refl; place = sym e }
 
+  taken : (q : ℕ) → Taken q → Answers zeroth q
+  taken q h = answered Accepted (filled (tableOf (placeIn source) (parsed (h .1)))) (h .0) (accepted (h .1) (h .2) (h .3)) q (h .4)
+
+  not-enough : (q : ℕ) → Short q → Answers short q
+  not-enough q h = record { verdict = Refused (refusal short 0); words = table; reads = too-short (h .0); number = refl; place = sym (h .1) }
+
+  too-much : (q : ℕ) → Long q → Answers long q
+  too-much q h = answered (Refused (refusal long 16384)) cleared (h .0) (too-long (h .1)) q (h .2)
+
   not-read : (n q : ℕ) → Unread n q → Answers n q
   not-read n q h = answered (Refused (refusal n q)) cleared (h .0) (unreadable (h .1) (refusal n q) (h .2)) q refl
+
+  not-parsed : (q : ℕ) → Ungrammatical q → Answers grammar q
+  not-parsed q h = answered (Refused (refusal grammar (placeIn source (h .2)))) cleared (h .0) (ungrammatical (h .1) (h .2) (h .3)) q (h .4)
+
+  not-shallow : (q : ℕ) → Deep q → Answers depth q
+  not-shallow q h = answered (Refused (refusal depth (placeIn source (h .2)))) cleared (h .0) (too-deep (h .1) (h .2) (h .3)) q (h .4)
 
   not-named : (n q : ℕ) → Misnamed n q → Answers n q
   not-named n q h =
@@ -139,45 +169,24 @@ module _ (source table : List ℕ) where
       answered (Refused (refusal types (placeIn source (h .2)))) cleared (h .0) (mistyped (h .1) (record { symbol = h .2; answer = types }) (h .3) (h .4)) q (h .5)
 
   all-rows : Rows 0 rows
-  all-rows = (
-    λ q h. answered Accepted (filled (tableOf (placeIn source) (parsed (h .1)))) (h .0) (accepted (h .1) (h .2) (h .3)) q (h .4),
-    (
-      λ q h. record { verdict = Refused (refusal short 0); words = table; reads = too-short (h .0); number = refl; place = sym (h .1) },
-      (
-        λ q h. answered (Refused (refusal long 16384)) cleared (h .0) (too-long (h .1)) q (h .2),
-        (
-          not-read noSymbol,
-          (
-            not-read tooLarge,
-            (
-              λ q h. answered (Refused (refusal grammar (placeIn source (h .2)))) cleared (h .0) (ungrammatical (h .1) (h .2) (h .3)) q (h .4),
-              (
-                λ q h. answered (Refused (refusal depth (placeIn source (h .2)))) cleared (h .0) (too-deep (h .1) (h .2) (h .3)) q (h .4),
-                (
-                  not-named twice,
-                  (
-                    not-named undeclared,
-                    (
-                      not-named heading,
-                      (
-                        not-typed,
-                        tt,
-                      ),
-                    ),
-                  ),
-                ),
-              ),
-            ),
-          ),
-        ),
-      ),
-    ),
-  )
+  all-rows =
+      taken
+      also not-enough
+      also too-much
+      also not-read noSymbol
+      also not-read tooLarge
+      also not-parsed
+      also not-shallow
+      also not-named twice
+      also not-named undeclared
+      also not-named heading
+      also not-typed
+      also that-is-all
 
   look-up : (i n : ℕ) (l : List (ℕ → Type 0)) → Rows i l → (q : ℕ) → getD l n (λ k. ⊥) q → Answers (i + n) q
   look-up i n [] r q h = absurd h
-  look-up i zero (C ∷ l) r q h = let e : i ≡ i + 0 = omega arith in subst (λ k. Answers k q) e (r .0 q h)
-  look-up i (suc n) (C ∷ l) r q h = let e : i + 1 + n ≡ i + suc n = omega arith in subst (λ k. Answers k q) e (look-up (i + 1) n l (r .1) q h)
+  look-up i zero (C ∷ l) (a also r) q h = let e : i ≡ i + 0 = omega arith in subst (λ k. Answers k q) e (a q h)
+  look-up i (suc n) (C ∷ l) (a also r) q h = let e : i + 1 + n ≡ i + suc n = omega arith in subst (λ k. Answers k q) e (look-up (i + 1) n l r q h)
 
   -- read answers n at q exactly when the row of n says so
   pub numbered : (n q : ℕ) → Answers n q ↔ Given n q
