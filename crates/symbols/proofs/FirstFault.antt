@@ -6,6 +6,7 @@ use mathlib.Core.Bool.{Bool, true, false, cond}
 use mathlib.Core.List.{List, [], _∷_, _++_, append-nil}
 use mathlib.Core.Option.{none, some}
 use Prim.Native.Nat.{ℕ, zero, suc, pred, _+_, _-_, _≤_, _<_}
+use Prim.Native.Char.{code}
 use native.Mathlib.Omega.{arith}
 use lib.Dec.{eqb, ltb}
 use lib.ListN.{length, getD, take, drop, length-drop, length-take, take-append-drop, List·getD-eq-default, List·getD-append}
@@ -319,6 +320,64 @@ cut (x ∷ bs) n c p (suc k) r q =
     }
 cut (x ∷ bs) n c p zero r q = cut-turn bs (cut bs) n c p x (turn n c x bs) refl (kin n c x bs) r q
 
+-- ---- why a byte is refused, in the words of the paper; n more symbols may come
+
+pub data Why (n b : ℕ) (bs : List ℕ) : ℕ → Type 0 where
+  -- 3: "no symbol; open apostrophe"
+  no-symbol : lexeme b bs ≡ Nothing → Why n b bs noSymbol
+  -- 3: "note without `;`"
+  open-note : (s : Symbol) (k : ℕ) → lexeme b bs ≡ Is s k → is s Comment ≡ true → closed (code ";") (drop k bs) ≡ false → Why n b bs noSymbol
+  -- 4: "number over 2,147,483,647; name over 32 characters"
+  over : (k : ℕ) → lexeme b bs ≡ Large k → Why n b bs tooLarge
+  -- 4: "symbol 2,049"
+  one-too-many : (s : Symbol) (k : ℕ) → lexeme b bs ≡ Is s k → n ≡ 0 → Why n b bs tooLarge
+
+abbrev Because : ℕ → ℕ → List ℕ → Turn → Type 0
+Because n b bs (Pass c k) = Unit {0}
+Because n b bs (Keep s c k) = Unit {0}
+Because n b bs (Refuse a) = Why n b bs (a .number)
+
+because-counted : (n b : ℕ) (bs : List ℕ) (s : Symbol) (k : ℕ) → lexeme b bs ≡ Is s k → Because n b bs (counted n s k)
+unfolding counted
+because-counted zero b bs s k e = one-too-many s k e refl
+because-counted (suc n) b bs s k e = tt
+
+because-note : (n b : ℕ) (bs : List ℕ) (s : Symbol) (k : ℕ) → lexeme b bs ≡ Is s k → is s Comment ≡ true → Because n b bs (note k bs)
+unfolding note
+because-note n b bs s k e q = go (closed 59 (drop k bs)) refl
+  where
+    go : (t : Bool) → closed 59 (drop k bs) ≡ t → Because n b bs (cond t (Pass Opens (k + (length (before 59 (drop k bs)) + 1))) (Refuse (answer noSymbol)))
+    go true w = tt
+    go false w = open-note s k e q w
+
+because-judged : (n : ℕ) (c : Context) (b : ℕ) (bs : List ℕ) (x : Lexeme) → lexeme b bs ≡ x → Because n b bs (judged n c x bs)
+unfolding judged
+because-judged n Opens b bs (Is s k) e = go (is s Comment) refl
+  where
+    go : (t : Bool) → is s Comment ≡ t → Because n b bs (cond t (note k bs) (counted n s k))
+    go true q = because-note n b bs s k e q
+    go false q = because-counted n b bs s k e
+because-judged n Plain b bs (Is s k) e = because-counted n b bs s k e
+because-judged n Remark b bs (Is s k) e = go (endsRemark s)
+  where
+    go : (t : Bool) → Because n b bs (cond t (counted n s k) (Pass Remark k))
+    go true = because-counted n b bs s k e
+    go false = tt
+because-judged n Opens b bs (Large k) e = over k e
+because-judged n Plain b bs (Large k) e = over k e
+because-judged n Remark b bs (Large k) e = tt
+because-judged n Opens b bs Nothing e = no-symbol e
+because-judged n Plain b bs Nothing e = no-symbol e
+because-judged n Remark b bs Nothing e = no-symbol e
+
+because : (n : ℕ) (c : Context) (b : ℕ) (bs : List ℕ) → Because n b bs (turn n c b bs)
+unfolding turn
+because n c b bs = go (blank b)
+  where
+    go : (t : Bool) → Because n b bs (cond t (Pass c 0) (judged n c (lexeme b bs) bs))
+    go true = tt
+    go false = because-judged n c b bs (lexeme b bs) refl
+
 -- ---- of a whole source
 
 -- the source cut at the place of the refusal has the same symbols and no refusal, so that nothing before the place is at fault; and what begins at
@@ -328,6 +387,7 @@ pub record FirstFault (n : ℕ) (source : List ℕ) (r : Refusal) : Type 0 where
   pub read-before : scan n (take (r .place .at) source) ≡ record { found = scan n source .found; refused = none }
   pub refused-there :
       turn (n - length (scan n source .found)) (endContext Plain (scan n source .found)) (getD source (r .place .at) 0) (drop (r .place .at + 1) source) ≡ Refuse (r .answer)
+  pub why : Why (n - length (scan n source .found)) (getD source (r .place .at) 0) (drop (r .place .at + 1) source) (r .answer .number)
 
 pub first-fault : (n : ℕ) (source : List ℕ) (r : Refusal) → scan n source .refused ≡ some r → FirstFault n source r
 unfolding scan
@@ -335,50 +395,23 @@ first-fault n source r q =
     let C = cut source n Plain 0 0 r q in
     let F = scanFrom n Plain 0 0 source .found in
     let e : r .place .at ≡ C .i = omega (arith, C .place) in
+    let b = getD source (r .place .at) 0 in
+    let bs = drop (r .place .at + 1) source in
+    let t : turn (n - length F) (endContext Plain F) b bs ≡ Refuse (r .answer)
+    = ap (λ i. turn (n - length F) (endContext Plain F) (getD source i 0) (drop (i + 1) source)) e ∙ C .there in
     record {
       inside = omega (arith, C .inside);
       read-before = ap (λ i. scanFrom n Plain 0 0 (take i source)) e ∙ C .before-it;
-      refused-there = ap (λ i. turn (n - length F) (endContext Plain F) (getD source i 0) (drop (i + 1) source)) e ∙ C .there;
+      refused-there = t;
+      why = subst (Because (n - length F) b bs) t (because (n - length F) (endContext Plain F) b bs);
     }
 
--- ---- the answer is 3 or 4
-
-abbrev ThreeOrFour : Turn → Type 0
-ThreeOrFour (Pass c k) = Unit {0}
-ThreeOrFour (Keep s c k) = Unit {0}
-ThreeOrFour (Refuse a) = (a .number ≡ noSymbol) ⊎ (a .number ≡ tooLarge)
-
-either-way : (b : Bool) (t u : Turn) → ThreeOrFour t → ThreeOrFour u → ThreeOrFour (cond b t u)
-either-way true t u h k = h
-either-way false t u h k = k
-
-of-note : (k : ℕ) (bs : List ℕ) → ThreeOrFour (note k bs)
-unfolding note
-of-note k bs = either-way (closed 59 (drop k bs)) (Pass Opens (k + (length (before 59 (drop k bs)) + 1))) (Refuse (answer noSymbol)) tt (inl refl)
-
-of-counted : (n : ℕ) (s : Symbol) (k : ℕ) → ThreeOrFour (counted n s k)
-unfolding counted
-of-counted zero s k = inr refl
-of-counted (suc n) s k = tt
-
-of-judged : (n : ℕ) (c : Context) (x : Lexeme) (bs : List ℕ) → ThreeOrFour (judged n c x bs)
-unfolding judged
-of-judged n Opens (Is s k) bs = either-way (is s Comment) (note k bs) (counted n s k) (of-note k bs) (of-counted n s k)
-of-judged n Plain (Is s k) bs = of-counted n s k
-of-judged n Remark (Is s k) bs = either-way (endsRemark s) (counted n s k) (Pass Remark k) (of-counted n s k) tt
-of-judged n Opens (Large k) bs = inr refl
-of-judged n Plain (Large k) bs = inr refl
-of-judged n Remark (Large k) bs = tt
-of-judged n Opens Nothing bs = inl refl
-of-judged n Plain Nothing bs = inl refl
-of-judged n Remark Nothing bs = inl refl
-
-of-turn : (n : ℕ) (c : Context) (x : ℕ) (bs : List ℕ) → ThreeOrFour (turn n c x bs)
-unfolding turn
-of-turn n c x bs = either-way (blank x) (Pass c 0) (judged n c (lexeme x bs) bs) tt (of-judged n c (lexeme x bs) bs)
-
+-- so the answer is 3 or 4
 pub three-or-four : (n : ℕ) (source : List ℕ) (r : Refusal) → scan n source .refused ≡ some r → (r .answer .number ≡ noSymbol) ⊎ (r .answer .number ≡ tooLarge)
-three-or-four n source r q =
-    let F = scan n source .found in
-    let f = first-fault n source r q in
-    subst ThreeOrFour (f .refused-there) (of-turn (n - length F) (endContext Plain F) (getD source (r .place .at) 0) (drop (r .place .at + 1) source))
+three-or-four n source r q = go (first-fault n source r q .why)
+  where
+    go : {m k b : ℕ} {bs : List ℕ} → Why k b bs m → (m ≡ noSymbol) ⊎ (m ≡ tooLarge)
+    go (no-symbol e) = inl refl
+    go (open-note s k e w o) = inl refl
+    go (over k e) = inr refl
+    go (one-too-many s k e o) = inr refl
