@@ -12,14 +12,17 @@ use borrow.Author.Tests.{lt-ltb, le-ltb, eq-eqb, ne-eqb}
 use Rattle.names.specs.Uses.{Fault, before, sooner, least}
 use Rattle.names.specs.Rows.{faultKey, faultOf, noFault, leastKey}
 
--- every answer is below 16; every symbol is one of 16 bits
+-- every answer is below 16; every symbol is below n, or one of 16 bits
 abbrev pub Small : List Fault → Type 0
 Small [] = Unit {0}
 Small (f ∷ l) = (f .answer < 16) × Small l
 
+abbrev pub Below : ℕ → List Fault → Type 0
+Below n [] = Unit {0}
+Below n (f ∷ l) = (f .symbol < n) × Below n l
+
 abbrev pub Near : List Fault → Type 0
-Near [] = Unit {0}
-Near (f ∷ l) = (f .symbol < 65536) × Near l
+Near l = Below 65536 l
 
 abbrev key : Fault → ℕ
 key f = faultKey (f .symbol) (f .answer)

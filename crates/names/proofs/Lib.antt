@@ -4,6 +4,7 @@ pub mod Bridge
 pub mod Examples
 pub mod Fours
 pub mod Identities
+pub mod Innermost
 pub mod Least
 pub mod Named
 pub mod NearNames

@@ -1,5 +1,5 @@
--- The faults of names are small: the answers are 7, 8 and 9, and each stands at a name of the program. A scope's own faults stand at names of its
--- block or procedure, whatever is around it; so do the uses.
+-- The faults of names are small: the answers are 7, 8 and 9, and each stands at a name of the program, so at a symbol of the text. A scope's own
+-- faults stand at names of its block or procedure, whatever is around it; so do the uses.
 use Prim.Native.Nat.{ℕ, _≤_, _<_}
 use native.Mathlib.Omega.{arith}
 use mathlib.Core.Bool.{Bool, true, false, cond, _||_}
@@ -9,22 +9,22 @@ use Rattle.names.specs.Program.{Name, Sort, Expression, number, logical,
 use Rattle.names.specs.Scopes.{Scope, ofBlock, ofBody, has, nameOf, formalsOf, valuesOf, specificationsOf, Declared, variablesIn, inBlock, Meaning, declared, given, nothing, meaning}
 use Rattle.names.specs.Uses.{Use, used, usesE, usesEs, usesL, usesS, usesSs, usesD, usesP, scopesS, scopesSs, scopesD, scopesP, Fault, at, each, namesIn, twiceIn, allNames, stray, missing, headingIn, innermost, meantOrNot, unmeant, joined, nameFaults}
 use Rattle.names.proofs.AllNames.{AllE, AllEs, AllLs, AllN, AllSp, AllS, AllSs, AllD, AllP}
-use Rattle.names.proofs.Least.{Small, Near}
+use Rattle.names.proofs.Least.{Small, Below, Near}
 use Rattle.names.proofs.Weaken.{mapAll}
 
 -- ---- faults side by side
 
-pub near-append : (a b : List Fault) → Near a → Near b → Near (a ++ b)
-near-append [] b h k = k
-near-append (f ∷ a) b h k = (h .0, near-append a b (h .1) k)
+below-append : (n : ℕ) (a b : List Fault) → Below n a → Below n b → Below n (a ++ b)
+below-append n [] b h k = k
+below-append n (f ∷ a) b h k = (h .0, below-append n a b (h .1) k)
 
 pub small-append : (a b : List Fault) → Small a → Small b → Small (a ++ b)
 small-append [] b h k = k
 small-append (f ∷ a) b h k = (h .0, small-append a b (h .1) k)
 
-near-if : (b : Bool) (f : Fault) (l : List Fault) → f .symbol < 65536 → Near l → Near (cond b (f ∷ l) l)
-near-if true f l h k = (h, k)
-near-if false f l h k = k
+below-if : (n : ℕ) (b : Bool) (f : Fault) (l : List Fault) → f .symbol < n → Below n l → Below n (cond b (f ∷ l) l)
+below-if n true f l h k = (h, k)
+below-if n false f l h k = k
 
 small-if : (b : Bool) (f : Fault) (l : List Fault) → f .answer < 16 → Small l → Small (cond b (f ∷ l) l)
 small-if true f l h k = (h, k)
@@ -205,48 +205,51 @@ module _ (Q : Name → Type 0) where
 
 -- ---- symbols
 
-abbrev Close : Name → Type 0
-Close x = x .symbol < 65536
+module _ (n : ℕ) where
+  abbrev Close : Name → Type 0
+  Close x = x .symbol < n
 
-near-each : (n : ℕ) (test : List Name → Name → Bool) (seen l : List Name) → AllN Close l → Near (each n test seen l)
-unfolding each
-near-each n test seen [] h = tt
-near-each n test seen (x ∷ l) h = near-if (test seen x) (at x n) (each n test (x ∷ seen) l) (h .0) (near-each n test (x ∷ seen) l (h .1))
+  below-each : (a : ℕ) (test : List Name → Name → Bool) (seen l : List Name) → AllN Close l → Below n (each a test seen l)
+  unfolding each
+  below-each a test seen [] h = tt
+  below-each a test seen (x ∷ l) h = below-if n (test seen x) (at x a) (each a test (x ∷ seen) l) (h .0) (below-each a test (x ∷ seen) l (h .1))
 
-near-scope : (s : Scope) → AllScope Close s → Near (twiceIn s ++ headingIn s)
-unfolding twiceIn headingIn
-near-scope (ofBlock d) h = near-append (each twice has [] (namesIn (ofBlock d))) [] (near-each twice has [] (namesIn (ofBlock d)) (names-block Close d h)) tt
-near-scope (ofBody (heading t f xs vs ss b)) h =
-    let l = allNames ss in
-    let lacks = missing xs vs || missing xs l in
-    let a = each badHeading (stray xs) [] vs in
-    let b = each badHeading (stray xs) [] l in
-    let c : List Fault = cond lacks (at f badHeading ∷ []) [] in
-    near-append (each twice has (f ∷ []) xs) (a ++ (b ++ c)) (near-each twice has (f ∷ []) xs (h .1))
-    (near-append a (b ++ c) (near-each badHeading (stray xs) [] vs (h .2))
-    (near-append b c (near-each badHeading (stray xs) [] l (names-specified Close ss (h .3))) (near-if lacks (at f badHeading) [] (h .0) tt)))
+  below-scope : (s : Scope) → AllScope Close s → Below n (twiceIn s ++ headingIn s)
+  unfolding twiceIn headingIn
+  below-scope (ofBlock d) h = below-append n (each twice has [] (namesIn (ofBlock d))) [] (below-each twice has [] (namesIn (ofBlock d)) (names-block Close d h)) tt
+  below-scope (ofBody (heading t f xs vs ss b)) h =
+      let l = allNames ss in
+      let lacks = missing xs vs || missing xs l in
+      let a = each badHeading (stray xs) [] vs in
+      let b = each badHeading (stray xs) [] l in
+      let c : List Fault = cond lacks (at f badHeading ∷ []) [] in
+      below-append n (each twice has (f ∷ []) xs) (a ++ (b ++ c)) (below-each twice has (f ∷ []) xs (h .1))
+      (below-append n a (b ++ c) (below-each badHeading (stray xs) [] vs (h .2))
+      (below-append n b c (below-each badHeading (stray xs) [] l (names-specified Close ss (h .3))) (below-if n lacks (at f badHeading) [] (h .0) tt)))
 
-near-scopes : (gs : List (List Scope)) → AllScopes Close gs → Near (joined innermost gs)
-unfolding joined
-near-scopes [] no-scope = tt
-near-scopes ((s ∷ g) ∷ gs) (a-scope h k) = near-append (innermost (s ∷ g)) (joined innermost gs) (near-scope s h) (near-scopes gs k)
+  below-scopes : (gs : List (List Scope)) → AllScopes Close gs → Below n (joined innermost gs)
+  unfolding joined
+  below-scopes [] no-scope = tt
+  below-scopes ((s ∷ g) ∷ gs) (a-scope h k) = below-append n (innermost (s ∷ g)) (joined innermost gs) (below-scope s h) (below-scopes gs k)
 
-near-meant : (m : Meaning) (x : Name) → Close x → Near (meantOrNot m x)
-near-meant (declared d g) x h = tt
-near-meant (given n e) x h = tt
-near-meant nothing x h = (h, tt)
+  below-meant : (m : Meaning) (x : Name) → Close x → Below n (meantOrNot m x)
+  below-meant (declared d g) x h = tt
+  below-meant (given k e) x h = tt
+  below-meant nothing x h = (h, tt)
 
-near-uses : (us : List Use) → AllUses Close us → Near (joined unmeant us)
-unfolding joined
-near-uses [] no-use = tt
-near-uses (u ∷ us) (a-use h k) = near-append (unmeant u) (joined unmeant us) (near-meant (meaning (u .around) (u .name)) (u .name) h) (near-uses us k)
+  below-uses : (us : List Use) → AllUses Close us → Below n (joined unmeant us)
+  unfolding joined
+  below-uses [] no-use = tt
+  below-uses (u ∷ us) (a-use h k) = below-append n (unmeant u) (joined unmeant us) (below-meant (meaning (u .around) (u .name)) (u .name) h) (below-uses us k)
+
+  pub below-names : (s : Statement) → AllS Close s → Below n (nameFaults s)
+  unfolding nameFaults
+  below-names s h =
+      below-append n (joined innermost (scopesS [] s)) (joined unmeant (usesS [] s)) (below-scopes (scopesS [] s) (scopes-statement Close [] s h))
+      (below-uses (usesS [] s) (uses-statement Close [] s h))
 
 pub near-names : (n : ℕ) (s : Statement) → n ≤ 65536 → AllS (λ x. x .symbol < n) s → Near (nameFaults s)
-unfolding nameFaults
-near-names n s m h =
-    let k : AllS Close s = mapAll s closer h in
-    near-append (joined innermost (scopesS [] s)) (joined unmeant (usesS [] s)) (near-scopes (scopesS [] s) (scopes-statement Close [] s k))
-    (near-uses (usesS [] s) (uses-statement Close [] s k))
+near-names n s m h = below-names 65536 s (mapAll s closer h)
   where
-    closer : (x : Name) → x .symbol < n → Close x
+    closer : (x : Name) → x .symbol < n → x .symbol < 65536
     closer x l = omega (arith, l, m)

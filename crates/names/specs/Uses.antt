@@ -1,5 +1,5 @@
--- Paper 01, "The table" and "Numbered answers": the uses of a program in source order, each with the scopes around it; its declarations and
--- formals in source order; and the faults 7, 8 and 9.
+-- Paper 01, "The table" and "Numbered answers": the uses and the scopes of a program in source order, each with the scopes around it; the faults
+-- 7, 8 and 9 of its names, and which of some faults is the least; and what the table says of each use.
 use Prim.Native.Nat.{ℕ, zero, suc, _+_}
 use mathlib.Core.Bool.{Bool, true, false, cond, not, _&&_, _||_}
 use mathlib.Core.List.{List, [], _∷_, _++_, map}
