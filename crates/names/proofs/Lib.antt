@@ -9,6 +9,7 @@ pub mod Least
 pub mod Named
 pub mod NearNames
 pub mod NearNodes
+pub mod Once
 pub mod OutlineLaws
 pub mod OutlineSteps
 pub mod Outlined

@@ -18,62 +18,74 @@ below-append : (n : ℕ) (a b : List Fault) → Below n a → Below n b → Belo
 below-append n [] b h k = k
 below-append n (f ∷ a) b h k = (h .0, below-append n a b (h .1) k)
 
-pub small-append : (a b : List Fault) → Small a → Small b → Small (a ++ b)
-small-append [] b h k = k
-small-append (f ∷ a) b h k = (h .0, small-append a b (h .1) k)
+-- each answer is 7, 8 or 9
+abbrev pub Own : List Fault → Type 0
+Own [] = Unit {0}
+Own (f ∷ l) = (twice ≤ f .answer) × (f .answer ≤ badHeading) × Own l
+
+own-append : (a b : List Fault) → Own a → Own b → Own (a ++ b)
+own-append [] b h k = k
+own-append (f ∷ a) b h k = (h .0, h .1, own-append a b (h .2) k)
 
 below-if : (n : ℕ) (b : Bool) (f : Fault) (l : List Fault) → f .symbol < n → Below n l → Below n (cond b (f ∷ l) l)
 below-if n true f l h k = (h, k)
 below-if n false f l h k = k
 
-small-if : (b : Bool) (f : Fault) (l : List Fault) → f .answer < 16 → Small l → Small (cond b (f ∷ l) l)
-small-if true f l h k = (h, k)
-small-if false f l h k = k
+own-if : (b : Bool) (f : Fault) (l : List Fault) → twice ≤ f .answer → f .answer ≤ badHeading → Own l → Own (cond b (f ∷ l) l)
+own-if true f l h m k = (h, m, k)
+own-if false f l h m k = k
 
 -- ---- answers
 
-small-each : (n : ℕ) (test : List Name → Name → Bool) (seen l : List Name) → n < 16 → Small (each n test seen l)
+own-each : (n : ℕ) (test : List Name → Name → Bool) (seen l : List Name) → twice ≤ n → n ≤ badHeading → Own (each n test seen l)
 unfolding each
-small-each n test seen [] h = tt
-small-each n test seen (x ∷ l) h = small-if (test seen x) (at x n) (each n test (x ∷ seen) l) h (small-each n test (x ∷ seen) l h)
+own-each n test seen [] h m = tt
+own-each n test seen (x ∷ l) h m = own-if (test seen x) (at x n) (each n test (x ∷ seen) l) h m (own-each n test (x ∷ seen) l h m)
 
-small-twice : (s : Scope) → Small (twiceIn s)
+own-twice : (s : Scope) → Own (twiceIn s)
 unfolding twiceIn
-small-twice (ofBlock d) = small-each twice has [] (namesIn (ofBlock d)) (omega arith)
-small-twice (ofBody p) = small-each twice has (nameOf p ∷ []) (formalsOf p) (omega arith)
+own-twice (ofBlock d) = own-each twice has [] (namesIn (ofBlock d)) (omega arith) (omega arith)
+own-twice (ofBody p) = own-each twice has (nameOf p ∷ []) (formalsOf p) (omega arith) (omega arith)
 
-small-heading : (s : Scope) → Small (headingIn s)
+own-heading : (s : Scope) → Own (headingIn s)
 unfolding headingIn
-small-heading (ofBlock d) = tt
-small-heading (ofBody p) =
+own-heading (ofBlock d) = tt
+own-heading (ofBody p) =
     let l = allNames (specificationsOf p) in
     let lacks = missing (formalsOf p) (valuesOf p) || missing (formalsOf p) l in
     let a = each badHeading (stray (formalsOf p)) [] (valuesOf p) in
     let b = each badHeading (stray (formalsOf p)) [] l in
     let c : List Fault = cond lacks (at (nameOf p) badHeading ∷ []) [] in
-    small-append a (b ++ c) (small-each badHeading (stray (formalsOf p)) [] (valuesOf p) (omega arith))
-    (small-append b c (small-each badHeading (stray (formalsOf p)) [] l (omega arith)) (small-if lacks (at (nameOf p) badHeading) [] (omega arith) tt))
+    own-append a (b ++ c) (own-each badHeading (stray (formalsOf p)) [] (valuesOf p) (omega arith) (omega arith))
+    (own-append b c (own-each badHeading (stray (formalsOf p)) [] l (omega arith) (omega arith)) (own-if lacks (at (nameOf p) badHeading) [] (omega arith) (omega arith) tt))
 
-small-scopes : (gs : List (List Scope)) → Small (joined innermost gs)
+own-scopes : (gs : List (List Scope)) → Own (joined innermost gs)
 unfolding joined
-small-scopes [] = tt
-small-scopes ([] ∷ gs) = small-scopes gs
-small-scopes ((s ∷ g) ∷ gs) =
-    small-append (innermost (s ∷ g)) (joined innermost gs) (small-append (twiceIn s) (headingIn s) (small-twice s) (small-heading s)) (small-scopes gs)
+own-scopes [] = tt
+own-scopes ([] ∷ gs) = own-scopes gs
+own-scopes ((s ∷ g) ∷ gs) =
+    own-append (innermost (s ∷ g)) (joined innermost gs) (own-append (twiceIn s) (headingIn s) (own-twice s) (own-heading s)) (own-scopes gs)
 
-small-meant : (m : Meaning) (x : Name) → Small (meantOrNot m x)
-small-meant (declared d g) x = tt
-small-meant (given n e) x = tt
-small-meant nothing x = (omega arith, tt)
+own-meant : (m : Meaning) (x : Name) → Own (meantOrNot m x)
+own-meant (declared d g) x = tt
+own-meant (given n e) x = tt
+own-meant nothing x = (omega arith, omega arith, tt)
 
-small-uses : (us : List Use) → Small (joined unmeant us)
+own-uses : (us : List Use) → Own (joined unmeant us)
 unfolding joined
-small-uses [] = tt
-small-uses (u ∷ us) = small-append (unmeant u) (joined unmeant us) (small-meant (meaning (u .around) (u .name)) (u .name)) (small-uses us)
+own-uses [] = tt
+own-uses (u ∷ us) = own-append (unmeant u) (joined unmeant us) (own-meant (meaning (u .around) (u .name)) (u .name)) (own-uses us)
+
+pub own-names : (s : Statement) → Own (nameFaults s)
+unfolding nameFaults
+own-names s = own-append (joined innermost (scopesS [] s)) (joined unmeant (usesS [] s)) (own-scopes (scopesS [] s)) (own-uses (usesS [] s))
+
+own-small : (l : List Fault) → Own l → Small l
+own-small [] h = tt
+own-small (f ∷ l) h = (omega (arith, h .1), own-small l (h .2))
 
 pub small-names : (s : Statement) → Small (nameFaults s)
-unfolding nameFaults
-small-names s = small-append (joined innermost (scopesS [] s)) (joined unmeant (usesS [] s)) (small-scopes (scopesS [] s)) (small-uses (usesS [] s))
+small-names s = own-small (nameFaults s) (own-names s)
 
 -- ---- the names of a scope, and of the scopes of a part of a program: only the innermost counts, which is the part's own
 
