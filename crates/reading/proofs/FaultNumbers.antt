@@ -18,12 +18,12 @@ use Rattle.types.specs.Types.{typeFaults, typeFault}
 
 -- ---- 3 and 4
 
-pub early-number : (n : ℕ) (source : List ℕ) (r : Refusal) → scan n source .refused ≡ some r → r .answer .number ≤ 4
+pub early-number : (n : ℕ) (source : List ℕ) (r : Refusal) → scan n source .refused ≡ some r → (noSymbol ≤ r .answer .number) × (r .answer .number ≤ tooLarge)
 early-number n source r e = go (three-or-four n source r e)
   where
-    go : (r .answer .number ≡ noSymbol) ⊎ (r .answer .number ≡ tooLarge) → r .answer .number ≤ 4
-    go (inl q) = omega arith
-    go (inr q) = omega arith
+    go : (r .answer .number ≡ noSymbol) ⊎ (r .answer .number ≡ tooLarge) → (noSymbol ≤ r .answer .number) × (r .answer .number ≤ tooLarge)
+    go (inl q) = (omega arith, omega arith)
+    go (inr q) = (omega arith, omega arith)
 
 -- ---- the least fault is one of the faults
 
@@ -177,6 +177,14 @@ seven-to-nine s f m = go (List·Memᴰ·append-cases (joined innermost (scopesS 
     go : List·Memᴰ f (joined innermost (scopesS [] s)) ⊎ List·Memᴰ f (joined unmeant (usesS [] s)) → SevenToNine (f .answer)
     go (inl h) = each-among SevenToNine (joined innermost (scopesS [] s)) f (each-scope SevenToNine (inl refl) (inr (inr refl)) (scopesS [] s)) h
     go (inr h) = inr (inl (ap (λ x. x .answer) (unmeant-among (usesS [] s) f h .fault)))
+
+pub own-only : (s : Statement) (f : Fault) → least (nameFaults s) ≡ some f → (twice ≤ f .answer) × (f .answer ≤ badHeading)
+own-only s f e = go (seven-to-nine s f (least-among (nameFaults s) f e))
+  where
+    go : SevenToNine (f .answer) → (twice ≤ f .answer) × (f .answer ≤ badHeading)
+    go (inl q) = (omega arith, omega arith)
+    go (inr (inl q)) = (omega arith, omega arith)
+    go (inr (inr q)) = (omega arith, omega arith)
 
 -- ---- 10
 

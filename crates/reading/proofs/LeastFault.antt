@@ -19,7 +19,7 @@ false-true : false ≡ true → ⊥
 false-true q = let z : _≡_ {A = ℕ} 0 1 = cc in omega arith
 
 -- g does not come before f
-abbrev Late : Fault → Fault → Type 0
+abbrev pub Late : Fault → Fault → Type 0
 Late g f = (f .symbol < g .symbol) ⊎ ((f .symbol ≡ g .symbol) × (f .answer ≤ g .answer))
 
 late : (g f : Fault) → before g f ≡ false → Late g f
@@ -75,7 +75,7 @@ one-fault f g (inr a) (inr b) =
     let n : f .answer ≡ g .answer = omega (arith, a .1, b .1) in
     ap (λ k. record { symbol = k; answer = f .answer }) (b .0) ∙ ap (λ k. record { symbol = g .symbol; answer = k }) n
 
-least-late : (l : List Fault) (f : Fault) → least l ≡ some f → (g : Fault) → List·Memᴰ g l → Late g f
+pub least-late : (l : List Fault) (f : Fault) → least l ≡ some f → (g : Fault) → List·Memᴰ g l → Late g f
 unfolding least
 least-late [] f q g m = absurd (none-some q)
 least-late (x ∷ l) f q g m = go (least l) (λ y e k. least-late l y e g k) (λ e k. none-among l g e k) q m

@@ -10,6 +10,7 @@ pub mod Only
 pub mod Places
 pub mod Promises
 pub mod SamePlaces
+pub mod Smallest
 pub mod Stages
 pub mod TableWords
 pub mod UseWords

@@ -1,100 +1,154 @@
--- What the contract of `read` promises, said plainly: which sources are accepted, which are answered 8, and what the table says of the uses of an
--- accepted source. Each is about `Reads`, which the code meets for every source and every table, and which has one answer (`only`).
+-- What the contract of `read` promises, said plainly: which sources are accepted, which are answered 7 to 9, 8 or 10 and where, and what the table says
+-- of the uses of an accepted source. Each is about `Reads`, which the code meets for every source and every table, and which has one answer (`only`).
 use Prim.Native.Nat.{ℕ, _+_, _*_, _-_, _≤_}
 use mathlib.Core.Path.{_≡_, refl, sym, ap, subst, _∙_}
-use mathlib.Core.Logic.{_↔_}
-use mathlib.Core.Bool.{false}
-use mathlib.Core.List.{List, [], _∷_, _++_, append-assoc, List·Memᴰ}
+use mathlib.Core.Logic.{_↔_, _⊎_, inl, inr}
+use mathlib.Core.Bool.{true, false}
+use mathlib.Core.List.{List, [], _∷_, _++_, append-assoc, List·Memᴰ, List·Memᴰ·head, Memᴰ·append-right}
 use mathlib.Core.Option.{none, some}
 use native.Mathlib.Omega.{arith}
 use lib.ListN.{length, take, drop, length-append}
 use lib.Seq.{take-at, drop-at}
-use Rattle.answers.specs.Numbers.{undeclared}
-use Rattle.answers.specs.Answers.{refusal, numberOf, placeOf}
+use Rattle.answers.specs.Numbers.{twice, undeclared, heading as badHeading, types}
+use Rattle.answers.specs.Answers.{numberOf, placeOf}
 use Rattle.answers.specs.declared.Verdict.{Verdict}
-use Rattle.answers.specs.declared.Verdict.the-variants.{Accepted, Refused}
+use Rattle.answers.specs.declared.Verdict.the-variants.{Accepted}
 use Rattle.grammar.specs.Verdict.{zeros}
 use Rattle.names.specs.Program.{Name, Statement}
-use Rattle.names.specs.Scopes.{Scope, Declared, Given, Meaning, declared, given, nothing, meaning}
+use Rattle.names.specs.Scopes.{same, Scope, declares, Declared, Given, environment, Meaning, declared, given, nothing, meaning}
 use Rattle.names.specs.Uses.{Use, usesS, Fault, at, nameFaults, before, least, joined, unmeant, meantOrNot, thingKind, rowIn, rowOf, rows}
 use Rattle.names.specs.Nodes.{nodesS}
 use Rattle.names.specs.Outline.{declarations}
+use Rattle.names.proofs.Innermost.{Undeclared, NotGiven, Innermost, Numbered, spelled, means-exactly, means-nothing}
+use Rattle.names.proofs.Once.{only-one}
 use Rattle.names.proofs.TreeLaws.{joined-append}
-use Rattle.types.specs.Types.{typeFault}
+use Rattle.types.specs.Types.{typeFaults, typeFault}
 use Rattle.reading.specs.Table.{fours, useWords, declarationWords, nodeWords, tableOf}
-use Rattle.reading.specs.Reading.{symbols, placeIn, room, cleared, filled, Parsed, parsed, Judged, too-long, unreadable, ungrammatical, too-deep, misnamed, mistyped, accepted, Reads, too-short, enough}
-use Rattle.reading.proofs.Answers.{unmeant-none}
+use Rattle.reading.specs.Reading.{symbols, placeIn, refusedAt, room, cleared, filled, Parsed, parsed, Judged, too-long, unreadable, ungrammatical, too-deep, misnamed, mistyped, accepted, Reads, too-short, enough}
+use Rattle.reading.proofs.Answers.{none-empty, unmeant-none}
 use Rattle.reading.proofs.UseWords.{AllMean, nil-both, meant-split, rows-length, kind-some}
-use Rattle.reading.proofs.Only.{one-program}
+use Rattle.reading.proofs.Only.{one-program, only}
 use Rattle.reading.proofs.LeastFault.{least-exactly}
-use Rattle.reading.proofs.FaultNumbers.{early-number, least-among, none-among, eight-among, has-eight, ten-only}
+use Rattle.reading.proofs.FaultNumbers.{early-number, least-among, none-among, eight-among, has-eight, own-only, ten-only}
+use Rattle.reading.proofs.Smallest.{Smallest, least-smallest, smallest-least, names-inside, type-smallest, smallest-type, no-type, type-none, name-none}
+
+-- the answer to a source and a table is the number n at the place q: "a definition gives this paper's number and values for each of the enum's cases,
+-- and the promises use this definition"
+abbrev pub Answered : List ℕ → List ℕ → ℕ → ℕ → Type 0
+Answered source table n q = (v : Verdict) × (new : List ℕ) × Reads source table v new × (numberOf v ≡ n) × (placeOf v ≡ q)
+
+-- so whatever answer is given has this number and this place
+pub one-answer : {source table new : List ℕ} {v : Verdict} (n q : ℕ) → Reads source table v new → Answered source table n q → (numberOf v ≡ n) × (placeOf v ≡ q)
+one-answer n q r a = let e = only r (a .2) .0 in (ap numberOf e ∙ a .3, ap placeOf e ∙ a .4)
 
 -- ---- 1. acceptance, exactly: a program that keeps the grammar and the depth, and has no fault of names and none of types
 
 -- an accepted source has such a program, and the words are its table
-record Accepting (source words : List ℕ) : Type 0 where
+record Accepting (source words : List ℕ) (v : Verdict) : Type 0 where
+  answer : v ≡ Accepted
   program : Parsed source
   names-right : least (nameFaults (parsed program)) ≡ none
   types-right : typeFault (parsed program) ≡ none
   table-of : words ≡ filled (tableOf (placeIn source) (parsed program))
 
-accepting : {source words : List ℕ} {v : Verdict} → Judged source v words → v ≡ Accepted → Accepting source words
-accepting {source} (too-long h) e = absurd (let z : _≡_ {A = ℕ} 0 1 = cc in omega arith)
-accepting {source} (unreadable h r q) e = absurd (let z : _≡_ {A = ℕ} 0 1 = cc in omega arith)
-accepting {source} (ungrammatical s k w) e = absurd (let z : _≡_ {A = ℕ} 0 1 = cc in omega arith)
-accepting {source} (too-deep s k d) e = absurd (let z : _≡_ {A = ℕ} 0 1 = cc in omega arith)
-accepting {source} (misnamed p f q) e = absurd (let z : _≡_ {A = ℕ} 0 1 = cc in omega arith)
-accepting {source} (mistyped p f q t) e = absurd (let z : _≡_ {A = ℕ} 0 1 = cc in omega arith)
-accepting {source} (accepted p q t) e = record { program = p; names-right = q; types-right = t; table-of = refl }
+accepting : {source words : List ℕ} {v : Verdict} → Judged source v words → numberOf v ≡ 0 → Accepting source words v
+accepting {source} (too-long h) e = absurd (omega (arith, e))
+accepting {source} (unreadable h r q) e = absurd (omega (arith, e, early-number symbols source r q .0))
+accepting {source} (ungrammatical s k w) e = absurd (omega (arith, e))
+accepting {source} (too-deep s k d) e = absurd (omega (arith, e))
+accepting {source} (misnamed p f q) e = absurd (omega (arith, e, own-only (parsed p) f q .0))
+accepting {source} (mistyped p f q t) e = absurd (omega (arith, e, ten-only (parsed p) f t))
+accepting {source} (accepted p q t) e = record { answer = refl; program = p; names-right = q; types-right = t; table-of = refl }
 
 -- of a table that is read: its first words, and the others
-record ReadInto (source table new : List ℕ) : Type 0 where
+record ReadInto (source table new : List ℕ) (v : Verdict) : Type 0 where
   words : List ℕ
-  here : Accepting source words
+  here : Accepting source words v
   whole : new ≡ words ++ drop room table
 
-read-into : {source table new : List ℕ} {v : Verdict} → Reads source table v new → v ≡ Accepted → ReadInto source table new
-read-into (too-short l) e = absurd (let z : _≡_ {A = ℕ} 0 1 = cc in omega arith)
+read-into : {source table new : List ℕ} {v : Verdict} → Reads source table v new → numberOf v ≡ 0 → ReadInto source table new v
+read-into (too-short l) e = absurd (omega (arith, e))
 read-into (enough l v w j) e = record { words = w; here = accepting j e; whole = refl }
 
 pub accepted-exactly : (source table : List ℕ) → room ≤ length table
-    → ((new : List ℕ) × Reads source table Accepted new) ↔ ((p : Parsed source) × (least (nameFaults (parsed p)) ≡ none) × (typeFault (parsed p) ≡ none))
+    → Answered source table 0 0 ↔ ((p : Parsed source) × (nameFaults (parsed p) ≡ []) × (typeFaults (parsed p) ≡ []))
 accepted-exactly source table l = (
-  λ r. let a = read-into (r .1) refl .here in (a .program, a .names-right, a .types-right),
-  λ p. (filled (tableOf (placeIn source) (parsed (p .0))) ++ drop room table, enough l Accepted (filled (tableOf (placeIn source) (parsed (p .0)))) (accepted (p .0) (p .1) (p .2))),
+  λ a. let w = read-into (a .2) (a .3) .here in (w .program, none-empty (nameFaults (parsed (w .program))) (w .names-right), no-type (parsed (w .program)) (w .types-right)),
+  λ p.
+      let words = filled (tableOf (placeIn source) (parsed (p .0))) in
+      (Accepted, words ++ drop room table, enough l Accepted words (accepted (p .0) (name-none (parsed (p .0)) (p .1)) (type-none (parsed (p .0)) (p .2))), refl, refl),
 )
 
--- ---- 2. the answer 8, exactly: the least fault of the program's names is an 8, and its symbol is at the place
+-- 0 is the acceptance, so its place is 0
+pub zero-accepts : {source table new : List ℕ} {v : Verdict} → Reads source table v new → numberOf v ≡ 0 → v ≡ Accepted
+zero-accepts r z = read-into r z .here .answer
 
-eight : {source words : List ℕ} {v : Verdict} → Judged source v words → (q : ℕ) → v ≡ Refused (refusal undeclared q)
-    → (p : Parsed source) × (k : ℕ) × (least (nameFaults (parsed p)) ≡ some (record { symbol = k; answer = undeclared })) × (q ≡ placeIn source k)
-eight {source} (too-long h) q e = absurd (omega (arith, ap numberOf e))
-eight {source} (unreadable h r u) q e = absurd (omega (arith, ap numberOf e, early-number symbols source r u))
-eight {source} (ungrammatical s k w) q e = absurd (omega (arith, ap numberOf e))
-eight {source} (too-deep s k d) q e = absurd (omega (arith, ap numberOf e))
-eight {source} (misnamed p f u) q e =
-    (p, f .symbol, u ∙ ap (λ n. some (record { symbol = f .symbol; answer = n })) (ap numberOf e), sym (ap placeOf e))
-eight {source} (mistyped p f u t) q e = absurd (omega (arith, ap numberOf e, ten-only (parsed p) f t))
-eight {source} (accepted p u t) q e = absurd (omega (arith, ap numberOf e))
+-- ---- 2. the faults of names: "in a group the smallest place wins, and at one place the lower number"
 
-eight-read : {source table new : List ℕ} {v : Verdict} → Reads source table v new → (q : ℕ) → v ≡ Refused (refusal undeclared q)
-    → (p : Parsed source) × (k : ℕ) × (least (nameFaults (parsed p)) ≡ some (record { symbol = k; answer = undeclared })) × (q ≡ placeIn source k)
-eight-read (too-short l) q e = absurd (omega (arith, ap numberOf e))
-eight-read (enough l v w j) q e = eight j q e
+-- 7 to 9: the answer is the least fault of the program's names
+record Misnamed (source : List ℕ) (v : Verdict) : Type 0 where
+  program : Parsed source
+  worst : Fault
+  is-least : least (nameFaults (parsed program)) ≡ some worst
+  number : numberOf v ≡ worst .answer
+  place : placeOf v ≡ placeIn source (worst .symbol)
 
+misnaming : {source words : List ℕ} {v : Verdict} → Judged source v words → twice ≤ numberOf v → numberOf v ≤ badHeading → Misnamed source v
+misnaming {source} (too-long h) a b = absurd (omega (arith, a))
+misnaming {source} (unreadable h r u) a b = absurd (omega (arith, a, early-number symbols source r u .1))
+misnaming {source} (ungrammatical s k w) a b = absurd (omega (arith, a))
+misnaming {source} (too-deep s k d) a b = absurd (omega (arith, a))
+misnaming {source} (misnamed p f u) a b = record { program = p; worst = f; is-least = u; number = refl; place = refl }
+misnaming {source} (mistyped p f u t) a b = absurd (omega (arith, b, ten-only (parsed p) f t))
+misnaming {source} (accepted p u t) a b = absurd (omega (arith, a))
+
+misnames : {source table new : List ℕ} {v : Verdict} → Reads source table v new → twice ≤ numberOf v → numberOf v ≤ badHeading → Misnamed source v
+misnames (too-short l) a b = absurd (omega (arith, a))
+misnames (enough l v w j) a b = misnaming j a b
+
+-- exactly: it is one of these faults, and no other is at a smaller place, or at its place with a lower number
+pub names-smallest : (source table : List ℕ) (n q : ℕ) → room ≤ length table → twice ≤ n → n ≤ badHeading
+    → Answered source table n q
+    ↔ ((p : Parsed source) × (f : Fault) × List·Memᴰ f (nameFaults (parsed p)) × (f .answer ≡ n) × (placeIn source (f .symbol) ≡ q) × Smallest source (nameFaults (parsed p)) n q)
+names-smallest source table n q l a b = (
+  λ r.
+      let i : twice ≤ numberOf (r .0) = omega (arith, r .3) in
+      let j : numberOf (r .0) ≤ badHeading = omega (arith, r .3) in
+      let m = misnames (r .2) i j in
+      let p = m .program in
+      let f = m .worst in
+      let e : f .answer ≡ n = sym (m .number) ∙ r .3 in
+      let k : placeIn source (f .symbol) ≡ q = sym (m .place) ∙ r .4 in
+      (p, f, least-among (nameFaults (parsed p)) f (m .is-least), e, k, so e k (least-smallest source (nameFaults (parsed p)) (names-inside source p) f (m .is-least))),
+  λ r.
+      let p = r .0 in
+      let h = smallest-least source (nameFaults (parsed p)) (names-inside source p) (r .1) (r .2) (so (sym (r .3)) (sym (r .4)) (r .5)) in
+      (refusedAt source (h .0), cleared ++ drop room table, enough l (refusedAt source (h .0)) cleared (misnamed p (h .0) (h .1)), h .2 ∙ r .3, h .3 ∙ r .4),
+)
+  where
+    so : {fs : List Fault} {i j k m : ℕ} → i ≡ j → k ≡ m → Smallest source fs i k → Smallest source fs j m
+    so {fs} {i} {j} {k} {m} e d s = subst (λ x. Smallest source fs x m) e (subst (λ x. Smallest source fs i x) d s)
+
+-- the answer 8, exactly: the least fault of the program's names is an 8, and its symbol is at the place
 pub eight-exactly : (source table : List ℕ) (q : ℕ) → room ≤ length table
-    → ((new : List ℕ) × Reads source table (Refused (refusal undeclared q)) new)
+    → Answered source table undeclared q
     ↔ ((p : Parsed source) × (k : ℕ) × (least (nameFaults (parsed p)) ≡ some (record { symbol = k; answer = undeclared })) × (q ≡ placeIn source k))
 eight-exactly source table q l = (
-  λ r. eight-read (r .1) q refl,
-  λ p. (
-    cleared ++ drop room table,
-    subst (λ i. Reads source table (Refused (refusal undeclared i)) (cleared ++ drop room table)) (sym (p .3))
-        (enough l (Refused (refusal undeclared (placeIn source (p .1)))) cleared (misnamed (p .0) (record { symbol = p .1; answer = undeclared }) (p .2))),
-  ),
+  λ r.
+      let i : twice ≤ numberOf (r .0) = omega (arith, r .3) in
+      let j : numberOf (r .0) ≤ badHeading = omega (arith, r .3) in
+      let m = misnames (r .2) i j in (
+        m .program,
+        m .worst .symbol,
+        m .is-least ∙ ap (λ n. some (record { symbol = m .worst .symbol; answer = n })) (sym (m .number) ∙ r .3),
+        sym (r .4) ∙ m .place,
+      ),
+  λ p.
+      let f : Fault = record { symbol = p .1; answer = undeclared } in
+      (refusedAt source f, cleared ++ drop room table, enough l (refusedAt source f) cleared (misnamed (p .0) f (p .2)), refl, sym (p .3)),
 )
 
--- such a fault is a use that means nothing: no declaration or formal around it has its name, and no name of the environment is spelled so
+-- such a fault is a use that means nothing
 pub eight-means : (s : Statement) (k : ℕ) → least (nameFaults s) ≡ some (record { symbol = k; answer = undeclared })
     → (u : Use) × List·Memᴰ u (usesS [] s) × (meaning (u .around) (u .name) ≡ nothing) × (u .name .symbol ≡ k)
 eight-means s k e =
@@ -104,12 +158,12 @@ eight-means s k e =
 
 -- so 8 at a place, without `least`: a use there means nothing, and no fault of a name comes before it
 pub eight-uses : (source table : List ℕ) (q : ℕ) → room ≤ length table
-    → ((new : List ℕ) × Reads source table (Refused (refusal undeclared q)) new)
+    → Answered source table undeclared q
     ↔ ((p : Parsed source) × (u : Use) × List·Memᴰ u (usesS [] (parsed p)) × (meaning (u .around) (u .name) ≡ nothing)
     × ((g : Fault) → List·Memᴰ g (nameFaults (parsed p)) → before g (at (u .name) undeclared) ≡ false) × (q ≡ placeIn source (u .name .symbol)))
 eight-uses source table q l = (
   λ r.
-      let a = eight-read (r .1) q refl in
+      let a = eight-exactly source table q l .0 r in
       let u = eight-means (parsed (a .0)) (a .1) (a .2) in
       let e : at (u .0 .name) undeclared ≡ record { symbol = a .1; answer = undeclared } = ap (λ k. record { symbol = k; answer = undeclared }) (u .3) in
       (a .0, u .0, u .1, u .2, λ g m. ap (before g) e ∙ least-exactly (nameFaults (parsed (a .0))) (record { symbol = a .1; answer = undeclared }) .0 (a .2) .1 g m, a .3 ∙ ap (placeIn source) (sym (u .3))),
@@ -118,14 +172,75 @@ eight-uses source table q l = (
       eight-exactly source table q l .1 (a .0, a .1 .name .symbol, e, a .5),
 )
 
+-- in plain words, without `meaning` too: a use at the place, no declaration or formal of any scope around it has its name, and no name of the
+-- environment is spelled so; and no fault of a name is at a smaller place, or at this place with a lower number
+pub eight-plainly : (source table : List ℕ) (q : ℕ) → room ≤ length table
+    → Answered source table undeclared q
+    ↔ ((p : Parsed source) × (u : Use) × List·Memᴰ u (usesS [] (parsed p)) × (placeIn source (u .name .symbol) ≡ q)
+    × Undeclared (u .around) (u .name) × NotGiven environment (u .name) × Smallest source (nameFaults (parsed p)) undeclared q)
+eight-plainly source table q l = (
+  λ r.
+      let a = names-smallest source table undeclared q l (omega arith) (omega arith) .0 r in
+      let w = eight-among (parsed (a .0)) (a .1) (a .2) (a .3) in
+      let n = means-nothing (w .use-of .around) (w .use-of .name) .0 (w .means-nothing) in
+      (a .0, w .use-of, w .among, ap (λ g. placeIn source (g .symbol)) (sym (w .fault)) ∙ a .4, n .0, n .1, a .5),
+  λ a.
+      let e = means-nothing (a .1 .around) (a .1 .name) .1 (a .4, a .5) in
+      names-smallest source table undeclared q l (omega arith) (omega arith) .1 (a .0, at (a .1 .name) undeclared, has-eight (parsed (a .0)) (a .1) (a .2) e, refl, a .3, a .6),
+)
+
 -- and no program with such a use is accepted
-pub means-something : {source table new : List ℕ} → Reads source table Accepted new → (p : Parsed source) (u : Use) → List·Memᴰ u (usesS [] (parsed p))
-    → meaning (u .around) (u .name) ≡ nothing → ⊥
-means-something r p u m e =
-    let a = read-into r refl .here in
+pub means-something : {source table new : List ℕ} {v : Verdict} → Reads source table v new → numberOf v ≡ 0 → (p : Parsed source) (u : Use)
+    → List·Memᴰ u (usesS [] (parsed p)) → meaning (u .around) (u .name) ≡ nothing → ⊥
+means-something r z p u m e =
+    let a = read-into r z .here in
     none-among (nameFaults (parsed p)) _ (ap (λ s. least (nameFaults s)) (one-program p (a .program)) ∙ a .names-right) (has-eight (parsed p) u m e)
 
--- ---- 3. the uses of an accepted source: the table begins with their count and their words, in source order, each with what `meaning` finds
+-- ---- 3. the faults of types: where no name is at fault, 10 at the smallest place of a type fault
+
+record Mistyped (source : List ℕ) (v : Verdict) : Type 0 where
+  program : Parsed source
+  worst : Fault
+  names-right : least (nameFaults (parsed program)) ≡ none
+  is-least : typeFault (parsed program) ≡ some worst
+  place : placeOf v ≡ placeIn source (worst .symbol)
+
+mistyping : {source words : List ℕ} {v : Verdict} → Judged source v words → numberOf v ≡ types → Mistyped source v
+mistyping {source} (too-long h) e = absurd (omega (arith, e))
+mistyping {source} (unreadable h r u) e = absurd (omega (arith, e, early-number symbols source r u .1))
+mistyping {source} (ungrammatical s k w) e = absurd (omega (arith, e))
+mistyping {source} (too-deep s k d) e = absurd (omega (arith, e))
+mistyping {source} (misnamed p f u) e = absurd (omega (arith, e, own-only (parsed p) f u .1))
+mistyping {source} (mistyped p f u t) e = record { program = p; worst = f; names-right = u; is-least = t; place = refl }
+mistyping {source} (accepted p u t) e = absurd (omega (arith, e))
+
+mistypes : {source table new : List ℕ} {v : Verdict} → Reads source table v new → numberOf v ≡ types → Mistyped source v
+mistypes (too-short l) e = absurd (omega (arith, e))
+mistypes (enough l v w j) e = mistyping j e
+
+pub types-smallest : (source table : List ℕ) (q : ℕ) → room ≤ length table
+    → Answered source table types q
+    ↔ ((p : Parsed source) × (k : ℕ) × (nameFaults (parsed p) ≡ []) × List·Memᴰ k (typeFaults (parsed p)) × (placeIn source k ≡ q)
+    × ((j : ℕ) → List·Memᴰ j (typeFaults (parsed p)) → q ≤ placeIn source j))
+types-smallest source table q l = (
+  λ r.
+      let m = mistypes (r .2) (r .3) in
+      let p = m .program in
+      let k : placeIn source (m .worst .symbol) ≡ q = sym (m .place) ∙ r .4 in
+      let w = type-smallest source (parsed p) (m .worst) (m .is-least) in
+      (p, m .worst .symbol, none-empty (nameFaults (parsed p)) (m .names-right), w .0, k, λ j i. omega (arith, w .1 j i)),
+  λ r.
+      let p = r .0 in
+      let h = smallest-type source (parsed p) (r .1) (r .3) (λ j i. omega (arith, r .4, r .5 j i)) in (
+        refusedAt source (h .0),
+        cleared ++ drop room table,
+        enough l (refusedAt source (h .0)) cleared (mistyped p (h .0) (name-none (parsed p) (r .2)) (h .1)),
+        ten-only (parsed p) (h .0) (h .1),
+        h .2 ∙ r .4,
+      ),
+)
+
+-- ---- 4. the uses of an accepted source: the table begins with their count and their words, in source order, each with what `meaning` finds
 
 -- "place; kind (0 environment, 1 variable, 2 procedure, 3 formal); place of the declaring name, or the environment number"
 abbrev pub meantAs : (ℕ → ℕ) → Meaning → Name → List ℕ
@@ -136,11 +251,11 @@ meantAs place nothing x = []
 abbrev pub threeWords : (ℕ → ℕ) → Use → List ℕ
 threeWords place u = meantAs place (meaning (u .around) (u .name)) (u .name)
 
-pub rows-first : {source table new : List ℕ} → Reads source table Accepted new → (p : Parsed source)
+pub rows-first : {source table new : List ℕ} {v : Verdict} → Reads source table v new → numberOf v ≡ 0 → (p : Parsed source)
     → (rest : List ℕ) × (new ≡ (length (rows (parsed p)) ∷ joined (useWords (placeIn source)) (rows (parsed p))) ++ rest)
 unfolding tableOf
-rows-first {source} {table} r p =
-    let i = read-into r refl in
+rows-first {source} {table} r o p =
+    let i = read-into r o in
     let s = parsed p in
     let place = placeIn source in
     let u : List ℕ = length (rows s) ∷ joined (useWords place) (rows s) in
@@ -185,19 +300,19 @@ module _ (place : ℕ → ℕ) where
   unfolding joined
   two-parts us u vs = joined-append (threeWords place) us (u ∷ vs)
 
-all-mean : {source table new : List ℕ} → Reads source table Accepted new → (p : Parsed source) → AllMean (usesS [] (parsed p))
-all-mean r p =
-    let a = read-into r refl .here in
+all-mean : {source table new : List ℕ} {v : Verdict} → Reads source table v new → numberOf v ≡ 0 → (p : Parsed source) → AllMean (usesS [] (parsed p))
+all-mean r o p =
+    let a = read-into r o .here in
     unmeant-none (parsed p) (ap (λ s. least (nameFaults s)) (one-program p (a .program)) ∙ a .names-right)
 
 -- the count of the uses, and three words for each, in source order
-pub uses-first : {source table new : List ℕ} → Reads source table Accepted new → (p : Parsed source)
+pub uses-first : {source table new : List ℕ} {v : Verdict} → Reads source table v new → numberOf v ≡ 0 → (p : Parsed source)
     → (rest : List ℕ) × (new ≡ (length (usesS [] (parsed p)) ∷ joined (threeWords (placeIn source)) (usesS [] (parsed p))) ++ rest)
 unfolding rows
-uses-first {source} r p =
+uses-first {source} r o p =
     let us = usesS [] (parsed p) in
-    let f = rows-first r p in
-    let n : length (rows (parsed p)) ≡ length us = rows-length us (all-mean r p) in
+    let f = rows-first r o p in
+    let n : length (rows (parsed p)) ≡ length us = rows-length us (all-mean r o p) in
     let w : joined (useWords (placeIn source)) (rows (parsed p)) ≡ joined (threeWords (placeIn source)) us = use-words (placeIn source) us in
     (f .0, f .1 ∙ ap (λ k. (k ∷ joined (useWords (placeIn source)) (rows (parsed p))) ++ f .0) n ∙ ap (λ l. (length us ∷ l) ++ f .0) w)
 
@@ -209,25 +324,56 @@ middle c n a w b rest e h =
     ap (λ x. take 3 (drop (1 + n) x)) s ∙ ap (take 3) (drop-at (c ∷ a) (w ++ (b ++ rest)) (1 + n) l) ∙ take-at w (b ++ rest) 3 h
 
 -- so the words of the use that has k others before it stand behind the count and 3 k words
-pub use-stands : {source table new : List ℕ} → Reads source table Accepted new → (p : Parsed source) (us : List Use) (u : Use) (vs : List Use)
+pub use-stands : {source table new : List ℕ} {v : Verdict} → Reads source table v new → numberOf v ≡ 0 → (p : Parsed source) (us : List Use) (u : Use) (vs : List Use)
     → usesS [] (parsed p) ≡ us ++ (u ∷ vs) → take 3 (drop (1 + 3 * length us) new) ≡ threeWords (placeIn source) u
-use-stands {source} r p us u vs e =
+use-stands {source} r o p us u vs e =
     let place = placeIn source in
-    let f = uses-first r p in
+    let f = uses-first r o p in
     let all = usesS [] (parsed p) in
-    let m = meant-split us (u ∷ vs) (subst AllMean e (all-mean r p)) in
+    let m = meant-split us (u ∷ vs) (subst AllMean e (all-mean r o p)) in
     let w : joined (threeWords place) all ≡ joined (threeWords place) us ++ (threeWords place u ++ joined (threeWords place) vs) = ap (joined (threeWords place)) e ∙ two-parts place us u vs in
     ap (λ x. take 3 (drop (1 + 3 * length us) x)) (f .1 ∙ ap (λ x. (length all ∷ x) ++ f .0) w)
     ∙ middle (length all) (3 * length us) (joined (threeWords place) us) (threeWords place u) (joined (threeWords place) vs) (f .0) (threes-long place us (m .0)) (one-long place u vs (m .1))
 
 -- ---- and these are, by what the use means
 
-module _ {source table new : List ℕ} (r : Reads source table Accepted new) (p : Parsed source) (us : List Use) (u : Use) (vs : List Use) (e : usesS [] (parsed p) ≡ us ++ (u ∷ vs)) where
-  -- the innermost declaration or formal around it with its name
+-- the three words of a use whose name means "the innermost declaration or formal around it", which is the only one of its scope with this name
+abbrev pub Inside : List ℕ → Use → List ℕ → Type 0
+Inside source u words =
+    (d : Declared) × (h : List Scope) × (w : Innermost (u .around) (u .name) d h)
+    × ((c : Declared) → List·Memᴰ c (declares (w .scope)) → same (c .name) (u .name) ≡ true → c ≡ d)
+    × (words ≡ placeIn source (u .name .symbol) ∷ thingKind (d .thing) ∷ placeIn source (d .name .symbol) ∷ [])
+
+-- "else the environment's": no declaration or formal around has this name, and the environment's number n is spelled so
+abbrev pub Outside : List ℕ → Use → List ℕ → Type 0
+Outside source u words =
+    (n : ℕ) × (g : Given) × Undeclared (u .around) (u .name) × Numbered n g × (spelled g (u .name) ≡ true) × (words ≡ placeIn source (u .name .symbol) ∷ 0 ∷ n ∷ [])
+
+module _ {source table new : List ℕ} {v : Verdict} (r : Reads source table v new) (o : numberOf v ≡ 0) (p : Parsed source) (us : List Use) (u : Use) (vs : List Use) (e : usesS [] (parsed p) ≡ us ++ (u ∷ vs)) where
   pub declared-words : (d : Declared) (g : List Scope) → meaning (u .around) (u .name) ≡ declared d g
       → take 3 (drop (1 + 3 * length us) new) ≡ placeIn source (u .name .symbol) ∷ thingKind (d .thing) ∷ placeIn source (d .name .symbol) ∷ []
-  declared-words d g m = use-stands r p us u vs e ∙ ap (λ x. meantAs (placeIn source) x (u .name)) m
+  declared-words d g m = use-stands r o p us u vs e ∙ ap (λ x. meantAs (placeIn source) x (u .name)) m
 
-  -- else the environment's name that is spelled so
   pub given-words : (n : ℕ) (g : Given) → meaning (u .around) (u .name) ≡ given n g → take 3 (drop (1 + 3 * length us) new) ≡ placeIn source (u .name .symbol) ∷ 0 ∷ n ∷ []
-  given-words n g m = use-stands r p us u vs e ∙ ap (λ x. meantAs (placeIn source) x (u .name)) m
+  given-words n g m = use-stands r o p us u vs e ∙ ap (λ x. meantAs (placeIn source) x (u .name)) m
+
+  pub use-means : Inside source u (take 3 (drop (1 + 3 * length us) new)) ⊎ Outside source u (take 3 (drop (1 + 3 * length us) new))
+  use-means = go (meaning (u .around) (u .name)) refl
+    where
+      here : List·Memᴰ u (usesS [] (parsed p))
+      here = subst (List·Memᴰ u) (sym e) (Memᴰ·append-right us (List·Memᴰ·head refl))
+
+      right : nameFaults (parsed p) ≡ []
+      right =
+          let a = read-into r o .here in
+          none-empty (nameFaults (parsed p)) (ap (λ s. least (nameFaults s)) (one-program p (a .program)) ∙ a .names-right)
+
+      go : (m : Meaning) → meaning (u .around) (u .name) ≡ m
+          → Inside source u (take 3 (drop (1 + 3 * length us) new)) ⊎ Outside source u (take 3 (drop (1 + 3 * length us) new))
+      go (declared d h) q =
+          let w = means-exactly (u .around) (u .name) (declared d h) .0 q in
+          inl (d, h, w, only-one (parsed p) right u here d h w, declared-words d h q)
+      go (given n g) q =
+          let w = means-exactly (u .around) (u .name) (given n g) .0 q in
+          inr (n, g, w .0, w .1, w .2, given-words n g q)
+      go nothing q = absurd (means-something r o p u here q)
