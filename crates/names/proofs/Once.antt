@@ -9,9 +9,9 @@ use native.Mathlib.Omega.{arith}
 use Rattle.answers.specs.Numbers.{twice}
 use Rattle.names.specs.Program.{Name, Expression, number, logical, name, call, signed, operated, chosen, nested, Expressions, done, then, Element, value, while, step, Statement, dummy, assignment, procedure, when, either, repeat, compound, block, Statements, last, first, Declarations, none as no-more, variables, declare, Procedure, heading}
 use Rattle.names.specs.Scopes.{same, has, nameOf, formalsOf, specificationsOf, specified, formal, Declared, Scope, ofBlock, ofBody, inBody, declares}
-use Rattle.names.specs.Uses.{Use, used, usesE, usesEs, usesL, usesS, usesSs, usesD, usesP, scopesS, scopesSs, scopesD, scopesP, Fault, at, each, namesIn, twiceIn, headingIn, innermost, unmeant, joined, nameFaults}
+use Rattle.names.specs.Uses.{Use, used, usesE, usesEs, usesL, usesS, usesSs, usesD, usesP, scopesS, scopesSs, scopesD, scopesP, at, each, twiceIn, headingIn, innermost, unmeant, joined, nameFaults}
 use Rattle.names.proofs.Identities.{same-letters, other-letters}
-use Rattle.names.proofs.Innermost.{NotAmong, FirstIn, Innermost}
+use Rattle.names.proofs.Innermost.{FirstIn, Innermost}
 use Rattle.names.proofs.TreeLaws.{joined-append}
 
 nil-both : {A : Type 0} (a b : List A) → a ++ b ≡ [] → (a ≡ []) × (b ≡ [])

@@ -10,9 +10,9 @@ use native.Mathlib.Omega.{arith}
 use lib.ListN.{length, take, drop, length-append}
 use lib.Seq.{take-at, drop-at}
 use Rattle.answers.specs.Numbers.{twice, undeclared, heading as badHeading, types}
-use Rattle.answers.specs.Answers.{numberOf, placeOf}
+use Rattle.answers.specs.Answers.{refusal, numberOf, placeOf}
 use Rattle.answers.specs.declared.Verdict.{Verdict}
-use Rattle.answers.specs.declared.Verdict.the-variants.{Accepted}
+use Rattle.answers.specs.declared.Verdict.the-variants.{Accepted, Refused}
 use Rattle.grammar.specs.Verdict.{zeros}
 use Rattle.names.specs.Program.{Name, Statement}
 use Rattle.names.specs.Scopes.{same, Scope, declares, Declared, Given, environment, Meaning, declared, given, nothing, meaning}
@@ -40,6 +40,11 @@ Answered source table n q = (v : Verdict) × (new : List ℕ) × Reads source ta
 -- so whatever answer is given has this number and this place
 pub one-answer : {source table new : List ℕ} {v : Verdict} (n q : ℕ) → Reads source table v new → Answered source table n q → (numberOf v ≡ n) × (placeOf v ≡ q)
 one-answer n q r a = let e = only r (a .2) .0 in (ap numberOf e ∙ a .3, ap placeOf e ∙ a .4)
+
+-- a refusal is its number and its place
+pub whole-answer : (v : Verdict) (n q : ℕ) → (n ≡ 0 → ⊥) → numberOf v ≡ n → placeOf v ≡ q → v ≡ Refused (refusal n q)
+whole-answer Accepted n q z a b = absurd (z (sym a))
+whole-answer (Refused r) n q z a b = ap (λ i. Refused (refusal i (r .place .at))) a ∙ ap (λ j. Refused (refusal n j)) b
 
 -- ---- 1. acceptance, exactly: a program that keeps the grammar and the depth, and has no fault of names and none of types
 

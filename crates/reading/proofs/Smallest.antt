@@ -2,7 +2,7 @@
 -- program's faults is at the smallest place; and a fault that is so is as good as the least.
 use Prim.Native.Nat.{ℕ, _<_, _≤_}
 use mathlib.Core.Path.{_≡_, refl, sym, ap, subst, _∙_}
-use mathlib.Core.Logic.{_⊎_, inl, inr}
+use mathlib.Core.Logic.{inl, inr}
 use mathlib.Core.List.{List, [], _∷_, map, List·Memᴰ, List·Memᴰ·head, List·Memᴰ·tail, List·Memᴰ·not-nil}
 use mathlib.Core.Option.{Option, none, some}
 use native.Mathlib.Omega.{arith}
@@ -14,7 +14,7 @@ use Rattle.symbols.specs.Symbols.{kind}
 use Rattle.symbols.specs.Scan.{scan}
 use Rattle.symbols.specs.Steps.{placesOf, valuesOf}
 use Rattle.grammar.specs.Trees.{yield}
-use Rattle.names.specs.Program.{Name, Statement}
+use Rattle.names.specs.Program.{Statement}
 use Rattle.names.specs.Uses.{Fault, nameFaults, least}
 use Rattle.names.proofs.AllNames.{AllS}
 use Rattle.names.proofs.Least.{Below}
