@@ -4,8 +4,7 @@ use machine::run;
 use reading::reading::read;
 use translating::translating::translate;
 ghost use mathlib.Core.Path.{_≡_};
-ghost use lib.ListN.{length, take};
-ghost use Rattle.machine.specs.Machine.{machine as machineOf, afterwards, used};
+ghost use Rattle.machine.specs.Machine.{job};
 ghost use Rattle.jobs.specs.Jobs.{Answers, exitOf, given};
 ghost use Rattle.reading.specs.Reading.{Reads};
 ghost use Rattle.translating.specs.Job.{Translates};
@@ -43,7 +42,7 @@ pub extern "C" fn deed_run(
     taken: &mut usize,
     written: &mut usize,
 ) -> u16
-    ensures { λ r. ⌜ given r (now (place .exit)) (now (done .exit)) (now (taken .exit)) (now (written .exit)) (now (store .exit)) (now (output .exit)) ≡ exitOf (afterwards (machineOf (take 16384 (now (code .entry))) (now (input .entry)) limit (used (now (store .entry))) (length (now (output .entry)))) (now (store .entry)) (now (output .entry))) ⌝ }
+    ensures { λ r. ⌜ given r (now (place .exit)) (now (done .exit)) (now (taken .exit)) (now (written .exit)) (now (store .exit)) (now (output .exit)) ≡ exitOf (job (now (code .entry)) (now (input .entry)) limit (now (store .entry)) (now (output .entry))) ⌝ }
 {
     let ran = run(code, input, limit, store, output);
     let stop = ran.stop;

@@ -22,7 +22,7 @@ use Rattle.machine.specs.declared.Outcome.the-variants.{Goes}
 use Rattle.machine.specs.Run.{Trace, untold, say, quiet, wrote, took, Out, halt, next, End, done, over, after, run}
 use Rattle.machine.specs.Data.{Data, Res, bad, wrong, good, lift}
 use Rattle.machine.specs.Instructions.{Instr, END, DO, IF, JUMP, ENTER, LEAVE, CALL, RETURN, GO, NEXT, fetch, decode}
-use Rattle.machine.specs.Machine.{Frame, fr, Mach, ms, exec, obey, step, finish, start, machine, used, exit, afterwards}
+use Rattle.machine.specs.Machine.{Frame, fr, Mach, ms, exec, obey, step, finish, start, machine, used, exit, afterwards, job}
 use Rattle.machine.specs.Model.{goes, halted, stepped, traceOf, machOf, roomOf, cellsOf, heldOf, stacked, positionsOf, framesOf, wordOf, Sound, Lives, SoundG, seenO, Drove}
 
 -- ---- every instruction counts one
@@ -252,7 +252,7 @@ taken-most n l e = omega (arith, taken-length n l e)
 -- the answer, the counts and every lent word
 pub run-exit : {r : Ran} {s' o' : List ℤ} (code : List ℕ) (input : List ℤ) (limit : ℕ) (store output : List ℤ) {k c : ℕ} → k ≡ min 16384 (length code) → c ≡ min 8192 (length store)
     → Drove r output o' (machine (take k code) input limit (length (take c store)) (length output)) → s' ≡ replicate (length (take c store)) (pos 0)
-    → exit r (s' ++ drop c store) o' ≡ afterwards (machine (take 16384 code) input limit (used store) (length output)) store output
+    → exit r (s' ++ drop c store) o' ≡ job code input limit store output
 unfolding afterwards
 run-exit {r} {s'} {o'} code input limit store output {k} {c} a b d e =
     let n : length (take c store) ≡ used store = sym (taken-length 8192 store b) ∙ b in

@@ -260,7 +260,7 @@ openBlock q n d = newCells q (replicate n Unset) d
 unfoldable pub closeBlock : ℕ → Data → Res Data
 closeBlock n (dat w h a l) = guard (leb n (length w)) (good quiet (dat (drop n w) h a l))
 
--- 27: "a 257th activation live"
+-- 27: "a 257th activation live". A call of a declared procedure enters one; "The program and environment calls are no activations"
 unfoldable pub enter : ℕ → Data → Res Data
 enter q (dat w h a l) = check (ltb a 256) activations q (good quiet (dat w h (suc a) l))
 

@@ -5,7 +5,7 @@ use mathlib.Core.Bool.{cond}
 use mathlib.Core.List.{List, [], _∷_, _++_}
 use mathlib.Core.Option.{Option, none, some}
 use lib.Dec.{leb, eqb}
-use lib.ListN.{getD, length, drop, replicate}
+use lib.ListN.{getD, length, take, drop, replicate}
 use lib.IntN.{ℤ, pos}
 use Rattle.answers.specs.declared.Stop.{Stop}
 use Rattle.answers.specs.declared.Stop.the-variants.{Ended, Limit, Wrong}
@@ -100,12 +100,17 @@ start input room space = ms 0 [] [] (dat [] [] 0 (record { room = room; input = 
 unfoldable pub machine : List ℕ → List ℤ → ℕ → ℕ → ℕ → Finish
 machine words input limit room space = finish (run (step words) limit (start input room space) 0 untold)
 
--- ---- what is lent, afterwards
+-- ---- the job `run`: what is lent, and what it holds afterwards
+
+-- "A run reads at most the first 16,384 code words."
+abbrev pub onCode : List ℕ → List ℤ → ℕ → ℕ → ℕ → Finish
+onCode code input limit room space = machine (take 16384 code) input limit room space
 
 -- "It uses the first 8,192 cells of the store, or fewer if lent fewer"
 abbrev pub used : List ℤ → ℕ
 used store = min 8192 (length store)
 
+-- what is handed back, and what the store and the output hold
 pub record Exit : Type 0 where
   pub ran : Ran
   pub store : List ℤ
@@ -121,3 +126,7 @@ afterwards f store output = record {
   store = replicate (used store) (pos 0) ++ drop (used store) store;
   output = f .written ++ drop (length (f .written)) output;
 }
+
+-- "run (code, input numbers, store, output)", with its limit
+abbrev pub job : List ℕ → List ℤ → ℕ → List ℤ → List ℤ → Exit
+job code input limit store output = afterwards (onCode code input limit (used store) (length output)) store output

@@ -20,10 +20,10 @@ ghost use mathlib.Core.Path.{_≡_};
 ghost use mathlib.Core.List.{List};
 ghost use Prim.Native.Nat.{ℕ, _≤_, _<_, min};
 ghost use lib.IntN.{ℤ, pos};
-ghost use lib.ListN.{length, take, replicate};
+ghost use lib.ListN.{length, replicate};
 ghost use Rattle.machine.specs.Data.{Act, Test, work as workOf, downs as downsOf};
 ghost use Rattle.machine.specs.Instructions.{Loc, Instr, variable, low, actOf, decode};
-ghost use Rattle.machine.specs.Machine.{cellIn, exec, obey as obeyOf, step as stepOf, machine as machineOf, exit, afterwards, used as usedOf};
+ghost use Rattle.machine.specs.Machine.{cellIn, exec, obey as obeyOf, step as stepOf, machine as machineOf, exit, job};
 ghost use Rattle.machine.specs.Model.{Sound, SoundO, SoundG, Lives, Drove, dataOf, traceOf, machOf, seenD, seenO, told, stepped, positionsOf, framesOf, wordOf, roomOf};
 
 // The cell of a variable: activations out and offset in the operand v.
@@ -338,7 +338,7 @@ fn at_most(n: usize, most: usize) -> usize
 
 // Any words, any lengths, any limit.
 pub fn run(code: &[u32], input: &[i32], limit: u64, store: &mut [i64], output: &mut [i32]) -> Ran
-    ensures { λ r. ⌜ exit r (now (store .exit)) (now (output .exit)) ≡ afterwards (machineOf (take 16384 (now (code .entry))) (now (input .entry)) limit (usedOf (now (store .entry))) (length (now (output .entry)))) (now (store .entry)) (now (output .entry)) ⌝ }
+    ensures { λ r. ⌜ exit r (now (store .exit)) (now (output .exit)) ≡ job (now (code .entry)) (now (input .entry)) limit (now (store .entry)) (now (output .entry)) ⌝ }
 {
     let words = at_most(code.len(), 16384);
     let cells = at_most(store.len(), 8192);
