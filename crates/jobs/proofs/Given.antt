@@ -1,18 +1,18 @@
--- What run's contract says, number by number; and that C's numbers, too, are one for each source and what is lent.
+-- What run's contract says, number by number; that C's numbers, too, are one for each source and what is lent; and demand 3 in them.
 -- Assumes nothing.
 use Prim.Native.Nat.{ℕ}
-use mathlib.Core.Path.{_≡_, sym, ap, _∙_}
+use mathlib.Core.Path.{_≡_, refl, sym, ap, _∙_}
 use mathlib.Core.List.{List}
 use lib.IntN.{ℤ}
 use Rattle.answers.specs.Answers.{numberOf, placeOf, stopNumber, stopPlace}
 use Rattle.answers.specs.declared.Verdict.{Verdict}
-use Rattle.machine.specs.Machine.{Exit, exit}
+use Rattle.machine.specs.Machine.{Exit, exit, job}
 use Rattle.machine.specs.declared.Ran.{Ran}
-use Rattle.reading.specs.Reading.{Reads}
+use Rattle.reading.specs.Reading.{Parsed, Reads}
 use Rattle.reading.proofs.Only.{only}
-use Rattle.translating.specs.Job.{Translates}
-use Rattle.translating.proofs.Promised.{only as only-translation}
-use Rattle.jobs.specs.Jobs.{Answers, given, exitOf}
+use Rattle.translating.specs.Job.{Translates, Deed}
+use Rattle.translating.proofs.Promised.{only as only-translation, deed}
+use Rattle.jobs.specs.Jobs.{Answers, Given, given, exitOf}
 
 pub given-exit : {n p : ℕ} (r : Ran) (s o : List ℤ) {e : Exit} → exit r s o ≡ e → n ≡ stopNumber (r .stop) → p ≡ stopPlace (r .stop)
     → given n p (r .done) (r .taken) (r .written) s o ≡ exitOf e
@@ -35,3 +35,9 @@ one-read {source} {table} = one-answer {R = Reads source table} (λ v v₂ w w�
 pub one-translation : {text old w w₂ : List ℕ} {n p n₂ p₂ : ℕ} → Answers (λ v. Translates text old v w) n p → Answers (λ v. Translates text old v w₂) n₂ p₂
     → (n ≡ n₂) × (p ≡ p₂) × (w ≡ w₂)
 one-translation {text} {old} = one-answer {R = Translates text old} (λ v v₂ w w₂ a b. only-translation a b)
+
+-- demand 3 of the two jobs one after the other: where the first answers 0, the second gives what a run leaves that did what the source rules say
+pub given-deed : {text old new : List ℕ} {n place : ℕ} → Answers (λ v. Translates text old v new) n place → n ≡ 0 → (p : Parsed text) (input : List ℤ) (limit : ℕ) (store output : List ℤ)
+    {g : Given} → g ≡ exitOf (job new input limit store output) → (e : Exit) × (g ≡ exitOf e) × Deed p input limit store output e
+given-deed {new = new} a z p input limit store output h =
+    (job new input limit store output, h, deed (a .holds) (sym (a .numbered) ∙ z) p input limit store output refl)

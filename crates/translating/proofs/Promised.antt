@@ -1,6 +1,6 @@
 -- Demand 3 of the words that translate leaves, and of the two jobs one after the other: acceptance gives the premises of faithful-words, and what is
 -- lent to the machine are these words. One result for each source and code.
-use Prim.Native.Nat.{ℕ, suc, _+_, _*_, _-_, _≤_, _<_}
+use Prim.Native.Nat.{ℕ, suc, _-_, _≤_, _<_}
 use native.Mathlib.Omega.{arith}
 use mathlib.Core.Path.{_≡_, refl, sym, ap, subst, _∙_}
 use mathlib.Core.List.{List, [], _++_}
@@ -9,6 +9,7 @@ use mathlib.Core.Option.{none}
 use lib.IntN.{ℤ}
 use lib.ListN.{length, take, drop, replicate, length-append, length-replicate}
 use lib.Seq.{take-append-seam}
+use Rattle.answers.specs.Answers.{numberOf}
 use Rattle.answers.specs.declared.Stop.{Stop}
 use Rattle.answers.specs.declared.Stop.the-variants.{Limit, Wrong}
 use Rattle.answers.specs.declared.Refusal.{Refusal}
@@ -17,24 +18,24 @@ use Rattle.answers.specs.declared.Verdict.the-variants.{Accepted, Refused}
 use Rattle.names.specs.Program.{Statement}
 use Rattle.names.specs.Uses.{nameFaults, least}
 use Rattle.types.specs.Types.{typeFault}
-use Rattle.machine.specs.Run.{Trace, done, over}
-use Rattle.machine.specs.Machine.{Finish, machine, used, exit, afterwards}
-use Rattle.machine.specs.declared.Ran.{Ran}
-use Rattle.rules.specs.Rules.{State, source}
+use Rattle.machine.specs.Run.{Trace, done}
+use Rattle.machine.specs.Machine.{Finish, machine, onCode, used, Exit, afterwards, job}
 use Rattle.machine.proofs.Limits.{zero-words}
+use Rattle.rules.specs.Rules.{source}
 use Rattle.reading.specs.Reading.{placeIn, Parsed, parsed, accepted as judged-right}
 use Rattle.reading.proofs.Only.{one-program, one-judgement}
 use Rattle.translation.specs.Translate.{code}
 use Rattle.translation.specs.Words.{words}
-use Rattle.translation.specs.Faithful.{Begins, Ordinary, Follows}
+use Rattle.translation.specs.Faithful.{Ordinary, Follows}
 use Rattle.translation.specs.Listed.{machineIn}
-use Rattle.translating.specs.Job.{room, filled, codeIn, Translated, refused, accepted, Translates, too-short, enough, onThese, RunsAs, Shown, Deed}
 use Rattle.translation.proofs.Lengths.{fits-words}
 use Rattle.translation.proofs.Ranges.{in-range}
 use Rattle.translation.proofs.Words.{same-machine}
 use Rattle.translation.proofs.Correct.{machine-answers, source-answers}
 use Rattle.translation.proofs.OnWords.{follows-as, onWords, faithful-words}
+use Rattle.translating.specs.Job.{room, filled, codeIn, Translated, refused, accepted, Translates, too-short, enough, RunsAs, Deed}
 use Rattle.translating.proofs.Accepting.{within-limits, well-scoped}
+use Rattle.translating.proofs.ZeroAccepts.{zero-judged}
 
 -- ---- the words that are left
 
@@ -44,69 +45,41 @@ filled-length ws h = omega (arith, length-append ws (replicate (room - length ws
 take-filled : (ws rest : List ℕ) → length ws ≤ room → take room (filled ws ++ rest) ≡ filled ws
 take-filled ws rest h = ap (λ k. take k (filled ws ++ rest)) (sym (filled-length ws h)) ∙ take-append-seam (filled ws) rest
 
+refused-accepted : {r : Refusal} → Refused r ≡ Accepted → ⊥
+refused-accepted e = let z : _≡_ {A = ℕ} 0 1 = cc in omega arith
+
 -- "An accepted program always fits"
 pub code-fits : {text : List ℕ} (p : Parsed text) → length (codeIn p) ≤ room
 code-fits {text} p = fits-words (placeIn text) (parsed p) (within-limits p)
 
 module _ {text : List ℕ} (p : Parsed text) (named : least (nameFaults (parsed p)) ≡ none) (typed : typeFault (parsed p) ≡ none) (rest : List ℕ) where
-  faithful-left : (input : List ℤ) (cells space : ℕ) → Follows (onThese (filled (codeIn p) ++ rest)) (placeIn text) (parsed p) input cells space
-  faithful-left input cells space =
-      follows-as (onThese (filled (codeIn p) ++ rest)) (onWords (room - length (codeIn p))) (placeIn text) (parsed p) input cells space
-      (λ limit. ap (λ ws. machine ws input limit cells space) (take-filled (codeIn p) rest (code-fits p)))
-      (faithful-words (room - length (codeIn p)) (placeIn text) (parsed p) (well-scoped p named typed) (within-limits p) input cells space)
+  faithful-left : Follows (onCode (filled (codeIn p) ++ rest)) (placeIn text) (parsed p)
+  faithful-left =
+      follows-as (onCode (filled (codeIn p) ++ rest)) (onWords (room - length (codeIn p)) (placeIn text) (parsed p)) (placeIn text) (parsed p)
+      (λ input limit cells space. ap (λ ws. machine ws input limit cells space) (take-filled (codeIn p) rest (code-fits p)))
+      (faithful-words (room - length (codeIn p)) (placeIn text) (parsed p) (well-scoped p named typed) (within-limits p))
 
 -- demand 3 of what translate leaves
 pub faith : {text old new : List ℕ} {v : Verdict} → Translates text old v new → RunsAs text v new
-faith (too-short h) = tt
-faith (enough h v ws (refused r j)) = tt
-faith {text} {old} (enough h v ws (accepted p n t)) = λ p' input cells space.
-    subst (λ (s : Statement). Follows (onThese (filled (codeIn p) ++ drop room old)) (placeIn text) s input cells space) (one-program p p') (faithful-left p n t (drop room old) input cells space)
+faith (too-short h) = λ z. absurd (omega (arith, z))
+faith {text} {old} (enough h v ws (refused r j)) = λ z. absurd (refused-accepted (zero-judged j z))
+faith {text} {old} (enough h v ws (accepted p n t)) = λ z p'.
+    subst (λ (s : Statement). Follows (onCode (filled (codeIn p) ++ drop room old)) (placeIn text) s) (one-program p p') (faithful-left p n t (drop room old))
 
--- ---- both jobs
+-- what a run of translated code hands back and leaves is what the source rules say
+pub deed : {text old new : List ℕ} {v : Verdict} → Translates text old v new → numberOf v ≡ 0 → (p : Parsed text) (input : List ℤ) (limit : ℕ) (store output : List ℤ) {e : Exit}
+    → e ≡ job new input limit store output → Deed p input limit store output e
+deed {new = new} w z p input limit store output h =
+    (onCode new input limit (used store) (length output), h, faith w z p input (used store) (length output) limit)
 
-module _ (f : Finish) (store output store' output' : List ℤ) (r : Ran) (e : exit r store' output' ≡ afterwards f store output) where
-  stopped : r .stop ≡ f .stop
-  unfolding afterwards
-  stopped = ap (λ x. x .ran .stop) e
-
-  took : r .taken ≡ f .taken
-  unfolding afterwards
-  took = ap (λ x. x .ran .taken) e
-
-  wrote : r .written ≡ length (f .written)
-  unfolding afterwards
-  wrote = ap (λ x. x .ran .written) e
-
-  left : output' ≡ f .written ++ drop (length (f .written)) output
-  unfolding afterwards
-  left = ap (λ x. x .output) e
-
-  begun : take (r .written) output' ≡ f .written
-  begun = ap (λ k. take k output') wrote ∙ ap (take (length (f .written))) left ∙ take-append-seam (f .written) (drop (length (f .written)) output)
-
-  shown : (o : Trace) → (f .written ≡ o .written) × (f .taken ≡ o .taken) → Shown r output output' o
-  shown o h = (left ∙ ap (λ w. w ++ drop (length w) output) (h .0), took ∙ h .1, wrote ∙ ap length (h .0))
-
--- what a run of translated code hands back is what the source rules say
-pub deed : {text old new : List ℕ} → Translates text old Accepted new → (p : Parsed text) (input : List ℤ) (limit : ℕ) (store output store' output' : List ℤ) (r : Ran)
-    → exit r store' output' ≡ afterwards (machine (take room new) input limit (used store) (length output)) store output
-    → Deed p input limit store output output' r
-deed {text} {old} {new} w p input limit store output store' output' r e =
-    let F = faith w p input (used store) (length output) in
-    let f = machine (take room new) input limit (used store) (length output) in
-    let same = stopped f store output store' output' r e in
-    let show = shown f store output store' output' r e in
-    let b = begun f store output store' output' r e in
-    record {
-      same-answer = λ h.
-          let z = F .same-answer limit (λ q. h (same ∙ q)) in
-          (z .0, z .1, z .2, z .3 ∙ ap (λ q. done q (z .1) (z .2)) (sym same), show (z .2) (z .4));
-      enough = λ t n q o h l.
-          let z = F .enough limit t n q o h l in
-          (same ∙ z .0, show o (z .1));
-      a-beginning = λ t n q o h k. subst (λ (x : List ℤ). Begins x (o .written)) (sym b) (F .a-beginning limit t n q o (sym same ∙ h) k);
-      so-much = λ t n o s h k l. subst (Begins (o .written)) (sym b) (F .so-much limit t n o s (sym same ∙ h) k l);
-    }
+-- how the run finished can be read off what it leaves: so a deed says it of one finish
+pub one-finish : (f f' : Finish) (store output : List ℤ) → afterwards f store output ≡ afterwards f' store output → f ≡ f'
+unfolding afterwards
+one-finish f f' store output h =
+    let b : (x : Finish) → take (length (x .written)) (x .written ++ drop (length (x .written)) output) ≡ x .written =
+    λ x. take-append-seam (x .written) (drop (length (x .written)) output) in
+    let w : f .written ≡ f' .written = sym (b f) ∙ ap (λ (x : Exit). take (x .ran .written) (x .output)) h ∙ b f' in
+    λ i. record { stop = h i .ran .stop; done = h i .ran .done; taken = h i .ran .taken; written = w i }
 
 -- ---- what is left to say of every source
 
@@ -115,14 +88,8 @@ few-enough l m = omega arith
 
 one-translation : {text ws ws' : List ℕ} {v v' : Verdict} → Translated text v ws → Translated text v' ws' → (v ≡ v') × (ws ≡ ws')
 one-translation (refused r j) (refused r' j') = (one-judgement j j' .0, refl)
-one-translation (refused r j) (accepted p n t) = absurd (apart (one-judgement j (judged-right p n t) .0))
-  where
-    apart : {r : Refusal} → Refused r ≡ Accepted → ⊥
-    apart e = let z : _≡_ {A = ℕ} 0 1 = cc in omega arith
-one-translation (accepted p n t) (refused r j) = absurd (apart (one-judgement (judged-right p n t) j .0))
-  where
-    apart : {r : Refusal} → Accepted ≡ Refused r → ⊥
-    apart e = let z : _≡_ {A = ℕ} 0 1 = cc in omega arith
+one-translation (refused r j) (accepted p n t) = absurd (refused-accepted (one-judgement j (judged-right p n t) .0))
+one-translation (accepted p n t) (refused r j) = absurd (refused-accepted (sym (one-judgement (judged-right p n t) j .0)))
 one-translation {text} (accepted p n t) (accepted p' n' t') = (refl, ap (λ s. filled (words (code (placeIn text) s))) (one-program p p'))
 
 -- one answer for each source and code, and one code afterwards
@@ -135,19 +102,22 @@ only {text} {old} (enough l v ws j) (enough m v' ws' j') =
     (e .0, ap (λ w. w ++ drop room old) (e .1))
 
 -- running the code of a refused source answers 29 at 0, where there was room for it
-pub refused-runs : {text old new : List ℕ} (r : Refusal) → room ≤ length old → Translates text old (Refused r) new → (input : List ℤ) (limit cells space : ℕ)
-    → machine (take room new) input (suc limit) cells space ≡ record { stop = Wrong (record { at = 0 }); done = 1; taken = 0; written = [] }
-refused-runs r h (too-short l) input limit cells space = absurd (few-enough l h)
-refused-runs {text} {old} r h (enough l v ws (refused r' j)) input limit cells space =
+pub refused-runs : {text old new : List ℕ} {v : Verdict} → room ≤ length old → Translates text old v new → (¬ (numberOf v ≡ 0)) → (input : List ℤ) (limit cells space : ℕ)
+    → onCode new input (suc limit) cells space ≡ record { stop = Wrong (record { at = 0 }); done = 1; taken = 0; written = [] }
+refused-runs h (too-short l) z input limit cells space = absurd (few-enough l h)
+refused-runs {text} {old} h (enough l v ws (refused r j)) z input limit cells space =
     let e : length (replicate {A = ℕ} room 0) ≡ room = length-replicate {A = ℕ} room 0 in
     ap (λ k. machine (take k (replicate room 0 ++ drop room old)) input (suc limit) cells space) (sym e)
     ∙ ap (λ ws. machine ws input (suc limit) cells space) (take-append-seam (replicate {A = ℕ} room 0) (drop room old))
     ∙ zero-words room input limit cells space
+refused-runs h (enough l v ws (accepted p n t)) z input limit cells space = absurd (z refl)
 
 -- a translated program never stops with 29: it ends, or stops with 21 to 28, or at its limit
-pub never-wrong : {text old new : List ℕ} → Translates text old Accepted new → (input : List ℤ) (limit cells space : ℕ)
-    → Ordinary (machine (take room new) input limit cells space .stop) ⊎ (machine (take room new) input limit cells space .stop ≡ Limit)
-never-wrong {text} {old} (enough h v ws (accepted p n t)) input limit cells space =
+pub never-wrong : {text old new : List ℕ} {v : Verdict} → Translates text old v new → numberOf v ≡ 0 → (input : List ℤ) (limit cells space : ℕ)
+    → Ordinary (onCode new input limit cells space .stop) ⊎ (onCode new input limit cells space .stop ≡ Limit)
+never-wrong (too-short l) z input limit cells space = absurd (omega (arith, z))
+never-wrong (enough h v ws (refused r j)) z input limit cells space = absurd (refused-accepted (zero-judged j z))
+never-wrong {text} {old} (enough h v ws (accepted p n t)) z input limit cells space =
     let e : machine (take room (filled (codeIn p) ++ drop room old)) input limit cells space ≡ machineIn (code (placeIn text) (parsed p)) input limit cells space =
     ap (λ ws. machine ws input limit cells space) (take-filled (codeIn p) (drop room old) (code-fits p))
     ∙ same-machine (code (placeIn text) (parsed p)) (room - length (codeIn p)) (in-range (placeIn text) (parsed p) (within-limits p)) input limit cells space in

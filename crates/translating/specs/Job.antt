@@ -1,27 +1,22 @@
 -- Paper 01, "Numbered answers": what translate ("source to code") answers for a source and code, and what the code holds afterwards.
-use Prim.Native.Nat.{ℕ, _+_, _*_, _-_, _<_, _≤_}
+use Prim.Native.Nat.{ℕ, _-_, _<_, _≤_}
 use mathlib.Core.Path.{_≡_}
 use mathlib.Core.List.{List, _++_}
 use mathlib.Core.Option.{none}
 use lib.IntN.{ℤ}
-use lib.ListN.{length, take, drop, replicate}
+use lib.ListN.{length, drop, replicate}
 use Rattle.answers.specs.Numbers.{short}
-use Rattle.answers.specs.Answers.{refusal}
+use Rattle.answers.specs.Answers.{refusal, numberOf}
 use Rattle.answers.specs.declared.Refusal.{Refusal}
 use Rattle.answers.specs.declared.Verdict.{Verdict}
 use Rattle.answers.specs.declared.Verdict.the-variants.{Accepted, Refused}
 use Rattle.names.specs.Uses.{nameFaults, least}
 use Rattle.types.specs.Types.{typeFault}
 use Rattle.reading.specs.Reading.{placeIn, cleared, Parsed, parsed, Judged}
-use Rattle.answers.specs.declared.Stop.{Stop}
-use Rattle.answers.specs.declared.Stop.the-variants.{Limit}
-use Rattle.machine.specs.Run.{Trace, done, over}
-use Rattle.machine.specs.Machine.{machine, used}
-use Rattle.machine.specs.declared.Ran.{Ran}
-use Rattle.rules.specs.Rules.{State, source}
+use Rattle.machine.specs.Machine.{Finish, onCode, used, Exit, afterwards}
 use Rattle.translation.specs.Translate.{code}
 use Rattle.translation.specs.Words.{words}
-use Rattle.translation.specs.Faithful.{Machine, Begins, Follows}
+use Rattle.translation.specs.Faithful.{AsRules, Follows}
 
 -- ---- the first 16,384 words of the code
 
@@ -49,31 +44,13 @@ pub data Translates (text old : List ℕ) : Verdict → List ℕ → Type 0 wher
   too-short : length old < room → Translates text old (Refused (refusal short 0)) old
   enough : room ≤ length old → (v : Verdict) (ws : List ℕ) → Translated text v ws → Translates text old v (ws ++ drop room old)
 
--- ---- demand 3 of the words that are left: the machine on them does what the source rules say of the source's program
+-- ---- demand 3
 
--- our machine on these words, whatever instructions are meant
-abbrev pub onThese : List ℕ → Machine
-onThese ws p input limit cells space = machine (take room ws) input limit cells space
-
+-- of the words that are left: the machine on them does what the source rules say of the source's program
 abbrev pub RunsAs : List ℕ → Verdict → List ℕ → Type 0
-RunsAs text Accepted ws = (p : Parsed text) (input : List ℤ) (cells space : ℕ) → Follows (onThese ws) (placeIn text) (parsed p) input cells space
-RunsAs text (Refused r) ws = Unit {0}
+RunsAs text v ws = numberOf v ≡ 0 → (p : Parsed text) → Follows (onCode ws) (placeIn text) (parsed p)
 
--- ---- translate, then run: what the second job hands back and leaves, of the source's program
-
--- what was written stands at the output's beginning, and the counts say so
-abbrev pub Shown : Ran → List ℤ → List ℤ → Trace → Type 0
-Shown r output output' o = (output' ≡ o .written ++ drop (length (o .written)) output) × (r .taken ≡ o .taken) × (r .written ≡ length (o .written))
-
-pub record Deed {text : List ℕ} (p : Parsed text) (input : List ℤ) (limit : ℕ) (store output output' : List ℤ) (r : Ran) : Type 0 where
-  -- (1) if the machine stops before its limit, the source run stops with the same answer, place, outputs and numbers taken
-  pub same-answer : (¬ (r .stop ≡ Limit)) → (t n : ℕ) × (o : Trace) × (source (placeIn text) (parsed p) input (used store) (length output) t ≡ done (r .stop) n o) × Shown r output output' o
-  -- (2) if the source run stops after n steps, a limit of 16 n + 16 is always enough
-  pub enough : (t n : ℕ) (q : Stop) (o : Trace) → source (placeIn text) (parsed p) input (used store) (length output) t ≡ done q n o → 16 * n + 16 ≤ limit
-      → (r .stop ≡ q) × Shown r output output' o
-  -- (3) a machine stopped by its limit has written a beginning of what the source run writes
-  pub a-beginning : (t n : ℕ) (q : Stop) (o : Trace) → r .stop ≡ Limit → source (placeIn text) (parsed p) input (used store) (length output) t ≡ done q n o
-      → Begins (take (r .written) output') (o .written)
-  -- .. and no less than its first n steps write when the limit is 16 n + 16 or more
-  pub so-much : (t n : ℕ) (o : Trace) (s : State) → r .stop ≡ Limit → source (placeIn text) (parsed p) input (used store) (length output) t ≡ over n o s → 16 * n + 16 ≤ limit
-      → Begins (o .written) (take (r .written) output')
+-- of translate, then run: what the second job hands back and leaves is what a run leaves that did so
+abbrev pub Deed : {text : List ℕ} → Parsed text → List ℤ → ℕ → List ℤ → List ℤ → Exit → Type 0
+Deed {text} p input limit store output e =
+    (f : Finish) × (e ≡ afterwards f store output) × AsRules (placeIn text) (parsed p) input (used store) (length output) limit f

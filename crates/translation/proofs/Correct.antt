@@ -17,7 +17,7 @@ use Rattle.rules.specs.Rules.{State, beginning, source, sstep}
 use Rattle.translation.specs.Translate.{codeS, code}
 use Rattle.translation.specs.Scoped.{Scoped}
 use Rattle.translation.specs.Listed.{stepIn, machineIn}
-use Rattle.translation.specs.Faithful.{Begins, Tells, Ordinary, Follows, Faithful}
+use Rattle.translation.specs.Faithful.{Begins, Tells, Ordinary, AsRules, Runner, Faithful}
 use Rattle.translation.proofs.Sim as Sim
 use Rattle.translation.proofs.Stands.{CodeAt, pastS, whole}
 use Rattle.translation.proofs.Chain.{root}
@@ -98,16 +98,20 @@ module _ (place : ℕ → ℕ) (s : Statement) (ok : Scoped s) (input : List ℤ
   unfolding machineIn
   machine-answers limit = ordinary (ran limit) limit refl
 
-  follows : Follows machineIn place s input room space
+  follows : (limit : ℕ) → AsRules place s input room space limit (machineIn (code place s) input limit room space)
   unfolding machineIn
-  follows = record {
-    same-answer = λ limit h. same-answer (ran limit) limit refl h;
-    enough = λ limit t n q o e h. enough limit t n q o e h;
-    some-time = λ limit h. some-time (ran limit) limit refl h;
-    a-beginning = λ limit t n q o h e. a-beginning (ran limit) limit refl t n q o h e;
-    so-much = λ limit t n o s' h e le. so-much (ran limit) limit refl t n o s' h e le;
+  follows limit = record {
+    same-answer = same-answer (ran limit) limit refl;
+    enough = enough limit;
+    some-time = some-time (ran limit) limit refl;
+    a-beginning = a-beginning (ran limit) limit refl;
+    so-much = so-much (ran limit) limit refl;
   }
 
+-- the machine on the instructions of a program's translation
+abbrev pub translated : Runner
+translated place s = machineIn (code place s)
+
 -- demand 3
-pub faithful : Faithful machineIn
+pub faithful : Faithful translated
 faithful = follows

@@ -10,19 +10,17 @@ use Rattle.answers.specs.declared.Stop.{Stop}
 use Rattle.answers.specs.declared.Stop.the-variants.{Ended, Limit}
 use Rattle.symbols.specs.Names.{sameName, equal as equalBytes}
 use Rattle.machine.specs.Values.{whole, apply1, apply2, past}
-use Rattle.machine.specs.Run.{done, run}
+use Rattle.machine.specs.Run.{Trace, done, run}
 use Rattle.machine.specs.Data.{lift, guard, check, newCells, newest, onValue, back, look, put, reading, valued, hold, unhold, held, input, space, rest, spend, taking, writing, work, test, openBlock, closeBlock, enter, given, leave}
-use Rattle.machine.specs.Instructions.{Instr}
-use Rattle.machine.specs.Machine.{Finish}
-use Rattle.names.specs.Program.{count}
+use Rattle.names.specs.Program.{Statement, count}
 use Rattle.names.specs.Scopes.{has, specified, variablesIn, inBlock, inBody, findIn, findGiven, meaning}
 use Rattle.rules.specs.Entered.{total, before, cut, declaring, bodyOfThis, cellOf}
 use Rattle.rules.specs.Calls.{primary, command}
 use Rattle.rules.specs.Rules.{evaluate, perform, calling, sstep, source}
 use Rattle.rules.specs.Samples.{factorial}
 use Rattle.translation.specs.Scoped.{nearest, Scoped}
-use Rattle.translation.specs.Listed.{machineIn}
-use Rattle.translation.specs.Faithful.{Machine, Faithful}
+use Rattle.translation.specs.Faithful.{Machine, Follows, Runner, Faithful}
+use Rattle.translation.proofs.Correct.{translated}
 
 -- M12, by the source rules: 120 after 80 steps
 scoped : Scoped factorial
@@ -35,22 +33,26 @@ runs = refl
 
 -- "A machine that stops at once with nothing written breaks demand 3 on any program that writes a number."
 abbrev lazy : Machine
-lazy p input limit room space = record { stop = Ended; done = 1; taken = 0; written = [] }
+lazy input limit room space = record { stop = Ended; done = 1; taken = 0; written = [] }
 
-pub not-lazy : Faithful lazy → ⊥
-not-lazy f =
-    let w = f (λ q. q) factorial scoped [] 100 9 .enough 1296 400 80 Ended _ runs (omega arith) in
-    let e : _≡_ {A = ℕ} 0 1 = ap length (w .1 .0) in
+pub lazy-breaks : (place : ℕ → ℕ) (s : Statement) (input : List ℤ) (room space t n : ℕ) (q : Stop) (o : Trace) (v : ℤ) (w : List ℤ)
+    → source place s input room space t ≡ done q n o → o .written ≡ v ∷ w → Follows lazy place s → ⊥
+lazy-breaks place s input room space t n q o v w e h f =
+    let k = f input room space (16 * n + 16) .enough t n q o e (omega arith) in
+    let z : _≡_ {A = ℕ} 0 (suc (length w)) = ap length (k .1 .0 ∙ h) in
     omega arith
 
+pub not-lazy : Faithful (λ place s. lazy) → ⊥
+not-lazy f = lazy-breaks (λ q. q) factorial [] 100 9 400 80 Ended _ (pos 120) [] runs refl (f (λ q. q) factorial scoped)
+
 -- "One that performs the first statement and then only counts breaks it on M12": whatever the first n instructions are, and it writes what they write
-abbrev counting : ℕ → Machine
-counting n p input limit room space =
-    let f = machineIn p input (min limit n) room space in
+abbrev counting : ℕ → Runner
+counting n place s input limit room space =
+    let f = translated place s input (min limit n) room space in
     record { stop = Limit; done = limit; taken = f .taken; written = f .written }
 
 pub not-counting : (n : ℕ) → Faithful (counting n) → ⊥
 not-counting n f =
-    let w = f (λ q. q) factorial scoped [] 100 9 .enough 1296 400 80 Ended _ runs (omega arith) in
+    let w = f (λ q. q) factorial scoped [] 100 9 1296 .enough 400 80 Ended _ runs (omega arith) in
     let e : _≡_ {A = ℕ} 20 0 = ap stopNumber (w .0) in
     omega arith

@@ -17,7 +17,9 @@ new-requires : tie.Need-new-requires
 new-requires c κs = search needs
 
 returns : tie.Need-returns
-returns c = (as-short (c .before .if1 .taken) (c .new .ensures), tt)
+returns c =
+    let w = as-short (c .before .if1 .taken) (c .new .ensures) in
+    (w, faith w)
 
 slice-relend-prefix-judged : tie.Need-slice-relend-prefix-judged
 slice-relend-prefix-judged c = search needs
