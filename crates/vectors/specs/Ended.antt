@@ -13,7 +13,7 @@ use Rattle.answers.specs.Answers.{stopNumber, stopPlace}
 use Rattle.answers.specs.declared.Stop.{Stop}
 use Rattle.answers.specs.declared.Verdict.{Verdict}
 use Rattle.machine.specs.Values.{same}
-use Rattle.machine.specs.Machine.{Exit, machine, used, afterwards}
+use Rattle.machine.specs.Machine.{Exit, job}
 use Rattle.machine.specs.declared.Ran.{Ran}
 use Rattle.translating.specs.Job.{Translates}
 use Rattle.vectors.specs.declared.texts.Numeral.{Numeral}
@@ -81,10 +81,6 @@ afterStop r output text from t = afterPlace r output text (numberAt text from) (
 abbrev pub afterExit : Exit → List ℕ → ℕ → Tally → Tally
 afterExit e text from t = afterStop (e .ran) (e .output) text from (checked (allAre (pos 0) (e .store)) t)
 
--- what the machine does with these
-abbrev pub runOf : List ℕ → List ℤ → ℕ → List ℤ → List ℤ → Exit
-runOf code input limit store output = afterwards (machine (take 16384 code) input limit (used store) (length output)) store output
-
 -- what is lent: the store holds 7 before, and the output 9
 unfoldable pub freshStore : List ℤ
 freshStore = replicate 8192 (pos 7)
@@ -105,7 +101,7 @@ afterSupplied code input text from t =
     let cells : Numeral = numberAt text from in
     let space : Numeral = numberAt text (cells .next) in
     let limit : Numeral = numberAt text (space .next) in
-    afterExit (runOf code input (limit .value) (storeOf cells) (outputOf space)) text (limit .next) t
+    afterExit (job code input (limit .value) (storeOf cells) (outputOf space)) text (limit .next) t
 
 -- the run that is listed from a place on, with at most 128 inputs
 unfoldable pub afterListed : List ℕ → List ℕ → ℕ → Tally → Tally
@@ -118,7 +114,7 @@ afterListed code text from t =
 
 -- whether the code is no instruction at its start
 unfoldable pub strays : List ℕ → ℕ → Bool
-strays code limit = stoppedBy (runOf code (pos 0 ∷ []) limit (pos 0 ∷ []) (pos 0 ∷ []) .ran .stop) noInstruction 0
+strays code limit = stoppedBy (job code (pos 0 ∷ []) limit (pos 0 ∷ []) (pos 0 ∷ []) .ran .stop) noInstruction 0
 
 -- the code of a refused source is zero, and no instruction
 unfoldable pub afterRefused : List ℕ → Tally → Tally

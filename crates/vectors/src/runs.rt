@@ -18,7 +18,8 @@ ghost use Prim.Native.Nat.{_-_};
 ghost use lib.IntN.{pos};
 ghost use lib.ListN.{length, drop};
 ghost use mathlib.Core.List.{[], _∷_};
-ghost use Rattle.vectors.specs.Ended.{numbers, after, begins, allAre, allWords, afterSteps, afterWritten, afterStop, afterExit, runOf, freshStore, freshOutput, afterSupplied, afterListed, strays, afterRefused, TranslateTold};
+ghost use Rattle.machine.specs.Machine.{job};
+ghost use Rattle.vectors.specs.Ended.{numbers, after, begins, allAre, allWords, afterSteps, afterWritten, afterStop, afterExit, freshStore, freshOutput, afterSupplied, afterListed, strays, afterRefused, TranslateTold};
 ghost use Rattle.vectors.specs.Listed.{numberAt};
 
 // The words that are lent hold this before, and the words behind the first 16,384 afterwards.
@@ -218,7 +219,7 @@ fn ran(
     text: &[u8],
     from: usize,
 ) -> Tally
-    ensures { λ r. ⌜ r ≡ afterExit (runOf (now (code .entry)) (now (input .entry)) limit (now (store .entry)) (now (output .entry))) (now (text .entry)) from t ⌝ }
+    ensures { λ r. ⌜ r ≡ afterExit (job (now (code .entry)) (now (input .entry)) limit (now (store .entry)) (now (output .entry))) (now (text .entry)) from t ⌝ }
 {
     let r = run(code, input, limit, store, output);
     let told = t.check(all_zero(store), name, b"a store number is left");

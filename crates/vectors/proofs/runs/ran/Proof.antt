@@ -5,11 +5,11 @@ use mathlib.Core.Bool.{Bool}
 use mathlib.Core.List.{List}
 use Prim.Native.Nat.{ℕ}
 use lib.IntN.{ℤ, pos}
-use Rattle.machine.specs.Machine.{Exit, exit}
+use Rattle.machine.specs.Machine.{Exit, exit, job}
 use Rattle.machine.specs.declared.Ran.{Ran}
 use Rattle.vectors.specs.declared.tally.Tally.{Tally}
 use Rattle.vectors.specs.Listed.{checked}
-use Rattle.vectors.specs.Ended.{allAre, afterStop, afterExit, runOf}
+use Rattle.vectors.specs.Ended.{allAre, afterStop, afterExit}
 use borrow.Author.Needs.{needs}
 use Rattle.vectors.proofs.runs.ran.Statement.{statement}
 use Rattle.vectors.proofs.runs.ran.Tie as tie
@@ -44,7 +44,7 @@ same-length-2 c = search needs
 returns : tie.Need-returns
 returns c =
     let a = c .before .before .before .before .before .before .before .before .before .before .before .before .before .before .args in
-    compared (runOf (a .code .now) (a .input .now) (a .limit) (a .store .now) (a .output .now)) (a .text .now) (a .from) (a .t) (c .before .before .check .result) (c .stopped .result) (c .before .before .before .before .before .before .before .before .run .result) _ _ (c .before .before .before .before .all-zero .result)
+    compared (job (a .code .now) (a .input .now) (a .limit) (a .store .now) (a .output .now)) (a .text .now) (a .from) (a .t) (c .before .before .check .result) (c .stopped .result) (c .before .before .before .before .before .before .before .before .run .result) _ _ (c .before .before .before .before .all-zero .result)
     (c .before .before .before .before .before .before .before .before .run .ensures) (c .before .before .before .before .all-zero .ensures) (c .before .before .check .ensures) (c .stopped .ensures)
 
 pub ran-spec : {M : Type 1} → statement M

@@ -4,15 +4,15 @@ use mathlib.Core.Path.{_≡_, ap, _∙_}
 use mathlib.Core.List.{List, [], _∷_}
 use Prim.Native.Nat.{ℕ}
 use lib.IntN.{ℤ, pos}
-use Rattle.machine.specs.Machine.{Exit, exit}
+use Rattle.machine.specs.Machine.{Exit, exit, job}
 use Rattle.machine.specs.declared.Ran.{Ran}
-use Rattle.vectors.specs.Ended.{stoppedBy, runOf, strays}
+use Rattle.vectors.specs.Ended.{stoppedBy, strays}
 use Rattle.vectors.proofs.Laws.{same-stop, other-stop}
 use borrow.Author.Needs.{needs}
 use Rattle.vectors.proofs.runs.stray.Statement.{statement}
 use Rattle.vectors.proofs.runs.stray.Tie as tie
 
-on-these : (code : List ℕ) (limit : ℕ) (r : Ran) (s o : List ℤ) → exit r s o ≡ runOf code (pos 0 ∷ []) limit (pos 0 ∷ []) (pos 0 ∷ []) → stoppedBy (r .stop) 29 0 ≡ strays code limit
+on-these : (code : List ℕ) (limit : ℕ) (r : Ran) (s o : List ℤ) → exit r s o ≡ job code (pos 0 ∷ []) limit (pos 0 ∷ []) (pos 0 ∷ []) → stoppedBy (r .stop) 29 0 ≡ strays code limit
 unfolding strays
 on-these code limit r s o e = ap (λ (x : Exit). stoppedBy (x .ran .stop) 29 0) e
 

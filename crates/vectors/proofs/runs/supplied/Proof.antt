@@ -6,10 +6,11 @@ use Prim.Native.Nat.{ℕ, min}
 use lib.IntN.{ℤ}
 use lib.ListN.{length, take}
 use lib.Seq.{length-take-le}
+use Rattle.machine.specs.Machine.{job}
 use Rattle.vectors.specs.declared.texts.Numeral.{Numeral}
 use Rattle.vectors.specs.declared.tally.Tally.{Tally}
 use Rattle.vectors.specs.Listed.{numberAt}
-use Rattle.vectors.specs.Ended.{numbers, after, afterExit, runOf, freshStore, freshOutput, afterSupplied}
+use Rattle.vectors.specs.Ended.{numbers, after, afterExit, freshStore, freshOutput, afterSupplied}
 use borrow.Author.Needs.{needs}
 use Rattle.vectors.proofs.runs.supplied.Statement.{statement}
 use Rattle.vectors.proofs.runs.supplied.Tie as tie
@@ -24,7 +25,7 @@ in-turn : (code text : List ℕ) (count from : ℕ) (t u : Tally) (next p q : �
     → q ≡ min (y .value) 512
     → store ≡ freshStore
     → output ≡ freshOutput
-    → u ≡ afterExit (runOf code input (z .value) (take p store) (take q output)) text (z .next) t
+    → u ≡ afterExit (job code input (z .value) (take p store) (take q output)) text (z .next) t
     → u ≡ afterSupplied code (numbers text count from) text (after text count from) t
 unfolding afterSupplied
 in-turn code text count from t u next p q input store output x y z e1 e2 e3 e4 e5 e6 e7 e8 e9 e10 = cc
