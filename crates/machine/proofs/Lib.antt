@@ -9,3 +9,4 @@ pub mod Told
 pub mod Execs
 pub mod Limits
 pub mod Runs
+pub mod Order
