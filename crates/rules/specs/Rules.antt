@@ -189,7 +189,7 @@ module _ (place : ℕ → ℕ) where
   perform no-command x es k v d = halt noRule
 
   -- ---- calls: "An activation is counted after the actuals." The actuals' cells become the formals'; the body runs in the environment that the
-  -- procedure's declaration has
+  -- procedure's declaration has. "The program and environment calls are no activations": nothing else counts one (`enter`)
 
   abbrev pub entering : Thing → Name → Fate → List Task → List Entry → Data → Out State
   entering (variable t) x f k v d = halt noRule
@@ -247,6 +247,7 @@ module _ (place : ℕ → ℕ) where
   sstep (st (drop ∷ k) v d) = lift noRule 0 (st k v) (doing forget v d)
   sstep (st (pick c ∷ k) v d) = lift noRule (counts c) (byTest (st (yes c k) v) (st (no c k) v)) (testing condition v d)
   sstep (st (hold s ∷ k) v d) = lift noRule 0 (st (tested s ∷ k) v) (doing keep v d)
+  -- "The test and addition of a step element take no cell of their own": they read the variable where it stands
   sstep (st (tested s ∷ k) v d) = lift noRule 1 (byTest (st (again s k) v) (st (through s k) v)) (testing (tries s) v d)
   sstep (st (add s ∷ k) v d) = lift noRule 1 (st (tested s ∷ k) v) (doing (adds s) v d)
   sstep (st (invoke x f ∷ k) v d) = calling (meaning (scopesOf v) x) x f k v d

@@ -16,7 +16,7 @@ use Rattle.names.specs.Program.{count}
 use Rattle.names.specs.Scopes.{has, specified, variablesIn, inBlock, inBody, findIn, findGiven, meaning}
 use Rattle.rules.specs.Entered.{total, before, declaring, bodyOfThis}
 use Rattle.rules.specs.Calls.{primary, command}
-use Rattle.rules.specs.Samples.{Row, empty, s1, one-call, as-statement, needed, both-sides, over-i, m6, m7, below-three, mixed, factorial, callers, table}
+use Rattle.rules.specs.Samples.{Row, empty, s1, one-call, as-statement, needed, both-sides, over-i, m6, m7, below-three, mixed, factorial, callers, endless, table}
 use Rattle.translation.specs.Translate.{cutG, levels, loc, endE, endEs, endL, endStores, endS, endSs, endDs, endP, entry, codeE, codeEs, codeL, codeStores, codeS, codeSs, codeDs, codeP, code}
 use Rattle.translation.specs.Listed.{instructionAt, stepIn, machineIn}
 
@@ -37,5 +37,5 @@ abbrev says : Row → Came
 says r = record { stop = r .stop; written = r .written; taken = r .taken; few = true }
 
 holds : map comes table ≡ map says table
-unfolding run lift guard check newCells newest onValue back look put reading valued hold unhold held input space rest spend taking writing work test openBlock closeBlock enter given leave whole apply1 apply2 past finish frameAt walk cellIn exec obey declaring bodyOfThis total before count primary command meaning findIn findGiven inBlock inBody variablesIn specified has sameName equalBytes cutG levels loc endE endL endStores endS entry codeE codeL codeStores codeS code instructionAt stepIn machineIn table empty s1 one-call as-statement needed both-sides over-i m6 m7 below-three mixed factorial callers
+unfolding run lift guard check newCells newest onValue back look put reading valued hold unhold held input space rest spend taking writing work test openBlock closeBlock enter given leave whole apply1 apply2 past finish frameAt walk cellIn exec obey declaring bodyOfThis total before count primary command meaning findIn findGiven inBlock inBody variablesIn specified has sameName equalBytes cutG levels loc endE endL endStores endS entry codeE codeL codeStores codeS code instructionAt stepIn machineIn table empty s1 one-call as-statement needed both-sides over-i m6 m7 below-three mixed factorial callers endless
 holds = refl

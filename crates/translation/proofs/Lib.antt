@@ -12,5 +12,4 @@ pub mod Words
 pub mod Sizes
 pub mod Ranges
 pub mod Lengths
-pub mod Widths
 pub mod OnWords

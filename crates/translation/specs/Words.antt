@@ -116,13 +116,3 @@ InstrFits (DO a) = ActFits a
 abbrev pub CodeFits : List Instr → Type 0
 CodeFits [] = Unit {0}
 CodeFits (i ∷ p) = InstrFits i × CodeFits p
-
--- ---- words of 32 bits
-
-abbrev pub PlacesFit : List Instr → Type 0
-PlacesFit [] = Unit {0}
-PlacesFit (i ∷ p) = (partsOf i .place < 67108864) × PlacesFit p
-
-abbrev pub WordsFit : List ℕ → Type 0
-WordsFit [] = Unit {0}
-WordsFit (w ∷ ws) = (w < 4294967296) × WordsFit ws
