@@ -12,22 +12,22 @@ use Rattle.answers.specs.declared.Stop.{Stop}
 use Rattle.machine.specs.Values
 use Rattle.machine.specs.Values.{truth}
 use Rattle.machine.specs.Run.{Event, quiet, Out, halt, next}
-use Rattle.machine.specs.Data.{Data, cells, Res, bad, wrong, good, lift, guard, Act, push, load, store, assign, reserve, forget, receive, send, keep, bump, unary, binary, actOn, work, downs, Two, yea, nay, either as byTest, Test, condition, upto, testOn, test, downsT, openBlock, closeBlock, enter, Fate, kept, gone, stays, leave}
-use Rattle.machine.specs.Instructions.{Instr, DO, IF, GO, CALL, NEXT}
-use Rattle.machine.specs.Machine.{Frame, fr, Mach, ms, frameAt, baseOf, base, walk, floor, cellIn, stray, exec, obey}
+use Rattle.machine.specs.Data.{Data, dat, cells, Res, bad, wrong, good, lift, guard, Act, push, load, store, assign, reserve, forget, receive, send, keep, bump, unary, binary, actOn, work, downs, Two, yea, nay, either as byTest, Test, condition, upto, testOn, test, downsT, openBlock, closeBlock, enter, Fate, kept, gone, stays, leave}
+use Rattle.machine.specs.Instructions.{Instr, END, DO, IF, GO, CALL, NEXT}
+use Rattle.machine.specs.Machine.{Frame, fr, Mach, ms, frameAt, baseOf, base, walk, floor, cellIn, stray, exec, obey, start}
 use Rattle.names.specs.Program.{Name, Sort, Sign, positive, negative, negation, Expression, number, logical, name, call, signed, operated, chosen, nested, Expressions, done, then, count, Element, value, while, step, Statement, dummy, assignment, procedure, when, either, repeat, compound, block, Statements, last, first, Declarations, Procedure, heading}
 use Rattle.names.specs.Scopes.{Thing, routine, Scope, ofBlock, ofBody, sortOf, bodyOf, Meaning, declared, given, nothing, meaning}
 use Rattle.rules.specs.Entered.{Entry, entered, scopesOf, oneIf, cellsIn, cut, declaring, cellOf}
 use Rattle.rules.specs.Calls.{Primary, held, function, absolute, greatest, no-primary, primary, Command, routine-of, absolute-of, greatest-of, input-to, output-of, no-command, command, thingTold, into, givenTold}
-use Rattle.rules.specs.Rules.{Choice, expressions, statements, only, whiling, Stepping, stepping, Task, ev, evs, ex, exs, stores, loop, act, unchanged, drop, pick, hold, tested, add, invoke, close, return, State, st, noRule, binaryOf, maxint, doing, testing, at, applied, evaluate, calls, perform, entering, calling, sstep}
-use Rattle.translation.specs.Translate.{Mark, blk, own, scopes, cutG, levels, loc, reach, target, endName, endE, endEs, endL, onward, endStores, endCall, endCommand, endS, endSs, endDs, CALLS, codeName, codeE, codeEs, codeL, codeStores, codeCall, codeCommand, codeS, codeSs, codeDs, codeP}
-use Rattle.translation.specs.Scoped.{OkV, OkVs, OkE, OkEs, OkL, OkS, OkSs, OkP, OkCall, OkPrimary, OkCommand, MeansAs}
+use Rattle.rules.specs.Rules.{Choice, expressions, statements, only, whiling, Stepping, stepping, Task, ev, evs, ex, exs, stores, loop, act, unchanged, drop, pick, hold, tested, add, invoke, close, return, State, st, noRule, binaryOf, maxint, doing, testing, at, applied, evaluate, calls, perform, entering, calling, sstep, beginning}
+use Rattle.translation.specs.Translate.{Mark, blk, own, scopes, cutG, levels, loc, reach, target, endName, endE, endEs, endL, onward, endStores, endCall, endCommand, endS, endSs, endDs, CALLS, codeName, codeE, codeEs, codeL, codeStores, codeCall, codeCommand, codeS, codeSs, codeDs, codeP, code}
+use Rattle.translation.specs.Scoped.{OkV, OkVs, OkE, OkEs, OkL, OkS, OkSs, OkP, OkCall, OkPrimary, OkCommand, MeansAs, Scoped}
 use Rattle.translation.specs.Listed.{instructionAt, stepIn}
 use Rattle.translation.specs.Faithful.{Ordinary}
 use Rattle.translation.proofs.Sim as Sim
 use Rattle.translation.proofs.Sim.{hop, free, both, stop}
 use Rattle.translation.proofs.Fits.{Kind, val, any, FitsD, Fits2, All, takes, gives, takesT, needs, holds, needsT, vars, varsT, taken-length, takes-on, gives-on, takesT-length, takesT-on, downs-on, downsT-on, fits-cells, more-of, more-length, more-once, more-on, guard-yes, works, works-test, open-fits, close-fits, enter-fits, before, left, leave-fits, handed, left-on, before-length}
-use Rattle.translation.proofs.Stands.{CodeAt, pastE, pastEs, pastL, past-stores, past-sign, pastS, pastSs, pastDs, Ready}
+use Rattle.translation.proofs.Stands.{CodeAt, pastE, pastEs, pastL, past-stores, past-sign, pastS, pastSs, pastDs, Ready, whole}
 use Rattle.translation.proofs.Chain.{Vars, VarsT, Chain, root, inner, link, at-newest, chain-outer, chain-cut, chain-more, chain-scopes, found, same-act, same-test, chain-new, called}
 use Rattle.translation.proofs.Rel.{owes, owed, slack, owed-most, heldT, heldK, Level, StepAt, AtT, t-ev, t-evs, t-ex, t-exs, t-stores, t-act, t-unchanged, t-drop, t-invoke, t-expressions, t-statements, t-only, t-loop, t-whiling, t-hold, t-tested, t-add, Does, over-jump, at-go, at-next, at-end, at-task, at-close, at-ret, Stand, stands, Rel, rel, sizeE, sizeEs, sizeL, sizeS, sizeSs, sizeT, sizeK, size}
 
@@ -85,9 +85,15 @@ same-nest n x y = go (eqb n n) (eqb-refl n)
     go true h = refl
     go false h = absurd h
 
+-- what the source does with no instruction: rules that are no step of the list, a statement's beginning, the sign +
+pub data Aside : State → ℕ → Type 0 where
+  idle : {s : State} → Aside s 0
+  begins : {x : Statement} {k : List Task} {v : List Entry} {d : Data} {n : ℕ} → Aside (st (ex x ∷ k) v d) n
+  plus : {k : List Task} {v : List Entry} {d : Data} {n : ℕ} → Aside (st (unchanged ∷ k) v d) n
+
 module _ (place : ℕ → ℕ) (P : List Instr) where
   abbrev D : ℕ → Mach → State → Type 0
-  D = Sim.Diag (sstep place) (stepIn P) size (Rel place P) 16 Ordinary
+  D = Sim.Diag (sstep place) (stepIn P) size (Rel place P) 16 Ordinary Aside
 
   abbrev Here : List Frame → List Mark → List Kind → List Entry → Type 0
   Here fs g kt v = Chain place P fs (length kt) (length fs) g v × (length kt ≡ floor fs + reach g)
@@ -98,15 +104,15 @@ module _ (place : ℕ → ℕ) (P : List Instr) where
   now pc ps fs d e = ap (λ o. obey o pc ps fs d) e
 
   -- one operation on both sides, with one result, and nothing wrong
-  same : {A : Type 0} {p : ℕ} {m : Mach} {s : State} (Q : A → Type 0) (k p' : ℕ) (w : Stop) (r : Res A) (f : A → State) (g : A → Mach) → sstep place s ≡ lift noRule k f r → stepIn P m ≡ lift w 1 g r → All Q r → ((a : A) → Q a → Rel place P p' (g a) (f a)) → suc p' ≤ p + 16 * k → D p m s
+  same : {A : Type 0} {p : ℕ} {m : Mach} {s : State} (Q : A → Type 0) (k p' : ℕ) (w : Stop) (r : Res A) (f : A → State) (g : A → Mach) → sstep place s ≡ lift noRule k f r → stepIn P m ≡ lift w 1 g r → All Q r → ((a : A) → Q a → Rel place P p' (g a) (f a)) → suc p' ≤ p + 16 * k → k ≤ 1 → D p m s
   unfolding lift
-  same Q k p' w (bad a q) f g e e' u h le = stop e e' u
-  same Q k p' w wrong f g e e' u h le = absurd u
-  same Q k p' w (good o x) f g e e' u h le = both e e' (h x u) le
+  same Q k p' w (bad a q) f g e e' u h le lk = stop e e' u
+  same Q k p' w wrong f g e e' u h le lk = absurd u
+  same Q k p' w (good o x) f g e e' u h le lk = both e e' lk (h x u) le
 
   -- a step that counts one, and the same operation on the data
   acts : {p pc' j : ℕ} {m : Mach} {s : State} {g : List Mark} {ks kt : List Kind} {ps : List ℕ} {fs : List Frame} {k : List Task} {v : List Entry} (w : Stop) (r : Res Data) → Does place P pc' g ks kt ps fs k v j → Here fs g kt v → All (FitsD (ks ++ kt) (heldK k)) r → j ≤ p → sstep place s ≡ lift noRule 1 (st k v) r → stepIn P m ≡ lift w 1 (ms pc' ps fs) r → D p m s
-  acts {j = j} {ks = ks} {kt = kt} {k = k} w r x c u le e e' = same (FitsD (ks ++ kt) (heldK k)) 1 (j + 3) w r _ _ e e' u (λ a z. rel x (stands (c .0) (c .1) z) (omega (arith, owed-most k))) (omega arith)
+  acts {j = j} {ks = ks} {kt = kt} {k = k} w r x c u le e e' = same (FitsD (ks ++ kt) (heldK k)) 1 (j + 3) w r _ _ e e' u (λ a z. rel x (stands (c .0) (c .1) z) (omega (arith, owed-most k))) (omega arith) (omega arith)
 
   -- the machine's own test of its floor
   over-floor : {A : Type 0} (n m : ℕ) (r : Res A) → n ≤ m → guard (leb n m) r ≡ r
@@ -135,27 +141,27 @@ module _ (place : ℕ → ℕ) (P : List Instr) where
   unfolding exec
   quietly {pc = pc} {j = j} {g = g} {kt = kt} {ps = ps} {fs = fs} {v = v} n ks d a k i o x eh (stands c z f) le e =
       let w : All (FitsD (gives a ks ++ kt) (heldK k)) (doing a v d) = rw eh (comes n ks d a (stands c z f) o) in
-      same (FitsD (gives a ks ++ kt) (heldK k)) 0 (j + owed k) _ _ _ _ e (now _ _ _ d i ∙ ap (lift (stray pc) 1 (ms (suc pc) ps fs)) (acted ks d a (stands c z f) o)) w (λ a y. rel x (stands c z y) (omega arith)) (omega arith)
+      same (FitsD (gives a ks ++ kt) (heldK k)) 0 (j + owed k) _ _ _ _ e (now _ _ _ d i ∙ ap (lift (stray pc) 1 (ms (suc pc) ps fs)) (acted ks d a (stands c z f) o)) w (λ a y. rel x (stands c z y) (omega arith)) (omega arith) (omega arith)
 
   -- the same where it is a step and the held values change or are used
   counted : {p pc j : ℕ} {s : State} {g : List Mark} {kt : List Kind} {ps : List ℕ} {fs : List Frame} {v : List Entry} (n : ℕ) (ks : List Kind) (d : Data) (a : Act Name) (k : List Task) → instructionAt P pc ≡ some (DO (actOn (loc g) a)) → Vars (OkV (scopes g)) a → Does place P (suc pc) g (gives a ks) kt ps fs k v j → heldK k ≡ holds a n → Stand place P fs g (takes a ks) kt v (needs a n) d → j ≤ p + 4 → sstep place s ≡ lift noRule 1 (st k v) (doing a v d) → D p (ms pc ps fs d) s
   unfolding exec
   counted {pc = pc} {j = j} {g = g} {kt = kt} {ps = ps} {fs = fs} {v = v} n ks d a k i o x eh (stands c z f) le e =
       let w : All (FitsD (gives a ks ++ kt) (heldK k)) (doing a v d) = rw eh (comes n ks d a (stands c z f) o) in
-      same (FitsD (gives a ks ++ kt) (heldK k)) 1 (j + 3) _ _ _ _ e (now _ _ _ d i ∙ ap (lift (stray pc) 1 (ms (suc pc) ps fs)) (acted ks d a (stands c z f) o)) w (λ a y. rel x (stands c z y) (omega (arith, owed-most k))) (omega arith)
+      same (FitsD (gives a ks ++ kt) (heldK k)) 1 (j + 3) _ _ _ _ e (now _ _ _ d i ∙ ap (lift (stray pc) 1 (ms (suc pc) ps fs)) (acted ks d a (stands c z f) o)) w (λ a y. rel x (stands c z y) (omega (arith, owed-most k))) (omega arith) (omega arith)
 
   -- a test, and one of two ways on
-  tests : {p pc l j₁ j₂ : ℕ} {s : State} {g : List Mark} {kt : List Kind} {ps : List ℕ} {fs : List Frame} {v : List Entry} (n : ℕ) (ks : List Kind) (d : Data) (t : Test Name) (i : ℕ) (k₁ k₂ : List Task) → instructionAt P pc ≡ some (IF (testOn (loc g) t) l) → VarsT (OkV (scopes g)) t → Does place P (suc pc) g ks kt ps fs k₁ v j₁ → heldK k₁ ≡ needsT t n → Does place P l g ks kt ps fs k₂ v j₂ → heldK k₂ ≡ n → Stand place P fs g (takesT t ks) kt v (needsT t n) d → j₁ + owed k₁ < p + 16 * i → j₂ + owed k₂ < p + 16 * i → sstep place s ≡ lift noRule i (byTest (st k₁ v) (st k₂ v)) (testing t v d) → D p (ms pc ps fs d) s
+  tests : {p pc l j₁ j₂ : ℕ} {s : State} {g : List Mark} {kt : List Kind} {ps : List ℕ} {fs : List Frame} {v : List Entry} (n : ℕ) (ks : List Kind) (d : Data) (t : Test Name) (i : ℕ) (k₁ k₂ : List Task) → instructionAt P pc ≡ some (IF (testOn (loc g) t) l) → VarsT (OkV (scopes g)) t → Does place P (suc pc) g ks kt ps fs k₁ v j₁ → heldK k₁ ≡ needsT t n → Does place P l g ks kt ps fs k₂ v j₂ → heldK k₂ ≡ n → Stand place P fs g (takesT t ks) kt v (needsT t n) d → j₁ + owed k₁ < p + 16 * i → j₂ + owed k₂ < p + 16 * i → i ≤ 1 → sstep place s ≡ lift noRule i (byTest (st k₁ v) (st k₂ v)) (testing t v d) → D p (ms pc ps fs d) s
   unfolding exec
-  tests {p = p} {pc = pc} {l = l} {g = g} {kt = kt} {ps = ps} {fs = fs} {v = v} n ks d t i k₁ k₂ a o x e₁ y e₂ (stands c z f) le le' e =
+  tests {p = p} {pc = pc} {l = l} {g = g} {kt = kt} {ps = ps} {fs = fs} {v = v} n ks d t i k₁ k₂ a o x e₁ y e₂ (stands c z f) le le' lk e =
       let f' : FitsD (takesT t (ks ++ kt)) (needsT t n) d = rw (← takesT-on t ks kt) f in
       let o' : VarsT (λ x. cellOf (cells d) v x < length (ks ++ kt)) t = varsT (λ x y. omega (arith, found place P c (cells d) x y .1, length-append ks kt)) t o in
       let e' = over-floor (floor fs + downsT (testOn (loc g) t)) (cells d) (test (testOn (cellIn fs) (testOn (loc g) t)) d) (omega (arith, z, downsT-on (loc g) t, takesT-length t ks kt, fits-cells (takesT t ks ++ kt) (needsT t n) d f, length-append ks kt)) ∙ ap (λ a. test a d) (same-test place P c (cells d) t o) in
-      same (Fits2 (ks ++ kt) (needsT t n) n) i (p + 16 * i - 1) _ _ _ _ e (now _ _ _ d a ∙ ap (lift (stray pc) 1 (byTest (ms (suc pc) ps fs) (ms l ps fs))) e') (works-test (cellOf (cells d) v) t (ks ++ kt) n d f' o') (elim [ yea d ↦ λ f. rel x (stands c z (rw e₁ f)) (omega arith) | nay d ↦ λ f. rel y (stands c z (rw e₂ f)) (omega arith) ]) (omega arith)
+      same (Fits2 (ks ++ kt) (needsT t n) n) i (p + 16 * i - 1) _ _ _ _ e (now _ _ _ d a ∙ ap (lift (stray pc) 1 (byTest (ms (suc pc) ps fs) (ms l ps fs))) e') (works-test (cellOf (cells d) v) t (ks ++ kt) n d f' o') (elim [ yea d ↦ λ f. rel x (stands c z (rw e₁ f)) (omega arith) | nay d ↦ λ f. rel y (stands c z (rw e₂ f)) (omega arith) ]) (omega arith) lk
 
   -- the source alone
-  frees : {p pc j i : ℕ} {s : State} {g : List Mark} {ks kt : List Kind} {ps : List ℕ} {fs : List Frame} {k' : List Task} {v : List Entry} {d : Data} → Does place P pc g ks kt ps fs k' v j → Stand place P fs g ks kt v (heldK k') d → sstep place s ≡ next i quiet (st k' v d) → sizeK k' < size s → j + owed k' ≤ p + 16 * i → D p (ms pc ps fs d) s
-  frees {p = p} {i = i} x c e lt le = free e (rel {p = p + 16 * i} x c le) lt (omega arith)
+  frees : {p pc j i : ℕ} {s : State} {g : List Mark} {ks kt : List Kind} {ps : List ℕ} {fs : List Frame} {k' : List Task} {v : List Entry} {d : Data} → Does place P pc g ks kt ps fs k' v j → Stand place P fs g ks kt v (heldK k') d → sstep place s ≡ next i quiet (st k' v d) → Aside s i → sizeK k' < size s → j + owed k' ≤ p + 16 * i → D p (ms pc ps fs d) s
+  frees {p = p} {i = i} x c e a lt le = free e a (rel {p = p + 16 * i} x c le) lt (omega arith)
 
   on : {pc r j : ℕ} {g : List Mark} {ks ks' kt : List Kind} {ps : List ℕ} {fs : List Frame} {t : Task} {k : List Task} {v : List Entry} → AtT place P g (length ps) pc ks t r ks' → Does place P r g ks' kt ps fs k v j → owed k ≤ slack t → Does place P pc g ks kt ps fs (t ∷ k) v j
   on w x h = at-task w h x
@@ -173,11 +179,11 @@ module _ (place : ℕ → ℕ) (P : List Instr) where
   dN {ks = ks} held p d e x es b r h o oes w y c le se sz = does ks d (load (at place x) x) (h .0) o (λ n. (refl, refl)) y c le se
   dN {g = g} {ks = ks} (function q) p d e x es b r h o oes w y c le se sz =
       let h₁ = pastEs place P g es _ _ (h .1) in
-      frees (on (t-act ks (reserve (at place x)) (h .0) tt (λ n. (refl, refl))) (on (t-evs es _ (h .1) oes refl) (on (t-invoke {f = kept} (more-of val (count es) []) ks (suc (count es)) q (more-on val (count es) [] (any ∷ ks)) (h₁ .0) o (omega (arith, more-length val (count es) []))) y w) (omega arith)) (omega arith)) c se (omega arith) (omega arith)
+      frees (on (t-act ks (reserve (at place x)) (h .0) tt (λ n. (refl, refl))) (on (t-evs es _ (h .1) oes refl) (on (t-invoke {f = kept} (more-of val (count es) []) ks (suc (count es)) q (more-on val (count es) [] (any ∷ ks)) (h₁ .0) o (omega (arith, more-length val (count es) []))) y w) (omega arith)) (omega arith)) c se idle (omega arith) (omega arith)
   dN {g = g} {ks = ks} absolute p d e x es b r h o oes w y c le se sz =
       let h₁ = pastEs place P g es _ _ h in
       let e₁ : val ∷ ks ≡ more-of val (count es) ks = sym (ap (λ n. more-of val n ks) o) in
-      frees (on (t-evs {ks' = val ∷ ks} es _ h oes e₁) (on (t-act ks (unary (at place x) Values.absolute) (h₁ .0) tt (λ n. (refl, refl))) y w) (omega arith)) c se (omega arith) (omega arith)
+      frees (on (t-evs {ks' = val ∷ ks} es _ h oes e₁) (on (t-act ks (unary (at place x) Values.absolute) (h₁ .0) tt (λ n. (refl, refl))) y w) (omega arith)) c se idle (omega arith) (omega arith)
   dN {ks = ks} greatest p d e x es b r h o oes w y c le se sz = does ks d (push (at place x) maxint) (h .0) tt (λ n. (refl, refl)) y c le se
   dN no-primary p d e x es b r h o oes w y c le se sz = absurd o
 
@@ -191,19 +197,19 @@ module _ (place : ℕ → ℕ) (P : List Instr) where
   dE {ks = ks} p d (logical q t) b r h o w y c le = does ks d (push (place q) (truth t)) (h .0) tt (λ n. (refl, refl)) y c le refl
   dE {g = g} {k = k} {v = v} p d (name x) b r h o w y c le = dN (primary (meaning (scopes g) x) done) p d (name x) x done b r h o tt w y c le (ap (λ g. evaluate place (primary (meaning g x) done) x done k v d) (known c)) (omega arith)
   dE {g = g} {k = k} {v = v} p d (call x e es) b r h o w y c le = dN (primary (meaning (scopes g) x) (then e es)) p d (call x e es) x (then e es) b r h (o .0) (o .1, o .2) w y c le (ap (λ g. evaluate place (primary (meaning g x) (then e es)) x (then e es) k v d) (known c)) (omega arith)
-  dE p d (signed q positive e) b r h o w y c le = frees (on (t-ev e _ h o) (on t-unchanged y w) (omega arith)) c refl (omega arith) (omega arith)
-  dE {g = g} {ks = ks} p d (signed q negative e) b r h o w y c le = frees (on (t-ev e _ h o) (on (t-act ks (unary (place q) Values.minus) ((pastE place P g e _ _ h) .0) tt (λ n. (refl, refl))) y w) (omega arith)) c refl (omega arith) (omega arith)
-  dE {g = g} {ks = ks} p d (signed q negation e) b r h o w y c le = frees (on (t-ev e _ h o) (on (t-act ks (unary (place q) Values.negation) ((pastE place P g e _ _ h) .0) tt (λ n. (refl, refl))) y w) (omega arith)) c refl (omega arith) (omega arith)
+  dE p d (signed q positive e) b r h o w y c le = frees (on (t-ev e _ h o) (on t-unchanged y w) (omega arith)) c refl idle (omega arith) (omega arith)
+  dE {g = g} {ks = ks} p d (signed q negative e) b r h o w y c le = frees (on (t-ev e _ h o) (on (t-act ks (unary (place q) Values.minus) ((pastE place P g e _ _ h) .0) tt (λ n. (refl, refl))) y w) (omega arith)) c refl idle (omega arith) (omega arith)
+  dE {g = g} {ks = ks} p d (signed q negation e) b r h o w y c le = frees (on (t-ev e _ h o) (on (t-act ks (unary (place q) Values.negation) ((pastE place P g e _ _ h) .0) tt (λ n. (refl, refl))) y w) (omega arith)) c refl idle (omega arith) (omega arith)
   dE {g = g} {ks = ks} p d (operated q i e f) b r h o w y c le =
       let h₁ = pastE place P g e _ _ h in
-      frees (on (t-ev e _ h (o .0)) (on (t-ev f _ h₁ (o .1)) (on (t-act ks (binary (place q) (binaryOf i)) ((pastE place P g f _ _ h₁) .0) tt (λ n. (refl, refl))) y w) (omega arith)) (omega arith)) c refl (omega arith) (omega arith)
-  dE p d (chosen q q' a e f) b r h o w y c le = frees (on (t-ev a _ h (o .0)) (on (t-expressions q q' a e f b r h o) y w) (omega arith)) c refl (omega arith) (omega arith)
-  dE p d (nested q e) b r h o w y c le = frees (on (t-ev e _ h o) y w) c refl (omega arith) (omega arith)
+      frees (on (t-ev e _ h (o .0)) (on (t-ev f _ h₁ (o .1)) (on (t-act ks (binary (place q) (binaryOf i)) ((pastE place P g f _ _ h₁) .0) tt (λ n. (refl, refl))) y w) (omega arith)) (omega arith)) c refl idle (omega arith) (omega arith)
+  dE p d (chosen q q' a e f) b r h o w y c le = frees (on (t-ev a _ h (o .0)) (on (t-expressions q q' a e f b r h o) y w) (omega arith)) c refl idle (omega arith) (omega arith)
+  dE p d (nested q e) b r h o w y c le = frees (on (t-ev e _ h o) y w) c refl idle (omega arith) (omega arith)
 
   dEs : {j : ℕ} {g : List Mark} {ks ks' kt : List Kind} {ps : List ℕ} {fs : List Frame} {k : List Task} {v : List Entry} (p : ℕ) (d : Data) (es : Expressions) (b : ℕ) (r : List Instr) → CodeAt place P b (codeEs place g es b r) → OkEs (scopes g) es → ks' ≡ more-of val (count es) ks → owed k ≤ 0 → Does place P (endEs (scopes g) es b) g ks' kt ps fs k v j → Stand place P fs g ks kt v (heldK k) d → j ≤ p → D p (ms b ps fs d) (st (evs es ∷ k) v d)
   unfolding sstep endE codeE count
-  dEs p d done b r h o e w y c le = frees y (rw e c) refl (omega arith) (omega arith)
-  dEs {g = g} {ks = ks} p d (then x es) b r h o e w y c le = frees (on (t-ev x _ h (o .0)) (on (t-evs es _ (pastE place P g x _ _ h) (o .1) (e ∙ sym (more-once val (count es) ks))) y w) (omega arith)) c refl (omega arith) (omega arith)
+  dEs p d done b r h o e w y c le = frees y (rw e c) refl idle (omega arith) (omega arith)
+  dEs {g = g} {ks = ks} p d (then x es) b r h o e w y c le = frees (on (t-ev x _ h (o .0)) (on (t-evs es _ (pastE place P g x _ _ h) (o .1) (e ∙ sym (more-once val (count es) ks))) y w) (omega arith)) c refl idle (omega arith) (omega arith)
 
   -- ---- statements
 
@@ -212,34 +218,34 @@ module _ (place : ℕ → ℕ) (P : List Instr) where
   dCall {g = g} none p d s q x es b r h o oes w y c le se sz =
       let h₁ = pastEs place P g es _ _ h in
       let o₁ : OkCall (scopes g) x q (count es) = (o .0, omega arith) in
-      frees (on (t-evs es _ h oes refl) (on (t-invoke {f = gone} (more-of val (count es) []) [] (count es) q (sym (append-nil (more-of val (count es) []))) (h₁ .0) o₁ (omega (arith, more-length val (count es) []))) y (omega arith)) (omega arith)) c se (omega arith) (omega arith)
+      frees (on (t-evs es _ h oes refl) (on (t-invoke {f = gone} (more-of val (count es) []) [] (count es) q (sym (append-nil (more-of val (count es) []))) (h₁ .0) o₁ (omega (arith, more-length val (count es) []))) y (omega arith)) (omega arith)) c se begins (omega arith) (omega arith)
   dCall {g = g} (some t) p d s q x es b r h o oes w y c le se sz =
       let h₁ = pastEs place P g es _ _ (h .1) in
       let o₁ : OkCall (scopes g) x q (suc (count es)) = (o .0, omega arith) in
-      frees (on (t-act [] (reserve (at place x)) (h .0) tt (λ n. (refl, refl))) (on (t-evs es _ (h .1) oes refl) (on (t-invoke {f = gone} (more-of val (count es) (any ∷ [])) [] (suc (count es)) q (sym (append-nil (more-of val (count es) (any ∷ [])))) (h₁ .0) o₁ (omega (arith, more-length val (count es) (any ∷ [])))) y (omega arith)) (omega arith)) (omega arith)) c se (omega arith) (omega arith)
+      frees (on (t-act [] (reserve (at place x)) (h .0) tt (λ n. (refl, refl))) (on (t-evs es _ (h .1) oes refl) (on (t-invoke {f = gone} (more-of val (count es) (any ∷ [])) [] (suc (count es)) q (sym (append-nil (more-of val (count es) (any ∷ [])))) (h₁ .0) o₁ (omega (arith, more-length val (count es) (any ∷ [])))) y (omega arith)) (omega arith)) (omega arith)) c se begins (omega arith) (omega arith)
 
   dC : {j : ℕ} {g : List Mark} {kt : List Kind} {ps : List ℕ} {fs : List Frame} {k : List Task} {v : List Entry} (cm : Command) (p : ℕ) (d : Data) (s : Statement) (x : Name) (es : Expressions) (b : ℕ) (r : List Instr) → CodeAt place P b (codeCommand place cm g x es b r) → OkCommand (scopes g) x es cm → owed k ≤ 2 → Does place P (endCommand (scopes g) cm es b) g [] kt ps fs k v j → Stand place P fs g [] kt v (heldK k) d → j ≤ p → sstep place (st (ex s ∷ k) v d) ≡ perform place cm x es k v d → sizeEs es + 4 ≤ sizeS s → sizeC cm ≤ sizeEs es → D p (ms b ps fs d) (st (ex s ∷ k) v d)
   unfolding perform
   dC (routine-of q) p d s x es b r h o w y c le se sz cz = dCall (sortOf q) p d s q x es b r h (o .0) (o .1) w y c le se (omega arith)
   dC {g = g} (absolute-of e) p d s x es b r h o w y c le se sz cz =
       let h₁ = pastE place P g e _ _ h in
-      frees (on (t-ev e _ h o) (on (t-act [] (unary (at place x) Values.absolute) (h₁ .0) tt (λ n. (refl, refl))) (on (t-drop (h₁ .1 .0)) y w) (omega arith)) (omega arith)) c se (omega arith) (omega arith)
-  dC greatest-of p d s x es b r h o w y c le se sz cz = frees (on (t-act [] (push (at place x) maxint) (h .0) tt (λ n. (refl, refl))) (on (t-drop (h .1 .0)) y w) (omega arith)) c se (omega arith) (omega arith)
-  dC {g = g} (input-to e u) p d s x es b r h o w y c le se sz cz = frees (on (t-ev e _ h (o .0)) (on (t-act [] (receive (at place x) u) ((pastE place P g e _ _ h) .0) (o .1) (λ n. (refl, refl))) y (omega arith)) (omega arith)) c se (omega arith) (omega arith)
+      frees (on (t-ev e _ h o) (on (t-act [] (unary (at place x) Values.absolute) (h₁ .0) tt (λ n. (refl, refl))) (on (t-drop (h₁ .1 .0)) y w) (omega arith)) (omega arith)) c se begins (omega arith) (omega arith)
+  dC greatest-of p d s x es b r h o w y c le se sz cz = frees (on (t-act [] (push (at place x) maxint) (h .0) tt (λ n. (refl, refl))) (on (t-drop (h .1 .0)) y w) (omega arith)) c se begins (omega arith) (omega arith)
+  dC {g = g} (input-to e u) p d s x es b r h o w y c le se sz cz = frees (on (t-ev e _ h (o .0)) (on (t-act [] (receive (at place x) u) ((pastE place P g e _ _ h) .0) (o .1) (λ n. (refl, refl))) y (omega arith)) (omega arith)) c se begins (omega arith) (omega arith)
   dC {g = g} (output-of e f) p d s x es b r h o w y c le se sz cz =
       let h₁ = pastE place P g e _ _ h in
-      frees (on (t-ev e _ h (o .0)) (on (t-ev f _ h₁ (o .1)) (on (t-act [] (send (at place x)) ((pastE place P g f _ _ h₁) .0) tt (λ n. (refl, refl))) y (omega arith)) (omega arith)) (omega arith)) c se (omega arith) (omega arith)
+      frees (on (t-ev e _ h (o .0)) (on (t-ev f _ h₁ (o .1)) (on (t-act [] (send (at place x)) ((pastE place P g f _ _ h₁) .0) tt (λ n. (refl, refl))) y (omega arith)) (omega arith)) (omega arith)) c se begins (omega arith) (omega arith)
   dC no-command p d s x es b r h o w y c le se sz cz = absurd o
 
   dS : {j : ℕ} {g : List Mark} {kt : List Kind} {ps : List ℕ} {fs : List Frame} {k : List Task} {v : List Entry} (p : ℕ) (d : Data) (s : Statement) (b : ℕ) (r : List Instr) → CodeAt place P b (codeS place g (length ps) s b r) → OkS (scopes g) s → owed k ≤ 2 → Does place P (endS (scopes g) s b) g [] kt ps fs k v j → Stand place P fs g [] kt v (heldK k) d → j ≤ p → D p (ms b ps fs d) (st (ex s ∷ k) v d)
   unfolding sstep exec endS codeS
-  dS p d dummy b r h o w y c le = frees y c refl (omega arith) (omega arith)
-  dS {g = g} p d (assignment x xs q e) b r h o w y c le = frees (on (t-ev e _ h (o .1)) (on (t-stores x xs _ (pastE place P g e _ _ h) (o .0)) y (omega arith)) (omega arith)) c refl (omega arith) (omega arith)
+  dS p d dummy b r h o w y c le = frees y c refl begins (omega arith) (omega arith)
+  dS {g = g} p d (assignment x xs q e) b r h o w y c le = frees (on (t-ev e _ h (o .1)) (on (t-stores x xs _ (pastE place P g e _ _ h) (o .0)) y (omega arith)) (omega arith)) c refl begins (omega arith) (omega arith)
   dS {g = g} {k = k} {v = v} p d (procedure x es) b r h o w y c le = dC (command (meaning (scopes g) x) es) p d (procedure x es) x es b r h o w y c le (ap (λ g. perform place (command (meaning g x) es) x es k v d) (known c)) (omega arith) (command-size (meaning (scopes g) x) es)
-  dS p d (when q a s) b r h o w y c le = frees (on (t-ev a _ h (o .0)) (on (t-only q a s b r h o) y w) (omega arith)) c refl (omega arith) (omega arith)
-  dS p d (either q a s t) b r h o w y c le = frees (on (t-ev a _ h (o .0)) (on (t-statements q a s t b r h o) y w) (omega arith)) c refl (omega arith) (omega arith)
-  dS {g = g} {ps = ps} p d (repeat x l ls s) b r h o w y c le = frees (on (t-loop x (l ∷ ls) s _ b _ r h (pastL place P g (length ps) x (l ∷ ls) _ _ _ _ h) (o .0) (o .1) (o .2)) y w) c refl (omega arith) (omega arith)
-  dS p d (compound ss) b r h o w y c le = frees (on (t-exs ss _ h o) y w) c refl (omega arith) (omega arith)
+  dS p d (when q a s) b r h o w y c le = frees (on (t-ev a _ h (o .0)) (on (t-only q a s b r h o) y w) (omega arith)) c refl begins (omega arith) (omega arith)
+  dS p d (either q a s t) b r h o w y c le = frees (on (t-ev a _ h (o .0)) (on (t-statements q a s t b r h o) y w) (omega arith)) c refl begins (omega arith) (omega arith)
+  dS {g = g} {ps = ps} p d (repeat x l ls s) b r h o w y c le = frees (on (t-loop x (l ∷ ls) s _ b _ r h (pastL place P g (length ps) x (l ∷ ls) _ _ _ _ h) (o .0) (o .1) (o .2)) y w) c refl begins (omega arith) (omega arith)
+  dS p d (compound ss) b r h o w y c le = frees (on (t-exs ss _ h o) y w) c refl begins (omega arith) (omega arith)
   dS {g = g} {kt = kt} {ps = ps} {fs = fs} {k = k} {v = v} p d (block q ds ss) b r h o w y (stands c z f) le =
       let g' : List Mark = blk (reach g) ds (suc b) ∷ g in
       let n : ℕ = cellsIn (ofBlock ds) in
@@ -253,8 +259,8 @@ module _ (place : ℕ → ℕ) (P : List Instr) where
 
   dSs : {j : ℕ} {g : List Mark} {kt : List Kind} {ps : List ℕ} {fs : List Frame} {k : List Task} {v : List Entry} (p : ℕ) (d : Data) (ss : Statements) (b : ℕ) (r : List Instr) → CodeAt place P b (codeSs place g (length ps) ss b r) → OkSs (scopes g) ss → owed k ≤ 2 → Does place P (endSs (scopes g) ss b) g [] kt ps fs k v j → Stand place P fs g [] kt v (heldK k) d → j ≤ p → D p (ms b ps fs d) (st (exs ss ∷ k) v d)
   unfolding sstep endS codeS
-  dSs p d (last s) b r h o w y c le = frees (on (t-ex s _ h o) y w) c refl (omega arith) (omega arith)
-  dSs {g = g} {ps = ps} p d (first s ss) b r h o w y c le = frees (on (t-ex s _ h (o .0)) (on (t-exs ss _ (pastS place P g (length ps) s _ _ h) (o .1)) y w) (omega arith)) c refl (omega arith) (omega arith)
+  dSs p d (last s) b r h o w y c le = frees (on (t-ex s _ h o) y w) c refl idle (omega arith) (omega arith)
+  dSs {g = g} {ps = ps} p d (first s ss) b r h o w y c le = frees (on (t-ex s _ h (o .0)) (on (t-exs ss _ (pastS place P g (length ps) s _ _ h) (o .1)) y w) (omega arith)) c refl idle (omega arith) (omega arith)
 
   dStores : {j : ℕ} {g : List Mark} {kt : List Kind} {ps : List ℕ} {fs : List Frame} {k : List Task} {v : List Entry} (p : ℕ) (d : Data) (x : Name) (xs : List Name) (b : ℕ) (r : List Instr) → CodeAt place P b (codeStores place g x xs r) → OkVs (scopes g) (x ∷ xs) → owed k ≤ 3 → Does place P (endStores xs b) g [] kt ps fs k v j → Stand place P fs g (val ∷ []) kt v (heldK k) d → j ≤ p → D p (ms b ps fs d) (st (stores x xs ∷ k) v d)
   unfolding sstep endStores codeStores
@@ -265,18 +271,18 @@ module _ (place : ℕ → ℕ) (P : List Instr) where
 
   dL : {j : ℕ} {g : List Mark} {kt : List Kind} {ps : List ℕ} {fs : List Frame} {k : List Task} {v : List Entry} (p : ℕ) (d : Data) (x : Name) (l : List Element) (y : Statement) (s b : ℕ) (r r' : List Instr) → CodeAt place P b (codeL place g (length ps) x l s (suc (endS (scopes g) y s)) b r) → CodeAt place P s (codeS place g (suc (length ps)) y s (NEXT (length ps) ∷ r')) → OkV (scopes g) x → OkL (scopes g) l → OkS (scopes g) y → owed k ≤ 2 → Does place P (suc (endS (scopes g) y s)) g [] kt ps fs k v j → Stand place P fs g [] kt v (heldK k) d → j + 2 ≤ p → D p (ms (onward l b (suc (endS (scopes g) y s))) ps fs d) (st (loop x l y ∷ k) v d)
   unfolding sstep codeL
-  dL p d x [] y s b r r' h h' q o o' w u c le = frees u c refl (omega arith) (omega arith)
+  dL p d x [] y s b r r' h h' q o o' w u c le = frees u c refl idle (omega arith) (omega arith)
   dL {g = g} {ps = ps} p d x (value e ∷ l) y s b r r' h h' q o o' w u c le =
       let h₁ = pastE place P g e _ _ h in
-      frees (on (t-ev e _ h (o .0)) (on (t-act [] (store x) (h₁ .0) q (λ n. (refl, refl))) (at-go (h₁ .1 .0) (on (t-ex y _ h' o') (at-next ((pastS place P g (suc (length ps)) y _ _ h') .0) (on (t-loop x l y s _ r r' (h₁ .1 .1) h' q (o .1) o') u w)) (omega arith))) (omega arith)) (omega arith)) c refl (omega arith) (omega arith)
+      frees (on (t-ev e _ h (o .0)) (on (t-act [] (store x) (h₁ .0) q (λ n. (refl, refl))) (at-go (h₁ .1 .0) (on (t-ex y _ h' o') (at-next ((pastS place P g (suc (length ps)) y _ _ h') .0) (on (t-loop x l y s _ r r' (h₁ .1 .1) h' q (o .1) o') u w)) (omega arith))) (omega arith)) (omega arith)) c refl idle (omega arith) (omega arith)
   dL {g = g} p d x (while n e a ∷ l) y s b r r' h h' q o o' w u c le =
       let h₁ = pastE place P g e _ _ h in
-      frees (on (t-ev e _ h (o .0)) (on (t-act [] (store x) (h₁ .0) q (λ n. (refl, refl))) (on (t-ev a _ (h₁ .1) (o .1)) (on (t-whiling x n e a l y s b r r' h h' q o o') u w) (omega arith)) (omega arith)) (omega arith)) c refl (omega arith) (omega arith)
+      frees (on (t-ev e _ h (o .0)) (on (t-act [] (store x) (h₁ .0) q (λ n. (refl, refl))) (on (t-ev a _ (h₁ .1) (o .1)) (on (t-whiling x n e a l y s b r r' h h' q o o') u w) (omega arith)) (omega arith)) (omega arith)) c refl idle (omega arith) (omega arith)
   dL {g = g} p d x (step n e e' e'' ∷ l) y s b r r' h h' q o o' w u c le =
       let h₁ = pastE place P g e _ _ h in
       let h₂ = pastE place P g e' _ _ (h₁ .1) in
       let h₃ = pastE place P g e'' _ _ h₂ in
-      frees (on (t-ev e _ h (o .0)) (on (t-act [] (store x) (h₁ .0) q (λ n. (refl, refl))) (on (t-ev e' _ (h₁ .1) (o .1)) (on (t-ev e'' _ h₂ (o .2)) (on (t-hold (place n) x l y s _ r r' (h₃, h', q, o .3, o')) u w) (omega arith)) (omega arith)) (omega arith)) (omega arith)) c refl (omega arith) (omega arith)
+      frees (on (t-ev e _ h (o .0)) (on (t-act [] (store x) (h₁ .0) q (λ n. (refl, refl))) (on (t-ev e' _ (h₁ .1) (o .1)) (on (t-ev e'' _ h₂ (o .2)) (on (t-hold (place n) x l y s _ r r' (h₃, h', q, o .3, o')) u w) (omega arith)) (omega arith)) (omega arith)) (omega arith)) c refl idle (omega arith) (omega arith)
 
   -- ---- tasks
 
@@ -295,26 +301,26 @@ module _ (place : ℕ → ℕ) (P : List Instr) where
   dT p d (t-exs ss r h o) w y c le = dSs p d ss _ r h o w y c (omega arith)
   dT p d (t-stores x xs r h o) w y c le = dStores p d x xs _ r h o w y c (omega arith)
   dT p d (t-act ks a i o lv) w y c le = does ks d a i o lv y c (omega arith) refl
-  dT p d t-unchanged w y c le = frees y c refl (omega arith) (omega arith)
+  dT p d t-unchanged w y c le = frees y c refl plus (omega arith) (omega arith)
   dT {ks' = ks'} {k = k} p d (t-drop i) w y c le = quietly (heldK k) ks' d forget k i tt y refl c (omega arith) refl
   dT p d (t-loop x l y s b r r' h h' q o o') w u c le = dL p d x l y s b r r' h h' q o o' w u c le
   dT {g = g} {k = k} p d (t-expressions {ks = ks} q q' a e f b r h o) w y c le =
       let h₁ = pastE place P g a _ _ h in
       let h₂ = pastE place P g e _ _ (h₁ .1) in
-      tests (heldK k) ks d condition 0 (ev e ∷ k) (ev f ∷ k) (h₁ .0) tt (on (t-ev e _ (h₁ .1) (o .1)) (over-jump (h₂ .0) y) w) refl (on (t-ev f _ (h₂ .1) (o .2)) y w) refl c (omega arith) (omega arith) refl
+      tests (heldK k) ks d condition 0 (ev e ∷ k) (ev f ∷ k) (h₁ .0) tt (on (t-ev e _ (h₁ .1) (o .1)) (over-jump (h₂ .0) y) w) refl (on (t-ev f _ (h₂ .1) (o .2)) y w) refl c (omega arith) (omega arith) (omega arith) refl
   dT {g = g} {ps = ps} {k = k} p d (t-statements q a s t b r h o) w y c le =
       let h₁ = pastE place P g a _ _ h in
       let h₂ = pastS place P g (length ps) s _ _ (h₁ .1) in
-      tests (heldK k) [] d condition 0 (ex s ∷ k) (ex t ∷ k) (h₁ .0) tt (on (t-ex s _ (h₁ .1) (o .1)) (over-jump (h₂ .0) y) w) refl (on (t-ex t _ (h₂ .1) (o .2)) y w) refl c (omega arith) (omega arith) refl
+      tests (heldK k) [] d condition 0 (ex s ∷ k) (ex t ∷ k) (h₁ .0) tt (on (t-ex s _ (h₁ .1) (o .1)) (over-jump (h₂ .0) y) w) refl (on (t-ex t _ (h₂ .1) (o .2)) y w) refl c (omega arith) (omega arith) (omega arith) refl
   dT {g = g} {k = k} p d (t-only q a s b r h o) w y c le =
       let h₁ = pastE place P g a _ _ h in
-      tests (heldK k) [] d condition 0 (ex s ∷ k) k (h₁ .0) tt (on (t-ex s _ (h₁ .1) (o .1)) y w) refl y refl c (omega arith) (omega arith) refl
+      tests (heldK k) [] d condition 0 (ex s ∷ k) k (h₁ .0) tt (on (t-ex s _ (h₁ .1) (o .1)) y w) refl y refl c (omega arith) (omega arith) (omega arith) refl
   dT {g = g} {ps = ps} {k = k} p d (t-whiling x n e a l y s b r r' h h' q o o') w u c le =
       let h₁ = pastE place P g a _ _ ((pastE place P g e _ _ h) .1) in
-      tests (heldK k) [] d condition 1 (ex y ∷ loop x (while n e a ∷ l) y ∷ k) (loop x l y ∷ k) (h₁ .0) tt (at-go (h₁ .1 .0) (on (t-ex y _ h' o') (at-next ((pastS place P g (suc (length ps)) y _ _ h') .0) (on (t-loop x (while n e a ∷ l) y s b r r' h h' q o o') u w)) (omega arith))) refl (on (t-loop x l y s _ r r' (h₁ .1 .1) h' q (o .2) o') u w) refl c (omega arith) (omega arith) refl
+      tests (heldK k) [] d condition 1 (ex y ∷ loop x (while n e a ∷ l) y ∷ k) (loop x l y ∷ k) (h₁ .0) tt (at-go (h₁ .1 .0) (on (t-ex y _ h' o') (at-next ((pastS place P g (suc (length ps)) y _ _ h') .0) (on (t-loop x (while n e a ∷ l) y s b r r' h h' q o o') u w)) (omega arith))) refl (on (t-loop x l y s _ r r' (h₁ .1 .1) h' q (o .2) o') u w) refl c (omega arith) (omega arith) (omega arith) refl
   dT {k = k} p d (t-hold n x l y s i r r' a) w u c le = quietly (heldK k) [] d keep (tested (stepping n x l y) ∷ k) (a .0 .0) tt (on (t-tested n x l y s i r r' a) u w) refl c (omega arith) refl
   dT {g = g} {ps = ps} {k = k} p d (t-tested n x l y s i r r' a) w u c le =
-      tests (heldK k) [] d (upto (at place x) x) 1 (ex y ∷ add (stepping n x l y) ∷ k) (loop x l y ∷ k) (a .0 .1 .0) (a .2) (at-go (a .0 .1 .1 .0) (on (t-ex y _ (a .1) (a .4)) (at-next ((pastS place P g (suc (length ps)) y _ _ (a .1)) .0) (on (t-add n x l y s i r r' a) u w)) (omega arith))) refl (on (t-loop x l y s _ r r' (a .0 .1 .1 .1 .1 .1) (a .1) (a .2) (a .3) (a .4)) u w) refl c (omega arith) (omega arith) refl
+      tests (heldK k) [] d (upto (at place x) x) 1 (ex y ∷ add (stepping n x l y) ∷ k) (loop x l y ∷ k) (a .0 .1 .0) (a .2) (at-go (a .0 .1 .1 .0) (on (t-ex y _ (a .1) (a .4)) (at-next ((pastS place P g (suc (length ps)) y _ _ (a .1)) .0) (on (t-add n x l y s i r r' a) u w)) (omega arith))) refl (on (t-loop x l y s _ r r' (a .0 .1 .1 .1 .1 .1) (a .1) (a .2) (a .3) (a .4)) u w) refl c (omega arith) (omega arith) (omega arith) refl
   dT {k = k} p d (t-add n x l y s i r r' a) w u c le = counted (heldK k) [] d (bump n x) (tested (stepping n x l y) ∷ k) (a .0 .1 .1 .1 .0) (a .2) (over-jump (a .0 .1 .1 .1 .1 .0) (on (t-tested n x l y s i r r' a) u w)) refl c (omega arith) refl
   dT {pc = pc} {g = g} {kt = kt} {ps = ps} {fs = fs} {k = k} {v = v} p d (t-invoke {x = x} {f = f} js ks n u e₀ i' o e₁) w y (stands c z fit) le =
       let t = called place P fs x u c (o .0) in
@@ -351,3 +357,13 @@ module _ (place : ℕ → ℕ) (P : List Instr) where
 
   pub diag : (p : ℕ) (m : Mach) (s : State) → Rel place P p m s → D p m s
   diag p m s (rel {d = d} y c le) = dD p d y c le
+
+-- a program at its beginning, and the machine at its start
+pub begin : (place : ℕ → ℕ) (s : Statement) → Scoped s → (input : List ℤ) (room space : ℕ) → Rel place (code place s) 0 (start input room space) (beginning place s input room space)
+unfolding code
+begin place s ok input room space =
+    let P : List Instr = code place s in
+    let h : CodeAt place P 0 (codeS place [] 0 s 0 (END ∷ [])) = whole place P in
+    let d : Data = dat [] [] 0 (record { room = room; input = input; space = space }) in
+    let c : Stand place P [] [] [] [] [] 0 d = stands root refl (tt, refl) in
+    rel {p = 0} {kt = []} (at-task {k = []} (t-ex s _ h ok) (omega arith) (at-end ((pastS place P [] 0 s 0 _ h) .0))) c (omega arith)

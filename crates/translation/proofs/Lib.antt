@@ -13,3 +13,4 @@ pub mod Sizes
 pub mod Ranges
 pub mod Lengths
 pub mod OnWords
+pub mod OneStep

@@ -173,7 +173,7 @@ fetched (i ∷ p) n zero h =
 fetched (i ∷ p) n (suc c) h = shift (firstWord (partsOf i)) (partsOf i .operand) (words p ++ zeros n) c ∙ fetched p n c (h .1)
 
 -- the machine on the words of a program is the machine on its instructions
-same-step : (p : List Instr) (n : ℕ) → CodeFits p → (m : Mach) → step (words p ++ zeros n) m ≡ stepIn p m
+pub same-step : (p : List Instr) (n : ℕ) → CodeFits p → (m : Mach) → step (words p ++ zeros n) m ≡ stepIn p m
 unfolding step stepIn
 same-step p n h (ms pc ps fs d) = ap (λ i. obey i pc ps fs d) (fetched p n pc h)
 
