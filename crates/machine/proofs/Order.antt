@@ -27,7 +27,7 @@ use Rattle.machine.specs.Machine.{Frame, fr, Mach, ms, floor, cellIn, st
 -- ---- what is asked for. Cells are numbered from the oldest, values taken from the newest
 
 pub data Demand : Type 0 where
-  -- 20: that so many instructions may still be done
+  -- 20: one more instruction, of so many that are left
   left : ℕ → Demand
   -- 29: an instruction at the counter; so many cells of the running activation; numbers in the so many newest cells; with so many cells gone, this
   -- cell in use; a step and a bound held; so many positions noted; an activation to return from, with its first cell where that is needed
@@ -55,7 +55,7 @@ pub data Demand : Type 0 where
   new : ℕ → Demand
   -- 27: one more activation
   one-more : Demand
-  -- 0: the end
+  -- 0: more to do, where END stands
   more : Demand
 
 abbrev pub answerTo : Demand → ℕ
@@ -189,12 +189,12 @@ asks fs RETURN = activation ∷ given-back ∷ []
 asks fs (GO m l r) = noted m ∷ []
 asks fs (NEXT m) = noted (suc m) ∷ []
 
--- .. what stands at the counter
+-- .. and what stands at the counter: an instruction, or none
 abbrev pub asked : List Frame → Option Instr → List Demand
 asked fs none = there ∷ []
 asked fs (some i) = asks fs i
 
--- ---- the paper's order
+-- ---- the paper's order: "20, 29, 28, 24 or 25, then 21 to 23, then 26, then 27"; and 0 where END stands and nothing else is due
 
 abbrev pub order : List ℕ
 order = limit ∷ noInstruction ∷ channel ∷ inputEnded ∷ outputFull ∷ range ∷ zeroDivisor ∷ unassigned ∷ noCell ∷ activations ∷ ended ∷ []
