@@ -18,19 +18,11 @@ use Rattle.grammar.specs.Program.{Wrong, FirstDeep}
 use Rattle.names.specs.Uses.{Fault, nameFaults, least}
 use Rattle.types.specs.Types.{typeFault}
 use Rattle.reading.specs.Table.{tableOf}
-use Rattle.reading.specs.Reading.{symbols, kindsIn, placeIn, room, filled, cleared, Scanned, Parsed, parsed, Judged, too-long, unreadable, ungrammatical, too-deep, misnamed, mistyped, accepted, Reads, too-short, enough}
+use Rattle.reading.specs.Reading.{symbols, kindsIn, placeIn, room, filled, cleared, Scanned, Parsed, parsed, Judged, too-long, unreadable, ungrammatical, too-deep, misnamed, mistyped, accepted, Reads, too-short, enough, Answered}
 use Rattle.reading.proofs.Only.{only}
 use Rattle.reading.proofs.FaultNumbers.{SevenToNine, seven-to-nine, least-among, ten-only}
 
 module _ (source table : List ℕ) where
-  -- the answer is n at the place q
-  pub record Answers (n q : ℕ) : Type 0 where
-    pub verdict : Verdict
-    pub words : List ℕ
-    pub reads : Reads source table verdict words
-    pub number : numberOf verdict ≡ n
-    pub place : placeOf verdict ≡ q
-
   -- ---- "No. | Given exactly when | Place"
 
   -- 0: "accepted"; 0
@@ -137,34 +129,34 @@ module _ (source table : List ℕ) where
   infixr 20 _also_
   data Rows : ℕ → List (ℕ → Type 0) → Type 1 where
     that-is-all : {i : ℕ} → Rows i []
-    _also_ : {i : ℕ} {C : ℕ → Type 0} {l : List (ℕ → Type 0)} → ((q : ℕ) → C q → Answers i q) → Rows (i + 1) l → Rows i (C ∷ l)
+    _also_ : {i : ℕ} {C : ℕ → Type 0} {l : List (ℕ → Type 0)} → ((q : ℕ) → C q → Answered source table i q) → Rows (i + 1) l → Rows i (C ∷ l)
 
-  answered : (v : Verdict) (words : List ℕ) → room ≤ length table → Judged source v words → (q : ℕ) → q ≡ placeOf v → Answers (numberOf v) q
-  answered v words l j q e = record { verdict = v; words = words ++ drop room table; reads = enough l v words j; number = refl; place = sym e }
+  answered : (v : Verdict) (words : List ℕ) → room ≤ length table → Judged source v words → (q : ℕ) → q ≡ placeOf v → Answered source table (numberOf v) q
+  answered v words l j q e = (v, words ++ drop room table, enough l v words j, refl, sym e)
 
-  taken : (q : ℕ) → Taken q → Answers zeroth q
+  taken : (q : ℕ) → Taken q → Answered source table zeroth q
   taken q h = answered Accepted (filled (tableOf (placeIn source) (parsed (h .1)))) (h .0) (accepted (h .1) (h .2) (h .3)) q (h .4)
 
-  not-enough : (q : ℕ) → Short q → Answers short q
-  not-enough q h = record { verdict = Refused (refusal short 0); words = table; reads = too-short (h .0); number = refl; place = sym (h .1) }
+  not-enough : (q : ℕ) → Short q → Answered source table short q
+  not-enough q h = (Refused (refusal short 0), table, too-short (h .0), refl, sym (h .1))
 
-  too-much : (q : ℕ) → Long q → Answers long q
+  too-much : (q : ℕ) → Long q → Answered source table long q
   too-much q h = answered (Refused (refusal long 16384)) cleared (h .0) (too-long (h .1)) q (h .2)
 
-  not-read : (n q : ℕ) → Unread n q → Answers n q
+  not-read : (n q : ℕ) → Unread n q → Answered source table n q
   not-read n q h = answered (Refused (refusal n q)) cleared (h .0) (unreadable (h .1) (refusal n q) (h .2)) q refl
 
-  not-parsed : (q : ℕ) → Ungrammatical q → Answers grammar q
+  not-parsed : (q : ℕ) → Ungrammatical q → Answered source table grammar q
   not-parsed q h = answered (Refused (refusal grammar (placeIn source (h .2)))) cleared (h .0) (ungrammatical (h .1) (h .2) (h .3)) q (h .4)
 
-  not-shallow : (q : ℕ) → Deep q → Answers depth q
+  not-shallow : (q : ℕ) → Deep q → Answered source table depth q
   not-shallow q h = answered (Refused (refusal depth (placeIn source (h .2)))) cleared (h .0) (too-deep (h .1) (h .2) (h .3)) q (h .4)
 
-  not-named : (n q : ℕ) → Misnamed n q → Answers n q
+  not-named : (n q : ℕ) → Misnamed n q → Answered source table n q
   not-named n q h =
       answered (Refused (refusal n (placeIn source (h .2)))) cleared (h .0) (misnamed (h .1) (record { symbol = h .2; answer = n }) (h .3)) q (h .4)
 
-  not-typed : (q : ℕ) → Mistyped q → Answers types q
+  not-typed : (q : ℕ) → Mistyped q → Answered source table types q
   not-typed q h =
       answered (Refused (refusal types (placeIn source (h .2)))) cleared (h .0) (mistyped (h .1) (record { symbol = h .2; answer = types }) (h .3) (h .4)) q (h .5)
 
@@ -183,16 +175,16 @@ module _ (source table : List ℕ) where
       also not-typed
       also that-is-all
 
-  look-up : (i n : ℕ) (l : List (ℕ → Type 0)) → Rows i l → (q : ℕ) → getD l n (λ k. ⊥) q → Answers (i + n) q
+  look-up : (i n : ℕ) (l : List (ℕ → Type 0)) → Rows i l → (q : ℕ) → getD l n (λ k. ⊥) q → Answered source table (i + n) q
   look-up i n [] r q h = absurd h
-  look-up i zero (C ∷ l) (a also r) q h = let e : i ≡ i + 0 = omega arith in subst (λ k. Answers k q) e (a q h)
-  look-up i (suc n) (C ∷ l) (a also r) q h = let e : i + 1 + n ≡ i + suc n = omega arith in subst (λ k. Answers k q) e (look-up (i + 1) n l r q h)
+  look-up i zero (C ∷ l) (a also r) q h = let e : i ≡ i + 0 = omega arith in subst (λ k. Answered source table k q) e (a q h)
+  look-up i (suc n) (C ∷ l) (a also r) q h = let e : i + 1 + n ≡ i + suc n = omega arith in subst (λ k. Answered source table k q) e (look-up (i + 1) n l r q h)
 
   -- read answers n at q exactly when the row of n says so
-  pub numbered : (n q : ℕ) → Answers n q ↔ Given n q
+  pub numbered : (n q : ℕ) → Answered source table n q ↔ Given n q
   numbered n q = (
-    λ a. subst (λ k. Given k q) (a .number) (subst (Given (numberOf (a .verdict))) (a .place) (in-row (a .reads))),
-    λ g. let e : 0 + n ≡ n = omega arith in subst (λ k. Answers k q) e (look-up 0 n rows all-rows q g),
+    λ a. subst (λ k. Given k q) (a .3) (subst (Given (numberOf (a .0))) (a .4) (in-row (a .2))),
+    λ g. let e : 0 + n ≡ n = omega arith in subst (λ k. Answered source table k q) e (look-up 0 n rows all-rows q g),
   )
 
   -- and there is no other number

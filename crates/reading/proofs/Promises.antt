@@ -24,7 +24,7 @@ use Rattle.names.proofs.Once.{only-one}
 use Rattle.names.proofs.TreeLaws.{joined-append}
 use Rattle.types.specs.Types.{typeFaults, typeFault}
 use Rattle.reading.specs.Table.{fours, useWords, declarationWords, nodeWords, tableOf}
-use Rattle.reading.specs.Reading.{symbols, placeIn, refusedAt, room, cleared, filled, Parsed, parsed, Judged, too-long, unreadable, ungrammatical, too-deep, misnamed, mistyped, accepted, Reads, too-short, enough}
+use Rattle.reading.specs.Reading.{symbols, placeIn, refusedAt, room, cleared, filled, Parsed, parsed, Judged, too-long, unreadable, ungrammatical, too-deep, misnamed, mistyped, accepted, Reads, too-short, enough, Answered}
 use Rattle.reading.proofs.Answers.{none-empty, unmeant-none}
 use Rattle.reading.proofs.UseWords.{AllMean, nil-both, meant-split, rows-length, kind-some}
 use Rattle.reading.proofs.Only.{one-program, only}
@@ -32,12 +32,7 @@ use Rattle.reading.proofs.LeastFault.{least-exactly}
 use Rattle.reading.proofs.FaultNumbers.{early-number, least-among, none-among, eight-among, has-eight, own-only, ten-only}
 use Rattle.reading.proofs.Smallest.{Smallest, least-smallest, smallest-least, names-inside, type-smallest, smallest-type, no-type, type-none, name-none}
 
--- the answer to a source and a table is the number n at the place q: "a definition gives this paper's number and values for each of the enum's cases,
--- and the promises use this definition"
-abbrev pub Answered : List ℕ → List ℕ → ℕ → ℕ → Type 0
-Answered source table n q = (v : Verdict) × (new : List ℕ) × Reads source table v new × (numberOf v ≡ n) × (placeOf v ≡ q)
-
--- so whatever answer is given has this number and this place
+-- whatever answer is given has the number and the place that one answer has
 pub one-answer : {source table new : List ℕ} {v : Verdict} (n q : ℕ) → Reads source table v new → Answered source table n q → (numberOf v ≡ n) × (placeOf v ≡ q)
 one-answer n q r a = let e = only r (a .2) .0 in (ap numberOf e ∙ a .3, ap placeOf e ∙ a .4)
 
@@ -85,8 +80,8 @@ accepted-exactly source table l = (
 )
 
 -- 0 is the acceptance, so its place is 0
-pub zero-accepts : {source table new : List ℕ} {v : Verdict} → Reads source table v new → numberOf v ≡ 0 → v ≡ Accepted
-zero-accepts r z = read-into r z .here .answer
+pub zero-judged : {source words : List ℕ} {v : Verdict} → Judged source v words → numberOf v ≡ 0 → v ≡ Accepted
+zero-judged j z = accepting j z .answer
 
 -- ---- 2. the faults of names: "in a group the smallest place wins, and at one place the lower number"
 

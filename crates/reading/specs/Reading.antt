@@ -7,7 +7,7 @@ use mathlib.Core.List.{List, [], _∷_, _++_}
 use mathlib.Core.Option.{Option, none, some}
 use lib.ListN.{length, getD, drop}
 use Rattle.answers.specs.Numbers.{short, long, grammar, depth}
-use Rattle.answers.specs.Answers.{refusal}
+use Rattle.answers.specs.Answers.{refusal, numberOf, placeOf}
 use Rattle.answers.specs.declared.Refusal.{Refusal}
 use Rattle.answers.specs.declared.Verdict.{Verdict}
 use Rattle.answers.specs.declared.Verdict.the-variants.{Accepted, Refused}
@@ -94,3 +94,8 @@ pub data Judged (source : List ℕ) : Verdict → List ℕ → Type 0 where
 pub data Reads (source table : List ℕ) : Verdict → List ℕ → Type 0 where
   too-short : length table < room → Reads source table (Refused (refusal short 0)) table
   enough : room ≤ length table → (v : Verdict) (words : List ℕ) → Judged source v words → Reads source table v (words ++ drop room table)
+
+-- the answer is the number n at the place q: "a definition gives this paper's number and values for each of the enum's cases, and the promises use
+-- this definition"
+abbrev pub Answered : List ℕ → List ℕ → ℕ → ℕ → Type 0
+Answered source table n q = (v : Verdict) × (new : List ℕ) × Reads source table v new × (numberOf v ≡ n) × (placeOf v ≡ q)

@@ -10,7 +10,6 @@ pub mod Accepting
 pub mod LaidWords
 pub mod LayoutPass
 pub mod LaidOut
-pub mod ZeroAccepts
 pub mod Promised
 pub mod Sectioned
 pub mod ByPlaceLaws

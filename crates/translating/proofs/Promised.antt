@@ -35,7 +35,7 @@ use Rattle.translation.proofs.Correct.{machine-answers, source-answers}
 use Rattle.translation.proofs.OnWords.{follows-as, onWords, faithful-words}
 use Rattle.translating.specs.Job.{room, filled, codeIn, Translated, refused, accepted, Translates, too-short, enough, RunsAs, Deed}
 use Rattle.translating.proofs.Accepting.{within-limits, well-scoped}
-use Rattle.translating.proofs.ZeroAccepts.{zero-judged}
+use Rattle.reading.proofs.Promises.{zero-judged}
 
 -- ---- the words that are left
 
