@@ -1,12 +1,12 @@
 -- Laws of Options: what a line asks from a place on, by its next word and what it asks behind that.
 use mathlib.Core.Path.{_≡_, refl, sym, ap, _∙_}
-use mathlib.Core.Bool.{Bool, true, false, cond, _&&_, _||_, and-false, or-true, true≢false, false≢true}
+use mathlib.Core.Bool.{Bool, true, false, cond, _||_, and-false, or-true, true≢false, false≢true}
 use mathlib.Core.List.{List, [], _∷_}
-use mathlib.Core.Option.{Option, none, some}
+use mathlib.Core.Option.{none, some}
 use Prim.Native.Nat.{ℕ, _-_, _≤_, _<_}
 use native.Mathlib.Omega.{arith}
 use lib.Dec.{leb}
-use lib.ListN.{length, take, drop, drop-of-length-le}
+use lib.ListN.{length, drop-of-length-le}
 use borrow.Author.Tests.{le-leb, lt-leb, leb-true, leb-false}
 use Rattle.symbols.specs.Text.{bytes}
 use Rattle.symbols.specs.Names.{equal}

@@ -1,5 +1,5 @@
 -- The options of a run: each is a word with a number behind it. These definitions are over the words that a line asks, among which is no --plain.
-use Prim.Native.Nat.{ℕ, _≤_, min}
+use Prim.Native.Nat.{ℕ, _≤_}
 use mathlib.Core.Path.{_≡_}
 use mathlib.Core.Bool.{Bool, true, false, cond, _&&_, _||_}
 use mathlib.Core.List.{List, [], _∷_}
@@ -10,7 +10,6 @@ use Rattle.symbols.specs.Text.{bytes}
 use Rattle.symbols.specs.Names.{equal}
 use Rattle.asking.specs.Numerals.{naturalOf}
 use Rattle.asking.specs.Words.{part, askedFrom}
-use Rattle.asking.specs.declared.sizes.Sizes.{Sizes}
 use Rattle.asking.specs.declared.sizes.Asked.{Asked}
 use Rattle.asking.specs.declared.sizes.Asked.the-variants.{Are, Not}
 

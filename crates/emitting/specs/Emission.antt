@@ -7,7 +7,7 @@ use mathlib.Core.List.{List, [], _∷_}
 use lib.Dec.{eqb, ltb}
 use lib.ListN.{getD, set, replicate}
 use Rattle.machine.specs.Instructions.{high, mid}
-use Rattle.grammar.specs.NodeKinds.{n-block, n-statements, n-block-end, n-variable, n-procedure, n-procedure-end, n-then, n-else, n-if-end, n-for, n-start, n-once, n-while, n-step, n-do, n-for-end, n-left, n-assign, n-condition-end, n-unary, n-binary, n-number, n-logical, n-use, n-call, n-call-end, n-actual}
+use Rattle.grammar.specs.NodeKinds.{n-block, n-statements, n-block-end, n-variable, n-procedure, n-procedure-end, n-then, n-else, n-if-end, n-start, n-once, n-while, n-step, n-do, n-for-end, n-left, n-assign, n-condition-end, n-unary, n-binary, n-number, n-logical, n-use, n-call, n-call-end, n-actual}
 use Rattle.names.specs.Rows.{foldNodes, isUse}
 use Rattle.emitting.specs.Layout.{packed, sites}
 

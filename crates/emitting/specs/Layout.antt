@@ -2,7 +2,7 @@
 -- scope, and the offset of its cell in its activation; of a procedure whether it has a result. This is the model of the code and no part of the
 -- paper; proofs/ has that these are the levels and offsets of Translate.
 use Prim.Native.Nat.{ℕ, _+_, _-_, _%_}
-use mathlib.Core.Bool.{Bool, cond, _||_}
+use mathlib.Core.Bool.{cond, _||_}
 use mathlib.Core.List.{List, [], _∷_}
 use lib.Dec.{eqb}
 use lib.ListN.{set, replicate}

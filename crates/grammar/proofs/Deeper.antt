@@ -14,7 +14,7 @@ use Rattle.grammar.specs.declared.Use.the-variants.{AsStatement}
 use Rattle.grammar.specs.declared.Level.the-variants.{Product, Sum, Conjunction, Disjunction, Implication, Equivalence}
 use Rattle.grammar.specs.Trees.{Syn, nil, tok, act, sub, yield}
 use Rattle.grammar.specs.Program.{levels, FirstDeep, Accepted}
-use Rattle.grammar.proofs.Sets.{both, all, true-false}
+use Rattle.grammar.proofs.Sets.{both, true-false}
 use Rattle.grammar.proofs.Productions.{at, all-at}
 use Rattle.grammar.proofs.Meet.{Trip, clear, trips, trip}
 use Rattle.grammar.proofs.Unique.{clear-keeps, trips-deep}

@@ -2,7 +2,6 @@
 -- part gives; for each production: that its parts and its own nodes make it so. The rest is one induction over trees, whatever the grammar.
 use Prim.Native.Nat.{ℕ, _+_, _-_}
 use mathlib.Core.Path.{_≡_, refl, sym, ap, subst, _∙_}
-use mathlib.Core.Bool.{Bool, true, false}
 use mathlib.Core.List.{List, [], _∷_, _++_, append-nil, append-assoc}
 use mathlib.Core.Option.{Option, none, some}
 use native.Mathlib.Omega.{arith}
@@ -10,16 +9,16 @@ use lib.ListN.{length}
 use Rattle.grammar.specs.Grammar.{Op, times, over, plus, minus, and, or, implies, equals, Relation, less, lessEqual, equal, greaterEqual, greater, notEqual, Class, block, inner, head, tail, declarations, declaration, declared, type, procedure, heading, formals, values, specifications, list, others, statements, statement, consequence, alternative, repetition, for-clause, elements, further, element, progress, stepping, amount, unconditional, named, right, expression, otherwise, level, more, negation, relation, comparison, primary, actuals, actual, further-actuals, operand, Item, sy, rd, put, rhs, program, entryNode, useNumber, opSymbol, relationSymbol}
 use Rattle.grammar.specs.Grammar.{Prod, begin-end, a-block, a-compound, a-tail, a-head, some-declarations, no-declaration, typed, untyped, variables, function, integer, boolean, a-procedure, a-heading, some-formals, no-formals, some-values, no-values, a-specification, no-specification, a-list, another, no-other, a-statement, no-statement, conditional, repeated, plain, then-for, then-plain, an-else, no-else, a-for, a-clause, for-list, another-element, no-element, an-element, once, while, by-steps, a-step, an-amount, dummy, compound, with-name, assignment, call, left, value, a-condition, simple, an-otherwise, chain, signed, again, no-more, a-not, no-not, a-relation, compare, no-comparison, number, true-value, false-value, a-name, in-parentheses, with, bare, an-actual, another-actual, no-actual}
 use Rattle.grammar.specs.Trees.{Syn, nil, tok, act, sub, yield, nodes, nodeWords, below, nodesOf}
-use Rattle.grammar.specs.NodeKinds.{n-block, n-statements, n-block-end, n-type, n-variable, n-procedure, n-formal, n-value, n-specified, n-body, n-procedure-end, n-then, n-else, n-if-end, n-for, n-start, n-once, n-while, n-step, n-amount, n-do, n-for-end, n-left, n-assign, n-condition-end, n-unary, n-binary, n-number, n-logical, n-use, n-call, n-call-end, n-actual}
+use Rattle.grammar.specs.NodeKinds.{n-block, n-statements, n-block-end, n-type, n-procedure, n-formal, n-value, n-body, n-procedure-end, n-then, n-if-end, n-for, n-start, n-for-end, n-left, n-call, n-call-end, n-actual}
 use Rattle.grammar.specs.declared.Level.{Level}
 use Rattle.grammar.specs.declared.Level.the-variants.{Product, Sum, Conjunction, Disjunction, Implication, Equivalence}
 use Rattle.grammar.specs.declared.Use.{Use}
 use Rattle.grammar.specs.declared.Use.the-variants.{AsPrimary, AsStatement}
 use Rattle.grammar.specs.declared.Entry.{Entry}
 use Rattle.names.specs.Program as P
-use Rattle.names.specs.Program.{Name, Sort, Expression, Expressions, Element, Specification, Statement, Statements, Declarations, Procedure, firstSymbol}
+use Rattle.names.specs.Program.{Name, Sort, Expression, Expressions, Specification, Statement, Statements, Declarations, firstSymbol}
 use Rattle.names.specs.ReadOff.{Sem, Makes, operatorOf, signOf, relationOf, operandOf, applied, nameAt, build, read, programOf}
-use Rattle.names.specs.Nodes.{node, mark, signKind, operatorKind, truth, sortNumber, callNodes, nodesE, nodesEs, amountNodes, nodesL, nodesLs, nodesN, nodesSp, nodesLeft, nodesCall, nodesS, nodesSs, nodesD, nodesP}
+use Rattle.names.specs.Nodes.{node, mark, signKind, operatorKind, sortNumber, callNodes, nodesE, nodesEs, amountNodes, nodesL, nodesLs, nodesN, nodesSp, nodesLeft, nodesCall, nodesS, nodesSs, nodesD, nodesP}
 
 -- ---- what the words w of a part of a class are: at depth d, from symbol i on, giving v
 

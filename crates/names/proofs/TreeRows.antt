@@ -3,8 +3,8 @@
 use Prim.Native.Nat.{ℕ, _+_}
 use mathlib.Core.List.{List, [], _∷_, _++_}
 use mathlib.Core.Option.{some}
-use Rattle.grammar.specs.NodeKinds.{n-variable, n-procedure, n-formal, n-value, n-specified}
-use Rattle.names.specs.Program.{Name, Specification, Statement, dummy, assignment, procedure, when, either, repeat, compound, block, Statements, last, first, Declarations, none as no-more, variables, declare, Procedure, heading}
+use Rattle.grammar.specs.NodeKinds.{n-value, n-specified}
+use Rattle.names.specs.Program.{Specification, Statement, dummy, assignment, procedure, when, either, repeat, compound, block, Statements, last, first, Declarations, none as no-more, variables, declare, Procedure, heading}
 use Rattle.names.specs.Nodes.{sortNumber}
 use Rattle.names.specs.Outline.{sizeS, sizeD, sizeP, rowsN}
 

@@ -1,8 +1,8 @@
 -- How the arrays of the code hold what Rows speaks of, and what the functions need of them. No part of the paper.
-use Prim.Native.Nat.{ℕ, _+_, _*_, _≤_, _<_}
+use Prim.Native.Nat.{ℕ, _+_, _*_, _≤_}
 use mathlib.Core.Path.{_≡_}
 use mathlib.Core.List.{List, [], _∷_, _++_}
-use lib.ListN.{length, getD, take}
+use lib.ListN.{length, take}
 use Rattle.names.specs.Rows.{Known, Found, opensOf}
 use Rattle.names.specs.declared.Open.{Open}
 use Rattle.names.specs.declared.Declaring.{Declaring}

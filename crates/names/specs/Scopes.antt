@@ -1,12 +1,12 @@
 -- Paper 01, "Names and types": scopes, what they declare, and what a name means.
-use Prim.Native.Nat.{ℕ, zero, suc, _+_}
+use Prim.Native.Nat.{ℕ, _+_}
 use Prim.Native.String.{String}
-use mathlib.Core.Bool.{Bool, true, false, cond, _||_}
+use mathlib.Core.Bool.{Bool, false, cond, _||_}
 use mathlib.Core.List.{List, [], _∷_, _++_, map}
 use mathlib.Core.Option.{Option, none, some}
 use Rattle.symbols.specs.Text.{bytes}
 use Rattle.symbols.specs.Names.{sameName}
-use Rattle.names.specs.Program.{Name, Sort, integer, boolean, Specification, Statement, Declarations, none as no-more, variables, declare, Procedure, heading}
+use Rattle.names.specs.Program.{Name, Sort, integer, Specification, Statement, Declarations, none as no-more, variables, declare, Procedure, heading}
 
 -- ---- names in lists
 

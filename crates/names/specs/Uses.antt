@@ -1,13 +1,13 @@
 -- Paper 01, "The table" and "Numbered answers": the uses and the scopes of a program in source order, each with the scopes around it; the faults
 -- 7, 8 and 9 of its names, and which of some faults is the least; and what the table says of each use.
-use Prim.Native.Nat.{ℕ, zero, suc, _+_}
-use mathlib.Core.Bool.{Bool, true, false, cond, not, _&&_, _||_}
+use Prim.Native.Nat.{ℕ, _+_}
+use mathlib.Core.Bool.{Bool, false, cond, not, _&&_, _||_}
 use mathlib.Core.List.{List, [], _∷_, _++_, map}
 use mathlib.Core.Option.{Option, none, some}
 use lib.Dec.{eqb, ltb}
 use Rattle.answers.specs.Numbers.{twice, undeclared, heading as badHeading}
 use Rattle.names.specs.Program.{Name, Expression, number, logical, name, call, signed, operated, chosen, nested, Expressions, done, then, Element, value, while, step, Specification, Statement, dummy, assignment, procedure, when, either, repeat, compound, block, Statements, last, first, Declarations, none as no-more, variables, declare, Procedure, heading}
-use Rattle.names.specs.Scopes.{Thing, variable, routine, formal, Scope, ofBlock, ofBody, has, nameOf, formalsOf, valuesOf, specificationsOf, Declared, declares, inBlock, inBody, Meaning, declared, given, nothing, meaning}
+use Rattle.names.specs.Scopes.{Thing, variable, routine, formal, Scope, ofBlock, ofBody, has, nameOf, formalsOf, valuesOf, specificationsOf, declares, Meaning, declared, given, nothing, meaning}
 
 -- ---- uses: "Names in declarations, formal, value and specification lists are no uses."
 

@@ -5,7 +5,7 @@ use answers::Place;
 use symbols::names::same_name;
 use symbols::names::spells;
 ghost use mathlib.Core.Path.{_≡_};
-ghost use Prim.Native.Nat.{ℕ, _<_, min};
+ghost use Prim.Native.Nat.{_<_, min};
 ghost use lib.ListN.{length};
 ghost use Rattle.symbols.specs.Names.{lettersAt};
 ghost use Rattle.names.specs.Identity.{givenOf, StandsFor, Standing, Identified};

@@ -1,8 +1,8 @@
 -- "An accepted program always fits": the table of any program of a source is no longer than the first 32,768 words. So `filled` cuts nothing off, and no
 -- answer changes the length of what is lent.
 use Prim.Native.Nat.{ℕ, _-_, _≤_}
-use mathlib.Core.Path.{_≡_, refl, ap, _∙_}
-use mathlib.Core.List.{List, _++_}
+use mathlib.Core.Path.{_≡_, refl, ap}
+use mathlib.Core.List.{List}
 use native.Mathlib.Omega.{arith}
 use lib.ListN.{length, getD, drop, length-append, length-drop, length-map}
 use Rattle.answers.specs.declared.Verdict.{Verdict}
@@ -11,7 +11,7 @@ use Rattle.symbols.specs.Symbols.{kind}
 use Rattle.symbols.specs.Scan.{scan, valuesOf}
 use Rattle.grammar.specs.Verdict.{zeros}
 use Rattle.reading.specs.Table.{tableOf}
-use Rattle.reading.specs.Reading.{symbols, placeIn, room, filled, cleared, Parsed, parsed, Judged, too-long, unreadable, ungrammatical, too-deep, misnamed, mistyped, accepted, Reads, too-short, enough}
+use Rattle.reading.specs.Reading.{symbols, placeIn, room, filled, Parsed, parsed, Judged, too-long, unreadable, ungrammatical, too-deep, misnamed, mistyped, accepted, Reads, too-short, enough}
 use Rattle.reading.proofs.Places.{few-symbols}
 use Rattle.reading.proofs.Fits.{table-room}
 use Rattle.reading.proofs.Answers.{length-zeros}

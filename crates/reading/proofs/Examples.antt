@@ -1,23 +1,20 @@
 -- S1 and S2: "A count of uses, then its triples". Their trees are written down; that they spell the sources, and what the table holds, is computed.
 use Prim.Native.Nat.{ℕ, _≤_}
-use Prim.Native.String.{String}
 use mathlib.Core.Path.{_≡_, refl, sym, ap, subst, _∙_}
-use mathlib.Core.Bool.{Bool, true, false}
 use mathlib.Core.List.{List, [], _∷_, _++_}
 use mathlib.Core.Option.{none}
 use native.Mathlib.Omega.{arith}
-use lib.ListN.{length, getD, drop}
+use lib.ListN.{length, getD}
 use borrow.Author.Tests.{leb-true}
 use Rattle.answers.specs.declared.Verdict.{Verdict}
-use Rattle.answers.specs.declared.Verdict.the-variants.{Accepted, Refused}
+use Rattle.answers.specs.declared.Verdict.the-variants.{Accepted}
 use Rattle.symbols.specs.Text.{bytes}
 use Rattle.symbols.specs.Names.{blank, letter, digit, inName, these, reach, valueFrom, equal, sameName}
-use Rattle.symbols.specs.Scan.{before, closed, spelled, named, word, gap, followed, sign, sized, name, valued, number as numberLexeme, lexeme, behind, endsRemark, note, counted, judged, turn, scanFrom, scan, kindsOf}
+use Rattle.symbols.specs.Scan.{before, closed, spelled, named, word, gap, followed, sign, sized, name, valued, number as numberLexeme, lexeme, behind, endsRemark, note, counted, judged, turn, scanFrom, scan}
 use Rattle.grammar.specs.declared.Level.the-variants.{Product, Sum, Conjunction, Disjunction, Implication, Equivalence}
 use Rattle.grammar.specs.declared.Entry.the-variants.{Variable}
 use Rattle.grammar.specs.Grammar.{program, rhs, begin-end, a-block, a-tail, a-head, no-declaration, typed, variables, integer, a-list, no-other, a-statement, no-statement, plain, compound, with-name, assignment, value, simple, chain, no-more, no-not, a-relation, no-comparison, number}
 use Rattle.grammar.specs.Trees.{Syn, nil, tok, act, sub, yield}
-use Rattle.grammar.specs.Program.{Keeps}
 use Rattle.grammar.proofs.Meet.{trip}
 use Rattle.grammar.proofs.Unique.{clear-keeps}
 use Rattle.names.specs.ReadOff.{build, read, programOf}
@@ -27,7 +24,7 @@ use Rattle.names.specs.Nodes.{nodesE, nodesN, nodesLeft, nodesS, nodesSs, nodes
 use Rattle.names.specs.Outline.{sizeS, sizeSs, sizeD, rowsN, rowsS, rowsSs, rowsD, declarations}
 use Rattle.types.specs.Types.{asLeft, faultsE, faultsLeft, sortE, faultsS, faultsSs, faultsD, typeFaults, typeFault}
 use Rattle.reading.specs.Table.{fours, useWords, declarationWords, hasNone, nodeWords, tableOf}
-use Rattle.reading.specs.Reading.{kindsIn, placeIn, room, filled, Parsed, parsed, Judged, accepted, Reads, enough}
+use Rattle.reading.specs.Reading.{placeIn, room, filled, Parsed, parsed, Judged, accepted, Reads, enough}
 use Rattle.reading.proofs.Only.{only}
 
 -- ---- the trees

@@ -2,13 +2,13 @@
 use Prim.Native.Nat.{ℕ, _<_, _≤_}
 use mathlib.Core.Path.{_≡_, refl, sym, ap, _∙_}
 use mathlib.Core.List.{List, _++_}
-use mathlib.Core.Option.{Option, none, some}
+use mathlib.Core.Option.{none, some}
 use native.Mathlib.Omega.{arith}
-use lib.ListN.{length, drop}
+use lib.ListN.{drop}
 use Rattle.answers.specs.Numbers.{grammar, depth}
 use Rattle.answers.specs.Answers.{refusal}
 use Rattle.answers.specs.declared.Verdict.{Verdict}
-use Rattle.answers.specs.declared.Verdict.the-variants.{Accepted, Refused}
+use Rattle.answers.specs.declared.Verdict.the-variants.{Refused}
 use Rattle.grammar.specs.Program.{Accepted as Keeping}
 use Rattle.grammar.proofs.Exclusive.{not-both, one-wrong, wrong-deep, same-place}
 use Rattle.grammar.proofs.Unique.{unique}

@@ -1,21 +1,19 @@
 -- From the passes to the answer: what the least faults of the passes say of the program.
-use Prim.Native.Nat.{ℕ, _+_, _<_, _≤_, min}
-use mathlib.Core.Path.{_≡_, refl, sym, ap, subst, _∙_}
-use mathlib.Core.List.{List, [], _∷_, _++_, map}
+use Prim.Native.Nat.{ℕ, _<_, _≤_, min}
+use mathlib.Core.Path.{_≡_, sym, ap, subst, _∙_}
+use mathlib.Core.List.{List, [], map}
 use mathlib.Core.Option.{none, some}
-use native.Mathlib.Omega.{arith}
-use lib.Dec.{eqb}
 use lib.ListN.{length, getD}
 use Rattle.answers.specs.declared.Verdict.the-variants.{Accepted}
 use Rattle.symbols.specs.Names.{lettersAt, sameName}
 use Rattle.symbols.specs.Scan.{scan, valuesOf}
-use Rattle.grammar.specs.Trees.{yield, nodesOf}
+use Rattle.grammar.specs.Trees.{yield}
 use Rattle.names.specs.Program.{Name, Statement}
-use Rattle.names.specs.Scopes.{Given, environment, same}
+use Rattle.names.specs.Scopes.{environment, same}
 use Rattle.names.specs.Uses.{Fault, nameFaults, least, joined, innermost, unmeant, scopesS, usesS}
 use Rattle.names.specs.Nodes.{nodesS}
 use Rattle.names.specs.Outline.{rowsS}
-use Rattle.names.specs.Identity.{lettersOf, GivenAs, Identified}
+use Rattle.names.specs.Identity.{lettersOf, GivenAs}
 use Rattle.names.specs.Rows.{identityIn, faultOf, leastKey, noFault, outlineOf, usesOf}
 use Rattle.names.proofs.AllNames.{AllS}
 use Rattle.names.proofs.Named.{named}
@@ -31,8 +29,8 @@ use Rattle.types.specs.Types.{typeFaults, typeFault}
 use Rattle.types.specs.Passes.{typedOf}
 use Rattle.types.proofs.OfPrograms.{typed-program}
 use Rattle.reading.specs.Table.{tableOf}
-use Rattle.reading.specs.Reading.{symbols, kindsIn, placeIn, programIn, refusedAt, cleared, filled, Parsed, parsed, Judged, misnamed, mistyped, accepted}
-use Rattle.reading.specs.Model.{Ready, Known}
+use Rattle.reading.specs.Reading.{symbols, placeIn, refusedAt, cleared, filled, parsed, Judged, misnamed, mistyped, accepted}
+use Rattle.reading.specs.Model.{Known}
 
 module _ {source places nodes ids : List ℕ} {n : ℕ} (known : Known source places nodes ids n) where
   abbrev pub letters : ℕ → List ℕ

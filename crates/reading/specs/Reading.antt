@@ -3,8 +3,8 @@
 -- the lower number."
 use Prim.Native.Nat.{ℕ, _-_, _<_, _≤_}
 use mathlib.Core.Path.{_≡_}
-use mathlib.Core.List.{List, [], _∷_, _++_}
-use mathlib.Core.Option.{Option, none, some}
+use mathlib.Core.List.{List, _++_}
+use mathlib.Core.Option.{none, some}
 use lib.ListN.{length, getD, drop}
 use Rattle.answers.specs.Numbers.{short, long, grammar, depth}
 use Rattle.answers.specs.Answers.{refusal, numberOf, placeOf}

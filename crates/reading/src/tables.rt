@@ -3,13 +3,13 @@ use grammar::nodes;
 use names::Meant;
 use names::uses::meant;
 ghost use mathlib.Core.Path.{_≡_};
-ghost use mathlib.Core.List.{List, [], _∷_};
-ghost use Prim.Native.Nat.{ℕ, _+_, _-_, _≤_, _<_};
+ghost use mathlib.Core.List.{[], _∷_};
+ghost use Prim.Native.Nat.{_+_, _-_, _≤_, _<_};
 ghost use lib.ListN.{length, getD};
 ghost use Rattle.names.specs.Rows.{isUse, meantOf};
 ghost use mathlib.Core.Bool.{cond};
-ghost use Rattle.reading.specs.Table.{fours, hasNone, declarationWords, nodeWords};
-ghost use Rattle.reading.specs.Model.{Wrote, placeOf, Narrow, meantWords, useModel, useSection, declarationSection, nodeSection, tableModel};
+ghost use Rattle.reading.specs.Table.{hasNone, declarationWords, nodeWords};
+ghost use Rattle.reading.specs.Model.{Wrote, placeOf, Narrow, meantWords, useModel, tableModel};
 
 // The place of a symbol, as the table holds it.
 fn place_word(places: &[usize; 2048], symbol: u16) -> u16

@@ -1,10 +1,9 @@
 -- What a name is used for in an expression and as a statement: the rules and the translation both go by these cases. Assumes nothing: these are
 -- definitions.
 use Prim.Native.Nat.{ℕ, zero, suc}
-use mathlib.Core.List.{List, [], _∷_}
 use mathlib.Core.Option.{Option, none, some}
 use Rattle.names.specs.Program.{Name, Sort, Procedure, Expression, number, logical, name, call, signed, operated, chosen, nested, Expressions, done, then}
-use Rattle.names.specs.Scopes.{Thing, variable, routine, formal, Declared, sortOf, Meaning, declared, given, nothing}
+use Rattle.names.specs.Scopes.{Thing, variable, routine, formal, sortOf, Meaning, declared, given, nothing}
 
 -- ---- in an expression
 

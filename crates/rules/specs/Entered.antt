@@ -1,6 +1,6 @@
 -- The environment at run: the scopes that were entered around, the innermost first, each with its first cell; and the cell that a name means.
 -- Nothing here knows of code, addresses, levels or offsets. Assumes nothing: these are definitions.
-use Prim.Native.Nat.{ℕ, zero, suc, _+_}
+use Prim.Native.Nat.{ℕ, _+_}
 use mathlib.Core.Bool.{Bool, true, false, cond}
 use mathlib.Core.List.{List, [], _∷_}
 use mathlib.Core.Option.{Option, none, some}

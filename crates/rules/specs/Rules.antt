@@ -4,20 +4,19 @@
 -- element tested, block left or call returned."
 -- `place` says where the symbol with a number stands, so that faults have the places of the paper and trees stay free of them.
 -- Assumes nothing: these are definitions.
-use Prim.Native.Nat.{ℕ, zero, suc, _+_, _-_}
-use mathlib.Core.Bool.{Bool, true, false, cond}
+use Prim.Native.Nat.{ℕ, _-_}
 use mathlib.Core.List.{List, [], _∷_}
 use mathlib.Core.Option.{Option, none, some}
 use lib.IntN.{ℤ, pos}
 use Rattle.answers.specs.declared.Stop.{Stop}
 use Rattle.answers.specs.declared.Stop.the-variants.{Ended, Wrong}
 use Rattle.machine.specs.Values
-use Rattle.machine.specs.Values.{Unary, Binary, truth}
-use Rattle.machine.specs.Run.{Event, quiet, Trace, untold, Out, halt, next, End, run}
-use Rattle.machine.specs.Data.{Lent, Data, dat, cells, Res, lift, Act, push, load, store, assign, reserve, forget, receive, send, keep, bump, unary, binary, actOn, work, Two, either as byTest, Test, condition, upto, testOn, test, openBlock, closeBlock, enter, Fate, kept, gone, leave}
+use Rattle.machine.specs.Values.{Binary, truth}
+use Rattle.machine.specs.Run.{quiet, untold, Out, halt, next, End, run}
+use Rattle.machine.specs.Data.{Data, dat, cells, Res, lift, Act, push, load, store, assign, reserve, forget, receive, send, keep, bump, unary, binary, actOn, work, Two, either as byTest, Test, condition, upto, testOn, test, openBlock, closeBlock, enter, Fate, kept, gone, leave}
 use Rattle.names.specs.Program
-use Rattle.names.specs.Program.{Name, Sort, Sign, positive, negative, negation, Operator, Expression, number, logical, name, call, signed, operated, chosen, nested, Expressions, done, then, Element, value, while, step, Statement, dummy, assignment, procedure, when, either, repeat, compound, block, Statements, last, first, Declarations, Procedure}
-use Rattle.names.specs.Scopes.{Thing, variable, routine, formal, Declared, Scope, ofBlock, ofBody, sortOf, bodyOf, Meaning, declared, given, nothing, meaning}
+use Rattle.names.specs.Program.{Name, Sort, Sign, positive, negative, negation, Operator, Expression, number, logical, name, call, signed, operated, chosen, nested, Expressions, done, then, Element, value, while, step, Statement, dummy, assignment, procedure, when, either, repeat, compound, block, Statements, last, first}
+use Rattle.names.specs.Scopes.{Thing, variable, routine, formal, ofBlock, ofBody, sortOf, bodyOf, Meaning, declared, given, nothing, meaning}
 use Rattle.rules.specs.Entered.{Entry, entered, scopesOf, cellsIn, cut, declaring, cellOf}
 use Rattle.rules.specs.Calls.{Primary, held, function, absolute, greatest, no-primary, primary, Command, routine-of, absolute-of, greatest-of, input-to, output-of, no-command, command}
 

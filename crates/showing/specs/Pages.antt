@@ -1,6 +1,6 @@
 -- What the tool shows of a source and of a table: lines and columns as people count them, rows of bytes, sections, levels. These are definitions of
 -- the tool and no part of the paper.
-use Prim.Native.Nat.{ℕ, zero, suc, _+_, _-_, _*_, min}
+use Prim.Native.Nat.{ℕ, zero, suc, _+_, _-_, min}
 use mathlib.Core.Path.{_≡_}
 use mathlib.Core.Bool.{Bool, cond, _&&_, _||_}
 use mathlib.Core.List.{List, [], _∷_, _++_, map}

@@ -9,7 +9,6 @@ ghost use mathlib.Core.Path.{_≡_};
 ghost use mathlib.Core.Bool.{cond};
 ghost use Prim.Native.Nat.{_≤_, min};
 ghost use Rattle.io.specs.Counts.{Counts};
-ghost use lib.ListN.{length};
 ghost use Rattle.showing.specs.Pages.{lineOf, columnOf, startOf, Fills, shownByte, shownStart, shownFrom, goesOn, underByte, marksFrom};
 ghost use Rattle.symbols.specs.Names.{lettersAt};
 

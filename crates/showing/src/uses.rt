@@ -5,7 +5,7 @@ use crate::text::say_name;
 use crate::text::say_number;
 use crate::text::say_spot;
 ghost use mathlib.Core.Path.{_≡_};
-ghost use Prim.Native.Nat.{_<_, _≤_};
+ghost use Prim.Native.Nat.{_<_};
 ghost use lib.ListN.{getD};
 ghost use Rattle.grammar.specs.TableParts.{rowsAt, nodesAt};
 

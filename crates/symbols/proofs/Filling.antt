@@ -2,14 +2,14 @@
 -- on, and the arrays hold them over what they held.
 use mathlib.Core.Path.{_≡_, refl, sym, ap, subst, _∙_}
 use mathlib.Core.List.{List, [], _∷_, _++_, map, append-nil}
-use mathlib.Core.Option.{none, some}
-use Prim.Native.Nat.{ℕ, zero, suc, pred, _+_, _-_, _≤_, _<_}
+use mathlib.Core.Option.{some}
+use Prim.Native.Nat.{ℕ, pred, _+_, _-_, _≤_, _<_}
 use native.Mathlib.Omega.{arith}
-use lib.ListN.{length, set, drop, length-append, length-map}
+use lib.ListN.{length, set, length-append, length-map}
 use Rattle.answers.specs.declared.Refusal.{Refusal}
 use Rattle.symbols.proofs.Resume.{from, said, resume, Onward, onward, joined, one-more, over-more, over-length, map-more}
 use Rattle.symbols.specs.Symbols.{kind, valueOf}
-use Rattle.symbols.specs.Scan.{Found, Scan, scan, kept, whole, kindsOf, placesOf, valuesOf}
+use Rattle.symbols.specs.Scan.{Found, Scan, scan, whole, kindsOf, placesOf, valuesOf}
 use Rattle.symbols.specs.Steps.{stepAt, answerOf, over, Filled}
 use Rattle.symbols.specs.declared.Symbol.{Symbol}
 use Rattle.symbols.specs.declared.Context.the-variants.{Plain}

@@ -1,21 +1,18 @@
 -- What begins at a byte, by the bytes xs behind it and what follows them: it is the same whatever follows; or it is open where nothing
 -- follows; or it goes on into what follows, and then nothing but blanks is left of xs. A blank between xs and what follows changes no symbol.
 use mathlib.Core.Path.{_≡_, refl, sym, ap, subst, _∙_}
-use mathlib.Core.Bool.{Bool, true, false, cond, _&&_, _||_}
+use mathlib.Core.Bool.{Bool, true, false, cond, _||_}
 use mathlib.Core.List.{List, [], _∷_, _++_, append-nil}
-use Prim.Native.Nat.{ℕ, zero, suc, _+_, _-_, _≤_, _<_}
-use Prim.Native.Char.{code}
+use Prim.Native.Nat.{ℕ, suc, _+_, _-_, _≤_, _<_}
 use native.Mathlib.Omega.{arith}
-use native.Mathlib.Numerals.{add-one}
 use lib.Dec.{eqb, ltb}
 use lib.ListN.{length, getD, drop, length-append, List·getD-eq-default, List·getD-append, drop-of-length-le}
-use lib.Seq.{getD-append-add, drop-append-seam}
-use borrow.Author.Tests.{ltb-true, ltb-false, lt-ltb, le-ltb, eqb-true, eqb-false, ne-eqb}
-use Rattle.symbols.proofs.Laws.{both}
-use Rattle.symbols.proofs.Within.{Fits, fits-word, fits-sign, fits-lexeme, reach-within}
-use Rattle.symbols.specs.Names.{blank, letter, digit, inName, these, reach, letters, valueFrom, value}
-use Rattle.symbols.specs.Symbols.{Sign, one, two, signs, words, is}
-use Rattle.symbols.specs.Scan.{before, closed, spelled, named, word, gap, followed, sign, sized, name, valued, number, lexeme, behind, endsRemark}
+use lib.Seq.{getD-append-add}
+use borrow.Author.Tests.{ltb-true, lt-ltb, eqb-true}
+use Rattle.symbols.proofs.Within.{Fits, fits-word, fits-sign, reach-within}
+use Rattle.symbols.specs.Names.{blank, letter, digit, inName, these, reach, valueFrom}
+use Rattle.symbols.specs.Symbols.{signs, is}
+use Rattle.symbols.specs.Scan.{before, closed, word, gap, followed, sign, sized, name, valued, number, lexeme, behind, endsRemark}
 use Rattle.symbols.specs.Steps.{joinedOf}
 use Rattle.symbols.specs.declared.Symbol.{Symbol}
 use Rattle.symbols.specs.declared.Symbol.the-variants.{Comment, Name, Number, Less, LessEqual, Greater, GreaterEqual, Colon, Becomes}

@@ -1,9 +1,8 @@
 -- Laws of the definitions in Names and Scan at a place of the source: what is read from i on, by what is read from i + 1 on.
 use mathlib.Core.Path.{_≡_, refl, sym, ap, _∙_}
-use mathlib.Core.Bool.{Bool, true, false, cond, _&&_, _||_}
+use mathlib.Core.Bool.{Bool, true, false, cond, _&&_}
 use mathlib.Core.List.{List, [], _∷_, _++_}
 use Prim.Native.Nat.{ℕ, zero, suc, _+_, _-_, _*_, _≤_, _<_, min}
-use Prim.Native.Char.{code}
 use native.Mathlib.Omega.{arith}
 use native.Mathlib.Numerals.{add-one}
 use lib.Dec.{eqb, ltb, leb}
@@ -21,7 +20,6 @@ use Rattle.symbols.specs.declared.Context.{Context}
 use Rattle.symbols.specs.declared.Context.the-variants.{Opens, Plain, Remark}
 use Rattle.symbols.specs.Scan.{before, gap, valued, spelled, behind, counted, lexeme, judged, turn}
 use Rattle.symbols.specs.declared.Symbol.{Symbol}
-use Rattle.symbols.specs.declared.words.Spelled.{Spelled}
 use Rattle.symbols.specs.declared.words.Spelled.the-variants.{Word, Unknown}
 use Rattle.symbols.specs.Steps.{capped, restAt, lexemeAt, turnAt}
 

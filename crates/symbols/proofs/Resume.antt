@@ -1,20 +1,18 @@
 -- The scan of what is left of a source, by what stands at the cursor: a step is taken and the scan goes on behind it.
-use mathlib.Core.Path.{_≡_, refl, sym, ap, subst, _∙_}
+use mathlib.Core.Path.{_≡_, refl, ap, _∙_}
 use mathlib.Core.Bool.{Bool, true, false, cond}
 use mathlib.Core.List.{List, [], _∷_, _++_, map, append-assoc}
-use mathlib.Core.Option.{Option, none, some}
+use mathlib.Core.Option.{some}
 use Prim.Native.Nat.{ℕ, zero, suc, pred, _+_, _-_, _≤_, _<_}
 use native.Mathlib.Omega.{arith}
 use native.Mathlib.Nat.{not-suc-le-zero, le-of-suc-le-suc}
-use native.Mathlib.Numerals.{add-one}
 use lib.Dec.{ltb}
-use lib.ListN.{length, getD, drop, set, length-drop, drop-of-length-le, length-map}
+use lib.ListN.{length, getD, drop, set, length-drop, drop-of-length-le}
 use lib.Seq.{drop-drop}
-use borrow.Author.Tests.{ltb-true, ltb-false, lt-ltb, le-ltb}
-use Rattle.answers.specs.Answers.{refusal}
+use borrow.Author.Tests.{ltb-true, ltb-false}
 use Rattle.symbols.proofs.Laws.{peel, turn-here}
 use Rattle.symbols.proofs.Within.{Stays, stays}
-use Rattle.symbols.specs.Scan.{turn, Found, Scan, whole, stopped, kept, then, scanFrom, scan}
+use Rattle.symbols.specs.Scan.{turn, Found, Scan, whole, kept, then, scanFrom}
 use Rattle.symbols.specs.Steps.{turnAt, stepOf, stepAt, over}
 use Rattle.symbols.specs.declared.Context.{Context}
 use Rattle.symbols.specs.declared.Turn.{Turn}

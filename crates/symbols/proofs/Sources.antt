@@ -2,15 +2,15 @@
 -- apostrophes and notes changes no symbol, only places; a note taken out likewise; what follows does not change the symbols before it, the
 -- last one aside; a remark stops at 'end', 'else' and `;`.
 use mathlib.Core.Path.{_≡_, refl, sym, ap, subst, _∙_}
-use mathlib.Core.Bool.{Bool, true, false, cond, _&&_, _||_}
-use mathlib.Core.List.{List, [], _∷_, _++_, map, append-nil, append-assoc}
+use mathlib.Core.Bool.{Bool, true, false, cond}
+use mathlib.Core.List.{List, [], _∷_, _++_, map}
 use mathlib.Core.Option.{Option, none, some}
 use Prim.Native.Nat.{ℕ, zero, suc, pred, _+_, _-_, _≤_, _<_}
 use native.Mathlib.Omega.{arith}
-use lib.Dec.{eqb, ltb}
+use lib.Dec.{eqb}
 use lib.ListN.{length, drop, length-append, length-drop}
 use borrow.Author.Tests.{ltb-true, lt-ltb}
-use lib.Seq.{drop-append-le, drop-append-add, drop-drop}
+use lib.Seq.{drop-append-le, drop-append-add}
 use Rattle.answers.specs.Numbers.{noSymbol}
 use Rattle.answers.specs.Answers.{answer}
 use Rattle.answers.specs.declared.Refusal.{Refusal}
@@ -20,7 +20,7 @@ use Rattle.symbols.proofs.Follows.{Bare, Quiet, Tail, tail, tail-large,
 use Rattle.symbols.specs.Text.{bytes}
 use Rattle.symbols.specs.Names.{blank, letter, digit, equal}
 use Rattle.symbols.specs.Symbols.{is}
-use Rattle.symbols.specs.Scan.{before, closed, spelled, named, word, lexeme, behind, endsRemark, note, counted, judged, turn, Found, Scan, whole, stopped, kept, then, scanFrom, scan}
+use Rattle.symbols.specs.Scan.{before, closed, spelled, named, word, lexeme, behind, endsRemark, note, counted, judged, turn, Found, Scan, kept, then, scanFrom, scan}
 use Rattle.symbols.specs.declared.Symbol.{Symbol}
 use Rattle.symbols.specs.declared.Symbol.the-variants.{Comment}
 use Rattle.symbols.specs.declared.Context.{Context}

@@ -1,5 +1,5 @@
 -- What begins at a byte ends within the source.
-use mathlib.Core.Path.{_≡_, refl, sym, ap, subst, _∙_}
+use mathlib.Core.Path.{_≡_, refl, sym, _∙_}
 use mathlib.Core.Bool.{Bool, true, false, cond, _&&_, _||_}
 use mathlib.Core.List.{List, [], _∷_}
 use Prim.Native.Nat.{ℕ, zero, suc, _+_, _-_, _≤_, _<_}
@@ -11,7 +11,7 @@ use borrow.Author.Tests.{ltb-true, eqb-true}
 use Rattle.symbols.proofs.Laws.{both}
 use Rattle.symbols.specs.Names.{blank, letter, digit, inName, reach, letters, value}
 use Rattle.symbols.specs.Symbols.{Sign, one, two, signs, words, is}
-use Rattle.symbols.specs.Scan.{before, closed, spelled, named, word, gap, followed, sign, sized, name, valued, number, lexeme, behind, endsRemark, note, counted, judged, turn}
+use Rattle.symbols.specs.Scan.{before, closed, spelled, named, word, gap, followed, sign, sized, name, valued, number, lexeme, endsRemark, note, counted, judged, turn}
 use Rattle.symbols.specs.declared.words.Spelled.{Spelled}
 use Rattle.symbols.specs.declared.words.Spelled.the-variants.{Word, Unknown}
 use Rattle.symbols.specs.declared.Symbol.{Symbol}

@@ -1,7 +1,7 @@
 -- Paper 01, "Bytes to symbols": from bytes to symbols with their places, or 3 or 4 with a place.
 use Prim.Native.Nat.{ℕ, zero, suc, pred, _+_}
 use Prim.Native.Char.{code}
-use mathlib.Core.Bool.{Bool, true, false, cond, _&&_, _||_}
+use mathlib.Core.Bool.{Bool, cond, _&&_, _||_}
 use mathlib.Core.List.{List, [], _∷_, map}
 use mathlib.Core.Option.{Option, none, some}
 use lib.ListN.{length, getD, drop}

@@ -8,11 +8,10 @@ use grammar::Parsed;
 use grammar::Use;
 use grammar::nodes;
 use symbols::Symbol;
-ghost use mathlib.Core.Path.{_≡_};
 ghost use mathlib.Core.List.{[], _∷_};
 ghost use Prim.Native.Nat.{_+_, _<_};
 ghost use Rattle.grammar.specs.Grammar.{part, rhs, named as a-named, right as a-right, value as a-value, for-clause as a-for-clause, elements as the-elements, further as the-further, element as an-element, progress as a-progress, stepping as a-stepping, amount as an-amount};
-ghost use Rattle.grammar.specs.Text.{text, kindAt};
+ghost use Rattle.grammar.specs.Text.{text};
 ghost use Rattle.syntax.specs.Says.{Room, Behind, Tells};
 
 // An assignment or a procedure statement, behind the name that begins it.

@@ -2,7 +2,7 @@
 -- names in order, its numbers those of the scan. From names and types, and from the grammar's tree.
 use Prim.Native.Nat.{ℕ, zero, suc, _+_, _≤_, _<_}
 use native.Mathlib.Omega.{arith}
-use mathlib.Core.Path.{_≡_, refl, sym, ap, subst, _∙_}
+use mathlib.Core.Path.{_≡_, refl, sym, ap, _∙_}
 use mathlib.Core.List.{List, [], _∷_, map}
 use mathlib.Core.Option.{none}
 use lib.ListN.{length, getD, length-map}
@@ -19,7 +19,6 @@ use Rattle.reading.proofs.Answers.{none-empty, unmeant-none}
 use Rattle.reading.proofs.Places.{sooner-place, few-symbols, Rising as PlacesRise, places-rise}
 use Rattle.translation.specs.Scoped.{Scoped}
 use Rattle.translation.specs.Sizes.{Limited}
-use Rattle.emitting.specs.Layout.{sites}
 use Rattle.translating.specs.ByPlace.{valuesAt}
 use Rattle.translation.proofs.Accepted.{accepted-scoped}
 use Rattle.translating.proofs.Limits.{limited}

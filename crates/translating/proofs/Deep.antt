@@ -12,7 +12,6 @@ use Rattle.grammar.specs.Grammar.{Prod, begin-end, a-block, a-compound, a-tail,
 use Rattle.grammar.specs.Trees.{Syn, nil, tok, act, sub, yield, Begins, here, down, flat, over, past, skip}
 use Rattle.grammar.specs.Program.{levels, Keeps}
 use Rattle.grammar.proofs.Unique.{shallow-tree}
-use Rattle.names.specs.Program as P
 use Rattle.names.specs.Program.{Name, Sort, Expression, Statement, Declarations}
 use Rattle.names.specs.ReadOff.{Sem, Makes, nameAt, build, read, programOf}
 use Rattle.translation.specs.Sizes.{deepS, deepSs, deepDs, deepP}

@@ -1,20 +1,19 @@
 -- The words that the pass over a program's table writes are the words of its translation: done once, the pass finds what lies ahead and where procedures
 -- begin; done again with these tables, it writes the code. Assumes nothing.
-use Prim.Native.Nat.{ℕ, zero, suc, _+_, _*_, _-_, _≤_, _<_}
+use Prim.Native.Nat.{ℕ, _+_, _-_, _≤_}
 use native.Mathlib.Omega.{arith}
-use mathlib.Core.Path.{_≡_, refl, sym, ap, subst, _∙_}
-use mathlib.Core.Bool.{cond}
-use mathlib.Core.List.{List, [], _∷_, _++_, append-assoc, append-nil}
-use lib.ListN.{length, getD, drop, replicate, length-replicate}
+use mathlib.Core.Path.{_≡_, refl, sym, ap, _∙_}
+use mathlib.Core.List.{List, [], _∷_, _++_, append-nil}
+use lib.ListN.{length, getD, replicate, length-replicate}
 use Rattle.machine.specs.Instructions.{END}
 use Rattle.names.specs.Program.{Statement}
 use Rattle.names.specs.Nodes.{nodesS}
 use Rattle.names.specs.Rows.{foldNodes}
 use Rattle.names.specs.Uses.{usesS, joined, rows}
 use Rattle.names.specs.Outline.{rowsS}
-use Rattle.reading.specs.Table.{useWords, hasNone, nodeWords}
+use Rattle.reading.specs.Table.{useWords, nodeWords}
 use Rattle.translation.specs.Translate.{codeS, code, endS}
-use Rattle.translation.specs.Words.{words, CodeFits}
+use Rattle.translation.specs.Words.{words}
 use Rattle.translation.specs.Scoped.{Scoped}
 use Rattle.translation.specs.Sizes.{Limited}
 use Rattle.emitting.specs.Layout.{sites}
@@ -24,9 +23,9 @@ use Rattle.translating.proofs.Sites.{Climbs, Rising, LaidS}
 use Rattle.translation.proofs.Ranges.{ends, in-range}
 use Rattle.translation.proofs.Lengths.{fits-words}
 use Rattle.translating.proofs.Shown.{shown, shown-none, shown-whole}
-use Rattle.translating.proofs.SlotLists.{Fills, more-slots, aheadS, fewS}
+use Rattle.translating.proofs.SlotLists.{more-slots, aheadS, fewS}
 use Rattle.translating.proofs.EntryTables.{enteredS, RightS, filledS, agree-refl}
-use Rattle.translating.proofs.Written.{Tables, Frame, Flow, usesAs, uses-all, real, wrote, put-real, run-places, step, run, state, Passed, Fits, Emits}
+use Rattle.translating.proofs.Written.{Tables, Frame, Flow, uses-all, real, wrote, put-real, run-places, step, run, Passed}
 use Rattle.translating.proofs.WrittenStatements.{emitsS}
 
 -- nothing around, nothing behind

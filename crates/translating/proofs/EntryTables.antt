@@ -1,21 +1,20 @@
 -- Where procedures begin: what a pass over a tree does to the table of the entries, and that a table which one pass filled is right for every procedure
 -- of the tree, because declaring names come in source order and places rise.
-use Prim.Native.Nat.{ℕ, zero, suc, _+_, _≤_, _<_}
+use Prim.Native.Nat.{ℕ, suc, _+_, _≤_, _<_}
 use native.Mathlib.Omega.{arith}
-use mathlib.Core.Path.{_≡_, refl, sym, ap, subst, _∙_}
+use mathlib.Core.Path.{_≡_, refl, ap, _∙_}
 use mathlib.Core.Bool.{Bool, true, false, cond}
-use mathlib.Core.List.{List, [], _∷_, _++_, append-assoc, append-nil}
-use mathlib.Core.Option.{Option, none, some, Option·none-ne-some}
+use mathlib.Core.List.{List, [], _∷_, _++_, append-assoc}
+use mathlib.Core.Option.{some, Option·none-ne-some}
 use lib.ListN.{length, getD, set, length-set}
 use lib.Seq.{getD-set-same, getD-set-other}
-use Rattle.grammar.specs.NodeKinds.{n-variable, n-procedure, n-formal}
-use Rattle.names.specs.Program.{Name, Sort, Expression, Element, Statement, dummy, assignment, procedure, when, either, repeat, compound, block, Statements, last, first, Declarations, none as no-more, variables, declare, Procedure, heading}
-use Rattle.names.specs.Scopes.{Thing, variable, routine, formal, Declared, Scope, ofBlock, ofBody, nameOf, same, variablesIn, inBlock, findIn}
-use Rattle.names.specs.Nodes.{node, sortNumber}
+use Rattle.grammar.specs.NodeKinds.{n-variable, n-formal}
+use Rattle.names.specs.Program.{Name, Statement, dummy, assignment, procedure, when, either, repeat, compound, block, Statements, last, first, Declarations, none as no-more, variables, declare, Procedure, heading}
+use Rattle.names.specs.Scopes.{routine, Declared, Scope, ofBlock, ofBody, nameOf, same, inBlock, findIn}
+use Rattle.names.specs.Nodes.{sortNumber}
 use Rattle.names.specs.Outline.{sizeS, sizeD, sizeP, rowsN, rowsS, rowsSs, rowsD, rowsP}
-use Rattle.translation.specs.Translate.{endE, endL, endS, endSs, endDs, endP, entry}
-use Rattle.emitting.specs.Layout.{sites}
-use Rattle.translating.proofs.Sites.{Climbs, Rising, no-row, row}
+use Rattle.translation.specs.Translate.{endE, endL, endS, endDs, endP, entry}
+use Rattle.translating.proofs.Sites.{Climbs, Rising, row}
 use Rattle.translation.proofs.Stands.{behind}
 
 module _ (place : ℕ → ℕ) where

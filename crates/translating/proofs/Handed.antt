@@ -1,6 +1,6 @@
 -- The last steps of the job: what is answered and left where the code is too short, the source refused, or accepted.
 use Prim.Native.Nat.{ℕ, _<_, _≤_}
-use mathlib.Core.Path.{_≡_, refl, sym, ap, subst, _∙_}
+use mathlib.Core.Path.{_≡_, sym, ap, subst, _∙_}
 use mathlib.Core.List.{List, []}
 use mathlib.Core.Option.{none}
 use lib.ListN.{length, replicate}
@@ -17,7 +17,7 @@ use Rattle.emitting.specs.Emission.{emitted, codeOf}
 use Rattle.translating.specs.ByPlace.{setAll}
 use Rattle.grammar.specs.TableParts.{usesIn, nodesIn}
 use Rattle.translating.specs.Job.{room, Translated, refused, accepted, Translates, too-short}
-use Rattle.translating.proofs.AfterRead.{Taken, taken, handed-on}
+use Rattle.translating.proofs.AfterRead.{taken, handed-on}
 use Rattle.translating.proofs.Coded.{coded}
 
 -- 1

@@ -1,21 +1,21 @@
 -- What the pass that writes code finds for a name: the table of the layout tells the level and offset of a variable or formal, the level of a procedure
 -- and whether it has a result; the table of the entries tells where a procedure begins.
-use Prim.Native.Nat.{ℕ, zero, suc, _+_, _*_, _-_, _≤_, _<_, _/_, _%_}
+use Prim.Native.Nat.{ℕ, suc, _+_, _-_, _<_}
 use native.Mathlib.Omega.{arith}
 use mathlib.Core.Path.{_≡_, refl, sym, ap, subst, _∙_}
 use mathlib.Core.Bool.{Bool, true, false, cond}
 use mathlib.Core.List.{List, [], _∷_, _++_, map}
 use mathlib.Core.Option.{Option, none, some, Option·none-ne-some}
 use lib.Dec.{eqb}
-use lib.ListN.{length, getD}
+use lib.ListN.{getD}
 use borrow.Author.Tests.{eqb-true}
 use Rattle.symbols.specs.Text.{bytes}
 use Rattle.symbols.specs.Names.{sameName}
-use Rattle.machine.specs.Instructions.{Loc, lc, pack, high, mid}
-use Rattle.names.specs.Program.{Name, Sort, Specification, Declarations, none as no-more, variables, declare, Procedure, heading}
+use Rattle.machine.specs.Instructions.{pack, high}
+use Rattle.names.specs.Program.{Name, Sort, Specification, Declarations, none as no-more, variables, declare, Procedure}
 use Rattle.names.specs.Scopes.{Thing, variable, routine, formal, Declared, Scope, ofBlock, ofBody, declares, variablesIn, inBlock, inBody, specified, specificationsOf, formalsOf, nameOf, sortOf, same, findIn, Given, environment, findGiven, innermost, Meaning, declared, given, nothing, meaning}
-use Rattle.rules.specs.Entered.{results, oneIf, isSome, declaring, bodyOfThis}
-use Rattle.translation.specs.Translate.{Mark, blk, own, scopeAt, scopes, offset, cutG, levels, amongG, offsetOf, locFor, locAs, loc, entry, target}
+use Rattle.rules.specs.Entered.{oneIf, isSome, declaring, bodyOfThis}
+use Rattle.translation.specs.Translate.{Mark, blk, own, scopes, cutG, levels, amongG, offsetOf, locFor, locAs, loc, entry, target}
 use Rattle.translation.specs.Scoped.{nearest, HasCell, CellAs, OkV}
 use Rattle.translation.specs.Words.{beside, LocFits}
 use Rattle.emitting.specs.Layout.{packed}

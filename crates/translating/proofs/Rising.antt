@@ -9,7 +9,6 @@ use Rattle.grammar.specs.Grammar.{Class, block, inner, head, tail, declarations
 use Rattle.grammar.specs.Grammar.{Prod, begin-end, a-block, a-compound, a-tail, a-head, some-declarations, no-declaration, typed, untyped, variables, function, integer, boolean, a-procedure, a-heading, some-formals, no-formals, some-values, no-values, a-specification, no-specification, a-list, another, no-other, a-statement, no-statement, conditional, repeated, plain, then-for, then-plain, an-else, no-else, a-for, a-clause, for-list, another-element, no-element, an-element, once, while, by-steps, a-step, an-amount, dummy, compound, with-name, assignment, call, left, value, a-condition, simple, an-otherwise, chain, signed, again, no-more, a-not, no-not, a-relation, compare, no-comparison, number, true-value, false-value, a-name, in-parentheses, with, bare, an-actual, another-actual, no-actual}
 use Rattle.grammar.specs.Trees.{Syn, yield}
 use Rattle.grammar.specs.NodeKinds.{n-variable, n-formal}
-use Rattle.names.specs.Program as P
 use Rattle.names.specs.Program.{Name, Sort, Expression, Statement, Statements, Declarations, Procedure}
 use Rattle.names.specs.ReadOff.{Sem, nameAt, build, programOf}
 use Rattle.names.specs.Nodes.{sortNumber}

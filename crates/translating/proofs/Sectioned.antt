@@ -1,11 +1,11 @@
 -- The sections of a program's table are the words of its uses and of its nodes: each stands behind its count, and the counts are those of words of
 -- three and of four.
-use Prim.Native.Nat.{ℕ, suc, _+_, _*_, _≤_}
+use Prim.Native.Nat.{ℕ, _+_, _*_, _≤_}
 use native.Mathlib.Omega.{arith}
 use mathlib.Core.Path.{_≡_, refl, sym, ap, _∙_}
 use mathlib.Core.List.{List, [], _∷_, _++_, append-assoc}
 use lib.ListN.{length, getD, take, drop, length-append, length-take, length-drop}
-use lib.Seq.{take-append-seam, getD-append-add}
+use lib.Seq.{take-append-seam}
 use Rattle.names.specs.Program.{Statement}
 use Rattle.names.specs.Nodes.{nodesS}
 use Rattle.names.specs.Outline.{declarations}

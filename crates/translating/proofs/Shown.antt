@@ -5,8 +5,7 @@ use native.Mathlib.Omega.{arith}
 use native.Mathlib.Nat.{suc-sub-suc, sub-zero, not-suc-le-zero, le-of-suc-le-suc}
 use mathlib.Core.Path.{_≡_, refl, sym, ap, _∙_}
 use mathlib.Core.List.{List, [], _∷_, _++_, append-assoc}
-use lib.ListN.{length, getD, drop, set, replicate, length-append, length-set}
-use lib.Seq.{set-append-seam, set-append-left, drop-append-seam, drop-drop}
+use lib.ListN.{length, set, replicate, length-append}
 
 -- n words: those of a list, and zeros behind it
 pub shown : ℕ → List ℕ → List ℕ

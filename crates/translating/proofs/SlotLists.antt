@@ -1,18 +1,18 @@
 -- What lies ahead of a tree's code, in the order in which the pass takes slots for it, in front of what lies ahead behind the tree; and how slots are
 -- taken and filled. No more slots are taken than instructions are written. Assumes nothing.
-use Prim.Native.Nat.{ℕ, zero, suc, _+_, _*_, _-_, _≤_, _<_}
+use Prim.Native.Nat.{ℕ, suc, _+_, _-_, _≤_, _<_}
 use native.Mathlib.Omega.{arith}
 use native.Mathlib.Nat.{add-zero}
 use mathlib.Core.Path.{_≡_, refl, sym, ap, _∙_}
 use mathlib.Core.List.{List, [], _∷_, _++_, append-assoc, append-nil}
 use mathlib.Core.Option.{Option, none, some}
-use lib.ListN.{length, getD, drop, set, length-append, length-set}
+use lib.ListN.{length, getD, drop, set, length-append}
 use lib.Seq.{set-append-seam, set-append-left, drop-append-seam, drop-append-add, drop-drop, getD-drop}
-use Rattle.names.specs.Program.{Name, Sort, Expression, number, logical, name, call, signed, operated, chosen, nested, Expressions, done, then, Element, value, while, step, Statement, dummy, assignment, procedure, when, either, repeat, compound, block, Statements, last, first, Declarations, none as no-more, variables, declare, Procedure, heading}
+use Rattle.names.specs.Program.{Sort, Expression, number, logical, name, call, signed, operated, chosen, nested, Expressions, done, then, Element, value, while, step, Statement, dummy, assignment, procedure, when, either, repeat, compound, block, Statements, last, first, Declarations, none as no-more, variables, declare, Procedure, heading}
 use Rattle.names.specs.Scopes.{Scope, ofBlock, ofBody, sortOf, meaning}
 use Rattle.rules.specs.Entered.{cellsIn}
 use Rattle.rules.specs.Calls.{Primary, held, function, absolute, greatest, no-primary, primary, Command, routine-of, absolute-of, greatest-of, input-to, output-of, no-command, command}
-use Rattle.translation.specs.Translate.{endName, endSign, endE, endEs, endL, endStores, endCall, endCommand, endS, endSs, endDs, endP}
+use Rattle.translation.specs.Translate.{endName, endE, endEs, endL, endCall, endCommand, endS, endSs, endDs, endP}
 use Rattle.emitting.specs.Layout.{packed}
 use Rattle.translation.proofs.Ranges.{grow-name, grow-sign, grow-stores}
 

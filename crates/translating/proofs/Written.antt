@@ -1,24 +1,24 @@
 -- What some nodes do in the pass that writes code: the state is what is around a part, its frame, and what goes through it, its flow. Parts that follow
 -- one another are passed one after the other; if the tables tell what lies ahead, the words written are those of the part's code.
-use Prim.Native.Nat.{ℕ, zero, suc, _+_, _*_, _-_, _≤_, _<_}
+use Prim.Native.Nat.{ℕ, suc, _+_, _*_, _-_, _<_}
 use native.Mathlib.Omega.{arith}
 use native.Mathlib.Numerals.{add-one}
 use mathlib.Core.Path.{_≡_, refl, sym, ap, _∙_}
-use mathlib.Core.Bool.{Bool, true, false, cond}
-use mathlib.Core.List.{List, [], _∷_, _++_, map, append-assoc, append-nil}
-use lib.ListN.{length, getD, drop, set, length-append, length-set}
+use mathlib.Core.Bool.{true, false, cond}
+use mathlib.Core.List.{List, [], _∷_, _++_, append-assoc}
+use lib.ListN.{length, drop, set, length-append, length-set}
 use Rattle.machine.specs.Instructions.{Instr}
 use Rattle.names.specs.Nodes.{node}
 use Rattle.names.specs.Rows.{foldNodes, isUse}
 use lib.Dec.{eqb}
 use Rattle.names.specs.Scopes.{Thing, variable, routine, formal, Scope, Meaning, declared, given, nothing, meaning}
-use Rattle.names.specs.Uses.{Use, used, joined, Row, rowIn, rowOf, thingKind}
+use Rattle.names.specs.Uses.{Use, used, joined, rowIn, rowOf, thingKind}
 use Rattle.names.specs.Program.{Name}
 use Rattle.reading.specs.Table.{useWords, hasNone, nodeWords}
 use Rattle.translation.specs.Translate.{Mark}
-use Rattle.translation.specs.Words.{Parts, partsOf, firstWord, words, InstrFits, CodeFits}
-use Rattle.emitting.specs.Emission.{Opened, opened, State, put, withOpen, withSlot, noted, withUses, kindNext, meansNext, othersNext, useNode, codeNode}
-use Rattle.translating.proofs.Shown.{shown, shown-next, shown-set, shown-zero, shown-two}
+use Rattle.translation.specs.Words.{Parts, partsOf, firstWord, words, CodeFits}
+use Rattle.emitting.specs.Emission.{Opened, State, put, withSlot, noted, withUses, kindNext, meansNext, othersNext, useNode, codeNode}
+use Rattle.translating.proofs.Shown.{shown, shown-set, shown-zero, shown-two}
 use Rattle.translating.proofs.SlotLists.{Fills, no-slot, then-slots, slots-past}
 use Rattle.translation.proofs.Ranges.{owns}
 

@@ -1,28 +1,25 @@
 -- Assignments in the pass that writes code: left parts are kept until the value is there, and are stored to from the first to the last. Nothing is
 -- assumed of what else is open.
-use Prim.Native.Nat.{ℕ, zero, suc, _+_, _*_, _-_, _≤_, _<_}
-use native.Mathlib.Omega.{arith}
+use Prim.Native.Nat.{ℕ, suc, _+_, _-_}
 use native.Mathlib.Numerals.{add-one}
-use mathlib.Core.Path.{_≡_, refl, sym, ap, subst, _∙_}
-use mathlib.Core.Bool.{Bool, true, false, cond}
+use mathlib.Core.Path.{_≡_, refl, ap, _∙_}
 use mathlib.Core.List.{List, [], _∷_, _++_, map, append-assoc, append-nil}
-use lib.ListN.{length, getD, drop, set}
 use Rattle.machine.specs.Data.{store, assign}
 use Rattle.machine.specs.Instructions.{Instr, DO}
 use Rattle.grammar.specs.NodeKinds.{n-left, n-assign}
-use Rattle.names.specs.Program.{Name, Expression, Statement, assignment}
-use Rattle.names.specs.Scopes.{Scope, Meaning, meaning}
-use Rattle.names.specs.Nodes.{node, mark, nodesE, nodesLeft, nodesS}
+use Rattle.names.specs.Program.{Name, Expression, assignment}
+use Rattle.names.specs.Scopes.{meaning}
+use Rattle.names.specs.Nodes.{node, nodesLeft, nodesS}
 use Rattle.names.specs.Rows.{isUse}
 use Rattle.names.specs.Uses.{Use, used, usesE, usesS}
 use Rattle.reading.specs.Table.{hasNone}
-use Rattle.translation.specs.Translate.{Mark, scopes, loc, endE, endStores, endS, codeE, codeStores, codeS}
-use Rattle.translation.specs.Words.{Parts, beside, partsOf, LocFits, CodeFits, words}
+use Rattle.translation.specs.Translate.{Mark, scopes, loc, endE, endStores, endS, codeStores, codeS}
+use Rattle.translation.specs.Words.{Parts, CodeFits}
 use Rattle.translation.specs.Scoped.{OkV, OkVs, OkE}
 use Rattle.emitting.specs.Emission.{Opened, opened, State, put, withOpen, withLefts, pushed, top, below, cellOf, useNode, stored, leftsOf, behindLefts, assigned, plainNode, codeNode}
 use Rattle.translating.proofs.NumbersOf.{NumbersE}
-use Rattle.translating.proofs.SlotLists.{aheadE, aheadS}
-use Rattle.translating.proofs.Written.{Tables, Frame, Flow, kindOf, meansOf, Meant, withOpens, taken, putAll, past, Same, step, state, Goes, Passed, Fits, Emits, goes-node, _and-then_, passed-nothing, passed-all, passed-as, use-step}
+use Rattle.translating.proofs.SlotLists.{aheadS}
+use Rattle.translating.proofs.Written.{Tables, Frame, Flow, kindOf, meansOf, taken, putAll, past, Same, step, state, Passed, Emits, _and-then_, passed-nothing, passed-all, passed-as, use-step}
 use Rattle.translating.proofs.NameWords.{Known, Targets}
 use Rattle.translating.proofs.WrittenExpressions.{parts, cell-meant, cell-word, Numbered, emitsE}
 use Rattle.translation.proofs.Ranges.{owns}

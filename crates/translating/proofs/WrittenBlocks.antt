@@ -1,13 +1,12 @@
 -- Blocks and procedures in the pass that writes code: a block's slot tells its cells and its first statement, a procedure notes where it begins.
 -- Assumes nothing.
-use Prim.Native.Nat.{ℕ, zero, suc, _+_, _*_, _-_, _≤_, _<_, _%_}
+use Prim.Native.Nat.{ℕ, suc, _+_, _-_, _<_}
 use native.Mathlib.Omega.{arith}
 use native.Mathlib.Numerals.{add-one}
-use mathlib.Core.Path.{_≡_, refl, sym, ap, subst, _∙_}
-use mathlib.Core.Bool.{Bool, true, false, cond, _||_}
-use mathlib.Core.List.{List, [], _∷_, _++_, append-assoc, append-nil}
-use mathlib.Core.Option.{Option, none, some}
-use lib.ListN.{length, getD, drop, set, length-append, length-set}
+use mathlib.Core.Path.{_≡_, refl, ap, _∙_}
+use mathlib.Core.List.{List, [], _∷_, _++_}
+use mathlib.Core.Option.{some}
+use lib.ListN.{length, getD, set, length-append}
 use Rattle.machine.specs.Instructions.{Instr, ENTER, LEAVE, RETURN, pack}
 use Rattle.grammar.specs.NodeKinds.{n-block, n-statements, n-block-end, n-type, n-variable, n-procedure, n-formal, n-value, n-specified, n-body, n-procedure-end}
 use Rattle.names.specs.Program.{Name, Specification}
@@ -16,11 +15,10 @@ use Rattle.names.specs.Rows.{isUse}
 use Rattle.names.specs.Uses.{Use}
 use Rattle.reading.specs.Table.{hasNone}
 use Rattle.translation.specs.Translate.{Mark}
-use Rattle.translation.specs.Words.{words}
 use Rattle.emitting.specs.Layout.{packed}
-use Rattle.emitting.specs.Emission.{Opened, opened, State, put, withOpen, withSlot, within, withEntry, noted, pushed, popped, replaced, top, below, aheadAt, blockNode, procedureNode, plainNode, codeNode}
-use Rattle.translating.proofs.SlotLists.{Fills, no-slot, longer, then-slots, refill, slot-read, slot-past, slots-past}
-use Rattle.translating.proofs.Written.{Tables, Frame, Flow, withOpens, wrote, slotted, taken, put-real, slot-real, noted-real, step, state, Goes, Passed, Fits, Emits, wrote-right, goes-node, goes-then, _and-then_, _followed-by_, passed-nothing, passed-idle, emits-all}
+use Rattle.emitting.specs.Emission.{opened, State, withOpen, withSlot, within, withEntry, noted, pushed, popped, replaced, top, below, aheadAt, blockNode, procedureNode, plainNode, codeNode}
+use Rattle.translating.proofs.SlotLists.{Fills, longer, then-slots, refill, slot-read, slot-past, slots-past}
+use Rattle.translating.proofs.Written.{Tables, Frame, Flow, withOpens, wrote, slotted, put-real, slot-real, noted-real, step, state, Passed, Emits, wrote-right, goes-node, goes-then, _and-then_, _followed-by_, passed-nothing, passed-idle, emits-all}
 
 -- a frame within a block: its slot, the cells noted, the cells so far
 abbrev pub inBlock : ℕ → ℕ → ℕ → Frame → Frame

@@ -1,26 +1,23 @@
 -- Conditions in the pass that writes code: the test goes on at a slot that is filled where the other part begins, or where the choice ends. Both kinds
 -- of choice, of expressions and of statements, by one law each.
-use Prim.Native.Nat.{ℕ, zero, suc, _+_, _*_, _-_, _≤_, _<_, _%_}
+use Prim.Native.Nat.{ℕ, suc, _+_, _-_, _<_}
 use native.Mathlib.Omega.{arith}
 use native.Mathlib.Numerals.{add-one}
-use mathlib.Core.Path.{_≡_, refl, sym, ap, _∙_}
-use mathlib.Core.Bool.{Bool, true, false, cond}
+use mathlib.Core.Path.{_≡_, refl, ap, _∙_}
+use mathlib.Core.Bool.{Bool, true, false}
 use mathlib.Core.List.{List, [], _∷_, _++_, append-assoc}
-use lib.ListN.{length, getD, drop, set, length-append, length-set}
+use lib.ListN.{length, getD, set, length-append, length-set}
 use lib.Seq.{set-append-left}
 use Rattle.machine.specs.Data.{condition}
 use Rattle.machine.specs.Instructions.{Instr, IF, JUMP, pack}
 use Rattle.grammar.specs.NodeKinds.{n-then, n-else, n-if-end, n-condition-end}
-use Rattle.names.specs.Nodes.{node, mark}
+use Rattle.names.specs.Nodes.{mark}
 use Rattle.names.specs.Rows.{isUse}
 use Rattle.names.specs.Uses.{Use}
-use Rattle.reading.specs.Table.{hasNone}
 use Rattle.translation.specs.Translate.{Mark}
-use Rattle.emitting.specs.Layout.{packed}
-use Rattle.translation.specs.Words.{words}
-use Rattle.emitting.specs.Emission.{Opened, opened, State, put, withOpen, withSlot, noted, pushed, popped, replaced, top, below, aheadAt, choiceNode, codeNode}
+use Rattle.emitting.specs.Emission.{Opened, opened, State, withOpen, withSlot, noted, pushed, popped, replaced, top, below, aheadAt, choiceNode, codeNode}
 use Rattle.translating.proofs.SlotLists.{Fills, longer, then-slots, refill, slot-read, slot-past, slots-past, there}
-use Rattle.translating.proofs.Written.{Tables, Frame, Flow, real, withOpens, wrote, slotted, put-real, slot-real, noted-real, step, state, Goes, Passed, Fits, Emits, wrote-right, goes-node, goes-then}
+use Rattle.translating.proofs.Written.{Tables, Frame, Flow, withOpens, wrote, slotted, put-real, slot-real, noted-real, step, state, Passed, Fits, Emits, wrote-right, goes-node, goes-then}
 
 -- an address that a table has
 pub address : (v n : ℕ) → v ≡ there n → n < 8192 → there v ≡ pack 0 0 n

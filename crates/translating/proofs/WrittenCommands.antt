@@ -1,39 +1,35 @@
 -- Procedure statements in the pass that writes code: procedures, and what the environment gives. The second actual of ininteger is kept, not loaded.
 -- Assumes nothing.
-use Prim.Native.Nat.{ℕ, zero, suc, _+_, _*_, _-_, _≤_, _<_}
+use Prim.Native.Nat.{ℕ, zero, suc, _+_, _-_}
 use native.Mathlib.Omega.{arith}
-use native.Mathlib.Numerals.{add-one}
-use mathlib.Core.Path.{_≡_, refl, sym, ap, subst, _∙_}
-use mathlib.Core.Bool.{Bool, true, false, cond, _&&_}
-use mathlib.Core.List.{List, [], _∷_, _++_, append-assoc, append-nil}
+use mathlib.Core.Path.{_≡_, refl, sym, ap, _∙_}
+use mathlib.Core.List.{List, [], _∷_, _++_, append-assoc}
 use mathlib.Core.Option.{Option, none, some}
-use lib.Dec.{eqb}
-use lib.ListN.{length, getD}
+use lib.ListN.{getD}
 use Rattle.machine.specs.Values
 use Rattle.machine.specs.Data.{push, reserve, unary, forget, receive, send, gone}
-use Rattle.machine.specs.Instructions.{Instr, DO, CALL, pack, high}
+use Rattle.machine.specs.Instructions.{Instr, DO, high}
 use Rattle.grammar.specs.NodeKinds.{n-use, n-call, n-call-end, n-actual}
 use Rattle.names.specs.Program.{Name, Sort, Expression, number, logical, name, call, signed, operated, chosen, nested, Expressions, done, then, count, firstSymbol, Procedure}
 use Rattle.names.specs.Scopes.{Thing, variable, routine, formal, Declared, Scope, sortOf, Given, Meaning, declared, given, nothing, meaning}
-use Rattle.names.specs.Nodes.{node, mark, callNodes, nodesE, nodesEs, nodesCall}
+use Rattle.names.specs.Nodes.{node, mark, nodesE, nodesEs, nodesCall}
 use Rattle.names.specs.Rows.{isUse}
 use Rattle.names.specs.Uses.{Use, used, usesE, usesEs, thingKind}
 use Rattle.reading.specs.Table.{hasNone}
-use Rattle.rules.specs.Entered.{oneIf, declaring}
-use Rattle.rules.specs.Calls.{Command, routine-of, absolute-of, greatest-of, input-to, output-of, no-command, thingTold, into, givenTold, command}
+use Rattle.rules.specs.Entered.{oneIf}
+use Rattle.rules.specs.Calls.{Command, greatest-of, input-to, thingTold, into, givenTold, command}
 use Rattle.rules.specs.Rules.{maxint}
-use Rattle.translation.specs.Translate.{Mark, scopes, loc, cutG, levels, target, endE, endEs, endCall, endCommand, CALLS, codeE, codeEs, codeCall, codeCommand}
-use Rattle.translation.specs.Words.{Parts, beside, partsOf, LocFits, CodeFits}
-use Rattle.translation.specs.Scoped.{CellAs, OkV, OkE, OkEs, OkCommand}
+use Rattle.translation.specs.Translate.{Mark, scopes, loc, endE, endEs, endCall, endCommand, CALLS, codeEs, codeCall, codeCommand}
+use Rattle.translation.specs.Words.{Parts, CodeFits}
+use Rattle.translation.specs.Scoped.{OkV, OkEs, OkCommand}
 use Rattle.emitting.specs.Layout.{packed}
-use Rattle.emitting.specs.Emission.{Opened, opened, State, put, withOpen, withVariable, replaced, top, below, largest, cellOf, resultOf, calledWith, resultFor, dropped, named, namedOr, actualIn, callEnded, useNode, codeNode}
+use Rattle.emitting.specs.Emission.{opened, State, put, withOpen, withVariable, replaced, top, below, largest, cellOf, resultOf, calledWith, resultFor, dropped, named, namedOr, actualIn, callEnded, useNode, codeNode}
 use Rattle.translating.proofs.NumbersOf.{NumbersE, NumbersEs}
-use Rattle.translating.proofs.SlotLists.{no-slot, aheadE, aheadEs, aheadCall, aheadCommand}
-use Rattle.translating.proofs.Written.{Tables, Frame, Flow, kindOf, meansOf, Meant, withOpens, taken, varied, wrote, put-real, putAll, past, Same, step, state, Goes, Passed, Fits, Emits, wrote-right, goes-node, goes-then, _and-then_, passed-nothing, passed-all, passed-idle, passed-words, use-step}
+use Rattle.translating.proofs.SlotLists.{no-slot, aheadEs, aheadCall, aheadCommand}
+use Rattle.translating.proofs.Written.{Tables, Frame, Flow, kindOf, meansOf, Meant, taken, varied, wrote, put-real, putAll, past, Same, step, state, Passed, Fits, Emits, wrote-right, goes-node, goes-then, _and-then_, passed-all, passed-idle, passed-words, use-step}
 use Rattle.translating.proofs.WrittenChoices.{fits-open}
 use Rattle.translating.proofs.NameWords.{Known, Targets, result-is}
-use Rattle.translating.proofs.WrittenExpressions.{parts, Numbered, cell-meant, cell-word, call-word, name-step, inCall, counted, counted-is, Quiet, typed-step, plain-step, actual-step, ended-step, IsE, IsEs, then-actuals, call-end, given-call, emitsE, emitsEs}
-use Rattle.translation.proofs.Ranges.{owns}
+use Rattle.translating.proofs.WrittenExpressions.{parts, Numbered, cell-meant, cell-word, call-word, name-step, inCall, counted, Quiet, typed-step, plain-step, ended-step, IsE, IsEs, call-end, given-call, emitsE, emitsEs}
 
 module _ (tb : Tables) where
   -- ---- names alone

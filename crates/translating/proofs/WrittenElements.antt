@@ -1,35 +1,33 @@
 -- The elements of a for statement in the pass that writes code: each goes to the body, which a slot tells, and on to where its own slot tells; the
 -- last one's slot is filled behind the loop. Assumes nothing.
-use Prim.Native.Nat.{ℕ, zero, suc, _+_, _*_, _-_, _≤_, _<_, _/_, _%_}
+use Prim.Native.Nat.{ℕ, suc, _+_, _-_, _<_}
 use native.Mathlib.Omega.{arith}
 use native.Mathlib.Numerals.{add-one}
-use mathlib.Core.Path.{_≡_, refl, sym, ap, subst, _∙_}
-use mathlib.Core.Bool.{Bool, true, false, cond, _||_}
+use mathlib.Core.Path.{_≡_, refl, sym, ap, _∙_}
 use mathlib.Core.List.{List, [], _∷_, _++_, append-assoc, append-nil}
-use lib.ListN.{length, getD, drop, set, length-append, length-set}
+use lib.ListN.{length, getD, drop, length-append}
 use lib.Seq.{set-append-seam}
 use Rattle.machine.specs.Data.{store, keep, bump, condition, upto}
 use Rattle.machine.specs.Instructions.{Loc, lc, Instr, DO, IF, JUMP, GO, pack, high, mid}
 use Rattle.grammar.specs.NodeKinds.{n-start, n-once, n-while, n-step, n-amount}
 use Rattle.names.specs.Program.{Name, Expression, firstSymbol, Element, value, while, step as by-step}
 use Rattle.names.specs.Scopes.{Scope}
-use Rattle.names.specs.Nodes.{node, mark, amountNodes, nodesE, nodesL, nodesLs}
+use Rattle.names.specs.Nodes.{mark, amountNodes, nodesE, nodesL, nodesLs}
 use Rattle.names.specs.Rows.{isUse}
 use Rattle.names.specs.Uses.{Use, usesE, usesL}
 use Rattle.reading.specs.Table.{hasNone}
 use Rattle.translation.specs.Translate.{Mark, scopes, loc, endE, endL, onward, codeE, codeL}
-use Rattle.translation.specs.Words.{Parts, beside, partsOf, LocFits, CodeFits, words}
+use Rattle.translation.specs.Words.{Parts, beside, LocFits, CodeFits, words}
 use Rattle.emitting.specs.Layout.{packed}
 use Rattle.translation.specs.Scoped.{OkE, OkL}
-use Rattle.emitting.specs.Emission.{Opened, opened, State, put, withOpen, withSlot, noted, replaced, top, below, aheadAt, element, bodied, stepping, elementNode, plainNode, codeNode}
+use Rattle.emitting.specs.Emission.{opened, put, withOpen, noted, replaced, top, below, aheadAt, element, bodied, stepping, elementNode, plainNode, codeNode}
 use Rattle.translating.proofs.NumbersOf.{NumbersE, NumbersL}
-use Rattle.translating.proofs.SlotLists.{Fills, no-slot, a-slot, then-slots, slot-read, slot-past, slots-past, there, aheadE, aheadX, aheadL, endX, end-element}
-use Rattle.translating.proofs.Written.{Tables, Frame, Flow, withOpens, wrote, slotted, taken, slot-real, noted-real, putAll, wroteAll, puts-real, past, Same, Kept, wrote-all, fits-apart, step, state, Goes, Passed, Fits, Emits, goes-node, goes-then, _and-then_, passed-all, passed-idle, passed-words}
+use Rattle.translating.proofs.SlotLists.{Fills, a-slot, then-slots, slot-read, slot-past, slots-past, there, aheadE, aheadX, aheadL, endX, end-element}
+use Rattle.translating.proofs.Written.{Tables, Frame, Flow, withOpens, slotted, taken, slot-real, noted-real, putAll, wroteAll, puts-real, past, Same, wrote-all, fits-apart, step, state, Goes, Passed, Fits, goes-node, goes-then, _and-then_, passed-all, passed-idle}
 use Rattle.translation.proofs.Words.{high-pack, mid-pack}
 use Rattle.translating.proofs.WrittenChoices.{address, fits-open}
-use Rattle.translating.proofs.WrittenExpressions.{parts, Numbered, IsE, emitsE}
+use Rattle.translating.proofs.WrittenExpressions.{parts, Numbered, emitsE}
 use Rattle.translating.proofs.NameWords.{Known, Targets}
-use Rattle.translation.proofs.Ranges.{owns}
 
 -- a frame within a for statement: the slot of its body's address, its variable's word and place, the address of the element
 abbrev pub inLoop : ℕ → ℕ → ℕ → ℕ → Frame → Frame

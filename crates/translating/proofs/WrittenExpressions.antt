@@ -1,19 +1,18 @@
 -- The pass that writes code over the nodes of an expression: the words are those of its code, and nothing else changes. One line a construct; names and
 -- calls by what they mean.
-use Prim.Native.Nat.{ℕ, zero, suc, _+_, _*_, _-_, _≤_, _<_, _%_}
+use Prim.Native.Nat.{ℕ, zero, suc, _+_, _-_, _<_}
 use native.Mathlib.Omega.{arith}
-use native.Mathlib.Numerals.{add-one}
 use mathlib.Core.Path.{_≡_, refl, sym, ap, _∙_}
 use mathlib.Core.Bool.{Bool, true, false, cond, _&&_}
 use mathlib.Core.List.{List, [], _∷_, _++_, append-assoc}
 use mathlib.Core.Option.{Option, none, some}
 use lib.Dec.{eqb}
 use lib.IntN.{pos}
-use lib.ListN.{length, getD, drop, set}
+use lib.ListN.{getD}
 use Rattle.machine.specs.Values
 use Rattle.machine.specs.Data.{push, load, reserve, unary, binary, Fate, kept}
-use Rattle.machine.specs.Instructions.{Instr, DO, CALL, pack, high}
-use Rattle.grammar.specs.NodeKinds.{n-then, n-else, n-condition-end, n-unary, n-binary, n-number, n-logical, n-use, n-call, n-call-end, n-actual}
+use Rattle.machine.specs.Instructions.{DO, CALL, pack, high}
+use Rattle.grammar.specs.NodeKinds.{n-unary, n-binary, n-number, n-logical, n-use, n-call, n-call-end, n-actual}
 use Rattle.names.specs.Program.{Name, Sort, Sign, positive, negative, negation, Operator, times, over, plus, minus, less, atMost, equal, atLeast, greater, unequal, and, or, impl, equiv, Expression, number, logical, name, call, signed, operated, chosen, nested, Expressions, done, then, count, firstSymbol, Procedure}
 use Rattle.names.specs.Scopes.{Thing, variable, routine, formal, Declared, Scope, sortOf, Given, Meaning, declared, given, nothing, meaning}
 use Rattle.names.specs.Nodes.{node, mark, truth, signKind, operatorKind, callNodes, nodesE, nodesEs}
@@ -21,17 +20,17 @@ use Rattle.names.specs.Rows.{isUse}
 use Rattle.names.specs.Uses.{Use, used, usesE, usesEs, thingKind}
 use Rattle.reading.specs.Table.{hasNone}
 use Rattle.rules.specs.Entered.{oneIf, declaring}
-use Rattle.rules.specs.Calls.{Primary, held, function, absolute, greatest, no-primary, withType, alone, thingAs, givenAs, primary}
+use Rattle.rules.specs.Calls.{Primary, held, function, absolute, greatest, withType, thingAs, givenAs, primary}
 use Rattle.rules.specs.Rules.{binaryOf, maxint}
 use Rattle.translation.specs.Translate.{Mark, scopes, loc, cutG, levels, target, endName, endSign, endE, endEs, CALLS, codeName, codeSign, codeE, codeEs}
-use Rattle.translation.specs.Words.{Parts, beside, partsOf, LocFits, CodeFits, binaryNumber}
+use Rattle.translation.specs.Words.{Parts, beside, partsOf, LocFits, binaryNumber}
 use Rattle.translation.specs.Scoped.{CellAs, OkV, OkPrimary, OkE, OkEs}
 use Rattle.emitting.specs.Layout.{packed}
-use Rattle.emitting.specs.Emission.{Opened, opened, State, put, withOpen, withVariable, pushed, popped, replaced, top, below, signed as signedAs, operationOf, largest, cellOf, resultOf, calledWith, resultFor, dropped, named, namedOr, calling, actualIn, callEnded, useNode, plainNode, codeNode}
+use Rattle.emitting.specs.Emission.{opened, State, put, withOpen, withVariable, pushed, popped, replaced, top, below, signed as signedAs, operationOf, largest, cellOf, resultOf, calledWith, resultFor, dropped, named, namedOr, calling, actualIn, callEnded, useNode, plainNode, codeNode}
 use Rattle.translating.proofs.NumbersOf.{NumbersE, NumbersEs}
 use Rattle.translating.proofs.SlotLists.{aheadName, aheadE, aheadEs}
-use Rattle.translating.proofs.Written.{Tables, Frame, Flow, kindOf, meansOf, Meant, withOpens, taken, putAll, past, Same, step, state, Goes, Passed, Fits, Emits, goes-node, goes-then, _and-then_, _followed-by_, _closed-by_, passed-nothing, passed-all, passed-idle, emits-all, use-step}
-use Rattle.translating.proofs.WrittenChoices.{fits-open, closing, one-way, two-way}
+use Rattle.translating.proofs.Written.{Tables, Frame, Flow, kindOf, meansOf, Meant, withOpens, taken, putAll, step, state, Passed, Fits, Emits, _and-then_, _followed-by_, _closed-by_, passed-nothing, passed-all, passed-idle, emits-all, use-step}
+use Rattle.translating.proofs.WrittenChoices.{fits-open, two-way}
 use Rattle.translating.proofs.NameWords.{Known, Targets, cell-is, result-is, levels-is, target-is}
 use Rattle.translation.proofs.Ranges.{owns}
 

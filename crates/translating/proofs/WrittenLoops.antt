@@ -1,12 +1,11 @@
 -- For statements in the pass that writes code: the slot of the body's address is filled at the body, and the last element's own slot behind the loop.
 -- Assumes nothing.
-use Prim.Native.Nat.{ℕ, zero, suc, _+_, _*_, _-_, _≤_, _<_}
+use Prim.Native.Nat.{ℕ, suc, _+_, _-_, _<_}
 use native.Mathlib.Omega.{arith}
 use native.Mathlib.Numerals.{add-one}
-use mathlib.Core.Path.{_≡_, refl, sym, ap, subst, _∙_}
-use mathlib.Core.Bool.{Bool, true, false, cond, _||_}
-use mathlib.Core.List.{List, [], _∷_, _++_, append-assoc, append-nil}
-use lib.ListN.{length, getD, drop, set, length-append, length-set}
+use mathlib.Core.Path.{_≡_, refl, ap, _∙_}
+use mathlib.Core.List.{List, [], _∷_, _++_, append-assoc}
+use lib.ListN.{length, set, length-append, length-set}
 use lib.Seq.{set-append-left}
 use Rattle.machine.specs.Instructions.{Instr, NEXT, pack}
 use Rattle.grammar.specs.NodeKinds.{n-for, n-do, n-for-end}
@@ -16,19 +15,17 @@ use Rattle.names.specs.Nodes.{node, mark, nodesL, nodesLs, nodesS}
 use Rattle.names.specs.Rows.{isUse}
 use Rattle.names.specs.Uses.{Use, used, usesL, usesS}
 use Rattle.reading.specs.Table.{hasNone}
-use Rattle.translation.specs.Translate.{Mark, scopes, loc, endL, endS, codeL, codeS}
-use Rattle.translation.specs.Words.{words}
+use Rattle.translation.specs.Translate.{Mark, scopes, endL, endS, codeS}
 use Rattle.emitting.specs.Layout.{packed}
 use Rattle.translation.specs.Scoped.{OkV, OkL}
-use Rattle.emitting.specs.Emission.{Opened, opened, State, put, withOpen, withSlot, within, noted, pushed, popped, replaced, top, below, cellOf, repeated, useNode, loopNode, codeNode}
+use Rattle.emitting.specs.Emission.{opened, State, put, withOpen, withSlot, within, noted, pushed, popped, replaced, top, below, cellOf, repeated, useNode, loopNode, codeNode}
 use Rattle.translating.proofs.NumbersOf.{NumbersL}
-use Rattle.translating.proofs.SlotLists.{Fills, longer, then-slots, refill, slot-read, slot-past, slots-past, there, aheadL, aheadS}
-use Rattle.translating.proofs.Written.{Tables, Frame, Flow, kindOf, meansOf, withOpens, wrote, slotted, taken, put-real, slot-real, noted-real, step, state, Goes, Passed, Fits, Emits, wrote-right, goes-node, goes-then, passed-words, use-step}
+use Rattle.translating.proofs.SlotLists.{Fills, longer, then-slots, refill, slot-read, slot-past, slots-past, there, aheadS}
+use Rattle.translating.proofs.Written.{Tables, Frame, Flow, kindOf, meansOf, wrote, slotted, taken, put-real, slot-real, noted-real, step, state, Passed, Emits, wrote-right, goes-node, goes-then, passed-words, use-step}
 use Rattle.translating.proofs.WrittenExpressions.{Numbered, cell-meant, cell-word}
 use Rattle.translating.proofs.WrittenElements.{inLoop, Turned, elements-turned}
 use Rattle.translating.proofs.NameWords.{Known, Targets}
 use Rattle.translating.proofs.EntryTables.{enteredS}
-use Rattle.translation.proofs.Ranges.{owns}
 
 -- a frame within a body, with the slot of where its loop goes on
 abbrev inBody : ℕ → Frame → Frame

@@ -1,21 +1,18 @@
 -- The pass that writes code over the nodes of a statement or declaration: the words are those of its code if the tables tell what lies ahead of it and
 -- where procedures begin; and such tables are what it leaves. One line a construct.
-use Prim.Native.Nat.{ℕ, zero, suc, _+_, _*_, _-_, _≤_, _<_}
+use Prim.Native.Nat.{ℕ, suc, _+_, _-_}
 use native.Mathlib.Omega.{arith}
 use native.Mathlib.Nat.{zero-add}
-use mathlib.Core.Path.{_≡_, refl, sym, ap, subst, _∙_}
-use mathlib.Core.Bool.{Bool, true, false, cond}
-use mathlib.Core.List.{List, [], _∷_, _++_, append-assoc, append-nil}
-use mathlib.Core.Option.{Option, none, some}
-use lib.ListN.{length, getD, drop, set}
-use Rattle.machine.specs.Instructions.{Instr}
-use Rattle.grammar.specs.NodeKinds.{n-type, n-variable, n-procedure, n-formal, n-value, n-body, n-procedure-end}
+use mathlib.Core.Path.{_≡_, refl, ap, _∙_}
+use mathlib.Core.Bool.{false}
+use mathlib.Core.List.{List, [], _∷_, _++_, append-assoc}
+use mathlib.Core.Option.{Option, some}
+use lib.ListN.{length, set}
 use Rattle.names.specs.Program.{Name, Sort, Specification, Statement, dummy, assignment, procedure, when, either, repeat, compound, block, Statements, last, first, Declarations, none as no-more, variables, declare, Procedure, heading}
-use Rattle.names.specs.Scopes.{Scope, ofBlock, ofBody, inBlock as declaredIn, meaning}
-use Rattle.names.specs.Nodes.{node, mark, sortNumber, nodesN, nodesSp, nodesS, nodesSs, nodesD, nodesP}
+use Rattle.names.specs.Scopes.{ofBlock, ofBody, inBlock as declaredIn}
+use Rattle.names.specs.Nodes.{sortNumber, nodesS, nodesSs, nodesD, nodesP}
 use Rattle.names.specs.Uses.{Use, usesS, usesSs, usesD, usesP}
 use Rattle.rules.specs.Entered.{total, cellsIn}
-use Rattle.rules.specs.Calls.{command}
 use Rattle.translation.specs.Translate.{Mark, blk, own, scopes, reach, endE, endL, endS, endSs, endDs, endP, codeS, codeSs, codeDs, codeP}
 use Rattle.translation.specs.Scoped.{OkS, OkSs, OkDs, OkP}
 use Rattle.translating.proofs.NumbersOf.{NumbersS, NumbersSs, NumbersDs, NumbersP}

@@ -2,7 +2,7 @@
 ghost use mathlib.Core.Path.{_≡_};
 ghost use Prim.Native.Nat.{_<_};
 ghost use lib.ListN.{getD, take, drop};
-ghost use Rattle.grammar.specs.TableParts.{part, rowsAt, nodesAt, usesIn, nodesIn};
+ghost use Rattle.grammar.specs.TableParts.{rowsAt, nodesAt, usesIn, nodesIn};
 
 // A word; 0 behind the last one.
 fn word(table: &[u16], i: usize) -> u16

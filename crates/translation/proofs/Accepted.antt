@@ -1,8 +1,8 @@
 -- A program whose names all mean something and which has no type fault is well-scoped: the static condition of the translation follows from
 -- acceptance. By induction over trees; each list of faults is empty, so each of its parts is.
-use Prim.Native.Nat.{ℕ, zero, suc, _+_}
+use Prim.Native.Nat.{ℕ, suc, _+_}
 use mathlib.Core.Path.{_≡_, refl, sym, ap, subst, _∙_}
-use mathlib.Core.Bool.{Bool, true, false, cond, not, _&&_, _||_}
+use mathlib.Core.Bool.{Bool, true, false, cond, not, _||_}
 use mathlib.Core.List.{List, [], _∷_, _++_, map}
 use mathlib.Core.Option.{Option, none, some}
 use native.Mathlib.Omega.{arith}
@@ -13,11 +13,11 @@ use Rattle.symbols.specs.Text.{bytes}
 use Rattle.symbols.specs.Names.{sameName}
 use Rattle.names.specs.Program.{Name, Sort, integer, boolean, Expression, number, logical, name, call, signed, operated, chosen, nested, Expressions, done, then, count, Element, value, while, step, Statement, dummy, assignment, procedure, when, either, repeat, compound, block, Statements, last, first, Declarations, none as no-more, variables, declare, Procedure, heading, firstSymbol}
 use Rattle.names.specs.Scopes.{Thing, variable, routine, formal, Declared, Scope, ofBlock, ofBody, nameOf, sortOf, formalsOf, specificationsOf, specified, inBody, Wanted, an, variable-of, Given, environment, findIn, findGiven, innermost, Meaning, declared, given, nothing, meaning}
-use Rattle.names.specs.Uses.{Use, used, usesE, usesEs, usesL, usesS, usesSs, usesD, usesP, scopesS, Fault, unmeant, meantOrNot, joined, nameFaults, at}
-use Rattle.types.specs.Types.{alike, unlike, apart, when-so, Judged, judge, applied, plainly, thingIn, inExpression, wantedBy, wants, isVariable, thingOf, isName, sortE, misfit, misfits, faultsE, faultsEs, ownSort, ownResult, thingLeft, asLeft, leftOf, faultsLeft, thingCalled, miscalled, faultsFor, faultsL, faultsS, faultsSs, faultsD, faultsP, typeFaults}
-use Rattle.rules.specs.Entered.{cellsOf, total, oneIf, results, cellsIn, bodyOfThis}
-use Rattle.rules.specs.Calls.{Primary, held, function, absolute, greatest, no-primary, primary, Command, routine-of, absolute-of, greatest-of, input-to, output-of, no-command, command, into, thingTold, givenTold}
-use Rattle.translation.specs.Scoped.{nearest, HasCell, CellAs, OkV, OkVs, MeansAs, OkCall, OkPrimary, OkE, OkEs, OkL, OkCommand, OkS, OkSs, OkDs, OkP, Scoped}
+use Rattle.names.specs.Uses.{Use, used, usesE, usesEs, usesL, usesS, usesSs, usesD, usesP, scopesS, unmeant, meantOrNot, joined, nameFaults}
+use Rattle.types.specs.Types.{unlike, apart, when-so, applied, thingIn, inExpression, wantedBy, isVariable, thingOf, isName, sortE, misfit, misfits, faultsE, faultsEs, ownSort, ownResult, thingLeft, asLeft, leftOf, faultsLeft, thingCalled, miscalled, faultsFor, faultsL, faultsS, faultsSs, faultsD, faultsP, typeFaults}
+use Rattle.rules.specs.Entered.{cellsOf, total, oneIf, bodyOfThis}
+use Rattle.rules.specs.Calls.{primary, command, into, thingTold, givenTold}
+use Rattle.translation.specs.Scoped.{nearest, HasCell, CellAs, OkV, OkVs, MeansAs, OkPrimary, OkE, OkEs, OkL, OkCommand, OkS, OkSs, OkDs, OkP, Scoped}
 
 -- ---- empty lists
 

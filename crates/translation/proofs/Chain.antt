@@ -10,12 +10,12 @@ use lib.ListN.{getD, length}
 use Rattle.symbols.specs.Names.{sameName}
 use Rattle.symbols.specs.Text.{bytes}
 use Rattle.machine.specs.Data.{Fate, gone, Act, push, load, store, assign, reserve, forget, receive, send, keep, bump, unary, binary, actOn, Test, condition, upto, testOn}
-use Rattle.machine.specs.Instructions.{Instr, Loc, lc}
+use Rattle.machine.specs.Instructions.{Instr}
 use Rattle.machine.specs.Machine.{Frame, fr, frameAt, linkOf, baseOf, base, walk, cellIn}
-use Rattle.names.specs.Program.{Name, Sort, Specification, Declarations, Procedure}
+use Rattle.names.specs.Program.{Name, Specification, Declarations, Procedure}
 use Rattle.names.specs.Scopes.{Thing, variable, routine, formal, Declared, Scope, ofBlock, ofBody, declares, inBlock, inBody, specified, specificationsOf, formalsOf, same, findIn, findGiven, Given, Meaning, declared, given, nothing, innermost, meaning}
-use Rattle.rules.specs.Entered.{Entry, entered, scopeOf, scopesOf, cellsOf, total, results, cellsIn, before, placeIn, cut, isSome, declaring, bodyOfThis, among, firstOr, cellFor, cellAs, cellOf}
-use Rattle.translation.specs.Translate.{Mark, blk, own, scopeAt, scopes, offset, cutG, levels, amongG, offsetOf, locFor, locAs, loc, target, codeDs}
+use Rattle.rules.specs.Entered.{Entry, entered, scopesOf, cellsOf, total, results, cellsIn, before, cut, isSome, declaring, bodyOfThis, among, firstOr, cellFor, cellAs, cellOf}
+use Rattle.translation.specs.Translate.{Mark, blk, own, scopeAt, scopes, cutG, levels, amongG, offsetOf, locFor, locAs, loc, target, codeDs}
 use Rattle.translation.specs.Scoped.{nearest, HasCell, CellAs, OkV, MeansAs, OkDs}
 use Rattle.translation.proofs.Stands.{procedureOf, CodeAt, Ready, ready}
 

@@ -1,8 +1,8 @@
 -- Demand 3 for the machine on a list of instructions: the translation of a well-scoped program does what the source rules say, in at most 16 n + 16
 -- instructions for n steps; and it stops with 0 or 21 to 28 alone. Assumes nothing.
-use Prim.Native.Nat.{ℕ, zero, suc, _+_, _*_, _≤_}
+use Prim.Native.Nat.{ℕ, _+_, _*_, _≤_}
 use native.Mathlib.Omega.{arith}
-use mathlib.Core.Path.{_≡_, refl, sym}
+use mathlib.Core.Path.{_≡_, refl}
 use mathlib.Core.List.{List, [], _∷_}
 use mathlib.Core.Logic.{_⊎_, inl, inr}
 use lib.IntN.{ℤ}
@@ -11,9 +11,9 @@ use Rattle.answers.specs.declared.Stop.the-variants.{Limit}
 use Rattle.machine.specs.Run.{Trace, untold, End, done, over, run}
 use Rattle.machine.specs.Data.{Data, dat}
 use Rattle.machine.specs.Instructions.{Instr, END}
-use Rattle.machine.specs.Machine.{Mach, Finish, finish, start}
+use Rattle.machine.specs.Machine.{Mach, finish, start}
 use Rattle.names.specs.Program.{Statement}
-use Rattle.rules.specs.Rules.{State, beginning, source, sstep}
+use Rattle.rules.specs.Rules.{State, beginning, source}
 use Rattle.translation.specs.Translate.{codeS, code}
 use Rattle.translation.specs.Scoped.{Scoped}
 use Rattle.translation.specs.Listed.{stepIn, machineIn}
@@ -21,7 +21,7 @@ use Rattle.translation.specs.Faithful.{Begins, Tells, Ordinary, AsRules,
 use Rattle.translation.proofs.Sim as Sim
 use Rattle.translation.proofs.Stands.{CodeAt, pastS, whole}
 use Rattle.translation.proofs.Chain.{root}
-use Rattle.translation.proofs.Rel.{t-ex, at-end, at-task, Stand, stands, Rel, rel, size}
+use Rattle.translation.proofs.Rel.{t-ex, at-end, at-task, Stand, stands, Rel, rel}
 use Rattle.translation.proofs.Diagram.{diag}
 
 module _ (place : ℕ → ℕ) (s : Statement) (ok : Scoped s) (input : List ℤ) (room space : ℕ) where

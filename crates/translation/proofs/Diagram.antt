@@ -11,25 +11,25 @@ use lib.IntN.{ℤ, pos}
 use Rattle.answers.specs.declared.Stop.{Stop}
 use Rattle.machine.specs.Values
 use Rattle.machine.specs.Values.{truth}
-use Rattle.machine.specs.Run.{Event, quiet, Out, halt, next}
-use Rattle.machine.specs.Data.{Data, dat, cells, Res, bad, wrong, good, lift, guard, Act, push, load, store, assign, reserve, forget, receive, send, keep, bump, unary, binary, actOn, work, downs, Two, yea, nay, either as byTest, Test, condition, upto, testOn, test, downsT, openBlock, closeBlock, enter, Fate, kept, gone, stays, leave}
-use Rattle.machine.specs.Instructions.{Instr, END, DO, IF, GO, CALL, NEXT}
-use Rattle.machine.specs.Machine.{Frame, fr, Mach, ms, frameAt, baseOf, base, walk, floor, cellIn, stray, exec, obey, start}
-use Rattle.names.specs.Program.{Name, Sort, Sign, positive, negative, negation, Expression, number, logical, name, call, signed, operated, chosen, nested, Expressions, done, then, count, Element, value, while, step, Statement, dummy, assignment, procedure, when, either, repeat, compound, block, Statements, last, first, Declarations, Procedure, heading}
-use Rattle.names.specs.Scopes.{Thing, routine, Scope, ofBlock, ofBody, sortOf, bodyOf, Meaning, declared, given, nothing, meaning}
-use Rattle.rules.specs.Entered.{Entry, entered, scopesOf, oneIf, cellsIn, cut, declaring, cellOf}
+use Rattle.machine.specs.Run.{quiet, next}
+use Rattle.machine.specs.Data.{Data, dat, cells, Res, bad, wrong, good, lift, guard, Act, push, load, store, assign, reserve, forget, receive, send, keep, bump, unary, binary, actOn, work, downs, yea, nay, either as byTest, Test, condition, upto, testOn, test, downsT, openBlock, closeBlock, enter, Fate, kept, gone, stays}
+use Rattle.machine.specs.Instructions.{Instr, END, DO, IF, NEXT}
+use Rattle.machine.specs.Machine.{Frame, fr, Mach, ms, baseOf, walk, floor, cellIn, stray, exec, obey, start}
+use Rattle.names.specs.Program.{Name, Sort, positive, negative, negation, Expression, number, logical, name, call, signed, operated, chosen, nested, Expressions, done, then, count, Element, value, while, step, Statement, dummy, assignment, procedure, when, either, repeat, compound, block, Statements, last, first, Procedure, heading}
+use Rattle.names.specs.Scopes.{Thing, routine, ofBlock, ofBody, sortOf, bodyOf, Meaning, declared, given, nothing, meaning}
+use Rattle.rules.specs.Entered.{Entry, entered, scopesOf, oneIf, cellsIn, declaring, cellOf}
 use Rattle.rules.specs.Calls.{Primary, held, function, absolute, greatest, no-primary, primary, Command, routine-of, absolute-of, greatest-of, input-to, output-of, no-command, command, thingTold, into, givenTold}
-use Rattle.rules.specs.Rules.{Choice, expressions, statements, only, whiling, Stepping, stepping, Task, ev, evs, ex, exs, stores, loop, act, unchanged, drop, pick, hold, tested, add, invoke, close, return, State, st, noRule, binaryOf, maxint, doing, testing, at, applied, evaluate, calls, perform, entering, calling, sstep, beginning}
-use Rattle.translation.specs.Translate.{Mark, blk, own, scopes, cutG, levels, loc, reach, target, endName, endE, endEs, endL, onward, endStores, endCall, endCommand, endS, endSs, endDs, CALLS, codeName, codeE, codeEs, codeL, codeStores, codeCall, codeCommand, codeS, codeSs, codeDs, codeP, code}
+use Rattle.rules.specs.Rules.{stepping, Task, ev, evs, ex, exs, stores, loop, unchanged, tested, add, return, State, st, noRule, binaryOf, maxint, doing, testing, at, evaluate, calls, perform, entering, calling, sstep, beginning}
+use Rattle.translation.specs.Translate.{Mark, blk, own, scopes, cutG, levels, loc, reach, target, endName, endE, endEs, onward, endStores, endCall, endCommand, endS, endSs, CALLS, codeName, codeE, codeEs, codeL, codeStores, codeCall, codeCommand, codeS, codeSs, codeP, code}
 use Rattle.translation.specs.Scoped.{OkV, OkVs, OkE, OkEs, OkL, OkS, OkSs, OkP, OkCall, OkPrimary, OkCommand, MeansAs, Scoped}
 use Rattle.translation.specs.Listed.{instructionAt, stepIn}
 use Rattle.translation.specs.Faithful.{Ordinary}
 use Rattle.translation.proofs.Sim as Sim
 use Rattle.translation.proofs.Sim.{hop, free, both, stop}
 use Rattle.translation.proofs.Fits.{Kind, val, any, FitsD, Fits2, All, takes, gives, takesT, needs, holds, needsT, vars, varsT, taken-length, takes-on, gives-on, takesT-length, takesT-on, downs-on, downsT-on, fits-cells, more-of, more-length, more-once, more-on, guard-yes, works, works-test, open-fits, close-fits, enter-fits, before, left, leave-fits, handed, left-on, before-length}
-use Rattle.translation.proofs.Stands.{CodeAt, pastE, pastEs, pastL, past-stores, past-sign, pastS, pastSs, pastDs, Ready, whole}
-use Rattle.translation.proofs.Chain.{Vars, VarsT, Chain, root, inner, link, at-newest, chain-outer, chain-cut, chain-more, chain-scopes, found, same-act, same-test, chain-new, called}
-use Rattle.translation.proofs.Rel.{owes, owed, slack, owed-most, heldT, heldK, Level, StepAt, AtT, t-ev, t-evs, t-ex, t-exs, t-stores, t-act, t-unchanged, t-drop, t-invoke, t-expressions, t-statements, t-only, t-loop, t-whiling, t-hold, t-tested, t-add, Does, over-jump, at-go, at-next, at-end, at-task, at-close, at-ret, Stand, stands, Rel, rel, sizeE, sizeEs, sizeL, sizeS, sizeSs, sizeT, sizeK, size}
+use Rattle.translation.proofs.Stands.{CodeAt, pastE, pastEs, pastL, pastS, pastSs, pastDs, whole}
+use Rattle.translation.proofs.Chain.{Vars, VarsT, Chain, root, inner, at-newest, chain-outer, chain-cut, chain-more, chain-scopes, found, same-act, same-test, chain-new, called}
+use Rattle.translation.proofs.Rel.{owes, owed, slack, owed-most, heldT, heldK, Level, AtT, t-ev, t-evs, t-ex, t-exs, t-stores, t-act, t-unchanged, t-drop, t-invoke, t-expressions, t-statements, t-only, t-loop, t-whiling, t-hold, t-tested, t-add, Does, over-jump, at-go, at-next, at-end, at-task, at-close, at-ret, Stand, stands, Rel, rel, sizeE, sizeEs, sizeS, sizeK, size}
 
 -- the expressions of a command are among its actuals
 abbrev sizeC : Command → ℕ

@@ -1,9 +1,9 @@
 -- The table of programs of crate `rules`, translated and run by the machine in the prover: the same answers, places, outputs and numbers taken, in at
 -- most 16 n + 16 instructions for n steps.
 use Prim.Native.Nat.{ℕ, _+_, _*_}
-use mathlib.Core.Bool.{Bool, true, _&&_}
+use mathlib.Core.Bool.{Bool, true}
 use mathlib.Core.Path.{_≡_, refl}
-use mathlib.Core.List.{List, [], _∷_, map}
+use mathlib.Core.List.{List, map}
 use lib.Dec.{leb}
 use lib.IntN.{ℤ}
 use Rattle.answers.specs.declared.Stop.{Stop}
@@ -17,7 +17,7 @@ use Rattle.names.specs.Scopes.{has, specified, variablesIn, inBlock, inBody, fi
 use Rattle.rules.specs.Entered.{total, before, declaring, bodyOfThis}
 use Rattle.rules.specs.Calls.{primary, command}
 use Rattle.rules.specs.Samples.{Row, empty, s1, one-call, as-statement, needed, both-sides, over-i, m6, m7, below-three, mixed, factorial, callers, endless, table}
-use Rattle.translation.specs.Translate.{cutG, levels, loc, endE, endEs, endL, endStores, endS, endSs, endDs, endP, entry, codeE, codeEs, codeL, codeStores, codeS, codeSs, codeDs, codeP, code}
+use Rattle.translation.specs.Translate.{cutG, levels, loc, endE, endL, endStores, endS, entry, codeE, codeL, codeStores, codeS, code}
 use Rattle.translation.specs.Listed.{instructionAt, stepIn, machineIn}
 
 -- how it stopped, what it wrote, how many numbers it took; and whether the instructions were few enough

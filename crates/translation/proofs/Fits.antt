@@ -3,19 +3,18 @@
 use Prim.Native.Nat.{ℕ, zero, suc, _+_, _-_, _≤_, _<_}
 use native.Mathlib.Omega.{arith}
 use mathlib.Core.Bool.{Bool, true, false, cond}
-use mathlib.Core.Path.{_≡_, refl, ap, sym, _∙_}
-use mathlib.Core.List.{List, [], _∷_, _++_, append-assoc, append-nil}
+use mathlib.Core.Path.{_≡_, refl, ap}
+use mathlib.Core.List.{List, [], _∷_, _++_, append-assoc}
 use lib.Dec.{T, leb, ltb, le→leb, lt→ltb}
-use lib.ListN.{length, length-append, getD, set, drop, replicate}
-use lib.IntN.{ℤ, _+ℤ_}
+use lib.ListN.{length, length-append, set, drop, replicate}
+use lib.IntN.{ℤ}
 use lib.Signed.{mag, quotZ}
 use Rattle.machine.specs.declared.Cell.{Cell}
 use Rattle.machine.specs.declared.Cell.the-variants.{Unset, Holds}
 use Rattle.machine.specs.declared.Value.{Value}
 use Rattle.machine.specs.declared.Value.the-variants.{Is, Fault}
-use Rattle.machine.specs.Values.{whole, isZero, same, Unary, minus, negation, absolute, apply1, Binary, plus, less, times, over, below, atMost, equal, atLeast, above, unequal, and, or, impl, equiv, apply2, past}
-use Rattle.machine.specs.Run.{Event, quiet}
-use Rattle.machine.specs.Data.{Lent, Data, dat, cells, Res, bad, wrong, good, guard, check, newCells, newest, onValue, back, look, put, reading, valued, hold, unhold, held, input, space, rest, spend, taking, writing, Act, push, load, store, assign, reserve, forget, receive, send, keep, bump, unary, binary, actOn, work, downs, Two, yea, nay, Test, condition, upto, testOn, test, downsT, openBlock, closeBlock, enter, Fate, kept, gone, stays, given, leave}
+use Rattle.machine.specs.Values.{whole, isZero, Unary, minus, negation, absolute, apply1, Binary, plus, less, times, over, below, atMost, equal, atLeast, above, unequal, and, or, impl, equiv, apply2, past}
+use Rattle.machine.specs.Data.{Lent, Data, dat, cells, Res, bad, wrong, good, guard, check, newCells, newest, onValue, back, put, reading, valued, hold, unhold, held, input, rest, spend, taking, writing, Act, push, load, store, assign, reserve, forget, receive, send, keep, bump, unary, binary, actOn, work, downs, Two, yea, nay, Test, condition, upto, testOn, test, downsT, openBlock, closeBlock, enter, Fate, kept, gone, stays, given, leave}
 use Rattle.translation.proofs.Chain.{Vars, VarsT}
 
 -- ---- kinds of cells

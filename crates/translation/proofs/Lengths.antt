@@ -1,5 +1,5 @@
 -- Code ends where it is said to end; so the words of a program within the paper's limits fit 16,384. One line a construct. Assumes nothing.
-use Prim.Native.Nat.{ℕ, zero, suc, _+_, _*_, _≤_}
+use Prim.Native.Nat.{ℕ, suc, _+_, _*_, _≤_}
 use native.Mathlib.Omega.{arith}
 use mathlib.Core.Path.{_≡_, refl}
 use mathlib.Core.List.{List, [], _∷_}
@@ -7,11 +7,11 @@ use mathlib.Core.Option.{Option, none, some}
 use lib.ListN.{length}
 use Rattle.machine.specs.Instructions.{Instr, END}
 use Rattle.names.specs.Program.{Name, Sort, Sign, positive, negative, negation, Expression, number, logical, name, call, signed, operated, chosen, nested, Expressions, done, then, Element, value, while, step, Statement, dummy, assignment, procedure, when, either, repeat, compound, block, Statements, last, first, Declarations, none as no-more, variables, declare, Procedure, heading}
-use Rattle.names.specs.Scopes.{Scope, ofBlock, sortOf, meaning}
+use Rattle.names.specs.Scopes.{sortOf, meaning}
 use Rattle.rules.specs.Calls.{Primary, held, function, absolute, greatest, no-primary, primary, Command, routine-of, absolute-of, greatest-of, input-to, output-of, no-command, command}
 use Rattle.translation.specs.Translate.{Mark, blk, own, scopes, reach, endName, endSign, endE, endEs, endL, endStores, endCall, endCommand, endS, endSs, endDs, endP, codeName, codeSign, codeE, codeEs, codeL, codeStores, codeCall, codeCommand, codeS, codeSs, codeDs, codeP, code}
 use Rattle.translation.specs.Words.{words}
-use Rattle.translation.specs.Sizes.{symbolsS, Whole, Limited}
+use Rattle.translation.specs.Sizes.{Limited}
 use Rattle.translation.proofs.Ranges.{ends}
 
 -- code r that stands at b ends at k

@@ -1,23 +1,22 @@
 -- Every operand of a translated program is in its range: levels and nesting below 64, offsets, counts and addresses below 8,192. Assumes nothing.
-use Prim.Native.Nat.{ℕ, zero, suc, _+_, _*_, _≤_, _<_, max}
+use Prim.Native.Nat.{ℕ, zero, suc, _+_, _≤_, _<_}
 use native.Mathlib.Omega.{arith}
 use mathlib.Core.Bool.{Bool, true, false, cond}
 use mathlib.Core.Path.{_≡_, refl}
 use mathlib.Core.List.{List, [], _∷_, _++_, map}
 use mathlib.Core.Option.{Option, none, some}
 use lib.ListN.{length}
-use lib.IntN.{ℤ, pos}
 use Rattle.machine.specs.Values.{truth}
 use Rattle.machine.specs.Data.{Act}
-use Rattle.machine.specs.Instructions.{Loc, lc, Instr, END}
+use Rattle.machine.specs.Instructions.{Instr, END}
 use Rattle.names.specs.Program.{Name, Sort, Sign, positive, negative, negation, Expression, number, logical, name, call, signed, operated, chosen, nested, Expressions, done, then, count, Element, value, while, step, Specification, Statement, dummy, assignment, procedure, when, either, repeat, compound, block, Statements, last, first, Declarations, none as no-more, variables, declare, Procedure, heading}
 use Rattle.names.specs.Scopes.{Thing, variable, routine, formal, Declared, Scope, ofBlock, ofBody, declares, inBlock, inBody, variablesIn, specified, specificationsOf, formalsOf, nameOf, sortOf, same, Meaning, declared, given, nothing, meaning}
-use Rattle.rules.specs.Entered.{cellsOf, total, oneIf, results, cellsIn, before, placeIn, declaring, bodyOfThis}
+use Rattle.rules.specs.Entered.{cellsOf, total, oneIf, cellsIn, before, declaring, bodyOfThis}
 use Rattle.rules.specs.Calls.{Primary, held, function, absolute, greatest, no-primary, primary, Command, routine-of, absolute-of, greatest-of, input-to, output-of, no-command, command, thingTold, into, givenTold}
 use Rattle.translation.specs.Translate.{Mark, blk, own, scopeAt, scopes, offset, reach, cutG, levels, amongG, offsetOf, locFor, locAs, loc, endName, endSign, endE, endEs, endL, onward, endStores, endCall, endCommand, endS, endSs, endDs, endP, entry, target, codeName, codeSign, codeE, codeEs, codeL, codeStores, codeCall, codeCommand, codeS, codeSs, codeDs, codeP, code}
 use Rattle.translation.specs.Words.{LocFits, CodeFits}
 use Rattle.translation.proofs.Sizes.{symbolsC, few, actuals-most, sizeSs, sizeDs}
-use Rattle.translation.specs.Sizes.{symbolsE, symbolsEs, actuals, symbolsL, listed, symbolsS, symbolsSs, symbolsDs, symbolsP, deepS, deepSs, deepDs, deepP, SmallE, SmallEs, SmallL, SmallS, SmallSs, SmallDs, SmallP, Whole, Limited}
+use Rattle.translation.specs.Sizes.{symbolsE, symbolsEs, symbolsL, listed, symbolsS, symbolsSs, symbolsDs, symbolsP, deepS, deepSs, deepDs, deepP, SmallE, SmallEs, SmallL, SmallS, SmallSs, SmallDs, SmallP, Whole, Limited}
 
 -- ---- code does not end before it begins
 

@@ -1,19 +1,19 @@
 -- What code carries out an agenda: a task and the code that it needs; the agenda, task after task, with the jumps between them; and the whole
 -- relation of machine and source. Assumes nothing.
-use Prim.Native.Nat.{ℕ, zero, suc, _+_, _≤_}
+use Prim.Native.Nat.{ℕ, suc, _+_, _≤_}
 use native.Mathlib.Omega.{arith}
-use mathlib.Core.Path.{_≡_, refl}
+use mathlib.Core.Path.{_≡_}
 use mathlib.Core.List.{List, [], _∷_, _++_}
-use mathlib.Core.Option.{Option, none, some}
+use mathlib.Core.Option.{some}
 use lib.ListN.{length}
-use Rattle.machine.specs.Data.{Data, cells, Act, actOn, forget, keep, bump, upto, condition, Fate, stays}
+use Rattle.machine.specs.Data.{Data, Act, actOn, forget, keep, bump, upto, Fate, stays}
 use Rattle.machine.specs.Instructions.{Instr, END, DO, IF, JUMP, LEAVE, RETURN, GO, NEXT}
 use Rattle.machine.specs.Machine.{Frame, fr, Mach, ms, base}
-use Rattle.names.specs.Program.{Name, Sort, Sign, positive, negative, negation, Expression, number, logical, name, call, signed, operated, chosen, nested, Expressions, done, then, count, Element, value, while, step, Statement, dummy, assignment, procedure, when, either, repeat, compound, block, Statements, last, first, Declarations, Procedure}
-use Rattle.names.specs.Scopes.{ofBlock, ofBody, meaning}
+use Rattle.names.specs.Program.{Name, Expression, number, logical, name, call, signed, operated, chosen, nested, Expressions, done, then, count, Element, value, while, step, Statement, dummy, assignment, procedure, when, either, repeat, compound, block, Statements, last, first, Declarations, Procedure}
+use Rattle.names.specs.Scopes.{ofBlock}
 use Rattle.rules.specs.Entered.{Entry, cellsIn}
-use Rattle.rules.specs.Rules.{Choice, expressions, statements, only, whiling, Stepping, stepping, Task, ev, evs, ex, exs, stores, loop, act, unchanged, drop, pick, hold, tested, add, invoke, close, return, State, st, at}
-use Rattle.translation.specs.Translate.{Mark, blk, own, scopes, loc, reach, endE, endEs, endL, onward, endStores, endS, endSs, CALLS, codeE, codeEs, codeL, codeStores, codeS, codeSs}
+use Rattle.rules.specs.Rules.{Choice, expressions, statements, only, whiling, stepping, Task, ev, evs, ex, exs, stores, loop, act, unchanged, drop, pick, hold, tested, add, invoke, close, return, State, st, at}
+use Rattle.translation.specs.Translate.{Mark, blk, scopes, loc, reach, endE, endEs, onward, endStores, endS, endSs, CALLS, codeE, codeEs, codeL, codeStores, codeS, codeSs}
 use Rattle.translation.specs.Scoped.{OkV, OkVs, OkE, OkEs, OkL, OkS, OkSs, OkCall}
 use Rattle.translation.specs.Listed.{instructionAt}
 use Rattle.translation.proofs.Stands.{CodeAt}

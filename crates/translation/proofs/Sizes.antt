@@ -1,15 +1,15 @@
 -- A tree has at most four instructions a symbol, and an expression two fewer. One line a construct. Assumes nothing.
 use Prim.Native.Nat.{ℕ, zero, suc, _+_, _*_, _≤_}
 use native.Mathlib.Omega.{arith}
-use mathlib.Core.Path.{_≡_, refl}
+use mathlib.Core.Path.{_≡_}
 use mathlib.Core.List.{List, [], _∷_}
 use mathlib.Core.Option.{Option, none, some}
 use lib.ListN.{length}
-use Rattle.names.specs.Program.{Name, Sort, Sign, positive, negative, negation, Expression, number, logical, name, call, signed, operated, chosen, nested, Expressions, done, then, Element, value, while, step, Specification, Statement, dummy, assignment, procedure, when, either, repeat, compound, block, Statements, last, first, Declarations, none as no-more, variables, declare, Procedure, heading}
+use Rattle.names.specs.Program.{Name, Sort, Sign, positive, negative, negation, Expression, number, logical, name, call, signed, operated, chosen, nested, Expressions, done, then, Element, value, while, step, Statement, dummy, assignment, procedure, when, either, repeat, compound, block, Statements, last, first, Declarations, none as no-more, variables, declare, Procedure, heading}
 use Rattle.names.specs.Scopes.{Thing, variable, routine, formal, Scope, ofBlock, ofBody, sortOf, Meaning, declared, given, nothing, meaning}
 use Rattle.rules.specs.Calls.{Primary, held, function, absolute, greatest, no-primary, primary, Command, routine-of, absolute-of, greatest-of, input-to, output-of, no-command, command, thingTold, into, givenTold}
 use Rattle.translation.specs.Translate.{endName, endSign, endE, endEs, endL, endStores, endCall, endCommand, endS, endSs, endDs, endP}
-use Rattle.translation.specs.Sizes.{symbolsE, symbolsEs, actuals, symbolsL, listed, symbolsS, symbolsSs, symbolsDs, symbolsP}
+use Rattle.translation.specs.Sizes.{symbolsE, symbolsEs, actuals, symbolsL, symbolsS, symbolsSs, symbolsDs, symbolsP}
 
 -- a name with actuals of so many symbols
 name-size : (pr : Primary) (f : ℕ → ℕ) (n : ℕ) → ((b : ℕ) → f b ≤ b + 4 * n) → (b : ℕ) → endName pr f b + 2 ≤ b + 4 * (n + 1)

@@ -1,14 +1,14 @@
 -- Code in the machine's program: where it stands, and what stands after the code of a tree. One line a construct, since addresses agree by
 -- computation. Assumes nothing.
 use Prim.Native.Nat.{ℕ, zero, suc, _+_}
-use mathlib.Core.Path.{_≡_, refl, ap, sym, _∙_}
+use mathlib.Core.Path.{_≡_, refl, ap, _∙_}
 use mathlib.Core.Bool.{Bool, true, false, cond}
 use mathlib.Core.List.{List, [], _∷_, _++_}
 use mathlib.Core.Option.{Option, none, some, Option·none-ne-some}
 use lib.ListN.{drop}
 use Rattle.machine.specs.Instructions.{Instr}
 use Rattle.names.specs.Program.{Name, Sort, Sign, positive, negative, negation, Expression, number, logical, name, call, signed, operated, chosen, nested, Expressions, done, then, Element, value, while, step, Statement, dummy, assignment, procedure, when, either, repeat, compound, block, Statements, last, first, Declarations, none as no-more, variables, declare, Procedure, heading}
-use Rattle.names.specs.Scopes.{Thing, variable, routine, formal, Declared, Scope, ofBlock, ofBody, nameOf, sortOf, same, variablesIn, inBlock, findIn, meaning}
+use Rattle.names.specs.Scopes.{Thing, variable, routine, formal, Declared, nameOf, sortOf, same, variablesIn, inBlock, findIn, meaning}
 use Rattle.rules.specs.Calls.{Primary, held, function, absolute, greatest, no-primary, primary, Command, routine-of, absolute-of, greatest-of, input-to, output-of, no-command, command}
 use Rattle.translation.specs.Translate.{Mark, scopes, endName, endE, endEs, endL, endStores, endCall, endCommand, endS, endSs, endDs, endP, entry, codeName, codeSign, codeE, codeEs, codeL, codeStores, codeCall, codeCommand, codeS, codeSs, codeDs, codeP}
 use Rattle.translation.specs.Translate.{endSign}

@@ -1,24 +1,22 @@
 -- The words of an instruction read back as that instruction; so the machine on the words of a program, and zero words behind them, is the machine on
 -- its instructions. Assumes nothing.
-use Prim.Native.Nat.{ℕ, zero, suc, _+_, _*_, _/_, _%_, _≤_, _<_}
+use Prim.Native.Nat.{ℕ, zero, suc, _+_, _*_, _/_, _%_, _<_}
 use native.Mathlib.Omega.{arith}
 use mathlib.Core.Bool.{Bool, true, false, cond}
-use mathlib.Core.Path.{_≡_, refl, ap, sym, _∙_, fun-ext}
+use mathlib.Core.Path.{_≡_, refl, ap, _∙_, fun-ext}
 use mathlib.Core.List.{List, [], _∷_, _++_}
-use mathlib.Core.Option.{Option, none, some}
-use lib.Dec.{T, leb, ltb, lt→ltb, leb·suc-suc}
+use mathlib.Core.Option.{none, some}
+use lib.Dec.{T, ltb, lt→ltb, leb·suc-suc}
 use lib.ListN.{length, getD, replicate}
 use lib.IntN.{ℤ}
-use lib.Signed.{mag}
 use mir.Syntax.{w32}
-use mir.Val.{toZ, ofZ}
 use mir.Facts.{toZ-ofZ}
-use Rattle.machine.specs.Values.{Unary, minus, negation, absolute, Binary, plus, less, times, over, below, atMost, equal, atLeast, above, unequal, and, or, impl, equiv}
-use Rattle.machine.specs.Data.{Act, push, load, store, assign, reserve, forget, receive, send, keep, bump, unary, binary, Test, condition, upto, Fate, kept, gone}
+use Rattle.machine.specs.Values.{minus, negation, absolute, plus, less, times, over, below, atMost, equal, atLeast, above, unequal, and, or, impl, equiv}
+use Rattle.machine.specs.Data.{Act, push, load, store, assign, reserve, forget, receive, send, keep, bump, unary, binary, condition, upto, kept, gone}
 use Rattle.machine.specs.Instructions.{Loc, lc, Instr, END, DO, IF, JUMP, ENTER, LEAVE, CALL, RETURN, GO, NEXT, pack, high, mid, low, variable, unaryOf, binaryOf, actOf, decode, instruction, fetch}
 use Rattle.machine.specs.Run.{untold, run}
 use Rattle.machine.specs.Machine.{Mach, ms, obey, step, finish, start, machine}
-use Rattle.translation.specs.Words.{Parts, beside, partsOfAct, partsOf, firstWord, words, LocFits, ActFits, InstrFits, CodeFits}
+use Rattle.translation.specs.Words.{partsOfAct, partsOf, firstWord, words, ActFits, InstrFits, CodeFits}
 use Rattle.translation.specs.Listed.{instructionAt, stepIn, machineIn}
 
 -- ---- one packing, read back

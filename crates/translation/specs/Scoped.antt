@@ -1,12 +1,11 @@
 -- The static condition under which the translation is right: a name that is called means a procedure and is called as it is declared, and a name
 -- that is read or stored has a cell. It follows from acceptance (names and types). Assumes nothing: these are definitions.
-use Prim.Native.Nat.{ℕ, zero, suc, _+_}
+use Prim.Native.Nat.{ℕ, suc, _+_}
 use mathlib.Core.Path.{_≡_}
-use mathlib.Core.Bool.{Bool, true, false, cond}
+use mathlib.Core.Bool.{cond}
 use mathlib.Core.List.{List, [], _∷_}
-use mathlib.Core.Option.{Option, none, some}
-use Rattle.names.specs.Program.{Name, Sort, Sign, positive, negative, negation, Expression, number, logical, name, call, signed, operated, chosen, nested, Expressions, done, then, count, Element, value, while, step, Statement, dummy, assignment, procedure, when, either, repeat, compound, block, Statements, last, first, Declarations, none as no-more, variables, declare, Procedure, heading}
-use Rattle.names.specs.Scopes.{Thing, variable, routine, formal, Declared, Scope, ofBlock, ofBody, sortOf, Meaning, declared, given, nothing, meaning}
+use Rattle.names.specs.Program.{Name, Expression, number, logical, name, call, signed, operated, chosen, nested, Expressions, done, then, count, Element, value, while, step, Statement, dummy, assignment, procedure, when, either, repeat, compound, block, Statements, last, first, Declarations, none as no-more, variables, declare, Procedure, heading}
+use Rattle.names.specs.Scopes.{Thing, variable, routine, formal, Scope, ofBlock, ofBody, sortOf, Meaning, declared, given, nothing, meaning}
 use Rattle.rules.specs.Entered.{cellsIn, results, oneIf, bodyOfThis}
 use Rattle.rules.specs.Calls.{Primary, held, function, absolute, greatest, no-primary, primary, Command, routine-of, absolute-of, greatest-of, input-to, output-of, no-command, command}
 

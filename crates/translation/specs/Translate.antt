@@ -1,17 +1,17 @@
 -- The translation: the code of a tree at an address, in front of the code r that follows it. docs/MACHINE.md has it in words. The end of a tree's
 -- code is worked out by functions of their own, so that every address is known where it is written. Assumes nothing: these are definitions.
-use Prim.Native.Nat.{ℕ, zero, suc, _+_}
-use mathlib.Core.Bool.{Bool, true, false, cond}
+use Prim.Native.Nat.{ℕ, suc, _+_}
+use mathlib.Core.Bool.{Bool, cond}
 use mathlib.Core.List.{List, [], _∷_}
 use mathlib.Core.Option.{Option, none, some}
-use lib.IntN.{ℤ, pos}
+use lib.IntN.{pos}
 use Rattle.machine.specs.Values
 use Rattle.machine.specs.Values.{truth}
 use Rattle.machine.specs.Data.{push, load, store, assign, reserve, forget, receive, send, keep, bump, unary, binary, condition, upto, Fate, kept, gone}
 use Rattle.machine.specs.Instructions.{Loc, lc, Instr, END, DO, IF, JUMP, ENTER, LEAVE, CALL, RETURN, GO, NEXT}
 use Rattle.names.specs.Program.{Name, Sort, Sign, positive, negative, negation, Expression, number, logical, name, call, signed, operated, chosen, nested, Expressions, done, then, count, Element, value, while, step, Statement, dummy, assignment, procedure, when, either, repeat, compound, block, Statements, last, first, Declarations, none as no-more, variables, declare, Procedure, heading}
-use Rattle.names.specs.Scopes.{Thing, variable, routine, formal, Declared, Scope, ofBlock, ofBody, nameOf, sortOf, same, Meaning, declared, given, nothing, meaning}
-use Rattle.rules.specs.Entered.{cellsIn, placeIn, oneIf, declaring, bodyOfThis}
+use Rattle.names.specs.Scopes.{Thing, variable, routine, formal, Scope, ofBlock, ofBody, nameOf, sortOf, same, Meaning, declared, given, nothing, meaning}
+use Rattle.rules.specs.Entered.{cellsIn, placeIn, declaring, bodyOfThis}
 use Rattle.rules.specs.Calls.{Primary, held, function, absolute, greatest, no-primary, primary, Command, routine-of, absolute-of, greatest-of, input-to, output-of, no-command, command}
 use Rattle.rules.specs.Rules.{binaryOf, maxint, at}
 

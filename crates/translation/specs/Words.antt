@@ -1,12 +1,11 @@
 -- The words of instructions: two each, as docs/MACHINE.md lays them down. Assumes nothing: these are definitions.
 use Prim.Native.Nat.{ℕ, _+_, _*_, _<_}
 use mathlib.Core.List.{List, [], _∷_}
-use lib.IntN.{ℤ}
 use lib.Signed.{mag}
 use mir.Syntax.{w32}
 use mir.Val.{ofZ}
 use Rattle.machine.specs.Values.{Unary, minus, negation, absolute, Binary, plus, less, times, over, below, atMost, equal, atLeast, above, unequal, and, or, impl, equiv}
-use Rattle.machine.specs.Data.{Act, push, load, store, assign, reserve, forget, receive, send, keep, bump, unary, binary, Test, condition, upto, Fate, kept, gone}
+use Rattle.machine.specs.Data.{Act, push, load, store, assign, reserve, forget, receive, send, keep, bump, unary, binary, Test, condition, upto, kept, gone}
 use Rattle.machine.specs.Instructions.{Loc, lc, Instr, END, DO, IF, JUMP, ENTER, LEAVE, CALL, RETURN, GO, NEXT, pack}
 
 -- ---- an instruction is its operation, its place and its operand

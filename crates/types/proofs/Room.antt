@@ -1,15 +1,15 @@
 -- A node takes no more room than one place on each stack, one row and one actual more: so behind i nodes there is room for i.
-use mathlib.Core.Path.{_≡_, refl, sym, subst}
-use mathlib.Core.Bool.{Bool, true, false, cond, not, _||_}
+use mathlib.Core.Path.{_≡_, refl}
+use mathlib.Core.Bool.{Bool, true, false, cond, _||_}
 use mathlib.Core.List.{List, [], _∷_}
-use Prim.Native.Nat.{ℕ, zero, suc, _+_, _≤_}
+use Prim.Native.Nat.{ℕ, _+_, _≤_}
 use native.Mathlib.Omega.{arith}
 use lib.Dec.{eqb}
 use lib.ListN.{length}
 use Rattle.grammar.specs.NodeKinds.{n-variable, n-procedure, n-formal, n-procedure-end, n-then, n-while, n-start, n-amount, n-left, n-assign, n-condition-end, n-unary, n-binary, n-number, n-logical, n-use, n-call, n-call-end, n-actual}
-use Rattle.names.specs.Rows.{isUse, meantOf}
+use Rattle.names.specs.Rows.{isUse}
 use Rattle.types.specs.declared.Judgement.{Judgement}
-use Rattle.types.specs.Passes.{State, Call, noted, withStack, withCalls, withBodies, withRows, withLeft, withBare, withUse, below, pushed, popped, takenAs, signedAs, operatedAs, chosenAs, assignedAs, nextUse, judged, calledAs, oneMore, plainTyped, namedAs, leftAs, leftOf, useTyped, actualIn, callEnded, typeNode}
+use Rattle.types.specs.Passes.{State, Call, noted, withStack, withCalls, withBodies, withRows, withLeft, withBare, withUse, below, pushed, popped, takenAs, signedAs, operatedAs, chosenAs, assignedAs, nextUse, judged, calledAs, oneMore, plainTyped, namedAs, leftAs, useTyped, actualIn, callEnded, typeNode}
 use Rattle.types.specs.Model.{Within, CountsWithin}
 
 module _ (i : ℕ) where

@@ -1,6 +1,5 @@
 -- How the arrays of the code hold what Passes speaks of, and what the functions need of them. No part of the paper.
 use Prim.Native.Nat.{ℕ, zero, suc, _+_, _*_, _≤_, _<_}
-use mathlib.Core.Path.{_≡_}
 use mathlib.Core.List.{List, [], _∷_}
 use lib.ListN.{length, getD, drop}
 use Rattle.names.specs.Rows.{opensOf}

@@ -1,12 +1,12 @@
 -- How the pass of this crate works: the nodes with a stack of types. This is the model of the code and no part of the paper; proofs/ has that
 -- it comes to what Types says. A type is a number: 0 none, 1 integer, 2 Boolean.
-use Prim.Native.Nat.{ℕ, zero, suc, _+_, _*_, _-_}
+use Prim.Native.Nat.{ℕ, suc, _+_, _*_, _-_}
 use mathlib.Core.Bool.{Bool, true, false, cond, not, _&&_, _||_}
 use mathlib.Core.List.{List, [], _∷_}
 use lib.Dec.{eqb, leb, ltb}
-use lib.ListN.{length, getD, drop}
+use lib.ListN.{getD, drop}
 use Rattle.answers.specs.Numbers.{types}
-use Rattle.grammar.specs.NodeKinds.{n-variable, n-procedure, n-formal, n-specified, n-procedure-end, n-then, n-for, n-start, n-while, n-amount, n-left, n-assign, n-condition-end, n-unary, n-binary, n-number, n-logical, n-use, n-call, n-call-end, n-actual}
+use Rattle.grammar.specs.NodeKinds.{n-variable, n-procedure, n-formal, n-specified, n-procedure-end, n-then, n-start, n-while, n-amount, n-left, n-assign, n-condition-end, n-unary, n-binary, n-number, n-logical, n-use, n-call, n-call-end, n-actual}
 use Rattle.names.specs.Rows.{foldNodes, identityIn, findRow, markedIn, isUse, meantOf, noFault, notedIf}
 use Rattle.names.specs.declared.Meant.{Meant}
 use Rattle.names.specs.declared.Meant.the-variants.{Declared, Given, Nothing}

@@ -1,14 +1,14 @@
 -- Paper 01, "Names and types": "Types are local: an operator, number, logical value or name gives its own type, and a conditional expression the
 -- type of its 'then' part." The type faults of a program, each at a symbol.
 use Prim.Native.Nat.{ℕ, zero, suc}
-use mathlib.Core.Bool.{Bool, true, false, cond, not, _&&_, _||_}
+use mathlib.Core.Bool.{Bool, true, false, cond, not, _||_}
 use mathlib.Core.List.{List, [], _∷_, _++_, map}
 use mathlib.Core.Option.{Option, none, some}
 use lib.Dec.{eqb}
 use lib.ListN.{length}
 use Rattle.answers.specs.Numbers.{types}
 use Rattle.names.specs.Program.{Name, Sort, integer, boolean, Sign, positive, negative, negation, Operator, times, over, plus, minus, less, atMost, equal, atLeast, greater, unequal, and, or, impl, equiv, Expression, number, logical, name, call, signed, operated, chosen, nested, Expressions, done, then, count, Element, value, while, step, Statement, dummy, assignment, procedure, when, either, repeat, compound, block, Statements, last, first, Declarations, none as no-more, variables, declare, Procedure, heading, firstSymbol}
-use Rattle.names.specs.Scopes.{Thing, variable, routine, formal, Declared, nameOf, sortOf, formalsOf, specificationsOf, specified, Scope, ofBlock, ofBody, Wanted, an, variable-of, Given, Meaning, declared, given, nothing, meaning}
+use Rattle.names.specs.Scopes.{Thing, variable, routine, formal, nameOf, sortOf, formalsOf, specificationsOf, specified, Scope, ofBlock, ofBody, Wanted, an, variable-of, Meaning, declared, given, nothing, meaning}
 use Rattle.names.specs.Uses.{Fault, least}
 
 -- ---- types that are known, and those that are not: what has none "causes no other fault"

@@ -1,16 +1,14 @@
 // The nodes with a stack of types.
-use crate::Judgement;
 use crate::Seen;
 use crate::Want;
 use crate::meanings;
 use crate::sorts;
 use answers::Answer;
 use grammar::nodes;
-use names::Meant;
 use names::faults;
 use names::uses::meant;
 ghost use mathlib.Core.Path.{_≡_};
-ghost use mathlib.Core.List.{List, [], _∷_};
+ghost use mathlib.Core.List.{List, _∷_};
 ghost use Prim.Native.Nat.{ℕ, _+_, _*_, _≤_, _<_};
 ghost use lib.Dec.{eqb};
 ghost use lib.ListN.{length, drop};

@@ -1,7 +1,6 @@
 -- `pages::name_end` meets its contract. The end is between the start and the length.
 -- Assumes nothing.
-use Prim.Native.Nat.{ℕ, _+_, _-_, _≤_, _<_}
-use native.Mathlib.Omega.{arith}
+use Prim.Native.Nat.{_-_, _≤_}
 use borrow.Author.Needs.{needs}
 use lib.ListN.{length}
 use Rattle.pages.proofs.name_end.Statement.{statement}

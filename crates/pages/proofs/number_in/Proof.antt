@@ -1,9 +1,7 @@
 -- `pages::number_in` meets its contract. The number stays small.
 -- Assumes nothing.
-use Prim.Native.Nat.{ℕ, _+_, _-_, _≤_, _<_}
-use native.Mathlib.Omega.{arith}
+use Prim.Native.Nat.{_-_, _<_}
 use borrow.Author.Needs.{needs}
-use lib.ListN.{length}
 use Rattle.pages.proofs.number_in.Statement.{statement}
 use Rattle.pages.proofs.number_in.Tie as tie
 

@@ -1,7 +1,6 @@
 -- `pages::run_rows` meets its contract. A row is within the index, and there are fewer rows than bytes.
 -- Assumes nothing.
-use Prim.Native.Nat.{ℕ, _+_, _-_, _≤_, _<_}
-use native.Mathlib.Omega.{arith}
+use Prim.Native.Nat.{_-_, _≤_}
 use borrow.Author.Needs.{needs}
 use lib.ListN.{length}
 use Rattle.pages.proofs.run_rows.Statement.{statement}

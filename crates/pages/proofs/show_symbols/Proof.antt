@@ -1,9 +1,7 @@
 -- `pages::show_symbols` meets its contract. Each index is tested.
 -- Assumes nothing.
-use Prim.Native.Nat.{ℕ, _+_, _-_, _≤_, _<_}
-use native.Mathlib.Omega.{arith}
+use Prim.Native.Nat.{_-_}
 use borrow.Author.Needs.{needs}
-use lib.ListN.{length}
 use Rattle.pages.proofs.show_symbols.Statement.{statement}
 use Rattle.pages.proofs.show_symbols.Tie as tie
 

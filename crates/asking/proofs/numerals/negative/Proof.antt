@@ -1,6 +1,6 @@
 -- `asking::numerals::negative` meets its contract. 0 less a magnitude up to 2,147,483,648 is its negative, in 64 bits and in 32.
 -- Assumes nothing.
-use mathlib.Core.Path.{_≡_, refl, sym, ap, _∙_}
+use mathlib.Core.Path.{sym}
 use mir.Facts.{toZ-ofZ}
 use borrow.Author.Needs.{needs}
 use Rattle.asking.specs.Numerals.{negated, within}

@@ -1,6 +1,6 @@
 -- `asking::numerals::positive` meets its contract. A magnitude up to 2,147,483,647 is the whole number itself.
 -- Assumes nothing.
-use mathlib.Core.Path.{_≡_, refl, sym, ap, _∙_}
+use mathlib.Core.Path.{sym}
 use native.Mathlib.Omega.{arith}
 use mir.Syntax.{w32}
 use mir.Facts.{toZ-pos}

@@ -1,6 +1,6 @@
 -- `asking::options::behind` meets its contract. Behind an option the next word is its number, or nothing is left.
 -- Assumes nothing.
-use mathlib.Core.Path.{_≡_, refl, sym, ap, _∙_}
+use mathlib.Core.Path.{sym, _∙_}
 use native.Mathlib.Omega.{arith}
 use borrow.Author.Needs.{needs}
 use Rattle.asking.proofs.Choices.{asked-others}

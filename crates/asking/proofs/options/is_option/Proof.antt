@@ -1,7 +1,6 @@
 -- `asking::options::is_option` meets its contract. Each test has told whether the word is that option.
 -- Assumes nothing.
 use mathlib.Core.Path.{sym, _∙_}
-use mathlib.Core.Bool.{or-true}
 use borrow.Author.Needs.{needs}
 use Rattle.asking.specs.Options.{isOption}
 use Rattle.asking.proofs.options.is_option.Statement.{statement}

@@ -1,6 +1,6 @@
 -- `asking::sizes::number_from` meets its contract. The next word is the first that is asked; an empty one is no number.
 -- Assumes nothing.
-use mathlib.Core.Path.{_≡_, sym, _∙_}
+use mathlib.Core.Path.{_∙_}
 use borrow.Author.Needs.{needs}
 use Rattle.asking.proofs.Choices.{number-first}
 use Rattle.asking.proofs.sizes.number_from.Statement.{statement}

@@ -1,6 +1,6 @@
 -- `asking::sizes::sizes_in` meets its contract. Each arm has told what the enum holds, and the tests that it is within what there is.
 -- Assumes nothing.
-use mathlib.Core.Path.{_≡_, refl, sym, _∙_}
+use mathlib.Core.Path.{sym}
 use borrow.Author.Needs.{needs}
 use Rattle.asking.specs.Options.{together}
 use Rattle.asking.proofs.Choices.{sizes-cells, sizes-room, sizes-are}

@@ -1,6 +1,6 @@
 -- `asking::sizes::sizes_of` meets its contract. By what the callees tell of the three options.
 -- Assumes nothing.
-use mathlib.Core.Path.{_≡_, _∙_}
+use mathlib.Core.Path.{_∙_}
 use borrow.Author.Needs.{needs}
 use Rattle.asking.specs.Options.{sizesOf}
 use Rattle.asking.proofs.sizes.sizes_of.Statement.{statement}

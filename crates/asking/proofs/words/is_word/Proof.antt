@@ -1,6 +1,6 @@
 -- `asking::words::is_word` meets its contract. The tests place the part within the line; then its bytes are compared.
 -- Assumes nothing.
-use mathlib.Core.Path.{_≡_, sym, _∙_}
+use mathlib.Core.Path.{sym, _∙_}
 use borrow.Author.Needs.{needs}
 use Rattle.asking.proofs.Lines.{part-here, part-turned, part-outside}
 use Rattle.asking.proofs.words.is_word.Statement.{statement}

@@ -1,6 +1,6 @@
 -- `asking::words::unblank` meets its contract. By what `is_blank` tells.
 -- Assumes nothing.
-use mathlib.Core.Path.{_≡_, sym, _∙_}
+use mathlib.Core.Path.{sym, _∙_}
 use borrow.Author.Needs.{needs}
 use Rattle.asking.specs.Words.{unblanked}
 use Rattle.asking.proofs.words.unblank.Statement.{statement}

@@ -1,6 +1,5 @@
 -- `asking::words::word_from` meets its contract. The zeros and the bytes before the next zero are no more than the line has left.
 -- Assumes nothing.
-use mathlib.Core.Path.{_≡_, refl, sym, ap, _∙_}
 use native.Mathlib.Omega.{arith}
 use lib.ListN.{length, drop, length-drop}
 use borrow.Author.Needs.{needs}

@@ -4,8 +4,6 @@ use Rattle.reading.proofs.Stages.{place-behind}
 use borrow.Author.Needs.{needs}
 use Rattle.reading.proofs.reading.place_at.Statement.{statement}
 use Rattle.reading.proofs.reading.place_at.Tie as tie
-use Rattle.reading.proofs.reading.place_at.Reads as reads
-use Rattle.reading.proofs.reading.place_at.Lts as lts
 
 mul-result : tie.Need-mul-result
 mul-result c = search needs

@@ -5,10 +5,6 @@ use Rattle.answers.specs.declared.Verdict.the-variants.{Refused}
 use borrow.Author.Needs.{needs}
 use Rattle.reading.proofs.reading.refused.Statement.{statement}
 use Rattle.reading.proofs.reading.refused.Tie as tie
-use Rattle.reading.proofs.reading.refused.Reads as reads
-use Rattle.reading.proofs.reading.refused.Lts as lts
-use Rattle.answers.proofs.Refusal.new.Reads as new-reads
-use Rattle.reading.proofs.reading.place_at.Reads as place-at-reads
 
 place-at-requires : tie.Need-place-at-requires
 place-at-requires c κs = search needs

@@ -1,11 +1,11 @@
 -- `symbols::lexemes::joined` meets its contract. What stands behind the blanks is what stands where they end.
 -- Assumes nothing.
 use borrow.Author.Needs.{needs}
-use mathlib.Core.Path.{_≡_, refl, sym, ap, _∙_}
-use Prim.Native.Nat.{ℕ, _+_, _-_, _≤_, _<_}
+use mathlib.Core.Path.{_≡_, sym, ap, _∙_}
+use Prim.Native.Nat.{ℕ, _+_, _-_}
 use native.Mathlib.Omega.{arith}
-use borrow.Author.Tests.{lt-ltb, le-ltb, eq-eqb, ne-eqb, le-leb, lt-leb, not-true, not-false}
-use lib.ListN.{length, getD, take, drop}
+use borrow.Author.Tests.{ne-eqb}
+use lib.ListN.{getD, drop}
 use lib.ListN.{List·getD-eq-default}
 use lib.Seq.{getD-drop}
 use Rattle.symbols.specs.Scan.{gap, followed}

@@ -1,14 +1,14 @@
 -- `symbols::lexemes::name` meets its contract. The letters and digits so far and those from i on are the name's, and so are the bytes passed.
 -- Assumes nothing.
 use mathlib.Core.Path.{_≡_, refl, sym, ap, _∙_}
-use Prim.Native.Nat.{ℕ, _+_, _-_, _≤_, _<_}
+use Prim.Native.Nat.{_+_, _-_, _≤_}
 use native.Mathlib.Omega.{arith}
-use borrow.Author.Tests.{lt-ltb, le-ltb, eq-eqb, ne-eqb, le-leb, lt-leb, not-true, not-false}
+use borrow.Author.Tests.{not-true, not-false}
 use lib.ListN.{length, getD, drop}
 use borrow.Author.Needs.{needs}
 use mathlib.Core.List.{_∷_}
 use mathlib.Core.Logic.{⊎-elim}
-use Rattle.symbols.specs.Names.{letter, inName, these, reach, letters}
+use Rattle.symbols.specs.Names.{inName, reach, letters}
 use Rattle.symbols.specs.Scan.{sized, name}
 use Rattle.symbols.proofs.Laws.{these-one, these-on, these-stop, these-end, reach-one, reach-on, reach-stop, reach-end, name-first}
 use Rattle.symbols.proofs.lexemes.name.Statement.{statement}

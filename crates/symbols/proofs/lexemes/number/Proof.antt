@@ -1,10 +1,10 @@
 -- `symbols::lexemes::number` meets its contract. The value so far and the digits from i on make the number, up to the cap; the bytes passed are its bytes.
 -- Assumes nothing.
 use mathlib.Core.Path.{_≡_, refl, sym, ap, _∙_}
-use Prim.Native.Nat.{ℕ, _+_, _-_, _≤_, _<_}
+use Prim.Native.Nat.{ℕ, _+_, _-_, _≤_}
 use native.Mathlib.Omega.{arith}
-use borrow.Author.Tests.{lt-ltb, le-ltb, eq-eqb, ne-eqb, le-leb, lt-leb, not-true, not-false}
-use lib.ListN.{length, getD, take, drop}
+use borrow.Author.Tests.{not-true, not-false}
+use lib.ListN.{length, getD, drop}
 use borrow.Author.Needs.{needs}
 use Prim.Native.Nat.{_*_}
 use mathlib.Core.List.{List, _∷_}
@@ -12,7 +12,7 @@ use mathlib.Core.Logic.{⊎-elim}
 use Rattle.symbols.specs.Names.{digit, these, reach, value, valueFrom}
 use Rattle.symbols.specs.Scan.{valued, number}
 use Rattle.symbols.specs.Steps.{capped}
-use Rattle.symbols.proofs.Laws.{these-one, these-on, these-stop, these-end, reach-one, reach-on, reach-stop, reach-end, number-first, number-more, number-done, capped-small}
+use Rattle.symbols.proofs.Laws.{these-on, these-stop, these-end, reach-one, reach-on, reach-stop, reach-end, number-first, number-more, number-done, capped-small}
 use Rattle.symbols.proofs.lexemes.number.Statement.{statement}
 use Rattle.symbols.proofs.lexemes.number.Tie as tie
 

@@ -1,7 +1,7 @@
 -- `symbols::lexemes::sign` meets its contract. Each arm has told the byte; the last, that it begins no sign.
 -- Assumes nothing.
 use borrow.Author.Needs.{needs}
-use borrow.Author.Tests.{lt-ltb, le-ltb, eq-eqb, ne-eqb, le-leb, lt-leb, not-true, not-false}
+use borrow.Author.Tests.{ne-eqb}
 use Rattle.symbols.specs.Scan.{sign}
 use Rattle.symbols.specs.Steps.{joinedOf}
 use borrow.Author.Needs.{needs}

@@ -1,6 +1,6 @@
 -- `symbols::lexemes::valued` meets its contract. By its test.
 -- Assumes nothing.
-use borrow.Author.Tests.{lt-ltb, le-ltb, eq-eqb, ne-eqb, le-leb, lt-leb, not-true, not-false}
+use borrow.Author.Tests.{lt-ltb, le-ltb}
 use Rattle.symbols.specs.Scan.{valued}
 use Rattle.symbols.proofs.lexemes.valued.Statement.{statement}
 use Rattle.symbols.proofs.lexemes.valued.Tie as tie

@@ -1,7 +1,6 @@
 -- `symbols::lexemes::with_digit` meets its contract. The cap is a minimum.
 -- Assumes nothing.
-use mathlib.Core.Path.{_≡_, refl, sym, ap, _∙_}
-use Prim.Native.Nat.{ℕ, _+_, _-_, _≤_, _<_}
+use Prim.Native.Nat.{_-_}
 use native.Mathlib.Omega.{arith}
 use Rattle.symbols.specs.Steps.{capped}
 use Rattle.symbols.proofs.Laws.{digit-range}

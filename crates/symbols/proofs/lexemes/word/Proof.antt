@@ -1,12 +1,11 @@
 -- `symbols::lexemes::word` meets its contract. The bytes between the apostrophes are those before the next one.
 -- Assumes nothing.
 use borrow.Author.Needs.{needs}
-use mathlib.Core.Path.{_≡_, refl, sym, ap, _∙_}
+use mathlib.Core.Path.{_≡_, sym, ap, _∙_}
 use Prim.Native.Nat.{ℕ, _+_, _-_, _≤_, _<_}
 use native.Mathlib.Omega.{arith}
-use borrow.Author.Tests.{lt-ltb, le-ltb, eq-eqb, ne-eqb, le-leb, lt-leb, not-true, not-false}
-use lib.ListN.{length, getD, take, drop}
-use mathlib.Core.List.{List}
+use borrow.Author.Tests.{lt-ltb, le-ltb}
+use lib.ListN.{length, take, drop}
 use lib.ListN.{length-drop}
 use Rattle.symbols.specs.Symbols.{words}
 use Rattle.symbols.specs.Scan.{before, closed, spelled, named, word}

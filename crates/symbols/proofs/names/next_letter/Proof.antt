@@ -1,13 +1,12 @@
 -- `symbols::names::next_letter` meets its contract. From i on the same letters are left as from `from` on.
 -- Assumes nothing.
-use mathlib.Core.Path.{_≡_, refl, sym, ap, _∙_}
-use Prim.Native.Nat.{ℕ, _+_, _-_, _≤_, _<_}
+use mathlib.Core.Path.{_≡_, refl, sym, _∙_}
+use Prim.Native.Nat.{_-_, _≤_}
 use native.Mathlib.Omega.{arith}
-use borrow.Author.Tests.{lt-ltb, le-ltb, eq-eqb, ne-eqb, le-leb, lt-leb, not-true, not-false}
-use lib.ListN.{length, getD, take, drop}
+use borrow.Author.Tests.{not-true, not-false}
+use lib.ListN.{length, drop}
 use borrow.Author.Needs.{needs}
 use Rattle.symbols.specs.Names.{inName, letters}
-use Rattle.symbols.specs.Steps.{restAt}
 use Rattle.symbols.proofs.Laws.{these-one, these-on, these-stop, these-end, rest-on, rest-off}
 use Rattle.symbols.proofs.names.next_letter.Statement.{statement}
 use Rattle.symbols.proofs.names.next_letter.Tie as tie

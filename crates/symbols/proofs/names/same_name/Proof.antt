@@ -1,15 +1,14 @@
 -- `symbols::names::same_name` meets its contract. Whether what is left of the two names is equal is whether the names are.
 -- Assumes nothing.
 use mathlib.Core.Path.{_≡_, refl, sym, ap, _∙_}
-use Prim.Native.Nat.{ℕ, _+_, _-_, _≤_, _<_}
+use Prim.Native.Nat.{ℕ, _-_, _≤_}
 use native.Mathlib.Omega.{arith}
-use borrow.Author.Tests.{lt-ltb, le-ltb, eq-eqb, ne-eqb, le-leb, lt-leb, not-true, not-false}
-use lib.ListN.{length, getD, take, drop}
+use lib.ListN.{length, drop}
 use borrow.Author.Needs.{needs}
 use mathlib.Core.List.{List}
 use Rattle.symbols.specs.Names.{letters, equal, sameName}
 use Rattle.symbols.specs.Steps.{restAt}
-use Rattle.symbols.proofs.Laws.{rest-on, rest-off, rests-apart, rests-differ, rests-on, rests-end}
+use Rattle.symbols.proofs.Laws.{rests-apart, rests-differ, rests-on, rests-end}
 use Rattle.symbols.proofs.names.same_name.Statement.{statement}
 use Rattle.symbols.proofs.names.same_name.Tie as tie
 

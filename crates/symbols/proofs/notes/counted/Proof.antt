@@ -1,10 +1,8 @@
 -- `symbols::notes::counted` meets its contract. Where room is left the symbol counts.
 -- Assumes nothing.
 use borrow.Author.Needs.{needs}
-use mathlib.Core.Path.{_≡_, refl, sym, ap, _∙_}
-use Prim.Native.Nat.{ℕ, _+_, _-_, _≤_, _<_}
-use native.Mathlib.Omega.{arith}
-use Rattle.symbols.specs.Scan.{counted}
+use mathlib.Core.Path.{sym}
+use Prim.Native.Nat.{_-_}
 use Rattle.symbols.proofs.Laws.{counted-none, counted-some}
 use borrow.Author.Needs.{needs}
 use Rattle.symbols.proofs.notes.counted.Statement.{statement}

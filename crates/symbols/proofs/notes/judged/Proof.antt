@@ -1,10 +1,8 @@
 -- `symbols::notes::judged` meets its contract. The context has been told, and then the test.
 -- Assumes nothing.
 use borrow.Author.Needs.{needs}
-use mathlib.Core.Path.{_≡_, refl, sym, ap, _∙_}
-use Prim.Native.Nat.{ℕ, _+_, _-_, _≤_, _<_}
-use native.Mathlib.Omega.{arith}
-use borrow.Author.Tests.{lt-ltb, le-ltb, eq-eqb, ne-eqb, le-leb, lt-leb, not-true, not-false}
+use mathlib.Core.Path.{sym, _∙_}
+use Prim.Native.Nat.{_-_}
 use Rattle.symbols.specs.Scan.{judged}
 use borrow.Author.Needs.{needs}
 use Rattle.symbols.proofs.notes.judged.Statement.{statement}

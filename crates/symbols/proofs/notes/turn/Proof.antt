@@ -3,14 +3,14 @@
 use borrow.Author.Needs.{needs}
 use mathlib.Core.Path.{subst}
 use Rattle.symbols.specs.declared.Lexeme.{Lexeme}
-use mathlib.Core.Path.{_≡_, refl, sym, ap, _∙_}
-use Prim.Native.Nat.{ℕ, _+_, _-_, _≤_, _<_}
+use mathlib.Core.Path.{sym, _∙_}
+use Prim.Native.Nat.{_+_, _-_}
 use native.Mathlib.Omega.{arith}
-use borrow.Author.Tests.{lt-ltb, le-ltb, eq-eqb, ne-eqb, le-leb, lt-leb, not-true, not-false}
-use lib.ListN.{length, getD, take, drop}
+use borrow.Author.Tests.{lt-ltb, le-ltb}
+use lib.ListN.{length, getD, drop}
 use lib.ListN.{length-drop}
 use Rattle.symbols.specs.Scan.{lexeme, turn, judged}
-use Rattle.symbols.specs.Steps.{lexemeAt, turnAt}
+use Rattle.symbols.specs.Steps.{turnAt}
 use Rattle.symbols.proofs.Laws.{lexeme-here, judged-large, judged-nothing}
 use Rattle.symbols.proofs.Within.{Fits, fits-lexeme}
 use borrow.Author.Needs.{needs}

@@ -2,10 +2,10 @@
 -- Assumes nothing.
 use borrow.Author.Needs.{needs}
 use mathlib.Core.Path.{subst}
-use mathlib.Core.Path.{_≡_, refl, sym, ap, _∙_}
-use Prim.Native.Nat.{ℕ, _+_, _-_, _≤_, _<_}
+use mathlib.Core.Path.{sym, _∙_}
+use Prim.Native.Nat.{_-_}
 use native.Mathlib.Omega.{arith}
-use lib.ListN.{length, getD, take, drop}
+use lib.ListN.{length}
 use Rattle.symbols.proofs.Resume.{Onward, onward}
 use Rattle.symbols.proofs.Filling.{SoFar, begun, read-on, passed-on, refused-here, ended-here, lasting}
 use Rattle.symbols.proofs.scanning.fill.Statement.{statement}

@@ -2,15 +2,14 @@
 -- Assumes nothing.
 use borrow.Author.Needs.{needs}
 use mathlib.Core.Path.{subst}
-use Rattle.symbols.specs.declared.Turn.{Turn}
-use mathlib.Core.Path.{_≡_, refl, sym, ap, _∙_}
-use Prim.Native.Nat.{ℕ, _+_, _-_, _≤_, _<_}
+use mathlib.Core.Path.{sym, _∙_}
+use Prim.Native.Nat.{_+_, _-_}
 use native.Mathlib.Omega.{arith}
-use borrow.Author.Tests.{lt-ltb, le-ltb, eq-eqb, ne-eqb, le-leb, lt-leb, not-true, not-false}
-use lib.ListN.{length, getD, take, drop}
+use borrow.Author.Tests.{lt-ltb, le-ltb}
+use lib.ListN.{length, getD, drop}
 use lib.ListN.{length-drop}
 use Rattle.symbols.specs.Scan.{turn}
-use Rattle.symbols.specs.Steps.{turnAt, stepOf, stepAt}
+use Rattle.symbols.specs.Steps.{stepOf, stepAt}
 use Rattle.symbols.proofs.Laws.{turn-here}
 use Rattle.symbols.proofs.Within.{Stays, stays}
 use borrow.Author.Needs.{needs}

@@ -1,6 +1,6 @@
 -- `symbols::text::is_blank` meets its contract. Each arm has told the byte; the last, that it is none of the four.
 -- Assumes nothing.
-use borrow.Author.Tests.{lt-ltb, le-ltb, eq-eqb, ne-eqb, le-leb, lt-leb, not-true, not-false}
+use borrow.Author.Tests.{ne-eqb}
 use Rattle.symbols.specs.Names.{blank}
 use Rattle.symbols.proofs.text.is_blank.Statement.{statement}
 use Rattle.symbols.proofs.text.is_blank.Tie as tie

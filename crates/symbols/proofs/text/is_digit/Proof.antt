@@ -1,6 +1,6 @@
 -- `symbols::text::is_digit` meets its contract. The tests place the byte.
 -- Assumes nothing.
-use borrow.Author.Tests.{lt-ltb, le-ltb, eq-eqb, ne-eqb, le-leb, lt-leb, not-true, not-false}
+use borrow.Author.Tests.{le-leb, lt-leb}
 use Rattle.symbols.specs.Names.{digit}
 use Rattle.symbols.proofs.text.is_digit.Statement.{statement}
 use Rattle.symbols.proofs.text.is_digit.Tie as tie

@@ -1,9 +1,8 @@
 -- `symbols::text::is_letter` meets its contract. The tests place the byte among the two ranges.
 -- Assumes nothing.
-use mathlib.Core.Path.{_≡_, refl, sym, ap, _∙_}
-use Prim.Native.Nat.{ℕ, _+_, _-_, _≤_, _<_}
+use Prim.Native.Nat.{_-_, _≤_, _<_}
 use native.Mathlib.Omega.{arith}
-use borrow.Author.Tests.{lt-ltb, le-ltb, eq-eqb, ne-eqb, le-leb, lt-leb, not-true, not-false}
+use borrow.Author.Tests.{le-leb, lt-leb}
 use mathlib.Core.Bool.{or-false}
 use Rattle.symbols.specs.Names.{letter}
 use Rattle.symbols.proofs.text.is_letter.Statement.{statement}

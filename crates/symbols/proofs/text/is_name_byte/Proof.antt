@@ -1,8 +1,7 @@
 -- `symbols::text::is_name_byte` meets its contract. By what the two callees tell.
 -- Assumes nothing.
-use mathlib.Core.Path.{_≡_, refl, sym, ap, _∙_}
-use Prim.Native.Nat.{ℕ, _+_, _-_, _≤_, _<_}
-use native.Mathlib.Omega.{arith}
+use mathlib.Core.Path.{sym, _∙_}
+use Prim.Native.Nat.{_-_}
 use Rattle.symbols.specs.Names.{inName}
 use borrow.Author.Needs.{needs}
 use Rattle.symbols.proofs.text.is_name_byte.Statement.{statement}

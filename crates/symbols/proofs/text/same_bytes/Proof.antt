@@ -1,9 +1,8 @@
 -- `symbols::text::same_bytes` meets its contract. Whether the rest from i on is equal is whether all is.
 -- Assumes nothing.
-use mathlib.Core.Path.{_≡_, refl, sym, ap, _∙_}
-use Prim.Native.Nat.{ℕ, _+_, _-_, _≤_, _<_}
+use mathlib.Core.Path.{_≡_, refl, sym, _∙_}
+use Prim.Native.Nat.{_-_}
 use native.Mathlib.Omega.{arith}
-use borrow.Author.Tests.{lt-ltb, le-ltb, eq-eqb, ne-eqb, le-leb, lt-leb, not-true, not-false}
 use lib.ListN.{length, drop}
 use Rattle.symbols.specs.Names.{equal}
 use Rattle.symbols.proofs.Laws.{equal-on, equal-off, equal-end, equal-length}

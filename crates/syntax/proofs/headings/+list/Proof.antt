@@ -8,7 +8,6 @@ use Rattle.grammar.specs.Grammar.{put}
 use Rattle.grammar.specs.Tables.{choose}
 use Rattle.grammar.specs.Run.{now}
 use Rattle.grammar.specs.Text.{text}
-use Rattle.syntax.specs.Says.{left}
 use Rattle.grammar.proofs.Peeks.{inside, is-at, is-not, but}
 use Rattle.syntax.proofs.Lemmas.{put-as, s-end, s-sy, s-no, s-put, s-prod, s-last}
 use Rattle.grammar.specs.Grammar as G

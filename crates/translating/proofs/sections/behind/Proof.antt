@@ -9,8 +9,6 @@ use lib.Seq.{take-all}
 use borrow.Author.Needs.{needs}
 use Rattle.translating.proofs.sections.behind.Statement.{statement}
 use Rattle.translating.proofs.sections.behind.Tie as tie
-use Rattle.translating.proofs.sections.behind.Reads as reads
-use Rattle.translating.proofs.sections.behind.Lts as lts
 
 mul-result : tie.Need-mul-result
 mul-result c = search needs

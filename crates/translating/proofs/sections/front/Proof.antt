@@ -8,8 +8,6 @@ use lib.Seq.{length-take-le, take-all}
 use borrow.Author.Needs.{needs}
 use Rattle.translating.proofs.sections.front.Statement.{statement}
 use Rattle.translating.proofs.sections.front.Tie as tie
-use Rattle.translating.proofs.sections.front.Reads as reads
-use Rattle.translating.proofs.sections.front.Lts as lts
 
 slice-aggregate-result : tie.Need-slice-aggregate-result
 slice-aggregate-result c =

@@ -7,10 +7,6 @@ use Rattle.grammar.specs.TableParts.{rowsAt, nodesAt}
 use borrow.Author.Needs.{needs}
 use Rattle.translating.proofs.sections.nodes_at.Statement.{statement}
 use Rattle.translating.proofs.sections.nodes_at.Tie as tie
-use Rattle.translating.proofs.sections.nodes_at.Reads as reads
-use Rattle.translating.proofs.sections.nodes_at.Lts as lts
-use Rattle.translating.proofs.sections.rows_at.Reads as rows-at-reads
-use Rattle.translating.proofs.sections.word.Reads as word-reads
 
 rows-at-requires : tie.Need-rows-at-requires
 rows-at-requires c κs = search needs

@@ -7,12 +7,6 @@ use Rattle.grammar.specs.TableParts.{part, nodesAt, nodesIn}
 use borrow.Author.Needs.{needs}
 use Rattle.translating.proofs.sections.nodes_in.Statement.{statement}
 use Rattle.translating.proofs.sections.nodes_in.Tie as tie
-use Rattle.translating.proofs.sections.nodes_in.Reads as reads
-use Rattle.translating.proofs.sections.nodes_in.Lts as lts
-use Rattle.translating.proofs.sections.behind.Reads as behind-reads
-use Rattle.translating.proofs.sections.front.Reads as front-reads
-use Rattle.translating.proofs.sections.nodes_at.Reads as nodes-at-reads
-use Rattle.translating.proofs.sections.word.Reads as word-reads
 
 nodes-at-requires : tie.Need-nodes-at-requires
 nodes-at-requires c κs = search needs

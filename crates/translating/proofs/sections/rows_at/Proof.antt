@@ -6,9 +6,6 @@ use Rattle.grammar.specs.TableParts.{rowsAt}
 use borrow.Author.Needs.{needs}
 use Rattle.translating.proofs.sections.rows_at.Statement.{statement}
 use Rattle.translating.proofs.sections.rows_at.Tie as tie
-use Rattle.translating.proofs.sections.rows_at.Reads as reads
-use Rattle.translating.proofs.sections.rows_at.Lts as lts
-use Rattle.translating.proofs.sections.word.Reads as word-reads
 
 word-requires : tie.Need-word-requires
 word-requires c κs = search needs

@@ -7,11 +7,6 @@ use Rattle.grammar.specs.TableParts.{part, usesIn}
 use borrow.Author.Needs.{needs}
 use Rattle.translating.proofs.sections.uses_in.Statement.{statement}
 use Rattle.translating.proofs.sections.uses_in.Tie as tie
-use Rattle.translating.proofs.sections.uses_in.Reads as reads
-use Rattle.translating.proofs.sections.uses_in.Lts as lts
-use Rattle.translating.proofs.sections.behind.Reads as behind-reads
-use Rattle.translating.proofs.sections.front.Reads as front-reads
-use Rattle.translating.proofs.sections.word.Reads as word-reads
 
 word-requires : tie.Need-word-requires
 word-requires c κs = search needs

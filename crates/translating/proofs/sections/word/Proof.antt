@@ -5,8 +5,6 @@ use lib.ListN.{List·getD-eq-default}
 use borrow.Author.Needs.{needs}
 use Rattle.translating.proofs.sections.word.Statement.{statement}
 use Rattle.translating.proofs.sections.word.Tie as tie
-use Rattle.translating.proofs.sections.word.Reads as reads
-use Rattle.translating.proofs.sections.word.Lts as lts
 
 mul-result : tie.Need-mul-result
 mul-result c = search needs

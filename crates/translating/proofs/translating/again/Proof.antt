@@ -1,9 +1,6 @@
 use borrow.Author.Needs.{needs}
 use Rattle.translating.proofs.translating.again.Statement.{statement}
 use Rattle.translating.proofs.translating.again.Tie as tie
-use Rattle.translating.proofs.translating.again.Reads as reads
-use Rattle.translating.proofs.translating.again.Lts as lts
-use Rattle.emitting.proofs.emission.emit.Reads as emit-reads
 
 slice-aggregate-emit : tie.Need-slice-aggregate-emit
 slice-aggregate-emit c = search needs

@@ -8,12 +8,6 @@ use Rattle.translating.proofs.Sectioned.{nodes-few}
 use borrow.Author.Needs.{needs}
 use Rattle.translating.proofs.translating.coded.Statement.{statement}
 use Rattle.translating.proofs.translating.coded.Tie as tie
-use Rattle.translating.proofs.translating.coded.Reads as reads
-use Rattle.translating.proofs.translating.coded.Lts as lts
-use Rattle.translating.proofs.sections.nodes_in.Reads as nodes-in-reads
-use Rattle.translating.proofs.sections.uses_in.Reads as uses-in-reads
-use Rattle.translating.proofs.translating.laid_out.Reads as laid-out-reads
-use Rattle.translating.proofs.values.valued.Reads as valued-reads
 
 slice-aggregate-valued : tie.Need-slice-aggregate-valued
 slice-aggregate-valued c = search needs

@@ -7,11 +7,6 @@ use Rattle.translating.proofs.Handed.{as-refused, as-accepted}
 use borrow.Author.Needs.{needs}
 use Rattle.translating.proofs.translating.judged.Statement.{statement}
 use Rattle.translating.proofs.translating.judged.Tie as tie
-use Rattle.translating.proofs.translating.judged.Reads as reads
-use Rattle.translating.proofs.translating.judged.Lts as lts
-use Rattle.reading.proofs.reading.read.Reads as read-reads
-use Rattle.emitting.proofs.parts.clear.Reads as clear-reads
-use Rattle.translating.proofs.translating.coded.Reads as coded-reads
 
 clear-requires : tie.Need-clear-requires
 clear-requires c κs = search needs

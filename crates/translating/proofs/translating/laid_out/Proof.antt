@@ -5,10 +5,6 @@ use Rattle.emitting.specs.Emission.{codeOf}
 use borrow.Author.Needs.{needs}
 use Rattle.translating.proofs.translating.laid_out.Statement.{statement}
 use Rattle.translating.proofs.translating.laid_out.Tie as tie
-use Rattle.translating.proofs.translating.laid_out.Reads as reads
-use Rattle.translating.proofs.translating.laid_out.Lts as lts
-use Rattle.emitting.proofs.layout.layout.Reads as layout-reads
-use Rattle.translating.proofs.translating.twice.Reads as twice-reads
 
 layout-requires : tie.Need-layout-requires
 layout-requires c κs = search needs

@@ -8,10 +8,6 @@ use Rattle.translating.proofs.Promised.{faith}
 use borrow.Author.Needs.{needs}
 use Rattle.translating.proofs.translating.translate.Statement.{statement}
 use Rattle.translating.proofs.translating.translate.Tie as tie
-use Rattle.translating.proofs.translating.translate.Reads as reads
-use Rattle.translating.proofs.translating.translate.Lts as lts
-use Rattle.answers.proofs.Refusal.new.Reads as new-reads
-use Rattle.translating.proofs.translating.judged.Reads as judged-reads
 
 new-requires : tie.Need-new-requires
 new-requires c κs = search needs

@@ -4,10 +4,6 @@ use Rattle.translating.proofs.Handed.{second-run}
 use borrow.Author.Needs.{needs}
 use Rattle.translating.proofs.translating.twice.Statement.{statement}
 use Rattle.translating.proofs.translating.twice.Tie as tie
-use Rattle.translating.proofs.translating.twice.Reads as reads
-use Rattle.translating.proofs.translating.twice.Lts as lts
-use Rattle.emitting.proofs.emission.emit.Reads as emit-reads
-use Rattle.translating.proofs.translating.again.Reads as again-reads
 
 slice-aggregate-nothing : tie.Need-slice-aggregate-nothing
 slice-aggregate-nothing c = search needs

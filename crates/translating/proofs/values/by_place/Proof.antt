@@ -1,6 +1,6 @@
 -- `translating::values::by_place` meets its contract. The invariant: what is still to be set comes to the same as all of it.
 -- Assumes nothing.
-use Prim.Native.Nat.{ℕ, _+_, _-_, _≤_, _<_}
+use Prim.Native.Nat.{_+_, _-_}
 use mathlib.Core.Path.{_≡_, refl, sym, ap, _∙_}
 use native.Mathlib.Omega.{arith}
 use lib.ListN.{length, getD, take, drop, set, length-set}
@@ -9,10 +9,6 @@ use Rattle.translating.specs.ByPlace.{setAll}
 use Rattle.translating.proofs.ByPlaceLaws.{on-and-on, no-more-places, no-more-values, all-done}
 use Rattle.translating.proofs.values.by_place.Statement.{statement}
 use Rattle.translating.proofs.values.by_place.Tie as tie
-use Rattle.translating.proofs.values.by_place.Reads as reads
-use Rattle.translating.proofs.values.by_place.Lts as lts
-use Rattle.emitting.proofs.parts.set_word.Reads as set-word-reads
-use Rattle.emitting.proofs.parts.word_at.Reads as word-at-reads
 
 abbrev Inv-loop : tie.InvT-loop
 Inv-loop places found count values₀ k₀ values k =

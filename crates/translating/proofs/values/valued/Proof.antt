@@ -5,10 +5,6 @@ use Rattle.translating.proofs.FoundFirst.{found-first, not-refused}
 use borrow.Author.Needs.{needs}
 use Rattle.translating.proofs.values.valued.Statement.{statement}
 use Rattle.translating.proofs.values.valued.Tie as tie
-use Rattle.translating.proofs.values.valued.Reads as reads
-use Rattle.translating.proofs.values.valued.Lts as lts
-use Rattle.symbols.proofs.scanning.scan.Reads as scan-reads
-use Rattle.translating.proofs.values.by_place.Reads as by-place-reads
 
 scan-requires : tie.Need-scan-requires
 scan-requires c κs = search needs

@@ -3,8 +3,6 @@ use borrow.Author.Tests.{ne-eqb}
 use Rattle.types.specs.Passes.{appliedAs}
 use Rattle.types.proofs.meanings.applied.Statement.{statement}
 use Rattle.types.proofs.meanings.applied.Tie as tie
-use Rattle.types.proofs.meanings.applied.Reads as reads
-use Rattle.types.proofs.meanings.applied.Lts as lts
 
 returns : tie.Need-returns
 unfolding appliedAs

@@ -7,11 +7,6 @@ use Rattle.types.specs.Passes.{leftOf}
 use Rattle.types.specs.Model.{MeantWithin}
 use Rattle.types.proofs.meanings.as_left.Statement.{statement}
 use Rattle.types.proofs.meanings.as_left.Tie as tie
-use Rattle.types.proofs.meanings.as_left.Reads as reads
-use Rattle.types.proofs.meanings.as_left.Lts as lts
-use Rattle.types.proofs.meanings.own_result.Reads as own-result-reads
-use Rattle.types.proofs.meanings.sort_of.Reads as sort-of-reads
-use Rattle.types.proofs.meanings.word.Reads as word-reads
 
 enum-known-m : tie.Need-enum-known-m
 enum-known-m c = search needs

@@ -8,9 +8,6 @@ use Rattle.types.specs.Passes.{formalsFrom, formalsIn}
 use Rattle.types.proofs.RowWords.{formals-here, formals-other, formals-end}
 use Rattle.types.proofs.meanings.formals.Statement.{statement}
 use Rattle.types.proofs.meanings.formals.Tie as tie
-use Rattle.types.proofs.meanings.formals.Reads as reads
-use Rattle.types.proofs.meanings.formals.Lts as lts
-use Rattle.types.proofs.meanings.word.Reads as word-reads
 
 abbrev Inv-loop : tie.InvT-loop
 Inv-loop rows d n₀ n = (n ≤ 8192) × (formalsFrom (drop (4 * (d .number + 1 + n)) rows) + n ≡ formalsIn rows (d .number))

@@ -3,8 +3,6 @@ use borrow.Author.Tests.{ne-eqb}
 use Rattle.types.specs.Passes.{givenFormals}
 use Rattle.types.proofs.meanings.given_formals.Statement.{statement}
 use Rattle.types.proofs.meanings.given_formals.Tie as tie
-use Rattle.types.proofs.meanings.given_formals.Reads as reads
-use Rattle.types.proofs.meanings.given_formals.Lts as lts
 
 returns : tie.Need-returns
 unfolding givenFormals

@@ -3,8 +3,6 @@ use borrow.Author.Tests.{lt-ltb, le-ltb}
 use Rattle.types.specs.Passes.{givenSort}
 use Rattle.types.proofs.meanings.given_sort.Statement.{statement}
 use Rattle.types.proofs.meanings.given_sort.Tie as tie
-use Rattle.types.proofs.meanings.given_sort.Reads as reads
-use Rattle.types.proofs.meanings.given_sort.Lts as lts
 
 returns : tie.Need-returns
 unfolding givenSort

@@ -4,9 +4,6 @@ use borrow.Author.Needs.{needs}
 use Rattle.types.specs.Passes.{givenWants}
 use Rattle.types.proofs.meanings.given_wants.Statement.{statement}
 use Rattle.types.proofs.meanings.given_wants.Tie as tie
-use Rattle.types.proofs.meanings.given_wants.Reads as reads
-use Rattle.types.proofs.meanings.given_wants.Lts as lts
-use Rattle.types.proofs.meanings.given_formals.Reads as given-formals-reads
 
 given-formals-requires : tie.Need-given-formals-requires
 given-formals-requires c κs = search needs

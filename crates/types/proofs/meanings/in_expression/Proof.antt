@@ -7,15 +7,6 @@ use Rattle.types.specs.Passes.{primaryOf}
 use Rattle.types.specs.Model.{MeantWithin}
 use Rattle.types.proofs.meanings.in_expression.Statement.{statement}
 use Rattle.types.proofs.meanings.in_expression.Tie as tie
-use Rattle.types.proofs.meanings.in_expression.Reads as reads
-use Rattle.types.proofs.meanings.in_expression.Lts as lts
-use Rattle.types.proofs.meanings.applied.Reads as applied-reads
-use Rattle.types.proofs.meanings.formals.Reads as formals-reads
-use Rattle.types.proofs.meanings.given_formals.Reads as given-formals-reads
-use Rattle.types.proofs.meanings.given_sort.Reads as given-sort-reads
-use Rattle.types.proofs.meanings.plainly.Reads as plainly-reads
-use Rattle.types.proofs.meanings.sort_of.Reads as sort-of-reads
-use Rattle.types.proofs.meanings.word.Reads as word-reads
 
 enum-known-m : tie.Need-enum-known-m
 enum-known-m c = search needs

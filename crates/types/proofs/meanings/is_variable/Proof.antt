@@ -7,11 +7,6 @@ use Rattle.types.specs.Passes.{variableOf}
 use Rattle.types.specs.Model.{MeantWithin}
 use Rattle.types.proofs.meanings.is_variable.Statement.{statement}
 use Rattle.types.proofs.meanings.is_variable.Tie as tie
-use Rattle.types.proofs.meanings.is_variable.Reads as reads
-use Rattle.types.proofs.meanings.is_variable.Lts as lts
-use Rattle.types.proofs.meanings.sort_of.Reads as sort-of-reads
-use Rattle.types.proofs.meanings.word.Reads as word-reads
-use Rattle.types.proofs.sorts.apart.Reads as apart-reads
 
 enum-known-m : tie.Need-enum-known-m
 enum-known-m c = search needs

@@ -7,11 +7,6 @@ use Rattle.types.specs.Passes.{miscalledOf}
 use Rattle.types.specs.Model.{MeantWithin}
 use Rattle.types.proofs.meanings.miscalled.Statement.{statement}
 use Rattle.types.proofs.meanings.miscalled.Tie as tie
-use Rattle.types.proofs.meanings.miscalled.Reads as reads
-use Rattle.types.proofs.meanings.miscalled.Lts as lts
-use Rattle.types.proofs.meanings.formals.Reads as formals-reads
-use Rattle.types.proofs.meanings.given_formals.Reads as given-formals-reads
-use Rattle.types.proofs.meanings.word.Reads as word-reads
 
 enum-known-m : tie.Need-enum-known-m
 enum-known-m c = search needs

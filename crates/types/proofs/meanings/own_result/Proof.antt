@@ -9,9 +9,6 @@ use Rattle.types.specs.Passes.{wordIn, ownOf}
 use Rattle.types.proofs.RowWords.{own-here, own-further}
 use Rattle.types.proofs.meanings.own_result.Statement.{statement}
 use Rattle.types.proofs.meanings.own_result.Tie as tie
-use Rattle.types.proofs.meanings.own_result.Reads as reads
-use Rattle.types.proofs.meanings.own_result.Lts as lts
-use Rattle.types.proofs.meanings.word.Reads as word-reads
 
 abbrev Inv-loop : tie.InvT-loop
 Inv-loop rows d bodies count n₀ n = (n ≤ length bodies) × (ownOf rows (wordIn rows (d .number) 1) (opensOf n bodies) ≡ ownOf rows (wordIn rows (d .number) 1) (opensOf count bodies))

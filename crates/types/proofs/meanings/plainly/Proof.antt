@@ -3,8 +3,6 @@ use borrow.Author.Tests.{eq-eqb, ne-eqb}
 use Rattle.types.specs.Passes.{plainlyAs}
 use Rattle.types.proofs.meanings.plainly.Statement.{statement}
 use Rattle.types.proofs.meanings.plainly.Tie as tie
-use Rattle.types.proofs.meanings.plainly.Reads as reads
-use Rattle.types.proofs.meanings.plainly.Lts as lts
 
 returns : tie.Need-returns
 unfolding plainlyAs

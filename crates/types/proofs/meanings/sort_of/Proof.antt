@@ -5,10 +5,6 @@ use borrow.Author.Needs.{needs}
 use Rattle.types.specs.Passes.{sortIn}
 use Rattle.types.proofs.meanings.sort_of.Statement.{statement}
 use Rattle.types.proofs.meanings.sort_of.Tie as tie
-use Rattle.types.proofs.meanings.sort_of.Reads as reads
-use Rattle.types.proofs.meanings.sort_of.Lts as lts
-use Rattle.types.proofs.meanings.specified.Reads as specified-reads
-use Rattle.types.proofs.meanings.word.Reads as word-reads
 
 word-requires : tie.Need-word-requires
 word-requires c κs = search needs

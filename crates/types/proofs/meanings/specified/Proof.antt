@@ -7,11 +7,6 @@ use Rattle.grammar.specs.NodeKinds.{n-specified}
 use Rattle.types.proofs.RowWords.{find-bound}
 use Rattle.types.proofs.meanings.specified.Statement.{statement}
 use Rattle.types.proofs.meanings.specified.Tie as tie
-use Rattle.types.proofs.meanings.specified.Reads as reads
-use Rattle.types.proofs.meanings.specified.Lts as lts
-use Rattle.names.proofs.rows.find.Reads as find-reads
-use Rattle.names.proofs.rows.identity_of.Reads as identity-of-reads
-use Rattle.types.proofs.meanings.word.Reads as word-reads
 
 identity-of-requires : tie.Need-identity-of-requires
 identity-of-requires c κs = search needs

@@ -7,12 +7,6 @@ use Rattle.types.specs.Passes.{wantOf}
 use Rattle.types.specs.Model.{MeantWithin}
 use Rattle.types.proofs.meanings.wanted.Statement.{statement}
 use Rattle.types.proofs.meanings.wanted.Tie as tie
-use Rattle.types.proofs.meanings.wanted.Reads as reads
-use Rattle.types.proofs.meanings.wanted.Lts as lts
-use Rattle.types.proofs.meanings.formals.Reads as formals-reads
-use Rattle.types.proofs.meanings.given_wants.Reads as given-wants-reads
-use Rattle.types.proofs.meanings.sort_of.Reads as sort-of-reads
-use Rattle.types.proofs.meanings.word.Reads as word-reads
 
 enum-known-m : tie.Need-enum-known-m
 enum-known-m c = search needs

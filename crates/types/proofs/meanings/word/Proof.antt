@@ -5,8 +5,6 @@ use borrow.Author.Needs.{needs}
 use Rattle.types.specs.Passes.{wordIn}
 use Rattle.types.proofs.meanings.word.Statement.{statement}
 use Rattle.types.proofs.meanings.word.Tie as tie
-use Rattle.types.proofs.meanings.word.Reads as reads
-use Rattle.types.proofs.meanings.word.Lts as lts
 
 mul-at : tie.Need-mul-at
 mul-at c = search needs

@@ -3,8 +3,6 @@ use borrow.Author.Tests.{eq-eqb, ne-eqb}
 use Rattle.types.specs.Passes.{apartOf}
 use Rattle.types.proofs.sorts.apart.Statement.{statement}
 use Rattle.types.proofs.sorts.apart.Tie as tie
-use Rattle.types.proofs.sorts.apart.Reads as reads
-use Rattle.types.proofs.sorts.apart.Lts as lts
 
 returns : tie.Need-returns
 unfolding apartOf

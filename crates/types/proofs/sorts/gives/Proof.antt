@@ -3,8 +3,6 @@ use borrow.Author.Tests.{lt-ltb, le-ltb}
 use Rattle.types.specs.Passes.{givesSort}
 use Rattle.types.proofs.sorts.gives.Statement.{statement}
 use Rattle.types.proofs.sorts.gives.Tie as tie
-use Rattle.types.proofs.sorts.gives.Reads as reads
-use Rattle.types.proofs.sorts.gives.Lts as lts
 
 returns : tie.Need-returns
 unfolding givesSort

@@ -3,8 +3,6 @@ use borrow.Author.Tests.{eq-eqb, ne-eqb}
 use Rattle.types.specs.Passes.{signSort}
 use Rattle.types.proofs.sorts.sign_takes.Statement.{statement}
 use Rattle.types.proofs.sorts.sign_takes.Tie as tie
-use Rattle.types.proofs.sorts.sign_takes.Reads as reads
-use Rattle.types.proofs.sorts.sign_takes.Lts as lts
 
 returns : tie.Need-returns
 unfolding signSort

@@ -3,8 +3,6 @@ use borrow.Author.Tests.{lt-ltb, le-ltb}
 use Rattle.types.specs.Passes.{takesSort}
 use Rattle.types.proofs.sorts.takes.Statement.{statement}
 use Rattle.types.proofs.sorts.takes.Tie as tie
-use Rattle.types.proofs.sorts.takes.Reads as reads
-use Rattle.types.proofs.sorts.takes.Lts as lts
 
 returns : tie.Need-returns
 unfolding takesSort

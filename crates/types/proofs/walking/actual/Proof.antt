@@ -1,8 +1,8 @@
 -- `types::walking::actual` meets its contract: what is wanted of it comes from the newest call, which has one actual more.
-use mathlib.Core.Path.{_≡_, refl, sym, ap, subst, _∙_}
+use mathlib.Core.Path.{sym, ap, subst, _∙_}
 use mathlib.Core.List.{List}
 use native.Mathlib.Omega.{arith}
-use Prim.Native.Nat.{_+_, _*_, _-_}
+use Prim.Native.Nat.{_*_, _-_}
 use lib.ListN.{getD}
 use Rattle.types.specs.Model.{MeantWithin, see}
 use Rattle.types.specs.Passes.{Call, withCalls, popped}
@@ -10,16 +10,6 @@ use Rattle.types.proofs.Stacks.{meant-within, noted-ap, misfit-ap, want
 use borrow.Author.Needs.{needs}
 use Rattle.types.proofs.walking.actual.Statement.{statement}
 use Rattle.types.proofs.walking.actual.Tie as tie
-use Rattle.types.proofs.walking.actual.Reads as reads
-use Rattle.types.proofs.walking.actual.Lts as lts
-use Rattle.names.proofs.uses.meant.Reads as meant-reads
-use Rattle.types.proofs.meanings.wanted.Reads as wanted-reads
-use Rattle.types.proofs.walking.actuals.Reads as actuals-reads
-use Rattle.types.proofs.walking.is_alone.Reads as is-alone-reads
-use Rattle.types.proofs.walking.misfit.Reads as misfit-reads
-use Rattle.types.proofs.walking.note.Reads as note-reads
-use Rattle.types.proofs.walking.one_more.Reads as one-more-reads
-use Rattle.types.proofs.walking.pop.Reads as pop-reads
 
 pop-requires : tie.Need-pop-requires
 pop-requires c κs = search needs

@@ -4,8 +4,6 @@ use Prim.Native.Nat.{_+_, _*_}
 use borrow.Author.Needs.{needs}
 use Rattle.types.proofs.walking.actuals.Statement.{statement}
 use Rattle.types.proofs.walking.actuals.Tie as tie
-use Rattle.types.proofs.walking.actuals.Reads as reads
-use Rattle.types.proofs.walking.actuals.Lts as lts
 
 mul-at : tie.Need-mul-at
 mul-at c = search needs

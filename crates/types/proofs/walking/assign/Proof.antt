@@ -5,12 +5,6 @@ use Rattle.types.proofs.Stacks.{apart-ap, noted-ap}
 use borrow.Author.Needs.{needs}
 use Rattle.types.proofs.walking.assign.Statement.{statement}
 use Rattle.types.proofs.walking.assign.Tie as tie
-use Rattle.types.proofs.walking.assign.Reads as reads
-use Rattle.types.proofs.walking.assign.Lts as lts
-use Rattle.types.proofs.sorts.apart.Reads as apart-reads
-use Rattle.types.proofs.walking.note.Reads as note-reads
-use Rattle.types.proofs.walking.pop.Reads as pop-reads
-use Rattle.types.proofs.walking.top.Reads as top-reads
 
 pop-requires : tie.Need-pop-requires
 pop-requires c κs = search needs

@@ -6,8 +6,6 @@ use Rattle.types.proofs.Stacks.{calls-begin}
 use borrow.Author.Needs.{needs}
 use Rattle.types.proofs.walking.begin.Statement.{statement}
 use Rattle.types.proofs.walking.begin.Tie as tie
-use Rattle.types.proofs.walking.begin.Reads as reads
-use Rattle.types.proofs.walking.begin.Lts as lts
 
 mul-first : tie.Need-mul-first
 mul-first c = search needs

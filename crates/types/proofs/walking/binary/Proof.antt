@@ -5,12 +5,6 @@ use Rattle.types.proofs.Stacks.{pushed-ap, taken-ap}
 use borrow.Author.Needs.{needs}
 use Rattle.types.proofs.walking.binary.Statement.{statement}
 use Rattle.types.proofs.walking.binary.Tie as tie
-use Rattle.types.proofs.walking.binary.Reads as reads
-use Rattle.types.proofs.walking.binary.Lts as lts
-use Rattle.types.proofs.sorts.gives.Reads as gives-reads
-use Rattle.types.proofs.sorts.takes.Reads as takes-reads
-use Rattle.types.proofs.walking.push.Reads as push-reads
-use Rattle.types.proofs.walking.take.Reads as take-reads
 
 takes-requires : tie.Need-takes-requires
 takes-requires c κs = search needs

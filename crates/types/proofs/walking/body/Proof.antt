@@ -3,9 +3,6 @@ use Rattle.types.specs.Passes.{withRows, withBodies}
 use borrow.Author.Needs.{needs}
 use Rattle.types.proofs.walking.body.Statement.{statement}
 use Rattle.types.proofs.walking.body.Tie as tie
-use Rattle.types.proofs.walking.body.Reads as reads
-use Rattle.types.proofs.walking.body.Lts as lts
-use Rattle.types.proofs.walking.put.Reads as put-reads
 
 cast-put : tie.Need-cast-put
 cast-put c = search needs

@@ -5,8 +5,6 @@ use Rattle.types.proofs.Stacks.{opens-below}
 use borrow.Author.Needs.{needs}
 use Rattle.types.proofs.walking.body_end.Statement.{statement}
 use Rattle.types.proofs.walking.body_end.Tie as tie
-use Rattle.types.proofs.walking.body_end.Reads as reads
-use Rattle.types.proofs.walking.body_end.Lts as lts
 
 returns : tie.Need-returns
 unfolding withBodies below opensOf

@@ -3,9 +3,6 @@ use Rattle.types.specs.Passes.{calledAs, withCalls}
 use borrow.Author.Needs.{needs}
 use Rattle.types.proofs.walking.call.Statement.{statement}
 use Rattle.types.proofs.walking.call.Tie as tie
-use Rattle.types.proofs.walking.call.Reads as reads
-use Rattle.types.proofs.walking.call.Lts as lts
-use Rattle.types.proofs.walking.begin.Reads as begin-reads
 
 begin-requires : tie.Need-begin-requires
 begin-requires c κs = search needs

@@ -1,6 +1,6 @@
 -- `types::walking::call_end` meets its contract: the newest call ends as a statement or as a primary, by the tests.
-use mathlib.Core.Path.{_≡_, refl, sym, ap, subst, _∙_}
-use Prim.Native.Nat.{_+_, _*_, _-_}
+use mathlib.Core.Path.{refl, sym, ap, subst, _∙_}
+use Prim.Native.Nat.{_*_, _-_}
 use borrow.Author.Tests.{eq-eqb, ne-eqb}
 use lib.ListN.{getD}
 use Rattle.types.specs.declared.Judgement.{Judgement}
@@ -10,14 +10,6 @@ use Rattle.types.proofs.Stacks.{meant-within, noted-ap, pushed-ap, misc
 use borrow.Author.Needs.{needs}
 use Rattle.types.proofs.walking.call_end.Statement.{statement}
 use Rattle.types.proofs.walking.call_end.Tie as tie
-use Rattle.types.proofs.walking.call_end.Reads as reads
-use Rattle.types.proofs.walking.call_end.Lts as lts
-use Rattle.names.proofs.uses.meant.Reads as meant-reads
-use Rattle.types.proofs.meanings.in_expression.Reads as in-expression-reads
-use Rattle.types.proofs.meanings.miscalled.Reads as miscalled-reads
-use Rattle.types.proofs.walking.actuals.Reads as actuals-reads
-use Rattle.types.proofs.walking.note.Reads as note-reads
-use Rattle.types.proofs.walking.push.Reads as push-reads
 
 returns : tie.Need-returns
 returns c = λ u b. sym (ended-none (c .before .before .before .before .args .ids .now) (c .before .before .before .before .args .rows .now) (c .before .before .before .before .args .marks .now) (c .before .before .before .before .args .t .calls) (c .before .before .before .before .args .calls .now) (c .before .before .before .before .args .symbol) (see (c .before .before .before .before .args .t) u (c .before .before .before .before .args .stack .now) (c .before .before .before .before .args .calls .now) b) (c .before .before .before .before .args .as-statement) (c .if1 .taken))

@@ -6,12 +6,6 @@ use Rattle.types.proofs.Stacks.{apart-ap, noted-ap, stack-popped}
 use borrow.Author.Needs.{needs}
 use Rattle.types.proofs.walking.conditional.Statement.{statement}
 use Rattle.types.proofs.walking.conditional.Tie as tie
-use Rattle.types.proofs.walking.conditional.Reads as reads
-use Rattle.types.proofs.walking.conditional.Lts as lts
-use Rattle.types.proofs.sorts.apart.Reads as apart-reads
-use Rattle.types.proofs.walking.note.Reads as note-reads
-use Rattle.types.proofs.walking.pop.Reads as pop-reads
-use Rattle.types.proofs.walking.top.Reads as top-reads
 
 top-requires : tie.Need-top-requires
 top-requires c κs = search needs

@@ -4,8 +4,6 @@ use Prim.Native.Nat.{_+_, _*_}
 use borrow.Author.Needs.{needs}
 use Rattle.types.proofs.walking.is_alone.Statement.{statement}
 use Rattle.types.proofs.walking.is_alone.Tie as tie
-use Rattle.types.proofs.walking.is_alone.Reads as reads
-use Rattle.types.proofs.walking.is_alone.Lts as lts
 
 mul-at : tie.Need-mul-at
 mul-at c = search needs

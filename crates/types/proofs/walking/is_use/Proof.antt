@@ -3,8 +3,6 @@ use borrow.Author.Tests.{ne-eqb}
 use Rattle.names.specs.Rows.{isUse}
 use Rattle.types.proofs.walking.is_use.Statement.{statement}
 use Rattle.types.proofs.walking.is_use.Tie as tie
-use Rattle.types.proofs.walking.is_use.Reads as reads
-use Rattle.types.proofs.walking.is_use.Lts as lts
 
 returns : tie.Need-returns
 unfolding isUse

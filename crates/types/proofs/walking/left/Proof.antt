@@ -1,8 +1,7 @@
 -- `types::walking::left` meets its contract: the first left part or a further one, by the tests.
-use mathlib.Core.Path.{_≡_, refl, sym, ap, subst, _∙_}
+use mathlib.Core.Path.{refl, sym, ap, subst, _∙_}
 use mathlib.Core.Bool.{true}
 use native.Mathlib.Omega.{arith}
-use Prim.Native.Nat.{ℕ}
 use Rattle.names.specs.Rows.{opensOf}
 use Rattle.names.specs.declared.Meant.{Meant}
 use Rattle.types.specs.declared.Judgement.{Judgement}
@@ -12,12 +11,6 @@ use Rattle.types.proofs.Stacks.{meant-within, noted-ap, apart-ap, or-tr
 use borrow.Author.Needs.{needs}
 use Rattle.types.proofs.walking.left.Statement.{statement}
 use Rattle.types.proofs.walking.left.Tie as tie
-use Rattle.types.proofs.walking.left.Reads as reads
-use Rattle.types.proofs.walking.left.Lts as lts
-use Rattle.names.proofs.uses.meant.Reads as meant-reads
-use Rattle.types.proofs.meanings.as_left.Reads as as-left-reads
-use Rattle.types.proofs.sorts.apart.Reads as apart-reads
-use Rattle.types.proofs.walking.note.Reads as note-reads
 
 meant-requires : tie.Need-meant-requires
 meant-requires c κs = search needs

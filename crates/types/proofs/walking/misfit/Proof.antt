@@ -6,12 +6,6 @@ use Rattle.types.proofs.Stacks.{meant-within}
 use borrow.Author.Needs.{needs}
 use Rattle.types.proofs.walking.misfit.Statement.{statement}
 use Rattle.types.proofs.walking.misfit.Tie as tie
-use Rattle.types.proofs.walking.misfit.Reads as reads
-use Rattle.types.proofs.walking.misfit.Lts as lts
-use Rattle.names.proofs.uses.meant.Reads as meant-reads
-use Rattle.types.proofs.meanings.is_variable.Reads as is-variable-reads
-use Rattle.types.proofs.sorts.apart.Reads as apart-reads
-use Rattle.types.proofs.walking.top.Reads as top-reads
 
 enum-known-wanted : tie.Need-enum-known-wanted
 enum-known-wanted c = search needs

@@ -1,5 +1,5 @@
 -- `types::walking::name` meets its contract: as a statement or as a primary, by the test.
-use mathlib.Core.Path.{_≡_, refl, sym, ap, subst, _∙_}
+use mathlib.Core.Path.{refl, sym, ap, subst, _∙_}
 use borrow.Author.Tests.{eq-eqb, ne-eqb}
 use Rattle.names.specs.declared.Meant.{Meant}
 use Rattle.types.specs.declared.Judgement.{Judgement}
@@ -9,13 +9,6 @@ use Rattle.types.proofs.Stacks.{meant-within, noted-ap, pushed-ap}
 use borrow.Author.Needs.{needs}
 use Rattle.types.proofs.walking.name.Statement.{statement}
 use Rattle.types.proofs.walking.name.Tie as tie
-use Rattle.types.proofs.walking.name.Reads as reads
-use Rattle.types.proofs.walking.name.Lts as lts
-use Rattle.names.proofs.uses.meant.Reads as meant-reads
-use Rattle.types.proofs.meanings.in_expression.Reads as in-expression-reads
-use Rattle.types.proofs.meanings.miscalled.Reads as miscalled-reads
-use Rattle.types.proofs.walking.note.Reads as note-reads
-use Rattle.types.proofs.walking.push.Reads as push-reads
 
 meant-requires : tie.Need-meant-requires
 meant-requires c κs = search needs

@@ -6,8 +6,6 @@ use Rattle.types.proofs.Stacks.{uses-on}
 use borrow.Author.Needs.{needs}
 use Rattle.types.proofs.walking.next_use.Statement.{statement}
 use Rattle.types.proofs.walking.next_use.Tie as tie
-use Rattle.types.proofs.walking.next_use.Reads as reads
-use Rattle.types.proofs.walking.next_use.Lts as lts
 
 add-t : tie.Need-add-t
 add-t c = search needs

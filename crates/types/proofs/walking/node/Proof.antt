@@ -1,5 +1,5 @@
 -- `types::walking::node` meets its contract: a use, or the arm of the node's kind.
-use mathlib.Core.Path.{_≡_, sym, _∙_}
+use mathlib.Core.Path.{sym, _∙_}
 use mathlib.Core.Logic.{inl, inr}
 use native.Mathlib.Omega.{arith}
 use borrow.Author.Tests.{ne-eqb}
@@ -10,15 +10,6 @@ use Rattle.types.proofs.Stacks.{length-opens, length-calls, node-declar
 use borrow.Author.Needs.{needs}
 use Rattle.types.proofs.walking.node.Statement.{statement}
 use Rattle.types.proofs.walking.node.Tie as tie
-use Rattle.types.proofs.walking.node.Reads as reads
-use Rattle.types.proofs.walking.node.Lts as lts
-use Rattle.types.proofs.walking.actual.Reads as actual-reads
-use Rattle.types.proofs.walking.body.Reads as body-reads
-use Rattle.types.proofs.walking.body_end.Reads as body-end-reads
-use Rattle.types.proofs.walking.call_end.Reads as call-end-reads
-use Rattle.types.proofs.walking.is_use.Reads as is-use-reads
-use Rattle.types.proofs.walking.plain.Reads as plain-reads
-use Rattle.types.proofs.walking.use_node.Reads as use-node-reads
 
 is-use-requires : tie.Need-is-use-requires
 is-use-requires c κs = search needs

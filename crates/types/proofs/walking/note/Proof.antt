@@ -4,9 +4,6 @@ use Rattle.types.specs.Passes.{noted}
 use borrow.Author.Needs.{needs}
 use Rattle.types.proofs.walking.note.Statement.{statement}
 use Rattle.types.proofs.walking.note.Tie as tie
-use Rattle.types.proofs.walking.note.Reads as reads
-use Rattle.types.proofs.walking.note.Lts as lts
-use Rattle.names.proofs.faults.noted.Reads as noted-reads
 
 noted-requires : tie.Need-noted-requires
 noted-requires c κs = search needs

@@ -3,8 +3,6 @@ use Rattle.types.proofs.Stacks.{calls-more}
 use borrow.Author.Needs.{needs}
 use Rattle.types.proofs.walking.one_more.Statement.{statement}
 use Rattle.types.proofs.walking.one_more.Tie as tie
-use Rattle.types.proofs.walking.one_more.Reads as reads
-use Rattle.types.proofs.walking.one_more.Lts as lts
 
 mul-at : tie.Need-mul-at
 mul-at c = search needs

@@ -2,20 +2,11 @@
 use mathlib.Core.Path.{_∙_}
 use mathlib.Core.Logic.{inl, inr}
 use borrow.Author.Tests.{ne-eqb}
-use Rattle.types.specs.Model.{see}
 use Rattle.types.specs.Passes.{plainTyped}
 use Rattle.types.proofs.Stacks.{plain-boolean, plain-integer}
 use borrow.Author.Needs.{needs}
 use Rattle.types.proofs.walking.plain.Statement.{statement}
 use Rattle.types.proofs.walking.plain.Tie as tie
-use Rattle.types.proofs.walking.plain.Reads as reads
-use Rattle.types.proofs.walking.plain.Lts as lts
-use Rattle.types.proofs.walking.assign.Reads as assign-reads
-use Rattle.types.proofs.walking.binary.Reads as binary-reads
-use Rattle.types.proofs.walking.conditional.Reads as conditional-reads
-use Rattle.types.proofs.walking.push.Reads as push-reads
-use Rattle.types.proofs.walking.take.Reads as take-reads
-use Rattle.types.proofs.walking.unary.Reads as unary-reads
 
 push-requires : tie.Need-push-requires
 push-requires c κs = search needs

@@ -6,8 +6,6 @@ use Rattle.types.proofs.Stacks.{opens-below}
 use borrow.Author.Needs.{needs}
 use Rattle.types.proofs.walking.pop.Statement.{statement}
 use Rattle.types.proofs.walking.pop.Tie as tie
-use Rattle.types.proofs.walking.pop.Reads as reads
-use Rattle.types.proofs.walking.pop.Lts as lts
 
 returns : tie.Need-returns
 unfolding popped withStack below opensOf

@@ -3,9 +3,6 @@ use Rattle.types.specs.Passes.{pushed, withStack}
 use borrow.Author.Needs.{needs}
 use Rattle.types.proofs.walking.push.Statement.{statement}
 use Rattle.types.proofs.walking.push.Tie as tie
-use Rattle.types.proofs.walking.push.Reads as reads
-use Rattle.types.proofs.walking.push.Lts as lts
-use Rattle.types.proofs.walking.put.Reads as put-reads
 
 put-requires : tie.Need-put-requires
 put-requires c κs = search needs

@@ -3,8 +3,6 @@ use Rattle.names.proofs.RowLaws.{opens-enter}
 use borrow.Author.Needs.{needs}
 use Rattle.types.proofs.walking.put.Statement.{statement}
 use Rattle.types.proofs.walking.put.Tie as tie
-use Rattle.types.proofs.walking.put.Reads as reads
-use Rattle.types.proofs.walking.put.Lts as lts
 
 mul-stack : tie.Need-mul-stack
 mul-stack c = search needs

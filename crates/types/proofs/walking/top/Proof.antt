@@ -5,8 +5,6 @@ use Rattle.types.proofs.Stacks.{opens-top}
 use borrow.Author.Needs.{needs}
 use Rattle.types.proofs.walking.top.Statement.{statement}
 use Rattle.types.proofs.walking.top.Tie as tie
-use Rattle.types.proofs.walking.top.Reads as reads
-use Rattle.types.proofs.walking.top.Lts as lts
 
 returns : tie.Need-returns
 unfolding opensOf topOf

@@ -5,11 +5,6 @@ use Rattle.types.proofs.Stacks.{pushed-ap, taken-ap}
 use borrow.Author.Needs.{needs}
 use Rattle.types.proofs.walking.unary.Statement.{statement}
 use Rattle.types.proofs.walking.unary.Tie as tie
-use Rattle.types.proofs.walking.unary.Reads as reads
-use Rattle.types.proofs.walking.unary.Lts as lts
-use Rattle.types.proofs.sorts.sign_takes.Reads as sign-takes-reads
-use Rattle.types.proofs.walking.push.Reads as push-reads
-use Rattle.types.proofs.walking.take.Reads as take-reads
 
 sign-takes-requires : tie.Need-sign-takes-requires
 sign-takes-requires c κs = search needs

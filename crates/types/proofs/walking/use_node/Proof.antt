@@ -1,5 +1,5 @@
 -- `types::walking::use_node` meets its contract: the next use, and then the arm of the node's kind.
-use mathlib.Core.Path.{_≡_, refl, sym, ap, subst, _∙_}
+use mathlib.Core.Path.{refl, sym, ap, subst, _∙_}
 use mathlib.Core.Bool.{not}
 use borrow.Author.Tests.{ne-eqb}
 use Rattle.names.specs.Rows.{meantOf}
@@ -10,15 +10,6 @@ use Rattle.types.proofs.Stacks.{meant-within, noted-ap}
 use borrow.Author.Needs.{needs}
 use Rattle.types.proofs.walking.use_node.Statement.{statement}
 use Rattle.types.proofs.walking.use_node.Tie as tie
-use Rattle.types.proofs.walking.use_node.Reads as reads
-use Rattle.types.proofs.walking.use_node.Lts as lts
-use Rattle.names.proofs.uses.meant.Reads as meant-reads
-use Rattle.types.proofs.meanings.is_variable.Reads as is-variable-reads
-use Rattle.types.proofs.walking.call.Reads as call-reads
-use Rattle.types.proofs.walking.left.Reads as left-reads
-use Rattle.types.proofs.walking.name.Reads as name-reads
-use Rattle.types.proofs.walking.next_use.Reads as next-use-reads
-use Rattle.types.proofs.walking.note.Reads as note-reads
 
 next-use-requires : tie.Need-next-use-requires
 next-use-requires c κs = search needs

@@ -12,9 +12,6 @@ use Rattle.types.proofs.Room.{node-in, within-up}
 use borrow.Author.Needs.{needs}
 use Rattle.types.proofs.walking.walk.Statement.{statement}
 use Rattle.types.proofs.walking.walk.Tie as tie
-use Rattle.types.proofs.walking.walk.Reads as reads
-use Rattle.types.proofs.walking.walk.Lts as lts
-use Rattle.types.proofs.walking.node.Reads as node-reads
 
 abbrev Inv-loop : tie.InvT-loop
 Inv-loop nodes uses rows marks ids stack₀ calls₀ bodies₀ t₀ i₀ stack calls bodies t i =

@@ -1,6 +1,6 @@
 -- `vectors::rows::name_end` meets its contract. The end is between the start and the length.
 -- Assumes nothing.
-use Prim.Native.Nat.{ℕ, _+_, _-_, _≤_, _<_}
+use Prim.Native.Nat.{_-_, _≤_}
 use lib.ListN.{length}
 use borrow.Author.Needs.{needs}
 use Rattle.vectors.proofs.rows.name_end.Statement.{statement}
