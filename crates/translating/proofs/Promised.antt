@@ -1,5 +1,5 @@
--- Demand 3 of the words that translate leaves, and of the two jobs one after the other: acceptance gives the premises of faithful-words, and what is
--- lent to the machine are these words. One result for each source and code.
+-- Demand 3 of the words that translate leaves, and of the two jobs one after the other: acceptance, which is the number 0, gives the premises of
+-- faithful-words, and what is lent to the machine are these words. One result for each source and code.
 use Prim.Native.Nat.{ℕ, suc, _-_, _≤_, _<_}
 use native.Mathlib.Omega.{arith}
 use mathlib.Core.Path.{_≡_, refl, sym, ap, subst, _∙_}
@@ -62,11 +62,11 @@ module _ {text : List ℕ} (p : Parsed text) (named : least (nameFaults (parsed 
 -- demand 3 of what translate leaves
 pub faith : {text old new : List ℕ} {v : Verdict} → Translates text old v new → RunsAs text v new
 faith (too-short h) = λ z. absurd (omega (arith, z))
-faith {text} {old} (enough h v ws (refused r j)) = λ z. absurd (refused-accepted (zero-judged j z))
+faith (enough h v ws (refused r j)) = λ z. absurd (refused-accepted (zero-judged j z))
 faith {text} {old} (enough h v ws (accepted p n t)) = λ z p'.
     subst (λ (s : Statement). Follows (onCode (filled (codeIn p) ++ drop room old)) (placeIn text) s) (one-program p p') (faithful-left p n t (drop room old))
 
--- what a run of translated code hands back and leaves is what the source rules say
+-- what a run of translated code hands back and leaves is what a run leaves that did what the source rules say
 pub deed : {text old new : List ℕ} {v : Verdict} → Translates text old v new → numberOf v ≡ 0 → (p : Parsed text) (input : List ℤ) (limit : ℕ) (store output : List ℤ) {e : Exit}
     → e ≡ job new input limit store output → Deed p input limit store output e
 deed {new = new} w z p input limit store output h =

@@ -1,4 +1,5 @@
--- Paper 01, "Numbered answers": what translate ("source to code") answers for a source and code, and what the code holds afterwards.
+-- Paper 01, "Numbered answers": what translate ("source to code") answers for a source and code, and what the code holds afterwards; and demand 3 of
+-- this code.
 use Prim.Native.Nat.{ℕ, _-_, _<_, _≤_}
 use mathlib.Core.Path.{_≡_}
 use mathlib.Core.List.{List, _++_}
@@ -46,11 +47,11 @@ pub data Translates (text old : List ℕ) : Verdict → List ℕ → Type 0 wher
 
 -- ---- demand 3
 
--- of the words that are left: the machine on them does what the source rules say of the source's program
+-- of the words that are left after 0: the machine on them does what the source rules say of the source's program
 abbrev pub RunsAs : List ℕ → Verdict → List ℕ → Type 0
 RunsAs text v ws = numberOf v ≡ 0 → (p : Parsed text) → Follows (onCode ws) (placeIn text) (parsed p)
 
--- of translate, then run: what the second job hands back and leaves is what a run leaves that did so
+-- of translate, then run: what the second job hands back and leaves is what a run leaves that finished as the source rules say
 abbrev pub Deed : {text : List ℕ} → Parsed text → List ℤ → ℕ → List ℤ → List ℤ → Exit → Type 0
 Deed {text} p input limit store output e =
     (f : Finish) × (e ≡ afterwards f store output) × AsRules (placeIn text) (parsed p) input (used store) (length output) limit f

@@ -1,25 +1,25 @@
 -- Demand 3 is no empty promise: wrong machines do not keep it, shown by computed programs. Assumes nothing.
-use Prim.Native.Nat.{ℕ, suc, _+_, _*_, min}
+use Prim.Native.Nat.{ℕ, suc, _+_, min}
 use native.Mathlib.Omega.{arith}
-use mathlib.Core.Path.{_≡_, refl, ap, _∙_}
-use mathlib.Core.List.{List, [], _∷_}
+use mathlib.Core.Path.{_≡_, refl, ap, sym, _∙_}
+use mathlib.Core.List.{List, [], _∷_, _++_}
 use lib.IntN.{ℤ, pos}
-use lib.ListN.{length}
+use lib.ListN.{length, length-append}
 use Rattle.answers.specs.Answers.{stopNumber}
-use Rattle.answers.specs.declared.Stop.{Stop}
 use Rattle.answers.specs.declared.Stop.the-variants.{Ended, Limit}
 use Rattle.symbols.specs.Names.{sameName, equal as equalBytes}
 use Rattle.machine.specs.Values.{whole, apply1, apply2, past}
-use Rattle.machine.specs.Run.{Trace, done, run}
+use Rattle.machine.specs.Run.{Trace, untold, End, done, over, run}
 use Rattle.machine.specs.Data.{lift, guard, check, newCells, newest, onValue, back, look, put, reading, valued, hold, unhold, held, input, space, rest, spend, taking, writing, work, test, openBlock, closeBlock, enter, given, leave}
 use Rattle.names.specs.Program.{Statement, count}
 use Rattle.names.specs.Scopes.{has, specified, variablesIn, inBlock, inBody, findIn, findGiven, meaning}
 use Rattle.rules.specs.Entered.{total, before, cut, declaring, bodyOfThis, cellOf}
 use Rattle.rules.specs.Calls.{primary, command}
-use Rattle.rules.specs.Rules.{evaluate, perform, calling, sstep, source}
+use Rattle.rules.specs.Rules.{State, evaluate, perform, calling, sstep, beginning, source}
 use Rattle.rules.specs.Samples.{factorial}
 use Rattle.translation.specs.Scoped.{nearest, Scoped}
 use Rattle.translation.specs.Faithful.{Machine, Follows, Runner, Faithful}
+use Rattle.translation.proofs.Sim.{Cmp, cmp}
 use Rattle.translation.proofs.Correct.{translated}
 
 -- M12, by the source rules: 120 after 80 steps
@@ -35,15 +35,24 @@ runs = refl
 abbrev lazy : Machine
 lazy input limit room space = record { stop = Ended; done = 1; taken = 0; written = [] }
 
-pub lazy-breaks : (place : ℕ → ℕ) (s : Statement) (input : List ℤ) (room space t n : ℕ) (q : Stop) (o : Trace) (v : ℤ) (w : List ℤ)
-    → source place s input room space t ≡ done q n o → o .written ≡ v ∷ w → Follows lazy place s → ⊥
-lazy-breaks place s input room space t n q o v w e h f =
-    let k = f input room space (16 * n + 16) .enough t n q o e (omega arith) in
-    let z : _≡_ {A = ℕ} 0 (suc (length w)) = ap length (k .1 .0 ∙ h) in
-    omega arith
+-- what a run has told so far
+abbrev told : {S : Type 0} → End S → Trace
+told (done q n o) = o
+told (over n o s) = o
+
+pub lazy-breaks : (place : ℕ → ℕ) (s : Statement) (input : List ℤ) (room space t : ℕ) (v : ℤ) (w : List ℤ) → told (source place s input room space t) .written ≡ v ∷ w → Follows lazy place s → ⊥
+lazy-breaks place s input room space t v w e f =
+    let a = f input room space 0 .same-answer (λ q. let z : _≡_ {A = ℕ} 0 20 = ap stopNumber q in omega arith) in
+    go (source place s input room space t) (a .1) (a .2) e (a .4 .0) (rw (a .3) at (cmp (sstep place) t (a .0) (beginning place s input room space) 0 untold))
+  where
+    go : (x : End State) (n : ℕ) (o : Trace) → told x .written ≡ v ∷ w → [] ≡ o .written → Cmp (sstep place) x (done Ended n o) → ⊥
+    go (done q m o') n o h k c = let z : _≡_ {A = ℕ} 0 (suc (length w)) = ap length (k ∙ sym (ap (λ (y : Trace). y .written) (c .2)) ∙ h) in omega arith
+    go (over m o' s') n o h k c =
+        let z : _≡_ {A = ℕ} 0 (length (o' .written ++ c .1 .0 .0)) = ap length (k ∙ c .1 .0 .1) in
+        omega (arith, length-append (o' .written) (c .1 .0 .0), ap length h)
 
 pub not-lazy : Faithful (λ place s. lazy) → ⊥
-not-lazy f = lazy-breaks (λ q. q) factorial [] 100 9 400 80 Ended _ (pos 120) [] runs refl (f (λ q. q) factorial scoped)
+not-lazy f = lazy-breaks (λ q. q) factorial [] 100 9 400 (pos 120) [] (ap (λ (x : End State). told x .written) runs) (f (λ q. q) factorial scoped)
 
 -- "One that performs the first statement and then only counts breaks it on M12": whatever the first n instructions are, and it writes what they write
 abbrev counting : ℕ → Runner
