@@ -1,25 +1,27 @@
 -- Paper 01, "Numbered answers", row by row: read answers a number at a place exactly when the row of that number says so. The numbers are those that
 -- `numberOf` gives to the cases of an answer, and the places those of `placeOf`.
-use Prim.Native.Nat.{ℕ, zero, suc, _+_, _<_, _≤_}
+use Prim.Native.Nat.{ℕ, zero, suc, _+_, _-_, _<_, _≤_}
 use mathlib.Core.Path.{_≡_, refl, sym, ap, subst, _∙_}
 use mathlib.Core.Logic.{_↔_, _⊎_, inl, inr}
 use mathlib.Core.List.{List, [], _∷_, _++_}
 use mathlib.Core.Option.{none, some}
 use native.Mathlib.Omega.{arith}
-use lib.ListN.{length, getD, drop}
+use lib.ListN.{length, getD, take, drop}
 use Rattle.answers.specs.Numbers.{accepted as zeroth, short, long, noSymbol, tooLarge, grammar, depth, twice, undeclared, heading, types}
 use Rattle.answers.specs.Answers.{refusal, numberOf, placeOf}
 use Rattle.answers.specs.declared.Refusal.{Refusal}
 use Rattle.answers.specs.declared.Verdict.{Verdict}
 use Rattle.answers.specs.declared.Verdict.the-variants.{Accepted, Refused}
-use Rattle.symbols.specs.Scan.{scan}
-use Rattle.symbols.proofs.FirstFault.{FirstFault, first-fault, three-or-four}
+use Rattle.symbols.specs.Scan.{lexeme, Scan, scan}
+use Rattle.symbols.specs.declared.Lexeme.the-variants.{Large}
+use Rattle.symbols.proofs.FirstFault.{Why, no-symbol, open-note, over, one-too-many, FirstFault, first-fault, three-or-four}
 use Rattle.grammar.specs.Program.{Wrong, FirstDeep}
 use Rattle.names.specs.Uses.{Fault, nameFaults, least}
 use Rattle.types.specs.Types.{typeFault}
 use Rattle.reading.specs.Table.{tableOf}
 use Rattle.reading.specs.Reading.{symbols, kindsIn, placeIn, room, filled, cleared, Scanned, Parsed, parsed, Judged, too-long, unreadable, ungrammatical, too-deep, misnamed, mistyped, accepted, Reads, too-short, enough, Answered}
 use Rattle.reading.proofs.Only.{only}
+use Rattle.reading.proofs.Places.{few-symbols}
 use Rattle.reading.proofs.FaultNumbers.{SevenToNine, seven-to-nine, least-among, ten-only}
 
 module _ (source table : List ℕ) where
@@ -212,3 +214,21 @@ module _ (source table : List ℕ) where
       go : (numberOf v ≡ noSymbol) ⊎ (numberOf v ≡ tooLarge) → scan symbols source .refused ≡ some (refusal (numberOf v) (placeOf v))
       go (inl e) = let g : Unread noSymbol (placeOf v) = subst (λ k. Given k (placeOf v)) e (in-row r) in g .2 ∙ ap (λ k. some (refusal k (placeOf v))) (sym e)
       go (inr e) = let g : Unread tooLarge (placeOf v) = subst (λ k. Given k (placeOf v)) e (in-row r) in g .2 ∙ ap (λ k. some (refusal k (placeOf v))) (sym e)
+
+  -- a 4 at what is not over its own limit is at symbol 2,049: 2,048 stand before it
+  pub at-the-limit : {v : Verdict} {new : List ℕ} → Reads source table v new → numberOf v ≡ tooLarge
+      → ((k : ℕ) × (lexeme (getD source (placeOf v) 0) (drop (placeOf v + 1) source) ≡ Large k)) ⊎ (length (scan symbols (take (placeOf v) source) .found) ≡ symbols)
+  at-the-limit {v} r e = go (first .why) e
+    where
+      first : FirstFault symbols source (refusal (numberOf v) (placeOf v))
+      first = smallest-place r (inr e)
+
+      full : symbols - length (scan symbols source .found) ≡ 0 → length (scan symbols (take (placeOf v) source) .found) ≡ symbols
+      full z = omega (arith, ap (λ (x : Scan). length (x .found)) (first .read-before), few-symbols symbols source)
+
+      go : {m : ℕ} → Why (symbols - length (scan symbols source .found)) (getD source (placeOf v) 0) (drop (placeOf v + 1) source) m → m ≡ tooLarge
+          → ((k : ℕ) × (lexeme (getD source (placeOf v) 0) (drop (placeOf v + 1) source) ≡ Large k)) ⊎ (length (scan symbols (take (placeOf v) source) .found) ≡ symbols)
+      go (no-symbol x) q = absurd (omega arith)
+      go (open-note s k x w o) q = absurd (omega arith)
+      go (over k x) q = inl (k, x)
+      go (one-too-many s k x z) q = inr (full z)
