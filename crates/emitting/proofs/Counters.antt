@@ -8,10 +8,10 @@ use native.Mathlib.Omega.{arith}
 use lib.Dec.{eqb}
 use lib.ListN.{getD}
 use Rattle.machine.specs.Instructions.{high, mid}
-use Rattle.grammar.specs.NodeKinds.{n-block, n-statements, n-variable, n-procedure, n-procedure-end, n-then, n-else, n-start, n-once, n-while, n-do, n-for-end, n-left, n-assign, n-unary, n-binary, n-number, n-logical, n-use, n-call, n-call-end, n-actual}
+use Rattle.grammar.specs.NodeKinds.{n-block, n-statements, n-variable, n-procedure, n-formal, n-procedure-end, n-then, n-else, n-start, n-once, n-while, n-do, n-for-end, n-left, n-assign, n-unary, n-binary, n-number, n-logical, n-use, n-call, n-call-end, n-actual}
 use Rattle.names.specs.Rows.{isUse}
 use Rattle.emitting.specs.Layout.{packed}
-use Rattle.emitting.specs.Emission.{State, Opened, put, withOpen, withSlot, noted, within, withLefts, withVariable, withUses, withEntry, top, pushed, popped, replaced, kindNext, meansNext, othersNext, signed, largest, cellOf, resultOf, calledWith, resultFor, dropped, named, namedOr, calling, actualIn, callEnded, repeated, useNode, element, bodied, stepping, elementNode, loopNode, choiceNode, blockNode, procedureNode, leftsOf, assigned, plainNode, isElement, isChoice, isBlock, codeNode}
+use Rattle.emitting.specs.Emission.{Used, State, Opened, put, withOpen, withSlot, noted, within, withLefts, withVariable, withUses, withCell, withEntry, top, pushed, popped, replaced, kindNext, meansNext, othersNext, signed, largest, cellOf, resultOf, calledWith, resultFor, dropped, named, namedOr, calling, actualIn, callEnded, repeated, useNode, element, bodied, stepping, elementNode, loopNode, choiceNode, blockNode, procedureNode, leftsOf, assigned, plainNode, isElement, isChoice, isBlock, codeNode}
 use Rattle.emitting.specs.declared.Writing.{Writing}
 use Rattle.emitting.specs.Model.{thingsOf, see, Slim, AllSlim, Small, Fit}
 use Rattle.emitting.proofs.Stacked.{length-things}
@@ -51,6 +51,7 @@ module _ {b n : ℕ} (st : State) (h : Small b n st) where
       let e = h .level in
       let f = h .loops in
       let g = h .cells in
+      let y = h .declared in
       let k = h .many in
       record {
         at = omega arith;
@@ -58,6 +59,7 @@ module _ {b n : ℕ} (st : State) (h : Small b n st) where
         level = omega arith;
         loops = omega arith;
         cells = omega arith;
+        declared = omega arith;
         variable = h .variable;
         many = omega arith;
         things = all-up (st .open-ones) q (h .things);
@@ -74,12 +76,14 @@ module _ {b n : ℕ} (st : State) (h : Small b n st) where
       let e = h .level in
       let f = h .loops in
       let g = h .cells in
+      let y = h .declared in
       record {
         at = omega arith;
         slots = omega arith;
         level = omega arith;
         loops = omega arith;
         cells = omega arith;
+        declared = omega arith;
         variable = h .variable;
         many = h .many;
         things = all-up (st .open-ones) one-more (h .things);
@@ -95,6 +99,7 @@ module _ {b n : ℕ} (st : State) (h : Small b n st) where
         level = h .level;
         loops = h .loops;
         cells = h .cells;
+        declared = h .declared;
         variable = h .variable;
         many = omega arith;
         things = (record { first = p; second = q; third = r; fourth = s }, h .things);
@@ -110,6 +115,7 @@ module _ {b n : ℕ} (st : State) (h : Small b n st) where
         level = h .level;
         loops = h .loops;
         cells = h .cells;
+        declared = h .declared;
         variable = h .variable;
         many = omega arith;
         things = (record { first = p; second = q; third = r; fourth = s }, slim-below b (st .open-ones) (h .things));
@@ -124,6 +130,7 @@ module _ {b n : ℕ} (st : State) (h : Small b n st) where
         level = h .level;
         loops = h .loops;
         cells = h .cells;
+        declared = h .declared;
         variable = h .variable;
         many = fewer-below n (st .open-ones) (h .many);
         things = slim-below b (st .open-ones) (h .things);
@@ -137,12 +144,14 @@ module _ {b n : ℕ} (st : State) (h : Small b n st) where
       let e = h .level in
       let f = h .loops in
       let g = h .cells in
+      let y = h .declared in
       record {
         at = omega arith;
         slots = omega arith;
         level = omega arith;
         loops = omega arith;
         cells = omega arith;
+        declared = omega arith;
         variable = h .variable;
         many = h .many;
         things = all-up (st .open-ones) one-more (h .things);
@@ -157,6 +166,7 @@ module _ {b n : ℕ} (st : State) (h : Small b n st) where
         level = h .level;
         loops = h .loops;
         cells = h .cells;
+        declared = h .declared;
         variable = h .variable;
         many = h .many;
         things = h .things;
@@ -171,6 +181,7 @@ module _ {b n : ℕ} (st : State) (h : Small b n st) where
         level = p;
         loops = q;
         cells = r;
+        declared = h .declared;
         variable = h .variable;
         many = h .many;
         things = h .things;
@@ -184,12 +195,14 @@ module _ {b n : ℕ} (st : State) (h : Small b n st) where
       let e = h .level in
       let f = h .loops in
       let g = h .cells in
+      let y = h .declared in
       record {
         at = omega arith;
         slots = omega arith;
         level = omega arith;
         loops = omega arith;
         cells = omega arith;
+        declared = omega arith;
         variable = h .variable;
         many = h .many;
         things = all-up (st .open-ones) one-more (h .things);
@@ -204,12 +217,13 @@ module _ {b n : ℕ} (st : State) (h : Small b n st) where
         level = h .level;
         loops = h .loops;
         cells = h .cells;
+        declared = h .declared;
         variable = p;
         many = h .many;
         things = h .things;
       }
 
-  in-uses : (l : List ℕ) → Small b n (withUses l st)
+  in-uses : (l : List Used) → Small b n (withUses l st)
   unfolding withUses
   in-uses l =
       record {
@@ -218,23 +232,52 @@ module _ {b n : ℕ} (st : State) (h : Small b n st) where
         level = h .level;
         loops = h .loops;
         cells = h .cells;
+        declared = h .declared;
         variable = h .variable;
         many = h .many;
         things = h .things;
       }
 
-  in-entry : (p : ℕ) → Small b n (withEntry p st)
-  unfolding withEntry
-  in-entry p =
+  in-cell : Small (b + 1) n (withCell st)
+  unfolding withCell
+  in-cell =
+      let a = h .at in
+      let c = h .slots in
+      let e = h .level in
+      let f = h .loops in
+      let g = h .cells in
+      let y = h .declared in
       record {
-        at = h .at;
-        slots = h .slots;
-        level = h .level;
-        loops = h .loops;
-        cells = h .cells;
+        at = omega arith;
+        slots = omega arith;
+        level = omega arith;
+        loops = omega arith;
+        cells = omega arith;
+        declared = omega arith;
         variable = h .variable;
         many = h .many;
-        things = h .things;
+        things = all-up (st .open-ones) one-more (h .things);
+      }
+
+  in-entry : Small (b + 1) n (withEntry st)
+  unfolding withEntry
+  in-entry =
+      let a = h .at in
+      let c = h .slots in
+      let e = h .level in
+      let f = h .loops in
+      let g = h .cells in
+      let y = h .declared in
+      record {
+        at = omega arith;
+        slots = omega arith;
+        level = omega arith;
+        loops = omega arith;
+        cells = omega arith;
+        declared = omega arith;
+        variable = h .variable;
+        many = h .many;
+        things = all-up (st .open-ones) one-more (h .things);
       }
 
 -- an operand of three parts is a word
@@ -378,15 +421,15 @@ module _ (vs ly ks es : List ℕ) {b n : ℕ} (st : State) (h : Small b n st) (f
       (small-up _ (in-noted _ (in-replaced st h (f .first) 0 (st .cells) (f .fourth) (s .first) (omega arith) (h .cells) (s .fourth)) _ _) (omega arith) (omega arith))
       (small-up _ (in-within _ (in-popped _ (in-put st h 4 0 _)) (st .level) (st .loops) (f .fourth) (omega arith) (omega arith) (omega arith)) (omega arith) (omega arith)))
 
-  in-procedure : (k p : ℕ) → Small (b + 6) (n + 1) (procedureNode vs ly ks es k f p st)
+  in-procedure : (k : ℕ) → Small (b + 6) (n + 1) (procedureNode vs ly ks es k f st)
   unfolding procedureNode
-  in-procedure k p =
+  in-procedure k =
       let y = h .loops in
       let z = h .level in
       let w = h .cells in
       let q = s .first in
       either (eqb k n-procedure)
-      (in-within _ (in-pushed _ (in-entry st (small-up st h (omega arith) (omega arith)) p) (st .loops) 0 0 0 (omega arith) (omega arith) (omega arith) (omega arith)) (st .level + 1) 0 (st .cells) (omega arith) (omega arith) (omega arith))
+      (small-up _ (in-within _ (in-pushed _ (in-entry st h) (st .loops) 0 0 0 (omega arith) (omega arith) (omega arith) (omega arith)) (st .level + 1) 0 (st .cells) (omega arith) (omega arith) (omega arith)) (omega arith) (omega arith))
       (small-up _ (in-within _ (in-popped _ (in-put st h 7 0 0)) (st .level - 1) (f .first) (st .cells) (omega arith) (omega arith) (omega arith)) (omega arith) (omega arith))
 
 -- ---- what is left
@@ -410,25 +453,29 @@ module _ (vs ly ks es : List ℕ) {b n : ℕ} (st : State) (h : Small b n st) wh
       let w = r .loops in
       let v = r .cells in
       let u = r .variable in
+      let o = r .declared in
       let c = h .slots in
       let d = h .level in
       let f = h .loops in
       let g = h .cells in
+      let y = h .declared in
       let i = h .variable in
+      let j = h .declared in
       record {
         at = omega arith;
         slots = omega arith;
         level = omega arith;
         loops = omega arith;
         cells = omega arith;
+        declared = omega arith;
         variable = omega arith;
         many = fewer-behind vs ly ks es n (st .lefts) (st .open-ones) (h .many);
         things = slim-behind vs ly ks es b (st .lefts) (st .open-ones) (h .things);
       }
 
-  in-plain : (k p a : ℕ) → Small (b + 6) (n + 1) (plainNode vs ly ks es k p a st)
+  in-plain : (k q p a : ℕ) → Small (b + 6) (n + 1) (plainNode vs ly ks es k q p a st)
   unfolding plainNode
-  in-plain k p a =
+  in-plain k q p a =
       let y = h .loops in
       let z = h .level in
       let w = h .cells in
@@ -437,13 +484,14 @@ module _ (vs ly ks es : List ℕ) {b n : ℕ} (st : State) (h : Small b n st) wh
       (either (eqb k n-unary) (small-up _ (in-signed st h a p) (omega arith) (omega arith))
       (either (eqb k n-binary) (small-up _ (in-put st h _ p 0) (omega arith) (omega arith))
       (either (eqb k n-assign) (small-up _ in-assigned (omega arith) (omega arith))
-      (either (eqb k n-variable) (in-within st (small-up st h (omega arith) (omega arith)) (st .level) (st .loops) (st .cells + 1) (omega arith) (omega arith) (omega arith))
-      (small-up st h (omega arith) (omega arith)))))))
+      (either (eqb k n-variable) (small-up _ (in-cell _ (in-within st (small-up st h {d = b + 1} {m = n} (omega arith) (omega arith)) (st .level) (st .loops) (st .cells + 1) (omega arith) (omega arith) (omega arith))) (omega arith) (omega arith))
+      (either (eqb k n-formal) (small-up _ (in-cell st h) (omega arith) (omega arith))
+      (small-up st h (omega arith) (omega arith))))))))
 
   -- what a node adds
-  pub small-node : 65536 ≤ b → (k p a c : ℕ) → p < 65536 → kindNext (st .uses) < 65536 → meansNext (st .uses) < 65536 → Small (b + 6) (n + 1) (codeNode vs ly ks es k p a c st)
+  pub small-node : 65536 ≤ b → (k y p a c : ℕ) → p < 65536 → kindNext (st .uses) < 65536 → meansNext (st .uses) < 65536 → Small (b + 6) (n + 1) (codeNode vs ly ks es k y p a c st)
   unfolding codeNode
-  small-node q k p a c r i j =
+  small-node q k y p a c r i j =
       let f = top (st .open-ones) in
       let s = slim-top b (st .open-ones) (h .things) in
       either (isUse k) (in-use vs ly ks es _ (in-uses st h (othersNext (st .uses))) k _ _ c p a (omega arith) (omega arith) (omega arith))
@@ -453,13 +501,13 @@ module _ (vs ly ks es : List ℕ) {b n : ℕ} (st : State) (h : Small b n st) wh
       (either (eqb k n-do || eqb k n-for-end) (in-loop vs ly ks es st h f s k)
       (either (isChoice vs ly ks es k) (in-choice vs ly ks es st h f s k)
       (either (isBlock vs ly ks es k) (in-block vs ly ks es st h f s k p)
-      (either (eqb k n-procedure || eqb k n-procedure-end) (in-procedure vs ly ks es st h f s k p)
-      (in-plain k p a))))))))
+      (either (eqb k n-procedure || eqb k n-procedure-end) (in-procedure vs ly ks es st h f s k)
+      (in-plain k y p a))))))))
 
 -- ---- of the code's numbers
 
 -- the arrays besides do not matter
-pub small-alone : {b n : ℕ} (t : Writing) (us op co ah en : List ℕ) → Small b n (see t us op co ah en) → Small b n (see t [] op [] [] [])
+pub small-alone : {b n : ℕ} (t : Writing) (us : List Used) (op co ah en : List ℕ) → Small b n (see t us op co ah en) → Small b n (see t [] op [] [] [])
 small-alone t us op co ah en h =
     record {
       at = h .at;
@@ -467,6 +515,7 @@ small-alone t us op co ah en h =
       level = h .level;
       loops = h .loops;
       cells = h .cells;
+      declared = h .declared;
       variable = h .variable;
       many = h .many;
       things = h .things;
@@ -479,9 +528,10 @@ fit t op h =
     let e = h .level in
     let f = h .loops in
     let g = h .cells in
+    let y = h .declared in
     let k = h .many in
     let l = length-things (t .open) op in
-    record { at = omega arith; slots = omega arith; level = omega arith; loops = omega arith; cells = omega arith; variable = h .variable; open-ones = omega arith }
+    record { at = omega arith; slots = omega arith; level = omega arith; loops = omega arith; cells = omega arith; declared = omega arith; variable = h .variable; open-ones = omega arith }
 
 -- a left part's word
 pub left-word : (b m n : ℕ) (op : List ℕ) → AllSlim b (thingsOf m op) → top (thingsOf (m - n) op) .second < 4294967296

@@ -20,6 +20,7 @@ pub record Storing (k : ℕ) (st su : State) : Type 0 where
   pub loops : su .loops ≡ st .loops
   pub cells : su .cells ≡ st .cells
   pub variable : su .variable ≡ st .variable
+  pub declared : su .declared ≡ st .declared
 
 pub slim-below : (b : ℕ) (l : List Opened) → AllSlim b l → AllSlim b (below l)
 unfolding AllSlim below
@@ -84,9 +85,9 @@ module _ (vs ly ks es : List ℕ) where
 
   pub storing : (l : List Opened) (st : State) → Storing (length l) st (stored vs ly ks es l st)
   unfolding stored put
-  storing [] st = record { at = omega arith; slots = refl; level = refl; loops = refl; cells = refl; variable = refl }
-  storing (x ∷ []) st = record { at = omega arith; slots = refl; level = refl; loops = refl; cells = refl; variable = refl }
+  storing [] st = record { at = omega arith; slots = refl; level = refl; loops = refl; cells = refl; variable = refl; declared = refl }
+  storing (x ∷ []) st = record { at = omega arith; slots = refl; level = refl; loops = refl; cells = refl; variable = refl; declared = refl }
   storing (x ∷ y ∷ l) st =
       let r = storing (y ∷ l) (put 15 0 (x .second) st) in
       let e = r .at in
-      record { at = omega arith; slots = r .slots; level = r .level; loops = r .loops; cells = r .cells; variable = r .variable }
+      record { at = omega arith; slots = r .slots; level = r .level; loops = r .loops; cells = r .cells; variable = r .variable; declared = r .declared }

@@ -4,3 +4,4 @@ pub mod NextUses
 pub mod LeftParts
 pub mod Counters
 pub mod Dispatch
+pub mod Twice

@@ -1,101 +1,104 @@
--- The next use, three words behind those that were passed: its kind, what it means, and the uses behind it. Where fewer are left there is none.
-use mathlib.Core.Path.{_≡_, refl, sym, _∙_}
+-- The next use behind those that were passed: its kind, what it means, and the uses behind it. Where none is left these are zeros.
+use mathlib.Core.Path.{_≡_, refl, ap, _∙_}
+use mathlib.Core.Bool.{Bool, true, false, cond}
 use mathlib.Core.List.{List, [], _∷_}
-use Prim.Native.Nat.{ℕ, _+_, _-_, _<_, _≤_}
+use Prim.Native.Nat.{ℕ, zero, suc, _+_, _*_, _-_, _<_, _≤_}
 use native.Mathlib.Omega.{arith}
-use lib.ListN.{length, getD, drop, length-drop}
-use lib.Seq.{getD-drop, drop-drop, drop-length}
-use Rattle.emitting.specs.Emission.{kindNext, meansNext, othersNext}
+use lib.Dec.{ltb}
+use lib.ListN.{length, getD, drop}
+use borrow.Author.Tests.{ltb-true, ltb-false}
+use Rattle.names.specs.Rows.{meantOf}
+use Rattle.names.specs.declared.Meant.the-variants.{Declared, Given, Nothing}
+use Rattle.answers.specs.declared.Declaration.{Declaration}
+use Rattle.answers.specs.declared.Environment.{Environment}
+use Rattle.emitting.specs.Emission.{usedAs, usesIn, kindNext, meansNext, othersNext}
 
-kind-some : (l : List ℕ) → 2 < length l → kindNext l ≡ getD l 1 0
-unfolding kindNext
-kind-some [] h = absurd (omega arith)
-kind-some (p ∷ []) h = absurd (omega arith)
-kind-some (p ∷ k ∷ []) h = absurd (omega arith)
-kind-some (p ∷ k ∷ m ∷ l) h = refl
+module _ (rows : List ℕ) where
+  -- there is one
+  pub next-here : (ws : List ℕ) (n : ℕ) → n < length ws
+      → (kindNext (drop n (usesIn rows ws)) ≡ usedAs rows (meantOf (getD ws n 0)) .kind) × (meansNext (drop n (usesIn rows ws)) ≡ usedAs rows (meantOf (getD ws n 0)) .means)
+  unfolding usesIn kindNext meansNext
+  next-here [] n h = absurd (omega arith)
+  next-here (w ∷ ws) zero h = (refl, refl)
+  next-here (w ∷ ws) (suc n) h = next-here ws n (omega arith)
 
-kind-none : (l : List ℕ) → length l ≤ 2 → kindNext l ≡ 0
-unfolding kindNext
-kind-none [] h = refl
-kind-none (p ∷ []) h = refl
-kind-none (p ∷ k ∷ []) h = refl
-kind-none (p ∷ k ∷ m ∷ l) h = absurd (omega arith)
+  -- there is none
+  pub next-nowhere : (ws : List ℕ) (n : ℕ) → length ws ≤ n → drop n (usesIn rows ws) ≡ []
+  unfolding usesIn
+  next-nowhere [] zero h = refl
+  next-nowhere [] (suc n) h = refl
+  next-nowhere (w ∷ ws) zero h = absurd (omega arith)
+  next-nowhere (w ∷ ws) (suc n) h = next-nowhere ws n (omega arith)
 
-means-some : (l : List ℕ) → 2 < length l → meansNext l ≡ getD l 2 0
-unfolding meansNext
-means-some [] h = absurd (omega arith)
-means-some (p ∷ []) h = absurd (omega arith)
-means-some (p ∷ k ∷ []) h = absurd (omega arith)
-means-some (p ∷ k ∷ m ∷ l) h = refl
+  pub others-here : (ws : List ℕ) (n : ℕ) → n < length ws → drop (n + 1) (usesIn rows ws) ≡ othersNext (drop n (usesIn rows ws))
+  unfolding usesIn othersNext
+  others-here [] n h = absurd (omega arith)
+  others-here (w ∷ ws) zero h = refl
+  others-here (w ∷ ws) (suc n) h =
+      let e : suc n + 1 ≡ suc (n + 1) = omega arith in
+      ap (λ (j : ℕ). drop j (usesIn rows (w ∷ ws))) e ∙ others-here ws n (omega arith)
 
-means-none : (l : List ℕ) → length l ≤ 2 → meansNext l ≡ 0
-unfolding meansNext
-means-none [] h = refl
-means-none (p ∷ []) h = refl
-means-none (p ∷ k ∷ []) h = refl
-means-none (p ∷ k ∷ m ∷ l) h = absurd (omega arith)
+  pub others-nowhere : (ws : List ℕ) (n : ℕ) → length ws ≤ n → drop n (usesIn rows ws) ≡ othersNext (drop n (usesIn rows ws))
+  unfolding othersNext
+  others-nowhere ws n h = let e = next-nowhere ws n h in rw e
 
-others-some : (l : List ℕ) → 2 < length l → othersNext l ≡ drop 3 l
-unfolding othersNext
-others-some [] h = absurd (omega arith)
-others-some (p ∷ []) h = absurd (omega arith)
-others-some (p ∷ k ∷ []) h = absurd (omega arith)
-others-some (p ∷ k ∷ m ∷ l) h = refl
+  pub kind-nowhere : (ws : List ℕ) (n : ℕ) → length ws ≤ n → (0 ≡ kindNext (drop n (usesIn rows ws))) × (0 ≡ meansNext (drop n (usesIn rows ws)))
+  unfolding kindNext meansNext
+  kind-nowhere ws n h = let e = next-nowhere ws n h in (rw e, rw e)
 
-others-none : (l : List ℕ) → length l ≤ 2 → othersNext l ≡ []
-unfolding othersNext
-others-none [] h = refl
-others-none (p ∷ []) h = refl
-others-none (p ∷ k ∷ []) h = refl
-others-none (p ∷ k ∷ m ∷ l) h = absurd (omega arith)
+  -- ---- small numbers
 
-module _ (ws : List ℕ) (n : ℕ) where
-  left : 2 < length ws - n → 2 < length (drop n ws)
-  left h = let e = length-drop n ws in omega arith
+  used-small : (w : ℕ) → w < 65536 → (usedAs rows (meantOf w) .kind < 65536) × (usedAs rows (meantOf w) .means < 65536)
+  unfolding usedAs meantOf
+  used-small w s = go (ltb w 8192) (ltb w 8196)
+    where
+      go : (b c : Bool)
+          → (usedAs rows (cond b (Declared (record { number = w })) (cond c (Given (record { number = w - 8192 })) Nothing)) .kind < 65536)
+          × (usedAs rows (cond b (Declared (record { number = w })) (cond c (Given (record { number = w - 8192 })) Nothing)) .means < 65536)
+      go true c = (omega arith, s)
+      go false true = (omega arith, omega arith)
+      go false false = (omega arith, omega arith)
 
-  gone : length ws - n ≤ 2 → length (drop n ws) ≤ 2
-  gone h = let e = length-drop n ws in omega arith
+  pub next-small : (ws : List ℕ) (n : ℕ) → ((i : ℕ) → getD ws i 0 < 65536) → (kindNext (drop n (usesIn rows ws)) < 65536) × (meansNext (drop n (usesIn rows ws)) < 65536)
+  unfolding usesIn kindNext meansNext
+  next-small [] zero k = (omega arith, omega arith)
+  next-small [] (suc n) k = (omega arith, omega arith)
+  next-small (w ∷ ws) zero k = used-small w (k 0)
+  next-small (w ∷ ws) (suc n) k = next-small ws n (λ i. k (suc i))
 
-  pub kind-here : 2 < length ws - n → getD ws (n + 1) 0 ≡ kindNext (drop n ws)
-  kind-here h = sym (kind-some (drop n ws) (left h) ∙ getD-drop n ws 1 0)
+-- ---- the numbers of a declaration and of the environment
 
-  pub kind-nowhere : length ws - n ≤ 2 → 0 ≡ kindNext (drop n ws)
-  kind-nowhere h = sym (kind-none (drop n ws) (gone h))
+pub declared-small : (w : ℕ) (d : Declaration) → meantOf w ≡ Declared d → d .number < 8192
+unfolding meantOf
+declared-small w d e = go (ltb w 8192) refl (ltb w 8196) e
+  where
+    go : (b : Bool) → ltb w 8192 ≡ b → (c : Bool) → cond b (Declared (record { number = w })) (cond c (Given (record { number = w - 8192 })) Nothing) ≡ Declared d → d .number < 8192
+    go true l c e = let z : record { number = w } ≡ d = cc in let y : w ≡ d .number = ap (λ (d : Declaration). d .number) z in omega (arith, ltb-true w 8192 l)
+    go false l true e = absurd (let z : _≡_ {A = ℕ} 0 1 = cc in omega arith)
+    go false l false e = absurd (let z : _≡_ {A = ℕ} 0 1 = cc in omega arith)
 
-  pub means-here : 2 < length ws - n → getD ws (n + 2) 0 ≡ meansNext (drop n ws)
-  means-here h = sym (means-some (drop n ws) (left h) ∙ getD-drop n ws 2 0)
+pub given-small : (w : ℕ) (d : Environment) → meantOf w ≡ Given d → d .number < 4
+unfolding meantOf
+given-small w d e = go (ltb w 8192) refl (ltb w 8196) refl e
+  where
+    go : (b : Bool) → ltb w 8192 ≡ b → (c : Bool) → ltb w 8196 ≡ c → cond b (Declared (record { number = w })) (cond c (Given (record { number = w - 8192 })) Nothing) ≡ Given d → d .number < 4
+    go true l c l' e = absurd (let z : _≡_ {A = ℕ} 0 1 = cc in omega arith)
+    go false l true l' e =
+        let z : record { number = w - 8192 } ≡ d = cc in
+        let y : w - 8192 ≡ d .number = ap (λ (d : Environment). d .number) z in
+        omega (arith, ltb-true w 8196 l', ltb-false w 8192 l)
+    go false l false l' e = absurd (let z : _≡_ {A = ℕ} 0 1 = cc in omega arith)
 
-  pub means-nowhere : length ws - n ≤ 2 → 0 ≡ meansNext (drop n ws)
-  means-nowhere h = sym (means-none (drop n ws) (gone h))
+module _ (rows : List ℕ) (w : ℕ) {k m : ℕ} where
+  pub declared-use : (d : Declaration) {v : ℕ} → meantOf w ≡ Declared d → v ≡ getD rows (4 * d .number) 0 → v < 65536 → k ≡ v - 4 → m ≡ d .number
+      → (k ≡ usedAs rows (meantOf w) .kind) × (m ≡ usedAs rows (meantOf w) .means)
+  unfolding usedAs
+  declared-use d e f l i j = rw e (omega arith, j)
 
-  pub others-here : 2 < length ws - n → drop (n + 3) ws ≡ othersNext (drop n ws)
-  others-here h = sym (others-some (drop n ws) (left h) ∙ drop-drop 3 n ws)
+  pub given-use : (d : Environment) → meantOf w ≡ Given d → k ≡ 0 → m ≡ d .number → (k ≡ usedAs rows (meantOf w) .kind) × (m ≡ usedAs rows (meantOf w) .means)
+  unfolding usedAs
+  given-use d e i j = rw e (i, j)
 
-  pub others-nowhere : length ws - n ≤ 2 → drop (length ws) ws ≡ othersNext (drop n ws)
-  others-nowhere h = drop-length ws ∙ sym (others-none (drop n ws) (gone h))
-
--- ---- words of 16 bits
-
-kind-word : (l : List ℕ) → ((i : ℕ) → getD l i 0 < 65536) → kindNext l < 65536
-unfolding kindNext
-kind-word [] h = omega arith
-kind-word (p ∷ []) h = omega arith
-kind-word (p ∷ k ∷ []) h = omega arith
-kind-word (p ∷ k ∷ m ∷ l) h = h 1
-
-means-word : (l : List ℕ) → ((i : ℕ) → getD l i 0 < 65536) → meansNext l < 65536
-unfolding meansNext
-means-word [] h = omega arith
-means-word (p ∷ []) h = omega arith
-means-word (p ∷ k ∷ []) h = omega arith
-means-word (p ∷ k ∷ m ∷ l) h = h 2
-
-module _ (ws : List ℕ) (n : ℕ) (h : (i : ℕ) → getD ws i 0 < 65536) where
-  later : (i : ℕ) → getD (drop n ws) i 0 < 65536
-  later i = rw (getD-drop n ws i 0) (h (n + i))
-
-  pub kind-small : kindNext (drop n ws) < 65536
-  kind-small = kind-word (drop n ws) later
-
-  pub means-small : meansNext (drop n ws) < 65536
-  means-small = means-word (drop n ws) later
+  pub no-use : meantOf w ≡ Nothing → k ≡ 0 → m ≡ 0 → (k ≡ usedAs rows (meantOf w) .kind) × (m ≡ usedAs rows (meantOf w) .means)
+  unfolding usedAs
+  no-use e i j = rw e (i, j)

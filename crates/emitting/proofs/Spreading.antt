@@ -67,28 +67,33 @@ module _ (i : ℕ) (st : Laying) (h : Spread i st) where
       let a = h .level in
       let b = h .reach in
       let d = h .open-scopes in
-      record { level = omega arith; reach = omega arith; open-scopes = omega arith; outside = all-on i (st .around) (h .outside) }
+      let e = h .declared in
+      record { level = omega arith; reach = omega arith; open-scopes = omega arith; declared = omega arith; outside = all-on i (st .around) (h .outside) }
 
   on-typed : (t : ℕ) → Spread (i + 1) (typed t st)
   unfolding typed
-  on-typed t = record { level = on .level; reach = on .reach; open-scopes = on .open-scopes; outside = on .outside }
+  on-typed t = record { level = on .level; reach = on .reach; open-scopes = on .open-scopes; declared = on .declared; outside = on .outside }
 
-  on-celled : (p : ℕ) → Spread (i + 1) (celled p st)
+  on-celled : Spread (i + 1) (celled st)
   unfolding celled
-  on-celled p = let b = h .reach in record { level = on .level; reach = omega arith; open-scopes = on .open-scopes; outside = on .outside }
+  on-celled =
+      let b = h .reach in
+      let e = h .declared in
+      record { level = on .level; reach = omega arith; open-scopes = on .open-scopes; declared = omega arith; outside = on .outside }
 
   on-blocked : Spread (i + 1) (blocked st)
   unfolding blocked AllWithin
   on-blocked =
       let d = h .open-scopes in
-      record { level = on .level; reach = on .reach; open-scopes = omega arith; outside = (on .reach, on .outside) }
+      record { level = on .level; reach = on .reach; open-scopes = omega arith; declared = on .declared; outside = (on .reach, on .outside) }
 
-  on-procedured : (p : ℕ) → Spread (i + 1) (procedured p st)
+  on-procedured : Spread (i + 1) (procedured st)
   unfolding procedured oneOf AllWithin
-  on-procedured p =
+  on-procedured =
       let a = h .level in
       let d = h .open-scopes in
-      record { level = omega arith; reach = one-small i (st .sort) (eqb (st .sort) 0); open-scopes = omega arith; outside = (on .reach, on .outside) }
+      let e = h .declared in
+      record { level = omega arith; reach = one-small i (st .sort) (eqb (st .sort) 0); open-scopes = omega arith; declared = omega arith; outside = (on .reach, on .outside) }
 
   on-closed : (n : ℕ) → n ≤ i → Spread (i + 1) (closed n st)
   unfolding closed
@@ -97,6 +102,7 @@ module _ (i : ℕ) (st : Laying) (h : Spread i st) where
         level = omega arith;
         reach = outermost-within (i + 1) (st .around) (on .outside);
         open-scopes = further-length (i + 1) (st .around) (on .open-scopes);
+        declared = on .declared;
         outside = further-within (i + 1) (st .around) (on .outside);
       }
 
@@ -105,8 +111,8 @@ module _ (i : ℕ) (st : Laying) (h : Spread i st) where
   spread-node k p a b =
       let l = h .level in
       either i (eqb k n-type) (on-typed a)
-      (either i (eqb k n-variable || eqb k n-formal) (on-celled p)
-      (either i (eqb k n-procedure) (on-procedured p)
+      (either i (eqb k n-variable || eqb k n-formal) on-celled
+      (either i (eqb k n-procedure) on-procedured
       (either i (eqb k n-procedure-end) (on-closed (st .level - 1) (omega arith))
       (either i (eqb k n-block) on-blocked
       (either i (eqb k n-block-end) (on-closed (st .level) l)
@@ -124,11 +130,12 @@ spread-up i j st q h =
     let a = h .level in
     let b = h .reach in
     let d = h .open-scopes in
-    record { level = omega arith; reach = omega arith; open-scopes = omega arith; outside = all-up i j (st .around) q (h .outside) }
+    let f = h .declared in
+    record { level = omega arith; reach = omega arith; open-scopes = omega arith; declared = omega arith; outside = all-up i j (st .around) q (h .outside) }
 
 -- ---- two kinds of nodes that do the same
 
-pub node-celled : (k p a b : ℕ) (st : Laying) → (k ≡ 5) ⊎ (k ≡ 7) → celled p st ≡ layNode k p a b st
+pub node-celled : (k p a b : ℕ) (st : Laying) → (k ≡ 5) ⊎ (k ≡ 7) → celled st ≡ layNode k p a b st
 unfolding layNode
 node-celled k p a b st (inl e) = rw e
 node-celled k p a b st (inr e) = rw e

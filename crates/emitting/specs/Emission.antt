@@ -1,15 +1,52 @@
--- How the code is written: one pass over the nodes of a program's table, with its uses, the layout of its cells and the values of its numbers. The
+-- How the code is written: one pass over the nodes of a program, with its uses, the layout of its cells, and the values and places of its symbols. The
 -- pass takes the addresses that lie ahead from tables, and fills such tables itself: done once with nothing in them, it finds them; done again with
--- those, it writes the code. This is the model of the code and no part of the paper; proofs/ has that it comes to what Translate says.
-use Prim.Native.Nat.{ℕ, zero, suc, _+_, _*_, _-_}
+-- those, it writes the code. This is the model of the code and no part of the paper; crate translating has that it comes to what Translate says.
+use Prim.Native.Nat.{ℕ, zero, suc, _+_, _*_, _-_, _%_}
 use mathlib.Core.Bool.{Bool, cond, _&&_, _||_}
 use mathlib.Core.List.{List, [], _∷_}
 use lib.Dec.{eqb, ltb}
 use lib.ListN.{getD, set, replicate}
 use Rattle.machine.specs.Instructions.{high, mid}
-use Rattle.grammar.specs.NodeKinds.{n-block, n-statements, n-block-end, n-variable, n-procedure, n-procedure-end, n-then, n-else, n-if-end, n-start, n-once, n-while, n-step, n-do, n-for-end, n-left, n-assign, n-condition-end, n-unary, n-binary, n-number, n-logical, n-use, n-call, n-call-end, n-actual}
-use Rattle.names.specs.Rows.{foldNodes, isUse}
-use Rattle.emitting.specs.Layout.{packed, sites}
+use Rattle.grammar.specs.NodeKinds.{n-block, n-statements, n-block-end, n-variable, n-procedure, n-formal, n-procedure-end, n-then, n-else, n-if-end, n-start, n-once, n-while, n-step, n-do, n-for-end, n-left, n-assign, n-condition-end, n-unary, n-binary, n-number, n-logical, n-use, n-call, n-call-end, n-actual}
+use Rattle.names.specs.Rows.{foldNodes, isUse, meantOf}
+use Rattle.names.specs.declared.Meant.{Meant}
+use Rattle.names.specs.declared.Meant.the-variants.{Declared, Given, Nothing}
+use Rattle.emitting.specs.Layout.{packed, declarationRoom}
+
+-- ---- uses
+
+-- kind: 0 environment, 1 variable, 2 procedure, 3 formal; means: the declaration's number, or the environment's
+pub record Used : Type 0 where
+  pub kind : ℕ
+  pub means : ℕ
+
+-- of a declaration the kind stands in its row, a word of 16 bits; nothing, which no accepted program has, is zeros
+unfoldable pub usedAs : List ℕ → Meant → Used
+usedAs rows (Declared d) = record { kind = getD rows (4 * d .number) 0 % 65536 - 4; means = d .number }
+usedAs rows (Given e) = record { kind = 0; means = e .number }
+usedAs rows Nothing = record { kind = 0; means = 0 }
+
+-- uses as they are kept
+unfoldable pub usesIn : List ℕ → List ℕ → List Used
+usesIn rows [] = []
+usesIn rows (w ∷ ws) = usedAs rows (meantOf w) ∷ usesIn rows ws
+
+-- the next one's kind and what it means; none are zeros
+unfoldable pub kindNext : List Used → ℕ
+kindNext [] = 0
+kindNext (u ∷ l) = u .kind
+
+unfoldable pub meansNext : List Used → ℕ
+meansNext [] = 0
+meansNext (u ∷ l) = u .means
+
+unfoldable pub othersNext : List Used → List Used
+othersNext [] = []
+othersNext (u ∷ l) = l
+
+-- the place of a symbol, of 16 bits
+abbrev pub placeAt : List ℕ → ℕ → ℕ
+placeAt places s = getD places s 0 % 65536
 
 -- ---- what is known behind some nodes
 
@@ -24,11 +61,12 @@ pub record Opened : Type 0 where
 abbrev pub opened : ℕ → ℕ → ℕ → ℕ → Opened
 opened a b c d = record { first = a; second = b; third = c; fourth = d }
 
--- the uses to come, three words each; the address of the next instruction; how many addresses lie ahead so far; the activations and the for
+-- the uses to come; the address of the next instruction; how many addresses lie ahead so far; the activations and the for
 -- statements of the running one that are around; the variables of the block so far; the left parts before; 1 where a name stands that a number is
--- taken to, and the last such variable; what is open, newest first; the words; the addresses that lay ahead; those of procedures, by place
+-- taken to, and the last such variable; how many declarations and formals there were; what is open, newest first; the words; the addresses that lay
+-- ahead; those of procedures, by their declarations' numbers
 pub record State : Type 0 where
-  pub uses : List ℕ
+  pub uses : List Used
   pub at : ℕ
   pub slots : ℕ
   pub level : ℕ
@@ -37,62 +75,66 @@ pub record State : Type 0 where
   pub lefts : ℕ
   pub awaits : ℕ
   pub variable : ℕ
+  pub declared : ℕ
   pub open-ones : List Opened
   pub code : List ℕ
   pub ahead : List ℕ
   pub entries : List ℕ
 
--- as many words, and as many addresses ahead, as there may be
-abbrev pub codeRoom : ℕ
-codeRoom = 16384
-
+-- as many addresses ahead as there may be
 abbrev pub slotRoom : ℕ
 slotRoom = 8192
 
-abbrev pub fresh : List ℕ → State
-fresh uses =
-    record { uses = uses; at = 0; slots = 0; level = 0; loops = 0; cells = 0; lefts = 0; awaits = 0; variable = 0; open-ones = []; code = replicate codeRoom 0; ahead = replicate slotRoom 0; entries = replicate sites 0 }
+-- room: for as many words
+abbrev pub fresh : ℕ → List Used → State
+fresh room uses =
+    record { uses = uses; at = 0; slots = 0; level = 0; loops = 0; cells = 0; lefts = 0; awaits = 0; variable = 0; declared = 0; open-ones = []; code = replicate room 0; ahead = replicate slotRoom 0; entries = replicate declarationRoom 0 }
 
 -- ---- the parts of a state
 
 -- an instruction: operation, place, operand
 unfoldable pub put : ℕ → ℕ → ℕ → State → State
 put o p v st =
-    record { uses = st .uses; at = st .at + 1; slots = st .slots; level = st .level; loops = st .loops; cells = st .cells; lefts = st .lefts; awaits = st .awaits; variable = st .variable; open-ones = st .open-ones; code = set (set (st .code) (2 * st .at) (o + 64 * p)) (2 * st .at + 1) v; ahead = st .ahead; entries = st .entries }
+    record { uses = st .uses; at = st .at + 1; slots = st .slots; level = st .level; loops = st .loops; cells = st .cells; lefts = st .lefts; awaits = st .awaits; variable = st .variable; declared = st .declared; open-ones = st .open-ones; code = set (set (st .code) (2 * st .at) (o + 64 * p)) (2 * st .at + 1) v; ahead = st .ahead; entries = st .entries }
 
 unfoldable pub withOpen : List Opened → State → State
 withOpen l st =
-    record { uses = st .uses; at = st .at; slots = st .slots; level = st .level; loops = st .loops; cells = st .cells; lefts = st .lefts; awaits = st .awaits; variable = st .variable; open-ones = l; code = st .code; ahead = st .ahead; entries = st .entries }
+    record { uses = st .uses; at = st .at; slots = st .slots; level = st .level; loops = st .loops; cells = st .cells; lefts = st .lefts; awaits = st .awaits; variable = st .variable; declared = st .declared; open-ones = l; code = st .code; ahead = st .ahead; entries = st .entries }
 
 -- one address more lies ahead
 unfoldable pub withSlot : State → State
 withSlot st =
-    record { uses = st .uses; at = st .at; slots = st .slots + 1; level = st .level; loops = st .loops; cells = st .cells; lefts = st .lefts; awaits = st .awaits; variable = st .variable; open-ones = st .open-ones; code = st .code; ahead = st .ahead; entries = st .entries }
+    record { uses = st .uses; at = st .at; slots = st .slots + 1; level = st .level; loops = st .loops; cells = st .cells; lefts = st .lefts; awaits = st .awaits; variable = st .variable; declared = st .declared; open-ones = st .open-ones; code = st .code; ahead = st .ahead; entries = st .entries }
 
 -- what lay ahead at a slot
 unfoldable pub noted : ℕ → ℕ → State → State
 noted i v st =
-    record { uses = st .uses; at = st .at; slots = st .slots; level = st .level; loops = st .loops; cells = st .cells; lefts = st .lefts; awaits = st .awaits; variable = st .variable; open-ones = st .open-ones; code = st .code; ahead = set (st .ahead) i v; entries = st .entries }
+    record { uses = st .uses; at = st .at; slots = st .slots; level = st .level; loops = st .loops; cells = st .cells; lefts = st .lefts; awaits = st .awaits; variable = st .variable; declared = st .declared; open-ones = st .open-ones; code = st .code; ahead = set (st .ahead) i v; entries = st .entries }
 
 unfoldable pub within : ℕ → ℕ → ℕ → State → State
 within level loops cells st =
-    record { uses = st .uses; at = st .at; slots = st .slots; level = level; loops = loops; cells = cells; lefts = st .lefts; awaits = st .awaits; variable = st .variable; open-ones = st .open-ones; code = st .code; ahead = st .ahead; entries = st .entries }
+    record { uses = st .uses; at = st .at; slots = st .slots; level = level; loops = loops; cells = cells; lefts = st .lefts; awaits = st .awaits; variable = st .variable; declared = st .declared; open-ones = st .open-ones; code = st .code; ahead = st .ahead; entries = st .entries }
 
 unfoldable pub withLefts : ℕ → State → State
 withLefts n st =
-    record { uses = st .uses; at = st .at; slots = st .slots; level = st .level; loops = st .loops; cells = st .cells; lefts = n; awaits = st .awaits; variable = st .variable; open-ones = st .open-ones; code = st .code; ahead = st .ahead; entries = st .entries }
+    record { uses = st .uses; at = st .at; slots = st .slots; level = st .level; loops = st .loops; cells = st .cells; lefts = n; awaits = st .awaits; variable = st .variable; declared = st .declared; open-ones = st .open-ones; code = st .code; ahead = st .ahead; entries = st .entries }
 
 unfoldable pub withVariable : ℕ → ℕ → State → State
 withVariable awaits v st =
-    record { uses = st .uses; at = st .at; slots = st .slots; level = st .level; loops = st .loops; cells = st .cells; lefts = st .lefts; awaits = awaits; variable = v; open-ones = st .open-ones; code = st .code; ahead = st .ahead; entries = st .entries }
+    record { uses = st .uses; at = st .at; slots = st .slots; level = st .level; loops = st .loops; cells = st .cells; lefts = st .lefts; awaits = awaits; variable = v; declared = st .declared; open-ones = st .open-ones; code = st .code; ahead = st .ahead; entries = st .entries }
 
-unfoldable pub withUses : List ℕ → State → State
+unfoldable pub withUses : List Used → State → State
 withUses l st =
-    record { uses = l; at = st .at; slots = st .slots; level = st .level; loops = st .loops; cells = st .cells; lefts = st .lefts; awaits = st .awaits; variable = st .variable; open-ones = st .open-ones; code = st .code; ahead = st .ahead; entries = st .entries }
+    record { uses = l; at = st .at; slots = st .slots; level = st .level; loops = st .loops; cells = st .cells; lefts = st .lefts; awaits = st .awaits; variable = st .variable; declared = st .declared; open-ones = st .open-ones; code = st .code; ahead = st .ahead; entries = st .entries }
 
-unfoldable pub withEntry : ℕ → State → State
-withEntry p st =
-    record { uses = st .uses; at = st .at; slots = st .slots; level = st .level; loops = st .loops; cells = st .cells; lefts = st .lefts; awaits = st .awaits; variable = st .variable; open-ones = st .open-ones; code = st .code; ahead = st .ahead; entries = set (st .entries) p (st .at) }
+-- a variable or formal; a procedure, which begins here
+unfoldable pub withCell : State → State
+withCell st =
+    record { uses = st .uses; at = st .at; slots = st .slots; level = st .level; loops = st .loops; cells = st .cells; lefts = st .lefts; awaits = st .awaits; variable = st .variable; declared = st .declared + 1; open-ones = st .open-ones; code = st .code; ahead = st .ahead; entries = st .entries }
+
+unfoldable pub withEntry : State → State
+withEntry st =
+    record { uses = st .uses; at = st .at; slots = st .slots; level = st .level; loops = st .loops; cells = st .cells; lefts = st .lefts; awaits = st .awaits; variable = st .variable; declared = st .declared + 1; open-ones = st .open-ones; code = st .code; ahead = st .ahead; entries = set (st .entries) (st .declared) (st .at) }
 
 unfoldable pub top : List Opened → Opened
 top [] = opened 0 0 0 0
@@ -112,26 +154,6 @@ popped st = withOpen (below (st .open-ones)) st
 unfoldable pub replaced : ℕ → ℕ → ℕ → ℕ → State → State
 replaced a b c d st = withOpen (opened a b c d ∷ below (st .open-ones)) st
 
--- ---- uses: the next one's kind and what it means; none are zeros
-
-unfoldable pub kindNext : List ℕ → ℕ
-kindNext (p ∷ k ∷ m ∷ l) = k
-kindNext (p ∷ k ∷ []) = 0
-kindNext (p ∷ []) = 0
-kindNext [] = 0
-
-unfoldable pub meansNext : List ℕ → ℕ
-meansNext (p ∷ k ∷ m ∷ l) = m
-meansNext (p ∷ k ∷ []) = 0
-meansNext (p ∷ []) = 0
-meansNext [] = 0
-
-unfoldable pub othersNext : List ℕ → List ℕ
-othersNext (p ∷ k ∷ m ∷ l) = l
-othersNext (p ∷ k ∷ []) = []
-othersNext (p ∷ []) = []
-othersNext [] = []
-
 -- ---- operators, by their symbols' kinds: 17 'and', 18 'or', 20 'impl', 21 'equiv', 22 `+` to 31 `#`; 19 is 'not'
 
 unfoldable pub operationOf : ℕ → ℕ
@@ -140,7 +162,7 @@ operationOf k = cond (ltb k 19) (k + 18) (cond (ltb k 22) (k + 17) (k + 3))
 unfoldable pub signed : ℕ → ℕ → State → State
 signed k p st = cond (eqb k 19) (put 23 p 0 st) (cond (eqb k 23) (put 22 p 0 st) st)
 
--- ---- the pass. values: of numbers, by place; layout: as Layout has it; ahead, entries: what is known already of what lies ahead
+-- ---- the pass. values: of numbers, by symbol; layout: as Layout has it; ahead, entries: what is known already of what lies ahead
 
 -- the largest whole number
 abbrev pub largest : ℕ
@@ -253,9 +275,9 @@ module _ (values layout ahead entries : List ℕ) where
       (within (st .level) (st .loops) (c .fourth) (popped (put 4 0 (packed 0 (c .third) 0) st))))
 
   -- a procedure: the for statements around
-  unfoldable pub procedureNode : ℕ → Opened → ℕ → State → State
-  procedureNode k c p st =
-      cond (eqb k n-procedure) (within (st .level + 1) 0 (st .cells) (pushed (st .loops) 0 0 0 (withEntry p st)))
+  unfoldable pub procedureNode : ℕ → Opened → State → State
+  procedureNode k c st =
+      cond (eqb k n-procedure) (within (st .level + 1) 0 (st .cells) (pushed (st .loops) 0 0 0 (withEntry st)))
       (within (st .level - 1) (c .first) (st .cells) (popped (put 7 0 0 st)))
 
   -- left parts, from the first to the last
@@ -275,15 +297,17 @@ module _ (values layout ahead entries : List ℕ) where
   unfoldable pub assigned : State → State
   assigned st = withLefts 0 (withOpen (behindLefts (st .lefts) (st .open-ones)) (stored (leftsOf (st .lefts) (st .open-ones) []) st))
 
-  unfoldable pub plainNode : ℕ → ℕ → ℕ → State → State
-  plainNode k p a st =
-      cond (eqb k n-number) (put 12 p (getD values p 0) st)
+  -- of the symbol s, whose place is p
+  unfoldable pub plainNode : ℕ → ℕ → ℕ → ℕ → State → State
+  plainNode k s p a st =
+      cond (eqb k n-number) (put 12 p (getD values s 0) st)
       (cond (eqb k n-logical) (put 12 p a st)
       (cond (eqb k n-unary) (signed a p st)
       (cond (eqb k n-binary) (put (operationOf a) p 0 st)
       (cond (eqb k n-assign) (assigned st)
-      (cond (eqb k n-variable) (within (st .level) (st .loops) (st .cells + 1) st)
-      st)))))
+      (cond (eqb k n-variable) (withCell (within (st .level) (st .loops) (st .cells + 1) st))
+      (cond (eqb k n-formal) (withCell st)
+      st))))))
 
   abbrev pub isElement : ℕ → Bool
   isElement k = eqb k n-start || (eqb k n-once || (eqb k n-while || eqb k n-step))
@@ -295,8 +319,8 @@ module _ (values layout ahead entries : List ℕ) where
   isBlock k = eqb k n-block || (eqb k n-statements || eqb k n-block-end)
 
   -- what a node adds
-  unfoldable pub codeNode : ℕ → ℕ → ℕ → ℕ → State → State
-  codeNode k p a b st =
+  unfoldable pub codeNode : ℕ → ℕ → ℕ → ℕ → ℕ → State → State
+  codeNode k s p a b st =
       cond (isUse k) (useNode k (kindNext (st .uses)) (meansNext (st .uses)) b p a (withUses (othersNext (st .uses)) st))
       (cond (eqb k n-actual) (actualIn (top (st .open-ones)) st)
       (cond (eqb k n-call-end) (callEnded (top (st .open-ones)) p b (popped st))
@@ -304,15 +328,19 @@ module _ (values layout ahead entries : List ℕ) where
       (cond (eqb k n-do || eqb k n-for-end) (loopNode k (top (st .open-ones)) st)
       (cond (isChoice k) (choiceNode k (top (st .open-ones)) st)
       (cond (isBlock k) (blockNode k (top (st .open-ones)) p st)
-      (cond (eqb k n-procedure || eqb k n-procedure-end) (procedureNode k (top (st .open-ones)) p st)
-      (plainNode k p a st))))))))
+      (cond (eqb k n-procedure || eqb k n-procedure-end) (procedureNode k (top (st .open-ones)) st)
+      (plainNode k s p a st))))))))
+
+  -- a node, whose symbol's place is looked up
+  abbrev pub placedNode : (ℕ → ℕ) → ℕ → ℕ → ℕ → ℕ → State → State
+  placedNode place k s a b st = codeNode k s (place s) a b st
 
   -- all nodes, and the end
-  unfoldable pub emitted : List ℕ → List ℕ → State
-  emitted nodes uses = put 1 0 0 (foldNodes codeNode nodes (fresh uses))
+  unfoldable pub emitted : ℕ → (ℕ → ℕ) → List ℕ → List Used → State
+  emitted room place nodes uses = put 1 0 0 (foldNodes (placedNode place) nodes (fresh room uses))
 
 -- twice: what lies ahead is found, then the code is written
-unfoldable pub codeOf : List ℕ → List ℕ → List ℕ → List ℕ → List ℕ
-codeOf values layout nodes uses =
-    let found = emitted values layout [] [] nodes uses in
-    emitted values layout (found .ahead) (found .entries) nodes uses .code
+unfoldable pub codeOf : ℕ → (ℕ → ℕ) → List ℕ → List ℕ → List ℕ → List Used → List ℕ
+codeOf room place values layout nodes uses =
+    let found = emitted values layout [] [] room place nodes uses in
+    emitted values layout (found .ahead) (found .entries) room place nodes uses .code

@@ -8,7 +8,7 @@ use lib.ListN.{length, getD, drop}
 use Rattle.grammar.specs.NodeKinds.{n-do, n-for-end, n-procedure, n-procedure-end}
 use Rattle.names.specs.Rows.{opensOf, foldNodes}
 use Rattle.emitting.specs.Layout.{Laying}
-use Rattle.emitting.specs.Emission.{State, Opened, opened, put, top, elementNode, loopNode, choiceNode, blockNode, procedureNode, plainNode, isElement, isChoice, isBlock, codeNode}
+use Rattle.emitting.specs.Emission.{Used, State, Opened, opened, put, top, elementNode, loopNode, choiceNode, blockNode, procedureNode, plainNode, isElement, isChoice, isBlock, placedNode}
 use Rattle.emitting.specs.declared.Laid.{Laid}
 use Rattle.emitting.specs.declared.Writing.{Writing}
 use Rattle.emitting.specs.declared.Thing.{Thing}
@@ -16,20 +16,21 @@ use Rattle.emitting.specs.declared.Thing.{Thing}
 -- ---- where cells lie
 
 abbrev pub lain : Laid → List ℕ → List ℕ → Laying
-lain t around table = record { sort = t .sort; level = t .level; reach = t .reach; around = opensOf (t .open) around; table = table }
+lain t around table = record { sort = t .sort; level = t .level; reach = t .reach; around = opensOf (t .open) around; declared = t .declared; table = table }
 
 abbrev pub unlaidIn : List ℕ → Laying
-unlaidIn table = record { sort = 0; level = 0; reach = 0; around = []; table = table }
+unlaidIn table = record { sort = 0; level = 0; reach = 0; around = []; declared = 0; table = table }
 
 unfoldable pub AllWithin : List ℕ → ℕ → Type 0
 AllWithin [] i = Unit {0}
 AllWithin (n ∷ l) i = (n ≤ i) × AllWithin l i
 
--- behind i nodes there are no more activations, cells and scopes
+-- behind i nodes there are no more activations, cells, scopes and declarations
 pub record Spread (i : ℕ) (st : Laying) : Type 0 where
   pub level : st .level ≤ i
   pub reach : st .reach ≤ i
   pub open-scopes : length (st .around) ≤ i
+  pub declared : st .declared ≤ i
   pub outside : AllWithin (st .around) i
 
 -- ---- the code
@@ -45,9 +46,9 @@ thingsOf (suc n) things = thingAt things n ∷ thingsOf n things
 abbrev pub seen : Thing → Opened
 seen f = opened (f .first) (f .second) (f .third) (f .fourth)
 
-abbrev pub see : Writing → List ℕ → List ℕ → List ℕ → List ℕ → List ℕ → State
+abbrev pub see : Writing → List Used → List ℕ → List ℕ → List ℕ → List ℕ → State
 see t uses things code ahead entries =
-    record { uses = drop (t .uses) uses; at = t .at; slots = t .slots; level = t .level; loops = t .loops; cells = t .cells; lefts = t .lefts; awaits = t .awaits; variable = t .variable; open-ones = thingsOf (t .open) things; code = code; ahead = ahead; entries = entries }
+    record { uses = drop (t .uses) uses; at = t .at; slots = t .slots; level = t .level; loops = t .loops; cells = t .cells; lefts = t .lefts; awaits = t .awaits; variable = t .variable; declared = t .declared; open-ones = thingsOf (t .open) things; code = code; ahead = ahead; entries = entries }
 
 -- the counts that an instruction, or something opened or closed, leaves alone
 pub record Alike (t r : Writing) : Type 0 where
@@ -56,6 +57,7 @@ pub record Alike (t r : Writing) : Type 0 where
   pub loops : r .loops ≡ t .loops
   pub cells : r .cells ≡ t .cells
   pub lefts : r .lefts ≡ t .lefts
+  pub declared : r .declared ≡ t .declared
 
 -- something open: its second number is a word, or what a use means; the others are counts, places and kinds, up to b
 pub record Slim (b : ℕ) (f : Opened) : Type 0 where
@@ -75,6 +77,7 @@ pub record Small (b n : ℕ) (st : State) : Type 0 where
   pub level : st .level ≤ b
   pub loops : st .loops ≤ b
   pub cells : st .cells ≤ b
+  pub declared : st .declared ≤ b
   pub variable : st .variable < 4294967296
   pub many : length (st .open-ones) ≤ n
   pub things : AllSlim b (st .open-ones)
@@ -86,25 +89,26 @@ pub record Fit (t : Writing) : Type 0 where
   pub level : t .level < 131072
   pub loops : t .loops < 131072
   pub cells : t .cells < 131072
+  pub declared : t .declared < 131072
   pub variable : t .variable < 4294967296
   pub open-ones : t .open < 8192
 
 -- ---- the pass
 
 -- what a node adds that is of no name and no call
-unfoldable pub restNode : List ℕ → List ℕ → List ℕ → List ℕ → ℕ → ℕ → ℕ → State → State
-restNode values layout ahead entries k p a st =
+unfoldable pub restNode : List ℕ → List ℕ → List ℕ → List ℕ → ℕ → ℕ → ℕ → ℕ → State → State
+restNode values layout ahead entries k s p a st =
     cond (isElement values layout ahead entries k) (elementNode values layout ahead entries k (top (st .open-ones)) p st)
     (cond (eqb k n-do || eqb k n-for-end) (loopNode values layout ahead entries k (top (st .open-ones)) st)
     (cond (isChoice values layout ahead entries k) (choiceNode values layout ahead entries k (top (st .open-ones)) st)
     (cond (isBlock values layout ahead entries k) (blockNode values layout ahead entries k (top (st .open-ones)) p st)
-    (cond (eqb k n-procedure || eqb k n-procedure-end) (procedureNode values layout ahead entries k (top (st .open-ones)) p st)
-    (plainNode values layout ahead entries k p a st)))))
+    (cond (eqb k n-procedure || eqb k n-procedure-end) (procedureNode values layout ahead entries k (top (st .open-ones)) st)
+    (plainNode values layout ahead entries k s p a st)))))
 
 -- nothing is known, in arrays that may hold anything
-abbrev pub freshIn : List ℕ → List ℕ → List ℕ → List ℕ → State
+abbrev pub freshIn : List Used → List ℕ → List ℕ → List ℕ → State
 freshIn uses code ahead entries =
-    record { uses = uses; at = 0; slots = 0; level = 0; loops = 0; cells = 0; lefts = 0; awaits = 0; variable = 0; open-ones = []; code = code; ahead = ahead; entries = entries }
+    record { uses = uses; at = 0; slots = 0; level = 0; loops = 0; cells = 0; lefts = 0; awaits = 0; variable = 0; declared = 0; open-ones = []; code = code; ahead = ahead; entries = entries }
 
-abbrev pub emittedFrom : List ℕ → List ℕ → List ℕ → List ℕ → List ℕ → State → State
-emittedFrom values layout ahead entries nodes st = put 1 0 0 (foldNodes (codeNode values layout ahead entries) nodes st)
+abbrev pub emittedFrom : (ℕ → ℕ) → List ℕ → List ℕ → List ℕ → List ℕ → List ℕ → State → State
+emittedFrom place values layout ahead entries nodes st = put 1 0 0 (foldNodes (placedNode values layout ahead entries place) nodes st)

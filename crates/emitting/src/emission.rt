@@ -1,10 +1,12 @@
 // The nodes with what is known behind some of them.
 use crate::Writing;
 use crate::calls;
+use crate::codes;
 use crate::flow;
 use crate::loops;
 use crate::parts;
 use crate::putting;
+use answers::Place;
 use grammar::nodes;
 ghost use mathlib.Core.Path.{_≡_};
 ghost use mathlib.Core.Bool.{cond, _||_};
@@ -14,7 +16,7 @@ ghost use lib.Dec.{eqb};
 ghost use lib.ListN.{length};
 ghost use Rattle.grammar.specs.NodeKinds.{n-do, n-for-end, n-procedure, n-procedure-end};
 ghost use Rattle.names.specs.Rows.{isUse};
-ghost use Rattle.emitting.specs.Emission.{top, operationOf, signed, stored, leftsOf, assigned, plainNode, isElement, isChoice, isBlock, codeNode, emitted};
+ghost use Rattle.emitting.specs.Emission.{Used, usesIn, placeAt, top, operationOf, signed, stored, leftsOf, assigned, plainNode, isElement, isChoice, isBlock, codeNode, emitted};
 ghost use Rattle.emitting.specs.Model.{thingsOf, see, AllSlim, Small, Fit, restNode, freshIn, emittedFrom};
 
 // The operation of an operator, by its symbol's kind.
@@ -33,15 +35,15 @@ fn operation_of(k: usize) -> usize
 }
 
 // A sign or 'not'.
-fn signed(t: Writing, k: usize, place: usize, code: &mut [u32]) -> Writing
-    requires { ⌜ (t .at < 131072) × (place < 65536) ⌝ }
-    ensures { λ r. ⌜ ((us op ah en : List ℕ) → see r us op (now (code .exit)) ah en ≡ signed k place (see t us op (now (code .entry)) ah en)) ⌝ }
+fn signed(t: Writing, k: usize, place: Place, code: &mut [u32]) -> Writing
+    requires { ⌜ (t .at < 131072) × (place .at < 65536) ⌝ }
+    ensures { λ r. ⌜ ((us : List Used) (op ah en : List ℕ) → see r us op (now (code .exit)) ah en ≡ signed k (place .at) (see t us op (now (code .entry)) ah en)) ⌝ }
 {
     if k == 19 {
-        return putting::put(t, code, 23, place, 0);
+        return putting::put(t, code, codes::NOT, place, 0);
     }
     if k == 23 {
-        return putting::put(t, code, 22, place, 0);
+        return putting::put(t, code, codes::MINUS, place, 0);
     }
     t
 }
@@ -61,19 +63,19 @@ fn storing(n: usize) -> usize
     ensures { λ r. ⌜ r ≡ cond (eqb n 0) 14 15 ⌝ }
     ensures { λ r. ⌜ r < 16 ⌝ }
 {
-    if n == 0 { 14 } else { 15 }
+    if n == 0 { codes::STORE } else { codes::ASSIGN }
 }
 
 // Left parts, from the first to the last.
 fn stored(mut t: Writing, things: &[usize; 32768], code: &mut [u32]) -> Writing
     requires { ⌜ (t .at + t .lefts < 131072) × (t .open ≤ 8192) × AllSlim 131071 (thingsOf (t .open) (now things)) ⌝ }
-    ensures { λ r. ⌜ ((vs ly ks es us ah en : List ℕ) → see r us (now (things .entry)) (now (code .exit)) ah en ≡ stored vs ly ks es (leftsOf vs ly ks es (t .lefts) (thingsOf (t .open) (now (things .entry))) []) (see t us (now (things .entry)) (now (code .entry)) ah en)) ⌝ }
+    ensures { λ r. ⌜ ((vs ly ks es : List ℕ) (us : List Used) (ah en : List ℕ) → see r us (now (things .entry)) (now (code .exit)) ah en ≡ stored vs ly ks es (leftsOf vs ly ks es (t .lefts) (thingsOf (t .open) (now (things .entry))) []) (see t us (now (things .entry)) (now (code .entry)) ah en)) ⌝ }
 {
     let mut n = t.lefts;
     while 0 < n {
         n -= 1;
         let v = left_word(t, things, n);
-        t = putting::put(t, code, storing(n), 0, v);
+        t = putting::put(t, code, storing(n), codes::NOWHERE, v);
     }
     t
 }
@@ -81,7 +83,7 @@ fn stored(mut t: Writing, things: &[usize; 32768], code: &mut [u32]) -> Writing
 // The end of an assignment.
 fn assigned(t: Writing, things: &[usize; 32768], code: &mut [u32]) -> Writing
     requires { ⌜ (t .at + t .lefts < 131072) × (t .open ≤ 8192) × AllSlim 131071 (thingsOf (t .open) (now things)) ⌝ }
-    ensures { λ r. ⌜ ((vs ly ks es us ah en : List ℕ) → see r us (now (things .entry)) (now (code .exit)) ah en ≡ assigned vs ly ks es (see t us (now (things .entry)) (now (code .entry)) ah en)) ⌝ }
+    ensures { λ r. ⌜ ((vs ly ks es : List ℕ) (us : List Used) (ah en : List ℕ) → see r us (now (things .entry)) (now (code .exit)) ah en ≡ assigned vs ly ks es (see t us (now (things .entry)) (now (code .entry)) ah en)) ⌝ }
 {
     let mut r = stored(t, things, code);
     r.open = parts::less(t.open, t.lefts);
@@ -93,26 +95,32 @@ fn assigned(t: Writing, things: &[usize; 32768], code: &mut [u32]) -> Writing
 fn plain_node(
     mut t: Writing,
     kind: u16,
-    place: usize,
+    symbol: usize,
+    place: Place,
     one: usize,
     values: &[u32],
     things: &[usize; 32768],
     code: &mut [u32],
 ) -> Writing
-    requires { ⌜ Fit t × AllSlim 131071 (thingsOf (t .open) (now things)) × (place < 65536) × (one < 65536) ⌝ }
-    ensures { λ r. ⌜ ((ly ks es us ah en : List ℕ) → see r us (now (things .entry)) (now (code .exit)) ah en ≡ plainNode (now (values .entry)) ly ks es kind place one (see t us (now (things .entry)) (now (code .entry)) ah en)) ⌝ }
+    requires { ⌜ Fit t × AllSlim 131071 (thingsOf (t .open) (now things)) × (place .at < 65536) × (one < 65536) ⌝ }
+    ensures { λ r. ⌜ ((ly ks es : List ℕ) (us : List Used) (ah en : List ℕ) → see r us (now (things .entry)) (now (code .exit)) ah en ≡ plainNode (now (values .entry)) ly ks es kind symbol (place .at) one (see t us (now (things .entry)) (now (code .entry)) ah en)) ⌝ }
 {
     match kind {
         nodes::NUMBER => {
-            let v = parts::word_at(values, place);
-            putting::put(t, code, 12, place, v)
+            let v = parts::word_at(values, symbol);
+            putting::put(t, code, codes::CONST, place, v)
         }
-        nodes::LOGICAL => putting::put(t, code, 12, place, one),
+        nodes::LOGICAL => putting::put(t, code, codes::CONST, place, one),
         nodes::UNARY => signed(t, one, place, code),
         nodes::BINARY => putting::put(t, code, operation_of(one), place, 0),
         nodes::ASSIGN => assigned(t, things, code),
         nodes::VARIABLE => {
             t.cells += 1;
+            t.declared += 1;
+            t
+        }
+        nodes::FORMAL => {
+            t.declared += 1;
             t
         }
         _ => t,
@@ -196,7 +204,8 @@ fn is_procedure(kind: u16) -> bool
 fn rest_node(
     t: Writing,
     kind: u16,
-    place: usize,
+    symbol: usize,
+    place: Place,
     one: usize,
     values: &[u32],
     ahead: &[u32],
@@ -205,8 +214,8 @@ fn rest_node(
     next_entries: &mut [u32],
     code: &mut [u32],
 ) -> Writing
-    requires { ⌜ Small 131071 8191 (see t [] (now things) [] [] []) × (place < 65536) × (one < 65536) ⌝ }
-    ensures { λ r. ⌜ ((ly es us : List ℕ) → see r us (now (things .exit)) (now (code .exit)) (now («next_ahead» .exit)) (now («next_entries» .exit)) ≡ restNode (now (values .entry)) ly (now (ahead .entry)) es kind place one (see t us (now (things .entry)) (now (code .entry)) (now («next_ahead» .entry)) (now («next_entries» .entry)))) ⌝ }
+    requires { ⌜ Small 131071 8191 (see t [] (now things) [] [] []) × (place .at < 65536) × (one < 65536) ⌝ }
+    ensures { λ r. ⌜ ((ly es : List ℕ) (us : List Used) → see r us (now (things .exit)) (now (code .exit)) (now («next_ahead» .exit)) (now («next_entries» .exit)) ≡ restNode (now (values .entry)) ly (now (ahead .entry)) es kind symbol (place .at) one (see t us (now (things .entry)) (now (code .entry)) (now («next_ahead» .entry)) (now («next_entries» .entry)))) ⌝ }
 {
     let c = putting::top(t, things);
     if is_element(kind) {
@@ -222,19 +231,21 @@ fn rest_node(
         return flow::block_node(t, kind, c, place, ahead, things, next_ahead, code);
     }
     if is_procedure(kind) {
-        return flow::procedure_node(t, kind, c, place, things, next_entries, code);
+        return flow::procedure_node(t, kind, c, things, next_entries, code);
     }
-    plain_node(t, kind, place, one, values, things, code)
+    plain_node(t, kind, symbol, place, one, values, things, code)
 }
 
 // What a node adds.
 fn node(
     t: Writing,
     kind: u16,
-    place: u16,
+    symbol: u16,
     one: u16,
     two: u16,
     uses: &[u16],
+    rows: &[u16; 32768],
+    places: &[usize; 2048],
     values: &[u32],
     layout: &[u32],
     ahead: &[u32],
@@ -245,12 +256,13 @@ fn node(
     code: &mut [u32],
 ) -> Writing
     requires { ⌜ Small 131071 8191 (see t [] (now things) [] [] []) ⌝ }
-    ensures { λ r. ⌜ see r (now (uses .entry)) (now (things .exit)) (now (code .exit)) (now («next_ahead» .exit)) (now («next_entries» .exit)) ≡ codeNode (now (values .entry)) (now (layout .entry)) (now (ahead .entry)) (now (entries .entry)) kind place one two (see t (now (uses .entry)) (now (things .entry)) (now (code .entry)) (now («next_ahead» .entry)) (now («next_entries» .entry))) ⌝ }
+    ensures { λ r. ⌜ see r (usesIn (now (rows .entry)) (now (uses .entry))) (now (things .exit)) (now (code .exit)) (now («next_ahead» .exit)) (now («next_entries» .exit)) ≡ codeNode (now (values .entry)) (now (layout .entry)) (now (ahead .entry)) (now (entries .entry)) kind symbol (placeAt (now (places .entry)) symbol) one two (see t (usesIn (now (rows .entry)) (now (uses .entry))) (now (things .entry)) (now (code .entry)) (now («next_ahead» .entry)) (now («next_entries» .entry))) ⌝ }
 {
-    let p = place as usize;
+    let s = symbol as usize;
+    let p = parts::place_in(places, s);
     let u = two as usize;
     if is_use(kind) {
-        return calls::use_node(t, kind, p, u, uses, layout, entries, things, code);
+        return calls::use_node(t, kind, p, u, uses, rows, layout, entries, things, code);
     }
     match kind {
         nodes::ACTUAL => {
@@ -264,6 +276,7 @@ fn node(
         _ => rest_node(
             t,
             kind,
+            s,
             p,
             one as usize,
             values,
@@ -280,6 +293,8 @@ fn node(
 fn walk(
     nodes: &[u16],
     uses: &[u16],
+    rows: &[u16; 32768],
+    places: &[usize; 2048],
     values: &[u32],
     layout: &[u32],
     ahead: &[u32],
@@ -290,9 +305,9 @@ fn walk(
     code: &mut [u32],
 )
     requires { ⌜ length (now nodes) ≤ 32768 ⌝ }
-    ensures { λ _. ⌜ now (code .exit) ≡ emittedFrom (now (values .entry)) (now (layout .entry)) (now (ahead .entry)) (now (entries .entry)) (now (nodes .entry)) (freshIn (now (uses .entry)) (now (code .entry)) (now («next_ahead» .entry)) (now («next_entries» .entry))) .code ⌝ }
-    ensures { λ _. ⌜ now («next_ahead» .exit) ≡ emittedFrom (now (values .entry)) (now (layout .entry)) (now (ahead .entry)) (now (entries .entry)) (now (nodes .entry)) (freshIn (now (uses .entry)) (now (code .entry)) (now («next_ahead» .entry)) (now («next_entries» .entry))) .ahead ⌝ }
-    ensures { λ _. ⌜ now («next_entries» .exit) ≡ emittedFrom (now (values .entry)) (now (layout .entry)) (now (ahead .entry)) (now (entries .entry)) (now (nodes .entry)) (freshIn (now (uses .entry)) (now (code .entry)) (now («next_ahead» .entry)) (now («next_entries» .entry))) .entries ⌝ }
+    ensures { λ _. ⌜ now (code .exit) ≡ emittedFrom (placeAt (now (places .entry))) (now (values .entry)) (now (layout .entry)) (now (ahead .entry)) (now (entries .entry)) (now (nodes .entry)) (freshIn (usesIn (now (rows .entry)) (now (uses .entry))) (now (code .entry)) (now («next_ahead» .entry)) (now («next_entries» .entry))) .code ⌝ }
+    ensures { λ _. ⌜ now («next_ahead» .exit) ≡ emittedFrom (placeAt (now (places .entry))) (now (values .entry)) (now (layout .entry)) (now (ahead .entry)) (now (entries .entry)) (now (nodes .entry)) (freshIn (usesIn (now (rows .entry)) (now (uses .entry))) (now (code .entry)) (now («next_ahead» .entry)) (now («next_entries» .entry))) .ahead ⌝ }
+    ensures { λ _. ⌜ now («next_entries» .exit) ≡ emittedFrom (placeAt (now (places .entry))) (now (values .entry)) (now (layout .entry)) (now (ahead .entry)) (now (entries .entry)) (now (nodes .entry)) (freshIn (usesIn (now (rows .entry)) (now (uses .entry))) (now (code .entry)) (now («next_ahead» .entry)) (now («next_entries» .entry))) .entries ⌝ }
 {
     let mut t = Writing {
         uses: 0,
@@ -304,6 +319,7 @@ fn walk(
         lefts: 0,
         awaits: 0,
         variable: 0,
+        declared: 0,
         open: 0,
     };
     let mut i = 0;
@@ -316,6 +332,8 @@ fn walk(
             nodes[at + 2],
             nodes[at + 3],
             uses,
+            rows,
+            places,
             values,
             layout,
             ahead,
@@ -327,13 +345,15 @@ fn walk(
         );
         i += 1;
     }
-    putting::put(t, code, 1, 0, 0);
+    putting::put(t, code, codes::END, codes::NOWHERE, 0);
 }
 
 // The code of a program's nodes, with the addresses ahead and the procedures' as they are known; and those that are found.
-pub fn emit(
+pub fn pass(
     nodes: &[u16],
     uses: &[u16],
+    rows: &[u16; 32768],
+    places: &[usize; 2048],
     values: &[u32],
     layout: &[u32],
     ahead: &[u32],
@@ -342,10 +362,10 @@ pub fn emit(
     next_entries: &mut [u32],
     code: &mut [u32],
 )
-    requires { ⌜ (length (now nodes) ≤ 32768) × (length (now «next_ahead») ≡ 8192) × (length (now «next_entries») ≡ 16384) × (length (now code) ≡ 16384) ⌝ }
-    ensures { λ _. ⌜ now (code .exit) ≡ emitted (now (values .entry)) (now (layout .entry)) (now (ahead .entry)) (now (entries .entry)) (now (nodes .entry)) (now (uses .entry)) .code ⌝ }
-    ensures { λ _. ⌜ now («next_ahead» .exit) ≡ emitted (now (values .entry)) (now (layout .entry)) (now (ahead .entry)) (now (entries .entry)) (now (nodes .entry)) (now (uses .entry)) .ahead ⌝ }
-    ensures { λ _. ⌜ now («next_entries» .exit) ≡ emitted (now (values .entry)) (now (layout .entry)) (now (ahead .entry)) (now (entries .entry)) (now (nodes .entry)) (now (uses .entry)) .entries ⌝ }
+    requires { ⌜ (length (now nodes) ≤ 32768) × (length (now «next_ahead») ≡ 8192) × (length (now «next_entries») ≡ 2048) ⌝ }
+    ensures { λ _. ⌜ now (code .exit) ≡ emitted (now (values .entry)) (now (layout .entry)) (now (ahead .entry)) (now (entries .entry)) (length (now (code .entry))) (placeAt (now (places .entry))) (now (nodes .entry)) (usesIn (now (rows .entry)) (now (uses .entry))) .code ⌝ }
+    ensures { λ _. ⌜ now («next_ahead» .exit) ≡ emitted (now (values .entry)) (now (layout .entry)) (now (ahead .entry)) (now (entries .entry)) (length (now (code .entry))) (placeAt (now (places .entry))) (now (nodes .entry)) (usesIn (now (rows .entry)) (now (uses .entry))) .ahead ⌝ }
+    ensures { λ _. ⌜ now («next_entries» .exit) ≡ emitted (now (values .entry)) (now (layout .entry)) (now (ahead .entry)) (now (entries .entry)) (length (now (code .entry))) (placeAt (now (places .entry))) (now (nodes .entry)) (usesIn (now (rows .entry)) (now (uses .entry))) .entries ⌝ }
 {
     let mut things = [0usize; 32768];
     parts::clear(next_ahead);
@@ -354,6 +374,8 @@ pub fn emit(
     walk(
         nodes,
         uses,
+        rows,
+        places,
         values,
         layout,
         ahead,

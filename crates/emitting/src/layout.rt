@@ -2,6 +2,7 @@
 use crate::Laid;
 use crate::parts;
 use grammar::nodes;
+use machine::operands;
 ghost use mathlib.Core.Path.{_≡_};
 ghost use mathlib.Core.List.{List, _∷_};
 ghost use Prim.Native.Nat.{ℕ, _+_, _≤_, _<_};
@@ -18,12 +19,13 @@ fn one_of(sort: usize) -> usize
 }
 
 // A variable or a formal: it has the next cell.
-fn celled(mut t: Laid, place: usize, table: &mut [u32]) -> Laid
-    requires { ⌜ t .reach < 65536 ⌝ }
-    ensures { λ r. ⌜ ((a : List ℕ) → lain r a (now (table .exit)) ≡ celled place (lain t a (now (table .entry)))) ⌝ }
+fn celled(mut t: Laid, table: &mut [u32]) -> Laid
+    requires { ⌜ (t .reach < 65536) × (t .declared < 65536) ⌝ }
+    ensures { λ r. ⌜ ((a : List ℕ) → lain r a (now (table .exit)) ≡ celled (lain t a (now (table .entry)))) ⌝ }
 {
-    parts::set_word(table, place, parts::packed(t.level, t.reach, 0));
+    parts::set_word(table, t.declared, operands::packed(t.level, t.reach, 0));
     t.reach += 1;
+    t.declared += 1;
     t
 }
 
@@ -39,7 +41,7 @@ fn keep(around: &mut [usize], n: usize, reach: usize)
 fn blocked(mut t: Laid, around: &mut [usize; 8192]) -> Laid
     requires { ⌜ t .open < 8192 ⌝ }
     ensures { λ r. ⌜ ((w : List ℕ) → lain r (now (around .exit)) w ≡ blocked (lain t (now (around .entry)) w)) ⌝ }
-    ensures { λ r. ⌜ r .level ≡ t .level ⌝ }
+    ensures { λ r. ⌜ (r .level ≡ t .level) × (r .declared ≡ t .declared) ⌝ }
 {
     let at = t.open;
     keep(around, at, t.reach);
@@ -48,14 +50,15 @@ fn blocked(mut t: Laid, around: &mut [usize; 8192]) -> Laid
 }
 
 // A procedure opens: its result is the first cell of its activation.
-fn procedured(t: Laid, place: usize, around: &mut [usize; 8192], table: &mut [u32]) -> Laid
-    requires { ⌜ (t .open < 8192) × (t .level < 65536) ⌝ }
-    ensures { λ r. ⌜ lain r (now (around .exit)) (now (table .exit)) ≡ procedured place (lain t (now (around .entry)) (now (table .entry))) ⌝ }
+fn procedured(t: Laid, around: &mut [usize; 8192], table: &mut [u32]) -> Laid
+    requires { ⌜ (t .open < 8192) × (t .level < 65536) × (t .declared < 65536) ⌝ }
+    ensures { λ r. ⌜ lain r (now (around .exit)) (now (table .exit)) ≡ procedured (lain t (now (around .entry)) (now (table .entry))) ⌝ }
 {
     let one = one_of(t.sort);
-    parts::set_word(table, place, parts::packed(t.level, one, 0));
+    parts::set_word(table, t.declared, operands::packed(t.level, one, 0));
     let mut r = blocked(t, around);
     r.level += 1;
+    r.declared += 1;
     r.reach = one;
     r
 }
@@ -81,21 +84,20 @@ fn closed(mut t: Laid, level: usize, around: &[usize; 8192]) -> Laid
 fn lay_node(
     mut t: Laid,
     kind: u16,
-    place: u16,
     sort: u16,
     around: &mut [usize; 8192],
     table: &mut [u32],
 ) -> Laid
     requires { ⌜ Spread 8191 (lain t (now around) (now table)) ⌝ }
-    ensures { λ r. ⌜ ((b : ℕ) → lain r (now (around .exit)) (now (table .exit)) ≡ layNode kind place sort b (lain t (now (around .entry)) (now (table .entry)))) ⌝ }
+    ensures { λ r. ⌜ ((s b : ℕ) → lain r (now (around .exit)) (now (table .exit)) ≡ layNode kind s sort b (lain t (now (around .entry)) (now (table .entry)))) ⌝ }
 {
     match kind {
         nodes::TYPE => {
             t.sort = sort as usize;
             t
         }
-        nodes::VARIABLE | nodes::FORMAL => celled(t, place as usize, table),
-        nodes::PROCEDURE => procedured(t, place as usize, around, table),
+        nodes::VARIABLE | nodes::FORMAL => celled(t, table),
+        nodes::PROCEDURE => procedured(t, around, table),
         nodes::PROCEDURE_END => closed(t, parts::less(t.level, 1), around),
         nodes::BLOCK => blocked(t, around),
         nodes::BLOCK_END => closed(t, t.level, around),
@@ -113,18 +115,19 @@ fn lay(nodes: &[u16], around: &mut [usize; 8192], table: &mut [u32])
         level: 0,
         reach: 0,
         open: 0,
+        declared: 0,
     };
     let mut i = 0;
     while 4 * i + 3 < nodes.len() {
         let at = 4 * i;
-        t = lay_node(t, nodes[at], nodes[at + 1], nodes[at + 2], around, table);
+        t = lay_node(t, nodes[at], nodes[at + 2], around, table);
         i += 1;
     }
 }
 
-// For each declaring name, by its place: the activations around its scope, and the offset of its cell in its activation; of
-// a procedure whether it has a result.
-pub fn layout(nodes: &[u16], table: &mut [u32; 16384])
+// For each declaration or formal, by its number: the activations around its scope, and the offset of its cell in its
+// activation; of a procedure whether it has a result.
+pub fn layout(nodes: &[u16], table: &mut [u32; 2048])
     requires { ⌜ length (now nodes) ≤ 32768 ⌝ }
     ensures { λ _. ⌜ now (table .exit) ≡ layoutOf (now (nodes .entry)) ⌝ }
 {

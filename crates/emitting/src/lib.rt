@@ -1,25 +1,42 @@
-// The passes that write a program's code from the nodes and uses of its table: where cells lie, then the instructions.
-pub mod parts; // the parts of an operand, and words of 32 bits
-pub mod layout; // where the cells of a program lie
-pub mod putting; // an instruction, and what is open
-pub mod calls; // names, calls and their actuals
-pub mod loops; // for statements
-pub mod flow; // conditions, blocks and procedures
-pub mod emission; // the pass over the nodes
+// The passes that write a program's code from what the front end fills: where cells lie, then the instructions. `emit` is
+// for others, with any words lent to it; `clear` leaves no code.
+mod codes; // the operations' numbers
+mod parts; // the parts of an operand, and words in lent arrays
+mod uses; // what a use means
+mod layout; // where the cells of a program lie
+mod putting; // an instruction, and what is open
+mod calls; // names, calls and their actuals
+mod loops; // for statements
+mod flow; // conditions, blocks and procedures
+mod emission; // the pass over the nodes
+mod passes; // one pass after the other
+
+ghost use mathlib.Core.Path.{_≡_};
+ghost use lib.ListN.{length, take, replicate};
+ghost use Rattle.emitting.specs.Layout.{layoutOf};
+ghost use Rattle.emitting.specs.Emission.{usesIn, placeAt, codeOf};
+
+// What a use means: its kind (0 environment, 1 variable, 2 procedure, 3 formal), and the declaration's number or the
+// environment's.
+pub struct Named {
+    pub kind: usize,
+    pub means: usize,
+}
 
 // What is known behind some nodes of where cells lie: the type before; the activations around; the cells of the running
-// activation's scopes; how many scopes are open.
+// activation's scopes; how many scopes are open; how many declarations and formals there were.
 pub struct Laid {
     pub sort: usize,
     pub level: usize,
     pub reach: usize,
     pub open: usize,
+    pub declared: usize,
 }
 
-// What is known behind some nodes of the code: how many words of the uses were passed; the address of the next instruction;
-// how many addresses lie ahead so far; the activations and the for statements of the running one that are around; the
-// variables of the block so far; the left parts before; 1 where a name stands that a number is taken to, and the last such
-// variable; how much is open.
+// What is known behind some nodes of the code: how many uses were passed; the address of the next instruction; how many
+// addresses lie ahead so far; the activations and the for statements of the running one that are around; the variables of
+// the block so far; the left parts before; 1 where a name stands that a number is taken to, and the last such variable; how
+// many declarations and formals there were; how much is open.
 pub struct Writing {
     pub uses: usize,
     pub at: usize,
@@ -30,6 +47,7 @@ pub struct Writing {
     pub lefts: usize,
     pub awaits: usize,
     pub variable: usize,
+    pub declared: usize,
     pub open: usize,
 }
 
@@ -39,4 +57,35 @@ pub struct Thing {
     pub second: usize,
     pub third: usize,
     pub fourth: usize,
+}
+
+// The code of a program, of which the first n words of the nodes, the first u uses, the rows, and the places and values of
+// the symbols are lent: it fills the words that are lent for it, with zeros behind.
+pub fn emit(
+    nodes: &[u16; 32768],
+    n: usize,
+    uses: &[u16; 8192],
+    u: usize,
+    rows: &[u16; 32768],
+    places: &[usize; 2048],
+    values: &[u32; 2048],
+    code: &mut [u32],
+)
+    ensures { λ _. ⌜ now (code .exit) ≡ codeOf (length (now (code .entry))) (placeAt (now (places .entry))) (now (values .entry)) (layoutOf (take n (now (nodes .entry)))) (take n (now (nodes .entry))) (usesIn (now (rows .entry)) (take u (now (uses .entry)))) ⌝ }
+{
+    passes::laid_out(
+        parts::front(nodes, n),
+        parts::front(uses, u),
+        rows,
+        places,
+        values,
+        code,
+    )
+}
+
+// No code: all words are zero.
+pub fn clear(code: &mut [u32])
+    ensures { λ _. ⌜ now (code .exit) ≡ replicate (length (now (code .entry))) 0 ⌝ }
+{
+    parts::clear(code)
 }

@@ -1,48 +1,57 @@
 // For statements.
 use crate::Thing;
 use crate::Writing;
+use crate::codes;
 use crate::parts;
 use crate::putting;
+use answers::Place;
 use grammar::nodes;
+use machine::operands;
 ghost use mathlib.Core.Path.{_≡_};
 ghost use mathlib.Core.List.{List};
 ghost use Prim.Native.Nat.{ℕ, _+_, _-_, _≤_, _<_};
 ghost use Rattle.emitting.specs.Layout.{packed};
-ghost use Rattle.emitting.specs.Emission.{put, noted, within, popped, replaced, aheadAt, element, bodied, stepping, elementNode, loopNode};
+ghost use Rattle.emitting.specs.Emission.{Used, put, noted, within, popped, replaced, aheadAt, element, bodied, stepping, elementNode, loopNode};
 ghost use Rattle.emitting.specs.Model.{seen, see, Alike, Slim, Fit};
 
 // Behind an element: it goes on there, if it is not the last.
 fn element(t: Writing, f: Thing, things: &mut [usize; 32768], next_ahead: &mut [u32]) -> Writing
     requires { ⌜ (t .slots < 1048576) × (t .open ≤ 8192) ⌝ }
-    ensures { λ r. ⌜ ((vs ly ks es us co en : List ℕ) → see r us (now (things .exit)) co (now («next_ahead» .exit)) en ≡ element vs ly ks es (seen f) (see t us (now (things .entry)) co (now («next_ahead» .entry)) en)) ⌝ }
+    ensures { λ r. ⌜ ((vs ly ks es : List ℕ) (us : List Used) (co en : List ℕ) → see r us (now (things .exit)) co (now («next_ahead» .exit)) en ≡ element vs ly ks es (seen f) (see t us (now (things .entry)) co (now («next_ahead» .entry)) en)) ⌝ }
 {
-    parts::set_word(next_ahead, t.slots, parts::packed(0, 0, t.at));
+    parts::set_word(next_ahead, t.slots, operands::packed(0, 0, t.at));
     putting::slot(putting::replace(t, things, f.first, f.second, f.third, t.at))
 }
 
 // To the body, with the place to return to.
 fn bodied(t: Writing, f: Thing, back: usize, ahead: &[u32], code: &mut [u32]) -> Writing
     requires { ⌜ t .at < 1048576 ⌝ }
-    ensures { λ r. ⌜ ((vs ly es us op ah en : List ℕ) → see r us op (now (code .exit)) ah en ≡ bodied vs ly (now (ahead .entry)) es (seen f) back (see t us op (now (code .entry)) ah en)) ⌝ }
+    ensures { λ r. ⌜ ((vs ly es : List ℕ) (us : List Used) (op ah en : List ℕ) → see r us op (now (code .exit)) ah en ≡ bodied vs ly (now (ahead .entry)) es (seen f) back (see t us op (now (code .entry)) ah en)) ⌝ }
     ensures { λ r. ⌜ Alike t r × (r .at ≡ t .at + 1) × (r .open ≡ t .open) ⌝ }
 {
-    let v = parts::packed(t.loops, back, parts::word_at(ahead, f.first));
-    putting::put(t, code, 8, 0, v)
+    let v = operands::packed(t.loops, back, parts::word_at(ahead, f.first));
+    putting::put(t, code, codes::GO, codes::NOWHERE, v)
 }
 
 // The five instructions of a step element.
-fn stepping(t: Writing, f: Thing, place: usize, ahead: &[u32], code: &mut [u32]) -> Writing
-    requires { ⌜ (t .at < 131072) × Slim 131071 (seen f) × (place < 65536) ⌝ }
-    ensures { λ r. ⌜ ((vs ly es us op ah en : List ℕ) → see r us op (now (code .exit)) ah en ≡ stepping vs ly (now (ahead .entry)) es (seen f) place (see t us op (now (code .entry)) ah en)) ⌝ }
+fn stepping(t: Writing, f: Thing, place: Place, ahead: &[u32], code: &mut [u32]) -> Writing
+    requires { ⌜ (t .at < 131072) × Slim 131071 (seen f) × (place .at < 65536) ⌝ }
+    ensures { λ r. ⌜ ((vs ly es : List ℕ) (us : List Used) (op ah en : List ℕ) → see r us op (now (code .exit)) ah en ≡ stepping vs ly (now (ahead .entry)) es (seen f) (place .at) (see t us op (now (code .entry)) ah en)) ⌝ }
     ensures { λ r. ⌜ (r .slots ≡ t .slots) × (r .open ≡ t .open) ⌝ }
 {
     let next = parts::word_at(ahead, t.slots);
-    let test = parts::packed(parts::high(f.second), parts::mid(f.second), next);
-    let kept = putting::put(t, code, 20, 0, 0);
-    let tested = putting::put(kept, code, 11, f.third, test);
+    let test = operands::packed(operands::high(f.second), operands::mid(f.second), next);
+    let kept = putting::put(t, code, codes::HOLD, codes::NOWHERE, 0);
+    let tested = putting::put(kept, code, codes::TEST, Place { at: f.third }, test);
     let gone = bodied(tested, f, t.at + 3, ahead, code);
-    let bumped = putting::put(gone, code, 21, place, f.second);
-    putting::put(bumped, code, 2, 0, parts::packed(0, 0, t.at + 1))
+    let bumped = putting::put(gone, code, codes::ADD, place, f.second);
+    putting::put(
+        bumped,
+        code,
+        codes::JUMP,
+        codes::NOWHERE,
+        operands::packed(0, 0, t.at + 1),
+    )
 }
 
 // An element of one value.
@@ -55,7 +64,7 @@ fn once(
     code: &mut [u32],
 ) -> Writing
     requires { ⌜ Fit t ⌝ }
-    ensures { λ r. ⌜ ((vs ly es us en : List ℕ) → see r us (now (things .exit)) (now (code .exit)) (now («next_ahead» .exit)) en ≡ element vs ly (now (ahead .entry)) es (seen f) (bodied vs ly (now (ahead .entry)) es (seen f) (aheadAt vs ly (now (ahead .entry)) es (t .slots)) (see t us (now (things .entry)) (now (code .entry)) (now («next_ahead» .entry)) en))) ⌝ }
+    ensures { λ r. ⌜ ((vs ly es : List ℕ) (us : List Used) (en : List ℕ) → see r us (now (things .exit)) (now (code .exit)) (now («next_ahead» .exit)) en ≡ element vs ly (now (ahead .entry)) es (seen f) (bodied vs ly (now (ahead .entry)) es (seen f) (aheadAt vs ly (now (ahead .entry)) es (t .slots)) (see t us (now (things .entry)) (now (code .entry)) (now («next_ahead» .entry)) en))) ⌝ }
 {
     let next = parts::word_at(ahead, t.slots);
     element(bodied(t, f, next, ahead, code), f, things, next_ahead)
@@ -71,10 +80,10 @@ fn whiled(
     code: &mut [u32],
 ) -> Writing
     requires { ⌜ Fit t ⌝ }
-    ensures { λ r. ⌜ ((vs ly es us en : List ℕ) → see r us (now (things .exit)) (now (code .exit)) (now («next_ahead» .exit)) en ≡ element vs ly (now (ahead .entry)) es (seen f) (bodied vs ly (now (ahead .entry)) es (seen f) (f .fourth) (put 10 0 (packed 0 0 (aheadAt vs ly (now (ahead .entry)) es (t .slots))) (see t us (now (things .entry)) (now (code .entry)) (now («next_ahead» .entry)) en)))) ⌝ }
+    ensures { λ r. ⌜ ((vs ly es : List ℕ) (us : List Used) (en : List ℕ) → see r us (now (things .exit)) (now (code .exit)) (now («next_ahead» .exit)) en ≡ element vs ly (now (ahead .entry)) es (seen f) (bodied vs ly (now (ahead .entry)) es (seen f) (f .fourth) (put 10 0 (packed 0 0 (aheadAt vs ly (now (ahead .entry)) es (t .slots))) (see t us (now (things .entry)) (now (code .entry)) (now («next_ahead» .entry)) en)))) ⌝ }
 {
-    let next = parts::packed(0, 0, parts::word_at(ahead, t.slots));
-    let tested = putting::put(t, code, 10, 0, next);
+    let next = operands::packed(0, 0, parts::word_at(ahead, t.slots));
+    let tested = putting::put(t, code, codes::UNLESS, codes::NOWHERE, next);
     element(
         bodied(tested, f, f.fourth, ahead, code),
         f,
@@ -88,17 +97,17 @@ pub fn element_node(
     t: Writing,
     kind: u16,
     f: Thing,
-    place: usize,
+    place: Place,
     ahead: &[u32],
     things: &mut [usize; 32768],
     next_ahead: &mut [u32],
     code: &mut [u32],
 ) -> Writing
-    requires { ⌜ Fit t × Slim 131071 (seen f) × (place < 65536) ⌝ }
-    ensures { λ r. ⌜ ((vs ly es us en : List ℕ) → see r us (now (things .exit)) (now (code .exit)) (now («next_ahead» .exit)) en ≡ elementNode vs ly (now (ahead .entry)) es kind (seen f) place (see t us (now (things .entry)) (now (code .entry)) (now («next_ahead» .entry)) en)) ⌝ }
+    requires { ⌜ Fit t × Slim 131071 (seen f) × (place .at < 65536) ⌝ }
+    ensures { λ r. ⌜ ((vs ly es : List ℕ) (us : List Used) (en : List ℕ) → see r us (now (things .exit)) (now (code .exit)) (now («next_ahead» .exit)) en ≡ elementNode vs ly (now (ahead .entry)) es kind (seen f) (place .at) (see t us (now (things .entry)) (now (code .entry)) (now («next_ahead» .entry)) en)) ⌝ }
 {
     match kind {
-        nodes::START => putting::put(t, code, 14, 0, f.second),
+        nodes::START => putting::put(t, code, codes::STORE, codes::NOWHERE, f.second),
         nodes::ONCE => once(t, f, ahead, things, next_ahead, code),
         nodes::WHILE => whiled(t, f, ahead, things, next_ahead, code),
         _ => element(stepping(t, f, place, ahead, code), f, things, next_ahead),
@@ -108,9 +117,9 @@ pub fn element_node(
 // Behind the last element: the slot of where it goes on, which is behind the loop.
 fn begun(t: Writing, f: Thing, things: &mut [usize; 32768], next_ahead: &mut [u32]) -> Writing
     requires { ⌜ Fit t ⌝ }
-    ensures { λ r. ⌜ ((us co en : List ℕ) → see r us (now (things .exit)) co (now («next_ahead» .exit)) en ≡ within (t .level) (t .loops + 1) (t .cells) (noted (f .first) (packed 0 0 (t .at)) (replaced (t .slots - 1) 0 0 0 (see t us (now (things .entry)) co (now («next_ahead» .entry)) en)))) ⌝ }
+    ensures { λ r. ⌜ ((us : List Used) (co en : List ℕ) → see r us (now (things .exit)) co (now («next_ahead» .exit)) en ≡ within (t .level) (t .loops + 1) (t .cells) (noted (f .first) (packed 0 0 (t .at)) (replaced (t .slots - 1) 0 0 0 (see t us (now (things .entry)) co (now («next_ahead» .entry)) en)))) ⌝ }
 {
-    parts::set_word(next_ahead, f.first, parts::packed(0, 0, t.at));
+    parts::set_word(next_ahead, f.first, operands::packed(0, 0, t.at));
     let mut r = putting::replace(t, things, parts::less(t.slots, 1), 0, 0, 0);
     r.loops += 1;
     r
@@ -119,12 +128,18 @@ fn begun(t: Writing, f: Thing, things: &mut [usize; 32768], next_ahead: &mut [u3
 // Behind the body.
 fn ended(t: Writing, f: Thing, next_ahead: &mut [u32], code: &mut [u32]) -> Writing
     requires { ⌜ Fit t ⌝ }
-    ensures { λ r. ⌜ ((us op en : List ℕ) → see r us op (now (code .exit)) (now («next_ahead» .exit)) en ≡ noted (f .first) (packed 0 0 (t .at + 1)) (popped (within (t .level) (t .loops - 1) (t .cells) (put 9 0 (packed (t .loops - 1) 0 0) (see t us op (now (code .entry)) (now («next_ahead» .entry)) en))))) ⌝ }
+    ensures { λ r. ⌜ ((us : List Used) (op en : List ℕ) → see r us op (now (code .exit)) (now («next_ahead» .exit)) en ≡ noted (f .first) (packed 0 0 (t .at + 1)) (popped (within (t .level) (t .loops - 1) (t .cells) (put 9 0 (packed (t .loops - 1) 0 0) (see t us op (now (code .entry)) (now («next_ahead» .entry)) en))))) ⌝ }
 {
     let around = parts::less(t.loops, 1);
-    let mut r = putting::put(t, code, 9, 0, parts::packed(around, 0, 0));
+    let mut r = putting::put(
+        t,
+        code,
+        codes::NEXT,
+        codes::NOWHERE,
+        operands::packed(around, 0, 0),
+    );
     r.loops = around;
-    parts::set_word(next_ahead, f.first, parts::packed(0, 0, t.at + 1));
+    parts::set_word(next_ahead, f.first, operands::packed(0, 0, t.at + 1));
     putting::pop(r)
 }
 
@@ -138,7 +153,7 @@ pub fn loop_node(
     code: &mut [u32],
 ) -> Writing
     requires { ⌜ Fit t ⌝ }
-    ensures { λ r. ⌜ ((vs ly ks es us en : List ℕ) → see r us (now (things .exit)) (now (code .exit)) (now («next_ahead» .exit)) en ≡ loopNode vs ly ks es kind (seen f) (see t us (now (things .entry)) (now (code .entry)) (now («next_ahead» .entry)) en)) ⌝ }
+    ensures { λ r. ⌜ ((vs ly ks es : List ℕ) (us : List Used) (en : List ℕ) → see r us (now (things .exit)) (now (code .exit)) (now («next_ahead» .exit)) en ≡ loopNode vs ly ks es kind (seen f) (see t us (now (things .entry)) (now (code .entry)) (now («next_ahead» .entry)) en)) ⌝ }
 {
     match kind {
         nodes::DO => begun(t, f, things, next_ahead),

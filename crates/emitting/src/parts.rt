@@ -1,37 +1,15 @@
-// The parts of an operand, and words of 32 bits in lent arrays.
+// Words in lent arrays.
+use answers::Place;
 ghost use mathlib.Core.Path.{_≡_};
 ghost use Prim.Native.Nat.{_-_, _<_};
-ghost use lib.ListN.{length, getD, set, replicate};
-ghost use Rattle.machine.specs.Instructions.{high, mid};
-ghost use Rattle.emitting.specs.Layout.{packed};
+ghost use lib.ListN.{length, getD, set, replicate, take};
+ghost use Rattle.emitting.specs.Emission.{placeAt};
 
 // A number less another, 0 where that is greater.
 pub fn less(a: usize, b: usize) -> usize
     ensures { λ r. ⌜ r ≡ a - b ⌝ }
 {
     if a < b { 0 } else { a - b }
-}
-
-// An operand of three parts, each in its range.
-pub fn packed(u: usize, o: usize, l: usize) -> usize
-    ensures { λ r. ⌜ r ≡ packed u o l ⌝ }
-    ensures { λ r. ⌜ r < 4294967296 ⌝ }
-{
-    67108864 * (u % 64) + 8192 * (o % 8192) + l % 8192
-}
-
-// Its first part.
-pub fn high(v: usize) -> usize
-    ensures { λ r. ⌜ r ≡ high v ⌝ }
-{
-    v / 67108864
-}
-
-// Its second part.
-pub fn mid(v: usize) -> usize
-    ensures { λ r. ⌜ r ≡ mid v ⌝ }
-{
-    v / 8192 % 8192
 }
 
 // A word of some, 0 behind them.
@@ -65,4 +43,27 @@ pub fn clear(words: &mut [u32])
         words[i] = 0;
         i += 1;
     }
+}
+
+// The first n words, or all where there are no more.
+pub fn front(words: &[u16], n: usize) -> &[u16]
+    ensures { λ r. ⌜ now r ≡ take n (now (words .entry)) ⌝ }
+{
+    if n < words.len() {
+        return &words[..n];
+    }
+    words
+}
+
+// The place of a symbol, as an instruction has it: of 16 bits, 0 behind the last one.
+pub fn place_in(places: &[usize], symbol: usize) -> Place
+    ensures { λ r. ⌜ r .at ≡ placeAt (now (places .entry)) symbol ⌝ }
+    ensures { λ r. ⌜ r .at < 65536 ⌝ }
+{
+    if symbol < places.len() {
+        return Place {
+            at: places[symbol] % 65536,
+        };
+    }
+    Place { at: 0 }
 }

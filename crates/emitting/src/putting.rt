@@ -2,21 +2,22 @@
 use crate::Thing;
 use crate::Writing;
 use crate::parts;
+use answers::Place;
 ghost use mathlib.Core.Path.{_≡_};
 ghost use mathlib.Core.List.{List, _∷_};
 ghost use Prim.Native.Nat.{ℕ, _+_, _*_, _≤_, _<_};
 ghost use lib.ListN.{length};
-ghost use Rattle.emitting.specs.Emission.{opened, put, withSlot, top, pushed, popped, replaced};
+ghost use Rattle.emitting.specs.Emission.{Used, opened, put, withSlot, top, pushed, popped, replaced};
 ghost use Rattle.emitting.specs.Model.{thingAt, thingsOf, seen, see, Alike};
 
 // An instruction: operation, place, operand.
-pub fn put(mut t: Writing, code: &mut [u32], o: usize, place: usize, v: usize) -> Writing
-    requires { ⌜ (t .at < 1048576) × (o + 64 * place < 4294967296) × (v < 4294967296) ⌝ }
-    ensures { λ r. ⌜ ((us op ah en : List ℕ) → see r us op (now (code .exit)) ah en ≡ put o place v (see t us op (now (code .entry)) ah en)) ⌝ }
+pub fn put(mut t: Writing, code: &mut [u32], o: usize, place: Place, v: usize) -> Writing
+    requires { ⌜ (t .at < 1048576) × (o + 64 * place .at < 4294967296) × (v < 4294967296) ⌝ }
+    ensures { λ r. ⌜ ((us : List Used) (op ah en : List ℕ) → see r us op (now (code .exit)) ah en ≡ put o (place .at) v (see t us op (now (code .entry)) ah en)) ⌝ }
     ensures { λ r. ⌜ Alike t r × (r .at ≡ t .at + 1) × (r .open ≡ t .open) ⌝ }
 {
     let at = t.at;
-    parts::set_word(code, 2 * at, o + 64 * place);
+    parts::set_word(code, 2 * at, o + 64 * place.at);
     parts::set_word(code, 2 * at + 1, v);
     t.at = at + 1;
     t
@@ -47,7 +48,7 @@ pub fn push(
     d: usize,
 ) -> Writing
     requires { ⌜ t .open < 8192 ⌝ }
-    ensures { λ r. ⌜ ((us co ah en : List ℕ) → see r us (now (things .exit)) co ah en ≡ pushed a b c d (see t us (now (things .entry)) co ah en)) ⌝ }
+    ensures { λ r. ⌜ ((us : List Used) (co ah en : List ℕ) → see r us (now (things .exit)) co ah en ≡ pushed a b c d (see t us (now (things .entry)) co ah en)) ⌝ }
     ensures { λ r. ⌜ Alike t r × (r .at ≡ t .at) ⌝ }
 {
     let n = t.open;
@@ -58,7 +59,7 @@ pub fn push(
 
 // The newest one is closed.
 pub fn pop(mut t: Writing) -> Writing
-    ensures { λ r. ⌜ ((us op co ah en : List ℕ) → see r us op co ah en ≡ popped (see t us op co ah en)) ⌝ }
+    ensures { λ r. ⌜ ((us : List Used) (op co ah en : List ℕ) → see r us op co ah en ≡ popped (see t us op co ah en)) ⌝ }
     ensures { λ r. ⌜ Alike t r × (r .at ≡ t .at) × (r .variable ≡ t .variable) × (r .open ≤ t .open) × (t .open ≤ 8192 → r .open < 8192) ⌝ }
 {
     if t.open == 0 {
@@ -78,7 +79,7 @@ pub fn replace(
     d: usize,
 ) -> Writing
     requires { ⌜ t .open ≤ 8192 ⌝ }
-    ensures { λ r. ⌜ ((us co ah en : List ℕ) → see r us (now (things .exit)) co ah en ≡ replaced a b c d (see t us (now (things .entry)) co ah en)) ⌝ }
+    ensures { λ r. ⌜ ((us : List Used) (co ah en : List ℕ) → see r us (now (things .exit)) co ah en ≡ replaced a b c d (see t us (now (things .entry)) co ah en)) ⌝ }
     ensures { λ r. ⌜ Alike t r × (r .at ≡ t .at) ⌝ }
 {
     push(pop(t), things, a, b, c, d)
@@ -118,7 +119,7 @@ pub fn top(t: Writing, things: &[usize; 32768]) -> Thing
 // One address more lies ahead.
 pub fn slot(mut t: Writing) -> Writing
     requires { ⌜ t .slots < 1048576 ⌝ }
-    ensures { λ r. ⌜ ((us op co ah en : List ℕ) → see r us op co ah en ≡ withSlot (see t us op co ah en)) ⌝ }
+    ensures { λ r. ⌜ ((us : List Used) (op co ah en : List ℕ) → see r us op co ah en ≡ withSlot (see t us op co ah en)) ⌝ }
 {
     t.slots += 1;
     t

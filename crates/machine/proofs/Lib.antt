@@ -1,6 +1,7 @@
 pub mod Signed
 pub mod Wholes
 pub mod Decode
+pub mod Words
 pub mod Stacks
 pub mod Frames
 pub mod Kept

@@ -14,6 +14,7 @@ use Rattle.machine.specs.declared.Cell.{Cell}
 use Rattle.machine.specs.declared.Cell.the-variants.{Unset, Holds}
 use Rattle.machine.specs.declared.Value.{Value}
 use Rattle.machine.specs.declared.Value.the-variants.{Is, Fault}
+use Rattle.machine.specs.Limits.{mostLive}
 use Rattle.machine.specs.Values.{whole, isZero, same, Unary, apply1, Binary, apply2, past}
 use Rattle.machine.specs.Run.{Event, quiet, wrote, took, Out, halt, next}
 
@@ -262,7 +263,7 @@ closeBlock n (dat w h a l) = guard (leb n (length w)) (good quiet (dat (drop n w
 
 -- 27: "a 257th activation live". A call of a declared procedure enters one; "The program and environment calls are no activations"
 unfoldable pub enter : ℕ → Data → Res Data
-enter q (dat w h a l) = check (ltb a 256) activations q (good quiet (dat w h (suc a) l))
+enter q (dat w h a l) = check (ltb a mostLive) activations q (good quiet (dat w h (suc a) l))
 
 -- an activation ends: its cells begin at b; the first is its result, and stays where it is needed
 pub data Fate : Type 0 where

@@ -7,6 +7,7 @@ use lib.Dec.{ltb, eqb}
 use lib.ListN.{length, getD}
 use mir.Syntax.{w32}
 use mir.Val.{toZ}
+use Rattle.machine.specs.Operations.{o-none, o-end, o-jump, o-enter, o-leave, o-call-needed, o-call, o-return, o-go, o-next, o-unless, o-test, o-const, o-load, o-store, o-assign, o-result, o-drop, o-in, o-out, o-hold, o-add, o-minus, o-not, o-plus, o-less, o-times, o-over, o-below, o-at-most, o-equal, o-at-least, o-above, o-unequal, o-and, o-or, o-impl, o-behind}
 use Rattle.machine.specs.Values.{Unary, minus, negation, absolute, Binary, plus, less, times, over, below, atMost, equal, atLeast, above, unequal, and, or, impl, equiv}
 use Rattle.machine.specs.Data.{Act, push, load, store, assign, reserve, forget, receive, send, keep, bump, unary, binary, Test, condition, upto, Fate, kept, gone}
 
@@ -33,17 +34,30 @@ pub data Instr : Type 0 where
 
 -- ---- the second word: three parts, of 6, 13 and 13 bits, or one number of 32 bits in two's complement
 
+abbrev pub sixBits : ℕ
+sixBits = 64
+
+abbrev pub thirteenBits : ℕ
+thirteenBits = 8192
+
+abbrev pub twentySixBits : ℕ
+twentySixBits = 67108864
+
 abbrev pub high : ℕ → ℕ
-high v = v / 67108864
+high v = v / twentySixBits
 
 abbrev pub mid : ℕ → ℕ
-mid v = v / 8192 % 8192
+mid v = v / thirteenBits % thirteenBits
 
 abbrev pub low : ℕ → ℕ
-low v = v % 8192
+low v = v % thirteenBits
 
 abbrev pub pack : ℕ → ℕ → ℕ → ℕ
-pack a b c = 67108864 * a + 8192 * b + c
+pack a b c = twentySixBits * a + thirteenBits * b + c
+
+-- each part cut to its range, so that they fit 32 bits whatever they are
+abbrev pub packed : ℕ → ℕ → ℕ → ℕ
+packed a b c = pack (a % sixBits) (b % thirteenBits) (c % thirteenBits)
 
 -- levels and offset
 abbrev pub variable : ℕ → Loc
@@ -52,61 +66,61 @@ variable v = lc (high v) (mid v)
 -- ---- the first word: operation + 64 · place
 
 unfoldable pub unaryOf : ℕ → Unary
-unaryOf k = cond (eqb k 22) minus (cond (eqb k 23) negation absolute)
+unaryOf k = cond (eqb k o-minus) minus (cond (eqb k o-not) negation absolute)
 
 unfoldable pub binaryOf : ℕ → Binary
 binaryOf k =
-    cond (eqb k 25) plus
-    (cond (eqb k 26) less
-    (cond (eqb k 27) times
-    (cond (eqb k 28) over
-    (cond (eqb k 29) below
-    (cond (eqb k 30) atMost
-    (cond (eqb k 31) equal
-    (cond (eqb k 32) atLeast
-    (cond (eqb k 33) above
-    (cond (eqb k 34) unequal
-    (cond (eqb k 35) and
-    (cond (eqb k 36) or
-    (cond (eqb k 37) impl
+    cond (eqb k o-plus) plus
+    (cond (eqb k o-less) less
+    (cond (eqb k o-times) times
+    (cond (eqb k o-over) over
+    (cond (eqb k o-below) below
+    (cond (eqb k o-at-most) atMost
+    (cond (eqb k o-equal) equal
+    (cond (eqb k o-at-least) atLeast
+    (cond (eqb k o-above) above
+    (cond (eqb k o-unequal) unequal
+    (cond (eqb k o-and) and
+    (cond (eqb k o-or) or
+    (cond (eqb k o-impl) impl
     equiv))))))))))))
 
--- operations 12 to 38, at q, over the variable x and the word v
+-- an operation on the data, at q, over the variable x and the word v
 unfoldable pub actOf : {X : Type 0} → ℕ → ℕ → X → ℕ → Act X
 actOf k q x v =
-    cond (eqb k 12) (push q (toZ w32 v))
-    (cond (eqb k 13) (load q x)
-    (cond (eqb k 14) (store x)
-    (cond (eqb k 15) (assign x)
-    (cond (eqb k 16) (reserve q)
-    (cond (eqb k 17) forget
-    (cond (eqb k 18) (receive q x)
-    (cond (eqb k 19) (send q)
-    (cond (eqb k 20) keep
-    (cond (eqb k 21) (bump q x)
-    (cond (ltb k 25) (unary q (unaryOf k))
+    cond (eqb k o-const) (push q (toZ w32 v))
+    (cond (eqb k o-load) (load q x)
+    (cond (eqb k o-store) (store x)
+    (cond (eqb k o-assign) (assign x)
+    (cond (eqb k o-result) (reserve q)
+    (cond (eqb k o-drop) forget
+    (cond (eqb k o-in) (receive q x)
+    (cond (eqb k o-out) (send q)
+    (cond (eqb k o-hold) keep
+    (cond (eqb k o-add) (bump q x)
+    (cond (ltb k o-plus) (unary q (unaryOf k))
     (binary q (binaryOf k))))))))))))
 
 unfoldable pub decode : ℕ → ℕ → ℕ → Option Instr
 decode k q v =
-    cond (eqb k 0) none
-    (cond (eqb k 1) (some END)
-    (cond (eqb k 2) (some (JUMP (low v)))
-    (cond (eqb k 3) (some (ENTER q (mid v) (low v)))
-    (cond (eqb k 4) (some (LEAVE (mid v)))
-    (cond (eqb k 5) (some (CALL q (low v) (high v) (mid v) kept))
-    (cond (eqb k 6) (some (CALL q (low v) (high v) (mid v) gone))
-    (cond (eqb k 7) (some RETURN)
-    (cond (eqb k 8) (some (GO (high v) (low v) (mid v)))
-    (cond (eqb k 9) (some (NEXT (high v)))
-    (cond (eqb k 10) (some (IF condition (low v)))
-    (cond (eqb k 11) (some (IF (upto q (variable v)) (low v)))
-    (cond (ltb k 39) (some (DO (actOf k q (variable v) v)))
+    cond (eqb k o-none) none
+    (cond (eqb k o-end) (some END)
+    (cond (eqb k o-jump) (some (JUMP (low v)))
+    (cond (eqb k o-enter) (some (ENTER q (mid v) (low v)))
+    (cond (eqb k o-leave) (some (LEAVE (mid v)))
+    (cond (eqb k o-call-needed) (some (CALL q (low v) (high v) (mid v) kept))
+    (cond (eqb k o-call) (some (CALL q (low v) (high v) (mid v) gone))
+    (cond (eqb k o-return) (some RETURN)
+    (cond (eqb k o-go) (some (GO (high v) (low v) (mid v)))
+    (cond (eqb k o-next) (some (NEXT (high v)))
+    (cond (eqb k o-unless) (some (IF condition (low v)))
+    (cond (eqb k o-test) (some (IF (upto q (variable v)) (low v)))
+    (cond (ltb k o-behind) (some (DO (actOf k q (variable v) v)))
     none))))))))))))
 
 -- the instruction that two words hold
 abbrev pub instruction : ℕ → ℕ → Option Instr
-instruction w v = decode (w % 64) (w / 64) v
+instruction w v = decode (w % sixBits) (w / sixBits) v
 
 -- 29: "no instruction at the counter": there is one where both of its words are there and its operation is known
 unfoldable pub fetch : List ℕ → ℕ → Option Instr

@@ -1,6 +1,9 @@
+pub mod Limits
+pub mod Operations
 pub mod Values
 pub mod Run
 pub mod Data
 pub mod Instructions
+pub mod Words
 pub mod Machine
 pub mod Model

@@ -10,6 +10,7 @@ use lib.IntN.{ℤ, pos}
 use Rattle.answers.specs.declared.Stop.{Stop}
 use Rattle.answers.specs.declared.Stop.the-variants.{Ended, Limit, Wrong}
 use Rattle.machine.specs.declared.Ran.{Ran}
+use Rattle.machine.specs.Limits.{mostWords, mostCells}
 use Rattle.machine.specs.Run.{untold, Out, halt, next, End, done, over, run, quiet}
 use Rattle.machine.specs.Data.{Data, dat, cells, actOn, testOn, Fate, gone, lift, guard, downs, downsT, work, test, either, openBlock, closeBlock, enter, leave}
 use Rattle.machine.specs.Instructions.{Loc, lc, Instr, END, DO, IF, JUMP, ENTER, LEAVE, CALL, RETURN, GO, NEXT, fetch}
@@ -104,11 +105,11 @@ machine words input limit room space = finish (run (step words) limit (start inp
 
 -- "A run reads at most the first 16,384 code words."
 abbrev pub onCode : List ℕ → List ℤ → ℕ → ℕ → ℕ → Finish
-onCode code input limit room space = machine (take 16384 code) input limit room space
+onCode code input limit room space = machine (take mostWords code) input limit room space
 
 -- "It uses the first 8,192 cells of the store, or fewer if lent fewer"
 abbrev pub used : List ℤ → ℕ
-used store = min 8192 (length store)
+used store = min mostCells (length store)
 
 -- what is handed back, and what the store and the output hold
 pub record Exit : Type 0 where

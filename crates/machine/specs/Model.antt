@@ -28,6 +28,7 @@ use Rattle.machine.specs.declared.Chosen.{Chosen}
 use Rattle.machine.specs.declared.Chosen.the-variants.{Yes, No, Bad as BadT, Stray as StrayT}
 use Rattle.machine.specs.declared.Outcome.{Outcome}
 use Rattle.machine.specs.declared.Outcome.the-variants.{Goes, Ends, Faults, Strays}
+use Rattle.machine.specs.Limits.{mostCells, mostLive, mostPositions, activationWords, memoryWords}
 use Rattle.machine.specs.Run.{Trace, say, Out, halt, next}
 use Rattle.machine.specs.Data.{Data, dat, Res, bad, wrong, good, Took, value, nothing, Two, yea, nay, Fate, kept, gone, Act, work, Test, test}
 use Rattle.machine.specs.Machine.{Frame, fr, Mach, ms, Finish, stray}
@@ -119,10 +120,10 @@ seenT StrayT a s i o = lost
 
 -- word k of activation i
 unfoldable pub wordOf : List ℕ → ℕ → ℕ → ℕ
-wordOf l i k = getD l (70 * i + k) 0
+wordOf l i k = getD l (activationWords * i + k) 0
 
 unfoldable pub noteOf : List ℕ → ℕ → ℕ → ℕ → List ℕ
-noteOf l i k v = set l (70 * i + k) v
+noteOf l i k v = set l (activationWords * i + k) v
 
 -- the n words from p on, the last of them first
 unfoldable pub stacked : List ℕ → ℕ → ℕ → List ℕ
@@ -130,7 +131,7 @@ stacked l p zero = []
 stacked l p (suc n) = getD l (p + n) 0 ∷ stacked l p n
 
 unfoldable pub positionsOf : List ℕ → ℕ → List ℕ
-positionsOf l i = stacked l (70 * i + 6) (wordOf l i 5)
+positionsOf l i = stacked l (activationWords * i + 6) (wordOf l i 5)
 
 unfoldable pub fateOf : ℕ → Fate
 fateOf n = cond (eqb n 0) gone kept
@@ -185,7 +186,7 @@ FittingV (Fault a) = Unit {0}
 -- cells in use and held cells are apart, and a held cell holds a number
 pub record Sound (n : Counts) (s : List ℤ) : Type 0 where
   pub room : n .cells + n .held ≤ roomOf s
-  pub few : roomOf s ≤ 8192
+  pub few : roomOf s ≤ mostCells
   pub holds : (k : ℕ) → k < n .held → cellAt s (roomOf s - suc k) ≡ Holds (heldIn (cellAt s (roomOf s - suc k)))
 
 -- k cells fewer
@@ -235,10 +236,10 @@ SoundO Stray s o o' = o' ≡ o
 
 -- the activations around are older ones, and each has room for its positions
 pub record Lives (l : List ℕ) (a : ℕ) : Type 0 where
-  pub long : length l ≡ 17990
-  pub many : a ≤ 256
+  pub long : length l ≡ memoryWords
+  pub many : a ≤ mostLive
   pub links : (i : ℕ) → i ≤ a → wordOf l i 2 ≤ i
-  pub notes : (i : ℕ) → i ≤ a → wordOf l i 5 ≤ 64
+  pub notes : (i : ℕ) → i ≤ a → wordOf l i 5 ≤ mostPositions
 
 -- after an instruction: what is written stays, and so does what lies behind it
 abbrev pub SoundG : Outcome → List ℤ → List ℕ → List ℤ → List ℤ → Type 0

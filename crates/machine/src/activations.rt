@@ -2,8 +2,16 @@
 // below; the others are its return positions.
 ghost use mathlib.Core.Path.{_≡_};
 ghost use Prim.Native.Nat.{ℕ, _≤_, _<_};
+ghost use Rattle.machine.specs.Limits.{mostLive, activationWords};
 ghost use Rattle.machine.specs.Model.{wordOf, noteOf, framesOf, Lives};
 ghost use Rattle.machine.specs.Machine.{walk, base};
+
+// An activation's words, and those of all of them with the program's.
+const WORDS: usize = 70;
+
+pub const MEMORY: usize = 17990;
+
+pub type Memory = [u32; MEMORY];
 
 // Where to return to.
 pub const RETURN: usize = 0;
@@ -21,22 +29,22 @@ pub const NOTED: usize = 5;
 pub const POSITIONS: usize = 6;
 
 // Word k of activation i.
-pub fn word(own: &[u32; 17990], i: usize, k: usize) -> u32
-    requires { ⌜ (i ≤ 256) × (k < 70) ⌝ }
+pub fn word(own: &Memory, i: usize, k: usize) -> u32
+    requires { ⌜ (i ≤ mostLive) × (k < activationWords) ⌝ }
     ensures { λ r. ⌜ r ≡ wordOf (now (own .entry)) i k ⌝ }
 {
-    own[70 * i + k]
+    own[WORDS * i + k]
 }
 
-pub fn note(own: &mut [u32; 17990], i: usize, k: usize, v: u32)
-    requires { ⌜ (i ≤ 256) × (k < 70) ⌝ }
+pub fn note(own: &mut Memory, i: usize, k: usize, v: u32)
+    requires { ⌜ (i ≤ mostLive) × (k < activationWords) ⌝ }
     ensures { λ _. ⌜ now (own .exit) ≡ noteOf (now (own .entry)) i k v ⌝ }
 {
-    own[70 * i + k] = v;
+    own[WORDS * i + k] = v;
 }
 
 // The activation `levels` out from activation i.
-pub fn around(own: &[u32; 17990], i: usize, levels: u32) -> usize
+pub fn around(own: &Memory, i: usize, levels: usize) -> usize
     requires { ⌜ Lives (now own) i ⌝ }
     ensures { λ r. ⌜ ((r ≤ i) × (r ≡ walk (framesOf (now (own .entry)) i) i levels)) ⌝ }
 {
@@ -50,8 +58,8 @@ pub fn around(own: &[u32; 17990], i: usize, levels: u32) -> usize
 }
 
 // The first cell of activation i.
-pub fn first_cell(own: &[u32; 17990], i: usize) -> usize
-    requires { ⌜ i ≤ 256 ⌝ }
+pub fn first_cell(own: &Memory, i: usize) -> usize
+    requires { ⌜ i ≤ mostLive ⌝ }
     ensures { λ r. ⌜ ((a : ℕ) → i ≤ a → r ≡ base (framesOf (now (own .entry)) a) i) ⌝ }
     ensures { λ r. ⌜ r < 4294967296 ⌝ }
 {

@@ -12,6 +12,7 @@ ghost use mathlib.Core.List.{List};
 ghost use Prim.Native.Nat.{_<_, ℕ, _+_, _-_, _≤_};
 ghost use lib.IntN.{ℤ};
 ghost use Rattle.machine.specs.Data.{Fate, openBlock, closeBlock, leave as leaveOf};
+ghost use Rattle.machine.specs.Instructions.{thirteenBits};
 ghost use Rattle.machine.specs.Model.{Sound, SoundD, dataOf, traceOf, seenD, told, roomOf, unassigned};
 
 // The k cells from cell c on become unassigned.
@@ -28,7 +29,7 @@ fn unassign(store: &mut [i64], c: usize, k: usize)
 
 // A block's cells.
 pub fn open(mut n: Counts, store: &mut [i64], q: usize, k: usize) -> Did
-    requires { ⌜ Sound n (now store) × (k < 8192) ⌝ }
+    requires { ⌜ Sound n (now store) × (k < thirteenBits) ⌝ }
     ensures { λ r. ⌜ ((a : ℕ) (i o : List ℤ) → seenD r a (now (store .exit)) i o ≡ told (traceOf n o) (openBlock q k (dataOf n a (now (store .entry)) i o))) ⌝ }
     ensures { λ r. ⌜ SoundD n r (now (store .exit)) ⌝ }
 {

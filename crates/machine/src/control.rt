@@ -4,19 +4,25 @@ use crate::Counts;
 use crate::Did;
 use crate::Outcome;
 use crate::activations;
+use crate::activations::Memory;
 use crate::activations::around;
 use crate::activations::first_cell;
 use crate::activations::note;
 use crate::activations::word;
 use crate::blocks;
+use crate::bounds;
+use crate::operands::high;
+use crate::operands::low;
+use crate::operands::mid;
 use answers::Answer;
 ghost use mathlib.Core.Path.{_≡_};
 ghost use mathlib.Core.List.{List};
 ghost use Prim.Native.Nat.{ℕ, suc, _+_, _≤_, _<_};
 ghost use lib.IntN.{ℤ};
 ghost use lib.ListN.{length};
+ghost use Rattle.machine.specs.Limits.{mostInstructions, mostCells, mostLive};
 ghost use Rattle.machine.specs.Data.{either};
-ghost use Rattle.machine.specs.Instructions.{Instr, high, mid, low};
+ghost use Rattle.machine.specs.Instructions.{Instr, thirteenBits, high, mid, low};
 ghost use Rattle.machine.specs.Machine.{Mach, stray as strayOf, exec};
 ghost use Rattle.machine.specs.Model.{Sound, SoundT, SoundO, SoundG, Lives, dataOf, traceOf, seenD, seenT, seenO, lifted, stepped, positionsOf, framesOf, fateOf, begun};
 
@@ -41,7 +47,7 @@ pub fn lift(at: u32, next: u32, live: usize, did: Did) -> Outcome
 
 // On to the next instruction, or to `other` where the test says no.
 pub fn lift_test(at: u32, other: u32, live: usize, chosen: Chosen) -> Outcome
-    requires { ⌜ at < 8192 ⌝ }
+    requires { ⌜ at < mostInstructions ⌝ }
     ensures { λ r. ⌜ ((s i o : List ℤ) (l : List ℕ) → seenO r s l i o ≡ lifted (strayOf at) (either (Mach.ms (suc at) (positionsOf l live) (framesOf l live)) (Mach.ms other (positionsOf l live) (framesOf l live))) (seenT chosen live s i o)) ⌝ }
     ensures { λ r. ⌜ ((n : Counts) (s o : List ℤ) (l : List ℕ) → SoundT n chosen s → n .written ≤ length o → Lives l live → SoundG r s l o o) ⌝ }
 {
@@ -54,8 +60,8 @@ pub fn lift_test(at: u32, other: u32, live: usize, chosen: Chosen) -> Outcome
 }
 
 // A block is left: k cells.
-pub fn close(at: u32, live: usize, n: Counts, own: &[u32; 17990], k: usize) -> Outcome
-    requires { ⌜ Lives (now own) live × (at < 8192) × (k < 8192) ⌝ }
+pub fn close(at: u32, live: usize, n: Counts, own: &Memory, k: usize) -> Outcome
+    requires { ⌜ Lives (now own) live × (at < mostInstructions) × (k < thirteenBits) ⌝ }
     ensures { λ r. ⌜ ((s i o : List ℤ) → seenO r s (now (own .entry)) i o ≡ stepped (traceOf n o) (exec (Instr.LEAVE k) at (positionsOf (now (own .entry)) live) (framesOf (now (own .entry)) live) (dataOf n live s i o))) ⌝ }
     ensures { λ r. ⌜ ((s o : List ℤ) → Sound n s → n .written ≤ length o → SoundG r s (now (own .entry)) o o) ⌝ }
 {
@@ -66,8 +72,8 @@ pub fn close(at: u32, live: usize, n: Counts, own: &[u32; 17990], k: usize) -> O
 }
 
 // A new activation's words.
-fn begin(own: &mut [u32; 17990], i: usize, at: u32, first: usize, outer: usize, needed: u32, q: u32)
-    requires { ⌜ (i ≤ 256) × (at < 8192) × (first < 4294967296) × (outer < 4294967296) ⌝ }
+fn begin(own: &mut Memory, i: usize, at: u32, first: usize, outer: usize, needed: u32, q: u32)
+    requires { ⌜ (i ≤ mostLive) × (at < mostInstructions) × (first < 4294967296) × (outer < 4294967296) ⌝ }
     ensures { λ _. ⌜ now (own .exit) ≡ begun (now (own .entry)) i (at + 1) first outer needed q ⌝ }
 {
     note(own, i, activations::RETURN, at + 1);
@@ -83,30 +89,30 @@ pub fn call(
     at: u32,
     live: usize,
     n: Counts,
-    own: &mut [u32; 17990],
+    own: &mut Memory,
     q: u32,
     v: u32,
     needed: u32,
 ) -> Outcome
-    requires { ⌜ Lives (now own) live × (at < 8192) × (n .cells ≤ 8192) ⌝ }
+    requires { ⌜ Lives (now own) live × (at < mostInstructions) × (n .cells ≤ mostCells) ⌝ }
     ensures { λ r. ⌜ ((s i o : List ℤ) → seenO r s (now (own .exit)) i o ≡ stepped (traceOf n o) (exec (Instr.CALL q (low v) (high v) (mid v) (fateOf needed)) at (positionsOf (now (own .entry)) live) (framesOf (now (own .entry)) live) (dataOf n live s i o))) ⌝ }
     ensures { λ r. ⌜ ((s o : List ℤ) → Sound n s → n .written ≤ length o → SoundG r s (now (own .exit)) o o) ⌝ }
 {
-    let k = (v / 8192 % 8192) as usize;
+    let k = mid(v as usize);
     let c = n.cells;
     if first_cell(own, live) + k > c {
         return stray(at);
     }
-    if live >= 256 {
+    if live >= bounds::LIVE {
         return Outcome::Faults(Answer::ACTIVATIONS, q as usize);
     }
-    let outer = around(own, live, v / 67108864);
+    let outer = around(own, live, high(v as usize));
     begin(own, live + 1, at, c - k, outer, needed, q);
-    Outcome::Goes(v % 8192, live + 1, n)
+    Outcome::Goes(low(v as usize) as u32, live + 1, n)
 }
 
 // A call returns.
-pub fn leave(at: u32, live: usize, n: Counts, own: &[u32; 17990], store: &[i64]) -> Outcome
+pub fn leave(at: u32, live: usize, n: Counts, own: &Memory, store: &[i64]) -> Outcome
     requires { ⌜ Sound n (now store) × Lives (now own) live ⌝ }
     ensures { λ r. ⌜ ((i o : List ℤ) → seenO r (now (store .entry)) (now (own .entry)) i o ≡ stepped (traceOf n o) (exec Instr.RETURN at (positionsOf (now (own .entry)) live) (framesOf (now (own .entry)) live) (dataOf n live (now (store .entry)) i o))) ⌝ }
     ensures { λ r. ⌜ ((o : List ℤ) → n .written ≤ length o → SoundG r (now (store .entry)) (now (own .entry)) o o) ⌝ }
@@ -122,36 +128,36 @@ pub fn leave(at: u32, live: usize, n: Counts, own: &[u32; 17990], store: &[i64])
 }
 
 // To a loop's body, noting where to go after it.
-pub fn go(at: u32, live: usize, n: Counts, own: &mut [u32; 17990], v: u32) -> Outcome
+pub fn go(at: u32, live: usize, n: Counts, own: &mut Memory, v: u32) -> Outcome
     requires { ⌜ Lives (now own) live ⌝ }
     ensures { λ r. ⌜ ((s i o : List ℤ) → seenO r s (now (own .exit)) i o ≡ stepped (traceOf n o) (exec (Instr.GO (high v) (low v) (mid v)) at (positionsOf (now (own .entry)) live) (framesOf (now (own .entry)) live) (dataOf n live s i o))) ⌝ }
     ensures { λ r. ⌜ ((s o : List ℤ) → Sound n s → n .written ≤ length o → SoundG r s (now (own .exit)) o o) ⌝ }
 {
-    let nest = v / 67108864;
-    if nest != word(own, live, activations::NOTED) {
+    let nest = high(v as usize);
+    if nest != word(own, live, activations::NOTED) as usize {
         return stray(at);
     }
     note(
         own,
         live,
-        activations::POSITIONS + nest as usize,
-        v / 8192 % 8192,
+        activations::POSITIONS + nest,
+        mid(v as usize) as u32,
     );
-    note(own, live, activations::NOTED, nest + 1);
-    Outcome::Goes(v % 8192, live, n)
+    note(own, live, activations::NOTED, (nest + 1) as u32);
+    Outcome::Goes(low(v as usize) as u32, live, n)
 }
 
 // From a loop's body to the position noted.
-pub fn next(at: u32, live: usize, n: Counts, own: &mut [u32; 17990], v: u32) -> Outcome
+pub fn next(at: u32, live: usize, n: Counts, own: &mut Memory, v: u32) -> Outcome
     requires { ⌜ Lives (now own) live ⌝ }
     ensures { λ r. ⌜ ((s i o : List ℤ) → seenO r s (now (own .exit)) i o ≡ stepped (traceOf n o) (exec (Instr.NEXT (high v)) at (positionsOf (now (own .entry)) live) (framesOf (now (own .entry)) live) (dataOf n live s i o))) ⌝ }
     ensures { λ r. ⌜ ((s o : List ℤ) → Sound n s → n .written ≤ length o → SoundG r s (now (own .exit)) o o) ⌝ }
 {
-    let nest = v / 67108864;
-    if nest + 1 != word(own, live, activations::NOTED) {
+    let nest = high(v as usize);
+    if nest + 1 != word(own, live, activations::NOTED) as usize {
         return stray(at);
     }
-    let position = word(own, live, activations::POSITIONS + nest as usize);
-    note(own, live, activations::NOTED, nest);
+    let position = word(own, live, activations::POSITIONS + nest);
+    note(own, live, activations::NOTED, nest as u32);
     Outcome::Goes(position, live, n)
 }

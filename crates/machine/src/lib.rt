@@ -5,9 +5,12 @@ use answers::Stop;
 
 mod activations;
 mod blocks;
+pub mod bounds; // the limits of a run
 mod cells;
+pub mod codes; // the numbers of the operations
 mod control;
 mod loops;
+pub mod operands; // the parts of an operand
 mod operations;
 mod ports;
 mod steps;

@@ -15,6 +15,7 @@ ghost use mathlib.Core.Path.{_≡_};
 ghost use mathlib.Core.List.{List, [], _∷_};
 ghost use Prim.Native.Nat.{ℕ, _+_, _≤_, _<_};
 ghost use lib.IntN.{ℤ};
+ghost use Rattle.machine.specs.Operations.{o-minus, o-plus};
 ghost use Rattle.machine.specs.Run.{Event};
 ghost use Rattle.machine.specs.Data.{Data, Res, Act, Test, newest as newestOf, two, back as backOf, put as putOf, newCells, valued};
 ghost use Rattle.machine.specs.Instructions.{unaryOf, binaryOf};
@@ -167,7 +168,7 @@ fn give(n: Counts, store: &mut [i64], q: usize, v: Value) -> Did
 }
 
 pub fn unary(n: Counts, store: &mut [i64], q: usize, k: u32) -> Did
-    requires { ⌜ Sound n (now store) × (22 ≤ k) × (k < 25) ⌝ }
+    requires { ⌜ Sound n (now store) × (o-minus ≤ k) × (k < o-plus) ⌝ }
     ensures { λ r. ⌜ Does (Act.unary q (unaryOf k)) n r (now (store .entry)) (now (store .exit)) ⌝ }
     ensures { λ r. ⌜ SoundD n r (now (store .exit)) ⌝ }
 {
@@ -178,7 +179,7 @@ pub fn unary(n: Counts, store: &mut [i64], q: usize, k: u32) -> Did
 }
 
 pub fn binary(n: Counts, store: &mut [i64], q: usize, k: u32) -> Did
-    requires { ⌜ Sound n (now store) × (25 ≤ k) ⌝ }
+    requires { ⌜ Sound n (now store) × (o-plus ≤ k) ⌝ }
     ensures { λ r. ⌜ Does (Act.binary q (binaryOf k)) n r (now (store .entry)) (now (store .exit)) ⌝ }
     ensures { λ r. ⌜ SoundD n r (now (store .exit)) ⌝ }
 {

@@ -4,12 +4,19 @@ use crate::Counts;
 use crate::Did;
 use crate::Outcome;
 use crate::Ran;
+use crate::activations::MEMORY;
+use crate::activations::Memory;
 use crate::activations::around;
 use crate::activations::first_cell;
 use crate::blocks;
+use crate::bounds;
+use crate::codes;
 use crate::control;
 use crate::control::stray;
 use crate::loops;
+use crate::operands::high;
+use crate::operands::low;
+use crate::operands::mid;
 use crate::operations;
 use crate::ports;
 use crate::values;
@@ -21,39 +28,41 @@ ghost use mathlib.Core.List.{List};
 ghost use Prim.Native.Nat.{ℕ, _≤_, _<_, min};
 ghost use lib.IntN.{ℤ, pos};
 ghost use lib.ListN.{length, replicate};
+ghost use Rattle.machine.specs.Limits.{mostWords, mostInstructions, mostCells};
+ghost use Rattle.machine.specs.Operations.{o-const, o-behind};
 ghost use Rattle.machine.specs.Data.{Act, Test, work as workOf, downs as downsOf};
 ghost use Rattle.machine.specs.Instructions.{Loc, Instr, variable, low, actOf, decode};
 ghost use Rattle.machine.specs.Machine.{cellIn, exec, obey as obeyOf, step as stepOf, machine as machineOf, exit, job};
 ghost use Rattle.machine.specs.Model.{Sound, SoundO, SoundG, Lives, Drove, dataOf, traceOf, machOf, seenD, seenO, told, stepped, positionsOf, framesOf, wordOf, roomOf};
 
 // The cell of a variable: activations out and offset in the operand v.
-fn cell_of(live: usize, own: &[u32; 17990], v: u32) -> usize
+fn cell_of(live: usize, own: &Memory, v: u32) -> usize
     requires { ⌜ Lives (now own) live ⌝ }
     ensures { λ r. ⌜ r ≡ cellIn (framesOf (now (own .entry)) live) (variable v) ⌝ }
 {
-    let f = around(own, live, v / 67108864);
-    first_cell(own, f) + (v / 8192 % 8192) as usize
+    let f = around(own, live, high(v as usize));
+    first_cell(own, f) + mid(v as usize)
 }
 
 // How many values operation k uses.
 fn downs(k: u32) -> usize
-    requires { ⌜ (12 ≤ k) × (k < 39) ⌝ }
+    requires { ⌜ (o-const ≤ k) × (k < o-behind) ⌝ }
     ensures { λ r. ⌜ ((q v : ℕ) (x : Loc) → r ≡ downsOf (actOf k q x v)) ⌝ }
     ensures { λ r. ⌜ r ≤ 2 ⌝ }
 {
     match k {
-        12 => 0,
-        13 => 0,
-        14 => 1,
-        15 => 1,
-        16 => 0,
-        17 => 1,
-        18 => 1,
-        19 => 2,
-        20 => 2,
-        21 => 0,
+        codes::CONST => 0,
+        codes::LOAD => 0,
+        codes::STORE => 1,
+        codes::ASSIGN => 1,
+        codes::RESULT => 0,
+        codes::DROP => 1,
+        codes::IN => 1,
+        codes::OUT => 2,
+        codes::HOLD => 2,
+        codes::ADD => 0,
         _ => {
-            if k < 25 {
+            if k < codes::PLUS {
                 return 1;
             }
             2
@@ -61,7 +70,7 @@ fn downs(k: u32) -> usize
     }
 }
 
-// Operations 12 to 38 on the data: at q, over cell c and the operand v.
+// The operations on the data: at q, over cell c and the operand v.
 fn work(
     k: u32,
     q: usize,
@@ -72,23 +81,23 @@ fn work(
     store: &mut [i64],
     output: &mut [i32],
 ) -> Did
-    requires { ⌜ Sound n (now store) × (n .written ≤ length (now output)) × (12 ≤ k) × (k < 39) ⌝ }
+    requires { ⌜ Sound n (now store) × (n .written ≤ length (now output)) × (o-const ≤ k) × (k < o-behind) ⌝ }
     ensures { λ r. ⌜ ((a : ℕ) → seenD r a (now (store .exit)) (now (input .entry)) (now (output .exit)) ≡ told (traceOf n (now (output .entry))) (workOf (actOf k q c v) (dataOf n a (now (store .entry)) (now (input .entry)) (now (output .entry))))) ⌝ }
     ensures { λ r. ⌜ SoundO r (now (store .exit)) (now (output .entry)) (now (output .exit)) ⌝ }
 {
     match k {
-        12 => operations::new_cell(n, store, q, Cell::Holds(values::number(v))),
-        13 => operations::load(n, store, q, c),
-        14 => operations::save(n, store, c),
-        15 => operations::assign(n, store, c),
-        16 => operations::new_cell(n, store, q, Cell::Unset),
-        17 => operations::forget(n, store),
-        18 => ports::receive(n, input, store, q, c),
-        19 => ports::send(n, store, output, q),
-        20 => loops::keep(n, store),
-        21 => loops::bump(n, store, q, c),
+        codes::CONST => operations::new_cell(n, store, q, Cell::Holds(values::number(v))),
+        codes::LOAD => operations::load(n, store, q, c),
+        codes::STORE => operations::save(n, store, c),
+        codes::ASSIGN => operations::assign(n, store, c),
+        codes::RESULT => operations::new_cell(n, store, q, Cell::Unset),
+        codes::DROP => operations::forget(n, store),
+        codes::IN => ports::receive(n, input, store, q, c),
+        codes::OUT => ports::send(n, store, output, q),
+        codes::HOLD => loops::keep(n, store),
+        codes::ADD => loops::bump(n, store, q, c),
         _ => {
-            if k < 25 {
+            if k < codes::PLUS {
                 return operations::unary(n, store, q, k);
             }
             operations::binary(n, store, q, k)
@@ -107,9 +116,9 @@ fn act(
     input: &[i32],
     store: &mut [i64],
     output: &mut [i32],
-    own: &[u32; 17990],
+    own: &Memory,
 ) -> Outcome
-    requires { ⌜ Sound n (now store) × Lives (now own) live × (n .written ≤ length (now output)) × (at < 8192) × (12 ≤ k) × (k < 39) ⌝ }
+    requires { ⌜ Sound n (now store) × Lives (now own) live × (n .written ≤ length (now output)) × (at < mostInstructions) × (o-const ≤ k) × (k < o-behind) ⌝ }
     ensures { λ r. ⌜ seenO r (now (store .exit)) (now (own .entry)) (now (input .entry)) (now (output .exit)) ≡ stepped (traceOf n (now (output .entry))) (exec (Instr.DO (actOf k q (variable v) v)) at (positionsOf (now (own .entry)) live) (framesOf (now (own .entry)) live) (dataOf n live (now (store .entry)) (now (input .entry)) (now (output .entry)))) ⌝ }
     ensures { λ r. ⌜ SoundG r (now (store .exit)) (now (own .entry)) (now (output .entry)) (now (output .exit)) ⌝ }
 {
@@ -128,9 +137,9 @@ fn load(
     q: usize,
     v: u32,
     store: &mut [i64],
-    own: &[u32; 17990],
+    own: &Memory,
 ) -> Outcome
-    requires { ⌜ Sound n (now store) × Lives (now own) live × (at < 8192) ⌝ }
+    requires { ⌜ Sound n (now store) × Lives (now own) live × (at < mostInstructions) ⌝ }
     ensures { λ r. ⌜ ((i o : List ℤ) → seenO r (now (store .exit)) (now (own .entry)) i o ≡ stepped (traceOf n o) (exec (Instr.DO (Act.load q (variable v))) at (positionsOf (now (own .entry)) live) (framesOf (now (own .entry)) live) (dataOf n live (now (store .entry)) i o))) ⌝ }
     ensures { λ r. ⌜ ((o : List ℤ) → n .written ≤ length o → SoundG r (now (store .exit)) (now (own .entry)) o o) ⌝ }
 {
@@ -142,8 +151,8 @@ fn load(
 }
 
 // The newest value to a variable.
-fn save(at: u32, live: usize, n: Counts, v: u32, store: &mut [i64], own: &[u32; 17990]) -> Outcome
-    requires { ⌜ Sound n (now store) × Lives (now own) live × (at < 8192) ⌝ }
+fn save(at: u32, live: usize, n: Counts, v: u32, store: &mut [i64], own: &Memory) -> Outcome
+    requires { ⌜ Sound n (now store) × Lives (now own) live × (at < mostInstructions) ⌝ }
     ensures { λ r. ⌜ ((i o : List ℤ) → seenO r (now (store .exit)) (now (own .entry)) i o ≡ stepped (traceOf n o) (exec (Instr.DO (Act.store (variable v))) at (positionsOf (now (own .entry)) live) (framesOf (now (own .entry)) live) (dataOf n live (now (store .entry)) i o))) ⌝ }
     ensures { λ r. ⌜ ((o : List ℤ) → n .written ≤ length o → SoundG r (now (store .exit)) (now (own .entry)) o o) ⌝ }
 {
@@ -155,28 +164,25 @@ fn save(at: u32, live: usize, n: Counts, v: u32, store: &mut [i64], own: &[u32; 
 }
 
 // A condition.
-fn unless(at: u32, live: usize, n: Counts, v: u32, store: &[i64], own: &[u32; 17990]) -> Outcome
-    requires { ⌜ Sound n (now store) × Lives (now own) live × (at < 8192) ⌝ }
+fn unless(at: u32, live: usize, n: Counts, v: u32, store: &[i64], own: &Memory) -> Outcome
+    requires { ⌜ Sound n (now store) × Lives (now own) live × (at < mostInstructions) ⌝ }
     ensures { λ r. ⌜ ((i o : List ℤ) → seenO r (now (store .entry)) (now (own .entry)) i o ≡ stepped (traceOf n o) (exec (Instr.IF Test.condition (low v)) at (positionsOf (now (own .entry)) live) (framesOf (now (own .entry)) live) (dataOf n live (now (store .entry)) i o))) ⌝ }
     ensures { λ r. ⌜ ((o : List ℤ) → n .written ≤ length o → SoundG r (now (store .entry)) (now (own .entry)) o o) ⌝ }
 {
     if first_cell(own, live) + 1 > n.cells {
         return stray(at);
     }
-    control::lift_test(at, v % 8192, live, operations::condition(n, store))
+    control::lift_test(
+        at,
+        low(v as usize) as u32,
+        live,
+        operations::condition(n, store),
+    )
 }
 
 // The test of a step element.
-fn upto(
-    at: u32,
-    live: usize,
-    n: Counts,
-    q: usize,
-    v: u32,
-    store: &[i64],
-    own: &[u32; 17990],
-) -> Outcome
-    requires { ⌜ Sound n (now store) × Lives (now own) live × (at < 8192) ⌝ }
+fn upto(at: u32, live: usize, n: Counts, q: usize, v: u32, store: &[i64], own: &Memory) -> Outcome
+    requires { ⌜ Sound n (now store) × Lives (now own) live × (at < mostInstructions) ⌝ }
     ensures { λ r. ⌜ ((i o : List ℤ) → seenO r (now (store .entry)) (now (own .entry)) i o ≡ stepped (traceOf n o) (exec (Instr.IF (Test.upto q (variable v)) (low v)) at (positionsOf (now (own .entry)) live) (framesOf (now (own .entry)) live) (dataOf n live (now (store .entry)) i o))) ⌝ }
     ensures { λ r. ⌜ ((o : List ℤ) → n .written ≤ length o → SoundG r (now (store .entry)) (now (own .entry)) o o) ⌝ }
 {
@@ -184,7 +190,12 @@ fn upto(
         return stray(at);
     }
     let c = cell_of(live, own, v);
-    control::lift_test(at, v % 8192, live, loops::upto(n, store, q, c))
+    control::lift_test(
+        at,
+        low(v as usize) as u32,
+        live,
+        loops::upto(n, store, q, c),
+    )
 }
 
 // The instruction of operation k, place q and operand v.
@@ -198,34 +209,34 @@ fn obey(
     input: &[i32],
     store: &mut [i64],
     output: &mut [i32],
-    own: &mut [u32; 17990],
+    own: &mut Memory,
 ) -> Outcome
-    requires { ⌜ Sound n (now store) × Lives (now own) live × (n .written ≤ length (now output)) × (at < 8192) ⌝ }
+    requires { ⌜ Sound n (now store) × Lives (now own) live × (n .written ≤ length (now output)) × (at < mostInstructions) ⌝ }
     ensures { λ r. ⌜ seenO r (now (store .exit)) (now (own .exit)) (now (input .entry)) (now (output .exit)) ≡ stepped (traceOf n (now (output .entry))) (obeyOf (decode k q v) at (positionsOf (now (own .entry)) live) (framesOf (now (own .entry)) live) (dataOf n live (now (store .entry)) (now (input .entry)) (now (output .entry)))) ⌝ }
     ensures { λ r. ⌜ SoundG r (now (store .exit)) (now (own .exit)) (now (output .entry)) (now (output .exit)) ⌝ }
 {
     match k {
-        0 => stray(at),
-        1 => Outcome::Ends,
-        2 => Outcome::Goes(v % 8192, live, n),
-        3 => control::lift(
+        codes::NONE => stray(at),
+        codes::END => Outcome::Ends,
+        codes::JUMP => Outcome::Goes(low(v as usize) as u32, live, n),
+        codes::ENTER => control::lift(
             at,
-            v % 8192,
+            low(v as usize) as u32,
             live,
-            blocks::open(n, store, q as usize, (v / 8192 % 8192) as usize),
+            blocks::open(n, store, q as usize, mid(v as usize)),
         ),
-        4 => control::close(at, live, n, own, (v / 8192 % 8192) as usize),
-        5 => control::call(at, live, n, own, q, v, 1),
-        6 => control::call(at, live, n, own, q, v, 0),
-        7 => control::leave(at, live, n, own, store),
-        8 => control::go(at, live, n, own, v),
-        9 => control::next(at, live, n, own, v),
-        10 => unless(at, live, n, v, store, own),
-        11 => upto(at, live, n, q as usize, v, store, own),
-        13 => load(at, live, n, q as usize, v, store, own),
-        14 => save(at, live, n, v, store, own),
+        codes::LEAVE => control::close(at, live, n, own, mid(v as usize)),
+        codes::CALL_NEEDED => control::call(at, live, n, own, q, v, 1),
+        codes::CALL => control::call(at, live, n, own, q, v, 0),
+        codes::RETURN => control::leave(at, live, n, own, store),
+        codes::GO => control::go(at, live, n, own, v),
+        codes::NEXT => control::next(at, live, n, own, v),
+        codes::UNLESS => unless(at, live, n, v, store, own),
+        codes::TEST => upto(at, live, n, q as usize, v, store, own),
+        codes::LOAD => load(at, live, n, q as usize, v, store, own),
+        codes::STORE => save(at, live, n, v, store, own),
         _ => {
-            if k < 39 {
+            if k < codes::BEHIND {
                 return act(at, live, n, k, q as usize, v, input, store, output, own);
             }
             stray(at)
@@ -242,9 +253,9 @@ fn step(
     input: &[i32],
     store: &mut [i64],
     output: &mut [i32],
-    own: &mut [u32; 17990],
+    own: &mut Memory,
 ) -> Outcome
-    requires { ⌜ Sound n (now store) × Lives (now own) live × (n .written ≤ length (now output)) × (length (now code) ≤ 16384) ⌝ }
+    requires { ⌜ Sound n (now store) × Lives (now own) live × (n .written ≤ length (now output)) × (length (now code) ≤ mostWords) ⌝ }
     ensures { λ r. ⌜ seenO r (now (store .exit)) (now (own .exit)) (now (input .entry)) (now (output .exit)) ≡ stepped (traceOf n (now (output .entry))) (stepOf (now (code .entry)) (machOf at live n (now (store .entry)) (now (own .entry)) (now (input .entry)) (now (output .entry)))) ⌝ }
     ensures { λ r. ⌜ SoundG r (now (store .exit)) (now (own .exit)) (now (output .entry)) (now (output .exit)) ⌝ }
 {
@@ -254,7 +265,18 @@ fn step(
     }
     let w = code[2 * c];
     let v = code[2 * c + 1];
-    obey(at, live, n, w % 64, w / 64, v, input, store, output, own)
+    obey(
+        at,
+        live,
+        n,
+        w % codes::BASE,
+        w / codes::BASE,
+        v,
+        input,
+        store,
+        output,
+        own,
+    )
 }
 
 // What a run answers that ends so, with its counts at the end.
@@ -276,9 +298,9 @@ fn drive(
     limit: u64,
     store: &mut [i64],
     output: &mut [i32],
-    own: &mut [u32; 17990],
+    own: &mut Memory,
 ) -> Ran
-    requires { ⌜ (length (now code) ≤ 16384) × (length (now store) ≤ 8192) × Lives (now own) 0 × (wordOf (now own) 0 5 ≡ 0) ⌝ }
+    requires { ⌜ (length (now code) ≤ mostWords) × (length (now store) ≤ mostCells) × Lives (now own) 0 × (wordOf (now own) 0 5 ≡ 0) ⌝ }
     ensures { λ r. ⌜ Drove r (now (output .entry)) (now (output .exit)) (machineOf (now (code .entry)) (now (input .entry)) limit (roomOf (now (store .entry))) (length (now (output .entry)))) ⌝ }
 {
     let mut at: u32 = 0;
@@ -319,11 +341,11 @@ fn clear(store: &mut [i64])
 
 // The run on what it may use, with the machine's own memory.
 fn used(code: &[u32], input: &[i32], limit: u64, store: &mut [i64], output: &mut [i32]) -> Ran
-    requires { ⌜ (length (now code) ≤ 16384) × (length (now store) ≤ 8192) ⌝ }
+    requires { ⌜ (length (now code) ≤ mostWords) × (length (now store) ≤ mostCells) ⌝ }
     ensures { λ r. ⌜ Drove r (now (output .entry)) (now (output .exit)) (machineOf (now (code .entry)) (now (input .entry)) limit (length (now (store .entry))) (length (now (output .entry)))) ⌝ }
     ensures { λ r. ⌜ now (store .exit) ≡ replicate (length (now (store .entry))) (pos 0) ⌝ }
 {
-    let mut own = [0u32; 17990];
+    let mut own = [0u32; MEMORY];
     let ran = drive(code, input, limit, store, output, &mut own);
     clear(store);
     ran
@@ -340,7 +362,7 @@ fn at_most(n: usize, most: usize) -> usize
 pub fn run(code: &[u32], input: &[i32], limit: u64, store: &mut [i64], output: &mut [i32]) -> Ran
     ensures { λ r. ⌜ exit r (now (store .exit)) (now (output .exit)) ≡ job (now (code .entry)) (now (input .entry)) limit (now (store .entry)) (now (output .entry)) ⌝ }
 {
-    let words = at_most(code.len(), 16384);
-    let cells = at_most(store.len(), 8192);
+    let words = at_most(code.len(), bounds::WORDS);
+    let cells = at_most(store.len(), bounds::CELLS);
     used(&code[..words], input, limit, &mut store[..cells], output)
 }

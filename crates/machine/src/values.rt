@@ -1,11 +1,13 @@
 // Whole numbers of 32 bits, and the operators on them. Sums and products are worked out in 64 bits, where none is lost.
 use crate::Value;
+use crate::codes;
 use answers::Answer;
 ghost use mathlib.Core.Path.{_≡_};
 ghost use Prim.Native.Nat.{_≤_, _<_};
 ghost use lib.IntN.{ℤ};
 ghost use mir.Syntax.{w32};
 ghost use mir.Val.{toZ};
+ghost use Rattle.machine.specs.Operations.{o-minus, o-plus, o-below, o-and};
 ghost use Rattle.machine.specs.Values.{whole as wholeOf, truth as truthOf, isTrue, apply1, apply2, over, sign as signOf, past as pastOf};
 ghost use Rattle.machine.specs.Instructions.{unaryOf, binaryOf};
 
@@ -56,14 +58,14 @@ fn quotient(x: i32, y: i32) -> Value
     whole(x as i64 / y as i64)
 }
 
-// The sign -, 'not' and iabs: operations 22 to 24.
+// The sign -, 'not' and iabs.
 pub fn unary(k: u32, x: i32) -> Value
-    requires { ⌜ (22 ≤ k) × (k < 25) ⌝ }
+    requires { ⌜ (o-minus ≤ k) × (k < o-plus) ⌝ }
     ensures { λ r. ⌜ r ≡ apply1 (unaryOf k) x ⌝ }
 {
     match k {
-        22 => whole(0 - x as i64),
-        23 => Value::Is(truth(x == 0)),
+        codes::MINUS => whole(0 - x as i64),
+        codes::NOT => Value::Is(truth(x == 0)),
         _ => {
             if x < 0 {
                 return whole(0 - x as i64);
@@ -75,51 +77,51 @@ pub fn unary(k: u32, x: i32) -> Value
 
 // + - * and %.
 fn arithmetic(k: u32, x: i32, y: i32) -> Value
-    requires { ⌜ (25 ≤ k) × (k < 29) ⌝ }
+    requires { ⌜ (o-plus ≤ k) × (k < o-below) ⌝ }
     ensures { λ r. ⌜ r ≡ apply2 (binaryOf k) x y ⌝ }
 {
     match k {
-        25 => whole(x as i64 + y as i64),
-        26 => whole(x as i64 - y as i64),
-        27 => whole(x as i64 * y as i64),
+        codes::PLUS => whole(x as i64 + y as i64),
+        codes::LESS => whole(x as i64 - y as i64),
+        codes::TIMES => whole(x as i64 * y as i64),
         _ => quotient(x, y),
     }
 }
 
 // < <= = >= > and #.
 fn relation(k: u32, x: i32, y: i32) -> Value
-    requires { ⌜ (29 ≤ k) × (k < 35) ⌝ }
+    requires { ⌜ (o-below ≤ k) × (k < o-and) ⌝ }
     ensures { λ r. ⌜ r ≡ apply2 (binaryOf k) x y ⌝ }
 {
     match k {
-        29 => Value::Is(truth(x < y)),
-        30 => Value::Is(truth(x <= y)),
-        31 => Value::Is(truth(x == y)),
-        32 => Value::Is(truth(x >= y)),
-        33 => Value::Is(truth(x > y)),
+        codes::BELOW => Value::Is(truth(x < y)),
+        codes::AT_MOST => Value::Is(truth(x <= y)),
+        codes::EQUAL => Value::Is(truth(x == y)),
+        codes::AT_LEAST => Value::Is(truth(x >= y)),
+        codes::ABOVE => Value::Is(truth(x > y)),
         _ => Value::Is(truth(x != y)),
     }
 }
 
 // 'and' 'or' 'impl' and 'equiv'.
 fn connective(k: u32, p: bool, q: bool) -> bool
-    requires { ⌜ 35 ≤ k ⌝ }
+    requires { ⌜ o-and ≤ k ⌝ }
     ensures { λ r. ⌜ ((x y : ℤ) → isTrue x ≡ p → isTrue y ≡ q → Value.Is (truthOf r) ≡ apply2 (binaryOf k) x y) ⌝ }
 {
     match k {
-        35 => {
+        codes::AND => {
             if p {
                 return q;
             }
             false
         }
-        36 => {
+        codes::OR => {
             if p {
                 return true;
             }
             q
         }
-        37 => {
+        codes::IMPL => {
             if p {
                 return q;
             }
@@ -134,15 +136,15 @@ fn connective(k: u32, p: bool, q: bool) -> bool
     }
 }
 
-// Operations 25 to 38.
+// The operators on two values.
 pub fn binary(k: u32, x: i32, y: i32) -> Value
-    requires { ⌜ 25 ≤ k ⌝ }
+    requires { ⌜ o-plus ≤ k ⌝ }
     ensures { λ r. ⌜ r ≡ apply2 (binaryOf k) x y ⌝ }
 {
-    if k < 29 {
+    if k < codes::BELOW {
         return arithmetic(k, x, y);
     }
-    if k < 35 {
+    if k < codes::AND {
         return relation(k, x, y);
     }
     Value::Is(truth(connective(k, is_true(x), is_true(y))))

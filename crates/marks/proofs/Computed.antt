@@ -23,7 +23,7 @@ use Rattle.rules.specs.Entered.{total, before, cut, declaring, bodyOfThis, cell
 use Rattle.rules.specs.Calls.{primary, command}
 use Rattle.rules.specs.Rules.{evaluate, perform, calling, sstep}
 use Rattle.translation.specs.Translate.{cutG, levels, loc, endE, endL, endStores, endS, entry, codeE, codeL, codeStores, codeS, code}
-use Rattle.translation.specs.Words.{words}
+use Rattle.machine.specs.Words.{words}
 use Rattle.marks.specs.Parsing.{among, parse}
 use Rattle.marks.specs.Models.{readOf, comes, says}
 use Rattle.marks.specs.Marks.{copies, marks}

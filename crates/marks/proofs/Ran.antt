@@ -14,7 +14,7 @@ use Rattle.machine.specs.Instructions.{Instr, decode, instruction, fetch}
 use Rattle.machine.specs.Run.{untold, End, done, over, run}
 use Rattle.machine.specs.Machine.{Mach, ms, obey, step, Finish, finish, start, machine}
 use Rattle.machine.proofs.Limits.{under-longer}
-use Rattle.translation.specs.Words.{words}
+use Rattle.machine.specs.Words.{words}
 use Rattle.marks.specs.Models.{ended}
 
 -- ---- zero words behind

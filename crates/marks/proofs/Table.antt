@@ -16,7 +16,7 @@ use Rattle.reading.specs.Table.{tableOf}
 use Rattle.reading.specs.Reading.{placeIn, filled, Judged, accepted as judged-accepted}
 use Rattle.rules.specs.Rules.{source}
 use Rattle.translation.specs.Translate.{code}
-use Rattle.translation.specs.Words.{words}
+use Rattle.machine.specs.Words.{words}
 use Rattle.marks.specs.Rows.{Run, Row, reads, runs, Runs, Holds, All, told, finished}
 use Rattle.marks.specs.Models.{Read, refused, accepted, readOf, answered, ran, fuel, answer, run, comes, says}
 use Rattle.marks.specs.Marks.{marks}

@@ -25,7 +25,7 @@ use Rattle.reading.specs.Table.{tableOf}
 use Rattle.reading.specs.Reading.{symbols, kindsIn, placeIn, programIn, refusedAt}
 use Rattle.rules.specs.Rules.{State, source}
 use Rattle.translation.specs.Translate.{code}
-use Rattle.translation.specs.Words.{words}
+use Rattle.machine.specs.Words.{words}
 use Rattle.marks.specs.Parsing.{parse}
 use Rattle.marks.specs.Rows.{Run, Row, reads, runs, told, finished}
 

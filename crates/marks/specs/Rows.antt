@@ -14,7 +14,7 @@ use Rattle.types.specs.Types.{typeFault}
 use Rattle.reading.specs.Reading.{placeIn, filled, Parsed, parsed, Judged}
 use Rattle.rules.specs.Rules.{source}
 use Rattle.translation.specs.Translate.{code}
-use Rattle.translation.specs.Words.{words}
+use Rattle.machine.specs.Words.{words}
 
 -- a run: what it is lent (input, cells, room for output), and what it comes to: how it stops, the steps by the source rules, the instructions done,
 -- what is written and how many numbers are taken

@@ -1,4 +1,4 @@
--- What the rows and marks of a program say of its names: a row tells of a declaration what the paper's scopes say of it, and a name that is
+-- What the rows of a program say of its names: a row tells of a declaration what the paper's scopes say of it, and a name that is
 -- looked up in the rows of the open scopes is found to mean what it means. Assumes of identities that they are the same for the same letters.
 use Prim.Native.Nat.{ℕ, zero, suc, _+_, _*_, _-_, _≤_, _<_}
 use native.Mathlib.Omega.{arith}
@@ -8,22 +8,23 @@ use mathlib.Core.List.{List, [], _∷_, _++_, map, append-assoc, append-nil}
 use mathlib.Core.Option.{Option, none, some}
 use mathlib.Core.Logic.{_⊎_, inl, inr}
 use lib.Dec.{eqb, leb}
-use lib.ListN.{length, getD, length-append, List·getD-eq-default}
+use lib.ListN.{length, getD, length-append}
 use lib.Seq.{getD-append-add}
 use borrow.Author.Tests.{eqb-true, eqb-false, eq-eqb, ne-eqb, lt-ltb}
-use Rattle.grammar.specs.NodeKinds.{n-variable, n-procedure, n-formal, n-value, n-specified}
+use Rattle.grammar.specs.NodeKinds.{n-variable, n-procedure, n-formal}
 use Rattle.names.specs.Program.{Name, Sort, integer, Expression, Specification, Statement, dummy, assignment, procedure, when, either, repeat, compound, block, Statements, last, first, Declarations, none as no-more, variables, declare, Procedure, heading}
-use Rattle.names.specs.Scopes.{same, has, Thing, variable, routine, formal, Declared, sortOf, formalsOf, specificationsOf, specified, variablesIn, Scope, ofBlock, ofBody, inBlock, inBody, declares, an, variable-of, Given, environment, Meaning, declared, given, nothing, findIn, findGiven, innermost, meaning}
+use Rattle.names.specs.Scopes.{same, has, Thing, variable, routine, formal, Declared, sortOf, formalsOf, valuesOf, specificationsOf, specified, variablesIn, Scope, ofBlock, ofBody, inBlock, inBody, declares, an, variable-of, Given, environment, Meaning, declared, given, nothing, findIn, findGiven, innermost, meaning}
 use Rattle.names.specs.Uses.{thingKind}
 use Rattle.names.specs.Nodes.{node, sortNumber}
-use Rattle.names.specs.Rows.{identityIn, sought, findRow, hasRow, declaredIn, markedIn, outside, outsideOf, meantIn}
+use Rattle.names.specs.Modes.{typeIn}
+use Rattle.names.specs.Rows.{identityIn, sought, findRow, hasRow, declaredIn, outside, outsideOf, meantIn}
 use Rattle.names.specs.Identity.{GivenAs}
 use Rattle.names.specs.declared.Sought.{Sought}
 use Rattle.names.specs.declared.Meant.{Meant}
 use Rattle.names.specs.declared.Meant.the-variants.{Declared as at-row, Given as at-given, Nothing as nowhere}
-use Rattle.names.proofs.AllNames.{AllN, AllSp, AllD, AllP}
-use Rattle.names.specs.Outline.{sizeS, sizeSs, sizeD, sizeP, rowsN, rowsS, rowsSs, rowsD, rowsP}
-use Rattle.names.proofs.TreeRows.{marksSp, marksS, marksSs, marksD, marksP}
+use Rattle.names.proofs.AllNames.{AllN, AllD, AllP}
+use Rattle.names.proofs.ModeLaws.{formal-type}
+use Rattle.names.specs.Outline.{sizeS, sizeSs, sizeD, sizeP, formalIn, rowsN, rowsS, rowsSs, rowsD, rowsP}
 
 -- ---- the words of row j
 
@@ -39,14 +40,6 @@ scopeAt R j = getD R (4 * j + 2) 0
 abbrev pub sortAt : List ℕ → ℕ → ℕ
 sortAt R j = getD R (4 * j + 3) 0
 
--- the type that the marks give the name with the identity x in the scope q
-abbrev pub markedSort : List ℕ → List ℕ → ℕ → ℕ → ℕ
-markedSort ids M q x = sortAt M (findRow ids (markedIn n-specified q x) M)
-
--- that of the name of row j in the scope of row j
-abbrev pub specifiedAt : List ℕ → List ℕ → List ℕ → ℕ → ℕ
-specifiedAt ids R M j = markedSort ids M (scopeAt R j) (identityIn ids (symbolAt R j))
-
 -- ---- what a row tells
 
 pub record RowIs (R : List ℕ) (j k s : ℕ) : Type 0 where
@@ -54,21 +47,20 @@ pub record RowIs (R : List ℕ) (j k s : ℕ) : Type 0 where
   pub kind : kindAt R j ≡ k
   pub symbol : symbolAt R j ≡ s
 
--- the rows from j on are those of the formals xs, specified by ss; the one behind them is of no formal
-abbrev pub Formals : List ℕ → List ℕ → List ℕ → ℕ → List Name → List Specification → Type 0
-Formals ids R M j [] ss = eqb (kindAt R j) n-formal ≡ false
-Formals ids R M j (x ∷ xs) ss =
-    RowIs R j n-formal (x .symbol) × (specifiedAt ids R M j ≡ sortNumber (specified ss x)) × Formals ids R M (j + 1) xs ss
+-- the rows from j on are those of the formals xs, by the value part vs and the specifications ss; the one behind them is of no formal
+abbrev pub Formals : List ℕ → ℕ → List Name → List Name → List Specification → Type 0
+Formals R j [] vs ss = eqb (kindAt R j) n-formal ≡ false
+Formals R j (x ∷ xs) vs ss = RowIs R j n-formal (x .symbol) × (sortAt R j ≡ formalIn vs ss x) × Formals R (j + 1) xs vs ss
 
-abbrev pub ToldThing : List ℕ → List ℕ → List ℕ → ℕ → Thing → Type 0
-ToldThing ids R M j (variable t) = sortAt R j ≡ sortNumber (some t)
-ToldThing ids R M j (routine p) = (sortAt R j ≡ sortNumber (sortOf p)) × Formals ids R M (j + 1) (formalsOf p) (specificationsOf p)
-ToldThing ids R M j (formal t) = specifiedAt ids R M j ≡ sortNumber t
+abbrev pub ToldThing : List ℕ → ℕ → Thing → Type 0
+ToldThing R j (variable t) = sortAt R j ≡ sortNumber (some t)
+ToldThing R j (routine p) = (sortAt R j ≡ sortNumber (sortOf p)) × Formals R (j + 1) (formalsOf p) (valuesOf p) (specificationsOf p)
+ToldThing R j (formal t) = typeIn (sortAt R j) ≡ sortNumber t
 
 -- row j tells of d
-pub record Told (ids R M : List ℕ) (j : ℕ) (d : Declared) : Type 0 where
+pub record Told (R : List ℕ) (j : ℕ) (d : Declared) : Type 0 where
   pub row : RowIs R j (4 + thingKind (d .thing)) (d .name .symbol)
-  pub thing : ToldThing ids R M j (d .thing)
+  pub thing : ToldThing R j (d .thing)
 
 -- ---- what a name is found to mean, against what it means
 
@@ -77,32 +69,32 @@ givenAt [] n = none
 givenAt (g ∷ l) zero = some g
 givenAt (g ∷ l) (suc n) = givenAt l n
 
-abbrev pub Means : List ℕ → List ℕ → List ℕ → Meant → Meaning → Type 0
-Means ids R M (at-row j) (declared d h) = Told ids R M (j .number) d
-Means ids R M (at-row j) (given n g) = ⊥
-Means ids R M (at-row j) nothing = ⊥
-Means ids R M (at-given e) (declared d h) = ⊥
-Means ids R M (at-given e) (given n g) = (e .number ≡ n) × (givenAt environment n ≡ some g)
-Means ids R M (at-given e) nothing = ⊥
-Means ids R M nowhere (declared d h) = ⊥
-Means ids R M nowhere (given n g) = ⊥
-Means ids R M nowhere nothing = Unit {0}
+abbrev pub Means : List ℕ → Meant → Meaning → Type 0
+Means R (at-row j) (declared d h) = Told R (j .number) d
+Means R (at-row j) (given n g) = ⊥
+Means R (at-row j) nothing = ⊥
+Means R (at-given e) (declared d h) = ⊥
+Means R (at-given e) (given n g) = (e .number ≡ n) × (givenAt environment n ≡ some g)
+Means R (at-given e) nothing = ⊥
+Means R nowhere (declared d h) = ⊥
+Means R nowhere (given n g) = ⊥
+Means R nowhere nothing = Unit {0}
 
 -- ---- the scopes around, each with its number: what is found of a name in the rows of a scope
 
-abbrev pub FoundAs : List ℕ → List ℕ → List ℕ → ℕ → ℕ → Option Declared → Type 0
-FoundAs ids R M q i none = hasRow ids (declaredIn q i) R ≡ false
-FoundAs ids R M q i (some d) = (hasRow ids (declaredIn q i) R ≡ true) × Told ids R M (findRow ids (declaredIn q i) R) d
+abbrev pub FoundAs : List ℕ → List ℕ → ℕ → ℕ → Option Declared → Type 0
+FoundAs ids R q i none = hasRow ids (declaredIn q i) R ≡ false
+FoundAs ids R q i (some d) = (hasRow ids (declaredIn q i) R ≡ true) × Told R (findRow ids (declaredIn q i) R) d
 
 -- every name that satisfies Q is found in the rows of scope q as the scope s declares it
-abbrev pub Declares : (Name → Type 0) → List ℕ → List ℕ → List ℕ → ℕ → Scope → Type 0
-Declares Q ids R M q s = (x : Name) → Q x → FoundAs ids R M q (identityIn ids (x .symbol)) (findIn (declares s) x)
+abbrev pub Declares : (Name → Type 0) → List ℕ → List ℕ → ℕ → Scope → Type 0
+Declares Q ids R q s = (x : Name) → Q x → FoundAs ids R q (identityIn ids (x .symbol)) (findIn (declares s) x)
 
-abbrev pub Around : (Name → Type 0) → List ℕ → List ℕ → List ℕ → List Scope → List ℕ → Type 0
-Around Q ids R M [] [] = Unit {0}
-Around Q ids R M [] (q ∷ qs) = ⊥
-Around Q ids R M (s ∷ g) [] = ⊥
-Around Q ids R M (s ∷ g) (q ∷ qs) = Declares Q ids R M q s × Around Q ids R M g qs
+abbrev pub Around : (Name → Type 0) → List ℕ → List ℕ → List Scope → List ℕ → Type 0
+Around Q ids R [] [] = Unit {0}
+Around Q ids R [] (q ∷ qs) = ⊥
+Around Q ids R (s ∷ g) [] = ⊥
+Around Q ids R (s ∷ g) (q ∷ qs) = Declares Q ids R q s × Around Q ids R g qs
 
 -- what is asked of the identities of the names that satisfy Q
 pub record Agree (Q : Name → Type 0) (ids : List ℕ) : Type 0 where
@@ -121,13 +113,13 @@ below-all i h a b c d =
     let d' = eqb-false i 2051 d in
     omega arith
 
-outside-means : (ids R M : List ℕ) (x : Name) (i : ℕ) → GivenAs 0 environment (x .letters) i → i < outside + 4 → Means ids R M (outsideOf i) (findGiven 0 environment x)
+outside-means : (R : List ℕ) (x : Name) (i : ℕ) → GivenAs 0 environment (x .letters) i → i < outside + 4 → Means R (outsideOf i) (findGiven 0 environment x)
 unfolding findGiven outsideOf
-outside-means ids R M x i h small =
+outside-means R x i h small =
     rw (← (h .0), ← (h .1 .0), ← (h .1 .1 .0), ← (h .1 .1 .1 .0)) (go (eqb i 2048) (eqb i 2049) (eqb i 2050) (eqb i 2051) refl refl refl refl)
   where
     go : (t u v w : Bool) → eqb i 2048 ≡ t → eqb i 2049 ≡ u → eqb i 2050 ≡ v → eqb i 2051 ≡ w
-        → Means ids R M (outsideOf i)
+        → Means R (outsideOf i)
         (cond t (given 0 (record { spelling = "iabs"; sort = some integer; actuals = an (some integer) ∷ [] }))
         (cond u (given 1 (record { spelling = "maxint"; sort = some integer; actuals = [] }))
         (cond v (given 2 (record { spelling = "ininteger"; sort = none; actuals = an (some integer) ∷ variable-of integer ∷ [] }))
@@ -140,21 +132,21 @@ outside-means ids R M x i h small =
 
 -- ---- what a name is found to mean
 
-found-means : (ids R M : List ℕ) (q i : ℕ) (o : Option Declared) (g : List Scope) (m : Meant) (n : Meaning)
-    → FoundAs ids R M q i o → Means ids R M m n
-    → Means ids R M (cond (hasRow ids (declaredIn q i) R) (at-row (record { number = findRow ids (declaredIn q i) R })) m) (innermost o g n)
-found-means ids R M q i none g m n f h = rw f h
-found-means ids R M q i (some d) g m n f h = rw (f .0) (f .1)
+found-means : (ids R : List ℕ) (q i : ℕ) (o : Option Declared) (g : List Scope) (m : Meant) (n : Meaning)
+    → FoundAs ids R q i o → Means R m n
+    → Means R (cond (hasRow ids (declaredIn q i) R) (at-row (record { number = findRow ids (declaredIn q i) R })) m) (innermost o g n)
+found-means ids R q i none g m n f h = rw f h
+found-means ids R q i (some d) g m n f h = rw (f .0) (f .1)
 
-pub means : {Q : Name → Type 0} {ids : List ℕ} (R M : List ℕ) → Agree Q ids → (g : List Scope) (qs : List ℕ) → Around Q ids R M g qs
-    → (x : Name) → Q x → Means ids R M (meantIn ids R qs (identityIn ids (x .symbol))) (meaning g x)
+pub means : {Q : Name → Type 0} {ids : List ℕ} (R : List ℕ) → Agree Q ids → (g : List Scope) (qs : List ℕ) → Around Q ids R g qs
+    → (x : Name) → Q x → Means R (meantIn ids R qs (identityIn ids (x .symbol))) (meaning g x)
 unfolding meantIn meaning
-means {Q} {ids} R M k [] [] a x h = outside-means ids R M x (identityIn ids (x .symbol)) (k .given x h) (k .small x h)
-means {Q} {ids} R M k [] (q ∷ qs) a x h = absurd a
-means {Q} {ids} R M k (s ∷ g) [] a x h = absurd a
-means {Q} {ids} R M k (s ∷ g) (q ∷ qs) a x h =
-    found-means ids R M q (identityIn ids (x .symbol)) (findIn (declares s) x) (s ∷ g) (meantIn ids R qs (identityIn ids (x .symbol))) (meaning g x)
-    (a .0 x h) (means R M k g qs (a .1) x h)
+means {Q} {ids} R k [] [] a x h = outside-means R x (identityIn ids (x .symbol)) (k .given x h) (k .small x h)
+means {Q} {ids} R k [] (q ∷ qs) a x h = absurd a
+means {Q} {ids} R k (s ∷ g) [] a x h = absurd a
+means {Q} {ids} R k (s ∷ g) (q ∷ qs) a x h =
+    found-means ids R q (identityIn ids (x .symbol)) (findIn (declares s) x) (s ∷ g) (meantIn ids R qs (identityIn ids (x .symbol))) (meaning g x)
+    (a .0 x h) (means R k g qs (a .1) x h)
 
 -- ---- lists of rows: whole ones, of scopes that satisfy Q
 
@@ -194,18 +186,6 @@ find-behind ids w b (row {k} {s} {r} {t} {ws} h l) e = go (sought ids w k s r) (
   where
     go : (t : Bool) → (hasRow ids w ws ≡ false → 4 * findRow ids w (ws ++ b) ≡ length ws + 4 * findRow ids w b) → (t || hasRow ids w ws) ≡ false
         → 4 * cond t 0 (suc (findRow ids w (ws ++ b))) ≡ suc (suc (suc (suc (length ws)))) + 4 * findRow ids w b
-    go true f e = let z : _≡_ {A = ℕ} 0 1 = cc in omega arith
-    go false f e =
-        let z = f e in
-        omega arith
-
-pub find-nowhere : {Q : ℕ → Type 0} (ids : List ℕ) (w : Sought) {a : List ℕ} → Rows Q a → hasRow ids w a ≡ false → 4 * findRow ids w a ≡ length a
-unfolding hasRow findRow
-find-nowhere ids w no-row e = refl
-find-nowhere ids w (row {k} {s} {r} {t} {ws} h l) e = go (sought ids w k s r) (find-nowhere ids w l) e
-  where
-    go : (t : Bool) → (hasRow ids w ws ≡ false → 4 * findRow ids w ws ≡ length ws) → (t || hasRow ids w ws) ≡ false
-        → 4 * cond t 0 (suc (findRow ids w ws)) ≡ suc (suc (suc (suc (length ws))))
     go true f e = let z : _≡_ {A = ℕ} 0 1 = cc in omega arith
     go false f e =
         let z = f e in
@@ -252,7 +232,7 @@ one-row k s q t = row tt no-row
 
 -- ---- names of a scope: what is found in a row and behind it
 
-module _ (Q : Name → Type 0) (ids R M : List ℕ) (agree : Agree Q ids) (q : ℕ) (x : Name) (good : Q x) where
+module _ (Q : Name → Type 0) (ids R : List ℕ) (agree : Agree Q ids) (q : ℕ) (x : Name) (good : Q x) where
   abbrev wanted : Sought
   wanted = declaredIn q (identityIn ids (x .symbol))
 
@@ -263,13 +243,13 @@ module _ (Q : Name → Type 0) (ids R M : List ℕ) (agree : Agree Q ids) (q : �
   found-row : (d : Declared) (l : List Declared) (k t : ℕ) (a rest : List ℕ)
       → leb 5 k ≡ true → leb k 7 ≡ true → Q (d .name) → Rows Any a → R ≡ a ++ (k ∷ d .name .symbol ∷ q ∷ t ∷ rest)
       → hasRow ids wanted a ≡ false
-      → ((j : ℕ) → 4 * j ≡ length a → Told ids R M j d)
-      → (hasRow ids wanted (a ++ (k ∷ d .name .symbol ∷ q ∷ t ∷ [])) ≡ false → FoundAs ids R M q (identityIn ids (x .symbol)) (findIn l x))
-      → FoundAs ids R M q (identityIn ids (x .symbol)) (findIn (d ∷ l) x)
+      → ((j : ℕ) → 4 * j ≡ length a → Told R j d)
+      → (hasRow ids wanted (a ++ (k ∷ d .name .symbol ∷ q ∷ t ∷ [])) ≡ false → FoundAs ids R q (identityIn ids (x .symbol)) (findIn l x))
+      → FoundAs ids R q (identityIn ids (x .symbol)) (findIn (d ∷ l) x)
   unfolding hasRow findRow findIn
   found-row d l k t a rest low high h rows e none-in tell more = go (same (d .name) x) (sought-row (d .name) k h low high)
     where
-      go : (b : Bool) → sought ids wanted k (d .name .symbol) q ≡ b → FoundAs ids R M q (identityIn ids (x .symbol)) (cond b (some d) (findIn l x))
+      go : (b : Bool) → sought ids wanted k (d .name .symbol) q ≡ b → FoundAs ids R q (identityIn ids (x .symbol)) (cond b (some d) (findIn l x))
       go true s =
           let has : hasRow ids wanted R ≡ true = ap (hasRow ids wanted) e ∙ has-append ids wanted (k ∷ d .name .symbol ∷ q ∷ t ∷ rest) rows ∙ rw (none-in, s) in
           let f : 4 * findRow ids wanted (k ∷ d .name .symbol ∷ q ∷ t ∷ rest) ≡ 0 = rw s in
@@ -278,70 +258,17 @@ module _ (Q : Name → Type 0) (ids R M : List ℕ) (agree : Agree Q ids) (q : �
       go false s = more (has-append ids wanted (k ∷ d .name .symbol ∷ q ∷ t ∷ []) rows ∙ rw (none-in, s))
 
   -- names xs of one kind, and what stands behind them
-  found-names : (thing : Name → Thing) (k t : ℕ) → leb 5 k ≡ true → leb k 7 ≡ true
-      → ((y : Name) (a rest : List ℕ) (j : ℕ) → Q y → R ≡ a ++ (k ∷ y .symbol ∷ q ∷ t ∷ rest) → 4 * j ≡ length a → Told ids R M j (record { name = y; thing = thing y }))
+  found-names : (thing : Name → Thing) (k : ℕ) (t : Name → ℕ) → leb 5 k ≡ true → leb k 7 ≡ true
+      → ((y : Name) (a rest : List ℕ) (j : ℕ) → Q y → R ≡ a ++ (k ∷ y .symbol ∷ q ∷ t y ∷ rest) → 4 * j ≡ length a → Told R j (record { name = y; thing = thing y }))
       → (xs : List Name) (l : List Declared) (a rest : List ℕ) → AllN Q xs → Rows Any a → R ≡ a ++ (rowsN k q t xs ++ rest) → hasRow ids wanted a ≡ false
-      → ((a' : List ℕ) → Rows Any a' → R ≡ a' ++ rest → hasRow ids wanted a' ≡ false → FoundAs ids R M q (identityIn ids (x .symbol)) (findIn l x))
-      → FoundAs ids R M q (identityIn ids (x .symbol)) (findIn (map (λ y. record { name = y; thing = thing y }) xs ++ l) x)
+      → ((a' : List ℕ) → Rows Any a' → R ≡ a' ++ rest → hasRow ids wanted a' ≡ false → FoundAs ids R q (identityIn ids (x .symbol)) (findIn l x))
+      → FoundAs ids R q (identityIn ids (x .symbol)) (findIn (map (λ y. record { name = y; thing = thing y }) xs ++ l) x)
   unfolding rowsN
   found-names thing k t low high tell [] l a rest all rows e none-in more = more a rows e none-in
   found-names thing k t low high tell (y ∷ ys) l a rest all rows e none-in more =
-      found-row (record { name = y; thing = thing y }) (map (λ y. record { name = y; thing = thing y }) ys ++ l) k t a (rowsN k q t ys ++ rest) low high (all .0) rows e none-in
+      found-row (record { name = y; thing = thing y }) (map (λ y. record { name = y; thing = thing y }) ys ++ l) k (t y) a (rowsN k q t ys ++ rest) low high (all .0) rows e none-in
       (λ j h. tell y a (rowsN k q t ys ++ rest) j (all .0) e h)
-      (λ none'. found-names thing k t low high tell ys l (a ++ (k ∷ y .symbol ∷ q ∷ t ∷ [])) rest (all .1) (rows-append rows (one-row k (y .symbol) q t)) (behind-row R a (rowsN k q t ys ++ rest) k (y .symbol) q t e) none' more)
-
--- ---- marks: the type that the specifications of a body give a name
-
-module _ (Q : Name → Type 0) (ids M : List ℕ) (agree : Agree Q ids) (q : ℕ) (x : Name) (good : Q x) where
-  abbrev marked-as : Sought
-  marked-as = markedIn n-specified q (identityIn ids (x .symbol))
-
-  sought-mark : (y : Name) → Q y → sought ids marked-as n-specified (y .symbol) q ≡ same y x
-  unfolding sought
-  sought-mark y h = simp (eq-eqb q q refl) (agree .one y x h good)
-
-  -- value parts do not count
-  no-value : (t : ℕ) (xs : List Name) → hasRow ids marked-as (rowsN n-value q t xs) ≡ false
-  unfolding rowsN hasRow sought
-  no-value t [] = refl
-  no-value t (y ∷ ys) = no-value t ys
-
-  marked-names : (t u : ℕ) (xs : List Name) (a rest : List ℕ) → AllN Q xs → Rows Any a → M ≡ a ++ (rowsN n-specified q t xs ++ rest) → hasRow ids marked-as a ≡ false
-      → ((a' : List ℕ) → Rows Any a' → M ≡ a' ++ rest → hasRow ids marked-as a' ≡ false → markedSort ids M q (identityIn ids (x .symbol)) ≡ u)
-      → markedSort ids M q (identityIn ids (x .symbol)) ≡ cond (has xs x) t u
-  unfolding rowsN has hasRow findRow
-  marked-names t u [] a rest all rows e none-in more = more a rows e none-in
-  marked-names t u (y ∷ ys) a rest all rows e none-in more =
-      go (same y x) (sought-mark y (all .0))
-      (λ none'. marked-names t u ys (a ++ (n-specified ∷ y .symbol ∷ q ∷ t ∷ [])) rest (all .1) (rows-append rows (one-row n-specified (y .symbol) q t)) (behind-row M a (rowsN n-specified q t ys ++ rest) n-specified (y .symbol) q t e) none' more)
-    where
-      go : (b : Bool) → sought ids marked-as n-specified (y .symbol) q ≡ b
-          → (hasRow ids marked-as (a ++ (n-specified ∷ y .symbol ∷ q ∷ t ∷ [])) ≡ false → markedSort ids M q (identityIn ids (x .symbol)) ≡ cond (has ys x) t u)
-          → markedSort ids M q (identityIn ids (x .symbol)) ≡ cond (b || has ys x) t u
-      go true s f =
-          let z : 4 * findRow ids marked-as (n-specified ∷ y .symbol ∷ q ∷ t ∷ (rowsN n-specified q t ys ++ rest)) ≡ 0 = rw s in
-          let p : 4 * findRow ids marked-as M ≡ length a = ap (λ (r : List ℕ). 4 * findRow ids marked-as r) e ∙ find-behind ids marked-as (n-specified ∷ y .symbol ∷ q ∷ t ∷ (rowsN n-specified q t ys ++ rest)) rows none-in ∙ omega arith in
-          words-at M a (rowsN n-specified q t ys ++ rest) (findRow ids marked-as M) n-specified (y .symbol) q t e p .sort
-      go false s f = f (has-append ids marked-as (n-specified ∷ y .symbol ∷ q ∷ t ∷ []) rows ∙ rw (none-in, s))
-
-  number-of : (b : Bool) (t : Sort) (o : Option Sort) → cond b (sortNumber (some t)) (sortNumber o) ≡ sortNumber (cond b (some t) o)
-  number-of true t o = refl
-  number-of false t o = refl
-
-  marked-sort : (ss : List Specification) (a rest : List ℕ) → AllSp Q ss → Rows Any a → Rows Any rest → M ≡ a ++ (marksSp q ss ++ rest)
-      → hasRow ids marked-as a ≡ false → hasRow ids marked-as rest ≡ false
-      → markedSort ids M q (identityIn ids (x .symbol)) ≡ sortNumber (specified ss x)
-  unfolding marksSp specified
-  marked-sort [] a rest all rows rows' e none-in none' =
-      let h : hasRow ids marked-as M ≡ false = ap (hasRow ids marked-as) e ∙ has-append ids marked-as rest rows ∙ rw (none-in, none') in
-      let w : Rows Any M = rw e (rows-append rows rows') in
-      let p : 4 * findRow ids marked-as M ≡ length M = find-nowhere ids marked-as w h in
-      List·getD-eq-default M 0 (omega arith)
-  marked-sort (s ∷ ss) a rest all rows rows' e none-in none' =
-      marked-names (sortNumber (some (s .sort))) (sortNumber (specified ss x)) (s .names) a (marksSp q ss ++ rest) (all .0) rows
-      (e ∙ ap (λ (l : List ℕ). a ++ l) (append-assoc (rowsN n-specified q (sortNumber (some (s .sort))) (s .names)) (marksSp q ss) rest)) none-in
-      (λ a' w e' n'. marked-sort ss a' rest (all .1) w rows' e' n' none')
-      ∙ number-of (has (s .names) x) (s .sort) (specified ss x)
+      (λ none'. found-names thing k t low high tell ys l (a ++ (k ∷ y .symbol ∷ q ∷ t y ∷ [])) rest (all .1) (rows-append rows (one-row k (y .symbol) q (t y))) (behind-row R a (rowsN k q t ys ++ rest) k (y .symbol) q (t y) e) none' more)
 
 -- ---- scopes of a part: numbered behind c, up to d; and all others
 
@@ -366,15 +293,10 @@ own-more c' d' l m (inr h) = inr (omega arith)
 in-own : {q c d r : ℕ} (c' d' : ℕ) → c' ≤ c → d ≤ d' → In c d r → Own q c' d' r
 in-own c' d' l m h = inr (omega arith)
 
-rows-names : {P : ℕ → Type 0} (k q t : ℕ) (xs : List Name) → P q → Rows P (rowsN k q t xs)
+rows-names : {P : ℕ → Type 0} (k q : ℕ) (t : Name → ℕ) (xs : List Name) → P q → Rows P (rowsN k q t xs)
 unfolding rowsN
 rows-names k q t [] h = no-row
 rows-names k q t (x ∷ xs) h = row h (rows-names k q t xs h)
-
-rows-specified : {P : ℕ → Type 0} (q : ℕ) (ss : List Specification) → P q → Rows P (marksSp q ss)
-unfolding marksSp
-rows-specified q [] h = no-row
-rows-specified q (s ∷ ss) h = rows-append (rows-names n-specified q (sortNumber (some (s .sort))) (s .names) h) (rows-specified q ss h)
 
 from-own : (c m n r : ℕ) → Own (c + 1) (c + 1) (c + 1 + m) r → In c (c + (1 + (m + n))) r
 from-own c m n r (inl h) = omega arith
@@ -402,7 +324,7 @@ mutual
 
   pub rows-inD : (c q : ℕ) (ds : Declarations) → Rows (Own q c (c + sizeD ds)) (rowsD c q ds)
   rows-inD c q no-more = no-row
-  rows-inD c q (variables t xs ds) = rows-append (rows-names n-variable q (sortNumber (some t)) xs (inl refl)) (rows-inD c q ds)
+  rows-inD c q (variables t xs ds) = rows-append (rows-names n-variable q (λ x. sortNumber (some t)) xs (inl refl)) (rows-inD c q ds)
   rows-inD c q (declare p ds) =
       rows-append (rows-so (λ r h. own-more c (c + (sizeP p + sizeD ds)) (omega arith) (omega arith) h) (rows-inP c q p))
       (rows-so (λ r h. own-more c (c + (sizeP p + sizeD ds)) (omega arith) (omega arith) h) (rows-inD (c + sizeP p) q ds))
@@ -410,39 +332,8 @@ mutual
   pub rows-inP : (c q : ℕ) (p : Procedure) → Rows (Own q c (c + sizeP p)) (rowsP c q p)
   rows-inP c q (heading t f xs vs ss s) =
       row (inl refl)
-      (rows-append (rows-names n-formal (c + 1) 0 xs (inr (omega arith)))
+      (rows-append (rows-names n-formal (c + 1) (formalIn vs ss) xs (inr (omega arith)))
       (rows-so (λ r h. in-own c (c + (1 + sizeS s)) (omega arith) (omega arith) h) (rows-inS (c + 1) (c + 1) s)))
-
-mutual
-  unfolding marksS sizeS
-
-  pub marks-inS : (c q : ℕ) (s : Statement) → Rows (In c (c + sizeS s)) (marksS c q s)
-  marks-inS c q dummy = no-row
-  marks-inS c q (assignment x xs p e) = no-row
-  marks-inS c q (procedure x es) = no-row
-  marks-inS c q (when p e s) = marks-inS c q s
-  marks-inS c q (either p e s t) =
-      rows-append (rows-so (λ r h. omega arith) (marks-inS c q s)) (rows-so (λ r h. omega arith) (marks-inS (c + sizeS s) q t))
-  marks-inS c q (repeat x l ls s) = marks-inS c q s
-  marks-inS c q (compound ss) = marks-inSs c q ss
-  marks-inS c q (block p ds ss) =
-      rows-append (rows-so (λ r h. omega arith) (marks-inD (c + 1) (c + 1) ds)) (rows-so (λ r h. omega arith) (marks-inSs (c + 1 + sizeD ds) (c + 1) ss))
-
-  pub marks-inSs : (c q : ℕ) (ss : Statements) → Rows (In c (c + sizeSs ss)) (marksSs c q ss)
-  marks-inSs c q (last s) = marks-inS c q s
-  marks-inSs c q (first s ss) =
-      rows-append (rows-so (λ r h. omega arith) (marks-inS c q s)) (rows-so (λ r h. omega arith) (marks-inSs (c + sizeS s) q ss))
-
-  pub marks-inD : (c q : ℕ) (ds : Declarations) → Rows (In c (c + sizeD ds)) (marksD c q ds)
-  marks-inD c q no-more = no-row
-  marks-inD c q (variables t xs ds) = marks-inD c q ds
-  marks-inD c q (declare p ds) =
-      rows-append (rows-so (λ r h. omega arith) (marks-inP c q p)) (rows-so (λ r h. omega arith) (marks-inD (c + sizeP p) q ds))
-
-  pub marks-inP : (c q : ℕ) (p : Procedure) → Rows (In c (c + sizeP p)) (marksP c q p)
-  marks-inP c q (heading t f xs vs ss s) =
-      rows-append (rows-names n-value (c + 1) (sortNumber t) vs (omega arith))
-      (rows-append (rows-specified (c + 1) ss (omega arith)) (rows-so (λ r h. omega arith) (marks-inS (c + 1) (c + 1) s)))
 
 -- ---- rows that begin with no formal, whatever stands behind them
 
@@ -455,7 +346,7 @@ Starts x = (b : List ℕ) → NoFormal b → NoFormal (x ++ b)
 starts-append : (x y : List ℕ) → Starts x → Starts y → Starts (x ++ y)
 starts-append x y f g b h = rw (append-assoc x y b) (f (y ++ b) (g b h))
 
-starts-variables : (q t : ℕ) (xs : List Name) → Starts (rowsN n-variable q t xs)
+starts-variables : (q : ℕ) (t : Name → ℕ) (xs : List Name) → Starts (rowsN n-variable q t xs)
 unfolding rowsN
 starts-variables q t [] b h = h
 starts-variables q t (x ∷ xs) b h = refl
@@ -481,7 +372,7 @@ mutual
   startsD : (c q : ℕ) (ds : Declarations) → Starts (rowsD c q ds)
   startsD c q no-more b h = h
   startsD c q (variables t xs ds) b h =
-      starts-append (rowsN n-variable q (sortNumber (some t)) xs) (rowsD c q ds) (starts-variables q (sortNumber (some t)) xs) (λ b h. startsD c q ds b h) b h
+      starts-append (rowsN n-variable q (λ x. sortNumber (some t)) xs) (rowsD c q ds) (starts-variables q (λ x. sortNumber (some t)) xs) (λ b h. startsD c q ds b h) b h
   startsD c q (declare p ds) b h = starts-append (rowsP c q p) (rowsD (c + sizeP p) q ds) (λ b h. startsP c q p b h) (λ b h. startsD (c + sizeP p) q ds b h) b h
 
   startsP : (c q : ℕ) (p : Procedure) → Starts (rowsP c q p)
@@ -510,95 +401,60 @@ part-right {R} {a} {b} x y c' d' l m p k =
       behind = rows-so (λ r h e. let z = h (omega arith) in omega arith) (p .behind);
     }
 
--- that the rows R and the marks M hold those of a part, with the scopes behind c up to d; no formal's row follows
-pub record Holds (R M : List ℕ) (c d : ℕ) (x y : List ℕ) : Type 0 where
-  pub rows-before : List ℕ
-  pub rows-behind : List ℕ
-  pub marks-before : List ℕ
-  pub marks-behind : List ℕ
-  pub rows : Part R c d rows-before x rows-behind
-  pub marks : Part M c d marks-before y marks-behind
-  pub next : NoFormal rows-behind
+-- that the rows R hold those of a part, with the scopes behind c up to d; no formal's row follows
+pub record Holds (R : List ℕ) (c d : ℕ) (x : List ℕ) : Type 0 where
+  pub before : List ℕ
+  pub behind : List ℕ
+  pub rows : Part R c d before x behind
+  pub next : NoFormal behind
 
-holds-left : {R M : List ℕ} {c d : ℕ} (x x' y y' : List ℕ) (d' : ℕ) → d' ≤ d → Holds R M c d (x ++ x') (y ++ y')
-    → Rows (Beyond c d') x' → Rows (Beyond c d') y' → Starts x' → Holds R M c d' x y
-holds-left x x' y y' d' l h k k' f =
-    record {
-      rows-before = h .rows-before;
-      rows-behind = x' ++ h .rows-behind;
-      marks-before = h .marks-before;
-      marks-behind = y' ++ h .marks-behind;
-      rows = part-left x x' d' l (h .rows) k;
-      marks = part-left y y' d' l (h .marks) k';
-      next = f (h .rows-behind) (h .next);
-    }
+holds-left : {R : List ℕ} {c d : ℕ} (x x' : List ℕ) (d' : ℕ) → d' ≤ d → Holds R c d (x ++ x') → Rows (Beyond c d') x' → Starts x' → Holds R c d' x
+holds-left x x' d' l h k f = record { before = h .before; behind = x' ++ h .behind; rows = part-left x x' d' l (h .rows) k; next = f (h .behind) (h .next) }
 
-holds-right : {R M : List ℕ} {c d : ℕ} (x x' y y' : List ℕ) (c' d' : ℕ) → c ≤ c' → d' ≤ d → Holds R M c d (x ++ x') (y ++ y')
-    → Rows (Beyond c' d') x → Rows (Beyond c' d') y → Holds R M c' d' x' y'
-holds-right x x' y y' c' d' l m h k k' =
-    record {
-      rows-before = h .rows-before ++ x;
-      rows-behind = h .rows-behind;
-      marks-before = h .marks-before ++ y;
-      marks-behind = h .marks-behind;
-      rows = part-right x x' c' d' l m (h .rows) k;
-      marks = part-right y y' c' d' l m (h .marks) k';
-      next = h .next;
-    }
+holds-right : {R : List ℕ} {c d : ℕ} (x x' : List ℕ) (c' d' : ℕ) → c ≤ c' → d' ≤ d → Holds R c d (x ++ x') → Rows (Beyond c' d') x → Holds R c' d' x'
+holds-right x x' c' d' l m h k = record { before = h .before ++ x; behind = h .behind; rows = part-right x x' c' d' l m (h .rows) k; next = h .next }
 
-abbrev pub HoldsS : List ℕ → List ℕ → ℕ → ℕ → Statement → Type 0
-HoldsS R M c q s = Holds R M c (c + sizeS s) (rowsS c q s) (marksS c q s)
+abbrev pub HoldsS : List ℕ → ℕ → ℕ → Statement → Type 0
+HoldsS R c q s = Holds R c (c + sizeS s) (rowsS c q s)
 
-abbrev pub HoldsSs : List ℕ → List ℕ → ℕ → ℕ → Statements → Type 0
-HoldsSs R M c q ss = Holds R M c (c + sizeSs ss) (rowsSs c q ss) (marksSs c q ss)
+abbrev pub HoldsSs : List ℕ → ℕ → ℕ → Statements → Type 0
+HoldsSs R c q ss = Holds R c (c + sizeSs ss) (rowsSs c q ss)
 
 -- the scope q was opened before
-abbrev pub HoldsD : List ℕ → List ℕ → ℕ → ℕ → Declarations → Type 0
-HoldsD R M c q ds = (q ≤ c) × Holds R M c (c + sizeD ds) (rowsD c q ds) (marksD c q ds)
+abbrev pub HoldsD : List ℕ → ℕ → ℕ → Declarations → Type 0
+HoldsD R c q ds = (q ≤ c) × Holds R c (c + sizeD ds) (rowsD c q ds)
 
-abbrev pub HoldsP : List ℕ → List ℕ → ℕ → ℕ → Procedure → Type 0
-HoldsP R M c q p = (q ≤ c) × Holds R M c (c + sizeP p) (rowsP c q p) (marksP c q p)
+abbrev pub HoldsP : List ℕ → ℕ → ℕ → Procedure → Type 0
+HoldsP R c q p = (q ≤ c) × Holds R c (c + sizeP p) (rowsP c q p)
 
-pub holds-program : (s : Statement) → HoldsS (rowsS 0 0 s) (marksS 0 0 s) 0 0 s
+pub holds-program : (s : Statement) → HoldsS (rowsS 0 0 s) 0 0 s
 holds-program s =
-    record {
-      rows-before = [];
-      rows-behind = [];
-      marks-before = [];
-      marks-behind = [];
-      rows = record { whole = sym (append-nil (rowsS 0 0 s)); before = no-row; behind = no-row };
-      marks = record { whole = sym (append-nil (marksS 0 0 s)); before = no-row; behind = no-row };
-      next = refl;
-    }
+    record { before = []; behind = []; rows = record { whole = sym (append-nil (rowsS 0 0 s)); before = no-row; behind = no-row }; next = refl }
 
 -- two parts, one behind the other, of which each has its own scopes
-holds-two : {R M : List ℕ} {c : ℕ} (m n : ℕ) (x x' y y' : List ℕ) → Holds R M c (c + (m + n)) (x ++ x') (y ++ y')
-    → Rows (In c (c + m)) x → Rows (In (c + m) (c + m + n)) x' → Rows (In c (c + m)) y → Rows (In (c + m) (c + m + n)) y' → Starts x'
-    → Holds R M c (c + m) x y × Holds R M (c + m) (c + m + n) x' y'
-holds-two {c = c} m n x x' y y' h i i' k k' f = (
-  holds-left x x' y y' (c + m) (omega arith) h (rows-so (λ r e. omega arith) i') (rows-so (λ r e. omega arith) k') f,
-  holds-right x x' y y' (c + m) (c + m + n) (omega arith) (omega arith) h (rows-so (λ r e. omega arith) i) (rows-so (λ r e. omega arith) k),
+holds-two : {R : List ℕ} {c : ℕ} (m n : ℕ) (x x' : List ℕ) → Holds R c (c + (m + n)) (x ++ x') → Rows (In c (c + m)) x → Rows (In (c + m) (c + m + n)) x' → Starts x'
+    → Holds R c (c + m) x × Holds R (c + m) (c + m + n) x'
+holds-two {c = c} m n x x' h i i' f = (
+  holds-left x x' (c + m) (omega arith) h (rows-so (λ r e. omega arith) i') f,
+  holds-right x x' (c + m) (c + m + n) (omega arith) (omega arith) h (rows-so (λ r e. omega arith) i),
 )
 
-pub holds-either : {R M : List ℕ} {c : ℕ} (q : ℕ) (p : ℕ) (e : Expression) (s t : Statement) → HoldsS R M c q (either p e s t) → HoldsS R M c q s × HoldsS R M (c + sizeS s) q t
-unfolding rowsS marksS sizeS
+pub holds-either : {R : List ℕ} {c : ℕ} (q : ℕ) (p : ℕ) (e : Expression) (s t : Statement) → HoldsS R c q (either p e s t) → HoldsS R c q s × HoldsS R (c + sizeS s) q t
+unfolding rowsS sizeS
 holds-either {c = c} q p e s t h =
-    holds-two (sizeS s) (sizeS t) (rowsS c q s) (rowsS (c + sizeS s) q t) (marksS c q s) (marksS (c + sizeS s) q t) h
-    (rows-inS c q s) (rows-inS (c + sizeS s) q t) (marks-inS c q s) (marks-inS (c + sizeS s) q t) (startsS (c + sizeS s) q t)
+    holds-two (sizeS s) (sizeS t) (rowsS c q s) (rowsS (c + sizeS s) q t) h (rows-inS c q s) (rows-inS (c + sizeS s) q t) (startsS (c + sizeS s) q t)
 
-pub holds-first : {R M : List ℕ} {c : ℕ} (q : ℕ) (s : Statement) (ss : Statements) → HoldsSs R M c q (first s ss) → HoldsS R M c q s × HoldsSs R M (c + sizeS s) q ss
-unfolding rowsSs marksSs sizeSs
+pub holds-first : {R : List ℕ} {c : ℕ} (q : ℕ) (s : Statement) (ss : Statements) → HoldsSs R c q (first s ss) → HoldsS R c q s × HoldsSs R (c + sizeS s) q ss
+unfolding rowsSs sizeSs
 holds-first {c = c} q s ss h =
-    holds-two (sizeS s) (sizeSs ss) (rowsS c q s) (rowsSs (c + sizeS s) q ss) (marksS c q s) (marksSs (c + sizeS s) q ss) h
-    (rows-inS c q s) (rows-inSs (c + sizeS s) q ss) (marks-inS c q s) (marks-inSs (c + sizeS s) q ss) (startsSs (c + sizeS s) q ss)
+    holds-two (sizeS s) (sizeSs ss) (rowsS c q s) (rowsSs (c + sizeS s) q ss) h (rows-inS c q s) (rows-inSs (c + sizeS s) q ss) (startsSs (c + sizeS s) q ss)
 
 -- the declarations of a block, as they stand alone in its scope; and inside it
-in-block : {R M : List ℕ} {c : ℕ} (q : ℕ) (p : ℕ) (ds : Declarations) (ss : Statements) → HoldsS R M c q (block p ds ss)
-    → Holds R M c (c + 1 + sizeD ds) (rowsD (c + 1) (c + 1) ds) (marksD (c + 1) (c + 1) ds)
-unfolding rowsS marksS sizeS
+in-block : {R : List ℕ} {c : ℕ} (q : ℕ) (p : ℕ) (ds : Declarations) (ss : Statements) → HoldsS R c q (block p ds ss) → Holds R c (c + 1 + sizeD ds) (rowsD (c + 1) (c + 1) ds)
+unfolding rowsS sizeS
 in-block {c = c} q p ds ss h =
-    holds-left (rowsD (c + 1) (c + 1) ds) (rowsSs (c + 1 + sizeD ds) (c + 1) ss) (marksD (c + 1) (c + 1) ds) (marksSs (c + 1 + sizeD ds) (c + 1) ss) (c + 1 + sizeD ds) (omega arith) h
-    (rows-so (λ r e. omega arith) (rows-inSs (c + 1 + sizeD ds) (c + 1) ss)) (rows-so (λ r e. omega arith) (marks-inSs (c + 1 + sizeD ds) (c + 1) ss)) (startsSs (c + 1 + sizeD ds) (c + 1) ss)
+    holds-left (rowsD (c + 1) (c + 1) ds) (rowsSs (c + 1 + sizeD ds) (c + 1) ss) (c + 1 + sizeD ds) (omega arith) h
+    (rows-so (λ r e. omega arith) (rows-inSs (c + 1 + sizeD ds) (c + 1) ss)) (startsSs (c + 1 + sizeD ds) (c + 1) ss)
 
 part-inside : {R a x b : List ℕ} {c d : ℕ} (c' : ℕ) → c ≤ c' → Part R c d a x b → Part R c' d a x b
 part-inside c' l p =
@@ -608,64 +464,45 @@ part-inside c' l p =
       behind = rows-so (λ r h e. h (omega arith)) (p .behind);
     }
 
-pub holds-block : {R M : List ℕ} {c : ℕ} (q : ℕ) (p : ℕ) (ds : Declarations) (ss : Statements) → HoldsS R M c q (block p ds ss)
-    → HoldsD R M (c + 1) (c + 1) ds × HoldsSs R M (c + 1 + sizeD ds) (c + 1) ss
-unfolding rowsS marksS sizeS
+pub holds-block : {R : List ℕ} {c : ℕ} (q : ℕ) (p : ℕ) (ds : Declarations) (ss : Statements) → HoldsS R c q (block p ds ss) → HoldsD R (c + 1) (c + 1) ds × HoldsSs R (c + 1 + sizeD ds) (c + 1) ss
+unfolding rowsS sizeS
 holds-block {c = c} q p ds ss h =
     let k = in-block q p ds ss h in (
-      (
-        omega arith,
-        record {
-          rows-before = k .rows-before;
-          rows-behind = k .rows-behind;
-          marks-before = k .marks-before;
-          marks-behind = k .marks-behind;
-          rows = part-inside (c + 1) (omega arith) (k .rows);
-          marks = part-inside (c + 1) (omega arith) (k .marks);
-          next = k .next;
-        },
-      ),
-      holds-right (rowsD (c + 1) (c + 1) ds) (rowsSs (c + 1 + sizeD ds) (c + 1) ss) (marksD (c + 1) (c + 1) ds) (marksSs (c + 1 + sizeD ds) (c + 1) ss)
-          (c + 1 + sizeD ds) (c + 1 + sizeD ds + sizeSs ss) (omega arith) (omega arith) h
-          (rows-so (λ r e. own-in (c + 1 + sizeD ds) (c + 1 + sizeD ds + sizeSs ss) (omega arith) (λ i j. omega arith) e) (rows-inD (c + 1) (c + 1) ds))
-          (rows-so (λ r e. omega arith) (marks-inD (c + 1) (c + 1) ds)),
+      (omega arith, record { before = k .before; behind = k .behind; rows = part-inside (c + 1) (omega arith) (k .rows); next = k .next }),
+      holds-right (rowsD (c + 1) (c + 1) ds) (rowsSs (c + 1 + sizeD ds) (c + 1) ss) (c + 1 + sizeD ds) (c + 1 + sizeD ds + sizeSs ss) (omega arith) (omega arith) h
+          (rows-so (λ r e. own-in (c + 1 + sizeD ds) (c + 1 + sizeD ds + sizeSs ss) (omega arith) (λ i j. omega arith) e) (rows-inD (c + 1) (c + 1) ds)),
     )
 
-pub holds-variables : {R M : List ℕ} {c q : ℕ} (t : Sort) (xs : List Name) (ds : Declarations) → HoldsD R M c q (variables t xs ds) → HoldsD R M c q ds
-unfolding rowsD marksD sizeD
+pub holds-variables : {R : List ℕ} {c q : ℕ} (t : Sort) (xs : List Name) (ds : Declarations) → HoldsD R c q (variables t xs ds) → HoldsD R c q ds
+unfolding rowsD sizeD
 holds-variables {c = c} {q = q} t xs ds h =
     let l = h .0 in
-    (h .0, holds-right (rowsN n-variable q (sortNumber (some t)) xs) (rowsD c q ds) [] (marksD c q ds) c (c + sizeD ds) (omega arith) (omega arith) (h .1) (rows-names n-variable q (sortNumber (some t)) xs (omega arith)) no-row)
+    (h .0, holds-right (rowsN n-variable q (λ x. sortNumber (some t)) xs) (rowsD c q ds) c (c + sizeD ds) (omega arith) (omega arith) (h .1) (rows-names n-variable q (λ x. sortNumber (some t)) xs (omega arith)))
 
-pub holds-declare : {R M : List ℕ} {c q : ℕ} (p : Procedure) (ds : Declarations) → HoldsD R M c q (declare p ds) → HoldsP R M c q p × HoldsD R M (c + sizeP p) q ds
-unfolding rowsD marksD sizeD
+pub holds-declare : {R : List ℕ} {c q : ℕ} (p : Procedure) (ds : Declarations) → HoldsD R c q (declare p ds) → HoldsP R c q p × HoldsD R (c + sizeP p) q ds
+unfolding rowsD sizeD
 holds-declare {c = c} {q = q} p ds h =
     let l = h .0 in (
       (
         h .0,
-        holds-left (rowsP c q p) (rowsD (c + sizeP p) q ds) (marksP c q p) (marksD (c + sizeP p) q ds) (c + sizeP p) (omega arith) (h .1)
-            (rows-so (λ r e. own-in c (c + sizeP p) (h .0) (λ i j. omega arith) e) (rows-inD (c + sizeP p) q ds))
-            (rows-so (λ r e. omega arith) (marks-inD (c + sizeP p) q ds)) (startsD (c + sizeP p) q ds),
+        holds-left (rowsP c q p) (rowsD (c + sizeP p) q ds) (c + sizeP p) (omega arith) (h .1)
+            (rows-so (λ r e. own-in c (c + sizeP p) (h .0) (λ i j. omega arith) e) (rows-inD (c + sizeP p) q ds)) (startsD (c + sizeP p) q ds),
       ),
       (
         omega arith,
-        holds-right (rowsP c q p) (rowsD (c + sizeP p) q ds) (marksP c q p) (marksD (c + sizeP p) q ds) (c + sizeP p) (c + sizeP p + sizeD ds) (omega arith) (omega arith) (h .1)
-            (rows-so (λ r e. own-in (c + sizeP p) (c + sizeP p + sizeD ds) (omega arith) (λ i j. omega arith) e) (rows-inP c q p))
-            (rows-so (λ r e. omega arith) (marks-inP c q p)),
+        holds-right (rowsP c q p) (rowsD (c + sizeP p) q ds) (c + sizeP p) (c + sizeP p + sizeD ds) (omega arith) (omega arith) (h .1)
+            (rows-so (λ r e. own-in (c + sizeP p) (c + sizeP p + sizeD ds) (omega arith) (λ i j. omega arith) e) (rows-inP c q p)),
       ),
     )
 
 -- the body of a procedure
-pub holds-procedure : {R M : List ℕ} {c q : ℕ} (t : Option Sort) (f : Name) (xs vs : List Name) (ss : List Specification) (s : Statement)
-    → HoldsP R M c q (heading t f xs vs ss s) → HoldsS R M (c + 1) (c + 1) s
-unfolding rowsP marksP sizeP
-holds-procedure {R} {M} {c = c} {q = q} t f xs vs ss s h =
+pub holds-procedure : {R : List ℕ} {c q : ℕ} (t : Option Sort) (f : Name) (xs vs : List Name) (ss : List Specification) (s : Statement)
+    → HoldsP R c q (heading t f xs vs ss s) → HoldsS R (c + 1) (c + 1) s
+unfolding rowsP sizeP
+holds-procedure {R} {c = c} {q = q} t f xs vs ss s h =
     let l = h .0 in
-    let m = rowsN n-value (c + 1) (sortNumber t) vs ++ marksSp (c + 1) ss in
-    let k : Holds R M c (c + (1 + sizeS s)) (rowsP c q (heading t f xs vs ss s)) (m ++ marksS (c + 1) (c + 1) s) = rw (append-assoc (rowsN n-value (c + 1) (sortNumber t) vs) (marksSp (c + 1) ss) (marksS (c + 1) (c + 1) s)) (h .1) in
-    holds-right (node n-procedure (f .symbol) q (sortNumber t) ++ rowsN n-formal (c + 1) 0 xs) (rowsS (c + 1) (c + 1) s) m (marksS (c + 1) (c + 1) s) (c + 1) (c + 1 + sizeS s) (omega arith) (omega arith) k
-    (row (λ e. omega arith) (rows-names n-formal (c + 1) 0 xs (λ e. omega arith)))
-    (rows-append (rows-names n-value (c + 1) (sortNumber t) vs (λ e. omega arith)) (rows-specified (c + 1) ss (λ e. omega arith)))
+    holds-right (node n-procedure (f .symbol) q (sortNumber t) ++ rowsN n-formal (c + 1) (formalIn vs ss) xs) (rowsS (c + 1) (c + 1) s) (c + 1) (c + 1 + sizeS s) (omega arith) (omega arith) (h .1)
+    (row (λ e. omega arith) (rows-names n-formal (c + 1) (formalIn vs ss) xs (λ e. omega arith)))
 
 -- ---- where a scope's rows are not
 
@@ -684,53 +521,28 @@ clear-in ids w l k = has-none ids w (rows-so (λ r h e. omega arith) k)
 
 -- ---- what a scope declares is found in its rows
 
-module _ (Q : Name → Type 0) (ids R M : List ℕ) (agree : Agree Q ids) where
-  -- the marks of a procedure give the types that its specifications give
-  specified-marks : {c : ℕ} (q : ℕ) {a b : List ℕ} (t : Option Sort) (f : Name) (xs vs : List Name) (ss : List Specification) (s : Statement) → AllSp Q ss
-      → Part M c (c + sizeP (heading t f xs vs ss s)) a (marksP c q (heading t f xs vs ss s)) b
-      → (x : Name) → Q x → markedSort ids M (c + 1) (identityIn ids (x .symbol)) ≡ sortNumber (specified ss x)
-  unfolding marksP sizeP
-  specified-marks {c} q {a} {b} t f xs vs ss s all p x h =
-      let w = markedIn n-specified (c + 1) (identityIn ids (x .symbol)) in
-      let v = rowsN n-value (c + 1) (sortNumber t) vs in
-      let m = marksSp (c + 1) ss in
-      let y = marksS (c + 1) (c + 1) s in
-      let e : a ++ ((v ++ (m ++ y)) ++ b) ≡ (a ++ v) ++ (m ++ (y ++ b)) = simp append-assoc in
-      let n₁ : hasRow ids w a ≡ false = clear ids w (omega arith) (omega arith) (p .before) in
-      let n₂ : hasRow ids w v ≡ false = no-value Q ids M agree (c + 1) x h (sortNumber t) vs in
-      let n₃ : hasRow ids w y ≡ false = clear-in ids w (omega arith) (marks-inS (c + 1) (c + 1) s) in
-      let n₄ : hasRow ids w b ≡ false = clear ids w (omega arith) (omega arith) (p .behind) in
-      marked-sort Q ids M agree (c + 1) x h ss (a ++ v) (y ++ b) all
-      (rows-append (whole-rows (p .before)) (rows-names n-value (c + 1) (sortNumber t) vs tt))
-      (rows-append (whole-rows (marks-inS (c + 1) (c + 1) s)) (whole-rows (p .behind)))
-      (p .whole ∙ e)
-      (has-append ids w v (p .before) ∙ rw (n₁, n₂))
-      (has-append ids w b (marks-inS (c + 1) (c + 1) s) ∙ rw (n₃, n₄))
-
-  formals-told : (q : ℕ) (ss : List Specification) → ((x : Name) → Q x → markedSort ids M q (identityIn ids (x .symbol)) ≡ sortNumber (specified ss x))
-      → (xs : List Name) (a b : List ℕ) (j : ℕ) → AllN Q xs → R ≡ a ++ (rowsN n-formal q 0 xs ++ b) → 4 * j ≡ length a → NoFormal b → Formals ids R M j xs ss
+module _ (Q : Name → Type 0) (ids R : List ℕ) (agree : Agree Q ids) where
+  formals-told : (q : ℕ) (vs : List Name) (ss : List Specification) (xs : List Name) (a b : List ℕ) (j : ℕ)
+      → R ≡ a ++ (rowsN n-formal q (formalIn vs ss) xs ++ b) → 4 * j ≡ length a → NoFormal b → Formals R j xs vs ss
   unfolding rowsN
-  formals-told q ss m [] a b j all e l n =
+  formals-told q vs ss [] a b j e l n =
       let h : 4 * j ≡ length a + 0 = omega arith in
       let g : getD R (4 * j) 0 ≡ getD b 0 0 = rw h (ap (λ (r : List ℕ). getD r (length a + 0) 0) e ∙ getD-append-add a b 0 0) in
       rw g n
-  formals-told q ss m (x ∷ xs) a b j all e l n =
-      let w = words-at R a (rowsN n-formal q 0 xs ++ b) j n-formal (x .symbol) q 0 e l in
-      let e₁ = w .scope in
-      let e₂ = w .symbol in (
+  formals-told q vs ss (x ∷ xs) a b j e l n =
+      let t = formalIn vs ss x in
+      let w = words-at R a (rowsN n-formal q (formalIn vs ss) xs ++ b) j n-formal (x .symbol) q t e l in (
         row-is w,
-        rw (e₁, e₂) (m x (all .0)),
-        formals-told q ss m xs (a ++ (n-formal ∷ x .symbol ∷ q ∷ 0 ∷ [])) b (j + 1) (all .1) (behind-row R a (rowsN n-formal q 0 xs ++ b) n-formal (x .symbol) q 0 e)
-            (row-more a j n-formal (x .symbol) q 0 l) n,
+        w .sort,
+        formals-told q vs ss xs (a ++ (n-formal ∷ x .symbol ∷ q ∷ t ∷ [])) b (j + 1) (behind-row R a (rowsN n-formal q (formalIn vs ss) xs ++ b) n-formal (x .symbol) q t e) (row-more a j n-formal (x .symbol) q t l) n,
       )
 
   -- the row of a procedure
-  routine-told : {c : ℕ} (q : ℕ) (a b : List ℕ) {a' b' : List ℕ} (t : Option Sort) (f : Name) (xs vs : List Name) (ss : List Specification) (s : Statement) → AllP Q (heading t f xs vs ss s)
-      → R ≡ a ++ (rowsP c q (heading t f xs vs ss s) ++ b) → Part M c (c + sizeP (heading t f xs vs ss s)) a' (marksP c q (heading t f xs vs ss s)) b' → NoFormal b
-      → (j : ℕ) → 4 * j ≡ length a → Told ids R M j (record { name = f; thing = routine (heading t f xs vs ss s) })
+  routine-told : (c q : ℕ) (a b : List ℕ) (t : Option Sort) (f : Name) (xs vs : List Name) (ss : List Specification) (s : Statement)
+      → R ≡ a ++ (rowsP c q (heading t f xs vs ss s) ++ b) → NoFormal b → (j : ℕ) → 4 * j ≡ length a → Told R j (record { name = f; thing = routine (heading t f xs vs ss s) })
   unfolding rowsP
-  routine-told {c} q a b t f xs vs ss s all p m n j l =
-      let x = rowsN n-formal (c + 1) 0 xs in
+  routine-told c q a b t f xs vs ss s p n j l =
+      let x = rowsN n-formal (c + 1) (formalIn vs ss) xs in
       let y = rowsS (c + 1) (c + 1) s in
       let e : R ≡ a ++ (n-procedure ∷ f .symbol ∷ q ∷ sortNumber t ∷ (x ++ (y ++ b))) = p ∙ simp append-assoc in
       let w = words-at R a (x ++ (y ++ b)) j n-procedure (f .symbol) q (sortNumber t) e l in
@@ -738,75 +550,68 @@ module _ (Q : Name → Type 0) (ids R M : List ℕ) (agree : Agree Q ids) where
         row = row-is w;
         thing = (
           w .sort,
-          formals-told (c + 1) ss (specified-marks q t f xs vs ss s (all .3) m) xs (a ++ (n-procedure ∷ f .symbol ∷ q ∷ sortNumber t ∷ [])) (y ++ b) (j + 1) (all .1)
+          formals-told (c + 1) vs ss xs (a ++ (n-procedure ∷ f .symbol ∷ q ∷ sortNumber t ∷ [])) (y ++ b) (j + 1)
               (behind-row R a (x ++ (y ++ b)) n-procedure (f .symbol) q (sortNumber t) e) (row-more a j n-procedure (f .symbol) q (sortNumber t) l) (startsS (c + 1) (c + 1) s b n),
         );
       }
 
   variable-told : (t : Sort) (q : ℕ) (y : Name) (a rest : List ℕ) (j : ℕ) → Q y → R ≡ a ++ (n-variable ∷ y .symbol ∷ q ∷ sortNumber (some t) ∷ rest) → 4 * j ≡ length a
-      → Told ids R M j (record { name = y; thing = variable t })
+      → Told R j (record { name = y; thing = variable t })
   variable-told t q y a rest j h e l =
       let w = words-at R a rest j n-variable (y .symbol) q (sortNumber (some t)) e l in
       record { row = row-is w; thing = w .sort }
 
-  formal-told : (q : ℕ) (ss : List Specification) → ((x : Name) → Q x → markedSort ids M q (identityIn ids (x .symbol)) ≡ sortNumber (specified ss x))
-      → (y : Name) (a rest : List ℕ) (j : ℕ) → Q y → R ≡ a ++ (n-formal ∷ y .symbol ∷ q ∷ 0 ∷ rest) → 4 * j ≡ length a
-      → Told ids R M j (record { name = y; thing = formal (specified ss y) })
-  formal-told q ss m y a rest j h e l =
-      let w = words-at R a rest j n-formal (y .symbol) q 0 e l in
-      let e₁ = w .scope in
-      let e₂ = w .symbol in
-      record { row = row-is w; thing = rw (e₁, e₂) (m y h) }
+  formal-told : (q : ℕ) (vs : List Name) (ss : List Specification) (y : Name) (a rest : List ℕ) (j : ℕ) → Q y → R ≡ a ++ (n-formal ∷ y .symbol ∷ q ∷ formalIn vs ss y ∷ rest) → 4 * j ≡ length a
+      → Told R j (record { name = y; thing = formal (specified ss y) })
+  formal-told q vs ss y a rest j h e l =
+      let w = words-at R a rest j n-formal (y .symbol) q (formalIn vs ss y) e l in
+      record { row = row-is w; thing = ap typeIn (w .sort) ∙ formal-type (has vs y) (specified ss y) }
 
   -- the declarations of a block, behind rows that do not have the name
-  found-in : (q : ℕ) (x : Name) → Q x → (ds : Declarations) (c : ℕ) (a b a' b' : List ℕ) → q ≤ c → AllD Q ds
-      → Rows Any a → R ≡ a ++ (rowsD c q ds ++ b) → Part M c (c + sizeD ds) a' (marksD c q ds) b' → NoFormal b
+  found-in : (q : ℕ) (x : Name) → Q x → (ds : Declarations) (c : ℕ) (a b : List ℕ) → q ≤ c → AllD Q ds → Rows Any a → R ≡ a ++ (rowsD c q ds ++ b) → NoFormal b
       → hasRow ids (declaredIn q (identityIn ids (x .symbol))) a ≡ false → hasRow ids (declaredIn q (identityIn ids (x .symbol))) b ≡ false
-      → FoundAs ids R M q (identityIn ids (x .symbol)) (findIn (inBlock ds) x)
-  unfolding rowsD marksD sizeD inBlock variablesIn findIn
-  found-in q x h no-more c a b a' b' l all rows e m n none-in none' =
+      → FoundAs ids R q (identityIn ids (x .symbol)) (findIn (inBlock ds) x)
+  unfolding rowsD sizeD inBlock variablesIn findIn
+  found-in q x h no-more c a b l all rows e n none-in none' =
       let w = declaredIn q (identityIn ids (x .symbol)) in
       ap (hasRow ids w) e ∙ has-append ids w b rows ∙ rw (none-in, none')
-  found-in q x h (variables t xs ds) c a b a' b' l all rows e m n none-in none' =
-      found-names Q ids R M agree q x h (λ y. variable t) n-variable (sortNumber (some t)) refl refl (variable-told t q) xs (inBlock ds) a (rowsD c q ds ++ b) (all .0) rows
-      (e ∙ ap (λ (r : List ℕ). a ++ r) (append-assoc (rowsN n-variable q (sortNumber (some t)) xs) (rowsD c q ds) b)) none-in
-      (λ a'' rows' e' n'. found-in q x h ds c a'' b a' b' l (all .1) rows' e' m n n' none')
-  found-in q x h (declare (heading t f xs vs ss s) ds) c a b a' b' l all rows e m n none-in none' =
+  found-in q x h (variables t xs ds) c a b l all rows e n none-in none' =
+      found-names Q ids R agree q x h (λ y. variable t) n-variable (λ y. sortNumber (some t)) refl refl (variable-told t q) xs (inBlock ds) a (rowsD c q ds ++ b) (all .0) rows
+      (e ∙ ap (λ (r : List ℕ). a ++ r) (append-assoc (rowsN n-variable q (λ y. sortNumber (some t)) xs) (rowsD c q ds) b)) none-in
+      (λ a'' rows' e' n'. found-in q x h ds c a'' b l (all .1) rows' e' n n' none')
+  found-in q x h (declare (heading t f xs vs ss s) ds) c a b l all rows e n none-in none' =
       let w = declaredIn q (identityIn ids (x .symbol)) in
       let p = heading t f xs vs ss s in
       let o = n-procedure ∷ f .symbol ∷ q ∷ sortNumber t ∷ [] in
-      let y = rowsN n-formal (c + 1) 0 xs ++ rowsS (c + 1) (c + 1) s in
+      let y = rowsN n-formal (c + 1) (formalIn vs ss) xs ++ rowsS (c + 1) (c + 1) s in
       let z = rowsD (c + sizeP p) q ds ++ b in
       let e' : R ≡ a ++ (rowsP c q p ++ z) = e ∙ ap (λ (r : List ℕ). a ++ r) (append-assoc (rowsP c q p) (rowsD (c + sizeP p) q ds) b) in
-      let i : Rows (In c (c + sizeP p)) y = rows-append (rows-names n-formal (c + 1) 0 xs (omega arith)) (rows-so (λ r k. omega arith) (rows-inS (c + 1) (c + 1) s)) in
+      let i : Rows (In c (c + sizeP p)) y = rows-append (rows-names n-formal (c + 1) (formalIn vs ss) xs (omega arith)) (rows-so (λ r k. omega arith) (rows-inS (c + 1) (c + 1) s)) in
       let n' : hasRow ids w y ≡ false = clear-in ids w l i in
-      found-row Q ids R M agree q x h (record { name = f; thing = routine p }) (inBlock ds) n-procedure (sortNumber t) a (y ++ z) refl refl (all .0 .0) rows e' none-in
-      (routine-told q a z t f xs vs ss s (all .0) e' (part-left (marksP c q p) (marksD (c + sizeP p) q ds) (c + sizeP p) (omega arith) m (rows-so (λ r k. omega arith) (marks-inD (c + sizeP p) q ds))) (startsD (c + sizeP p) q ds b n))
+      found-row Q ids R agree q x h (record { name = f; thing = routine p }) (inBlock ds) n-procedure (sortNumber t) a (y ++ z) refl refl (all .0 .0) rows e' none-in
+      (routine-told c q a z t f xs vs ss s e' (startsD (c + sizeP p) q ds b n))
       (λ none''.
-      found-in q x h ds (c + sizeP p) (a ++ rowsP c q p) b (a' ++ marksP c q p) b' (omega arith) (all .1) (rows-append rows (whole-rows (rows-inP c q p)))
-      (e' ∙ sym (append-assoc a (rowsP c q p) z))
-      (part-right (marksP c q p) (marksD (c + sizeP p) q ds) (c + sizeP p) (c + sizeP p + sizeD ds) (omega arith) (omega arith) m (rows-so (λ r k. omega arith) (marks-inP c q p)))
-      n (ap (hasRow ids w) (sym (append-assoc a o y)) ∙ has-append ids w y (rows-append rows (one-row n-procedure (f .symbol) q (sortNumber t))) ∙ rw (none'', n')) none')
+      found-in q x h ds (c + sizeP p) (a ++ rowsP c q p) b (omega arith) (all .1) (rows-append rows (whole-rows (rows-inP c q p)))
+      (e' ∙ sym (append-assoc a (rowsP c q p) z)) n
+      (ap (hasRow ids w) (sym (append-assoc a o y)) ∙ has-append ids w y (rows-append rows (one-row n-procedure (f .symbol) q (sortNumber t))) ∙ rw (none'', n')) none')
 
-  pub declares-block : {c : ℕ} (q p : ℕ) (ds : Declarations) (ss : Statements) → AllD Q ds → HoldsS R M c q (block p ds ss) → Declares Q ids R M (c + 1) (ofBlock ds)
+  pub declares-block : {c : ℕ} (q p : ℕ) (ds : Declarations) (ss : Statements) → AllD Q ds → HoldsS R c q (block p ds ss) → Declares Q ids R (c + 1) (ofBlock ds)
   declares-block {c} q p ds ss all h x k =
       let o = in-block q p ds ss h in
       let w = declaredIn (c + 1) (identityIn ids (x .symbol)) in
-      found-in (c + 1) x k ds (c + 1) (o .rows-before) (o .rows-behind) (o .marks-before) (o .marks-behind) (omega arith) all (whole-rows (o .rows .before)) (o .rows .whole)
-      (part-inside (c + 1) (omega arith) (o .marks)) (o .next)
+      found-in (c + 1) x k ds (c + 1) (o .before) (o .behind) (omega arith) all (whole-rows (o .rows .before)) (o .rows .whole) (o .next)
       (clear ids w (omega arith) (omega arith) (o .rows .before)) (clear ids w (omega arith) (omega arith) (o .rows .behind))
 
-  pub declares-body : {c : ℕ} (q : ℕ) (p : Procedure) → AllP Q p → HoldsP R M c q p → Declares Q ids R M (c + 1) (ofBody p)
+  pub declares-body : {c : ℕ} (q : ℕ) (p : Procedure) → AllP Q p → HoldsP R c q p → Declares Q ids R (c + 1) (ofBody p)
   unfolding inBody rowsP sizeP findIn
   declares-body {c} q (heading t f xs vs ss s) all h x k =
       let l = h .0 in
-      let p = heading t f xs vs ss s in
       let o = h .1 in
       let w = declaredIn (c + 1) (identityIn ids (x .symbol)) in
-      let a = o .rows-before in
-      let b = o .rows-behind in
+      let a = o .before in
+      let b = o .behind in
       let r = n-procedure ∷ f .symbol ∷ q ∷ sortNumber t ∷ [] in
-      let y = rowsN n-formal (c + 1) 0 xs in
+      let y = rowsN n-formal (c + 1) (formalIn vs ss) xs in
       let z = rowsS (c + 1) (c + 1) s in
       let e : a ++ (r ++ (y ++ z) ++ b) ≡ (a ++ r) ++ (y ++ (z ++ b)) = simp append-assoc in
       let n₁ : hasRow ids w a ≡ false = clear ids w (omega arith) (omega arith) (o .rows .before) in
@@ -815,16 +620,16 @@ module _ (Q : Name → Type 0) (ids R M : List ℕ) (agree : Agree Q ids) where
       let n₄ : hasRow ids w b ≡ false = clear ids w (omega arith) (omega arith) (o .rows .behind) in
       let d : List Declared = map (λ y. record { name = y; thing = formal (specified ss y) }) xs in
       rw (← (append-nil d))
-      (found-names Q ids R M agree (c + 1) x k (λ y. formal (specified ss y)) n-formal 0 refl refl (formal-told (c + 1) ss (specified-marks q t f xs vs ss s (all .3) (o .marks))) xs []
+      (found-names Q ids R agree (c + 1) x k (λ y. formal (specified ss y)) n-formal (formalIn vs ss) refl refl (formal-told (c + 1) vs ss) xs []
       (a ++ r) (z ++ b) (all .1) (rows-append (whole-rows (o .rows .before)) (one-row n-procedure (f .symbol) q (sortNumber t)))
       (o .rows .whole ∙ e) (has-append ids w r (o .rows .before) ∙ rw (n₁, n₂))
       (λ a'' rows' e' n'. ap (hasRow ids w) e' ∙ has-append ids w (z ++ b) rows' ∙ rw n' (has-append ids w b (rows-inS (c + 1) (c + 1) s) ∙ rw (n₃, n₄))))
 
   -- the scopes around inside a block, and inside a procedure
-  pub around-block : {c : ℕ} (q p : ℕ) (ds : Declarations) (ss : Statements) (g : List Scope) (qs : List ℕ) → AllD Q ds → HoldsS R M c q (block p ds ss)
-      → Around Q ids R M g qs → Around Q ids R M (ofBlock ds ∷ g) ((c + 1) ∷ qs)
+  pub around-block : {c : ℕ} (q p : ℕ) (ds : Declarations) (ss : Statements) (g : List Scope) (qs : List ℕ) → AllD Q ds → HoldsS R c q (block p ds ss)
+      → Around Q ids R g qs → Around Q ids R (ofBlock ds ∷ g) ((c + 1) ∷ qs)
   around-block q p ds ss g qs all h a = (declares-block q p ds ss all h, a)
 
-  pub around-body : {c : ℕ} (q : ℕ) (p : Procedure) (g : List Scope) (qs : List ℕ) → AllP Q p → HoldsP R M c q p
-      → Around Q ids R M g qs → Around Q ids R M (ofBody p ∷ g) ((c + 1) ∷ qs)
+  pub around-body : {c : ℕ} (q : ℕ) (p : Procedure) (g : List Scope) (qs : List ℕ) → AllP Q p → HoldsP R c q p
+      → Around Q ids R g qs → Around Q ids R (ofBody p ∷ g) ((c + 1) ∷ qs)
   around-body q p g qs all h a = (declares-body q p all h, a)

@@ -6,6 +6,7 @@ pub mod Fours
 pub mod Identities
 pub mod Innermost
 pub mod Least
+pub mod ModeLaws
 pub mod Named
 pub mod NearNames
 pub mod NearNodes
@@ -17,6 +18,5 @@ pub mod Resolved
 pub mod RowBounds
 pub mod RowLaws
 pub mod TreeLaws
-pub mod TreeRows
 pub mod UseLaws
 pub mod Weaken

@@ -1,4 +1,4 @@
--- What the nodes of a part add to the state of the outline pass, one part after another: rows, marks, scopes and the least fault. Expressions
+-- What the nodes of a part add to the state of the outline pass, one part after another: rows, scopes and the least fault. Expressions
 -- and for lists add nothing; a block or a body is what stands in it, with its scope opened and closed.
 use Prim.Native.Nat.{ℕ, _+_, _≤_, min}
 use mathlib.Core.Path.{_≡_, refl, sym, ap, subst, _∙_}
@@ -11,51 +11,50 @@ use Rattle.names.specs.Nodes.{node, mark, signKind, operatorKind, truth,
 use Rattle.names.specs.Rows.{foldNodes, noFault, hereIn, outward, Known, entered, left, typed, headed, procedured, outlineNode}
 use Rattle.names.proofs.TreeLaws.{Rows, empty, row, rows-append, rows-so, min-assoc, min-none-last}
 
--- ---- what words add: rows r, marks m and a least fault k; with c scopes then, the type t and the heading h
+-- ---- what words add: rows r and a least fault k; with c scopes then, the type t and the heading h
 
-abbrev pub plus : List ℕ → List ℕ → ℕ → ℕ → ℕ → ℕ → Known → Known
-plus r m c t h k st = record { rows = st .rows ++ r; marks = st .marks ++ m; around = st .around; scopes = c; sort = t; heading = h; least = min (st .least) k }
+abbrev pub plus : List ℕ → ℕ → ℕ → ℕ → ℕ → Known → Known
+plus r c t h k st = record { rows = st .rows ++ r; around = st .around; scopes = c; sort = t; heading = h; least = min (st .least) k }
 
-alike : {r r' m m' : List ℕ} {c c' k k' : ℕ} (t h : ℕ) (st : Known) → r ≡ r' → m ≡ m' → c ≡ c' → k ≡ k' → plus r m c t h k st ≡ plus r' m' c' t h k' st
-alike t h st e f g i = rw (e, f, g, i)
+alike : {r r' : List ℕ} {c c' k k' : ℕ} (t h : ℕ) (st : Known) → r ≡ r' → c ≡ c' → k ≡ k' → plus r c t h k st ≡ plus r' c' t h k' st
+alike t h st e f g = rw (e, f, g)
 
-plus-plus : (r r' m m' : List ℕ) (c c' t t' h h' k k' : ℕ) (st : Known)
-    → plus r' m' c' t' h' k' (plus r m c t h k st) ≡ plus (r ++ r') (m ++ m') c' t' h' (min k k') st
-plus-plus r r' m m' c c' t t' h h' k k' st = rw (append-assoc (st .rows) r r', append-assoc (st .marks) m m', min-assoc (st .least) k k')
+plus-plus : (r r' : List ℕ) (c c' t t' h h' k k' : ℕ) (st : Known) → plus r' c' t' h' k' (plus r c t h k st) ≡ plus (r ++ r') c' t' h' (min k k') st
+plus-plus r r' c c' t t' h h' k k' st = rw (append-assoc (st .rows) r r', min-assoc (st .least) k k')
 
-plus-none : (st : Known) → st .least ≤ noFault → plus [] [] (st .scopes) (st .sort) (st .heading) noFault st ≡ st
-plus-none st h = rw (append-nil (st .rows), append-nil (st .marks), ← min-none-last (st .least) noFault h)
+plus-none : (st : Known) → st .least ≤ noFault → plus [] (st .scopes) (st .sort) (st .heading) noFault st ≡ st
+plus-none st h = rw (append-nil (st .rows), ← min-none-last (st .least) noFault h)
 
 abbrev pub fold : List ℕ → List ℕ → Known → Known
 fold ids ws st = foldNodes (outlineNode ids) ws st
 
-pub record Goes (ids ws r m : List ℕ) (c t h k : ℕ) (st : Known) : Type 0 where
-  pub on : (rest : List ℕ) → fold ids (ws ++ rest) st ≡ fold ids rest (plus r m c t h k st)
+pub record Goes (ids ws r : List ℕ) (c t h k : ℕ) (st : Known) : Type 0 where
+  pub on : (rest : List ℕ) → fold ids (ws ++ rest) st ≡ fold ids rest (plus r c t h k st)
 
 -- whatever type and heading are left
-pub record Steps (ids ws r m : List ℕ) (c k : ℕ) (st : Known) : Type 0 where
+pub record Steps (ids ws r : List ℕ) (c k : ℕ) (st : Known) : Type 0 where
   pub sort : ℕ
   pub heading : ℕ
-  pub goes : Goes ids ws r m c sort heading k st
+  pub goes : Goes ids ws r c sort heading k st
 
-pub goes-as : {ids ws r r' m m' : List ℕ} {c c' t h k k' : ℕ} {st : Known}
-    → r ≡ r' → m ≡ m' → c ≡ c' → k ≡ k' → Goes ids ws r m c t h k st → Goes ids ws r' m' c' t h k' st
-goes-as {ids} {t} {h} {st} e f i j g = record { on = λ rest. g .on rest ∙ ap (fold ids rest) (alike t h st e f i j) }
+pub goes-as : {ids ws r r' : List ℕ} {c c' t h k k' : ℕ} {st : Known}
+    → r ≡ r' → c ≡ c' → k ≡ k' → Goes ids ws r c t h k st → Goes ids ws r' c' t h k' st
+goes-as {ids} {t} {h} {st} e i j g = record { on = λ rest. g .on rest ∙ ap (fold ids rest) (alike t h st e i j) }
 
-pub goes-append : {ids a b r r' m m' : List ℕ} {c c' t t' h h' k k' : ℕ} {st : Known}
-    → Goes ids a r m c t h k st → Goes ids b r' m' c' t' h' k' (plus r m c t h k st) → Goes ids (a ++ b) (r ++ r') (m ++ m') c' t' h' (min k k') st
-goes-append {ids} {a} {b} {r} {r'} {m} {m'} {c} {c'} {t} {t'} {h} {h'} {k} {k'} {st} g i =
-    record { on = λ rest. ap (λ (ws : List ℕ). fold ids ws st) (append-assoc a b rest) ∙ g .on (b ++ rest) ∙ i .on rest ∙ ap (fold ids rest) (plus-plus r r' m m' c c' t t' h h' k k' st) }
+pub goes-append : {ids a b r r' : List ℕ} {c c' t t' h h' k k' : ℕ} {st : Known}
+    → Goes ids a r c t h k st → Goes ids b r' c' t' h' k' (plus r c t h k st) → Goes ids (a ++ b) (r ++ r') c' t' h' (min k k') st
+goes-append {ids} {a} {b} {r} {r'} {c} {c'} {t} {t'} {h} {h'} {k} {k'} {st} g i =
+    record { on = λ rest. ap (λ (ws : List ℕ). fold ids ws st) (append-assoc a b rest) ∙ g .on (b ++ rest) ∙ i .on rest ∙ ap (fold ids rest) (plus-plus r r' c c' t t' h h' k k' st) }
 
-pub steps-as : {ids ws r r' m m' : List ℕ} {c c' k k' : ℕ} {st : Known} → r ≡ r' → m ≡ m' → c ≡ c' → k ≡ k' → Steps ids ws r m c k st → Steps ids ws r' m' c' k' st
-steps-as e f i j g = record { sort = g .sort; heading = g .heading; goes = goes-as e f i j (g .goes) }
+pub steps-as : {ids ws r r' : List ℕ} {c c' k k' : ℕ} {st : Known} → r ≡ r' → c ≡ c' → k ≡ k' → Steps ids ws r c k st → Steps ids ws r' c' k' st
+steps-as e i j g = record { sort = g .sort; heading = g .heading; goes = goes-as e i j (g .goes) }
 
-pub steps-append : {ids a b r r' m m' : List ℕ} {c c' k k' : ℕ} {st : Known}
-    → Steps ids a r m c k st → ((t h : ℕ) → Steps ids b r' m' c' k' (plus r m c t h k st)) → Steps ids (a ++ b) (r ++ r') (m ++ m') c' (min k k') st
+pub steps-append : {ids a b r r' : List ℕ} {c c' k k' : ℕ} {st : Known}
+    → Steps ids a r c k st → ((t h : ℕ) → Steps ids b r' c' k' (plus r c t h k st)) → Steps ids (a ++ b) (r ++ r') c' (min k k') st
 steps-append g i = let j = i (g .sort) (g .heading) in record { sort = j .sort; heading = j .heading; goes = goes-append (g .goes) (j .goes) }
 
-pub steps-then : {ids a b r r' m m' : List ℕ} {c c' t h k k' : ℕ} {st : Known}
-    → Goes ids a r m c t h k st → Steps ids b r' m' c' k' (plus r m c t h k st) → Steps ids (a ++ b) (r ++ r') (m ++ m') c' (min k k') st
+pub steps-then : {ids a b r r' : List ℕ} {c c' t h k k' : ℕ} {st : Known}
+    → Goes ids a r c t h k st → Steps ids b r' c' k' (plus r c t h k st) → Steps ids (a ++ b) (r ++ r') c' (min k k') st
 steps-then g i = record { sort = i .sort; heading = i .heading; goes = goes-append g (i .goes) }
 
 -- ---- words that add nothing
@@ -66,7 +65,7 @@ pub record Skips (ids ws : List ℕ) : Type 0 where
 pub skips : {ids a b : List ℕ} → Skips ids a → Skips ids b → Skips ids (a ++ b)
 skips {ids} {a} {b} f g = record { on = λ st rest. ap (λ (ws : List ℕ). fold ids ws st) (append-assoc a b rest) ∙ f .on st (b ++ rest) ∙ g .on st rest }
 
-pub steps-after : {ids a b r m : List ℕ} {c k : ℕ} {st : Known} → Skips ids a → Steps ids b r m c k st → Steps ids (a ++ b) r m c k st
+pub steps-after : {ids a b r : List ℕ} {c k : ℕ} {st : Known} → Skips ids a → Steps ids b r c k st → Steps ids (a ++ b) r c k st
 steps-after {ids} {a} {b} {st = st} f g =
     record {
       sort = g .sort;
@@ -74,15 +73,15 @@ steps-after {ids} {a} {b} {st = st} f g =
       goes = record { on = λ rest. ap (λ (ws : List ℕ). fold ids ws st) (append-assoc a b rest) ∙ f .on st (b ++ rest) ∙ g .goes .on rest };
     }
 
-pub steps-before : {ids a b r m : List ℕ} {c k : ℕ} {st : Known} → Steps ids a r m c k st → Skips ids b → Steps ids (a ++ b) r m c k st
-steps-before {ids} {a} {b} {r} {m} {c} {k} {st} g f =
+pub steps-before : {ids a b r : List ℕ} {c k : ℕ} {st : Known} → Steps ids a r c k st → Skips ids b → Steps ids (a ++ b) r c k st
+steps-before {ids} {a} {b} {r} {c} {k} {st} g f =
     record {
       sort = g .sort;
       heading = g .heading;
-      goes = record { on = λ rest. ap (λ (ws : List ℕ). fold ids ws st) (append-assoc a b rest) ∙ g .goes .on (b ++ rest) ∙ f .on (plus r m c (g .sort) (g .heading) k st) rest };
+      goes = record { on = λ rest. ap (λ (ws : List ℕ). fold ids ws st) (append-assoc a b rest) ∙ g .goes .on (b ++ rest) ∙ f .on (plus r c (g .sort) (g .heading) k st) rest };
     }
 
-pub steps-none : {ids ws : List ℕ} (st : Known) → st .least ≤ noFault → Skips ids ws → Steps ids ws [] [] (st .scopes) noFault st
+pub steps-none : {ids ws : List ℕ} (st : Known) → st .least ≤ noFault → Skips ids ws → Steps ids ws [] (st .scopes) noFault st
 steps-none {ids} st h f = record { sort = st .sort; heading = st .heading; goes = record { on = λ rest. f .on st rest ∙ ap (fold ids rest) (sym (plus-none st h)) } }
 
 -- ---- expressions and for lists
@@ -149,25 +148,23 @@ skipsCall ids d x (then e es) =
 
 pub record Fresh (st : Known) : Type 0 where
   pub rows : Rows (λ r. r ≤ st .scopes) (st .rows)
-  pub marks : Rows (λ r. r ≤ st .scopes) (st .marks)
   pub here : hereIn (st .around) ≤ st .scopes
   pub least : st .least ≤ noFault
 
 min-least : (a k n : ℕ) → a ≤ n → min a k ≤ n
 min-least a k n h = omega arith
 
-pub fresh-plus : {r m : List ℕ} {c : ℕ} (t h k : ℕ) (st : Known) → Fresh st → Rows (λ q. q ≤ c) r → Rows (λ q. q ≤ c) m → st .scopes ≤ c → Fresh (plus r m c t h k st)
-fresh-plus {c = c} t h k st f i j n =
+pub fresh-plus : {r : List ℕ} {c : ℕ} (t h k : ℕ) (st : Known) → Fresh st → Rows (λ q. q ≤ c) r → st .scopes ≤ c → Fresh (plus r c t h k st)
+fresh-plus {c = c} t h k st f i n =
     record {
       rows = rows-append (rows-so (λ q a. le-trans a n) (f .rows)) i;
-      marks = rows-append (rows-so (λ q a. le-trans a n) (f .marks)) j;
       here = le-trans (f .here) n;
       least = min-least (st .least) k noFault (f .least);
     }
 
 pub fresh-typed : (t : ℕ) (st : Known) → Fresh st → Fresh (typed t st)
 unfolding typed
-fresh-typed t st f = record { rows = f .rows; marks = f .marks; here = f .here; least = f .least }
+fresh-typed t st f = record { rows = f .rows; here = f .here; least = f .least }
 
 pub above : (n r : ℕ) → r ≤ n → r ≡ n + 1 → ⊥
 above n r h e = omega arith
@@ -175,31 +172,31 @@ above n r h e = omega arith
 pub fresh-entered : (st : Known) → Fresh st → Fresh (entered st)
 unfolding entered hereIn
 fresh-entered st f =
-    record { rows = rows-so (λ q h. omega arith) (f .rows); marks = rows-so (λ q h. omega arith) (f .marks); here = omega arith; least = f .least }
+    record { rows = rows-so (λ q h. omega arith) (f .rows); here = omega arith; least = f .least }
 
-pub goes-none : (ids : List ℕ) (st : Known) → Fresh st → Goes ids [] [] [] (st .scopes) (st .sort) (st .heading) noFault st
+pub goes-none : (ids : List ℕ) (st : Known) → Fresh st → Goes ids [] [] (st .scopes) (st .sort) (st .heading) noFault st
 goes-none ids st f = record { on = λ rest. ap (fold ids rest) (sym (plus-none st (f .least))) }
 
-pub steps-typed : {ids ws r m : List ℕ} {c k : ℕ} (s t : ℕ) (st : Known) → Steps ids ws r m c k (typed t st) → Steps ids (node n-type s t 0 ++ ws) r m c k st
+pub steps-typed : {ids ws r : List ℕ} {c k : ℕ} (s t : ℕ) (st : Known) → Steps ids ws r c k (typed t st) → Steps ids (node n-type s t 0 ++ ws) r c k st
 unfolding foldNodes outlineNode typed
 steps-typed s t st g = record { sort = g .sort; heading = g .heading; goes = record { on = λ rest. g .goes .on rest } }
 
-pub steps-of : {ids ws r m : List ℕ} {c t h k : ℕ} {st : Known} → Goes ids ws r m c t h k st → Steps ids ws r m c k st
+pub steps-of : {ids ws r : List ℕ} {c t h k : ℕ} {st : Known} → Goes ids ws r c t h k st → Steps ids ws r c k st
 steps-of {t} {h} g = record { sort = t; heading = h; goes = g }
 
 -- ---- a scope opened and closed
 
-pub steps-words : {ids ws ws' r m : List ℕ} {c k : ℕ} {st : Known} → ws ≡ ws' → Steps ids ws r m c k st → Steps ids ws' r m c k st
-steps-words {ids} {r = r} {m} {c} {k} {st} e g = subst (λ (ws : List ℕ). Steps ids ws r m c k st) e g
+pub steps-words : {ids ws ws' r : List ℕ} {c k : ℕ} {st : Known} → ws ≡ ws' → Steps ids ws r c k st → Steps ids ws' r c k st
+steps-words {ids} {r = r} {c} {k} {st} e g = subst (λ (ws : List ℕ). Steps ids ws r c k st) e g
 
-block-closed : (r m : List ℕ) (c t h k : ℕ) (st : Known) → left (plus r m c t h k (entered st)) ≡ plus r m c t h k st
+block-closed : (r : List ℕ) (c t h k : ℕ) (st : Known) → left (plus r c t h k (entered st)) ≡ plus r c t h k st
 unfolding left entered outward
-block-closed r m c t h k st = refl
+block-closed r c t h k st = refl
 
-pub steps-block : {ids ws r m : List ℕ} {c k : ℕ} (p : ℕ) (st : Known) → Steps ids ws r m c k (entered st)
-    → Steps ids (mark n-block p ++ (ws ++ mark n-block-end p)) r m c k st
+pub steps-block : {ids ws r : List ℕ} {c k : ℕ} (p : ℕ) (st : Known) → Steps ids ws r c k (entered st)
+    → Steps ids (mark n-block p ++ (ws ++ mark n-block-end p)) r c k st
 unfolding foldNodes outlineNode
-steps-block {ids} {ws} {r} {m} {c} {k} p st g =
+steps-block {ids} {ws} {r} {c} {k} p st g =
     record {
       sort = g .sort;
       heading = g .heading;
@@ -207,25 +204,25 @@ steps-block {ids} {ws} {r} {m} {c} {k} p st g =
         on = λ rest.
             ap (λ (l : List ℕ). fold ids l (entered st)) (append-assoc ws (mark n-block-end p) rest)
             ∙ g .goes .on (mark n-block-end p ++ rest)
-            ∙ ap (fold ids rest) (block-closed r m c (g .sort) (g .heading) k st);
+            ∙ ap (fold ids rest) (block-closed r c (g .sort) (g .heading) k st);
       };
     }
 
 -- the scope of a body, behind its procedure's row
 abbrev pub within : ℕ → ℕ → ℕ → ℕ → Known → Known
-within s q t i st = entered (headed s (plus (node n-procedure s q t) [] (st .scopes) t (st .heading) i st))
+within s q t i st = entered (headed s (plus (node n-procedure s q t) (st .scopes) t (st .heading) i st))
 
-body-closed : (s q t' i : ℕ) (r m : List ℕ) (c t h k : ℕ) (st : Known)
-    → left (plus r m c t h k (within s q t' i st)) ≡ plus (node n-procedure s q t' ++ r) m c t h (min i k) st
+body-closed : (s q t' i : ℕ) (r : List ℕ) (c t h k : ℕ) (st : Known)
+    → left (plus r c t h k (within s q t' i st)) ≡ plus (node n-procedure s q t' ++ r) c t h (min i k) st
 unfolding left entered headed outward
-body-closed s q t' i r m c t h k st = plus-plus (node n-procedure s q t') r [] m (st .scopes) c t' t (st .heading) h i k st
+body-closed s q t' i r c t h k st = plus-plus (node n-procedure s q t') r (st .scopes) c t' t (st .heading) h i k st
 
-pub steps-body : {ids ws r m : List ℕ} {c k : ℕ} (f : Name) (t i : ℕ) (st : Known)
+pub steps-body : {ids ws r : List ℕ} {c k : ℕ} (f : Name) (t i : ℕ) (st : Known)
     → procedured ids (f .symbol) (typed t st) ≡ within (f .symbol) (hereIn (st .around)) t i st
-    → Steps ids ws r m c k (within (f .symbol) (hereIn (st .around)) t i st)
-    → Steps ids (node n-type 0 t 0 ++ (mark n-procedure (f .symbol) ++ (ws ++ mark n-procedure-end (f .symbol)))) (node n-procedure (f .symbol) (hereIn (st .around)) t ++ r) m c (min i k) st
+    → Steps ids ws r c k (within (f .symbol) (hereIn (st .around)) t i st)
+    → Steps ids (node n-type 0 t 0 ++ (mark n-procedure (f .symbol) ++ (ws ++ mark n-procedure-end (f .symbol)))) (node n-procedure (f .symbol) (hereIn (st .around)) t ++ r) c (min i k) st
 unfolding foldNodes outlineNode
-steps-body {ids} {ws} {r} {m} {c} {k} f t i st e g =
+steps-body {ids} {ws} {r} {c} {k} f t i st e g =
     let end = mark n-procedure-end (f .symbol) in
     let inner = within (f .symbol) (hereIn (st .around)) t i st in
     record {
@@ -236,26 +233,22 @@ steps-body {ids} {ws} {r} {m} {c} {k} f t i st e g =
             ap (fold ids ((ws ++ end) ++ rest)) e
             ∙ ap (λ (l : List ℕ). fold ids l inner) (append-assoc ws end rest)
             ∙ g .goes .on (end ++ rest)
-            ∙ ap (fold ids rest) (body-closed (f .symbol) (hereIn (st .around)) t i r m c (g .sort) (g .heading) k st);
+            ∙ ap (fold ids rest) (body-closed (f .symbol) (hereIn (st .around)) t i r c (g .sort) (g .heading) k st);
       };
     }
 
 pub fresh-within : (s t i : ℕ) (st : Known) → Fresh st → Fresh (within s (hereIn (st .around)) t i st)
 unfolding entered headed hereIn
 fresh-within s t i st f =
-    let g = fresh-entered (plus (node n-procedure s (hereIn (st .around)) t) [] (st .scopes) t (st .heading) i st)
-    (fresh-plus t (st .heading) i st f (row (f .here) empty) empty (le-refl (st .scopes))) in
-    record { rows = g .rows; marks = g .marks; here = g .here; least = g .least }
+    let g = fresh-entered (plus (node n-procedure s (hereIn (st .around)) t) (st .scopes) t (st .heading) i st)
+    (fresh-plus t (st .heading) i st f (row (f .here) empty) (le-refl (st .scopes))) in
+    record { rows = g .rows; here = g .here; least = g .least }
 
--- no row and no mark is of the innermost scope
+-- no row is of the innermost scope
 pub record Clear (st : Known) : Type 0 where
   pub rows : Rows (λ r. r ≡ hereIn (st .around) → ⊥) (st .rows)
-  pub marks : Rows (λ r. r ≡ hereIn (st .around) → ⊥) (st .marks)
 
 pub clear-within : (s t i : ℕ) (st : Known) → Fresh st → Clear (within s (hereIn (st .around)) t i st)
 unfolding entered headed hereIn
 clear-within s t i st f =
-    record {
-      rows = rows-append (rows-so (above (st .scopes)) (f .rows)) (row (above (st .scopes) (hereIn (st .around)) (f .here)) empty);
-      marks = rows-append (rows-so (above (st .scopes)) (f .marks)) empty;
-    }
+    record { rows = rows-append (rows-so (above (st .scopes)) (f .rows)) (row (above (st .scopes) (hereIn (st .around)) (f .here)) empty) }

@@ -1,18 +1,22 @@
--- Rows looked for: in one list after another, among rows of other scopes, and among the rows of a list of names. And the least fault of several
+-- Rows looked for, and told of: in one list after another, among rows of other scopes, and among the rows of a list of names. And the least fault of several
 -- lists of faults: `min`, with `noFault` for none.
 use Prim.Native.Nat.{ℕ, _≤_, min}
 use mathlib.Core.Path.{_≡_, refl, sym, ap, _∙_}
 use mathlib.Core.Bool.{Bool, true, false, cond, not, _&&_, _||_, or-assoc, or-false}
 use mathlib.Core.List.{List, [], _∷_, _++_, append-assoc}
+use mathlib.Core.Option.{Option, none, some}
 use native.Mathlib.Omega.{arith}
 use lib.Dec.{eqb, leb}
 use borrow.Author.Tests.{eq-eqb, ne-eqb}
-use Rattle.names.specs.Program.{Name}
+use Rattle.symbols.specs.Names.{sameName}
+use Rattle.names.specs.Program.{Name, Sort, integer, boolean}
 use Rattle.names.specs.Scopes.{same, has}
 use Rattle.names.specs.Uses.{Fault, at, each, missing, joined}
-use Rattle.names.specs.Rows.{faultKey, noFault, leastKey, notedIf, identityIn, sought, hasRow, completeIn, missingIn, markedIn}
+use Rattle.names.specs.Modes.{formalNumber}
+use Rattle.names.specs.Rows.{faultKey, noFault, leastKey, notedIf, identityIn, sought, hasRow, saidIn, saying, lacking, missingIn}
 use Rattle.names.specs.declared.Sought.{Sought}
-use Rattle.grammar.specs.NodeKinds.{n-formal, n-value, n-specified}
+use Rattle.grammar.specs.NodeKinds.{n-formal}
+use Rattle.names.proofs.Identities.{same-letters, other-letters}
 use Rattle.names.proofs.AllNames.{AllN}
 use Rattle.names.specs.Outline.{rowsN}
 
@@ -30,7 +34,7 @@ pub rows-so : {R S : ℕ → Type 0} {a : List ℕ} → ((q : ℕ) → R q → S
 rows-so f empty = empty
 rows-so f (row {q} r h) = row (f q r) (rows-so f h)
 
-pub rows-names : (R : ℕ → Type 0) (k q t : ℕ) (xs : List Name) → R q → Rows R (rowsN k q t xs)
+pub rows-names : (R : ℕ → Type 0) (k q : ℕ) (t : Name → ℕ) (xs : List Name) → R q → Rows R (rowsN k q t xs)
 unfolding rowsN
 rows-names R k q t [] h = empty
 rows-names R k q t (x ∷ xs) h = row h (rows-names R k q t xs h)
@@ -57,17 +61,6 @@ pub has-none : (ids : List ℕ) (w : Sought) {a : List ℕ} → Rows (λ q. q �
 unfolding hasRow
 has-none ids w empty = refl
 has-none ids w (row {k} {s} {q} r h) = rw (elsewhere ids w k s q r) (has-none ids w h)
-
--- not of another kind
-unkind : (ids : List ℕ) (w : Sought) (k s q : ℕ) → ((b : Bool) → leb (w .low) k && (leb k (w .high) && b) ≡ false) → sought ids w k s q ≡ false
-unfolding sought
-unkind ids w k s q h = h (eqb q (w .scope) && eqb (identityIn ids s) (w .id))
-
-pub has-unkind : (ids : List ℕ) (w : Sought) (k q t : ℕ) (xs : List Name)
-    → ((b : Bool) → leb (w .low) k && (leb k (w .high) && b) ≡ false) → hasRow ids w (rowsN k q t xs) ≡ false
-unfolding hasRow rowsN
-has-unkind ids w k q t [] h = refl
-has-unkind ids w k q t (x ∷ xs) h = rw (unkind ids w k (x .symbol) q h) (has-unkind ids w k q t xs h)
 
 -- the names of a list, the nearest first
 unfoldable pub onto : List Name → List Name → List Name
@@ -100,34 +93,111 @@ module _ (ids : List ℕ) (Q : Name → Type 0) (agree : (x y : Name) → Q x �
   found w k y x e h qy qx =
       h (eqb (w .scope) (w .scope) && eqb (identityIn ids (y .symbol)) (w .id)) ∙ rw (eq-eqb (w .scope) (w .scope) refl, e) (agree y x qy qx)
 
-  pub has-names : (w : Sought) (k t : ℕ) (xs : List Name) (x : Name) → w .id ≡ identityIn ids (x .symbol) → ((b : Bool) → leb (w .low) k && (leb k (w .high) && b) ≡ b)
+  pub has-names : (w : Sought) (k : ℕ) (t : Name → ℕ) (xs : List Name) (x : Name) → w .id ≡ identityIn ids (x .symbol) → ((b : Bool) → leb (w .low) k && (leb k (w .high) && b) ≡ b)
       → AllN Q xs → Q x → hasRow ids w (rowsN k (w .scope) t xs) ≡ has xs x
   unfolding hasRow rowsN has
   has-names w k t [] x e h all qx = refl
   has-names w k t (y ∷ xs) x e h all qx = rw (found w k y x e h (all .0) qx, has-names w k t xs x e h (all .1) qx)
 
-  -- ---- the formals that are missing
+  -- ---- what the rows of names say
 
-  -- no row of another scope is one
-  pub missing-append : (q : ℕ) (marks : List ℕ) {a : List ℕ} (b : List ℕ) → Rows (λ r. r ≡ q → ⊥) a → missingIn ids q marks (a ++ b) ≡ missingIn ids q marks b
-  unfolding missingIn
-  missing-append q marks b empty = refl
-  missing-append q marks b (row {q = r} n h) = rw (ne-eqb r q n) (missing-append q marks b h)
+  -- of a type or word that is the same for the same letters
+  pub said-names : (w : Sought) (k : ℕ) (t : Name → ℕ) (xs : List Name) (x : Name) → w .id ≡ identityIn ids (x .symbol) → ((b : Bool) → leb (w .low) k && (leb k (w .high) && b) ≡ b)
+      → AllN Q xs → Q x → ((y : Name) → same y x ≡ true → t y ≡ t x) → saidIn ids w (rowsN k (w .scope) t xs) ≡ cond (has xs x) (t x) 1
+  unfolding saidIn rowsN has
+  said-names w k t [] x e h all qx alike = refl
+  said-names w k t (y ∷ xs) x e h all qx alike =
+      rw (found w k y x e h (all .0) qx, said-names w k t xs x e h (all .1) qx alike) (go (same y x) refl)
+    where
+      go : (b : Bool) → same y x ≡ b → cond b (t y) (cond (has xs x) (t x) 1) ≡ cond (b || has xs x) (t x) 1
+      go true i = alike y i
+      go false i = refl
 
-  apart : (a b c d : Bool) → not (a && b) || (c || d) ≡ (not a || c) || (not b || d)
-  apart true true c d = refl
-  apart true false true d = refl
-  apart true false false d = refl
-  apart false b c d = refl
+  pub saying-names : (w : Sought) (k n : ℕ) (t : Name → ℕ) (xs : List Name) (x : Name) → w .id ≡ identityIn ids (x .symbol) → ((b : Bool) → leb (w .low) k && (leb k (w .high) && b) ≡ b)
+      → AllN Q xs → Q x → saying ids w n (rowsN k (w .scope) t xs) ≡ rowsN k (w .scope) (λ y. cond (same y x) n (t y)) xs
+  unfolding saying rowsN
+  saying-names w k n t [] x e h all qx = refl
+  saying-names w k n t (y ∷ xs) x e h all qx = rw (found w k y x e h (all .0) qx, saying-names w k n t xs x e h (all .1) qx)
 
-  pub missing-names : (q t : ℕ) (marks : List ℕ) (xs vs l : List Name) → AllN Q xs
-      → ((x : Name) → Q x → hasRow ids (markedIn n-value q (identityIn ids (x .symbol))) marks ≡ has vs x)
-      → ((x : Name) → Q x → hasRow ids (markedIn n-specified q (identityIn ids (x .symbol))) marks ≡ has l x)
-      → missingIn ids q marks (rowsN n-formal q t xs) ≡ missing xs vs || missing xs l
-  unfolding missingIn rowsN missing completeIn
-  missing-names q t marks [] vs l all hv hl = refl
-  missing-names q t marks (x ∷ xs) vs l all hv hl =
-      rw (eq-eqb q q refl, hv x (all .0), hl x (all .0), missing-names q t marks xs vs l (all .1) hv hl) (apart (has vs x) (has l x) (missing xs vs) (missing xs l))
+-- rows of other scopes neither say it nor change
+pub said-behind : (ids : List ℕ) (w : Sought) {a : List ℕ} (b : List ℕ) → Rows (λ r. r ≡ w .scope → ⊥) a → saidIn ids w (a ++ b) ≡ saidIn ids w b
+unfolding saidIn
+said-behind ids w b empty = refl
+said-behind ids w b (row {k} {s} {q} r h) = rw (elsewhere ids w k s q r) (said-behind ids w b h)
+
+pub saying-behind : (ids : List ℕ) (w : Sought) (n : ℕ) {a : List ℕ} (b : List ℕ) → Rows (λ r. r ≡ w .scope → ⊥) a → saying ids w n (a ++ b) ≡ a ++ saying ids w n b
+unfolding saying
+saying-behind ids w n b empty = refl
+saying-behind ids w n b (row {k} {s} {q} r h) = rw (elsewhere ids w k s q r, saying-behind ids w n b h)
+
+-- the same words, name for name
+pub rows-alike : (k q : ℕ) (t u : Name → ℕ) (xs : List Name) → ((x : Name) → t x ≡ u x) → rowsN k q t xs ≡ rowsN k q u xs
+unfolding rowsN
+rows-alike k q t u [] h = refl
+rows-alike k q t u (x ∷ xs) h = rw (h x, rows-alike k q t u xs h)
+
+-- and where the name x is not among them, for all others
+neither : (a b : Bool) → a || b ≡ false → (a ≡ false) × (b ≡ false)
+neither false false h = (refl, refl)
+neither false true h = let z : _≡_ {A = ℕ} 0 1 = cc in absurd (omega arith)
+neither true b h = let z : _≡_ {A = ℕ} 0 1 = cc in absurd (omega arith)
+
+pub rows-without : (k q : ℕ) (t u : Name → ℕ) (xs : List Name) (x : Name) → has xs x ≡ false → ((y : Name) → same y x ≡ false → t y ≡ u y) → rowsN k q t xs ≡ rowsN k q u xs
+unfolding rowsN has
+rows-without k q t u [] x n h = refl
+rows-without k q t u (y ∷ xs) x n h =
+    let i = neither (same y x) (has xs x) n in
+    rw (h y (i .0), rows-without k q t u xs x (i .1) h)
+
+-- ---- names with the same letters
+
+pub same-sym : (x y : Name) → same x y ≡ same y x
+same-sym x y = go (same x y) (same y x) refl refl
+  where
+    go : (a b : Bool) → same x y ≡ a → same y x ≡ b → a ≡ b
+    go true true e f = refl
+    go true false e f = absurd (other-letters (y .letters) (x .letters) f (sym (same-letters (x .letters) (y .letters) e)))
+    go false true e f = absurd (other-letters (x .letters) (y .letters) e (sym (same-letters (y .letters) (x .letters) f)))
+    go false false e f = refl
+
+pub has-alike : (l : List Name) (x y : Name) → x .letters ≡ y .letters → has l x ≡ has l y
+unfolding has
+has-alike [] x y e = refl
+has-alike (z ∷ l) x y e = rw (has-alike l x y e) (ap (λ (m : List ℕ). sameName (z .letters) m || has l y) e)
+
+-- ---- a formal that is missing
+
+-- no row of another scope is one
+pub missing-behind : (q : ℕ) {a : List ℕ} (b : List ℕ) → Rows (λ r. r ≡ q → ⊥) a → missingIn q (a ++ b) ≡ missingIn q b
+unfolding missingIn
+missing-behind q b empty = refl
+missing-behind q b (row {q = r} n h) = rw (ne-eqb r q n) (missing-behind q b h)
+
+abbrev pub isSome : Option Sort → Bool
+isSome none = false
+isSome (some t) = true
+
+lacks-formal : (v : Bool) (t : Option Sort) → lacking (formalNumber v t) ≡ not v || not (isSome t)
+unfolding lacking
+lacks-formal true none = refl
+lacks-formal true (some integer) = refl
+lacks-formal true (some boolean) = refl
+lacks-formal false none = refl
+lacks-formal false (some integer) = refl
+lacks-formal false (some boolean) = refl
+
+apart : (a b c d : Bool) → (a || b) || (c || d) ≡ (a || c) || (b || d)
+apart true b c d = refl
+apart false true true d = refl
+apart false true false d = refl
+apart false false c d = refl
+
+pub missing-names : (q : ℕ) (t : Name → Option Sort) (xs vs l : List Name) → ((x : Name) → isSome (t x) ≡ has l x)
+    → missingIn q (rowsN n-formal q (λ x. formalNumber (has vs x) (t x)) xs) ≡ missing xs vs || missing xs l
+unfolding missingIn rowsN missing
+missing-names q t [] vs l h = refl
+missing-names q t (x ∷ xs) vs l h =
+    rw (eq-eqb q q refl, lacks-formal (has vs x) (t x), h x, missing-names q t xs vs l h) (apart (not (has vs x)) (not (has l x)) (missing xs vs) (missing xs l))
 
 -- ---- the least fault
 

@@ -1,18 +1,17 @@
--- What a use means. A row that is looked for and there has a number below how many rows there are, so what is found comes to a
--- word; the scopes that are open are searched one by one; a use that is written stands behind those before it.
+-- What a use means. A row that is looked for and there has a number below how many rows there are; a meaning is read back from its
+-- number; the scopes that are open are searched one by one; a use that is written stands behind those before it.
 use mathlib.Core.Path.{_≡_, refl, sym, _∙_}
 use mathlib.Core.Logic.{_⊎_, ⊎-elim, inl, inr}
-use mathlib.Core.Bool.{Bool, true, false, cond}
+use mathlib.Core.Bool.{true, false}
 use mathlib.Core.List.{List, [], _∷_, _++_}
 use Prim.Native.Nat.{ℕ, zero, suc, _+_, _*_, _-_, _/_, _<_, _≤_}
 use native.Mathlib.Nat.{eq-or-lt-of-le}
 use native.Mathlib.Omega.{arith}
 use native.Mathlib.Numerals.{add-one}
-use borrow.Author.Tests.{lt-ltb, le-ltb, ltb-false, ne-eqb}
-use lib.Dec.{ltb}
+use borrow.Author.Tests.{lt-ltb, le-ltb, ne-eqb}
 use lib.ListN.{length, getD, take, drop, set}
 use lib.Seq.{take-suc-set}
-use Rattle.names.specs.Rows.{foldNodes, identityIn, findRow, hasRow, declaredIn, opensOf, outside, outsideOf, meantIn, meantNumber, isNothing, notedIf, Found, used, usedAt, opened, closed, outward, isUse, useNode}
+use Rattle.names.specs.Rows.{foldNodes, identityIn, findRow, hasRow, declaredIn, opensOf, outsideOf, meantIn, givenFrom, noMeaning, meantNumber, meantOf, isNothing, notedIf, Found, used, usedAt, opened, closed, outward, isUse, useNode}
 use Rattle.names.specs.Model.{seeOpen, seeUses}
 use Rattle.names.specs.declared.Open.{Open}
 use Rattle.names.specs.declared.Using.{Using}
@@ -50,19 +49,19 @@ meant-outside ids rows stack (suc d) x h = absurd (omega arith)
 
 -- ---- words
 
-outside-from : (x : ℕ) (low high : Bool) → ltb x outside ≡ low → ltb (outside + 3) x ≡ high → meantNumber (cond low Nothing (cond high Nothing (Given (record { number = x - outside })))) < 8197
-unfolding meantNumber
-outside-from x true high e f = omega arith
-outside-from x false true e f = omega arith
-outside-from x false false e f = omega (arith, ltb-false (outside + 3) x f)
+-- a meaning whose number is not too large for its part is read back as it was
+abbrev pub Kept : Meant → Type 0
+Kept (Declared d) = d .number < givenFrom
+Kept (Given e) = e .number < 4
+Kept Nothing = Unit {0}
 
-pub outside-word : (x : ℕ) → meantNumber (outsideOf x) < 8197
-unfolding outsideOf
-outside-word x = outside-from x (ltb x outside) (ltb (outside + 3) x) refl refl
-
-pub here-word : (rows : List ℕ) (j : ℕ) → length rows ≤ 32768 → j < length rows / 4 → meantNumber (Declared (record { number = j })) < 8197
-unfolding meantNumber
-here-word rows j l h = omega arith
+pub read-back : (m : Meant) → Kept m → meantOf (meantNumber m) ≡ m
+unfolding meantOf meantNumber
+read-back (Declared d) h = rw (lt-ltb (d .number) givenFrom h, lt-ltb (d .number) givenFrom h)
+read-back (Given e) h =
+    let b : givenFrom + e .number - givenFrom ≡ e .number = omega arith in
+    rw (lt-ltb (e .number) 4 h, le-ltb (givenFrom + e .number) givenFrom (omega arith), lt-ltb (givenFrom + e .number) noMeaning (omega arith), b)
+read-back Nothing h = refl
 
 -- ---- uses
 

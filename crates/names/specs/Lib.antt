@@ -2,6 +2,7 @@ pub mod Program
 pub mod Scopes
 pub mod ReadOff
 pub mod Nodes
+pub mod Modes
 pub mod Outline
 pub mod Uses
 pub mod Rows

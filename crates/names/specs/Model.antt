@@ -3,7 +3,10 @@ use Prim.Native.Nat.{ℕ, _+_, _*_, _≤_}
 use mathlib.Core.Path.{_≡_}
 use mathlib.Core.List.{List, [], _∷_, _++_}
 use lib.ListN.{length, take}
-use Rattle.names.specs.Rows.{Known, Found, opensOf}
+use Rattle.names.specs.Rows.{Known, Found, opensOf, saying, outlineOf, usesOf}
+use Rattle.names.specs.declared.Passed.{Passed}
+use Rattle.names.specs.declared.Row.{Row}
+use Rattle.names.specs.declared.Sought.{Sought}
 use Rattle.names.specs.declared.Open.{Open}
 use Rattle.names.specs.declared.Declaring.{Declaring}
 use Rattle.names.specs.declared.Using.{Using}
@@ -12,9 +15,9 @@ use Rattle.names.specs.declared.Using.{Using}
 abbrev pub seeOpen : Open → List ℕ → List ℕ
 seeOpen o stack = opensOf (o .depth) stack
 
-abbrev pub seeOutline : Declaring → List ℕ → List ℕ → List ℕ → Known
-seeOutline o rows marks stack =
-    record { rows = take (4 * o .rows) rows; marks = take (4 * o .marks) marks; around = seeOpen (o .around) stack; scopes = o .around .scopes; sort = o .sort; heading = o .heading; least = o .least }
+abbrev pub seeOutline : Declaring → List ℕ → List ℕ → Known
+seeOutline o rows stack =
+    record { rows = take (4 * o .rows) rows; around = seeOpen (o .around) stack; scopes = o .around .scopes; sort = o .sort; heading = o .heading; least = o .least }
 
 abbrev pub seeUses : Using → List ℕ → List ℕ → Found
 seeUses u uses stack = record { uses = take (u .count) uses; around = seeOpen (u .around) stack; scopes = u .around .scopes; least = u .least }
@@ -26,7 +29,6 @@ pub record OpenWithin (o : Open) (i : ℕ) : Type 0 where
 
 pub record OutlineWithin (o : Declaring) (i : ℕ) : Type 0 where
   pub rows : o .rows ≤ i
-  pub marks : o .marks ≤ i
   pub around : OpenWithin (o .around) i
 
 pub record UsesWithin (u : Using) (i : ℕ) : Type 0 where
@@ -34,6 +36,22 @@ pub record UsesWithin (u : Using) (i : ℕ) : Type 0 where
   pub around : OpenWithin (u .around) i
 
 -- a row was written
-pub record PutRow (old new : List ℕ) (n k s q t : ℕ) : Type 0 where
-  pub wrote : take (4 * n + 4) new ≡ take (4 * n) old ++ (k ∷ s ∷ q ∷ t ∷ [])
+pub record PutRow (old new : List ℕ) (n : ℕ) (r : Row) : Type 0 where
+  pub wrote : take (4 * n + 4) new ≡ take (4 * n) old ++ (r .kind ∷ r .symbol ∷ r .scope ∷ r .sort ∷ [])
+  pub size : length new ≡ length old
+
+-- what the pass over declarations left, and the pass over uses: how many there are, their words, the least fault
+pub record OutlineLeft (ids nodes rows : List ℕ) (r : Passed) : Type 0 where
+  pub rowed : take (4 * r .count) rows ≡ outlineOf ids nodes .rows
+  pub least : r .least ≡ outlineOf ids nodes .least
+  pub few : r .count ≤ 8192
+
+pub record UsesLeft (ids rows nodes uses : List ℕ) (r : Passed) : Type 0 where
+  pub used : take (r .count) uses ≡ usesOf ids rows nodes .uses
+  pub least : r .least ≡ usesOf ids rows nodes .least
+  pub few : r .count ≤ 8192
+
+-- the first n rows say another word where they are looked for
+pub record SaidRows (ids : List ℕ) (w : Sought) (word n : ℕ) (old new : List ℕ) : Type 0 where
+  pub wrote : take (4 * n) new ≡ saying ids w word (take (4 * n) old)
   pub size : length new ≡ length old

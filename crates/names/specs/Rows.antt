@@ -4,10 +4,12 @@ use Prim.Native.Nat.{ℕ, zero, suc, _+_, _*_, _-_, _/_, _%_, min}
 use mathlib.Core.Bool.{Bool, true, false, cond, not, _&&_, _||_}
 use mathlib.Core.List.{List, [], _∷_, _++_}
 use lib.Dec.{eqb, leb, ltb}
-use lib.ListN.{getD}
+use lib.ListN.{getD, drop}
 use Rattle.answers.specs.Numbers.{twice, undeclared, heading}
 use Rattle.grammar.specs.NodeKinds.{n-block, n-block-end, n-type, n-variable, n-procedure, n-formal, n-value, n-specified, n-body, n-procedure-end, n-for, n-left, n-use, n-call}
 use Rattle.names.specs.Uses.{Fault}
+use Rattle.names.specs.Modes.{packed, typeIn, modeIn}
+use Rattle.names.specs.declared.Row.{Row}
 use Rattle.names.specs.declared.Sought.{Sought}
 use Rattle.names.specs.declared.Meant.{Meant}
 use Rattle.names.specs.declared.Meant.the-variants.{Declared, Given, Nothing}
@@ -45,12 +47,26 @@ notedIf false least s n = least
 
 -- ---- rows: kind, symbol, scope, type
 
+-- row n; zeros behind the last one
+unfoldable pub rowOf : List ℕ → Row
+rowOf [] = record { kind = 0; symbol = 0; scope = 0; sort = 0 }
+rowOf (k ∷ []) = record { kind = 0; symbol = 0; scope = 0; sort = 0 }
+rowOf (k ∷ s ∷ []) = record { kind = 0; symbol = 0; scope = 0; sort = 0 }
+rowOf (k ∷ s ∷ q ∷ []) = record { kind = 0; symbol = 0; scope = 0; sort = 0 }
+rowOf (k ∷ s ∷ q ∷ t ∷ ws) = record { kind = k; symbol = s; scope = q; sort = t }
+
+unfoldable pub rowIn : List ℕ → ℕ → Row
+rowIn rows n = rowOf (drop (4 * n) rows)
+
 -- the identity of a symbol: the same for the same letters
 unfoldable pub identityIn : List ℕ → ℕ → ℕ
 identityIn ids s = getD ids s 0
 
 unfoldable pub sought : List ℕ → Sought → ℕ → ℕ → ℕ → Bool
 sought ids w k s q = leb (w .low) k && (leb k (w .high) && (eqb q (w .scope) && eqb (identityIn ids s) (w .id)))
+
+abbrev pub soughtRow : List ℕ → Sought → Row → Bool
+soughtRow ids w r = sought ids w (r .kind) (r .symbol) (r .scope)
 
 -- the number of the first row looked for, or how many there are
 unfoldable pub findRow : List ℕ → Sought → List ℕ → ℕ
@@ -67,12 +83,25 @@ hasRow ids w (k ∷ s ∷ []) = false
 hasRow ids w (k ∷ s ∷ q ∷ []) = false
 hasRow ids w (k ∷ s ∷ q ∷ t ∷ ws) = sought ids w k s q || hasRow ids w ws
 
--- declarations and formals of a scope; names of its value part or specifications
+-- declarations and formals of a scope with an identity
 abbrev pub declaredIn : ℕ → ℕ → Sought
 declaredIn q x = record { low = n-variable; high = n-formal; scope = q; id = x }
 
-abbrev pub markedIn : ℕ → ℕ → ℕ → Sought
-markedIn k q x = record { low = k; high = k; scope = q; id = x }
+-- what the first row looked for says of its type and of how it is called; where there is none, as if all were said
+unfoldable pub saidIn : List ℕ → Sought → List ℕ → ℕ
+saidIn ids w [] = 1
+saidIn ids w (k ∷ []) = 1
+saidIn ids w (k ∷ s ∷ []) = 1
+saidIn ids w (k ∷ s ∷ q ∷ []) = 1
+saidIn ids w (k ∷ s ∷ q ∷ t ∷ ws) = cond (sought ids w k s q) t (saidIn ids w ws)
+
+-- every row looked for says n
+unfoldable pub saying : List ℕ → Sought → ℕ → List ℕ → List ℕ
+saying ids w n [] = []
+saying ids w n (k ∷ []) = k ∷ []
+saying ids w n (k ∷ s ∷ []) = k ∷ s ∷ []
+saying ids w n (k ∷ s ∷ q ∷ []) = k ∷ s ∷ q ∷ []
+saying ids w n (k ∷ s ∷ q ∷ t ∷ ws) = k ∷ s ∷ q ∷ cond (sought ids w k s q) n t ∷ saying ids w n ws
 
 -- ---- open scopes, innermost first, numbered from 1 as they are opened
 
@@ -92,7 +121,6 @@ outward (q ∷ g) = g
 
 pub record Known : Type 0 where
   pub rows : List ℕ
-  pub marks : List ℕ
   pub around : List ℕ
   pub scopes : ℕ
   pub sort : ℕ
@@ -100,36 +128,35 @@ pub record Known : Type 0 where
   pub least : ℕ
 
 abbrev pub unknown : Known
-unknown = record { rows = []; marks = []; around = []; scopes = 0; sort = 0; heading = 0; least = noFault }
+unknown = record { rows = []; around = []; scopes = 0; sort = 0; heading = 0; least = noFault }
 
 unfoldable pub entered : Known → Known
 entered st =
-    record { rows = st .rows; marks = st .marks; around = (st .scopes + 1) ∷ st .around; scopes = st .scopes + 1; sort = st .sort; heading = st .heading; least = st .least }
+    record { rows = st .rows; around = (st .scopes + 1) ∷ st .around; scopes = st .scopes + 1; sort = st .sort; heading = st .heading; least = st .least }
 
 unfoldable pub left : Known → Known
 left st =
-    record { rows = st .rows; marks = st .marks; around = outward (st .around); scopes = st .scopes; sort = st .sort; heading = st .heading; least = st .least }
+    record { rows = st .rows; around = outward (st .around); scopes = st .scopes; sort = st .sort; heading = st .heading; least = st .least }
 
 unfoldable pub typed : ℕ → Known → Known
 typed t st =
-    record { rows = st .rows; marks = st .marks; around = st .around; scopes = st .scopes; sort = t; heading = st .heading; least = st .least }
+    record { rows = st .rows; around = st .around; scopes = st .scopes; sort = t; heading = st .heading; least = st .least }
 
 unfoldable pub headed : ℕ → Known → Known
 headed s st =
-    record { rows = st .rows; marks = st .marks; around = st .around; scopes = st .scopes; sort = st .sort; heading = s; least = st .least }
+    record { rows = st .rows; around = st .around; scopes = st .scopes; sort = st .sort; heading = s; least = st .least }
 
 -- a fault at a symbol where a test says so
 unfoldable pub noted : Bool → ℕ → ℕ → Known → Known
 noted b s n st =
-    record { rows = st .rows; marks = st .marks; around = st .around; scopes = st .scopes; sort = st .sort; heading = st .heading; least = notedIf b (st .least) s n }
+    record { rows = st .rows; around = st .around; scopes = st .scopes; sort = st .sort; heading = st .heading; least = notedIf b (st .least) s n }
 
 unfoldable pub withRow : ℕ → ℕ → ℕ → Known → Known
 withRow k s t st =
-    record { rows = st .rows ++ (k ∷ s ∷ hereIn (st .around) ∷ t ∷ []); marks = st .marks; around = st .around; scopes = st .scopes; sort = st .sort; heading = st .heading; least = st .least }
+    record { rows = st .rows ++ (k ∷ s ∷ hereIn (st .around) ∷ t ∷ []); around = st .around; scopes = st .scopes; sort = st .sort; heading = st .heading; least = st .least }
 
-unfoldable pub withMark : ℕ → ℕ → Known → Known
-withMark k s st =
-    record { rows = st .rows; marks = st .marks ++ (k ∷ s ∷ hereIn (st .around) ∷ st .sort ∷ []); around = st .around; scopes = st .scopes; sort = st .sort; heading = st .heading; least = st .least }
+unfoldable pub withRows : List ℕ → Known → Known
+withRows rows st = record { rows = rows; around = st .around; scopes = st .scopes; sort = st .sort; heading = st .heading; least = st .least }
 
 -- 7 where the scope has the name already
 unfoldable pub declared : List ℕ → ℕ → ℕ → ℕ → Known → Known
@@ -138,30 +165,45 @@ declared ids k s t st = withRow k s t (noted (hasRow ids (declaredIn (hereIn (st
 unfoldable pub procedured : List ℕ → ℕ → Known → Known
 procedured ids s st = entered (headed s (declared ids n-procedure s (st .sort) st))
 
--- 7 also where a formal is named as its procedure
+-- 7 also where a formal is named as its procedure. It has no type yet, and is called by name until the value part says other
 unfoldable pub formalled : List ℕ → ℕ → Known → Known
-formalled ids s st = noted (eqb (identityIn ids s) (identityIn ids (st .heading))) s twice (declared ids n-formal s 0 st)
+formalled ids s st = noted (eqb (identityIn ids s) (identityIn ids (st .heading))) s twice (declared ids n-formal s (packed 0 1) st)
 
--- 9 where a name is no formal, or stands there again
-unfoldable pub marked : List ℕ → ℕ → ℕ → Known → Known
-marked ids k s st =
-    let q = hereIn (st .around) in
-    let x = identityIn ids s in
-    withMark k s (noted (not (hasRow ids (declaredIn q x) (st .rows)) || hasRow ids (markedIn k q x) (st .marks)) s heading st)
+-- a name of the value part or of a specification: 9 where its rows w have it said already, or there are none; else they say n
+unfoldable pub marked : List ℕ → Sought → Bool → ℕ → ℕ → Known → Known
+marked ids w again n s st = cond again (noted true s heading st) (withRows (saying ids w n (st .rows)) st)
 
--- a formal of the scope q is missing in the value part or in the specifications
-unfoldable pub completeIn : List ℕ → ℕ → ℕ → List ℕ → Bool
-completeIn ids q s marks = hasRow ids (markedIn n-value q (identityIn ids s)) marks && hasRow ids (markedIn n-specified q (identityIn ids s)) marks
+-- the rows of a name in the innermost scope
+abbrev pub rowsHere : List ℕ → ℕ → Known → Sought
+rowsHere ids s st = declaredIn (hereIn (st .around)) (identityIn ids s)
 
-unfoldable pub missingIn : List ℕ → ℕ → List ℕ → List ℕ → Bool
-missingIn ids q marks [] = false
-missingIn ids q marks (k ∷ []) = false
-missingIn ids q marks (k ∷ s ∷ []) = false
-missingIn ids q marks (k ∷ s ∷ r ∷ []) = false
-missingIn ids q marks (k ∷ s ∷ r ∷ t ∷ ws) = (eqb r q && not (completeIn ids q s marks)) || missingIn ids q marks ws
+-- called by value
+unfoldable pub valued : List ℕ → ℕ → Known → Known
+valued ids s st =
+    let w = rowsHere ids s st in
+    let t = saidIn ids w (st .rows) in
+    marked ids w (eqb (modeIn t) 0) (packed (typeIn t) 0) s st
 
-unfoldable pub bodied : List ℕ → ℕ → Known → Known
-bodied ids s st = noted (missingIn ids (hereIn (st .around)) (st .marks) (st .rows)) s heading st
+-- of the type read last
+unfoldable pub specifiedAs : List ℕ → ℕ → Known → Known
+specifiedAs ids s st =
+    let w = rowsHere ids s st in
+    let t = saidIn ids w (st .rows) in
+    marked ids w (not (eqb (typeIn t) 0)) (packed (typeIn (st .sort)) (modeIn t)) s st
+
+-- a row that has no type, or is called by name; and whether the scope q has one
+unfoldable pub lacking : ℕ → Bool
+lacking t = not (eqb (modeIn t) 0) || eqb (typeIn t) 0
+
+unfoldable pub missingIn : ℕ → List ℕ → Bool
+missingIn q [] = false
+missingIn q (k ∷ []) = false
+missingIn q (k ∷ s ∷ []) = false
+missingIn q (k ∷ s ∷ r ∷ []) = false
+missingIn q (k ∷ s ∷ r ∷ t ∷ ws) = (eqb r q && lacking t) || missingIn q ws
+
+unfoldable pub bodied : ℕ → Known → Known
+bodied s st = noted (missingIn (hereIn (st .around)) (st .rows)) s heading st
 
 -- what a node adds
 unfoldable pub outlineNode : List ℕ → ℕ → ℕ → ℕ → ℕ → Known → Known
@@ -172,9 +214,9 @@ outlineNode ids k s a b st =
     (cond (eqb k n-variable) (declared ids n-variable s (st .sort) st)
     (cond (eqb k n-procedure) (procedured ids s st)
     (cond (eqb k n-formal) (formalled ids s st)
-    (cond (eqb k n-value) (marked ids n-value s st)
-    (cond (eqb k n-specified) (marked ids n-specified s st)
-    (cond (eqb k n-body) (bodied ids s st)
+    (cond (eqb k n-value) (valued ids s st)
+    (cond (eqb k n-specified) (specifiedAs ids s st)
+    (cond (eqb k n-body) (bodied s st)
     (cond (eqb k n-procedure-end) (left st) st)))))))))
 
 unfoldable pub outlineOf : List ℕ → List ℕ → Known
@@ -195,14 +237,21 @@ meantIn ids rows [] x = outsideOf x
 meantIn ids rows (q ∷ g) x =
     cond (hasRow ids (declaredIn q x) rows) (Declared (record { number = findRow ids (declaredIn q x) rows })) (meantIn ids rows g x)
 
--- a meaning as it is kept
+-- a meaning as one number: a declaration's, behind all of them the environment's four, behind those nothing; a number too large for its part is kept as
+-- nothing. proofs/UseLaws has that it reads back
+abbrev pub givenFrom : ℕ
+givenFrom = 8192
+
+abbrev pub noMeaning : ℕ
+noMeaning = 8196
+
 unfoldable pub meantNumber : Meant → ℕ
-meantNumber (Declared d) = d .number
-meantNumber (Given e) = 8192 + e .number
-meantNumber Nothing = 8196
+meantNumber (Declared d) = cond (ltb (d .number) givenFrom) (d .number) noMeaning
+meantNumber (Given e) = cond (ltb (e .number) 4) (givenFrom + e .number) noMeaning
+meantNumber Nothing = noMeaning
 
 unfoldable pub meantOf : ℕ → Meant
-meantOf w = cond (ltb w 8192) (Declared (record { number = w })) (cond (ltb w 8196) (Given (record { number = w - 8192 })) Nothing)
+meantOf w = cond (ltb w givenFrom) (Declared (record { number = w })) (cond (ltb w noMeaning) (Given (record { number = w - givenFrom })) Nothing)
 
 abbrev pub isNothing : Meant → Bool
 isNothing (Declared d) = false

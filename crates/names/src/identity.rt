@@ -11,19 +11,19 @@ ghost use Rattle.symbols.specs.Names.{lettersAt};
 ghost use Rattle.names.specs.Identity.{givenOf, StandsFor, Standing, Identified};
 
 // The environment's number of the name at a place, or 4.
-fn given(source: &[u8], at: usize) -> u16
-    ensures { λ r. ⌜ r ≡ givenOf (lettersAt (now (source .entry)) at) ⌝ }
+fn given(source: &[u8], place: Place) -> u16
+    ensures { λ r. ⌜ r ≡ givenOf (lettersAt (now (source .entry)) (place .at)) ⌝ }
 {
-    if spells(source, Place { at }, b"iabs") {
+    if spells(source, place, b"iabs") {
         return Environment::IABS.number;
     }
-    if spells(source, Place { at }, b"maxint") {
+    if spells(source, place, b"maxint") {
         return Environment::MAXINT.number;
     }
-    if spells(source, Place { at }, b"ininteger") {
+    if spells(source, place, b"ininteger") {
         return Environment::ININTEGER.number;
     }
-    if spells(source, Place { at }, b"outinteger") {
+    if spells(source, place, b"outinteger") {
         return Environment::OUTINTEGER.number;
     }
     4
@@ -34,7 +34,7 @@ fn identity(source: &[u8], places: &[usize; 2048], ids: &[u16], i: usize) -> u16
     requires { ⌜ (i < 2048) × (length (now ids) ≡ 2048) × Standing (now source) (now places) (now ids) i ⌝ }
     ensures { λ r. ⌜ StandsFor (now (source .entry)) (now (places .entry)) i r ⌝ }
 {
-    let g = given(source, places[i]);
+    let g = given(source, Place { at: places[i] });
     if g < 4 {
         return OUTSIDE + g;
     }

@@ -3,11 +3,26 @@ use answers::Declaration;
 use answers::Environment;
 
 pub mod faults; // the least fault
-pub mod identity; // when two symbols are the same name
-pub mod rows; // rows of four words
-pub mod scopes; // the scopes that are open
-pub mod outline; // declarations and formals; 7 and 9
-pub mod uses; // what each use means; 8
+pub mod meanings; // what a name means as one number
+mod identity; // when two symbols are the same name
+mod modes; // the last word of a row
+mod rows; // rows of four words
+mod scopes; // the scopes that are open
+mod outline; // declarations and formals; 7 and 9
+mod uses; // what each use means; 8
+pub mod passes; // the passes, for any words
+
+pub use modes::mode;
+pub use modes::sort;
+pub use rows::row as row_at;
+
+// A row: of a declaration or formal its kind, its name's symbol, the number of its scope, and its type with how a formal is called.
+pub struct Row {
+    pub kind: u16,
+    pub symbol: u16,
+    pub scope: u16,
+    pub sort: u16,
+}
 
 // What is looked for among rows: kinds from low to high, in a scope, with an identity.
 pub struct Sought {
@@ -30,14 +45,19 @@ pub struct Open {
     pub scopes: u16,
 }
 
-// What is known of the declarations behind some nodes: how many declarations and formals there are, and names of value
-// parts and specifications; the open scopes; the type read last; the procedure whose heading was read last; the least fault.
+// What is known of the declarations behind some nodes: how many declarations and formals there are; the open scopes; the
+// type read last; the procedure whose heading was read last; the least fault.
 pub struct Declaring {
     pub rows: usize,
-    pub marks: usize,
     pub around: Open,
     pub sort: u16,
     pub heading: u16,
+    pub least: usize,
+}
+
+// What a pass left: how many rows or uses, and the least fault.
+pub struct Passed {
+    pub count: usize,
     pub least: usize,
 }
 

@@ -1,25 +1,43 @@
 // Declarations and formals in source order, and the faults 7 and 9.
 use crate::Declaring;
 use crate::Open;
+use crate::Row;
 use crate::Sought;
 use crate::faults;
-use crate::rows::has;
+use crate::modes;
 use crate::rows::has_first;
 use crate::rows::identity_of;
 use crate::rows::put;
+use crate::rows::row;
+use crate::rows::say;
+use crate::rows::says_first;
 use crate::scopes::enter;
 use crate::scopes::here;
 use crate::scopes::leave;
 use answers::Answer;
+use answers::Declaration;
 use grammar::nodes;
 ghost use mathlib.Core.Path.{_≡_};
-ghost use mathlib.Core.Bool.{not, _&&_, _||_};
+ghost use mathlib.Core.Bool.{_&&_};
 ghost use mathlib.Core.List.{List};
-ghost use Prim.Native.Nat.{ℕ, _+_, _*_, _≤_};
+ghost use Prim.Native.Nat.{ℕ, _+_, _*_, _≤_, _<_};
 ghost use lib.Dec.{eqb};
 ghost use lib.ListN.{length, take};
-ghost use Rattle.names.specs.Rows.{identityIn, hasRow, declaredIn, markedIn, declared, procedured, formalled, marked, completeIn, missingIn, bodied, outlineNode, outlineOf};
-ghost use Rattle.names.specs.Model.{seeOutline, OutlineWithin};
+ghost use Rattle.names.specs.Rows.{rowIn, identityIn, declaredIn, hereIn, declared, procedured, formalled, marked, valued, specifiedAs, lacking, missingIn, bodied, outlineNode, outlineOf};
+ghost use Rattle.names.specs.Model.{seeOpen, seeOutline, OutlineWithin};
+
+// The rows of a name in the innermost scope.
+fn rows_here(o: Declaring, symbol: u16, ids: &[u16; 2048], stack: &[u16; 8192]) -> Sought
+    requires { ⌜ OutlineWithin o 8192 ⌝ }
+    ensures { λ r. ⌜ r ≡ declaredIn (hereIn (seeOpen (o .around) (now (stack .entry)))) (identityIn (now (ids .entry)) symbol) ⌝ }
+{
+    Sought {
+        low: nodes::VARIABLE,
+        high: nodes::FORMAL,
+        scope: here(o.around, stack),
+        id: identity_of(ids, symbol),
+    }
+}
 
 // A name is declared: 7 where its scope has it already.
 fn declare(
@@ -32,21 +50,24 @@ fn declare(
     stack: &[u16; 8192],
 ) -> Declaring
     requires { ⌜ OutlineWithin o 8191 ⌝ }
-    ensures { λ r. ⌜ ((m : List ℕ) → seeOutline r (now (rows .exit)) m (now (stack .entry)) ≡ declared (now (ids .entry)) kind symbol sort (seeOutline o (now (rows .entry)) m (now (stack .entry)))) ⌝ }
+    ensures { λ r. ⌜ seeOutline r (now (rows .exit)) (now (stack .entry)) ≡ declared (now (ids .entry)) kind symbol sort (seeOutline o (now (rows .entry)) (now (stack .entry))) ⌝ }
     ensures { λ r. ⌜ ((i : ℕ) → OutlineWithin o i → OutlineWithin r (i + 1)) ⌝ }
     ensures { λ r. ⌜ r .around ≡ o .around ⌝ }
 {
-    let scope = here(o.around, stack);
-    let id = identity_of(ids, symbol);
-    let want = Sought {
-        low: nodes::VARIABLE,
-        high: nodes::FORMAL,
-        scope,
-        id,
-    };
+    let want = rows_here(o, symbol, ids, stack);
     let again = has_first(rows, o.rows, ids, want);
     o.least = faults::noted_if(again, o.least, symbol, Answer::TWICE);
-    put(rows, o.rows, kind, symbol, scope, sort);
+    let scope = want.scope;
+    put(
+        rows,
+        o.rows,
+        Row {
+            kind,
+            symbol,
+            scope,
+            sort,
+        },
+    );
     o.rows += 1;
     o
 }
@@ -60,7 +81,7 @@ fn procedure(
     stack: &mut [u16; 8192],
 ) -> Declaring
     requires { ⌜ OutlineWithin o 8191 ⌝ }
-    ensures { λ r. ⌜ ((m : List ℕ) → seeOutline r (now (rows .exit)) m (now (stack .exit)) ≡ procedured (now (ids .entry)) symbol (seeOutline o (now (rows .entry)) m (now (stack .entry)))) ⌝ }
+    ensures { λ r. ⌜ seeOutline r (now (rows .exit)) (now (stack .exit)) ≡ procedured (now (ids .entry)) symbol (seeOutline o (now (rows .entry)) (now (stack .entry))) ⌝ }
     ensures { λ r. ⌜ ((i : ℕ) → OutlineWithin o i → OutlineWithin r (i + 1)) ⌝ }
 {
     let mut p = declare(o, nodes::PROCEDURE, symbol, o.sort, ids, rows, stack);
@@ -69,7 +90,7 @@ fn procedure(
     p
 }
 
-// A formal: 7 also where it is named as its procedure.
+// A formal: 7 also where it is named as its procedure. It has no type yet, and is called by name until the value part says other.
 fn formal(
     o: Declaring,
     symbol: u16,
@@ -78,110 +99,104 @@ fn formal(
     stack: &[u16; 8192],
 ) -> Declaring
     requires { ⌜ OutlineWithin o 8191 ⌝ }
-    ensures { λ r. ⌜ ((m : List ℕ) → seeOutline r (now (rows .exit)) m (now (stack .entry)) ≡ formalled (now (ids .entry)) symbol (seeOutline o (now (rows .entry)) m (now (stack .entry)))) ⌝ }
+    ensures { λ r. ⌜ seeOutline r (now (rows .exit)) (now (stack .entry)) ≡ formalled (now (ids .entry)) symbol (seeOutline o (now (rows .entry)) (now (stack .entry))) ⌝ }
     ensures { λ r. ⌜ ((i : ℕ) → OutlineWithin o i → OutlineWithin r (i + 1)) ⌝ }
 {
-    let mut p = declare(o, nodes::FORMAL, symbol, 0, ids, rows, stack);
+    let unsaid = modes::word(0, modes::NAME);
+    let mut p = declare(o, nodes::FORMAL, symbol, unsaid, ids, rows, stack);
     let same = identity_of(ids, symbol) == identity_of(ids, o.heading);
     p.least = faults::noted_if(same, p.least, symbol, Answer::TWICE);
     p
 }
 
-// Whether a name is no formal of a scope, or stands already in its value part or specifications.
-fn no_mark(
-    rows: &[u16],
-    n: usize,
-    marks: &[u16],
-    m: usize,
-    ids: &[u16; 2048],
-    kind: u16,
-    symbol: u16,
-    scope: u16,
-) -> bool
-    requires { ⌜ (4 * n ≤ length (now rows)) × (4 * m ≤ length (now marks)) ⌝ }
-    ensures { λ r. ⌜ r ≡ not (hasRow (now (ids .entry)) (declaredIn scope (identityIn (now (ids .entry)) symbol)) (take (4 * n) (now (rows .entry)))) || hasRow (now (ids .entry)) (markedIn kind scope (identityIn (now (ids .entry)) symbol)) (take (4 * m) (now (marks .entry))) ⌝ }
-{
-    let id = identity_of(ids, symbol);
-    let formal = Sought {
-        low: nodes::VARIABLE,
-        high: nodes::FORMAL,
-        scope,
-        id,
-    };
-    let again = Sought {
-        low: kind,
-        high: kind,
-        scope,
-        id,
-    };
-    if !has_first(rows, n, ids, formal) {
-        return true;
-    }
-    has_first(marks, m, ids, again)
-}
-
-// A name of the value part or of a specification: 9 where it is no formal, or stands there again.
+// A name of the value part or of a specification: 9 where a test says so; else the rows that are looked for say a word.
 fn mark(
     mut o: Declaring,
-    kind: u16,
+    again: bool,
+    word: u16,
     symbol: u16,
+    want: Sought,
     ids: &[u16; 2048],
-    rows: &[u16; 32768],
-    marks: &mut [u16; 32768],
-    stack: &[u16; 8192],
+    rows: &mut [u16; 32768],
 ) -> Declaring
-    requires { ⌜ OutlineWithin o 8191 ⌝ }
-    ensures { λ r. ⌜ seeOutline r (now (rows .entry)) (now (marks .exit)) (now (stack .entry)) ≡ marked (now (ids .entry)) kind symbol (seeOutline o (now (rows .entry)) (now (marks .entry)) (now (stack .entry))) ⌝ }
-    ensures { λ r. ⌜ ((i : ℕ) → OutlineWithin o i → OutlineWithin r (i + 1)) ⌝ }
+    requires { ⌜ OutlineWithin o 8192 ⌝ }
+    ensures { λ r. ⌜ ((stack : List ℕ) → seeOutline r (now (rows .exit)) stack ≡ marked (now (ids .entry)) want again word symbol (seeOutline o (now (rows .entry)) stack)) ⌝ }
+    ensures { λ r. ⌜ (r .rows ≡ o .rows) × (r .around ≡ o .around) ⌝ }
 {
-    let scope = here(o.around, stack);
-    let wrong = no_mark(rows, o.rows, marks, o.marks, ids, kind, symbol, scope);
-    o.least = faults::noted_if(wrong, o.least, symbol, Answer::HEADING);
-    put(marks, o.marks, kind, symbol, scope, o.sort);
-    o.marks += 1;
+    if again {
+        o.least = faults::noted(o.least, symbol, Answer::HEADING);
+        return o;
+    }
+    say(rows, o.rows, ids, want, word);
     o
 }
 
-// Whether a formal of a scope stands in the value part and in a specification.
-fn complete(marks: &[u16], ids: &[u16; 2048], scope: u16, symbol: u16) -> bool
-    ensures { λ r. ⌜ r ≡ completeIn (now (ids .entry)) scope symbol (now (marks .entry)) ⌝ }
+// A name of the value part: 9 where it is no formal, or stands there again.
+fn value(
+    o: Declaring,
+    symbol: u16,
+    ids: &[u16; 2048],
+    rows: &mut [u16; 32768],
+    stack: &[u16; 8192],
+) -> Declaring
+    requires { ⌜ OutlineWithin o 8192 ⌝ }
+    ensures { λ r. ⌜ seeOutline r (now (rows .exit)) (now (stack .entry)) ≡ valued (now (ids .entry)) symbol (seeOutline o (now (rows .entry)) (now (stack .entry))) ⌝ }
+    ensures { λ r. ⌜ (r .rows ≡ o .rows) × (r .around ≡ o .around) ⌝ }
 {
-    let id = identity_of(ids, symbol);
-    let value = Sought {
-        low: nodes::VALUE,
-        high: nodes::VALUE,
-        scope,
-        id,
-    };
-    let specified = Sought {
-        low: nodes::SPECIFIED,
-        high: nodes::SPECIFIED,
-        scope,
-        id,
-    };
-    if !has(marks, ids, value) {
-        return false;
-    }
-    has(marks, ids, specified)
+    let want = rows_here(o, symbol, ids, stack);
+    let said = says_first(rows, o.rows, ids, want);
+    let again = modes::mode(said) == modes::VALUE;
+    let word = modes::word(modes::sort(said), modes::VALUE);
+    mark(o, again, word, symbol, want, ids, rows)
 }
 
-// Whether a row is a formal of the scope and missing there.
-fn lacks(marks: &[u16], ids: &[u16; 2048], scope: u16, symbol: u16, at: u16) -> bool
-    ensures { λ r. ⌜ r ≡ eqb at scope && not (completeIn (now (ids .entry)) scope symbol (now (marks .entry))) ⌝ }
+// A name in a specification: 9 where it is no formal, or has a type already.
+fn specify(
+    o: Declaring,
+    symbol: u16,
+    ids: &[u16; 2048],
+    rows: &mut [u16; 32768],
+    stack: &[u16; 8192],
+) -> Declaring
+    requires { ⌜ OutlineWithin o 8192 ⌝ }
+    ensures { λ r. ⌜ seeOutline r (now (rows .exit)) (now (stack .entry)) ≡ specifiedAs (now (ids .entry)) symbol (seeOutline o (now (rows .entry)) (now (stack .entry))) ⌝ }
+    ensures { λ r. ⌜ (r .rows ≡ o .rows) × (r .around ≡ o .around) ⌝ }
 {
-    if at != scope {
-        return false;
-    }
-    !complete(marks, ids, scope, symbol)
+    let want = rows_here(o, symbol, ids, stack);
+    let said = says_first(rows, o.rows, ids, want);
+    let again = modes::sort(said) != 0;
+    let word = modes::word(modes::sort(o.sort), modes::mode(said));
+    mark(o, again, word, symbol, want, ids, rows)
 }
 
-// Whether a formal of a scope is missing there.
-fn missing(rows: &[u16], marks: &[u16], ids: &[u16; 2048], scope: u16) -> bool
-    ensures { λ r. ⌜ r ≡ missingIn (now (ids .entry)) scope (now (marks .entry)) (now (rows .entry)) ⌝ }
+// Whether a row says no type, or that it is called by name.
+fn lacks(word: u16) -> bool
+    ensures { λ r. ⌜ r ≡ lacking word ⌝ }
+{
+    if modes::mode(word) != modes::VALUE {
+        return true;
+    }
+    modes::sort(word) == 0
+}
+
+// Whether row d is one of a scope, and does.
+fn is_missing(rows: &[u16], scope: u16, d: Declaration) -> bool
+    ensures { λ r. ⌜ r ≡ eqb (rowIn (now (rows .entry)) (d .number) .scope) scope && lacking (rowIn (now (rows .entry)) (d .number) .sort) ⌝ }
+{
+    let r = row(rows, d);
+    if r.scope != scope {
+        return false;
+    }
+    lacks(r.sort)
+}
+
+// Whether a formal of a scope is missing in the value part or in the specifications.
+fn missing(rows: &[u16], scope: u16) -> bool
+    ensures { λ r. ⌜ r ≡ missingIn scope (now (rows .entry)) ⌝ }
 {
     let mut j = 0;
-    while 4 * j + 3 < rows.len() {
-        if lacks(marks, ids, scope, rows[4 * j + 1], rows[4 * j + 2]) {
+    while j < rows.len() / 4 {
+        if is_missing(rows, scope, Declaration { number: j }) {
             return true;
         }
         j += 1;
@@ -189,38 +204,23 @@ fn missing(rows: &[u16], marks: &[u16], ids: &[u16; 2048], scope: u16) -> bool
     false
 }
 
-// The same of the first rows.
-fn missing_first(
-    rows: &[u16],
-    n: usize,
-    marks: &[u16],
-    m: usize,
-    ids: &[u16; 2048],
-    scope: u16,
-) -> bool
-    requires { ⌜ (4 * n ≤ length (now rows)) × (4 * m ≤ length (now marks)) ⌝ }
-    ensures { λ r. ⌜ r ≡ missingIn (now (ids .entry)) scope (take (4 * m) (now (marks .entry))) (take (4 * n) (now (rows .entry))) ⌝ }
+// The same of the first n rows.
+fn missing_first(rows: &[u16], n: usize, scope: u16) -> bool
+    requires { ⌜ 4 * n ≤ length (now rows) ⌝ }
+    ensures { λ r. ⌜ r ≡ missingIn scope (take (4 * n) (now (rows .entry))) ⌝ }
 {
     let end = 4 * n;
-    let last = 4 * m;
-    missing(&rows[..end], &marks[..last], ids, scope)
+    missing(&rows[..end], scope)
 }
 
 // The end of a heading: 9 at the procedure's name where a formal is missing.
-fn body(
-    mut o: Declaring,
-    symbol: u16,
-    ids: &[u16; 2048],
-    rows: &[u16; 32768],
-    marks: &[u16; 32768],
-    stack: &[u16; 8192],
-) -> Declaring
-    requires { ⌜ OutlineWithin o 8191 ⌝ }
-    ensures { λ r. ⌜ seeOutline r (now (rows .entry)) (now (marks .entry)) (now (stack .entry)) ≡ bodied (now (ids .entry)) symbol (seeOutline o (now (rows .entry)) (now (marks .entry)) (now (stack .entry))) ⌝ }
-    ensures { λ r. ⌜ ((i : ℕ) → OutlineWithin o i → OutlineWithin r (i + 1)) ⌝ }
+fn body(mut o: Declaring, symbol: u16, rows: &[u16; 32768], stack: &[u16; 8192]) -> Declaring
+    requires { ⌜ OutlineWithin o 8192 ⌝ }
+    ensures { λ r. ⌜ seeOutline r (now (rows .entry)) (now (stack .entry)) ≡ bodied symbol (seeOutline o (now (rows .entry)) (now (stack .entry))) ⌝ }
+    ensures { λ r. ⌜ (r .rows ≡ o .rows) × (r .around ≡ o .around) ⌝ }
 {
     let scope = here(o.around, stack);
-    let wrong = missing_first(rows, o.rows, marks, o.marks, ids, scope);
+    let wrong = missing_first(rows, o.rows, scope);
     o.least = faults::noted_if(wrong, o.least, symbol, Answer::HEADING);
     o
 }
@@ -233,11 +233,10 @@ fn node(
     one: u16,
     ids: &[u16; 2048],
     rows: &mut [u16; 32768],
-    marks: &mut [u16; 32768],
     stack: &mut [u16; 8192],
 ) -> Declaring
     requires { ⌜ OutlineWithin o 8191 ⌝ }
-    ensures { λ r. ⌜ ((b : ℕ) → seeOutline r (now (rows .exit)) (now (marks .exit)) (now (stack .exit)) ≡ outlineNode (now (ids .entry)) kind symbol one b (seeOutline o (now (rows .entry)) (now (marks .entry)) (now (stack .entry)))) ⌝ }
+    ensures { λ r. ⌜ ((b : ℕ) → seeOutline r (now (rows .exit)) (now (stack .exit)) ≡ outlineNode (now (ids .entry)) kind symbol one b (seeOutline o (now (rows .entry)) (now (stack .entry)))) ⌝ }
     ensures { λ r. ⌜ ((i : ℕ) → OutlineWithin o i → OutlineWithin r (i + 1)) ⌝ }
 {
     match kind {
@@ -256,8 +255,9 @@ fn node(
         nodes::VARIABLE => declare(o, kind, symbol, o.sort, ids, rows, stack),
         nodes::PROCEDURE => procedure(o, symbol, ids, rows, stack),
         nodes::FORMAL => formal(o, symbol, ids, rows, stack),
-        nodes::VALUE | nodes::SPECIFIED => mark(o, kind, symbol, ids, rows, marks, stack),
-        nodes::BODY => body(o, symbol, ids, rows, marks, stack),
+        nodes::VALUE => value(o, symbol, ids, rows, stack),
+        nodes::SPECIFIED => specify(o, symbol, ids, rows, stack),
+        nodes::BODY => body(o, symbol, rows, stack),
         _ => o,
     }
 }
@@ -267,16 +267,14 @@ fn walk(
     nodes: &[u16],
     ids: &[u16; 2048],
     rows: &mut [u16; 32768],
-    marks: &mut [u16; 32768],
     stack: &mut [u16; 8192],
 ) -> Declaring
     requires { ⌜ length (now nodes) ≤ 32768 ⌝ }
-    ensures { λ r. ⌜ seeOutline r (now (rows .exit)) (now (marks .exit)) (now (stack .exit)) ≡ outlineOf (now (ids .entry)) (now (nodes .entry)) ⌝ }
+    ensures { λ r. ⌜ seeOutline r (now (rows .exit)) (now (stack .exit)) ≡ outlineOf (now (ids .entry)) (now (nodes .entry)) ⌝ }
     ensures { λ r. ⌜ OutlineWithin r 8192 ⌝ }
 {
     let mut o = Declaring {
         rows: 0,
-        marks: 0,
         around: Open {
             depth: 0,
             scopes: 0,
@@ -288,34 +286,19 @@ fn walk(
     let mut i = 0;
     while 4 * i + 3 < nodes.len() {
         let at = 4 * i;
-        o = node(
-            o,
-            nodes[at],
-            nodes[at + 1],
-            nodes[at + 2],
-            ids,
-            rows,
-            marks,
-            stack,
-        );
+        o = node(o, nodes[at], nodes[at + 1], nodes[at + 2], ids, rows, stack);
         i += 1;
     }
     o
 }
 
 // The declarations of a program, of which the nodes are lent.
-pub fn outline(
-    nodes: &[u16],
-    ids: &[u16; 2048],
-    rows: &mut [u16; 32768],
-    marks: &mut [u16; 32768],
-) -> Declaring
+pub fn outline(nodes: &[u16], ids: &[u16; 2048], rows: &mut [u16; 32768]) -> Declaring
     requires { ⌜ length (now nodes) ≤ 32768 ⌝ }
     ensures { λ r. ⌜ take (4 * r .rows) (now (rows .exit)) ≡ outlineOf (now (ids .entry)) (now (nodes .entry)) .rows ⌝ }
-    ensures { λ r. ⌜ take (4 * r .marks) (now (marks .exit)) ≡ outlineOf (now (ids .entry)) (now (nodes .entry)) .marks ⌝ }
     ensures { λ r. ⌜ r .least ≡ outlineOf (now (ids .entry)) (now (nodes .entry)) .least ⌝ }
     ensures { λ r. ⌜ OutlineWithin r 8192 ⌝ }
 {
     let mut stack = [0u16; 8192];
-    walk(nodes, ids, rows, marks, &mut stack)
+    walk(nodes, ids, rows, &mut stack)
 }

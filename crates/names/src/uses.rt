@@ -4,20 +4,20 @@ use crate::Open;
 use crate::Sought;
 use crate::Using;
 use crate::faults;
+use crate::meanings::number;
 use crate::rows::OUTSIDE;
 use crate::rows::find;
 use crate::rows::identity_of;
 use crate::scopes::enter;
 use crate::scopes::leave;
 use answers::Answer;
-use answers::Declaration;
 use answers::Environment;
 use grammar::nodes;
 ghost use mathlib.Core.Path.{_≡_};
 ghost use mathlib.Core.List.{[], _∷_, _++_};
 ghost use Prim.Native.Nat.{ℕ, _+_, _≤_, _<_};
 ghost use lib.ListN.{length, take};
-ghost use Rattle.names.specs.Rows.{opensOf, outsideOf, meantIn, meantNumber, meantOf, used as usedIn, useNode, usesOf};
+ghost use Rattle.names.specs.Rows.{opensOf, outsideOf, meantIn, used as usedIn, useNode, usesOf};
 ghost use Rattle.names.specs.Model.{seeUses, UsesWithin};
 
 // What a name means that no scope around it declares.
@@ -39,7 +39,6 @@ fn outside(id: u16) -> Meant
 fn meaning(rows: &[u16], ids: &[u16; 2048], depth: usize, stack: &[u16; 8192], id: u16) -> Meant
     requires { ⌜ (length (now rows) ≤ 32768) × (depth ≤ 8192) ⌝ }
     ensures { λ r. ⌜ r ≡ meantIn (now (ids .entry)) (now (rows .entry)) (opensOf depth (now (stack .entry))) id ⌝ }
-    ensures { λ r. ⌜ meantNumber r < 8197 ⌝ }
 {
     let mut d = depth;
     while 0 < d {
@@ -50,41 +49,12 @@ fn meaning(rows: &[u16], ids: &[u16; 2048], depth: usize, stack: &[u16; 8192], i
             scope: stack[d],
             id,
         };
-        let j = find(rows, ids, want);
-        if j < rows.len() / 4 {
-            return Meant::Declared(Declaration { number: j });
+        let d = find(rows, ids, want);
+        if d.number < rows.len() / 4 {
+            return Meant::Declared(d);
         }
     }
     outside(id)
-}
-
-// A meaning as it is kept: a declaration's number, behind all of them the environment's, behind those nothing.
-fn number(m: Meant) -> u16
-    requires { ⌜ meantNumber m < 8197 ⌝ }
-    ensures { λ r. ⌜ r ≡ meantNumber m ⌝ }
-{
-    match m {
-        Meant::Declared(d) => d.number as u16,
-        Meant::Given(e) => 8192 + e.number,
-        Meant::Nothing => 8196,
-    }
-}
-
-// The meaning that is kept so.
-pub fn meant(word: u16) -> Meant
-    ensures { λ r. ⌜ r ≡ meantOf word ⌝ }
-{
-    if word < 8192 {
-        return Meant::Declared(Declaration {
-            number: word as usize,
-        });
-    }
-    if word < 8196 {
-        return Meant::Given(Environment {
-            number: word - 8192,
-        });
-    }
-    Meant::Nothing
 }
 
 // A word is kept behind n others.

@@ -4,7 +4,7 @@ use mathlib.Core.Path.{_≡_, refl, sym, ap, subst, _∙_}
 use mathlib.Core.List.{List, [], _∷_, _++_}
 use mathlib.Core.Option.{Option, none, some}
 use native.Mathlib.Omega.{arith}
-use native.Mathlib.Nat.{zero-add}
+use native.Mathlib.Nat.{zero-add, mod-eq-of-lt}
 use lib.ListN.{length, take, drop, take-append-drop, length-take}
 use Rattle.answers.specs.Numbers.{short}
 use Rattle.answers.specs.Answers.{refusal}
@@ -23,16 +23,21 @@ use Rattle.names.proofs.AllNames.{AllS}
 use Rattle.names.proofs.Weaken.{mapAll}
 use Rattle.names.proofs.NearNames.{near-names, small-names}
 use Rattle.names.proofs.NearNodes.{SymbolsWithin, none as no-node, one, nodes-before-end}
-use Rattle.names.proofs.TreeRows.{marksS}
+use Rattle.types.specs.Types.{typeFault}
 use Rattle.types.specs.Passes.{typedOf}
+use Rattle.symbols.specs.Scan.{scan, valuesOf}
 use Rattle.types.proofs.NearTypes.{near-types, small-types}
 use Rattle.reading.specs.Table.{tableOf}
-use Rattle.reading.specs.Reading.{placeIn, refusedAt, room, cleared, filled, Judged, Reads, too-short}
-use Rattle.reading.specs.Model.{placeOf, Wrote, tableModel, Known, Outlined, Named}
+use Rattle.reading.specs.Reading.{symbols, placeIn, refusedAt, room, cleared, filled, Judged, accepted, Reads, too-short}
+use Rattle.reading.specs.declared.Sizes.{Sizes}
+use Rattle.reading.specs.declared.Found.{Found}
+use Rattle.reading.specs.declared.Found.the-variants.{Program, Refused as Wrong}
+use Rattle.reading.proofs.Places.{place-inside}
+use Rattle.reading.specs.Model.{placeOf, Wrote, tableModel, Known, Outlined, Named, programOf, Typed, right, wrong, Tells, program as told, refused, Declared, Holds}
 use Rattle.reading.proofs.SamePlaces.{SymbolsBelow}
 use Rattle.reading.proofs.TableWords.{table-words}
 use Rattle.reading.proofs.Fits.{table-room, rows-room, nodes-room}
-use Rattle.reading.proofs.Whole.{letters, worth, program, all-good, nodes-are, rows-are, uses-match, worst, at-fault, no-name-fault, mistake, mistaken, accepts}
+use Rattle.reading.proofs.Whole.{letters, worth, program, all-good, nodes-are, rows-are, uses-match, worst, at-fault, no-name-fault, mistake, mistaken, no-type-fault}
 
 -- ---- lists without a fault
 
@@ -126,6 +131,13 @@ module _ {source places nodes ids : List ℕ} {n : ℕ} (known : Known source pl
       let m = some-symbols (known .ready .program .tree) in
       loosely (within (m .0) (m .1)) n (omega (arith, m .1, count-is))
 
+  -- a symbol's place has 16 bits
+  places-agree : (k : ℕ) → k < n → placeOf places k ≡ placeIn source k
+  places-agree k l =
+      let h = known .ready .program .scanned .short in
+      let e = known .ready .places-in .placed k l in
+      mod-eq-of-lt (omega (arith, e, place-inside symbols source k)) ∙ e
+
   module _ (right : least (nameFaults (program known)) ≡ none) where
     -- 10
     pub types-refused : mistake known rows-fit < noFault → Judged source (refusedAt source (faultOf (mistake known rows-fit))) cleared
@@ -136,17 +148,14 @@ module _ {source places nodes ids : List ℕ} {n : ℕ} (known : Known source pl
     table-is =
         ap (λ r. tableModel (placeOf places) r nodes (usesOf ids (outlineOf ids nodes .rows) nodes .uses)) (rows-are known)
         ∙ ap (λ ws. tableModel (placeOf places) (rowsS 0 0 (program known)) ws (usesOf ids (outlineOf ids nodes .rows) nodes .uses)) (nodes-are known)
-        ∙ table-words ids (marksS 0 0 (program known)) (usesOf ids (outlineOf ids nodes .rows) nodes .uses) n (placeOf places) (placeIn source) (known .ready .places-in .placed) (program known) below below-nodes (uses-match known rows-fit) (unmeant-none (program known) right)
+        ∙ table-words (usesOf ids (outlineOf ids nodes .rows) nodes .uses) n (placeOf places) (placeIn source) places-agree (program known) below below-nodes (uses-match known rows-fit) (unmeant-none (program known) right)
 
     pub table-fits : length (tableModel (placeOf places) (outlineOf ids nodes .rows) nodes (usesOf ids (outlineOf ids nodes .rows) nodes .uses)) ≤ 32768
     table-fits = subst (λ w. length w ≤ 32768) (sym table-is) (table-room (worth known) (letters known) (known .ready .program .tree) (placeIn source) few)
 
-    -- 0
-    pub types-right : (mistake known rows-fit < noFault → ⊥) → (new : List ℕ)
-        → Wrote cleared new 0 (tableModel (placeOf places) (outlineOf ids nodes .rows) nodes (usesOf ids (outlineOf ids nodes .rows) nodes .uses)) → Judged source Accepted new
-    types-right l new w =
-        subst (Judged source Accepted) (sym (wrote-filled new _ w ∙ ap filled table-is))
-        (accepts known rows-fit right (near-types n (program known) (omega (arith, known .ready .places-in .few)) within-nodes) (small-types (program known)) l)
+    -- none
+    pub types-none : (mistake known rows-fit < noFault → ⊥) → typeFault (program known) ≡ none
+    types-none l = no-type-fault known rows-fit (near-types n (program known) (omega (arith, known .ready .places-in .few)) within-nodes) (small-types (program known)) l
 
 -- ---- the same in terms of the slices that are lent
 
@@ -167,7 +176,7 @@ unfolding zeros
 length-zeros zero = refl
 length-zeros (suc m) = ap suc (length-zeros m)
 
-module _ {source places nodes ids rows marks : List ℕ} {n : ℕ} (o : Outlined source places nodes ids rows marks n) where
+module _ {source places nodes ids rows : List ℕ} {n : ℕ} (o : Outlined source places nodes ids rows n) where
   pub rows-short : length rows ≤ 32768
   rows-short = subst (λ r. length r ≤ 32768) (sym (o .rowed ∙ rows-are (o .known))) (rows-fit (o .known))
 
@@ -188,23 +197,23 @@ module _ {source places nodes ids rows marks : List ℕ} {n : ℕ} (o : Outlined
       as-judged (e ∙ ap (λ x. refusedAt source (faultOf x)) k) q (names-refused (o .known) (subst (λ x. x < noFault) k l))
 
   -- no name is at fault
-  pub stage-on : (first second fault : ℕ) (uses part : List ℕ) → first ≡ outlineOf ids nodes .least → second ≡ usesOf ids rows nodes .least → fault ≡ min first second
-      → (fault < noFault → ⊥) → uses ≡ part → part ≡ usesOf ids rows nodes .uses → Named source places nodes ids rows marks uses n
-  stage-on first second fault uses part a b m l u v =
+  pub stage-right : (first second fault : ℕ) → first ≡ outlineOf ids nodes .least → second ≡ usesOf ids rows nodes .least → fault ≡ min first second
+      → (fault < noFault → ⊥) → least (nameFaults (program (o .known))) ≡ none
+  stage-right first second fault a b m l =
       let k = worst-here first second fault a b m in
-      record { outlined = o; used = u ∙ v; faultless = names-right (o .known) (λ h. l (subst (λ x. x < noFault) (sym k) h)) }
+      names-right (o .known) (λ h. l (subst (λ x. x < noFault) (sym k) h))
 
-module _ {source places nodes ids rows marks uses : List ℕ} {n : ℕ} (m : Named source places nodes ids rows marks uses n) where
+module _ {source places nodes ids rows uses : List ℕ} {n : ℕ} (m : Named source places nodes ids rows uses n) where
   abbrev all-known : Known source places nodes ids n
   all-known = m .outlined .known
 
   uses-here : uses ≡ usesOf ids (outlineOf ids nodes .rows) nodes .uses
   uses-here = m .used ∙ ap (λ r. usesOf ids r nodes .uses) (m .outlined .rowed)
 
-  mistake-here : (fault : ℕ) → fault ≡ typedOf ids rows marks uses nodes → fault ≡ mistake all-known (rows-fit all-known)
+  mistake-here : (fault : ℕ) → fault ≡ typedOf rows uses nodes → fault ≡ mistake all-known (rows-fit all-known)
   mistake-here fault e =
-      e ∙ ap (λ r. typedOf ids r marks uses nodes) (m .outlined .rowed) ∙ ap (λ k. typedOf ids (outlineOf ids nodes .rows) k uses nodes) (m .outlined .marked)
-      ∙ ap (λ u. typedOf ids (outlineOf ids nodes .rows) (outlineOf ids nodes .marks) u nodes) uses-here
+      e ∙ ap (λ r. typedOf r uses nodes) (m .outlined .rowed)
+      ∙ ap (λ u. typedOf (outlineOf ids nodes .rows) u nodes) uses-here
 
   table-here : tableModel (placeOf places) rows nodes uses ≡ tableModel (placeOf places) (outlineOf ids nodes .rows) nodes (usesOf ids (outlineOf ids nodes .rows) nodes .uses)
   table-here = ap (λ r. tableModel (placeOf places) r nodes uses) (m .outlined .rowed) ∙ ap (tableModel (placeOf places) (outlineOf ids nodes .rows) nodes) uses-here
@@ -217,15 +226,56 @@ module _ {source places nodes ids rows marks uses : List ℕ} {n : ℕ} (m : Nam
   table-enters w q = subst (λ k. length (tableModel (placeOf places) rows nodes uses) ≤ k) (sym (ap length q ∙ length-zeros room)) table-short
 
   -- 10
-  pub last-refused : (fault : ℕ) → fault ≡ typedOf ids rows marks uses nodes → fault < noFault → (v : Verdict) (w : List ℕ)
+  pub last-refused : (fault : ℕ) → fault ≡ typedOf rows uses nodes → fault < noFault → (v : Verdict) (w : List ℕ)
       → v ≡ refusedAt source (faultOf fault) → w ≡ cleared → Judged source v w
   last-refused fault a l v w e q =
       let k = mistake-here fault a in
       as-judged (e ∙ ap (λ x. refusedAt source (faultOf x)) k) q (types-refused all-known (m .faultless) (subst (λ x. x < noFault) k l))
 
+  -- no type is at fault
+  pub last-right : (fault : ℕ) → fault ≡ typedOf rows uses nodes → (fault < noFault → ⊥) → typeFault (programOf m) ≡ none
+  last-right fault a l = types-none all-known (m .faultless) (λ h. l (subst (λ x. x < noFault) (sym (mistake-here fault a)) h))
+
   -- 0
-  pub last-accepted : (fault : ℕ) → fault ≡ typedOf ids rows marks uses nodes → (fault < noFault → ⊥) → (old new : List ℕ) → old ≡ cleared
-      → Wrote old new 0 (tableModel (placeOf places) rows nodes uses) → Judged source Accepted new
-  last-accepted fault a l old new q w =
-      types-right all-known (m .faultless) (λ h. l (subst (λ x. x < noFault) (sym (mistake-here fault a)) h)) new
-      (subst (Wrote cleared new 0) table-here (subst (λ x. Wrote x new 0 (tableModel (placeOf places) rows nodes uses)) q w))
+  pub table-judged : typeFault (programOf m) ≡ none → (old new : List ℕ) → old ≡ cleared → Wrote old new 0 (tableModel (placeOf places) rows nodes uses) → Judged source Accepted new
+  table-judged t old new q w =
+      let w₀ = subst (λ x. Wrote x new 0 (tableModel (placeOf places) rows nodes uses)) q w in
+      subst (Judged source Accepted) (sym (wrote-filled new _ w₀ ∙ ap filled (table-here ∙ table-is all-known (m .faultless))))
+      (accepted (all-known .ready .program) (m .faultless) t)
+
+-- ---- from stage to stage
+
+pub onward : {source : List ℕ} {P Q : Sizes → Type 0} {r : Found} → Tells source P r → ((s : Sizes) → P s → Q s) → Tells source Q r
+onward (told s h) f = told s (f s h)
+onward (refused r j) f = refused r j
+
+pub symbols-first : {source places values nodes rows uses : List ℕ} {n : ℕ} → take n values ≡ valuesOf (scan symbols source .found) → (s : Sizes)
+    → Declared source places nodes rows uses n s → Holds source places values nodes rows uses s
+symbols-first {source} {places} {values} {nodes} {rows} {uses} {n} v s h = record {
+  declared = subst (λ k. Declared source places nodes rows uses k s) (sym (h .resolved .count)) h;
+  valued = ap (λ k. take k values) (h .resolved .count) ∙ v;
+}
+
+-- what was told of a case
+pub told-program : {source : List ℕ} {P : Sizes → Type 0} {r : Found} → Tells source P r → (s : Sizes) → r ≡ Program s → P s
+told-program {source} {P} (told s₀ h) s e = subst P (same e) h
+  where
+    same : {a b : Sizes} → Program a ≡ Program b → a ≡ b
+    same q = cc
+told-program (refused r j) s e = absurd (let z : _≡_ {A = ℕ} 0 1 = cc in omega arith)
+
+pub told-refused : {source : List ℕ} {P : Sizes → Type 0} {f : Found} → Tells source P f → (r : Refusal) → f ≡ Wrong r → Judged source (Refused r) cleared
+told-refused (told s h) r e = absurd (let z : _≡_ {A = ℕ} 0 1 = cc in omega arith)
+told-refused {source} (refused r₀ j) r e = subst (λ x. Judged source (Refused x) cleared) (same e) j
+  where
+    same : {a b : Refusal} → Wrong a ≡ Wrong b → a ≡ b
+    same q = cc
+
+pub typed-right : {source places nodes ids rows uses : List ℕ} {n : ℕ} {m : Named source places nodes ids rows uses n} {v : Verdict} → Typed m v → v ≡ Accepted → typeFault (programOf m) ≡ none
+typed-right (right h) e = h
+typed-right (wrong r j) e = absurd (let z : _≡_ {A = ℕ} 0 1 = cc in omega arith)
+
+pub typed-wrong : {source places nodes ids rows uses : List ℕ} {n : ℕ} {m : Named source places nodes ids rows uses n} {v : Verdict} → Typed m v → (r : Refusal) → v ≡ Refused r
+    → Judged source (Refused r) cleared
+typed-wrong (right h) r e = absurd (let z : _≡_ {A = ℕ} 0 1 = cc in omega arith)
+typed-wrong {source} (wrong r₀ j) r e = subst (λ x. Judged source x cleared) e j

@@ -16,7 +16,7 @@ use Rattle.names.specs.ReadOff.{programOf}
 use Rattle.names.specs.Scopes.{Scope, ofBlock, ofBody, Meaning, declared, given, nothing, meaning}
 use Rattle.names.specs.Uses.{Use, used, usesE, usesEs, usesL, usesS, usesSs, usesD, usesP, joined, Row, rowIn, rowOf, rows}
 use Rattle.names.specs.Nodes.{node, signKind, operatorKind, truth, sortNumber, nodesE, nodesEs, nodesL, nodesLs, nodesN, nodesSp, nodesLeft, nodesCall, nodesS, nodesSs, nodesD, nodesP}
-use Rattle.names.specs.Outline.{sizeS, sizeD, sizeP, rowsN, rowsS, rowsSs, rowsD, rowsP, declarations}
+use Rattle.names.specs.Outline.{sizeS, sizeD, sizeP, formalIn, rowsN, rowsS, rowsSs, rowsD, rowsP, declarations}
 use Rattle.names.specs.Rows.{isUse}
 use Rattle.names.proofs.Bridge.{bridge}
 use Rattle.reading.specs.Table.{fours, useWords, declarationWords, nodeWords, tableOf}
@@ -118,10 +118,10 @@ toldCall g d x (then e es) =
     told (use-of n-call (x .symbol) d 1 (used g x) refl refl)
     (before (told (toldE g (d + 1) e) (told (still n-actual (firstSymbol e) 0 0 refl refl) (toldEs g (d + 1) es))) (still n-call-end (x .symbol) 0 1 refl refl))
 
-toldN : (k q t : ℕ) (xs : List Name) → isDeclared k ≡ true → isUse k ≡ false → Told (rowsN k q t xs) [] (nodesN k xs)
+toldN : (k q : ℕ) (t : Name → ℕ) (xs : List Name) → isDeclared k ≡ true → isUse k ≡ false → Told (rowsN k q t xs) [] (nodesN k xs)
 unfolding rowsN nodesN
 toldN k q t [] e f = none
-toldN k q t (x ∷ xs) e f = told (row k (x .symbol) 0 0 q t e f) (toldN k q t xs e f)
+toldN k q t (x ∷ xs) e f = told (row k (x .symbol) 0 0 q (t x) e f) (toldN k q t xs e f)
 
 -- of the value part and of specifications
 stillN : (k : ℕ) (xs : List Name) → isDeclared k ≡ false → isUse k ≡ false → Told [] [] (nodesN k xs)
@@ -164,14 +164,14 @@ mutual
   toldD : (g : List Scope) (c q d : ℕ) (ds : Declarations) → Told (rowsD c q ds) (usesD g ds) (nodesD d ds)
   toldD g c q d no-more = none
   toldD g c q d (variables t xs ds) =
-      told (still n-type 0 (sortNumber (some t)) 0 refl refl) (told (toldN n-variable q (sortNumber (some t)) xs refl refl) (toldD g c q d ds))
+      told (still n-type 0 (sortNumber (some t)) 0 refl refl) (told (toldN n-variable q (λ x. sortNumber (some t)) xs refl refl) (toldD g c q d ds))
   toldD g c q d (declare p ds) = told (toldP g c q d p) (toldD g (c + sizeP p) q d ds)
 
   toldP : (g : List Scope) (c q d : ℕ) (p : Procedure) → Told (rowsP c q p) (usesP g p) (nodesP d p)
   toldP g c q d (heading t f xs vs ss s) =
       told (still n-type 0 (sortNumber t) 0 refl refl)
       (told (row n-procedure (f .symbol) 0 0 q (sortNumber t) refl refl)
-      (told (toldN n-formal (c + 1) 0 xs refl refl)
+      (told (toldN n-formal (c + 1) (formalIn vs ss) xs refl refl)
       (told (stillN n-value vs refl refl)
       (told (toldSp ss)
       (told (still n-body (f .symbol) 0 0 refl refl)

@@ -12,7 +12,7 @@ use Rattle.names.specs.Program.{Name, Expression, number, logical, name, call, 
 use Rattle.names.specs.Scopes.{same, Thing, variable, formal, Declared, nameOf, specified, variablesIn, Scope, ofBlock, ofBody, inBlock, inBody, declares, Given, environment, Meaning, declared, given, nothing, findIn, findGiven, innermost, meaning}
 use Rattle.names.specs.Uses.{Use, used, usesE, usesEs, usesL, usesS, usesSs, usesD, usesP, joined, rowIn, rowOf, rows}
 use Rattle.names.specs.Nodes.{sortNumber}
-use Rattle.names.specs.Outline.{sizeS, sizeD, sizeP, rowsN, rowsS, rowsSs, rowsD, rowsP}
+use Rattle.names.specs.Outline.{sizeS, sizeD, sizeP, formalIn, rowsN, rowsS, rowsSs, rowsD, rowsP}
 use Rattle.names.proofs.AllNames.{AllE, AllEs, AllLs, AllN, AllS, AllSs, AllD, AllP}
 use Rattle.names.proofs.TreeLaws.{joined-append}
 use Rattle.reading.specs.Table.{useWords, declarationWords, hasNone, nodeWords}
@@ -44,7 +44,7 @@ fours-below no-four = tt
 fours-below (a-four l i) = (l, fours-below i)
 
 module _ (n : ℕ) where
-  foursN : (k q t : ℕ) (xs : List Name) → AllN (Below n) xs → Fours n (rowsN k q t xs)
+  foursN : (k q : ℕ) (t : Name → ℕ) (xs : List Name) → AllN (Below n) xs → Fours n (rowsN k q t xs)
   unfolding rowsN
   foursN k q t [] h = no-four
   foursN k q t (x ∷ xs) h = a-four (h .0) (foursN k q t xs (h .1))
@@ -68,11 +68,11 @@ module _ (n : ℕ) where
 
     foursD : (c q : ℕ) (ds : Declarations) → AllD (Below n) ds → Fours n (rowsD c q ds)
     foursD c q no-more h = no-four
-    foursD c q (variables t xs ds) h = fours-append (foursN n-variable q (sortNumber (some t)) xs (h .0)) (foursD c q ds (h .1))
+    foursD c q (variables t xs ds) h = fours-append (foursN n-variable q (λ x. sortNumber (some t)) xs (h .0)) (foursD c q ds (h .1))
     foursD c q (declare p ds) h = fours-append (foursP c q p (h .0)) (foursD (c + sizeP p) q ds (h .1))
 
     foursP : (c q : ℕ) (p : Procedure) → AllP (Below n) p → Fours n (rowsP c q p)
-    foursP c q (heading t f xs vs ss s) h = a-four (h .0) (fours-append (foursN n-formal (c + 1) 0 xs (h .1)) (foursS (c + 1) (c + 1) s (h .4)))
+    foursP c q (heading t f xs vs ss s) h = a-four (h .0) (fours-append (foursN n-formal (c + 1) (formalIn vs ss) xs (h .1)) (foursS (c + 1) (c + 1) s (h .4)))
 
   pub rows-below : (c q : ℕ) (s : Statement) → AllS (Below n) s → SymbolsBelow n (rowsS c q s)
   rows-below c q s h = fours-below (foursS c q s h)

@@ -12,7 +12,7 @@ use Rattle.answers.specs.Numbers.{types}
 use Rattle.symbols.specs.Names.{lettersAt}
 use Rattle.symbols.specs.Symbols.{kind}
 use Rattle.symbols.specs.Scan.{scan}
-use Rattle.symbols.specs.Steps.{placesOf, valuesOf}
+use Rattle.symbols.specs.Scan.{placesOf, valuesOf}
 use Rattle.grammar.specs.Trees.{yield}
 use Rattle.names.specs.Program.{Statement}
 use Rattle.names.specs.Uses.{Fault, nameFaults, least}

@@ -4,17 +4,17 @@ use mathlib.Core.Path.{_≡_, refl, sym, ap, subst, _∙_}
 use mathlib.Core.List.{List, [], _∷_, _++_}
 use mathlib.Core.Option.{Option, none, some}
 use native.Mathlib.Omega.{arith}
-use native.Mathlib.Decide.{decLt, ℕ-discrete}
-use lib.ListN.{length, getD, take, drop, replicate, length-append, length-map, List·getD-append, List·getD-eq-default}
-use lib.Seq.{take-append-seam, getD-append-add, getD-drop}
+use native.Mathlib.Decide.{ℕ-discrete}
+use lib.ListN.{length, getD, take, drop, length-append, length-map, List·getD-append, List·getD-eq-default}
+use lib.Seq.{take-append-seam}
 use Rattle.answers.specs.Numbers.{grammar, depth}
 use Rattle.answers.specs.Answers.{answer, refusal}
 use Rattle.answers.specs.declared.Answer.{Answer}
 use Rattle.answers.specs.declared.Refusal.{Refusal}
 use Rattle.answers.specs.declared.Verdict.the-variants.{Refused}
-use Rattle.symbols.specs.Symbols.{kind}
+use Rattle.symbols.specs.Symbols.{kind, valueOf}
 use Rattle.symbols.specs.Kinds.{symbolOf}
-use Rattle.symbols.specs.Scan.{Found, Scan, scan, kindsOf, placesOf}
+use Rattle.symbols.specs.Scan.{Found, Scan, scan, kindsOf, placesOf, valuesOf}
 use Rattle.symbols.specs.Steps.{answerOf, over, Filled}
 use Rattle.symbols.specs.declared.Symbol.{Symbol}
 use Rattle.symbols.specs.declared.Symbol.the-variants.{Begin, End, If, Then, Else, For, Do, Step, Until, While, Comment, Integer, Boolean, Procedure, Value, True, False, And, Or, Not, Impl, Equiv, Plus, Minus, Times, Divide, Less, LessEqual, Equal, GreaterEqual, Greater, NotEqual, Comma, Colon, Becomes, Semicolon, Open, Close, Name, Number}
@@ -29,7 +29,7 @@ use Rattle.grammar.specs.declared.Parsed.the-variants.{Read as Program-read, Re
 use Rattle.reading.specs.Reading.{symbols, kindsIn, placeIn, cleared, Judged, unreadable, ungrammatical, too-deep}
 use Rattle.names.specs.Identity.{Identified}
 use Rattle.reading.specs.Model.{Placed, Symbols, Ready, Known}
-use Rattle.reading.proofs.Places.{place-inside, few-symbols}
+use Rattle.reading.proofs.Places.{few-symbols}
 
 -- ---- a stored kind gives itself
 
@@ -120,24 +120,14 @@ pub unread : {source kinds kinds' places places' values values' : List ℕ} {t :
 unread {source} f l r q = unreadable l r (refused-as (scan symbols source) r (sym (f .answers) ∙ q))
 
 -- the symbols stand
-zero-behind : (new old : List ℕ) (k : ℕ) → ((j : ℕ) → getD old j 0 ≡ 0) → length new ≤ k → getD (over new old) k 0 ≡ 0
-zero-behind new old k z l =
-    let e : k ≡ length new + (k - length new) = omega arith in
-    ap (λ j. getD (over new old) j 0) e ∙ getD-append-add new (drop (length new) old) (k - length new) 0 ∙ getD-drop (length new) old (k - length new) 0 ∙ z (length new + (k - length new))
-
 default-free : (l : List ℕ) (k a b : ℕ) → k < length l → getD l k a ≡ getD l k b
 default-free [] k a b h = absurd (omega arith)
 default-free (x ∷ l) zero a b h = refl
 default-free (x ∷ l) (suc k) a b h = default-free l k a b (omega arith)
 
-pub all-zero : (n j : ℕ) → _≡_ {A = ℕ} (getD (replicate n 0) j 0) 0
-all-zero zero j = refl
-all-zero (suc n) zero = refl
-all-zero (suc n) (suc j) = all-zero n j
-
 pub stand : {source kinds kinds' places places' values values' : List ℕ} {t : Told} → Filled symbols source t kinds kinds' places places' values values'
-    → length source ≤ 16384 → ((j : ℕ) → getD places j 0 ≡ 0) → (n : ℕ) → t ≡ Symbols-read n → Symbols source kinds' places' n
-stand {source} {kinds} {kinds'} {places} {places'} f l z n q =
+    → length source ≤ 16384 → (n : ℕ) → t ≡ Symbols-read n → Symbols source kinds' places' n
+stand {source} {kinds} {kinds'} {places} {places'} f l n q =
     let found = scan symbols source .found in
     let a = answered (scan symbols source) n (sym (f .answers) ∙ q) in
     let ks : length (kindsOf found) ≡ n = length-map found (λ f. kind (f .symbol)) ∙ a .1 in
@@ -148,12 +138,17 @@ stand {source} {kinds} {kinds'} {places} {places'} f l z n q =
     record {
       scanned = record { short = l; whole = a .0 };
       kinded = ap (take n) (f .kinded) ∙ ap (λ m. take m (over (kindsOf found) kinds)) (sym ks) ∙ take-append-seam (kindsOf found) (drop (length (kindsOf found)) kinds);
-      places-in = record { count = sym ks; few = few; placed = placed; narrow = λ k. narrow-at (decLt k n) (placed k) ps };
+      places-in = record { count = sym ks; few = few; placed = placed };
     }
-  where
-    narrow-at : {k n : ℕ} → Dec (k < n) → (k < n → getD places' k 0 ≡ placeIn source k) → length (placesOf (scan symbols source .found)) ≡ n → getD places' k 0 < 65536
-    narrow-at {k} (yes h) e ps = omega (arith, e h, place-inside symbols source k, l)
-    narrow-at {k} (no h) e ps = omega (arith, ap (λ p. getD p k 0) (f .placed) ∙ zero-behind (placesOf (scan symbols source .found)) places k z (omega (arith, ps)))
+
+-- their values stand
+pub values-stand : {source kinds kinds' places places' values values' : List ℕ} {t : Told} → Filled symbols source t kinds kinds' places places' values values'
+    → (n : ℕ) → t ≡ Symbols-read n → take n values' ≡ valuesOf (scan symbols source .found)
+values-stand {source} {values = values} f n q =
+    let found = scan symbols source .found in
+    let a = answered (scan symbols source) n (sym (f .answers) ∙ q) in
+    let vs : length (valuesOf found) ≡ n = length-map found (λ f. valueOf (f .symbol)) ∙ a .1 in
+    ap (take n) (f .valued) ∙ ap (λ m. take m (over (valuesOf found) values)) (sym vs) ∙ take-append-seam (valuesOf found) (drop (length (valuesOf found)) values)
 
 -- behind the last symbol stands the source's length
 pub place-behind : {source places : List ℕ} {n : ℕ} → Placed source places n → (k : ℕ) → n ≤ k → placeIn source k ≡ length source

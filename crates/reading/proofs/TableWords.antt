@@ -15,12 +15,12 @@ use Rattle.reading.specs.Model.{useSection, declarationSection, nodeSect
 use Rattle.reading.proofs.UseWords.{words-length, all-use-words}
 use Rattle.reading.proofs.SamePlaces.{SymbolsBelow, same-declarations, same-nodes, same-rows}
 
-module _ (ids M ws : List ℕ) (n : ℕ) (f g : ℕ → ℕ) (agree : (k : ℕ) → k < n → f k ≡ g k) (s : Statement) (all : AllS (λ x. x .symbol < n) s) where
-  same-table-uses : Matches ids (rowsS 0 0 s) M ws (usesS [] s) → joined unmeant (usesS [] s) ≡ []
+module _ (ws : List ℕ) (n : ℕ) (f g : ℕ → ℕ) (agree : (k : ℕ) → k < n → f k ≡ g k) (s : Statement) (all : AllS (λ x. x .symbol < n) s) where
+  same-table-uses : Matches (rowsS 0 0 s) ws (usesS [] s) → joined unmeant (usesS [] s) ≡ []
       → useSection f (rowsS 0 0 s) (nodesS 1 s) ws ≡ length (rows s) ∷ joined (useWords g) (rows s)
   unfolding useSection rows
   same-table-uses h k =
-      (λ i. words-length ids (rowsS 0 0 s) M ws (usesS [] s) h k i ∷ all-use-words f ids (rowsS 0 0 s) M [] 1 s ws h k i)
+      (λ i. words-length (rowsS 0 0 s) ws (usesS [] s) h k i ∷ all-use-words f (rowsS 0 0 s) [] 1 s ws h k i)
       ∙ ap (λ (l : List ℕ). length (rows s) ∷ l) (same-rows n f g agree s all)
 
   same-table-declarations : declarationSection f (rowsS 0 0 s) ≡ fours (declarations s) ∷ declarationWords g (declarations s)
@@ -31,10 +31,10 @@ module _ (ids M ws : List ℕ) (n : ℕ) (f g : ℕ → ℕ) (agree : (k : ℕ) 
   unfolding nodeSection
   same-table-nodes h = ap (λ (l : List ℕ). fours (nodesS 1 s) ∷ l) (same-nodes n f g agree (nodesS 1 s) h)
 
-pub table-words : (ids M ws : List ℕ) (n : ℕ) (f g : ℕ → ℕ) → ((k : ℕ) → k < n → f k ≡ g k) → (s : Statement) → AllS (λ x. x .symbol < n) s
-    → SymbolsBelow n (nodesS 1 s) → Matches ids (rowsS 0 0 s) M ws (usesS [] s) → joined unmeant (usesS [] s) ≡ []
+pub table-words : (ws : List ℕ) (n : ℕ) (f g : ℕ → ℕ) → ((k : ℕ) → k < n → f k ≡ g k) → (s : Statement) → AllS (λ x. x .symbol < n) s
+    → SymbolsBelow n (nodesS 1 s) → Matches (rowsS 0 0 s) ws (usesS [] s) → joined unmeant (usesS [] s) ≡ []
     → tableModel f (rowsS 0 0 s) (nodesS 1 s) ws ≡ tableOf g s
 unfolding tableModel tableOf
-table-words ids M ws n f g agree s all low h k i =
-    same-table-uses ids M ws n f g agree s all h k i
-    ++ (same-table-declarations ids M ws n f g agree s all i ++ same-table-nodes ids M ws n f g agree s all low i)
+table-words ws n f g agree s all low h k i =
+    same-table-uses ws n f g agree s all h k i
+    ++ (same-table-declarations ws n f g agree s all i ++ same-table-nodes ws n f g agree s all low i)

@@ -53,8 +53,8 @@ rows-length (u ∷ us) h =
     length-append (rowOf u) (joined rowOf us) ∙ omega arith
 
 -- as many words as rows
-pub words-length : (ids R M ws : List ℕ) (us : List Use) → Matches ids R M ws us → AllMean us → length ws ≡ length (joined rowOf us)
-words-length ids R M ws us h k = matches-length ids R M ws us h ∙ sym (rows-length us k)
+pub words-length : (R ws : List ℕ) (us : List Use) → Matches R ws us → AllMean us → length ws ≡ length (joined rowOf us)
+words-length R ws us h k = matches-length R ws us h ∙ sym (rows-length us k)
 
 -- ---- the uses of a for list
 
@@ -80,8 +80,8 @@ kind-some (variable t) = refl
 kind-some (routine p) = refl
 kind-some (formal t) = refl
 
-module _ (place : ℕ → ℕ) (ids R M : List ℕ) where
-  meant-words : (m : Meant) (n : Meaning) (x : Name) → Means ids R M m n → meantOrNot n x ≡ []
+module _ (place : ℕ → ℕ) (R : List ℕ) where
+  meant-words : (m : Meant) (n : Meaning) (x : Name) → Means R m n → meantOrNot n x ≡ []
       → meantWords place R (x .symbol) m ≡ joined (useWords place) (rowIn n x)
   unfolding meantWords useWords joined
   meant-words (at-row j) (declared d g) x h k = rw (h .row .kind, h .row .symbol, kind-back (d .thing), kind-some (d .thing))
@@ -98,10 +98,10 @@ module _ (place : ℕ → ℕ) (ids R M : List ℕ) where
 
   -- the nodes w write the triples of the uses us
   pub record Writes (w : List ℕ) (us : List Use) : Type 0 where
-    pub goes : (rest ws ws' : List ℕ) → Matches ids R M ws us → AllMean us
+    pub goes : (rest ws ws' : List ℕ) → Matches R ws us → AllMean us
         → useModel place R (w ++ rest) (ws ++ ws') ≡ joined (useWords place) (joined rowOf us) ++ useModel place R rest ws'
 
-  none-of : (rest ws ws' : List ℕ) → Matches ids R M ws [] → useModel place R rest (ws ++ ws') ≡ joined (useWords place) (joined rowOf []) ++ useModel place R rest ws'
+  none-of : (rest ws ws' : List ℕ) → Matches R ws [] → useModel place R rest (ws ++ ws') ≡ joined (useWords place) (joined rowOf []) ++ useModel place R rest ws'
   unfolding joined
   none-of rest [] ws' h = refl
   none-of rest (w ∷ ws) ws' h = absurd h
@@ -114,7 +114,7 @@ module _ (place : ℕ → ℕ) (ids R M : List ℕ) where
   unfolding useModel
   passed k s a b e = record { goes = λ rest ws ws' h m. rw e (none-of rest ws ws' h) }
 
-  use-of : (k s a b : ℕ) (x : Name) (g : List Scope) → isUse k ≡ true → s ≡ x .symbol → (rest ws ws' : List ℕ) → Matches ids R M ws (used g x ∷ [])
+  use-of : (k s a b : ℕ) (x : Name) (g : List Scope) → isUse k ≡ true → s ≡ x .symbol → (rest ws ws' : List ℕ) → Matches R ws (used g x ∷ [])
       → AllMean (used g x ∷ [])
       → useModel place R (node k s a b ++ rest) (ws ++ ws') ≡ joined (useWords place) (joined rowOf (used g x ∷ [])) ++ useModel place R rest ws'
   unfolding useModel nextWord otherWords joined
@@ -133,11 +133,11 @@ module _ (place : ℕ → ℕ) (ids R M : List ℕ) where
       rw (joined-append rowOf us us', joined-append (useWords place) (joined rowOf us) (joined rowOf us'))
       (sym (append-assoc (joined (useWords place) (joined rowOf us)) (joined (useWords place) (joined rowOf us')) l))
 
-  two-parts : (w w' : List ℕ) (us us' : List Use) → Writes w us → Writes w' us' → (rest ws ws' : List ℕ) → Matches ids R M ws (us ++ us') → AllMean (us ++ us')
+  two-parts : (w w' : List ℕ) (us us' : List Use) → Writes w us → Writes w' us' → (rest ws ws' : List ℕ) → Matches R ws (us ++ us') → AllMean (us ++ us')
       → useModel place R ((w ++ w') ++ rest) (ws ++ ws') ≡ joined (useWords place) (joined rowOf (us ++ us')) ++ useModel place R rest ws'
   two-parts w w' us us' x y rest ws ws' h m =
       let n = length us in
-      let h' = matches-split ids R M ws us us' h in
+      let h' = matches-split R ws us us' h in
       let m' = meant-split us us' m in
       let e : ws ++ ws' ≡ take n ws ++ (drop n ws ++ ws') = ap (λ (l : List ℕ). l ++ ws') (sym (take-append-drop n ws)) ∙ append-assoc (take n ws) (drop n ws) ws' in
       ap (λ (l : List ℕ). useModel place R l (ws ++ ws')) (append-assoc w w' rest)
@@ -271,12 +271,12 @@ module _ (place : ℕ → ℕ) (ids R M : List ℕ) where
         and-then (writesS (ofBody (heading t f xs vs ss s) ∷ g) (d + 1) s and-last passed n-procedure-end (f .symbol) 0 0 refl)
 
   -- a statement among others
-  pub use-words : (g : List Scope) (d : ℕ) (s : Statement) (rest ws ws' : List ℕ) → Matches ids R M ws (usesS g s) → AllMean (usesS g s)
+  pub use-words : (g : List Scope) (d : ℕ) (s : Statement) (rest ws ws' : List ℕ) → Matches R ws (usesS g s) → AllMean (usesS g s)
       → useModel place R (nodesS d s ++ rest) (ws ++ ws') ≡ joined (useWords place) (joined rowOf (usesS g s)) ++ useModel place R rest ws'
   use-words g d s = writesS g d s .goes
 
   -- a whole one
-  pub all-use-words : (g : List Scope) (d : ℕ) (s : Statement) (ws : List ℕ) → Matches ids R M ws (usesS g s) → AllMean (usesS g s)
+  pub all-use-words : (g : List Scope) (d : ℕ) (s : Statement) (ws : List ℕ) → Matches R ws (usesS g s) → AllMean (usesS g s)
       → useModel place R (nodesS d s) ws ≡ joined (useWords place) (joined rowOf (usesS g s))
   unfolding useModel
   all-use-words g d s ws h k =

@@ -4,7 +4,6 @@ use mathlib.Core.Path.{_≡_, sym, ap, subst, _∙_}
 use mathlib.Core.List.{List, [], map}
 use mathlib.Core.Option.{none, some}
 use lib.ListN.{length, getD}
-use Rattle.answers.specs.declared.Verdict.the-variants.{Accepted}
 use Rattle.symbols.specs.Names.{lettersAt, sameName}
 use Rattle.symbols.specs.Scan.{scan, valuesOf}
 use Rattle.grammar.specs.Trees.{yield}
@@ -20,7 +19,6 @@ use Rattle.names.proofs.Named.{named}
 use Rattle.names.proofs.Bridge.{bridge}
 use Rattle.names.proofs.Least.{Near, Small, some-fault, no-fault}
 use Rattle.names.proofs.TreeLaws.{least-append}
-use Rattle.names.proofs.TreeRows.{marksS}
 use Rattle.names.proofs.Around.{Agree}
 use Rattle.names.proofs.Outlined.{outlined}
 use Rattle.names.proofs.Resolved.{Matches, resolved-least, resolved-uses}
@@ -28,8 +26,7 @@ use Rattle.answers.specs.Numbers.{types}
 use Rattle.types.specs.Types.{typeFaults, typeFault}
 use Rattle.types.specs.Passes.{typedOf}
 use Rattle.types.proofs.OfPrograms.{typed-program}
-use Rattle.reading.specs.Table.{tableOf}
-use Rattle.reading.specs.Reading.{symbols, placeIn, refusedAt, cleared, filled, parsed, Judged, misnamed, mistyped, accepted}
+use Rattle.reading.specs.Reading.{symbols, placeIn, refusedAt, cleared, parsed, Judged, misnamed, mistyped}
 use Rattle.reading.specs.Model.{Known}
 
 module _ {source places nodes ids : List ℕ} {n : ℕ} (known : Known source places nodes ids n) where
@@ -72,9 +69,6 @@ module _ {source places nodes ids : List ℕ} {n : ℕ} (known : Known source pl
   pub rows-are : outlineOf ids nodes .rows ≡ rowsS 0 0 program
   rows-are = ap (λ ws. outlineOf ids ws .rows) nodes-are ∙ outlined ids Good (agree .one) program all-good .1
 
-  pub marks-are : outlineOf ids nodes .marks ≡ marksS 0 0 program
-  marks-are = ap (λ ws. outlineOf ids ws .marks) nodes-are ∙ outlined ids Good (agree .one) program all-good .2
-
   outline-least : outlineOf ids nodes .least ≡ leastKey (joined innermost (scopesS [] program))
   outline-least = ap (λ ws. outlineOf ids ws .least) nodes-are ∙ outlined ids Good (agree .one) program all-good .0
 
@@ -87,8 +81,8 @@ module _ {source places nodes ids : List ℕ} {n : ℕ} (known : Known source pl
     uses-least : usesOf ids (outlineOf ids nodes .rows) nodes .least ≡ leastKey (joined unmeant (usesS [] program))
     uses-least = ap (λ f. f .least) uses-are ∙ resolved-least Good ids agree program all-good room
 
-    pub uses-match : Matches ids (rowsS 0 0 program) (marksS 0 0 program) (usesOf ids (outlineOf ids nodes .rows) nodes .uses) (usesS [] program)
-    uses-match = subst (λ f. Matches ids (rowsS 0 0 program) (marksS 0 0 program) (f .uses) (usesS [] program)) (sym uses-are) (resolved-uses Good ids agree program all-good room)
+    pub uses-match : Matches (rowsS 0 0 program) (usesOf ids (outlineOf ids nodes .rows) nodes .uses) (usesS [] program)
+    uses-match = subst (λ f. Matches (rowsS 0 0 program) (f .uses) (usesS [] program)) (sym uses-are) (resolved-uses Good ids agree program all-good room)
 
     -- the least fault of names
     abbrev pub worst : ℕ
@@ -112,17 +106,16 @@ module _ {source places nodes ids : List ℕ} {n : ℕ} (known : Known source pl
     -- ---- types
 
     abbrev pub mistake : ℕ
-    mistake = typedOf ids (outlineOf ids nodes .rows) (outlineOf ids nodes .marks) (usesOf ids (outlineOf ids nodes .rows) nodes .uses) nodes
+    mistake = typedOf (outlineOf ids nodes .rows) (usesOf ids (outlineOf ids nodes .rows) nodes .uses) nodes
 
     abbrev pub faultsOf : List Fault
     faultsOf = map (λ q. record { symbol = q; answer = types }) (typeFaults program)
 
     mistake-is : mistake ≡ leastKey faultsOf
     mistake-is =
-        ap (λ f. typedOf ids (outlineOf ids nodes .rows) (outlineOf ids nodes .marks) (f .uses) nodes) uses-are
-        ∙ ap (λ r. typedOf ids r (outlineOf ids nodes .marks) (usesOf ids (rowsS 0 0 program) (nodesS 1 program) .uses) nodes) rows-are
-        ∙ ap (λ m. typedOf ids (rowsS 0 0 program) m (usesOf ids (rowsS 0 0 program) (nodesS 1 program) .uses) nodes) marks-are
-        ∙ ap (typedOf ids (rowsS 0 0 program) (marksS 0 0 program) (usesOf ids (rowsS 0 0 program) (nodesS 1 program) .uses)) nodes-are
+        ap (λ f. typedOf (outlineOf ids nodes .rows) (f .uses) nodes) uses-are
+        ∙ ap (λ r. typedOf r (usesOf ids (rowsS 0 0 program) (nodesS 1 program) .uses) nodes) rows-are
+        ∙ ap (typedOf (rowsS 0 0 program) (usesOf ids (rowsS 0 0 program) (nodesS 1 program) .uses)) nodes-are
         ∙ typed-program Good ids program agree all-good room
 
     -- 10
@@ -132,7 +125,7 @@ module _ {source places nodes ids : List ℕ} {n : ℕ} (known : Known source pl
         mistyped (known .ready .program) (faultOf mistake) none-of
         (some-fault faultsOf small (subst (λ k. k < noFault) mistake-is l) ∙ ap (λ k. some (faultOf k)) (sym mistake-is))
 
-    -- 0
-    pub accepts : least (nameFaults program) ≡ none → Near faultsOf → Small faultsOf → (mistake < noFault → ⊥) → Judged source Accepted (filled (tableOf (placeIn source) program))
+    -- none
+    pub no-type-fault : Near faultsOf → Small faultsOf → (mistake < noFault → ⊥) → typeFault program ≡ none
     unfolding typeFault
-    accepts none-of near small l = accepted (known .ready .program) none-of (no-fault faultsOf near small (λ m. l (subst (λ k. k < noFault) (sym mistake-is) m)))
+    no-type-fault near small l = no-fault faultsOf near small (λ m. l (subst (λ k. k < noFault) (sym mistake-is) m))

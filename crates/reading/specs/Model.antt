@@ -1,5 +1,5 @@
 -- How the code writes the table and what its functions need. No part of the paper.
-use Prim.Native.Nat.{ℕ, _+_, _*_, _-_, _<_, _≤_}
+use Prim.Native.Nat.{ℕ, _+_, _*_, _-_, _%_, _<_, _≤_}
 use mathlib.Core.Path.{_≡_}
 use mathlib.Core.Bool.{cond}
 use mathlib.Core.List.{List, [], _∷_, _++_}
@@ -7,13 +7,22 @@ use mathlib.Core.Option.{none}
 use lib.ListN.{length, getD, take, drop}
 use Rattle.names.specs.Rows.{isUse, meantOf}
 use Rattle.names.specs.declared.Meant.{Meant}
-use Rattle.names.specs.declared.Meant.the-variants.{Declared, Given, Nothing}
+use Rattle.names.specs.declared.Meant.the-variants.{Declared as AtRow, Given, Nothing}
 use Rattle.grammar.specs.Trees.{nodesOf}
 use Rattle.names.specs.Identity.{Identified}
+use Rattle.names.specs.Program.{Statement}
+use Rattle.types.specs.Types.{typeFault}
+use Rattle.symbols.specs.Scan.{scan, valuesOf}
+use Rattle.answers.specs.declared.Refusal.{Refusal}
+use Rattle.answers.specs.declared.Verdict.{Verdict}
+use Rattle.answers.specs.declared.Verdict.the-variants.{Accepted, Refused as Wrong}
 use Rattle.names.specs.Rows.{outlineOf, usesOf}
 use Rattle.names.specs.Uses.{nameFaults, least}
 use Rattle.reading.specs.Table.{fours, declarationWords, nodeWords}
-use Rattle.reading.specs.Reading.{kindsIn, placeIn, Scanned, Parsed, parsed}
+use Rattle.reading.specs.Reading.{symbols, kindsIn, placeIn, cleared, Scanned, Parsed, parsed, Judged}
+use Rattle.reading.specs.declared.Sizes.{Sizes}
+use Rattle.reading.specs.declared.Found.{Found}
+use Rattle.reading.specs.declared.Found.the-variants.{Program, Refused}
 
 -- words were written from a place on, and the others kept
 pub record Wrote (old new : List ℕ) (at : ℕ) (words : List ℕ) : Type 0 where
@@ -21,17 +30,13 @@ pub record Wrote (old new : List ℕ) (at : ℕ) (words : List ℕ) : Type 0 whe
   pub kept : drop (at + length words) new ≡ drop (at + length words) old
   pub size : length new ≡ length old
 
--- the place of a symbol, as the array holds it
+-- the place of a symbol, as a word holds it
 abbrev pub placeOf : List ℕ → ℕ → ℕ
-placeOf places k = getD places k 0
-
--- every place is one of 16 bits
-abbrev pub Narrow : List ℕ → Type 0
-Narrow places = (k : ℕ) → placeOf places k < 65536
+placeOf places k = getD places k 0 % 65536
 
 -- a use as three words; one that means nothing, which no accepted program has, is written with zeros
 unfoldable pub meantWords : (ℕ → ℕ) → List ℕ → ℕ → Meant → List ℕ
-meantWords place rows s (Declared d) = place s ∷ (getD rows (4 * d .number) 0 - 4) ∷ place (getD rows (4 * d .number + 1) 0) ∷ []
+meantWords place rows s (AtRow d) = place s ∷ (getD rows (4 * d .number) 0 - 4) ∷ place (getD rows (4 * d .number + 1) 0) ∷ []
 meantWords place rows s (Given e) = place s ∷ 0 ∷ e .number ∷ []
 meantWords place rows s Nothing = place s ∷ 0 ∷ 0 ∷ []
 
@@ -73,7 +78,6 @@ pub record Placed (source places : List ℕ) (n : ℕ) : Type 0 where
   pub count : n ≡ length (kindsIn source)
   pub few : n ≤ 2048
   pub placed : (k : ℕ) → k < n → getD places k 0 ≡ placeIn source k
-  pub narrow : Narrow places
 
 -- and their kinds
 pub record Symbols (source kinds places : List ℕ) (n : ℕ) : Type 0 where
@@ -93,13 +97,46 @@ pub record Known (source places nodes ids : List ℕ) (n : ℕ) : Type 0 where
   pub identified : Identified source places ids n
 
 -- and its declarations
-pub record Outlined (source places nodes ids rows marks : List ℕ) (n : ℕ) : Type 0 where
+pub record Outlined (source places nodes ids rows : List ℕ) (n : ℕ) : Type 0 where
   pub known : Known source places nodes ids n
   pub rowed : rows ≡ outlineOf ids nodes .rows
-  pub marked : marks ≡ outlineOf ids nodes .marks
 
 -- and its uses, and no name is at fault
-pub record Named (source places nodes ids rows marks uses : List ℕ) (n : ℕ) : Type 0 where
-  pub outlined : Outlined source places nodes ids rows marks n
+pub record Named (source places nodes ids rows uses : List ℕ) (n : ℕ) : Type 0 where
+  pub outlined : Outlined source places nodes ids rows n
   pub used : uses ≡ usesOf ids rows nodes .uses
   pub faultless : least (nameFaults (parsed (outlined .known .ready .program))) ≡ none
+
+-- ---- what each stage of the front end gives back: the refusal of the source, or what stands
+
+abbrev pub programOf : {source places nodes ids rows uses : List ℕ} {n : ℕ} → Named source places nodes ids rows uses n → Statement
+programOf m = parsed (m .outlined .known .ready .program)
+
+-- 10, or no type is at fault
+pub data Typed {source places nodes ids rows uses : List ℕ} {n : ℕ} (m : Named source places nodes ids rows uses n) : Verdict → Type 0 where
+  right : typeFault (programOf m) ≡ none → Typed m Accepted
+  wrong : (r : Refusal) → Judged source (Wrong r) cleared → Typed m (Wrong r)
+
+-- what is found is the source's refusal, or its sizes are told with what stands then
+pub data Tells (source : List ℕ) (P : Sizes → Type 0) : Found → Type 0 where
+  program : (s : Sizes) → P s → Tells source P (Program s)
+  refused : (r : Refusal) → Judged source (Wrong r) cleared → Tells source P (Refused r)
+
+-- the nodes, rows and uses are the first of those that are lent
+pub record Resolved (source places nodes ids rows uses : List ℕ) (n : ℕ) (s : Sizes) : Type 0 where
+  pub named : Named source places (take (s .nodes) nodes) ids (take (4 * s .rows) rows) (take (s .uses) uses) n
+  pub typed : typeFault (programOf named) ≡ none
+  pub count : s .symbols ≡ n
+  pub few : s .uses ≤ 8192
+
+pub record Declared (source places nodes rows uses : List ℕ) (n : ℕ) (s : Sizes) : Type 0 where
+  pub ids : List ℕ
+  pub resolved : Resolved source places nodes ids rows uses n s
+
+-- and so are the values of the symbols: this is what every job that takes a source is told
+pub record Holds (source places values nodes rows uses : List ℕ) (s : Sizes) : Type 0 where
+  pub declared : Declared source places nodes rows uses (s .symbols) s
+  pub valued : take (s .symbols) values ≡ valuesOf (scan symbols source .found)
+
+abbrev pub Finds : List ℕ → List ℕ → List ℕ → List ℕ → List ℕ → List ℕ → Found → Type 0
+Finds source places values nodes rows uses = Tells source (Holds source places values nodes rows uses)

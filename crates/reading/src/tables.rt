@@ -1,7 +1,7 @@
 // The table: uses, declarations and nodes, each after its count.
 use grammar::nodes;
 use names::Meant;
-use names::uses::meant;
+use names::meanings::meant;
 ghost use mathlib.Core.Path.{_≡_};
 ghost use mathlib.Core.List.{[], _∷_};
 ghost use Prim.Native.Nat.{_+_, _-_, _≤_, _<_};
@@ -9,23 +9,21 @@ ghost use lib.ListN.{length, getD};
 ghost use Rattle.names.specs.Rows.{isUse, meantOf};
 ghost use mathlib.Core.Bool.{cond};
 ghost use Rattle.reading.specs.Table.{hasNone, declarationWords, nodeWords};
-ghost use Rattle.reading.specs.Model.{Wrote, placeOf, Narrow, meantWords, useModel, tableModel};
+ghost use Rattle.reading.specs.Model.{Wrote, placeOf, meantWords, useModel, tableModel};
 
 // The place of a symbol, as the table holds it.
 fn place_word(places: &[usize; 2048], symbol: u16) -> u16
-    requires { ⌜ Narrow (now places) ⌝ }
     ensures { λ r. ⌜ r ≡ placeOf (now (places .entry)) symbol ⌝ }
 {
     place_in(places, symbol as usize)
 }
 
-// A place, 0 behind the last one.
+// A place in 16 bits, 0 behind the last one.
 fn place_in(places: &[usize], s: usize) -> u16
-    requires { ⌜ Narrow (now places) ⌝ }
     ensures { λ r. ⌜ r ≡ placeOf (now (places .entry)) s ⌝ }
 {
     if s < places.len() {
-        return places[s] as u16;
+        return (places[s] % 65536) as u16;
     }
     0
 }
@@ -80,7 +78,7 @@ fn put_use(
     rows: &[u16],
     places: &[usize; 2048],
 )
-    requires { ⌜ (at + 3 ≤ length (now table)) × Narrow (now places) ⌝ }
+    requires { ⌜ at + 3 ≤ length (now table) ⌝ }
     ensures { λ _. ⌜ Wrote (now (table .entry)) (now (table .exit)) at (meantWords (placeOf (now (places .entry))) (now (rows .entry)) symbol (meantOf word)) ⌝ }
 {
     let p = place_word(places, symbol);
@@ -122,7 +120,7 @@ fn put_uses(
     rows: &[u16],
     places: &[usize; 2048],
 ) -> usize
-    requires { ⌜ (from + length (useModel (placeOf (now places)) (now rows) (now nodes) (now uses)) ≤ length (now table)) × Narrow (now places) ⌝ }
+    requires { ⌜ (from + length (useModel (placeOf (now places)) (now rows) (now nodes) (now uses)) ≤ length (now table)) ⌝ }
     ensures { λ r. ⌜ Wrote (now (table .entry)) (now (table .exit)) from (useModel (placeOf (now (places .entry))) (now (rows .entry)) (now (nodes .entry)) (now (uses .entry))) ⌝ }
     ensures { λ r. ⌜ r ≡ from + length (useModel (placeOf (now (places .entry))) (now (rows .entry)) (now (nodes .entry)) (now (uses .entry))) ⌝ }
 {
@@ -143,7 +141,7 @@ fn put_uses(
 
 // The declarations, from a place on; gives the place behind them.
 fn put_declarations(table: &mut [u16], from: usize, rows: &[u16], places: &[usize; 2048]) -> usize
-    requires { ⌜ (from + length (declarationWords (placeOf (now places)) (now rows)) ≤ length (now table)) × Narrow (now places) ⌝ }
+    requires { ⌜ (from + length (declarationWords (placeOf (now places)) (now rows)) ≤ length (now table)) ⌝ }
     ensures { λ r. ⌜ Wrote (now (table .entry)) (now (table .exit)) from (declarationWords (placeOf (now (places .entry))) (now (rows .entry))) ⌝ }
     ensures { λ r. ⌜ r ≡ from + length (declarationWords (placeOf (now (places .entry))) (now (rows .entry))) ⌝ }
 {
@@ -162,7 +160,6 @@ fn put_declarations(table: &mut [u16], from: usize, rows: &[u16], places: &[usiz
 
 // The second word of a node: its symbol's place, where it has one.
 fn node_place(kind: u16, symbol: u16, places: &[usize; 2048]) -> u16
-    requires { ⌜ Narrow (now places) ⌝ }
     ensures { λ r. ⌜ r ≡ cond (hasNone (placeOf (now (places .entry))) kind) 0 (placeOf (now (places .entry)) symbol) ⌝ }
 {
     match kind {
@@ -173,7 +170,7 @@ fn node_place(kind: u16, symbol: u16, places: &[usize; 2048]) -> u16
 
 // The nodes, from a place on; gives the place behind them.
 fn put_nodes(table: &mut [u16], from: usize, nodes: &[u16], places: &[usize; 2048]) -> usize
-    requires { ⌜ (from + length (nodeWords (placeOf (now places)) (now nodes)) ≤ length (now table)) × Narrow (now places) ⌝ }
+    requires { ⌜ (from + length (nodeWords (placeOf (now places)) (now nodes)) ≤ length (now table)) ⌝ }
     ensures { λ r. ⌜ Wrote (now (table .entry)) (now (table .exit)) from (nodeWords (placeOf (now (places .entry))) (now (nodes .entry))) ⌝ }
     ensures { λ r. ⌜ r ≡ from + length (nodeWords (placeOf (now (places .entry))) (now (nodes .entry))) ⌝ }
 {
@@ -191,7 +188,7 @@ fn put_nodes(table: &mut [u16], from: usize, nodes: &[u16], places: &[usize; 204
 
 // The three sections, each after its count.
 pub fn write(table: &mut [u16], nodes: &[u16], uses: &[u16], rows: &[u16], places: &[usize; 2048])
-    requires { ⌜ (length (tableModel (placeOf (now places)) (now rows) (now nodes) (now uses)) ≤ length (now table)) × Narrow (now places) × (length (now nodes) ≤ 32768) × (length (now rows) ≤ 32768) × (length (now uses) ≤ 8192) ⌝ }
+    requires { ⌜ (length (tableModel (placeOf (now places)) (now rows) (now nodes) (now uses)) ≤ length (now table)) × (length (now nodes) ≤ 32768) × (length (now rows) ≤ 32768) × (length (now uses) ≤ 8192) ⌝ }
     ensures { λ _. ⌜ Wrote (now (table .entry)) (now (table .exit)) 0 (tableModel (placeOf (now (places .entry))) (now (rows .entry)) (now (nodes .entry)) (now (uses .entry))) ⌝ }
 {
     put(table, 0, uses.len() as u16);

@@ -6,9 +6,9 @@ use mathlib.Core.Bool.{Bool, cond, _&&_, _||_}
 use mathlib.Core.List.{List, [], _∷_, _++_, map}
 use lib.Dec.{eqb, leb, ltb}
 use lib.ListN.{length, getD, take, drop}
-use Rattle.symbols.specs.Names.{inName, reach, lettersAt, sameName}
+use Rattle.symbols.specs.Names.{inName, reach}
 use Rattle.symbols.specs.Scan.{before}
-use Rattle.grammar.specs.NodeKinds.{n-block, n-block-end, n-procedure, n-procedure-end, n-specified}
+use Rattle.grammar.specs.NodeKinds.{n-block, n-block-end, n-procedure, n-procedure-end}
 
 -- ---- lines and columns
 
@@ -84,7 +84,3 @@ levelBehind kind level = cond (closes kind) (level - 1) (level + cond (opens kin
 -- the byte behind the name at a place and the blanks behind it; 0 where the source ends
 unfoldable pub byteBehind : List ℕ → ℕ → ℕ
 byteBehind source p = getD source (p + reach inName (drop p source)) 0
-
--- the node at a word of the table specifies the formal at a place
-unfoldable pub specifies : List ℕ → List ℕ → ℕ → ℕ → Bool
-specifies source t k place = eqb (getD t k 0) n-specified && sameName (lettersAt source (getD t (k + 1) 0)) (lettersAt source place)

@@ -4,12 +4,16 @@ use crate::text::say_blanks;
 use crate::text::say_nth;
 use crate::text::say_number;
 use crate::text::say_spot;
+use machine::bounds;
+use machine::codes;
+use machine::operands::high;
+use machine::operands::low;
+use machine::operands::mid;
 ghost use mathlib.Core.Path.{_≡_};
-ghost use Rattle.machine.specs.Instructions as Instructions;
 
-// The operations' names, a line a number from 0 on.
+// The operations' names, a line a number from `codes::NONE` on.
 fn say_operation(operation: u32) {
-    if operation < 39 {
+    if operation < codes::BEHIND {
         say_nth(
             b"no operation
 END
@@ -57,78 +61,59 @@ equiv",
     }
 }
 
-// The parts of an operand.
-fn high(v: u32) -> u64
-    ensures { λ r. ⌜ r ≡ Instructions.high v ⌝ }
-{
-    (v / 67108864) as u64
-}
-
-fn mid(v: u32) -> u64
-    ensures { λ r. ⌜ r ≡ Instructions.mid v ⌝ }
-{
-    (v / 8192 % 8192) as u64
-}
-
-fn low(v: u32) -> u64
-    ensures { λ r. ⌜ r ≡ Instructions.low v ⌝ }
-{
-    (v % 8192) as u64
-}
-
 // A name of a part, and the part.
-fn say_part(name: &[u8], n: u64) {
+fn say_part(name: &[u8], n: usize) {
     say(name);
-    say_number(n);
+    say_number(n as u64);
 }
 
 // A variable: activations out, and the offset from the first cell there.
 fn say_variable(v: u32) {
-    say_part(b" cell ", mid(v));
-    say_part(b", levels out ", high(v));
+    say_part(b" cell ", mid(wide(v)));
+    say_part(b", levels out ", high(wide(v)));
 }
 
 // The number of a CONST, in two's complement.
 fn say_constant(v: u32) {
     if v < 2147483648 {
-        say_part(b" ", v as u64);
+        say_part(b" ", wide(v));
     } else {
-        say_part(b" -", 4294967296 - v as u64);
+        say_part(b" -", 4294967296 - wide(v));
     }
 }
 
 // The operands of control instructions.
 fn say_route(operation: u32, v: u32) {
     match operation {
-        2 | 10 => say_part(b" to ", low(v)),
-        3 => {
-            say_part(b" cells ", mid(v));
-            say_part(b", to ", low(v));
+        codes::JUMP | codes::UNLESS => say_part(b" to ", low(wide(v))),
+        codes::ENTER => {
+            say_part(b" cells ", mid(wide(v)));
+            say_part(b", to ", low(wide(v)));
         }
-        4 => say_part(b" cells ", mid(v)),
-        5 | 6 => {
-            say_part(b" to ", low(v));
-            say_part(b", levels out ", high(v));
-            say_part(b", cells ", mid(v));
+        codes::LEAVE => say_part(b" cells ", mid(wide(v))),
+        codes::CALL_NEEDED | codes::CALL => {
+            say_part(b" to ", low(wide(v)));
+            say_part(b", levels out ", high(wide(v)));
+            say_part(b", cells ", mid(wide(v)));
         }
-        8 => {
-            say_part(b" to ", low(v));
-            say_part(b", back to ", mid(v));
-            say_part(b", nesting ", high(v));
+        codes::GO => {
+            say_part(b" to ", low(wide(v)));
+            say_part(b", back to ", mid(wide(v)));
+            say_part(b", nesting ", high(wide(v)));
         }
-        9 => say_part(b" nesting ", high(v)),
+        codes::NEXT => say_part(b" nesting ", high(wide(v))),
         _ => {}
     }
 }
 
 fn say_operands(operation: u32, v: u32) {
     match operation {
-        11 => {
+        codes::TEST => {
             say_variable(v);
-            say_part(b", to ", low(v));
+            say_part(b", to ", low(wide(v)));
         }
-        12 => say_constant(v),
-        13 | 14 | 15 | 18 | 21 => say_variable(v),
+        codes::CONST => say_constant(v),
+        codes::LOAD | codes::STORE | codes::ASSIGN | codes::IN | codes::ADD => say_variable(v),
         _ => say_route(operation, v),
     }
 }
@@ -136,8 +121,9 @@ fn say_operands(operation: u32, v: u32) {
 // Whether an instruction carries a place of the source.
 fn placed(operation: u32) -> bool {
     match operation {
-        3 | 5 | 6 | 11 | 12 | 13 | 16 | 18 | 19 => true,
-        21..=38 => true,
+        codes::ENTER | codes::CALL_NEEDED | codes::CALL | codes::TEST => true,
+        codes::CONST | codes::LOAD | codes::RESULT | codes::IN | codes::OUT => true,
+        codes::ADD..=codes::EQUIV => true,
         _ => false,
     }
 }
@@ -160,7 +146,7 @@ fn wide(n: u32) -> usize
 }
 
 fn show_instruction(source: &[u8], address: usize, first: u32, second: u32) {
-    let operation = first % 64;
+    let operation = first % codes::BASE;
     say_indent(address);
     say_number(address as u64);
     say(b"  ");
@@ -168,7 +154,7 @@ fn show_instruction(source: &[u8], address: usize, first: u32, second: u32) {
     say_operands(operation, second);
     if placed(operation) {
         say(b"  at ");
-        say_spot(source, wide(first / 64));
+        say_spot(source, wide(first / codes::BASE));
     }
     say(b"\n");
 }
@@ -176,12 +162,12 @@ fn show_instruction(source: &[u8], address: usize, first: u32, second: u32) {
 // The instructions, up to the first word that is none.
 pub fn show_code(source: &[u8], code: &[u32]) {
     let mut k: usize = 0;
-    while k < 8192 {
+    while k < bounds::WORDS / 2 {
         let at = 2 * k;
         if code.len() <= at + 1 {
             return;
         }
-        if code[at] % 64 == 0 {
+        if code[at] % codes::BASE == codes::NONE {
             return;
         }
         show_instruction(source, k, code[at], code[at + 1]);

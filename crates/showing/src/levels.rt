@@ -7,9 +7,7 @@ use crate::text::say_number;
 use crate::text::say_spot;
 use crate::uses::sections_of;
 use crate::uses::word;
-use answers::Place;
 use grammar::nodes;
-use symbols::names::same_name;
 ghost use mathlib.Core.Path.{_≡_};
 ghost use mathlib.Core.Bool.{cond};
 ghost use Prim.Native.Nat.{_<_, _≤_, _+_};
@@ -50,57 +48,22 @@ fn say_type(number: usize) {
     }
 }
 
-// Whether the node whose words begin at `at` specifies the formal at a place.
-fn specifies(source: &[u8], table: &[u16], at: usize, place: usize) -> bool
-    requires { ⌜ at < 2097152 ⌝ }
-    ensures { λ r. ⌜ r ≡ Pages.specifies (now (source .entry)) (now (table .entry)) at place ⌝ }
-{
-    if kind_at(table, at) != nodes::SPECIFIED {
-        return false;
-    }
-    let named = word(table, at + 1);
-    same_name(source, Place { at: named }, Place { at: place })
-}
-
-// The type that the specifications say of the formal at a place; its procedure's words begin at `node`.
-fn specified(source: &[u8], table: &[u16], node: usize, place: usize) -> usize
-    requires { ⌜ node < 1048576 ⌝ }
-{
-    let mut said: usize = 0;
-    let mut at = node;
-    while at < 1114112 {
-        let kind = kind_at(table, at);
-        if kind == nodes::BODY {
-            return 0;
-        }
-        if kind == nodes::TYPE {
-            said = word(table, at + 2);
-        }
-        if specifies(source, table, at, place) {
-            return said;
-        }
-        at += 4;
-    }
-    0
-}
-
-// The declaration whose words begin at `at`, of a scope whose node stands at `node`.
-fn show_declaration(source: &[u8], table: &[u16], at: usize, node: usize)
-    requires { ⌜ (at < 1048576) × (node < 1048576) ⌝ }
+// The declaration whose words begin at `at`. A formal's last word has its type, and 4 more where it is called by name.
+fn show_declaration(source: &[u8], table: &[u16], at: usize)
+    requires { ⌜ at < 1048576 ⌝ }
 {
     let place = word(table, at);
+    let said = word(table, at + 3);
+    say_type(said % 4);
     match word(table, at + 1) {
-        1 => {
-            say_type(word(table, at + 3));
-            say(b"variable ");
-        }
-        2 => {
-            say_type(word(table, at + 3));
-            say(b"procedure ");
-        }
+        1 => say(b"variable "),
+        2 => say(b"procedure "),
         _ => {
-            say_type(specified(source, table, node, place));
-            say(b"formal ");
+            if said < 4 {
+                say(b"formal by value ");
+            } else {
+                say(b"formal by name ");
+            }
         }
     }
     say_name(source, place);
@@ -110,8 +73,8 @@ fn show_declaration(source: &[u8], table: &[u16], at: usize, node: usize)
 }
 
 // What the scope with a number declares.
-fn show_declared(source: &[u8], table: &[u16], scope: usize, node: usize, level: usize)
-    requires { ⌜ (node < 1048576) × (level < 65536) ⌝ }
+fn show_declared(source: &[u8], table: &[u16], scope: usize, level: usize)
+    requires { ⌜ level < 65536 ⌝ }
 {
     let s = sections_of(table);
     let from = s.declarations + 1;
@@ -121,7 +84,7 @@ fn show_declared(source: &[u8], table: &[u16], scope: usize, node: usize, level:
         let at = from + 4 * k;
         if word(table, at + 2) == scope {
             say_blanks(2 * level);
-            show_declaration(source, table, at, node);
+            show_declaration(source, table, at);
         }
         k += 1;
     }
@@ -144,7 +107,7 @@ fn show_scope(source: &[u8], table: &[u16], scope: usize, node: usize, level: us
     }
     say_spot(source, place);
     say(b"\n");
-    show_declared(source, table, scope, node, level);
+    show_declared(source, table, scope, level);
 }
 
 // 1 for a node that opens a scope.

@@ -1,44 +1,74 @@
--- From an accepted source's table to its code: what the passes make of the table's sections are the words of its program's translation, and zeros
--- behind them. The laws of the passes, with what acceptance says of the program.
-use Prim.Native.Nat.{ℕ}
-use mathlib.Core.Path.{_≡_, ap, _∙_}
-use mathlib.Core.List.{List}
-use lib.ListN.{length, replicate}
-use Rattle.symbols.specs.Scan.{scan, placesOf, valuesOf}
+-- From what the front end fills to the code: what the passes make of it are the words of the source's program's translation, and zeros behind them. The
+-- laws of the passes, with what acceptance says of the program.
+use Prim.Native.Nat.{ℕ, _<_}
+use native.Mathlib.Omega.{arith}
+use mathlib.Core.Path.{_≡_, refl, ap, _∙_}
+use mathlib.Core.List.{List, [], _∷_}
+use mathlib.Core.Option.{none}
+use lib.ListN.{length, getD}
+use Rattle.symbols.specs.Scan.{valuesOf}
 use Rattle.names.specs.Nodes.{nodesS}
-use Rattle.names.specs.Uses.{rows, joined}
-use Rattle.reading.specs.Table.{useWords, nodeWords}
-use Rattle.reading.specs.Reading.{symbols, placeIn, parsed}
-use Rattle.emitting.specs.Layout.{sites, layoutOf}
-use Rattle.emitting.specs.Emission.{codeOf}
-use Rattle.translating.specs.ByPlace.{setAll, valuesAt}
-use Rattle.grammar.specs.TableParts.{usesIn, nodesIn}
+use Rattle.names.specs.Outline.{rowsS}
+use Rattle.names.specs.Rows.{foldNodes}
+use Rattle.names.specs.Uses.{usesS, nameFaults, least}
+use Rattle.names.proofs.Resolved.{Matches}
+use Rattle.types.specs.Types.{typeFault}
+use Rattle.reading.specs.Reading.{placeIn, Parsed, parsed}
+use Rattle.reading.proofs.SamePlaces.{SymbolsBelow}
+use Rattle.emitting.specs.Layout.{layoutOf}
+use Rattle.emitting.specs.Emission.{Used, State, usesIn, placeAt, fresh, put, placedNode, emitted, codeOf}
 use Rattle.translating.specs.Job.{filled, codeIn}
-use Rattle.translating.proofs.Accepting.{found, within-limits, climbing, in-order, numbered, well-scoped}
-use Rattle.translating.proofs.AfterRead.{Taken}
-use Rattle.translating.proofs.Sectioned.{uses-in, nodes-in}
+use Rattle.translating.proofs.Sites.{numberOf}
+use Rattle.translating.proofs.Accepting.{found, few, place-inside, below-nodes, within-limits, in-order, numbered, well-scoped}
+use Rattle.translating.proofs.ToldUses.{told-uses}
+use Rattle.translating.proofs.Written.{usesAs}
 use Rattle.translating.proofs.LaidOut.{laid}
 use Rattle.translating.proofs.Emitted.{emitted-code}
 
-module _ {text table : List ℕ} (t : Taken text table) where
-  its-uses : usesIn table ≡ joined (useWords (placeIn text)) (rows (parsed (t .program)))
-  its-uses = ap usesIn (t .begins) ∙ uses-in (placeIn text) (parsed (t .program)) (t .rest)
+-- ---- places that agree on the nodes' symbols
 
-  its-nodes : nodesIn table ≡ nodeWords (placeIn text) (nodesS 1 (parsed (t .program)))
-  its-nodes = ap nodesIn (t .begins) ∙ nodes-in (placeIn text) (parsed (t .program)) (t .rest)
+module _ (n : ℕ) (f g : ℕ → ℕ) (agree : (k : ℕ) → k < n → f k ≡ g k) where
+  same-fold : (vs ly ah es : List ℕ) (ws : List ℕ) (st : State) → SymbolsBelow n ws → foldNodes (placedNode vs ly ah es f) ws st ≡ foldNodes (placedNode vs ly ah es g) ws st
+  unfolding foldNodes
+  same-fold vs ly ah es [] st h = refl
+  same-fold vs ly ah es (k ∷ []) st h = refl
+  same-fold vs ly ah es (k ∷ s ∷ []) st h = refl
+  same-fold vs ly ah es (k ∷ s ∷ a ∷ []) st h = refl
+  same-fold vs ly ah es (k ∷ s ∷ a ∷ b ∷ ws) st h = rw (agree s (h .0)) (same-fold vs ly ah es ws (placedNode vs ly ah es g k s a b st) (h .1))
 
-  -- the values as they are set, one after the other
-  abbrev values-set : List ℕ
-  values-set = setAll (placesOf (scan symbols text .found)) (valuesOf (scan symbols text .found)) (replicate sites 0)
+  same-emitted : (vs ly ah es : List ℕ) (r : ℕ) (ws : List ℕ) (us : List Used) → SymbolsBelow n ws → emitted vs ly ah es r f ws us ≡ emitted vs ly ah es r g ws us
+  unfolding emitted
+  same-emitted vs ly ah es r ws us h = ap (put 1 0 0) (same-fold vs ly ah es ws (fresh r us) h)
 
-  pub coded : codeOf values-set (layoutOf (nodesIn table)) (nodesIn table) (usesIn table) ≡ filled (codeIn (t .program))
-  unfolding valuesAt
-  coded =
-      let q = t .program in
-      let s = parsed q in
+  same-code : (r : ℕ) (vs ly ws : List ℕ) (us : List Used) → SymbolsBelow n ws → codeOf r f vs ly ws us ≡ codeOf r g vs ly ws us
+  unfolding codeOf
+  same-code r vs ly ws us h =
+      ap (λ (st : State). emitted vs ly (st .ahead) (st .entries) r f ws us .code) (same-emitted vs ly [] [] r ws us h)
+      ∙ ap (λ (st : State). st .code) (same-emitted vs ly _ _ r ws us h)
+
+-- ---- what the front end fills for a source's one program
+
+-- the nodes; the rows, in front of what else stands there; the uses, each with the number of what it means; places and values, by symbol
+pub record Lent {text : List ℕ} (p : Parsed text) (nodes uses rows places values : List ℕ) : Type 0 where
+  pub noded : nodes ≡ nodesS 1 (parsed p)
+  pub rowed : (i : ℕ) → i < length (rowsS 0 0 (parsed p)) → getD rows i 0 ≡ getD (rowsS 0 0 (parsed p)) i 0
+  pub used : Matches (rowsS 0 0 (parsed p)) uses (usesS [] (parsed p))
+  pub placed : (k : ℕ) → k < length (found p) → getD places k 0 ≡ placeIn text k
+  pub valued : (k : ℕ) → k < length (found p) → getD values k 0 ≡ getD (valuesOf (found p)) k 0
+
+module _ {text nodes uses rows places values : List ℕ} {p : Parsed text} (t : Lent p nodes uses rows places values) where
+  place-is : (k : ℕ) → k < length (found p) → placeAt places k ≡ placeIn text k
+  place-is k h = let i = place-inside p k h in let e = t .placed k h in omega arith
+
+  pub coded : least (nameFaults (parsed p)) ≡ none → typeFault (parsed p) ≡ none
+      → codeOf 16384 (placeAt places) values (layoutOf nodes) nodes (usesIn rows uses) ≡ filled (codeIn p)
+  coded named typed =
+      let s = parsed p in
+      let n = length (found p) in
       let place : ℕ → ℕ = placeIn text in
-      let n = length (found q) in
-      ap (λ u. codeOf values-set (layoutOf (nodesIn table)) (nodesIn table) u) its-uses
-      ∙ ap (λ ns. codeOf values-set (layoutOf ns) ns (joined (useWords place) (rows s))) its-nodes
-      ∙ emitted-code place n values-set (layoutOf (nodeWords place (nodesS 1 s))) s (climbing q) (in-order q) (well-scoped q (t .named) (t .typed)) (within-limits q) (numbered q)
-      (laid place n s (climbing q) (in-order q) (within-limits q))
+      let us = usesAs (numberOf (rowsS 0 0 s)) (usesS [] s) in
+      ap (λ (u : List Used). codeOf 16384 (placeAt places) values (layoutOf nodes) nodes u) (told-uses n (rowsS 0 0 s) rows (in-order p) (t .rowed) uses (usesS [] s) (t .used))
+      ∙ ap (λ (ws : List ℕ). codeOf 16384 (placeAt places) values (layoutOf ws) ws us) (t .noded)
+      ∙ same-code n (placeAt places) place place-is 16384 values (layoutOf (nodesS 1 s)) (nodesS 1 s) us (below-nodes p)
+      ∙ emitted-code place n values (layoutOf (nodesS 1 s)) s (few p) (in-order p) (well-scoped p named typed) (within-limits p) (numbered p values (t .valued))
+      (laid n (few p) s (in-order p) (within-limits p))

@@ -1,31 +1,30 @@
--- The words that the pass over a program's table writes are the words of its translation: done once, the pass finds what lies ahead and where procedures
+-- The words that the pass over a program's nodes writes are the words of its translation: done once, the pass finds what lies ahead and where procedures
 -- begin; done again with these tables, it writes the code. Assumes nothing.
 use Prim.Native.Nat.{ℕ, _+_, _-_, _≤_}
 use native.Mathlib.Omega.{arith}
 use mathlib.Core.Path.{_≡_, refl, sym, ap, _∙_}
 use mathlib.Core.List.{List, [], _∷_, _++_, append-nil}
-use lib.ListN.{length, getD, replicate, length-replicate}
+use lib.ListN.{length, getD, replicate}
 use Rattle.machine.specs.Instructions.{END}
 use Rattle.names.specs.Program.{Statement}
 use Rattle.names.specs.Nodes.{nodesS}
 use Rattle.names.specs.Rows.{foldNodes}
-use Rattle.names.specs.Uses.{usesS, joined, rows}
+use Rattle.names.specs.Uses.{usesS}
 use Rattle.names.specs.Outline.{rowsS}
-use Rattle.reading.specs.Table.{useWords, nodeWords}
 use Rattle.translation.specs.Translate.{codeS, code, endS}
-use Rattle.translation.specs.Words.{words}
+use Rattle.machine.specs.Words.{words}
 use Rattle.translation.specs.Scoped.{Scoped}
 use Rattle.translation.specs.Sizes.{Limited}
-use Rattle.emitting.specs.Layout.{sites}
-use Rattle.emitting.specs.Emission.{State, put, fresh, codeNode, emitted, codeOf}
+use Rattle.emitting.specs.Emission.{Used, State, put, fresh, emitted, codeOf}
 use Rattle.translating.proofs.NumbersOf.{NumbersS}
-use Rattle.translating.proofs.Sites.{Climbs, Rising, LaidS}
+use Rattle.translating.proofs.Rising.{Rising}
+use Rattle.translating.proofs.Sites.{numberOf, LaidS}
 use Rattle.translation.proofs.Ranges.{ends, in-range}
 use Rattle.translation.proofs.Lengths.{fits-words}
 use Rattle.translating.proofs.Shown.{shown, shown-none, shown-whole}
 use Rattle.translating.proofs.SlotLists.{more-slots, aheadS, fewS}
-use Rattle.translating.proofs.EntryTables.{enteredS, RightS, filledS, agree-refl}
-use Rattle.translating.proofs.Written.{Tables, Frame, Flow, uses-all, real, wrote, put-real, run-places, step, run, Passed}
+use Rattle.translating.proofs.EntryTables.{enteredS, RightS, right-entries}
+use Rattle.translating.proofs.Written.{Tables, Frame, Flow, usesAs, real, wrote, put-real, step, run, Passed}
 use Rattle.translating.proofs.WrittenStatements.{emitsS}
 
 -- nothing around, nothing behind
@@ -33,60 +32,59 @@ abbrev outermost : Frame
 outermost = record { level = 0; loops = 0; cells = 0; lefts = 0; awaits = 0; opens = [] }
 
 abbrev begun : Statement → Flow
-begun s = record { uses = usesS [] s; at = 0; variable = 0; code = []; slots = []; entries = replicate sites 0; long = refl }
+begun s = record { uses = usesS [] s; at = 0; variable = 0; code = []; slots = []; entries = []; long = refl }
 
-fresh-is : (place : ℕ → ℕ) (s : Statement) → fresh (joined (useWords place) (rows s)) ≡ real place outermost (begun s)
-unfolding rows
-fresh-is place s = rw (uses-all place (usesS [] s), shown-none 16384, shown-none 8192)
+fresh-is : (key : ℕ → ℕ) (s : Statement) → fresh 16384 (usesAs key (usesS [] s)) ≡ real key outermost (begun s)
+fresh-is key s = rw (shown-none 16384, shown-none 8192, shown-none 2048)
 
-module _ (place : ℕ → ℕ) (values layout : List ℕ) (s : Statement) (ok : Scoped s) (numbers : NumbersS (λ q v. getD values (place q) 0 ≡ v) s) (laid : LaidS place layout 0 0 s) where
+module _ (place key : ℕ → ℕ) (values layout : List ℕ) (s : Statement) (ok : Scoped s) (numbers : NumbersS (λ q v. getD values q 0 ≡ v) s) (laid : LaidS key layout 0 0 s) where
   abbrev told : List ℕ → List ℕ → Tables
-  told ahead entries = record { place = place; values = values; layout = layout; ahead = ahead; entries = entries }
+  told ahead entries = record { place = place; key = key; values = values; layout = layout; ahead = ahead; entries = entries }
+
+  abbrev uses : List Used
+  uses = usesAs key (usesS [] s)
 
   -- a pass over all nodes
-  whole : (R : Type 0) (ahead entries : List ℕ) → (R → RightS place entries [] s 0)
-      → Passed (told ahead entries) R outermost outermost (nodesS 1 s) [] (endS [] s 0) (aheadS [] s 0) (enteredS place [] s 0) (codeS place [] 0 s 0) (begun s)
+  whole : (R : Type 0) (ahead entries : List ℕ) → (R → RightS key entries [] s 0)
+      → Passed (told ahead entries) R outermost outermost (nodesS 1 s) [] (endS [] s 0) (aheadS [] s 0) (enteredS [] s 0) (codeS place [] 0 s 0) (begun s)
   whole R ahead entries right =
       emitsS (told ahead entries) R [] 0 s 1 0 (λ z. tt) right tt ok numbers laid .pass [] outermost (begun s) (record { level = refl; loops = refl; lefts = refl; awaits = refl }) (sym (append-nil (usesS [] s))) refl
 
-  ran : (R : Type 0) (ahead entries : List ℕ) (right : R → RightS place entries [] s 0)
-      → emitted values layout ahead entries (nodeWords place (nodesS 1 s)) (joined (useWords place) (rows s)) ≡ real place outermost (wrote 1 0 0 (whole R ahead entries right .next))
+  ran : (R : Type 0) (ahead entries : List ℕ) (right : R → RightS key entries [] s 0)
+      → emitted values layout ahead entries 16384 place (nodesS 1 s) uses ≡ real key outermost (wrote 1 0 0 (whole R ahead entries right .next))
   unfolding emitted step foldNodes
   ran R ahead entries right =
       let tb = told ahead entries in
       let p = whole R ahead entries right in
       ap (put 1 0 0)
-      (run-places place (codeNode values layout ahead entries) (nodesS 1 s) (fresh (joined (useWords place) (rows s)))
-      ∙ ap (run tb (nodesS 1 s)) (fresh-is place s)
-      ∙ ap (λ (l : List ℕ). run tb l (real place outermost (begun s))) (sym (append-nil (nodesS 1 s)))
+      (ap (run tb (nodesS 1 s)) (fresh-is key s)
+      ∙ ap (λ (l : List ℕ). run tb l (real key outermost (begun s))) (sym (append-nil (nodesS 1 s)))
       ∙ p .goes .so [])
-      ∙ put-real place 1 0 0 outermost (p .next)
+      ∙ put-real key 1 0 0 outermost (p .next)
 
   -- ---- the first run: its tables
 
-  first : Passed (told [] []) ⊥ outermost outermost (nodesS 1 s) [] (endS [] s 0) (aheadS [] s 0) (enteredS place [] s 0) (codeS place [] 0 s 0) (begun s)
+  first : Passed (told [] []) ⊥ outermost outermost (nodesS 1 s) [] (endS [] s 0) (aheadS [] s 0) (enteredS [] s 0) (codeS place [] 0 s 0) (begun s)
   first = whole ⊥ [] [] (λ z. absurd z)
 
   abbrev slots : List ℕ
   slots = first .next .slots
 
   abbrev entries : List ℕ
-  entries = enteredS place [] s 0 (replicate sites 0)
+  entries = shown 2048 (enteredS [] s 0 [])
 
   -- ---- the second
 
-  second : RightS place entries [] s 0
-      → Passed (told (shown 8192 slots) entries) (Unit {0}) outermost outermost (nodesS 1 s) [] (endS [] s 0) (aheadS [] s 0) (enteredS place [] s 0) (codeS place [] 0 s 0) (begun s)
+  second : RightS key entries [] s 0
+      → Passed (told (shown 8192 slots) entries) (Unit {0}) outermost outermost (nodesS 1 s) [] (endS [] s 0) (aheadS [] s 0) (enteredS [] s 0) (codeS place [] 0 s 0) (begun s)
   second right = whole (Unit {0}) (shown 8192 slots) entries (λ z. right)
 
-  twice : (right : RightS place entries [] s 0)
-      → codeOf values layout (nodeWords place (nodesS 1 s)) (joined (useWords place) (rows s)) ≡ shown 16384 (second right .next .code ++ (1 ∷ 0 ∷ []))
+  twice : (right : RightS key entries [] s 0) → codeOf 16384 place values layout (nodesS 1 s) uses ≡ shown 16384 (second right .next .code ++ (1 ∷ 0 ∷ []))
   unfolding codeOf first second
   twice right =
-      let nodes = nodeWords place (nodesS 1 s) in
-      let uses = joined (useWords place) (rows s) in
-      ap (λ (st : State). emitted values layout (st .ahead) (st .entries) nodes uses .code) (ran ⊥ [] [] (λ z. absurd z))
-      ∙ ap (λ (l : List ℕ). emitted values layout (shown 8192 slots) l nodes uses .code) (first .enters)
+      let nodes = nodesS 1 s in
+      ap (λ (st : State). emitted values layout (st .ahead) (st .entries) 16384 place nodes uses .code) (ran ⊥ [] [] (λ z. absurd z))
+      ∙ ap (λ (l : List ℕ). emitted values layout (shown 8192 slots) (shown 2048 l) 16384 place nodes uses .code) (first .enters)
       ∙ ap (λ (st : State). st .code) (ran (Unit {0}) (shown 8192 slots) entries (λ z. right))
 
   -- the table of what lies ahead is right
@@ -96,18 +94,17 @@ module _ (place : ℕ → ℕ) (values layout : List ℕ) (s : Statement) (ok : 
   ahead-right : Limited s → shown 8192 slots ≡ aheadS [] s 0 (replicate (8192 - length slots) 0)
   ahead-right l = shown-whole 8192 slots (few-slots l) ∙ first .fills .so (replicate (8192 - length slots) 0)
 
-  written : Limited s → (right : RightS place entries [] s 0) → second right .next .code ++ (1 ∷ 0 ∷ []) ≡ words (code place s)
+  written : Limited s → (right : RightS key entries [] s 0) → second right .next .code ++ (1 ∷ 0 ∷ []) ≡ words (code place s)
   unfolding code words
   written l right = second right .right tt (replicate (8192 - length slots) 0) (END ∷ []) (ahead-right l) (in-range place s l) .0
 
 -- the words of the pass are the words of the translation, and zeros behind them
-pub emitted-code : (place : ℕ → ℕ) (n : ℕ) (values layout : List ℕ) (s : Statement) → Climbs place n → Rising n 0 (rowsS 0 0 s) → Scoped s → Limited s
-    → NumbersS (λ q v. getD values (place q) 0 ≡ v) s → LaidS place layout 0 0 s
-    → codeOf values layout (nodeWords place (nodesS 1 s)) (joined (useWords place) (rows s)) ≡ words (code place s) ++ replicate (16384 - length (words (code place s))) 0
-emitted-code place n values layout s climbs rising ok limited numbers laid =
-    let zeros : List ℕ = replicate sites 0 in
-    let filled = filledS place n climbs sites (climbs .inside) [] s 0 0 0 0 [] zeros (length-replicate {A = ℕ} sites 0) (rw (append-nil (rowsS 0 0 s)) rising) in
-    let right : RightS place (enteredS place [] s 0 zeros) [] s 0 = filled .right (enteredS place [] s 0 zeros) (agree-refl place (filled .high) (enteredS place [] s 0 zeros)) in
-    twice place values layout s ok numbers laid right
-    ∙ ap (shown 16384) (written place values layout s ok numbers laid limited right)
+pub emitted-code : (place : ℕ → ℕ) (n : ℕ) (values layout : List ℕ) (s : Statement) → n ≤ 2048 → Rising 0 n (rowsS 0 0 s) → Scoped s → Limited s
+    → NumbersS (λ q v. getD values q 0 ≡ v) s → LaidS (numberOf (rowsS 0 0 s)) layout 0 0 s
+    → codeOf 16384 place values layout (nodesS 1 s) (usesAs (numberOf (rowsS 0 0 s)) (usesS [] s)) ≡ words (code place s) ++ replicate (16384 - length (words (code place s))) 0
+emitted-code place n values layout s few rising ok limited numbers laid =
+    let key = numberOf (rowsS 0 0 s) in
+    let right = right-entries n few s rising in
+    twice place key values layout s ok numbers laid right
+    ∙ ap (shown 16384) (written place key values layout s ok numbers laid limited right)
     ∙ shown-whole 16384 (words (code place s)) (fits-words place s limited)

@@ -1,22 +1,24 @@
--- The words that the first pass writes, of each part of a program and in source order, each at the place of a symbol. They are those of the rows of
--- declaring names, whose symbols rise and with them the places: so no word is overwritten, and each is found in the table at the end.
-use Prim.Native.Nat.{ℕ, suc, _+_, _<_}
+-- The words that the first pass writes, of each part of a program and in source order, each for the symbol of a declaring name. They are one for each
+-- row, of the same symbol, and symbols rise: so each is found by the number of its declaration.
+use Prim.Native.Nat.{ℕ, suc, _+_, _<_, _≤_}
 use native.Mathlib.Omega.{arith}
-use mathlib.Core.Path.{_≡_, refl, _∙_}
-use mathlib.Core.List.{List, [], _∷_, _++_}
+use mathlib.Core.Path.{_≡_, refl, sym, _∙_}
+use mathlib.Core.List.{List, [], _∷_, _++_, append-assoc, append-nil}
 use mathlib.Core.Option.{some}
-use lib.ListN.{length, getD, set, length-set}
-use lib.Seq.{getD-set-same, getD-set-other}
+use lib.ListN.{length, getD}
+use borrow.Author.Tests.{eq-eqb, ne-eqb}
 use Rattle.grammar.specs.NodeKinds.{n-variable, n-formal}
 use Rattle.names.specs.Program.{Name, Statement, dummy, assignment, procedure, when, either, repeat, compound, block, Statements, last, first, Declarations, none as no-more, variables, declare, Procedure, heading}
 use Rattle.names.specs.Scopes.{ofBlock, ofBody}
 use Rattle.names.specs.Nodes.{sortNumber}
-use Rattle.names.specs.Outline.{sizeS, sizeD, sizeP, rowsN, rowsS, rowsSs, rowsD, rowsP}
+use Rattle.names.specs.Outline.{sizeS, sizeD, sizeP, formalIn, rowsN, rowsS, rowsSs, rowsD, rowsP}
 use Rattle.rules.specs.Entered.{cellsIn, oneIf}
-use Rattle.emitting.specs.Layout.{sites, packed}
-use Rattle.translating.proofs.Sites.{Climbs, Rising, no-row, row}
+use Rattle.emitting.specs.Layout.{packed}
+use Rattle.translating.proofs.Shown.{shown, shown-get}
+use Rattle.translating.proofs.Rising.{Rising, no-row, row}
+use Rattle.translating.proofs.Sites.{numberOf}
 
--- a word, and the symbol at whose place it is written
+-- a word, and the symbol of the declaring name that it tells of
 pub record Written : Type 0 where
   pub symbol : ℕ
   pub word : ℕ
@@ -58,15 +60,15 @@ unfoldable mutual
 
 -- ---- one word for each row, of the same symbol
 
-data Alike : List ℕ → List Written → Type 0 where
+pub data Alike : List ℕ → List Written → Type 0 where
   no-word : Alike [] []
   a-word : {k s q t w : ℕ} {rs : List ℕ} {ws : List Written} → Alike rs ws → Alike (k ∷ s ∷ q ∷ t ∷ rs) (written s w ∷ ws)
 
-alike-append : {rs rs' : List ℕ} {ws ws' : List Written} → Alike rs ws → Alike rs' ws' → Alike (rs ++ rs') (ws ++ ws')
+pub alike-append : {rs rs' : List ℕ} {ws ws' : List Written} → Alike rs ws → Alike rs' ws' → Alike (rs ++ rs') (ws ++ ws')
 alike-append no-word b = b
 alike-append (a-word a) b = a-word (alike-append a b)
 
-alikeN : (k q t u o : ℕ) (xs : List Name) → Alike (rowsN k q t xs) (writtenN u o xs)
+alikeN : (k q : ℕ) (t : Name → ℕ) (u o : ℕ) (xs : List Name) → Alike (rowsN k q t xs) (writtenN u o xs)
 unfolding rowsN writtenN
 alikeN k q t u o [] = no-word
 alikeN k q t u o (x ∷ xs) = a-word (alikeN k q t u (o + 1) xs)
@@ -91,52 +93,70 @@ mutual
 
   alikeD : (c q u o : ℕ) (ds : Declarations) → Alike (rowsD c q ds) (writtenD u o ds)
   alikeD c q u o no-more = no-word
-  alikeD c q u o (variables t xs ds) = alike-append (alikeN n-variable q (sortNumber (some t)) u o xs) (alikeD c q u (o + length xs) ds)
+  alikeD c q u o (variables t xs ds) = alike-append (alikeN n-variable q (λ x. sortNumber (some t)) u o xs) (alikeD c q u (o + length xs) ds)
   alikeD c q u o (declare p ds) = alike-append (alikeP c q u p) (alikeD (c + sizeP p) q u o ds)
 
   alikeP : (c q u : ℕ) (p : Procedure) → Alike (rowsP c q p) (writtenP u p)
   alikeP c q u (heading t f xs vs ss s) =
-      a-word (alike-append (alikeN n-formal (c + 1) 0 (suc u) (oneIf t) xs) (alikeS (c + 1) (c + 1) (suc u) (cellsIn (ofBody (heading t f xs vs ss s))) s))
+      a-word (alike-append (alikeN n-formal (c + 1) (formalIn vs ss) (suc u) (oneIf t) xs) (alikeS (c + 1) (c + 1) (suc u) (cellsIn (ofBody (heading t f xs vs ss s))) s))
 
--- ---- the table they are written in
+-- ---- the words one after the other
 
-module _ (place : ℕ → ℕ) where
-  unfoldable pub writes : List ℕ → List Written → List ℕ
-  writes T [] = T
-  writes T (w ∷ ws) = writes (set T (place (w .symbol)) (w .word)) ws
+unfoldable pub writes : List ℕ → List Written → List ℕ
+writes l [] = l
+writes l (w ∷ ws) = writes (l ++ (w .word ∷ [])) ws
 
-  pub writes-append : (T : List ℕ) (ws ws' : List Written) → writes T (ws ++ ws') ≡ writes (writes T ws) ws'
-  unfolding writes
-  writes-append T [] ws' = refl
-  writes-append T (w ∷ ws) ws' = writes-append (set T (place (w .symbol)) (w .word)) ws ws'
+pub writes-append : (l : List ℕ) (ws ws' : List Written) → writes l (ws ++ ws') ≡ writes (writes l ws) ws'
+unfolding writes
+writes-append l [] ws' = refl
+writes-append l (w ∷ ws) ws' = writes-append (l ++ (w .word ∷ [])) ws ws'
 
-  -- each is found in the table L
-  abbrev pub Found : List ℕ → List Written → Type 0
-  Found L [] = Unit {0}
-  Found L (w ∷ ws) = (getD L (place (w .symbol)) 0 ≡ w .word) × Found L ws
+abbrev pub wordsOf : List Written → List ℕ
+wordsOf [] = []
+wordsOf (w ∷ ws) = w .word ∷ wordsOf ws
 
-  pub found-split : (L : List ℕ) (ws ws' : List Written) → Found L (ws ++ ws') → Found L ws × Found L ws'
-  found-split L [] ws' h = (tt, h)
-  found-split L (w ∷ ws) ws' h = let r = found-split L ws ws' (h .1) in ((h .0, r .0), r .1)
+pub writes-are : (l : List ℕ) (ws : List Written) → writes l ws ≡ l ++ wordsOf ws
+unfolding writes
+writes-are l [] = sym (append-nil l)
+writes-are l (w ∷ ws) = writes-are (l ++ (w .word ∷ [])) ws ∙ append-assoc l (w .word ∷ []) (wordsOf ws)
 
-  module _ (n : ℕ) (climbs : Climbs place n) where
-    -- what is written later is at other places
-    kept : {rs : List ℕ} {ws : List Written} {lo : ℕ} (T : List ℕ) (j : ℕ) → Alike rs ws → Rising n lo rs → j < lo
-        → getD (writes T ws) (place j) 0 ≡ getD T (place j) 0
-    unfolding writes
-    kept T j no-word no-row h = refl
-    kept T j (a-word {s = s} {w = w} a) (row l m r) h =
-        let sooner = climbs .sooner j s (omega arith) m in
-        kept (set T (place s) w) j a r (omega arith) ∙ getD-set-other T (place s) (place j) w 0 (λ e. omega arith)
+-- ---- each is found in the table L, by its number
 
-    all-found : {rs : List ℕ} {ws : List Written} {lo : ℕ} (T : List ℕ) → length T ≡ sites → Alike rs ws → Rising n lo rs → Found (writes T ws) ws
-    unfolding writes
-    all-found T e no-word no-row = tt
-    all-found T e (a-word {s = s} {w = w} a) (row l m r) =
-        let inside = climbs .inside s m in
-        let T' = set T (place s) w in
-        (kept T' s a r (omega arith) ∙ getD-set-same T (place s) w 0 (omega arith), all-found T' (length-set T (place s) w ∙ e) a r)
+abbrev pub Found : (ℕ → ℕ) → List ℕ → List Written → Type 0
+Found key L [] = Unit {0}
+Found key L (w ∷ ws) = (getD L (key (w .symbol)) 0 ≡ w .word) × Found key L ws
 
-    -- of a program
-    pub found : (T : List ℕ) → length T ≡ sites → (c q u o : ℕ) (s : Statement) → Rising n 0 (rowsS c q s) → Found (writes T (writtenS u o s)) (writtenS u o s)
-    found T e c q u o s r = all-found T e (alikeS c q u o s) r
+pub found-split : (key : ℕ → ℕ) (L : List ℕ) (ws ws' : List Written) → Found key L (ws ++ ws') → Found key L ws × Found key L ws'
+found-split key L [] ws' h = (tt, h)
+found-split key L (w ∷ ws) ws' h = let r = found-split key L ws ws' (h .1) in ((h .0, r .0), r .1)
+
+found-as : (key : ℕ → ℕ) (L L' : List ℕ) → ((i : ℕ) → getD L' i 0 ≡ getD L i 0) → (ws : List Written) → Found key L ws → Found key L' ws
+found-as key L L' e [] h = tt
+found-as key L L' e (w ∷ ws) h = (e (key (w .symbol)) ∙ h .0, found-as key L L' e ws (h .1))
+
+-- behind one row more, of another symbol
+later : (k x q t v : ℕ) (rs L : List ℕ) {rs' : List ℕ} {ws : List Written} {a b : ℕ} → Alike rs' ws → Rising a b rs' → x < a → Found (numberOf rs) L ws
+    → Found (numberOf (k ∷ x ∷ q ∷ t ∷ rs)) (v ∷ L) ws
+unfolding numberOf
+later k x q t v rs L no-word (no-row l) h f = tt
+later k x q t v rs L (a-word {s = s} a) (row l r) h f = (rw (ne-eqb x s (λ e. omega arith)) (f .0), later k x q t v rs L a r (omega arith) (f .1))
+
+all-found : {rs : List ℕ} {ws : List Written} {a b : ℕ} → Alike rs ws → Rising a b rs → Found (numberOf rs) (wordsOf ws) ws
+unfolding numberOf
+all-found no-word (no-row l) = tt
+all-found (a-word {k = k} {s = s} {q = q} {t = t} {w = w} {rs = rs} {ws = ws} a) (row l r) =
+    (rw (eq-eqb s s refl) refl, later k s q t w rs (wordsOf ws) a r (omega arith) (all-found a r))
+
+few : {rs : List ℕ} {ws : List Written} {a b : ℕ} → Alike rs ws → Rising a b rs → a + length (wordsOf ws) ≤ b
+few no-word (no-row l) = omega arith
+few (a-word a) (row l r) = let z = few a r in omega arith
+
+-- in an array with room for all
+pub found-in : (n N : ℕ) → n ≤ N → {rs : List ℕ} {ws : List Written} → Alike rs ws → Rising 0 n rs → Found (numberOf rs) (shown N (wordsOf ws)) ws
+found-in n N h {rs} {ws} a r =
+    let z = few a r in
+    found-as (numberOf rs) (wordsOf ws) (shown N (wordsOf ws)) (λ i. shown-get N (wordsOf ws) i (omega arith)) ws (all-found a r)
+
+-- of a program
+pub found : (n : ℕ) → n ≤ 2048 → (s : Statement) → Rising 0 n (rowsS 0 0 s) → Found (numberOf (rowsS 0 0 s)) (shown 2048 (wordsOf (writtenS 0 0 s))) (writtenS 0 0 s)
+found n h s r = found-in n 2048 h (alikeS 0 0 0 0 s) r

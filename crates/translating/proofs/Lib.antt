@@ -11,10 +11,6 @@ pub mod LaidWords
 pub mod LayoutPass
 pub mod LaidOut
 pub mod Promised
-pub mod Sectioned
-pub mod ByPlaceLaws
-pub mod FoundFirst
-pub mod AfterRead
 pub mod Shown
 pub mod NumbersOf
 pub mod SlotLists
@@ -31,4 +27,6 @@ pub mod WrittenBlocks
 pub mod WrittenStatements
 pub mod Emitted
 pub mod Coded
+pub mod Lending
 pub mod Handed
+pub mod ToldUses

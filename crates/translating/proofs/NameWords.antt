@@ -17,14 +17,14 @@ use Rattle.names.specs.Scopes.{Thing, variable, routine, formal, Declared, Scop
 use Rattle.rules.specs.Entered.{oneIf, isSome, declaring, bodyOfThis}
 use Rattle.translation.specs.Translate.{Mark, blk, own, scopes, cutG, levels, amongG, offsetOf, locFor, locAs, loc, entry, target}
 use Rattle.translation.specs.Scoped.{nearest, HasCell, CellAs, OkV}
-use Rattle.translation.specs.Words.{beside, LocFits}
+use Rattle.machine.specs.Words.{beside, LocFits}
 use Rattle.emitting.specs.Layout.{packed}
 use Rattle.emitting.specs.Emission.{cellOf, resultOf}
 use Rattle.translating.proofs.Sites.{Lying, Lies}
 use Rattle.translation.proofs.Ranges.{owns}
 use Rattle.names.specs.Uses.{thingKind}
 use Rattle.translating.proofs.Written.{kindOf, meansOf}
-use Rattle.translation.proofs.Words.{high-pack, mid-pack}
+use Rattle.machine.proofs.Words.{high-pack, mid-pack}
 use Rattle.translation.proofs.Stands.{procedureOf, behind}
 
 -- ---- what is found is what is declared
@@ -94,18 +94,18 @@ meant-name (s ∷ g) x d h p e e' = go (findIn (declares s) x) refl (λ e. meant
         let i' : findIn (declares s) x ≡ some d = cc in
         routine-name s x d p i' e'
 
-module _ (place : ℕ → ℕ) (L : List ℕ) where
+module _ (key : ℕ → ℕ) (L : List ℕ) where
   -- the layout is right for the scopes around
   abbrev pub Known : List Mark → Type 0
   Known [] = Unit {0}
-  Known (blk o ds b ∷ g) = Lies place L (owns g) o (ofBlock ds) × Known g
-  Known (own p ∷ g) = Lies place L (suc (owns g)) 0 (ofBody p) × (getD L (place (nameOf p .symbol)) 0 ≡ pack (owns g) (oneIf (sortOf p)) 0) × Known g
+  Known (blk o ds b ∷ g) = Lies key L (owns g) o (ofBlock ds) × Known g
+  Known (own p ∷ g) = Lies key L (suc (owns g)) 0 (ofBody p) × (getD L (key (nameOf p .symbol)) 0 ≡ pack (owns g) (oneIf (sortOf p)) 0) × Known g
 
   -- the scope that declares a name: its level, and what the layout has
   pub record Stands (g : List Mark) (x : Name) (d : Declared) : Type 0 where
     pub level : ℕ
     pub out : level + levels (declaring x) g ≡ owns g
-    pub lies : Lying place L level (amongG (cutG (declaring x) g) x) (d .thing) (d .name .symbol)
+    pub lies : Lying key L level (amongG (cutG (declaring x) g) x) (d .thing) (d .name .symbol)
 
   pub stands : (g : List Mark) (x : Name) (d : Declared) (h : List Scope) → Known g → meaning (scopes g) x ≡ declared d h → Stands g x d
   unfolding meaning levels cutG declaring
@@ -136,7 +136,7 @@ module _ (place : ℕ → ℕ) (L : List ℕ) where
     pub level : ℕ
     pub out : suc level + levels (bodyOfThis p) g ≡ owns g
     pub first : offsetOf (cutG (bodyOfThis p) g) ≡ 0
-    pub word : high (getD L (place (nameOf p .symbol)) 0) ≡ level
+    pub word : high (getD L (key (nameOf p .symbol)) 0) ≡ level
 
   few-results : (t : Option Sort) → oneIf t < 8192
   few-results none = omega arith
@@ -168,8 +168,8 @@ module _ (place : ℕ → ℕ) (L : List ℕ) where
           record { level = w .level; out = rw i (omega (arith, w .out)); first = rw i (w .first); word = w .word }
 
   as-thing : (g : List Mark) (x : Name) (d : Declared) (t : Thing) → d .thing ≡ t → (w : Stands g x d)
-      → Lying place L (w .level) (amongG (cutG (declaring x) g) x) t (d .name .symbol)
-  as-thing g x d t i w = subst (λ (t : Thing). Lying place L (w .level) (amongG (cutG (declaring x) g) x) t (d .name .symbol)) i (w .lies)
+      → Lying key L (w .level) (amongG (cutG (declaring x) g) x) t (d .name .symbol)
+  as-thing g x d t i w = subst (λ (t : Thing). Lying key L (w .level) (amongG (cutG (declaring x) g) x) t (d .name .symbol)) i (w .lies)
 
   -- ---- words
 
@@ -195,77 +195,77 @@ module _ (place : ℕ → ℕ) (L : List ℕ) where
 
     -- a name that has a cell
     pub cell-is : (g : List Mark) (x : Name) → Known g → OkV (scopes g) x → LocFits (loc g x)
-        → cellOf values L ahead entries (owns g) (kindOf (meaning (scopes g) x)) (meansOf place (meaning (scopes g) x)) ≡ beside (loc g x) 0
+        → cellOf values L ahead entries (owns g) (kindOf (meaning (scopes g) x)) (meansOf key (meaning (scopes g) x)) ≡ beside (loc g x) 0
     unfolding loc
     cell-is g x k ok fits = go (meaning (scopes g) x) refl ok fits
       where
         thing : (d : Declared) (h : List Scope) → meaning (scopes g) x ≡ declared d h → (t : Thing) → d .thing ≡ t → HasCell (scopes g) t → LocFits (locFor g t x)
-            → cellOf values L ahead entries (owns g) (thingKind t) (place (d .name .symbol)) ≡ beside (locFor g t x) 0
+            → cellOf values L ahead entries (owns g) (thingKind t) (key (d .name .symbol)) ≡ beside (locFor g t x) 0
         thing d h e (variable t) i ok fits =
             let w = stands g x d h k e in
             let y = as-thing g x d (variable t) i w in
-            cell-found 1 (w .level) _ (levels (declaring x) g) (place (d .name .symbol)) refl (y .0) (y .1) (fits .0) (owns g) (w .out)
+            cell-found 1 (w .level) _ (levels (declaring x) g) (key (d .name .symbol)) refl (y .0) (y .1) (fits .0) (owns g) (w .out)
         thing d h e (formal t) i ok fits =
             let w = stands g x d h k e in
             let y = as-thing g x d (formal t) i w in
-            cell-found 3 (w .level) _ (levels (declaring x) g) (place (d .name .symbol)) refl (y .0) (y .1) (fits .0) (owns g) (w .out)
+            cell-found 3 (w .level) _ (levels (declaring x) g) (key (d .name .symbol)) refl (y .0) (y .1) (fits .0) (owns g) (w .out)
         thing d h e (routine p) i ok fits =
             let w = returns g p k ok in
             let j = meant-name (scopes g) x d h p e i in
-            rw (j, w .first) (cell-result (w .level) (levels (bodyOfThis p) g) (place (nameOf p .symbol)) (w .word) (fits .0) (owns g) (w .out))
+            rw (j, w .first) (cell-result (w .level) (levels (bodyOfThis p) g) (key (nameOf p .symbol)) (w .word) (fits .0) (owns g) (w .out))
 
         go : (M : Meaning) → meaning (scopes g) x ≡ M → CellAs (scopes g) M → LocFits (locAs g M x)
-            → cellOf values L ahead entries (owns g) (kindOf M) (meansOf place M) ≡ beside (locAs g M x) 0
+            → cellOf values L ahead entries (owns g) (kindOf M) (meansOf key M) ≡ beside (locAs g M x) 0
         go (declared d h) e ok fits = thing d h e (d .thing) refl ok fits
         go (given n y) e ok fits = absurd ok
         go nothing e ok fits = absurd ok
 
     -- whether a procedure has a result
     pub result-is : (g : List Mark) (x : Name) (d : Declared) (h : List Scope) (p : Procedure) → Known g → meaning (scopes g) x ≡ declared d h → d .thing ≡ routine p
-        → resultOf values L ahead entries 2 (place (d .name .symbol)) ≡ oneIf (sortOf p)
+        → resultOf values L ahead entries 2 (key (d .name .symbol)) ≡ oneIf (sortOf p)
     unfolding resultOf
     result-is g x d h p k e i =
         let w = stands g x d h k e in
-        let y : getD L (place (d .name .symbol)) 0 ≡ pack (w .level) (oneIf (sortOf p)) 0 = as-thing g x d (routine p) i w in
+        let y : getD L (key (d .name .symbol)) 0 ≡ pack (w .level) (oneIf (sortOf p)) 0 = as-thing g x d (routine p) i w in
         rw y (mid-pack (w .level) (oneIf (sortOf p)) 0 (few-results (sortOf p)) (omega arith))
 
   -- the levels out to a procedure's declaration
   pub levels-is : (g : List Mark) (x : Name) (d : Declared) (h : List Scope) (p : Procedure) → Known g → meaning (scopes g) x ≡ declared d h → d .thing ≡ routine p
-      → owns g - high (getD L (place (d .name .symbol)) 0) ≡ levels (declaring x) g
+      → owns g - high (getD L (key (d .name .symbol)) 0) ≡ levels (declaring x) g
   levels-is g x d h p k e i =
       let w = stands g x d h k e in
-      let y : getD L (place (d .name .symbol)) 0 ≡ pack (w .level) (oneIf (sortOf p)) 0 = as-thing g x d (routine p) i w in
+      let y : getD L (key (d .name .symbol)) 0 ≡ pack (w .level) (oneIf (sortOf p)) 0 = as-thing g x d (routine p) i w in
       rw (y, high-pack (w .level) (oneIf (sortOf p)) 0 (few-results (sortOf p)) (omega arith)) (outward (w .level) (levels (declaring x) g) (owns g) (w .out))
 
 -- ---- entries
 
-module _ (place : ℕ → ℕ) (T : List ℕ) where
+module _ (key : ℕ → ℕ) (T : List ℕ) where
   -- the table has where the procedures of the scopes around begin
   abbrev pub Targets : List Mark → Type 0
   Targets [] = Unit {0}
   Targets (blk o ds b ∷ g) =
-      ((x : Name) (d : Declared) (p : Procedure) → findIn (inBlock ds) x ≡ some d → d .thing ≡ routine p → getD T (place (d .name .symbol)) 0 ≡ entry (ofBlock ds ∷ scopes g) ds b x)
+      ((x : Name) (d : Declared) (p : Procedure) → findIn (inBlock ds) x ≡ some d → d .thing ≡ routine p → getD T (key (d .name .symbol)) 0 ≡ entry (ofBlock ds ∷ scopes g) ds b x)
       × Targets g
   Targets (own p ∷ g) = Targets g
 
   pub target-is : (g : List Mark) (x : Name) (d : Declared) (h : List Scope) (p : Procedure) → Targets g → meaning (scopes g) x ≡ declared d h → d .thing ≡ routine p
-      → getD T (place (d .name .symbol)) 0 ≡ target (cutG (declaring x) g) x
+      → getD T (key (d .name .symbol)) 0 ≡ target (cutG (declaring x) g) x
   unfolding meaning cutG declaring
   target-is [] x d h p k e i = absurd (no-given 0 environment x d h e)
   target-is (blk o ds b ∷ g) x d h p k e i = go (findIn (inBlock ds) x) refl (λ e. target-is g x d h p (k .1) e i) e
     where
-      go : (f : Option Declared) → findIn (inBlock ds) x ≡ f → (meaning (scopes g) x ≡ declared d h → getD T (place (d .name .symbol)) 0 ≡ target (cutG (declaring x) g) x)
+      go : (f : Option Declared) → findIn (inBlock ds) x ≡ f → (meaning (scopes g) x ≡ declared d h → getD T (key (d .name .symbol)) 0 ≡ target (cutG (declaring x) g) x)
           → innermost f (ofBlock ds ∷ scopes g) (meaning (scopes g) x) ≡ declared d h
-          → getD T (place (d .name .symbol)) 0 ≡ target (cond (isSome (findIn (inBlock ds) x)) (blk o ds b ∷ g) (cutG (declaring x) g)) x
+          → getD T (key (d .name .symbol)) 0 ≡ target (cond (isSome (findIn (inBlock ds) x)) (blk o ds b ∷ g) (cutG (declaring x) g)) x
       go none j f e = rw j (f e)
       go (some d') j f e =
           let j' : findIn (inBlock ds) x ≡ some d = cc in
           rw j (k .0 x d p j' i)
   target-is (own q ∷ g) x d h p k e i = go (findIn (inBody q) x) refl (λ e. target-is g x d h p k e i) e
     where
-      go : (f : Option Declared) → findIn (inBody q) x ≡ f → (meaning (scopes g) x ≡ declared d h → getD T (place (d .name .symbol)) 0 ≡ target (cutG (declaring x) g) x)
+      go : (f : Option Declared) → findIn (inBody q) x ≡ f → (meaning (scopes g) x ≡ declared d h → getD T (key (d .name .symbol)) 0 ≡ target (cutG (declaring x) g) x)
           → innermost f (ofBody q ∷ scopes g) (meaning (scopes g) x) ≡ declared d h
-          → getD T (place (d .name .symbol)) 0 ≡ target (cond (isSome (findIn (inBody q) x)) (own q ∷ g) (cutG (declaring x) g)) x
+          → getD T (key (d .name .symbol)) 0 ≡ target (cond (isSome (findIn (inBody q) x)) (own q ∷ g) (cutG (declaring x) g)) x
       go none j f e = rw j (f e)
       go (some d') j f e =
           let j' : findIn (inBody q) x ≡ some d = cc in

@@ -1,5 +1,5 @@
 -- That every number of a tree is as a predicate says, of its symbol and its value. These are definitions: the pass that writes the code is told the
--- values of a program's numbers by their places, and takes this of them.
+-- values of a program's numbers by their symbols, and takes this of them.
 use Prim.Native.Nat.{ℕ}
 use mathlib.Core.List.{List, [], _∷_}
 use Rattle.names.specs.Program.{Expression, number, logical, name, call, signed, operated, chosen, nested, Expressions, done, then, Element, value, while, step, Statement, dummy, assignment, procedure, when, either, repeat, compound, block, Statements, last, first, Declarations, none as no-more, variables, declare, Procedure, heading}

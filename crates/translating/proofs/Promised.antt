@@ -25,7 +25,7 @@ use Rattle.rules.specs.Rules.{source}
 use Rattle.reading.specs.Reading.{placeIn, Parsed, parsed, accepted as judged-right}
 use Rattle.reading.proofs.Only.{one-program, one-judgement}
 use Rattle.translation.specs.Translate.{code}
-use Rattle.translation.specs.Words.{words}
+use Rattle.machine.specs.Words.{words}
 use Rattle.translation.specs.Faithful.{Ordinary, Follows}
 use Rattle.translation.specs.Listed.{machineIn}
 use Rattle.translation.proofs.Lengths.{fits-words}

@@ -12,7 +12,7 @@ use Rattle.grammar.specs.NodeKinds.{n-variable, n-formal}
 use Rattle.names.specs.Program.{Name, Sort, Expression, Statement, Statements, Declarations, Procedure}
 use Rattle.names.specs.ReadOff.{Sem, nameAt, build, programOf}
 use Rattle.names.specs.Nodes.{sortNumber}
-use Rattle.names.specs.Outline.{sizeS, sizeD, sizeP, rowsN, rowsS, rowsSs, rowsD, rowsP}
+use Rattle.names.specs.Outline.{sizeS, sizeD, sizeP, formalIn, rowsN, rowsS, rowsSs, rowsD, rowsP}
 use Rattle.translating.proofs.Built.{Fits, built}
 
 -- ---- rows of four words: their symbols, the second words, rise from a on, and all are before b
@@ -40,7 +40,7 @@ at {b} i r = let z : i ≤ i = omega arith in row {b = b} z (widen (omega arith)
 -- ---- what a part gives that has the symbols from i on, before j; whatever the scopes' numbers
 
 abbrev InNames : ℕ → ℕ → List Name → Type 0
-InNames i j xs = (k q t : ℕ) → Rising i j (rowsN k q t xs)
+InNames i j xs = (k q : ℕ) (t : Name → ℕ) → Rising i j (rowsN k q t xs)
 
 abbrev InS : ℕ → ℕ → Statement → Type 0
 InS i j s = (c q : ℕ) → Rising i j (rowsS c q s)
@@ -111,12 +111,12 @@ module _ (worth : ℕ → ℕ) (letters : ℕ → List ℕ) where
   fits no-declaration = λ i c q. nowhere i
   fits typed = λ i t j l h f j' l' k ds n m c q. widen l (omega arith) (k t ds n m c q)
   fits untyped = λ i p f j l h ds n m c q. follow (widen (omega arith) (omega arith) (h none c q)) (m (c + sizeP (f none)) q)
-  fits variables = λ i xs j l h t ds n m c q. follow (h n-variable q (sortNumber (some t))) (m c q)
+  fits variables = λ i xs j l h t ds n m c q. follow (h n-variable q (λ x. sortNumber (some t))) (m c q)
   fits function = λ i p f j l h t ds n m c q. follow (widen (omega arith) (omega arith) (h (some t) c q)) (m (c + sizeP (f (some t))) q)
   fits integer = λ i q. tt
   fits boolean = λ i q. tt
   fits a-procedure = λ i f j l h s j' l' k t. h t s j' k
-  fits a-heading = λ i x xs j l h p vs j' l' k ss j'' l'' m t s n r c q. at i (follow (widen (omega arith) (omega arith) (h n-formal (c + 1) 0)) (r (c + 1) (c + 1)))
+  fits a-heading = λ i x xs j l h p vs j' l' k ss j'' l'' m t s n r c q. at i (follow (widen (omega arith) (omega arith) (h n-formal (c + 1) (formalIn vs ss))) (r (c + 1) (c + 1)))
   fits some-formals = λ i p xs j l h r k q t. widen (omega arith) (omega arith) (h k q t)
   fits no-formals = λ i k q t. nowhere i
   fits some-values = λ i q xs j l h r. tt

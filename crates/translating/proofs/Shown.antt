@@ -5,7 +5,7 @@ use native.Mathlib.Omega.{arith}
 use native.Mathlib.Nat.{suc-sub-suc, sub-zero, not-suc-le-zero, le-of-suc-le-suc}
 use mathlib.Core.Path.{_≡_, refl, sym, ap, _∙_}
 use mathlib.Core.List.{List, [], _∷_, _++_, append-assoc}
-use lib.ListN.{length, set, replicate, length-append}
+use lib.ListN.{length, getD, set, replicate, length-append}
 
 -- n words: those of a list, and zeros behind it
 pub shown : ℕ → List ℕ → List ℕ
@@ -47,6 +47,16 @@ shown-whole zero [] h = refl
 shown-whole zero (x ∷ l) h = absurd (not-suc-le-zero h)
 shown-whole (suc n) [] h = shown-none (suc n) ∙ ap (λ (k : ℕ). replicate k 0) (sym (sub-zero (suc n)))
 shown-whole (suc n) (x ∷ l) h = ap (λ (m : List ℕ). x ∷ m) (shown-whole n l (le-of-suc-le-suc h) ∙ ap (λ (k : ℕ). l ++ replicate k 0) (sym (suc-sub-suc n (length l))))
+
+-- what stands there, where there is room for all of it
+pub shown-get : (n : ℕ) (l : List ℕ) (i : ℕ) → length l ≤ n → getD (shown n l) i 0 ≡ getD l i 0
+unfolding shown
+shown-get zero [] i h = refl
+shown-get zero (x ∷ l) i h = absurd (not-suc-le-zero h)
+shown-get (suc n) [] zero h = refl
+shown-get (suc n) [] (suc i) h = shown-get n [] i (omega arith)
+shown-get (suc n) (x ∷ l) zero h = refl
+shown-get (suc n) (x ∷ l) (suc i) h = shown-get n l i (le-of-suc-le-suc h)
 
 -- two words, the list so far being of k times two
 pub shown-two : (n k : ℕ) (l : List ℕ) (w v : ℕ) → length l ≡ 2 * k → set (set (shown n l) (2 * k) w) (2 * k + 1) v ≡ shown n (l ++ (w ∷ v ∷ []))

@@ -1,13 +1,11 @@
--- The numbers of a source: each value has 32 bits, and stands in the array of values at the place of its symbol, since places rise. By the scan's own
--- recursion.
-use Prim.Native.Nat.{ℕ, zero, suc, pred, _+_, _<_, _≤_}
+-- The numbers of a source: each value has 32 bits. By the scan's own recursion.
+use Prim.Native.Nat.{ℕ, zero, suc, pred, _+_, _<_}
 use native.Mathlib.Omega.{arith}
-use mathlib.Core.Path.{_≡_, refl, _∙_}
+use mathlib.Core.Path.{_≡_, refl}
 use mathlib.Core.Bool.{Bool, true, false, cond, _&&_}
 use mathlib.Core.List.{List, [], _∷_}
 use lib.Dec.{ltb, eqb}
-use lib.ListN.{length, getD, drop, set, replicate, length-set, length-replicate}
-use lib.Seq.{getD-set-same, getD-set-other}
+use lib.ListN.{length, getD, drop}
 use borrow.Author.Tests.{ltb-false}
 use Prim.Native.Char.{code}
 use Rattle.answers.specs.Numbers.{noSymbol}
@@ -15,7 +13,7 @@ use Rattle.answers.specs.Answers.{answer}
 use Rattle.symbols.specs.Text.{bytes}
 use Rattle.symbols.specs.Names.{blank, letter, digit, inName, reach, value, equal, letters}
 use Rattle.symbols.specs.Symbols.{Delimiter, words, Sign, one, two, signs, is, valueOf}
-use Rattle.symbols.specs.Scan.{closed, before, spelled, named, word, followed, gap, sign, sized, name, valued, number, lexeme, endsRemark, note, counted, judged, turn, Found, Scan, then, scanFrom, scan, placesOf, valuesOf}
+use Rattle.symbols.specs.Scan.{closed, before, spelled, named, word, followed, gap, sign, sized, name, valued, number, lexeme, endsRemark, note, counted, judged, turn, Found, Scan, then, scanFrom, scan, valuesOf}
 use Rattle.symbols.specs.declared.Context.{Context}
 use Rattle.symbols.specs.declared.Context.the-variants.{Opens, Plain, Remark}
 use Rattle.symbols.specs.declared.words.Spelled.{Spelled}
@@ -26,11 +24,6 @@ use Rattle.symbols.specs.declared.Turn.{Turn}
 use Rattle.symbols.specs.declared.Turn.the-variants.{Pass, Keep, Refuse}
 use Rattle.symbols.specs.declared.Symbol.{Symbol}
 use Rattle.symbols.specs.declared.Symbol.the-variants.{Comment, Name, Number}
-use Rattle.reading.proofs.Places.{Rising, places-rise}
-use Rattle.emitting.specs.Layout.{sites}
-use Rattle.translating.specs.ByPlace.{setAll, valuesAt}
-
--- ---- every value has 32 bits
 
 abbrev Small : Symbol → Type 0
 Small s = valueOf s < 2147483648
@@ -166,30 +159,3 @@ small-from n c p zero (b ∷ bs) =
 pub small-values : (n : ℕ) (source : List ℕ) (k : ℕ) → getD (valuesOf (scan n source .found)) k 0 < 2147483648
 unfolding scan
 small-values n source k = small-from n Plain 0 0 source k
-
--- ---- the array of values
-
-later : (lo hi : ℕ) (l : List Found) (t : List ℕ) (j : ℕ) → Rising lo hi l → j < lo → getD (setAll (placesOf l) (valuesOf l) t) j 0 ≡ getD t j 0
-unfolding setAll
-later lo hi [] t j r h = refl
-later lo hi (f ∷ l) t j r h =
-    later (f .place + 1) hi l (set t (f .place) (valueOf (f .symbol))) j (r .2) (omega (arith, r .0))
-    ∙ getD-set-other t (f .place) j (valueOf (f .symbol)) 0 (λ e. let z = r .0 in omega arith)
-
-placed : (lo hi : ℕ) (l : List Found) (t : List ℕ) (d k : ℕ) → Rising lo hi l → hi ≤ length t → k < length l
-    → getD (setAll (placesOf l) (valuesOf l) t) (getD (placesOf l) k d) 0 ≡ getD (valuesOf l) k 0
-unfolding setAll
-placed lo hi [] t d k r h m = absurd (omega arith)
-placed lo hi (f ∷ l) t d zero r h m =
-    later (f .place + 1) hi l (set t (f .place) (valueOf (f .symbol))) (f .place) (r .2) (omega arith)
-    ∙ getD-set-same t (f .place) (valueOf (f .symbol)) 0 (omega (arith, r .1))
-placed lo hi (f ∷ l) t d (suc k) r h m =
-    placed (f .place + 1) hi l (set t (f .place) (valueOf (f .symbol))) d k (r .2) (omega (arith, length-set t (f .place) (valueOf (f .symbol)))) (omega arith)
-
--- the value of symbol k stands at its place
-pub value-at : (n : ℕ) (source : List ℕ) (k : ℕ) → length source ≤ sites → k < length (scan n source .found)
-    → getD (valuesAt (placesOf (scan n source .found)) (valuesOf (scan n source .found))) (getD (placesOf (scan n source .found)) k (length source)) 0
-    ≡ getD (valuesOf (scan n source .found)) k 0
-unfolding valuesAt
-value-at n source k h m =
-    placed 0 (length source) (scan n source .found) (replicate sites 0) (length source) k (places-rise n source) (omega (arith, length-replicate {A = ℕ} sites 0)) m

@@ -4,27 +4,27 @@ use Prim.Native.Nat.{ℕ, suc, _+_, _*_, _-_, _<_}
 use native.Mathlib.Omega.{arith}
 use native.Mathlib.Numerals.{add-one}
 use mathlib.Core.Path.{_≡_, refl, sym, ap, _∙_}
-use mathlib.Core.Bool.{true, false, cond}
+use mathlib.Core.Bool.{true}
 use mathlib.Core.List.{List, [], _∷_, _++_, append-assoc}
 use lib.ListN.{length, drop, set, length-append, length-set}
 use Rattle.machine.specs.Instructions.{Instr}
 use Rattle.names.specs.Nodes.{node}
 use Rattle.names.specs.Rows.{foldNodes, isUse}
-use lib.Dec.{eqb}
-use Rattle.names.specs.Scopes.{Thing, variable, routine, formal, Scope, Meaning, declared, given, nothing, meaning}
-use Rattle.names.specs.Uses.{Use, used, joined, rowIn, rowOf, thingKind}
+use Rattle.names.specs.Scopes.{Scope, Meaning, declared, given, nothing, meaning}
+use Rattle.names.specs.Uses.{Use, used, thingKind}
 use Rattle.names.specs.Program.{Name}
-use Rattle.reading.specs.Table.{useWords, hasNone, nodeWords}
 use Rattle.translation.specs.Translate.{Mark}
-use Rattle.translation.specs.Words.{Parts, partsOf, firstWord, words, CodeFits}
-use Rattle.emitting.specs.Emission.{Opened, State, put, withSlot, noted, withUses, kindNext, meansNext, othersNext, useNode, codeNode}
-use Rattle.translating.proofs.Shown.{shown, shown-set, shown-zero, shown-two}
+use Rattle.machine.specs.Words.{Parts, partsOf, firstWord, words, CodeFits}
+use Rattle.emitting.specs.Emission.{Used, Opened, State, put, withSlot, noted, withUses, withCell, withEntry, kindNext, meansNext, othersNext, useNode, codeNode}
+use Rattle.translating.proofs.Shown.{shown, shown-next, shown-set, shown-zero, shown-two}
 use Rattle.translating.proofs.SlotLists.{Fills, no-slot, then-slots, slots-past}
 use Rattle.translation.proofs.Ranges.{owns}
 
--- what the pass is told
+-- what the pass is told: the places of symbols, and the declarations' numbers by their names' symbols; of symbols their values, of declarations how
+-- they lie, of slots what lies ahead, of procedures where they begin
 pub record Tables : Type 0 where
   pub place : ℕ → ℕ
+  pub key : ℕ → ℕ
   pub values : List ℕ
   pub layout : List ℕ
   pub ahead : List ℕ
@@ -40,7 +40,7 @@ pub record Frame : Type 0 where
   pub opens : List Opened
 
 -- what goes through it: the uses to come, the address, the last variable that a number is taken to, the words so far, the slots so far, and the
--- entries of procedures
+-- entries so far: a word for each declaration, which of a procedure is where it begins
 pub record Flow : Type 0 where
   pub uses : List Use
   pub at : ℕ
@@ -50,14 +50,7 @@ pub record Flow : Type 0 where
   pub entries : List ℕ
   pub long : length code ≡ 2 * at
 
--- ---- uses as words
-
-pub usesAs : (ℕ → ℕ) → List Use → List ℕ
-usesAs place us = joined (useWords place) (joined rowOf us)
-
-pub uses-all : (place : ℕ → ℕ) (us : List Use) → usesAs place us ≡ joined (useWords place) (joined rowOf us)
-unfolding usesAs
-uses-all place us = refl
+-- ---- uses, as the pass has them
 
 abbrev pub kindOf : Meaning → ℕ
 kindOf (declared d g) = thingKind (d .thing)
@@ -65,38 +58,22 @@ kindOf (given n e) = 0
 kindOf nothing = 0
 
 abbrev pub meansOf : (ℕ → ℕ) → Meaning → ℕ
-meansOf place (declared d g) = place (d .name .symbol)
-meansOf place (given n e) = n
-meansOf place nothing = 0
+meansOf key (declared d g) = key (d .name .symbol)
+meansOf key (given n e) = n
+meansOf key nothing = 0
 
-abbrev pub Meant : Meaning → Type 0
-Meant (declared d g) = Unit {0}
-Meant (given n e) = Unit {0}
-Meant nothing = ⊥
+abbrev pub usedFor : (ℕ → ℕ) → Meaning → Used
+usedFor key m = record { kind = kindOf m; means = meansOf key m }
 
-declared-means : (t : Thing) (m n : ℕ) → cond (eqb (thingKind t) 0) m n ≡ n
-declared-means (variable t) m n = refl
-declared-means (routine p) m n = refl
-declared-means (formal t) m n = refl
-
--- the next use is three words
-pub use-words : (place : ℕ → ℕ) (g : List Scope) (x : Name) (us : List Use) → Meant (meaning g x)
-    → usesAs place (used g x ∷ us) ≡ place (x .symbol) ∷ kindOf (meaning g x) ∷ meansOf place (meaning g x) ∷ usesAs place us
-unfolding usesAs joined useWords
-use-words place g x us h = go (meaning g x) h
-  where
-    go : (m : Meaning) → Meant m
-        → joined (useWords place) (rowIn m x ++ joined rowOf us) ≡ place (x .symbol) ∷ kindOf m ∷ meansOf place m ∷ joined (useWords place) (joined rowOf us)
-    go (declared d k) h =
-        ap (λ (n : ℕ). place (x .symbol) ∷ thingKind (d .thing) ∷ n ∷ joined (useWords place) (joined rowOf us)) (declared-means (d .thing) (d .name .symbol) (place (d .name .symbol)))
-    go (given n e) h = refl
-    go nothing h = absurd h
+unfoldable pub usesAs : (ℕ → ℕ) → List Use → List Used
+usesAs key [] = []
+usesAs key (u ∷ us) = usedFor key (meaning (u .around) (u .name)) ∷ usesAs key us
 
 -- ---- the state
 
 abbrev pub real : (ℕ → ℕ) → Frame → Flow → State
-real place fr fl =
-    record { uses = usesAs place (fl .uses); at = fl .at; slots = length (fl .slots); level = fr .level; loops = fr .loops; cells = fr .cells; lefts = fr .lefts; awaits = fr .awaits; variable = fl .variable; open-ones = fr .opens; code = shown 16384 (fl .code); ahead = shown 8192 (fl .slots); entries = fl .entries }
+real key fr fl =
+    record { uses = usesAs key (fl .uses); at = fl .at; slots = length (fl .slots); level = fr .level; loops = fr .loops; cells = fr .cells; lefts = fr .lefts; awaits = fr .awaits; variable = fl .variable; declared = length (fl .entries); open-ones = fr .opens; code = shown 16384 (fl .code); ahead = shown 8192 (fl .slots); entries = shown 2048 (fl .entries) }
 
 abbrev pub withOpens : List Opened → Frame → Frame
 withOpens l fr = record { level = fr .level; loops = fr .loops; cells = fr .cells; lefts = fr .lefts; awaits = fr .awaits; opens = l }
@@ -121,40 +98,42 @@ taken us fl =
 abbrev pub varied : ℕ → Flow → Flow
 varied v fl = record { uses = fl .uses; at = fl .at; variable = v; code = fl .code; slots = fl .slots; entries = fl .entries; long = fl .long }
 
-pub put-real : (place : ℕ → ℕ) (o p v : ℕ) (fr : Frame) (fl : Flow) → put o p v (real place fr fl) ≡ real place fr (wrote o p v fl)
+-- other entries
+abbrev pub withEntries : List ℕ → Flow → Flow
+withEntries l fl = record { uses = fl .uses; at = fl .at; variable = fl .variable; code = fl .code; slots = fl .slots; entries = l; long = fl .long }
+
+pub put-real : (key : ℕ → ℕ) (o p v : ℕ) (fr : Frame) (fl : Flow) → put o p v (real key fr fl) ≡ real key fr (wrote o p v fl)
 unfolding put
-put-real place o p v fr fl = rw (shown-two 16384 (fl .at) (fl .code) (o + 64 * p) v (fl .long), add-one (fl .at))
+put-real key o p v fr fl = rw (shown-two 16384 (fl .at) (fl .code) (o + 64 * p) v (fl .long), add-one (fl .at))
 
-pub slot-real : (place : ℕ → ℕ) (fr : Frame) (fl : Flow) → withSlot (real place fr fl) ≡ real place fr (slotted (fl .slots ++ (0 ∷ [])) fl)
+pub slot-real : (key : ℕ → ℕ) (fr : Frame) (fl : Flow) → withSlot (real key fr fl) ≡ real key fr (slotted (fl .slots ++ (0 ∷ [])) fl)
 unfolding withSlot
-slot-real place fr fl = rw (← shown-zero 8192 (fl .slots), length-append (fl .slots) (0 ∷ []))
+slot-real key fr fl = rw (← shown-zero 8192 (fl .slots), length-append (fl .slots) (0 ∷ []))
 
-pub noted-real : (place : ℕ → ℕ) (i v : ℕ) (fr : Frame) (fl : Flow) → i < length (fl .slots)
-    → noted i v (real place fr fl) ≡ real place fr (slotted (set (fl .slots) i v) fl)
+pub noted-real : (key : ℕ → ℕ) (i v : ℕ) (fr : Frame) (fl : Flow) → i < length (fl .slots)
+    → noted i v (real key fr fl) ≡ real key fr (slotted (set (fl .slots) i v) fl)
 unfolding noted
-noted-real place i v fr fl h = rw (shown-set 8192 (fl .slots) i v h, length-set (fl .slots) i v)
+noted-real key i v fr fl h = rw (shown-set 8192 (fl .slots) i v h, length-set (fl .slots) i v)
 
--- ---- nodes with places
+pub cell-real : (key : ℕ → ℕ) (fr : Frame) (fl : Flow) → withCell (real key fr fl) ≡ real key fr (withEntries (fl .entries ++ (0 ∷ [])) fl)
+unfolding withCell
+cell-real key fr fl = rw (← shown-zero 2048 (fl .entries), length-append (fl .entries) (0 ∷ []))
 
--- the pass over nodes as the table has them is the pass that looks places up
-pub run-places : {S : Type 0} (place : ℕ → ℕ) (f : ℕ → ℕ → ℕ → ℕ → S → S) (ws : List ℕ) (st : S)
-    → foldNodes f (nodeWords place ws) st ≡ foldNodes (λ k s a b. f k (cond (hasNone place k) 0 (place s)) a b) ws st
-unfolding foldNodes nodeWords
-run-places place f [] st = refl
-run-places place f (k ∷ []) st = refl
-run-places place f (k ∷ s ∷ []) st = refl
-run-places place f (k ∷ s ∷ a ∷ []) st = refl
-run-places place f (k ∷ s ∷ a ∷ b ∷ ws) st = run-places place f ws (f k (cond (hasNone place k) 0 (place s)) a b st)
+pub entry-real : (key : ℕ → ℕ) (fr : Frame) (fl : Flow) → withEntry (real key fr fl) ≡ real key fr (withEntries (fl .entries ++ (fl .at ∷ [])) fl)
+unfolding withEntry
+entry-real key fr fl = rw (shown-next 2048 (fl .entries) (fl .at), length-append (fl .entries) (fl .at ∷ []))
+
+-- ---- the pass
 
 module _ (tb : Tables) where
   unfoldable pub step : ℕ → ℕ → ℕ → ℕ → State → State
-  step k s a b st = codeNode (tb .values) (tb .layout) (tb .ahead) (tb .entries) k (cond (hasNone (tb .place) k) 0 (tb .place s)) a b st
+  step k s a b st = codeNode (tb .values) (tb .layout) (tb .ahead) (tb .entries) k s (tb .place s) a b st
 
   abbrev pub run : List ℕ → State → State
   run = foldNodes step
 
   abbrev pub state : Frame → Flow → State
-  state = real (tb .place)
+  state = real (tb .key)
 
   pub record Goes (ws : List ℕ) (s t : State) : Type 0 where
     pub so : (rest : List ℕ) → run (ws ++ rest) s ≡ run rest t
@@ -259,9 +238,9 @@ abbrev pub wroteAll : List Parts → Flow → Flow
 wroteAll [] fl = fl
 wroteAll (p ∷ ps) fl = wroteAll ps (wrote (p .operation) (p .place) (p .operand) fl)
 
-pub puts-real : (place : ℕ → ℕ) (ps : List Parts) (fr : Frame) (fl : Flow) → putAll ps (real place fr fl) ≡ real place fr (wroteAll ps fl)
-puts-real place [] fr fl = refl
-puts-real place (p ∷ ps) fr fl = ap (putAll ps) (put-real place (p .operation) (p .place) (p .operand) fr fl) ∙ puts-real place ps fr (wrote (p .operation) (p .place) (p .operand) fl)
+pub puts-real : (key : ℕ → ℕ) (ps : List Parts) (fr : Frame) (fl : Flow) → putAll ps (real key fr fl) ≡ real key fr (wroteAll ps fl)
+puts-real key [] fr fl = refl
+puts-real key (p ∷ ps) fr fl = ap (putAll ps) (put-real key (p .operation) (p .place) (p .operand) fr fl) ∙ puts-real key ps fr (wrote (p .operation) (p .place) (p .operand) fl)
 
 -- the address behind some instructions
 abbrev pub past : List Parts → ℕ → ℕ
@@ -312,7 +291,7 @@ module _ {tb : Tables} where
       let w = wrote-all ps e (taken us fl) j in
       record {
         next = wroteAll ps (taken us fl);
-        goes = goes-node k s a b (i ∙ puts-real (tb .place) ps fr' (taken us fl));
+        goes = goes-node k s a b (i ∙ puts-real (tb .key) ps fr' (taken us fl));
         uses = w .uses;
         at = w .at;
         fills = rw (w .slots) no-slot;
@@ -367,14 +346,11 @@ module _ {tb : Tables} where
         pass = λ us fr fl w u j. passed-all is ps k s a b' (i fr fl ∙ ap (λ (us : List Use). putAll ps (state tb fr (taken us fl))) u) j h;
       }
 
--- ---- a use: its kind and what it means, from its words
+-- ---- a use: its kind and what it means
 
 module _ (tb : Tables) where
-  pub use-step : (n s a b : ℕ) (fr : Frame) (fl : Flow) (gs : List Scope) (x : Name) (us : List Use) (k m : ℕ) → isUse n ≡ true → hasNone (tb .place) n ≡ false
-      → fl .uses ≡ used gs x ∷ us → Meant (meaning gs x) → kindOf (meaning gs x) ≡ k → meansOf (tb .place) (meaning gs x) ≡ m
+  pub use-step : (n s a b : ℕ) (fr : Frame) (fl : Flow) (gs : List Scope) (x : Name) (us : List Use) (k m : ℕ) → isUse n ≡ true
+      → fl .uses ≡ used gs x ∷ us → kindOf (meaning gs x) ≡ k → meansOf (tb .key) (meaning gs x) ≡ m
       → step tb n s a b (state tb fr fl) ≡ useNode (tb .values) (tb .layout) (tb .ahead) (tb .entries) n k m b (tb .place s) a (state tb fr (taken us fl))
-  unfolding step codeNode withUses kindNext meansNext othersNext
-  use-step n s a b fr fl gs x us k m i j u w e e' =
-      let z : usesAs (tb .place) (fl .uses) ≡ tb .place (x .symbol) ∷ k ∷ m ∷ usesAs (tb .place) us =
-      ap (usesAs (tb .place)) u ∙ use-words (tb .place) gs x us w ∙ ap (λ (k : ℕ). tb .place (x .symbol) ∷ k ∷ meansOf (tb .place) (meaning gs x) ∷ usesAs (tb .place) us) e ∙ ap (λ (m : ℕ). tb .place (x .symbol) ∷ k ∷ m ∷ usesAs (tb .place) us) e' in
-      rw (i, j, z)
+  unfolding step codeNode withUses kindNext meansNext othersNext usesAs
+  use-step n s a b fr fl gs x us k m i u e e' = rw (i, u, e, e')

@@ -12,16 +12,15 @@ use Rattle.names.specs.Scopes.{meaning}
 use Rattle.names.specs.Nodes.{node, nodesLeft, nodesS}
 use Rattle.names.specs.Rows.{isUse}
 use Rattle.names.specs.Uses.{Use, used, usesE, usesS}
-use Rattle.reading.specs.Table.{hasNone}
 use Rattle.translation.specs.Translate.{Mark, scopes, loc, endE, endStores, endS, codeStores, codeS}
-use Rattle.translation.specs.Words.{Parts, CodeFits}
+use Rattle.machine.specs.Words.{Parts, CodeFits}
 use Rattle.translation.specs.Scoped.{OkV, OkVs, OkE}
 use Rattle.emitting.specs.Emission.{Opened, opened, State, put, withOpen, withLefts, pushed, top, below, cellOf, useNode, stored, leftsOf, behindLefts, assigned, plainNode, codeNode}
 use Rattle.translating.proofs.NumbersOf.{NumbersE}
 use Rattle.translating.proofs.SlotLists.{aheadS}
 use Rattle.translating.proofs.Written.{Tables, Frame, Flow, kindOf, meansOf, taken, putAll, past, Same, step, state, Passed, Emits, _and-then_, passed-nothing, passed-all, passed-as, use-step}
 use Rattle.translating.proofs.NameWords.{Known, Targets}
-use Rattle.translating.proofs.WrittenExpressions.{parts, cell-meant, cell-word, Numbered, emitsE}
+use Rattle.translating.proofs.WrittenExpressions.{parts, cell-word, Numbered, emitsE}
 use Rattle.translation.proofs.Ranges.{owns}
 
 -- ---- left parts kept, newest first
@@ -70,7 +69,7 @@ module _ (tb : Tables) where
   aside (p ∷ ps) os st = aside ps os (put (p .operation) (p .place) (p .operand) st)
 
   assign-step : (q w : ℕ) (ws : List ℕ) (fr : Frame) (fl : Flow) → fr .lefts ≡ 0 → step tb n-assign q 0 0 (state tb (lefted (w ∷ ws) fr) fl) ≡ putAll (storeParts w ws) (state tb fr fl)
-  unfolding step codeNode isUse hasNone plainNode assigned leftsOf behindLefts withLefts withOpen
+  unfolding step codeNode isUse plainNode assigned leftsOf behindLefts withLefts withOpen
   assign-step q w ws fr fl e =
       let st = state tb (lefted (w ∷ ws) fr) fl in
       let ls = leftsOf (tb .values) (tb .layout) (tb .ahead) (tb .entries) (tally (fr .lefts) (w ∷ ws)) (pushLefts (w ∷ ws) (fr .opens)) [] in
@@ -88,16 +87,16 @@ module _ (tb : Tables) where
 
 -- ---- the parts
 
-module _ (tb : Tables) (R : Type 0) (g : List Mark) (right : R → Targets (tb .place) (tb .entries) g) (known : Known (tb .place) (tb .layout) g) (m : ℕ) where
+module _ (tb : Tables) (R : Type 0) (g : List Mark) (right : R → Targets (tb .key) (tb .entries) g) (known : Known (tb .key) (tb .layout) g) (m : ℕ) where
   -- the word of a left part
   abbrev leftWord : ℕ → Name → ℕ
-  leftWord n x = cellOf (tb .values) (tb .layout) (tb .ahead) (tb .entries) n (kindOf (meaning (scopes g) x)) (meansOf (tb .place) (meaning (scopes g) x))
+  leftWord n x = cellOf (tb .values) (tb .layout) (tb .ahead) (tb .entries) n (kindOf (meaning (scopes g) x)) (meansOf (tb .key) (meaning (scopes g) x))
 
   left-step : (x : Name) (d : ℕ) (us : List Use) (fr : Frame) (fl : Flow) → OkV (scopes g) x → fl .uses ≡ used (scopes g) x ∷ us
       → step tb n-left (x .symbol) d 0 (state tb fr fl) ≡ state tb (lefted (leftWord (fr .level) x ∷ []) fr) (taken us fl)
-  unfolding useNode isUse hasNone withLefts pushed withOpen
+  unfolding useNode isUse withLefts pushed withOpen
   left-step x d us fr fl ok u =
-      use-step tb n-left (x .symbol) d 0 fr fl (scopes g) x us (kindOf (meaning (scopes g) x)) (meansOf (tb .place) (meaning (scopes g) x)) refl refl u (cell-meant (scopes g) (meaning (scopes g) x) ok) refl refl
+      use-step tb n-left (x .symbol) d 0 fr fl (scopes g) x us (kindOf (meaning (scopes g) x)) (meansOf (tb .key) (meaning (scopes g) x)) refl u refl refl
       ∙ rw (add-one (fr .lefts))
 
   lefts-passed : (xs : List Name) (d b : ℕ) → OkVs (scopes g) xs → (us : List Use) (fr : Frame) (fl : Flow) → fl .uses ≡ map (used (scopes g)) xs ++ us → fl .at ≡ b

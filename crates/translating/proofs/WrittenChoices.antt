@@ -38,8 +38,8 @@ module _ (tb : Tables) where
   unfolding step codeNode isUse choiceNode aheadAt pushed withOpen
   then-step q fr fl =
       let v = there (getD (tb .ahead) (length (fl .slots)) 0) in
-      ap (λ (st : State). withSlot (pushed (length (fl .slots)) 0 0 0 st)) (put-real (tb .place) 10 0 v fr fl)
-      ∙ slot-real (tb .place) (withOpens (opened (length (fl .slots)) 0 0 0 ∷ fr .opens) fr) (wrote 10 0 v fl)
+      ap (λ (st : State). withSlot (pushed (length (fl .slots)) 0 0 0 st)) (put-real (tb .key) 10 0 v fr fl)
+      ∙ slot-real (tb .key) (withOpens (opened (length (fl .slots)) 0 0 0 ∷ fr .opens) fr) (wrote 10 0 v fl)
 
   abbrev elseSlots : ℕ → ℕ → Flow → List ℕ
   elseSlots i n fl = set (fl .slots) i (there (suc n))
@@ -57,10 +57,10 @@ module _ (tb : Tables) where
       let fr' = withOpens (opened (length S) 0 0 0 ∷ os) fr in
       let h' : i < length (S ++ (0 ∷ [])) = omega (arith, length-append S (0 ∷ [])) in
       let j : fl .at + 1 ≡ suc n = add-one (fl .at) ∙ ap suc e in
-      ap (λ (st : State). noted i (there (fl .at + 1)) (withSlot (replaced (length S) 0 0 0 st))) (put-real (tb .place) 2 0 v (withOpens (opened i 0 0 0 ∷ os) fr) fl)
-      ∙ ap (noted i (there (fl .at + 1))) (slot-real (tb .place) fr' (wrote 2 0 v fl))
+      ap (λ (st : State). noted i (there (fl .at + 1)) (withSlot (replaced (length S) 0 0 0 st))) (put-real (tb .key) 2 0 v (withOpens (opened i 0 0 0 ∷ os) fr) fl)
+      ∙ ap (noted i (there (fl .at + 1))) (slot-real (tb .key) fr' (wrote 2 0 v fl))
       ∙ ap (λ (u : ℕ). noted i (there u) (state tb fr' (slotted (S ++ (0 ∷ [])) (wrote 2 0 v fl)))) j
-      ∙ noted-real (tb .place) i (there (suc n)) fr' (slotted (S ++ (0 ∷ [])) (wrote 2 0 v fl)) h'
+      ∙ noted-real (tb .key) i (there (suc n)) fr' (slotted (S ++ (0 ∷ [])) (wrote 2 0 v fl)) h'
       ∙ rw (set-append-left S (0 ∷ []) i (there (suc n)) h, length-set S i (there (suc n)))
 
   -- the end of a choice, of expressions or of statements
@@ -71,8 +71,8 @@ module _ (tb : Tables) where
   end-step : (t : Bool) (q i n : ℕ) (os : List Opened) (fr : Frame) (fl : Flow) → i < length (fl .slots) → fl .at ≡ n
       → step tb (closing t) q 0 0 (state tb (withOpens (opened i 0 0 0 ∷ os) fr) fl) ≡ state tb (withOpens os fr) (slotted (set (fl .slots) i (there n)) fl)
   unfolding step codeNode isUse choiceNode popped top below withOpen
-  end-step true q i n os fr fl h e = ap (λ (u : ℕ). noted i (there u) (state tb (withOpens os fr) fl)) e ∙ noted-real (tb .place) i (there n) (withOpens os fr) fl h
-  end-step false q i n os fr fl h e = ap (λ (u : ℕ). noted i (there u) (state tb (withOpens os fr) fl)) e ∙ noted-real (tb .place) i (there n) (withOpens os fr) fl h
+  end-step true q i n os fr fl h e = ap (λ (u : ℕ). noted i (there u) (state tb (withOpens os fr) fl)) e ∙ noted-real (tb .key) i (there n) (withOpens os fr) fl h
+  end-step false q i n os fr fl h e = ap (λ (u : ℕ). noted i (there u) (state tb (withOpens os fr) fl)) e ∙ noted-real (tb .key) i (there n) (withOpens os fr) fl h
 
 -- ---- a choice with one part only
 

@@ -15,21 +15,20 @@ use Rattle.names.specs.Scopes.{Thing, variable, routine, formal, Declared, Scop
 use Rattle.names.specs.Nodes.{node, mark, nodesE, nodesEs, nodesCall}
 use Rattle.names.specs.Rows.{isUse}
 use Rattle.names.specs.Uses.{Use, used, usesE, usesEs, thingKind}
-use Rattle.reading.specs.Table.{hasNone}
 use Rattle.rules.specs.Entered.{oneIf}
 use Rattle.rules.specs.Calls.{Command, greatest-of, input-to, thingTold, into, givenTold, command}
 use Rattle.rules.specs.Rules.{maxint}
 use Rattle.translation.specs.Translate.{Mark, scopes, loc, endE, endEs, endCall, endCommand, CALLS, codeEs, codeCall, codeCommand}
-use Rattle.translation.specs.Words.{Parts, CodeFits}
+use Rattle.machine.specs.Words.{Parts, CodeFits}
 use Rattle.translation.specs.Scoped.{OkV, OkEs, OkCommand}
 use Rattle.emitting.specs.Layout.{packed}
 use Rattle.emitting.specs.Emission.{opened, State, put, withOpen, withVariable, replaced, top, below, largest, cellOf, resultOf, calledWith, resultFor, dropped, named, namedOr, actualIn, callEnded, useNode, codeNode}
 use Rattle.translating.proofs.NumbersOf.{NumbersE, NumbersEs}
 use Rattle.translating.proofs.SlotLists.{no-slot, aheadEs, aheadCall, aheadCommand}
-use Rattle.translating.proofs.Written.{Tables, Frame, Flow, kindOf, meansOf, Meant, taken, varied, wrote, put-real, putAll, past, Same, step, state, Passed, Fits, Emits, wrote-right, goes-node, goes-then, _and-then_, passed-all, passed-idle, passed-words, use-step}
+use Rattle.translating.proofs.Written.{Tables, Frame, Flow, kindOf, meansOf, taken, varied, wrote, put-real, putAll, past, Same, step, state, Passed, Fits, Emits, wrote-right, goes-node, goes-then, _and-then_, passed-all, passed-idle, passed-words, use-step}
 use Rattle.translating.proofs.WrittenChoices.{fits-open}
 use Rattle.translating.proofs.NameWords.{Known, Targets, result-is}
-use Rattle.translating.proofs.WrittenExpressions.{parts, Numbered, cell-meant, cell-word, call-word, name-step, inCall, counted, Quiet, typed-step, plain-step, ended-step, IsE, IsEs, call-end, given-call, emitsE, emitsEs}
+use Rattle.translating.proofs.WrittenExpressions.{parts, Numbered, cell-word, call-word, name-step, inCall, counted, Quiet, typed-step, plain-step, ended-step, IsE, IsEs, call-end, given-call, emitsE, emitsEs}
 
 module _ (tb : Tables) where
   -- ---- names alone
@@ -77,13 +76,13 @@ module _ (tb : Tables) where
   unfolding step codeNode isUse actualIn withVariable replaced withOpen top below
   second-step s fr fl = refl
 
-  awaited-step : (s d : ℕ) (fr : Frame) (fl : Flow) (gs : List Scope) (x : Name) (us : List Use) → fl .uses ≡ used gs x ∷ us → Meant (meaning gs x)
+  awaited-step : (s d : ℕ) (fr : Frame) (fl : Flow) (gs : List Scope) (x : Name) (us : List Use) → fl .uses ≡ used gs x ∷ us
       → step tb n-use s d 0 (state tb (awaiting 1 fr) fl)
-      ≡ state tb (awaiting 0 fr) (varied (cellOf (tb .values) (tb .layout) (tb .ahead) (tb .entries) (fr .level) (kindOf (meaning gs x)) (meansOf (tb .place) (meaning gs x))) (taken us fl))
-  unfolding useNode namedOr withVariable isUse hasNone
-  awaited-step s d fr fl gs x us u w = use-step tb n-use s d 0 (awaiting 1 fr) fl gs x us (kindOf (meaning gs x)) (meansOf (tb .place) (meaning gs x)) refl refl u w refl refl
+      ≡ state tb (awaiting 0 fr) (varied (cellOf (tb .values) (tb .layout) (tb .ahead) (tb .entries) (fr .level) (kindOf (meaning gs x)) (meansOf (tb .key) (meaning gs x))) (taken us fl))
+  unfolding useNode namedOr withVariable isUse
+  awaited-step s d fr fl gs x us u = use-step tb n-use s d 0 (awaiting 1 fr) fl gs x us (kindOf (meaning gs x)) (meansOf (tb .key) (meaning gs x)) refl u refl refl
 
-module _ (tb : Tables) (R : Type 0) (g : List Mark) (right : R → Targets (tb .place) (tb .entries) g) (known : Known (tb .place) (tb .layout) g) (m : ℕ) where
+module _ (tb : Tables) (R : Type 0) (g : List Mark) (right : R → Targets (tb .key) (tb .entries) g) (known : Known (tb .key) (tb .layout) g) (m : ℕ) where
   abbrev pub Told : Name → Expressions → ℕ → ℕ → Command → Type 0
   Told x es d b c =
       Emits tb R g 0 m (nodesCall d x es) (used (scopes g) x ∷ usesEs (scopes g) es) b (endCommand (scopes g) c es b) (aheadCommand (scopes g) c es b) (λ t. t) (codeCommand (tb .place) c g x es b)
@@ -100,10 +99,10 @@ module _ (tb : Tables) (R : Type 0) (g : List Mark) (right : R → Targets (tb .
       record {
         pass = λ us fr fl f u a.
             let q = tb .place (x .symbol) in
-            let n = tb .place (D .name .symbol) in
-            let no : resultOf (tb .values) (tb .layout) (tb .ahead) (tb .entries) 2 n ≡ 0 = result-is (tb .place) (tb .layout) (tb .values) (tb .ahead) (tb .entries) g x D hs p known e i ∙ ap oneIf s in
+            let n = tb .key (D .name .symbol) in
+            let no : resultOf (tb .values) (tb .layout) (tb .ahead) (tb .entries) 2 n ≡ 0 = result-is (tb .key) (tb .layout) (tb .values) (tb .ahead) (tb .entries) g x D hs p known e i ∙ ap oneIf s in
             passed-all (CALLS (tb .place) g x 0 gone ∷ []) (parts 6 q (packed (fr .level - high (getD (tb .layout) n 0)) 0 (getD (tb .entries) n 0)) ∷ []) n-use (x .symbol) d 1
-            (name-step tb (x .symbol) d 1 fr fl (scopes g) x us 2 n (f .awaits) u (rw e tt) (ap kindOf e ∙ ap thingKind i) (ap (meansOf (tb .place)) e) ∙ call-named tb n q 0 fr (taken us fl) no)
+            (name-step tb (x .symbol) d 1 fr fl (scopes g) x us 2 n (f .awaits) u (ap kindOf e ∙ ap thingKind i) (ap (meansOf (tb .key)) e) ∙ call-named tb n q 0 fr (taken us fl) no)
             a
             (λ z c. (ap (parts 6 q) (call-word tb g known x D hs p (fr .level) 0 0 (right z) (f .level) e i refl (c .0)), tt));
       }
@@ -111,11 +110,11 @@ module _ (tb : Tables) (R : Type 0) (g : List Mark) (right : R → Targets (tb .
       record {
         pass = λ us fr fl f u a.
             let q = tb .place (x .symbol) in
-            let n = tb .place (D .name .symbol) in
-            let one : resultOf (tb .values) (tb .layout) (tb .ahead) (tb .entries) 2 n ≡ 1 = result-is (tb .place) (tb .layout) (tb .values) (tb .ahead) (tb .entries) g x D hs p known e i ∙ ap oneIf s in
+            let n = tb .key (D .name .symbol) in
+            let one : resultOf (tb .values) (tb .layout) (tb .ahead) (tb .entries) 2 n ≡ 1 = result-is (tb .key) (tb .layout) (tb .values) (tb .ahead) (tb .entries) g x D hs p known e i ∙ ap oneIf s in
             passed-all (DO (reserve q) ∷ CALLS (tb .place) g x 1 gone ∷ [])
             (parts 16 q 0 ∷ parts 6 q (packed (fr .level - high (getD (tb .layout) n 0)) 1 (getD (tb .entries) n 0)) ∷ []) n-use (x .symbol) d 1
-            (name-step tb (x .symbol) d 1 fr fl (scopes g) x us 2 n (f .awaits) u (rw e tt) (ap kindOf e ∙ ap thingKind i) (ap (meansOf (tb .place)) e) ∙ typed-named tb n q fr (taken us fl) one)
+            (name-step tb (x .symbol) d 1 fr fl (scopes g) x us 2 n (f .awaits) u (ap kindOf e ∙ ap thingKind i) (ap (meansOf (tb .key)) e) ∙ typed-named tb n q fr (taken us fl) one)
             a
             (λ z c. (refl, (ap (parts 6 q) (call-word tb g known x D hs p (fr .level) 1 1 (right z) (f .level) e i refl (c .1 .0)), tt)));
       }
@@ -126,7 +125,7 @@ module _ (tb : Tables) (R : Type 0) (g : List Mark) (right : R → Targets (tb .
       record {
         pass = λ us fr fl f u a.
             passed-all (DO (push (tb .place (x .symbol)) maxint) ∷ DO forget ∷ []) (parts 12 (tb .place (x .symbol)) largest ∷ parts 17 0 0 ∷ []) n-use (x .symbol) d 1
-            (name-step tb (x .symbol) d 1 fr fl (scopes g) x us 0 n (f .awaits) u (rw e tt) (ap kindOf e) (ap (meansOf (tb .place)) e) ∙ greatest-named tb n (tb .place (x .symbol)) (state tb fr (taken us fl)))
+            (name-step tb (x .symbol) d 1 fr fl (scopes g) x us 0 n (f .awaits) u (ap kindOf e) (ap (meansOf (tb .key)) e) ∙ greatest-named tb n (tb .place (x .symbol)) (state tb fr (taken us fl)))
             a
             (λ z c. (refl, (refl, tt)));
       }
@@ -139,11 +138,11 @@ module _ (tb : Tables) (R : Type 0) (g : List Mark) (right : R → Targets (tb .
     called-part x b D hs p none i j s =
         record {
           pass = λ us fr fl f u a.
-              let n = tb .place (D .name .symbol) in
-              let no : resultOf (tb .values) (tb .layout) (tb .ahead) (tb .entries) 2 n ≡ 0 = result-is (tb .place) (tb .layout) (tb .values) (tb .ahead) (tb .entries) g x D hs p known i j ∙ ap oneIf s in
+              let n = tb .key (D .name .symbol) in
+              let no : resultOf (tb .values) (tb .layout) (tb .ahead) (tb .entries) 2 n ≡ 0 = result-is (tb .key) (tb .layout) (tb .values) (tb .ahead) (tb .entries) g x D hs p known i j ∙ ap oneIf s in
               let c : Passed tb R fr (inCall 2 n 0 fr) (node n-call (x .symbol) d 1) (usesEs (scopes g) (then e es) ++ us) b (λ k. k) (λ t. t) (λ r. r) fl =
               passed-all [] [] n-call (x .symbol) d 1
-              (plain-step tb (x .symbol) d 1 fr fl (scopes g) x (usesEs (scopes g) (then e es) ++ us) 2 n u (rw i tt) (ap kindOf i ∙ ap thingKind j) (ap (meansOf (tb .place)) i) no) a (λ z c. tt) in
+              (plain-step tb (x .symbol) d 1 fr fl (scopes g) x (usesEs (scopes g) (then e es) ++ us) 2 n u (ap kindOf i ∙ ap thingKind j) (ap (meansOf (tb .key)) i) no) a (λ z c. tt) in
               let y = args b 2 n 0 (λ j. refl) us fr (c .next) f (c .uses) (c .at) in
               c
               and-then y
@@ -153,11 +152,11 @@ module _ (tb : Tables) (R : Type 0) (g : List Mark) (right : R → Targets (tb .
         record {
           pass = λ us fr fl f u a.
               let q = tb .place (x .symbol) in
-              let n = tb .place (D .name .symbol) in
-              let one : resultOf (tb .values) (tb .layout) (tb .ahead) (tb .entries) 2 n ≡ 1 = result-is (tb .place) (tb .layout) (tb .values) (tb .ahead) (tb .entries) g x D hs p known i j ∙ ap oneIf s in
+              let n = tb .key (D .name .symbol) in
+              let one : resultOf (tb .values) (tb .layout) (tb .ahead) (tb .entries) 2 n ≡ 1 = result-is (tb .key) (tb .layout) (tb .values) (tb .ahead) (tb .entries) g x D hs p known i j ∙ ap oneIf s in
               let c : Passed tb R fr (inCall 2 n 0 fr) (node n-call (x .symbol) d 1) (usesEs (scopes g) (then e es) ++ us) (suc b) (λ k. k) (λ t. t) (λ r. DO (reserve q) ∷ r) fl =
               passed-all (DO (reserve q) ∷ []) (parts 16 q 0 ∷ []) n-call (x .symbol) d 1
-              (typed-step tb (x .symbol) d 1 fr fl (scopes g) x (usesEs (scopes g) (then e es) ++ us) 2 n u (rw i tt) (ap kindOf i ∙ ap thingKind j) (ap (meansOf (tb .place)) i) one) a (λ z c. (refl, tt)) in
+              (typed-step tb (x .symbol) d 1 fr fl (scopes g) x (usesEs (scopes g) (then e es) ++ us) 2 n u (ap kindOf i ∙ ap thingKind j) (ap (meansOf (tb .key)) i) one) a (λ z c. (refl, tt)) in
               let y = args (suc b) 2 n 0 (λ j. refl) us fr (c .next) f (c .uses) (c .at) in
               c
               and-then y
@@ -183,17 +182,17 @@ module _ (tb : Tables) (R : Type 0) (g : List Mark) (right : R → Targets (tb .
   input-tail : (x y : Name) (d s e : ℕ) → OkV (scopes g) y → (us : List Use) (fr : Frame) (fl : Flow) → Fits tb g 0 m fr → fl .uses ≡ used (scopes g) y ∷ us → fl .at ≡ e
       → Passed tb R (awaiting tb 1 (inCall 0 2 1 fr)) fr (node n-use (y .symbol) d 0 ++ (mark n-actual s ++ node n-call-end (x .symbol) 0 1)) us (suc e) (λ k. k) (λ t. t) (λ r. DO (receive (tb .place (x .symbol)) (loc g y)) ∷ r) fl
   input-tail x y d s e ok us fr fl f u a =
-      let v = cellOf (tb .values) (tb .layout) (tb .ahead) (tb .entries) (fr .level) (kindOf (meaning (scopes g) y)) (meansOf (tb .place) (meaning (scopes g) y)) in
+      let v = cellOf (tb .values) (tb .layout) (tb .ahead) (tb .entries) (fr .level) (kindOf (meaning (scopes g) y)) (meansOf (tb .key) (meaning (scopes g) y)) in
       let q = tb .place (x .symbol) in
       let fl₁ = varied v (taken us fl) in
       record {
         next = wrote 18 q v fl₁;
         goes =
-            goes-then (goes-node n-use (y .symbol) d 0 (awaited-step tb (y .symbol) d (inCall 0 2 1 fr) fl (scopes g) y us u (cell-meant (scopes g) (meaning (scopes g) y) ok)))
+            goes-then (goes-node n-use (y .symbol) d 0 (awaited-step tb (y .symbol) d (inCall 0 2 1 fr) fl (scopes g) y us u))
             (goes-then (goes-node n-actual s 0 0 (second-step tb s fr fl₁))
             (goes-node n-call-end (x .symbol) 0 1
             (receive-step tb (x .symbol) 2 (awaiting tb 0 fr) fl₁
-            ∙ put-real (tb .place) 18 q v (awaiting tb 0 fr) fl₁
+            ∙ put-real (tb .key) 18 q v (awaiting tb 0 fr) fl₁
             ∙ ap (λ (n : ℕ). state tb (awaiting tb n fr) (wrote 18 q v fl₁)) (sym (f .awaits)))));
         uses = refl;
         at = ap suc a;

@@ -15,16 +15,15 @@ use Rattle.names.specs.Scopes.{Scope}
 use Rattle.names.specs.Nodes.{mark, amountNodes, nodesE, nodesL, nodesLs}
 use Rattle.names.specs.Rows.{isUse}
 use Rattle.names.specs.Uses.{Use, usesE, usesL}
-use Rattle.reading.specs.Table.{hasNone}
 use Rattle.translation.specs.Translate.{Mark, scopes, loc, endE, endL, onward, codeE, codeL}
-use Rattle.translation.specs.Words.{Parts, beside, LocFits, CodeFits, words}
+use Rattle.machine.specs.Words.{Parts, beside, LocFits, CodeFits, words}
 use Rattle.emitting.specs.Layout.{packed}
 use Rattle.translation.specs.Scoped.{OkE, OkL}
 use Rattle.emitting.specs.Emission.{opened, put, withOpen, noted, replaced, top, below, aheadAt, element, bodied, stepping, elementNode, plainNode, codeNode}
 use Rattle.translating.proofs.NumbersOf.{NumbersE, NumbersL}
 use Rattle.translating.proofs.SlotLists.{Fills, a-slot, then-slots, slot-read, slot-past, slots-past, there, aheadE, aheadX, aheadL, endX, end-element}
 use Rattle.translating.proofs.Written.{Tables, Frame, Flow, withOpens, slotted, taken, slot-real, noted-real, putAll, wroteAll, puts-real, past, Same, wrote-all, fits-apart, step, state, Goes, Passed, Fits, goes-node, goes-then, _and-then_, passed-all, passed-idle}
-use Rattle.translation.proofs.Words.{high-pack, mid-pack}
+use Rattle.machine.proofs.Words.{high-pack, mid-pack}
 use Rattle.translating.proofs.WrittenChoices.{address, fits-open}
 use Rattle.translating.proofs.WrittenExpressions.{parts, Numbered, emitsE}
 use Rattle.translating.proofs.NameWords.{Known, Targets}
@@ -42,8 +41,8 @@ module _ (tb : Tables) where
   element-real s v p a fr fl =
       let S = fl .slots in
       let fr' = inLoop s v p (fl .at) fr in
-      ap (noted (length S) (there (fl .at))) (slot-real (tb .place) fr' fl)
-      ∙ noted-real (tb .place) (length S) (there (fl .at)) fr' (slotted (S ++ (0 ∷ [])) fl) (omega (arith, length-append S (0 ∷ [])))
+      ap (noted (length S) (there (fl .at))) (slot-real (tb .key) fr' fl)
+      ∙ noted-real (tb .key) (length S) (there (fl .at)) fr' (slotted (S ++ (0 ∷ [])) fl) (omega (arith, length-append S (0 ∷ [])))
       ∙ ap (λ (l : List ℕ). state tb fr' (slotted l fl)) (set-append-seam S 0 [] (there (fl .at)))
 
   -- ---- an element, or some: A: what lies ahead in their expressions; C: their code, with the address of the body and the one where they go on
@@ -76,7 +75,7 @@ module _ (tb : Tables) where
             goes-then (x .goes)
             (goes-node n q 0 0
             (i
-            ∙ ap (element (tb .values) (tb .layout) (tb .ahead) (tb .entries) (opened s v p a)) (puts-real (tb .place) ps (inLoop s v p a fr) (x .next))
+            ∙ ap (element (tb .values) (tb .layout) (tb .ahead) (tb .entries) (opened s v p a)) (puts-real (tb .key) ps (inLoop s v p a fr) (x .next))
             ∙ element-real s v p a fr fl'
             ∙ ap (λ (n : ℕ). state tb (inLoop s v p n fr) (slotted (fl' .slots ++ (there n ∷ [])) fl')) (w .at)));
         uses = w .uses ∙ x .uses;
@@ -149,7 +148,7 @@ module _ (tb : Tables) where
 
   step-step : (q s v p a : ℕ) (fr : Frame) (fl : Flow)
       → step tb n-step q 0 0 (state tb (inLoop s v p a fr) fl) ≡ element (tb .values) (tb .layout) (tb .ahead) (tb .entries) (opened s v p a) (putAll (stepParts q s v p fr fl) (state tb (inLoop s v p a fr) fl))
-  unfolding step codeNode isUse hasNone elementNode stepping bodied aheadAt top put
+  unfolding step codeNode isUse elementNode stepping bodied aheadAt top put
   step-step q s v p a fr fl = refl
 
   -- ---- words
@@ -240,7 +239,7 @@ module _ {tb : Tables} where
             (q .0 ∙ ap (λ (l : List Instr). fl .code ++ words l) (f i o r), q .1);
       }
 
-module _ (tb : Tables) (R : Type 0) (g : List Mark) (right : R → Targets (tb .place) (tb .entries) g) (known : Known (tb .place) (tb .layout) g) (m : ℕ) (x : Name) (s v : ℕ) (word : LocFits (loc g x) → v ≡ beside (loc g x) 0) where
+module _ (tb : Tables) (R : Type 0) (g : List Mark) (right : R → Targets (tb .key) (tb .entries) g) (known : Known (tb .key) (tb .layout) g) (m : ℕ) (x : Name) (s v : ℕ) (word : LocFits (loc g x) → v ≡ beside (loc g x) 0) where
   abbrev F : ℕ → Frame → Frame
   F a fr = inLoop s v (tb .place (x .symbol)) a fr
 

@@ -18,18 +18,17 @@ use Rattle.names.specs.Scopes.{Thing, variable, routine, formal, Declared, Scop
 use Rattle.names.specs.Nodes.{node, mark, truth, signKind, operatorKind, callNodes, nodesE, nodesEs}
 use Rattle.names.specs.Rows.{isUse}
 use Rattle.names.specs.Uses.{Use, used, usesE, usesEs, thingKind}
-use Rattle.reading.specs.Table.{hasNone}
 use Rattle.rules.specs.Entered.{oneIf, declaring}
 use Rattle.rules.specs.Calls.{Primary, held, function, absolute, greatest, withType, thingAs, givenAs, primary}
 use Rattle.rules.specs.Rules.{binaryOf, maxint}
 use Rattle.translation.specs.Translate.{Mark, scopes, loc, cutG, levels, target, endName, endSign, endE, endEs, CALLS, codeName, codeSign, codeE, codeEs}
-use Rattle.translation.specs.Words.{Parts, beside, partsOf, LocFits, binaryNumber}
-use Rattle.translation.specs.Scoped.{CellAs, OkV, OkPrimary, OkE, OkEs}
+use Rattle.machine.specs.Words.{Parts, beside, partsOf, LocFits, binaryNumber}
+use Rattle.translation.specs.Scoped.{OkV, OkPrimary, OkE, OkEs}
 use Rattle.emitting.specs.Layout.{packed}
 use Rattle.emitting.specs.Emission.{opened, State, put, withOpen, withVariable, pushed, popped, replaced, top, below, signed as signedAs, operationOf, largest, cellOf, resultOf, calledWith, resultFor, dropped, named, namedOr, calling, actualIn, callEnded, useNode, plainNode, codeNode}
 use Rattle.translating.proofs.NumbersOf.{NumbersE, NumbersEs}
 use Rattle.translating.proofs.SlotLists.{aheadName, aheadE, aheadEs}
-use Rattle.translating.proofs.Written.{Tables, Frame, Flow, kindOf, meansOf, Meant, withOpens, taken, putAll, step, state, Passed, Fits, Emits, _and-then_, _followed-by_, _closed-by_, passed-nothing, passed-all, passed-idle, emits-all, use-step}
+use Rattle.translating.proofs.Written.{Tables, Frame, Flow, kindOf, meansOf, withOpens, taken, putAll, step, state, Passed, Fits, Emits, _and-then_, _followed-by_, _closed-by_, passed-nothing, passed-all, passed-idle, emits-all, use-step}
 use Rattle.translating.proofs.WrittenChoices.{fits-open, two-way}
 use Rattle.translating.proofs.NameWords.{Known, Targets, cell-is, result-is, levels-is, target-is}
 use Rattle.translation.proofs.Ranges.{owns}
@@ -37,23 +36,23 @@ use Rattle.translation.proofs.Ranges.{owns}
 abbrev pub parts : ℕ → ℕ → ℕ → Parts
 parts o p v = record { operation = o; place = p; operand = v }
 
--- the values of numbers, by place
+-- the values of numbers, by symbol
 abbrev pub Numbered : Tables → ℕ → ℕ → Type 0
-Numbered tb q v = getD (tb .values) (tb .place q) 0 ≡ v
+Numbered tb q v = getD (tb .values) q 0 ≡ v
 
 -- ---- nodes that write an instruction
 
 module _ (tb : Tables) where
-  number-step : (q : ℕ) (fr : Frame) (fl : Flow) → step tb n-number q 0 0 (state tb fr fl) ≡ putAll (parts 12 (tb .place q) (getD (tb .values) (tb .place q) 0) ∷ []) (state tb fr fl)
-  unfolding step codeNode isUse plainNode hasNone
+  number-step : (q : ℕ) (fr : Frame) (fl : Flow) → step tb n-number q 0 0 (state tb fr fl) ≡ putAll (parts 12 (tb .place q) (getD (tb .values) q 0) ∷ []) (state tb fr fl)
+  unfolding step codeNode isUse plainNode
   number-step q fr fl = refl
 
   logical-step : (q a : ℕ) (fr : Frame) (fl : Flow) → step tb n-logical q a 0 (state tb fr fl) ≡ putAll (parts 12 (tb .place q) a ∷ []) (state tb fr fl)
-  unfolding step codeNode isUse plainNode hasNone
+  unfolding step codeNode isUse plainNode
   logical-step q a fr fl = refl
 
   binary-step : (q a : ℕ) (fr : Frame) (fl : Flow) → step tb n-binary q a 0 (state tb fr fl) ≡ putAll (parts (operationOf a) (tb .place q) 0 ∷ []) (state tb fr fl)
-  unfolding step codeNode isUse plainNode hasNone
+  unfolding step codeNode isUse plainNode
   binary-step q a fr fl = refl
 
   operation-is : (o : Operator) → operationOf (operatorKind o) ≡ binaryNumber (binaryOf o)
@@ -74,8 +73,8 @@ module _ (tb : Tables) where
   operation-is equiv = refl
 
   module _ {R : Type 0} {g : List Mark} {h m : ℕ} where
-    number-part : (q v b : ℕ) → getD (tb .values) (tb .place q) 0 ≡ v → Emits tb R g h m (mark n-number q) [] b (suc b) (λ k. k) (λ t. t) (λ r. DO (push (tb .place q) (pos v)) ∷ r)
-    number-part q v b e = emits-all (DO (push (tb .place q) (pos v)) ∷ []) (parts 12 (tb .place q) (getD (tb .values) (tb .place q) 0) ∷ []) n-number q 0 0 (number-step q) (λ z c. (ap (parts 12 (tb .place q)) e, tt))
+    number-part : (q v b : ℕ) → getD (tb .values) q 0 ≡ v → Emits tb R g h m (mark n-number q) [] b (suc b) (λ k. k) (λ t. t) (λ r. DO (push (tb .place q) (pos v)) ∷ r)
+    number-part q v b e = emits-all (DO (push (tb .place q) (pos v)) ∷ []) (parts 12 (tb .place q) (getD (tb .values) q 0) ∷ []) n-number q 0 0 (number-step q) (λ z c. (ap (parts 12 (tb .place q)) e, tt))
 
     logical-part : (q : ℕ) (t : Bool) (b : ℕ) → Emits tb R g h m (node n-logical q (truth t) 0) [] b (suc b) (λ k. k) (λ t. t) (λ r. DO (push (tb .place q) (Values.truth t)) ∷ r)
     logical-part q true b = emits-all (DO (push (tb .place q) (Values.truth true)) ∷ []) (parts 12 (tb .place q) 1 ∷ []) n-logical q 1 0 (logical-step q 1) (λ z c. (refl, tt))
@@ -87,7 +86,7 @@ module _ (tb : Tables) where
         (λ z c. (ap (λ (k : ℕ). parts k (tb .place q) 0) (operation-is o), tt))
 
     sign-part : (q : ℕ) (o : Sign) (b : ℕ) → Emits tb R g h m (node n-unary q (signKind o) 0) [] b (endSign o b) (λ k. k) (λ t. t) (codeSign (tb .place) q o)
-    unfolding step codeNode isUse plainNode hasNone signedAs
+    unfolding step codeNode isUse plainNode signedAs
     sign-part q positive b = emits-all [] [] n-unary q (signKind positive) 0 (λ fr fl. refl) (λ z c. tt)
     sign-part q negative b = emits-all (DO (unary (tb .place q) Values.minus) ∷ []) (parts 22 (tb .place q) 0 ∷ []) n-unary q (signKind negative) 0 (λ fr fl. refl) (λ z c. (refl, tt))
     sign-part q negation b = emits-all (DO (unary (tb .place q) Values.negation) ∷ []) (parts 23 (tb .place q) 0 ∷ []) n-unary q (signKind negation) 0 (λ fr fl. refl) (λ z c. (refl, tt))
@@ -99,31 +98,26 @@ packed-is u o l u' o' l' e f i h h' h'' = omega arith
 
 module _ (tb : Tables) where
   pub name-step : (s d u : ℕ) (fr : Frame) (fl : Flow) (gs : List Scope) (x : Name) (us : List Use) (k m : ℕ) → fr .awaits ≡ 0 → fl .uses ≡ used gs x ∷ us
-      → Meant (meaning gs x) → kindOf (meaning gs x) ≡ k → meansOf (tb .place) (meaning gs x) ≡ m
+      → kindOf (meaning gs x) ≡ k → meansOf (tb .key) (meaning gs x) ≡ m
       → step tb n-use s d u (state tb fr fl) ≡ named (tb .values) (tb .layout) (tb .ahead) (tb .entries) k m u (tb .place s) (state tb fr (taken us fl))
-  unfolding useNode namedOr isUse hasNone
-  name-step s d u fr fl gs x us k m w i n e e' = use-step tb n-use s d u fr fl gs x us k m refl refl i n e e' ∙ rw w
+  unfolding useNode namedOr isUse
+  name-step s d u fr fl gs x us k m w i e e' = use-step tb n-use s d u fr fl gs x us k m refl i e e' ∙ rw w
 
-  module _ (g : List Mark) (known : Known (tb .place) (tb .layout) g) where
+  module _ (g : List Mark) (known : Known (tb .key) (tb .layout) g) where
     -- the word of a name that has a cell
-    pub cell-word : (x : Name) (n k m : ℕ) → OkV (scopes g) x → n ≡ owns g → kindOf (meaning (scopes g) x) ≡ k → meansOf (tb .place) (meaning (scopes g) x) ≡ m
+    pub cell-word : (x : Name) (n k m : ℕ) → OkV (scopes g) x → n ≡ owns g → kindOf (meaning (scopes g) x) ≡ k → meansOf (tb .key) (meaning (scopes g) x) ≡ m
         → LocFits (loc g x) → cellOf (tb .values) (tb .layout) (tb .ahead) (tb .entries) n k m ≡ beside (loc g x) 0
-    cell-word x n k m ok i e e' fits = rw (i, ← e, ← e') (cell-is (tb .place) (tb .layout) (tb .values) (tb .ahead) (tb .entries) g x known ok fits)
+    cell-word x n k m ok i e e' fits = rw (i, ← e, ← e') (cell-is (tb .key) (tb .layout) (tb .values) (tb .ahead) (tb .entries) g x known ok fits)
 
     -- the word of a call
-    pub call-word : (x : Name) (d : Declared) (h : List Scope) (p : Procedure) (level c n : ℕ) → Targets (tb .place) (tb .entries) g → level ≡ owns g
+    pub call-word : (x : Name) (d : Declared) (h : List Scope) (p : Procedure) (level c n : ℕ) → Targets (tb .key) (tb .entries) g → level ≡ owns g
         → meaning (scopes g) x ≡ declared d h → d .thing ≡ routine p → c ≡ n
         → (target (cutG (declaring x) g) x < 8192) × (levels (declaring x) g < 64) × (n < 8192)
-        → packed (level - high (getD (tb .layout) (tb .place (d .name .symbol)) 0)) c (getD (tb .entries) (tb .place (d .name .symbol)) 0)
+        → packed (level - high (getD (tb .layout) (tb .key (d .name .symbol)) 0)) c (getD (tb .entries) (tb .key (d .name .symbol)) 0)
         ≡ pack (levels (declaring x) g) n (target (cutG (declaring x) g) x)
     call-word x d h p level c n w i e j f fits =
         rw i
-        (packed-is _ c _ (levels (declaring x) g) n (target (cutG (declaring x) g) x) (levels-is (tb .place) (tb .layout) g x d h p known e j) f (target-is (tb .place) (tb .entries) g x d h p w e j) (fits .1) (fits .2) (fits .0))
-
-pub cell-meant : (g : List Scope) (M : Meaning) → CellAs g M → Meant M
-cell-meant g (declared d h) ok = tt
-cell-meant g (given n e) ok = tt
-cell-meant g nothing ok = ok
+        (packed-is _ c _ (levels (declaring x) g) n (target (cutG (declaring x) g) x) (levels-is (tb .key) (tb .layout) g x d h p known e j) f (target-is (tb .key) (tb .entries) g x d h p w e j) (fits .1) (fits .2) (fits .0))
 
 module _ (tb : Tables) where
   held-named : (k m p : ℕ) (st : State) → eqb k 0 ≡ false → eqb k 2 ≡ false
@@ -141,19 +135,19 @@ module _ (tb : Tables) where
   unfolding named dropped
   greatest-named m p st = refl
 
-module _ (tb : Tables) (R : Type 0) (g : List Mark) (right : R → Targets (tb .place) (tb .entries) g) (known : Known (tb .place) (tb .layout) g) (h m : ℕ) where
+module _ (tb : Tables) (R : Type 0) (g : List Mark) (right : R → Targets (tb .key) (tb .entries) g) (known : Known (tb .key) (tb .layout) g) (h m : ℕ) where
   abbrev Named : Name → ℕ → ℕ → Primary → Type 0
   Named x d b pr =
       Emits tb R g h m (node n-use (x .symbol) d 0) (used (scopes g) x ∷ []) b (endName pr (λ b. b) b) (λ k. k) (λ t. t) (codeName (tb .place) pr g x 0 (λ b r. r) b)
 
-  held-part : (x : Name) (d b k n : ℕ) → OkV (scopes g) x → kindOf (meaning (scopes g) x) ≡ k → meansOf (tb .place) (meaning (scopes g) x) ≡ n → eqb k 0 ≡ false → eqb k 2 ≡ false
+  held-part : (x : Name) (d b k n : ℕ) → OkV (scopes g) x → kindOf (meaning (scopes g) x) ≡ k → meansOf (tb .key) (meaning (scopes g) x) ≡ n → eqb k 0 ≡ false → eqb k 2 ≡ false
       → Named x d b held
   held-part x d b k n ok e e' i j =
       record {
         pass = λ us fr fl f u a.
             passed-all (DO (load (tb .place (x .symbol)) (loc g x)) ∷ [])
             (parts 13 (tb .place (x .symbol)) (cellOf (tb .values) (tb .layout) (tb .ahead) (tb .entries) (fr .level) k n) ∷ []) n-use (x .symbol) d 0
-            (name-step tb (x .symbol) d 0 fr fl (scopes g) x us k n (f .awaits) u (cell-meant (scopes g) (meaning (scopes g) x) ok) e e' ∙ held-named tb k n (tb .place (x .symbol)) (state tb fr (taken us fl)) i j)
+            (name-step tb (x .symbol) d 0 fr fl (scopes g) x us k n (f .awaits) u e e' ∙ held-named tb k n (tb .place (x .symbol)) (state tb fr (taken us fl)) i j)
             a
             (λ z c. (ap (parts 13 (tb .place (x .symbol))) (cell-word tb g known x (fr .level) k n ok (f .level) e e' (c .0)), tt));
       }
@@ -164,11 +158,11 @@ module _ (tb : Tables) (R : Type 0) (g : List Mark) (right : R → Targets (tb .
       record {
         pass = λ us fr fl f u a.
             let q = tb .place (x .symbol) in
-            let n = tb .place (D .name .symbol) in
-            let one : resultOf (tb .values) (tb .layout) (tb .ahead) (tb .entries) 2 n ≡ 1 = result-is (tb .place) (tb .layout) (tb .values) (tb .ahead) (tb .entries) g x D hs p known e i ∙ ap oneIf s in
+            let n = tb .key (D .name .symbol) in
+            let one : resultOf (tb .values) (tb .layout) (tb .ahead) (tb .entries) 2 n ≡ 1 = result-is (tb .key) (tb .layout) (tb .values) (tb .ahead) (tb .entries) g x D hs p known e i ∙ ap oneIf s in
             passed-all (DO (reserve q) ∷ CALLS (tb .place) g x 1 kept ∷ [])
             (parts 16 q 0 ∷ parts 5 q (packed (fr .level - high (getD (tb .layout) n 0)) 1 (getD (tb .entries) n 0)) ∷ []) n-use (x .symbol) d 0
-            (name-step tb (x .symbol) d 0 fr fl (scopes g) x us 2 n (f .awaits) u (rw e tt) (ap kindOf e ∙ ap thingKind i) (ap (meansOf (tb .place)) e) ∙ called-named tb n q fr (taken us fl) one)
+            (name-step tb (x .symbol) d 0 fr fl (scopes g) x us 2 n (f .awaits) u (ap kindOf e ∙ ap thingKind i) (ap (meansOf (tb .key)) e) ∙ called-named tb n q fr (taken us fl) one)
             a
             (λ z c. (refl, (ap (parts 5 q) (call-word tb g known x D hs p (fr .level) 1 1 (right z) (f .level) e i refl (c .1 .0)), tt)));
       }
@@ -178,7 +172,7 @@ module _ (tb : Tables) (R : Type 0) (g : List Mark) (right : R → Targets (tb .
       record {
         pass = λ us fr fl f u a.
             passed-all (DO (push (tb .place (x .symbol)) maxint) ∷ []) (parts 12 (tb .place (x .symbol)) largest ∷ []) n-use (x .symbol) d 0
-            (name-step tb (x .symbol) d 0 fr fl (scopes g) x us 0 n (f .awaits) u (rw e tt) (ap kindOf e) (ap (meansOf (tb .place)) e) ∙ greatest-named tb n (tb .place (x .symbol)) (state tb fr (taken us fl)))
+            (name-step tb (x .symbol) d 0 fr fl (scopes g) x us 0 n (f .awaits) u (ap kindOf e) (ap (meansOf (tb .key)) e) ∙ greatest-named tb n (tb .place (x .symbol)) (state tb fr (taken us fl)))
             a
             (λ z c. (refl, tt));
       }
@@ -193,8 +187,8 @@ module _ (tb : Tables) (R : Type 0) (g : List Mark) (right : R → Targets (tb .
       typed D hs p e i (some t) s ok = function-part x d b D hs p t e i s
 
       thing : (D : Declared) (hs : List Scope) → meaning (scopes g) x ≡ declared D hs → (t : Thing) → D .thing ≡ t → OkPrimary (scopes g) x 0 (thingAs t done) → Named x d b (thingAs t done)
-      thing D hs e (variable t) i ok = held-part x d b 1 (tb .place (D .name .symbol)) ok (ap kindOf e ∙ ap thingKind i) (ap (meansOf (tb .place)) e) refl refl
-      thing D hs e (formal t) i ok = held-part x d b 3 (tb .place (D .name .symbol)) ok (ap kindOf e ∙ ap thingKind i) (ap (meansOf (tb .place)) e) refl refl
+      thing D hs e (variable t) i ok = held-part x d b 1 (tb .key (D .name .symbol)) ok (ap kindOf e ∙ ap thingKind i) (ap (meansOf (tb .key)) e) refl refl
+      thing D hs e (formal t) i ok = held-part x d b 3 (tb .key (D .name .symbol)) ok (ap kindOf e ∙ ap thingKind i) (ap (meansOf (tb .key)) e) refl refl
       thing D hs e (routine p) i ok = typed D hs p e i (sortOf p) refl ok
 
       other : (n : ℕ) (y : Given) → meaning (scopes g) x ≡ given n y → OkPrimary (scopes g) x 0 (givenAs n done) → Named x d b (givenAs n done)
@@ -229,17 +223,17 @@ Quiet k n = (j : ℕ) → _≡_ {A = ℕ} (cond (eqb k 0 && (eqb n 2 && eqb j 0)
 
 module _ (tb : Tables) where
   -- with a result, and without
-  pub typed-step : (s d u : ℕ) (fr : Frame) (fl : Flow) (gs : List Scope) (x : Name) (us : List Use) (k n : ℕ) → fl .uses ≡ used gs x ∷ us → Meant (meaning gs x)
-      → kindOf (meaning gs x) ≡ k → meansOf (tb .place) (meaning gs x) ≡ n → resultOf (tb .values) (tb .layout) (tb .ahead) (tb .entries) k n ≡ 1
+  pub typed-step : (s d u : ℕ) (fr : Frame) (fl : Flow) (gs : List Scope) (x : Name) (us : List Use) (k n : ℕ) → fl .uses ≡ used gs x ∷ us
+      → kindOf (meaning gs x) ≡ k → meansOf (tb .key) (meaning gs x) ≡ n → resultOf (tb .values) (tb .layout) (tb .ahead) (tb .entries) k n ≡ 1
       → step tb n-call s d u (state tb fr fl) ≡ putAll (parts 16 (tb .place s) 0 ∷ []) (state tb (inCall k n 0 fr) (taken us fl))
-  unfolding useNode isUse hasNone calling resultFor pushed withOpen put
-  typed-step s d u fr fl gs x us k n i w e e' f = use-step tb n-call s d u fr fl gs x us k n refl refl i w e e' ∙ rw f
+  unfolding useNode isUse calling resultFor pushed withOpen put
+  typed-step s d u fr fl gs x us k n i e e' f = use-step tb n-call s d u fr fl gs x us k n refl i e e' ∙ rw f
 
-  pub plain-step : (s d u : ℕ) (fr : Frame) (fl : Flow) (gs : List Scope) (x : Name) (us : List Use) (k n : ℕ) → fl .uses ≡ used gs x ∷ us → Meant (meaning gs x)
-      → kindOf (meaning gs x) ≡ k → meansOf (tb .place) (meaning gs x) ≡ n → resultOf (tb .values) (tb .layout) (tb .ahead) (tb .entries) k n ≡ 0
+  pub plain-step : (s d u : ℕ) (fr : Frame) (fl : Flow) (gs : List Scope) (x : Name) (us : List Use) (k n : ℕ) → fl .uses ≡ used gs x ∷ us
+      → kindOf (meaning gs x) ≡ k → meansOf (tb .key) (meaning gs x) ≡ n → resultOf (tb .values) (tb .layout) (tb .ahead) (tb .entries) k n ≡ 0
       → step tb n-call s d u (state tb fr fl) ≡ state tb (inCall k n 0 fr) (taken us fl)
-  unfolding useNode isUse hasNone calling resultFor pushed withOpen
-  plain-step s d u fr fl gs x us k n i w e e' f = use-step tb n-call s d u fr fl gs x us k n refl refl i w e e' ∙ rw f
+  unfolding useNode isUse calling resultFor pushed withOpen
+  plain-step s d u fr fl gs x us k n i e e' f = use-step tb n-call s d u fr fl gs x us k n refl i e e' ∙ rw f
 
   pub actual-step : (s k n j : ℕ) (fr : Frame) (fl : Flow) → fr .awaits ≡ 0 → Quiet k n → step tb n-actual s 0 0 (state tb (inCall k n j fr) fl) ≡ state tb (inCall k n (j + 1) fr) fl
   unfolding step codeNode isUse actualIn withVariable replaced withOpen top below
@@ -247,7 +241,7 @@ module _ (tb : Tables) where
 
   pub ended-step : (s u k n j : ℕ) (fr : Frame) (fl : Flow)
       → step tb n-call-end s 0 u (state tb (inCall k n j fr) fl) ≡ callEnded (tb .values) (tb .layout) (tb .ahead) (tb .entries) (opened k n j 0) (tb .place s) u (state tb fr fl)
-  unfolding step codeNode isUse hasNone popped withOpen top below
+  unfolding step codeNode isUse popped withOpen top below
   ended-step s u k n j fr fl = refl
 
   pub procedure-step : (s u n j : ℕ) (fr : Frame) (fl : Flow)
@@ -262,7 +256,7 @@ module _ (tb : Tables) where
 
 -- ---- expressions
 
-module _ (tb : Tables) (R : Type 0) (g : List Mark) (right : R → Targets (tb .place) (tb .entries) g) (known : Known (tb .place) (tb .layout) g) (h m : ℕ) where
+module _ (tb : Tables) (R : Type 0) (g : List Mark) (right : R → Targets (tb .key) (tb .entries) g) (known : Known (tb .key) (tb .layout) g) (h m : ℕ) where
   abbrev pub IsE : Expression → ℕ → ℕ → Type 0
   IsE e d b = Emits tb R g h m (nodesE d e) (usesE (scopes g) e) b (endE (scopes g) e b) (aheadE (scopes g) e b) (λ t. t) (codeE (tb .place) g e b)
 
@@ -291,12 +285,12 @@ module _ (tb : Tables) (R : Type 0) (g : List Mark) (right : R → Targets (tb .
   pub call-end : (x : Name) (es : Expressions) (D : Declared) (hs : List Scope) (p : Procedure) (u c e : ℕ) (f : Fate) → meaning (scopes g) x ≡ declared D hs → D .thing ≡ routine p
       → oneIf (sortOf p) + count es ≡ c → ((l v w : ℕ) → partsOf (CALL (tb .place (x .symbol)) l v w f) ≡ parts (5 + u) (tb .place (x .symbol)) (pack v w l))
       → (us : List Use) (fr : Frame) (fl : Flow) → Fits tb g h m fr → fl .uses ≡ us → fl .at ≡ e
-      → Passed tb R (inCall 2 (tb .place (D .name .symbol)) (counted 0 es) fr) fr (node n-call-end (x .symbol) 0 u) us (suc e) (λ k. k) (λ t. t) (λ r. CALLS (tb .place) g x c f ∷ r) fl
+      → Passed tb R (inCall 2 (tb .key (D .name .symbol)) (counted 0 es) fr) fr (node n-call-end (x .symbol) 0 u) us (suc e) (λ k. k) (λ t. t) (λ r. CALLS (tb .place) g x c f ∷ r) fl
   call-end x es D hs p u c e f i j s v us fr fl w o a =
       let q = tb .place (x .symbol) in
-      let n = tb .place (D .name .symbol) in
+      let n = tb .key (D .name .symbol) in
       let k = resultOf (tb .values) (tb .layout) (tb .ahead) (tb .entries) 2 n + counted 0 es in
-      let l : k ≡ c = omega (arith, result-is (tb .place) (tb .layout) (tb .values) (tb .ahead) (tb .entries) g x D hs p known i j, counted-is 0 es) in
+      let l : k ≡ c = omega (arith, result-is (tb .key) (tb .layout) (tb .values) (tb .ahead) (tb .entries) g x D hs p known i j, counted-is 0 es) in
       let ps : List Parts = parts (5 + u) q (packed (fr .level - high (getD (tb .layout) n 0)) k (getD (tb .entries) n 0)) ∷ [] in
       passed-all (CALLS (tb .place) g x c f ∷ []) ps n-call-end (x .symbol) 0 u
       (procedure-step tb (x .symbol) u n (counted 0 es) fr fl ∙ ap (λ (us : List Use). putAll ps (state tb fr (taken us fl))) o)
@@ -309,11 +303,11 @@ module _ (tb : Tables) (R : Type 0) (g : List Mark) (right : R → Targets (tb .
       record {
         pass = λ us fr fl f u a.
             let q = tb .place (x .symbol) in
-            let n = tb .place (D .name .symbol) in
-            let one : resultOf (tb .values) (tb .layout) (tb .ahead) (tb .entries) 2 n ≡ 1 = result-is (tb .place) (tb .layout) (tb .values) (tb .ahead) (tb .entries) g x D hs p known e i ∙ ap oneIf s in
+            let n = tb .key (D .name .symbol) in
+            let one : resultOf (tb .values) (tb .layout) (tb .ahead) (tb .entries) 2 n ≡ 1 = result-is (tb .key) (tb .layout) (tb .values) (tb .ahead) (tb .entries) g x D hs p known e i ∙ ap oneIf s in
             let c : Passed tb R fr (inCall 2 n 0 fr) (node n-call (x .symbol) d 0) (usesEs (scopes g) es ++ us) (suc b) (λ k. k) (λ t. t) (λ r. DO (reserve q) ∷ r) fl =
             passed-all (DO (reserve q) ∷ []) (parts 16 q 0 ∷ []) n-call (x .symbol) d 0
-            (typed-step tb (x .symbol) d 0 fr fl (scopes g) x (usesEs (scopes g) es ++ us) 2 n u (rw e tt) (ap kindOf e ∙ ap thingKind i) (ap (meansOf (tb .place)) e) one) a (λ z c. (refl, tt)) in
+            (typed-step tb (x .symbol) d 0 fr fl (scopes g) x (usesEs (scopes g) es ++ us) 2 n u (ap kindOf e ∙ ap thingKind i) (ap (meansOf (tb .key)) e) one) a (λ z c. (refl, tt)) in
             let y = args (suc b) 2 n 0 (λ j. refl) us fr (c .next) f (c .uses) (c .at) in
             c
             and-then y
@@ -325,7 +319,7 @@ module _ (tb : Tables) (R : Type 0) (g : List Mark) (right : R → Targets (tb .
       → Passed tb R fr (inCall 0 n 0 fr) (node n-call (x .symbol) d u) us b (λ k. k) (λ t. t) (λ r. r) fl
   unfolding resultOf
   given-call x n d u b y e us fr fl i a =
-      passed-all [] [] n-call (x .symbol) d u (plain-step tb (x .symbol) d u fr fl (scopes g) x us 0 n i (rw e tt) (ap kindOf e) (ap (meansOf (tb .place)) e) refl) a (λ z c. tt)
+      passed-all [] [] n-call (x .symbol) d u (plain-step tb (x .symbol) d u fr fl (scopes g) x us 0 n i (ap kindOf e) (ap (meansOf (tb .key)) e) refl) a (λ z c. tt)
 
   absolute-call : (x : Name) (es : Expressions) (d b : ℕ) (y : Given) → ((b : ℕ) → IsEs es (d + 1) b) → meaning (scopes g) x ≡ given 0 y → Called x es d b absolute
   absolute-call x es d b y args e =

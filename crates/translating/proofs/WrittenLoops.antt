@@ -14,7 +14,6 @@ use Rattle.names.specs.Scopes.{Scope, meaning}
 use Rattle.names.specs.Nodes.{node, mark, nodesL, nodesLs, nodesS}
 use Rattle.names.specs.Rows.{isUse}
 use Rattle.names.specs.Uses.{Use, used, usesL, usesS}
-use Rattle.reading.specs.Table.{hasNone}
 use Rattle.translation.specs.Translate.{Mark, scopes, endL, endS, codeS}
 use Rattle.emitting.specs.Layout.{packed}
 use Rattle.translation.specs.Scoped.{OkV, OkL}
@@ -22,7 +21,7 @@ use Rattle.emitting.specs.Emission.{opened, State, put, withOpen, withSlot, wit
 use Rattle.translating.proofs.NumbersOf.{NumbersL}
 use Rattle.translating.proofs.SlotLists.{Fills, longer, then-slots, refill, slot-read, slot-past, slots-past, there, aheadS}
 use Rattle.translating.proofs.Written.{Tables, Frame, Flow, kindOf, meansOf, wrote, slotted, taken, put-real, slot-real, noted-real, step, state, Passed, Emits, wrote-right, goes-node, goes-then, passed-words, use-step}
-use Rattle.translating.proofs.WrittenExpressions.{Numbered, cell-meant, cell-word}
+use Rattle.translating.proofs.WrittenExpressions.{Numbered, cell-word}
 use Rattle.translating.proofs.WrittenElements.{inLoop, Turned, elements-turned}
 use Rattle.translating.proofs.NameWords.{Known, Targets}
 use Rattle.translating.proofs.EntryTables.{enteredS}
@@ -38,14 +37,14 @@ module _ (tb : Tables) where
   forFlow us fl = slotted (fl .slots ++ (0 ∷ [])) (taken us fl)
 
   for-step : (s d v b : ℕ) (fr : Frame) (fl : Flow) (gs : List Scope) (x : Name) (us : List Use) → fl .uses ≡ used gs x ∷ us → fl .at ≡ b → OkV gs x
-      → cellOf (tb .values) (tb .layout) (tb .ahead) (tb .entries) (fr .level) (kindOf (meaning gs x)) (meansOf (tb .place) (meaning gs x)) ≡ v
+      → cellOf (tb .values) (tb .layout) (tb .ahead) (tb .entries) (fr .level) (kindOf (meaning gs x)) (meansOf (tb .key) (meaning gs x)) ≡ v
       → step tb n-for s d 0 (state tb fr fl) ≡ state tb (inLoop (length (fl .slots)) v (tb .place s) b fr) (forFlow us fl)
-  unfolding useNode isUse hasNone repeated pushed withOpen
+  unfolding useNode isUse repeated pushed withOpen
   for-step s d v b fr fl gs x us u i ok e =
-      use-step tb n-for s d 0 fr fl gs x us (kindOf (meaning gs x)) (meansOf (tb .place) (meaning gs x)) refl refl u (cell-meant gs (meaning gs x) ok) refl refl
+      use-step tb n-for s d 0 fr fl gs x us (kindOf (meaning gs x)) (meansOf (tb .key) (meaning gs x)) refl u refl refl
       ∙ ap (λ (v : ℕ). withSlot (state tb (inLoop (length (fl .slots)) v (tb .place s) (fl .at) fr) (taken us fl))) e
       ∙ ap (λ (b : ℕ). withSlot (state tb (inLoop (length (fl .slots)) v (tb .place s) b fr) (taken us fl))) i
-      ∙ slot-real (tb .place) (inLoop (length (fl .slots)) v (tb .place s) b fr) (taken us fl)
+      ∙ slot-real (tb .key) (inLoop (length (fl .slots)) v (tb .place s) b fr) (taken us fl)
 
   abbrev doSlots : ℕ → ℕ → List ℕ → List ℕ
   doSlots s e front = set front s (there e)
@@ -60,7 +59,7 @@ module _ (tb : Tables) where
       let fr' = inLoop j 0 0 0 fr in
       ap (λ (k : ℕ). within (fr .level) (fr .loops + 1) (fr .cells) (noted s (there (fl .at)) (state tb (inLoop k 0 0 0 fr) fl))) n
       ∙ ap (λ (k : ℕ). within (fr .level) (fr .loops + 1) (fr .cells) (noted s (there k) (state tb fr' fl))) i
-      ∙ ap (within (fr .level) (fr .loops + 1) (fr .cells)) (noted-real (tb .place) s (there e) fr' fl h')
+      ∙ ap (within (fr .level) (fr .loops + 1) (fr .cells)) (noted-real (tb .key) s (there e) fr' fl h')
       ∙ ap (λ (k : ℕ). within (fr .level) k (fr .cells) (state tb fr' (slotted (set (fl .slots) s (there e)) fl))) (add-one (fr .loops))
       ∙ ap (λ (l : List ℕ). state tb (inBody j fr) (slotted l fl)) (ap (λ (l : List ℕ). set l s (there e)) u ∙ set-append-left front (there e ∷ []) s (there e) h)
 
@@ -71,9 +70,9 @@ module _ (tb : Tables) where
       let n : suc (fr .loops) - 1 ≡ fr .loops = omega arith in
       let v = packed (fr .loops) 0 0 in
       ap (λ (k : ℕ). noted j (there (fl .at + 1)) (popped (within (fr .level) k (fr .cells) (put 9 0 (packed k 0 0) (state tb (inBody j fr) fl))))) n
-      ∙ ap (λ (st : State). noted j (there (fl .at + 1)) (popped (within (fr .level) (fr .loops) (fr .cells) st))) (put-real (tb .place) 9 0 v (inBody j fr) fl)
+      ∙ ap (λ (st : State). noted j (there (fl .at + 1)) (popped (within (fr .level) (fr .loops) (fr .cells) st))) (put-real (tb .key) 9 0 v (inBody j fr) fl)
       ∙ ap (λ (k : ℕ). noted j (there k) (state tb fr (wrote 9 0 v fl))) (add-one (fl .at) ∙ ap suc i)
-      ∙ noted-real (tb .place) j (there (suc e)) fr (wrote 9 0 v fl) h
+      ∙ noted-real (tb .key) j (there (suc e)) fr (wrote 9 0 v fl) h
 
 -- ---- the whole
 
@@ -83,7 +82,7 @@ next-word n m e h = omega arith
 module _ {tb : Tables} {R : Type 0} {wl wb : List ℕ} {us us' : List Use} {b i e v : ℕ} {A B E : List ℕ → List ℕ} {C : ℕ → ℕ → List Instr → List Instr} {D : List Instr → List Instr} where
   -- the elements, which end at i, and the body
   loop-passed : (gs : List Scope) (x : Name) (d q m : ℕ) (us₀ : List Use) {fr : Frame} {fl : Flow} → fr .loops ≡ m → fl .uses ≡ used gs x ∷ us₀ → fl .at ≡ b → OkV gs x
-      → cellOf (tb .values) (tb .layout) (tb .ahead) (tb .entries) (fr .level) (kindOf (meaning gs x)) (meansOf (tb .place) (meaning gs x)) ≡ v
+      → cellOf (tb .values) (tb .layout) (tb .ahead) (tb .entries) (fr .level) (kindOf (meaning gs x)) (meansOf (tb .key) (meaning gs x)) ≡ v
       → (t : Turned tb R (length (fl .slots)) v (tb .place (x .symbol)) b fr wl us i A C (forFlow tb us₀ fl))
       → let l = doSlots tb (length (fl .slots)) i (t .front) in
       (y : Passed tb R (inBody (length l) fr) (inBody (length l) fr) wb us' e B E D (slotted (l ++ (there i ∷ [])) (t .next)))
@@ -114,17 +113,17 @@ module _ {tb : Tables} {R : Type 0} {wl wb : List ℕ} {us us' : List Use} {b i 
             (wrote-right (NEXT m) 9 0 (packed (fr .loops) 0 0) (y .next .code) r refl (next-word (fr .loops) m ml (p₂ .1 .0)) ∙ p₂ .0 ∙ p₁ .0, p₂ .1 .1);
       }
 
-module _ (tb : Tables) (R : Type 0) (g : List Mark) (right : R → Targets (tb .place) (tb .entries) g) (known : Known (tb .place) (tb .layout) g) (m : ℕ) where
+module _ (tb : Tables) (R : Type 0) (g : List Mark) (right : R → Targets (tb .key) (tb .entries) g) (known : Known (tb .key) (tb .layout) g) (m : ℕ) where
   pub loop-part : (x : Name) (l : Element) (ls : List Element) (s : Statement) (d b : ℕ) → OkV (scopes g) x → OkL (scopes g) (l ∷ ls) → NumbersL (Numbered tb) (l ∷ ls)
       → let i = endL (scopes g) (l ∷ ls) b in
-      Emits tb R g 0 (suc m) (nodesS (d + 1) s) (usesS (scopes g) s) i (endS (scopes g) s i) (aheadS (scopes g) s i) (enteredS (tb .place) (scopes g) s i) (codeS (tb .place) g (suc m) s i)
-      → Emits tb R g 0 m (nodesS d (repeat x l ls s)) (usesS (scopes g) (repeat x l ls s)) b (endS (scopes g) (repeat x l ls s) b) (aheadS (scopes g) (repeat x l ls s) b) (enteredS (tb .place) (scopes g) (repeat x l ls s) b) (codeS (tb .place) g m (repeat x l ls s) b)
+      Emits tb R g 0 (suc m) (nodesS (d + 1) s) (usesS (scopes g) s) i (endS (scopes g) s i) (aheadS (scopes g) s i) (enteredS (scopes g) s i) (codeS (tb .place) g (suc m) s i)
+      → Emits tb R g 0 m (nodesS d (repeat x l ls s)) (usesS (scopes g) (repeat x l ls s)) b (endS (scopes g) (repeat x l ls s) b) (aheadS (scopes g) (repeat x l ls s) b) (enteredS (scopes g) (repeat x l ls s) b) (codeS (tb .place) g m (repeat x l ls s) b)
   unfolding nodesS usesS endS aheadS enteredS codeS
   loop-part x l ls s d b ok ok' n body =
       record {
         pass = λ us fr fl w u a.
             let i = endL (scopes g) (l ∷ ls) b in
-            let v = cellOf (tb .values) (tb .layout) (tb .ahead) (tb .entries) (fr .level) (kindOf (meaning (scopes g) x)) (meansOf (tb .place) (meaning (scopes g) x)) in
+            let v = cellOf (tb .values) (tb .layout) (tb .ahead) (tb .entries) (fr .level) (kindOf (meaning (scopes g) x)) (meansOf (tb .key) (meaning (scopes g) x)) in
             let ul = usesL (scopes g) (l ∷ ls) in
             let ub = usesS (scopes g) s in
             let us₀ : List Use = (ul ++ ub) ++ us in

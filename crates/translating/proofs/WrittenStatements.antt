@@ -20,13 +20,13 @@ use Rattle.translating.proofs.Sites.{LaidS, LaidSs, LaidDs, LaidP}
 use Rattle.translating.proofs.SlotLists.{aheadS, aheadSs, aheadDs, aheadP}
 use Rattle.translating.proofs.EntryTables.{enteredS, enteredSs, enteredDs, enteredP, RightS, RightSs, RightDs, RightP, entry-is}
 use Rattle.translating.proofs.NameWords.{Known, Targets}
-use Rattle.translating.proofs.Written.{Tables, Frame, Flow, slotted, Passed, Fits, Emits, _and-then_, _followed-by_, passed-nothing, passed-words}
+use Rattle.translating.proofs.Written.{Tables, Frame, Flow, slotted, withEntries, Passed, Fits, Emits, _and-then_, _followed-by_, passed-nothing, passed-words}
 use Rattle.translating.proofs.WrittenChoices.{one-way, two-way}
 use Rattle.translating.proofs.WrittenExpressions.{Numbered, emitsE}
 use Rattle.translating.proofs.WrittenAssignments.{assignment-part}
 use Rattle.translating.proofs.WrittenCommands.{command-part}
 use Rattle.translating.proofs.WrittenLoops.{loop-part}
-use Rattle.translating.proofs.WrittenBlocks.{inBlock, withCells, inProcedure, withEntries, blockFlow, cellsBehind, declared-passed, nothing-part, heading-part, procedure-passed, block-passed}
+use Rattle.translating.proofs.WrittenBlocks.{inBlock, withCells, inProcedure, blockFlow, cellsBehind, declared-passed, nothing-part, heading-part, procedure-passed, block-passed}
 use Rattle.translation.proofs.Ranges.{owns, total-variables}
 use Rattle.emitting.specs.Layout.{packed}
 
@@ -49,19 +49,19 @@ cells-up c (declare p ds) = omega (arith, cells-up c ds)
 
 module _ (tb : Tables) where
   abbrev IsS : Type 0 → List Mark → ℕ → Statement → ℕ → ℕ → Type 0
-  IsS R g m s d b = Emits tb R g 0 m (nodesS d s) (usesS (scopes g) s) b (endS (scopes g) s b) (aheadS (scopes g) s b) (enteredS (tb .place) (scopes g) s b) (codeS (tb .place) g m s b)
+  IsS R g m s d b = Emits tb R g 0 m (nodesS d s) (usesS (scopes g) s) b (endS (scopes g) s b) (aheadS (scopes g) s b) (enteredS (scopes g) s b) (codeS (tb .place) g m s b)
 
   abbrev IsSs : Type 0 → List Mark → ℕ → Statements → ℕ → ℕ → Type 0
-  IsSs R g m ss d b = Emits tb R g 0 m (nodesSs d ss) (usesSs (scopes g) ss) b (endSs (scopes g) ss b) (aheadSs (scopes g) ss b) (enteredSs (tb .place) (scopes g) ss b) (codeSs (tb .place) g m ss b)
+  IsSs R g m ss d b = Emits tb R g 0 m (nodesSs d ss) (usesSs (scopes g) ss) b (endSs (scopes g) ss b) (aheadSs (scopes g) ss b) (enteredSs (scopes g) ss b) (codeSs (tb .place) g m ss b)
 
   abbrev IsP : Type 0 → List Mark → ℕ → Procedure → ℕ → ℕ → Type 0
-  IsP R g m p d b = Emits tb R g 0 m (nodesP d p) (usesP (scopes g) p) b (endP (scopes g) p b) (aheadP (scopes g) p b) (enteredP (tb .place) (scopes g) p b) (codeP (tb .place) g p b)
+  IsP R g m p d b = Emits tb R g 0 m (nodesP d p) (usesP (scopes g) p) b (endP (scopes g) p b) (aheadP (scopes g) p b) (enteredP (scopes g) p b) (codeP (tb .place) g p b)
 
   -- declarations add their cells to a frame
   abbrev IsD : Type 0 → List Mark → ℕ → Declarations → ℕ → ℕ → Type 0
   IsD R g m ds d b =
       (us : List Use) (fr : Frame) (fl : Flow) → Fits tb g 0 m fr → fl .uses ≡ usesD (scopes g) ds ++ us → fl .at ≡ b
-      → Passed tb R fr (withCells (cellsUp (fr .cells) ds) fr) (nodesD d ds) us (endDs (scopes g) ds b) (aheadDs (scopes g) ds b) (enteredDs (tb .place) (scopes g) ds b) (codeDs (tb .place) g ds b) fl
+      → Passed tb R fr (withCells (cellsUp (fr .cells) ds) fr) (nodesD d ds) us (endDs (scopes g) ds b) (aheadDs (scopes g) ds b) (enteredDs (scopes g) ds b) (codeDs (tb .place) g ds b) fl
 
   -- ---- a block and a procedure, of their parts
 
@@ -87,7 +87,7 @@ module _ (tb : Tables) where
   procedure-part R g m t f xs vs ss s d b x =
       record {
         pass = λ us fr fl w u a.
-            let l = set (fl .entries) (tb .place (f .symbol)) b in
+            let l : List ℕ = fl .entries ++ (b ∷ []) in
             let y =
             heading-part (f .symbol) xs vs ss x .pass us (inProcedure fr) (withEntries l fl) (record { level = ap suc (w .level); loops = refl; lefts = w .lefts; awaits = w .awaits }) u a in
             passed-words (nodesP d (heading t f xs vs ss s)) (simp append-assoc) (procedure-passed (sortNumber t) (f .symbol) b a y);
@@ -110,8 +110,8 @@ module _ (tb : Tables) where
   mutual
     unfolding nodesS usesS endS aheadS enteredS codeS
 
-    pub emitsS : (R : Type 0) (g : List Mark) (m : ℕ) (s : Statement) (d b : ℕ) → (R → Targets (tb .place) (tb .entries) g) → (R → RightS (tb .place) (tb .entries) (scopes g) s b)
-        → Known (tb .place) (tb .layout) g → OkS (scopes g) s → NumbersS (Numbered tb) s → LaidS (tb .place) (tb .layout) (owns g) (reach g) s → IsS R g m s d b
+    pub emitsS : (R : Type 0) (g : List Mark) (m : ℕ) (s : Statement) (d b : ℕ) → (R → Targets (tb .key) (tb .entries) g) → (R → RightS (tb .key) (tb .entries) (scopes g) s b)
+        → Known (tb .key) (tb .layout) g → OkS (scopes g) s → NumbersS (Numbered tb) s → LaidS (tb .key) (tb .layout) (owns g) (reach g) s → IsS R g m s d b
     emitsS R g m dummy d b rt rs known ok n laid = nothing-part
     emitsS R g m (assignment x xs q e) d b rt rs known ok n laid = assignment-part tb R g rt known m x xs q e d b (ok .0) (ok .1) n
     emitsS R g m (procedure x es) d b rt rs known ok n laid = command-part tb R g rt known m x es d b ok n
@@ -127,25 +127,25 @@ module _ (tb : Tables) where
     emitsS R g m (compound ss) d b rt rs known ok n laid = emitsSs R g m ss (d + 1) b rt rs known ok n laid
     emitsS R g m (block q ds ss) d b rt rs known ok n laid =
         let g' : List Mark = blk (reach g) ds (suc b) ∷ g in
-        let rt' : R → Targets (tb .place) (tb .entries) g' = λ z. (entry-is (tb .place) (tb .entries) (scopes g') ds (suc b) (rs z .0), rt z) in
+        let rt' : R → Targets (tb .key) (tb .entries) g' = λ z. (entry-is (tb .key) (tb .entries) (scopes g') ds (suc b) (rs z .0), rt z) in
         block-part R g m q ds ss d b (emitsD R g' m ds d (suc b) rt' (λ z. rs z .0) (laid .0, known) (ok .0) (n .0) (laid .1))
         (emitsSs R g' m ss (d + 1) (endDs (scopes g') ds (suc b)) rt' (λ z. rs z .1) (laid .0, known) (ok .1) (n .1) (laid .2))
 
-    emitsSs : (R : Type 0) (g : List Mark) (m : ℕ) (ss : Statements) (d b : ℕ) → (R → Targets (tb .place) (tb .entries) g) → (R → RightSs (tb .place) (tb .entries) (scopes g) ss b)
-        → Known (tb .place) (tb .layout) g → OkSs (scopes g) ss → NumbersSs (Numbered tb) ss → LaidSs (tb .place) (tb .layout) (owns g) (reach g) ss → IsSs R g m ss d b
+    emitsSs : (R : Type 0) (g : List Mark) (m : ℕ) (ss : Statements) (d b : ℕ) → (R → Targets (tb .key) (tb .entries) g) → (R → RightSs (tb .key) (tb .entries) (scopes g) ss b)
+        → Known (tb .key) (tb .layout) g → OkSs (scopes g) ss → NumbersSs (Numbered tb) ss → LaidSs (tb .key) (tb .layout) (owns g) (reach g) ss → IsSs R g m ss d b
     emitsSs R g m (last s) d b rt rs known ok n laid = emitsS R g m s d b rt rs known ok n laid
     emitsSs R g m (first s ss) d b rt rs known ok n laid =
         emitsS R g m s d b rt (λ z. rs z .0) known (ok .0) (n .0) (laid .0) followed-by emitsSs R g m ss d (endS (scopes g) s b) rt (λ z. rs z .1) known (ok .1) (n .1) (laid .1)
 
-    emitsD : (R : Type 0) (g : List Mark) (m : ℕ) (ds : Declarations) (d b : ℕ) → (R → Targets (tb .place) (tb .entries) g) → (R → RightDs (tb .place) (tb .entries) (scopes g) ds b)
-        → Known (tb .place) (tb .layout) g → OkDs (scopes g) ds → NumbersDs (Numbered tb) ds → LaidDs (tb .place) (tb .layout) (owns g) ds → IsD R g m ds d b
+    emitsD : (R : Type 0) (g : List Mark) (m : ℕ) (ds : Declarations) (d b : ℕ) → (R → Targets (tb .key) (tb .entries) g) → (R → RightDs (tb .key) (tb .entries) (scopes g) ds b)
+        → Known (tb .key) (tb .layout) g → OkDs (scopes g) ds → NumbersDs (Numbered tb) ds → LaidDs (tb .key) (tb .layout) (owns g) ds → IsD R g m ds d b
     emitsD R g m no-more d b rt rs known ok n laid = λ us fr fl w u a. passed-nothing u a
     emitsD R g m (variables t xs ds) d b rt rs known ok n laid = variables-part R g m t xs ds d b (emitsD R g m ds d b rt rs known ok n laid)
     emitsD R g m (declare p ds) d b rt rs known ok n laid =
         declare-part R g m p ds d b (emitsP R g m p d b rt (λ z. rs z .0) known (ok .0) (n .0) (laid .0)) (emitsD R g m ds d (endP (scopes g) p b) rt (λ z. rs z .1) known (ok .1) (n .1) (laid .1))
 
-    emitsP : (R : Type 0) (g : List Mark) (m : ℕ) (p : Procedure) (d b : ℕ) → (R → Targets (tb .place) (tb .entries) g) → (R → RightP (tb .place) (tb .entries) (scopes g) p b)
-        → Known (tb .place) (tb .layout) g → OkP (scopes g) p → NumbersP (Numbered tb) p → LaidP (tb .place) (tb .layout) (owns g) p → IsP R g m p d b
+    emitsP : (R : Type 0) (g : List Mark) (m : ℕ) (p : Procedure) (d b : ℕ) → (R → Targets (tb .key) (tb .entries) g) → (R → RightP (tb .key) (tb .entries) (scopes g) p b)
+        → Known (tb .key) (tb .layout) g → OkP (scopes g) p → NumbersP (Numbered tb) p → LaidP (tb .key) (tb .layout) (owns g) p → IsP R g m p d b
     emitsP R g m (heading t f xs vs ss s) d b rt rs known ok n laid =
         let g' : List Mark = own (heading t f xs vs ss s) ∷ g in
         procedure-part R g m t f xs vs ss s d b (emitsS R g' 0 s (d + 1) b rt (λ z. rs z .1) (laid .2, laid .1, known) ok n (rw (zero-add (cellsIn (ofBody (heading t f xs vs ss s)))) (laid .3)))

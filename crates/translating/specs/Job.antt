@@ -16,7 +16,7 @@ use Rattle.types.specs.Types.{typeFault}
 use Rattle.reading.specs.Reading.{placeIn, cleared, Parsed, parsed, Judged}
 use Rattle.machine.specs.Machine.{Finish, onCode, used, Exit, afterwards}
 use Rattle.translation.specs.Translate.{code}
-use Rattle.translation.specs.Words.{words}
+use Rattle.machine.specs.Words.{words}
 use Rattle.translation.specs.Faithful.{AsRules, Follows}
 
 -- ---- the first 16,384 words of the code

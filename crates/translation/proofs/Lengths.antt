@@ -10,7 +10,7 @@ use Rattle.names.specs.Program.{Name, Sort, Sign, positive, negative, negation,
 use Rattle.names.specs.Scopes.{sortOf, meaning}
 use Rattle.rules.specs.Calls.{Primary, held, function, absolute, greatest, no-primary, primary, Command, routine-of, absolute-of, greatest-of, input-to, output-of, no-command, command}
 use Rattle.translation.specs.Translate.{Mark, blk, own, scopes, reach, endName, endSign, endE, endEs, endL, endStores, endCall, endCommand, endS, endSs, endDs, endP, codeName, codeSign, codeE, codeEs, codeL, codeStores, codeCall, codeCommand, codeS, codeSs, codeDs, codeP, code}
-use Rattle.translation.specs.Words.{words}
+use Rattle.machine.specs.Words.{words}
 use Rattle.translation.specs.Sizes.{Limited}
 use Rattle.translation.proofs.Ranges.{ends}
 

@@ -15,7 +15,7 @@ use Rattle.rules.specs.Rules.{State, sstep, beginning}
 use Rattle.translation.specs.Translate.{code}
 use Rattle.translation.specs.Scoped.{Scoped}
 use Rattle.translation.specs.Listed.{stepIn}
-use Rattle.translation.specs.Words.{words}
+use Rattle.machine.specs.Words.{words}
 use Rattle.translation.specs.Sizes.{Limited}
 use Rattle.translation.specs.Faithful.{Ordinary}
 use Rattle.translation.proofs.Sim as Sim

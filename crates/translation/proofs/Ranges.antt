@@ -14,7 +14,7 @@ use Rattle.names.specs.Scopes.{Thing, variable, routine, formal, Declared, Scop
 use Rattle.rules.specs.Entered.{cellsOf, total, oneIf, cellsIn, before, declaring, bodyOfThis}
 use Rattle.rules.specs.Calls.{Primary, held, function, absolute, greatest, no-primary, primary, Command, routine-of, absolute-of, greatest-of, input-to, output-of, no-command, command, thingTold, into, givenTold}
 use Rattle.translation.specs.Translate.{Mark, blk, own, scopeAt, scopes, offset, reach, cutG, levels, amongG, offsetOf, locFor, locAs, loc, endName, endSign, endE, endEs, endL, onward, endStores, endCall, endCommand, endS, endSs, endDs, endP, entry, target, codeName, codeSign, codeE, codeEs, codeL, codeStores, codeCall, codeCommand, codeS, codeSs, codeDs, codeP, code}
-use Rattle.translation.specs.Words.{LocFits, CodeFits}
+use Rattle.machine.specs.Words.{LocFits, CodeFits}
 use Rattle.translation.proofs.Sizes.{symbolsC, few, actuals-most, sizeSs, sizeDs}
 use Rattle.translation.specs.Sizes.{symbolsE, symbolsEs, symbolsL, listed, symbolsS, symbolsSs, symbolsDs, symbolsP, deepS, deepSs, deepDs, deepP, SmallE, SmallEs, SmallL, SmallS, SmallSs, SmallDs, SmallP, Whole, Limited}
 

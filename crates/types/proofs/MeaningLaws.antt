@@ -3,7 +3,7 @@
 use Prim.Native.Nat.{ℕ, zero, suc, _+_, _*_, _<_}
 use native.Mathlib.Omega.{arith}
 use native.Mathlib.Nat.{add-zero}
-use mathlib.Core.Path.{_≡_, refl, subst}
+use mathlib.Core.Path.{_≡_, refl, ap, subst, _∙_}
 use mathlib.Core.Bool.{Bool, true, false, cond, not}
 use mathlib.Core.List.{List, [], _∷_, _++_, map}
 use mathlib.Core.Option.{Option, none, some}
@@ -15,16 +15,21 @@ use Rattle.grammar.specs.NodeKinds.{n-formal}
 use Rattle.symbols.specs.Text.{bytes}
 use Rattle.symbols.specs.Names.{sameName}
 use Rattle.names.specs.Program.{Name, Sort, integer, boolean, Specification, Declarations, none as no-more, variables, declare, Procedure}
-use Rattle.names.specs.Scopes.{Thing, variable, routine, formal, Declared, nameOf, sortOf, formalsOf, specificationsOf, specified, same, Scope, ofBlock, ofBody, inBlock, inBody, variablesIn, declares, Wanted, an, variable-of, Given, environment, Meaning, declared, given, nothing, findIn, findGiven, innermost, meaning}
+use Rattle.names.specs.Scopes.{Thing, variable, routine, formal, Declared, nameOf, sortOf, formalsOf, valuesOf, specificationsOf, specified, same, has, Scope, ofBlock, ofBody, inBlock, inBody, variablesIn, declares, Wanted, an, variable-of, Given, environment, Meaning, declared, given, nothing, findIn, findGiven, innermost, meaning}
 use Rattle.names.specs.Uses.{Use, thingKind}
-use Rattle.names.specs.Rows.{meantOf}
+use Rattle.names.specs.Modes.{typeIn}
+use Rattle.names.specs.Outline.{formalIn}
+use Rattle.names.specs.Rows.{meantOf, rowIn}
+use Rattle.names.specs.declared.Row.{Row}
 use Rattle.names.specs.Nodes.{sortNumber}
 use Rattle.names.specs.declared.Meant.{Meant}
 use Rattle.names.specs.declared.Meant.the-variants.{Declared as at-row, Given as at-given, Nothing as nowhere}
+use Rattle.names.proofs.ModeLaws.{formal-type, type-alone}
+use Rattle.names.proofs.RowLaws.{row-at}
 use Rattle.names.proofs.Resolved.{Matches}
-use Rattle.names.proofs.Around.{kindAt, symbolAt, sortAt, specifiedAt, RowIs, Formals, ToldThing, givenAt, Means}
+use Rattle.names.proofs.Around.{kindAt, symbolAt, sortAt, RowIs, Formals, ToldThing, givenAt, Means}
 use Rattle.types.specs.Types.{alike, Judged, applied, plainly, thingIn, inExpression, wants, thingWants, wantedBy, thingOf, isVariable, ownSort, ownResult, thingLeft, asLeft, thingCalled, miscalled}
-use Rattle.types.specs.Passes.{apartOf, wordIn, specifiedIn, sortIn, formalsFrom, formalsIn, givenSort, givenFormals, judgement, appliedAs, plainlyAs, primaryOf, miscalledOf, givenWants, wantOf, variableOf, ownOf, leftOf}
+use Rattle.types.specs.Passes.{apartOf, sortIn, formalsFrom, formalsIn, givenSort, givenFormals, judgement, appliedAs, plainlyAs, primaryOf, miscalledOf, givenWants, wantOf, variableOf, ownOf, leftOf}
 use Rattle.types.specs.declared.Judgement.{Judgement}
 use Rattle.types.specs.declared.Want.{Want}
 use Rattle.types.specs.declared.Want.the-variants.{An, Variable, Nothing as Anything}
@@ -106,7 +111,7 @@ Bodies R [] [] = Unit {0}
 Bodies R [] (b ∷ bs) = ⊥
 Bodies R (ofBlock d ∷ g) bs = Bodies R g bs
 Bodies R (ofBody p ∷ g) [] = ⊥
-Bodies R (ofBody p ∷ g) (b ∷ bs) = (wordIn R b 1 ≡ nameOf p .symbol) × (wordIn R b 3 ≡ sortNumber (sortOf p)) × Bodies R g bs
+Bodies R (ofBody p ∷ g) (b ∷ bs) = (rowIn R b .symbol ≡ nameOf p .symbol) × (sortIn R b ≡ sortNumber (sortOf p)) × Bodies R g bs
 
 -- ---- a name that means a procedure has that procedure's symbol
 
@@ -175,34 +180,34 @@ proper (s ∷ g) x = found-proper (declares s) (s ∷ g) x (meaning g x) (scope-
 
 -- ---- the next use, with its word
 
-pub record Next (ids R M ws : List ℕ) (u : Use) (us : List Use) : Type 0 where
+pub record Next (R ws : List ℕ) (u : Use) (us : List Use) : Type 0 where
   pub word : ℕ
   pub others : List ℕ
   pub whole : ws ≡ word ∷ others
-  pub means : Means ids R M (meantOf word) (meaning (u .around) (u .name))
-  pub match : Matches ids R M others us
+  pub means : Means R (meantOf word) (meaning (u .around) (u .name))
+  pub match : Matches R others us
 
-pub next : (ids R M ws : List ℕ) (u : Use) (us : List Use) → Matches ids R M ws (u ∷ us) → Next ids R M ws u us
-next ids R M [] u us m = absurd m
-next ids R M (w ∷ ws) u us m = record { word = w; others = ws; whole = refl; means = m .0; match = m .1 }
+pub next : (R ws : List ℕ) (u : Use) (us : List Use) → Matches R ws (u ∷ us) → Next R ws u us
+next R [] u us m = absurd m
+next R (w ∷ ws) u us m = record { word = w; others = ws; whole = refl; means = m .0; match = m .1 }
 
-module _ (ids R M : List ℕ) where
-  kind-is : {j k s : ℕ} → RowIs R j k s → wordIn R j 0 ≡ k
-  unfolding wordIn
-  kind-is {j} r = rw (add-zero (4 * j)) (r .kind)
+module _ (R : List ℕ) where
+  kind-is : {j k s : ℕ} → RowIs R j k s → rowIn R j .kind ≡ k
+  kind-is {j} r = ap (λ (x : Row). x .kind) (row-at R j (r .inside)) ∙ r .kind
 
-  symbol-is : {j k s : ℕ} → RowIs R j k s → wordIn R j 1 ≡ s
-  unfolding wordIn
-  symbol-is r = r .symbol
+  symbol-is : {j k s : ℕ} → RowIs R j k s → rowIn R j .symbol ≡ s
+  symbol-is {j} r = ap (λ (x : Row). x .symbol) (row-at R j (r .inside)) ∙ r .symbol
 
-  -- the type of a row that is of no formal, and of one that is
-  sort-is : (j k s : ℕ) (t : ℕ) → RowIs R j k s → eqb k n-formal ≡ false → sortAt R j ≡ t → sortIn ids R M j ≡ t
-  unfolding sortIn wordIn
-  sort-is j k s t r e h = rw (add-zero (4 * j), r .kind, e, h)
+  sort-is : {j k s : ℕ} (t : ℕ) → RowIs R j k s → typeIn (sortAt R j) ≡ t → sortIn R j ≡ t
+  unfolding sortIn
+  sort-is {j} t r h = ap (λ (x : Row). typeIn (x .sort)) (row-at R j (r .inside)) ∙ h
 
-  formal-is : (j s t : ℕ) → RowIs R j n-formal s → specifiedAt ids R M j ≡ t → sortIn ids R M j ≡ t
-  unfolding sortIn wordIn specifiedIn
-  formal-is j s t r h = rw (add-zero (4 * j), r .kind, h)
+  -- of a variable or procedure, whose word is its type; and of a formal
+  plain-sort : {j k s : ℕ} (t : Option Sort) → RowIs R j k s → sortAt R j ≡ sortNumber t → sortIn R j ≡ sortNumber t
+  plain-sort t r h = sort-is (sortNumber t) r (ap typeIn h ∙ type-alone t)
+
+  formal-sort : {j k s : ℕ} (vs : List Name) (ss : List Specification) (x : Name) → RowIs R j k s → sortAt R j ≡ formalIn vs ss x → sortIn R j ≡ sortNumber (specified ss x)
+  formal-sort vs ss x r h = sort-is (sortNumber (specified ss x)) r (ap typeIn h ∙ formal-type (has vs x) (specified ss x))
 
   four : (j : ℕ) → 4 * j + 3 < length R
       → drop (4 * j) R ≡ kindAt R j ∷ symbolAt R j ∷ getD R (4 * j + 2) 0 ∷ sortAt R j ∷ drop (4 * (j + 1)) R
@@ -224,25 +229,25 @@ module _ (ids R M : List ℕ) where
   no-formal (k ∷ s ∷ q ∷ []) h = refl
   no-formal (k ∷ s ∷ q ∷ t ∷ ws) h = rw h
 
-  formals-from : (j : ℕ) (xs : List Name) (ss : List Specification) → Formals ids R M j xs ss → formalsFrom (drop (4 * j) R) ≡ length xs
+  formals-from : (j : ℕ) (xs vs : List Name) (ss : List Specification) → Formals R j xs vs ss → formalsFrom (drop (4 * j) R) ≡ length xs
   unfolding formalsFrom
-  formals-from j [] ss f = no-formal (drop (4 * j) R) (rw (getD-drop (4 * j) R 0 0, add-zero (4 * j)) f)
-  formals-from j (x ∷ xs) ss f = rw (four j (f .0 .inside), f .0 .kind, formals-from (j + 1) xs ss (f .2))
+  formals-from j [] vs ss f = no-formal (drop (4 * j) R) (rw (getD-drop (4 * j) R 0 0, add-zero (4 * j)) f)
+  formals-from j (x ∷ xs) vs ss f = rw (four j (f .0 .inside), f .0 .kind, formals-from (j + 1) xs vs ss (f .2))
 
-  formals-are : (j : ℕ) (p : Procedure) → ToldThing ids R M j (routine p) → formalsIn R j ≡ length (formalsOf p)
+  formals-are : (j : ℕ) (p : Procedure) → ToldThing R j (routine p) → formalsIn R j ≡ length (formalsOf p)
   unfolding formalsIn
-  formals-are j p h = formals-from (j + 1) (formalsOf p) (specificationsOf p) (h .1)
+  formals-are j p h = formals-from (j + 1) (formalsOf p) (valuesOf p) (specificationsOf p) (h .1)
 
   -- ---- a primary
 
-  primary-row : (j : ℕ) (t : Thing) (s n : ℕ) → RowIs R j (4 + thingKind t) s → ToldThing ids R M j t
-      → primaryOf ids R M (at-row (record { number = j })) n ≡ inNumbers (thingIn t n)
+  primary-row : (j : ℕ) (t : Thing) (s n : ℕ) → RowIs R j (4 + thingKind t) s → ToldThing R j t
+      → primaryOf R (at-row (record { number = j })) n ≡ inNumbers (thingIn t n)
   unfolding primaryOf
-  primary-row j (variable t) s n r h = rw (kind-is r, sort-is j 5 s _ r refl h) (plainly-is (some t) n)
-  primary-row j (routine p) s n r h = rw (kind-is r, sort-is j 6 s _ r refl (h .0), formals-are j p h) (applied-is (sortOf p) (length (formalsOf p)) n)
-  primary-row j (formal t) s n r h = rw (kind-is r, formal-is j s _ r h) (plainly-is t n)
+  primary-row j (variable t) s n r h = rw (kind-is r, plain-sort (some t) r h) (plainly-is (some t) n)
+  primary-row j (routine p) s n r h = rw (kind-is r, plain-sort (sortOf p) r (h .0), formals-are j p h) (applied-is (sortOf p) (length (formalsOf p)) n)
+  primary-row j (formal t) s n r h = rw (kind-is r, sort-is (sortNumber t) r h) (plainly-is t n)
 
-  pub primary : (m : Meant) (g : Meaning) (n : ℕ) → Means ids R M m g → primaryOf ids R M m n ≡ inNumbers (inExpression g n)
+  pub primary : (m : Meant) (g : Meaning) (n : ℕ) → Means R m g → primaryOf R m n ≡ inNumbers (inExpression g n)
   unfolding inExpression primaryOf
   primary (at-row j) (declared d h) n t = primary-row (j .number) (d .thing) (d .name .symbol) n (t .row) (t .thing)
   primary (at-row j) (given k e) n t = absurd t
@@ -256,14 +261,14 @@ module _ (ids R M : List ℕ) where
 
   -- ---- a procedure statement
 
-  miscalled-row : (j : ℕ) (t : Thing) (s n : ℕ) → RowIs R j (4 + thingKind t) s → ToldThing ids R M j t
+  miscalled-row : (j : ℕ) (t : Thing) (s n : ℕ) → RowIs R j (4 + thingKind t) s → ToldThing R j t
       → miscalledOf R (at-row (record { number = j })) n ≡ thingCalled t n
   unfolding miscalledOf
   miscalled-row j (variable t) s n r h = rw (kind-is r)
   miscalled-row j (routine p) s n r h = rw (kind-is r, formals-are j p h)
   miscalled-row j (formal t) s n r h = rw (kind-is r)
 
-  pub called-is : (m : Meant) (g : Meaning) (n : ℕ) → Means ids R M m g → miscalledOf R m n ≡ miscalled g n
+  pub called-is : (m : Meant) (g : Meaning) (n : ℕ) → Means R m g → miscalledOf R m n ≡ miscalled g n
   unfolding miscalled miscalledOf
   called-is (at-row j) (declared d h) n t = miscalled-row (j .number) (d .thing) (d .name .symbol) n (t .row) (t .thing)
   called-is (at-row j) (given k e) n t = absurd t
@@ -277,23 +282,23 @@ module _ (ids R M : List ℕ) where
 
   -- ---- what is wanted
 
-  formals-want : (p : Procedure) (xs : List Name) (j k : ℕ) → Formals ids R M j xs (specificationsOf p)
-      → cond (leb (length xs) k) Anything (An (sortIn ids R M (j + k))) ≡ wantAt (wants p xs) k
+  formals-want : (p : Procedure) (xs : List Name) (j k : ℕ) → Formals R j xs (valuesOf p) (specificationsOf p)
+      → cond (leb (length xs) k) Anything (An (sortIn R (j + k))) ≡ wantAt (wants p xs) k
   unfolding wants
   formals-want p [] j k f = rw (leb·zero k)
-  formals-want p (x ∷ xs) j zero f = rw (leb·suc-zero (length xs), add-zero j, formal-is j (x .symbol) _ (f .0) (f .1))
+  formals-want p (x ∷ xs) j zero f = rw (leb·suc-zero (length xs), add-zero j, formal-sort (valuesOf p) (specificationsOf p) x (f .0) (f .1))
   formals-want p (x ∷ xs) j (suc k) f =
       let e : j + suc k ≡ j + 1 + k = omega arith in
       rw (leb·suc-suc (length xs) k, e) (formals-want p xs (j + 1) k (f .2))
 
-  want-row : (j : ℕ) (t : Thing) (s k : ℕ) → RowIs R j (4 + thingKind t) s → ToldThing ids R M j t
-      → wantOf ids R M (at-row (record { number = j })) k ≡ wantAt (thingWants t) k
+  want-row : (j : ℕ) (t : Thing) (s k : ℕ) → RowIs R j (4 + thingKind t) s → ToldThing R j t
+      → wantOf R (at-row (record { number = j })) k ≡ wantAt (thingWants t) k
   unfolding wantOf
   want-row j (variable t) s k r h = rw (kind-is r)
   want-row j (routine p) s k r h = rw (kind-is r, formals-are j p h) (formals-want p (formalsOf p) (j + 1) k (h .1))
   want-row j (formal t) s k r h = rw (kind-is r)
 
-  pub want-is : (m : Meant) (g : Meaning) (k : ℕ) → Means ids R M m g → wantOf ids R M m k ≡ wantAt (wantedBy g) k
+  pub want-is : (m : Meant) (g : Meaning) (k : ℕ) → Means R m g → wantOf R m k ≡ wantAt (wantedBy g) k
   unfolding wantedBy wantOf
   want-is (at-row j) (declared d h) k t = want-row (j .number) (d .thing) (d .name .symbol) k (t .row) (t .thing)
   want-is (at-row j) (given n e) k t = absurd t
@@ -322,14 +327,14 @@ module _ (ids R M : List ℕ) where
   of-formal (some boolean) integer = refl
   of-formal (some boolean) boolean = refl
 
-  variable-row : (j : ℕ) (u : Thing) (s : ℕ) (t : Sort) → RowIs R j (4 + thingKind u) s → ToldThing ids R M j u
-      → variableOf ids R M (at-row (record { number = j })) (sortNumber (some t)) ≡ thingOf t u
+  variable-row : (j : ℕ) (u : Thing) (s : ℕ) (t : Sort) → RowIs R j (4 + thingKind u) s → ToldThing R j u
+      → variableOf R (at-row (record { number = j })) (sortNumber (some t)) ≡ thingOf t u
   unfolding variableOf
-  variable-row j (variable u) s t r h = rw (kind-is r, sort-is j 5 s _ r refl h) (of-sort u t)
+  variable-row j (variable u) s t r h = rw (kind-is r, plain-sort (some u) r h) (of-sort u t)
   variable-row j (routine p) s t r h = rw (kind-is r)
-  variable-row j (formal u) s t r h = rw (kind-is r, formal-is j s _ r h) (of-formal u t)
+  variable-row j (formal u) s t r h = rw (kind-is r, sort-is (sortNumber u) r h) (of-formal u t)
 
-  pub variable-is : (m : Meant) (g : Meaning) (t : Sort) → Means ids R M m g → variableOf ids R M m (sortNumber (some t)) ≡ isVariable t g
+  pub variable-is : (m : Meant) (g : Meaning) (t : Sort) → Means R m g → variableOf R m (sortNumber (some t)) ≡ isVariable t g
   unfolding isVariable variableOf
   variable-is (at-row j) (declared d h) t m = variable-row (j .number) (d .thing) (d .name .symbol) t (m .row) (m .thing)
   variable-is (at-row j) (given n e) t m = absurd m
@@ -360,15 +365,15 @@ module _ (ids R M : List ℕ) where
       rw (b .0, b .1) (own-step (eqb (nameOf q .symbol) (nameOf p .symbol)) (sortOf q) (ownOf R (nameOf p .symbol) bs) (ownSort g p) (own-is g bs p (b .2)))
 
   left-row : (g : List Scope) (bs : List ℕ) (j : ℕ) (t : Thing) (x : Name) → Bodies R g bs → RowIs R j (4 + thingKind t) (x .symbol)
-      → ToldThing ids R M j t → Named t x
-      → leftOf ids R M bs (at-row (record { number = j })) ≡ inNumbers (thingLeft g t)
+      → ToldThing R j t → Named t x
+      → leftOf R bs (at-row (record { number = j })) ≡ inNumbers (thingLeft g t)
   unfolding leftOf
-  left-row g bs j (variable t) x b r h n = rw (kind-is r, sort-is j 5 (x .symbol) _ r refl h)
+  left-row g bs j (variable t) x b r h n = rw (kind-is r, plain-sort (some t) r h)
   left-row g bs j (routine p) x b r h n = rw (kind-is r, symbol-is r, n) (own-is g bs p b)
-  left-row g bs j (formal t) x b r h n = rw (kind-is r, formal-is j (x .symbol) _ r h)
+  left-row g bs j (formal t) x b r h n = rw (kind-is r, sort-is (sortNumber t) r h)
 
-  pub left-is : (g : List Scope) (bs : List ℕ) (m : Meant) (u : Meaning) → Bodies R g bs → Means ids R M m u → Proper u
-      → leftOf ids R M bs m ≡ inNumbers (asLeft g u)
+  pub left-is : (g : List Scope) (bs : List ℕ) (m : Meant) (u : Meaning) → Bodies R g bs → Means R m u → Proper u
+      → leftOf R bs m ≡ inNumbers (asLeft g u)
   unfolding asLeft leftOf
   left-is g bs (at-row j) (declared d h) b t p = left-row g bs (j .number) (d .thing) (d .name) b (t .row) (t .thing) p
   left-is g bs (at-row j) (given n e) b t p = absurd t

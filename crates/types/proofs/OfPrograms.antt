@@ -1,4 +1,4 @@
--- The passes one after the other: with the rows and marks of a program and the words that the pass over uses keeps, the type pass finds the
+-- The passes one after the other: with the rows of a program and the words that the pass over uses keeps, the type pass finds the
 -- least of the program's type faults. Assumes of identities what Around does.
 use Prim.Native.Nat.{ℕ, _≤_}
 use mathlib.Core.Path.{_≡_, refl}
@@ -12,13 +12,12 @@ use Rattle.names.proofs.AllNames.{AllS}
 use Rattle.names.proofs.Around.{Agree}
 use Rattle.names.proofs.Resolved.{resolved-uses}
 use Rattle.names.specs.Outline.{rowsS}
-use Rattle.names.proofs.TreeRows.{marksS}
 use Rattle.types.specs.Types.{typeFaults}
 use Rattle.types.specs.Passes.{typedOf}
 use Rattle.types.proofs.TreeStatements.{typed}
 
 pub typed-program : (Q : Name → Type 0) (ids : List ℕ) (s : Statement) → Agree Q ids → AllS Q s → length (rowsS 0 0 s) ≤ 32768
-    → typedOf ids (rowsS 0 0 s) (marksS 0 0 s) (usesOf ids (rowsS 0 0 s) (nodesS 1 s) .uses) (nodesS 1 s)
+    → typedOf (rowsS 0 0 s) (usesOf ids (rowsS 0 0 s) (nodesS 1 s) .uses) (nodesS 1 s)
     ≡ leastKey (map (λ q. record { symbol = q; answer = types }) (typeFaults s))
 typed-program Q ids s agree all room =
-    typed ids (rowsS 0 0 s) (marksS 0 0 s) (usesOf ids (rowsS 0 0 s) (nodesS 1 s) .uses) s refl (resolved-uses Q ids agree s all room)
+    typed (rowsS 0 0 s) (usesOf ids (rowsS 0 0 s) (nodesS 1 s) .uses) s refl (resolved-uses Q ids agree s all room)

@@ -143,26 +143,26 @@ operated-in : {i : ℕ} (st : State) → Within i st → (k s : ℕ) → Within 
 unfolding operatedAs
 operated-in st h k s = in-pushed _ (taken-in _ (taken-in st h _ s) _ s) _
 
-module _ (ids rows marks : List ℕ) {i : ℕ} (st : State) (h : Within i st) where
-  named-in : (s d u : ℕ) → Within (i + 1) (namedAs ids rows marks s d u st)
+module _ (rows : List ℕ) {i : ℕ} (st : State) (h : Within i st) where
+  named-in : (s d u : ℕ) → Within (i + 1) (namedAs rows s d u st)
   unfolding namedAs
   named-in s d u = either i (eqb u 1) (on _ (in-noted st h _ s)) (in-bare _ (judged-in st h _ s) d)
 
-  left-in : (s : ℕ) → Within (i + 1) (leftAs ids rows marks s st)
+  left-in : (s : ℕ) → Within (i + 1) (leftAs rows s st)
   unfolding leftAs
   left-in s = either i (st .begun) (on _ (in-noted st h _ s)) (on _ (in-noted _ (in-left st h true _) _ s))
 
-  use-in : (k s a b : ℕ) → Within (i + 1) (useTyped ids rows marks k s a b st)
+  use-in : (k s a b : ℕ) → Within (i + 1) (useTyped rows k s a b st)
   unfolding useTyped
   use-in k s a b =
       either i (eqb k n-use) (named-in s a b) (either i (eqb k n-call) (in-called st h a) (either i (eqb k n-left) (left-in s) (on _ (in-noted st h _ s))))
 
-  actual-in : (l : List Call) → st .calls ≡ l → (bare s : ℕ) → Within (i + 1) (actualIn ids rows marks l bare s st)
+  actual-in : (l : List Call) → st .calls ≡ l → (bare s : ℕ) → Within (i + 1) (actualIn rows l bare s st)
   unfolding actualIn
   actual-in [] q bare s = on _ (in-popped st h)
   actual-in (x ∷ l) q bare s = in-noted _ (in-popped _ (in-more st h x l q)) _ s
 
-  ended-in : (l : List Call) → st .calls ≡ l → (s u : ℕ) → Within (i + 1) (callEnded ids rows marks l s u st)
+  ended-in : (l : List Call) → st .calls ≡ l → (s u : ℕ) → Within (i + 1) (callEnded rows l s u st)
   unfolding callEnded
   ended-in [] q s u = on st h
   ended-in (x ∷ l) q s u = either i (eqb u 1) (on _ (in-noted _ (in-fewer st h x l q) _ s)) (judged-in _ (in-fewer st h x l q) _ s)
@@ -197,18 +197,18 @@ calls-bare : (st : State) → withBare 0 st .calls ≡ st .calls
 unfolding withBare
 calls-bare st = refl
 
-pub node-in : (ids rows marks : List ℕ) (i : ℕ) (st : State) → Within i st → (k s a b : ℕ) → Within (i + 1) (typeNode ids rows marks k s a b st)
+pub node-in : (rows : List ℕ) (i : ℕ) (st : State) → Within i st → (k s a b : ℕ) → Within (i + 1) (typeNode rows k s a b st)
 unfolding typeNode
-node-in ids rows marks i st h k s a b =
+node-in rows i st h k s a b =
     let z = withBare 0 st in
     let g = in-bare st h 0 in
-    either i (isUse k) (use-in ids rows marks _ (in-next z g (st .uses)) k s a b)
-    (either i (eqb k n-actual) (actual-in ids rows marks z g (st .calls) (calls-bare st) (st .bare) s)
-    (either i (eqb k n-call-end) (ended-in ids rows marks z g (st .calls) (calls-bare st) s b)
+    either i (isUse k) (use-in rows _ (in-next z g (st .uses)) k s a b)
+    (either i (eqb k n-actual) (actual-in rows z g (st .calls) (calls-bare st) (st .bare) s)
+    (either i (eqb k n-call-end) (ended-in rows z g (st .calls) (calls-bare st) s b)
     (either i (eqb k n-variable || eqb k n-formal) (in-rows-bare st h)
     (either i (eqb k n-procedure) (in-body-bare st h (st .rows))
     (either i (eqb k n-procedure-end) (on _ (in-end-bare st h))
-    (plain-in ids rows marks z g k s a))))))
+    (plain-in rows z g k s a))))))
 
 -- ---- more room
 

@@ -1,6 +1,6 @@
 -- Rows of four words and open bodies, as the look-ups of this crate go through them: one further, and at the end.
-use mathlib.Core.Path.{_≡_, refl}
-use mathlib.Core.Bool.{Bool, true, false, cond}
+use mathlib.Core.Path.{_≡_, refl, sym, ap, _∙_}
+use mathlib.Core.Bool.{Bool, true, false, cond, not}
 use mathlib.Core.List.{List, [], _∷_}
 use Prim.Native.Nat.{ℕ, zero, suc, _+_, _*_, _-_, _≤_, _<_}
 use native.Mathlib.Omega.{arith}
@@ -8,23 +8,13 @@ use lib.Dec.{eqb}
 use lib.ListN.{length, getD, drop}
 use borrow.Author.Tests.{eq-eqb, ne-eqb}
 use Rattle.grammar.specs.NodeKinds.{n-formal}
-use Rattle.names.specs.Rows.{findRow, sought, opensOf}
-use Rattle.names.specs.declared.Sought.{Sought}
-use Rattle.names.proofs.RowLaws.{row-on, row-end}
-use Rattle.types.specs.Passes.{formalsFrom, wordIn, judgement, ownOf}
+use Rattle.names.specs.Rows.{rowIn, opensOf}
+use Rattle.names.proofs.RowLaws.{row-on, row-end, row-at}
+use Rattle.types.specs.Passes.{sortIn, formalsFrom, judgement, ownOf}
 
--- a row that is found is one of them
-first-or-further : (t : Bool) (n m : ℕ) → 4 * n ≤ m → 4 * cond t 0 (suc n) ≤ suc (suc (suc (suc m)))
-first-or-further true n m h = omega arith
-first-or-further false n m h = omega arith
-
-pub find-bound : (ids : List ℕ) (w : Sought) (rows : List ℕ) → 4 * findRow ids w rows ≤ length rows
-unfolding findRow
-find-bound ids w [] = omega arith
-find-bound ids w (k ∷ []) = omega arith
-find-bound ids w (k ∷ s ∷ []) = omega arith
-find-bound ids w (k ∷ s ∷ q ∷ []) = omega arith
-find-bound ids w (k ∷ s ∷ q ∷ t ∷ ws) = first-or-further (sought ids w k s q) (findRow ids w ws) (length ws) (find-bound ids w ws)
+pub from-not : (b c : Bool) → not b ≡ c → not c ≡ b
+from-not true c e = ap not (sym e)
+from-not false c e = ap not (sym e)
 
 -- ---- formals in a row
 
@@ -40,21 +30,20 @@ module _ (rows : List ℕ) (j : ℕ) where
   pub formals-end : length rows ≤ 4 * j + 3 → formalsFrom (drop (4 * j) rows) ≡ 0
   formals-end h = formals-few (drop (4 * j) rows) (row-end rows j h)
 
-  word-0 : wordIn rows j 0 ≡ getD rows (4 * j) 0
-  unfolding wordIn
-  word-0 = let e : 4 * j + 0 ≡ 4 * j = omega arith in rw e
-
-  formals-on : 4 * j + 3 < length rows
-      → formalsFrom (drop (4 * j) rows) ≡ cond (eqb (wordIn rows j 0) n-formal) (suc (formalsFrom (drop (4 * (j + 1)) rows))) 0
+  formals-on : (b : Bool) → 4 * j + 3 < length rows → eqb (rowIn rows j .kind) n-formal ≡ b
+      → formalsFrom (drop (4 * j) rows) ≡ cond b (suc (formalsFrom (drop (4 * (j + 1)) rows))) 0
   unfolding formalsFrom
-  formals-on h = rw (row-on rows j h, word-0)
+  formals-on b h e =
+      let f : eqb (getD rows (4 * j) 0) n-formal ≡ b = rw (row-at rows j h) at e in
+      rw (row-on rows j h, f)
 
-  pub formals-here : 4 * j + 3 < length rows → wordIn rows j 0 ≡ n-formal
+  -- of the test that a row is a formal's, by its outcome
+  pub formals-here : (b : Bool) → 4 * j + 3 < length rows → b ≡ eqb (rowIn rows j .kind) n-formal → not b ≡ false
       → formalsFrom (drop (4 * j) rows) ≡ suc (formalsFrom (drop (4 * (j + 1)) rows))
-  formals-here h e = rw (formals-on h, eq-eqb _ _ e)
+  formals-here b h e f = formals-on true h (sym (from-not b false f ∙ e))
 
-  pub formals-other : 4 * j + 3 < length rows → (wordIn rows j 0 ≡ n-formal → ⊥) → formalsFrom (drop (4 * j) rows) ≡ 0
-  formals-other h e = rw (formals-on h, ne-eqb _ _ e)
+  pub formals-other : (b : Bool) → 4 * j + 3 < length rows → b ≡ eqb (rowIn rows j .kind) n-formal → not b ≡ true → formalsFrom (drop (4 * j) rows) ≡ 0
+  formals-other b h e f = formals-on false h (sym (from-not b true f ∙ e))
 
 -- ---- open bodies
 
@@ -64,11 +53,11 @@ opens-cons zero l h = absurd (omega arith)
 opens-cons (suc n) l h = let e : suc n - 1 ≡ n = omega arith in rw e
 
 module _ (rows : List ℕ) (s : ℕ) (bodies : List ℕ) (n : ℕ) (h : 0 < n) where
-  pub own-here : wordIn rows (getD bodies (n - 1) 0) 1 ≡ s
-      → ownOf rows s (opensOf n bodies) ≡ judgement (wordIn rows (getD bodies (n - 1) 0) 3) (eqb (wordIn rows (getD bodies (n - 1) 0) 3) 0)
+  pub own-here : rowIn rows (getD bodies (n - 1) 0) .symbol ≡ s
+      → ownOf rows s (opensOf n bodies) ≡ judgement (sortIn rows (getD bodies (n - 1) 0)) (eqb (sortIn rows (getD bodies (n - 1) 0)) 0)
   unfolding ownOf
   own-here e = rw (opens-cons n bodies h) (simp (eq-eqb _ _ e))
 
-  pub own-further : (wordIn rows (getD bodies (n - 1) 0) 1 ≡ s → ⊥) → ownOf rows s (opensOf n bodies) ≡ ownOf rows s (opensOf (n - 1) bodies)
+  pub own-further : (rowIn rows (getD bodies (n - 1) 0) .symbol ≡ s → ⊥) → ownOf rows s (opensOf n bodies) ≡ ownOf rows s (opensOf (n - 1) bodies)
   unfolding ownOf
   own-further e = rw (opens-cons n bodies h) (simp (ne-eqb _ _ e))

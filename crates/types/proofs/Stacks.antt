@@ -117,18 +117,18 @@ pub stack-popped : (y : State) {x : State} → x ≡ popped y → x .stack ≡ b
 unfolding popped withStack
 stack-popped y e = ap (λ (z : State). z .stack) e
 
-module _ (ids rows marks : List ℕ) where
-  pub want-ap : {m n : Meant} {j k : ℕ} → m ≡ n → j ≡ k → wantOf ids rows marks m j ≡ wantOf ids rows marks n k
-  want-ap {m = m} {k = k} p q = ap (wantOf ids rows marks m) q ∙ ap (λ (z : Meant). wantOf ids rows marks z k) p
+module _ (rows : List ℕ) where
+  pub want-ap : {m n : Meant} {j k : ℕ} → m ≡ n → j ≡ k → wantOf rows m j ≡ wantOf rows n k
+  want-ap {m = m} {k = k} p q = ap (wantOf rows m) q ∙ ap (λ (z : Meant). wantOf rows z k) p
 
-  pub primary-ap : {m n : Meant} {j k : ℕ} → m ≡ n → j ≡ k → primaryOf ids rows marks m j ≡ primaryOf ids rows marks n k
-  primary-ap {m = m} {k = k} p q = ap (primaryOf ids rows marks m) q ∙ ap (λ (z : Meant). primaryOf ids rows marks z k) p
+  pub primary-ap : {m n : Meant} {j k : ℕ} → m ≡ n → j ≡ k → primaryOf rows m j ≡ primaryOf rows n k
+  primary-ap {m = m} {k = k} p q = ap (primaryOf rows m) q ∙ ap (λ (z : Meant). primaryOf rows z k) p
 
   pub miscalled-ap : {m n : Meant} {j k : ℕ} → m ≡ n → j ≡ k → miscalledOf rows m j ≡ miscalledOf rows n k
   miscalled-ap {m = m} {k = k} p q = ap (miscalledOf rows m) q ∙ ap (λ (z : Meant). miscalledOf rows z k) p
 
-  pub misfit-ap : {w v : Want} {a b : Bool} (t : ℕ) (m : Meant) → w ≡ v → a ≡ b → misfitOf ids rows marks w a t m ≡ misfitOf ids rows marks v b t m
-  misfit-ap {w = w} {b = b} t m p q = ap (λ (z : Bool). misfitOf ids rows marks w z t m) q ∙ ap (λ (z : Want). misfitOf ids rows marks z b t m) p
+  pub misfit-ap : {w v : Want} {a b : Bool} (t : ℕ) (m : Meant) → w ≡ v → a ≡ b → misfitOf rows w a t m ≡ misfitOf rows v b t m
+  misfit-ap {w = w} {b = b} t m p q = ap (λ (z : Bool). misfitOf rows w z t m) q ∙ ap (λ (z : Want). misfitOf rows z b t m) p
 
 -- ---- two kinds of nodes that do the same
 
@@ -164,14 +164,14 @@ or-true b e = sym (ap (λ (z : Bool). z || b) e)
 pub or-false : {a b : Bool} {d : Bool} → a ≡ false → b ≡ d → b ≡ a || d
 or-false {d = d} e q = q ∙ sym (ap (λ (z : Bool). z || d) e)
 
-module _ (ids rows marks : List ℕ) (s : ℕ) (st : State) where
+module _ (rows : List ℕ) (s : ℕ) (st : State) where
   pub left-again : st .begun ≡ true
-      → leftAs ids rows marks s st ≡ noted (leftOf ids rows marks (st .bodies) (meantOf (st .last)) .wrong || apartOf (st .left) (leftOf ids rows marks (st .bodies) (meantOf (st .last)) .sort)) s st
+      → leftAs rows s st ≡ noted (leftOf rows (st .bodies) (meantOf (st .last)) .wrong || apartOf (st .left) (leftOf rows (st .bodies) (meantOf (st .last)) .sort)) s st
   unfolding leftAs
   left-again e = rw e
 
   pub left-first : st .begun ≡ false
-      → leftAs ids rows marks s st ≡ noted (leftOf ids rows marks (st .bodies) (meantOf (st .last)) .wrong) s (withLeft true (leftOf ids rows marks (st .bodies) (meantOf (st .last)) .sort) st)
+      → leftAs rows s st ≡ noted (leftOf rows (st .bodies) (meantOf (st .last)) .wrong) s (withLeft true (leftOf rows (st .bodies) (meantOf (st .last)) .sort) st)
   unfolding leftAs
   left-first e = rw e
 
@@ -185,33 +185,33 @@ counts-first (suc n) i w h k = let e : suc n - 1 ≡ n = omega arith in rw e (k 
 pub calls-again : (n : ℕ) (w : List ℕ) {l : List Call} → (n ≡ 0 → ⊥) → callsOf (n - 1 + 1) w ≡ l → callsOf n w ≡ l
 calls-again n w h q = let e : n - 1 + 1 ≡ n = omega arith in rw e at q
 
-module _ (ids rows marks : List ℕ) (n : ℕ) (w : List ℕ) (s : ℕ) (st : State) where
-  pub actual-none : (bare : ℕ) → n ≡ 0 → actualIn ids rows marks (callsOf n w) bare s st ≡ popped st
+module _ (rows : List ℕ) (n : ℕ) (w : List ℕ) (s : ℕ) (st : State) where
+  pub actual-none : (bare : ℕ) → n ≡ 0 → actualIn rows (callsOf n w) bare s st ≡ popped st
   unfolding actualIn callsOf
   actual-none bare e = rw e
 
   pub actual-some : (bare : ℕ) → (n ≡ 0 → ⊥)
-      → actualIn ids rows marks (callsOf n w) bare s st ≡ noted (misfitOf ids rows marks (wantOf ids rows marks (meantOf (getD w (3 * (n - 1)) 0)) (getD w (3 * (n - 1) + 2) 0)) (eqb bare (getD w (3 * (n - 1) + 1) 0 + 1)) (topOf (st .stack)) (meantOf (st .last))) s (popped (withCalls (oneMore (callAt w (n - 1)) ∷ callsOf (n - 1) w) st))
+      → actualIn rows (callsOf n w) bare s st ≡ noted (misfitOf rows (wantOf rows (meantOf (getD w (3 * (n - 1)) 0)) (getD w (3 * (n - 1) + 2) 0)) (eqb bare (getD w (3 * (n - 1) + 1) 0 + 1)) (topOf (st .stack)) (meantOf (st .last))) s (popped (withCalls (oneMore (callAt w (n - 1)) ∷ callsOf (n - 1) w) st))
   unfolding actualIn
   actual-some bare h = rw (calls-cons n w h)
 
-  pub ended-none : (u : ℕ) → n ≡ 0 → callEnded ids rows marks (callsOf n w) s u st ≡ st
+  pub ended-none : (u : ℕ) → n ≡ 0 → callEnded rows (callsOf n w) s u st ≡ st
   unfolding callEnded callsOf
   ended-none u e = rw e
 
   pub ended-statement : (u : ℕ) → (n ≡ 0 → ⊥) → eqb u 1 ≡ true
-      → callEnded ids rows marks (callsOf n w) s u st ≡ noted (miscalledOf rows (meantOf (getD w (3 * (n - 1)) 0)) (getD w (3 * (n - 1) + 2) 0)) s (withCalls (callsOf (n - 1) w) st)
+      → callEnded rows (callsOf n w) s u st ≡ noted (miscalledOf rows (meantOf (getD w (3 * (n - 1)) 0)) (getD w (3 * (n - 1) + 2) 0)) s (withCalls (callsOf (n - 1) w) st)
   unfolding callEnded
   ended-statement u h e = rw (calls-cons n w h, e)
 
   pub ended-primary : (u : ℕ) → (n ≡ 0 → ⊥) → eqb u 1 ≡ false
-      → callEnded ids rows marks (callsOf n w) s u st ≡ judged (primaryOf ids rows marks (meantOf (getD w (3 * (n - 1)) 0)) (getD w (3 * (n - 1) + 2) 0)) s (withCalls (callsOf (n - 1) w) st)
+      → callEnded rows (callsOf n w) s u st ≡ judged (primaryOf rows (meantOf (getD w (3 * (n - 1)) 0)) (getD w (3 * (n - 1) + 2) 0)) s (withCalls (callsOf (n - 1) w) st)
   unfolding callEnded
   ended-primary u h e = rw (calls-cons n w h, e)
 
 -- ---- a declaration, of a variable or a formal
 
-pub node-declared : (ids rows marks : List ℕ) (k s a b : ℕ) (st : State) → (k ≡ 5) ⊎ (k ≡ 7) → withRows (st .rows + 1) (withBare 0 st) ≡ typeNode ids rows marks k s a b st
+pub node-declared : (rows : List ℕ) (k s a b : ℕ) (st : State) → (k ≡ 5) ⊎ (k ≡ 7) → withRows (st .rows + 1) (withBare 0 st) ≡ typeNode rows k s a b st
 unfolding typeNode isUse
-node-declared ids rows marks k s a b st (inl e) = rw e
-node-declared ids rows marks k s a b st (inr e) = rw e
+node-declared rows k s a b st (inl e) = rw e
+node-declared rows k s a b st (inr e) = rw e

@@ -35,72 +35,72 @@ abbrev pub within : ℕ → ℕ → ℕ → State → State
 within w d n st =
     record { uses = st .uses; rows = st .rows; stack = st .stack; calls = record { meaning = w; depth = d; count = n } ∷ st .calls; bodies = st .bodies; begun = st .begun; left = st .left; bare = st .bare; last = st .last; least = st .least }
 
-module _ (ids R M : List ℕ) where
+module _ (R : List ℕ) where
   abbrev pub run : List ℕ → State → State
-  run = foldNodes (typeNode ids R M)
+  run = foldNodes (typeNode R)
 
-  pub stepped : (k s a b : ℕ) (rest : List ℕ) (st : State) → run (node k s a b ++ rest) st ≡ run rest (typeNode ids R M k s a b st)
+  pub stepped : (k s a b : ℕ) (rest : List ℕ) (st : State) → run (node k s a b ++ rest) st ≡ run rest (typeNode R k s a b st)
   unfolding foldNodes
   stepped k s a b rest st = refl
 
   -- ---- nodes
 
-  number-node : (q : ℕ) (st : State) → typeNode ids R M n-number q 0 0 st ≡ went (st .uses) 0 (st .last) (1 ∷ st .stack) (st .least) st
+  number-node : (q : ℕ) (st : State) → typeNode R n-number q 0 0 st ≡ went (st .uses) 0 (st .last) (1 ∷ st .stack) (st .least) st
   unfolding typeNode isUse plainTyped pushed withStack withBare
   number-node q st = refl
 
-  logical-node : (q a : ℕ) (st : State) → typeNode ids R M n-logical q a 0 st ≡ went (st .uses) 0 (st .last) (2 ∷ st .stack) (st .least) st
+  logical-node : (q a : ℕ) (st : State) → typeNode R n-logical q a 0 st ≡ went (st .uses) 0 (st .last) (2 ∷ st .stack) (st .least) st
   unfolding typeNode isUse plainTyped pushed withStack withBare
   logical-node q a st = refl
 
   unary-node : (q : ℕ) (o : Sign) (t : Option Sort) (u : List ℕ) (b l : ℕ) (stack : List ℕ) (k : ℕ) (st : State) → k ≤ noFault
-      → typeNode ids R M n-unary q (signKind o) 0 (went u b l (sortNumber t ∷ stack) k st)
+      → typeNode R n-unary q (signKind o) 0 (went u b l (sortNumber t ∷ stack) k st)
       ≡ went u 0 l (sortNumber (some (signTakes o)) ∷ stack) (min k (keyOf (when-so (unlike t (signTakes o)) q))) st
   unfolding typeNode isUse plainTyped signedAs takenAs pushed popped noted withStack withBare below topOf
   unary-node q o t u b l stack k st h = rw (sign-sort o, unlike-sorts t (signTakes o), key-noted (unlike t (signTakes o)) k q h)
 
   binary-node : (q : ℕ) (o : Operator) (s t : Option Sort) (u : List ℕ) (b l : ℕ) (stack : List ℕ) (k : ℕ) (st : State) → k ≤ noFault
-      → typeNode ids R M n-binary q (operatorKind o) 0 (went u b l (sortNumber t ∷ sortNumber s ∷ stack) k st)
+      → typeNode R n-binary q (operatorKind o) 0 (went u b l (sortNumber t ∷ sortNumber s ∷ stack) k st)
       ≡ went u 0 l (sortNumber (some (gives o)) ∷ stack) (min k (keyOf (when-so (unlike s (takes o) || unlike t (takes o)) q))) st
   unfolding typeNode isUse plainTyped operatedAs takenAs pushed popped noted withStack withBare below topOf
   binary-node q o s t u b l stack k st h =
       rw (takes-sort o, gives-sort o, unlike-sorts t (takes o), unlike-sorts s (takes o), key-either (unlike s (takes o)) (unlike t (takes o)) k q h)
 
   pub then-node : (q : ℕ) (t : Option Sort) (u : List ℕ) (b l : ℕ) (stack : List ℕ) (k : ℕ) (st : State) → k ≤ noFault
-      → typeNode ids R M n-then q 0 0 (went u b l (sortNumber t ∷ stack) k st) ≡ went u 0 l stack (min k (keyOf (when-so (unlike t boolean) q))) st
+      → typeNode R n-then q 0 0 (went u b l (sortNumber t ∷ stack) k st) ≡ went u 0 l stack (min k (keyOf (when-so (unlike t boolean) q))) st
   unfolding typeNode isUse plainTyped takenAs popped noted withStack withBare below topOf
   then-node q t u b l stack k st h = rw (unlike-sorts t boolean, key-noted (unlike t boolean) k q h)
 
-  pub else-node : (st : State) → typeNode ids R M n-else 0 0 0 st ≡ went (st .uses) 0 (st .last) (st .stack) (st .least) st
+  pub else-node : (st : State) → typeNode R n-else 0 0 0 st ≡ went (st .uses) 0 (st .last) (st .stack) (st .least) st
   unfolding typeNode isUse plainTyped withBare
   else-node st = refl
 
   condition-node : (q : ℕ) (s t : Option Sort) (u : List ℕ) (b l : ℕ) (stack : List ℕ) (k : ℕ) (st : State) → k ≤ noFault
-      → typeNode ids R M n-condition-end q 0 0 (went u b l (sortNumber t ∷ sortNumber s ∷ stack) k st)
+      → typeNode R n-condition-end q 0 0 (went u b l (sortNumber t ∷ sortNumber s ∷ stack) k st)
       ≡ went u 0 l (sortNumber s ∷ stack) (min k (keyOf (when-so (apart s t) q))) st
   unfolding typeNode isUse plainTyped chosenAs popped noted withStack withBare below topOf
   condition-node q s t u b l stack k st h = rw (apart-sorts s t, key-noted (apart s t) k q h)
 
-  name-node : (s d w : ℕ) (ws : List ℕ) (st : State) (g : Meaning) → st .uses ≡ w ∷ ws → Means ids R M (meantOf w) g → st .least ≤ noFault
-      → typeNode ids R M n-use s d 0 st
+  name-node : (s d w : ℕ) (ws : List ℕ) (st : State) (g : Meaning) → st .uses ≡ w ∷ ws → Means R (meantOf w) g → st .least ≤ noFault
+      → typeNode R n-use s d 0 st
       ≡ went ws d w (sortNumber (inExpression g 0 .sort) ∷ st .stack) (min (st .least) (keyOf (when-so (inExpression g 0 .wrong) s))) st
   unfolding typeNode isUse useTyped nextUse withUse withBare namedAs judged pushed withStack noted
-  name-node s d w ws st g e m h = rw (e, primary ids R M (meantOf w) g 0 m, key-noted (inExpression g 0 .wrong) (st .least) s h)
+  name-node s d w ws st g e m h = rw (e, primary R (meantOf w) g 0 m, key-noted (inExpression g 0 .wrong) (st .least) s h)
 
   pub call-node : (s d u w : ℕ) (ws : List ℕ) (st : State) → st .uses ≡ w ∷ ws
-      → typeNode ids R M n-call s d u st ≡ within w d 0 (went ws 0 w (st .stack) (st .least) st)
+      → typeNode R n-call s d u st ≡ within w d 0 (went ws 0 w (st .stack) (st .least) st)
   unfolding typeNode isUse useTyped nextUse withUse withBare calledAs withCalls
   call-node s d u w ws st e = rw e
 
-  end-node : (s w d n : ℕ) (st : State) (g : Meaning) → Means ids R M (meantOf w) g → st .least ≤ noFault
-      → typeNode ids R M n-call-end s 0 0 (within w d n st)
+  end-node : (s w d n : ℕ) (st : State) (g : Meaning) → Means R (meantOf w) g → st .least ≤ noFault
+      → typeNode R n-call-end s 0 0 (within w d n st)
       ≡ went (st .uses) 0 (st .last) (sortNumber (inExpression g n .sort) ∷ st .stack) (min (st .least) (keyOf (when-so (inExpression g n .wrong) s))) st
   unfolding typeNode isUse callEnded judged pushed withStack noted withCalls withBare
-  end-node s w d n st g m h = rw (primary ids R M (meantOf w) g n m, key-noted (inExpression g n .wrong) (st .least) s h)
+  end-node s w d n st g m h = rw (primary R (meantOf w) g n m, key-noted (inExpression g n .wrong) (st .least) s h)
 
   actual-node : (s w d n : ℕ) (u : List ℕ) (b l t : ℕ) (stack : List ℕ) (k : ℕ) (st : State) (wrong : Bool) → k ≤ noFault
-      → misfitOf ids R M (wantOf ids R M (meantOf w) n) (eqb b (d + 1)) t (meantOf l) ≡ wrong
-      → typeNode ids R M n-actual s 0 0 (within w d n (went u b l (t ∷ stack) k st))
+      → misfitOf R (wantOf R (meantOf w) n) (eqb b (d + 1)) t (meantOf l) ≡ wrong
+      → typeNode R n-actual s 0 0 (within w d n (went u b l (t ∷ stack) k st))
       ≡ within w d (n + 1) (went u 0 l stack (min k (keyOf (when-so wrong s))) st)
   unfolding typeNode isUse actualIn popped noted withStack withCalls withBare below topOf
   actual-node s w d n u b l t stack k st wrong h e = rw (e, key-noted wrong k s h)
@@ -111,17 +111,17 @@ module _ (ids R M : List ℕ) where
     pub uses : List ℕ
     pub bare : ℕ
     pub last : ℕ
-    pub match : Matches ids R M uses us
+    pub match : Matches R uses us
     pub deep : (c : ℕ) → 0 < c → c < d → eqb bare c ≡ false
-    pub alone : (t : Sort) → (not (eqb bare d) || not (variableOf ids R M (meantOf last) (sortNumber (some t)))) ≡ not (isName g t e)
+    pub alone : (t : Sort) → (not (eqb bare d) || not (variableOf R (meantOf last) (sortNumber (some t)))) ≡ not (isName g t e)
     pub goes : (rest : List ℕ)
         → run (nodesE d e ++ rest) st ≡ run rest (went uses bare last (sortNumber (sortE g e) ∷ st .stack) (min (st .least) (keyOf (faultsE g e))) st)
 
   abbrev pub FoldsE : List Scope → Expression → Type 0
-  FoldsE g e = (d : ℕ) (us : List Use) (st : State) → 0 < d → st .least ≤ noFault → Matches ids R M (st .uses) (usesE g e ++ us) → Behind g e d us st
+  FoldsE g e = (d : ℕ) (us : List Use) (st : State) → 0 < d → st .least ≤ noFault → Matches R (st .uses) (usesE g e ++ us) → Behind g e d us st
 
-  pub split : (ws : List ℕ) (a b c : List Use) → Matches ids R M ws ((a ++ b) ++ c) → Matches ids R M ws (a ++ (b ++ c))
-  split ws a b c m = subst (λ (l : List Use). Matches ids R M ws l) (append-assoc a b c) m
+  pub split : (ws : List ℕ) (a b c : List Use) → Matches R ws ((a ++ b) ++ c) → Matches R ws (a ++ (b ++ c))
+  split ws a b c m = subst (λ (l : List Use). Matches R ws l) (append-assoc a b c) m
 
   pub apiece : (a b c : List ℕ) (st : State) → run ((a ++ b) ++ c) st ≡ run (a ++ (b ++ c)) st
   apiece a b c st = ap (λ (l : List ℕ). run l st) (append-assoc a b c)
@@ -168,14 +168,14 @@ module _ (ids R M : List ℕ) where
   name-case : (g : List Scope) (x : Name) → FoldsE g (name x)
   unfolding nodesE usesE sortE faultsE isName
   name-case g x d us st p h m =
-      let n = next ids R M (st .uses) (used g x) us m in
+      let n = next R (st .uses) (used g x) us m in
       record {
         uses = n .others;
         bare = d;
         last = n .word;
         match = n .match;
         deep = λ c _ q. ne-eqb d c (λ e. omega arith);
-        alone = λ t. rw (eq-eqb d d refl, variable-is ids R M (meantOf (n .word)) (meaning g x) t (n .means));
+        alone = λ t. rw (eq-eqb d d refl, variable-is R (meantOf (n .word)) (meaning g x) t (n .means));
         goes = λ rest.
             stepped n-use (x .symbol) d 0 rest st
             ∙ ap (run rest) (name-node (x .symbol) d (n .word) (n .others) st (meaning g x) (n .whole) (n .means) h);
@@ -294,7 +294,7 @@ module _ (ids R M : List ℕ) where
     pub uses : List ℕ
     pub bare : ℕ
     pub last : ℕ
-    pub match : Matches ids R M uses us
+    pub match : Matches R uses us
     pub goes : (rest : List ℕ)
         → run (nodesEs (d + 1) es ++ rest) (within w d n st)
         ≡ run rest (within w d (n + count es) (went uses bare last (st .stack) (min (st .least) (keyOf (misfits g ws es ++ faultsEs g es))) st))
@@ -302,7 +302,7 @@ module _ (ids R M : List ℕ) where
   abbrev pub FoldsEs : List Scope → Expressions → Type 0
   FoldsEs g es =
       (d : ℕ) (us : List Use) (w n : ℕ) (ws : List Wanted) (st : State) → st .least ≤ noFault
-      → ((k : ℕ) → wantOf ids R M (meantOf w) (n + k) ≡ wantAt ws k) → Matches ids R M (st .uses) (usesEs g es ++ us) → Filled g es d us w n ws st
+      → ((k : ℕ) → wantOf R (meantOf w) (n + k) ≡ wantAt ws k) → Matches R (st .uses) (usesEs g es ++ us) → Filled g es d us w n ws st
 
   -- what is wanted of the next actual, and of those behind it
   abbrev others : List Wanted → List Wanted
@@ -329,8 +329,8 @@ module _ (ids R M : List ℕ) where
   want-behind (w ∷ ws) k = refl
 
   misfit-is : (g : List Scope) (ws : List Wanted) (e : Expression) (alone : Bool) (m : Meant)
-      → ((t : Sort) → (not alone || not (variableOf ids R M m (sortNumber (some t)))) ≡ not (isName g t e))
-      → misfitOf ids R M (wantAt ws 0) alone (sortNumber (sortE g e)) m ≡ wrongFor g ws e
+      → ((t : Sort) → (not alone || not (variableOf R m (sortNumber (some t)))) ≡ not (isName g t e))
+      → misfitOf R (wantAt ws 0) alone (sortNumber (sortE g e)) m ≡ wrongFor g ws e
   unfolding misfitOf misfit
   misfit-is g [] e alone m h = refl
   misfit-is g (an t ∷ ws) e alone m h = apart-turned t (sortE g e)
@@ -359,10 +359,10 @@ module _ (ids R M : List ℕ) where
       let wrong = when-so (wrongFor g ws e) (firstSymbol e) in
       let j = min i (keyOf wrong) in
       let hj : j ≤ noFault = lesser i wrong hi in
-      let f' : (k : ℕ) → wantOf ids R M (meantOf w) (n + 1 + k) ≡ wantAt (others ws) k =
-      λ k. ap (wantOf ids R M (meantOf w)) (omega arith) ∙ f (suc k) ∙ want-behind ws k in
+      let f' : (k : ℕ) → wantOf R (meantOf w) (n + 1 + k) ≡ wantAt (others ws) k =
+      λ k. ap (wantOf R (meantOf w)) (omega arith) ∙ f (suc k) ∙ want-behind ws k in
       let y = hes d us w (n + 1) (others ws) (went (x .uses) 0 (x .last) (st .stack) j st) hj f' (x .match) in
-      let now : wantOf ids R M (meantOf w) n ≡ wantAt ws 0 = ap (wantOf ids R M (meantOf w)) (sym (add-zero n)) ∙ f 0 in
+      let now : wantOf R (meantOf w) n ≡ wantAt ws 0 = ap (wantOf R (meantOf w)) (sym (add-zero n)) ∙ f 0 in
       let a = mark n-actual (firstSymbol e) in
       let c : n + 1 + count es ≡ n + suc (count es) = omega arith in
       record {
@@ -376,7 +376,7 @@ module _ (ids R M : List ℕ) where
             ∙ stepped n-actual (firstSymbol e) 0 0 (nodesEs (d + 1) es ++ rest) _
             ∙ ap (run (nodesEs (d + 1) es ++ rest))
             (actual-node (firstSymbol e) w d n (x .uses) (x .bare) (x .last) (sortNumber (sortE g e)) (st .stack) i st (wrongFor g ws e) hi
-            (ap (λ (v : Want). misfitOf ids R M v (eqb (x .bare) (d + 1)) (sortNumber (sortE g e)) (meantOf (x .last))) now
+            (ap (λ (v : Want). misfitOf R v (eqb (x .bare) (d + 1)) (sortNumber (sortE g e)) (meantOf (x .last))) now
             ∙ misfit-is g ws e (eqb (x .bare) (d + 1)) (meantOf (x .last)) (x .alone)))
             ∙ y .goes rest
             ∙ ap (run rest)
@@ -389,10 +389,10 @@ module _ (ids R M : List ℕ) where
   call-case : (g : List Scope) (x : Name) (e : Expression) (es : Expressions) → FoldsE g e → FoldsEs g es → FoldsE g (call x e es)
   unfolding nodesE nodesEs usesE usesEs sortE faultsE faultsEs isName count
   call-case g x e es he hes d us st p h m =
-      let n = next ids R M (st .uses) (used g x) ((usesE g e ++ usesEs g es) ++ us) m in
+      let n = next R (st .uses) (used g x) ((usesE g e ++ usesEs g es) ++ us) m in
       let u = meaning g x in
-      let f : (k : ℕ) → wantOf ids R M (meantOf (n .word)) (0 + k) ≡ wantAt (wantedBy u) k =
-      λ k. ap (wantOf ids R M (meantOf (n .word))) (zero-add k) ∙ want-is ids R M (meantOf (n .word)) u k (n .means) in
+      let f : (k : ℕ) → wantOf R (meantOf (n .word)) (0 + k) ≡ wantAt (wantedBy u) k =
+      λ k. ap (wantOf R (meantOf (n .word))) (zero-add k) ∙ want-is R (meantOf (n .word)) u k (n .means) in
       let y = then-case g e es he hes d us (n .word) 0 (wantedBy u) (went (n .others) 0 (n .word) (st .stack) (st .least) st) h f (n .match) in
       let fs = misfits g (wantedBy u) (then e es) ++ (faultsE g e ++ faultsEs g es) in
       let k = min (st .least) (keyOf fs) in
@@ -413,7 +413,7 @@ module _ (ids R M : List ℕ) where
             ∙ y .goes (end ++ rest)
             ∙ stepped n-call-end (x .symbol) 0 0 rest _
             ∙ ap (run rest)
-            (ap (λ (j : ℕ). typeNode ids R M n-call-end (x .symbol) 0 0 (within (n .word) d j (went (y .uses) (y .bare) (y .last) (st .stack) k st))) (zero-add (suc (count es)))
+            (ap (λ (j : ℕ). typeNode R n-call-end (x .symbol) 0 0 (within (n .word) d j (went (y .uses) (y .bare) (y .last) (st .stack) k st))) (zero-add (suc (count es)))
             ∙ end-node (x .symbol) (n .word) d (suc (count es)) (went (y .uses) (y .bare) (y .last) (st .stack) k st) u (n .means) (lesser (st .least) fs h)
             ∙ ap (λ (j : ℕ). went (y .uses) 0 (y .last) (sortNumber (inExpression u (suc (count es)) .sort) ∷ st .stack) j st) (order-two (st .least) fs wrong));
       }

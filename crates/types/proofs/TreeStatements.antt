@@ -7,20 +7,21 @@ use mathlib.Core.Path.{_≡_, refl, sym, ap, subst, _∙_}
 use mathlib.Core.Bool.{true, false, not, _||_}
 use mathlib.Core.List.{List, [], _∷_, _++_, map, append-assoc, append-nil}
 use mathlib.Core.Option.{Option, some}
-use lib.ListN.{getD, drop}
-use lib.Seq.{drop-drop, getD-drop}
+use lib.ListN.{drop}
+use lib.Seq.{drop-drop}
 use Rattle.answers.specs.Numbers.{types}
 use Rattle.grammar.specs.NodeKinds.{n-block, n-statements, n-block-end, n-type, n-variable, n-procedure, n-formal, n-value, n-specified, n-body, n-procedure-end, n-then, n-else, n-if-end, n-for, n-start, n-once, n-while, n-step, n-amount, n-do, n-for-end, n-left, n-assign, n-use, n-call, n-call-end, n-actual}
 use Rattle.names.specs.Program.{Name, Sort, integer, boolean, Expression, Expressions, done, then, count, firstSymbol, Element, value, while, step, Specification, Statement, dummy, assignment, procedure, when, either, repeat, compound, block, Statements, last as last-one, first as one-more, Declarations, none as no-more, variables, declare, Procedure, heading}
 use Rattle.names.specs.Scopes.{nameOf, sortOf, Scope, ofBlock, ofBody, Meaning, meaning}
 use Rattle.names.specs.Uses.{Use, used, usesE, usesEs, usesL, usesS, usesSs, usesD, usesP}
 use Rattle.names.specs.Nodes.{node, mark, sortNumber, nodesE, nodesEs, amountNodes, nodesL, nodesLs, nodesN, nodesSp, nodesLeft, nodesCall, nodesS, nodesSs, nodesD, nodesP}
-use Rattle.names.specs.Rows.{foldNodes, isUse, meantOf, noFault, leastKey}
+use Rattle.names.specs.Rows.{foldNodes, rowOf, rowIn, isUse, meantOf, noFault, leastKey}
 use Rattle.names.proofs.Around.{Means}
+use Rattle.names.proofs.ModeLaws.{type-alone}
 use Rattle.names.proofs.Resolved.{Matches}
-use Rattle.names.specs.Outline.{sizeS, sizeD, sizeP, rowsN, rowsS, rowsSs, rowsD, rowsP}
+use Rattle.names.specs.Outline.{sizeS, sizeD, sizeP, formalIn, rowsN, rowsS, rowsSs, rowsD, rowsP}
 use Rattle.types.specs.Types.{unlike, apart, when-so, wantedBy, isVariable, sortE, misfits, faultsE, faultsEs, leftOf as leftIn, faultsLeft, miscalled, faultsFor, faultsL, faultsS, faultsSs, faultsD, faultsP, typeFaults}
-use Rattle.types.specs.Passes.{State, fresh, wantOf, noted, withStack, withCalls, withBodies, withRows, withLeft, withBare, withUse, topOf, below, popped, takenAs, assignedAs, nextUse, namedAs, leftAs, useTyped, callEnded, plainTyped, typeNode, typedOf, wordIn}
+use Rattle.types.specs.Passes.{State, fresh, wantOf, noted, withStack, withCalls, withBodies, withRows, withLeft, withBare, withUse, topOf, below, popped, takenAs, assignedAs, nextUse, namedAs, leftAs, useTyped, callEnded, plainTyped, typeNode, typedOf, sortIn}
 use Rattle.types.proofs.LeastLaws.{keyOf, key-small, key-noted, key-none, order-two, in-order, order-assigned}
 use Rattle.types.proofs.SortLaws.{apart-sorts, unlike-sorts}
 use Rattle.types.proofs.MeaningLaws.{wantAt, Bodies, proper, next, called-is, want-is, variable-is, left-is}
@@ -46,7 +47,7 @@ abbrev bodied : ℕ → State → State
 bodied r st =
     record { uses = st .uses; rows = st .rows; stack = st .stack; calls = st .calls; bodies = r ∷ st .bodies; begun = st .begun; left = st .left; bare = st .bare; last = st .last; least = st .least }
 
-module _ (ids R M : List ℕ) where
+module _ (R : List ℕ) where
   -- ---- what some nodes do. fs: the faults noted; us: the uses behind; B: the rows behind
 
   pub record Passed (ws fs : List ℕ) (us : List Use) (B : List ℕ) (st : State) : Type 0 where
@@ -55,10 +56,10 @@ module _ (ids R M : List ℕ) where
     pub left : ℕ
     pub bare : ℕ
     pub last : ℕ
-    pub match : Matches ids R M uses us
+    pub match : Matches R uses us
     pub behind : drop (4 * rows) R ≡ B
     pub goes : (rest : List ℕ)
-        → run ids R M (ws ++ rest) (clear st) ≡ run ids R M rest (clear (passed uses rows left bare last (min (st .least) (keyOf fs)) st))
+        → run R (ws ++ rest) (clear st) ≡ run R rest (clear (passed uses rows left bare last (min (st .least) (keyOf fs)) st))
 
   abbrev pub onward : {ws fs : List ℕ} {us : List Use} {B : List ℕ} {st : State} → Passed ws fs us B st → State
   onward {fs = fs} {st = st} a = passed (a .uses) (a .rows) (a .left) (a .bare) (a .last) (min (st .least) (keyOf fs)) st
@@ -76,16 +77,16 @@ module _ (ids R M : List ℕ) where
         match = b .match;
         behind = b .behind;
         goes = λ rest.
-            apiece ids R M ws vs rest (clear st)
+            apiece R ws vs rest (clear st)
             ∙ a .goes (vs ++ rest)
             ∙ b .goes rest
-            ∙ ap (λ (k : ℕ). run ids R M rest (clear (passed (b .uses) (b .rows) (b .left) (b .bare) (b .last) k st))) (in-order (st .least) fs hs);
+            ∙ ap (λ (k : ℕ). run R rest (clear (passed (b .uses) (b .rows) (b .left) (b .bare) (b .last) k st))) (in-order (st .least) fs hs);
       }
 
   -- ---- parts with their faults, uses and rows, wherever they stand in the scopes g
 
   pub record Folds (g : List Scope) (ws fs : List ℕ) (vs : List Use) (rs : List ℕ) : Type 0 where
-    pub pass : (us : List Use) (B : List ℕ) (st : State) → st .least ≤ noFault → Bodies R g (st .bodies) → Matches ids R M (st .uses) (vs ++ us)
+    pub pass : (us : List Use) (B : List ℕ) (st : State) → st .least ≤ noFault → Bodies R g (st .bodies) → Matches R (st .uses) (vs ++ us)
         → drop (4 * st .rows) R ≡ rs ++ B → Passed ws fs us B st
 
   none-there : (g : List Scope) → Folds g [] [] [] []
@@ -101,7 +102,7 @@ module _ (ids R M : List ℕ) where
               match = m;
               behind = r;
               goes = λ rest.
-                  ap (λ (k : ℕ). run ids R M rest (clear (passed (st .uses) (st .rows) (st .left) (st .bare) (st .last) k st))) (key-none (st .least) h);
+                  ap (λ (k : ℕ). run R rest (clear (passed (st .uses) (st .rows) (st .left) (st .bare) (st .last) k st))) (key-none (st .least) h);
             };
       }
 
@@ -111,8 +112,8 @@ module _ (ids R M : List ℕ) where
   _and-then_ {g} {ws} {ws'} {fs} {fs'} {vs} {vs'} {rs} {rs'} x y =
       record {
         pass = λ us B st h b m r.
-            let a = x .pass (vs' ++ us) (rs' ++ B) st h b (split ids R M (st .uses) vs vs' us m) (r ∙ append-assoc rs rs' B) in
-            seq a (y .pass us B (onward a) (lesser ids R M (st .least) fs h) b (a .match) (a .behind));
+            let a = x .pass (vs' ++ us) (rs' ++ B) st h b (split R (st .uses) vs vs' us m) (r ∙ append-assoc rs rs' B) in
+            seq a (y .pass us B (onward a) (lesser R (st .least) fs h) b (a .match) (a .behind));
       }
 
   -- the same words, uses and rows, and the same least fault
@@ -121,7 +122,7 @@ module _ (ids R M : List ℕ) where
   as-same {g} {ws} {ws'} {fs} {fs'} {vs} {vs'} {rs} {rs'} e f v r x =
       record {
         pass = λ us B st h b m q.
-            let a = x .pass us B st h b (subst (λ (l : List Use). Matches ids R M (st .uses) (l ++ us)) (sym v) m) (q ∙ ap (λ (l : List ℕ). l ++ B) (sym r)) in
+            let a = x .pass us B st h b (subst (λ (l : List Use). Matches R (st .uses) (l ++ us)) (sym v) m) (q ∙ ap (λ (l : List ℕ). l ++ B) (sym r)) in
             record {
               uses = a .uses;
               rows = a .rows;
@@ -131,16 +132,16 @@ module _ (ids R M : List ℕ) where
               match = a .match;
               behind = a .behind;
               goes = λ rest.
-                  ap (λ (l : List ℕ). run ids R M (l ++ rest) (clear st)) (sym e)
+                  ap (λ (l : List ℕ). run R (l ++ rest) (clear st)) (sym e)
                   ∙ a .goes rest
-                  ∙ ap (λ (k : ℕ). run ids R M rest (clear (passed (a .uses) (a .rows) (a .left) (a .bare) (a .last) (min (st .least) k) st))) f;
+                  ∙ ap (λ (k : ℕ). run R rest (clear (passed (a .uses) (a .rows) (a .left) (a .bare) (a .last) (min (st .least) k) st))) f;
             };
       }
 
   -- ---- nodes that only stand there
 
   abbrev Idle : ℕ → Type 0
-  Idle k = (s a b : ℕ) (st : State) → typeNode ids R M k s a b st ≡ went (st .uses) 0 (st .last) (st .stack) (st .least) st
+  Idle k = (s a b : ℕ) (st : State) → typeNode R k s a b st ≡ went (st .uses) 0 (st .last) (st .stack) (st .least) st
 
   idle-block : Idle n-block
   unfolding typeNode isUse plainTyped withBare
@@ -207,8 +208,8 @@ module _ (ids R M : List ℕ) where
               match = m;
               behind = r;
               goes = λ rest.
-                  stepped ids R M k s a b rest (clear st)
-                  ∙ ap (run ids R M rest)
+                  stepped R k s a b rest (clear st)
+                  ∙ ap (run R rest)
                   (i s a b (clear st) ∙ ap (λ (j : ℕ). clear (passed (st .uses) (st .rows) (st .left) 0 (st .last) j st)) (key-none (st .least) h));
             };
       }
@@ -218,7 +219,7 @@ module _ (ids R M : List ℕ) where
   abbrev Takes : ℕ → Sort → Type 0
   Takes n t =
       (q : ℕ) (s : Option Sort) (u : List ℕ) (b l : ℕ) (stack : List ℕ) (k : ℕ) (st : State) → k ≤ noFault
-      → typeNode ids R M n q 0 0 (went u b l (sortNumber s ∷ stack) k st) ≡ went u 0 l stack (min k (keyOf (when-so (unlike s t) q))) st
+      → typeNode R n q 0 0 (went u b l (sortNumber s ∷ stack) k st) ≡ went u 0 l stack (min k (keyOf (when-so (unlike s t) q))) st
 
   start-node : Takes n-start integer
   unfolding typeNode isUse plainTyped takenAs popped noted withStack withBare below topOf
@@ -237,7 +238,7 @@ module _ (ids R M : List ℕ) where
   taken g e d n q t f p =
       record {
         pass = λ us B st h o m r.
-            let x = foldsE ids R M g e d us (clear st) p h m in
+            let x = foldsE R g e d us (clear st) p h m in
             let k = min (st .least) (keyOf (faultsE g e)) in
             record {
               uses = x .uses;
@@ -248,34 +249,34 @@ module _ (ids R M : List ℕ) where
               match = x .match;
               behind = r;
               goes = λ rest.
-                  apiece ids R M (nodesE d e) (mark n q) rest (clear st)
+                  apiece R (nodesE d e) (mark n q) rest (clear st)
                   ∙ x .goes (mark n q ++ rest)
-                  ∙ stepped ids R M n q 0 0 rest _
-                  ∙ ap (run ids R M rest)
-                  (f q (sortE g e) (x .uses) (x .bare) (x .last) (st .stack) k (clear st) (lesser ids R M (st .least) (faultsE g e) h)
+                  ∙ stepped R n q 0 0 rest _
+                  ∙ ap (run R rest)
+                  (f q (sortE g e) (x .uses) (x .bare) (x .last) (st .stack) k (clear st) (lesser R (st .least) (faultsE g e) h)
                   ∙ ap (λ (j : ℕ). clear (passed (x .uses) (st .rows) (st .left) 0 (x .last) j st)) (order-two (st .least) (faultsE g e) (when-so (unlike (sortE g e) t) q)));
             };
       }
 
   -- ---- left parts
 
-  first-node : (s d w : ℕ) (ws : List ℕ) (st : State) (g : List Scope) (x : Name) → st .uses ≡ w ∷ ws → Means ids R M (meantOf w) (meaning g x)
+  first-node : (s d w : ℕ) (ws : List ℕ) (st : State) (g : List Scope) (x : Name) → st .uses ≡ w ∷ ws → Means R (meantOf w) (meaning g x)
       → Bodies R g (st .bodies) → st .least ≤ noFault
-      → typeNode ids R M n-left s d 0 (clear st)
+      → typeNode R n-left s d 0 (clear st)
       ≡ lefting (sortNumber (leftIn g x .sort)) (passed ws (st .rows) (st .left) 0 w (min (st .least) (keyOf (when-so (leftIn g x .wrong) s))) st)
   unfolding typeNode isUse useTyped nextUse withUse withBare leftAs withLeft noted
   first-node s d w ws st g x e m b h =
-      rw (e, left-is ids R M g (st .bodies) (meantOf w) (meaning g x) b m (proper g x), key-noted (leftIn g x .wrong) (st .least) s h)
+      rw (e, left-is R g (st .bodies) (meantOf w) (meaning g x) b m (proper g x), key-noted (leftIn g x .wrong) (st .least) s h)
 
   later-node : (s d w : ℕ) (ws : List ℕ) (st : State) (g : List Scope) (x : Name) (t : Option Sort) → st .uses ≡ w ∷ ws
-      → Means ids R M (meantOf w) (meaning g x) → Bodies R g (st .bodies) → st .least ≤ noFault
-      → typeNode ids R M n-left s d 0 (lefting (sortNumber t) st)
+      → Means R (meantOf w) (meaning g x) → Bodies R g (st .bodies) → st .least ≤ noFault
+      → typeNode R n-left s d 0 (lefting (sortNumber t) st)
       ≡ lefting (sortNumber t) (passed ws (st .rows) (st .left) 0 w (min (st .least) (keyOf (when-so (leftIn g x .wrong || apart t (leftIn g x .sort)) s))) st)
   unfolding typeNode isUse useTyped nextUse withUse withBare leftAs withLeft noted
   later-node s d w ws st g x t e m b h =
       rw (
         e,
-        left-is ids R M g (st .bodies) (meantOf w) (meaning g x) b m (proper g x),
+        left-is R g (st .bodies) (meantOf w) (meaning g x) b m (proper g x),
         apart-sorts t (leftIn g x .sort),
         key-noted (leftIn g x .wrong || apart t (leftIn g x .sort)) (st .least) s h,
       )
@@ -284,13 +285,13 @@ module _ (ids R M : List ℕ) where
     uses : List ℕ
     bare : ℕ
     last : ℕ
-    match : Matches ids R M uses us
+    match : Matches R uses us
     goes : (rest : List ℕ)
-        → run ids R M (nodesLeft d xs ++ rest) (lefting (sortNumber t) st)
-        ≡ run ids R M rest (lefting (sortNumber t) (passed uses (st .rows) (st .left) bare last (min (st .least) (keyOf (faultsLeft g t xs))) st))
+        → run R (nodesLeft d xs ++ rest) (lefting (sortNumber t) st)
+        ≡ run R rest (lefting (sortNumber t) (passed uses (st .rows) (st .left) bare last (min (st .least) (keyOf (faultsLeft g t xs))) st))
 
   lefts : (g : List Scope) (t : Option Sort) (xs : List Name) (d : ℕ) (us : List Use) (st : State) → Bodies R g (st .bodies) → st .least ≤ noFault
-      → Matches ids R M (st .uses) (map (used g) xs ++ us) → Lefts g t xs d us st
+      → Matches R (st .uses) (map (used g) xs ++ us) → Lefts g t xs d us st
   unfolding nodesLeft faultsLeft
   lefts g t [] d us st b h m =
       record {
@@ -299,28 +300,28 @@ module _ (ids R M : List ℕ) where
         last = st .last;
         match = m;
         goes = λ rest.
-            ap (λ (k : ℕ). run ids R M rest (lefting (sortNumber t) (passed (st .uses) (st .rows) (st .left) (st .bare) (st .last) k st))) (key-none (st .least) h);
+            ap (λ (k : ℕ). run R rest (lefting (sortNumber t) (passed (st .uses) (st .rows) (st .left) (st .bare) (st .last) k st))) (key-none (st .least) h);
       }
   lefts g t (x ∷ xs) d us st b h m =
-      let n = next ids R M (st .uses) (used g x) (map (used g) xs ++ us) m in
+      let n = next R (st .uses) (used g x) (map (used g) xs ++ us) m in
       let wrong = when-so (leftIn g x .wrong || apart t (leftIn g x .sort)) (x .symbol) in
       let k = min (st .least) (keyOf wrong) in
-      let y = lefts g t xs d us (passed (n .others) (st .rows) (st .left) 0 (n .word) k st) b (lesser ids R M (st .least) wrong h) (n .match) in
+      let y = lefts g t xs d us (passed (n .others) (st .rows) (st .left) 0 (n .word) k st) b (lesser R (st .least) wrong h) (n .match) in
       record {
         uses = y .uses;
         bare = y .bare;
         last = y .last;
         match = y .match;
         goes = λ rest.
-            stepped ids R M n-left (x .symbol) d 0 (nodesLeft d xs ++ rest) _
-            ∙ ap (run ids R M (nodesLeft d xs ++ rest)) (later-node (x .symbol) d (n .word) (n .others) st g x t (n .whole) (n .means) b h)
+            stepped R n-left (x .symbol) d 0 (nodesLeft d xs ++ rest) _
+            ∙ ap (run R (nodesLeft d xs ++ rest)) (later-node (x .symbol) d (n .word) (n .others) st g x t (n .whole) (n .means) b h)
             ∙ y .goes rest
-            ∙ ap (λ (j : ℕ). run ids R M rest (lefting (sortNumber t) (passed (y .uses) (st .rows) (st .left) (y .bare) (y .last) j st)))
+            ∙ ap (λ (j : ℕ). run R rest (lefting (sortNumber t) (passed (y .uses) (st .rows) (st .left) (y .bare) (y .last) j st)))
             (in-order (st .least) wrong (faultsLeft g t xs));
       }
 
   assign-node : (q : ℕ) (s t : Option Sort) (u : List ℕ) (b l k : ℕ) (st : State) → k ≤ noFault
-      → typeNode ids R M n-assign q 0 0 (went u b l (sortNumber s ∷ st .stack) k (lefting (sortNumber t) st))
+      → typeNode R n-assign q 0 0 (went u b l (sortNumber s ∷ st .stack) k (lefting (sortNumber t) st))
       ≡ clear (passed u (st .rows) (sortNumber t) 0 l (min k (keyOf (when-so (apart t s) q))) st)
   unfolding typeNode isUse plainTyped assignedAs popped noted withStack withBare withLeft below topOf
   assign-node q s t u b l k st h = rw (apart-sorts t s, key-noted (apart t s) k q h)
@@ -331,16 +332,16 @@ module _ (ids R M : List ℕ) where
   assignment-case g x xs q e d p =
       record {
         pass = λ us B st h o m r.
-            let n = next ids R M (st .uses) (used g x) ((map (used g) xs ++ usesE g e) ++ us) m in
+            let n = next R (st .uses) (used g x) ((map (used g) xs ++ usesE g e) ++ us) m in
             let t = leftIn g x .sort in
             let w = when-so (leftIn g x .wrong) (x .symbol) in
             let i = min (st .least) (keyOf w) in
-            let hi : i ≤ noFault = lesser ids R M (st .least) w h in
-            let y = lefts g t xs d (usesE g e ++ us) (passed (n .others) (st .rows) (st .left) 0 (n .word) i st) o hi (split ids R M (n .others) (map (used g) xs) (usesE g e) us (n .match)) in
+            let hi : i ≤ noFault = lesser R (st .least) w h in
+            let y = lefts g t xs d (usesE g e ++ us) (passed (n .others) (st .rows) (st .left) 0 (n .word) i st) o hi (split R (n .others) (map (used g) xs) (usesE g e) us (n .match)) in
             let fl = faultsLeft g t xs in
             let j = min i (keyOf fl) in
-            let hj : j ≤ noFault = lesser ids R M i fl hi in
-            let z = foldsE ids R M g e d us (lefting (sortNumber t) (passed (y .uses) (st .rows) (st .left) (y .bare) (y .last) j st)) p hj (y .match) in
+            let hj : j ≤ noFault = lesser R i fl hi in
+            let z = foldsE R g e d us (lefting (sortNumber t) (passed (y .uses) (st .rows) (st .left) (y .bare) (y .last) j st)) p hj (y .match) in
             let k = min j (keyOf (faultsE g e)) in
             let wq = when-so (apart t (sortE g e)) q in
             let ne = nodesE d e in
@@ -353,32 +354,32 @@ module _ (ids R M : List ℕ) where
               match = z .match;
               behind = r;
               goes = λ rest.
-                  stepped ids R M n-left (x .symbol) d 0 ((nodesLeft d xs ++ (ne ++ mark n-assign q)) ++ rest) (clear st)
-                  ∙ ap (run ids R M ((nodesLeft d xs ++ (ne ++ mark n-assign q)) ++ rest)) (first-node (x .symbol) d (n .word) (n .others) st g x (n .whole) (n .means) o h)
-                  ∙ apiece ids R M (nodesLeft d xs) (ne ++ mark n-assign q) rest _
+                  stepped R n-left (x .symbol) d 0 ((nodesLeft d xs ++ (ne ++ mark n-assign q)) ++ rest) (clear st)
+                  ∙ ap (run R ((nodesLeft d xs ++ (ne ++ mark n-assign q)) ++ rest)) (first-node (x .symbol) d (n .word) (n .others) st g x (n .whole) (n .means) o h)
+                  ∙ apiece R (nodesLeft d xs) (ne ++ mark n-assign q) rest _
                   ∙ y .goes ((ne ++ mark n-assign q) ++ rest)
-                  ∙ apiece ids R M ne (mark n-assign q) rest _
+                  ∙ apiece R ne (mark n-assign q) rest _
                   ∙ z .goes (mark n-assign q ++ rest)
-                  ∙ stepped ids R M n-assign q 0 0 rest _
-                  ∙ ap (run ids R M rest)
-                  (assign-node q (sortE g e) t (z .uses) (z .bare) (z .last) k (passed (y .uses) (st .rows) (st .left) (y .bare) (y .last) j st) (lesser ids R M j (faultsE g e) hj)
+                  ∙ stepped R n-assign q 0 0 rest _
+                  ∙ ap (run R rest)
+                  (assign-node q (sortE g e) t (z .uses) (z .bare) (z .last) k (passed (y .uses) (st .rows) (st .left) (y .bare) (y .last) j st) (lesser R j (faultsE g e) hj)
                   ∙ ap (λ (v : ℕ). clear (passed (z .uses) (st .rows) (sortNumber t) 0 (z .last) v st)) (order-assigned (st .least) w fl (faultsE g e) wq));
             };
       }
 
   -- ---- procedure statements
 
-  named-node : (s d w : ℕ) (ws : List ℕ) (st : State) (g : Meaning) → st .uses ≡ w ∷ ws → Means ids R M (meantOf w) g → st .least ≤ noFault
-      → typeNode ids R M n-use s d 1 (clear st)
+  named-node : (s d w : ℕ) (ws : List ℕ) (st : State) (g : Meaning) → st .uses ≡ w ∷ ws → Means R (meantOf w) g → st .least ≤ noFault
+      → typeNode R n-use s d 1 (clear st)
       ≡ clear (passed ws (st .rows) (st .left) 0 w (min (st .least) (keyOf (when-so (miscalled g 0) s))) st)
   unfolding typeNode isUse useTyped nextUse withUse withBare namedAs noted
-  named-node s d w ws st g e m h = rw (e, called-is ids R M (meantOf w) g 0 m, key-noted (miscalled g 0) (st .least) s h)
+  named-node s d w ws st g e m h = rw (e, called-is R (meantOf w) g 0 m, key-noted (miscalled g 0) (st .least) s h)
 
-  ended-node : (s w d n : ℕ) (st : State) (g : Meaning) → Means ids R M (meantOf w) g → st .least ≤ noFault
-      → typeNode ids R M n-call-end s 0 1 (within w d n st)
+  ended-node : (s w d n : ℕ) (st : State) (g : Meaning) → Means R (meantOf w) g → st .least ≤ noFault
+      → typeNode R n-call-end s 0 1 (within w d n st)
       ≡ went (st .uses) 0 (st .last) (st .stack) (min (st .least) (keyOf (when-so (miscalled g n) s))) st
   unfolding typeNode isUse callEnded noted withCalls withBare
-  ended-node s w d n st g m h = rw (called-is ids R M (meantOf w) g n m, key-noted (miscalled g n) (st .least) s h)
+  ended-node s w d n st g m h = rw (called-is R (meantOf w) g n m, key-noted (miscalled g n) (st .least) s h)
 
   named-case : (g : List Scope) (x : Name) (d : ℕ)
       → Folds g (nodesS d (procedure x done)) (faultsS g (procedure x done)) (usesS g (procedure x done)) []
@@ -386,7 +387,7 @@ module _ (ids R M : List ℕ) where
   named-case g x d =
       record {
         pass = λ us B st h o m r.
-            let n = next ids R M (st .uses) (used g x) us m in
+            let n = next R (st .uses) (used g x) us m in
             let u = meaning g x in
             let w = when-so (miscalled u 0) (x .symbol) in
             record {
@@ -398,11 +399,11 @@ module _ (ids R M : List ℕ) where
               match = n .match;
               behind = r;
               goes = λ rest.
-                  stepped ids R M n-use (x .symbol) d 1 rest (clear st)
-                  ∙ ap (run ids R M rest)
+                  stepped R n-use (x .symbol) d 1 rest (clear st)
+                  ∙ ap (run R rest)
                   (named-node (x .symbol) d (n .word) (n .others) st u (n .whole) (n .means) h
                   ∙ ap (λ (l : List ℕ). clear (passed (n .others) (st .rows) (st .left) 0 (n .word) (min (st .least) (keyOf l)) st))
-                  (sym (ap (λ (l : List ℕ). w ++ (l ++ [])) (misfits-done ids R M g (wantedBy u)) ∙ append-nil w)));
+                  (sym (ap (λ (l : List ℕ). w ++ (l ++ [])) (misfits-done R g (wantedBy u)) ∙ append-nil w)));
             };
       }
 
@@ -412,11 +413,11 @@ module _ (ids R M : List ℕ) where
   called-case g x e es d =
       record {
         pass = λ us B st h o m r.
-            let n = next ids R M (st .uses) (used g x) ((usesE g e ++ usesEs g es) ++ us) m in
+            let n = next R (st .uses) (used g x) ((usesE g e ++ usesEs g es) ++ us) m in
             let u = meaning g x in
-            let f : (k : ℕ) → wantOf ids R M (meantOf (n .word)) (0 + k) ≡ wantAt (wantedBy u) k =
-            λ k. ap (wantOf ids R M (meantOf (n .word))) (zero-add k) ∙ want-is ids R M (meantOf (n .word)) u k (n .means) in
-            let y = then-case ids R M g e es (foldsE ids R M g e) (foldsEs ids R M g es) d us (n .word) 0 (wantedBy u) (went (n .others) 0 (n .word) (st .stack) (st .least) (clear st)) h f (n .match) in
+            let f : (k : ℕ) → wantOf R (meantOf (n .word)) (0 + k) ≡ wantAt (wantedBy u) k =
+            λ k. ap (wantOf R (meantOf (n .word))) (zero-add k) ∙ want-is R (meantOf (n .word)) u k (n .means) in
+            let y = then-case R g e es (foldsE R g e) (foldsEs R g es) d us (n .word) 0 (wantedBy u) (went (n .others) 0 (n .word) (st .stack) (st .least) (clear st)) h f (n .match) in
             let fs = misfits g (wantedBy u) (then e es) ++ (faultsE g e ++ faultsEs g es) in
             let k = min (st .least) (keyOf fs) in
             let a = nodesE (d + 1) e ++ (mark n-actual (firstSymbol e) ++ nodesEs (d + 1) es) in
@@ -431,32 +432,32 @@ module _ (ids R M : List ℕ) where
               match = y .match;
               behind = r;
               goes = λ rest.
-                  stepped ids R M n-call (x .symbol) d 1 ((a ++ end) ++ rest) (clear st)
-                  ∙ ap (run ids R M ((a ++ end) ++ rest)) (call-node ids R M (x .symbol) d 1 (n .word) (n .others) (clear st) (n .whole))
-                  ∙ apiece ids R M a end rest _
+                  stepped R n-call (x .symbol) d 1 ((a ++ end) ++ rest) (clear st)
+                  ∙ ap (run R ((a ++ end) ++ rest)) (call-node R (x .symbol) d 1 (n .word) (n .others) (clear st) (n .whole))
+                  ∙ apiece R a end rest _
                   ∙ y .goes (end ++ rest)
-                  ∙ stepped ids R M n-call-end (x .symbol) 0 1 rest _
-                  ∙ ap (run ids R M rest)
-                  (ap (λ (j : ℕ). typeNode ids R M n-call-end (x .symbol) 0 1 (within (n .word) d j (went (y .uses) (y .bare) (y .last) (st .stack) k (clear st)))) (zero-add (suc (count es)))
-                  ∙ ended-node (x .symbol) (n .word) d (suc (count es)) (went (y .uses) (y .bare) (y .last) (st .stack) k (clear st)) u (n .means) (lesser ids R M (st .least) fs h)
+                  ∙ stepped R n-call-end (x .symbol) 0 1 rest _
+                  ∙ ap (run R rest)
+                  (ap (λ (j : ℕ). typeNode R n-call-end (x .symbol) 0 1 (within (n .word) d j (went (y .uses) (y .bare) (y .last) (st .stack) k (clear st)))) (zero-add (suc (count es)))
+                  ∙ ended-node (x .symbol) (n .word) d (suc (count es)) (went (y .uses) (y .bare) (y .last) (st .stack) k (clear st)) u (n .means) (lesser R (st .least) fs h)
                   ∙ ap (λ (j : ℕ). clear (passed (y .uses) (st .rows) (st .left) 0 (y .last) j st)) (order-two (st .least) fs wrong));
             };
       }
 
   -- ---- for statements
 
-  for-node : (s d w : ℕ) (ws : List ℕ) (st : State) (g : Meaning) → st .uses ≡ w ∷ ws → Means ids R M (meantOf w) g → st .least ≤ noFault
-      → typeNode ids R M n-for s d 0 (clear st)
+  for-node : (s d w : ℕ) (ws : List ℕ) (st : State) (g : Meaning) → st .uses ≡ w ∷ ws → Means R (meantOf w) g → st .least ≤ noFault
+      → typeNode R n-for s d 0 (clear st)
       ≡ clear (passed ws (st .rows) (st .left) 0 w (min (st .least) (keyOf (when-so (not (isVariable integer g)) s))) st)
   unfolding typeNode isUse useTyped nextUse withUse withBare noted
-  for-node s d w ws st g e m h = rw (e, variable-is ids R M (meantOf w) g integer m, key-noted (not (isVariable integer g)) (st .least) s h)
+  for-node s d w ws st g e m h = rw (e, variable-is R (meantOf w) g integer m, key-noted (not (isVariable integer g)) (st .least) s h)
 
   controlled : (g : List Scope) (x : Name) (d : ℕ)
       → Folds g (node n-for (x .symbol) d 0) (when-so (not (isVariable integer (meaning g x))) (x .symbol)) (used g x ∷ []) []
   controlled g x d =
       record {
         pass = λ us B st h o m r.
-            let n = next ids R M (st .uses) (used g x) us m in
+            let n = next R (st .uses) (used g x) us m in
             record {
               uses = n .others;
               rows = st .rows;
@@ -466,8 +467,8 @@ module _ (ids R M : List ℕ) where
               match = n .match;
               behind = r;
               goes = λ rest.
-                  stepped ids R M n-for (x .symbol) d 0 rest (clear st)
-                  ∙ ap (run ids R M rest) (for-node (x .symbol) d (n .word) (n .others) st (meaning g x) (n .whole) (n .means) h);
+                  stepped R n-for (x .symbol) d 0 rest (clear st)
+                  ∙ ap (run R rest) (for-node (x .symbol) d (n .word) (n .others) st (meaning g x) (n .whole) (n .means) h);
             };
       }
 
@@ -499,7 +500,7 @@ module _ (ids R M : List ℕ) where
 
   abbrev Declaring : ℕ → Type 0
   Declaring k =
-      (s : ℕ) (st : State) → typeNode ids R M k s 0 0 (clear st) ≡ clear (passed (st .uses) (st .rows + 1) (st .left) 0 (st .last) (st .least) st)
+      (s : ℕ) (st : State) → typeNode R k s 0 0 (clear st) ≡ clear (passed (st .uses) (st .rows + 1) (st .left) 0 (st .last) (st .least) st)
 
   variable-node : Declaring n-variable
   unfolding typeNode isUse withRows withBare
@@ -522,16 +523,16 @@ module _ (ids R M : List ℕ) where
               match = m;
               behind = row-on (st .rows) k s q t B r;
               goes = λ rest.
-                  stepped ids R M k s 0 0 rest (clear st)
-                  ∙ ap (run ids R M rest)
+                  stepped R k s 0 0 rest (clear st)
+                  ∙ ap (run R rest)
                   (i s st ∙ ap (λ (j : ℕ). clear (passed (st .uses) (st .rows + 1) (st .left) 0 (st .last) j st)) (key-none (st .least) h));
             };
       }
 
-  declarings : {g : List Scope} (k q t : ℕ) (xs : List Name) → Declaring k → Folds g (nodesN k xs) [] [] (rowsN k q t xs)
+  declarings : {g : List Scope} (k q : ℕ) (t : Name → ℕ) (xs : List Name) → Declaring k → Folds g (nodesN k xs) [] [] (rowsN k q t xs)
   unfolding nodesN rowsN
   declarings {g} k q t [] i = none-there g
-  declarings k q t (x ∷ xs) i = declaring k q t (x .symbol) i and-then declarings k q t xs i
+  declarings k q t (x ∷ xs) i = declaring k q (t x) (x .symbol) i and-then declarings k q t xs i
 
   idles : {g : List Scope} (k : ℕ) (xs : List Name) → Idle k → Folds g (nodesN k xs) [] [] []
   unfolding nodesN
@@ -546,20 +547,19 @@ module _ (ids R M : List ℕ) where
 
   -- ---- a procedure: its body is that of its row
 
-  enter-node : (s : ℕ) (st : State) → typeNode ids R M n-procedure s 0 0 (clear st)
+  enter-node : (s : ℕ) (st : State) → typeNode R n-procedure s 0 0 (clear st)
       ≡ clear (bodied (st .rows) (passed (st .uses) (st .rows + 1) (st .left) 0 (st .last) (st .least) st))
   unfolding typeNode isUse withRows withBodies withBare
   enter-node s st = refl
 
-  leave-node : (s r : ℕ) (st : State) → typeNode ids R M n-procedure-end s 0 0 (clear (bodied r st))
+  leave-node : (s r : ℕ) (st : State) → typeNode R n-procedure-end s 0 0 (clear (bodied r st))
       ≡ clear (passed (st .uses) (st .rows) (st .left) 0 (st .last) (st .least) st)
   unfolding typeNode isUse withBodies withBare below
   leave-node s r st = refl
 
-  word-at : (n a b c t : ℕ) (B : List ℕ) → drop (4 * n) R ≡ a ∷ b ∷ c ∷ t ∷ B → (wordIn R n 1 ≡ b) × (wordIn R n 3 ≡ t)
-  unfolding wordIn
-  word-at n a b c t B e =
-      (sym (getD-drop (4 * n) R 1 0) ∙ ap (λ (l : List ℕ). getD l 1 0) e, sym (getD-drop (4 * n) R 3 0) ∙ ap (λ (l : List ℕ). getD l 3 0) e)
+  row-here : (n a b c : ℕ) (t : Option Sort) (B : List ℕ) → drop (4 * n) R ≡ a ∷ b ∷ c ∷ sortNumber t ∷ B → (rowIn R n .symbol ≡ b) × (sortIn R n ≡ sortNumber t)
+  unfolding rowIn rowOf sortIn
+  row-here n a b c t B e = (rw e, rw e (type-alone t))
 
   enclosed : (g : List Scope) (p : Procedure) (q : ℕ) (ws fs : List ℕ) (vs : List Use) (rs : List ℕ) → Folds (ofBody p ∷ g) ws fs vs rs
       → Folds g (mark n-procedure (nameOf p .symbol) ++ (ws ++ mark n-procedure-end (nameOf p .symbol))) fs vs
@@ -569,7 +569,7 @@ module _ (ids R M : List ℕ) where
       record {
         pass = λ us B st h o m r.
             let st' = bodied (st .rows) (passed (st .uses) (st .rows + 1) (st .left) 0 (st .last) (st .least) st) in
-            let w = word-at (st .rows) n-procedure s q (sortNumber (sortOf p)) (rs ++ B) r in
+            let w = row-here (st .rows) n-procedure s q (sortOf p) (rs ++ B) r in
             let a = x .pass us B st' h (w .0, w .1, o) m (row-on (st .rows) n-procedure s q (sortNumber (sortOf p)) (rs ++ B) r) in
             record {
               uses = a .uses;
@@ -580,12 +580,12 @@ module _ (ids R M : List ℕ) where
               match = a .match;
               behind = a .behind;
               goes = λ rest.
-                  stepped ids R M n-procedure s 0 0 ((ws ++ mark n-procedure-end s) ++ rest) (clear st)
-                  ∙ ap (run ids R M ((ws ++ mark n-procedure-end s) ++ rest)) (enter-node s st)
-                  ∙ apiece ids R M ws (mark n-procedure-end s) rest _
+                  stepped R n-procedure s 0 0 ((ws ++ mark n-procedure-end s) ++ rest) (clear st)
+                  ∙ ap (run R ((ws ++ mark n-procedure-end s) ++ rest)) (enter-node s st)
+                  ∙ apiece R ws (mark n-procedure-end s) rest _
                   ∙ a .goes (mark n-procedure-end s ++ rest)
-                  ∙ stepped ids R M n-procedure-end s 0 0 rest _
-                  ∙ ap (run ids R M rest) (leave-node s (st .rows) (passed (a .uses) (a .rows) (a .left) (a .bare) (a .last) (min (st .least) (keyOf fs)) st));
+                  ∙ stepped R n-procedure-end s 0 0 rest _
+                  ∙ ap (run R rest) (leave-node s (st .rows) (passed (a .uses) (a .rows) (a .left) (a .bare) (a .last) (min (st .least) (keyOf fs)) st));
             };
       }
 
@@ -623,13 +623,13 @@ module _ (ids R M : List ℕ) where
   unfolding nodesS faultsS usesS rowsS
   when-case g i e s hs d c q p =
       as-same (simp append-assoc) (ap keyOf (simp (append-assoc, append-nil))) (simp append-nil) (simp append-nil)
-      (taken g e d n-then i boolean (then-node ids R M) p and-then hs (d + 1) c q (deeper d) and-then idle n-if-end i 0 0 idle-if-end)
+      (taken g e d n-then i boolean (then-node R) p and-then hs (d + 1) c q (deeper d) and-then idle n-if-end i 0 0 idle-if-end)
 
   either-case : (g : List Scope) (i : ℕ) (e : Expression) (s t : Statement) → FoldsS g s → FoldsS g t → FoldsS g (either i e s t)
   unfolding nodesS faultsS usesS rowsS
   either-case g i e s t hs ht d c q p =
       as-same (simp append-assoc) (ap keyOf (simp (append-assoc, append-nil))) (simp append-nil) (simp append-nil)
-      (taken g e d n-then i boolean (then-node ids R M) p
+      (taken g e d n-then i boolean (then-node R) p
       and-then hs (d + 1) c q (deeper d)
       and-then idle n-else 0 0 0 idle-else
       and-then ht (d + 1) (c + sizeS s) q (deeper d)
@@ -680,7 +680,7 @@ module _ (ids R M : List ℕ) where
   variables-case : (g : List Scope) (t : Sort) (xs : List Name) (ds : Declarations) → FoldsD g ds → FoldsD g (variables t xs ds)
   unfolding nodesD faultsD usesD rowsD
   variables-case g t xs ds hd d c q p =
-      idle n-type 0 (sortNumber (some t)) 0 idle-type and-then declarings n-variable q (sortNumber (some t)) xs variable-node and-then hd d c q p
+      idle n-type 0 (sortNumber (some t)) 0 idle-type and-then declarings n-variable q (λ x. sortNumber (some t)) xs variable-node and-then hd d c q p
 
   declare-case : (g : List Scope) (p : Procedure) (ds : Declarations) → FoldsP g p → FoldsD g ds → FoldsD g (declare p ds)
   unfolding nodesD faultsD usesD rowsD
@@ -693,7 +693,7 @@ module _ (ids R M : List ℕ) where
       as-same (simp append-assoc) refl refl refl
       (idle n-type 0 (sortNumber t) 0 idle-type
       and-then enclosed g (heading t f xs vs ss s) q _ _ _ _
-      (declarings n-formal (c + 1) 0 xs formal-node
+      (declarings n-formal (c + 1) (formalIn vs ss) xs formal-node
       and-then idles n-value vs idle-value
       and-then specifications ss
       and-then idle n-body (f .symbol) 0 0 idle-body
@@ -722,24 +722,24 @@ module _ (ids R M : List ℕ) where
     pub foldsP : (g : List Scope) (p : Procedure) → FoldsP g p
     foldsP g (heading t f xs vs ss s) = heading-case g t f xs vs ss s (foldsS (ofBody (heading t f xs vs ss s) ∷ g) s)
 
-nothing-left : (ids R M : List ℕ) (st : State) → run ids R M [] st .least ≡ st .least
+nothing-left : (R : List ℕ) (st : State) → run R [] st .least ≡ st .least
 unfolding foldNodes
-nothing-left ids R M st = refl
+nothing-left R st = refl
 
 least-of : (fs : List ℕ) → min noFault (keyOf fs) ≡ keyOf fs
 least-of fs = let h = key-small fs in omega arith
 
 -- the least fault that the pass finds in a program's nodes is the least of its type faults
-pub typed : (ids R M ws : List ℕ) (s : Statement) → R ≡ rowsS 0 0 s → Matches ids R M ws (usesS [] s)
-    → typedOf ids R M ws (nodesS 1 s) ≡ leastKey (map (λ q. record { symbol = q; answer = types }) (typeFaults s))
+pub typed : (R ws : List ℕ) (s : Statement) → R ≡ rowsS 0 0 s → Matches R ws (usesS [] s)
+    → typedOf R ws (nodesS 1 s) ≡ leastKey (map (λ q. record { symbol = q; answer = types }) (typeFaults s))
 unfolding typedOf typeFaults keyOf
-typed ids R M ws s r m =
+typed R ws s r m =
     let fs = faultsS [] s in
     let h : noFault ≤ noFault = omega arith in
-    let m' : Matches ids R M ws (usesS [] s ++ []) = subst (λ (l : List Use). Matches ids R M ws l) (sym (append-nil (usesS [] s))) m in
-    let a = foldsS ids R M [] s 1 0 0 (omega arith) .pass [] [] (fresh ws) h tt m' (r ∙ sym (append-nil (rowsS 0 0 s))) in
+    let m' : Matches R ws (usesS [] s ++ []) = subst (λ (l : List Use). Matches R ws l) (sym (append-nil (usesS [] s))) m in
+    let a = foldsS R [] s 1 0 0 (omega arith) .pass [] [] (fresh ws) h tt m' (r ∙ sym (append-nil (rowsS 0 0 s))) in
     let e : min noFault (keyOf fs) ≡ keyOf fs = least-of fs in
-    ap (λ (l : List ℕ). run ids R M l (fresh ws) .least) (sym (append-nil (nodesS 1 s)))
+    ap (λ (l : List ℕ). run R l (fresh ws) .least) (sym (append-nil (nodesS 1 s)))
     ∙ ap (λ (st : State). st .least) (a .goes [])
-    ∙ nothing-left ids R M _
+    ∙ nothing-left R _
     ∙ e

@@ -4,10 +4,11 @@ use Prim.Native.Nat.{ℕ, suc, _+_, _*_, _-_}
 use mathlib.Core.Bool.{Bool, true, false, cond, not, _&&_, _||_}
 use mathlib.Core.List.{List, [], _∷_}
 use lib.Dec.{eqb, leb, ltb}
-use lib.ListN.{getD, drop}
+use lib.ListN.{drop}
 use Rattle.answers.specs.Numbers.{types}
-use Rattle.grammar.specs.NodeKinds.{n-variable, n-procedure, n-formal, n-specified, n-procedure-end, n-then, n-start, n-while, n-amount, n-left, n-assign, n-condition-end, n-unary, n-binary, n-number, n-logical, n-use, n-call, n-call-end, n-actual}
-use Rattle.names.specs.Rows.{foldNodes, identityIn, findRow, markedIn, isUse, meantOf, noFault, notedIf}
+use Rattle.grammar.specs.NodeKinds.{n-variable, n-procedure, n-formal, n-procedure-end, n-then, n-start, n-while, n-amount, n-left, n-assign, n-condition-end, n-unary, n-binary, n-number, n-logical, n-use, n-call, n-call-end, n-actual}
+use Rattle.names.specs.Modes.{typeIn}
+use Rattle.names.specs.Rows.{foldNodes, rowIn, isUse, meantOf, noMeaning, noFault, notedIf}
 use Rattle.names.specs.declared.Meant.{Meant}
 use Rattle.names.specs.declared.Meant.the-variants.{Declared, Given, Nothing}
 use Rattle.types.specs.declared.Judgement.{Judgement}
@@ -29,16 +30,10 @@ takesSort k = cond (ltb k 22) 2 1
 unfoldable pub givesSort : ℕ → ℕ
 givesSort k = cond (ltb k 22) 2 (cond (ltb k 26) 1 2)
 
--- ---- what a name that means something is used as. ids, rows and marks are those of the program
+-- ---- what a name that means something is used as. rows are those of the program
 
-unfoldable pub wordIn : List ℕ → ℕ → ℕ → ℕ
-wordIn rows n k = getD rows (4 * n + k) 0
-
-unfoldable pub specifiedIn : List ℕ → List ℕ → ℕ → ℕ → ℕ
-specifiedIn ids marks q s = wordIn marks (findRow ids (markedIn n-specified q (identityIn ids s)) marks) 3
-
-unfoldable pub sortIn : List ℕ → List ℕ → List ℕ → ℕ → ℕ
-sortIn ids rows marks n = cond (eqb (wordIn rows n 0) n-formal) (specifiedIn ids marks (wordIn rows n 2) (wordIn rows n 1)) (wordIn rows n 3)
+unfoldable pub sortIn : List ℕ → ℕ → ℕ
+sortIn rows n = typeIn (rowIn rows n .sort)
 
 -- formals in a row
 unfoldable pub formalsFrom : List ℕ → ℕ
@@ -67,46 +62,46 @@ appliedAs t wants has = cond (eqb t 0) (judgement 0 true) (judgement t (not (eqb
 unfoldable pub plainlyAs : ℕ → ℕ → Judgement
 plainlyAs t has = cond (eqb has 0) (judgement t false) (judgement 0 true)
 
-unfoldable pub primaryOf : List ℕ → List ℕ → List ℕ → Meant → ℕ → Judgement
-primaryOf ids rows marks (Declared d) has =
-    cond (eqb (wordIn rows (d .number) 0) n-procedure) (appliedAs (sortIn ids rows marks (d .number)) (formalsIn rows (d .number)) has)
-    (plainlyAs (sortIn ids rows marks (d .number)) has)
-primaryOf ids rows marks (Given e) has = appliedAs (givenSort (e .number)) (givenFormals (e .number)) has
-primaryOf ids rows marks Nothing has = judgement 0 false
+unfoldable pub primaryOf : List ℕ → Meant → ℕ → Judgement
+primaryOf rows (Declared d) has =
+    cond (eqb (rowIn rows (d .number) .kind) n-procedure) (appliedAs (sortIn rows (d .number)) (formalsIn rows (d .number)) has)
+    (plainlyAs (sortIn rows (d .number)) has)
+primaryOf rows (Given e) has = appliedAs (givenSort (e .number)) (givenFormals (e .number)) has
+primaryOf rows Nothing has = judgement 0 false
 
 unfoldable pub miscalledOf : List ℕ → Meant → ℕ → Bool
-miscalledOf rows (Declared d) has = cond (eqb (wordIn rows (d .number) 0) n-procedure) (not (eqb (formalsIn rows (d .number)) has)) true
+miscalledOf rows (Declared d) has = cond (eqb (rowIn rows (d .number) .kind) n-procedure) (not (eqb (formalsIn rows (d .number)) has)) true
 miscalledOf rows (Given e) has = not (eqb (givenFormals (e .number)) has)
 miscalledOf rows Nothing has = false
 
 unfoldable pub givenWants : ℕ → ℕ → Want
 givenWants n k = cond (leb (givenFormals n) k) Anything (cond (eqb n 2 && eqb k 1) (Variable 1) (An 1))
 
-unfoldable pub wantOf : List ℕ → List ℕ → List ℕ → Meant → ℕ → Want
-wantOf ids rows marks (Declared d) k =
-    cond (eqb (wordIn rows (d .number) 0) n-procedure)
-    (cond (leb (formalsIn rows (d .number)) k) Anything (An (sortIn ids rows marks (d .number + 1 + k))))
+unfoldable pub wantOf : List ℕ → Meant → ℕ → Want
+wantOf rows (Declared d) k =
+    cond (eqb (rowIn rows (d .number) .kind) n-procedure)
+    (cond (leb (formalsIn rows (d .number)) k) Anything (An (sortIn rows (d .number + 1 + k))))
     Anything
-wantOf ids rows marks (Given e) k = givenWants (e .number) k
-wantOf ids rows marks Nothing k = Anything
+wantOf rows (Given e) k = givenWants (e .number) k
+wantOf rows Nothing k = Anything
 
-unfoldable pub variableOf : List ℕ → List ℕ → List ℕ → Meant → ℕ → Bool
-variableOf ids rows marks (Declared d) t =
-    cond (eqb (wordIn rows (d .number) 0) n-procedure) false (not (apartOf (sortIn ids rows marks (d .number)) t))
-variableOf ids rows marks (Given e) t = false
-variableOf ids rows marks Nothing t = true
+unfoldable pub variableOf : List ℕ → Meant → ℕ → Bool
+variableOf rows (Declared d) t =
+    cond (eqb (rowIn rows (d .number) .kind) n-procedure) false (not (apartOf (sortIn rows (d .number)) t))
+variableOf rows (Given e) t = false
+variableOf rows Nothing t = true
 
 -- s: the symbol of a procedure's name; the open bodies, innermost first
 unfoldable pub ownOf : List ℕ → ℕ → List ℕ → Judgement
 ownOf rows s [] = judgement 0 true
-ownOf rows s (b ∷ bs) = cond (eqb (wordIn rows b 1) s) (judgement (wordIn rows b 3) (eqb (wordIn rows b 3) 0)) (ownOf rows s bs)
+ownOf rows s (b ∷ bs) = cond (eqb (rowIn rows b .symbol) s) (judgement (sortIn rows b) (eqb (sortIn rows b) 0)) (ownOf rows s bs)
 
-unfoldable pub leftOf : List ℕ → List ℕ → List ℕ → List ℕ → Meant → Judgement
-leftOf ids rows marks bodies (Declared d) =
-    cond (eqb (wordIn rows (d .number) 0) n-procedure) (ownOf rows (wordIn rows (d .number) 1) bodies)
-    (judgement (sortIn ids rows marks (d .number)) false)
-leftOf ids rows marks bodies (Given e) = judgement 0 true
-leftOf ids rows marks bodies Nothing = judgement 0 false
+unfoldable pub leftOf : List ℕ → List ℕ → Meant → Judgement
+leftOf rows bodies (Declared d) =
+    cond (eqb (rowIn rows (d .number) .kind) n-procedure) (ownOf rows (rowIn rows (d .number) .symbol) bodies)
+    (judgement (sortIn rows (d .number)) false)
+leftOf rows bodies (Given e) = judgement 0 true
+leftOf rows bodies Nothing = judgement 0 false
 
 -- ---- what is known behind some nodes
 
@@ -132,7 +127,7 @@ pub record State : Type 0 where
 
 abbrev pub fresh : List ℕ → State
 fresh uses =
-    record { uses = uses; rows = 0; stack = []; calls = []; bodies = []; begun = false; left = 0; bare = 0; last = 8196; least = noFault }
+    record { uses = uses; rows = 0; stack = []; calls = []; bodies = []; begun = false; left = 0; bare = 0; last = noMeaning; least = noFault }
 
 unfoldable pub noted : Bool → ℕ → State → State
 noted w s st =
@@ -226,16 +221,16 @@ plainTyped k s a st =
     (cond (eqb k n-condition-end) (chosenAs s st)
     (cond (eqb k n-assign) (assignedAs s st) st)))))))
 
-module _ (ids rows marks : List ℕ) where
+module _ (rows : List ℕ) where
   -- a name without actuals: as a statement, or as a primary
   unfoldable pub namedAs : ℕ → ℕ → ℕ → State → State
   namedAs s depth u st =
       cond (eqb u 1) (noted (miscalledOf rows (meantOf (st .last)) 0) s st)
-      (withBare depth (judged (primaryOf ids rows marks (meantOf (st .last)) 0) s st))
+      (withBare depth (judged (primaryOf rows (meantOf (st .last)) 0) s st))
 
   unfoldable pub leftAs : ℕ → State → State
   leftAs s st =
-      let j = leftOf ids rows marks (st .bodies) (meantOf (st .last)) in
+      let j = leftOf rows (st .bodies) (meantOf (st .last)) in
       cond (st .begun) (noted (j .wrong || apartOf (st .left) (j .sort)) s st) (noted (j .wrong) s (withLeft true (j .sort) st))
 
   unfoldable pub useTyped : ℕ → ℕ → ℕ → ℕ → State → State
@@ -243,26 +238,26 @@ module _ (ids rows marks : List ℕ) where
       cond (eqb k n-use) (namedAs s a b st)
       (cond (eqb k n-call) (calledAs a st)
       (cond (eqb k n-left) (leftAs s st)
-      (noted (not (variableOf ids rows marks (meantOf (st .last)) 1)) s st)))
+      (noted (not (variableOf rows (meantOf (st .last)) 1)) s st)))
 
   -- an actual of type t is not what is wanted; alone: it is a name alone, which means m
   unfoldable pub misfitOf : Want → Bool → ℕ → Meant → Bool
   misfitOf (An want) alone t m = apartOf t want
-  misfitOf (Variable want) alone t m = not alone || not (variableOf ids rows marks m want)
+  misfitOf (Variable want) alone t m = not alone || not (variableOf rows m want)
   misfitOf Anything alone t m = false
 
   -- bare: the depth of the name, if one was the node before
   unfoldable pub actualIn : List Call → ℕ → ℕ → State → State
   actualIn [] bare s st = popped st
   actualIn (c ∷ l) bare s st =
-      noted (misfitOf (wantOf ids rows marks (meantOf (c .meaning)) (c .count)) (eqb bare (c .depth + 1)) (topOf (st .stack)) (meantOf (st .last))) s
+      noted (misfitOf (wantOf rows (meantOf (c .meaning)) (c .count)) (eqb bare (c .depth + 1)) (topOf (st .stack)) (meantOf (st .last))) s
       (popped (withCalls (oneMore c ∷ l) st))
 
   unfoldable pub callEnded : List Call → ℕ → ℕ → State → State
   callEnded [] s u st = st
   callEnded (c ∷ l) s u st =
       cond (eqb u 1) (noted (miscalledOf rows (meantOf (c .meaning)) (c .count)) s (withCalls l st))
-      (judged (primaryOf ids rows marks (meantOf (c .meaning)) (c .count)) s (withCalls l st))
+      (judged (primaryOf rows (meantOf (c .meaning)) (c .count)) s (withCalls l st))
 
   -- what a node adds
   unfoldable pub typeNode : ℕ → ℕ → ℕ → ℕ → State → State

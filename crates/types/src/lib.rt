@@ -1,7 +1,14 @@
 // Paper 01, "Names and types": the type faults of a program.
-pub mod sorts; // types by number, and the operators
-pub mod meanings; // what a name that means something is used as
-pub mod walking; // the nodes with a stack of types
+use names::passes::first_rows;
+use names::passes::front;
+ghost use mathlib.Core.Path.{_≡_};
+ghost use Prim.Native.Nat.{_*_};
+ghost use lib.ListN.{take};
+ghost use Rattle.types.specs.Passes.{typedOf};
+
+mod sorts; // types by number, and the operators
+mod meanings; // what a name that means something is used as
+mod walking; // the nodes with a stack of types
 
 // A type, 0 where it has none, and whether the name is at fault.
 pub struct Judgement {
@@ -30,4 +37,23 @@ pub struct Seen {
     pub bare: u16,
     pub last: u16,
     pub least: usize,
+}
+
+// The least type fault of a program, for any words: of each array how much is in use, of the rows how many; what is past that is
+// cut off.
+pub fn check(
+    nodes: &[u16; 32768],
+    count: usize,
+    uses: &[u16; 8192],
+    used: usize,
+    rows: &[u16; 32768],
+    declared: usize,
+) -> usize
+    ensures { λ r. ⌜ r ≡ typedOf (take (4 * declared) (now (rows .entry))) (take used (now (uses .entry))) (take count (now (nodes .entry))) ⌝ }
+{
+    walking::check(
+        front(nodes, count),
+        front(uses, used),
+        first_rows(rows, declared),
+    )
 }

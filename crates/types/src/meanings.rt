@@ -6,48 +6,28 @@ use answers::Declaration;
 use answers::Environment;
 use grammar::nodes;
 use names::Meant;
-use names::Sought;
-use names::rows::find;
-use names::rows::identity_of;
 ghost use mathlib.Core.Path.{_≡_};
 ghost use Prim.Native.Nat.{_≤_, _<_};
+ghost use lib.Dec.{eqb};
 ghost use lib.ListN.{length};
-ghost use Rattle.names.specs.Rows.{opensOf};
-ghost use Rattle.types.specs.Passes.{wordIn, specifiedIn, sortIn, formalsIn, givenSort, givenFormals, appliedAs, plainlyAs, primaryOf, miscalledOf, givenWants, wantOf, variableOf, ownOf, leftOf};
+ghost use Rattle.names.specs.Rows.{rowIn, opensOf};
+ghost use Rattle.types.specs.Passes.{sortIn, formalsIn, givenSort, givenFormals, appliedAs, plainlyAs, primaryOf, miscalledOf, givenWants, wantOf, variableOf, ownOf, leftOf};
 ghost use Rattle.types.specs.Model.{MeantWithin};
 
-// A word of a row.
-fn word(rows: &[u16], n: usize, k: usize) -> u16
-    requires { ⌜ (n < 80000) × (k < 4) ⌝ }
-    ensures { λ r. ⌜ r ≡ wordIn (now (rows .entry)) n k ⌝ }
-{
-    let at = 4 * n + k;
-    if at < rows.len() { rows[at] } else { 0 }
-}
-
-// The type that specifications give a formal.
-fn specified(marks: &[u16], ids: &[u16; 2048], scope: u16, symbol: u16) -> u16
-    requires { ⌜ length (now marks) ≤ 32768 ⌝ }
-    ensures { λ r. ⌜ r ≡ specifiedIn (now (ids .entry)) (now (marks .entry)) scope symbol ⌝ }
-{
-    let want = Sought {
-        low: nodes::SPECIFIED,
-        high: nodes::SPECIFIED,
-        scope,
-        id: identity_of(ids, symbol),
-    };
-    word(marks, find(marks, ids, want), 3)
-}
-
 // The type of a declaration or formal.
-fn sort_of(rows: &[u16], marks: &[u16], ids: &[u16; 2048], d: Declaration) -> u16
-    requires { ⌜ (length (now marks) ≤ 32768) × (d .number < 80000) ⌝ }
-    ensures { λ r. ⌜ r ≡ sortIn (now (ids .entry)) (now (rows .entry)) (now (marks .entry)) (d .number) ⌝ }
+fn sort_of(rows: &[u16], d: Declaration) -> u16
+    ensures { λ r. ⌜ r ≡ sortIn (now (rows .entry)) (d .number) ⌝ }
 {
-    if word(rows, d.number, 0) == nodes::FORMAL {
-        return specified(marks, ids, word(rows, d.number, 2), word(rows, d.number, 1));
-    }
-    word(rows, d.number, 3)
+    let r = names::row_at(rows, d);
+    names::sort(r.sort)
+}
+
+// Whether it is of a kind.
+fn is_kind(rows: &[u16], d: Declaration, kind: u16) -> bool
+    ensures { λ r. ⌜ r ≡ eqb (rowIn (now (rows .entry)) (d .number) .kind) kind ⌝ }
+{
+    let r = names::row_at(rows, d);
+    r.kind == kind
 }
 
 // How many formals stand behind a procedure.
@@ -58,7 +38,8 @@ fn formals(rows: &[u16], d: Declaration) -> usize
 {
     let mut n = 0;
     while d.number + 1 + n < rows.len() / 4 {
-        if word(rows, d.number + 1 + n, 0) != nodes::FORMAL {
+        let at = d.number + 1 + n;
+        if !is_kind(rows, Declaration { number: at }, nodes::FORMAL) {
             return n;
         }
         n += 1;
@@ -116,20 +97,14 @@ fn plainly(sort: u16, has: usize) -> Judgement
 }
 
 // A name with `has` actuals as a primary.
-pub fn in_expression(
-    rows: &[u16],
-    marks: &[u16],
-    ids: &[u16; 2048],
-    m: Meant,
-    has: usize,
-) -> Judgement
-    requires { ⌜ (length (now rows) ≤ 32768) × (length (now marks) ≤ 32768) × MeantWithin m ⌝ }
-    ensures { λ r. ⌜ r ≡ primaryOf (now (ids .entry)) (now (rows .entry)) (now (marks .entry)) m has ⌝ }
+pub fn in_expression(rows: &[u16], m: Meant, has: usize) -> Judgement
+    requires { ⌜ (length (now rows) ≤ 32768) × MeantWithin m ⌝ }
+    ensures { λ r. ⌜ r ≡ primaryOf (now (rows .entry)) m has ⌝ }
 {
     match m {
         Meant::Declared(d) => {
-            let sort = sort_of(rows, marks, ids, d);
-            if word(rows, d.number, 0) == nodes::PROCEDURE {
+            let sort = sort_of(rows, d);
+            if is_kind(rows, d, nodes::PROCEDURE) {
                 return applied(sort, formals(rows, d), has);
             }
             plainly(sort, has)
@@ -149,7 +124,7 @@ pub fn miscalled(rows: &[u16], m: Meant, has: usize) -> bool
 {
     match m {
         Meant::Declared(d) => {
-            if word(rows, d.number, 0) == nodes::PROCEDURE {
+            if is_kind(rows, d, nodes::PROCEDURE) {
                 return formals(rows, d) != has;
             }
             true
@@ -176,22 +151,20 @@ fn given_wants(e: Environment, k: usize) -> Want
 }
 
 // What is wanted of actual k of a name.
-pub fn wanted(rows: &[u16], marks: &[u16], ids: &[u16; 2048], m: Meant, k: usize) -> Want
-    requires { ⌜ (length (now rows) ≤ 32768) × (length (now marks) ≤ 32768) × MeantWithin m ⌝ }
-    ensures { λ r. ⌜ r ≡ wantOf (now (ids .entry)) (now (rows .entry)) (now (marks .entry)) m k ⌝ }
+pub fn wanted(rows: &[u16], m: Meant, k: usize) -> Want
+    requires { ⌜ (length (now rows) ≤ 32768) × MeantWithin m ⌝ }
+    ensures { λ r. ⌜ r ≡ wantOf (now (rows .entry)) m k ⌝ }
 {
     match m {
         Meant::Declared(d) => {
-            if word(rows, d.number, 0) != nodes::PROCEDURE {
+            if !is_kind(rows, d, nodes::PROCEDURE) {
                 return Want::Nothing;
             }
             if formals(rows, d) <= k {
                 return Want::Nothing;
             }
-            let f = Declaration {
-                number: d.number + 1 + k,
-            };
-            Want::An(sort_of(rows, marks, ids, f))
+            let at = d.number + 1 + k;
+            Want::An(sort_of(rows, Declaration { number: at }))
         }
         Meant::Given(e) => given_wants(e, k),
         Meant::Nothing => Want::Nothing,
@@ -199,33 +172,36 @@ pub fn wanted(rows: &[u16], marks: &[u16], ids: &[u16; 2048], m: Meant, k: usize
 }
 
 // Whether a name is a variable or formal of a type.
-pub fn is_variable(rows: &[u16], marks: &[u16], ids: &[u16; 2048], m: Meant, sort: u16) -> bool
-    requires { ⌜ (length (now rows) ≤ 32768) × (length (now marks) ≤ 32768) × MeantWithin m ⌝ }
-    ensures { λ r. ⌜ r ≡ variableOf (now (ids .entry)) (now (rows .entry)) (now (marks .entry)) m sort ⌝ }
+pub fn is_variable(rows: &[u16], m: Meant, sort: u16) -> bool
+    requires { ⌜ (length (now rows) ≤ 32768) × MeantWithin m ⌝ }
+    ensures { λ r. ⌜ r ≡ variableOf (now (rows .entry)) m sort ⌝ }
 {
     match m {
         Meant::Declared(d) => {
-            if word(rows, d.number, 0) == nodes::PROCEDURE {
+            if is_kind(rows, d, nodes::PROCEDURE) {
                 return false;
             }
-            !sorts::apart(sort_of(rows, marks, ids, d), sort)
+            !sorts::apart(sort_of(rows, d), sort)
         }
         Meant::Given(_) => false,
         Meant::Nothing => true,
     }
 }
 
-// The type of the nearest open body that is the procedure's own, as what a left part is. `count` are open.
-fn own_result(rows: &[u16], d: Declaration, bodies: &[u16], count: usize) -> Judgement
-    requires { ⌜ (d .number < 65536) × (count ≤ length (now bodies)) ⌝ }
-    ensures { λ r. ⌜ r ≡ ownOf (now (rows .entry)) (wordIn (now (rows .entry)) (d .number) 1) (opensOf count (now (bodies .entry))) ⌝ }
+// The type of the nearest open body that is the procedure's own, whose name has a symbol, as what a left part is. `count` are open.
+fn own_result(rows: &[u16], symbol: u16, bodies: &[u16], count: usize) -> Judgement
+    requires { ⌜ count ≤ length (now bodies) ⌝ }
+    ensures { λ r. ⌜ r ≡ ownOf (now (rows .entry)) symbol (opensOf count (now (bodies .entry))) ⌝ }
 {
     let mut n = count;
     while 0 < n {
         n -= 1;
-        let b = bodies[n] as usize;
-        if word(rows, b, 1) == word(rows, d.number, 1) {
-            let sort = word(rows, b, 3);
+        let b = Declaration {
+            number: bodies[n] as usize,
+        };
+        let r = names::row_at(rows, b);
+        if r.symbol == symbol {
+            let sort = names::sort(r.sort);
             return Judgement {
                 sort,
                 wrong: sort == sorts::NONE,
@@ -239,24 +215,18 @@ fn own_result(rows: &[u16], d: Declaration, bodies: &[u16], count: usize) -> Jud
 }
 
 // A name as a left part.
-pub fn as_left(
-    rows: &[u16],
-    marks: &[u16],
-    ids: &[u16; 2048],
-    m: Meant,
-    bodies: &[u16],
-    count: usize,
-) -> Judgement
-    requires { ⌜ (length (now rows) ≤ 32768) × (length (now marks) ≤ 32768) × MeantWithin m × (count ≤ length (now bodies)) ⌝ }
-    ensures { λ r. ⌜ r ≡ leftOf (now (ids .entry)) (now (rows .entry)) (now (marks .entry)) (opensOf count (now (bodies .entry))) m ⌝ }
+pub fn as_left(rows: &[u16], m: Meant, bodies: &[u16], count: usize) -> Judgement
+    requires { ⌜ (length (now rows) ≤ 32768) × MeantWithin m × (count ≤ length (now bodies)) ⌝ }
+    ensures { λ r. ⌜ r ≡ leftOf (now (rows .entry)) (opensOf count (now (bodies .entry))) m ⌝ }
 {
     match m {
         Meant::Declared(d) => {
-            if word(rows, d.number, 0) == nodes::PROCEDURE {
-                return own_result(rows, d, bodies, count);
+            let r = names::row_at(rows, d);
+            if r.kind == nodes::PROCEDURE {
+                return own_result(rows, r.symbol, bodies, count);
             }
             Judgement {
-                sort: sort_of(rows, marks, ids, d),
+                sort: names::sort(r.sort),
                 wrong: false,
             }
         }

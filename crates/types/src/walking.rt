@@ -6,7 +6,8 @@ use crate::sorts;
 use answers::Answer;
 use grammar::nodes;
 use names::faults;
-use names::uses::meant;
+use names::meanings::NOTHING;
+use names::meanings::meant;
 ghost use mathlib.Core.Path.{_≡_};
 ghost use mathlib.Core.List.{List, _∷_};
 ghost use Prim.Native.Nat.{ℕ, _+_, _*_, _≤_, _<_};
@@ -130,18 +131,16 @@ fn name(
     depth: u16,
     as_statement: u16,
     rows: &[u16],
-    marks: &[u16],
-    ids: &[u16; 2048],
     stack: &mut [u16; 8192],
 ) -> Seen
-    requires { ⌜ (t .depth < 8192) × (length (now rows) ≤ 32768) × (length (now marks) ≤ 32768) ⌝ }
-    ensures { λ r. ⌜ ((u c b : List ℕ) → see r u (now (stack .exit)) c b ≡ namedAs (now (ids .entry)) (now (rows .entry)) (now (marks .entry)) symbol depth as_statement (see t u (now (stack .entry)) c b)) ⌝ }
+    requires { ⌜ (t .depth < 8192) × (length (now rows) ≤ 32768) ⌝ }
+    ensures { λ r. ⌜ ((u c b : List ℕ) → see r u (now (stack .exit)) c b ≡ namedAs (now (rows .entry)) symbol depth as_statement (see t u (now (stack .entry)) c b)) ⌝ }
 {
     let m = meant(t.last);
     if as_statement == 1 {
         return note(t, meanings::miscalled(rows, m, 0), symbol);
     }
-    let j = meanings::in_expression(rows, marks, ids, m, 0);
+    let j = meanings::in_expression(rows, m, 0);
     let mut p = push(note(t, j.wrong, symbol), j.sort, stack);
     p.bare = depth;
     p
@@ -201,17 +200,9 @@ fn is_alone(calls: &[u16], n: usize, bare: u16) -> bool
 }
 
 // Whether an actual is not what is wanted; alone: it is a name alone.
-fn misfit(
-    t: Seen,
-    wanted: Want,
-    alone: bool,
-    rows: &[u16],
-    marks: &[u16],
-    ids: &[u16; 2048],
-    stack: &[u16; 8192],
-) -> bool
-    requires { ⌜ (t .depth ≤ 8192) × (length (now rows) ≤ 32768) × (length (now marks) ≤ 32768) ⌝ }
-    ensures { λ r. ⌜ r ≡ misfitOf (now (ids .entry)) (now (rows .entry)) (now (marks .entry)) wanted alone (topOf (opensOf (t .depth) (now (stack .entry)))) (meantOf (t .last)) ⌝ }
+fn misfit(t: Seen, wanted: Want, alone: bool, rows: &[u16], stack: &[u16; 8192]) -> bool
+    requires { ⌜ (t .depth ≤ 8192) × (length (now rows) ≤ 32768) ⌝ }
+    ensures { λ r. ⌜ r ≡ misfitOf (now (rows .entry)) wanted alone (topOf (opensOf (t .depth) (now (stack .entry)))) (meantOf (t .last)) ⌝ }
 {
     match wanted {
         Want::An(sort) => sorts::apart(top(t, stack), sort),
@@ -219,7 +210,7 @@ fn misfit(
             if !alone {
                 return true;
             }
-            !meanings::is_variable(rows, marks, ids, meant(t.last), sort)
+            !meanings::is_variable(rows, meant(t.last), sort)
         }
         Want::Nothing => false,
     }
@@ -231,13 +222,11 @@ fn actual(
     bare: u16,
     symbol: u16,
     rows: &[u16],
-    marks: &[u16],
-    ids: &[u16; 2048],
     stack: &[u16; 8192],
     calls: &mut [u16; 24576],
 ) -> Seen
-    requires { ⌜ (t .depth ≤ 8192) × (t .calls ≤ 8192) × CountsWithin (callsOf (t .calls) (now calls)) 8191 × (length (now rows) ≤ 32768) × (length (now marks) ≤ 32768) ⌝ }
-    ensures { λ r. ⌜ ((u b : List ℕ) → see r u (now (stack .entry)) (now (calls .exit)) b ≡ actualIn (now (ids .entry)) (now (rows .entry)) (now (marks .entry)) (callsOf (t .calls) (now (calls .entry))) bare symbol (see t u (now (stack .entry)) (now (calls .entry)) b)) ⌝ }
+    requires { ⌜ (t .depth ≤ 8192) × (t .calls ≤ 8192) × CountsWithin (callsOf (t .calls) (now calls)) 8191 × (length (now rows) ≤ 32768) ⌝ }
+    ensures { λ r. ⌜ ((u b : List ℕ) → see r u (now (stack .entry)) (now (calls .exit)) b ≡ actualIn (now (rows .entry)) (callsOf (t .calls) (now (calls .entry))) bare symbol (see t u (now (stack .entry)) (now (calls .entry)) b)) ⌝ }
 {
     if t.calls == 0 {
         return pop(t);
@@ -245,9 +234,9 @@ fn actual(
     let n = t.calls - 1;
     let m = meant(calls[3 * n]);
     let has = actuals(calls, n);
-    let w = meanings::wanted(rows, marks, ids, m, has);
+    let w = meanings::wanted(rows, m, has);
     let alone = is_alone(calls, n, bare);
-    let wrong = misfit(t, w, alone, rows, marks, ids, stack);
+    let wrong = misfit(t, w, alone, rows, stack);
     one_more(calls, n);
     note(pop(t), wrong, symbol)
 }
@@ -258,13 +247,11 @@ fn call_end(
     symbol: u16,
     as_statement: u16,
     rows: &[u16],
-    marks: &[u16],
-    ids: &[u16; 2048],
     stack: &mut [u16; 8192],
     calls: &[u16; 24576],
 ) -> Seen
-    requires { ⌜ (t .depth < 8192) × (t .calls ≤ 8192) × (length (now rows) ≤ 32768) × (length (now marks) ≤ 32768) ⌝ }
-    ensures { λ r. ⌜ ((u b : List ℕ) → see r u (now (stack .exit)) (now (calls .entry)) b ≡ callEnded (now (ids .entry)) (now (rows .entry)) (now (marks .entry)) (callsOf (t .calls) (now (calls .entry))) symbol as_statement (see t u (now (stack .entry)) (now (calls .entry)) b)) ⌝ }
+    requires { ⌜ (t .depth < 8192) × (t .calls ≤ 8192) × (length (now rows) ≤ 32768) ⌝ }
+    ensures { λ r. ⌜ ((u b : List ℕ) → see r u (now (stack .exit)) (now (calls .entry)) b ≡ callEnded (now (rows .entry)) (callsOf (t .calls) (now (calls .entry))) symbol as_statement (see t u (now (stack .entry)) (now (calls .entry)) b)) ⌝ }
 {
     if t.calls == 0 {
         return t;
@@ -276,23 +263,16 @@ fn call_end(
     if as_statement == 1 {
         return note(t, meanings::miscalled(rows, m, has), symbol);
     }
-    let j = meanings::in_expression(rows, marks, ids, m, has);
+    let j = meanings::in_expression(rows, m, has);
     push(note(t, j.wrong, symbol), j.sort, stack)
 }
 
 // A left part: "or is not of the first one's type".
-fn left(
-    mut t: Seen,
-    symbol: u16,
-    rows: &[u16],
-    marks: &[u16],
-    ids: &[u16; 2048],
-    bodies: &[u16; 8192],
-) -> Seen
-    requires { ⌜ (t .bodies ≤ 8192) × (length (now rows) ≤ 32768) × (length (now marks) ≤ 32768) ⌝ }
-    ensures { λ r. ⌜ ((u s c : List ℕ) → see r u s c (now (bodies .entry)) ≡ leftAs (now (ids .entry)) (now (rows .entry)) (now (marks .entry)) symbol (see t u s c (now (bodies .entry)))) ⌝ }
+fn left(mut t: Seen, symbol: u16, rows: &[u16], bodies: &[u16; 8192]) -> Seen
+    requires { ⌜ (t .bodies ≤ 8192) × (length (now rows) ≤ 32768) ⌝ }
+    ensures { λ r. ⌜ ((u s c : List ℕ) → see r u s c (now (bodies .entry)) ≡ leftAs (now (rows .entry)) symbol (see t u s c (now (bodies .entry)))) ⌝ }
 {
-    let j = meanings::as_left(rows, marks, ids, meant(t.last), bodies, t.bodies);
+    let j = meanings::as_left(rows, meant(t.last), bodies, t.bodies);
     if t.begun {
         if j.wrong {
             return note(t, true, symbol);
@@ -363,23 +343,21 @@ fn use_node(
     two: u16,
     uses: &[u16],
     rows: &[u16],
-    marks: &[u16],
-    ids: &[u16; 2048],
     stack: &mut [u16; 8192],
     calls: &mut [u16; 24576],
     bodies: &[u16; 8192],
 ) -> Seen
-    requires { ⌜ (t .depth < 8192) × (t .calls < 8192) × (t .bodies ≤ 8192) × (length (now rows) ≤ 32768) × (length (now marks) ≤ 32768) ⌝ }
-    ensures { λ r. ⌜ see r (now (uses .entry)) (now (stack .exit)) (now (calls .exit)) (now (bodies .entry)) ≡ useTyped (now (ids .entry)) (now (rows .entry)) (now (marks .entry)) kind symbol one two (nextUse (drop (t .uses) (now (uses .entry))) (see t (now (uses .entry)) (now (stack .entry)) (now (calls .entry)) (now (bodies .entry)))) ⌝ }
+    requires { ⌜ (t .depth < 8192) × (t .calls < 8192) × (t .bodies ≤ 8192) × (length (now rows) ≤ 32768) ⌝ }
+    ensures { λ r. ⌜ see r (now (uses .entry)) (now (stack .exit)) (now (calls .exit)) (now (bodies .entry)) ≡ useTyped (now (rows .entry)) kind symbol one two (nextUse (drop (t .uses) (now (uses .entry))) (see t (now (uses .entry)) (now (stack .entry)) (now (calls .entry)) (now (bodies .entry)))) ⌝ }
 {
     let n = next_use(t, uses);
     match kind {
-        nodes::USE => name(n, symbol, one, two, rows, marks, ids, stack),
+        nodes::USE => name(n, symbol, one, two, rows, stack),
         nodes::CALL => call(n, one, calls),
-        nodes::LEFT => left(n, symbol, rows, marks, ids, bodies),
+        nodes::LEFT => left(n, symbol, rows, bodies),
         _ => note(
             n,
-            !meanings::is_variable(rows, marks, ids, meant(n.last), sorts::INTEGER),
+            !meanings::is_variable(rows, meant(n.last), sorts::INTEGER),
             symbol,
         ),
     }
@@ -407,36 +385,21 @@ fn node(
     two: u16,
     uses: &[u16],
     rows: &[u16],
-    marks: &[u16],
-    ids: &[u16; 2048],
     stack: &mut [u16; 8192],
     calls: &mut [u16; 24576],
     bodies: &mut [u16; 8192],
 ) -> Seen
-    requires { ⌜ Within 8191 (see t (now uses) (now stack) (now calls) (now bodies)) × (length (now rows) ≤ 32768) × (length (now marks) ≤ 32768) ⌝ }
-    ensures { λ r. ⌜ see r (now (uses .entry)) (now (stack .exit)) (now (calls .exit)) (now (bodies .exit)) ≡ typeNode (now (ids .entry)) (now (rows .entry)) (now (marks .entry)) kind symbol one two (see t (now (uses .entry)) (now (stack .entry)) (now (calls .entry)) (now (bodies .entry))) ⌝ }
+    requires { ⌜ Within 8191 (see t (now uses) (now stack) (now calls) (now bodies)) × (length (now rows) ≤ 32768) ⌝ }
+    ensures { λ r. ⌜ see r (now (uses .entry)) (now (stack .exit)) (now (calls .exit)) (now (bodies .exit)) ≡ typeNode (now (rows .entry)) kind symbol one two (see t (now (uses .entry)) (now (stack .entry)) (now (calls .entry)) (now (bodies .entry))) ⌝ }
 {
     let bare = t.bare;
     t.bare = 0;
     if is_use(kind) {
-        return use_node(
-            t,
-            kind,
-            symbol,
-            one,
-            two,
-            uses,
-            rows,
-            marks,
-            ids,
-            stack,
-            calls,
-            bodies,
-        );
+        return use_node(t, kind, symbol, one, two, uses, rows, stack, calls, bodies);
     }
     match kind {
-        nodes::ACTUAL => actual(t, bare, symbol, rows, marks, ids, stack, calls),
-        nodes::CALL_END => call_end(t, symbol, two, rows, marks, ids, stack, calls),
+        nodes::ACTUAL => actual(t, bare, symbol, rows, stack, calls),
+        nodes::CALL_END => call_end(t, symbol, two, rows, stack, calls),
         nodes::VARIABLE | nodes::FORMAL => {
             t.rows += 1;
             t
@@ -452,14 +415,12 @@ fn walk(
     nodes: &[u16],
     uses: &[u16],
     rows: &[u16],
-    marks: &[u16],
-    ids: &[u16; 2048],
     stack: &mut [u16; 8192],
     calls: &mut [u16; 24576],
     bodies: &mut [u16; 8192],
 ) -> usize
-    requires { ⌜ (length (now nodes) ≤ 32768) × (length (now rows) ≤ 32768) × (length (now marks) ≤ 32768) ⌝ }
-    ensures { λ r. ⌜ r ≡ typedOf (now (ids .entry)) (now (rows .entry)) (now (marks .entry)) (now (uses .entry)) (now (nodes .entry)) ⌝ }
+    requires { ⌜ (length (now nodes) ≤ 32768) × (length (now rows) ≤ 32768) ⌝ }
+    ensures { λ r. ⌜ r ≡ typedOf (now (rows .entry)) (now (uses .entry)) (now (nodes .entry)) ⌝ }
 {
     let mut t = Seen {
         uses: 0,
@@ -470,7 +431,7 @@ fn walk(
         begun: false,
         left: 0,
         bare: 0,
-        last: 8196,
+        last: NOTHING,
         least: faults::NONE,
     };
     let mut i = 0;
@@ -484,8 +445,6 @@ fn walk(
             nodes[at + 3],
             uses,
             rows,
-            marks,
-            ids,
             stack,
             calls,
             bodies,
@@ -496,21 +455,12 @@ fn walk(
 }
 
 // The least type fault of a program, of which the nodes, the uses and the declarations are lent.
-pub fn check(nodes: &[u16], uses: &[u16], rows: &[u16], marks: &[u16], ids: &[u16; 2048]) -> usize
-    requires { ⌜ (length (now nodes) ≤ 32768) × (length (now rows) ≤ 32768) × (length (now marks) ≤ 32768) ⌝ }
-    ensures { λ r. ⌜ r ≡ typedOf (now (ids .entry)) (now (rows .entry)) (now (marks .entry)) (now (uses .entry)) (now (nodes .entry)) ⌝ }
+pub fn check(nodes: &[u16], uses: &[u16], rows: &[u16]) -> usize
+    requires { ⌜ (length (now nodes) ≤ 32768) × (length (now rows) ≤ 32768) ⌝ }
+    ensures { λ r. ⌜ r ≡ typedOf (now (rows .entry)) (now (uses .entry)) (now (nodes .entry)) ⌝ }
 {
     let mut stack = [0u16; 8192];
     let mut calls = [0u16; 24576];
     let mut bodies = [0u16; 8192];
-    walk(
-        nodes,
-        uses,
-        rows,
-        marks,
-        ids,
-        &mut stack,
-        &mut calls,
-        &mut bodies,
-    )
+    walk(nodes, uses, rows, &mut stack, &mut calls, &mut bodies)
 }

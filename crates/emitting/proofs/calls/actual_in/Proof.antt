@@ -1,4 +1,4 @@
--- `translating::calls::actual_in` meets its contract: the call has one actual more, and what it awaits next is known.
+-- `emitting::calls::actual_in` meets its contract: the call has one actual more, and what it awaits next is known.
 -- Assumes nothing.
 use mathlib.Core.Path.{ap}
 use mathlib.Core.Bool.{cond, _&&_}

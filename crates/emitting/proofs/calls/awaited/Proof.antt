@@ -1,4 +1,4 @@
--- `translating::calls::awaited` meets its contract: by the three tests.
+-- `emitting::calls::awaited` meets its contract: by the three tests.
 -- Assumes nothing.
 use borrow.Author.Tests.{eq-eqb, ne-eqb}
 use Rattle.emitting.proofs.calls.awaited.Statement.{statement}

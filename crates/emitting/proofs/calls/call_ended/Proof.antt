@@ -1,4 +1,4 @@
--- `translating::calls::call_ended` meets its contract: by the kind of what is called, and of the environment by its number.
+-- `emitting::calls::call_ended` meets its contract: by the kind of what is called, and of the environment by its number.
 -- Assumes nothing.
 use mathlib.Core.Path.{ap, _∙_}
 use borrow.Author.Tests.{eq-eqb, ne-eqb}

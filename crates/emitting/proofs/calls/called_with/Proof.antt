@@ -1,4 +1,4 @@
--- `translating::calls::called_with` meets its contract: the three parts of the operand are the model's.
+-- `emitting::calls::called_with` meets its contract: the three parts of the operand are the model's.
 -- Assumes nothing.
 use Rattle.emitting.specs.Emission.{calledWith}
 use borrow.Author.Needs.{needs}

@@ -1,4 +1,4 @@
--- `translating::calls::calling` meets its contract: a result's cell, then the call is open.
+-- `emitting::calls::calling` meets its contract: a result's cell, then the call is open.
 -- Assumes nothing.
 use mathlib.Core.Path.{ap, _∙_}
 use Rattle.emitting.specs.Emission.{calling, pushed}

@@ -1,4 +1,4 @@
--- `translating::calls::cell_of` meets its contract: by the test, from the parts of the word.
+-- `emitting::calls::cell_of` meets its contract: by the test, from the parts of the word.
 -- Assumes nothing.
 use borrow.Author.Tests.{eq-eqb, ne-eqb}
 use Rattle.emitting.specs.Emission.{cellOf}

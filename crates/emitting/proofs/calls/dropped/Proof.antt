@@ -1,4 +1,4 @@
--- `translating::calls::dropped` meets its contract: by the test.
+-- `emitting::calls::dropped` meets its contract: by the test.
 -- Assumes nothing.
 use borrow.Author.Tests.{eq-eqb, ne-eqb}
 use Rattle.emitting.specs.Emission.{dropped}

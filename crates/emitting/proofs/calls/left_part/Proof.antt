@@ -1,4 +1,4 @@
--- `translating::calls::left_part` meets its contract: its cell is kept, and one left part more is counted.
+-- `emitting::calls::left_part` meets its contract: its cell is kept, and one left part more is counted.
 -- Assumes nothing.
 use mathlib.Core.Path.{ap}
 use Prim.Native.Nat.{_+_}

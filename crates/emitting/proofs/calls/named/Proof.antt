@@ -1,4 +1,4 @@
--- `translating::calls::named` meets its contract: by the kind of what the name means.
+-- `emitting::calls::named` meets its contract: by the kind of what the name means.
 -- Assumes nothing.
 use mathlib.Core.Path.{ap, _∙_}
 use borrow.Author.Tests.{eq-eqb, ne-eqb}
@@ -31,7 +31,7 @@ same-length-2 c = search needs
 
 returns-2 : tie.Need-returns-2
 unfolding named
-returns-2 c = λ vs ks us op ah en. simp (ne-eqb _ _ (c .before .before .before .before .before .before .before .before .before .if1 .left), eq-eqb _ _ (c .before .before .before .before .before .before .before .before .if2 .taken)) (c .before .before .called-with .ensures vs ks us op ah en ∙ ap (calledWith vs (c .before .before .before .before .before .before .before .before .before .before .before .before .before .args .layout .now) ks (c .before .before .before .before .before .before .before .before .before .before .before .before .before .args .entries .now) (c .before .before .before .before .before .before .before .before .before .before .before .before .before .args .k) (c .before .before .before .before .before .before .before .before .before .before .before .before .before .args .m) 0 (c .before .before .before .before .before .before .before .before .before .before .before .before .before .args .u) (c .before .before .before .before .before .before .before .before .before .before .before .before .before .args .place)) (c .before .before .before .before .before .before .result-for .ensures .0 vs ks (c .before .before .before .before .before .before .before .before .before .before .before .before .before .args .entries .now) us op ah en))
+returns-2 c = λ vs ks us op ah en. simp (ne-eqb _ _ (c .before .before .before .before .before .before .before .before .before .if1 .left), eq-eqb _ _ (c .before .before .before .before .before .before .before .before .if2 .taken)) (c .before .before .called-with .ensures vs ks us op ah en ∙ ap (calledWith vs (c .before .before .before .before .before .before .before .before .before .before .before .before .before .args .layout .now) ks (c .before .before .before .before .before .before .before .before .before .before .before .before .before .args .entries .now) (c .before .before .before .before .before .before .before .before .before .before .before .before .before .args .k) (c .before .before .before .before .before .before .before .before .before .before .before .before .before .args .m) 0 (c .before .before .before .before .before .before .before .before .before .before .before .before .before .args .u) (c .before .before .before .before .before .before .before .before .before .before .before .before .before .args .place .at)) (c .before .before .before .before .before .before .result-for .ensures .0 vs ks (c .before .before .before .before .before .before .before .before .before .before .before .before .before .args .entries .now) us op ah en))
 
 cell-of-requires : tie.Need-cell-of-requires
 cell-of-requires c κs = search needs

@@ -1,4 +1,4 @@
--- `translating::calls::named_or` meets its contract: by what is awaited.
+-- `emitting::calls::named_or` meets its contract: by what is awaited.
 -- Assumes nothing.
 use borrow.Author.Tests.{eq-eqb, ne-eqb}
 use Rattle.emitting.specs.Emission.{namedOr, withVariable}

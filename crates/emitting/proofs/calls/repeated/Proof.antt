@@ -1,4 +1,4 @@
--- `translating::calls::repeated` meets its contract: it is open, and one address more lies ahead.
+-- `emitting::calls::repeated` meets its contract: it is open, and one address more lies ahead.
 -- Assumes nothing.
 use mathlib.Core.Path.{ap, _∙_}
 use Rattle.emitting.specs.Emission.{repeated, withSlot}

@@ -1,4 +1,4 @@
--- `translating::calls::result_for` meets its contract: by the test.
+-- `emitting::calls::result_for` meets its contract: by the test.
 -- Assumes nothing.
 use mathlib.Core.Path.{refl, sym, _∙_}
 use borrow.Author.Tests.{eq-eqb, ne-eqb}

@@ -1,4 +1,4 @@
--- `translating::calls::result_of` meets its contract: by the test.
+-- `emitting::calls::result_of` meets its contract: by the test.
 -- Assumes nothing.
 use borrow.Author.Tests.{eq-eqb, ne-eqb}
 use Rattle.emitting.specs.Emission.{resultOf}

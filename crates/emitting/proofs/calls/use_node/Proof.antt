@@ -1,21 +1,18 @@
--- `translating::calls::use_node` meets its contract: what the next use means, then the arm of the node's kind.
+-- `emitting::calls::use_node` meets its contract: what the next use means, then the arm of the node's kind.
 -- Assumes nothing.
 use mathlib.Core.Path.{ap, _∙_}
 use borrow.Author.Tests.{ne-eqb}
 use Prim.Native.Nat.{_+_}
-use Rattle.emitting.specs.Emission.{State, useNode, namedOr, calling, cellOf, pushed, withLefts, repeated}
+use Rattle.emitting.specs.Emission.{State, usesIn, useNode, namedOr, calling, cellOf, pushed, withLefts, repeated}
 use borrow.Author.Needs.{needs}
 use Rattle.emitting.proofs.calls.use_node.Statement.{statement}
 use Rattle.emitting.proofs.calls.use_node.Tie as tie
 
-next-kind-requires : tie.Need-next-kind-requires
-next-kind-requires c κs = search needs
+next-requires : tie.Need-next-requires
+next-requires c κs = search needs
 
-next-means-requires : tie.Need-next-means-requires
-next-means-requires c κs = search needs
-
-next-others-requires : tie.Need-next-others-requires
-next-others-requires c κs = search needs
+passed-requires : tie.Need-passed-requires
+passed-requires c κs = search needs
 
 named-or-requires : tie.Need-named-or-requires
 named-or-requires c κs = search needs
@@ -34,30 +31,29 @@ same-length c = search needs
 
 returns : tie.Need-returns
 unfolding useNode
-returns c = λ vs ks ah en one. simp (c .before .before .before .before .match .keys1) (rw (c .before .before .before .before .before .before .before .next-kind .ensures .0, c .before .before .before .before .before .before .next-means .ensures .0) at (c .before .before .named-or .ensures vs ks (c .before .before .before .before .before .before .before .before .before .before .before .before .args .uses .now) (c .before .before .before .before .before .before .before .before .before .before .before .before .args .things .now) ah en ∙ ap (namedOr vs (c .before .before .before .before .before .before .before .before .before .before .before .before .args .layout .now) ks (c .before .before .before .before .before .before .before .before .before .before .before .before .args .entries .now) (c .before .before .before .before .before .before .before .next-kind .result) (c .before .before .before .before .before .before .next-means .result) (c .before .before .before .before .before .before .before .before .before .before .before .before .args .u) (c .before .before .before .before .before .before .before .before .before .before .before .before .args .place)) (c .before .before .before .before .before .next-others .ensures .0 (c .before .before .before .before .before .before .before .before .before .before .before .before .args .things .now) (c .before .before .before .before .before .before .before .before .before .before .before .before .args .code .now) ah en)))
+returns c = λ vs ks ah en one. simp (c .before .before .before .before .match .keys1) (rw (c .before .before .before .before .before .before .next .ensures .0 .0, c .before .before .before .before .before .before .next .ensures .0 .1) at (c .before .before .named-or .ensures vs ks (usesIn (c .before .before .before .before .before .before .before .before .before .before .before .args .rows .now) (c .before .before .before .before .before .before .before .before .before .before .before .args .uses .now)) (c .before .before .before .before .before .before .before .before .before .before .before .args .things .now) ah en ∙ ap (namedOr vs (c .before .before .before .before .before .before .before .before .before .before .before .args .layout .now) ks (c .before .before .before .before .before .before .before .before .before .before .before .args .entries .now) (c .before .before .before .before .before .before .next .result .kind) (c .before .before .before .before .before .before .next .result .means) (c .before .before .before .before .before .before .before .before .before .before .before .args .u) (c .before .before .before .before .before .before .before .before .before .before .before .args .place .at)) (c .before .before .before .before .before .passed .ensures .0 (c .before .before .before .before .before .before .before .before .before .before .before .args .rows .now) (c .before .before .before .before .before .before .before .before .before .before .before .args .things .now) (c .before .before .before .before .before .before .before .before .before .before .before .args .code .now) ah en)))
 
 same-length-2 : tie.Need-same-length-2
 same-length-2 c = search needs
 
 returns-2 : tie.Need-returns-2
 unfolding useNode
-returns-2 c = λ vs ks ah en one. simp (c .before .before .before .before .before .match .keys2) (rw (c .before .before .before .before .before .before .before .before .next-kind .ensures .0, c .before .before .before .before .before .before .before .next-means .ensures .0) at (c .before .before .calling .ensures vs ks (c .before .before .before .before .before .before .before .before .before .before .before .before .before .args .entries .now) (c .before .before .before .before .before .before .before .before .before .before .before .before .before .args .uses .now) ah en ∙ ap (calling vs (c .before .before .before .before .before .before .before .before .before .before .before .before .before .args .layout .now) ks (c .before .before .before .before .before .before .before .before .before .before .before .before .before .args .entries .now) (c .before .before .before .before .before .before .before .before .next-kind .result) (c .before .before .before .before .before .before .before .next-means .result) (c .before .before .before .before .before .before .before .before .before .before .before .before .before .args .place)) (c .before .before .before .before .before .before .next-others .ensures .0 (c .before .before .before .before .before .before .before .before .before .before .before .before .before .args .things .now) (c .before .before .before .before .before .before .before .before .before .before .before .before .before .args .code .now) ah en)))
+returns-2 c = λ vs ks ah en one. simp (c .before .before .before .before .before .match .keys2) (rw (c .before .before .before .before .before .before .before .next .ensures .0 .0, c .before .before .before .before .before .before .before .next .ensures .0 .1) at (c .before .before .calling .ensures vs ks (c .before .before .before .before .before .before .before .before .before .before .before .before .args .entries .now) (usesIn (c .before .before .before .before .before .before .before .before .before .before .before .before .args .rows .now) (c .before .before .before .before .before .before .before .before .before .before .before .before .args .uses .now)) ah en ∙ ap (calling vs (c .before .before .before .before .before .before .before .before .before .before .before .before .args .layout .now) ks (c .before .before .before .before .before .before .before .before .before .before .before .before .args .entries .now) (c .before .before .before .before .before .before .before .next .result .kind) (c .before .before .before .before .before .before .before .next .result .means) (c .before .before .before .before .before .before .before .before .before .before .before .before .args .place .at)) (c .before .before .before .before .before .before .passed .ensures .0 (c .before .before .before .before .before .before .before .before .before .before .before .before .args .rows .now) (c .before .before .before .before .before .before .before .before .before .before .before .before .args .things .now) (c .before .before .before .before .before .before .before .before .before .before .before .before .args .code .now) ah en)))
 
 returns-3 : tie.Need-returns-3
 unfolding useNode
-returns-3 c = λ vs ks ah en one. simp (c .before .before .match .keys3) (rw (c .before .before .before .before .before .next-kind .ensures .0, c .before .before .before .before .next-means .ensures .0) at (c .left-part .ensures vs ks (c .before .before .before .before .before .before .before .before .before .before .args .entries .now) (c .before .before .before .before .before .before .before .before .before .before .args .uses .now) (c .before .before .before .before .before .before .before .before .before .before .args .code .now) ah en ∙ ap (λ (z : State). withLefts (z .lefts + 1) (pushed 0 (cellOf vs (c .before .before .before .before .before .before .before .before .before .before .args .layout .now) ks (c .before .before .before .before .before .before .before .before .before .before .args .entries .now) (z .level) (c .before .before .before .before .before .next-kind .result) (c .before .before .before .before .next-means .result)) 0 0 z)) (c .before .before .before .next-others .ensures .0 (c .before .before .before .before .before .before .before .before .before .before .args .things .now) (c .before .before .before .before .before .before .before .before .before .before .args .code .now) ah en)))
+returns-3 c = λ vs ks ah en one. simp (c .before .before .match .keys3) (rw (c .before .before .before .before .next .ensures .0 .0, c .before .before .before .before .next .ensures .0 .1) at (c .left-part .ensures vs ks (c .before .before .before .before .before .before .before .before .before .args .entries .now) (usesIn (c .before .before .before .before .before .before .before .before .before .args .rows .now) (c .before .before .before .before .before .before .before .before .before .args .uses .now)) (c .before .before .before .before .before .before .before .before .before .args .code .now) ah en ∙ ap (λ (z : State). withLefts (z .lefts + 1) (pushed 0 (cellOf vs (c .before .before .before .before .before .before .before .before .before .args .layout .now) ks (c .before .before .before .before .before .before .before .before .before .args .entries .now) (z .level) (c .before .before .before .before .next .result .kind) (c .before .before .before .before .next .result .means)) 0 0 z)) (c .before .before .before .passed .ensures .0 (c .before .before .before .before .before .before .before .before .before .args .rows .now) (c .before .before .before .before .before .before .before .before .before .args .things .now) (c .before .before .before .before .before .before .before .before .before .args .code .now) ah en)))
 
 returns-4 : tie.Need-returns-4
 unfolding useNode
-returns-4 c = λ vs ks ah en one. simp (ne-eqb _ _ (c .before .before .match .rest .1), ne-eqb _ _ (c .before .before .match .rest .0 .1), ne-eqb _ _ (c .before .before .match .rest .0 .0 .1)) (rw (c .before .before .before .before .before .next-kind .ensures .0, c .before .before .before .before .next-means .ensures .0) at (c .repeated .ensures vs ks (c .before .before .before .before .before .before .before .before .before .before .args .entries .now) (c .before .before .before .before .before .before .before .before .before .before .args .uses .now) (c .before .before .before .before .before .before .before .before .before .before .args .code .now) ah en ∙ ap (repeated vs (c .before .before .before .before .before .before .before .before .before .before .args .layout .now) ks (c .before .before .before .before .before .before .before .before .before .before .args .entries .now) (c .before .before .before .before .before .next-kind .result) (c .before .before .before .before .next-means .result) (c .before .before .before .before .before .before .before .before .before .before .args .place)) (c .before .before .before .next-others .ensures .0 (c .before .before .before .before .before .before .before .before .before .before .args .things .now) (c .before .before .before .before .before .before .before .before .before .before .args .code .now) ah en)))
+returns-4 c = λ vs ks ah en one. simp (ne-eqb _ _ (c .before .before .match .rest .1), ne-eqb _ _ (c .before .before .match .rest .0 .1), ne-eqb _ _ (c .before .before .match .rest .0 .0 .1)) (rw (c .before .before .before .before .next .ensures .0 .0, c .before .before .before .before .next .ensures .0 .1) at (c .repeated .ensures vs ks (c .before .before .before .before .before .before .before .before .before .args .entries .now) (usesIn (c .before .before .before .before .before .before .before .before .before .args .rows .now) (c .before .before .before .before .before .before .before .before .before .args .uses .now)) (c .before .before .before .before .before .before .before .before .before .args .code .now) ah en ∙ ap (repeated vs (c .before .before .before .before .before .before .before .before .before .args .layout .now) ks (c .before .before .before .before .before .before .before .before .before .args .entries .now) (c .before .before .before .before .next .result .kind) (c .before .before .before .before .next .result .means) (c .before .before .before .before .before .before .before .before .before .args .place .at)) (c .before .before .before .passed .ensures .0 (c .before .before .before .before .before .before .before .before .before .args .rows .now) (c .before .before .before .before .before .before .before .before .before .args .things .now) (c .before .before .before .before .before .before .before .before .before .args .code .now) ah en)))
 
 pub use-node-spec : {M : Type 1} → statement M
 use-node-spec =
     tie.close
     (tie.spec
-    next-kind-requires
-    next-means-requires
-    next-others-requires
+    next-requires
+    passed-requires
     named-or-requires
     calling-requires
     left-part-requires

@@ -1,4 +1,4 @@
--- `translating::emission::assigned` meets its contract: the left parts are stored, and what stood below them is open.
+-- `emitting::emission::assigned` meets its contract: the left parts are stored, and what stood below them is open.
 -- Assumes nothing.
 use mathlib.Core.Path.{sym, ap, _∙_}
 use mathlib.Core.List.{List, []}

@@ -1,4 +1,4 @@
--- `translating::emission::left_word` meets its contract: the newest of those that are left.
+-- `emitting::emission::left_word` meets its contract: the newest of those that are left.
 -- Assumes nothing.
 use mathlib.Core.Path.{ap}
 use Rattle.emitting.specs.Emission.{Opened}

@@ -1,4 +1,4 @@
--- `translating::emission::operation_of` meets its contract: by the two tests.
+-- `emitting::emission::operation_of` meets its contract: by the two tests.
 -- Assumes nothing.
 use borrow.Author.Tests.{lt-ltb, le-ltb}
 use native.Mathlib.Omega.{arith}

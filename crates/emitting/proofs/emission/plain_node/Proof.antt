@@ -1,7 +1,7 @@
--- `translating::emission::plain_node` meets its contract: each kind puts the tests of `plainNode` right.
+-- `emitting::emission::plain_node` meets its contract: each kind puts the tests of `plainNode` right.
 -- Assumes nothing.
 use borrow.Author.Tests.{ne-eqb}
-use Rattle.emitting.specs.Emission.{plainNode, within}
+use Rattle.emitting.specs.Emission.{plainNode, within, withCell}
 use borrow.Author.Needs.{needs}
 use Rattle.emitting.proofs.emission.plain_node.Statement.{statement}
 use Rattle.emitting.proofs.emission.plain_node.Tie as tie
@@ -29,6 +29,12 @@ assigned-requires c κs = search needs
 
 add-t : tie.Need-add-t
 add-t c = search needs
+
+add-t-2 : tie.Need-add-t-2
+add-t-2 c = search needs
+
+add-t-3 : tie.Need-add-t-3
+add-t-3 c = search needs
 
 same-length : tie.Need-same-length
 same-length c = search needs
@@ -66,12 +72,18 @@ unfolding plainNode
 returns-5 c = λ ly ks es us ah en. simp (c .before .before .before .before .match .keys5) (c .before .before .assigned .ensures (c .before .before .before .before .before .before .before .args .values .now) ly ks es us ah en)
 
 returns-6 : tie.Need-returns-6
-unfolding plainNode within
-returns-6 c = λ ly ks es us ah en. simp (c .before .match .keys6)
+unfolding plainNode within withCell
+returns-6 c = λ ly ks es us ah en. simp (c .before .before .match .keys6)
 
 returns-7 : tie.Need-returns-7
+unfolding plainNode withCell
+returns-7 c = λ ly ks es us ah en. simp (c .before .match .keys7)
+
+returns-8 : tie.Need-returns-8
 unfolding plainNode
-returns-7 c = λ ly ks es us ah en. simp (ne-eqb _ _ (c .match .rest .1), ne-eqb _ _ (c .match .rest .0 .1), ne-eqb _ _ (c .match .rest .0 .0 .1), ne-eqb _ _ (c .match .rest .0 .0 .0 .1), ne-eqb _ _ (c .match .rest .0 .0 .0 .0 .1), ne-eqb _ _ (c .match .rest .0 .0 .0 .0 .0 .1))
+returns-8 c =
+    let r = c .match .rest in
+    λ ly ks es us ah en. simp (ne-eqb _ _ (r .1), ne-eqb _ _ (r .0 .1), ne-eqb _ _ (r .0 .0 .1), ne-eqb _ _ (r .0 .0 .0 .1), ne-eqb _ _ (r .0 .0 .0 .0 .1), ne-eqb _ _ (r .0 .0 .0 .0 .0 .1), ne-eqb _ _ (r .0 .0 .0 .0 .0 .0 .1))
 
 pub plain-node-spec : {M : Type 1} → statement M
 plain-node-spec =
@@ -85,6 +97,8 @@ plain-node-spec =
     put-requires-3
     assigned-requires
     add-t
+    add-t-2
+    add-t-3
     same-length
     returns
     same-length-2
@@ -96,4 +110,5 @@ plain-node-spec =
     same-length-5
     returns-5
     returns-6
-    returns-7)
+    returns-7
+    returns-8)

@@ -1,4 +1,4 @@
--- `translating::emission::signed` meets its contract: by the two tests.
+-- `emitting::emission::signed` meets its contract: by the two tests.
 -- Assumes nothing.
 use borrow.Author.Tests.{eq-eqb, ne-eqb}
 use Rattle.emitting.specs.Emission.{signed}

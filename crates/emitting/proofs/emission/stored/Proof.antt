@@ -1,4 +1,4 @@
--- `translating::emission::stored` meets its contract. The loop's invariant: n left parts are to be stored yet, and with them the state comes to what
+-- `emitting::emission::stored` meets its contract. The loop's invariant: n left parts are to be stored yet, and with them the state comes to what
 -- all of them make of the first one.
 use mathlib.Core.Path.{_≡_, refl, sym, ap, _∙_}
 use native.Mathlib.Omega.{arith}
@@ -6,7 +6,7 @@ use mathlib.Core.List.{List, []}
 use Prim.Native.Nat.{ℕ, _+_, _-_, _≤_}
 use lib.ListN.{length}
 use borrow.Author.Needs.{needs}
-use Rattle.emitting.specs.Emission.{top, stored, leftsOf}
+use Rattle.emitting.specs.Emission.{Used, top, stored, leftsOf}
 use Rattle.emitting.specs.Model.{thingsOf, see}
 use Rattle.emitting.proofs.LeftParts.{stored-step}
 use Rattle.emitting.proofs.Counters.{left-word}
@@ -19,7 +19,7 @@ Inv-loop t₀ things code₀ n₀ t code n =
     × (t .open ≡ t₀ .open)
     × (t .at + n ≡ t₀ .at + t₀ .lefts)
     × (length code ≡ length code₀)
-    × ((vs ly ks es us ah en : List ℕ) → stored vs ly ks es (leftsOf vs ly ks es n (thingsOf (t₀ .open) things) []) (see t us things code ah en) ≡ stored vs ly ks es (leftsOf vs ly ks es (t₀ .lefts) (thingsOf (t₀ .open) things) []) (see t₀ us things code₀ ah en))
+    × ((vs ly ks es : List ℕ) (us : List Used) (ah en : List ℕ) → stored vs ly ks es (leftsOf vs ly ks es n (thingsOf (t₀ .open) things) []) (see t us things code ah en) ≡ stored vs ly ks es (leftsOf vs ly ks es (t₀ .lefts) (thingsOf (t₀ .open) things) []) (see t₀ us things code₀ ah en))
 
 abbrev μ-loop : tie.MeasureT-loop
 μ-loop t₀ things code₀ n₀ t code n = n

@@ -1,4 +1,4 @@
--- `translating::emission::storing` meets its contract: by the test.
+-- `emitting::emission::storing` meets its contract: by the test.
 -- Assumes nothing.
 use borrow.Author.Tests.{eq-eqb, ne-eqb}
 use native.Mathlib.Omega.{arith}

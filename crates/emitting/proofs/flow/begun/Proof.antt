@@ -1,4 +1,4 @@
--- `translating::flow::begun` meets its contract: the block's cells and its first statement are noted, and its variables are kept.
+-- `emitting::flow::begun` meets its contract: the block's cells and its first statement are noted, and its variables are kept.
 -- Assumes nothing.
 use lib.ListN.{set}
 use Rattle.emitting.specs.Layout.{packed}

@@ -1,4 +1,4 @@
--- `translating::flow::block_node` meets its contract: each kind puts the tests of `blockNode` right.
+-- `emitting::flow::block_node` meets its contract: each kind puts the tests of `blockNode` right.
 -- Assumes nothing.
 use borrow.Author.Tests.{ne-eqb}
 use Rattle.emitting.specs.Emission.{blockNode}

@@ -1,4 +1,4 @@
--- `translating::flow::choice_node` meets its contract: each kind puts the tests of `choiceNode` right.
+-- `emitting::flow::choice_node` meets its contract: each kind puts the tests of `choiceNode` right.
 -- Assumes nothing.
 use borrow.Author.Tests.{ne-eqb}
 use Rattle.emitting.specs.Emission.{choiceNode}

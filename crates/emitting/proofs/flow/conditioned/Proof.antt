@@ -1,4 +1,4 @@
--- `translating::flow::conditioned` meets its contract: the instruction, then it is open, and one address more lies ahead.
+-- `emitting::flow::conditioned` meets its contract: the instruction, then it is open, and one address more lies ahead.
 -- Assumes nothing.
 use mathlib.Core.Path.{ap, _∙_}
 use Rattle.emitting.specs.Emission.{pushed, withSlot, aheadAt}

@@ -1,4 +1,4 @@
--- `translating::flow::entered` meets its contract: the instruction, then the block is open with no variable so far.
+-- `emitting::flow::entered` meets its contract: the instruction, then the block is open with no variable so far.
 -- Assumes nothing.
 use mathlib.Core.Path.{ap, _∙_}
 use Rattle.emitting.specs.Emission.{State, put, pushed, within, withOpen, withSlot, aheadAt}

@@ -1,4 +1,4 @@
--- `translating::flow::joined` meets its contract: the address is noted, and the condition is closed.
+-- `emitting::flow::joined` meets its contract: the address is noted, and the condition is closed.
 -- Assumes nothing.
 use lib.ListN.{set}
 use Rattle.emitting.specs.Layout.{packed}

@@ -1,4 +1,4 @@
--- `translating::flow::left` meets its contract: the instruction, then the block is closed, and the one around goes on.
+-- `emitting::flow::left` meets its contract: the instruction, then the block is closed, and the one around goes on.
 -- Assumes nothing.
 use mathlib.Core.Path.{ap, _∙_}
 use Rattle.emitting.specs.Emission.{State, put, popped, within, withOpen}

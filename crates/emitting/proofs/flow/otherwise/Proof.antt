@@ -1,4 +1,4 @@
--- `translating::flow::otherwise` meets its contract: the address is noted, the instruction written, and another slot is open.
+-- `emitting::flow::otherwise` meets its contract: the address is noted, the instruction written, and another slot is open.
 -- Assumes nothing.
 use mathlib.Core.Path.{ap, _∙_}
 use native.Mathlib.Omega.{arith}

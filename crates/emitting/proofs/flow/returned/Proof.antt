@@ -1,4 +1,4 @@
--- `translating::flow::returned` meets its contract: the instruction, then an activation fewer is around.
+-- `emitting::flow::returned` meets its contract: the instruction, then an activation fewer is around.
 -- Assumes nothing.
 use mathlib.Core.Path.{ap, _∙_}
 use Prim.Native.Nat.{_-_}

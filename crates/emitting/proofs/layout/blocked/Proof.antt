@@ -1,4 +1,4 @@
--- `translating::layout::blocked` meets its contract: the number written is the new head.
+-- `emitting::layout::blocked` meets its contract: the number written is the new head.
 -- Assumes nothing.
 use Rattle.emitting.specs.Layout.{blocked}
 use mathlib.Core.Path.{refl}
@@ -14,7 +14,7 @@ add-t c = search needs
 
 returns : tie.Need-returns
 unfolding blocked
-returns c = (λ w. rw (c .keep .ensures), refl)
+returns c = (λ w. rw (c .keep .ensures), (refl, refl))
 
 pub blocked-spec : {M : Type 1} → statement M
 blocked-spec = tie.close (tie.spec keep-requires add-t returns)

@@ -1,4 +1,4 @@
--- `translating::layout::closed` meets its contract: what stands below is the tail.
+-- `emitting::layout::closed` meets its contract: what stands below is the tail.
 -- Assumes nothing.
 use Rattle.names.specs.Rows.{opensOf}
 use Rattle.emitting.specs.Layout.{closed, outermost, further}

@@ -1,4 +1,4 @@
--- `translating::layout::keep` meets its contract: the number written is the new head.
+-- `emitting::layout::keep` meets its contract: the number written is the new head.
 -- Assumes nothing.
 use Rattle.names.proofs.RowLaws.{opens-enter}
 use borrow.Author.Needs.{needs}

@@ -1,4 +1,4 @@
--- `translating::layout::lay` meets its contract. The loop's invariant: behind i nodes the layout has spread no further than i, and what the nodes from
+-- `emitting::layout::lay` meets its contract. The loop's invariant: behind i nodes the layout has spread no further than i, and what the nodes from
 -- here on make of it is what all of them make of nothing.
 use mathlib.Core.Path.{_≡_, refl, sym, ap, subst, _∙_}
 use native.Mathlib.Omega.{arith}
@@ -25,7 +25,7 @@ abbrev μ-loop : tie.MeasureT-loop
 
 loop-holds : tie.Need-loop-holds Inv-loop μ-loop
 unfolding opensOf AllWithin
-loop-holds c = (record { level = omega arith; reach = omega arith; open-scopes = omega arith; outside = tt }, refl, omega arith, refl)
+loop-holds c = (record { level = omega arith; reach = omega arith; open-scopes = omega arith; declared = omega arith; outside = tt }, refl, omega arith, refl)
 
 mul-loop : tie.Need-mul-loop Inv-loop μ-loop
 mul-loop c = search needs
@@ -51,17 +51,8 @@ mul-lay-node-2 c = search needs
 shared-slice-read-lay-node-2 : tie.Need-shared-slice-read-lay-node-2 Inv-loop μ-loop
 shared-slice-read-lay-node-2 c = search needs
 
-add-lay-node-2 : tie.Need-add-lay-node-2 Inv-loop μ-loop
-add-lay-node-2 c = search needs
-
-mul-lay-node-3 : tie.Need-mul-lay-node-3 Inv-loop μ-loop
-mul-lay-node-3 c = search needs
-
-shared-slice-read-lay-node-3 : tie.Need-shared-slice-read-lay-node-3 Inv-loop μ-loop
-shared-slice-read-lay-node-3 c = search needs
-
 lay-node-requires : tie.Need-lay-node-requires Inv-loop μ-loop
-lay-node-requires c κs = let h = c .before .before .before .before .before .loop-test .taken in spread-up (c .before .before .before .before .before .before .loop .i) 8191 (lain (c .before .before .before .before .before .before .loop .t) (c .before .before .before .before .before .before .loop .around) (c .before .before .before .before .before .before .loop .table)) (omega arith) (c .before .before .before .before .before .before .loop .inv .0)
+lay-node-requires c κs = let h = c .before .before .before .before .loop-test .taken in spread-up (c .before .before .before .before .before .loop .i) 8191 (lain (c .before .before .before .before .before .loop .t) (c .before .before .before .before .before .loop .around) (c .before .before .before .before .before .loop .table)) (omega arith) (c .before .before .before .before .before .loop .inv .0)
 
 add-i : tie.Need-add-i Inv-loop μ-loop
 add-i c = search needs
@@ -71,17 +62,17 @@ loop-less c = search needs
 
 loop-again : tie.Need-loop-again Inv-loop μ-loop
 loop-again c =
-    let l = c .before .before .before .before .before .before .before .before .before .loop in
+    let l = c .before .before .before .before .before .before .before .before .loop in
     let z = lain (l .t) (l .around) (l .table) in
-    let w = c .before .before .before .before .before .before .before .before .before .before .before .before .args .nodes .now in
+    let w = c .before .before .before .before .before .before .before .before .before .before .before .args .nodes .now in
     let i = l .i in
-    let h = c .before .before .before .before .before .before .before .before .loop-test .taken in
+    let h = c .before .before .before .before .before .before .before .loop-test .taken in
     let b = getD w (4 * i + 3) 0 in
-    let e = c .before .before .lay-node .ensures b in (
+    let e = c .before .before .lay-node .ensures (getD w (4 * i + 1) 0) b in (
       subst (Spread (i + 1)) (sym e) (spread-node i z (l .inv .0) (getD w (4 * i) 0) (getD w (4 * i + 1) 0) (getD w (4 * i + 2) 0) b),
       ap (foldNodes layNode (drop (4 * (i + 1)) w)) e ∙ sym (fold-on layNode w i z h) ∙ l .inv .1,
       omega arith,
-      c .before .before .lay-node .kept .1 .1 .1 .1 .1 .0 ∙ l .inv .3,
+      c .before .before .lay-node .kept .1 .1 .1 .1 .0 ∙ l .inv .3,
     )
 
 same-length : tie.Need-same-length Inv-loop μ-loop
@@ -105,9 +96,6 @@ lay-spec =
     add-lay-node
     mul-lay-node-2
     shared-slice-read-lay-node-2
-    add-lay-node-2
-    mul-lay-node-3
-    shared-slice-read-lay-node-3
     lay-node-requires
     add-i
     loop-less

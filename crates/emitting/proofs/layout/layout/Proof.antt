@@ -1,4 +1,4 @@
--- `translating::layout::layout` meets its contract: all words are zero where the pass begins.
+-- `emitting::layout::layout` meets its contract: all words are zero where the pass begins.
 -- Assumes nothing.
 use mathlib.Core.Path.{ap, _∙_}
 use mathlib.Core.List.{List}

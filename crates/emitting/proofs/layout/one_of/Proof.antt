@@ -1,4 +1,4 @@
--- `translating::layout::one_of` meets its contract: by the test.
+-- `emitting::layout::one_of` meets its contract: by the test.
 -- Assumes nothing.
 use borrow.Author.Tests.{eq-eqb, ne-eqb}
 use Rattle.emitting.specs.Layout.{oneOf}

@@ -1,4 +1,4 @@
--- `translating::loops::begun` meets its contract: the body's address is noted, and one for statement more is around.
+-- `emitting::loops::begun` meets its contract: the body's address is noted, and one for statement more is around.
 -- Assumes nothing.
 use mathlib.Core.Path.{ap}
 use Prim.Native.Nat.{_+_}

@@ -1,4 +1,4 @@
--- `translating::loops::bodied` meets its contract: the three parts of the operand are the model's.
+-- `emitting::loops::bodied` meets its contract: the three parts of the operand are the model's.
 -- Assumes nothing.
 use Rattle.emitting.specs.Emission.{bodied, aheadAt}
 use borrow.Author.Needs.{needs}

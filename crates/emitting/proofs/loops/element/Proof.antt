@@ -1,4 +1,4 @@
--- `translating::loops::element` meets its contract: the address is noted, and the next slot is the one that lies ahead.
+-- `emitting::loops::element` meets its contract: the address is noted, and the next slot is the one that lies ahead.
 -- Assumes nothing.
 use mathlib.Core.Path.{ap, _∙_}
 use lib.ListN.{set}

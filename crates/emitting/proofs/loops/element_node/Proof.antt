@@ -1,4 +1,4 @@
--- `translating::loops::element_node` meets its contract: each kind puts the tests of `elementNode` right.
+-- `emitting::loops::element_node` meets its contract: each kind puts the tests of `elementNode` right.
 -- Assumes nothing.
 use mathlib.Core.Path.{ap, _∙_}
 use borrow.Author.Tests.{ne-eqb}

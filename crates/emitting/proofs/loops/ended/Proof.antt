@@ -1,4 +1,4 @@
--- `translating::loops::ended` meets its contract: back to the position noted, and one for statement fewer is around.
+-- `emitting::loops::ended` meets its contract: back to the position noted, and one for statement fewer is around.
 -- Assumes nothing.
 use mathlib.Core.Path.{ap, _∙_}
 use Prim.Native.Nat.{_+_, _-_}

@@ -1,4 +1,4 @@
--- `translating::loops::stepping` meets its contract: five instructions, one after the other.
+-- `emitting::loops::stepping` meets its contract: five instructions, one after the other.
 -- Assumes nothing.
 use mathlib.Core.Path.{ap, _∙_}
 use native.Mathlib.Omega.{arith}
@@ -58,7 +58,7 @@ returns c =
           rw (c .before .before .before .packed2 .ensures .0, c .before .before .before .before .before .before .before .before .before .before .before .before .before .before .before .before .before .before .before .before .before .before .before .packed .ensures .0, c .before .before .before .before .before .before .before .before .before .before .before .before .before .before .before .before .before .before .before .before .before .before .before .before .before .high .ensures, c .before .before .before .before .before .before .before .before .before .before .before .before .before .before .before .before .before .before .before .before .before .before .before .before .mid .ensures, c .before .before .before .before .before .before .before .before .before .before .before .before .before .before .before .before .before .before .before .before .before .before .before .before .before .before .word-at .ensures .0) at
           (c .before .before .put4 .ensures .0 us op ah en
           ∙ ap (λ (z : State). put 2 0 (c .before .before .before .packed2 .result) z) (c .before .before .before .before .before .before .before .before .put3 .ensures .0 us op ah en
-          ∙ ap (λ (z : State). put 21 (c .before .before .before .before .before .before .before .before .before .before .before .before .before .before .before .before .before .before .before .before .before .before .before .before .before .before .before .before .before .args .place) (f .second) z) (c .before .before .before .before .before .before .before .before .before .before .before .before .bodied .ensures .0 vs ly es us op ah en
+          ∙ ap (λ (z : State). put 21 (c .before .before .before .before .before .before .before .before .before .before .before .before .before .before .before .before .before .before .before .before .before .before .before .before .before .before .before .before .before .args .place .at) (f .second) z) (c .before .before .before .before .before .before .before .before .before .before .before .before .bodied .ensures .0 vs ly es us op ah en
           ∙ ap (λ (z : State). bodied vs ly (c .before .before .before .before .before .before .before .before .before .before .before .before .before .before .before .before .before .before .before .before .before .before .before .before .before .before .before .before .before .args .ahead .now) es (seen f) (t .at + 3) z) (c .before .before .before .before .before .before .before .before .before .before .before .before .before .before .before .before .before .put2 .ensures .0 us op ah en
           ∙ ap (λ (z : State). put 11 (f .third) (c .before .before .before .before .before .before .before .before .before .before .before .before .before .before .before .before .before .before .before .before .before .before .before .packed .result) z) (c .before .before .before .before .before .before .before .before .before .before .before .before .before .before .before .before .before .before .before .before .before .put .ensures .0 us op ah en))))),
       (

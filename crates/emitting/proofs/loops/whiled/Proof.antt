@@ -1,4 +1,4 @@
--- `translating::loops::whiled` meets its contract: the condition, to the body, and the element ends.
+-- `emitting::loops::whiled` meets its contract: the condition, to the body, and the element ends.
 -- Assumes nothing.
 use mathlib.Core.Path.{ap, _∙_}
 use Rattle.emitting.specs.Emission.{element, bodied, aheadAt}

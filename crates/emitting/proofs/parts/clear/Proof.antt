@@ -1,4 +1,4 @@
--- `translating::parts::clear` meets its contract: so many words are zero already.
+-- `emitting::parts::clear` meets its contract: so many words are zero already.
 -- Assumes nothing.
 use mathlib.Core.Path.{_≡_, refl, ap, _∙_}
 use mathlib.Core.List.{List, _++_, append-nil}

@@ -1,4 +1,4 @@
--- `translating::parts::set_word` meets its contract: behind the last word `set` changes nothing.
+-- `emitting::parts::set_word` meets its contract: behind the last word `set` changes nothing.
 -- Assumes nothing.
 use mathlib.Core.Path.{sym}
 use lib.Seq.{set-out}

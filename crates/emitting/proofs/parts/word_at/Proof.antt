@@ -1,4 +1,4 @@
--- `translating::parts::word_at` meets its contract: a word of 32 bits fits, and behind the last one `getD` gives 0.
+-- `emitting::parts::word_at` meets its contract: a word of 32 bits fits, and behind the last one `getD` gives 0.
 -- Assumes nothing.
 use native.Mathlib.Omega.{arith}
 use lib.ListN.{List·getD-eq-default}

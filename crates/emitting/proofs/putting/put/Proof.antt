@@ -1,4 +1,4 @@
--- `translating::putting::put` meets its contract: the two words are written, one after the other.
+-- `emitting::putting::put` meets its contract: the two words are written, one after the other.
 -- Assumes nothing.
 use mathlib.Core.Path.{refl}
 use Rattle.emitting.specs.Emission.{put}
@@ -35,7 +35,7 @@ same-length c = search needs
 
 returns : tie.Need-returns
 unfolding put
-returns c = (λ us op ah en. rw (c .before .before .set-word2 .ensures, c .before .before .before .before .before .before .set-word .ensures), (record { slots = refl; level = refl; loops = refl; cells = refl; lefts = refl }, refl, refl))
+returns c = (λ us op ah en. rw (c .before .before .set-word2 .ensures, c .before .before .before .before .before .before .set-word .ensures), (record { slots = refl; level = refl; loops = refl; cells = refl; lefts = refl; declared = refl }, refl, refl))
 
 pub put-spec : {M : Type 1} → statement M
 put-spec =

@@ -1,4 +1,4 @@
--- `translating::putting::replace` meets its contract: the newest is closed, then another opens.
+-- `emitting::putting::replace` meets its contract: the newest is closed, then another opens.
 -- Assumes nothing.
 use mathlib.Core.Path.{_∙_, ap}
 use Rattle.emitting.specs.Emission.{pushed, popped, replaced, withOpen}
@@ -18,7 +18,7 @@ returns c =
     let a = c .push .ensures .1 .0 in
     let b = c .before .before .pop .ensures .1 .0 in (
       λ us co ah en. c .push .ensures .0 us co ah en ∙ ap (pushed (c .before .before .before .args .a) (c .before .before .before .args .b) (c .before .before .before .args .c) (c .before .before .before .args .d)) (c .before .before .pop .ensures .0 us (c .before .before .before .args .things .now) co ah en),
-      (record { slots = a .slots ∙ b .slots; level = a .level ∙ b .level; loops = a .loops ∙ b .loops; cells = a .cells ∙ b .cells; lefts = a .lefts ∙ b .lefts }, c .push .ensures .1 .1 ∙ c .before .before .pop .ensures .1 .1),
+      (record { slots = a .slots ∙ b .slots; level = a .level ∙ b .level; loops = a .loops ∙ b .loops; cells = a .cells ∙ b .cells; lefts = a .lefts ∙ b .lefts; declared = a .declared ∙ b .declared }, c .push .ensures .1 .1 ∙ c .before .before .pop .ensures .1 .1),
     )
 
 pub replace-spec : {M : Type 1} → statement M

@@ -1,4 +1,4 @@
--- `translating::putting::slot` meets its contract: one more is counted.
+-- `emitting::putting::slot` meets its contract: one more is counted.
 -- Assumes nothing.
 use mathlib.Core.Path.{refl}
 use Rattle.emitting.specs.Emission.{withSlot}

@@ -1,4 +1,4 @@
--- `translating::putting::top` meets its contract: the last thing of those that are open.
+-- `emitting::putting::top` meets its contract: the last thing of those that are open.
 -- Assumes nothing.
 use mathlib.Core.Path.{_∙_}
 use Rattle.emitting.specs.Emission.{top}

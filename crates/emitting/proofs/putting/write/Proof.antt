@@ -1,4 +1,4 @@
--- `translating::putting::write` meets its contract: the four numbers written are the new head.
+-- `emitting::putting::write` meets its contract: the four numbers written are the new head.
 -- Assumes nothing.
 use native.Mathlib.Omega.{arith}
 use Prim.Native.Nat.{_+_, _*_}

@@ -8,64 +8,41 @@ use borrow.Author.Needs.{needs}
 use Rattle.machine.proofs.control.call.Statement.{statement}
 use Rattle.machine.proofs.control.call.Tie as tie
 
-cast-k : tie.Need-cast-k
-cast-k c = search needs
-
-first-cell-requires : tie.Need-first-cell-requires
-first-cell-requires c κs = search needs
-
-add-if1 : tie.Need-add-if1
-add-if1 c = search needs
-
-stray-requires : tie.Need-stray-requires
-stray-requires c κs = search needs
-
 returns : tie.Need-returns
 returns c = (
-  λ s i o. strayed (c .stray .ensures) s _ i o ∙ call-stray _ (c .before .before .before .before .args .at) _ _ _ (c .before .before .before .before .args .q) (low (c .before .before .before .before .args .v)) (high (c .before .before .before .before .args .v)) (mid (c .before .before .before .before .args .v)) (fateOf (c .before .before .before .before .args .needed)) (room-no (c .before .before .before .before .args .n) (c .before .before .before .before .args .live) s i o (c .before .before .before .before .args .own .now) (c .before .before .first-cell .ensures .0 (c .before .before .before .before .args .live) (le-refl _)) (mid (c .before .before .before .before .args .v)) (c .before .if1 .taken)),
+  λ s i o. strayed (c .stray .ensures) s _ i o ∙ call-stray _ (c .before .before .before .before .before .args .at) _ _ _ (c .before .before .before .before .before .args .q) (low (c .before .before .before .before .before .args .v)) (high (c .before .before .before .before .before .args .v)) (mid (c .before .before .before .before .before .args .v)) (fateOf (c .before .before .before .before .before .args .needed)) (room-no (c .before .before .before .before .before .args .n) (c .before .before .before .before .before .args .live) s i o (c .before .before .before .before .before .args .own .now) (c .before .before .first-cell .ensures .0 (c .before .before .before .before .before .args .live) (le-refl _)) (mid (c .before .before .before .before .before .args .v)) (rw (c .before .before .before .before .mid .ensures) at (c .before .if1 .taken))),
   λ s o g h. strayed-sound (c .stray .ensures) s _ o o refl,
 )
 
 returns-2 : tie.Need-returns-2
 returns-2 c = (
-  λ s i o. call-full (c .before .before .before .before .args .n) (c .before .before .before .before .args .live) s i o (c .before .before .before .before .args .own .now) (c .before .before .before .before .args .at) (c .before .before .before .before .args .q) (low (c .before .before .before .before .args .v)) (high (c .before .before .before .before .args .v)) (mid (c .before .before .before .before .args .v)) (fateOf (c .before .before .before .before .args .needed)) (c .before .before .first-cell .ensures .0 (c .before .before .before .before .args .live) (le-refl _)) (c .before .if1 .left) (c .if2 .taken),
+  λ s i o. call-full (c .before .before .before .before .before .args .n) (c .before .before .before .before .before .args .live) s i o (c .before .before .before .before .before .args .own .now) (c .before .before .before .before .before .args .at) (c .before .before .before .before .before .args .q) (low (c .before .before .before .before .before .args .v)) (high (c .before .before .before .before .before .args .v)) (mid (c .before .before .before .before .before .args .v)) (fateOf (c .before .before .before .before .before .args .needed)) (c .before .before .first-cell .ensures .0 (c .before .before .before .before .before .args .live) (le-refl _)) (rw (c .before .before .before .before .mid .ensures) at (c .before .if1 .left)) (c .if2 .taken),
   λ s o g h. refl,
 )
 
-around-requires : tie.Need-around-requires
-around-requires c κs = search needs
-
-add-begin : tie.Need-add-begin
-add-begin c = search needs
-
-sub-begin : tie.Need-sub-begin
-sub-begin c = search needs
-
-begin-requires : tie.Need-begin-requires
-begin-requires c κs = search needs
-
-add-t15 : tie.Need-add-t15
-add-t15 c = search needs
-
 returns-3 : tie.Need-returns-3
-returns-3 c = (
-  λ s i o. call-done (c .before .before .before .before .before .before .before .before .args .n) (c .before .before .before .before .before .before .before .before .args .live) s i o (c .before .before .before .before .before .before .before .before .args .own .now) (c .before .before .before .before .before .before .before .before .args .at) (c .before .before .before .before .before .before .before .before .args .q) (low (c .before .before .before .before .before .before .before .before .args .v)) (high (c .before .before .before .before .before .before .before .before .args .v)) (mid (c .before .before .before .before .before .before .before .before .args .v)) (c .before .before .before .before .before .before .before .before .args .needed) (c .before .before .before .before .before .before .first-cell .ensures .0 (c .before .before .before .before .before .before .before .before .args .live) (le-refl _)) (c .before .before .before .before .before .if1 .left) (c .before .before .before .before .before .before .before .before .pre .0) (c .before .before .before .before .if2 .left) _ _ (c .begin .ensures) refl (c .before .before .around .ensures .1),
-  λ s o g h. call-sound (c .before .before .before .before .before .before .before .before .args .n) (c .before .before .before .before .before .before .before .before .args .live) s s o (c .before .before .before .before .before .before .before .before .args .own .now) (c .before .before .before .before .before .before .before .before .args .at) (c .before .before .before .before .before .before .before .before .args .q) (low (c .before .before .before .before .before .before .before .before .args .v)) (high (c .before .before .before .before .before .before .before .before .args .v)) (mid (c .before .before .before .before .before .before .before .before .args .v)) (c .before .before .before .before .before .before .before .before .args .needed) (c .before .before .before .before .before .before .first-cell .ensures .0 (c .before .before .before .before .before .before .before .before .args .live) (le-refl _)) (c .before .before .before .before .before .if1 .left) (c .before .before .before .before .before .before .before .before .pre .0) (c .before .before .before .before .if2 .left) _ _ (c .begin .ensures) (c .before .before .around .ensures .0) g h,
-)
+returns-3 c =
+    rw (c .low .ensures) (
+      λ s i o. call-done (c .before .before .before .before .before .before .before .before .before .before .before .args .n) (c .before .before .before .before .before .before .before .before .before .before .before .args .live) s i o (c .before .before .before .before .before .before .before .before .before .before .before .args .own .now) (c .before .before .before .before .before .before .before .before .before .before .before .args .at) (c .before .before .before .before .before .before .before .before .before .before .before .args .q) (low (c .before .before .before .before .before .before .before .before .before .before .before .args .v)) (high (c .before .before .before .before .before .before .before .before .before .before .before .args .v)) (mid (c .before .before .before .before .before .before .before .before .before .before .before .args .v)) (c .before .before .before .before .before .before .before .before .before .before .before .args .needed) (c .before .before .before .before .before .before .before .before .first-cell .ensures .0 (c .before .before .before .before .before .before .before .before .before .before .before .args .live) (le-refl _)) (rw (c .before .before .before .before .before .before .before .before .before .before .mid .ensures) at (c .before .before .before .before .before .before .before .if1 .left)) (c .before .before .before .before .before .before .before .before .before .before .before .pre .0) (c .before .before .before .before .before .before .if2 .left) _ _ (c .before .begin .ensures) (rw (c .before .before .before .before .before .before .before .before .before .before .mid .ensures)) (rw (c .before .before .before .before .high .ensures) at (c .before .before .before .around .ensures .1)),
+      λ s o g h. call-sound (c .before .before .before .before .before .before .before .before .before .before .before .args .n) (c .before .before .before .before .before .before .before .before .before .before .before .args .live) s s o (c .before .before .before .before .before .before .before .before .before .before .before .args .own .now) (c .before .before .before .before .before .before .before .before .before .before .before .args .at) (c .before .before .before .before .before .before .before .before .before .before .before .args .q) (low (c .before .before .before .before .before .before .before .before .before .before .before .args .v)) (high (c .before .before .before .before .before .before .before .before .before .before .before .args .v)) (mid (c .before .before .before .before .before .before .before .before .before .before .before .args .v)) (c .before .before .before .before .before .before .before .before .before .before .before .args .needed) (c .before .before .before .before .before .before .before .before .first-cell .ensures .0 (c .before .before .before .before .before .before .before .before .before .before .before .args .live) (le-refl _)) (rw (c .before .before .before .before .before .before .before .before .before .before .mid .ensures) at (c .before .before .before .before .before .before .before .if1 .left)) (c .before .before .before .before .before .before .before .before .before .before .before .pre .0) (c .before .before .before .before .before .before .if2 .left) _ _ (c .before .begin .ensures) (c .before .before .before .around .ensures .0) g h,
+    )
 
 pub call-spec : {M : Type 1} → statement M
 call-spec =
     tie.close
     (tie.spec
-    cast-k
-    first-cell-requires
-    add-if1
-    stray-requires
+    (λ c κs. search needs)
+    (λ c κs. search needs)
+    (λ c. search needs)
+    (λ c κs. search needs)
     returns
     returns-2
-    around-requires
-    add-begin
-    sub-begin
-    begin-requires
-    add-t15
+    (λ c κs. search needs)
+    (λ c κs. search needs)
+    (λ c. search needs)
+    (λ c. search needs)
+    (λ c κs. search needs)
+    (λ c κs. search needs)
+    (λ c. search needs)
+    (λ c. search needs)
     returns-3)

@@ -3,58 +3,44 @@ use mathlib.Core.Path.{refl, ap, _∙_}
 use mathlib.Core.List.{List}
 use Prim.Native.Nat.{ℕ, _+_, _<_}
 use native.Mathlib.Omega.{arith}
-use Rattle.machine.specs.Instructions.{high, mid, low}
+use Rattle.machine.specs.Instructions.{high, mid, low, sixBits}
 use Rattle.machine.specs.Model.{noteOf}
 use Rattle.machine.proofs.Execs.{strayed, strayed-sound, go-no, go-done, go-lives}
 use borrow.Author.Needs.{needs}
 use Rattle.machine.proofs.control.go.Statement.{statement}
 use Rattle.machine.proofs.control.go.Tie as tie
 
-word-requires : tie.Need-word-requires
-word-requires c κs = search needs
-
-stray-requires : tie.Need-stray-requires
-stray-requires c κs = search needs
-
 returns : tie.Need-returns
 returns c = (
-  λ s i o. strayed (c .stray .ensures) s _ i o ∙ go-no (c .before .before .before .before .args .n) (c .before .before .before .before .args .live) s i o (c .before .before .before .before .args .own .now) (c .before .before .before .before .args .at) (high (c .before .before .before .before .args .v)) (c .before .before .word .ensures) (low (c .before .before .before .before .args .v)) (mid (c .before .before .before .before .args .v)) (c .before .if1 .taken),
+  λ s i o. strayed (c .stray .ensures) s _ i o ∙ go-no (c .before .before .before .before .before .args .n) (c .before .before .before .before .before .args .live) s i o (c .before .before .before .before .before .args .own .now) (c .before .before .before .before .before .args .at) (high (c .before .before .before .before .before .args .v)) (c .before .before .word .ensures) (low (c .before .before .before .before .before .args .v)) (mid (c .before .before .before .before .before .args .v)) (rw (c .before .before .before .before .high .ensures) at (c .before .if1 .taken)),
   λ s o g h. strayed-sound (c .stray .ensures) s _ o o refl,
 )
 
-cast-note : tie.Need-cast-note
-cast-note c = search needs
-
-add-note : tie.Need-add-note
-add-note c = search needs
-
-note-requires : tie.Need-note-requires
-note-requires c κs = search needs
-
-add-note-2 : tie.Need-add-note-2
-add-note-2 c = search needs
-
-note-requires-2 : tie.Need-note-requires-2
-note-requires-2 c κs = search needs
-
 returns-2 : tie.Need-returns-2
 returns-2 c =
-    let k : high (c .before .before .before .before .before .before .before .args .v) < 64 = omega (arith, c .before .before .before .before .before .before .before .fits .v .fits) in
-    let e = c .note2 .ensures ∙ ap (λ (z : List ℕ). noteOf z (c .before .before .before .before .before .before .before .args .live) 5 (high (c .before .before .before .before .before .before .before .args .v) + 1)) (c .before .before .note .ensures) in (
-      λ s i o. go-done (c .before .before .before .before .before .before .before .args .n) (c .before .before .before .before .before .before .before .args .live) s i o (c .before .before .before .before .before .before .before .args .own .now) (c .before .before .before .before .before .before .before .args .at) (high (c .before .before .before .before .before .before .before .args .v)) (c .before .before .before .before .before .word .ensures) (low (c .before .before .before .before .before .before .before .args .v)) (mid (c .before .before .before .before .before .before .before .args .v)) (c .before .before .before .before .before .before .before .pre) (c .before .before .before .before .if1 .left) k e,
-      λ s o g h. (g, go-lives (c .before .before .before .before .before .before .before .args .n) (c .before .before .before .before .before .before .before .args .live) s s o (c .before .before .before .before .before .before .before .args .own .now) (c .before .before .before .before .before .before .before .args .at) (high (c .before .before .before .before .before .before .before .args .v)) (c .before .before .before .before .before .word .ensures) (low (c .before .before .before .before .before .before .before .args .v)) (mid (c .before .before .before .before .before .before .before .args .v)) (c .before .before .before .before .before .before .before .pre) (c .before .before .before .before .if1 .left) k e, h, refl),
+    let k : c .before .before .before .before .before .before .before .before .before .high .result < sixBits = omega (arith, c .before .before .before .before .before .before .before .before .before .high .ensures, c .before .before .before .before .before .before .before .before .before .before .fits .v .fits) in
+    let e = c .before .note2 .ensures ∙ ap (λ (z : List ℕ). noteOf z (c .before .before .before .before .before .before .before .before .before .before .args .live) 5 (c .before .before .before .before .before .before .before .before .before .high .result + 1)) (c .before .before .before .note .ensures) in
+    rw (← c .before .before .before .before .before .before .before .before .before .high .ensures, ← c .before .before .before .before .mid .ensures, ← c .low .ensures) (
+      λ s i o. go-done (c .before .before .before .before .before .before .before .before .before .before .args .n) (c .before .before .before .before .before .before .before .before .before .before .args .live) s i o (c .before .before .before .before .before .before .before .before .before .before .args .own .now) (c .before .before .before .before .before .before .before .before .before .before .args .at) (c .before .before .before .before .before .before .before .before .before .high .result) (c .before .before .before .before .before .before .before .word .ensures) (c .low .result) (c .before .before .before .before .mid .result) (c .before .before .before .before .before .before .before .before .before .before .pre) (c .before .before .before .before .before .before .if1 .left) k e,
+      λ s o g h. (g, go-lives (c .before .before .before .before .before .before .before .before .before .before .args .n) (c .before .before .before .before .before .before .before .before .before .before .args .live) s s o (c .before .before .before .before .before .before .before .before .before .before .args .own .now) (c .before .before .before .before .before .before .before .before .before .before .args .at) (c .before .before .before .before .before .before .before .before .before .high .result) (c .before .before .before .before .before .before .before .word .ensures) (c .low .result) (c .before .before .before .before .mid .result) (c .before .before .before .before .before .before .before .before .before .before .pre) (c .before .before .before .before .before .before .if1 .left) k e, h, refl),
     )
 
 pub go-spec : {M : Type 1} → statement M
 go-spec =
     tie.close
     (tie.spec
-    word-requires
-    stray-requires
+    (λ c κs. search needs)
+    (λ c κs. search needs)
+    (λ c. search needs)
+    (λ c κs. search needs)
     returns
-    cast-note
-    add-note
-    note-requires
-    add-note-2
-    note-requires-2
+    (λ c. search needs)
+    (λ c κs. search needs)
+    (λ c. search needs)
+    (λ c κs. search needs)
+    (λ c. search needs)
+    (λ c. search needs)
+    (λ c κs. search needs)
+    (λ c κs. search needs)
+    (λ c. search needs)
     returns-2)

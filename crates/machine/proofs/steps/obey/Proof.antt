@@ -9,69 +9,15 @@ use borrow.Author.Needs.{needs}
 use Rattle.machine.proofs.steps.obey.Statement.{statement}
 use Rattle.machine.proofs.steps.obey.Tie as tie
 
-stray-requires : tie.Need-stray-requires
-stray-requires c κs = search needs
-
-cast-open : tie.Need-cast-open
-cast-open c = search needs
-
-open-requires : tie.Need-open-requires
-open-requires c κs = search needs
-
-lift-requires : tie.Need-lift-requires
-lift-requires c κs = search needs
-
-cast-close : tie.Need-cast-close
-cast-close c = search needs
-
-close-requires : tie.Need-close-requires
-close-requires c κs = search needs
-
-call-requires : tie.Need-call-requires
-call-requires c κs = search needs
-
-call-requires-2 : tie.Need-call-requires-2
-call-requires-2 c κs = search needs
-
-leave-requires : tie.Need-leave-requires
-leave-requires c κs = search needs
-
-go-requires : tie.Need-go-requires
-go-requires c κs = search needs
-
-next-requires : tie.Need-next-requires
-next-requires c κs = search needs
-
-unless-requires : tie.Need-unless-requires
-unless-requires c κs = search needs
-
-upto-requires : tie.Need-upto-requires
-upto-requires c κs = search needs
-
-load-requires : tie.Need-load-requires
-load-requires c κs = search needs
-
-save-requires : tie.Need-save-requires
-save-requires c κs = search needs
-
 act-requires : tie.Need-act-requires
 act-requires c κs =
     let r = c .before .before .before .before .match .rest .0 .0 in
     (c .before .before .before .before .before .pre .0, c .before .before .before .before .before .pre .1, c .before .before .before .before .before .pre .2, c .before .before .before .before .before .pre .3, (next-up 11 _ (next-up 10 _ (next-up 9 _ (next-up 8 _ (next-up 7 _ (next-up 6 _ (next-up 5 _ (next-up 4 _ (next-up 3 _ (next-up 2 _ (next-up 1 _ (next-up 0 _ (omega arith) (r .0 .0 .0 .0 .0 .0 .0 .0 .0 .0 .0 .1)) (r .0 .0 .0 .0 .0 .0 .0 .0 .0 .0 .1)) (r .0 .0 .0 .0 .0 .0 .0 .0 .0 .1)) (r .0 .0 .0 .0 .0 .0 .0 .0 .1)) (r .0 .0 .0 .0 .0 .0 .0 .1)) (r .0 .0 .0 .0 .0 .0 .1)) (r .0 .0 .0 .0 .0 .1)) (r .0 .0 .0 .0 .1)) (r .0 .0 .0 .1)) (r .0 .0 .1)) (r .0 .1)) (r .1)), c .before .before .before .if1 .taken)
 
-same-length : tie.Need-same-length
-same-length c = search needs
-
-same-length-2 : tie.Need-same-length-2
-same-length-2 c = search needs
-
 returns : tie.Need-returns
 returns c =
     let r = c .before .before .before .before .before .before .before .match .rest .0 .0 in
     (c .before .before .act .ensures .0 ∙ obeyed _ (c .before .before .before .before .before .before .before .before .args .at) _ _ _ (code-act (c .before .before .before .before .before .before .before .before .args .k) (c .before .before .before .before .before .before .before .before .args .q) (c .before .before .before .before .before .before .before .before .args .v) (next-up 11 _ (next-up 10 _ (next-up 9 _ (next-up 8 _ (next-up 7 _ (next-up 6 _ (next-up 5 _ (next-up 4 _ (next-up 3 _ (next-up 2 _ (next-up 1 _ (next-up 0 _ (omega arith) (r .0 .0 .0 .0 .0 .0 .0 .0 .0 .0 .0 .1)) (r .0 .0 .0 .0 .0 .0 .0 .0 .0 .0 .1)) (r .0 .0 .0 .0 .0 .0 .0 .0 .0 .1)) (r .0 .0 .0 .0 .0 .0 .0 .0 .1)) (r .0 .0 .0 .0 .0 .0 .0 .1)) (r .0 .0 .0 .0 .0 .0 .1)) (r .0 .0 .0 .0 .0 .1)) (r .0 .0 .0 .0 .1)) (r .0 .0 .0 .1)) (r .0 .0 .1)) (r .0 .1)) (r .1)) (c .before .before .before .before .before .before .if1 .taken)), c .before .before .act .ensures .1)
-
-stray-requires-2 : tie.Need-stray-requires-2
-stray-requires-2 c κs = search needs
 
 returns-2 : tie.Need-returns-2
 returns-2 c = (strayed (c .stray .ensures) _ _ _ _ ∙ obeyed-none _ (c .before .before .args .at) _ _ _ (code-0 (c .before .before .args .k) (c .before .before .args .q) (c .before .before .args .v) (c .before .match .keys1)), strayed-sound (c .stray .ensures) _ _ _ _ refl)
@@ -80,31 +26,26 @@ returns-3 : tie.Need-returns-3
 returns-3 c = (end-halts _ (c .before .args .at) _ _ _ ∙ obeyed _ (c .before .args .at) _ _ _ (code-1 (c .before .args .k) (c .before .args .q) (c .before .args .v) (c .match .keys2)), refl)
 
 returns-4 : tie.Need-returns-4
-returns-4 c = (jump-goes _ (c .before .args .at) _ _ _ (low (c .before .args .v)) ∙ obeyed _ (c .before .args .at) _ _ _ (code-2 (c .before .args .k) (c .before .args .q) (c .before .args .v) (c .match .keys3)), (c .before .pre .0, c .before .pre .1, c .before .pre .2, refl))
-
-same-length-3 : tie.Need-same-length-3
-same-length-3 c = search needs
+returns-4 c =
+    rw (c .low .ensures) (jump-goes _ (c .before .before .args .at) _ _ _ (low (c .before .before .args .v)) ∙ obeyed _ (c .before .before .args .at) _ _ _ (code-2 (c .before .before .args .k) (c .before .before .args .q) (c .before .before .args .v) (c .before .match .keys3)), (c .before .before .pre .0, c .before .before .pre .1, c .before .before .pre .2, refl))
 
 returns-5 : tie.Need-returns-5
 returns-5 c = (
-  c .lift .ensures .0 (c .before .before .«open» .last .1 .0) (c .before .before .before .before .before .args .input .now) (c .before .before .before .before .before .args .output .now) (c .before .before .before .before .before .args .own .now)
-      ∙ ap (lifted _ _) (c .before .before .«open» .ensures .0 (c .before .before .before .before .before .args .live) (c .before .before .before .before .before .args .input .now) (c .before .before .before .before .before .args .output .now))
-      ∙ enter-lifted _ (c .before .before .before .before .before .args .at) _ _ _ (c .before .before .before .before .before .args .q) (mid (c .before .before .before .before .before .args .v)) (low (c .before .before .before .before .before .args .v))
-      ∙ obeyed _ (c .before .before .before .before .before .args .at) _ _ _ (code-3 (c .before .before .before .before .before .args .k) (c .before .before .before .before .before .args .q) (c .before .before .before .before .before .args .v) (c .before .before .before .before .match .keys4)),
-  c .lift .ensures .1 (c .before .before .«open» .last .1 .0) (c .before .before .before .before .before .args .output .now) (c .before .before .before .before .before .args .output .now) (c .before .before .before .before .before .args .own .now) (did-quiet (c .before .before .before .before .before .args .n) (c .before .before .«open» .result) (c .before .before .«open» .last .1 .0) (c .before .before .before .before .before .args .output .now) (c .before .before .«open» .ensures .1) (c .before .before .before .before .before .pre .2)) (c .before .before .before .before .before .pre .1),
+  c .lift .ensures .0 (c .before .before .«open» .last .1 .0) (c .before .before .before .before .before .before .before .args .input .now) (c .before .before .before .before .before .before .before .args .output .now) (c .before .before .before .before .before .before .before .args .own .now)
+      ∙ ap (lifted _ _) (c .before .before .«open» .ensures .0 (c .before .before .before .before .before .before .before .args .live) (c .before .before .before .before .before .before .before .args .input .now) (c .before .before .before .before .before .before .before .args .output .now))
+      ∙ enter-lifted _ (c .before .before .before .before .before .before .before .args .at) _ _ _ (c .before .before .before .before .before .before .before .args .q) (c .before .before .before .mid .result) (c .before .before .before .before .before .low2 .result)
+      ∙ obeyed _ (c .before .before .before .before .before .before .before .args .at) _ _ _ (rw (c .before .before .before .mid .ensures, c .before .before .before .before .before .low2 .ensures) (code-3 (c .before .before .before .before .before .before .before .args .k) (c .before .before .before .before .before .before .before .args .q) (c .before .before .before .before .before .before .before .args .v) (c .before .before .before .before .before .before .match .keys4))),
+  c .lift .ensures .1 (c .before .before .«open» .last .1 .0) (c .before .before .before .before .before .before .before .args .output .now) (c .before .before .before .before .before .before .before .args .output .now) (c .before .before .before .before .before .before .before .args .own .now) (did-quiet (c .before .before .before .before .before .before .before .args .n) (c .before .before .«open» .result) (c .before .before .«open» .last .1 .0) (c .before .before .before .before .before .before .before .args .output .now) (c .before .before .«open» .ensures .1) (c .before .before .before .before .before .before .before .pre .2)) (c .before .before .before .before .before .before .before .pre .1),
 )
 
 returns-6 : tie.Need-returns-6
-returns-6 c = (c .close .ensures .0 (c .before .before .before .args .store .now) (c .before .before .before .args .input .now) (c .before .before .before .args .output .now) ∙ obeyed _ (c .before .before .before .args .at) _ _ _ (code-4 (c .before .before .before .args .k) (c .before .before .before .args .q) (c .before .before .before .args .v) (c .before .before .match .keys5)), c .close .ensures .1 (c .before .before .before .args .store .now) (c .before .before .before .args .output .now) (c .before .before .before .pre .0) (c .before .before .before .pre .2))
+returns-6 c = (c .close .ensures .0 (c .before .before .before .before .args .store .now) (c .before .before .before .before .args .input .now) (c .before .before .before .before .args .output .now) ∙ obeyed _ (c .before .before .before .before .args .at) _ _ _ (rw (c .before .mid2 .ensures) (code-4 (c .before .before .before .before .args .k) (c .before .before .before .before .args .q) (c .before .before .before .before .args .v) (c .before .before .before .match .keys5))), c .close .ensures .1 (c .before .before .before .before .args .store .now) (c .before .before .before .before .args .output .now) (c .before .before .before .before .pre .0) (c .before .before .before .before .pre .2))
 
 returns-7 : tie.Need-returns-7
 returns-7 c = (c .call .ensures .0 (c .before .before .before .args .store .now) (c .before .before .before .args .input .now) (c .before .before .before .args .output .now) ∙ same-fate _ (c .before .before .before .args .at) _ _ _ (c .before .before .before .args .q) (low (c .before .before .before .args .v)) (high (c .before .before .before .args .v)) (mid (c .before .before .before .args .v)) fate-kept ∙ obeyed _ (c .before .before .before .args .at) _ _ _ (code-5 (c .before .before .before .args .k) (c .before .before .before .args .q) (c .before .before .before .args .v) (c .before .before .match .keys6)), c .call .ensures .1 (c .before .before .before .args .store .now) (c .before .before .before .args .output .now) (c .before .before .before .pre .0) (c .before .before .before .pre .2))
 
 returns-8 : tie.Need-returns-8
 returns-8 c = (c .call2 .ensures .0 (c .before .before .before .args .store .now) (c .before .before .before .args .input .now) (c .before .before .before .args .output .now) ∙ same-fate _ (c .before .before .before .args .at) _ _ _ (c .before .before .before .args .q) (low (c .before .before .before .args .v)) (high (c .before .before .before .args .v)) (mid (c .before .before .before .args .v)) fate-gone ∙ obeyed _ (c .before .before .before .args .at) _ _ _ (code-6 (c .before .before .before .args .k) (c .before .before .before .args .q) (c .before .before .before .args .v) (c .before .before .match .keys7)), c .call2 .ensures .1 (c .before .before .before .args .store .now) (c .before .before .before .args .output .now) (c .before .before .before .pre .0) (c .before .before .before .pre .2))
-
-same-length-4 : tie.Need-same-length-4
-same-length-4 c = search needs
 
 returns-9 : tie.Need-returns-9
 returns-9 c = (c .leave .ensures .0 (c .before .before .before .before .args .input .now) (c .before .before .before .before .args .output .now) ∙ obeyed _ (c .before .before .before .before .args .at) _ _ _ (code-7 (c .before .before .before .before .args .k) (c .before .before .before .before .args .q) (c .before .before .before .before .args .v) (c .before .before .before .match .keys8)), c .leave .ensures .1 (c .before .before .before .before .args .output .now) (c .before .before .before .before .pre .2))
@@ -115,26 +56,14 @@ returns-10 c = (c .go .ensures .0 (c .before .before .before .args .store .now) 
 returns-11 : tie.Need-returns-11
 returns-11 c = (c .next .ensures .0 (c .before .before .before .args .store .now) (c .before .before .before .args .input .now) (c .before .before .before .args .output .now) ∙ obeyed _ (c .before .before .before .args .at) _ _ _ (code-9 (c .before .before .before .args .k) (c .before .before .before .args .q) (c .before .before .before .args .v) (c .before .before .match .keys10)), c .next .ensures .1 (c .before .before .before .args .store .now) (c .before .before .before .args .output .now) (c .before .before .before .pre .0) (c .before .before .before .pre .2))
 
-same-length-5 : tie.Need-same-length-5
-same-length-5 c = search needs
-
 returns-12 : tie.Need-returns-12
 returns-12 c = (c .unless .ensures .0 (c .before .before .before .before .args .input .now) (c .before .before .before .before .args .output .now) ∙ obeyed _ (c .before .before .before .before .args .at) _ _ _ (code-10 (c .before .before .before .before .args .k) (c .before .before .before .before .args .q) (c .before .before .before .before .args .v) (c .before .before .before .match .keys11)), c .unless .ensures .1 (c .before .before .before .before .args .output .now) (c .before .before .before .before .pre .2))
-
-same-length-6 : tie.Need-same-length-6
-same-length-6 c = search needs
 
 returns-13 : tie.Need-returns-13
 returns-13 c = (c .upto .ensures .0 (c .before .before .before .before .args .input .now) (c .before .before .before .before .args .output .now) ∙ obeyed _ (c .before .before .before .before .args .at) _ _ _ (code-11 (c .before .before .before .before .args .k) (c .before .before .before .before .args .q) (c .before .before .before .before .args .v) (c .before .before .before .match .keys12)), c .upto .ensures .1 (c .before .before .before .before .args .output .now) (c .before .before .before .before .pre .2))
 
-same-length-7 : tie.Need-same-length-7
-same-length-7 c = search needs
-
 returns-14 : tie.Need-returns-14
 returns-14 c = (c .before .load .ensures .0 (c .before .before .before .before .before .args .input .now) (c .before .before .before .before .before .args .output .now) ∙ obeyed _ (c .before .before .before .before .before .args .at) _ _ _ (code-13 (c .before .before .before .before .before .args .k) (c .before .before .before .before .before .args .q) (c .before .before .before .before .before .args .v) (c .before .before .before .before .match .keys13)), c .before .load .ensures .1 (c .before .before .before .before .before .args .output .now) (c .before .before .before .before .before .pre .2))
-
-same-length-8 : tie.Need-same-length-8
-same-length-8 c = search needs
 
 returns-15 : tie.Need-returns-15
 returns-15 c = (c .before .save .ensures .0 (c .before .before .before .before .before .args .input .now) (c .before .before .before .before .before .args .output .now) ∙ obeyed _ (c .before .before .before .before .before .args .at) _ _ _ (code-14 (c .before .before .before .before .before .args .k) (c .before .before .before .before .before .args .q) (c .before .before .before .before .before .args .v) (c .before .before .before .before .match .keys14)), c .before .save .ensures .1 (c .before .before .before .before .before .args .output .now) (c .before .before .before .before .before .pre .2))
@@ -146,44 +75,48 @@ pub obey-spec : {M : Type 1} → statement M
 obey-spec =
     tie.close
     (tie.spec
-    stray-requires
-    cast-open
-    open-requires
-    lift-requires
-    cast-close
-    close-requires
-    call-requires
-    call-requires-2
-    leave-requires
-    go-requires
-    next-requires
-    unless-requires
-    upto-requires
-    load-requires
-    save-requires
+    (λ c κs. search needs)
+    (λ c κs. search needs)
+    (λ c. search needs)
+    (λ c κs. search needs)
+    (λ c. search needs)
+    (λ c κs. search needs)
+    (λ c κs. search needs)
+    (λ c κs. search needs)
+    (λ c κs. search needs)
+    (λ c κs. search needs)
+    (λ c κs. search needs)
+    (λ c κs. search needs)
+    (λ c κs. search needs)
+    (λ c κs. search needs)
+    (λ c κs. search needs)
+    (λ c κs. search needs)
+    (λ c κs. search needs)
+    (λ c κs. search needs)
+    (λ c κs. search needs)
     act-requires
-    same-length
-    same-length-2
+    (λ c. search needs)
+    (λ c. search needs)
     returns
-    stray-requires-2
+    (λ c κs. search needs)
     returns-2
     returns-3
     returns-4
-    same-length-3
+    (λ c. search needs)
     returns-5
     returns-6
     returns-7
     returns-8
-    same-length-4
+    (λ c. search needs)
     returns-9
     returns-10
     returns-11
-    same-length-5
+    (λ c. search needs)
     returns-12
-    same-length-6
+    (λ c. search needs)
     returns-13
-    same-length-7
+    (λ c. search needs)
     returns-14
-    same-length-8
+    (λ c. search needs)
     returns-15
     returns-16)

@@ -16,9 +16,6 @@ Inv-loop source places ids i g j₀ j = (j ≤ i) × NoneBelow source places ids
 abbrev μ-loop : tie.MeasureT-loop
 μ-loop source places ids i g j₀ j = i - j
 
-element-copy-out-given : tie.Need-element-copy-out-given Inv-loop μ-loop
-element-copy-out-given c = c .before .before .pre .0
-
 add-result : tie.Need-add-result Inv-loop μ-loop
 add-result c = omega arith
 
@@ -35,9 +32,6 @@ loop-holds c = (omega arith, λ k l e. absurd (omega arith))
 
 cast-if2 : tie.Need-cast-if2 Inv-loop μ-loop
 cast-if2 c = let h = c .before .before .before .before .before .before .before .before .pre .0 in omega (arith, c .before .loop-test .taken)
-
-element-copy-out-t26 : tie.Need-element-copy-out-t26 Inv-loop μ-loop
-element-copy-out-t26 c = c .before .before .before .before .before .before .before .before .before .before .pre .0
 
 cast-result : tie.Need-cast-result Inv-loop μ-loop
 cast-result c = let h = c .before .before .before .before .before .before .before .before .before .before .before .before .before .pre .0 in omega (arith, c .before .before .before .before .before .before .loop-test .taken)
@@ -83,7 +77,7 @@ identity-spec =
     Inv-loop
     μ-loop
     (λ c. omega arith)
-    element-copy-out-given
+    (λ c. c .before .before .pre .0)
     (λ c κs. search needs)
     add-result
     returns
@@ -94,7 +88,7 @@ identity-spec =
     (λ c. omega arith)
     (λ c. omega arith)
     (λ c. omega arith)
-    element-copy-out-t26
+    (λ c. c .before .before .before .before .before .before .before .before .before .before .pre .0)
     (λ c κs. search needs)
     cast-result
     returns-2

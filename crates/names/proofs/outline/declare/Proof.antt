@@ -7,11 +7,8 @@ use borrow.Author.Needs.{needs}
 use Rattle.names.proofs.outline.declare.Statement.{statement}
 use Rattle.names.proofs.outline.declare.Tie as tie
 
-here-requires : tie.Need-here-requires
-here-requires c κs = search needs
-
-identity-of-requires : tie.Need-identity-of-requires
-identity-of-requires c κs = search needs
+rows-here-requires : tie.Need-rows-here-requires
+rows-here-requires c κs = search needs
 
 has-first-requires : tie.Need-has-first-requires
 has-first-requires c κs = search needs
@@ -26,19 +23,13 @@ add-o : tie.Need-add-o
 add-o c = search needs
 
 returns : tie.Need-returns
-returns c = (
-  λ m. declared-is (c .before .before .before .before .before .before .before .before .before .args .o) (c .before .before .before .before .before .before .before .before .before .args .rows .now) m (c .before .before .before .before .before .before .before .before .before .args .stack .now) (c .before .before .before .before .before .before .before .before .before .args .ids .now) (c .before .put .last .0) _ _ _ _ _ _ _ (c .before .before .before .before .before .before .before .before .here .ensures) (c .before .before .before .before .before .before .before .identity-of .ensures) (c .before .before .before .before .has-first .ensures) (c .before .before .before .noted-if .ensures) (c .before .put .ensures),
-  (λ i w. within-next (c .before .before .before .before .before .before .before .before .before .args .o) _ i w (omega arith, omega arith, omega arith, omega arith), refl),
-)
+returns c =
+    let a = c .before .before .before .before .before .before .before .before .args in (
+      declared-is (a .o) (a .rows .now) (a .stack .now) (a .ids .now) (c .before .put .last .0) _ _ _ _ _ _ (c .before .before .before .before .before .before .before .rows-here .ensures) (c .before .before .before .before .has-first .ensures) (c .before .before .before .noted-if .ensures) (c .before .put .ensures),
+      (λ i w. within-next (a .o) _ i w (omega arith, omega arith, omega arith), refl),
+    )
 
 pub declare-spec : {M : Type 1} → statement M
 declare-spec =
     tie.close
-    (tie.spec
-    here-requires
-    identity-of-requires
-    has-first-requires
-    noted-if-requires
-    put-requires
-    add-o
-    returns)
+    (tie.spec rows-here-requires has-first-requires noted-if-requires put-requires add-o returns)

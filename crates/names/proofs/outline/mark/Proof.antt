@@ -1,33 +1,26 @@
--- `names::outline::mark` meets its contract: what it looks up, notes and writes is what `marked` has.
+-- `names::outline::mark` meets its contract: it notes 9, or tells the rows.
 -- Assumes nothing.
-use native.Mathlib.Omega.{arith}
-use Rattle.names.proofs.OutlineLaws.{within-next, marked-is}
+use mathlib.Core.Path.{refl}
 use borrow.Author.Needs.{needs}
+use Rattle.names.proofs.OutlineLaws.{again-is, said-is}
 use Rattle.names.proofs.outline.mark.Statement.{statement}
 use Rattle.names.proofs.outline.mark.Tie as tie
 
-here-requires : tie.Need-here-requires
-here-requires c κs = search needs
-
-no-mark-requires : tie.Need-no-mark-requires
-no-mark-requires c κs = search needs
-
-noted-if-requires : tie.Need-noted-if-requires
-noted-if-requires c κs = search needs
-
-put-requires : tie.Need-put-requires
-put-requires c κs = search needs
-
-add-o : tie.Need-add-o
-add-o c = search needs
+noted-requires : tie.Need-noted-requires
+noted-requires c κs = search needs
 
 returns : tie.Need-returns
-returns c = (
-  marked-is (c .before .before .before .before .before .before .before .before .before .args .o) (c .before .before .before .before .before .before .before .before .before .args .rows .now) (c .before .before .before .before .before .before .before .before .before .args .marks .now) (c .before .before .before .before .before .before .before .before .before .args .stack .now) (c .before .before .before .before .before .before .before .before .before .args .ids .now) (c .before .put .last .0) _ _ _ _ _ (c .before .before .before .before .before .before .before .before .here .ensures) (c .before .before .before .before .no-mark .ensures) (c .before .before .before .noted-if .ensures) (c .before .put .ensures),
-  λ i w. within-next (c .before .before .before .before .before .before .before .before .before .args .o) _ i w (omega arith, omega arith, omega arith, omega arith),
-)
+returns c =
+    let a = c .before .before .args in
+    (λ stack. again-is (a .o) (a .rows .now) stack (a .ids .now) (a .want) (a .again) _ (a .word) (a .symbol) (c .before .if1 .taken) (c .noted .ensures), (refl, refl))
+
+say-requires : tie.Need-say-requires
+say-requires c κs = search needs
+
+returns-2 : tie.Need-returns-2
+returns-2 c =
+    let a = c .before .before .before .args in
+    (λ stack. said-is (a .o) (a .rows .now) stack (a .ids .now) _ (a .want) (a .again) (a .word) (a .symbol) (c .before .before .if1 .left) (c .say .ensures), (refl, refl))
 
 pub mark-spec : {M : Type 1} → statement M
-mark-spec =
-    tie.close
-    (tie.spec here-requires no-mark-requires noted-if-requires put-requires add-o returns)
+mark-spec = tie.close (tie.spec noted-requires returns say-requires returns-2)

@@ -11,50 +11,22 @@ use Rattle.names.proofs.outline.missing.Statement.{statement}
 use Rattle.names.proofs.outline.missing.Tie as tie
 
 abbrev Inv-loop : tie.InvT-loop
-Inv-loop rows marks ids scope j₀ j = (4 * j ≤ length rows) × (missingIn ids scope marks (drop (4 * j) rows) ≡ missingIn ids scope marks rows)
+Inv-loop rows scope j₀ j = (4 * j ≤ length rows) × (missingIn scope (drop (4 * j) rows) ≡ missingIn scope rows)
 
 abbrev μ-loop : tie.MeasureT-loop
-μ-loop rows marks ids scope j₀ j = length rows - j
+μ-loop rows scope j₀ j = length rows - j
 
 loop-holds : tie.Need-loop-holds Inv-loop μ-loop
 loop-holds c = (omega arith, refl)
 
-mul-loop : tie.Need-mul-loop Inv-loop μ-loop
-mul-loop c = omega arith
-
-add-loop : tie.Need-add-loop Inv-loop μ-loop
-add-loop c = omega arith
-
-mul-lacks : tie.Need-mul-lacks Inv-loop μ-loop
-mul-lacks c = omega arith
-
-add-lacks : tie.Need-add-lacks Inv-loop μ-loop
-add-lacks c = omega arith
-
-mul-lacks-2 : tie.Need-mul-lacks-2 Inv-loop μ-loop
-mul-lacks-2 c = omega arith
-
-shared-slice-read-lacks : tie.Need-shared-slice-read-lacks Inv-loop μ-loop
-shared-slice-read-lacks c = omega arith
-
-mul-lacks-3 : tie.Need-mul-lacks-3 Inv-loop μ-loop
-mul-lacks-3 c = omega arith
-
-add-lacks-2 : tie.Need-add-lacks-2 Inv-loop μ-loop
-add-lacks-2 c = omega arith
-
-mul-lacks-4 : tie.Need-mul-lacks-4 Inv-loop μ-loop
-mul-lacks-4 c = omega arith
-
-shared-slice-read-lacks-2 : tie.Need-shared-slice-read-lacks-2 Inv-loop μ-loop
-shared-slice-read-lacks-2 c = omega arith
-
-lacks-requires : tie.Need-lacks-requires Inv-loop μ-loop
-lacks-requires c κs = search needs
+is-missing-requires : tie.Need-is-missing-requires Inv-loop μ-loop
+is-missing-requires c κs = search needs
 
 returns : tie.Need-returns Inv-loop μ-loop
 returns c =
-    sym (missing-stop (c .before .before .before .before .before .before .before .before .args .ids .now) (c .before .before .before .before .before .before .before .before .args .scope) (c .before .before .before .before .before .before .before .before .args .marks .now) (c .before .before .before .before .before .before .before .before .args .rows .now) (c .before .before .before .before .before .loop .j) (c .before .before .before .before .loop-test .taken) (sym (c .before .lacks .ensures) ∙ c .if1 .taken)) ∙ c .before .before .before .before .before .loop .inv .1
+    let a = c .before .before .before .before .before .args in
+    let l = c .before .before .before .loop in
+    sym (missing-stop (a .scope) (a .rows .now) (l .j) (omega arith) (sym (c .before .is-missing .ensures) ∙ c .if1 .taken)) ∙ l .inv .1
 
 add-j : tie.Need-add-j Inv-loop μ-loop
 add-j c = omega arith
@@ -64,11 +36,15 @@ loop-less c = omega arith
 
 loop-again : tie.Need-loop-again Inv-loop μ-loop
 loop-again c =
-    (omega arith, sym (missing-next (c .before .before .before .before .before .before .before .before .args .ids .now) (c .before .before .before .before .before .before .before .before .args .scope) (c .before .before .before .before .before .before .before .before .args .marks .now) (c .before .before .before .before .before .before .before .before .args .rows .now) (c .before .before .before .before .before .loop .j) (c .before .before .before .before .loop-test .taken) (sym (c .before .lacks .ensures) ∙ c .if1 .left)) ∙ c .before .before .before .before .before .loop .inv .1)
+    let a = c .before .before .before .before .before .args in
+    let l = c .before .before .before .loop in
+    (omega arith, sym (missing-next (a .scope) (a .rows .now) (l .j) (omega arith) (sym (c .before .is-missing .ensures) ∙ c .if1 .left)) ∙ l .inv .1)
 
 returns-2 : tie.Need-returns-2 Inv-loop μ-loop
 returns-2 c =
-    sym (missing-end (c .before .before .before .before .args .ids .now) (c .before .before .before .before .args .scope) (c .before .before .before .before .args .marks .now) (c .before .before .before .before .args .rows .now) (c .before .loop .j) (c .loop-test .left)) ∙ c .before .loop .inv .1
+    let a = c .before .before .before .args in
+    let l = c .before .loop in
+    sym (missing-end (a .scope) (a .rows .now) (l .j) (omega arith)) ∙ l .inv .1
 
 pub missing-spec : {M : Type 1} → statement M
 missing-spec =
@@ -77,17 +53,7 @@ missing-spec =
     Inv-loop
     μ-loop
     loop-holds
-    mul-loop
-    add-loop
-    mul-lacks
-    add-lacks
-    mul-lacks-2
-    shared-slice-read-lacks
-    mul-lacks-3
-    add-lacks-2
-    mul-lacks-4
-    shared-slice-read-lacks-2
-    lacks-requires
+    is-missing-requires
     returns
     add-j
     loop-less

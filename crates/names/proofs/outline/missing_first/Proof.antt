@@ -10,14 +10,8 @@ use Rattle.names.proofs.outline.missing_first.Tie as tie
 mul-end : tie.Need-mul-end
 mul-end c = search needs
 
-mul-last : tie.Need-mul-last
-mul-last c = search needs
-
 slice-aggregate-missing : tie.Need-slice-aggregate-missing
-slice-aggregate-missing c = sym (length-take-le (4 * c .before .before .before .args .n) (c .before .before .before .args .rows .now) (c .before .before .before .pre .0))
-
-slice-aggregate-missing-2 : tie.Need-slice-aggregate-missing-2
-slice-aggregate-missing-2 c = sym (length-take-le (4 * c .before .before .before .before .args .m) (c .before .before .before .before .args .marks .now) (c .before .before .before .before .pre .1))
+slice-aggregate-missing c = sym (length-take-le (4 * c .before .before .args .n) (c .before .before .args .rows .now) (c .before .before .pre))
 
 missing-requires : tie.Need-missing-requires
 missing-requires c κs = search needs
@@ -26,12 +20,4 @@ returns : tie.Need-returns
 returns c = search needs
 
 pub missing-first-spec : {M : Type 1} → statement M
-missing-first-spec =
-    tie.close
-    (tie.spec
-    mul-end
-    mul-last
-    slice-aggregate-missing
-    slice-aggregate-missing-2
-    missing-requires
-    returns)
+missing-first-spec = tie.close (tie.spec mul-end slice-aggregate-missing missing-requires returns)

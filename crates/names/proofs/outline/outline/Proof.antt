@@ -12,7 +12,7 @@ walk-requires c κs = search needs
 returns : tie.Need-returns
 returns c =
     let e = c .walk .ensures .0 in
-    (ap (λ (k : Known). k .rows) e, (ap (λ (k : Known). k .marks) e, (ap (λ (k : Known). k .least) e, c .walk .ensures .1)))
+    (ap (λ (k : Known). k .rows) e, (ap (λ (k : Known). k .least) e, c .walk .ensures .1))
 
 pub outline-spec : {M : Type 1} → statement M
 outline-spec = tie.close (tie.spec walk-requires returns)

@@ -19,14 +19,13 @@ enter-requires c κs =
 
 returns : tie.Need-returns
 returns c = (
-  λ m. procedured-is (c .before .before .before .before .before .args .o) (c .before .before .before .before .before .args .rows .now) m (c .before .before .before .before .before .args .stack .now) (c .before .before .declare .result) (c .before .before .before .before .before .args .ids .now) _ _ _ (c .enter .result) (c .before .before .declare .ensures .0 m) (c .enter .ensures .0) (c .enter .ensures .1 .0),
+  procedured-is (c .before .before .before .before .before .args .o) (c .before .before .before .before .before .args .rows .now) (c .before .before .before .before .before .args .stack .now) (c .before .before .declare .result) (c .before .before .before .before .before .args .ids .now) _ _ _ (c .enter .result) (c .before .before .declare .ensures .0) (c .enter .ensures .0) (c .enter .ensures .1 .0),
   λ i w.
       let v = c .before .before .declare .ensures .1 .0 i w in
       let d = ap (λ (a : Open). a .depth) (c .before .before .declare .ensures .1 .1) in
       let n = ap (λ (a : Open). a .scopes) (c .before .before .declare .ensures .1 .1) in
       record {
         rows = v .rows;
-        marks = v .marks;
         around = record {
           deep = omega (arith, d, c .enter .ensures .1 .1, w .around .deep);
           many = omega (arith, n, c .enter .ensures .1 .0, w .around .many);

@@ -12,17 +12,17 @@ use Rattle.names.proofs.outline.walk.Statement.{statement}
 use Rattle.names.proofs.outline.walk.Tie as tie
 
 abbrev Inv-loop : tie.InvT-loop
-Inv-loop nodes ids rows₀ marks₀ stack₀ o₀ i₀ rows marks stack o i =
+Inv-loop nodes ids rows₀ stack₀ o₀ i₀ rows stack o i =
     (4 * i ≤ length nodes)
-    × (foldNodes (outlineNode ids) (drop (4 * i) nodes) (seeOutline o rows marks stack) ≡ outlineOf ids nodes)
+    × (foldNodes (outlineNode ids) (drop (4 * i) nodes) (seeOutline o rows stack) ≡ outlineOf ids nodes)
     × OutlineWithin o i
 
 abbrev μ-loop : tie.MeasureT-loop
-μ-loop nodes ids rows₀ marks₀ stack₀ o₀ i₀ rows marks stack o i = length nodes - i
+μ-loop nodes ids rows₀ stack₀ o₀ i₀ rows stack o i = length nodes - i
 
 loop-holds : tie.Need-loop-holds Inv-loop μ-loop
 unfolding opensOf outlineOf
-loop-holds c = (omega arith, refl, record { rows = omega arith; marks = omega arith; around = record { deep = omega arith; many = omega arith } })
+loop-holds c = (omega arith, refl, record { rows = omega arith; around = record { deep = omega arith; many = omega arith } })
 
 mul-loop : tie.Need-mul-loop Inv-loop μ-loop
 mul-loop c = omega arith
@@ -58,7 +58,7 @@ shared-slice-read-node-3 : tie.Need-shared-slice-read-node-3 Inv-loop μ-loop
 shared-slice-read-node-3 c = omega arith
 
 node-requires : tie.Need-node-requires Inv-loop μ-loop
-node-requires c κs = let l = c .before .before .before .before .before .before .before .loop in within-le (l .o) (l .i) 8191 (omega arith) (l .inv .2)
+node-requires c κs = let l = c .before .before .before .before .before .before .loop in within-le (l .o) (l .i) 8191 (omega arith) (l .inv .2)
 
 add-i : tie.Need-add-i Inv-loop μ-loop
 add-i c = omega arith
@@ -68,10 +68,10 @@ loop-less c = omega arith
 
 loop-again : tie.Need-loop-again Inv-loop μ-loop
 loop-again c =
-    let l = c .before .before .before .before .before .before .before .before .loop in (
+    let l = c .before .before .before .before .before .before .before .loop in (
       omega arith,
-      ap (foldNodes (outlineNode (c .before .before .before .before .before .before .before .before .before .before .args .ids .now)) (drop (4 * (l .i + 1)) (c .before .before .before .before .before .before .before .before .before .before .args .nodes .now))) (c .node .ensures .0 _)
-          ∙ sym (fold-on (outlineNode (c .before .before .before .before .before .before .before .before .before .before .args .ids .now)) (c .before .before .before .before .before .before .before .before .before .before .args .nodes .now) (l .i) _ (c .before .before .before .before .before .before .before .loop-test .taken))
+      ap (foldNodes (outlineNode (c .before .before .before .before .before .before .before .before .before .args .ids .now)) (drop (4 * (l .i + 1)) (c .before .before .before .before .before .before .before .before .before .args .nodes .now))) (c .node .ensures .0 _)
+          ∙ sym (fold-on (outlineNode (c .before .before .before .before .before .before .before .before .before .args .ids .now)) (c .before .before .before .before .before .before .before .before .before .args .nodes .now) (l .i) _ (c .before .before .before .before .before .before .loop-test .taken))
           ∙ l .inv .1,
       c .node .ensures .1 (l .i) (l .inv .2),
     )

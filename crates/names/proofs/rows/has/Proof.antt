@@ -9,7 +9,7 @@ find-requires : tie.Need-find-requires
 find-requires c κs = search needs
 
 returns : tie.Need-returns
-returns c = rw (c .find .ensures) (has-found (c .before .before .args .ids .now) (c .before .before .args .want) (c .before .before .args .rows .now))
+returns c = rw (c .before .find .ensures) (has-found (c .before .before .before .args .ids .now) (c .before .before .before .args .want) (c .before .before .before .args .rows .now))
 
 pub has-spec : {M : Type 1} → statement M
 has-spec = tie.close (tie.spec find-requires returns)

@@ -5,7 +5,7 @@ use mathlib.Core.Path.{_≡_, refl, sym, _∙_}
 use native.Mathlib.Omega.{arith}
 use borrow.Author.Needs.{needs}
 use Rattle.names.specs.Rows.{opensOf, meantIn}
-use Rattle.names.proofs.UseLaws.{meant-here, meant-outward, meant-outside, outside-word, here-word}
+use Rattle.names.proofs.UseLaws.{meant-here, meant-outward, meant-outside}
 use Rattle.names.proofs.uses.meaning.Statement.{statement}
 use Rattle.names.proofs.uses.meaning.Tie as tie
 
@@ -32,21 +32,21 @@ find-requires c κs = search needs
 
 returns : tie.Need-returns Inv-loop μ-loop
 returns c =
-    let a = c .before .before .before .before .before .before .args in
-    let l = c .before .before .before .before .loop in
-    let f = c .before .find in
+    let a = c .before .before .before .before .before .before .before .args in
+    let l = c .before .before .before .before .before .loop in
+    let f = c .before .before .find in
     let t = c .if1 .taken in
-    (meant-here (a .ids .now) (a .rows .now) (a .stack .now) (l .d) (a .id) (f .result) (c .before .before .before .loop-test .taken) (f .ensures) t ∙ l .inv .1, here-word (a .rows .now) (f .result) (c .before .before .before .before .before .before .pre .0) t)
+    meant-here (a .ids .now) (a .rows .now) (a .stack .now) (l .d) (a .id) (f .result .number) (c .before .before .before .before .loop-test .taken) (f .ensures) t ∙ l .inv .1
 
 loop-less : tie.Need-loop-less Inv-loop μ-loop
 loop-less c = omega arith
 
 loop-again : tie.Need-loop-again Inv-loop μ-loop
 loop-again c =
-    let a = c .before .before .before .before .before .before .args in
-    let l = c .before .before .before .before .loop in
-    let f = c .before .find in
-    (omega arith, sym (meant-outward (a .ids .now) (a .rows .now) (a .stack .now) (l .d) (a .id) (f .result) (c .before .before .before .loop-test .taken) (f .ensures) (c .if1 .left)) ∙ l .inv .1)
+    let a = c .before .before .before .before .before .before .before .args in
+    let l = c .before .before .before .before .before .loop in
+    let f = c .before .before .find in
+    (omega arith, sym (meant-outward (a .ids .now) (a .rows .now) (a .stack .now) (l .d) (a .id) (f .result .number) (c .before .before .before .before .loop-test .taken) (f .ensures) (c .if1 .left)) ∙ l .inv .1)
 
 outside-requires : tie.Need-outside-requires Inv-loop μ-loop
 outside-requires c κs = search needs
@@ -55,7 +55,7 @@ returns-2 : tie.Need-returns-2 Inv-loop μ-loop
 returns-2 c =
     let a = c .before .before .before .before .args in
     let l = c .before .before .loop in
-    (c .outside .ensures ∙ meant-outside (a .ids .now) (a .rows .now) (a .stack .now) (l .d) (a .id) (c .before .loop-test .left) ∙ l .inv .1, rw (c .outside .ensures) (outside-word (a .id)))
+    c .outside .ensures ∙ meant-outside (a .ids .now) (a .rows .now) (a .stack .now) (l .d) (a .id) (c .before .loop-test .left) ∙ l .inv .1
 
 pub meaning-spec : {M : Type 1} → statement M
 meaning-spec =

@@ -49,7 +49,7 @@ returns c =
     let m = c .before .before .before .before .before .before .before .meaning in (
       use-seen (a .ids .now) (a .rows .now) (a .uses .now) (c .before .before .before .before .keep .last .0) (a .stack .now) (a .u) (a .symbol) (c .before .before .before .before .before .before .before .before .identity-of .result) (c .before .before .before .before .before .number .result) (c .noted .result) (m .result)
           (c .before .before .before .before .before .before .before .before .identity-of .ensures)
-          (m .ensures .0)
+          (m .ensures)
           (c .before .before .before .before .before .number .ensures)
           (c .before .before .before .before .keep .ensures)
           (c .noted .ensures ∙ rw (c .before .enum-told .given .1)),
@@ -63,7 +63,7 @@ returns-2 c =
     let e = declares (m .result) (c .match .keys2) in (
       use-seen (a .ids .now) (a .rows .now) (a .uses .now) (c .before .before .keep .last .0) (a .stack .now) (a .u) (a .symbol) (c .before .before .before .before .before .before .identity-of .result) (c .before .before .before .number .result) (a .u .least) (m .result)
           (c .before .before .before .before .before .before .identity-of .ensures)
-          (m .ensures .0)
+          (m .ensures)
           (c .before .before .before .number .ensures)
           (c .before .before .keep .ensures)
           (rw e),

@@ -1,7 +1,6 @@
--- `reading::tables::place_in` meets its contract. A place is of 16 bits, as required, so the cast keeps it; behind the last one it is 0.
--- Assumes nothing.
-use mathlib.Core.Path.{sym}
-use native.Mathlib.Omega.{arith}
+-- `reading::tables::place_in` meets its contract. A remainder by 65,536 has 16 bits; behind the last place it is 0. Assumes nothing.
+use mathlib.Core.Path.{sym, ap}
+use Prim.Native.Nat.{_%_}
 use lib.ListN.{List·getD-eq-default}
 use borrow.Author.Needs.{needs}
 use Rattle.reading.proofs.tables.place_in.Statement.{statement}
@@ -14,13 +13,13 @@ shared-slice-read-result : tie.Need-shared-slice-read-result
 shared-slice-read-result c = search needs
 
 cast-result : tie.Need-cast-result
-cast-result c = omega (arith, c .before .before .pre (c .before .before .args .s))
+cast-result c = search needs
 
 returns : tie.Need-returns
 returns c = search needs
 
 returns-2 : tie.Need-returns-2
-returns-2 c = sym (List·getD-eq-default (c .before .args .places .now) 0 (c .if1 .left))
+returns-2 c = sym (ap (λ x. x % 65536) (List·getD-eq-default (c .before .args .places .now) 0 (c .if1 .left)))
 
 pub place-in-spec : {M : Type 1} → statement M
 place-in-spec =

@@ -70,10 +70,10 @@ shared-slice-read-put-four-2 : tie.Need-shared-slice-read-put-four-2 Inv-loop μ
 shared-slice-read-put-four-2 c = search needs
 
 put-four-requires : tie.Need-put-four-requires Inv-loop μ-loop
-put-four-requires c κs = room-four (c .before .before .before .before .before .before .before .before .loop .inv .1) (declarations-on (placeOf (c .before .before .before .before .before .before .before .before .before .before .before .args .places .now)) (c .before .before .before .before .before .before .before .before .before .before .before .args .rows .now) (c .before .before .before .before .before .before .before .before .loop .j) (omega arith)) (c .before .before .before .before .before .before .before .before .before .before .before .pre .0)
+put-four-requires c κs = room-four (c .before .before .before .before .before .before .before .before .loop .inv .1) (declarations-on (placeOf (c .before .before .before .before .before .before .before .before .before .before .before .args .places .now)) (c .before .before .before .before .before .before .before .before .before .before .before .args .rows .now) (c .before .before .before .before .before .before .before .before .loop .j) (omega arith)) (c .before .before .before .before .before .before .before .before .before .before .before .pre)
 
 add-at : tie.Need-add-at Inv-loop μ-loop
-add-at c = let r = room-four (c .before .before .before .before .before .before .before .before .before .before .before .loop .inv .1) (declarations-on (placeOf (c .before .before .before .before .before .before .before .before .before .before .before .before .before .before .args .places .now)) (c .before .before .before .before .before .before .before .before .before .before .before .before .before .before .args .rows .now) (c .before .before .before .before .before .before .before .before .before .before .before .loop .j) (omega arith)) (c .before .before .before .before .before .before .before .before .before .before .before .before .before .before .pre .0) in omega (arith, c .before .before .before .before .before .before .before .before .before .before .before .loop .inv .1 .wrote .size)
+add-at c = let r = room-four (c .before .before .before .before .before .before .before .before .before .before .before .loop .inv .1) (declarations-on (placeOf (c .before .before .before .before .before .before .before .before .before .before .before .before .before .before .args .places .now)) (c .before .before .before .before .before .before .before .before .before .before .before .before .before .before .args .rows .now) (c .before .before .before .before .before .before .before .before .before .before .before .loop .j) (omega arith)) (c .before .before .before .before .before .before .before .before .before .before .before .before .before .before .pre) in omega (arith, c .before .before .before .before .before .before .before .before .before .before .before .loop .inv .1 .wrote .size)
 
 add-j : tie.Need-add-j Inv-loop μ-loop
 add-j c = search needs

@@ -73,10 +73,10 @@ shared-slice-read-put-four-3 : tie.Need-shared-slice-read-put-four-3 Inv-loop μ
 shared-slice-read-put-four-3 c = search needs
 
 put-four-requires : tie.Need-put-four-requires Inv-loop μ-loop
-put-four-requires c κs = room-four (c .before .before .before .before .before .before .before .before .loop .inv .1) (nodes-on (placeOf (c .before .before .before .before .before .before .before .before .before .before .before .args .places .now)) (c .before .before .before .before .before .before .before .before .before .before .before .args .nodes .now) (c .before .before .before .before .before .before .before .before .loop .i) (omega arith)) (c .before .before .before .before .before .before .before .before .before .before .before .pre .0)
+put-four-requires c κs = room-four (c .before .before .before .before .before .before .before .before .loop .inv .1) (nodes-on (placeOf (c .before .before .before .before .before .before .before .before .before .before .before .args .places .now)) (c .before .before .before .before .before .before .before .before .before .before .before .args .nodes .now) (c .before .before .before .before .before .before .before .before .loop .i) (omega arith)) (c .before .before .before .before .before .before .before .before .before .before .before .pre)
 
 add-at : tie.Need-add-at Inv-loop μ-loop
-add-at c = let r = room-four (c .before .before .before .before .before .before .before .before .before .before .before .loop .inv .1) (nodes-on (placeOf (c .before .before .before .before .before .before .before .before .before .before .before .before .before .before .args .places .now)) (c .before .before .before .before .before .before .before .before .before .before .before .before .before .before .args .nodes .now) (c .before .before .before .before .before .before .before .before .before .before .before .loop .i) (omega arith)) (c .before .before .before .before .before .before .before .before .before .before .before .before .before .before .pre .0) in omega (arith, c .before .before .before .before .before .before .before .before .before .before .before .loop .inv .1 .wrote .size)
+add-at c = let r = room-four (c .before .before .before .before .before .before .before .before .before .before .before .loop .inv .1) (nodes-on (placeOf (c .before .before .before .before .before .before .before .before .before .before .before .before .before .before .args .places .now)) (c .before .before .before .before .before .before .before .before .before .before .before .before .before .before .args .nodes .now) (c .before .before .before .before .before .before .before .before .before .before .before .loop .i) (omega arith)) (c .before .before .before .before .before .before .before .before .before .before .before .before .before .before .pre) in omega (arith, c .before .before .before .before .before .before .before .before .before .before .before .loop .inv .1 .wrote .size)
 
 add-i : tie.Need-add-i Inv-loop μ-loop
 add-i c = search needs

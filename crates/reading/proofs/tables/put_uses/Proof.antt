@@ -52,10 +52,10 @@ use-at-requires : tie.Need-use-at-requires Inv-loop μ-loop
 use-at-requires c κs = search needs
 
 put-use-requires : tie.Need-put-use-requires Inv-loop μ-loop
-put-use-requires c κs = (use-room (placeOf (c .before .before .before .before .before .before .before .before .before .before .before .before .args .places .now)) (c .before .before .before .before .before .before .before .before .before .before .before .before .args .rows .now) (c .before .before .before .before .before .before .before .before .before .before .before .before .args .nodes .now) (c .before .before .before .before .before .before .before .before .before .before .before .before .args .uses .now) (c .before .before .before .before .before .before .before .loop .i) (c .before .before .before .before .before .before .before .loop .u) (c .before .before .before .before .before .before .before .loop .inv .2) (c .before .before .before .before .before .before .before .before .before .before .before .before .pre .0) (omega arith) (sym (c .before .before .before .before .is-use .ensures) ∙ c .before .before .before .if1 .taken), c .before .before .before .before .before .before .before .before .before .before .before .before .pre .1)
+put-use-requires c κs = use-room (placeOf (c .before .before .before .before .before .before .before .before .before .before .before .before .args .places .now)) (c .before .before .before .before .before .before .before .before .before .before .before .before .args .rows .now) (c .before .before .before .before .before .before .before .before .before .before .before .before .args .nodes .now) (c .before .before .before .before .before .before .before .before .before .before .before .before .args .uses .now) (c .before .before .before .before .before .before .before .loop .i) (c .before .before .before .before .before .before .before .loop .u) (c .before .before .before .before .before .before .before .loop .inv .2) (c .before .before .before .before .before .before .before .before .before .before .before .before .pre) (omega arith) (sym (c .before .before .before .before .is-use .ensures) ∙ c .before .before .before .if1 .taken)
 
 add-at : tie.Need-add-at Inv-loop μ-loop
-add-at c = let r = use-room (placeOf (c .before .before .before .before .before .before .before .before .before .before .before .before .before .before .before .args .places .now)) (c .before .before .before .before .before .before .before .before .before .before .before .before .before .before .before .args .rows .now) (c .before .before .before .before .before .before .before .before .before .before .before .before .before .before .before .args .nodes .now) (c .before .before .before .before .before .before .before .before .before .before .before .before .before .before .before .args .uses .now) (c .before .before .before .before .before .before .before .before .before .before .loop .i) (c .before .before .before .before .before .before .before .before .before .before .loop .u) (c .before .before .before .before .before .before .before .before .before .before .loop .inv .2) (c .before .before .before .before .before .before .before .before .before .before .before .before .before .before .before .pre .0) (omega arith) (sym (c .before .before .before .before .before .before .before .is-use .ensures) ∙ c .before .before .before .before .before .before .if1 .taken) in omega (arith, c .before .before .before .before .before .before .before .before .before .before .loop .inv .2 .wrote .size)
+add-at c = let r = use-room (placeOf (c .before .before .before .before .before .before .before .before .before .before .before .before .before .before .before .args .places .now)) (c .before .before .before .before .before .before .before .before .before .before .before .before .before .before .before .args .rows .now) (c .before .before .before .before .before .before .before .before .before .before .before .before .before .before .before .args .nodes .now) (c .before .before .before .before .before .before .before .before .before .before .before .before .before .before .before .args .uses .now) (c .before .before .before .before .before .before .before .before .before .before .loop .i) (c .before .before .before .before .before .before .before .before .before .before .loop .u) (c .before .before .before .before .before .before .before .before .before .before .loop .inv .2) (c .before .before .before .before .before .before .before .before .before .before .before .before .before .before .before .pre) (omega arith) (sym (c .before .before .before .before .before .before .before .is-use .ensures) ∙ c .before .before .before .before .before .before .if1 .taken) in omega (arith, c .before .before .before .before .before .before .before .before .before .before .loop .inv .2 .wrote .size)
 
 add-u : tie.Need-add-u Inv-loop μ-loop
 add-u c = search needs

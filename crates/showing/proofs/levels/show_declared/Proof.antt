@@ -6,10 +6,10 @@ use Rattle.showing.proofs.levels.show_declared.Statement.{statement}
 use Rattle.showing.proofs.levels.show_declared.Tie as tie
 
 abbrev Inv-loop : tie.InvT-loop
-Inv-loop source table scope node level from n k₀ k = k ≤ n
+Inv-loop source table scope level from n k₀ k = k ≤ n
 
 abbrev μ-loop : tie.MeasureT-loop
-μ-loop source table scope node level from n k₀ k = n - k
+μ-loop source table scope level from n k₀ k = n - k
 
 pub show-declared-spec : {M : Type 1} → statement M
 show-declared-spec =

@@ -1,28 +1,28 @@
 -- `types::meanings::as_left` meets its contract: a case for each kind of meaning.
-use mathlib.Core.Path.{sym, subst, _∙_}
-use native.Mathlib.Omega.{arith}
+use Prim.Native.Nat.{ℕ}
+use mathlib.Core.Path.{ap}
+use mathlib.Core.Bool.{false}
 use borrow.Author.Tests.{eq-eqb, ne-eqb}
 use borrow.Author.Needs.{needs}
-use Rattle.types.specs.Passes.{leftOf}
-use Rattle.types.specs.Model.{MeantWithin}
+use Rattle.types.specs.Passes.{judgement, sortIn, leftOf}
 use Rattle.types.proofs.meanings.as_left.Statement.{statement}
 use Rattle.types.proofs.meanings.as_left.Tie as tie
 
 enum-known-m : tie.Need-enum-known-m
 enum-known-m c = search needs
 
-word-requires : tie.Need-word-requires
-word-requires c κs = let h = subst MeantWithin (c .before .m .given .1) (c .before .before .before .before .before .before .pre .2) in (omega arith, omega arith)
+row-requires : tie.Need-row-requires
+row-requires c κs = search needs
 
 own-result-requires : tie.Need-own-result-requires
-own-result-requires c κs = let h = subst MeantWithin (c .before .before .before .m .given .1) (c .before .before .before .before .before .before .before .before .pre .2) in (omega arith, omega arith)
+own-result-requires c κs = search needs
 
 returns : tie.Need-returns
 unfolding leftOf
-returns c = simp (c .before .before .before .before .m .given .1, eq-eqb _ _ (sym (c .before .before .word .ensures) ∙ c .before .if1 .taken)) (c .own-result .ensures)
+returns c = rw (c .before .before .before .before .before .m .given .1, ← (c .before .before .before .row .ensures), eq-eqb _ _ (c .before .if1 .taken)) (c .own-result .ensures)
 
-sort-of-requires : tie.Need-sort-of-requires
-sort-of-requires c κs = let h = subst MeantWithin (c .before .before .before .m .given .1) (c .before .before .before .before .before .before .before .before .pre .2) in (omega arith, omega arith)
+sort-requires : tie.Need-sort-requires
+sort-requires c κs = search needs
 
 enum-told : tie.Need-enum-told
 enum-told c = search needs
@@ -31,8 +31,8 @@ enum-told-2 : tie.Need-enum-told-2
 enum-told-2 c = search needs
 
 returns-2 : tie.Need-returns-2
-unfolding leftOf
-returns-2 c = simp (c .before .before .before .before .m .given .1, ne-eqb _ _ (λ e. c .before .if1 .left (c .before .before .word .ensures ∙ e)), c .sort-of .ensures)
+unfolding leftOf sortIn
+returns-2 c = rw (c .before .before .before .before .before .m .given .1, ← (c .before .before .before .row .ensures), ne-eqb _ _ (c .before .if1 .left)) (ap (λ (t : ℕ). judgement t false) (c .sort .ensures .0))
 
 returns-3 : tie.Need-returns-3
 unfolding leftOf
@@ -47,10 +47,10 @@ as-left-spec =
     tie.close
     (tie.spec
     enum-known-m
-    word-requires
+    row-requires
     own-result-requires
     returns
-    sort-of-requires
+    sort-requires
     enum-told
     enum-told-2
     returns-2

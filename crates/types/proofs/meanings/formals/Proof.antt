@@ -1,5 +1,5 @@
 -- `types::meanings::formals` meets its contract. The loop's invariant: the formals passed and those in a row from here on are all of them.
-use mathlib.Core.Path.{_≡_, sym, _∙_}
+use mathlib.Core.Path.{_≡_}
 use Prim.Native.Nat.{_+_, _*_, _-_, _≤_}
 use native.Mathlib.Omega.{arith}
 use lib.ListN.{drop}
@@ -27,18 +27,18 @@ add-if1 c = search needs
 add-if1-2 : tie.Need-add-if1-2 Inv-loop μ-loop
 add-if1-2 c = search needs
 
-add-word : tie.Need-add-word Inv-loop μ-loop
-add-word c = search needs
+add-at : tie.Need-add-at Inv-loop μ-loop
+add-at c = search needs
 
-add-word-2 : tie.Need-add-word-2 Inv-loop μ-loop
-add-word-2 c = search needs
+add-at-2 : tie.Need-add-at-2 Inv-loop μ-loop
+add-at-2 c = search needs
 
-word-requires : tie.Need-word-requires Inv-loop μ-loop
-word-requires c κs = search needs
+is-kind-requires : tie.Need-is-kind-requires Inv-loop μ-loop
+is-kind-requires c κs = search needs
 
 returns : tie.Need-returns Inv-loop μ-loop
 returns c =
-    let e = formals-other (c .before .before .before .before .before .before .before .args .rows .now) (c .before .before .before .before .before .before .before .args .d .number + 1 + c .before .before .before .before .before .loop .n) (omega arith) (λ e. c .if2 .taken (c .before .word .ensures ∙ e)) in
+    let e = formals-other (c .before .before .before .before .before .before .before .args .rows .now) (c .before .before .before .before .before .before .before .args .d .number + 1 + c .before .before .before .before .before .loop .n) _ (omega arith) (c .before .is-kind .ensures) (c .if2 .taken) in
     (omega arith, omega arith)
 
 add-n : tie.Need-add-n Inv-loop μ-loop
@@ -49,7 +49,7 @@ loop-less c = search needs
 
 loop-again : tie.Need-loop-again Inv-loop μ-loop
 loop-again c =
-    let e = formals-here (c .before .before .before .before .before .before .before .args .rows .now) (c .before .before .before .before .before .before .before .args .d .number + 1 + c .before .before .before .before .before .loop .n) (omega arith) (sym (c .before .word .ensures) ∙ c .if2 .left) in
+    let e = formals-here (c .before .before .before .before .before .before .before .args .rows .now) (c .before .before .before .before .before .before .before .args .d .number + 1 + c .before .before .before .before .before .loop .n) _ (omega arith) (c .before .is-kind .ensures) (c .if2 .left) in
     let q : c .before .before .before .before .before .before .before .args .d .number + 1 + (c .before .before .before .before .before .loop .n + 1) ≡ c .before .before .before .before .before .before .before .args .d .number + 1 + c .before .before .before .before .before .loop .n + 1 = omega arith in
     (omega arith, rw q (omega arith))
 
@@ -67,9 +67,9 @@ formals-spec =
     loop-holds
     add-if1
     add-if1-2
-    add-word
-    add-word-2
-    word-requires
+    add-at
+    add-at-2
+    is-kind-requires
     returns
     add-n
     loop-less

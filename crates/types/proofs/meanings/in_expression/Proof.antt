@@ -1,7 +1,6 @@
 -- `types::meanings::in_expression` meets its contract: a case for each kind of meaning.
 use mathlib.Core.Path.{sym, subst, _∙_}
 use native.Mathlib.Omega.{arith}
-use borrow.Author.Tests.{eq-eqb, ne-eqb}
 use borrow.Author.Needs.{needs}
 use Rattle.types.specs.Passes.{primaryOf}
 use Rattle.types.specs.Model.{MeantWithin}
@@ -12,20 +11,20 @@ enum-known-m : tie.Need-enum-known-m
 enum-known-m c = search needs
 
 sort-of-requires : tie.Need-sort-of-requires
-sort-of-requires c κs = let h = subst MeantWithin (c .before .m .given .1) (c .before .before .before .before .before .pre .2) in (omega arith, omega arith)
+sort-of-requires c κs = search needs
 
-word-requires : tie.Need-word-requires
-word-requires c κs = let h = subst MeantWithin (c .before .before .m .given .1) (c .before .before .before .before .before .before .pre .2) in (omega arith, omega arith)
+is-kind-requires : tie.Need-is-kind-requires
+is-kind-requires c κs = search needs
 
 formals-requires : tie.Need-formals-requires
-formals-requires c κs = let h = subst MeantWithin (c .before .before .before .before .m .given .1) (c .before .before .before .before .before .before .before .before .pre .2) in (omega arith, omega arith)
+formals-requires c κs = let h = subst MeantWithin (c .before .before .before .before .m .given .1) (c .before .before .before .before .before .before .before .pre .1) in (omega arith, omega arith)
 
 applied-requires : tie.Need-applied-requires
 applied-requires c κs = search needs
 
 returns : tie.Need-returns
 unfolding primaryOf
-returns c = simp (c .before .before .before .before .before .before .m .given .1, eq-eqb _ _ (sym (c .before .before .before .word .ensures) ∙ c .before .before .if1 .taken)) (simp (c .before .before .before .before .sort-of .ensures, c .before .formals .ensures .0) at (c .applied .ensures))
+returns c = simp (c .before .before .before .before .before .before .m .given .1, sym (c .before .before .before .is-kind .ensures) ∙ c .before .before .if1 .taken) (simp (c .before .before .before .before .sort-of .ensures, c .before .formals .ensures .0) at (c .applied .ensures))
 
 plainly-requires : tie.Need-plainly-requires
 plainly-requires c κs = search needs
@@ -47,7 +46,7 @@ enum-told c = search needs
 
 returns-2 : tie.Need-returns-2
 unfolding primaryOf
-returns-2 c = simp (c .before .before .before .before .before .m .given .1, ne-eqb _ _ (λ e. c .before .if1 .left (c .before .before .word .ensures ∙ e))) (simp (c .before .before .before .sort-of .ensures) at (c .plainly .ensures))
+returns-2 c = simp (c .before .before .before .before .before .m .given .1, sym (c .before .before .is-kind .ensures) ∙ c .before .if1 .left) (simp (c .before .before .before .sort-of .ensures) at (c .plainly .ensures))
 
 returns-3 : tie.Need-returns-3
 unfolding primaryOf
@@ -63,7 +62,7 @@ in-expression-spec =
     (tie.spec
     enum-known-m
     sort-of-requires
-    word-requires
+    is-kind-requires
     formals-requires
     applied-requires
     returns

@@ -1,25 +1,22 @@
 -- `types::meanings::is_variable` meets its contract: a case for each kind of meaning.
-use mathlib.Core.Path.{sym, subst, _∙_}
-use native.Mathlib.Omega.{arith}
-use borrow.Author.Tests.{eq-eqb, ne-eqb}
+use mathlib.Core.Path.{sym, _∙_}
 use borrow.Author.Needs.{needs}
 use Rattle.types.specs.Passes.{variableOf}
-use Rattle.types.specs.Model.{MeantWithin}
 use Rattle.types.proofs.meanings.is_variable.Statement.{statement}
 use Rattle.types.proofs.meanings.is_variable.Tie as tie
 
 enum-known-m : tie.Need-enum-known-m
 enum-known-m c = search needs
 
-word-requires : tie.Need-word-requires
-word-requires c κs = let h = subst MeantWithin (c .before .m .given .1) (c .before .before .before .before .before .pre .2) in (omega arith, omega arith)
+is-kind-requires : tie.Need-is-kind-requires
+is-kind-requires c κs = search needs
 
 returns : tie.Need-returns
 unfolding variableOf
-returns c = simp (c .before .before .before .m .given .1, eq-eqb _ _ (sym (c .before .word .ensures) ∙ c .if1 .taken))
+returns c = simp (c .before .before .before .m .given .1, sym (c .before .is-kind .ensures) ∙ c .if1 .taken)
 
 sort-of-requires : tie.Need-sort-of-requires
-sort-of-requires c κs = let h = subst MeantWithin (c .before .before .before .m .given .1) (c .before .before .before .before .before .before .before .pre .2) in (omega arith, omega arith)
+sort-of-requires c κs = search needs
 
 apart-requires : tie.Need-apart-requires
 apart-requires c κs = search needs
@@ -32,7 +29,7 @@ enum-told-2 c = search needs
 
 returns-2 : tie.Need-returns-2
 unfolding variableOf
-returns-2 c = simp (c .before .before .before .before .before .m .given .1, ne-eqb _ _ (λ e. c .before .before .if1 .left (c .before .before .before .word .ensures ∙ e)), c .apart .ensures, c .before .sort-of .ensures)
+returns-2 c = simp (c .before .before .before .before .before .m .given .1, sym (c .before .before .before .is-kind .ensures) ∙ c .before .before .if1 .left, c .apart .ensures, c .before .sort-of .ensures)
 
 returns-3 : tie.Need-returns-3
 unfolding variableOf
@@ -47,7 +44,7 @@ is-variable-spec =
     tie.close
     (tie.spec
     enum-known-m
-    word-requires
+    is-kind-requires
     returns
     sort-of-requires
     apart-requires

@@ -1,7 +1,6 @@
 -- `types::meanings::miscalled` meets its contract: a case for each kind of meaning.
 use mathlib.Core.Path.{sym, subst, _∙_}
 use native.Mathlib.Omega.{arith}
-use borrow.Author.Tests.{eq-eqb, ne-eqb}
 use borrow.Author.Needs.{needs}
 use Rattle.types.specs.Passes.{miscalledOf}
 use Rattle.types.specs.Model.{MeantWithin}
@@ -11,15 +10,15 @@ use Rattle.types.proofs.meanings.miscalled.Tie as tie
 enum-known-m : tie.Need-enum-known-m
 enum-known-m c = search needs
 
-word-requires : tie.Need-word-requires
-word-requires c κs = let h = subst MeantWithin (c .before .m .given .1) (c .before .before .before .before .pre .1) in (omega arith, omega arith)
+is-kind-requires : tie.Need-is-kind-requires
+is-kind-requires c κs = search needs
 
 formals-requires : tie.Need-formals-requires
 formals-requires c κs = let h = subst MeantWithin (c .before .before .before .m .given .1) (c .before .before .before .before .before .before .pre .1) in (omega arith, omega arith)
 
 returns : tie.Need-returns
 unfolding miscalledOf
-returns c = simp (c .before .before .before .before .m .given .1, eq-eqb _ _ (sym (c .before .before .word .ensures) ∙ c .before .if1 .taken), c .formals .ensures .0)
+returns c = simp (c .before .before .before .before .m .given .1, sym (c .before .before .is-kind .ensures) ∙ c .before .if1 .taken, c .formals .ensures .0)
 
 enum-known-m-2 : tie.Need-enum-known-m-2
 enum-known-m-2 c = search needs
@@ -32,7 +31,7 @@ enum-told c = search needs
 
 returns-2 : tie.Need-returns-2
 unfolding miscalledOf
-returns-2 c = simp (c .before .before .before .m .given .1, ne-eqb _ _ (λ e. c .if1 .left (c .before .word .ensures ∙ e)))
+returns-2 c = simp (c .before .before .before .m .given .1, sym (c .before .is-kind .ensures) ∙ c .if1 .left)
 
 returns-3 : tie.Need-returns-3
 unfolding miscalledOf
@@ -47,7 +46,7 @@ miscalled-spec =
     tie.close
     (tie.spec
     enum-known-m
-    word-requires
+    is-kind-requires
     formals-requires
     returns
     enum-known-m-2

@@ -1,20 +1,23 @@
 -- `types::meanings::own_result` meets its contract. The loop's invariant: what the bodies from here outward give is what all give.
-use mathlib.Core.Path.{_≡_, refl, sym, _∙_}
-use Prim.Native.Nat.{_-_, _≤_}
+use mathlib.Core.Path.{_≡_, refl, sym, ap, _∙_}
+use Prim.Native.Nat.{ℕ, _-_, _≤_}
 use native.Mathlib.Omega.{arith}
+use lib.Dec.{eqb}
 use lib.ListN.{length}
 use borrow.Author.Needs.{needs}
+use Rattle.names.specs.Modes.{typeIn}
 use Rattle.names.specs.Rows.{opensOf}
-use Rattle.types.specs.Passes.{wordIn, ownOf}
+use Rattle.names.specs.declared.Row.{Row}
+use Rattle.types.specs.Passes.{sortIn, judgement, ownOf}
 use Rattle.types.proofs.RowWords.{own-here, own-further}
 use Rattle.types.proofs.meanings.own_result.Statement.{statement}
 use Rattle.types.proofs.meanings.own_result.Tie as tie
 
 abbrev Inv-loop : tie.InvT-loop
-Inv-loop rows d bodies count n₀ n = (n ≤ length bodies) × (ownOf rows (wordIn rows (d .number) 1) (opensOf n bodies) ≡ ownOf rows (wordIn rows (d .number) 1) (opensOf count bodies))
+Inv-loop rows symbol bodies count n₀ n = (n ≤ length bodies) × (ownOf rows symbol (opensOf n bodies) ≡ ownOf rows symbol (opensOf count bodies))
 
 abbrev μ-loop : tie.MeasureT-loop
-μ-loop rows d bodies count n₀ n = n
+μ-loop rows symbol bodies count n₀ n = n
 
 loop-holds : tie.Need-loop-holds Inv-loop μ-loop
 loop-holds c = (omega arith, refl)
@@ -22,32 +25,40 @@ loop-holds c = (omega arith, refl)
 sub-n : tie.Need-sub-n Inv-loop μ-loop
 sub-n c = search needs
 
-mul-b : tie.Need-mul-b Inv-loop μ-loop
-mul-b c = omega arith
+mul-t10 : tie.Need-mul-t10 Inv-loop μ-loop
+mul-t10 c = omega arith
 
-shared-slice-read-b : tie.Need-shared-slice-read-b Inv-loop μ-loop
-shared-slice-read-b c = omega arith
+shared-slice-read-t12 : tie.Need-shared-slice-read-t12 Inv-loop μ-loop
+shared-slice-read-t12 c = omega arith
 
-cast-b : tie.Need-cast-b Inv-loop μ-loop
-cast-b c = omega (arith, c .shared-slice-known3 .given (c .before .before .loop .n - 1))
+cast-t13 : tie.Need-cast-t13 Inv-loop μ-loop
+cast-t13 c = omega (arith, c .shared-slice-known3 .given (c .before .before .loop .n - 1))
 
-word-requires : tie.Need-word-requires Inv-loop μ-loop
-word-requires c κs = let h = c .shared-slice-known3 .given (c .before .before .loop .n - 1) in (omega arith, omega arith)
+row-requires : tie.Need-row-requires Inv-loop μ-loop
+row-requires c κs = search needs
 
-word-requires-2 : tie.Need-word-requires-2 Inv-loop μ-loop
-word-requires-2 c κs = search needs
-
-word-requires-3 : tie.Need-word-requires-3 Inv-loop μ-loop
-word-requires-3 c κs = let h = c .before .before .before .shared-slice-known3 .given (c .before .before .before .before .before .loop .n - 1) in (omega arith, omega arith)
+sort-requires : tie.Need-sort-requires Inv-loop μ-loop
+sort-requires c κs = search needs
 
 returns : tie.Need-returns Inv-loop μ-loop
-returns c = simp (c .word3 .ensures) (sym (own-here (c .before .before .before .before .before .before .before .before .before .args .rows .now) (wordIn (c .before .before .before .before .before .before .before .before .before .args .rows .now) (c .before .before .before .before .before .before .before .before .before .args .d .number) 1) (c .before .before .before .before .before .before .before .before .before .args .bodies .now) (c .before .before .before .before .before .before .loop .n) (c .before .before .before .before .before .loop-test .taken) (sym (c .before .before .before .word .ensures) ∙ c .before .if1 .taken ∙ c .before .before .word2 .ensures)) ∙ c .before .before .before .before .before .before .loop .inv .1)
+unfolding sortIn
+returns c =
+    let a = c .before .before .before .before .before .before .before .before .before .args in
+    let l = c .before .before .before .before .before .before .loop in
+    let r = c .before .before .before .row .ensures in
+    ap (λ (t : ℕ). judgement t (eqb t 0)) (c .sort .ensures .0 ∙ ap (λ (x : Row). typeIn (x .sort)) r)
+    ∙ sym (own-here (a .rows .now) (a .symbol) (a .bodies .now) (l .n) (c .before .before .before .before .before .loop-test .taken) (sym (ap (λ (x : Row). x .symbol) r) ∙ c .before .if1 .taken))
+    ∙ l .inv .1
 
 loop-less : tie.Need-loop-less Inv-loop μ-loop
 loop-less c = omega arith
 
 loop-again : tie.Need-loop-again Inv-loop μ-loop
-loop-again c = (omega arith, sym (own-further (c .before .before .before .before .before .before .before .before .args .rows .now) (wordIn (c .before .before .before .before .before .before .before .before .args .rows .now) (c .before .before .before .before .before .before .before .before .args .d .number) 1) (c .before .before .before .before .before .before .before .before .args .bodies .now) (c .before .before .before .before .before .loop .n) (c .before .before .before .before .loop-test .taken) (λ e. c .if1 .left (c .before .before .word .ensures ∙ e ∙ sym (c .before .word2 .ensures)))) ∙ c .before .before .before .before .before .loop .inv .1)
+loop-again c =
+    let a = c .before .before .before .before .before .before .before .before .args in
+    let l = c .before .before .before .before .before .loop in
+    let r = c .before .before .row .ensures in
+    (omega arith, sym (own-further (a .rows .now) (a .symbol) (a .bodies .now) (l .n) (c .before .before .before .before .loop-test .taken) (λ e. c .if1 .left (ap (λ (x : Row). x .symbol) r ∙ e))) ∙ l .inv .1)
 
 returns-2 : tie.Need-returns-2 Inv-loop μ-loop
 unfolding ownOf opensOf
@@ -63,12 +74,11 @@ own-result-spec =
     μ-loop
     loop-holds
     sub-n
-    mul-b
-    shared-slice-read-b
-    cast-b
-    word-requires
-    word-requires-2
-    word-requires-3
+    mul-t10
+    shared-slice-read-t12
+    cast-t13
+    row-requires
+    sort-requires
     returns
     loop-less
     loop-again

@@ -1,8 +1,10 @@
 -- `types::meanings::wanted` meets its contract: a case for each kind of meaning. A formal's number is near its procedure's.
 use mathlib.Core.Path.{sym, subst, _∙_}
 use native.Mathlib.Omega.{arith}
-use borrow.Author.Tests.{le-leb, lt-leb, eq-eqb, ne-eqb}
+use borrow.Author.Tests.{le-leb, lt-leb}
+use mathlib.Core.Bool.{true, false}
 use borrow.Author.Needs.{needs}
+use Rattle.types.proofs.RowWords.{from-not}
 use Rattle.types.specs.Passes.{wantOf}
 use Rattle.types.specs.Model.{MeantWithin}
 use Rattle.types.proofs.meanings.wanted.Statement.{statement}
@@ -11,28 +13,28 @@ use Rattle.types.proofs.meanings.wanted.Tie as tie
 enum-known-m : tie.Need-enum-known-m
 enum-known-m c = search needs
 
-word-requires : tie.Need-word-requires
-word-requires c κs = let h = subst MeantWithin (c .before .m .given .1) (c .before .before .before .before .before .pre .2) in (omega arith, omega arith)
+is-kind-requires : tie.Need-is-kind-requires
+is-kind-requires c κs = search needs
 
 returns : tie.Need-returns
 unfolding wantOf
-returns c = simp (c .before .before .before .m .given .1, ne-eqb _ _ (λ e. c .if1 .taken (c .before .word .ensures ∙ e)))
+returns c = simp (c .before .before .before .m .given .1, sym (from-not _ true (c .if1 .taken) ∙ c .before .is-kind .ensures))
 
 formals-requires : tie.Need-formals-requires
-formals-requires c κs = let h = subst MeantWithin (c .before .before .before .m .given .1) (c .before .before .before .before .before .before .before .pre .2) in (omega arith, omega arith)
+formals-requires c κs = let h = subst MeantWithin (c .before .before .before .m .given .1) (c .before .before .before .before .before .before .pre .1) in (omega arith, omega arith)
 
 returns-2 : tie.Need-returns-2
 unfolding wantOf
-returns-2 c = simp (c .before .before .before .before .before .m .given .1, eq-eqb _ _ (sym (c .before .before .before .word .ensures) ∙ c .before .before .if1 .left), le-leb _ _ (rw (c .before .formals .ensures .0) at (c .if2 .taken)))
+returns-2 c = simp (c .before .before .before .before .before .m .given .1, sym (from-not _ false (c .before .before .if1 .left) ∙ c .before .before .before .is-kind .ensures), le-leb _ _ (rw (c .before .formals .ensures .0) at (c .if2 .taken)))
 
-add-t12 : tie.Need-add-t12
-add-t12 c = let h = subst MeantWithin (c .before .before .before .before .before .before .m .given .1) (c .before .before .before .before .before .before .before .before .before .before .pre .2) in omega arith
+add-at : tie.Need-add-at
+add-at c = let h = subst MeantWithin (c .before .before .before .before .before .before .m .given .1) (c .before .before .before .before .before .before .before .before .before .pre .1) in omega arith
 
-add-t13 : tie.Need-add-t13
-add-t13 c = let h = subst MeantWithin (c .before .before .before .before .before .before .m .given .1) (c .before .before .before .before .before .before .before .before .before .before .pre .2) in omega arith
+add-at-2 : tie.Need-add-at-2
+add-at-2 c = let h = subst MeantWithin (c .before .before .before .before .before .before .m .given .1) (c .before .before .before .before .before .before .before .before .before .pre .1) in omega arith
 
 sort-of-requires : tie.Need-sort-of-requires
-sort-of-requires c κs = let h = subst MeantWithin (c .before .before .before .before .before .before .m .given .1) (c .before .before .before .before .before .before .before .before .before .before .pre .2) in (omega arith, omega arith)
+sort-of-requires c κs = search needs
 
 enum-known-m-2 : tie.Need-enum-known-m-2
 enum-known-m-2 c = search needs
@@ -45,7 +47,7 @@ enum-told c = search needs
 
 returns-3 : tie.Need-returns-3
 unfolding wantOf
-returns-3 c = simp (c .before .before .before .before .before .before .before .m .given .1, eq-eqb _ _ (sym (c .before .before .before .before .before .word .ensures) ∙ c .before .before .before .before .if1 .left), lt-leb _ _ (rw (c .before .before .before .formals .ensures .0) at (c .before .before .if2 .left)), c .sort-of .ensures)
+returns-3 c = simp (c .before .before .before .before .before .before .before .m .given .1, sym (from-not _ false (c .before .before .before .before .if1 .left) ∙ c .before .before .before .before .before .is-kind .ensures), lt-leb _ _ (rw (c .before .before .before .formals .ensures .0) at (c .before .before .if2 .left)), c .sort-of .ensures)
 
 returns-4 : tie.Need-returns-4
 unfolding wantOf
@@ -60,12 +62,12 @@ wanted-spec =
     tie.close
     (tie.spec
     enum-known-m
-    word-requires
+    is-kind-requires
     returns
     formals-requires
     returns-2
-    add-t12
-    add-t13
+    add-at
+    add-at-2
     sort-of-requires
     enum-known-m-2
     given-wants-requires

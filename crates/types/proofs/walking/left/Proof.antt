@@ -16,16 +16,16 @@ meant-requires : tie.Need-meant-requires
 meant-requires c κs = search needs
 
 as-left-requires : tie.Need-as-left-requires
-as-left-requires c κs = (c .before .before .before .before .pre .1, c .before .before .before .before .pre .2, subst MeantWithin (sym (c .before .meant .ensures)) (meant-within (c .before .before .before .before .args .t .last)), let e = c .as-left-arg .given .0 in let p = c .before .before .before .before .pre .0 in omega arith)
+as-left-requires c κs = (c .before .before .before .pre .1, subst MeantWithin (sym (c .before .meant .ensures)) (meant-within (c .before .before .before .args .t .last)), let e = c .as-left-arg .given .0 in let p = c .before .before .before .pre .0 in omega arith)
 
 note-requires : tie.Need-note-requires
 note-requires c κs = search needs
 
 returns : tie.Need-returns
 returns c =
-    let j = c .before .before .before .as-left .ensures ∙ ap (λ (m : Meant). leftOf (c .before .before .before .before .before .before .before .before .args .ids .now) (c .before .before .before .before .before .before .before .before .args .rows .now) (c .before .before .before .before .before .before .before .before .args .marks .now) (opensOf (c .before .before .before .before .before .before .before .before .args .t .bodies) (c .before .before .before .before .before .before .before .before .args .bodies .now)) m) (c .before .before .before .before .before .meant .ensures) in
+    let j = c .before .before .before .as-left .ensures ∙ ap (λ (m : Meant). leftOf (c .before .before .before .before .before .before .before .args .rows .now) (opensOf (c .before .before .before .before .before .before .before .args .t .bodies) (c .before .before .before .before .before .before .before .args .bodies .now)) m) (c .before .before .before .before .before .meant .ensures) in
     λ u s d. c .note .ensures .0 u s d _ ∙ noted-ap _ (or-true _ (sym (ap (λ (z : Judgement). z .wrong) j) ∙ c .before .if2 .taken)) refl
-    ∙ sym (left-again (c .before .before .before .before .before .before .before .before .args .ids .now) (c .before .before .before .before .before .before .before .before .args .rows .now) (c .before .before .before .before .before .before .before .before .args .marks .now) (c .before .before .before .before .before .before .before .before .args .symbol) (see (c .before .before .before .before .before .before .before .before .args .t) u s d (c .before .before .before .before .before .before .before .before .args .bodies .now)) (c .before .before .if1 .taken))
+    ∙ sym (left-again (c .before .before .before .before .before .before .before .args .rows .now) (c .before .before .before .before .before .before .before .args .symbol) (see (c .before .before .before .before .before .before .before .args .t) u s d (c .before .before .before .before .before .before .before .args .bodies .now)) (c .before .before .if1 .taken))
 
 apart-requires : tie.Need-apart-requires
 apart-requires c κs = search needs
@@ -35,10 +35,10 @@ note-requires-2 c κs = search needs
 
 returns-2 : tie.Need-returns-2
 returns-2 c =
-    let j = c .before .before .before .before .as-left .ensures ∙ ap (λ (m : Meant). leftOf (c .before .before .before .before .before .before .before .before .before .args .ids .now) (c .before .before .before .before .before .before .before .before .before .args .rows .now) (c .before .before .before .before .before .before .before .before .before .args .marks .now) (opensOf (c .before .before .before .before .before .before .before .before .before .args .t .bodies) (c .before .before .before .before .before .before .before .before .before .args .bodies .now)) m) (c .before .before .before .before .before .before .meant .ensures) in
+    let j = c .before .before .before .before .as-left .ensures ∙ ap (λ (m : Meant). leftOf (c .before .before .before .before .before .before .before .before .args .rows .now) (opensOf (c .before .before .before .before .before .before .before .before .args .t .bodies) (c .before .before .before .before .before .before .before .before .args .bodies .now)) m) (c .before .before .before .before .before .before .meant .ensures) in
     λ u s d. c .note2 .ensures .0 u s d _
     ∙ noted-ap _ (or-false (sym (ap (λ (z : Judgement). z .wrong) j) ∙ c .before .before .if2 .left) (c .before .apart .ensures ∙ apart-ap refl (ap (λ (z : Judgement). z .sort) j))) refl
-    ∙ sym (left-again (c .before .before .before .before .before .before .before .before .before .args .ids .now) (c .before .before .before .before .before .before .before .before .before .args .rows .now) (c .before .before .before .before .before .before .before .before .before .args .marks .now) (c .before .before .before .before .before .before .before .before .before .args .symbol) (see (c .before .before .before .before .before .before .before .before .before .args .t) u s d (c .before .before .before .before .before .before .before .before .before .args .bodies .now)) (c .before .before .before .if1 .taken))
+    ∙ sym (left-again (c .before .before .before .before .before .before .before .before .args .rows .now) (c .before .before .before .before .before .before .before .before .args .symbol) (see (c .before .before .before .before .before .before .before .before .args .t) u s d (c .before .before .before .before .before .before .before .before .args .bodies .now)) (c .before .before .before .if1 .taken))
 
 note-requires-3 : tie.Need-note-requires-3
 note-requires-3 c κs = search needs
@@ -46,10 +46,10 @@ note-requires-3 c κs = search needs
 returns-3 : tie.Need-returns-3
 unfolding withLeft
 returns-3 c =
-    let j = c .before .before .as-left .ensures ∙ ap (λ (m : Meant). leftOf (c .before .before .before .before .before .before .before .args .ids .now) (c .before .before .before .before .before .before .before .args .rows .now) (c .before .before .before .before .before .before .before .args .marks .now) (opensOf (c .before .before .before .before .before .before .before .args .t .bodies) (c .before .before .before .before .before .before .before .args .bodies .now)) m) (c .before .before .before .before .meant .ensures) in
+    let j = c .before .before .as-left .ensures ∙ ap (λ (m : Meant). leftOf (c .before .before .before .before .before .before .args .rows .now) (opensOf (c .before .before .before .before .before .before .args .t .bodies) (c .before .before .before .before .before .before .args .bodies .now)) m) (c .before .before .before .before .meant .ensures) in
     λ u s d. c .note3 .ensures .0 u s d _
-    ∙ noted-ap _ (ap (λ (z : Judgement). z .wrong) j) (ap (λ (z : Judgement). withLeft true (z .sort) (see (c .before .before .before .before .before .before .before .args .t) u s d (c .before .before .before .before .before .before .before .args .bodies .now))) j)
-    ∙ sym (left-first (c .before .before .before .before .before .before .before .args .ids .now) (c .before .before .before .before .before .before .before .args .rows .now) (c .before .before .before .before .before .before .before .args .marks .now) (c .before .before .before .before .before .before .before .args .symbol) (see (c .before .before .before .before .before .before .before .args .t) u s d (c .before .before .before .before .before .before .before .args .bodies .now)) (c .before .if1 .left))
+    ∙ noted-ap _ (ap (λ (z : Judgement). z .wrong) j) (ap (λ (z : Judgement). withLeft true (z .sort) (see (c .before .before .before .before .before .before .args .t) u s d (c .before .before .before .before .before .before .args .bodies .now))) j)
+    ∙ sym (left-first (c .before .before .before .before .before .before .args .rows .now) (c .before .before .before .before .before .before .args .symbol) (see (c .before .before .before .before .before .before .args .t) u s d (c .before .before .before .before .before .before .args .bodies .now)) (c .before .if1 .left))
 
 pub left-spec : {M : Type 1} → statement M
 left-spec =

@@ -27,7 +27,7 @@ meant-requires : tie.Need-meant-requires
 meant-requires c κs = search needs
 
 is-variable-requires : tie.Need-is-variable-requires
-is-variable-requires c κs = (c .before .before .before .before .before .before .before .pre .1, c .before .before .before .before .before .before .before .pre .2, subst MeantWithin (sym (c .meant .ensures)) (meant-within (c .before .before .before .before .before .before .before .args .t .last)))
+is-variable-requires c κs = (c .before .before .before .before .before .before .pre .1, subst MeantWithin (sym (c .meant .ensures)) (meant-within (c .before .before .before .before .before .before .args .t .last)))
 
 enum-told : tie.Need-enum-told
 enum-told c = search needs

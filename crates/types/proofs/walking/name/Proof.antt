@@ -14,7 +14,7 @@ meant-requires : tie.Need-meant-requires
 meant-requires c κs = search needs
 
 miscalled-requires : tie.Need-miscalled-requires
-miscalled-requires c κs = (c .before .before .before .before .pre .1, subst MeantWithin (sym (c .before .meant .ensures)) (meant-within (c .before .before .before .before .args .t .last)))
+miscalled-requires c κs = (c .before .before .before .pre .1, subst MeantWithin (sym (c .before .meant .ensures)) (meant-within (c .before .before .before .args .t .last)))
 
 note-requires : tie.Need-note-requires
 note-requires c κs = search needs
@@ -23,10 +23,10 @@ returns : tie.Need-returns
 unfolding namedAs
 returns c =
     λ u d b. simp (eq-eqb _ _ (c .before .before .if1 .taken))
-    (c .note .ensures .0 u _ d b ∙ noted-ap _ (c .before .miscalled .ensures ∙ ap (λ (m : Meant). miscalledOf (c .before .before .before .before .before .before .args .rows .now) m 0) (c .before .before .before .meant .ensures)) refl)
+    (c .note .ensures .0 u _ d b ∙ noted-ap _ (c .before .miscalled .ensures ∙ ap (λ (m : Meant). miscalledOf (c .before .before .before .before .before .args .rows .now) m 0) (c .before .before .before .meant .ensures)) refl)
 
 in-expression-requires : tie.Need-in-expression-requires
-in-expression-requires c κs = (c .before .before .before .before .pre .1, c .before .before .before .before .pre .2, subst MeantWithin (sym (c .before .meant .ensures)) (meant-within (c .before .before .before .before .args .t .last)))
+in-expression-requires c κs = (c .before .before .before .pre .1, subst MeantWithin (sym (c .before .meant .ensures)) (meant-within (c .before .before .before .args .t .last)))
 
 note-requires-2 : tie.Need-note-requires-2
 note-requires-2 c κs = search needs
@@ -37,9 +37,9 @@ push-requires c κs = search needs
 returns-2 : tie.Need-returns-2
 unfolding namedAs judged withBare
 returns-2 c =
-    let j = c .before .before .before .in-expression .ensures ∙ ap (λ (m : Meant). primaryOf (c .before .before .before .before .before .before .before .before .args .ids .now) (c .before .before .before .before .before .before .before .before .args .rows .now) (c .before .before .before .before .before .before .before .before .args .marks .now) m 0) (c .before .before .before .before .before .meant .ensures) in
+    let j = c .before .before .before .in-expression .ensures ∙ ap (λ (m : Meant). primaryOf (c .before .before .before .before .before .before .before .args .rows .now) m 0) (c .before .before .before .before .before .meant .ensures) in
     λ u d b. simp (ne-eqb _ _ (c .before .before .before .before .if1 .left))
-    (ap (withBare (c .before .before .before .before .before .before .before .before .args .depth)) (c .push .ensures u d b
+    (ap (withBare (c .before .before .before .before .before .before .before .args .depth)) (c .push .ensures u d b
     ∙ pushed-ap (ap (λ (z : Judgement). z .sort) j) (c .before .before .note2 .ensures .0 u _ d b ∙ noted-ap _ (ap (λ (z : Judgement). z .wrong) j) refl)))
 
 pub name-spec : {M : Type 1} → statement M

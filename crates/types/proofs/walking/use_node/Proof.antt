@@ -27,14 +27,14 @@ meant-requires : tie.Need-meant-requires
 meant-requires c κs = search needs
 
 is-variable-requires : tie.Need-is-variable-requires
-is-variable-requires c κs = (c .before .before .before .before .before .before .pre .3, c .before .before .before .before .before .before .pre .4, subst MeantWithin (sym (c .meant .ensures)) (meant-within (c .before .before .next-use .result .last)))
+is-variable-requires c κs = (c .before .before .before .before .before .pre .3, subst MeantWithin (sym (c .meant .ensures)) (meant-within (c .before .before .next-use .result .last)))
 
 note-requires : tie.Need-note-requires
 note-requires c κs = search needs
 
 returns : tie.Need-returns
 unfolding useTyped
-returns c = simp (c .before .before .match .keys1) (c .name .ensures _ _ _ ∙ ap (namedAs _ _ _ _ _ _) (c .before .before .before .next-use .ensures .0 _ _ _))
+returns c = simp (c .before .before .match .keys1) (c .name .ensures _ _ _ ∙ ap (namedAs _ _ _ _) (c .before .before .before .next-use .ensures .0 _ _ _))
 
 returns-2 : tie.Need-returns-2
 unfolding useTyped
@@ -42,15 +42,15 @@ returns-2 c = simp (c .before .before .match .keys2) (c .call .ensures _ _ _ ∙
 
 returns-3 : tie.Need-returns-3
 unfolding useTyped
-returns-3 c = simp (c .before .match .keys3) (c .left .ensures _ _ _ ∙ ap (leftAs _ _ _ _) (c .before .before .next-use .ensures .0 _ _ _))
+returns-3 c = simp (c .before .match .keys3) (c .left .ensures _ _ _ ∙ ap (leftAs _ _) (c .before .before .next-use .ensures .0 _ _ _))
 
 returns-4 : tie.Need-returns-4
 unfolding useTyped
 returns-4 c =
     let r = c .before .before .before .match .rest in
     simp (ne-eqb _ _ (r .1), ne-eqb _ _ (r .0 .1), ne-eqb _ _ (r .0 .0 .1))
-    (c .note .ensures .0 (c .before .before .before .before .before .before .before .before .args .uses .now) (c .before .before .before .before .before .before .before .before .args .stack .now) (c .before .before .before .before .before .before .before .before .args .calls .now) (c .before .before .before .before .before .before .before .before .args .bodies .now) ∙ noted-ap _ (ap not (c .before .is-variable .ensures ∙ ap (λ (m : Meant). variableOf (c .before .before .before .before .before .before .before .before .args .ids .now) (c .before .before .before .before .before .before .before .before .args .rows .now) (c .before .before .before .before .before .before .before .before .args .marks .now) m 1) (c .before .before .meant .ensures))) refl
-    ∙ ap (λ (z : State). noted (not (variableOf (c .before .before .before .before .before .before .before .before .args .ids .now) (c .before .before .before .before .before .before .before .before .args .rows .now) (c .before .before .before .before .before .before .before .before .args .marks .now) (meantOf (z .last)) 1)) (c .before .before .before .before .before .before .before .before .args .symbol) z) (c .before .before .before .before .next-use .ensures .0 (c .before .before .before .before .before .before .before .before .args .stack .now) (c .before .before .before .before .before .before .before .before .args .calls .now) (c .before .before .before .before .before .before .before .before .args .bodies .now)))
+    (c .note .ensures .0 (c .before .before .before .before .before .before .before .args .uses .now) (c .before .before .before .before .before .before .before .args .stack .now) (c .before .before .before .before .before .before .before .args .calls .now) (c .before .before .before .before .before .before .before .args .bodies .now) ∙ noted-ap _ (ap not (c .before .is-variable .ensures ∙ ap (λ (m : Meant). variableOf (c .before .before .before .before .before .before .before .args .rows .now) m 1) (c .before .before .meant .ensures))) refl
+    ∙ ap (λ (z : State). noted (not (variableOf (c .before .before .before .before .before .before .before .args .rows .now) (meantOf (z .last)) 1)) (c .before .before .before .before .before .before .before .args .symbol) z) (c .before .before .before .before .next-use .ensures .0 (c .before .before .before .before .before .before .before .args .stack .now) (c .before .before .before .before .before .before .before .args .calls .now) (c .before .before .before .before .before .before .before .args .bodies .now)))
 
 pub use-node-spec : {M : Type 1} → statement M
 use-node-spec =

@@ -14,13 +14,13 @@ use Rattle.types.proofs.walking.walk.Statement.{statement}
 use Rattle.types.proofs.walking.walk.Tie as tie
 
 abbrev Inv-loop : tie.InvT-loop
-Inv-loop nodes uses rows marks ids stack₀ calls₀ bodies₀ t₀ i₀ stack calls bodies t i =
+Inv-loop nodes uses rows stack₀ calls₀ bodies₀ t₀ i₀ stack calls bodies t i =
     Within i (see t uses stack calls bodies)
-    × (foldNodes (typeNode ids rows marks) (drop (4 * i) nodes) (see t uses stack calls bodies) ≡ foldNodes (typeNode ids rows marks) nodes (fresh uses))
+    × (foldNodes (typeNode rows) (drop (4 * i) nodes) (see t uses stack calls bodies) ≡ foldNodes (typeNode rows) nodes (fresh uses))
     × (4 * i ≤ length nodes)
 
 abbrev μ-loop : tie.MeasureT-loop
-μ-loop nodes uses rows marks ids stack₀ calls₀ bodies₀ t₀ i₀ stack calls bodies t i = length nodes - 4 * i
+μ-loop nodes uses rows stack₀ calls₀ bodies₀ t₀ i₀ stack calls bodies t i = length nodes - 4 * i
 
 loop-holds : tie.Need-loop-holds Inv-loop μ-loop
 unfolding opensOf callsOf CountsWithin
@@ -71,7 +71,7 @@ shared-slice-read-node-4 c = search needs
 node-requires : tie.Need-node-requires Inv-loop μ-loop
 node-requires c κs =
     let h = c .before .before .before .before .before .before .before .loop-test .taken in
-    (within-up (c .before .before .before .before .before .before .before .before .loop .i) 8191 (see (c .before .before .before .before .before .before .before .before .loop .t) (c .before .before .before .before .before .before .before .before .before .before .before .before .before .args .uses .now) (c .before .before .before .before .before .before .before .before .loop .stack) (c .before .before .before .before .before .before .before .before .loop .calls) (c .before .before .before .before .before .before .before .before .loop .bodies)) (omega arith) (c .before .before .before .before .before .before .before .before .loop .inv .0), c .before .before .before .before .before .before .before .before .before .before .before .before .before .pre .1, c .before .before .before .before .before .before .before .before .before .before .before .before .before .pre .2)
+    (within-up (c .before .before .before .before .before .before .before .before .loop .i) 8191 (see (c .before .before .before .before .before .before .before .before .loop .t) (c .before .before .before .before .before .before .before .before .before .before .before .before .args .uses .now) (c .before .before .before .before .before .before .before .before .loop .stack) (c .before .before .before .before .before .before .before .before .loop .calls) (c .before .before .before .before .before .before .before .before .loop .bodies)) (omega arith) (c .before .before .before .before .before .before .before .before .loop .inv .0), c .before .before .before .before .before .before .before .before .before .before .before .before .pre .1)
 
 add-i : tie.Need-add-i Inv-loop μ-loop
 add-i c = search needs
@@ -82,12 +82,12 @@ loop-less c = search needs
 loop-again : tie.Need-loop-again Inv-loop μ-loop
 loop-again c =
     let l = c .before .before .before .before .before .before .before .before .before .loop in
-    let z = see (l .t) (c .before .before .before .before .before .before .before .before .before .before .before .before .before .before .args .uses .now) (l .stack) (l .calls) (l .bodies) in
-    let w = (c .before .before .before .before .before .before .before .before .before .before .before .before .before .before .args .nodes .now) in
+    let z = see (l .t) (c .before .before .before .before .before .before .before .before .before .before .before .before .before .args .uses .now) (l .stack) (l .calls) (l .bodies) in
+    let w = (c .before .before .before .before .before .before .before .before .before .before .before .before .before .args .nodes .now) in
     let i = l .i in
     let h = c .before .before .before .before .before .before .before .before .loop-test .taken in (
-      subst (Within (i + 1)) (sym (c .node .ensures)) (node-in (c .before .before .before .before .before .before .before .before .before .before .before .before .before .before .args .ids .now) (c .before .before .before .before .before .before .before .before .before .before .before .before .before .before .args .rows .now) (c .before .before .before .before .before .before .before .before .before .before .before .before .before .before .args .marks .now) i z (l .inv .0) (getD w (4 * i) 0) (getD w (4 * i + 1) 0) (getD w (4 * i + 2) 0) (getD w (4 * i + 3) 0)),
-      ap (foldNodes (typeNode (c .before .before .before .before .before .before .before .before .before .before .before .before .before .before .args .ids .now) (c .before .before .before .before .before .before .before .before .before .before .before .before .before .before .args .rows .now) (c .before .before .before .before .before .before .before .before .before .before .before .before .before .before .args .marks .now)) (drop (4 * (i + 1)) w)) (c .node .ensures) ∙ sym (fold-on (typeNode (c .before .before .before .before .before .before .before .before .before .before .before .before .before .before .args .ids .now) (c .before .before .before .before .before .before .before .before .before .before .before .before .before .before .args .rows .now) (c .before .before .before .before .before .before .before .before .before .before .before .before .before .before .args .marks .now)) w i z h) ∙ l .inv .1,
+      subst (Within (i + 1)) (sym (c .node .ensures)) (node-in (c .before .before .before .before .before .before .before .before .before .before .before .before .before .args .rows .now) i z (l .inv .0) (getD w (4 * i) 0) (getD w (4 * i + 1) 0) (getD w (4 * i + 2) 0) (getD w (4 * i + 3) 0)),
+      ap (foldNodes (typeNode (c .before .before .before .before .before .before .before .before .before .before .before .before .before .args .rows .now)) (drop (4 * (i + 1)) w)) (c .node .ensures) ∙ sym (fold-on (typeNode (c .before .before .before .before .before .before .before .before .before .before .before .before .before .args .rows .now)) w i z h) ∙ l .inv .1,
       omega arith,
     )
 
@@ -95,8 +95,8 @@ returns : tie.Need-returns Inv-loop μ-loop
 unfolding typedOf
 returns c =
     let l = c .before .loop in
-    let z = see (l .t) (c .before .before .before .before .before .before .args .uses .now) (l .stack) (l .calls) (l .bodies) in
-    ap (λ (st : State). st .least) (sym (fold-end (typeNode (c .before .before .before .before .before .before .args .ids .now) (c .before .before .before .before .before .before .args .rows .now) (c .before .before .before .before .before .before .args .marks .now)) (c .before .before .before .before .before .before .args .nodes .now) (l .i) z (c .loop-test .left)) ∙ l .inv .1)
+    let z = see (l .t) (c .before .before .before .before .before .args .uses .now) (l .stack) (l .calls) (l .bodies) in
+    ap (λ (st : State). st .least) (sym (fold-end (typeNode (c .before .before .before .before .before .args .rows .now)) (c .before .before .before .before .before .args .nodes .now) (l .i) z (c .loop-test .left)) ∙ l .inv .1)
 
 pub walk-spec : {M : Type 1} → statement M
 walk-spec =

@@ -1,0 +1,61 @@
+-- `emitting::emission::pass` meets its contract: all words are zero where the pass begins.
+-- Assumes nothing.
+use mathlib.Core.Path.{_≡_, ap, _∙_}
+use mathlib.Core.List.{List}
+use Prim.Native.Nat.{ℕ}
+use lib.ListN.{length, replicate}
+use Rattle.emitting.specs.Emission.{Used, State, usesIn, placeAt, emitted, fresh}
+use Rattle.emitting.specs.Model.{freshIn, emittedFrom}
+use borrow.Author.Needs.{needs}
+use Rattle.emitting.proofs.emission.pass.Statement.{statement}
+use Rattle.emitting.proofs.emission.pass.Tie as tie
+
+begins : (us : List Used) (n : ℕ) {c a e : List ℕ} → c ≡ replicate n 0 → a ≡ replicate 8192 0 → e ≡ replicate 2048 0 → freshIn us c a e ≡ fresh n us
+begins us n {c = c} {a = a} {e = e} p q r =
+    ap (λ (z : List ℕ). freshIn us z a e) p ∙ ap (λ (z : List ℕ). freshIn us (replicate n 0) z e) q ∙ ap (λ (z : List ℕ). freshIn us (replicate n 0) (replicate 8192 0) z) r
+
+clear-requires : tie.Need-clear-requires
+clear-requires c κs = search needs
+
+clear-requires-2 : tie.Need-clear-requires-2
+clear-requires-2 c κs = search needs
+
+clear-requires-3 : tie.Need-clear-requires-3
+clear-requires-3 c κs = search needs
+
+walk-requires : tie.Need-walk-requires
+walk-requires c κs = search needs
+
+same-length : tie.Need-same-length
+same-length c = search needs
+
+same-length-2 : tie.Need-same-length-2
+same-length-2 c = search needs
+
+same-length-3 : tie.Need-same-length-3
+same-length-3 c = search needs
+
+returns : tie.Need-returns
+unfolding emitted
+returns c =
+    let x = c .before .before .before .before .before .before .before .before .before .before .before .before .before .before .before .before .before .before .before .before .before .before .before .before .before .before .before .before .before .before .before .before .args in
+    let g = c .before .before .before .before .before .before .before .before .before .before .before .before .before .before .before .before .before .before .before .before .before .before .before .before .before .before .before .before .before .before .before .before .pre in
+    let a = c .before .before .before .before .before .before .before .before .before .before .before .before .before .before .before .before .before .before .before .before .before .clear .ensures ∙ ap (λ (n : ℕ). replicate n 0) (g .1) in
+    let b = c .before .before .before .before .before .before .before .before .before .before .before .before .before .before .before .before .before .clear2 .ensures ∙ ap (λ (n : ℕ). replicate n 0) (g .2) in
+    let f = begins (usesIn (x .rows .now) (x .uses .now)) (length (x .code .now)) (c .before .before .before .before .before .before .before .before .before .before .before .before .before .clear3 .ensures) a b in
+    let r = c .before .before .before .before .before .before .walk .ensures in
+    let e : State → State = emittedFrom (placeAt (x .places .now)) (x .values .now) (x .layout .now) (x .ahead .now) (x .entries .now) (x .nodes .now) in
+    (r .0 ∙ ap (λ (st : State). e st .code) f, (r .1 .0 ∙ ap (λ (st : State). e st .ahead) f, r .1 .1 ∙ ap (λ (st : State). e st .entries) f))
+
+pub pass-spec : {M : Type 1} → statement M
+pass-spec =
+    tie.close
+    (tie.spec
+    clear-requires
+    clear-requires-2
+    clear-requires-3
+    walk-requires
+    same-length
+    same-length-2
+    same-length-3
+    returns)

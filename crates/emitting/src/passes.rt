@@ -1,0 +1,102 @@
+// One pass after the other: where cells lie, what lies ahead, the code.
+use crate::emission::pass;
+use crate::layout::layout;
+ghost use mathlib.Core.Path.{_≡_};
+ghost use Prim.Native.Nat.{_≤_};
+ghost use lib.ListN.{length};
+ghost use Rattle.emitting.specs.Layout.{layoutOf};
+ghost use Rattle.emitting.specs.Emission.{usesIn, placeAt, emitted, codeOf};
+
+// The code, where what lies ahead is known.
+fn again(
+    nodes: &[u16],
+    uses: &[u16],
+    rows: &[u16; 32768],
+    places: &[usize; 2048],
+    values: &[u32],
+    laid: &[u32],
+    ahead: &[u32],
+    entries: &[u32],
+    code: &mut [u32],
+)
+    requires { ⌜ length (now nodes) ≤ 32768 ⌝ }
+    ensures { λ _. ⌜ now (code .exit) ≡ emitted (now (values .entry)) (now (laid .entry)) (now (ahead .entry)) (now (entries .entry)) (length (now (code .entry))) (placeAt (now (places .entry))) (now (nodes .entry)) (usesIn (now (rows .entry)) (now (uses .entry))) .code ⌝ }
+{
+    let mut next_ahead = [0u32; 8192];
+    let mut next_entries = [0u32; 2048];
+    pass(
+        nodes,
+        uses,
+        rows,
+        places,
+        values,
+        laid,
+        ahead,
+        entries,
+        &mut next_ahead,
+        &mut next_entries,
+        code,
+    )
+}
+
+// What lies ahead is found, then the code is written.
+fn twice(
+    nodes: &[u16],
+    uses: &[u16],
+    rows: &[u16; 32768],
+    places: &[usize; 2048],
+    values: &[u32],
+    laid: &[u32],
+    code: &mut [u32],
+)
+    requires { ⌜ length (now nodes) ≤ 32768 ⌝ }
+    ensures { λ _. ⌜ now (code .exit) ≡ codeOf (length (now (code .entry))) (placeAt (now (places .entry))) (now (values .entry)) (now (laid .entry)) (now (nodes .entry)) (usesIn (now (rows .entry)) (now (uses .entry))) ⌝ }
+{
+    let nothing = &values[..0];
+    let mut ahead = [0u32; 8192];
+    let mut entries = [0u32; 2048];
+    pass(
+        nodes,
+        uses,
+        rows,
+        places,
+        values,
+        laid,
+        nothing,
+        nothing,
+        &mut ahead,
+        &mut entries,
+        code,
+    );
+    let all_ahead = &ahead;
+    let all_entries = &entries;
+    again(
+        nodes,
+        uses,
+        rows,
+        places,
+        values,
+        laid,
+        all_ahead,
+        all_entries,
+        code,
+    )
+}
+
+// The cells are laid out, then the code is written.
+pub fn laid_out(
+    nodes: &[u16],
+    uses: &[u16],
+    rows: &[u16; 32768],
+    places: &[usize; 2048],
+    values: &[u32],
+    code: &mut [u32],
+)
+    requires { ⌜ length (now nodes) ≤ 32768 ⌝ }
+    ensures { λ _. ⌜ now (code .exit) ≡ codeOf (length (now (code .entry))) (placeAt (now (places .entry))) (now (values .entry)) (layoutOf (now (nodes .entry))) (now (nodes .entry)) (usesIn (now (rows .entry)) (now (uses .entry))) ⌝ }
+{
+    let mut cells = [0u32; 2048];
+    layout(nodes, &mut cells);
+    let all_cells = &cells;
+    twice(nodes, uses, rows, places, values, all_cells, code)
+}

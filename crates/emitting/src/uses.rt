@@ -1,0 +1,70 @@
+// What a use means, from the number that is kept for it.
+use crate::Named;
+use crate::Writing;
+use crate::parts;
+use names::Meant;
+use names::meanings::meant;
+ghost use mathlib.Core.Path.{_≡_};
+ghost use mathlib.Core.List.{List};
+ghost use Prim.Native.Nat.{ℕ, _<_};
+ghost use lib.ListN.{getD, drop};
+ghost use Rattle.names.specs.Rows.{meantOf};
+ghost use Rattle.emitting.specs.Emission.{usedAs, usesIn, kindNext, meansNext, othersNext, withUses};
+ghost use Rattle.emitting.specs.Model.{see, Alike};
+
+// A word of a row, 0 behind the last one.
+fn row_word(rows: &[u16], at: usize) -> usize
+    ensures { λ r. ⌜ r ≡ getD (now (rows .entry)) at 0 ⌝ }
+    ensures { λ r. ⌜ r < 65536 ⌝ }
+{
+    if at < rows.len() {
+        return rows[at] as usize;
+    }
+    0
+}
+
+// The use that is kept as a number: of a declaration its kind stands in its row.
+fn meaning(word: u16, rows: &[u16; 32768]) -> Named
+    ensures { λ r. ⌜ (r .kind ≡ usedAs (now (rows .entry)) (meantOf word) .kind) × (r .means ≡ usedAs (now (rows .entry)) (meantOf word) .means) ⌝ }
+    ensures { λ r. ⌜ (r .kind < 65536) × (r .means < 65536) ⌝ }
+{
+    match meant(word) {
+        Meant::Declared(d) => {
+            let kind = row_word(rows, 4 * d.number);
+            Named {
+                kind: parts::less(kind, 4),
+                means: d.number,
+            }
+        }
+        Meant::Given(e) => Named {
+            kind: 0,
+            means: e.number as usize,
+        },
+        Meant::Nothing => Named { kind: 0, means: 0 },
+    }
+}
+
+// The next use; zeros where there is none.
+pub fn next(t: Writing, uses: &[u16], rows: &[u16; 32768]) -> Named
+    ensures { λ r. ⌜ (r .kind ≡ kindNext (drop (t .uses) (usesIn (now (rows .entry)) (now (uses .entry))))) × (r .means ≡ meansNext (drop (t .uses) (usesIn (now (rows .entry)) (now (uses .entry))))) ⌝ }
+    ensures { λ r. ⌜ (r .kind < 65536) × (r .means < 65536) ⌝ }
+{
+    let at = t.uses;
+    if at < uses.len() {
+        return meaning(uses[at], rows);
+    }
+    Named { kind: 0, means: 0 }
+}
+
+// The uses behind it.
+pub fn passed(mut t: Writing, uses: &[u16]) -> Writing
+    ensures { λ r. ⌜ ((rows op co ah en : List ℕ) → see r (usesIn rows (now (uses .entry))) op co ah en ≡ withUses (othersNext (drop (t .uses) (usesIn rows (now (uses .entry))))) (see t (usesIn rows (now (uses .entry))) op co ah en)) ⌝ }
+    ensures { λ r. ⌜ Alike t r × (r .at ≡ t .at) × (r .open ≡ t .open) ⌝ }
+{
+    let at = t.uses;
+    if at < uses.len() {
+        t.uses = at + 1;
+        return t;
+    }
+    t
+}

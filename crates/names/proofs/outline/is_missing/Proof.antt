@@ -1,0 +1,21 @@
+-- `names::outline::is_missing` meets its contract: the two tests, in their order.
+-- Assumes nothing.
+use borrow.Author.Tests.{eq-eqb, ne-eqb}
+use borrow.Author.Needs.{needs}
+use Rattle.names.proofs.outline.is_missing.Statement.{statement}
+use Rattle.names.proofs.outline.is_missing.Tie as tie
+
+row-requires : tie.Need-row-requires
+row-requires c κs = search needs
+
+returns : tie.Need-returns
+returns c = rw (← (c .before .before .row .ensures), ne-eqb _ _ (c .if1 .taken))
+
+lacks-requires : tie.Need-lacks-requires
+lacks-requires c κs = search needs
+
+returns-2 : tie.Need-returns-2
+returns-2 c = rw (← (c .before .before .before .row .ensures), eq-eqb _ _ (c .before .if1 .left), ← (c .lacks .ensures))
+
+pub is-missing-spec : {M : Type 1} → statement M
+is-missing-spec = tie.close (tie.spec row-requires returns lacks-requires returns-2)

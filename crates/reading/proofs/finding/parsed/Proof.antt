@@ -1,0 +1,47 @@
+-- `reading::finding::parsed` meets its contract: what was read are a program's nodes, and what was refused is 5 or 6. Assumes nothing.
+use mathlib.Core.Path.{refl, ap, _∙_}
+use Rattle.answers.specs.Answers.{refusal}
+use Rattle.answers.specs.declared.Verdict.the-variants.{Refused}
+use Rattle.reading.specs.Model.{refused}
+use Rattle.reading.proofs.Answers.{as-judged}
+use Rattle.reading.proofs.Stages.{ready, refusals}
+use borrow.Author.Needs.{needs}
+use Rattle.reading.proofs.finding.parsed.Statement.{statement}
+use Rattle.reading.proofs.finding.parsed.Tie as tie
+
+parse-requires : tie.Need-parse-requires
+parse-requires c κs = search needs
+
+enum-known-used : tie.Need-enum-known-used
+enum-known-used c = search needs
+
+named-requires : tie.Need-named-requires
+named-requires c κs = ready (c .before .before .before .before .before .before .before .before .before .pre) (c .before .before .before .before .before .before .parse .ensures) _ _ (c .before .before .before .before .used .given .1)
+
+enum-known-answer : tie.Need-enum-known-answer
+enum-known-answer c = search needs
+
+place-at-requires : tie.Need-place-at-requires
+place-at-requires c κs = search needs
+
+new-requires : tie.Need-new-requires
+new-requires c κs = search needs
+
+returns : tie.Need-returns
+returns c = search needs
+
+returns-2 : tie.Need-returns-2
+returns-2 c = refused _ (as-judged (ap Refused (c .new .ensures ∙ ap (refusal _) (c .before .place-at .ensures))) refl (refusals (c .before .before .before .before .before .before .before .before .pre) (c .before .before .before .before .before .parse .ensures) _ _ (c .before .before .before .answer .given .1)))
+
+pub parsed-spec : {M : Type 1} → statement M
+parsed-spec =
+    tie.close
+    (tie.spec
+    parse-requires
+    enum-known-used
+    named-requires
+    enum-known-answer
+    place-at-requires
+    new-requires
+    returns
+    returns-2)

@@ -1,0 +1,21 @@
+-- `reading::finding::refused` meets its contract: number and symbol are read off the fault. Assumes nothing.
+use mathlib.Core.Path.{ap, _∙_}
+use Rattle.answers.specs.Answers.{refusal}
+use borrow.Author.Needs.{needs}
+use Rattle.reading.proofs.finding.refused.Statement.{statement}
+use Rattle.reading.proofs.finding.refused.Tie as tie
+
+place-at-requires : tie.Need-place-at-requires
+place-at-requires c κs = search needs
+
+cast-number : tie.Need-cast-number
+cast-number c = search needs
+
+new-requires : tie.Need-new-requires
+new-requires c κs = search needs
+
+returns : tie.Need-returns
+returns c = c .new .ensures ∙ ap (refusal _) (c .before .place-at .ensures)
+
+pub refused-spec : {M : Type 1} → statement M
+refused-spec = tie.close (tie.spec place-at-requires cast-number new-requires returns)

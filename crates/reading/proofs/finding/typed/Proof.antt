@@ -1,0 +1,24 @@
+-- `reading::finding::typed` meets its contract: a type fault is 10, and without one no type is at fault. Assumes nothing.
+use mathlib.Core.Path.{refl, ap}
+use native.Mathlib.Omega.{arith}
+use Rattle.answers.specs.declared.Verdict.the-variants.{Refused}
+use Rattle.reading.specs.Model.{right, wrong}
+use Rattle.reading.proofs.Answers.{last-refused, last-right}
+use borrow.Author.Needs.{needs}
+use Rattle.reading.proofs.finding.typed.Statement.{statement}
+use Rattle.reading.proofs.finding.typed.Tie as tie
+
+check-requires : tie.Need-check-requires
+check-requires c κs = search needs
+
+refused-requires : tie.Need-refused-requires
+refused-requires c κs = search needs
+
+returns : tie.Need-returns
+returns c = λ ids m. wrong _ (last-refused m _ (c .before .before .check .ensures) (c .before .if1 .taken) _ _ (ap Refused (c .refused .ensures)) refl)
+
+returns-2 : tie.Need-returns-2
+returns-2 c = λ ids m. right (last-right m _ (c .before .check .ensures) (λ l. omega (arith, l, c .if1 .left)))
+
+pub typed-spec : {M : Type 1} → statement M
+typed-spec = tie.close (tie.spec check-requires refused-requires returns returns-2)

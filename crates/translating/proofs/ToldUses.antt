@@ -1,0 +1,71 @@
+-- The uses as the pass reads them: the number that is kept for a use stands for the declaration or the environment's entry that the use means, and the
+-- rows tell its kind. Since symbols rise in the rows, a declaration's number is the one of its name's symbol.
+use Prim.Native.Nat.{ℕ, zero, suc, _+_, _*_, _-_, _<_, _%_}
+use native.Mathlib.Omega.{arith}
+use mathlib.Core.Path.{_≡_, refl, sym, ap, _∙_}
+use mathlib.Core.List.{List, [], _∷_}
+use lib.ListN.{length, getD}
+use borrow.Author.Tests.{eq-eqb, ne-eqb}
+use Rattle.names.specs.Scopes.{Thing, variable, routine, formal, Meaning, declared, given, nothing, meaning}
+use Rattle.names.specs.Uses.{Use, thingKind}
+use Rattle.names.specs.Rows.{meantOf}
+use Rattle.names.specs.declared.Meant.{Meant}
+use Rattle.names.specs.declared.Meant.the-variants.{Declared as at-row, Given as at-given, Nothing as nowhere}
+use Rattle.names.proofs.Around.{Means}
+use Rattle.names.proofs.Resolved.{Matches}
+use Rattle.emitting.specs.Emission.{Used, usedAs, usesIn}
+use Rattle.translating.proofs.Rising.{Rising, no-row, row}
+use Rattle.translating.proofs.Sites.{numberOf}
+use Rattle.translating.proofs.Written.{usedFor, usesAs}
+
+-- ---- the number of a row
+
+-- a symbol further up is none of these
+higher : {a b : ℕ} {R : List ℕ} (j : ℕ) → Rising a b R → 4 * j + 1 < length R → (x : ℕ) → x < a → (x ≡ getD R (4 * j + 1) 0 → ⊥)
+higher j (no-row m) h x l = absurd (omega arith)
+higher zero (row m r) h x l = λ e. omega arith
+higher (suc j) (row m r) h x l =
+    let e : 4 * suc j + 1 ≡ suc (suc (suc (suc (4 * j + 1)))) = omega arith in
+    rw e (higher j r (omega arith) x (omega arith))
+
+pub number-is : {a b : ℕ} {R : List ℕ} (j : ℕ) → Rising a b R → 4 * j + 1 < length R → numberOf R (getD R (4 * j + 1) 0) ≡ j
+unfolding numberOf
+number-is j (no-row m) h = absurd (omega arith)
+number-is zero (row {x = s} m r) h = rw (eq-eqb s s refl)
+number-is (suc j) (row {x = s} {ws = ws} m r) h =
+    let e : 4 * suc j + 1 ≡ suc (suc (suc (suc (4 * j + 1)))) = omega arith in
+    rw (e, ne-eqb s (getD ws (4 * j + 1) 0) (higher j r (omega arith) s (omega arith))) (ap suc (number-is j r (omega arith)))
+
+-- ---- a use, and all
+
+kind-back : (t : Thing) (v : ℕ) → v ≡ 4 + thingKind t → v % 65536 - 4 ≡ thingKind t
+kind-back (variable t) v e = rw e
+kind-back (routine p) v e = rw e
+kind-back (formal t) v e = rw e
+
+used-is : {k m k' m' : ℕ} → k ≡ k' → m ≡ m' → _≡_ {A = Used} (record { kind = k; means = m }) (record { kind = k'; means = m' })
+used-is e f = rw (e, f)
+
+module _ (n : ℕ) (R rows : List ℕ) (rising : Rising 0 n R) (told : (i : ℕ) → i < length R → getD rows i 0 ≡ getD R i 0) where
+  used : (m : Meant) (w : Meaning) → Means R m w → usedAs rows m ≡ usedFor (numberOf R) w
+  unfolding usedAs
+  used (at-row j) (declared d g) h =
+      let i = h .row .inside in
+      let a = told (4 * j .number) (omega arith) ∙ h .row .kind in
+      let b = number-is (j .number) rising (omega arith) in
+      used-is (kind-back (d .thing) _ a) (sym b ∙ ap (numberOf R) (h .row .symbol))
+  used (at-row j) (given k g) h = absurd h
+  used (at-row j) nothing h = absurd h
+  used (at-given e) (declared d g) h = absurd h
+  used (at-given e) (given k g) h = used-is refl (h .0)
+  used (at-given e) nothing h = absurd h
+  used nowhere (declared d g) h = absurd h
+  used nowhere (given k g) h = absurd h
+  used nowhere nothing h = refl
+
+  pub told-uses : (ws : List ℕ) (us : List Use) → Matches R ws us → usesIn rows ws ≡ usesAs (numberOf R) us
+  unfolding usesIn usesAs
+  told-uses [] [] h = refl
+  told-uses [] (u ∷ us) h = absurd h
+  told-uses (w ∷ ws) [] h = absurd h
+  told-uses (w ∷ ws) (u ∷ us) h = rw (used (meantOf w) (meaning (u .around) (u .name)) (h .0), told-uses ws us (h .1))
