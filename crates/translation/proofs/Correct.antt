@@ -3,26 +3,23 @@
 use Prim.Native.Nat.{ℕ, _+_, _*_, _≤_}
 use native.Mathlib.Omega.{arith}
 use mathlib.Core.Path.{_≡_, refl}
-use mathlib.Core.List.{List, [], _∷_}
+use mathlib.Core.List.{List}
 use mathlib.Core.Logic.{_⊎_, inl, inr}
 use lib.IntN.{ℤ}
 use Rattle.answers.specs.declared.Stop.{Stop}
 use Rattle.answers.specs.declared.Stop.the-variants.{Limit}
 use Rattle.machine.specs.Run.{Trace, untold, End, done, over, run}
-use Rattle.machine.specs.Data.{Data, dat}
-use Rattle.machine.specs.Instructions.{Instr, END}
+use Rattle.machine.specs.Instructions.{Instr}
 use Rattle.machine.specs.Machine.{Mach, finish, start}
 use Rattle.names.specs.Program.{Statement}
 use Rattle.rules.specs.Rules.{State, beginning, source}
-use Rattle.translation.specs.Translate.{codeS, code}
+use Rattle.translation.specs.Translate.{code}
 use Rattle.translation.specs.Scoped.{Scoped}
 use Rattle.translation.specs.Listed.{stepIn, machineIn}
 use Rattle.translation.specs.Faithful.{Begins, Tells, Ordinary, AsRules, Runner, Faithful}
 use Rattle.translation.proofs.Sim as Sim
-use Rattle.translation.proofs.Stands.{CodeAt, pastS, whole}
-use Rattle.translation.proofs.Chain.{root}
-use Rattle.translation.proofs.Rel.{t-ex, at-end, at-task, Stand, stands, Rel, rel}
-use Rattle.translation.proofs.Diagram.{diag}
+use Rattle.translation.proofs.Rel.{Rel}
+use Rattle.translation.proofs.Diagram.{diag, begin as at-start}
 
 module _ (place : ℕ → ℕ) (s : Statement) (ok : Scoped s) (input : List ℤ) (room space : ℕ) where
   abbrev P : List Instr
@@ -32,15 +29,8 @@ module _ (place : ℕ → ℕ) (s : Statement) (ok : Scoped s) (input : List ℤ
   abbrev ran : ℕ → End Mach
   ran limit = run (stepIn P) limit (start input room space) 0 untold
 
-  placed : CodeAt place P 0 (codeS place [] 0 s 0 (END ∷ []))
-  unfolding code
-  placed = whole place (code place s)
-
   begin : Rel place P 0 (start input room space) (beginning place s input room space)
-  begin =
-      let d : Data = dat [] [] 0 (record { room = room; input = input; space = space }) in
-      let c : Stand place P [] [] [] [] [] 0 d = stands root refl (tt, refl) in
-      rel {p = 0} {kt = []} (at-task {k = []} (t-ex s _ placed ok) (omega arith) (at-end ((pastS place P [] 0 s 0 _ placed) .0))) c (omega arith)
+  begin = at-start place s ok input room space
 
   -- what the simulation says of these two runs
   stops-as : (L i : ℕ) (q : Stop) (o : Trace) → ran L ≡ done q i o → (t : ℕ) × (n : ℕ) × (source place s input room space t ≡ done q n o) × Ordinary q
