@@ -7,6 +7,7 @@ pub enum Job {
     Read,
     Uses,
     Levels,
+    Page,
     Code,
     Run,
     Help,
@@ -24,6 +25,9 @@ pub fn job_of(text: &[u8]) -> Job
     }
     if same_bytes(text, b"levels") {
         return Job::Levels;
+    }
+    if same_bytes(text, b"page") {
+        return Job::Page;
     }
     if same_bytes(text, b"code") {
         return Job::Code;

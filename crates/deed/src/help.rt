@@ -4,7 +4,7 @@ use showing::text::say;
 
 pub fn usage() {
     complain(
-        b"usage: deed read | uses | levels | code FILE
+        b"usage: deed read | uses | levels | page | code FILE
        deed run FILE [-l LIMIT] [-c CELLS] [-o ROOM] [-] NUMBER ..
        deed do FILE
        deed help
@@ -13,12 +13,17 @@ read, uses and run take --plain too
     );
 }
 
+// What is wrong with the words of a command, and where to look.
 pub fn misused(what: &[u8], word: &[u8]) {
     complain(b"deed: ");
     complain(what);
     complain(word);
     complain(b"\n");
-    usage();
+    see_help();
+}
+
+pub fn see_help() {
+    complain(b"see ./deed help\n");
 }
 
 pub fn help() {
@@ -29,6 +34,7 @@ pub fn help() {
                     words, and a mark under the place
   deed uses FILE    each use of a name: line and column, name, kind, and where its declaration stands
   deed levels FILE  each block and each procedure's body: its level, its place and what it declares
+  deed page FILE    the source as a page of HTML: each name tied to what it means, or the refusal marked
   deed code FILE    the translation, instruction by instruction
   deed run FILE [-l LIMIT] [-c CELLS] [-o ROOM] [-] NUMBER ..
                     runs the program on these numbers, and behind them, where - stands, on those of
@@ -38,6 +44,9 @@ pub fn help() {
   deed help         these lines
 
 A FILE that is read has at most 16,384 bytes. Lines and columns are counted from 1, in bytes.
+
+The exit status of ./deed is 0 where the source was accepted or the run ended, 1 where it was refused or
+stopped, and 2 where nothing was done; of do the greatest of its commands.
 
 With --plain, read, uses and run give other programs one line of numbers: the answer and its place in
 bytes from 0; for uses then the words of the use section, which are the number of uses and three numbers

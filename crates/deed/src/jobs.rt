@@ -3,8 +3,10 @@ use crate::files::load;
 use crate::given::put_input;
 use crate::help::help;
 use crate::help::misused;
+use crate::help::see_help;
 use crate::help::usage;
 use crate::running::run_source;
+use crate::status;
 use answers::Verdict;
 use asking::jobs::Job;
 use asking::jobs::job_of;
@@ -17,12 +19,14 @@ use asking::words::next_word;
 use reading::reading::read;
 use showing::code::show_code;
 use showing::levels::show_levels;
+use showing::text::complain;
 use showing::text::say;
 use showing::text::say_number;
 use showing::uses::say_use_words;
 use showing::uses::show_uses;
 use showing::words::show_answer;
 use translating::translating::translate;
+use webpage::show_page;
 ghost use Prim.Native.Nat.{_≤_};
 ghost use lib.ListN.{length};
 
@@ -56,12 +60,12 @@ fn is_uses(job: Job) -> bool {
     }
 }
 
-fn tell(name: &[u8], source: &[u8], plain: bool, job: Job) {
+fn tell(name: &[u8], source: &[u8], plain: bool, job: Job) -> u8 {
     let mut table = [0u16; 32768];
     let v = read(source, &mut table);
     if plain {
         show_plain(v, &table, is_uses(job));
-        return;
+        return status::of_verdict(v);
     }
     match v {
         Verdict::Accepted => show_accepted(name, source, &table, job),
@@ -69,48 +73,60 @@ fn tell(name: &[u8], source: &[u8], plain: bool, job: Job) {
             show_answer(name, source, b": refused, ", r.answer.number, r.place.at)
         }
     }
+    status::of_verdict(v)
 }
 
 // The translation of a source.
-fn tell_code(name: &[u8], source: &[u8]) {
+fn tell_code(name: &[u8], source: &[u8]) -> u8 {
     let mut code = [0u32; 16384];
-    match translate(source, &mut code) {
+    let v = translate(source, &mut code);
+    match v {
         Verdict::Accepted => show_code(source, &code),
         Verdict::Refused(r) => {
             show_answer(name, source, b": refused, ", r.answer.number, r.place.at)
         }
     }
+    status::of_verdict(v)
 }
 
-fn on_file(name: &[u8], plain: bool, job: Job) {
+// The page of a source, accepted or refused.
+fn tell_page(name: &[u8], source: &[u8]) -> u8 {
+    let mut table = [0u16; 32768];
+    let v = read(source, &mut table);
+    show_page(name, source, v, &table);
+    status::of_verdict(v)
+}
+
+fn on_file(name: &[u8], plain: bool, job: Job) -> u8 {
     let mut room = io::large_buffer();
     let got = load(name, &mut room);
     if !got.good {
-        usage();
-        return;
+        see_help();
+        return status::NOTHING;
     }
     let n = got.count;
     match job {
         Job::Code => tell_code(name, &room[..n]),
+        Job::Page => tell_page(name, &room[..n]),
         _ => tell(name, &room[..n], plain, job),
     }
 }
 
 // A run of the file that a word of the line names, on the numbers behind it.
-fn run_file(line: &[u8], from: usize, to: usize, sizes: Sizes)
+fn run_file(line: &[u8], from: usize, to: usize, sizes: Sizes) -> u8
     requires { ⌜ (from ≤ to) × (to ≤ length (now line)) ⌝ }
 {
     let mut input = [0i32; 32768];
     let mut room = io::large_buffer();
     let put = put_input(line, to, &mut input);
     if !put.good {
-        usage();
-        return;
+        see_help();
+        return status::NOTHING;
     }
     let got = load(&line[from..to], &mut room);
     if !got.good {
-        usage();
-        return;
+        see_help();
+        return status::NOTHING;
     }
     let n = got.count;
     run_source(
@@ -120,45 +136,53 @@ fn run_file(line: &[u8], from: usize, to: usize, sizes: Sizes)
         &input,
         put.count,
         sizes,
-    );
+    )
 }
 
 // A run of the file that the next word but options names.
-fn run_next(line: &[u8], at: usize) {
+fn run_next(line: &[u8], at: usize) -> u8 {
     let Asked::Are(sizes) = sizes_of(line, at) else {
         misused(
             b"-l, -c and -o want a number, -c at most 8192, -o at most 65536",
             b"",
         );
-        return;
+        return status::NOTHING;
     };
     let w = next_word(line, past_options(line, at));
     let from = w.from;
     let to = w.to;
     if from == to {
         misused(b"a FILE is missing", b"");
-        return;
+        return status::NOTHING;
     }
-    run_file(line, from, to, sizes);
+    run_file(line, from, to, sizes)
 }
 
 // A job on the file that the next word names, and on nothing else.
-fn on_next(line: &[u8], at: usize, job: Job) {
+fn on_next(line: &[u8], at: usize, job: Job) -> u8 {
     let w = next_word(line, at);
     let from = w.from;
     let to = w.to;
     if from == to {
         misused(b"a FILE is missing", b"");
-        return;
+        return status::NOTHING;
     }
     let more = next_word(line, to);
     let a = more.from;
     let b = more.to;
     if a < b {
         misused(b"this word is one too many: ", &line[a..b]);
-        return;
+        return status::NOTHING;
     }
-    on_file(&line[from..to], is_plain(line), job);
+    on_file(&line[from..to], is_plain(line), job)
+}
+
+// A word that is no command: the commands are shown.
+fn unknown(word: &[u8]) {
+    complain(b"deed: there is no such command: ");
+    complain(word);
+    complain(b"\n");
+    usage();
 }
 
 // Whether a job has an answer for other programs.
@@ -170,21 +194,27 @@ fn takes_plain(job: Job) -> bool {
 }
 
 // Does what a line asks.
-pub fn obey(line: &[u8]) {
+pub fn obey(line: &[u8]) -> u8 {
     let w = next_word(line, 0);
     let from = w.from;
     let to = w.to;
     let job = job_of(&line[from..to]);
     match job {
-        Job::Help => help(),
-        Job::Other => misused(b"there is no such command: ", &line[from..to]),
+        Job::Help => {
+            help();
+            status::GOOD
+        }
+        Job::Other => {
+            unknown(&line[from..to]);
+            status::NOTHING
+        }
         Job::Run => run_next(line, to),
         _ => {
             if is_plain(line) && !takes_plain(job) {
                 misused(b"--plain goes with read, uses and run", b"");
-            } else {
-                on_next(line, to, job);
+                return status::NOTHING;
             }
+            on_next(line, to, job)
         }
     }
 }

@@ -6,7 +6,7 @@ use asking::words::next_word;
 use files::arguments;
 use files::load;
 use help::help;
-use help::usage;
+use help::see_help;
 use jobs::obey;
 use showing::text::complain;
 use showing::text::say;
@@ -17,46 +17,50 @@ mod given; // the numbers of a run
 mod help; // what the tool says of itself
 mod jobs; // what is done for a line
 mod running; // deed run
+mod status; // how it ended, for a script
 
 // One line of a file of commands.
-fn obey_text(text: &[u8]) {
+fn obey_text(text: &[u8]) -> u8 {
     let mut row = io::large_buffer();
     let n = line_of(text, &mut row);
     say(b"> ");
     say(text);
     say(b"\n");
-    obey(&row[..n]);
+    obey(&row[..n])
 }
 
-fn obey_each(text: &[u8]) {
+// The greatest status of the commands.
+fn obey_each(text: &[u8]) -> u8 {
+    let mut most = status::GOOD;
     let mut at: usize = 0;
     while at < text.len() {
         let end = find(text, at, b'\n');
-        obey_text(&text[at..end]);
+        most = status::greater(most, obey_text(&text[at..end]));
         at = end + 1;
     }
+    most
 }
 
 // The commands of a file. One that fills the room may go on behind it, and no part of it is done.
-fn obey_file(name: &[u8]) {
+fn obey_file(name: &[u8]) -> u8 {
     let mut room = io::large_buffer();
     let got = load(name, &mut room);
     let n = got.count;
     if !got.good {
-        usage();
-        return;
+        see_help();
+        return status::NOTHING;
     }
     if 65536 <= n {
         complain(b"deed: a file of commands has under 65,536 bytes\n");
-        return;
+        return status::NOTHING;
     }
-    obey_each(&room[..n]);
+    obey_each(&room[..n])
 }
 
-fn start(line: &[u8]) {
+fn start(line: &[u8]) -> u8 {
     if line.len() == 0 {
         help();
-        return;
+        return status::GOOD;
     }
     let w = next_word(line, 0);
     let to = w.to;
@@ -64,10 +68,9 @@ fn start(line: &[u8]) {
         let file = next_word(line, to);
         let a = file.from;
         let b = file.to;
-        obey_file(&line[a..b]);
-        return;
+        return obey_file(&line[a..b]);
     }
-    obey(line);
+    obey(line)
 }
 
 fn main() {
@@ -75,8 +78,9 @@ fn main() {
     let got = arguments(&mut line);
     let n = got.count;
     if got.good {
-        start(&line[..n]);
+        status::leave(start(&line[..n]));
     } else {
-        usage();
+        see_help();
+        status::leave(status::NOTHING);
     }
 }

@@ -1,4 +1,5 @@
 // A run of a source, and its answer shown.
+use crate::status;
 use answers::Stop;
 use answers::Verdict;
 use asking::sizes::Sizes;
@@ -60,7 +61,7 @@ fn show_plain(answer: u16, place: usize, done: u64, taken: usize, written: usize
 }
 
 // What a run gave; its outputs are the first of these.
-fn show_ran(name: &[u8], source: &[u8], plain: bool, ran: Ran, output: &[i32]) {
+fn show_ran(name: &[u8], source: &[u8], plain: bool, ran: Ran, output: &[i32]) -> u8 {
     let stop = ran.stop;
     let n = least(ran.written, output.len());
     let wrote = &output[0..n];
@@ -74,11 +75,12 @@ fn show_ran(name: &[u8], source: &[u8], plain: bool, ran: Ran, output: &[i32]) {
             ran.written,
             wrote,
         );
-        return;
+        return status::of_stop(stop);
     }
     show_output(b"", wrote, b"\n");
     show_end(name, source, stop);
     show_counts(ran);
+    status::of_stop(stop)
 }
 
 // Runs code on the first of some numbers, in no more cells and with no more room than asked.
@@ -110,11 +112,11 @@ fn run_code(
     input: &[i32],
     count: usize,
     sizes: Sizes,
-) {
+) -> u8 {
     let mut store = [0i64; 8192];
     let mut output = [0i32; 65536];
     let ran = run_within(code, input, count, sizes, &mut store, &mut output);
-    show_ran(name, source, plain, ran, &output);
+    show_ran(name, source, plain, ran, &output)
 }
 
 // Translates a source and runs it on the first of some numbers.
@@ -125,7 +127,7 @@ pub fn run_source(
     input: &[i32],
     count: usize,
     sizes: Sizes,
-) {
+) -> u8 {
     let mut code = [0u32; 16384];
     match translate(source, &mut code) {
         Verdict::Accepted => run_code(name, source, plain, &code, input, count, sizes),
@@ -135,6 +137,7 @@ pub fn run_source(
             } else {
                 show_answer(name, source, b": refused, ", r.answer.number, r.place.at);
             }
+            status::BAD
         }
     }
 }

@@ -155,7 +155,7 @@ fn say_run(number: u16) {
 }
 
 // The sentence for an answer.
-fn say_answer(number: u16, source: &[u8], place: usize) {
+pub fn say_answer(number: u16, source: &[u8], place: usize) {
     match number {
         1 => say(b"the table or the code is too short"),
         2 => say(b"the source is over 16,384 bytes"),

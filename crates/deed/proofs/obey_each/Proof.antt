@@ -9,10 +9,10 @@ use Rattle.deed.proofs.obey_each.Statement.{statement}
 use Rattle.deed.proofs.obey_each.Tie as tie
 
 abbrev Inv-loop : tie.InvT-loop
-Inv-loop text at₀ at = Unit {0}
+Inv-loop text most₀ at₀ most at = Unit {0}
 
 abbrev μ-loop : tie.MeasureT-loop
-μ-loop text at₀ at = length text - at
+μ-loop text most₀ at₀ most at = length text - at
 
 inside : (c : tie.After-find Inv-loop μ-loop) → c .find .result ≤ length (c .before .before .before .before .args .text .now)
 inside c =
@@ -24,7 +24,7 @@ part-obey-text-end : tie.Need-part-obey-text-end Inv-loop μ-loop
 part-obey-text-end c = inside c
 
 add-at : tie.Need-add-at Inv-loop μ-loop
-add-at c = omega (arith, inside (c .before .before))
+add-at c = omega (arith, inside (c .before .before .before))
 
 pub obey-each-spec : {M : Type 1} → statement M
 obey-each-spec =
@@ -37,6 +37,7 @@ obey-each-spec =
     (λ c. search needs)
     (λ c. search needs)
     part-obey-text-end
+    (λ c κs. search needs)
     (λ c κs. search needs)
     add-at
     (λ c. search needs)

@@ -32,7 +32,11 @@ returns-6 c = simp (sym (c .before .before .before .before .before .before .befo
 
 returns-7 : tie.Need-returns-7
 unfolding jobIn jobOf
-returns-7 c = simp (sym (c .before .before .before .before .before .before .before .before .before .before .before .before .before .before .before .before .same-bytes .ensures) ∙ c .before .before .before .before .before .before .before .before .before .before .before .before .before .before .before .if1 .left, sym (c .before .before .before .before .before .before .before .before .before .before .before .before .before .same-bytes2 .ensures) ∙ c .before .before .before .before .before .before .before .before .before .before .before .before .if2 .left, sym (c .before .before .before .before .before .before .before .before .before .before .same-bytes3 .ensures) ∙ c .before .before .before .before .before .before .before .before .before .if3 .left, sym (c .before .before .before .before .before .before .before .same-bytes4 .ensures) ∙ c .before .before .before .before .before .before .if4 .left, sym (c .before .before .before .before .same-bytes5 .ensures) ∙ c .before .before .before .if5 .left, sym (c .before .same-bytes6 .ensures) ∙ c .if6 .left)
+returns-7 c = simp (sym (c .before .before .before .before .before .before .before .before .before .before .before .before .before .before .before .before .before .before .before .same-bytes .ensures) ∙ c .before .before .before .before .before .before .before .before .before .before .before .before .before .before .before .before .before .before .if1 .left, sym (c .before .before .before .before .before .before .before .before .before .before .before .before .before .before .before .before .same-bytes2 .ensures) ∙ c .before .before .before .before .before .before .before .before .before .before .before .before .before .before .before .if2 .left, sym (c .before .before .before .before .before .before .before .before .before .before .before .before .before .same-bytes3 .ensures) ∙ c .before .before .before .before .before .before .before .before .before .before .before .before .if3 .left, sym (c .before .before .before .before .before .before .before .before .before .before .same-bytes4 .ensures) ∙ c .before .before .before .before .before .before .before .before .before .if4 .left, sym (c .before .before .before .before .before .before .before .same-bytes5 .ensures) ∙ c .before .before .before .before .before .before .if5 .left, sym (c .before .before .before .before .same-bytes6 .ensures) ∙ c .before .before .before .if6 .left, sym (c .before .same-bytes7 .ensures) ∙ c .if7 .taken)
+
+returns-8 : tie.Need-returns-8
+unfolding jobIn jobOf
+returns-8 c = simp (sym (c .before .before .before .before .before .before .before .before .before .before .before .before .before .before .before .before .before .before .before .same-bytes .ensures) ∙ c .before .before .before .before .before .before .before .before .before .before .before .before .before .before .before .before .before .before .if1 .left, sym (c .before .before .before .before .before .before .before .before .before .before .before .before .before .before .before .before .same-bytes2 .ensures) ∙ c .before .before .before .before .before .before .before .before .before .before .before .before .before .before .before .if2 .left, sym (c .before .before .before .before .before .before .before .before .before .before .before .before .before .same-bytes3 .ensures) ∙ c .before .before .before .before .before .before .before .before .before .before .before .before .if3 .left, sym (c .before .before .before .before .before .before .before .before .before .before .same-bytes4 .ensures) ∙ c .before .before .before .before .before .before .before .before .before .if4 .left, sym (c .before .before .before .before .before .before .before .same-bytes5 .ensures) ∙ c .before .before .before .before .before .before .if5 .left, sym (c .before .before .before .before .same-bytes6 .ensures) ∙ c .before .before .before .if6 .left, sym (c .before .same-bytes7 .ensures) ∙ c .if7 .left)
 
 pub job-of-spec : {M : Type 1} → statement M
 job-of-spec =
@@ -56,4 +60,7 @@ job-of-spec =
     (λ c. search needs)
     (λ c κs. search needs)
     returns-6
-    returns-7)
+    (λ c. search needs)
+    (λ c κs. search needs)
+    returns-7
+    returns-8)

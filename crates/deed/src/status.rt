@@ -1,0 +1,43 @@
+// How the tool ended, for a script. A program of this kit has no exit status of its own, so it is written to descriptor 9, which the script
+// `deed` opens; where that is not open, nothing is written.
+use answers::Stop;
+use answers::Verdict;
+
+// Accepted, or a run that ended.
+pub const GOOD: u8 = 0;
+// Refused, or a run that was stopped.
+pub const BAD: u8 = 1;
+// Nothing was done.
+pub const NOTHING: u8 = 2;
+
+const DESCRIPTOR: i32 = 9;
+
+pub fn of_verdict(v: Verdict) -> u8 {
+    match v {
+        Verdict::Accepted => GOOD,
+        Verdict::Refused(_) => BAD,
+    }
+}
+
+pub fn of_stop(s: Stop) -> u8 {
+    match s {
+        Stop::Ended => GOOD,
+        _ => BAD,
+    }
+}
+
+pub fn greater(a: u8, b: u8) -> u8 {
+    if a < b { b } else { a }
+}
+
+fn tell(digit: &[u8]) {
+    io::write_all(DESCRIPTOR, digit);
+}
+
+pub fn leave(status: u8) {
+    match status {
+        0 => tell(b"0"),
+        1 => tell(b"1"),
+        _ => tell(b"2"),
+    }
+}
