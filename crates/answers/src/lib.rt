@@ -1,5 +1,5 @@
-// The numbers of paper 01, "Numbered answers", and what carries them. Places, declarations and code addresses are
-// types of their own, so that none is taken for another; answer and environment numbers are constants of their types.
+// The numbers of paper 01, "Numbered answers", and what carries them. Places, symbols, declarations and code addresses
+// are types of their own, so that none is taken for another; answer and environment numbers are constants of their types.
 ghost use mathlib.Core.Path.{_≡_};
 ghost use Rattle.answers.specs.Numbers.{accepted, ended, short, long, noSymbol, tooLarge, grammar, depth, twice, undeclared, heading, types, limit, range, zeroDivisor, unassigned, inputEnded, outputFull, cells, activations, channel, noInstruction, iabs, maxint, ininteger, outinteger};
 ghost use Rattle.answers.specs.Answers.{answer, environment, refusal, numberOf, placeOf, stopNumber, stopPlace};
@@ -7,6 +7,11 @@ ghost use Rattle.answers.specs.Answers.{answer, environment, refusal, nu
 // A byte of the source, counted from 0.
 pub struct Place {
     pub at: usize,
+}
+
+// A symbol of the source, counted from 0: which one it is, where a `Place` says at which byte.
+pub struct Ordinal {
+    pub number: u16,
 }
 
 // A declaration or formal, counted from 0 in source order.
