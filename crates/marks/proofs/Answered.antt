@@ -26,7 +26,8 @@ use Rattle.grammar.proofs.Final.{read-keeps, over-verdict, bad-verdict}
 use Rattle.names.specs.Program.{Statement}
 use Rattle.names.specs.Uses.{Fault, nameFaults, least}
 use Rattle.types.specs.Types.{typeFault}
-use Rattle.reading.specs.Reading.{symbols, kindsIn, placeIn, filled, Scanned, Parsed, parsed, Judged, too-long, unreadable, ungrammatical, too-deep, misnamed, mistyped}
+use Rattle.reading.specs.Judging.{parsed, too-long, unreadable, ungrammatical, too-deep, misnamed, mistyped}
+use Rattle.reading.specs.Reading.{symbols, kindsIn, placeIn, filled, Scanned, Parsed, Judged}
 use Rattle.marks.specs.Parsing.{parse}
 use Rattle.marks.specs.Models.{Read, refused, accepted, byTypes, byNames, byEnd, byTree, bySymbols, byLength, readOf}
 use Rattle.marks.proofs.Parses.{Right, runs}

@@ -18,7 +18,7 @@ use Rattle.names.specs.Uses.{usesE, usesL, usesS, scopesS, each, twiceIn, allNa
 use Rattle.names.specs.Nodes.{nodesE, nodesN, nodesLeft, nodesS}
 use Rattle.names.specs.Outline.{sizeS, rowsN, rowsS, declarations}
 use Rattle.types.specs.Types.{inExpression, wants, wantedBy, isVariable, isName, ownSort, misfit, misfits, miscalled, asLeft, faultsE, faultsLeft, faultsL, sortE, faultsS, typeFaults, typeFault}
-use Rattle.reading.specs.Table.{fours, useWords, declarationWords, hasNone, nodeWords, tableOf}
+use Rattle.table.specs.Table.{fours, useWords, declarationWords, hasNone, nodeWords, tableOf}
 use Rattle.rules.specs.Entered.{total, before, cut, declaring, bodyOfThis, cellOf}
 use Rattle.rules.specs.Calls.{primary, command}
 use Rattle.rules.specs.Rules.{evaluate, perform, calling, sstep}

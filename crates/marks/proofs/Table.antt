@@ -12,8 +12,9 @@ use Rattle.answers.specs.declared.Verdict.the-variants.{Accepted}
 use Rattle.machine.specs.Machine.{machine}
 use Rattle.machine.specs.Run.{done}
 use Rattle.names.specs.Program.{Statement}
-use Rattle.reading.specs.Table.{tableOf}
-use Rattle.reading.specs.Reading.{placeIn, filled, Judged, accepted as judged-accepted}
+use Rattle.table.specs.Table.{tableOf}
+use Rattle.reading.specs.Judging.{accepted as judged-accepted}
+use Rattle.reading.specs.Reading.{placeIn, filled, Judged}
 use Rattle.rules.specs.Rules.{source}
 use Rattle.translation.specs.Translate.{code}
 use Rattle.machine.specs.Words.{words}

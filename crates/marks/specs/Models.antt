@@ -21,7 +21,7 @@ use Rattle.machine.specs.Machine.{Mach, step, Finish, finish, start}
 use Rattle.names.specs.Program.{Statement}
 use Rattle.names.specs.Uses.{Fault, nameFaults, least}
 use Rattle.types.specs.Types.{typeFault}
-use Rattle.reading.specs.Table.{tableOf}
+use Rattle.table.specs.Table.{tableOf}
 use Rattle.reading.specs.Reading.{symbols, kindsIn, placeIn, programIn, refusedAt}
 use Rattle.rules.specs.Rules.{State, source}
 use Rattle.translation.specs.Translate.{code}

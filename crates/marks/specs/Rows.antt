@@ -11,7 +11,8 @@ use Rattle.machine.specs.Run.{Trace, done}
 use Rattle.machine.specs.Machine.{Finish, machine}
 use Rattle.names.specs.Uses.{nameFaults, least}
 use Rattle.types.specs.Types.{typeFault}
-use Rattle.reading.specs.Reading.{placeIn, filled, Parsed, parsed, Judged}
+use Rattle.reading.specs.Judging.{parsed}
+use Rattle.reading.specs.Reading.{placeIn, filled, Parsed, Judged}
 use Rattle.rules.specs.Rules.{source}
 use Rattle.translation.specs.Translate.{code}
 use Rattle.machine.specs.Words.{words}

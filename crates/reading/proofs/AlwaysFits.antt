@@ -10,10 +10,11 @@ use Rattle.symbols.specs.Names.{lettersAt}
 use Rattle.symbols.specs.Symbols.{kind}
 use Rattle.symbols.specs.Scan.{scan, valuesOf}
 use Rattle.grammar.specs.Verdict.{zeros}
-use Rattle.reading.specs.Table.{tableOf}
-use Rattle.reading.specs.Reading.{symbols, placeIn, room, filled, Parsed, parsed, Judged, too-long, unreadable, ungrammatical, too-deep, misnamed, mistyped, accepted, Reads, too-short, enough}
+use Rattle.table.specs.Table.{tableOf}
+use Rattle.reading.specs.Judging.{parsed, too-long, unreadable, ungrammatical, too-deep, misnamed, mistyped, accepted}
+use Rattle.reading.specs.Reading.{symbols, placeIn, room, filled, Parsed, Judged, Reads, too-short, enough}
 use Rattle.reading.proofs.Places.{few-symbols}
-use Rattle.reading.proofs.Fits.{table-room}
+use Rattle.table.proofs.Fits.{table-room}
 use Rattle.reading.proofs.Answers.{length-zeros}
 
 -- whatever the faults of its names and types

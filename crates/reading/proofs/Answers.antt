@@ -27,16 +27,18 @@ use Rattle.types.specs.Types.{typeFault}
 use Rattle.types.specs.Passes.{typedOf}
 use Rattle.symbols.specs.Scan.{scan, valuesOf}
 use Rattle.types.proofs.NearTypes.{near-types, small-types}
-use Rattle.reading.specs.Table.{tableOf}
-use Rattle.reading.specs.Reading.{symbols, placeIn, refusedAt, room, cleared, filled, Judged, accepted, Reads, too-short}
+use Rattle.table.specs.Table.{tableOf}
+use Rattle.reading.specs.Judging.{accepted}
+use Rattle.reading.specs.Reading.{symbols, placeIn, refusedAt, room, cleared, filled, Judged, Reads, too-short}
 use Rattle.reading.specs.declared.Sizes.{Sizes}
 use Rattle.reading.specs.declared.Found.{Found}
 use Rattle.reading.specs.declared.Found.the-variants.{Program, Refused as Wrong}
 use Rattle.reading.proofs.Places.{place-inside}
-use Rattle.reading.specs.Model.{placeOf, Wrote, tableModel, Known, Outlined, Named, programOf, Typed, right, wrong, Tells, program as told, refused, Declared, Holds}
-use Rattle.reading.proofs.SamePlaces.{SymbolsBelow}
-use Rattle.reading.proofs.TableWords.{table-words}
-use Rattle.reading.proofs.Fits.{table-room, rows-room, nodes-room}
+use Rattle.table.specs.Model.{placeOf, Wrote, tableModel}
+use Rattle.reading.specs.Model.{Known, Outlined, Named, programOf, Typed, right, wrong, Tells, program as told, refused, Declared, Holds}
+use Rattle.table.proofs.SamePlaces.{SymbolsBelow}
+use Rattle.table.proofs.TableWords.{table-words}
+use Rattle.table.proofs.Fits.{table-room, rows-room, nodes-room}
 use Rattle.reading.proofs.Whole.{letters, worth, program, all-good, nodes-are, rows-are, uses-match, worst, at-fault, no-name-fault, mistake, mistaken, no-type-fault}
 
 -- ---- lists without a fault

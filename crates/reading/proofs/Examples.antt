@@ -23,8 +23,9 @@ use Rattle.names.specs.Uses.{usesE, usesS, usesSs, usesD, scopesS, scopesSs, sc
 use Rattle.names.specs.Nodes.{nodesE, nodesN, nodesLeft, nodesS, nodesSs, nodesD}
 use Rattle.names.specs.Outline.{sizeS, sizeSs, sizeD, rowsN, rowsS, rowsSs, rowsD, declarations}
 use Rattle.types.specs.Types.{asLeft, faultsE, faultsLeft, sortE, faultsS, faultsSs, faultsD, typeFaults, typeFault}
-use Rattle.reading.specs.Table.{fours, useWords, declarationWords, hasNone, nodeWords, tableOf}
-use Rattle.reading.specs.Reading.{placeIn, room, filled, Parsed, parsed, Judged, accepted, Reads, enough}
+use Rattle.table.specs.Table.{fours, useWords, declarationWords, hasNone, nodeWords, tableOf}
+use Rattle.reading.specs.Judging.{parsed, accepted}
+use Rattle.reading.specs.Reading.{placeIn, room, filled, Parsed, Judged, Reads, enough}
 use Rattle.reading.proofs.Only.{only}
 
 -- ---- the trees

@@ -2,17 +2,11 @@ pub mod AlwaysFits
 pub mod Answers
 pub mod Examples
 pub mod FaultNumbers
-pub mod Few
-pub mod Fits
 pub mod LeastFault
 pub mod Numbered
 pub mod Only
 pub mod Places
 pub mod Promises
-pub mod SamePlaces
 pub mod Smallest
 pub mod Stages
-pub mod TableWords
-pub mod UseWords
 pub mod Whole
-pub mod Writing

@@ -18,8 +18,9 @@ use Rattle.symbols.proofs.FirstFault.{Why, no-symbol, open-note, over, one-too-
 use Rattle.grammar.specs.Program.{Wrong, FirstDeep}
 use Rattle.names.specs.Uses.{Fault, nameFaults, least}
 use Rattle.types.specs.Types.{typeFault}
-use Rattle.reading.specs.Table.{tableOf}
-use Rattle.reading.specs.Reading.{symbols, kindsIn, placeIn, room, filled, cleared, Scanned, Parsed, parsed, Judged, too-long, unreadable, ungrammatical, too-deep, misnamed, mistyped, accepted, Reads, too-short, enough, Answered}
+use Rattle.table.specs.Table.{tableOf}
+use Rattle.reading.specs.Judging.{parsed, too-long, unreadable, ungrammatical, too-deep, misnamed, mistyped, accepted}
+use Rattle.reading.specs.Reading.{symbols, kindsIn, placeIn, room, filled, cleared, Scanned, Parsed, Judged, Reads, too-short, enough, Answered}
 use Rattle.reading.proofs.Only.{only}
 use Rattle.reading.proofs.Places.{few-symbols}
 use Rattle.reading.proofs.FaultNumbers.{SevenToNine, seven-to-nine, least-among, ten-only}

@@ -14,8 +14,9 @@ use Rattle.grammar.proofs.Exclusive.{not-both, one-wrong, wrong-deep, same-plac
 use Rattle.grammar.proofs.Unique.{unique}
 use Rattle.names.specs.Uses.{nameFaults, least}
 use Rattle.types.specs.Types.{typeFault}
-use Rattle.reading.specs.Table.{tableOf}
-use Rattle.reading.specs.Reading.{kindsIn, placeIn, programIn, refusedAt, room, filled, Parsed, parsed, Judged, too-long, unreadable, ungrammatical, too-deep, misnamed, mistyped, accepted, Reads, too-short, enough}
+use Rattle.table.specs.Table.{tableOf}
+use Rattle.reading.specs.Judging.{parsed, too-long, unreadable, ungrammatical, too-deep, misnamed, mistyped, accepted}
+use Rattle.reading.specs.Reading.{kindsIn, placeIn, programIn, refusedAt, room, filled, Parsed, Judged, Reads, too-short, enough}
 
 some-none : {A : Type 0} {x : A} → some x ≡ none → ⊥
 some-none q = let z : _≡_ {A = ℕ} 0 1 = cc in omega arith

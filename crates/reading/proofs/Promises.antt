@@ -23,10 +23,11 @@ use Rattle.names.proofs.Innermost.{Undeclared, NotGiven, Innermost, Numbered, s
 use Rattle.names.proofs.Once.{only-one}
 use Rattle.names.proofs.TreeLaws.{joined-append}
 use Rattle.types.specs.Types.{typeFaults, typeFault}
-use Rattle.reading.specs.Table.{fours, useWords, declarationWords, nodeWords, tableOf}
-use Rattle.reading.specs.Reading.{symbols, placeIn, refusedAt, room, cleared, filled, Parsed, parsed, Judged, too-long, unreadable, ungrammatical, too-deep, misnamed, mistyped, accepted, Reads, too-short, enough, Answered}
+use Rattle.table.specs.Table.{fours, useWords, declarationWords, nodeWords, tableOf}
+use Rattle.reading.specs.Judging.{parsed, too-long, unreadable, ungrammatical, too-deep, misnamed, mistyped, accepted}
+use Rattle.reading.specs.Reading.{symbols, placeIn, refusedAt, room, cleared, filled, Parsed, Judged, Reads, too-short, enough, Answered}
 use Rattle.reading.proofs.Answers.{none-empty, unmeant-none}
-use Rattle.reading.proofs.UseWords.{AllMean, nil-both, meant-split, rows-length, kind-some}
+use Rattle.table.proofs.UseWords.{AllMean, nil-both, meant-split, rows-length, kind-some}
 use Rattle.reading.proofs.Only.{one-program, only}
 use Rattle.reading.proofs.LeastFault.{least-exactly}
 use Rattle.reading.proofs.FaultNumbers.{early-number, least-among, none-among, eight-among, has-eight, own-only, ten-only}

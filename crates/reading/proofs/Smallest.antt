@@ -22,7 +22,8 @@ use Rattle.names.proofs.Named.{named}
 use Rattle.names.proofs.NearNames.{below-names}
 use Rattle.names.proofs.Weaken.{mapAll}
 use Rattle.types.specs.Types.{typeFaults, typeFault}
-use Rattle.reading.specs.Reading.{symbols, placeIn, Parsed, parsed}
+use Rattle.reading.specs.Judging.{parsed}
+use Rattle.reading.specs.Reading.{symbols, placeIn, Parsed}
 use Rattle.reading.proofs.Answers.{none-empty}
 use Rattle.reading.proofs.FaultNumbers.{least-among, none-among}
 use Rattle.reading.proofs.LeastFault.{Late, least-late}

@@ -26,7 +26,8 @@ use Rattle.grammar.specs.Program.{Wrong, FirstDeep}
 use Rattle.grammar.specs.Verdict.{zeros, Verdict, Whole}
 use Rattle.grammar.specs.declared.Parsed.{Parsed as Outcome}
 use Rattle.grammar.specs.declared.Parsed.the-variants.{Read as Program-read, Refused as Program-refused}
-use Rattle.reading.specs.Reading.{symbols, kindsIn, placeIn, cleared, Judged, unreadable, ungrammatical, too-deep}
+use Rattle.reading.specs.Judging.{unreadable, ungrammatical, too-deep}
+use Rattle.reading.specs.Reading.{symbols, kindsIn, placeIn, cleared, Judged}
 use Rattle.names.specs.Identity.{Identified}
 use Rattle.reading.specs.Model.{Placed, Symbols, Ready, Known}
 use Rattle.reading.proofs.Places.{few-symbols}

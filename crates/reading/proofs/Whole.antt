@@ -26,7 +26,8 @@ use Rattle.answers.specs.Numbers.{types}
 use Rattle.types.specs.Types.{typeFaults, typeFault}
 use Rattle.types.specs.Passes.{typedOf}
 use Rattle.types.proofs.OfPrograms.{typed-program}
-use Rattle.reading.specs.Reading.{symbols, placeIn, refusedAt, cleared, parsed, Judged, misnamed, mistyped}
+use Rattle.reading.specs.Judging.{parsed, misnamed, mistyped}
+use Rattle.reading.specs.Reading.{symbols, placeIn, refusedAt, cleared, Judged}
 use Rattle.reading.specs.Model.{Known}
 
 module _ {source places nodes ids : List ℕ} {n : ℕ} (known : Known source places nodes ids n) where

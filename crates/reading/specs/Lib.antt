@@ -1,3 +1,3 @@
-pub mod Table
+pub mod Judging
 pub mod Reading
 pub mod Model

@@ -1,4 +1,4 @@
--- How the code writes the table and what its functions need. No part of the paper.
+-- What the stages of the front end need and give back. No part of the paper.
 use Prim.Native.Nat.{ℕ, _+_, _*_, _-_, _%_, _<_, _≤_}
 use mathlib.Core.Path.{_≡_}
 use mathlib.Core.Bool.{cond}
@@ -18,58 +18,12 @@ use Rattle.answers.specs.declared.Verdict.{Verdict}
 use Rattle.answers.specs.declared.Verdict.the-variants.{Accepted, Refused as Wrong}
 use Rattle.names.specs.Rows.{outlineOf, usesOf}
 use Rattle.names.specs.Uses.{nameFaults, least}
-use Rattle.reading.specs.Table.{fours, declarationWords, nodeWords}
-use Rattle.reading.specs.Reading.{symbols, kindsIn, placeIn, cleared, Scanned, Parsed, parsed, Judged}
+use Rattle.table.specs.Table.{fours, declarationWords, nodeWords}
+use Rattle.reading.specs.Judging.{parsed}
+use Rattle.reading.specs.Reading.{symbols, kindsIn, placeIn, cleared, Scanned, Parsed, Judged}
 use Rattle.reading.specs.declared.Sizes.{Sizes}
 use Rattle.reading.specs.declared.Found.{Found}
 use Rattle.reading.specs.declared.Found.the-variants.{Program, Refused}
-
--- words were written from a place on, and the others kept
-pub record Wrote (old new : List ℕ) (at : ℕ) (words : List ℕ) : Type 0 where
-  pub put : take (at + length words) new ≡ take at old ++ words
-  pub kept : drop (at + length words) new ≡ drop (at + length words) old
-  pub size : length new ≡ length old
-
--- the place of a symbol, as a word holds it
-abbrev pub placeOf : List ℕ → ℕ → ℕ
-placeOf places k = getD places k 0 % 65536
-
--- a use as three words; one that means nothing, which no accepted program has, is written with zeros
-unfoldable pub meantWords : (ℕ → ℕ) → List ℕ → ℕ → Meant → List ℕ
-meantWords place rows s (AtRow d) = place s ∷ (getD rows (4 * d .number) 0 - 4) ∷ place (getD rows (4 * d .number + 1) 0) ∷ []
-meantWords place rows s (Given e) = place s ∷ 0 ∷ e .number ∷ []
-meantWords place rows s Nothing = place s ∷ 0 ∷ 0 ∷ []
-
--- the use that comes next, and the others; nothing where there is none
-unfoldable pub nextWord : List ℕ → ℕ
-nextWord [] = 8196
-nextWord (w ∷ ws) = w
-
-unfoldable pub otherWords : List ℕ → List ℕ
-otherWords [] = []
-otherWords (w ∷ ws) = ws
-
--- the uses among the nodes, each with what it means
-unfoldable pub useModel : (ℕ → ℕ) → List ℕ → List ℕ → List ℕ → List ℕ
-useModel place rows [] us = []
-useModel place rows (k ∷ []) us = []
-useModel place rows (k ∷ s ∷ []) us = []
-useModel place rows (k ∷ s ∷ a ∷ []) us = []
-useModel place rows (k ∷ s ∷ a ∷ b ∷ ws) us =
-    cond (isUse k) (meantWords place rows s (meantOf (nextWord us)) ++ useModel place rows ws (otherWords us)) (useModel place rows ws us)
-
--- the three sections
-unfoldable pub useSection : (ℕ → ℕ) → List ℕ → List ℕ → List ℕ → List ℕ
-useSection place rows nodes uses = length uses ∷ useModel place rows nodes uses
-
-unfoldable pub declarationSection : (ℕ → ℕ) → List ℕ → List ℕ
-declarationSection place rows = fours rows ∷ declarationWords place rows
-
-unfoldable pub nodeSection : (ℕ → ℕ) → List ℕ → List ℕ
-nodeSection place nodes = fours nodes ∷ nodeWords place nodes
-
-unfoldable pub tableModel : (ℕ → ℕ) → List ℕ → List ℕ → List ℕ → List ℕ
-tableModel place rows nodes uses = useSection place rows nodes uses ++ (declarationSection place rows ++ nodeSection place nodes)
 
 -- ---- what is known at each stage
 

@@ -1,93 +1,58 @@
--- Paper 01, "Numbered answers": what read answers for a source and a table, and what the table holds afterwards. "Order: 1, 2, then 3 and 4 by
--- smallest place, then 5 and 6, then 7 to 9, then 10. Each group is finished before the next; in a group the smallest place wins, and at one place
--- the lower number."
-use Prim.Native.Nat.{ℕ, _-_, _<_, _≤_}
+-- Paper 01, "Numbered answers": what `read` answers for a source and a table, and what the table holds afterwards. It takes at most 2,048 symbols, and
+-- uses 32,768 words; Judging has the answers one by one.
+use Prim.Native.Nat.{ℕ, _<_, _≤_}
 use mathlib.Core.Path.{_≡_}
 use mathlib.Core.List.{List, _++_}
-use mathlib.Core.Option.{none, some}
-use lib.ListN.{length, getD, drop}
-use Rattle.answers.specs.Numbers.{short, long, grammar, depth}
+use lib.ListN.{length, drop}
+use Rattle.answers.specs.Numbers.{short}
 use Rattle.answers.specs.Answers.{refusal, numberOf, placeOf}
-use Rattle.answers.specs.declared.Refusal.{Refusal}
 use Rattle.answers.specs.declared.Verdict.{Verdict}
-use Rattle.answers.specs.declared.Verdict.the-variants.{Accepted, Refused}
-use Rattle.symbols.specs.Names.{lettersAt}
-use Rattle.symbols.specs.Scan.{scan, kindsOf, placesOf, valuesOf}
+use Rattle.answers.specs.declared.Verdict.the-variants.{Refused}
 use Rattle.grammar.specs.Grammar.{program}
 use Rattle.grammar.specs.Trees.{Syn}
-use Rattle.grammar.specs.Program.{Keeps, Wrong, FirstDeep}
 use Rattle.grammar.specs.Verdict.{zeros}
 use Rattle.names.specs.Program.{Statement}
-use Rattle.names.specs.ReadOff.{programOf}
-use Rattle.names.specs.Uses.{Fault, nameFaults, least}
-use Rattle.types.specs.Types.{typeFault}
-use Rattle.reading.specs.Table.{tableOf}
+use Rattle.names.specs.Uses.{Fault}
+use Rattle.reading.specs.Judging as any
 
 -- ---- the symbols of a source: at most 2,048
 
 abbrev pub symbols : ℕ
 symbols = 2048
 
--- their kinds
 abbrev pub kindsIn : List ℕ → List ℕ
-kindsIn source = kindsOf (scan symbols source .found)
+kindsIn = any.kindsIn symbols
 
--- a symbol's place: "its first byte"; "for the end, the source's length"
 abbrev pub placeIn : List ℕ → ℕ → ℕ
-placeIn source k = getD (placesOf (scan symbols source .found)) k (length source)
+placeIn = any.placeIn symbols
 
--- the program that a tree is: a number's value, and a name's letters, are read at the symbol
 abbrev pub programIn : List ℕ → Syn program → Statement
-programIn source t = programOf (λ k. getD (valuesOf (scan symbols source .found)) k 0) (λ k. lettersAt source (placeIn source k)) t
+programIn = any.programIn symbols
 
--- a fault at a symbol of the source
 abbrev pub refusedAt : List ℕ → Fault → Verdict
-refusedAt source f = Refused (refusal (f .answer) (placeIn source (f .symbol)))
+refusedAt = any.refusedAt symbols
+
+abbrev pub Scanned : List ℕ → Type 0
+Scanned = any.Scanned symbols
+
+abbrev pub Parsed : List ℕ → Type 0
+Parsed = any.Parsed symbols
 
 -- ---- the first 32,768 words of the table
 
 abbrev pub room : ℕ
 room = 32768
 
--- "after acceptance unused ones among them are zero"; "An accepted program always fits" (proofs/AlwaysFits)
 abbrev pub filled : List ℕ → List ℕ
-filled words = words ++ zeros (room - length words)
+filled = any.filled room
 
 -- "After any other refusal the first 32,768 table words .. are zero"
 abbrev pub cleared : List ℕ
 cleared = zeros room
 
--- a source within the limit has only symbols
-pub record Scanned (source : List ℕ) : Type 0 where
-  pub short : length source ≤ 16384
-  pub whole : scan symbols source .refused ≡ none
-
--- and is a program that keeps the grammar and the depth
-pub record Parsed (source : List ℕ) : Type 0 where
-  pub scanned : Scanned source
-  pub tree : Syn program
-  pub keeps : Keeps (kindsIn source) tree
-
-abbrev pub parsed : {source : List ℕ} → Parsed source → Statement
-parsed {source} p = programIn source (p .tree)
-
 -- the answer to a source, and the words
-pub data Judged (source : List ℕ) : Verdict → List ℕ → Type 0 where
-  -- 2: "source over 16,384 bytes", at 16,384
-  too-long : 16384 < length source → Judged source (Refused (refusal long 16384)) cleared
-  -- 3 and 4: what comes before the place is read whole (`smallest-place` in proofs/Numbered)
-  unreadable : length source ≤ 16384 → (r : Refusal) → scan symbols source .refused ≡ some r → Judged source (Refused r) cleared
-  -- 5
-  ungrammatical : Scanned source → (k : ℕ) → Wrong (kindsIn source) k → Judged source (Refused (refusal grammar (placeIn source k))) cleared
-  -- 6
-  too-deep : Scanned source → (k : ℕ) → FirstDeep (kindsIn source) k → Judged source (Refused (refusal depth (placeIn source k))) cleared
-  -- 7 to 9
-  misnamed : (p : Parsed source) (f : Fault) → least (nameFaults (parsed p)) ≡ some f → Judged source (refusedAt source f) cleared
-  -- 10
-  mistyped : (p : Parsed source) (f : Fault) → least (nameFaults (parsed p)) ≡ none → typeFault (parsed p) ≡ some f → Judged source (refusedAt source f) cleared
-  -- 0
-  accepted : (p : Parsed source) → least (nameFaults (parsed p)) ≡ none → typeFault (parsed p) ≡ none
-      → Judged source Accepted (filled (tableOf (placeIn source) (parsed p)))
+abbrev pub Judged : List ℕ → Verdict → List ℕ → Type 0
+Judged = any.Judged symbols room
 
 -- the answer to a source and a table, and the table afterwards: "read's table under 32,768 words"; "After 1 nothing lent has changed"; "Words
 -- beyond are untouched"

@@ -2,7 +2,6 @@
 use answers::Refusal;
 
 pub mod finding; // the front end, for every job that takes a source
-mod tables; // the table's words
 pub mod reading; // the job
 
 // How much of the lent arrays an accepted source fills: symbols, words of nodes, rows of four words, uses.

@@ -2,12 +2,12 @@
 use crate::Found;
 use crate::Sizes;
 use crate::finding::find;
-use crate::tables;
 use answers::Answer;
 use answers::Refusal;
 use answers::Verdict;
 use names::passes::first_rows;
 use names::passes::front;
+use table::writing::write;
 ghost use mathlib.Core.Path.{_≡_};
 ghost use mathlib.Core.List.{List};
 ghost use Prim.Native.Nat.{ℕ};
@@ -40,13 +40,13 @@ fn written(
     requires { ⌜ ((source values : List ℕ) × Holds source (now places) values (now nodes) (now rows) (now uses) s) × (now words ≡ cleared) ⌝ }
     ensures { λ _. ⌜ ((source values : List ℕ) → Holds source (now (places .entry)) values (now (nodes .entry)) (now (rows .entry)) (now (uses .entry)) s → Judged source Accepted (now (words .exit))) ⌝ }
 {
-    tables::write(
+    write(
         words,
         front(nodes, s.nodes),
         front(uses, s.uses),
         first_rows(rows, s.rows),
         places,
-    )
+    );
 }
 
 // Any source, and the words that are used.

@@ -7,7 +7,7 @@ use Rattle.symbols.specs.Text.{bytes}
 use Rattle.symbols.specs.Names.{blank, letter, digit, inName, these, lettersAt}
 use Rattle.symbols.specs.Scan.{before}
 use Rattle.showing.specs.Pages.{startOf, lineOf, columnOf, Fills, shownByte, shownFrom, goesOn, underByte, under, marksFrom}
-use Rattle.grammar.specs.TableParts.{rowsAt, nodesAt}
+use Rattle.table.specs.Sections.{rowsAt, nodesAt}
 
 -- ---- places
 

@@ -18,10 +18,11 @@ use Rattle.names.specs.Outline.{rowsS}
 use Rattle.names.proofs.Bridge.{bridge}
 use Rattle.names.proofs.NearNodes.{SymbolsWithin, none as no-node, one, nodes-before-end}
 use Rattle.types.specs.Types.{typeFaults, typeFault}
-use Rattle.reading.specs.Reading.{symbols, placeIn, Parsed, parsed}
+use Rattle.reading.specs.Judging.{parsed}
+use Rattle.reading.specs.Reading.{symbols, placeIn, Parsed}
 use Rattle.reading.proofs.Answers.{none-empty, unmeant-none}
 use Rattle.reading.proofs.Places.{few-symbols, Rising as PlacesRise, places-rise}
-use Rattle.reading.proofs.SamePlaces.{SymbolsBelow}
+use Rattle.table.proofs.SamePlaces.{SymbolsBelow}
 use Rattle.translation.specs.Scoped.{Scoped}
 use Rattle.translation.specs.Sizes.{Limited}
 use Rattle.translation.proofs.Accepted.{accepted-scoped}

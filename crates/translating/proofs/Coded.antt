@@ -13,8 +13,9 @@ use Rattle.names.specs.Rows.{foldNodes}
 use Rattle.names.specs.Uses.{usesS, nameFaults, least}
 use Rattle.names.proofs.Resolved.{Matches}
 use Rattle.types.specs.Types.{typeFault}
-use Rattle.reading.specs.Reading.{placeIn, Parsed, parsed}
-use Rattle.reading.proofs.SamePlaces.{SymbolsBelow}
+use Rattle.reading.specs.Judging.{parsed}
+use Rattle.reading.specs.Reading.{placeIn, Parsed}
+use Rattle.table.proofs.SamePlaces.{SymbolsBelow}
 use Rattle.emitting.specs.Layout.{layoutOf}
 use Rattle.emitting.specs.Emission.{Used, State, usesIn, placeAt, fresh, put, placedNode, emitted, codeOf}
 use Rattle.translating.specs.Job.{filled, codeIn}

@@ -10,7 +10,8 @@ use Rattle.answers.specs.declared.Refusal.{Refusal}
 use Rattle.answers.specs.declared.Verdict.the-variants.{Accepted, Refused}
 use Rattle.names.specs.Uses.{nameFaults, least}
 use Rattle.types.specs.Types.{typeFault}
-use Rattle.reading.specs.Reading.{Parsed, parsed, cleared, Judged}
+use Rattle.reading.specs.Judging.{parsed}
+use Rattle.reading.specs.Reading.{Parsed, cleared, Judged}
 use Rattle.emitting.specs.Layout.{layoutOf}
 use Rattle.emitting.specs.Emission.{usesIn, placeAt, codeOf}
 use Rattle.translating.specs.Job.{room, Translated, refused, accepted, Translates, too-short}

@@ -12,7 +12,8 @@ use Rattle.names.specs.Outline.{rowsS}
 use Rattle.names.specs.Rows.{usesOf}
 use Rattle.names.specs.Uses.{usesS}
 use Rattle.names.proofs.Resolved.{Matches}
-use Rattle.reading.specs.Reading.{Parsed, parsed}
+use Rattle.reading.specs.Judging.{parsed}
+use Rattle.reading.specs.Reading.{Parsed}
 use Rattle.reading.specs.declared.Sizes.{Sizes}
 use Rattle.reading.specs.Model.{Known, Named, Holds}
 use Rattle.reading.proofs.Whole.{nodes-are, rows-are, uses-match}

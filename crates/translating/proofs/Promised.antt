@@ -22,7 +22,8 @@ use Rattle.machine.specs.Run.{Trace, done}
 use Rattle.machine.specs.Machine.{Finish, machine, onCode, used, Exit, afterwards, job}
 use Rattle.machine.proofs.Limits.{zero-words}
 use Rattle.rules.specs.Rules.{source}
-use Rattle.reading.specs.Reading.{placeIn, Parsed, parsed, accepted as judged-right}
+use Rattle.reading.specs.Judging.{parsed, accepted as judged-right}
+use Rattle.reading.specs.Reading.{placeIn, Parsed}
 use Rattle.reading.proofs.Only.{one-program, one-judgement}
 use Rattle.translation.specs.Translate.{code}
 use Rattle.machine.specs.Words.{words}

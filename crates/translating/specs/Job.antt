@@ -13,7 +13,8 @@ use Rattle.answers.specs.declared.Verdict.{Verdict}
 use Rattle.answers.specs.declared.Verdict.the-variants.{Accepted, Refused}
 use Rattle.names.specs.Uses.{nameFaults, least}
 use Rattle.types.specs.Types.{typeFault}
-use Rattle.reading.specs.Reading.{placeIn, cleared, Parsed, parsed, Judged}
+use Rattle.reading.specs.Judging.{parsed}
+use Rattle.reading.specs.Reading.{placeIn, cleared, Parsed, Judged}
 use Rattle.machine.specs.Machine.{Finish, onCode, used, Exit, afterwards}
 use Rattle.translation.specs.Translate.{code}
 use Rattle.machine.specs.Words.{words}

@@ -6,9 +6,9 @@ use showing::text::say_name;
 use showing::text::say_number;
 use showing::text::say_spot;
 use showing::text::spot_of;
-use showing::uses::sections_of;
+use table::sections::sections_of;
 use showing::uses::show_uses;
-use showing::uses::word;
+use table::sections::word;
 ghost use Prim.Native.Nat.{_<_};
 
 // A place as a link to its line, after a comma where others come before it.

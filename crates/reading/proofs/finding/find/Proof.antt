@@ -1,7 +1,7 @@
 -- `reading::finding::find` meets its contract: too long a source is 2, the symbols stand or 3 or 4 is handed on; their values stay. Assumes nothing.
 use mathlib.Core.Path.{refl, ap}
 use Rattle.answers.specs.declared.Verdict.the-variants.{Refused}
-use Rattle.reading.specs.Reading.{too-long}
+use Rattle.reading.specs.Judging.{too-long}
 use Rattle.reading.specs.Model.{refused}
 use Rattle.reading.proofs.Answers.{as-judged, onward, symbols-first}
 use Rattle.reading.proofs.Stages.{unread, stand, values-stand}

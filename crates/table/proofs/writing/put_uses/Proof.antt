@@ -1,0 +1,106 @@
+-- `table::writing::put_uses` meets its contract. The loop's invariant: the uses among the nodes from i on, with the meanings from u on, are left to write.
+-- Assumes nothing.
+use mathlib.Core.Path.{sym, _∙_}
+use mathlib.Core.Logic.{⊎-elim}
+use Prim.Native.Nat.{_*_, _-_, _≤_}
+use native.Mathlib.Omega.{arith}
+use lib.ListN.{length, drop}
+use borrow.Author.Needs.{needs}
+use Rattle.table.specs.Model.{placeOf, useModel}
+use Rattle.table.proofs.Written.{Writing, none-yet, use-room, use-put, use-past, all-written, uses-end}
+use Rattle.table.proofs.writing.put_uses.Statement.{statement}
+use Rattle.table.proofs.writing.put_uses.Tie as tie
+
+abbrev Inv-loop : tie.InvT-loop
+Inv-loop table₀ from nodes uses rows places at₀ u₀ i₀ table at u i =
+    (4 * i ≤ length nodes) × (u ≤ i) × Writing table₀ table from at (useModel (placeOf places) rows (drop (4 * i) nodes) (drop u uses)) (useModel (placeOf places) rows nodes uses)
+
+abbrev μ-loop : tie.MeasureT-loop
+μ-loop table₀ from nodes uses rows places at₀ u₀ i₀ table at u i = length nodes - i
+
+loop-holds : tie.Need-loop-holds Inv-loop μ-loop
+loop-holds c = (omega arith, omega arith, none-yet _ _ _)
+
+mul-loop : tie.Need-mul-loop Inv-loop μ-loop
+mul-loop c = search needs
+
+add-loop : tie.Need-add-loop Inv-loop μ-loop
+add-loop c = search needs
+
+mul-k : tie.Need-mul-k Inv-loop μ-loop
+mul-k c = search needs
+
+mul-is-use : tie.Need-mul-is-use Inv-loop μ-loop
+mul-is-use c = search needs
+
+shared-slice-read-is-use : tie.Need-shared-slice-read-is-use Inv-loop μ-loop
+shared-slice-read-is-use c = search needs
+
+is-use-requires : tie.Need-is-use-requires Inv-loop μ-loop
+is-use-requires c κs = search needs
+
+add-put-use : tie.Need-add-put-use Inv-loop μ-loop
+add-put-use c = search needs
+
+mul-put-use : tie.Need-mul-put-use Inv-loop μ-loop
+mul-put-use c = search needs
+
+shared-slice-read-put-use : tie.Need-shared-slice-read-put-use Inv-loop μ-loop
+shared-slice-read-put-use c = search needs
+
+use-at-requires : tie.Need-use-at-requires Inv-loop μ-loop
+use-at-requires c κs = search needs
+
+put-use-requires : tie.Need-put-use-requires Inv-loop μ-loop
+put-use-requires c κs = use-room (placeOf (c .before .before .before .before .before .before .before .before .before .before .before .before .args .places .now)) (c .before .before .before .before .before .before .before .before .before .before .before .before .args .rows .now) (c .before .before .before .before .before .before .before .before .before .before .before .before .args .nodes .now) (c .before .before .before .before .before .before .before .before .before .before .before .before .args .uses .now) (c .before .before .before .before .before .before .before .loop .i) (c .before .before .before .before .before .before .before .loop .u) (c .before .before .before .before .before .before .before .loop .inv .2) (c .before .before .before .before .before .before .before .before .before .before .before .before .pre) (omega arith) (sym (c .before .before .before .before .is-use .ensures) ∙ c .before .before .before .if1 .taken)
+
+add-at : tie.Need-add-at Inv-loop μ-loop
+add-at c = let r = use-room (placeOf (c .before .before .before .before .before .before .before .before .before .before .before .before .before .before .before .args .places .now)) (c .before .before .before .before .before .before .before .before .before .before .before .before .before .before .before .args .rows .now) (c .before .before .before .before .before .before .before .before .before .before .before .before .before .before .before .args .nodes .now) (c .before .before .before .before .before .before .before .before .before .before .before .before .before .before .before .args .uses .now) (c .before .before .before .before .before .before .before .before .before .before .loop .i) (c .before .before .before .before .before .before .before .before .before .before .loop .u) (c .before .before .before .before .before .before .before .before .before .before .loop .inv .2) (c .before .before .before .before .before .before .before .before .before .before .before .before .before .before .before .pre) (omega arith) (sym (c .before .before .before .before .before .before .before .is-use .ensures) ∙ c .before .before .before .before .before .before .if1 .taken) in omega (arith, c .before .before .before .before .before .before .before .before .before .before .loop .inv .2 .wrote .size)
+
+add-u : tie.Need-add-u Inv-loop μ-loop
+add-u c = search needs
+
+add-i : tie.Need-add-i Inv-loop μ-loop
+add-i c = search needs
+
+loop-less : tie.Need-loop-less Inv-loop μ-loop
+loop-less c = search needs
+
+loop-again : tie.Need-loop-again Inv-loop μ-loop
+loop-again c =
+    ⊎-elim
+    (λ h. (omega arith, omega (arith, h .9), use-put (placeOf (c .before .before .before .before .before .before .before .before .before .args .places .now)) (c .before .before .before .before .before .before .before .before .before .args .rows .now) (c .before .before .before .before .before .before .before .before .before .args .nodes .now) (c .before .before .before .before .before .before .before .before .before .args .uses .now) (c .before .before .before .before .loop .i) (c .before .before .before .before .loop .u) (c .if1 .u) _ (c .before .before .before .before .loop .inv .2) (omega arith) (sym (c .before .is-use .ensures) ∙ h .0 .taken) (h .3 .ensures) (h .4 .ensures) (h .7) (h .8) (h .9)))
+    (λ h. (omega arith, omega (arith, h .3), use-past (placeOf (c .before .before .before .before .before .before .before .before .before .args .places .now)) (c .before .before .before .before .before .before .before .before .before .args .rows .now) (c .before .before .before .before .before .before .before .before .before .args .nodes .now) (c .before .before .before .before .before .before .before .before .before .args .uses .now) (c .before .before .before .before .loop .i) (c .before .before .before .before .loop .u) (c .if1 .u) (c .before .before .before .before .loop .inv .2) (omega arith) (sym (c .before .is-use .ensures) ∙ h .0 .left) (h .1) (h .2) (h .3)))
+    (c .if1 .came)
+
+same-length : tie.Need-same-length Inv-loop μ-loop
+same-length c = c .before .loop .inv .2 .wrote .size
+
+returns : tie.Need-returns Inv-loop μ-loop
+returns c = all-written (c .before .loop .inv .2) (uses-end (placeOf (c .before .before .before .before .before .before .args .places .now)) (c .before .before .before .before .before .before .args .rows .now) (c .before .before .before .before .before .before .args .nodes .now) (drop (c .before .loop .u) (c .before .before .before .before .before .before .args .uses .now)) (c .before .loop .i) (omega arith))
+
+pub put-uses-spec : {M : Type 1} → statement M
+put-uses-spec =
+    tie.close
+    (tie.spec
+    Inv-loop
+    μ-loop
+    loop-holds
+    mul-loop
+    add-loop
+    mul-k
+    mul-is-use
+    shared-slice-read-is-use
+    is-use-requires
+    add-put-use
+    mul-put-use
+    shared-slice-read-put-use
+    use-at-requires
+    put-use-requires
+    add-at
+    add-u
+    add-i
+    loop-less
+    loop-again
+    same-length
+    returns)
