@@ -10,6 +10,7 @@ use borrow.Author.Tests.{ne-eqb}
 use lib.Dec.{eqb}
 use lib.ListN.{take}
 use Rattle.answers.specs.Numbers.{twice, heading}
+use Rattle.answers.specs.declared.Ordinal.{Ordinal}
 use Rattle.grammar.specs.NodeKinds.{n-block, n-block-end, n-type, n-variable, n-procedure, n-formal, n-value, n-specified, n-body, n-procedure-end}
 use Rattle.names.specs.Modes.{packed, typeIn, modeIn}
 use Rattle.names.specs.Rows.{faultKey, identityIn, hasRow, declaredIn, saidIn, notedIf, hereIn, outward, missingIn, Known, entered, left, headed, noted, withRow, withRows, typed, declared, procedured, formalled, marked, valued, specifiedAs, bodied, outlineNode}
@@ -48,7 +49,7 @@ withAround o a = record { rows = o .rows; around = a; sort = o .sort; heading = 
 abbrev pub withSort : Declaring → ℕ → Declaring
 withSort o t = record { rows = o .rows; around = o .around; sort = t; heading = o .heading; least = o .least }
 
-abbrev pub withHeading : Declaring → ℕ → Declaring
+abbrev pub withHeading : Declaring → Ordinal → Declaring
 withHeading o s = record { rows = o .rows; around = o .around; sort = o .sort; heading = s; least = o .least }
 
 abbrev pub withCount : Declaring → ℕ → Declaring
@@ -73,24 +74,24 @@ module _ (o : Declaring) (rows stack : List ℕ) where
   unfolding typed
   typed-is t = refl
 
-  pub headed-is : (s : ℕ) → seeOutline (withHeading o s) rows stack ≡ headed s (seeOutline o rows stack)
+  pub headed-is : (s : Ordinal) → seeOutline (withHeading o s) rows stack ≡ headed (s .number) (seeOutline o rows stack)
   unfolding headed
   headed-is s = refl
 
-  row-is : (new : List ℕ) (k s q t : ℕ) → q ≡ hereIn (seeOpen (o .around) stack) → PutRow rows new (o .rows) (record { kind = k; symbol = s; scope = q; sort = t })
-      → seeOutline (withCount o (o .rows + 1)) new stack ≡ withRow k s t (seeOutline o rows stack)
+  row-is : (new : List ℕ) (k : ℕ) (s : Ordinal) (q t : ℕ) → q ≡ hereIn (seeOpen (o .around) stack) → PutRow rows new (o .rows) (record { kind = k; symbol = s; scope = q; sort = t })
+      → seeOutline (withCount o (o .rows + 1)) new stack ≡ withRow k (s .number) t (seeOutline o rows stack)
   unfolding withRow
   row-is new k s q t e p = let f : 4 * (o .rows + 1) ≡ 4 * o .rows + 4 = omega arith in rw (f, p .wrote, e)
 
 module _ (o : Declaring) (rows stack : List ℕ) where
-  pub declared-is : (ids new : List ℕ) (w : Sought) (k s t : ℕ) (b : Bool) (l : ℕ) → w ≡ declaredIn (hereIn (seeOpen (o .around) stack)) (identityIn ids s)
-      → b ≡ hasRow ids w (take (4 * o .rows) rows) → l ≡ notedIf b (o .least) s twice → PutRow rows new (o .rows) (record { kind = k; symbol = s; scope = w .scope; sort = t })
-      → seeOutline (withCount (withLeast o l) (o .rows + 1)) new stack ≡ declared ids k s t (seeOutline o rows stack)
+  pub declared-is : (ids new : List ℕ) (w : Sought) (k : ℕ) (s : Ordinal) (t : ℕ) (b : Bool) (l : ℕ) → w ≡ declaredIn (hereIn (seeOpen (o .around) stack)) (identityIn ids (s .number))
+      → b ≡ hasRow ids w (take (4 * o .rows) rows) → l ≡ notedIf b (o .least) (s .number) twice → PutRow rows new (o .rows) (record { kind = k; symbol = s; scope = w .scope; sort = t })
+      → seeOutline (withCount (withLeast o l) (o .rows + 1)) new stack ≡ declared ids k (s .number) t (seeOutline o rows stack)
   unfolding declared
   declared-is ids new w k s t b l e g h p =
-      let u : b ≡ hasRow ids (declaredIn (hereIn (seeOpen (o .around) stack)) (identityIn ids s)) (take (4 * o .rows) rows) = rw (← e) g in
+      let u : b ≡ hasRow ids (declaredIn (hereIn (seeOpen (o .around) stack)) (identityIn ids (s .number))) (take (4 * o .rows) rows) = rw (← e) g in
       row-is (withLeast o l) rows stack new k s (w .scope) t (ap (λ (x : Sought). x .scope) e) p
-      ∙ ap (withRow k s t) (noted-is o rows stack b l s twice h ∙ ap (λ (z : Bool). noted z s twice (seeOutline o rows stack)) u)
+      ∙ ap (withRow k (s .number) t) (noted-is o rows stack b l (s .number) twice h ∙ ap (λ (z : Bool). noted z (s .number) twice (seeOutline o rows stack)) u)
 
   -- a name of the value part or of a specification
   pub again-is : (ids : List ℕ) (w : Sought) (b : Bool) (l n s : ℕ) → b ≡ true → l ≡ min (o .least) (faultKey s heading)
@@ -122,22 +123,22 @@ module _ (o : Declaring) (rows stack : List ℕ) where
       let u : b ≡ missingIn (hereIn (seeOpen (o .around) stack)) (take (4 * o .rows) rows) = rw (← e) g in
       noted-is o rows stack b l s heading h ∙ ap (λ (z : Bool). noted z s heading (seeOutline o rows stack)) u
 
-  pub formalled-is : (p : Declaring) (ids new : List ℕ) (s x y l t : ℕ) → t ≡ packed 0 1 → x ≡ identityIn ids s → y ≡ identityIn ids (o .heading) → l ≡ notedIf (eqb x y) (p .least) s twice
+  pub formalled-is : (p : Declaring) (ids new : List ℕ) (s x y l t : ℕ) → t ≡ packed 0 1 → x ≡ identityIn ids s → y ≡ identityIn ids (o .heading .number) → l ≡ notedIf (eqb x y) (p .least) s twice
       → seeOutline p new stack ≡ declared ids n-formal s t (seeOutline o rows stack)
       → seeOutline (withLeast p l) new stack ≡ formalled ids s (seeOutline o rows stack)
   unfolding formalled
   formalled-is p ids new s x y l t i e f h d =
-      let u : eqb x y ≡ eqb (identityIn ids s) (identityIn ids (o .heading)) = rw (e, f) in
+      let u : eqb x y ≡ eqb (identityIn ids s) (identityIn ids (o .heading .number)) = rw (e, f) in
       noted-is p new stack (eqb x y) l s twice h
       ∙ ap (noted (eqb x y) s twice) (d ∙ ap (λ (z : ℕ). declared ids n-formal s z (seeOutline o rows stack)) i)
       ∙ ap (λ (z : Bool). noted z s twice (declared ids n-formal s (packed 0 1) (seeOutline o rows stack))) u
 
-  pub procedured-is : (p : Declaring) (ids new top : List ℕ) (s : ℕ) (a : Open) → seeOutline p new stack ≡ declared ids n-procedure s (o .sort) (seeOutline o rows stack)
+  pub procedured-is : (p : Declaring) (ids new top : List ℕ) (s : Ordinal) (a : Open) → seeOutline p new stack ≡ declared ids n-procedure (s .number) (o .sort) (seeOutline o rows stack)
       → seeOpen a top ≡ (p .around .scopes + 1) ∷ seeOpen (p .around) stack → a .scopes ≡ p .around .scopes + 1
-      → seeOutline (withAround (withHeading p s) a) new top ≡ procedured ids s (seeOutline o rows stack)
+      → seeOutline (withAround (withHeading p s) a) new top ≡ procedured ids (s .number) (seeOutline o rows stack)
   unfolding procedured
   procedured-is p ids new top s a d e f =
-      entered-is (withHeading p s) new stack a top e f ∙ ap entered (headed-is p new stack s ∙ ap (headed s) d)
+      entered-is (withHeading p s) new stack a top e f ∙ ap entered (headed-is p new stack s ∙ ap (headed (s .number)) d)
 
 -- ---- the kinds of nodes
 

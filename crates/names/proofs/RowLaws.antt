@@ -34,10 +34,10 @@ row-end ws i l = let e : length (drop (4 * i) ws) ≡ length ws - 4 * i = length
 -- ---- a row as a whole
 
 abbrev noRow : Row
-noRow = record { kind = 0; symbol = 0; scope = 0; sort = 0 }
+noRow = record { kind = 0; symbol = record { number = 0 }; scope = 0; sort = 0 }
 
 abbrev rowWords : List ℕ → ℕ → Row
-rowWords ws j = record { kind = getD ws (4 * j) 0; symbol = getD ws (4 * j + 1) 0; scope = getD ws (4 * j + 2) 0; sort = getD ws (4 * j + 3) 0 }
+rowWords ws j = record { kind = getD ws (4 * j) 0; symbol = record { number = getD ws (4 * j + 1) 0 }; scope = getD ws (4 * j + 2) 0; sort = getD ws (4 * j + 3) 0 }
 
 pub row-at : (ws : List ℕ) (j : ℕ) → 4 * j + 3 < length ws → rowIn ws j ≡ rowWords ws j
 unfolding rowIn rowOf
@@ -55,7 +55,7 @@ pub row-none : (ws : List ℕ) (j : ℕ) → length ws ≤ 4 * j + 3 → rowIn w
 unfolding rowIn
 row-none ws j h = row-few (drop (4 * j) ws) (row-end ws j h)
 
-row-first : (k s q t : ℕ) (ws : List ℕ) → rowIn (k ∷ s ∷ q ∷ t ∷ ws) 0 ≡ record { kind = k; symbol = s; scope = q; sort = t }
+row-first : (k s q t : ℕ) (ws : List ℕ) → rowIn (k ∷ s ∷ q ∷ t ∷ ws) 0 ≡ record { kind = k; symbol = record { number = s }; scope = q; sort = t }
 unfolding rowIn rowOf
 row-first k s q t ws = refl
 

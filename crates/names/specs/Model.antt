@@ -17,7 +17,7 @@ seeOpen o stack = opensOf (o .depth) stack
 
 abbrev pub seeOutline : Declaring → List ℕ → List ℕ → Known
 seeOutline o rows stack =
-    record { rows = take (4 * o .rows) rows; around = seeOpen (o .around) stack; scopes = o .around .scopes; sort = o .sort; heading = o .heading; least = o .least }
+    record { rows = take (4 * o .rows) rows; around = seeOpen (o .around) stack; scopes = o .around .scopes; sort = o .sort; heading = o .heading .number; least = o .least }
 
 abbrev pub seeUses : Using → List ℕ → List ℕ → Found
 seeUses u uses stack = record { uses = take (u .count) uses; around = seeOpen (u .around) stack; scopes = u .around .scopes; least = u .least }
@@ -37,7 +37,7 @@ pub record UsesWithin (u : Using) (i : ℕ) : Type 0 where
 
 -- a row was written
 pub record PutRow (old new : List ℕ) (n : ℕ) (r : Row) : Type 0 where
-  pub wrote : take (4 * n + 4) new ≡ take (4 * n) old ++ (r .kind ∷ r .symbol ∷ r .scope ∷ r .sort ∷ [])
+  pub wrote : take (4 * n + 4) new ≡ take (4 * n) old ++ (r .kind ∷ r .symbol .number ∷ r .scope ∷ r .sort ∷ [])
   pub size : length new ≡ length old
 
 -- what the pass over declarations left, and the pass over uses: how many there are, their words, the least fault

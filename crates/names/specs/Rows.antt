@@ -49,11 +49,11 @@ notedIf false least s n = least
 
 -- row n; zeros behind the last one
 unfoldable pub rowOf : List ℕ → Row
-rowOf [] = record { kind = 0; symbol = 0; scope = 0; sort = 0 }
-rowOf (k ∷ []) = record { kind = 0; symbol = 0; scope = 0; sort = 0 }
-rowOf (k ∷ s ∷ []) = record { kind = 0; symbol = 0; scope = 0; sort = 0 }
-rowOf (k ∷ s ∷ q ∷ []) = record { kind = 0; symbol = 0; scope = 0; sort = 0 }
-rowOf (k ∷ s ∷ q ∷ t ∷ ws) = record { kind = k; symbol = s; scope = q; sort = t }
+rowOf [] = record { kind = 0; symbol = record { number = 0 }; scope = 0; sort = 0 }
+rowOf (k ∷ []) = record { kind = 0; symbol = record { number = 0 }; scope = 0; sort = 0 }
+rowOf (k ∷ s ∷ []) = record { kind = 0; symbol = record { number = 0 }; scope = 0; sort = 0 }
+rowOf (k ∷ s ∷ q ∷ []) = record { kind = 0; symbol = record { number = 0 }; scope = 0; sort = 0 }
+rowOf (k ∷ s ∷ q ∷ t ∷ ws) = record { kind = k; symbol = record { number = s }; scope = q; sort = t }
 
 unfoldable pub rowIn : List ℕ → ℕ → Row
 rowIn rows n = rowOf (drop (4 * n) rows)
@@ -66,7 +66,7 @@ unfoldable pub sought : List ℕ → Sought → ℕ → ℕ → ℕ → Bool
 sought ids w k s q = leb (w .low) k && (leb k (w .high) && (eqb q (w .scope) && eqb (identityIn ids s) (w .id)))
 
 abbrev pub soughtRow : List ℕ → Sought → Row → Bool
-soughtRow ids w r = sought ids w (r .kind) (r .symbol) (r .scope)
+soughtRow ids w r = sought ids w (r .kind) (r .symbol .number) (r .scope)
 
 -- the number of the first row looked for, or how many there are
 unfoldable pub findRow : List ℕ → Sought → List ℕ → ℕ

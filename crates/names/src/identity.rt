@@ -1,6 +1,7 @@
 // When two symbols are the same name: each symbol gets an identity, and those with the same letters get the same.
 use crate::rows::OUTSIDE;
 use answers::Environment;
+use answers::Ordinal;
 use answers::Place;
 use symbols::names::same_name;
 use symbols::names::spells;
@@ -29,11 +30,12 @@ fn given(source: &[u8], place: Place) -> u16
     4
 }
 
-// The identity of symbol i, where those before it have theirs: that of the first one with the same letters.
-fn identity(source: &[u8], places: &[usize; 2048], ids: &[u16], i: usize) -> u16
-    requires { ⌜ (i < 2048) × (length (now ids) ≡ 2048) × Standing (now source) (now places) (now ids) i ⌝ }
-    ensures { λ r. ⌜ StandsFor (now (source .entry)) (now (places .entry)) i r ⌝ }
+// The identity of a symbol, where those before it have theirs: that of the first one with the same letters.
+fn identity(source: &[u8], places: &[usize; 2048], ids: &[u16], symbol: Ordinal) -> u16
+    requires { ⌜ (symbol .number < 2048) × (length (now ids) ≡ 2048) × Standing (now source) (now places) (now ids) (symbol .number) ⌝ }
+    ensures { λ r. ⌜ StandsFor (now (source .entry)) (now (places .entry)) (symbol .number) r ⌝ }
 {
+    let i = symbol.number as usize;
     let g = given(source, Place { at: places[i] });
     if g < 4 {
         return OUTSIDE + g;
@@ -47,7 +49,7 @@ fn identity(source: &[u8], places: &[usize; 2048], ids: &[u16], i: usize) -> u16
         }
         j += 1;
     }
-    i as u16
+    symbol.number
 }
 
 // The identities of the first symbols.
@@ -67,7 +69,7 @@ fn fill(source: &[u8], places: &[usize; 2048], count: usize, ids: &mut [u16])
         if 2048 <= i {
             return;
         }
-        ids[i] = identity(source, places, ids, i);
+        ids[i] = identity(source, places, ids, Ordinal { number: i as u16 });
         i += 1;
     }
 }

@@ -1,6 +1,7 @@
 // Paper 01, "Names and types": which declaration each name means, and the faults that names have.
 use answers::Declaration;
 use answers::Environment;
+use answers::Ordinal;
 
 pub mod faults; // the least fault
 pub mod meanings; // what a name means as one number
@@ -19,7 +20,7 @@ pub use rows::row as row_at;
 // A row: of a declaration or formal its kind, its name's symbol, the number of its scope, and its type with how a formal is called.
 pub struct Row {
     pub kind: u16,
-    pub symbol: u16,
+    pub symbol: Ordinal,
     pub scope: u16,
     pub sort: u16,
 }
@@ -51,7 +52,7 @@ pub struct Declaring {
     pub rows: usize,
     pub around: Open,
     pub sort: u16,
-    pub heading: u16,
+    pub heading: Ordinal,
     pub least: usize,
 }
 

@@ -16,6 +16,7 @@ use crate::scopes::here;
 use crate::scopes::leave;
 use answers::Answer;
 use answers::Declaration;
+use answers::Ordinal;
 use grammar::nodes;
 ghost use mathlib.Core.Path.{_≡_};
 ghost use mathlib.Core.Bool.{_&&_};
@@ -27,9 +28,9 @@ ghost use Rattle.names.specs.Rows.{rowIn, identityIn, declaredIn, hereIn
 ghost use Rattle.names.specs.Model.{seeOpen, seeOutline, OutlineWithin};
 
 // The rows of a name in the innermost scope.
-fn rows_here(o: Declaring, symbol: u16, ids: &[u16; 2048], stack: &[u16; 8192]) -> Sought
+fn rows_here(o: Declaring, symbol: Ordinal, ids: &[u16; 2048], stack: &[u16; 8192]) -> Sought
     requires { ⌜ OutlineWithin o 8192 ⌝ }
-    ensures { λ r. ⌜ r ≡ declaredIn (hereIn (seeOpen (o .around) (now (stack .entry)))) (identityIn (now (ids .entry)) symbol) ⌝ }
+    ensures { λ r. ⌜ r ≡ declaredIn (hereIn (seeOpen (o .around) (now (stack .entry)))) (identityIn (now (ids .entry)) (symbol .number)) ⌝ }
 {
     Sought {
         low: nodes::VARIABLE,
@@ -43,14 +44,14 @@ fn rows_here(o: Declaring, symbol: u16, ids: &[u16; 2048], stack: &[u16; 8192]) 
 fn declare(
     mut o: Declaring,
     kind: u16,
-    symbol: u16,
+    symbol: Ordinal,
     sort: u16,
     ids: &[u16; 2048],
     rows: &mut [u16; 32768],
     stack: &[u16; 8192],
 ) -> Declaring
     requires { ⌜ OutlineWithin o 8191 ⌝ }
-    ensures { λ r. ⌜ seeOutline r (now (rows .exit)) (now (stack .entry)) ≡ declared (now (ids .entry)) kind symbol sort (seeOutline o (now (rows .entry)) (now (stack .entry))) ⌝ }
+    ensures { λ r. ⌜ seeOutline r (now (rows .exit)) (now (stack .entry)) ≡ declared (now (ids .entry)) kind (symbol .number) sort (seeOutline o (now (rows .entry)) (now (stack .entry))) ⌝ }
     ensures { λ r. ⌜ ((i : ℕ) → OutlineWithin o i → OutlineWithin r (i + 1)) ⌝ }
     ensures { λ r. ⌜ r .around ≡ o .around ⌝ }
 {
@@ -75,13 +76,13 @@ fn declare(
 // A procedure's name is declared, and its body's scope opened.
 fn procedure(
     o: Declaring,
-    symbol: u16,
+    symbol: Ordinal,
     ids: &[u16; 2048],
     rows: &mut [u16; 32768],
     stack: &mut [u16; 8192],
 ) -> Declaring
     requires { ⌜ OutlineWithin o 8191 ⌝ }
-    ensures { λ r. ⌜ seeOutline r (now (rows .exit)) (now (stack .exit)) ≡ procedured (now (ids .entry)) symbol (seeOutline o (now (rows .entry)) (now (stack .entry))) ⌝ }
+    ensures { λ r. ⌜ seeOutline r (now (rows .exit)) (now (stack .exit)) ≡ procedured (now (ids .entry)) (symbol .number) (seeOutline o (now (rows .entry)) (now (stack .entry))) ⌝ }
     ensures { λ r. ⌜ ((i : ℕ) → OutlineWithin o i → OutlineWithin r (i + 1)) ⌝ }
 {
     let mut p = declare(o, nodes::PROCEDURE, symbol, o.sort, ids, rows, stack);
@@ -93,13 +94,13 @@ fn procedure(
 // A formal: 7 also where it is named as its procedure. It has no type yet, and is called by name until the value part says other.
 fn formal(
     o: Declaring,
-    symbol: u16,
+    symbol: Ordinal,
     ids: &[u16; 2048],
     rows: &mut [u16; 32768],
     stack: &[u16; 8192],
 ) -> Declaring
     requires { ⌜ OutlineWithin o 8191 ⌝ }
-    ensures { λ r. ⌜ seeOutline r (now (rows .exit)) (now (stack .entry)) ≡ formalled (now (ids .entry)) symbol (seeOutline o (now (rows .entry)) (now (stack .entry))) ⌝ }
+    ensures { λ r. ⌜ seeOutline r (now (rows .exit)) (now (stack .entry)) ≡ formalled (now (ids .entry)) (symbol .number) (seeOutline o (now (rows .entry)) (now (stack .entry))) ⌝ }
     ensures { λ r. ⌜ ((i : ℕ) → OutlineWithin o i → OutlineWithin r (i + 1)) ⌝ }
 {
     let unsaid = modes::word(0, modes::NAME);
@@ -114,13 +115,13 @@ fn mark(
     mut o: Declaring,
     again: bool,
     word: u16,
-    symbol: u16,
+    symbol: Ordinal,
     want: Sought,
     ids: &[u16; 2048],
     rows: &mut [u16; 32768],
 ) -> Declaring
     requires { ⌜ OutlineWithin o 8192 ⌝ }
-    ensures { λ r. ⌜ ((stack : List ℕ) → seeOutline r (now (rows .exit)) stack ≡ marked (now (ids .entry)) want again word symbol (seeOutline o (now (rows .entry)) stack)) ⌝ }
+    ensures { λ r. ⌜ ((stack : List ℕ) → seeOutline r (now (rows .exit)) stack ≡ marked (now (ids .entry)) want again word (symbol .number) (seeOutline o (now (rows .entry)) stack)) ⌝ }
     ensures { λ r. ⌜ (r .rows ≡ o .rows) × (r .around ≡ o .around) ⌝ }
 {
     if again {
@@ -134,13 +135,13 @@ fn mark(
 // A name of the value part: 9 where it is no formal, or stands there again.
 fn value(
     o: Declaring,
-    symbol: u16,
+    symbol: Ordinal,
     ids: &[u16; 2048],
     rows: &mut [u16; 32768],
     stack: &[u16; 8192],
 ) -> Declaring
     requires { ⌜ OutlineWithin o 8192 ⌝ }
-    ensures { λ r. ⌜ seeOutline r (now (rows .exit)) (now (stack .entry)) ≡ valued (now (ids .entry)) symbol (seeOutline o (now (rows .entry)) (now (stack .entry))) ⌝ }
+    ensures { λ r. ⌜ seeOutline r (now (rows .exit)) (now (stack .entry)) ≡ valued (now (ids .entry)) (symbol .number) (seeOutline o (now (rows .entry)) (now (stack .entry))) ⌝ }
     ensures { λ r. ⌜ (r .rows ≡ o .rows) × (r .around ≡ o .around) ⌝ }
 {
     let want = rows_here(o, symbol, ids, stack);
@@ -153,13 +154,13 @@ fn value(
 // A name in a specification: 9 where it is no formal, or has a type already.
 fn specify(
     o: Declaring,
-    symbol: u16,
+    symbol: Ordinal,
     ids: &[u16; 2048],
     rows: &mut [u16; 32768],
     stack: &[u16; 8192],
 ) -> Declaring
     requires { ⌜ OutlineWithin o 8192 ⌝ }
-    ensures { λ r. ⌜ seeOutline r (now (rows .exit)) (now (stack .entry)) ≡ specifiedAs (now (ids .entry)) symbol (seeOutline o (now (rows .entry)) (now (stack .entry))) ⌝ }
+    ensures { λ r. ⌜ seeOutline r (now (rows .exit)) (now (stack .entry)) ≡ specifiedAs (now (ids .entry)) (symbol .number) (seeOutline o (now (rows .entry)) (now (stack .entry))) ⌝ }
     ensures { λ r. ⌜ (r .rows ≡ o .rows) × (r .around ≡ o .around) ⌝ }
 {
     let want = rows_here(o, symbol, ids, stack);
@@ -214,9 +215,9 @@ fn missing_first(rows: &[u16], n: usize, scope: u16) -> bool
 }
 
 // The end of a heading: 9 at the procedure's name where a formal is missing.
-fn body(mut o: Declaring, symbol: u16, rows: &[u16; 32768], stack: &[u16; 8192]) -> Declaring
+fn body(mut o: Declaring, symbol: Ordinal, rows: &[u16; 32768], stack: &[u16; 8192]) -> Declaring
     requires { ⌜ OutlineWithin o 8192 ⌝ }
-    ensures { λ r. ⌜ seeOutline r (now (rows .entry)) (now (stack .entry)) ≡ bodied symbol (seeOutline o (now (rows .entry)) (now (stack .entry))) ⌝ }
+    ensures { λ r. ⌜ seeOutline r (now (rows .entry)) (now (stack .entry)) ≡ bodied (symbol .number) (seeOutline o (now (rows .entry)) (now (stack .entry))) ⌝ }
     ensures { λ r. ⌜ (r .rows ≡ o .rows) × (r .around ≡ o .around) ⌝ }
 {
     let scope = here(o.around, stack);
@@ -229,14 +230,14 @@ fn body(mut o: Declaring, symbol: u16, rows: &[u16; 32768], stack: &[u16; 8192])
 fn node(
     mut o: Declaring,
     kind: u16,
-    symbol: u16,
+    symbol: Ordinal,
     one: u16,
     ids: &[u16; 2048],
     rows: &mut [u16; 32768],
     stack: &mut [u16; 8192],
 ) -> Declaring
     requires { ⌜ OutlineWithin o 8191 ⌝ }
-    ensures { λ r. ⌜ ((b : ℕ) → seeOutline r (now (rows .exit)) (now (stack .exit)) ≡ outlineNode (now (ids .entry)) kind symbol one b (seeOutline o (now (rows .entry)) (now (stack .entry)))) ⌝ }
+    ensures { λ r. ⌜ ((b : ℕ) → seeOutline r (now (rows .exit)) (now (stack .exit)) ≡ outlineNode (now (ids .entry)) kind (symbol .number) one b (seeOutline o (now (rows .entry)) (now (stack .entry)))) ⌝ }
     ensures { λ r. ⌜ ((i : ℕ) → OutlineWithin o i → OutlineWithin r (i + 1)) ⌝ }
 {
     match kind {
@@ -280,13 +281,16 @@ fn walk(
             scopes: 0,
         },
         sort: 0,
-        heading: 0,
+        heading: Ordinal { number: 0 },
         least: faults::NONE,
     };
     let mut i = 0;
     while 4 * i + 3 < nodes.len() {
         let at = 4 * i;
-        o = node(o, nodes[at], nodes[at + 1], nodes[at + 2], ids, rows, stack);
+        let symbol = Ordinal {
+            number: nodes[at + 1],
+        };
+        o = node(o, nodes[at], symbol, nodes[at + 2], ids, rows, stack);
         i += 1;
     }
     o

@@ -2,6 +2,7 @@
 use crate::Row;
 use crate::Sought;
 use answers::Declaration;
+use answers::Ordinal;
 ghost use mathlib.Core.Path.{_≡_};
 ghost use mathlib.Core.Bool.{cond};
 ghost use mathlib.Core.List.{List, [], _∷_, _++_};
@@ -14,16 +15,17 @@ ghost use Rattle.names.specs.Model.{PutRow, SaidRows};
 pub const OUTSIDE: u16 = 2048;
 
 // The identity of a symbol.
-pub fn identity_of(ids: &[u16; 2048], symbol: u16) -> u16
-    ensures { λ r. ⌜ r ≡ identityIn (now (ids .entry)) symbol ⌝ }
+pub fn identity_of(ids: &[u16; 2048], symbol: Ordinal) -> u16
+    ensures { λ r. ⌜ r ≡ identityIn (now (ids .entry)) (symbol .number) ⌝ }
 {
-    identity_in(ids, symbol as usize)
+    identity_in(ids, symbol)
 }
 
 // A word; 0 behind the last one.
-fn identity_in(ids: &[u16], s: usize) -> u16
-    ensures { λ r. ⌜ r ≡ identityIn (now (ids .entry)) s ⌝ }
+fn identity_in(ids: &[u16], symbol: Ordinal) -> u16
+    ensures { λ r. ⌜ r ≡ identityIn (now (ids .entry)) (symbol .number) ⌝ }
 {
+    let s = symbol.number as usize;
     if s < ids.len() { ids[s] } else { 0 }
 }
 
@@ -36,14 +38,16 @@ pub fn row(rows: &[u16], d: Declaration) -> Row
         let at = 4 * n;
         return Row {
             kind: rows[at],
-            symbol: rows[at + 1],
+            symbol: Ordinal {
+                number: rows[at + 1],
+            },
             scope: rows[at + 2],
             sort: rows[at + 3],
         };
     }
     Row {
         kind: 0,
-        symbol: 0,
+        symbol: Ordinal { number: 0 },
         scope: 0,
         sort: 0,
     }
@@ -51,7 +55,7 @@ pub fn row(rows: &[u16], d: Declaration) -> Row
 
 // Whether a row, whose name has an identity, is what is looked for.
 fn fits(r: Row, id: u16, want: Sought) -> bool
-    ensures { λ b. ⌜ ((ids : List ℕ) → identityIn ids (r .symbol) ≡ id → b ≡ soughtRow ids want r) ⌝ }
+    ensures { λ b. ⌜ ((ids : List ℕ) → identityIn ids (r .symbol .number) ≡ id → b ≡ soughtRow ids want r) ⌝ }
 {
     if r.kind < want.low {
         return false;
@@ -161,11 +165,11 @@ pub fn put(rows: &mut [u16; 32768], n: usize, r: Row)
 // Writes four words.
 fn write(rows: &mut [u16], a: usize, r: Row)
     requires { ⌜ a + 4 ≤ length (now rows) ⌝ }
-    ensures { λ _. ⌜ take (a + 4) (now (rows .exit)) ≡ take a (now (rows .entry)) ++ (r .kind ∷ r .symbol ∷ r .scope ∷ r .sort ∷ []) ⌝ }
+    ensures { λ _. ⌜ take (a + 4) (now (rows .exit)) ≡ take a (now (rows .entry)) ++ (r .kind ∷ r .symbol .number ∷ r .scope ∷ r .sort ∷ []) ⌝ }
 {
     rows[a] = r.kind;
     let second = a + 1;
-    rows[second] = r.symbol;
+    rows[second] = r.symbol.number;
     let third = a + 2;
     rows[third] = r.scope;
     let fourth = a + 3;

@@ -12,6 +12,7 @@ use crate::scopes::enter;
 use crate::scopes::leave;
 use answers::Answer;
 use answers::Environment;
+use answers::Ordinal;
 use grammar::nodes;
 ghost use mathlib.Core.Path.{_≡_};
 ghost use mathlib.Core.List.{[], _∷_, _++_};
@@ -68,14 +69,14 @@ fn keep(uses: &mut [u16], n: usize, word: u16)
 // A use: 8 where it means nothing.
 fn used(
     mut u: Using,
-    symbol: u16,
+    symbol: Ordinal,
     rows: &[u16],
     ids: &[u16; 2048],
     stack: &[u16; 8192],
     uses: &mut [u16; 8192],
 ) -> Using
     requires { ⌜ UsesWithin u 8191 × (length (now rows) ≤ 32768) ⌝ }
-    ensures { λ r. ⌜ seeUses r (now (uses .exit)) (now (stack .entry)) ≡ usedIn (now (ids .entry)) (now (rows .entry)) symbol (seeUses u (now (uses .entry)) (now (stack .entry))) ⌝ }
+    ensures { λ r. ⌜ seeUses r (now (uses .exit)) (now (stack .entry)) ≡ usedIn (now (ids .entry)) (now (rows .entry)) (symbol .number) (seeUses u (now (uses .entry)) (now (stack .entry))) ⌝ }
     ensures { λ r. ⌜ ((i : ℕ) → UsesWithin u i → UsesWithin r (i + 1)) ⌝ }
 {
     let m = meaning(rows, ids, u.around.depth, stack, identity_of(ids, symbol));
@@ -91,14 +92,14 @@ fn used(
 fn node(
     mut u: Using,
     kind: u16,
-    symbol: u16,
+    symbol: Ordinal,
     rows: &[u16],
     ids: &[u16; 2048],
     stack: &mut [u16; 8192],
     uses: &mut [u16; 8192],
 ) -> Using
     requires { ⌜ UsesWithin u 8191 × (length (now rows) ≤ 32768) ⌝ }
-    ensures { λ r. ⌜ ((a b : ℕ) → seeUses r (now (uses .exit)) (now (stack .exit)) ≡ useNode (now (ids .entry)) (now (rows .entry)) kind symbol a b (seeUses u (now (uses .entry)) (now (stack .entry)))) ⌝ }
+    ensures { λ r. ⌜ ((a b : ℕ) → seeUses r (now (uses .exit)) (now (stack .exit)) ≡ useNode (now (ids .entry)) (now (rows .entry)) kind (symbol .number) a b (seeUses u (now (uses .entry)) (now (stack .entry)))) ⌝ }
     ensures { λ r. ⌜ ((i : ℕ) → UsesWithin u i → UsesWithin r (i + 1)) ⌝ }
 {
     match kind {
@@ -140,7 +141,10 @@ fn walk(
     let mut i = 0;
     while 4 * i + 3 < nodes.len() {
         let at = 4 * i;
-        u = node(u, nodes[at], nodes[at + 1], rows, ids, stack, uses);
+        let symbol = Ordinal {
+            number: nodes[at + 1],
+        };
+        u = node(u, nodes[at], symbol, rows, ids, stack, uses);
         i += 1;
     }
     u

@@ -27,6 +27,9 @@ returns c =
     let l = c .before .before .loop in
     identified (a .source .now) (a .places .now) (l .ids) _ (omega arith) (λ k h. l .inv .2 k (omega (arith, c .if1 .taken)))
 
+cast-t10 : tie.Need-cast-t10 Inv-loop μ-loop
+cast-t10 c = omega (arith, c .before .if1 .left)
+
 identity-requires : tie.Need-identity-requires Inv-loop μ-loop
 identity-requires c κs = (omega (arith, c .before .if1 .left), c .before .before .before .loop .inv .0, c .before .before .before .loop .inv .2)
 
@@ -63,6 +66,7 @@ fill-spec =
     loop-holds
     same-length
     returns
+    cast-t10
     identity-requires
     mul-ids
     slice-write-ids

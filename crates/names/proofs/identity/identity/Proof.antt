@@ -1,4 +1,4 @@
--- `names::identity::identity` meets its contract. No symbol below j has the letters of symbol i.
+-- `names::identity::identity` meets its contract. No symbol below j has the letters of the symbol.
 -- Assumes nothing.
 use mathlib.Core.Path.{refl, sym, ap, _∙_}
 use Prim.Native.Nat.{ℕ, _+_, _-_, _≤_}
@@ -11,10 +11,10 @@ use Rattle.names.proofs.identity.identity.Statement.{statement}
 use Rattle.names.proofs.identity.identity.Tie as tie
 
 abbrev Inv-loop : tie.InvT-loop
-Inv-loop source places ids i g j₀ j = (j ≤ i) × NoneBelow source places ids i j
+Inv-loop source places ids symbol i g j₀ j = (j ≤ symbol .number) × NoneBelow source places ids (symbol .number) j
 
 abbrev μ-loop : tie.MeasureT-loop
-μ-loop source places ids i g j₀ j = i - j
+μ-loop source places ids symbol i g j₀ j = symbol .number - j
 
 add-result : tie.Need-add-result Inv-loop μ-loop
 add-result c = omega arith
@@ -31,16 +31,16 @@ loop-holds : tie.Need-loop-holds Inv-loop μ-loop
 loop-holds c = (omega arith, λ k l e. absurd (omega arith))
 
 cast-if2 : tie.Need-cast-if2 Inv-loop μ-loop
-cast-if2 c = let h = c .before .before .before .before .before .before .before .before .pre .0 in omega (arith, c .before .loop-test .taken)
+cast-if2 c = let h = c .before .before .before .before .before .before .before .before .before .pre .0 in omega (arith, c .before .loop-test .taken)
 
 cast-result : tie.Need-cast-result Inv-loop μ-loop
-cast-result c = let h = c .before .before .before .before .before .before .before .before .before .before .before .before .before .pre .0 in omega (arith, c .before .before .before .before .before .before .loop-test .taken)
+cast-result c = let h = c .before .before .before .before .before .before .before .before .before .before .before .before .before .before .pre .0 in omega (arith, c .before .before .before .before .before .before .loop-test .taken)
 
 returns-2 : tie.Need-returns-2 Inv-loop μ-loop
 returns-2 c =
-    let a = c .before .before .before .before .before .before .before .before .before .before .before .before .before .args in
+    let a = c .before .before .before .before .before .before .before .before .before .before .before .before .before .before .args in
     let l = c .before .before .before .before .before .before .before .loop in
-    first-as (a .source .now) (a .places .now) (a .ids .now) (a .i) (l .j)
+    first-as (a .source .now) (a .places .now) (a .ids .now) (a .symbol .number) (l .j)
     (omega (arith, c .before .before .before .before .before .before .before .before .before .given .ensures, c .before .before .before .before .before .before .before .before .if1 .left))
     (l .inv .0)
     (same-letters _ _ (sym (c .before .same-name .ensures) ∙ c .if3 .taken))
@@ -49,22 +49,19 @@ returns-2 c =
 loop-again : tie.Need-loop-again Inv-loop μ-loop
 unfolding identityIn
 loop-again c =
-    let a = c .before .before .before .before .before .before .before .before .before .args in
+    let a = c .before .before .before .before .before .before .before .before .before .before .args in
     let l = c .before .before .before .loop in
     let t = c .before .before .loop-test .taken in
     ⊎-elim
-    (λ w. (omega (arith, t), not-same (a .source .now) (a .places .now) (a .ids .now) (a .i) (l .j) (sym (w .3 .ensures) ∙ w .4 .left) (l .inv .1)))
-    (λ w. (omega (arith, t), not-first (a .source .now) (a .places .now) (a .ids .now) (a .i) (l .j) (c .before .before .before .before .before .before .before .before .before .pre .2) t (omega (arith, c .before .before .before .before .before .given .ensures, c .before .before .before .before .if1 .left)) (w .left) (l .inv .1)))
+    (λ w. (omega (arith, t), not-same (a .source .now) (a .places .now) (a .ids .now) (a .symbol .number) (l .j) (sym (w .3 .ensures) ∙ w .4 .left) (l .inv .1)))
+    (λ w. (omega (arith, t), not-first (a .source .now) (a .places .now) (a .ids .now) (a .symbol .number) (l .j) (c .before .before .before .before .before .before .before .before .before .before .pre .2) t (omega (arith, c .before .before .before .before .before .given .ensures, c .before .before .before .before .if1 .left)) (w .left) (l .inv .1)))
     (c .if2 .came)
-
-cast-result-2 : tie.Need-cast-result-2 Inv-loop μ-loop
-cast-result-2 c = let h = c .before .before .before .before .before .before .before .pre .0 in omega arith
 
 returns-3 : tie.Need-returns-3 Inv-loop μ-loop
 returns-3 c =
-    let a = c .before .before .before .before .before .before .before .args in
+    let a = c .before .before .before .before .before .before .before .before .args in
     let l = c .before .loop in
-    first-as (a .source .now) (a .places .now) (a .ids .now) (a .i) (a .i)
+    first-as (a .source .now) (a .places .now) (a .ids .now) (a .symbol .number) (a .symbol .number)
     (omega (arith, c .before .before .before .given .ensures, c .before .before .if1 .left))
     (omega arith)
     refl
@@ -76,8 +73,9 @@ identity-spec =
     (tie.spec
     Inv-loop
     μ-loop
+    (λ c. search needs)
     (λ c. omega arith)
-    (λ c. c .before .before .pre .0)
+    (λ c. c .before .before .before .pre .0)
     (λ c κs. search needs)
     add-result
     returns
@@ -88,12 +86,11 @@ identity-spec =
     (λ c. omega arith)
     (λ c. omega arith)
     (λ c. omega arith)
-    (λ c. c .before .before .before .before .before .before .before .before .before .before .pre .0)
+    (λ c. c .before .before .before .before .before .before .before .before .before .before .before .pre .0)
     (λ c κs. search needs)
     cast-result
     returns-2
     (λ c. omega arith)
     (λ c. omega arith)
     loop-again
-    cast-result-2
     returns-3)

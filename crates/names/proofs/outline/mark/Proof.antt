@@ -12,7 +12,7 @@ noted-requires c κs = search needs
 returns : tie.Need-returns
 returns c =
     let a = c .before .before .args in
-    (λ stack. again-is (a .o) (a .rows .now) stack (a .ids .now) (a .want) (a .again) _ (a .word) (a .symbol) (c .before .if1 .taken) (c .noted .ensures), (refl, refl))
+    (λ stack. again-is (a .o) (a .rows .now) stack (a .ids .now) (a .want) (a .again) _ (a .word) (a .symbol .number) (c .before .if1 .taken) (c .noted .ensures), (refl, refl))
 
 say-requires : tie.Need-say-requires
 say-requires c κs = search needs
@@ -20,7 +20,7 @@ say-requires c κs = search needs
 returns-2 : tie.Need-returns-2
 returns-2 c =
     let a = c .before .before .before .args in
-    (λ stack. said-is (a .o) (a .rows .now) stack (a .ids .now) _ (a .want) (a .again) (a .word) (a .symbol) (c .before .before .if1 .left) (c .say .ensures), (refl, refl))
+    (λ stack. said-is (a .o) (a .rows .now) stack (a .ids .now) _ (a .want) (a .again) (a .word) (a .symbol .number) (c .before .before .if1 .left) (c .say .ensures), (refl, refl))
 
 pub mark-spec : {M : Type 1} → statement M
 mark-spec = tie.close (tie.spec noted-requires returns say-requires returns-2)

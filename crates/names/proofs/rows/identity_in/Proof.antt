@@ -7,6 +7,9 @@ use borrow.Author.Needs.{needs}
 use Rattle.names.proofs.rows.identity_in.Statement.{statement}
 use Rattle.names.proofs.rows.identity_in.Tie as tie
 
+cast-s : tie.Need-cast-s
+cast-s c = search needs
+
 mul-result : tie.Need-mul-result
 mul-result c = search needs
 
@@ -19,7 +22,7 @@ returns c = refl
 
 returns-2 : tie.Need-returns-2
 unfolding identityIn
-returns-2 c = sym (List·getD-eq-default (c .before .args .ids .now) 0 (c .if1 .left))
+returns-2 c = sym (List·getD-eq-default (c .before .before .args .ids .now) 0 (c .if1 .left))
 
 pub identity-in-spec : {M : Type 1} → statement M
-identity-in-spec = tie.close (tie.spec mul-result shared-slice-read-result returns returns-2)
+identity-in-spec = tie.close (tie.spec cast-s mul-result shared-slice-read-result returns returns-2)

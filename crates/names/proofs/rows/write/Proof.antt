@@ -44,7 +44,7 @@ same-length : tie.Need-same-length
 same-length c = search needs
 
 returns : tie.Need-returns
-returns c = written (c .args .rows .now) (c .args .a) (c .args .r .kind) (c .args .r .symbol) (c .args .r .scope) (c .args .r .sort) (c .pre)
+returns c = written (c .args .rows .now) (c .args .a) (c .args .r .kind) (c .args .r .symbol .number) (c .args .r .scope) (c .args .r .sort) (c .pre)
 
 pub write-spec : {M : Type 1} → statement M
 write-spec =

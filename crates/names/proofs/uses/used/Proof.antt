@@ -47,7 +47,7 @@ returns : tie.Need-returns
 returns c =
     let a = c .before .before .before .before .before .before .before .before .before .before .args in
     let m = c .before .before .before .before .before .before .before .meaning in (
-      use-seen (a .ids .now) (a .rows .now) (a .uses .now) (c .before .before .before .before .keep .last .0) (a .stack .now) (a .u) (a .symbol) (c .before .before .before .before .before .before .before .before .identity-of .result) (c .before .before .before .before .before .number .result) (c .noted .result) (m .result)
+      use-seen (a .ids .now) (a .rows .now) (a .uses .now) (c .before .before .before .before .keep .last .0) (a .stack .now) (a .u) (a .symbol .number) (c .before .before .before .before .before .before .before .before .identity-of .result) (c .before .before .before .before .before .number .result) (c .noted .result) (m .result)
           (c .before .before .before .before .before .before .before .before .identity-of .ensures)
           (m .ensures)
           (c .before .before .before .before .before .number .ensures)
@@ -61,7 +61,7 @@ returns-2 c =
     let a = c .before .before .before .before .before .before .before .before .args in
     let m = c .before .before .before .before .before .meaning in
     let e = declares (m .result) (c .match .keys2) in (
-      use-seen (a .ids .now) (a .rows .now) (a .uses .now) (c .before .before .keep .last .0) (a .stack .now) (a .u) (a .symbol) (c .before .before .before .before .before .before .identity-of .result) (c .before .before .before .number .result) (a .u .least) (m .result)
+      use-seen (a .ids .now) (a .rows .now) (a .uses .now) (c .before .before .keep .last .0) (a .stack .now) (a .u) (a .symbol .number) (c .before .before .before .before .before .before .identity-of .result) (c .before .before .before .number .result) (a .u .least) (m .result)
           (c .before .before .before .before .before .before .identity-of .ensures)
           (m .ensures)
           (c .before .before .before .number .ensures)

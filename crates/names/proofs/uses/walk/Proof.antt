@@ -30,14 +30,14 @@ add-loop c = omega arith
 mul-at : tie.Need-mul-at Inv-loop μ-loop
 mul-at c = omega arith
 
+add-node : tie.Need-add-node Inv-loop μ-loop
+add-node c = omega arith
+
 mul-node : tie.Need-mul-node Inv-loop μ-loop
 mul-node c = omega arith
 
 shared-slice-read-node : tie.Need-shared-slice-read-node Inv-loop μ-loop
 shared-slice-read-node c = omega arith
-
-add-node : tie.Need-add-node Inv-loop μ-loop
-add-node c = omega arith
 
 mul-node-2 : tie.Need-mul-node-2 Inv-loop μ-loop
 mul-node-2 c = omega arith
@@ -81,9 +81,9 @@ walk-spec =
     mul-loop
     add-loop
     mul-at
+    add-node
     mul-node
     shared-slice-read-node
-    add-node
     mul-node-2
     shared-slice-read-node-2
     node-requires
