@@ -111,7 +111,7 @@ Bodies R [] [] = Unit {0}
 Bodies R [] (b ∷ bs) = ⊥
 Bodies R (ofBlock d ∷ g) bs = Bodies R g bs
 Bodies R (ofBody p ∷ g) [] = ⊥
-Bodies R (ofBody p ∷ g) (b ∷ bs) = (rowIn R b .symbol ≡ nameOf p .symbol) × (sortIn R b ≡ sortNumber (sortOf p)) × Bodies R g bs
+Bodies R (ofBody p ∷ g) (b ∷ bs) = (rowIn R b .symbol .number ≡ nameOf p .symbol) × (sortIn R b ≡ sortNumber (sortOf p)) × Bodies R g bs
 
 -- ---- a name that means a procedure has that procedure's symbol
 
@@ -195,8 +195,8 @@ module _ (R : List ℕ) where
   kind-is : {j k s : ℕ} → RowIs R j k s → rowIn R j .kind ≡ k
   kind-is {j} r = ap (λ (x : Row). x .kind) (row-at R j (r .inside)) ∙ r .kind
 
-  symbol-is : {j k s : ℕ} → RowIs R j k s → rowIn R j .symbol ≡ s
-  symbol-is {j} r = ap (λ (x : Row). x .symbol) (row-at R j (r .inside)) ∙ r .symbol
+  symbol-is : {j k s : ℕ} → RowIs R j k s → rowIn R j .symbol .number ≡ s
+  symbol-is {j} r = ap (λ (x : Row). x .symbol .number) (row-at R j (r .inside)) ∙ r .symbol
 
   sort-is : {j k s : ℕ} (t : ℕ) → RowIs R j k s → typeIn (sortAt R j) ≡ t → sortIn R j ≡ t
   unfolding sortIn

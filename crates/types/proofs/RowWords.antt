@@ -53,11 +53,11 @@ opens-cons zero l h = absurd (omega arith)
 opens-cons (suc n) l h = let e : suc n - 1 ≡ n = omega arith in rw e
 
 module _ (rows : List ℕ) (s : ℕ) (bodies : List ℕ) (n : ℕ) (h : 0 < n) where
-  pub own-here : rowIn rows (getD bodies (n - 1) 0) .symbol ≡ s
+  pub own-here : rowIn rows (getD bodies (n - 1) 0) .symbol .number ≡ s
       → ownOf rows s (opensOf n bodies) ≡ judgement (sortIn rows (getD bodies (n - 1) 0)) (eqb (sortIn rows (getD bodies (n - 1) 0)) 0)
   unfolding ownOf
   own-here e = rw (opens-cons n bodies h) (simp (eq-eqb _ _ e))
 
-  pub own-further : (rowIn rows (getD bodies (n - 1) 0) .symbol ≡ s → ⊥) → ownOf rows s (opensOf n bodies) ≡ ownOf rows s (opensOf (n - 1) bodies)
+  pub own-further : (rowIn rows (getD bodies (n - 1) 0) .symbol .number ≡ s → ⊥) → ownOf rows s (opensOf n bodies) ≡ ownOf rows s (opensOf (n - 1) bodies)
   unfolding ownOf
   own-further e = rw (opens-cons n bodies h) (simp (ne-eqb _ _ e))

@@ -557,7 +557,7 @@ module _ (R : List ℕ) where
   unfolding typeNode isUse withBodies withBare below
   leave-node s r st = refl
 
-  row-here : (n a b c : ℕ) (t : Option Sort) (B : List ℕ) → drop (4 * n) R ≡ a ∷ b ∷ c ∷ sortNumber t ∷ B → (rowIn R n .symbol ≡ b) × (sortIn R n ≡ sortNumber t)
+  row-here : (n a b c : ℕ) (t : Option Sort) (B : List ℕ) → drop (4 * n) R ≡ a ∷ b ∷ c ∷ sortNumber t ∷ B → (rowIn R n .symbol .number ≡ b) × (sortIn R n ≡ sortNumber t)
   unfolding rowIn rowOf sortIn
   row-here n a b c t B e = (rw e, rw e (type-alone t))
 

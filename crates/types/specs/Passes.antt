@@ -94,11 +94,11 @@ variableOf rows Nothing t = true
 -- s: the symbol of a procedure's name; the open bodies, innermost first
 unfoldable pub ownOf : List ℕ → ℕ → List ℕ → Judgement
 ownOf rows s [] = judgement 0 true
-ownOf rows s (b ∷ bs) = cond (eqb (rowIn rows b .symbol) s) (judgement (sortIn rows b) (eqb (sortIn rows b) 0)) (ownOf rows s bs)
+ownOf rows s (b ∷ bs) = cond (eqb (rowIn rows b .symbol .number) s) (judgement (sortIn rows b) (eqb (sortIn rows b) 0)) (ownOf rows s bs)
 
 unfoldable pub leftOf : List ℕ → List ℕ → Meant → Judgement
 leftOf rows bodies (Declared d) =
-    cond (eqb (rowIn rows (d .number) .kind) n-procedure) (ownOf rows (rowIn rows (d .number) .symbol) bodies)
+    cond (eqb (rowIn rows (d .number) .kind) n-procedure) (ownOf rows (rowIn rows (d .number) .symbol .number) bodies)
     (judgement (sortIn rows (d .number)) false)
 leftOf rows bodies (Given e) = judgement 0 true
 leftOf rows bodies Nothing = judgement 0 false

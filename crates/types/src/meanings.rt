@@ -4,6 +4,7 @@ use crate::Want;
 use crate::sorts;
 use answers::Declaration;
 use answers::Environment;
+use answers::Ordinal;
 use grammar::nodes;
 use names::Meant;
 ghost use mathlib.Core.Path.{_≡_};
@@ -189,9 +190,9 @@ pub fn is_variable(rows: &[u16], m: Meant, sort: u16) -> bool
 }
 
 // The type of the nearest open body that is the procedure's own, whose name has a symbol, as what a left part is. `count` are open.
-fn own_result(rows: &[u16], symbol: u16, bodies: &[u16], count: usize) -> Judgement
+fn own_result(rows: &[u16], symbol: Ordinal, bodies: &[u16], count: usize) -> Judgement
     requires { ⌜ count ≤ length (now bodies) ⌝ }
-    ensures { λ r. ⌜ r ≡ ownOf (now (rows .entry)) symbol (opensOf count (now (bodies .entry))) ⌝ }
+    ensures { λ r. ⌜ r ≡ ownOf (now (rows .entry)) (symbol .number) (opensOf count (now (bodies .entry))) ⌝ }
 {
     let mut n = count;
     while 0 < n {
@@ -200,7 +201,7 @@ fn own_result(rows: &[u16], symbol: u16, bodies: &[u16], count: usize) -> Judgem
             number: bodies[n] as usize,
         };
         let r = names::row_at(rows, b);
-        if r.symbol == symbol {
+        if r.symbol.number == symbol.number {
             let sort = names::sort(r.sort);
             return Judgement {
                 sort,

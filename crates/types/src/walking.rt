@@ -4,6 +4,7 @@ use crate::Want;
 use crate::meanings;
 use crate::sorts;
 use answers::Answer;
+use answers::Ordinal;
 use grammar::nodes;
 use names::faults;
 use names::meanings::NOTHING;
@@ -18,8 +19,8 @@ ghost use Rattle.types.specs.Passes.{noted, withRows, withBodies, topOf,
 ghost use Rattle.types.specs.Model.{see, callAt, callsOf, begun, Within, CountsWithin};
 
 // A type fault at a symbol, where a test says so.
-fn note(mut t: Seen, wrong: bool, symbol: u16) -> Seen
-    ensures { λ r. ⌜ ((u s c b : List ℕ) → see r u s c b ≡ noted wrong symbol (see t u s c b)) ⌝ }
+fn note(mut t: Seen, wrong: bool, symbol: Ordinal) -> Seen
+    ensures { λ r. ⌜ ((u s c b : List ℕ) → see r u s c b ≡ noted wrong (symbol .number) (see t u s c b)) ⌝ }
     ensures { λ r. ⌜ r .depth ≡ t .depth ⌝ }
 {
     if wrong {
@@ -72,18 +73,18 @@ fn pop(mut t: Seen) -> Seen
 }
 
 // A type is taken, which should be this one; a fault is at the symbol.
-fn take(t: Seen, sort: u16, symbol: u16, stack: &[u16; 8192]) -> Seen
+fn take(t: Seen, sort: u16, symbol: Ordinal, stack: &[u16; 8192]) -> Seen
     requires { ⌜ t .depth ≤ 8192 ⌝ }
-    ensures { λ r. ⌜ ((u c b : List ℕ) → see r u (now (stack .entry)) c b ≡ takenAs sort symbol (see t u (now (stack .entry)) c b)) ⌝ }
+    ensures { λ r. ⌜ ((u c b : List ℕ) → see r u (now (stack .entry)) c b ≡ takenAs sort (symbol .number) (see t u (now (stack .entry)) c b)) ⌝ }
     ensures { λ r. ⌜ r .depth ≤ t .depth ⌝ }
 {
     note(pop(t), sorts::apart(top(t, stack), sort), symbol)
 }
 
 // An operator between two operands.
-fn binary(t: Seen, symbol: u16, kind: u16, stack: &mut [u16; 8192]) -> Seen
+fn binary(t: Seen, symbol: Ordinal, kind: u16, stack: &mut [u16; 8192]) -> Seen
     requires { ⌜ t .depth < 8192 ⌝ }
-    ensures { λ r. ⌜ ((u c b : List ℕ) → see r u (now (stack .exit)) c b ≡ operatedAs kind symbol (see t u (now (stack .entry)) c b)) ⌝ }
+    ensures { λ r. ⌜ ((u c b : List ℕ) → see r u (now (stack .exit)) c b ≡ operatedAs kind (symbol .number) (see t u (now (stack .entry)) c b)) ⌝ }
 {
     let sort = sorts::takes(kind);
     let one = take(t, sort, symbol, stack);
@@ -92,18 +93,18 @@ fn binary(t: Seen, symbol: u16, kind: u16, stack: &mut [u16; 8192]) -> Seen
 }
 
 // A sign or 'not'.
-fn unary(t: Seen, symbol: u16, kind: u16, stack: &mut [u16; 8192]) -> Seen
+fn unary(t: Seen, symbol: Ordinal, kind: u16, stack: &mut [u16; 8192]) -> Seen
     requires { ⌜ t .depth < 8192 ⌝ }
-    ensures { λ r. ⌜ ((u c b : List ℕ) → see r u (now (stack .exit)) c b ≡ signedAs kind symbol (see t u (now (stack .entry)) c b)) ⌝ }
+    ensures { λ r. ⌜ ((u c b : List ℕ) → see r u (now (stack .exit)) c b ≡ signedAs kind (symbol .number) (see t u (now (stack .entry)) c b)) ⌝ }
 {
     let sort = sorts::sign_takes(kind);
     push(take(t, sort, symbol, stack), sort, stack)
 }
 
 // The end of a conditional expression: the type of the 'then' part stays.
-fn conditional(t: Seen, symbol: u16, stack: &[u16; 8192]) -> Seen
+fn conditional(t: Seen, symbol: Ordinal, stack: &[u16; 8192]) -> Seen
     requires { ⌜ t .depth ≤ 8192 ⌝ }
-    ensures { λ r. ⌜ ((u c b : List ℕ) → see r u (now (stack .entry)) c b ≡ chosenAs symbol (see t u (now (stack .entry)) c b)) ⌝ }
+    ensures { λ r. ⌜ ((u c b : List ℕ) → see r u (now (stack .entry)) c b ≡ chosenAs (symbol .number) (see t u (now (stack .entry)) c b)) ⌝ }
 {
     let otherwise = top(t, stack);
     let p = pop(t);
@@ -127,14 +128,14 @@ fn next_use(mut t: Seen, uses: &[u16]) -> Seen
 // A name without actuals: as a primary, or as a statement.
 fn name(
     t: Seen,
-    symbol: u16,
+    symbol: Ordinal,
     depth: u16,
     as_statement: u16,
     rows: &[u16],
     stack: &mut [u16; 8192],
 ) -> Seen
     requires { ⌜ (t .depth < 8192) × (length (now rows) ≤ 32768) ⌝ }
-    ensures { λ r. ⌜ ((u c b : List ℕ) → see r u (now (stack .exit)) c b ≡ namedAs (now (rows .entry)) symbol depth as_statement (see t u (now (stack .entry)) c b)) ⌝ }
+    ensures { λ r. ⌜ ((u c b : List ℕ) → see r u (now (stack .exit)) c b ≡ namedAs (now (rows .entry)) (symbol .number) depth as_statement (see t u (now (stack .entry)) c b)) ⌝ }
 {
     let m = meant(t.last);
     if as_statement == 1 {
@@ -220,13 +221,13 @@ fn misfit(t: Seen, wanted: Want, alone: bool, rows: &[u16], stack: &[u16; 8192])
 fn actual(
     t: Seen,
     bare: u16,
-    symbol: u16,
+    symbol: Ordinal,
     rows: &[u16],
     stack: &[u16; 8192],
     calls: &mut [u16; 24576],
 ) -> Seen
     requires { ⌜ (t .depth ≤ 8192) × (t .calls ≤ 8192) × CountsWithin (callsOf (t .calls) (now calls)) 8191 × (length (now rows) ≤ 32768) ⌝ }
-    ensures { λ r. ⌜ ((u b : List ℕ) → see r u (now (stack .entry)) (now (calls .exit)) b ≡ actualIn (now (rows .entry)) (callsOf (t .calls) (now (calls .entry))) bare symbol (see t u (now (stack .entry)) (now (calls .entry)) b)) ⌝ }
+    ensures { λ r. ⌜ ((u b : List ℕ) → see r u (now (stack .entry)) (now (calls .exit)) b ≡ actualIn (now (rows .entry)) (callsOf (t .calls) (now (calls .entry))) bare (symbol .number) (see t u (now (stack .entry)) (now (calls .entry)) b)) ⌝ }
 {
     if t.calls == 0 {
         return pop(t);
@@ -244,14 +245,14 @@ fn actual(
 // The end of a call: as a primary, or as a statement.
 fn call_end(
     mut t: Seen,
-    symbol: u16,
+    symbol: Ordinal,
     as_statement: u16,
     rows: &[u16],
     stack: &mut [u16; 8192],
     calls: &[u16; 24576],
 ) -> Seen
     requires { ⌜ (t .depth < 8192) × (t .calls ≤ 8192) × (length (now rows) ≤ 32768) ⌝ }
-    ensures { λ r. ⌜ ((u b : List ℕ) → see r u (now (stack .exit)) (now (calls .entry)) b ≡ callEnded (now (rows .entry)) (callsOf (t .calls) (now (calls .entry))) symbol as_statement (see t u (now (stack .entry)) (now (calls .entry)) b)) ⌝ }
+    ensures { λ r. ⌜ ((u b : List ℕ) → see r u (now (stack .exit)) (now (calls .entry)) b ≡ callEnded (now (rows .entry)) (callsOf (t .calls) (now (calls .entry))) (symbol .number) as_statement (see t u (now (stack .entry)) (now (calls .entry)) b)) ⌝ }
 {
     if t.calls == 0 {
         return t;
@@ -268,9 +269,9 @@ fn call_end(
 }
 
 // A left part: "or is not of the first one's type".
-fn left(mut t: Seen, symbol: u16, rows: &[u16], bodies: &[u16; 8192]) -> Seen
+fn left(mut t: Seen, symbol: Ordinal, rows: &[u16], bodies: &[u16; 8192]) -> Seen
     requires { ⌜ (t .bodies ≤ 8192) × (length (now rows) ≤ 32768) ⌝ }
-    ensures { λ r. ⌜ ((u s c : List ℕ) → see r u s c (now (bodies .entry)) ≡ leftAs (now (rows .entry)) symbol (see t u s c (now (bodies .entry)))) ⌝ }
+    ensures { λ r. ⌜ ((u s c : List ℕ) → see r u s c (now (bodies .entry)) ≡ leftAs (now (rows .entry)) (symbol .number) (see t u s c (now (bodies .entry)))) ⌝ }
 {
     let j = meanings::as_left(rows, meant(t.last), bodies, t.bodies);
     if t.begun {
@@ -285,9 +286,9 @@ fn left(mut t: Seen, symbol: u16, rows: &[u16], bodies: &[u16; 8192]) -> Seen
 }
 
 // The end of an assignment.
-fn assign(mut t: Seen, symbol: u16, stack: &[u16; 8192]) -> Seen
+fn assign(mut t: Seen, symbol: Ordinal, stack: &[u16; 8192]) -> Seen
     requires { ⌜ t .depth ≤ 8192 ⌝ }
-    ensures { λ r. ⌜ ((u c b : List ℕ) → see r u (now (stack .entry)) c b ≡ assignedAs symbol (see t u (now (stack .entry)) c b)) ⌝ }
+    ensures { λ r. ⌜ ((u c b : List ℕ) → see r u (now (stack .entry)) c b ≡ assignedAs (symbol .number) (see t u (now (stack .entry)) c b)) ⌝ }
 {
     t.begun = false;
     note(pop(t), sorts::apart(t.left, top(t, stack)), symbol)
@@ -317,9 +318,9 @@ fn body_end(mut t: Seen) -> Seen
 }
 
 // A node of an expression that is no name.
-fn plain(t: Seen, kind: u16, symbol: u16, one: u16, stack: &mut [u16; 8192]) -> Seen
+fn plain(t: Seen, kind: u16, symbol: Ordinal, one: u16, stack: &mut [u16; 8192]) -> Seen
     requires { ⌜ t .depth < 8192 ⌝ }
-    ensures { λ r. ⌜ ((u c b : List ℕ) → see r u (now (stack .exit)) c b ≡ plainTyped kind symbol one (see t u (now (stack .entry)) c b)) ⌝ }
+    ensures { λ r. ⌜ ((u c b : List ℕ) → see r u (now (stack .exit)) c b ≡ plainTyped kind (symbol .number) one (see t u (now (stack .entry)) c b)) ⌝ }
 {
     match kind {
         nodes::NUMBER => push(t, sorts::INTEGER, stack),
@@ -338,7 +339,7 @@ fn plain(t: Seen, kind: u16, symbol: u16, one: u16, stack: &mut [u16; 8192]) -> 
 fn use_node(
     t: Seen,
     kind: u16,
-    symbol: u16,
+    symbol: Ordinal,
     one: u16,
     two: u16,
     uses: &[u16],
@@ -348,7 +349,7 @@ fn use_node(
     bodies: &[u16; 8192],
 ) -> Seen
     requires { ⌜ (t .depth < 8192) × (t .calls < 8192) × (t .bodies ≤ 8192) × (length (now rows) ≤ 32768) ⌝ }
-    ensures { λ r. ⌜ see r (now (uses .entry)) (now (stack .exit)) (now (calls .exit)) (now (bodies .entry)) ≡ useTyped (now (rows .entry)) kind symbol one two (nextUse (drop (t .uses) (now (uses .entry))) (see t (now (uses .entry)) (now (stack .entry)) (now (calls .entry)) (now (bodies .entry)))) ⌝ }
+    ensures { λ r. ⌜ see r (now (uses .entry)) (now (stack .exit)) (now (calls .exit)) (now (bodies .entry)) ≡ useTyped (now (rows .entry)) kind (symbol .number) one two (nextUse (drop (t .uses) (now (uses .entry))) (see t (now (uses .entry)) (now (stack .entry)) (now (calls .entry)) (now (bodies .entry)))) ⌝ }
 {
     let n = next_use(t, uses);
     match kind {
@@ -380,7 +381,7 @@ fn is_use(kind: u16) -> bool
 fn node(
     mut t: Seen,
     kind: u16,
-    symbol: u16,
+    symbol: Ordinal,
     one: u16,
     two: u16,
     uses: &[u16],
@@ -390,7 +391,7 @@ fn node(
     bodies: &mut [u16; 8192],
 ) -> Seen
     requires { ⌜ Within 8191 (see t (now uses) (now stack) (now calls) (now bodies)) × (length (now rows) ≤ 32768) ⌝ }
-    ensures { λ r. ⌜ see r (now (uses .entry)) (now (stack .exit)) (now (calls .exit)) (now (bodies .exit)) ≡ typeNode (now (rows .entry)) kind symbol one two (see t (now (uses .entry)) (now (stack .entry)) (now (calls .entry)) (now (bodies .entry))) ⌝ }
+    ensures { λ r. ⌜ see r (now (uses .entry)) (now (stack .exit)) (now (calls .exit)) (now (bodies .exit)) ≡ typeNode (now (rows .entry)) kind (symbol .number) one two (see t (now (uses .entry)) (now (stack .entry)) (now (calls .entry)) (now (bodies .entry))) ⌝ }
 {
     let bare = t.bare;
     t.bare = 0;
@@ -437,10 +438,13 @@ fn walk(
     let mut i = 0;
     while 4 * i + 3 < nodes.len() {
         let at = 4 * i;
+        let symbol = Ordinal {
+            number: nodes[at + 1],
+        };
         t = node(
             t,
             nodes[at],
-            nodes[at + 1],
+            symbol,
             nodes[at + 2],
             nodes[at + 3],
             uses,

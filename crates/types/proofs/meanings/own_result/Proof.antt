@@ -14,7 +14,7 @@ use Rattle.types.proofs.meanings.own_result.Statement.{statement}
 use Rattle.types.proofs.meanings.own_result.Tie as tie
 
 abbrev Inv-loop : tie.InvT-loop
-Inv-loop rows symbol bodies count n₀ n = (n ≤ length bodies) × (ownOf rows symbol (opensOf n bodies) ≡ ownOf rows symbol (opensOf count bodies))
+Inv-loop rows symbol bodies count n₀ n = (n ≤ length bodies) × (ownOf rows (symbol .number) (opensOf n bodies) ≡ ownOf rows (symbol .number) (opensOf count bodies))
 
 abbrev μ-loop : tie.MeasureT-loop
 μ-loop rows symbol bodies count n₀ n = n
@@ -43,11 +43,11 @@ sort-requires c κs = search needs
 returns : tie.Need-returns Inv-loop μ-loop
 unfolding sortIn
 returns c =
-    let a = c .before .before .before .before .before .before .before .before .before .args in
-    let l = c .before .before .before .before .before .before .loop in
-    let r = c .before .before .before .row .ensures in
+    let a = c .before .before .before .before .before .before .before .before .before .before .args in
+    let l = c .before .before .before .before .before .before .before .loop in
+    let r = c .before .before .before .before .row .ensures in
     ap (λ (t : ℕ). judgement t (eqb t 0)) (c .sort .ensures .0 ∙ ap (λ (x : Row). typeIn (x .sort)) r)
-    ∙ sym (own-here (a .rows .now) (a .symbol) (a .bodies .now) (l .n) (c .before .before .before .before .before .loop-test .taken) (sym (ap (λ (x : Row). x .symbol) r) ∙ c .before .if1 .taken))
+    ∙ sym (own-here (a .rows .now) (a .symbol .number) (a .bodies .now) (l .n) (c .before .before .before .before .before .before .loop-test .taken) (sym (ap (λ (x : Row). x .symbol .number) r) ∙ c .before .if1 .taken))
     ∙ l .inv .1
 
 loop-less : tie.Need-loop-less Inv-loop μ-loop
@@ -55,10 +55,10 @@ loop-less c = omega arith
 
 loop-again : tie.Need-loop-again Inv-loop μ-loop
 loop-again c =
-    let a = c .before .before .before .before .before .before .before .before .args in
-    let l = c .before .before .before .before .before .loop in
-    let r = c .before .before .row .ensures in
-    (omega arith, sym (own-further (a .rows .now) (a .symbol) (a .bodies .now) (l .n) (c .before .before .before .before .loop-test .taken) (λ e. c .if1 .left (ap (λ (x : Row). x .symbol) r ∙ e))) ∙ l .inv .1)
+    let a = c .before .before .before .before .before .before .before .before .before .args in
+    let l = c .before .before .before .before .before .before .loop in
+    let r = c .before .before .before .row .ensures in
+    (omega arith, sym (own-further (a .rows .now) (a .symbol .number) (a .bodies .now) (l .n) (c .before .before .before .before .before .loop-test .taken) (λ e. c .if1 .left (ap (λ (x : Row). x .symbol .number) r ∙ e))) ∙ l .inv .1)
 
 returns-2 : tie.Need-returns-2 Inv-loop μ-loop
 unfolding ownOf opensOf

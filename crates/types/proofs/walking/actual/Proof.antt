@@ -15,7 +15,7 @@ pop-requires : tie.Need-pop-requires
 pop-requires c κs = search needs
 
 returns : tie.Need-returns
-returns c = λ u b. c .pop .ensures .0 u _ _ b ∙ sym (actual-none (c .before .before .before .before .args .rows .now) (c .before .before .before .before .args .t .calls) (c .before .before .before .before .args .calls .now) (c .before .before .before .before .args .symbol) (see (c .before .before .before .before .args .t) u (c .before .before .before .before .args .stack .now) (c .before .before .before .before .args .calls .now) b) (c .before .before .before .before .args .bare) (c .before .if1 .taken))
+returns c = λ u b. c .pop .ensures .0 u _ _ b ∙ sym (actual-none (c .before .before .before .before .args .rows .now) (c .before .before .before .before .args .t .calls) (c .before .before .before .before .args .calls .now) (c .before .before .before .before .args .symbol .number) (see (c .before .before .before .before .args .t) u (c .before .before .before .before .args .stack .now) (c .before .before .before .before .args .calls .now) b) (c .before .before .before .before .args .bare) (c .before .if1 .taken))
 
 sub-n : tie.Need-sub-n
 sub-n c = search needs
@@ -59,7 +59,7 @@ returns-2 c =
     λ u b. c .note .ensures .0 u _ _ b
     ∙ noted-ap _ (c .before .before .before .before .misfit .ensures ∙ misfit-ap (c .before .before .before .before .before .before .before .before .before .before .before .before .before .before .before .before .before .before .args .rows .now) _ _ (c .before .before .before .before .before .before .before .before .wanted .ensures ∙ want-ap (c .before .before .before .before .before .before .before .before .before .before .before .before .before .before .before .before .before .before .args .rows .now) (c .before .before .before .before .before .before .before .before .before .before .before .before .meant .ensures) (c .before .before .before .before .before .before .before .before .before .actuals .ensures)) (c .before .before .before .before .before .is-alone .ensures))
     (c .before .pop2 .ensures .0 u _ _ b ∙ ap (λ (l : List Call). popped (withCalls l (see (c .before .before .before .before .before .before .before .before .before .before .before .before .before .before .before .before .before .before .args .t) u (c .before .before .before .before .before .before .before .before .before .before .before .before .before .before .before .before .before .before .args .stack .now) (c .before .before .before .before .before .before .before .before .before .before .before .before .before .before .before .before .before .before .args .calls .now) b))) (calls-again (c .before .before .before .before .before .before .before .before .before .before .before .before .before .before .before .before .before .before .args .t .calls) _ (c .before .before .before .before .before .before .before .before .before .before .before .before .before .before .before .if1 .left) (c .before .before .one-more .ensures)))
-    ∙ sym (actual-some (c .before .before .before .before .before .before .before .before .before .before .before .before .before .before .before .before .before .before .args .rows .now) (c .before .before .before .before .before .before .before .before .before .before .before .before .before .before .before .before .before .before .args .t .calls) (c .before .before .before .before .before .before .before .before .before .before .before .before .before .before .before .before .before .before .args .calls .now) (c .before .before .before .before .before .before .before .before .before .before .before .before .before .before .before .before .before .before .args .symbol) (see (c .before .before .before .before .before .before .before .before .before .before .before .before .before .before .before .before .before .before .args .t) u (c .before .before .before .before .before .before .before .before .before .before .before .before .before .before .before .before .before .before .args .stack .now) (c .before .before .before .before .before .before .before .before .before .before .before .before .before .before .before .before .before .before .args .calls .now) b) (c .before .before .before .before .before .before .before .before .before .before .before .before .before .before .before .before .before .before .args .bare) (c .before .before .before .before .before .before .before .before .before .before .before .before .before .before .before .if1 .left))
+    ∙ sym (actual-some (c .before .before .before .before .before .before .before .before .before .before .before .before .before .before .before .before .before .before .args .rows .now) (c .before .before .before .before .before .before .before .before .before .before .before .before .before .before .before .before .before .before .args .t .calls) (c .before .before .before .before .before .before .before .before .before .before .before .before .before .before .before .before .before .before .args .calls .now) (c .before .before .before .before .before .before .before .before .before .before .before .before .before .before .before .before .before .before .args .symbol .number) (see (c .before .before .before .before .before .before .before .before .before .before .before .before .before .before .before .before .before .before .args .t) u (c .before .before .before .before .before .before .before .before .before .before .before .before .before .before .before .before .before .before .args .stack .now) (c .before .before .before .before .before .before .before .before .before .before .before .before .before .before .before .before .before .before .args .calls .now) b) (c .before .before .before .before .before .before .before .before .before .before .before .before .before .before .before .before .before .before .args .bare) (c .before .before .before .before .before .before .before .before .before .before .before .before .before .before .before .if1 .left))
 
 pub actual-spec : {M : Type 1} → statement M
 actual-spec =

@@ -25,7 +25,7 @@ returns : tie.Need-returns
 returns c =
     let j = c .before .before .before .as-left .ensures ∙ ap (λ (m : Meant). leftOf (c .before .before .before .before .before .before .before .args .rows .now) (opensOf (c .before .before .before .before .before .before .before .args .t .bodies) (c .before .before .before .before .before .before .before .args .bodies .now)) m) (c .before .before .before .before .before .meant .ensures) in
     λ u s d. c .note .ensures .0 u s d _ ∙ noted-ap _ (or-true _ (sym (ap (λ (z : Judgement). z .wrong) j) ∙ c .before .if2 .taken)) refl
-    ∙ sym (left-again (c .before .before .before .before .before .before .before .args .rows .now) (c .before .before .before .before .before .before .before .args .symbol) (see (c .before .before .before .before .before .before .before .args .t) u s d (c .before .before .before .before .before .before .before .args .bodies .now)) (c .before .before .if1 .taken))
+    ∙ sym (left-again (c .before .before .before .before .before .before .before .args .rows .now) (c .before .before .before .before .before .before .before .args .symbol .number) (see (c .before .before .before .before .before .before .before .args .t) u s d (c .before .before .before .before .before .before .before .args .bodies .now)) (c .before .before .if1 .taken))
 
 apart-requires : tie.Need-apart-requires
 apart-requires c κs = search needs
@@ -38,7 +38,7 @@ returns-2 c =
     let j = c .before .before .before .before .as-left .ensures ∙ ap (λ (m : Meant). leftOf (c .before .before .before .before .before .before .before .before .args .rows .now) (opensOf (c .before .before .before .before .before .before .before .before .args .t .bodies) (c .before .before .before .before .before .before .before .before .args .bodies .now)) m) (c .before .before .before .before .before .before .meant .ensures) in
     λ u s d. c .note2 .ensures .0 u s d _
     ∙ noted-ap _ (or-false (sym (ap (λ (z : Judgement). z .wrong) j) ∙ c .before .before .if2 .left) (c .before .apart .ensures ∙ apart-ap refl (ap (λ (z : Judgement). z .sort) j))) refl
-    ∙ sym (left-again (c .before .before .before .before .before .before .before .before .args .rows .now) (c .before .before .before .before .before .before .before .before .args .symbol) (see (c .before .before .before .before .before .before .before .before .args .t) u s d (c .before .before .before .before .before .before .before .before .args .bodies .now)) (c .before .before .before .if1 .taken))
+    ∙ sym (left-again (c .before .before .before .before .before .before .before .before .args .rows .now) (c .before .before .before .before .before .before .before .before .args .symbol .number) (see (c .before .before .before .before .before .before .before .before .args .t) u s d (c .before .before .before .before .before .before .before .before .args .bodies .now)) (c .before .before .before .if1 .taken))
 
 note-requires-3 : tie.Need-note-requires-3
 note-requires-3 c κs = search needs
@@ -49,7 +49,7 @@ returns-3 c =
     let j = c .before .before .as-left .ensures ∙ ap (λ (m : Meant). leftOf (c .before .before .before .before .before .before .args .rows .now) (opensOf (c .before .before .before .before .before .before .args .t .bodies) (c .before .before .before .before .before .before .args .bodies .now)) m) (c .before .before .before .before .meant .ensures) in
     λ u s d. c .note3 .ensures .0 u s d _
     ∙ noted-ap _ (ap (λ (z : Judgement). z .wrong) j) (ap (λ (z : Judgement). withLeft true (z .sort) (see (c .before .before .before .before .before .before .args .t) u s d (c .before .before .before .before .before .before .args .bodies .now))) j)
-    ∙ sym (left-first (c .before .before .before .before .before .before .args .rows .now) (c .before .before .before .before .before .before .args .symbol) (see (c .before .before .before .before .before .before .args .t) u s d (c .before .before .before .before .before .before .args .bodies .now)) (c .before .if1 .left))
+    ∙ sym (left-first (c .before .before .before .before .before .before .args .rows .now) (c .before .before .before .before .before .before .args .symbol .number) (see (c .before .before .before .before .before .before .args .t) u s d (c .before .before .before .before .before .before .args .bodies .now)) (c .before .if1 .left))
 
 pub left-spec : {M : Type 1} → statement M
 left-spec =

@@ -77,7 +77,7 @@ returns-3 c = simp (c .before .before .before .match .keys2) (c .call-end .ensur
 
 returns-4 : tie.Need-returns-4
 unfolding withRows withBare
-returns-4 c = node-declared (c .before .before .before .before .before .before .args .rows .now) (c .before .before .before .before .before .before .args .kind) (c .before .before .before .before .before .before .args .symbol) (c .before .before .before .before .before .before .args .one) (c .before .before .before .before .before .before .args .two) (see (c .before .before .before .before .before .before .args .t) (c .before .before .before .before .before .before .args .uses .now) (c .before .before .before .before .before .before .args .stack .now) (c .before .before .before .before .before .before .args .calls .now) (c .before .before .before .before .before .before .args .bodies .now)) (c .before .match .keys3)
+returns-4 c = node-declared (c .before .before .before .before .before .before .args .rows .now) (c .before .before .before .before .before .before .args .kind) (c .before .before .before .before .before .before .args .symbol .number) (c .before .before .before .before .before .before .args .one) (c .before .before .before .before .before .before .args .two) (see (c .before .before .before .before .before .before .args .t) (c .before .before .before .before .before .before .args .uses .now) (c .before .before .before .before .before .before .args .stack .now) (c .before .before .before .before .before .before .args .calls .now) (c .before .before .before .before .before .before .args .bodies .now)) (c .before .match .keys3)
 
 returns-5 : tie.Need-returns-5
 unfolding typeNode isUse withBare

@@ -50,7 +50,7 @@ returns-4 c =
     let r = c .before .before .before .match .rest in
     simp (ne-eqb _ _ (r .1), ne-eqb _ _ (r .0 .1), ne-eqb _ _ (r .0 .0 .1))
     (c .note .ensures .0 (c .before .before .before .before .before .before .before .args .uses .now) (c .before .before .before .before .before .before .before .args .stack .now) (c .before .before .before .before .before .before .before .args .calls .now) (c .before .before .before .before .before .before .before .args .bodies .now) ∙ noted-ap _ (ap not (c .before .is-variable .ensures ∙ ap (λ (m : Meant). variableOf (c .before .before .before .before .before .before .before .args .rows .now) m 1) (c .before .before .meant .ensures))) refl
-    ∙ ap (λ (z : State). noted (not (variableOf (c .before .before .before .before .before .before .before .args .rows .now) (meantOf (z .last)) 1)) (c .before .before .before .before .before .before .before .args .symbol) z) (c .before .before .before .before .next-use .ensures .0 (c .before .before .before .before .before .before .before .args .stack .now) (c .before .before .before .before .before .before .before .args .calls .now) (c .before .before .before .before .before .before .before .args .bodies .now)))
+    ∙ ap (λ (z : State). noted (not (variableOf (c .before .before .before .before .before .before .before .args .rows .now) (meantOf (z .last)) 1)) (c .before .before .before .before .before .before .before .args .symbol .number) z) (c .before .before .before .before .next-use .ensures .0 (c .before .before .before .before .before .before .before .args .stack .now) (c .before .before .before .before .before .before .before .args .calls .now) (c .before .before .before .before .before .before .before .args .bodies .now)))
 
 pub use-node-spec : {M : Type 1} → statement M
 use-node-spec =

@@ -35,14 +35,14 @@ add-loop c = search needs
 mul-at : tie.Need-mul-at Inv-loop μ-loop
 mul-at c = search needs
 
+add-node : tie.Need-add-node Inv-loop μ-loop
+add-node c = search needs
+
 mul-node : tie.Need-mul-node Inv-loop μ-loop
 mul-node c = search needs
 
 shared-slice-read-node : tie.Need-shared-slice-read-node Inv-loop μ-loop
 shared-slice-read-node c = search needs
-
-add-node : tie.Need-add-node Inv-loop μ-loop
-add-node c = search needs
 
 mul-node-2 : tie.Need-mul-node-2 Inv-loop μ-loop
 mul-node-2 c = search needs
@@ -108,9 +108,9 @@ walk-spec =
     mul-loop
     add-loop
     mul-at
+    add-node
     mul-node
     shared-slice-read-node
-    add-node
     mul-node-2
     shared-slice-read-node-2
     add-node-2
