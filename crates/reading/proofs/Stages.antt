@@ -1,6 +1,7 @@
 -- From the arrays to the definitions: what scanning and parsing left says that the symbols, and then the program, stand.
 use Prim.Native.Nat.{ℕ, zero, suc, _+_, _-_, _<_, _≤_, min}
 use mathlib.Core.Path.{_≡_, refl, sym, ap, subst, _∙_}
+use mathlib.Core.Logic.{_⊎_, ⊎-elim, inl, inr}
 use mathlib.Core.List.{List, [], _∷_, _++_}
 use mathlib.Core.Option.{Option, none, some}
 use native.Mathlib.Omega.{arith}
@@ -179,22 +180,35 @@ module _ {source kinds places : List ℕ} {n : ℕ} (s : Symbols source kinds pl
         words = ap (take b) (w .wrote) ∙ ap (λ m. take m (nodesOf (w .tree) ++ zeros (32768 - b))) (w .words) ∙ take-append-seam (nodesOf (w .tree)) (zeros (32768 - b));
       }
 
-  -- 5 and 6
-  pub refusals : {new : List ℕ} {r : Outcome} → Verdict (text (take n kinds)) new r → (a : Answer) (k : ℕ) → r ≡ Program-refused a k
-      → Judged source (Refused (refusal (a .number) (placeIn source k))) cleared
-  refusals {new} {r} v a k q = go (ℕ-discrete (a .number) grammar)
+  -- 5 or 6
+  five-or-six : {new : List ℕ} {r : Outcome} → Verdict (text (take n kinds)) new r → (a : Answer) (k : ℕ) → r ≡ Program-refused a k
+      → ((a .number ≡ grammar) × Wrong (kindsIn source) k) ⊎ ((a .number ≡ depth) × FirstDeep (kindsIn source) k)
+  five-or-six {new} {r} v a k q = go (ℕ-discrete (a .number) grammar)
     where
       said : (m : ℕ) → a .number ≡ m → r ≡ Program-refused (answer m) k
       said m e = q ∙ ap (λ i. Program-refused (answer i) k) e
 
-      go : Dec (a .number ≡ grammar) → Judged source (Refused (refusal (a .number) (placeIn source k))) cleared
-      go (yes e) =
-          subst (λ m. Judged source (Refused (refusal m (placeIn source k))) cleared) (sym e)
-          (ungrammatical (s .scanned) k (subst (λ ks. Wrong ks k) kinds-are (v .wrong k (said grammar e))))
+      go : Dec (a .number ≡ grammar) → ((a .number ≡ grammar) × Wrong (kindsIn source) k) ⊎ ((a .number ≡ depth) × FirstDeep (kindsIn source) k)
+      go (yes e) = inl (e, subst (λ ks. Wrong ks k) kinds-are (v .wrong k (said grammar e)))
       go (no e) =
           let d : a .number ≡ depth = ap (λ x. x .number) (v .numbers a k q (λ x. e (ap (λ y. y .number) x))) in
-          subst (λ m. Judged source (Refused (refusal m (placeIn source k))) cleared) (sym d)
-          (too-deep (s .scanned) k (subst (λ ks. FirstDeep ks k) kinds-are (v .deep k (said depth d))))
+          inr (d, subst (λ ks. FirstDeep ks k) kinds-are (v .deep k (said depth d)))
+
+  pub refusals : {new : List ℕ} {r : Outcome} → Verdict (text (take n kinds)) new r → (a : Answer) (k : ℕ) → r ≡ Program-refused a k
+      → Judged source (Refused (refusal (a .number) (placeIn source k))) cleared
+  refusals v a k q =
+      ⊎-elim
+      (λ w. subst (λ m. Judged source (Refused (refusal m (placeIn source k))) cleared) (sym (w .0)) (ungrammatical (s .scanned) k (w .1)))
+      (λ w. subst (λ m. Judged source (Refused (refusal m (placeIn source k))) cleared) (sym (w .0)) (too-deep (s .scanned) k (w .1)))
+      (five-or-six v a k q)
+
+  -- at a symbol, or behind the last one
+  pub refused-at : {new : List ℕ} {r : Outcome} → Verdict (text (take n kinds)) new r → (a : Answer) (k : ℕ) → r ≡ Program-refused a k → k ≤ 2048
+  refused-at v a k q =
+      ⊎-elim
+      (λ w. omega (arith, w .1 .inside, s .places-in .count, s .places-in .few))
+      (λ w. omega (arith, w .1 .deep .inside, s .places-in .count, s .places-in .few))
+      (five-or-six v a k q)
 
 -- ---- every symbol has its identity
 

@@ -3,6 +3,8 @@
 use crate::Found;
 use crate::Sizes;
 use answers::Answer;
+use answers::Ordinal;
+use answers::Place;
 use answers::Refusal;
 use answers::Verdict;
 use grammar::Parsed;
@@ -31,14 +33,15 @@ fn lesser(a: usize, b: usize) -> usize
 }
 
 // The place of a symbol; behind the last one, the source's length.
-fn place_at(source: &[u8], places: &[usize; 2048], count: usize, symbol: usize) -> usize
+fn place_at(source: &[u8], places: &[usize; 2048], count: usize, symbol: Ordinal) -> Place
     requires { ⌜ Placed (now source) (now places) count ⌝ }
-    ensures { λ r. ⌜ r ≡ placeIn (now (source .entry)) symbol ⌝ }
+    ensures { λ r. ⌜ r .at ≡ placeIn (now (source .entry)) (symbol .number) ⌝ }
 {
-    if symbol < count {
-        return places[symbol];
+    let s = symbol.number as usize;
+    if s < count {
+        return Place { at: places[s] };
     }
-    source.len()
+    Place { at: source.len() }
 }
 
 // The refusal at a fault's symbol.
@@ -46,9 +49,12 @@ fn refused(fault: usize, source: &[u8], places: &[usize; 2048], count: usize) ->
     requires { ⌜ Placed (now source) (now places) count × (fault < noFault) ⌝ }
     ensures { λ r. ⌜ r ≡ refusal (faultOf fault .answer) (placeIn (now (source .entry)) (faultOf fault .symbol)) ⌝ }
 {
-    let at = place_at(source, places, count, fault / 16);
+    let symbol = Ordinal {
+        number: (fault / 16) as u16,
+    };
+    let place = place_at(source, places, count, symbol);
     let number = (fault % 16) as u16;
-    Refusal::new(Answer { number }, at)
+    Refusal::new(Answer { number }, place.at)
 }
 
 // A program whose names are without a fault: 10, or none.
@@ -179,8 +185,9 @@ fn parsed(
     match parse(kinds, count, nodes) {
         Parsed::Read { next: _, used } => named(source, places, count, nodes, used, rows, uses),
         Parsed::Refused { answer, at } => {
-            let place = place_at(source, places, count, at);
-            Found::Refused(Refusal::new(answer, place))
+            let symbol = Ordinal { number: at as u16 };
+            let place = place_at(source, places, count, symbol);
+            Found::Refused(Refusal::new(answer, place.at))
         }
     }
 }

@@ -1,10 +1,11 @@
 -- `reading::finding::parsed` meets its contract: what was read are a program's nodes, and what was refused is 5 or 6. Assumes nothing.
 use mathlib.Core.Path.{refl, ap, _∙_}
+use native.Mathlib.Omega.{arith}
 use Rattle.answers.specs.Answers.{refusal}
 use Rattle.answers.specs.declared.Verdict.the-variants.{Refused}
 use Rattle.reading.specs.Model.{refused}
 use Rattle.reading.proofs.Answers.{as-judged}
-use Rattle.reading.proofs.Stages.{ready, refusals}
+use Rattle.reading.proofs.Stages.{ready, refusals, refused-at}
 use borrow.Author.Needs.{needs}
 use Rattle.reading.proofs.finding.parsed.Statement.{statement}
 use Rattle.reading.proofs.finding.parsed.Tie as tie
@@ -20,6 +21,9 @@ named-requires c κs = ready (c .before .before .before .before .before .before 
 
 enum-known-answer : tie.Need-enum-known-answer
 enum-known-answer c = search needs
+
+cast-t19 : tie.Need-cast-t19
+cast-t19 c = omega (arith, refused-at (c .before .before .before .before .before .before .pre) (c .before .before .before .parse .ensures) _ _ (c .before .answer .given .1))
 
 place-at-requires : tie.Need-place-at-requires
 place-at-requires c κs = search needs
@@ -41,6 +45,7 @@ parsed-spec =
     enum-known-used
     named-requires
     enum-known-answer
+    cast-t19
     place-at-requires
     new-requires
     returns

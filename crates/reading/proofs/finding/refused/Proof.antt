@@ -1,9 +1,13 @@
 -- `reading::finding::refused` meets its contract: number and symbol are read off the fault. Assumes nothing.
 use mathlib.Core.Path.{ap, _∙_}
+use native.Mathlib.Omega.{arith}
 use Rattle.answers.specs.Answers.{refusal}
 use borrow.Author.Needs.{needs}
 use Rattle.reading.proofs.finding.refused.Statement.{statement}
 use Rattle.reading.proofs.finding.refused.Tie as tie
+
+cast-t9 : tie.Need-cast-t9
+cast-t9 c = omega (arith, c .before .pre .1)
 
 place-at-requires : tie.Need-place-at-requires
 place-at-requires c κs = search needs
@@ -18,4 +22,4 @@ returns : tie.Need-returns
 returns c = c .new .ensures ∙ ap (refusal _) (c .before .place-at .ensures)
 
 pub refused-spec : {M : Type 1} → statement M
-refused-spec = tie.close (tie.spec place-at-requires cast-number new-requires returns)
+refused-spec = tie.close (tie.spec cast-t9 place-at-requires cast-number new-requires returns)
