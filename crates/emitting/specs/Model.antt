@@ -48,7 +48,7 @@ seen f = opened (f .first) (f .second) (f .third) (f .fourth)
 
 abbrev pub see : Writing → List Used → List ℕ → List ℕ → List ℕ → List ℕ → State
 see t uses things code ahead entries =
-    record { uses = drop (t .uses) uses; at = t .at; slots = t .slots; level = t .level; loops = t .loops; cells = t .cells; lefts = t .lefts; awaits = t .awaits; variable = t .variable; declared = t .declared; open-ones = thingsOf (t .open) things; code = code; ahead = ahead; entries = entries }
+    record { uses = drop (t .uses) uses; at = t .here .at; slots = t .slots; level = t .level; loops = t .loops; cells = t .cells; lefts = t .lefts; awaits = t .awaits; variable = t .variable; declared = t .declared; open-ones = thingsOf (t .open) things; code = code; ahead = ahead; entries = entries }
 
 -- the counts that an instruction, or something opened or closed, leaves alone
 pub record Alike (t r : Writing) : Type 0 where
@@ -84,7 +84,7 @@ pub record Small (b n : ℕ) (st : State) : Type 0 where
 
 -- the same of a state's numbers alone
 pub record Fit (t : Writing) : Type 0 where
-  pub at : t .at + t .lefts < 131072
+  pub at : t .here .at + t .lefts < 131072
   pub slots : t .slots < 131072
   pub level : t .level < 131072
   pub loops : t .loops < 131072

@@ -54,12 +54,12 @@ fn called_with(
     entries: &[u32],
     code: &mut [u32],
 ) -> Writing
-    requires { ⌜ (t .at < 1048576) × (n < 1048576) × (u < 65536) × (place .at < 65536) ⌝ }
+    requires { ⌜ (t .here .at < 1048576) × (n < 1048576) × (u < 65536) × (place .at < 65536) ⌝ }
     ensures { λ r. ⌜ ((vs ks : List ℕ) (us : List Used) (op ah en : List ℕ) → see r us op (now (code .exit)) ah en ≡ calledWith vs (now (layout .entry)) ks (now (entries .entry)) k (d .number) n u (place .at) (see t us op (now (code .entry)) ah en)) ⌝ }
 {
     let out = parts::less(t.level, operands::high(parts::word_at(layout, d.number)));
     let cells = result_of(k, d, layout) + n;
-    let v = operands::packed(out, cells, parts::word_at(entries, d.number));
+    let v = parts::operand(out, cells, parts::entry_of(entries, d));
     putting::put(t, code, codes::CALL_NEEDED + u, place, v)
 }
 
@@ -72,9 +72,9 @@ fn result_for(
     layout: &[u32],
     code: &mut [u32],
 ) -> Writing
-    requires { ⌜ (t .at < 1048576) × (place .at < 65536) ⌝ }
+    requires { ⌜ (t .here .at < 1048576) × (place .at < 65536) ⌝ }
     ensures { λ r. ⌜ ((vs ks es : List ℕ) (us : List Used) (op ah en : List ℕ) → see r us op (now (code .exit)) ah en ≡ resultFor vs (now (layout .entry)) ks es k (d .number) (place .at) (see t us op (now (code .entry)) ah en)) ⌝ }
-    ensures { λ r. ⌜ (r .at ≤ t .at + 1) × (r .open ≡ t .open) ⌝ }
+    ensures { λ r. ⌜ (r .here .at ≤ t .here .at + 1) × (r .open ≡ t .open) ⌝ }
 {
     if result_of(k, d, layout) == 0 {
         return t;
@@ -84,7 +84,7 @@ fn result_for(
 
 // What a statement does not need.
 fn dropped(t: Writing, u: usize, code: &mut [u32]) -> Writing
-    requires { ⌜ t .at < 1048576 ⌝ }
+    requires { ⌜ t .here .at < 1048576 ⌝ }
     ensures { λ r. ⌜ ((vs ly ks es : List ℕ) (us : List Used) (op ah en : List ℕ) → see r us op (now (code .exit)) ah en ≡ dropped vs ly ks es u (see t us op (now (code .entry)) ah en)) ⌝ }
 {
     if u == 0 {
@@ -104,7 +104,7 @@ fn named(
     entries: &[u32],
     code: &mut [u32],
 ) -> Writing
-    requires { ⌜ (t .at < 131072) × (u < 65536) × (place .at < 65536) ⌝ }
+    requires { ⌜ (t .here .at < 131072) × (u < 65536) × (place .at < 65536) ⌝ }
     ensures { λ r. ⌜ ((vs ks : List ℕ) (us : List Used) (op ah en : List ℕ) → see r us op (now (code .exit)) ah en ≡ named vs (now (layout .entry)) ks (now (entries .entry)) k m u (place .at) (see t us op (now (code .entry)) ah en)) ⌝ }
 {
     if k == 0 {
@@ -148,7 +148,7 @@ fn named_or(
     entries: &[u32],
     code: &mut [u32],
 ) -> Writing
-    requires { ⌜ (t .at < 131072) × (u < 65536) × (place .at < 65536) ⌝ }
+    requires { ⌜ (t .here .at < 131072) × (u < 65536) × (place .at < 65536) ⌝ }
     ensures { λ r. ⌜ ((vs ks : List ℕ) (us : List Used) (op ah en : List ℕ) → see r us op (now (code .exit)) ah en ≡ namedOr vs (now (layout .entry)) ks (now (entries .entry)) k m u (place .at) (see t us op (now (code .entry)) ah en)) ⌝ }
 {
     if t.awaits == 0 {
@@ -169,7 +169,7 @@ fn calling(
     things: &mut [usize; 32768],
     code: &mut [u32],
 ) -> Writing
-    requires { ⌜ (t .at < 131072) × (t .open < 8192) × (place .at < 65536) ⌝ }
+    requires { ⌜ (t .here .at < 131072) × (t .open < 8192) × (place .at < 65536) ⌝ }
     ensures { λ r. ⌜ ((vs ks es : List ℕ) (us : List Used) (ah en : List ℕ) → see r us (now (things .exit)) (now (code .exit)) ah en ≡ calling vs (now (layout .entry)) ks es k m (place .at) (see t us (now (things .entry)) (now (code .entry)) ah en)) ⌝ }
 {
     let r = result_for(t, k, Declaration { number: m }, place, layout, code);
@@ -267,7 +267,7 @@ fn repeated(
     ensures { λ r. ⌜ ((vs ks es : List ℕ) (us : List Used) (co ah en : List ℕ) → see r us (now (things .exit)) co ah en ≡ repeated vs (now (layout .entry)) ks es k m (place .at) (see t us (now (things .entry)) co ah en)) ⌝ }
 {
     let v = cell_of(t.level, k, Declaration { number: m }, layout);
-    putting::slot(putting::push(t, things, t.slots, v, place.at, t.at))
+    putting::slot(putting::push(t, things, t.slots, v, place.at, t.here.at as usize))
 }
 
 // A node of a name's use.

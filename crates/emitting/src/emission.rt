@@ -6,6 +6,8 @@ use crate::flow;
 use crate::loops;
 use crate::parts;
 use crate::putting;
+use answers::Address;
+use answers::Ordinal;
 use answers::Place;
 use grammar::nodes;
 ghost use mathlib.Core.Path.{_≡_};
@@ -36,7 +38,7 @@ fn operation_of(k: usize) -> usize
 
 // A sign or 'not'.
 fn signed(t: Writing, k: usize, place: Place, code: &mut [u32]) -> Writing
-    requires { ⌜ (t .at < 131072) × (place .at < 65536) ⌝ }
+    requires { ⌜ (t .here .at < 131072) × (place .at < 65536) ⌝ }
     ensures { λ r. ⌜ ((us : List Used) (op ah en : List ℕ) → see r us op (now (code .exit)) ah en ≡ signed k (place .at) (see t us op (now (code .entry)) ah en)) ⌝ }
 {
     if k == 19 {
@@ -68,7 +70,7 @@ fn storing(n: usize) -> usize
 
 // Left parts, from the first to the last.
 fn stored(mut t: Writing, things: &[usize; 32768], code: &mut [u32]) -> Writing
-    requires { ⌜ (t .at + t .lefts < 131072) × (t .open ≤ 8192) × AllSlim 131071 (thingsOf (t .open) (now things)) ⌝ }
+    requires { ⌜ (t .here .at + t .lefts < 131072) × (t .open ≤ 8192) × AllSlim 131071 (thingsOf (t .open) (now things)) ⌝ }
     ensures { λ r. ⌜ ((vs ly ks es : List ℕ) (us : List Used) (ah en : List ℕ) → see r us (now (things .entry)) (now (code .exit)) ah en ≡ stored vs ly ks es (leftsOf vs ly ks es (t .lefts) (thingsOf (t .open) (now (things .entry))) []) (see t us (now (things .entry)) (now (code .entry)) ah en)) ⌝ }
 {
     let mut n = t.lefts;
@@ -82,7 +84,7 @@ fn stored(mut t: Writing, things: &[usize; 32768], code: &mut [u32]) -> Writing
 
 // The end of an assignment.
 fn assigned(t: Writing, things: &[usize; 32768], code: &mut [u32]) -> Writing
-    requires { ⌜ (t .at + t .lefts < 131072) × (t .open ≤ 8192) × AllSlim 131071 (thingsOf (t .open) (now things)) ⌝ }
+    requires { ⌜ (t .here .at + t .lefts < 131072) × (t .open ≤ 8192) × AllSlim 131071 (thingsOf (t .open) (now things)) ⌝ }
     ensures { λ r. ⌜ ((vs ly ks es : List ℕ) (us : List Used) (ah en : List ℕ) → see r us (now (things .entry)) (now (code .exit)) ah en ≡ assigned vs ly ks es (see t us (now (things .entry)) (now (code .entry)) ah en)) ⌝ }
 {
     let mut r = stored(t, things, code);
@@ -95,7 +97,7 @@ fn assigned(t: Writing, things: &[usize; 32768], code: &mut [u32]) -> Writing
 fn plain_node(
     mut t: Writing,
     kind: u16,
-    symbol: usize,
+    symbol: Ordinal,
     place: Place,
     one: usize,
     values: &[u32],
@@ -103,11 +105,11 @@ fn plain_node(
     code: &mut [u32],
 ) -> Writing
     requires { ⌜ Fit t × AllSlim 131071 (thingsOf (t .open) (now things)) × (place .at < 65536) × (one < 65536) ⌝ }
-    ensures { λ r. ⌜ ((ly ks es : List ℕ) (us : List Used) (ah en : List ℕ) → see r us (now (things .entry)) (now (code .exit)) ah en ≡ plainNode (now (values .entry)) ly ks es kind symbol (place .at) one (see t us (now (things .entry)) (now (code .entry)) ah en)) ⌝ }
+    ensures { λ r. ⌜ ((ly ks es : List ℕ) (us : List Used) (ah en : List ℕ) → see r us (now (things .entry)) (now (code .exit)) ah en ≡ plainNode (now (values .entry)) ly ks es kind (symbol .number) (place .at) one (see t us (now (things .entry)) (now (code .entry)) ah en)) ⌝ }
 {
     match kind {
         nodes::NUMBER => {
-            let v = parts::word_at(values, symbol);
+            let v = parts::value_of(values, symbol);
             putting::put(t, code, codes::CONST, place, v)
         }
         nodes::LOGICAL => putting::put(t, code, codes::CONST, place, one),
@@ -204,7 +206,7 @@ fn is_procedure(kind: u16) -> bool
 fn rest_node(
     t: Writing,
     kind: u16,
-    symbol: usize,
+    symbol: Ordinal,
     place: Place,
     one: usize,
     values: &[u32],
@@ -215,7 +217,7 @@ fn rest_node(
     code: &mut [u32],
 ) -> Writing
     requires { ⌜ Small 131071 8191 (see t [] (now things) [] [] []) × (place .at < 65536) × (one < 65536) ⌝ }
-    ensures { λ r. ⌜ ((ly es : List ℕ) (us : List Used) → see r us (now (things .exit)) (now (code .exit)) (now («next_ahead» .exit)) (now («next_entries» .exit)) ≡ restNode (now (values .entry)) ly (now (ahead .entry)) es kind symbol (place .at) one (see t us (now (things .entry)) (now (code .entry)) (now («next_ahead» .entry)) (now («next_entries» .entry)))) ⌝ }
+    ensures { λ r. ⌜ ((ly es : List ℕ) (us : List Used) → see r us (now (things .exit)) (now (code .exit)) (now («next_ahead» .exit)) (now («next_entries» .exit)) ≡ restNode (now (values .entry)) ly (now (ahead .entry)) es kind (symbol .number) (place .at) one (see t us (now (things .entry)) (now (code .entry)) (now («next_ahead» .entry)) (now («next_entries» .entry)))) ⌝ }
 {
     let c = putting::top(t, things);
     if is_element(kind) {
@@ -240,7 +242,7 @@ fn rest_node(
 fn node(
     t: Writing,
     kind: u16,
-    symbol: u16,
+    symbol: Ordinal,
     one: u16,
     two: u16,
     uses: &[u16],
@@ -256,10 +258,9 @@ fn node(
     code: &mut [u32],
 ) -> Writing
     requires { ⌜ Small 131071 8191 (see t [] (now things) [] [] []) ⌝ }
-    ensures { λ r. ⌜ see r (usesIn (now (rows .entry)) (now (uses .entry))) (now (things .exit)) (now (code .exit)) (now («next_ahead» .exit)) (now («next_entries» .exit)) ≡ codeNode (now (values .entry)) (now (layout .entry)) (now (ahead .entry)) (now (entries .entry)) kind symbol (placeAt (now (places .entry)) symbol) one two (see t (usesIn (now (rows .entry)) (now (uses .entry))) (now (things .entry)) (now (code .entry)) (now («next_ahead» .entry)) (now («next_entries» .entry))) ⌝ }
+    ensures { λ r. ⌜ see r (usesIn (now (rows .entry)) (now (uses .entry))) (now (things .exit)) (now (code .exit)) (now («next_ahead» .exit)) (now («next_entries» .exit)) ≡ codeNode (now (values .entry)) (now (layout .entry)) (now (ahead .entry)) (now (entries .entry)) kind (symbol .number) (placeAt (now (places .entry)) (symbol .number)) one two (see t (usesIn (now (rows .entry)) (now (uses .entry))) (now (things .entry)) (now (code .entry)) (now («next_ahead» .entry)) (now («next_entries» .entry))) ⌝ }
 {
-    let s = symbol as usize;
-    let p = parts::place_in(places, s);
+    let p = parts::place_in(places, symbol);
     let u = two as usize;
     if is_use(kind) {
         return calls::use_node(t, kind, p, u, uses, rows, layout, entries, things, code);
@@ -276,7 +277,7 @@ fn node(
         _ => rest_node(
             t,
             kind,
-            s,
+            symbol,
             p,
             one as usize,
             values,
@@ -311,7 +312,7 @@ fn walk(
 {
     let mut t = Writing {
         uses: 0,
-        at: 0,
+        here: Address { at: 0 },
         slots: 0,
         level: 0,
         loops: 0,
@@ -328,7 +329,9 @@ fn walk(
         t = node(
             t,
             nodes[at],
-            nodes[at + 1],
+            Ordinal {
+                number: nodes[at + 1],
+            },
             nodes[at + 2],
             nodes[at + 3],
             uses,

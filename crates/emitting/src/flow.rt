@@ -4,6 +4,8 @@ use crate::Writing;
 use crate::codes;
 use crate::parts;
 use crate::putting;
+use answers::Address;
+use answers::Declaration;
 use answers::Place;
 use grammar::nodes;
 use machine::operands;
@@ -19,7 +21,7 @@ fn conditioned(t: Writing, ahead: &[u32], things: &mut [usize; 32768], code: &mu
     requires { ⌜ Fit t ⌝ }
     ensures { λ r. ⌜ ((vs ly es : List ℕ) (us : List Used) (ah en : List ℕ) → see r us (now (things .exit)) (now (code .exit)) ah en ≡ withSlot (pushed (t .slots) 0 0 0 (put 10 0 (packed 0 0 (aheadAt vs ly (now (ahead .entry)) es (t .slots))) (see t us (now (things .entry)) (now (code .entry)) ah en)))) ⌝ }
 {
-    let next = operands::packed(0, 0, parts::word_at(ahead, t.slots));
+    let next = parts::going_to(parts::address_at(ahead, t.slots));
     let r = putting::put(t, code, codes::UNLESS, codes::NOWHERE, next);
     putting::slot(putting::push(r, things, t.slots, 0, 0, 0))
 }
@@ -34,19 +36,20 @@ fn otherwise(
     code: &mut [u32],
 ) -> Writing
     requires { ⌜ Fit t ⌝ }
-    ensures { λ r. ⌜ ((vs ly es : List ℕ) (us : List Used) (en : List ℕ) → see r us (now (things .exit)) (now (code .exit)) (now («next_ahead» .exit)) en ≡ noted (c .first) (packed 0 0 (t .at + 1)) (withSlot (replaced (t .slots) 0 0 0 (put 2 0 (packed 0 0 (aheadAt vs ly (now (ahead .entry)) es (t .slots))) (see t us (now (things .entry)) (now (code .entry)) (now («next_ahead» .entry)) en))))) ⌝ }
+    ensures { λ r. ⌜ ((vs ly es : List ℕ) (us : List Used) (en : List ℕ) → see r us (now (things .exit)) (now (code .exit)) (now («next_ahead» .exit)) en ≡ noted (c .first) (packed 0 0 (t .here .at + 1)) (withSlot (replaced (t .slots) 0 0 0 (put 2 0 (packed 0 0 (aheadAt vs ly (now (ahead .entry)) es (t .slots))) (see t us (now (things .entry)) (now (code .entry)) (now («next_ahead» .entry)) en))))) ⌝ }
 {
-    let next = operands::packed(0, 0, parts::word_at(ahead, t.slots));
-    parts::set_word(next_ahead, c.first, operands::packed(0, 0, t.at + 1));
+    let next = parts::going_to(parts::address_at(ahead, t.slots));
+    let behind = Address { at: t.here.at + 1 };
+    parts::set_word(next_ahead, c.first, parts::going_to(behind));
     let r = putting::put(t, code, codes::JUMP, codes::NOWHERE, next);
     putting::slot(putting::replace(r, things, t.slots, 0, 0, 0))
 }
 
 // Behind it all.
 fn joined(t: Writing, c: Thing, next_ahead: &mut [u32]) -> Writing
-    ensures { λ r. ⌜ ((us : List Used) (op co en : List ℕ) → see r us op co (now («next_ahead» .exit)) en ≡ noted (c .first) (packed 0 0 (t .at)) (popped (see t us op co (now («next_ahead» .entry)) en))) ⌝ }
+    ensures { λ r. ⌜ ((us : List Used) (op co en : List ℕ) → see r us op co (now («next_ahead» .exit)) en ≡ noted (c .first) (packed 0 0 (t .here .at)) (popped (see t us op co (now («next_ahead» .entry)) en))) ⌝ }
 {
-    parts::set_word(next_ahead, c.first, operands::packed(0, 0, t.at));
+    parts::set_word(next_ahead, c.first, parts::going_to(t.here));
     putting::pop(t)
 }
 
@@ -90,9 +93,9 @@ fn entered(
 // Behind its declarations.
 fn begun(t: Writing, c: Thing, things: &mut [usize; 32768], next_ahead: &mut [u32]) -> Writing
     requires { ⌜ Fit t ⌝ }
-    ensures { λ r. ⌜ ((us : List Used) (co en : List ℕ) → see r us (now (things .exit)) co (now («next_ahead» .exit)) en ≡ noted (c .first) (packed 0 (t .cells) (t .at)) (replaced (c .first) 0 (t .cells) (c .fourth) (see t us (now (things .entry)) co (now («next_ahead» .entry)) en))) ⌝ }
+    ensures { λ r. ⌜ ((us : List Used) (co en : List ℕ) → see r us (now (things .exit)) co (now («next_ahead» .exit)) en ≡ noted (c .first) (packed 0 (t .cells) (t .here .at)) (replaced (c .first) 0 (t .cells) (c .fourth) (see t us (now (things .entry)) co (now («next_ahead» .entry)) en))) ⌝ }
 {
-    parts::set_word(next_ahead, c.first, operands::packed(0, t.cells, t.at));
+    parts::set_word(next_ahead, c.first, parts::operand(0, t.cells, t.here));
     putting::replace(t, things, c.first, 0, t.cells, c.fourth)
 }
 
@@ -138,7 +141,8 @@ fn declared(t: Writing, things: &mut [usize; 32768], next_entries: &mut [u32]) -
     requires { ⌜ Fit t ⌝ }
     ensures { λ r. ⌜ ((us : List Used) (co ah : List ℕ) → see r us (now (things .exit)) co ah (now («next_entries» .exit)) ≡ within (t .level + 1) 0 (t .cells) (pushed (t .loops) 0 0 0 (withEntry (see t us (now (things .entry)) co ah (now («next_entries» .entry)))))) ⌝ }
 {
-    parts::set_word(next_entries, t.declared, t.at);
+    let d = Declaration { number: t.declared };
+    parts::set_entry(next_entries, d, t.here);
     let mut r = putting::push(t, things, t.loops, 0, 0, 0);
     r.declared += 1;
     r.level += 1;

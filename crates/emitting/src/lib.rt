@@ -11,6 +11,7 @@ mod flow; // conditions, blocks and procedures
 mod emission; // the pass over the nodes
 mod passes; // one pass after the other
 
+use answers::Address;
 ghost use mathlib.Core.Path.{_≡_};
 ghost use lib.ListN.{length, take, replicate};
 ghost use Rattle.emitting.specs.Layout.{layoutOf};
@@ -39,7 +40,7 @@ pub struct Laid {
 // many declarations and formals there were; how much is open.
 pub struct Writing {
     pub uses: usize,
-    pub at: usize,
+    pub here: Address,
     pub slots: usize,
     pub level: usize,
     pub loops: usize,

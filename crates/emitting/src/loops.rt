@@ -4,6 +4,7 @@ use crate::Writing;
 use crate::codes;
 use crate::parts;
 use crate::putting;
+use answers::Address;
 use answers::Place;
 use grammar::nodes;
 use machine::operands;
@@ -19,38 +20,48 @@ fn element(t: Writing, f: Thing, things: &mut [usize; 32768], next_ahead: &mut [
     requires { ⌜ (t .slots < 1048576) × (t .open ≤ 8192) ⌝ }
     ensures { λ r. ⌜ ((vs ly ks es : List ℕ) (us : List Used) (co en : List ℕ) → see r us (now (things .exit)) co (now («next_ahead» .exit)) en ≡ element vs ly ks es (seen f) (see t us (now (things .entry)) co (now («next_ahead» .entry)) en)) ⌝ }
 {
-    parts::set_word(next_ahead, t.slots, operands::packed(0, 0, t.at));
-    putting::slot(putting::replace(t, things, f.first, f.second, f.third, t.at))
+    parts::set_word(next_ahead, t.slots, parts::going_to(t.here));
+    putting::slot(putting::replace(t, things, f.first, f.second, f.third, t.here.at as usize))
+}
+
+// The address of an element: it stands last in what a for statement keeps open.
+fn element_at(f: Thing) -> Address
+    requires { ⌜ f .fourth < 4294967296 ⌝ }
+    ensures { λ r. ⌜ r .at ≡ f .fourth ⌝ }
+{
+    Address {
+        at: f.fourth as u32,
+    }
 }
 
 // To the body, with the place to return to.
-fn bodied(t: Writing, f: Thing, back: usize, ahead: &[u32], code: &mut [u32]) -> Writing
-    requires { ⌜ t .at < 1048576 ⌝ }
-    ensures { λ r. ⌜ ((vs ly es : List ℕ) (us : List Used) (op ah en : List ℕ) → see r us op (now (code .exit)) ah en ≡ bodied vs ly (now (ahead .entry)) es (seen f) back (see t us op (now (code .entry)) ah en)) ⌝ }
-    ensures { λ r. ⌜ Alike t r × (r .at ≡ t .at + 1) × (r .open ≡ t .open) ⌝ }
+fn bodied(t: Writing, f: Thing, back: Address, ahead: &[u32], code: &mut [u32]) -> Writing
+    requires { ⌜ t .here .at < 1048576 ⌝ }
+    ensures { λ r. ⌜ ((vs ly es : List ℕ) (us : List Used) (op ah en : List ℕ) → see r us op (now (code .exit)) ah en ≡ bodied vs ly (now (ahead .entry)) es (seen f) (back .at) (see t us op (now (code .entry)) ah en)) ⌝ }
+    ensures { λ r. ⌜ Alike t r × (r .here .at ≡ t .here .at + 1) × (r .open ≡ t .open) ⌝ }
 {
-    let v = operands::packed(t.loops, back, parts::word_at(ahead, f.first));
+    let v = parts::operand(t.loops, back.at as usize, parts::address_at(ahead, f.first));
     putting::put(t, code, codes::GO, codes::NOWHERE, v)
 }
 
 // The five instructions of a step element.
 fn stepping(t: Writing, f: Thing, place: Place, ahead: &[u32], code: &mut [u32]) -> Writing
-    requires { ⌜ (t .at < 131072) × Slim 131071 (seen f) × (place .at < 65536) ⌝ }
+    requires { ⌜ (t .here .at < 131072) × Slim 131071 (seen f) × (place .at < 65536) ⌝ }
     ensures { λ r. ⌜ ((vs ly es : List ℕ) (us : List Used) (op ah en : List ℕ) → see r us op (now (code .exit)) ah en ≡ stepping vs ly (now (ahead .entry)) es (seen f) (place .at) (see t us op (now (code .entry)) ah en)) ⌝ }
     ensures { λ r. ⌜ (r .slots ≡ t .slots) × (r .open ≡ t .open) ⌝ }
 {
-    let next = parts::word_at(ahead, t.slots);
-    let test = operands::packed(operands::high(f.second), operands::mid(f.second), next);
+    let next = parts::address_at(ahead, t.slots);
+    let test = parts::operand(operands::high(f.second), operands::mid(f.second), next);
     let kept = putting::put(t, code, codes::HOLD, codes::NOWHERE, 0);
     let tested = putting::put(kept, code, codes::TEST, Place { at: f.third }, test);
-    let gone = bodied(tested, f, t.at + 3, ahead, code);
+    let gone = bodied(tested, f, Address { at: t.here.at + 3 }, ahead, code);
     let bumped = putting::put(gone, code, codes::ADD, place, f.second);
     putting::put(
         bumped,
         code,
         codes::JUMP,
         codes::NOWHERE,
-        operands::packed(0, 0, t.at + 1),
+        parts::going_to(Address { at: t.here.at + 1 }),
     )
 }
 
@@ -66,7 +77,7 @@ fn once(
     requires { ⌜ Fit t ⌝ }
     ensures { λ r. ⌜ ((vs ly es : List ℕ) (us : List Used) (en : List ℕ) → see r us (now (things .exit)) (now (code .exit)) (now («next_ahead» .exit)) en ≡ element vs ly (now (ahead .entry)) es (seen f) (bodied vs ly (now (ahead .entry)) es (seen f) (aheadAt vs ly (now (ahead .entry)) es (t .slots)) (see t us (now (things .entry)) (now (code .entry)) (now («next_ahead» .entry)) en))) ⌝ }
 {
-    let next = parts::word_at(ahead, t.slots);
+    let next = parts::address_at(ahead, t.slots);
     element(bodied(t, f, next, ahead, code), f, things, next_ahead)
 }
 
@@ -79,13 +90,13 @@ fn whiled(
     next_ahead: &mut [u32],
     code: &mut [u32],
 ) -> Writing
-    requires { ⌜ Fit t ⌝ }
+    requires { ⌜ Fit t × Slim 131071 (seen f) ⌝ }
     ensures { λ r. ⌜ ((vs ly es : List ℕ) (us : List Used) (en : List ℕ) → see r us (now (things .exit)) (now (code .exit)) (now («next_ahead» .exit)) en ≡ element vs ly (now (ahead .entry)) es (seen f) (bodied vs ly (now (ahead .entry)) es (seen f) (f .fourth) (put 10 0 (packed 0 0 (aheadAt vs ly (now (ahead .entry)) es (t .slots))) (see t us (now (things .entry)) (now (code .entry)) (now («next_ahead» .entry)) en)))) ⌝ }
 {
-    let next = operands::packed(0, 0, parts::word_at(ahead, t.slots));
+    let next = parts::going_to(parts::address_at(ahead, t.slots));
     let tested = putting::put(t, code, codes::UNLESS, codes::NOWHERE, next);
     element(
-        bodied(tested, f, f.fourth, ahead, code),
+        bodied(tested, f, element_at(f), ahead, code),
         f,
         things,
         next_ahead,
@@ -117,9 +128,9 @@ pub fn element_node(
 // Behind the last element: the slot of where it goes on, which is behind the loop.
 fn begun(t: Writing, f: Thing, things: &mut [usize; 32768], next_ahead: &mut [u32]) -> Writing
     requires { ⌜ Fit t ⌝ }
-    ensures { λ r. ⌜ ((us : List Used) (co en : List ℕ) → see r us (now (things .exit)) co (now («next_ahead» .exit)) en ≡ within (t .level) (t .loops + 1) (t .cells) (noted (f .first) (packed 0 0 (t .at)) (replaced (t .slots - 1) 0 0 0 (see t us (now (things .entry)) co (now («next_ahead» .entry)) en)))) ⌝ }
+    ensures { λ r. ⌜ ((us : List Used) (co en : List ℕ) → see r us (now (things .exit)) co (now («next_ahead» .exit)) en ≡ within (t .level) (t .loops + 1) (t .cells) (noted (f .first) (packed 0 0 (t .here .at)) (replaced (t .slots - 1) 0 0 0 (see t us (now (things .entry)) co (now («next_ahead» .entry)) en)))) ⌝ }
 {
-    parts::set_word(next_ahead, f.first, operands::packed(0, 0, t.at));
+    parts::set_word(next_ahead, f.first, parts::going_to(t.here));
     let mut r = putting::replace(t, things, parts::less(t.slots, 1), 0, 0, 0);
     r.loops += 1;
     r
@@ -128,7 +139,7 @@ fn begun(t: Writing, f: Thing, things: &mut [usize; 32768], next_ahead: &mut [u3
 // Behind the body.
 fn ended(t: Writing, f: Thing, next_ahead: &mut [u32], code: &mut [u32]) -> Writing
     requires { ⌜ Fit t ⌝ }
-    ensures { λ r. ⌜ ((us : List Used) (op en : List ℕ) → see r us op (now (code .exit)) (now («next_ahead» .exit)) en ≡ noted (f .first) (packed 0 0 (t .at + 1)) (popped (within (t .level) (t .loops - 1) (t .cells) (put 9 0 (packed (t .loops - 1) 0 0) (see t us op (now (code .entry)) (now («next_ahead» .entry)) en))))) ⌝ }
+    ensures { λ r. ⌜ ((us : List Used) (op en : List ℕ) → see r us op (now (code .exit)) (now («next_ahead» .exit)) en ≡ noted (f .first) (packed 0 0 (t .here .at + 1)) (popped (within (t .level) (t .loops - 1) (t .cells) (put 9 0 (packed (t .loops - 1) 0 0) (see t us op (now (code .entry)) (now («next_ahead» .entry)) en))))) ⌝ }
 {
     let around = parts::less(t.loops, 1);
     let mut r = putting::put(
@@ -139,7 +150,8 @@ fn ended(t: Writing, f: Thing, next_ahead: &mut [u32], code: &mut [u32]) -> Writ
         operands::packed(around, 0, 0),
     );
     r.loops = around;
-    parts::set_word(next_ahead, f.first, operands::packed(0, 0, t.at + 1));
+    let behind = Address { at: t.here.at + 1 };
+    parts::set_word(next_ahead, f.first, parts::going_to(behind));
     putting::pop(r)
 }
 

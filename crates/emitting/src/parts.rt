@@ -1,8 +1,13 @@
-// Words in lent arrays.
+// Words in lent arrays, and operands with an address.
+use answers::Address;
+use answers::Declaration;
+use answers::Ordinal;
 use answers::Place;
+use machine::operands;
 ghost use mathlib.Core.Path.{_≡_};
 ghost use Prim.Native.Nat.{_-_, _<_};
 ghost use lib.ListN.{length, getD, set, replicate, take};
+ghost use Rattle.emitting.specs.Layout.{packed};
 ghost use Rattle.emitting.specs.Emission.{placeAt};
 
 // A number less another, 0 where that is greater.
@@ -56,14 +61,63 @@ pub fn front(words: &[u16], n: usize) -> &[u16]
 }
 
 // The place of a symbol, as an instruction has it: of 16 bits, 0 behind the last one.
-pub fn place_in(places: &[usize], symbol: usize) -> Place
-    ensures { λ r. ⌜ r .at ≡ placeAt (now (places .entry)) symbol ⌝ }
+pub fn place_in(places: &[usize], symbol: Ordinal) -> Place
+    ensures { λ r. ⌜ r .at ≡ placeAt (now (places .entry)) (symbol .number) ⌝ }
     ensures { λ r. ⌜ r .at < 65536 ⌝ }
 {
-    if symbol < places.len() {
+    let s = symbol.number as usize;
+    if s < places.len() {
         return Place {
-            at: places[symbol] % 65536,
+            at: places[s] % 65536,
         };
     }
     Place { at: 0 }
+}
+
+// The value of a symbol, 0 behind the last one.
+pub fn value_of(values: &[u32], symbol: Ordinal) -> usize
+    ensures { λ r. ⌜ r ≡ getD (now (values .entry)) (symbol .number) 0 ⌝ }
+    ensures { λ r. ⌜ r < 4294967296 ⌝ }
+{
+    word_at(values, symbol.number as usize)
+}
+
+// The address in a slot, 0 behind the last one.
+pub fn address_at(ahead: &[u32], slot: usize) -> Address
+    ensures { λ r. ⌜ r .at ≡ getD (now (ahead .entry)) slot 0 ⌝ }
+{
+    if slot < ahead.len() {
+        return Address { at: ahead[slot] };
+    }
+    Address { at: 0 }
+}
+
+// The address of a procedure, by its declaration.
+pub fn entry_of(entries: &[u32], d: Declaration) -> Address
+    ensures { λ r. ⌜ r .at ≡ getD (now (entries .entry)) (d .number) 0 ⌝ }
+{
+    address_at(entries, d.number)
+}
+
+// It is noted.
+pub fn set_entry(entries: &mut [u32], d: Declaration, a: Address)
+    ensures { λ _. ⌜ now (entries .exit) ≡ set (now (entries .entry)) (d .number) (a .at) ⌝ }
+{
+    set_word(entries, d.number, a.at as usize)
+}
+
+// An operand whose last part is an address.
+pub fn operand(u: usize, o: usize, a: Address) -> usize
+    ensures { λ r. ⌜ r ≡ packed u o (a .at) ⌝ }
+    ensures { λ r. ⌜ r < 4294967296 ⌝ }
+{
+    operands::packed(u, o, a.at as usize)
+}
+
+// An operand that is an address alone.
+pub fn going_to(a: Address) -> usize
+    ensures { λ r. ⌜ r ≡ packed 0 0 (a .at) ⌝ }
+    ensures { λ r. ⌜ r < 4294967296 ⌝ }
+{
+    operand(0, 0, a)
 }

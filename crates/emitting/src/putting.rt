@@ -2,6 +2,7 @@
 use crate::Thing;
 use crate::Writing;
 use crate::parts;
+use answers::Address;
 use answers::Place;
 ghost use mathlib.Core.Path.{_≡_};
 ghost use mathlib.Core.List.{List, _∷_};
@@ -12,14 +13,15 @@ ghost use Rattle.emitting.specs.Model.{thingAt, thingsOf, seen, see, Ali
 
 // An instruction: operation, place, operand.
 pub fn put(mut t: Writing, code: &mut [u32], o: usize, place: Place, v: usize) -> Writing
-    requires { ⌜ (t .at < 1048576) × (o + 64 * place .at < 4294967296) × (v < 4294967296) ⌝ }
+    requires { ⌜ (t .here .at < 1048576) × (o + 64 * place .at < 4294967296) × (v < 4294967296) ⌝ }
     ensures { λ r. ⌜ ((us : List Used) (op ah en : List ℕ) → see r us op (now (code .exit)) ah en ≡ put o (place .at) v (see t us op (now (code .entry)) ah en)) ⌝ }
-    ensures { λ r. ⌜ Alike t r × (r .at ≡ t .at + 1) × (r .open ≡ t .open) ⌝ }
+    ensures { λ r. ⌜ Alike t r × (r .here .at ≡ t .here .at + 1) × (r .open ≡ t .open) ⌝ }
 {
-    let at = t.at;
+    let at = t.here.at as usize;
     parts::set_word(code, 2 * at, o + 64 * place.at);
     parts::set_word(code, 2 * at + 1, v);
-    t.at = at + 1;
+    let next = Address { at: t.here.at + 1 };
+    t.here = next;
     t
 }
 
@@ -49,7 +51,7 @@ pub fn push(
 ) -> Writing
     requires { ⌜ t .open < 8192 ⌝ }
     ensures { λ r. ⌜ ((us : List Used) (co ah en : List ℕ) → see r us (now (things .exit)) co ah en ≡ pushed a b c d (see t us (now (things .entry)) co ah en)) ⌝ }
-    ensures { λ r. ⌜ Alike t r × (r .at ≡ t .at) ⌝ }
+    ensures { λ r. ⌜ Alike t r × (r .here .at ≡ t .here .at) ⌝ }
 {
     let n = t.open;
     write(things, n, a, b, c, d);
@@ -60,7 +62,7 @@ pub fn push(
 // The newest one is closed.
 pub fn pop(mut t: Writing) -> Writing
     ensures { λ r. ⌜ ((us : List Used) (op co ah en : List ℕ) → see r us op co ah en ≡ popped (see t us op co ah en)) ⌝ }
-    ensures { λ r. ⌜ Alike t r × (r .at ≡ t .at) × (r .variable ≡ t .variable) × (r .open ≤ t .open) × (t .open ≤ 8192 → r .open < 8192) ⌝ }
+    ensures { λ r. ⌜ Alike t r × (r .here .at ≡ t .here .at) × (r .variable ≡ t .variable) × (r .open ≤ t .open) × (t .open ≤ 8192 → r .open < 8192) ⌝ }
 {
     if t.open == 0 {
         return t;
@@ -80,7 +82,7 @@ pub fn replace(
 ) -> Writing
     requires { ⌜ t .open ≤ 8192 ⌝ }
     ensures { λ r. ⌜ ((us : List Used) (co ah en : List ℕ) → see r us (now (things .exit)) co ah en ≡ replaced a b c d (see t us (now (things .entry)) co ah en)) ⌝ }
-    ensures { λ r. ⌜ Alike t r × (r .at ≡ t .at) ⌝ }
+    ensures { λ r. ⌜ Alike t r × (r .here .at ≡ t .here .at) ⌝ }
 {
     push(pop(t), things, a, b, c, d)
 }

@@ -59,7 +59,7 @@ pub fn next(t: Writing, uses: &[u16], rows: &[u16; 32768]) -> Named
 // The uses behind it.
 pub fn passed(mut t: Writing, uses: &[u16]) -> Writing
     ensures { λ r. ⌜ ((rows op co ah en : List ℕ) → see r (usesIn rows (now (uses .entry))) op co ah en ≡ withUses (othersNext (drop (t .uses) (usesIn rows (now (uses .entry))))) (see t (usesIn rows (now (uses .entry))) op co ah en)) ⌝ }
-    ensures { λ r. ⌜ Alike t r × (r .at ≡ t .at) × (r .open ≡ t .open) ⌝ }
+    ensures { λ r. ⌜ Alike t r × (r .here .at ≡ t .here .at) × (r .open ≡ t .open) ⌝ }
 {
     let at = t.uses;
     if at < uses.len() {

@@ -20,11 +20,11 @@ result-of-requires c κs = search needs
 add-cells : tie.Need-add-cells
 add-cells c = search needs
 
-word-at-requires-2 : tie.Need-word-at-requires-2
-word-at-requires-2 c κs = search needs
+entry-of-requires : tie.Need-entry-of-requires
+entry-of-requires c κs = search needs
 
-packed-requires : tie.Need-packed-requires
-packed-requires c κs = search needs
+operand-requires : tie.Need-operand-requires
+operand-requires c κs = search needs
 
 add-put : tie.Need-add-put
 add-put c = search needs
@@ -37,7 +37,7 @@ same-length c = search needs
 
 returns : tie.Need-returns
 unfolding calledWith
-returns c = λ vs ks us op ah en. rw (c .before .before .before .before .packed .ensures .0, c .before .before .before .before .before .before .before .less .ensures, c .before .before .before .before .before .before .before .before .high .ensures, c .before .before .before .before .before .before .before .before .before .word-at .ensures .0, c .before .before .before .before .before .before .result-of .ensures .0 vs ks (c .before .before .before .before .before .before .before .before .before .before .before .before .before .args .entries .now), c .before .before .before .before .before .word-at2 .ensures .0) at (c .before .before .put .ensures .0 us op ah en)
+returns c = λ vs ks us op ah en. rw (c .before .before .before .before .operand .ensures .0, c .before .before .before .before .before .before .before .less .ensures, c .before .before .before .before .before .before .before .before .high .ensures, c .before .before .before .before .before .before .before .before .before .word-at .ensures .0, c .before .before .before .before .before .before .result-of .ensures .0 vs ks (c .before .before .before .before .before .before .before .before .before .before .before .before .before .args .entries .now), c .before .before .before .before .before .entry-of .ensures) at (c .before .before .put .ensures .0 us op ah en)
 
 pub called-with-spec : {M : Type 1} → statement M
 called-with-spec =
@@ -48,8 +48,8 @@ called-with-spec =
     less-requires
     result-of-requires
     add-cells
-    word-at-requires-2
-    packed-requires
+    entry-of-requires
+    operand-requires
     add-put
     put-requires
     same-length

@@ -9,6 +9,9 @@ use Rattle.emitting.proofs.calls.repeated.Tie as tie
 cell-of-requires : tie.Need-cell-of-requires
 cell-of-requires c κs = search needs
 
+cast-push : tie.Need-cast-push
+cast-push c = search needs
+
 push-requires : tie.Need-push-requires
 push-requires c κs = search needs
 
@@ -17,7 +20,7 @@ slot-requires c κs = search needs
 
 returns : tie.Need-returns
 unfolding repeated
-returns c = λ vs ks es us co ah en. rw (c .before .before .before .cell-of .ensures .0 vs ks es) at (c .slot .ensures us _ co ah en ∙ ap withSlot (c .before .push .ensures .0 us co ah en))
+returns c = λ vs ks es us co ah en. rw (c .before .before .before .before .cell-of .ensures .0 vs ks es) at (c .slot .ensures us _ co ah en ∙ ap withSlot (c .before .push .ensures .0 us co ah en))
 
 pub repeated-spec : {M : Type 1} → statement M
-repeated-spec = tie.close (tie.spec cell-of-requires push-requires slot-requires returns)
+repeated-spec = tie.close (tie.spec cell-of-requires cast-push push-requires slot-requires returns)

@@ -6,8 +6,8 @@ use borrow.Author.Needs.{needs}
 use Rattle.emitting.proofs.emission.plain_node.Statement.{statement}
 use Rattle.emitting.proofs.emission.plain_node.Tie as tie
 
-word-at-requires : tie.Need-word-at-requires
-word-at-requires c κs = search needs
+value-of-requires : tie.Need-value-of-requires
+value-of-requires c κs = search needs
 
 put-requires : tie.Need-put-requires
 put-requires c κs = search needs
@@ -41,7 +41,7 @@ same-length c = search needs
 
 returns : tie.Need-returns
 unfolding plainNode
-returns c = λ ly ks es us ah en. simp (c .before .before .before .before .before .match .keys1) (rw (c .before .before .before .before .word-at .ensures .0) at (c .before .before .put .ensures .0 us (c .before .before .before .before .before .before .before .before .args .things .now) ah en))
+returns c = λ ly ks es us ah en. simp (c .before .before .before .before .before .match .keys1) (rw (c .before .before .before .before .value-of .ensures .0) at (c .before .before .put .ensures .0 us (c .before .before .before .before .before .before .before .before .args .things .now) ah en))
 
 same-length-2 : tie.Need-same-length-2
 same-length-2 c = search needs
@@ -89,7 +89,7 @@ pub plain-node-spec : {M : Type 1} → statement M
 plain-node-spec =
     tie.close
     (tie.spec
-    word-at-requires
+    value-of-requires
     put-requires
     put-requires-2
     signed-requires

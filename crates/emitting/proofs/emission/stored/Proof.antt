@@ -17,7 +17,7 @@ abbrev Inv-loop : tie.InvT-loop
 Inv-loop t₀ things code₀ n₀ t code n =
     (n ≤ t₀ .lefts)
     × (t .open ≡ t₀ .open)
-    × (t .at + n ≡ t₀ .at + t₀ .lefts)
+    × (t .here .at + n ≡ t₀ .here .at + t₀ .lefts)
     × (length code ≡ length code₀)
     × ((vs ly ks es : List ℕ) (us : List Used) (ah en : List ℕ) → stored vs ly ks es (leftsOf vs ly ks es n (thingsOf (t₀ .open) things) []) (see t us things code ah en) ≡ stored vs ly ks es (leftsOf vs ly ks es (t₀ .lefts) (thingsOf (t₀ .open) things) []) (see t₀ us things code₀ ah en))
 

@@ -45,6 +45,15 @@ mul-node c = search needs
 shared-slice-read-node : tie.Need-shared-slice-read-node Inv-loop μ-loop
 shared-slice-read-node c = search needs
 
+add-t18 : tie.Need-add-t18 Inv-loop μ-loop
+add-t18 c = search needs
+
+mul-t19 : tie.Need-mul-t19 Inv-loop μ-loop
+mul-t19 c = search needs
+
+shared-slice-read-t24 : tie.Need-shared-slice-read-t24 Inv-loop μ-loop
+shared-slice-read-t24 c = search needs
+
 add-node : tie.Need-add-node Inv-loop μ-loop
 add-node c = search needs
 
@@ -62,15 +71,6 @@ mul-node-3 c = search needs
 
 shared-slice-read-node-3 : tie.Need-shared-slice-read-node-3 Inv-loop μ-loop
 shared-slice-read-node-3 c = search needs
-
-add-node-3 : tie.Need-add-node-3 Inv-loop μ-loop
-add-node-3 c = search needs
-
-mul-node-4 : tie.Need-mul-node-4 Inv-loop μ-loop
-mul-node-4 c = search needs
-
-shared-slice-read-node-4 : tie.Need-shared-slice-read-node-4 Inv-loop μ-loop
-shared-slice-read-node-4 c = search needs
 
 node-requires : tie.Need-node-requires Inv-loop μ-loop
 node-requires c κs =
@@ -139,15 +139,15 @@ walk-spec =
     mul-at
     mul-node
     shared-slice-read-node
+    add-t18
+    mul-t19
+    shared-slice-read-t24
     add-node
     mul-node-2
     shared-slice-read-node-2
     add-node-2
     mul-node-3
     shared-slice-read-node-3
-    add-node-3
-    mul-node-4
-    shared-slice-read-node-4
     node-requires
     add-i
     loop-less

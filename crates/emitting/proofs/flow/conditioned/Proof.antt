@@ -6,11 +6,11 @@ use borrow.Author.Needs.{needs}
 use Rattle.emitting.proofs.flow.conditioned.Statement.{statement}
 use Rattle.emitting.proofs.flow.conditioned.Tie as tie
 
-word-at-requires : tie.Need-word-at-requires
-word-at-requires c κs = search needs
+address-at-requires : tie.Need-address-at-requires
+address-at-requires c κs = search needs
 
-packed-requires : tie.Need-packed-requires
-packed-requires c κs = search needs
+going-to-requires : tie.Need-going-to-requires
+going-to-requires c κs = search needs
 
 put-requires : tie.Need-put-requires
 put-requires c κs = search needs
@@ -28,14 +28,14 @@ returns : tie.Need-returns
 unfolding aheadAt
 returns c =
     let n = c .before .before .before .before .before .before .before .before .before .before .before .args .t .slots in
-    λ vs ly es us ah en. rw (c .before .before .before .before .before .before .before .packed .ensures .0, c .before .before .before .before .before .before .before .before .word-at .ensures .0) at (c .slot .ensures us _ _ ah en ∙ ap withSlot (c .before .push .ensures .0 us _ ah en ∙ ap (pushed n 0 0 0) (c .before .before .before .before .before .put .ensures .0 us (c .before .before .before .before .before .before .before .before .before .before .before .args .things .now) ah en)))
+    λ vs ly es us ah en. rw (c .before .before .before .before .before .before .before .going-to .ensures .0, c .before .before .before .before .before .before .before .before .address-at .ensures) at (c .slot .ensures us _ _ ah en ∙ ap withSlot (c .before .push .ensures .0 us _ ah en ∙ ap (pushed n 0 0 0) (c .before .before .before .before .before .put .ensures .0 us (c .before .before .before .before .before .before .before .before .before .before .before .args .things .now) ah en)))
 
 pub conditioned-spec : {M : Type 1} → statement M
 conditioned-spec =
     tie.close
     (tie.spec
-    word-at-requires
-    packed-requires
+    address-at-requires
+    going-to-requires
     put-requires
     push-requires
     slot-requires

@@ -8,8 +8,8 @@ use borrow.Author.Needs.{needs}
 use Rattle.emitting.proofs.flow.declared.Statement.{statement}
 use Rattle.emitting.proofs.flow.declared.Tie as tie
 
-set-word-requires : tie.Need-set-word-requires
-set-word-requires c κs = search needs
+set-entry-requires : tie.Need-set-entry-requires
+set-entry-requires c κs = search needs
 
 push-requires : tie.Need-push-requires
 push-requires c κs = search needs
@@ -26,8 +26,9 @@ same-length c = search needs
 returns : tie.Need-returns
 unfolding within pushed withOpen withCell withEntry
 returns c =
-    let w = set (c .before .before .before .before .before .before .before .before .before .args .next-entries .now) (c .before .before .before .before .before .before .before .before .before .args .t .declared) (c .before .before .before .before .before .before .before .before .before .args .t .at) in
-    λ us co ah. rw (c .before .before .before .before .before .before .set-word .ensures) (ap (λ (z : State). within (z .level + 1) 0 (z .cells) (withCell z)) (c .before .before .push .ensures .0 us co ah w))
+    let w = set (c .before .before .before .before .before .before .before .before .before .args .next-entries .now) (c .before .before .before .before .before .before .before .before .before .args .t .declared) (c .before .before .before .before .before .before .before .before .before .args .t .here .at) in
+    λ us co ah. rw (c .before .before .before .before .before .before .set-entry .ensures) (ap (λ (z : State). within (z .level + 1) 0 (z .cells) (withCell z)) (c .before .before .push .ensures .0 us co ah w))
 
 pub declared-spec : {M : Type 1} → statement M
-declared-spec = tie.close (tie.spec set-word-requires push-requires add-r add-r-2 same-length returns)
+declared-spec =
+    tie.close (tie.spec set-entry-requires push-requires add-r add-r-2 same-length returns)

@@ -7,8 +7,8 @@ use borrow.Author.Needs.{needs}
 use Rattle.emitting.proofs.flow.joined.Statement.{statement}
 use Rattle.emitting.proofs.flow.joined.Tie as tie
 
-packed-requires : tie.Need-packed-requires
-packed-requires c κs = search needs
+going-to-requires : tie.Need-going-to-requires
+going-to-requires c κs = search needs
 
 set-word-requires : tie.Need-set-word-requires
 set-word-requires c κs = search needs
@@ -22,9 +22,9 @@ same-length c = search needs
 returns : tie.Need-returns
 unfolding noted popped withOpen
 returns c =
-    let w = set (c .before .before .before .before .before .before .before .args .next-ahead .now) (c .before .before .before .before .before .before .before .args .c .first) (packed 0 0 (c .before .before .before .before .before .before .before .args .t .at)) in
-    λ us op co en. rw (c .before .before .before .set-word .ensures, c .before .before .before .before .packed .ensures .0) (c .pop .ensures .0 us op co w en)
+    let w = set (c .before .before .before .before .before .before .before .args .next-ahead .now) (c .before .before .before .before .before .before .before .args .c .first) (packed 0 0 (c .before .before .before .before .before .before .before .args .t .here .at)) in
+    λ us op co en. rw (c .before .before .before .set-word .ensures, c .before .before .before .before .going-to .ensures .0) (c .pop .ensures .0 us op co w en)
 
 pub joined-spec : {M : Type 1} → statement M
 joined-spec =
-    tie.close (tie.spec packed-requires set-word-requires pop-requires same-length returns)
+    tie.close (tie.spec going-to-requires set-word-requires pop-requires same-length returns)

@@ -10,17 +10,17 @@ use borrow.Author.Needs.{needs}
 use Rattle.emitting.proofs.flow.otherwise.Statement.{statement}
 use Rattle.emitting.proofs.flow.otherwise.Tie as tie
 
-word-at-requires : tie.Need-word-at-requires
-word-at-requires c κs = search needs
+address-at-requires : tie.Need-address-at-requires
+address-at-requires c κs = search needs
 
-packed-requires : tie.Need-packed-requires
-packed-requires c κs = search needs
+going-to-requires : tie.Need-going-to-requires
+going-to-requires c κs = search needs
 
-add-packed : tie.Need-add-packed
-add-packed c = search needs
+add-t11 : tie.Need-add-t11
+add-t11 c = search needs
 
-packed-requires-2 : tie.Need-packed-requires-2
-packed-requires-2 c κs = search needs
+going-to-requires-2 : tie.Need-going-to-requires-2
+going-to-requires-2 c κs = search needs
 
 set-word-requires : tie.Need-set-word-requires
 set-word-requires c κs = search needs
@@ -44,18 +44,18 @@ returns : tie.Need-returns
 unfolding noted withSlot withOpen replaced put aheadAt
 returns c =
     let n = c .before .before .before .before .before .before .before .before .before .before .before .before .before .before .before .before .before .before .args .t .slots in
-    let w = set (c .before .before .before .before .before .before .before .before .before .before .before .before .before .before .before .before .before .before .args .next-ahead .now) (c .before .before .before .before .before .before .before .before .before .before .before .before .before .before .before .before .before .before .args .c .first) (packed 0 0 (c .before .before .before .before .before .before .before .before .before .before .before .before .before .before .before .before .before .before .args .t .at + 1)) in
-    λ vs ly es us en. rw (c .before .before .before .before .before .before .before .before .before .set-word .ensures, c .before .before .before .before .before .before .before .before .before .before .packed2 .ensures .0)
-    (rw (c .before .before .before .before .before .before .before .before .before .before .before .before .before .packed .ensures .0, c .before .before .before .before .before .before .before .before .before .before .before .before .before .before .word-at .ensures .0) at (c .slot .ensures us _ _ w en ∙ ap withSlot (c .before .replace .ensures .0 us _ w en ∙ ap (replaced n 0 0 0) (c .before .before .before .before .before .put .ensures .0 us (c .before .before .before .before .before .before .before .before .before .before .before .before .before .before .before .before .before .before .args .things .now) w en))))
+    let w = set (c .before .before .before .before .before .before .before .before .before .before .before .before .before .before .before .before .before .before .args .next-ahead .now) (c .before .before .before .before .before .before .before .before .before .before .before .before .before .before .before .before .before .before .args .c .first) (packed 0 0 (c .before .before .before .before .before .before .before .before .before .before .before .before .before .before .before .before .before .before .args .t .here .at + 1)) in
+    λ vs ly es us en. rw (c .before .before .before .before .before .before .before .before .before .set-word .ensures, c .before .before .before .before .before .before .before .before .before .before .going-to2 .ensures .0)
+    (rw (c .before .before .before .before .before .before .before .before .before .before .before .before .before .going-to .ensures .0, c .before .before .before .before .before .before .before .before .before .before .before .before .before .before .address-at .ensures) at (c .slot .ensures us _ _ w en ∙ ap withSlot (c .before .replace .ensures .0 us _ w en ∙ ap (replaced n 0 0 0) (c .before .before .before .before .before .put .ensures .0 us (c .before .before .before .before .before .before .before .before .before .before .before .before .before .before .before .before .before .before .args .things .now) w en))))
 
 pub otherwise-spec : {M : Type 1} → statement M
 otherwise-spec =
     tie.close
     (tie.spec
-    word-at-requires
-    packed-requires
-    add-packed
-    packed-requires-2
+    address-at-requires
+    going-to-requires
+    add-t11
+    going-to-requires-2
     set-word-requires
     put-requires
     replace-requires

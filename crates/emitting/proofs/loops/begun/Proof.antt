@@ -9,8 +9,8 @@ use borrow.Author.Needs.{needs}
 use Rattle.emitting.proofs.loops.begun.Statement.{statement}
 use Rattle.emitting.proofs.loops.begun.Tie as tie
 
-packed-requires : tie.Need-packed-requires
-packed-requires c κs = search needs
+going-to-requires : tie.Need-going-to-requires
+going-to-requires c κs = search needs
 
 set-word-requires : tie.Need-set-word-requires
 set-word-requires c κs = search needs
@@ -30,14 +30,14 @@ same-length c = search needs
 returns : tie.Need-returns
 unfolding within noted withOpen replaced
 returns c =
-    let w = set (c .before .before .before .before .before .before .before .before .before .before .args .next-ahead .now) (c .before .before .before .before .before .before .before .before .before .before .args .f .first) (packed 0 0 (c .before .before .before .before .before .before .before .before .before .before .args .t .at)) in
-    λ us co en. rw (c .before .before .before .before .before .before .set-word .ensures, c .before .before .before .before .before .before .before .packed .ensures .0) (rw (c .before .before .less .ensures) at (ap (λ (z : State). within (z .level) (z .loops + 1) (z .cells) z) (c .before .replace .ensures .0 us co w en)))
+    let w = set (c .before .before .before .before .before .before .before .before .before .before .args .next-ahead .now) (c .before .before .before .before .before .before .before .before .before .before .args .f .first) (packed 0 0 (c .before .before .before .before .before .before .before .before .before .before .args .t .here .at)) in
+    λ us co en. rw (c .before .before .before .before .before .before .set-word .ensures, c .before .before .before .before .before .before .before .going-to .ensures .0) (rw (c .before .before .less .ensures) at (ap (λ (z : State). within (z .level) (z .loops + 1) (z .cells) z) (c .before .replace .ensures .0 us co w en)))
 
 pub begun-spec : {M : Type 1} → statement M
 begun-spec =
     tie.close
     (tie.spec
-    packed-requires
+    going-to-requires
     set-word-requires
     less-requires
     replace-requires

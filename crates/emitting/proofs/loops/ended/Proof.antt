@@ -18,11 +18,11 @@ packed-requires c κs = search needs
 put-requires : tie.Need-put-requires
 put-requires c κs = search needs
 
-add-packed : tie.Need-add-packed
-add-packed c = search needs
+add-t12 : tie.Need-add-t12
+add-t12 c = search needs
 
-packed-requires-2 : tie.Need-packed-requires-2
-packed-requires-2 c κs = search needs
+going-to-requires : tie.Need-going-to-requires
+going-to-requires c κs = search needs
 
 set-word-requires : tie.Need-set-word-requires
 set-word-requires c κs = search needs
@@ -39,8 +39,8 @@ same-length-2 c = search needs
 returns : tie.Need-returns
 unfolding within noted popped withOpen put
 returns c =
-    let w = set (c .before .before .before .before .before .before .before .before .before .before .before .before .before .before .before .args .next-ahead .now) (c .before .before .before .before .before .before .before .before .before .before .before .before .before .before .before .args .f .first) (packed 0 0 (c .before .before .before .before .before .before .before .before .before .before .before .before .before .before .before .args .t .at + 1)) in
-    λ us op en. rw (c .before .before .before .set-word .ensures, c .before .before .before .before .packed2 .ensures .0)
+    let w = set (c .before .before .before .before .before .before .before .before .before .before .before .before .before .before .before .args .next-ahead .now) (c .before .before .before .before .before .before .before .before .before .before .before .before .before .before .before .args .f .first) (packed 0 0 (c .before .before .before .before .before .before .before .before .before .before .before .before .before .before .before .args .t .here .at + 1)) in
+    λ us op en. rw (c .before .before .before .set-word .ensures, c .before .before .before .before .going-to .ensures .0)
     (rw (c .before .before .before .before .before .before .before .before .before .before .packed .ensures .0, c .before .before .before .before .before .before .before .before .before .before .before .before .less .ensures) at (c .pop .ensures .0 us op _ w en ∙ ap (λ (z : State). popped (within (z .level) (c .before .before .before .before .before .before .before .before .before .before .before .before .less .result) (z .cells) z)) (c .before .before .before .before .before .before .before .before .before .put .ensures .0 us op w en)))
 
 pub ended-spec : {M : Type 1} → statement M
@@ -50,8 +50,8 @@ ended-spec =
     less-requires
     packed-requires
     put-requires
-    add-packed
-    packed-requires-2
+    add-t12
+    going-to-requires
     set-word-requires
     pop-requires
     same-length
