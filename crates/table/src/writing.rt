@@ -1,4 +1,5 @@
 // The table: uses, declarations and nodes, each after its count.
+use answers::Ordinal;
 use grammar::nodes;
 use names::Meant;
 use names::meanings::meant;
@@ -12,10 +13,10 @@ ghost use Rattle.table.specs.Table.{hasNone, declarationWords, nodeWords
 ghost use Rattle.table.specs.Model.{Wrote, Enters, Writes, among, placeOf, meantWords, useModel, tableModel};
 
 // The place of a symbol, as the table holds it.
-fn place_word(places: &[usize; 2048], symbol: u16) -> u16
-    ensures { λ r. ⌜ r ≡ placeOf (now (places .entry)) symbol ⌝ }
+fn place_word(places: &[usize; 2048], symbol: Ordinal) -> u16
+    ensures { λ r. ⌜ r ≡ placeOf (now (places .entry)) (symbol .number) ⌝ }
 {
-    place_in(places, symbol as usize)
+    place_in(places, symbol.number as usize)
 }
 
 // A place in 16 bits, 0 behind the last one.
@@ -73,20 +74,21 @@ fn kind_number(kind: u16) -> u16
 fn put_use(
     table: &mut [u16],
     at: usize,
-    symbol: u16,
+    symbol: Ordinal,
     word: u16,
     rows: &[u16],
     places: &[usize; 2048],
 )
     requires { ⌜ at + 3 ≤ length (now table) ⌝ }
-    ensures { λ _. ⌜ Wrote (now (table .entry)) (now (table .exit)) at (meantWords (placeOf (now (places .entry))) (now (rows .entry)) symbol (meantOf word)) ⌝ }
+    ensures { λ _. ⌜ Wrote (now (table .entry)) (now (table .exit)) at (meantWords (placeOf (now (places .entry))) (now (rows .entry)) (symbol .number) (meantOf word)) ⌝ }
 {
     let p = place_word(places, symbol);
     match meant(word) {
         Meant::Declared(d) => {
             let r = 4 * d.number;
             let kind = kind_number(word_at(rows, r));
-            let declared = place_word(places, word_at(rows, r + 1));
+            let symbol = word_at(rows, r + 1);
+            let declared = place_word(places, Ordinal { number: symbol });
             put_three(table, at, p, kind, declared)
         }
         Meant::Given(e) => put_three(table, at, p, 0, e.number),
@@ -130,7 +132,10 @@ fn put_uses(
     while 4 * i + 3 < nodes.len() {
         let k = 4 * i;
         if is_use(nodes[k]) {
-            put_use(table, at, nodes[k + 1], use_at(uses, u), rows, places);
+            let symbol = Ordinal {
+                number: nodes[k + 1],
+            };
+            put_use(table, at, symbol, use_at(uses, u), rows, places);
             at += 3;
             u += 1;
         }
@@ -149,7 +154,10 @@ fn put_declarations(table: &mut [u16], from: usize, rows: &[u16], places: &[usiz
     let mut j = 0;
     while 4 * j + 3 < rows.len() {
         let k = 4 * j;
-        let place = place_word(places, rows[k + 1]);
+        let symbol = Ordinal {
+            number: rows[k + 1],
+        };
+        let place = place_word(places, symbol);
         let kind = kind_number(rows[k]);
         put_four(table, at, place, kind, rows[k + 2], rows[k + 3]);
         at += 4;
@@ -159,8 +167,8 @@ fn put_declarations(table: &mut [u16], from: usize, rows: &[u16], places: &[usiz
 }
 
 // The second word of a node: its symbol's place, where it has one.
-fn node_place(kind: u16, symbol: u16, places: &[usize; 2048]) -> u16
-    ensures { λ r. ⌜ r ≡ cond (hasNone (placeOf (now (places .entry))) kind) 0 (placeOf (now (places .entry)) symbol) ⌝ }
+fn node_place(kind: u16, symbol: Ordinal, places: &[usize; 2048]) -> u16
+    ensures { λ r. ⌜ r ≡ cond (hasNone (placeOf (now (places .entry))) kind) 0 (placeOf (now (places .entry)) (symbol .number)) ⌝ }
 {
     match kind {
         nodes::TYPE | nodes::ELSE | nodes::ONCE | nodes::DO => 0,
@@ -178,7 +186,10 @@ fn put_nodes(table: &mut [u16], from: usize, nodes: &[u16], places: &[usize; 204
     let mut i = 0;
     while 4 * i + 3 < nodes.len() {
         let k = 4 * i;
-        let place = node_place(nodes[k], nodes[k + 1], places);
+        let symbol = Ordinal {
+            number: nodes[k + 1],
+        };
+        let place = node_place(nodes[k], symbol, places);
         put_four(table, at, nodes[k], place, nodes[k + 2], nodes[k + 3]);
         at += 4;
         i += 1;

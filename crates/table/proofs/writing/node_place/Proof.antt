@@ -27,12 +27,12 @@ place-word-requires : tie.Need-place-word-requires
 place-word-requires c κs = search needs
 
 returns : tie.Need-returns
-returns c = ap (λ b. cond b 0 (placeOf (c .before .args .places .now) (c .before .args .symbol))) (without (placeOf (c .before .args .places .now)) (c .before .args .kind) (c .match .keys1))
+returns c = ap (λ b. cond b 0 (placeOf (c .before .args .places .now) (c .before .args .symbol .number))) (without (placeOf (c .before .args .places .now)) (c .before .args .kind) (c .match .keys1))
 
 returns-2 : tie.Need-returns-2
 returns-2 c =
     c .place-word .ensures
-    ∙ ap (λ b. cond b 0 (placeOf (c .before .before .args .places .now) (c .before .before .args .symbol))) (with-one (placeOf (c .before .before .args .places .now)) (c .before .before .args .kind) (c .before .match .rest .1))
+    ∙ ap (λ b. cond b 0 (placeOf (c .before .before .args .places .now) (c .before .before .args .symbol .number))) (with-one (placeOf (c .before .before .args .places .now)) (c .before .before .args .kind) (c .before .match .rest .1))
 
 pub node-place-spec : {M : Type 1} → statement M
 node-place-spec = tie.close (tie.spec place-word-requires returns returns-2)

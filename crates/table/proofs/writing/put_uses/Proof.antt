@@ -21,50 +21,11 @@ abbrev μ-loop : tie.MeasureT-loop
 loop-holds : tie.Need-loop-holds Inv-loop μ-loop
 loop-holds c = (omega arith, omega arith, none-yet _ _ _)
 
-mul-loop : tie.Need-mul-loop Inv-loop μ-loop
-mul-loop c = search needs
-
-add-loop : tie.Need-add-loop Inv-loop μ-loop
-add-loop c = search needs
-
-mul-k : tie.Need-mul-k Inv-loop μ-loop
-mul-k c = search needs
-
-mul-is-use : tie.Need-mul-is-use Inv-loop μ-loop
-mul-is-use c = search needs
-
-shared-slice-read-is-use : tie.Need-shared-slice-read-is-use Inv-loop μ-loop
-shared-slice-read-is-use c = search needs
-
-is-use-requires : tie.Need-is-use-requires Inv-loop μ-loop
-is-use-requires c κs = search needs
-
-add-put-use : tie.Need-add-put-use Inv-loop μ-loop
-add-put-use c = search needs
-
-mul-put-use : tie.Need-mul-put-use Inv-loop μ-loop
-mul-put-use c = search needs
-
-shared-slice-read-put-use : tie.Need-shared-slice-read-put-use Inv-loop μ-loop
-shared-slice-read-put-use c = search needs
-
-use-at-requires : tie.Need-use-at-requires Inv-loop μ-loop
-use-at-requires c κs = search needs
-
 put-use-requires : tie.Need-put-use-requires Inv-loop μ-loop
 put-use-requires c κs = use-room (placeOf (c .before .before .before .before .before .before .before .before .before .before .before .before .args .places .now)) (c .before .before .before .before .before .before .before .before .before .before .before .before .args .rows .now) (c .before .before .before .before .before .before .before .before .before .before .before .before .args .nodes .now) (c .before .before .before .before .before .before .before .before .before .before .before .before .args .uses .now) (c .before .before .before .before .before .before .before .loop .i) (c .before .before .before .before .before .before .before .loop .u) (c .before .before .before .before .before .before .before .loop .inv .2) (c .before .before .before .before .before .before .before .before .before .before .before .before .pre) (omega arith) (sym (c .before .before .before .before .is-use .ensures) ∙ c .before .before .before .if1 .taken)
 
 add-at : tie.Need-add-at Inv-loop μ-loop
 add-at c = let r = use-room (placeOf (c .before .before .before .before .before .before .before .before .before .before .before .before .before .before .before .args .places .now)) (c .before .before .before .before .before .before .before .before .before .before .before .before .before .before .before .args .rows .now) (c .before .before .before .before .before .before .before .before .before .before .before .before .before .before .before .args .nodes .now) (c .before .before .before .before .before .before .before .before .before .before .before .before .before .before .before .args .uses .now) (c .before .before .before .before .before .before .before .before .before .before .loop .i) (c .before .before .before .before .before .before .before .before .before .before .loop .u) (c .before .before .before .before .before .before .before .before .before .before .loop .inv .2) (c .before .before .before .before .before .before .before .before .before .before .before .before .before .before .before .pre) (omega arith) (sym (c .before .before .before .before .before .before .before .is-use .ensures) ∙ c .before .before .before .before .before .before .if1 .taken) in omega (arith, c .before .before .before .before .before .before .before .before .before .before .loop .inv .2 .wrote .size)
-
-add-u : tie.Need-add-u Inv-loop μ-loop
-add-u c = search needs
-
-add-i : tie.Need-add-i Inv-loop μ-loop
-add-i c = search needs
-
-loop-less : tie.Need-loop-less Inv-loop μ-loop
-loop-less c = search needs
 
 loop-again : tie.Need-loop-again Inv-loop μ-loop
 loop-again c =
@@ -86,21 +47,21 @@ put-uses-spec =
     Inv-loop
     μ-loop
     loop-holds
-    mul-loop
-    add-loop
-    mul-k
-    mul-is-use
-    shared-slice-read-is-use
-    is-use-requires
-    add-put-use
-    mul-put-use
-    shared-slice-read-put-use
-    use-at-requires
+    (λ c. search needs)
+    (λ c. search needs)
+    (λ c. search needs)
+    (λ c. search needs)
+    (λ c. search needs)
+    (λ c κs. search needs)
+    (λ c. search needs)
+    (λ c. search needs)
+    (λ c. search needs)
+    (λ c κs. search needs)
     put-use-requires
     add-at
-    add-u
-    add-i
-    loop-less
+    (λ c. search needs)
+    (λ c. search needs)
+    (λ c. search needs)
     loop-again
     same-length
     returns)
