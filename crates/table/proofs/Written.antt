@@ -18,7 +18,7 @@ use Rattle.names.specs.declared.Meant.{Meant}
 use Rattle.names.specs.declared.Meant.the-variants.{Declared, Given, Nothing}
 use Rattle.names.proofs.RowLaws.{row-on, row-end}
 use Rattle.table.specs.Table.{fours, hasNone, declarationWords, nodeWords}
-use Rattle.table.specs.Model.{Wrote, among, meantWords, nextWord, otherWords, useModel, useSection, declarationSection, nodeSection, tableModel}
+use Rattle.table.specs.Model.{Wrote, Writes, all, nothing, among, meantWords, nextWord, otherWords, useModel, useSection, declarationSection, nodeSection, tableModel}
 
 -- ---- words written
 
@@ -50,6 +50,11 @@ wrote-on {old} {mid} {new} {at} {u} {v} p q =
 
 pub wrote-as : {old new : List ℕ} {at : ℕ} {u v : List ℕ} → Wrote old new at u → u ≡ v → Wrote old new at v
 wrote-as p e = rw e at p
+
+-- what enters is written
+pub entered : {E : Type 0} {old new model : List ℕ} {r : Bool} → E → Writes E old new model r → Wrote old new 0 model
+entered e (all h w) = w
+entered e (nothing n h) = absurd (n e)
 
 -- ---- while some words are left to write
 
