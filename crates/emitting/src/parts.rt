@@ -99,7 +99,7 @@ pub fn entry_of(entries: &[u32], d: Declaration) -> Address
     address_at(entries, d.number)
 }
 
-// It is noted.
+// The address of a procedure is noted.
 pub fn set_entry(entries: &mut [u32], d: Declaration, a: Address)
     ensures { λ _. ⌜ now (entries .exit) ≡ set (now (entries .entry)) (d .number) (a .at) ⌝ }
 {

@@ -3,7 +3,6 @@
 use mathlib.Core.Path.{ap, _∙_}
 use native.Mathlib.Omega.{arith}
 use Prim.Native.Nat.{_+_}
-use Rattle.emitting.specs.Layout.{packed}
 use Rattle.emitting.specs.Emission.{State, put, bodied, stepping, aheadAt}
 use Rattle.emitting.specs.Model.{seen}
 use borrow.Author.Needs.{needs}
