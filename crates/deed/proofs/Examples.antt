@@ -1,0 +1,33 @@
+-- Commands, computed: what their words decide; and two tools that the promise rules out.
+use Prim.Native.Nat.{ℕ}
+use mathlib.Core.Path.{_≡_, refl}
+use mathlib.Core.Bool.{true, false}
+use mathlib.Core.List.{List, [], _∷_}
+use mathlib.Core.Option.{none, some}
+use native.Mathlib.Omega.{arith}
+use Rattle.symbols.specs.Text.{bytes}
+use Rattle.symbols.specs.Names.{equal}
+use Rattle.asking.specs.Jobs.{jobIn, jobOf}
+use Rattle.deed.specs.Status.{good, bad, nothing}
+use Rattle.deed.specs.Commands.{oneFile, shown, byJob, decided, Keeps}
+
+abbrev of-read : List (List ℕ) → List (List ℕ)
+of-read ws = bytes "read" ∷ ws
+
+pub a-file : decided false (of-read (bytes "a" ∷ [])) ≡ none
+unfolding decided byJob shown oneFile jobOf jobIn equal
+a-file = refl
+
+pub plain-code : decided true (bytes "code" ∷ bytes "a" ∷ []) ≡ some nothing
+unfolding decided byJob shown oneFile jobOf jobIn equal
+plain-code = refl
+
+-- a second FILE passed over, and the first one refused
+pub not-passed-over : Keeps (decided false (of-read (bytes "a" ∷ bytes "b" ∷ []))) bad → ⊥
+unfolding decided byJob shown oneFile jobOf jobIn equal
+not-passed-over h = omega arith
+
+-- a word that is no command, said good
+pub not-any-word : Keeps (decided false (bytes "reed" ∷ [])) good → ⊥
+unfolding decided byJob shown oneFile jobOf jobIn equal
+not-any-word h = omega arith

@@ -1,0 +1,4 @@
+pub mod Decided
+pub mod Statuses
+pub mod Good
+pub mod Examples
