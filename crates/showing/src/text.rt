@@ -249,11 +249,16 @@ pub fn say_nth(text: &[u8], n: usize) {
     say(&text[at..find(text, at, b'\n')]);
 }
 
-// Blanks.
-pub fn say_blanks(n: usize) {
+// A text so many times.
+pub fn say_times(text: &[u8], n: usize) {
     let mut i: usize = 0;
     while i < n {
-        say(b" ");
+        say(text);
         i += 1;
     }
+}
+
+// Blanks.
+pub fn say_blanks(n: usize) {
+    say_times(b" ", n);
 }

@@ -1,6 +1,8 @@
 // Bytes as HTML shows them. Any byte has its own look: what is no text is shown as its two hexadecimal digits.
+use showing::text::least;
 use showing::text::say;
-ghost use Prim.Native.Nat.{_<_};
+ghost use Prim.Native.Nat.{_<_, _≤_, _-_, max};
+ghost use lib.ListN.{length};
 
 // The head of the file: how it looks on a screen and, in black and white, on paper.
 pub fn begin(name: &[u8]) {
@@ -46,17 +48,13 @@ pub fn end() {
 }
 
 // The byte k behind a place; 0 behind the end, which goes on with no character.
-fn byte_at(text: &[u8], at: usize, k: usize) -> u8 {
-    if text.len() <= at {
-        return 0;
-    }
-    if text.len() - at <= k {
-        return 0;
-    }
-    text[at + k]
+fn byte_at(text: &[u8], at: usize, k: usize) -> u8
+    requires { ⌜ at < length (now text) ⌝ }
+{
+    if k < text.len() - at { text[at + k] } else { 0 }
 }
 
-// How many bytes a character has in UTF-8 that begins with this one, and from where to where the second is; it is 1 where none does.
+// How many bytes a character has in UTF-8 that begins with this one.
 fn size(a: u8) -> usize
     ensures { λ r. ⌜ (0 < r) × (r < 5) ⌝ }
 {
@@ -68,24 +66,19 @@ fn size(a: u8) -> usize
     }
 }
 
-fn low(a: u8) -> u8 {
-    match a {
-        194 | 224 => 160,
-        240 => 144,
-        _ => 128,
-    }
-}
-
-fn high(a: u8) -> u8 {
-    match a {
-        237 => 159,
-        244 => 143,
-        _ => 191,
-    }
-}
-
 fn between(b: u8, low: u8, high: u8) -> bool {
     low <= b && b <= high
+}
+
+// Whether a second byte goes on with it.
+fn goes_on(a: u8, b: u8) -> bool {
+    match a {
+        194 | 224 => between(b, 160, 191),
+        237 => between(b, 128, 159),
+        240 => between(b, 144, 191),
+        244 => between(b, 128, 143),
+        _ => between(b, 128, 191),
+    }
 }
 
 // Characters that show nothing or turn the writing round: a page shows their bytes.
@@ -104,20 +97,18 @@ fn wide(a: u8, b: u8, c: u8, d: u8) -> usize
     ensures { λ r. ⌜ (0 < r) × (r < 5) ⌝ }
 {
     let n = size(a);
-    if !between(b, low(a), high(a)) || hides(a, b, c) {
+    if !goes_on(a, b) || hides(a, b, c) {
         return 1;
     }
-    if 2 < n && !between(c, 128, 191) {
-        return 1;
-    }
-    if 3 < n && !between(d, 128, 191) {
+    if 2 < n && !between(c, 128, 191) || 3 < n && !between(d, 128, 191) {
         return 1;
     }
     n
 }
 
 // How many bytes of a text are shown together from a place on: a character, or one byte.
-pub fn width(text: &[u8], at: usize) -> usize
+fn width(text: &[u8], at: usize) -> usize
+    requires { ⌜ at < length (now text) ⌝ }
     ensures { λ r. ⌜ (0 < r) × (r < 5) ⌝ }
 {
     wide(
@@ -128,32 +119,21 @@ pub fn width(text: &[u8], at: usize) -> usize
     )
 }
 
-// The n bytes at a place.
-fn say_part(text: &[u8], at: usize, n: usize) {
-    if text.len() <= at {
-        return;
-    }
-    if text.len() - at < n {
-        return;
-    }
-    say(&text[at..at + n]);
+fn digit(d: u8) -> u8
+    requires { ⌜ d < 16 ⌝ }
+{
+    if d < 10 { d + 48 } else { d + 55 }
 }
 
 // A byte that is no text.
 fn say_hex(b: u8) {
+    let row = [digit(b / 16), digit(b % 16)];
     say(b"<span class=\"x\">");
-    say_part(b"0123456789ABCDEF", (b / 16) as usize, 1);
-    say_part(b"0123456789ABCDEF", (b % 16) as usize, 1);
+    say(&row);
     say(b"</span>");
 }
 
-// What stands at a place, n bytes of it.
-pub fn say_wide(text: &[u8], at: usize, n: usize) {
-    if 1 < n {
-        say_part(text, at, n);
-        return;
-    }
-    let b = byte_at(text, at, 0);
+fn say_byte(b: u8) {
     match b {
         b'&' => say(b"&amp;"),
         b'<' => say(b"&lt;"),
@@ -161,20 +141,34 @@ pub fn say_wide(text: &[u8], at: usize, n: usize) {
         b'"' => say(b"&quot;"),
         b'\'' => say(b"&#39;"),
         13 => say(b"&#13;"),
-        9 | 32..=126 => say_part(text, at, 1),
+        9 | 32..=126 => {
+            let row = [b];
+            say(&row);
+        }
         _ => say_hex(b),
     }
+}
+
+// What stands at a place; gives how many bytes that are.
+pub fn say_at(text: &[u8], at: usize) -> usize
+    ensures { λ r. ⌜ (0 < r) × (r ≤ max 1 (length (now (text .entry)) - at)) ⌝ }
+{
+    if text.len() <= at {
+        return 1;
+    }
+    let n = least(width(text, at), text.len() - at);
+    if 1 < n {
+        say(&text[at..at + n]);
+    } else {
+        say_byte(text[at]);
+    }
+    n
 }
 
 // A text.
 pub fn say_text(text: &[u8]) {
     let mut at: usize = 0;
     while at < text.len() {
-        let n = width(text, at);
-        say_wide(text, at, n);
-        if text.len() - at < n {
-            return;
-        }
-        at += n;
+        at += say_at(text, at);
     }
 }

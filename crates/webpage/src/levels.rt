@@ -1,74 +1,41 @@
 // At which level a symbol stands: 1 in the outermost block, and one more in each block and each procedure's body inside. What follows a
 // procedure's name in its heading belongs to the body, where its formals are.
+use crate::looks::about_of;
+use crate::looks::at;
+use crate::looks::look;
 use crate::looks::paint;
+use crate::looks::style_of;
+use showing::text::least;
 use symbols::Symbol;
 use symbols::kinds::decode;
+ghost use Rattle.webpage.specs.Looks.{Behind};
 
-// Where no symbol is.
-pub const NOWHERE: usize = 65536;
+// What is open, newest last, each as a look: what it is, about the level inside of it. A compound statement, and 'procedure' up to its
+// name, have no level of their own; a block, a procedure's heading and its body do.
+const COMPOUND: u32 = 1;
 
-// What is open, newest last: a compound statement, a block, a procedure's heading, its body.
-const COMPOUND: u8 = 1;
+const NAMING: u32 = 2;
 
-const BLOCK: u8 = 2;
+const BLOCK: u32 = 3;
 
-const HEADING: u8 = 3;
+const HEADING: u32 = 4;
 
-const BODY: u8 = 4;
+const BODY: u32 = 5;
 
-// How much is open, and the level.
-pub struct Depth {
-    pub open: usize,
-    pub level: u32,
+fn level_of(open: usize, stack: &[u32; 2048]) -> u32 {
+    about_of(at(stack, open)) as u32
 }
 
-// The newest thing that is open; 0 where nothing is.
-fn top(d: Depth, stack: &[u8; 2048]) -> u8 {
-    let n = d.open;
-    if n == 0 {
-        return 0;
-    }
-    if 2048 < n {
-        return 0;
-    }
-    stack[n - 1]
+fn push(open: usize, stack: &mut [u32; 2048], thing: u32) -> usize {
+    let outside = level_of(open, stack) as usize;
+    let inside = if thing < BLOCK { outside } else { outside + 1 };
+    let n = least(open, 2046) + 1;
+    paint(stack, n, n + 1, look(thing, inside));
+    n
 }
 
-// The level inside something: a compound statement has none of its own.
-fn raised(level: u32, thing: u8) -> u32 {
-    if thing == COMPOUND {
-        return level;
-    }
-    if level < 2048 { level + 1 } else { level }
-}
-
-// The level outside it.
-fn lowered(level: u32, thing: u8) -> u32 {
-    if thing == COMPOUND {
-        return level;
-    }
-    if 0 < level { level - 1 } else { 0 }
-}
-
-fn push(mut d: Depth, stack: &mut [u8; 2048], thing: u8) -> Depth {
-    let n = d.open;
-    if 2048 <= n {
-        return d;
-    }
-    stack[n] = thing;
-    d.open = n + 1;
-    d.level = raised(d.level, thing);
-    d
-}
-
-fn pop(mut d: Depth, stack: &[u8; 2048]) -> Depth {
-    let n = d.open;
-    if n == 0 {
-        return d;
-    }
-    d.level = lowered(d.level, top(d, stack));
-    d.open = n - 1;
-    d
+fn pop(open: usize) -> usize {
+    if open == 0 { 0 } else { open - 1 }
 }
 
 // Whether a symbol begins a declaration.
@@ -87,86 +54,70 @@ fn heads(s: Symbol) -> bool {
     }
 }
 
-// The depth at which a symbol stands; `then` is the symbol behind it.
-fn before(d: Depth, stack: &mut [u8; 2048], s: Symbol, then: Symbol) -> Depth {
+// How much is open where a symbol stands; `then` is the symbol behind it.
+fn before(open: usize, stack: &mut [u32; 2048], s: Symbol, then: Symbol) -> usize {
     match s {
         Symbol::Semicolon => {
-            if top(d, stack) == BODY {
-                return pop(d, stack);
+            if style_of(at(stack, open)) == BODY {
+                return pop(open);
             }
-            d
+            open
         }
         Symbol::Begin => {
             if declares(then) {
-                return push(d, stack, BLOCK);
+                return push(open, stack, BLOCK);
             }
-            push(d, stack, COMPOUND)
+            push(open, stack, COMPOUND)
         }
-        _ => d,
+        _ => open,
     }
 }
 
-// The depth behind it; `last` is the symbol before it.
-fn after(d: Depth, stack: &mut [u8; 2048], s: Symbol, last: Symbol, then: Symbol) -> Depth {
+// How much is open behind it.
+fn after(open: usize, stack: &mut [u32; 2048], s: Symbol, then: Symbol) -> usize {
+    let thing = style_of(at(stack, open));
     match s {
-        Symbol::Semicolon => {
-            if top(d, stack) == HEADING && !heads(then) {
-                let outside = pop(d, stack);
-                return push(outside, stack, BODY);
-            }
-            d
-        }
-        Symbol::End => pop(d, stack),
+        Symbol::End => pop(open),
+        Symbol::Procedure => push(open, stack, NAMING),
         Symbol::Name => {
-            if let Symbol::Procedure = last {
-                return push(d, stack, HEADING);
+            if thing == NAMING {
+                return push(pop(open), stack, HEADING);
             }
-            d
+            open
         }
-        _ => d,
+        Symbol::Semicolon => {
+            if thing == HEADING && !heads(then) {
+                return push(pop(open), stack, BODY);
+            }
+            open
+        }
+        _ => open,
     }
 }
 
 // Symbol k; `:`, which no program has, where there is none.
-pub fn symbol_at(kinds: &[u8; 2048], k: usize) -> Symbol {
+fn symbol_at(kinds: &[u8; 2048], k: usize) -> Symbol {
     if k < 2048 {
         return decode(kinds[k], 0);
     }
     Symbol::Colon
 }
 
-// The symbol before it.
-fn symbol_before(kinds: &[u8; 2048], k: usize) -> Symbol {
-    if k == 0 {
-        return Symbol::Colon;
-    }
-    symbol_at(kinds, k - 1)
-}
-
-pub fn place_at(places: &[usize; 2048], k: usize) -> usize {
-    if k < 2048 { places[k] } else { NOWHERE }
-}
-
-// Passes symbol k: the bytes up to the next one have its level.
+// Passes symbol k, which has the bytes from `from` up to `to` with what is no symbol behind it: they have its level. Gives how much is open.
 pub fn pass(
-    d: Depth,
-    stack: &mut [u8; 2048],
+    open: usize,
+    stack: &mut [u32; 2048],
     kinds: &[u8; 2048],
-    places: &[usize; 2048],
     k: usize,
     levels: &mut [u32],
-) -> Depth {
-    if 2048 <= k {
-        return d;
-    }
+    from: usize,
+    to: usize,
+) -> usize
+    ensures { λ _. ⌜ Behind to (now (levels .entry)) (now (levels .exit)) ⌝ }
+{
     let s = symbol_at(kinds, k);
-    let then = symbol_at(kinds, k + 1);
-    let here = before(d, stack, s, then);
-    paint(
-        levels,
-        place_at(places, k),
-        place_at(places, k + 1),
-        here.level,
-    );
-    after(here, stack, s, symbol_before(kinds, k), then)
+    let then = symbol_at(kinds, least(k, 2047) + 1);
+    let here = before(open, stack, s, then);
+    paint(levels, from, to, level_of(here, stack));
+    after(here, stack, s, then)
 }

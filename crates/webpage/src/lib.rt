@@ -23,7 +23,7 @@ pub fn show_page(name: &[u8], source: &[u8], v: Verdict, table: &[u16]) {
         Verdict::Refused(r) => {
             let number = r.answer.number;
             let place = r.place.at;
-            names::paint_refused(source, number, place, &mut looks, &mut levels);
+            names::paint_refused(source, number, place, &mut looks);
             lines::head_refused(name, source, number, place);
             lines::show_lines(source, &looks, &levels);
         }

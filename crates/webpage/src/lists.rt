@@ -3,6 +3,7 @@ use crate::looks;
 use showing::levels::show_levels;
 use showing::text::say;
 use showing::text::say_name;
+use showing::text::say_nth;
 use showing::text::say_number;
 use showing::text::say_spot;
 use showing::text::spot_of;
@@ -22,29 +23,6 @@ fn say_link(source: &[u8], place: usize, more: bool) {
     say(b"\">");
     say_spot(source, place);
     say(b"</a>");
-}
-
-fn say_kind(kind: usize, sort: usize) {
-    match kind {
-        1 => say(b"variable"),
-        2 => say(b"procedure"),
-        _ => {
-            if sort < 4 {
-                say(b"formal by value");
-            } else {
-                say(b"formal by name");
-            }
-        }
-    }
-}
-
-fn say_type(sort: usize) {
-    match sort % 4 {
-        1 => say(b"integer"),
-        2 => say(b"Boolean"),
-        3 => say(b"real"),
-        _ => {}
-    }
 }
 
 // Whether the use whose words begin at `at` is of a declaration, or else of the environment, and means this.
@@ -90,9 +68,12 @@ fn show_declaration(source: &[u8], table: &[u16], levels: &[u32], d: usize, row:
     say(b"</a></td><td>");
     say_name(source, place);
     next_column();
-    say_kind(word(table, row + 1), sort);
+    say_nth(
+        b"\nvariable\nprocedure\nformal by value\nformal by name",
+        word(table, row + 1) + sort / 4,
+    );
     next_column();
-    say_type(sort);
+    say_nth(b"\ninteger\nBoolean\nreal", sort % 4);
     next_column();
     say_number(looks::at(levels, place) as u64);
     next_column();

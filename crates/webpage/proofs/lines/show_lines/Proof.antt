@@ -7,10 +7,10 @@ use Rattle.webpage.proofs.lines.show_lines.Statement.{statement}
 use Rattle.webpage.proofs.lines.show_lines.Tie as tie
 
 abbrev Inv-loop : tie.InvT-loop
-Inv-loop source row levels p₀ line₀ i₀ p line i = i ≤ length source
+Inv-loop source row levels p₀ i₀ p i = i ≤ length source
 
 abbrev μ-loop : tie.MeasureT-loop
-μ-loop source row levels p₀ line₀ i₀ p line i = length source - i
+μ-loop source row levels p₀ i₀ p i = length source - i
 
 pub show-lines-spec : {M : Type 1} → statement M
 show-lines-spec =
@@ -18,25 +18,23 @@ show-lines-spec =
     (tie.spec
     Inv-loop
     μ-loop
+    (λ c. search needs)
+    (λ c κs. search needs)
+    (λ c κs. search needs)
+    (λ c κs. search needs)
+    (λ c. search needs)
     (λ c κs. search needs)
     (λ c κs. search needs)
     (λ c. search needs)
     (λ c. search needs)
     (λ c κs. search needs)
     (λ c κs. search needs)
-    (λ c κs. search needs)
-    (λ c κs. search needs)
-    (λ c κs. search needs)
     (λ c. search needs)
-    (λ c κs. search needs)
-    (λ c κs. search needs)
+    (λ c. search needs)
     (λ c κs. search needs)
     (λ c. search needs)
     (λ c. search needs)
     (λ c. search needs)
-    (λ c. search needs)
-    (λ c κs. search needs)
-    (λ c κs. search needs)
     (λ c κs. search needs)
     (λ c κs. search needs)
     (λ c κs. search needs)

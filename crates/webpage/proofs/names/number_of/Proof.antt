@@ -1,15 +1,15 @@
 -- `webpage::names::number_of` meets its contract. The count falls.
 -- Assumes nothing.
-use Prim.Native.Nat.{_-_, _≤_}
+use Prim.Native.Nat.{_<_}
 use borrow.Author.Needs.{needs}
 use Rattle.webpage.proofs.names.number_of.Statement.{statement}
 use Rattle.webpage.proofs.names.number_of.Tie as tie
 
 abbrev Inv-loop : tie.InvT-loop
-Inv-loop source table from at formal first n d₀ d = d ≤ n
+Inv-loop source table at s d₀ d = d < 65536
 
 abbrev μ-loop : tie.MeasureT-loop
-μ-loop source table from at formal first n d₀ d = n - d
+μ-loop source table at s d₀ d = d
 
 pub number-of-spec : {M : Type 1} → statement M
 number-of-spec =
@@ -18,14 +18,12 @@ number-of-spec =
     Inv-loop
     μ-loop
     (λ c κs. search needs)
-    (λ c. search needs)
-    (λ c κs. search needs)
     (λ c κs. search needs)
     (λ c. search needs)
     (λ c. search needs)
     (λ c. search needs)
-    (λ c κs. search needs)
     (λ c. search needs)
+    (λ c κs. search needs)
     (λ c. search needs)
     (λ c. search needs)
     (λ c. search needs)

@@ -1,18 +1,18 @@
--- `webpage::lines::say_rules` meets its contract. The count falls.
+-- `showing::text::say_times` meets its contract. The count falls.
 -- Assumes nothing.
 use Prim.Native.Nat.{_-_, _≤_}
 use borrow.Author.Needs.{needs}
-use Rattle.webpage.proofs.lines.say_rules.Statement.{statement}
-use Rattle.webpage.proofs.lines.say_rules.Tie as tie
+use Rattle.showing.proofs.text.say_times.Statement.{statement}
+use Rattle.showing.proofs.text.say_times.Tie as tie
 
 abbrev Inv-loop : tie.InvT-loop
-Inv-loop level i₀ i = i ≤ level
+Inv-loop text n i₀ i = i ≤ n
 
 abbrev μ-loop : tie.MeasureT-loop
-μ-loop level i₀ i = level - i
+μ-loop text n i₀ i = n - i
 
-pub say-rules-spec : {M : Type 1} → statement M
-say-rules-spec =
+pub say-times-spec : {M : Type 1} → statement M
+say-times-spec =
     tie.close
     (tie.spec
     Inv-loop
