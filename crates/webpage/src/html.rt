@@ -92,31 +92,22 @@ fn hides(a: u8, b: u8, c: u8) -> bool {
     a == 239 && b == 187 && c == 191
 }
 
-// How many of these four bytes are one character; 1 where they are no text.
-fn wide(a: u8, b: u8, c: u8, d: u8) -> usize
-    ensures { λ r. ⌜ (0 < r) × (r < 5) ⌝ }
-{
-    let n = size(a);
-    if !goes_on(a, b) || hides(a, b, c) {
-        return 1;
-    }
-    if 2 < n && !between(c, 128, 191) || 3 < n && !between(d, 128, 191) {
-        return 1;
-    }
-    n
-}
-
 // How many bytes of a text are shown together from a place on: a character, or one byte.
 fn width(text: &[u8], at: usize) -> usize
     requires { ⌜ at < length (now text) ⌝ }
     ensures { λ r. ⌜ (0 < r) × (r < 5) ⌝ }
 {
-    wide(
-        byte_at(text, at, 0),
-        byte_at(text, at, 1),
-        byte_at(text, at, 2),
-        byte_at(text, at, 3),
-    )
+    let a = byte_at(text, at, 0);
+    let b = byte_at(text, at, 1);
+    let c = byte_at(text, at, 2);
+    let n = size(a);
+    if !goes_on(a, b) || hides(a, b, c) || 2 < n && !between(c, 128, 191) {
+        return 1;
+    }
+    if 3 < n && !between(byte_at(text, at, 3), 128, 191) {
+        return 1;
+    }
+    n
 }
 
 fn digit(d: u8) -> u8

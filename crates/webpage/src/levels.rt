@@ -54,20 +54,24 @@ fn heads(s: Symbol) -> bool {
     }
 }
 
+// The newest thing that is open becomes another, if it is a certain one.
+fn becomes(open: usize, stack: &mut [u32; 2048], from: u32, to: u32) -> usize {
+    if style_of(at(stack, open)) != from {
+        return open;
+    }
+    push(pop(open), stack, to)
+}
+
 // How much is open where a symbol stands; `then` is the symbol behind it.
 fn before(open: usize, stack: &mut [u32; 2048], s: Symbol, then: Symbol) -> usize {
     match s {
-        Symbol::Semicolon => {
-            if style_of(at(stack, open)) == BODY {
-                return pop(open);
-            }
-            open
-        }
         Symbol::Begin => {
-            if declares(then) {
-                return push(open, stack, BLOCK);
-            }
-            push(open, stack, COMPOUND)
+            let thing = if declares(then) { BLOCK } else { COMPOUND };
+            push(open, stack, thing)
+        }
+        Symbol::Semicolon => {
+            let ends = style_of(at(stack, open)) == BODY;
+            if ends { pop(open) } else { open }
         }
         _ => open,
     }
@@ -75,21 +79,15 @@ fn before(open: usize, stack: &mut [u32; 2048], s: Symbol, then: Symbol) -> usiz
 
 // How much is open behind it.
 fn after(open: usize, stack: &mut [u32; 2048], s: Symbol, then: Symbol) -> usize {
-    let thing = style_of(at(stack, open));
     match s {
         Symbol::End => pop(open),
         Symbol::Procedure => push(open, stack, NAMING),
-        Symbol::Name => {
-            if thing == NAMING {
-                return push(pop(open), stack, HEADING);
-            }
-            open
-        }
+        Symbol::Name => becomes(open, stack, NAMING, HEADING),
         Symbol::Semicolon => {
-            if thing == HEADING && !heads(then) {
-                return push(pop(open), stack, BODY);
+            if heads(then) {
+                return open;
             }
-            open
+            becomes(open, stack, HEADING, BODY)
         }
         _ => open,
     }

@@ -41,22 +41,16 @@ pub fn head_refused(name: &[u8], source: &[u8], number: u16, place: usize) {
     say(b".</p>\n");
 }
 
-// A use has one link that counts, also where it is broken over lines, and each name one place to lead to.
+// What opens a style, the first time and again, where it goes on in another line: a use has one link that counts, a name one place to lead to.
 fn open_tag(p: Pen) {
     let style = looks::style_of(p.look);
-    if p.again {
-        say_nth(
-            b"\n<span class=\"w\">\n<span class=\"o\">\n<b>\n<a href=\"#d\n<a href=\"#e\n<a href=\"#d\n<mark>",
-            style as usize,
-        );
-    } else {
-        say_nth(
-            b"\n<span class=\"w\">\n<span class=\"o\">\n<b id=\"d\n<a class=\"u\" href=\"#d\n<a class=\"u\" href=\"#e\n<a href=\"#d\n<mark id=\"here\">",
-            style as usize,
-        );
-    }
-    let again = p.again && style == looks::DECLARED;
-    if looks::DECLARED <= style && style < looks::MARKED && !again {
+    let line = if p.again { style + 8 } else { style };
+    say_nth(
+        b"\n<span class=\"w\">\n<span class=\"o\">\n<b id=\"d\n<a class=\"u\" href=\"#d\n<a class=\"u\" href=\"#e\n<a href=\"#d\n<mark id=\"here\">\n\n<span class=\"w\">\n<span class=\"o\">\n<b>\n<a href=\"#d\n<a href=\"#e\n<a href=\"#d\n<mark>",
+        line as usize,
+    );
+    let whole = p.again && style == looks::DECLARED;
+    if looks::DECLARED <= style && style < looks::MARKED && !whole {
         say_number(looks::about_of(p.look));
         say(b"\">");
     }

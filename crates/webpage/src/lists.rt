@@ -25,15 +25,17 @@ fn say_link(source: &[u8], place: usize, more: bool) {
     say(b"</a>");
 }
 
-// Whether the use whose words begin at `at` is of a declaration, or else of the environment, and means this.
-fn means(table: &[u16], at: usize, declared: bool, what: usize) -> bool
-    requires { ⌜ at < 1048576 ⌝ }
+// Use k as a link, if it is of a declaration, or else of the environment, and means this; gives whether there is one now.
+fn show_use(source: &[u8], table: &[u16], k: usize, declared: bool, what: usize, more: bool) -> bool
+    requires { ⌜ k < 65536 ⌝ }
 {
+    let at = 1 + 3 * k;
     let of = 0 < word(table, at + 1);
-    if of != declared {
-        return false;
+    if of != declared || word(table, at + 2) != what {
+        return more;
     }
-    word(table, at + 2) == what
+    say_link(source, word(table, at), more);
+    true
 }
 
 // The places of the uses that mean something.
@@ -42,10 +44,7 @@ fn show_used(source: &[u8], table: &[u16], declared: bool, what: usize) {
     let mut more = false;
     let mut k: usize = 0;
     while k < n {
-        if means(table, 1 + 3 * k, declared, what) {
-            say_link(source, word(table, 1 + 3 * k), more);
-            more = true;
-        }
+        more = show_use(source, table, k, declared, what, more);
         k += 1;
     }
 }
@@ -55,10 +54,12 @@ fn next_column() {
     say(b"</td><td>");
 }
 
-// The declaration with a number, from 0 on; its words begin at `row`.
-fn show_declaration(source: &[u8], table: &[u16], levels: &[u32], d: usize, row: usize)
-    requires { ⌜ (d < 65536) × (row < 1048576) ⌝ }
+// The declaration with a number, from 0 on.
+fn show_declaration(source: &[u8], table: &[u16], levels: &[u32], d: usize)
+    requires { ⌜ d < 65536 ⌝ }
 {
+    let s = sections_of(table);
+    let row = s.declarations + 1 + 4 * d;
     let place = word(table, row);
     let sort = word(table, row + 3);
     say(b"<tr><td><a href=\"#d");
@@ -85,11 +86,10 @@ fn show_declaration(source: &[u8], table: &[u16], levels: &[u32], d: usize, row:
 
 fn show_declarations(source: &[u8], table: &[u16], levels: &[u32]) {
     let s = sections_of(table);
-    let first = s.declarations + 1;
     let n = word(table, s.declarations);
     let mut d: usize = 0;
     while d < n {
-        show_declaration(source, table, levels, d, first + 4 * d);
+        show_declaration(source, table, levels, d);
         d += 1;
     }
 }

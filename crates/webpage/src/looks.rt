@@ -59,7 +59,8 @@ pub fn paint(row: &mut [u32], from: usize, to: usize, x: u32)
 }
 
 pub fn at(row: &[u32], i: usize) -> u32
-    ensures { λ r. ⌜ r ≡ getD (now (row .entry)) i 0 ⌝ }
+    ensures { λ r. ⌜ (i < length (now (row .entry)) → r ≡ getD (now (row .entry)) i 0) ⌝ }
+    ensures { λ r. ⌜ (length (now (row .entry)) ≤ i → r ≡ 0) ⌝ }
 {
     if i < row.len() { row[i] } else { 0 }
 }

@@ -66,23 +66,20 @@ fn is_use(table: &[u16], row: usize, at: usize) -> bool {
     row < s.declarations && word(table, row) == at
 }
 
-// The look of that use.
-fn use_look(source: &[u8], table: &[u16], row: usize) -> u32
+// The look of the name at a place, where the next use has its words at `row`: it is that use, or declares, or stands in a value part or
+// specification, or nothing is known of it.
+fn name_look(source: &[u8], table: &[u16], row: usize, at: usize) -> u32
     requires { ⌜ row < 1048576 ⌝ }
     ensures { λ r. ⌜ Unmarked r ⌝ }
 {
+    let s = sections_of(table);
     let means = word(table, row + 2);
-    if word(table, row + 1) == 0 {
+    if is_use(table, row, at) && word(table, row + 1) == 0 {
         return look(looks::GIVEN, means);
     }
-    look(looks::USE, number_of(source, table, means))
-}
-
-// The look of a name that is no use: it declares, or stands in a value part or specification, or nothing is known of it.
-fn other_look(source: &[u8], table: &[u16], at: usize) -> u32
-    ensures { λ r. ⌜ Unmarked r ⌝ }
-{
-    let s = sections_of(table);
+    if is_use(table, row, at) {
+        return look(looks::USE, number_of(source, table, means));
+    }
     let d = number_of(source, table, at);
     if d == 0 {
         return looks::PLAIN;
@@ -93,7 +90,6 @@ fn other_look(source: &[u8], table: &[u16], at: usize) -> u32
     look(looks::LISTED, d)
 }
 
-// The look of the symbol at a place, where the next use has its words at `row`.
 fn symbol_look(source: &[u8], table: &[u16], row: usize, at: usize) -> u32
     requires { ⌜ (row < 1048576) × (at < length (now source)) ⌝ }
     ensures { λ r. ⌜ Unmarked r ⌝ }
@@ -105,10 +101,7 @@ fn symbol_look(source: &[u8], table: &[u16], row: usize, at: usize) -> u32
     if !is_letter(b) {
         return looks::PLAIN;
     }
-    if is_use(table, row, at) {
-        return use_look(source, table, row);
-    }
-    other_look(source, table, at)
+    name_look(source, table, row, at)
 }
 
 // Where the words of the next use begin behind a place.
@@ -129,28 +122,26 @@ fn place_at(source: &[u8], places: &[usize; 2048], k: usize) -> usize
     source.len()
 }
 
-fn walk(
-    source: &[u8],
-    table: &[u16],
-    kinds: &[u8; 2048],
-    places: &[usize; 2048],
-    looks: &mut [u32],
-    levels: &mut [u32],
-)
+// The symbols of a source, with what the table says of its names.
+fn paint_symbols(source: &[u8], table: &[u16], looks: &mut [u32], levels: &mut [u32])
     ensures { λ _. ⌜ Unmarking (length (now (source .entry))) (now (looks .entry)) (now (looks .exit)) ⌝ }
     ensures { λ _. ⌜ Behind (length (now (source .entry))) (now (levels .entry)) (now (levels .exit)) ⌝ }
 {
+    let mut kinds = [33u8; 2048];
+    let mut places = [NOWHERE; 2048];
+    let mut values = [0u32; 2048];
     let mut stack = [0u32; 2048];
     let mut open: usize = 0;
     let mut row: usize = 1;
     let mut k: usize = 0;
+    scan(source, 2048, &mut kinds, &mut places, &mut values);
     while k < 2048 {
-        let at = place_at(source, places, k);
+        let at = place_at(source, &places, k);
         if source.len() <= at {
             return;
         }
-        let then = place_at(source, places, k + 1);
-        open = levels::pass(open, &mut stack, kinds, k, levels, at, then);
+        let then = place_at(source, &places, k + 1);
+        open = levels::pass(open, &mut stack, &kinds, k, levels, at, then);
         paint(
             looks,
             at,
@@ -160,18 +151,6 @@ fn walk(
         row = next_use(table, row, at);
         k += 1;
     }
-}
-
-// The symbols of a source, with what the table says of its names.
-fn paint_symbols(source: &[u8], table: &[u16], looks: &mut [u32], levels: &mut [u32])
-    ensures { λ _. ⌜ Unmarking (length (now (source .entry))) (now (looks .entry)) (now (looks .exit)) ⌝ }
-    ensures { λ _. ⌜ Behind (length (now (source .entry))) (now (levels .entry)) (now (levels .exit)) ⌝ }
-{
-    let mut kinds = [33u8; 2048];
-    let mut places = [NOWHERE; 2048];
-    let mut values = [0u32; 2048];
-    scan(source, 2048, &mut kinds, &mut places, &mut values);
-    walk(source, table, &kinds, &places, looks, levels);
 }
 
 // What is no symbol of an accepted source is a note, a remark or blank.

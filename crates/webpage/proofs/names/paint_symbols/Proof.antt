@@ -1,4 +1,4 @@
--- `webpage::names::walk` meets its contract: what a symbol is painted with marks nothing, and lies in the source.
+-- `webpage::names::paint_symbols` meets its contract: what a symbol is painted with marks nothing, and lies in the source.
 -- Assumes nothing.
 use Prim.Native.Nat.{ℕ, _+_, _*_, _-_, _≤_, min}
 use mathlib.Core.Path.{_≡_, refl, _∙_}
@@ -9,8 +9,8 @@ use native.Mathlib.Omega.{arith}
 use lib.ListN.{length}
 use borrow.Author.Needs.{needs}
 use Rattle.webpage.specs.Looks.{Painted, Behind, Unmarked, Unmarking}
-use Rattle.webpage.proofs.names.walk.Statement.{statement}
-use Rattle.webpage.proofs.names.walk.Tie as tie
+use Rattle.webpage.proofs.names.paint_symbols.Statement.{statement}
+use Rattle.webpage.proofs.names.paint_symbols.Tie as tie
 
 more : {n from to x : ℕ} {row mid after : List ℕ} → Unmarking n row mid → Painted from to x mid after → to ≤ n → Unmarked x → Unmarking n row after
 more {from = from} {to = to} u p l m = record {
@@ -22,11 +22,11 @@ more {from = from} {to = to} u p l m = record {
 }
 
 abbrev Inv-loop : tie.InvT-loop
-Inv-loop source table kinds places looks₀ levels₀ stack₀ open₀ row₀ k₀ looks levels stack «open» row k =
+Inv-loop source table looks₀ levels₀ kinds places stack₀ open₀ row₀ k₀ looks levels stack «open» row k =
     (k ≤ 2048) × (row ≤ 3 * k + 1) × (length looks ≡ length looks₀) × (length levels ≡ length levels₀) × Unmarking (length source) looks₀ looks × Behind (length source) levels₀ levels
 
 abbrev μ-loop : tie.MeasureT-loop
-μ-loop source table kinds places looks₀ levels₀ stack₀ open₀ row₀ k₀ looks levels stack «open» row k = 2048 - k
+μ-loop source table looks₀ levels₀ kinds places stack₀ open₀ row₀ k₀ looks levels stack «open» row k = 2048 - k
 
 loop-holds : tie.Need-loop-holds Inv-loop μ-loop
 loop-holds c = (omega arith, omega arith, refl, refl, record { behind = λ i h. refl; kept = λ i g. g }, λ i h. refl)
@@ -35,9 +35,10 @@ loop-again : tie.Need-loop-again Inv-loop μ-loop
 loop-again c =
     let p = c .before .before .before in
     let q = p .before .before .before .before .before .before in
-    let l = q .before .before .before .before .before .before .before .loop in (
-      search needs,
-      search needs,
+    let t = q .before .before .before .before .before .before .before .before .before in
+    let l = t .before .loop in (
+      omega (arith, t .loop-test .taken),
+      omega (arith, l .inv .1),
       p .paint .kept .0 ∙ l .inv .2,
       q .pass .kept .1 .1 .1 .1 .0 ∙ l .inv .3,
       more (l .inv .4) (p .paint .ensures .0) (omega arith) (omega arith),
@@ -45,17 +46,18 @@ loop-again c =
     )
 
 returns : tie.Need-returns Inv-loop μ-loop
-returns c = (c .before .before .before .loop .inv .4, c .before .before .before .loop .inv .5)
+returns c = (c .before .before .before .before .loop .inv .4, c .before .before .before .before .loop .inv .5)
 
 returns-2 : tie.Need-returns-2 Inv-loop μ-loop
 returns-2 c = (c .before .loop .inv .4, c .before .loop .inv .5)
 
-pub walk-spec : {M : Type 1} → statement M
-walk-spec =
+pub paint-symbols-spec : {M : Type 1} → statement M
+paint-symbols-spec =
     tie.close
     (tie.spec
     Inv-loop
     μ-loop
+    (λ c κs. search needs)
     loop-holds
     (λ c κs. search needs)
     (λ c. search needs)
