@@ -66,18 +66,24 @@ fn is_use(table: &[u16], row: usize, at: usize) -> bool {
     row < s.declarations && word(table, row) == at
 }
 
-// The look of the name at a place, where the next use has its words at `row`: it is that use, or declares, or stands in a value part or
-// specification, or nothing is known of it.
-fn name_look(source: &[u8], table: &[u16], row: usize, at: usize) -> u32
-    requires { ⌜ row < 1048576 ⌝ }
+// The look of the symbol at a place, where the next use has its words at `row`. A name is that use, or declares, or stands in a value part
+// or specification, or nothing is known of it.
+fn symbol_look(source: &[u8], table: &[u16], row: usize, at: usize) -> u32
+    requires { ⌜ (row < 1048576) × (at < length (now source)) ⌝ }
     ensures { λ r. ⌜ Unmarked r ⌝ }
 {
     let s = sections_of(table);
     let means = word(table, row + 2);
-    if is_use(table, row, at) && word(table, row + 1) == 0 {
-        return look(looks::GIVEN, means);
+    if source[at] == b'\'' {
+        return looks::WORD;
+    }
+    if !is_letter(source[at]) {
+        return looks::PLAIN;
     }
     if is_use(table, row, at) {
+        if word(table, row + 1) == 0 {
+            return look(looks::GIVEN, means);
+        }
         return look(looks::USE, number_of(source, table, means));
     }
     let d = number_of(source, table, at);
@@ -88,20 +94,6 @@ fn name_look(source: &[u8], table: &[u16], row: usize, at: usize) -> u32
         return look(looks::DECLARED, d);
     }
     look(looks::LISTED, d)
-}
-
-fn symbol_look(source: &[u8], table: &[u16], row: usize, at: usize) -> u32
-    requires { ⌜ (row < 1048576) × (at < length (now source)) ⌝ }
-    ensures { λ r. ⌜ Unmarked r ⌝ }
-{
-    let b = source[at];
-    if b == b'\'' {
-        return looks::WORD;
-    }
-    if !is_letter(b) {
-        return looks::PLAIN;
-    }
-    name_look(source, table, row, at)
 }
 
 // Where the words of the next use begin behind a place.
