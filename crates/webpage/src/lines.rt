@@ -88,7 +88,7 @@ fn turn(mut p: Pen, look: u32) -> Pen {
     p
 }
 
-// The look of byte i: a blank belongs to a note only behind its first byte and in one line, to anything else only inside of it.
+// The look of byte i: a blank belongs to a note only behind its first byte and in one line, to a name only inside of it.
 fn seen(p: Pen, source: &[u8], row: &[u32], i: usize) -> u32 {
     let look = looks::at(row, i);
     if source.len() <= i || !is_blank(source[i]) {
@@ -97,8 +97,10 @@ fn seen(p: Pen, source: &[u8], row: &[u32], i: usize) -> u32 {
     if look == looks::NOTE && (source[i] == b'\n' || p.look != look) {
         return looks::PLAIN;
     }
-    if look != looks::NOTE && looks::at(row, blanks_end(source, i)) != look {
-        return looks::PLAIN;
+    if 0 < i && look != looks::NOTE {
+        if looks::at(row, i - 1) == look && looks::at(row, blanks_end(source, i)) != look {
+            return looks::PLAIN;
+        }
     }
     look
 }
