@@ -27,8 +27,13 @@ use showing::uses::show_uses;
 use showing::words::show_answer;
 use translating::translating::translate;
 use webpage::show_page;
+ghost use mathlib.Core.Path.{_≡_};
 ghost use Prim.Native.Nat.{_≤_};
 ghost use lib.ListN.{length};
+ghost use Rattle.asking.specs.Words.{wordsOf, has, plain, askedFrom};
+ghost use Rattle.asking.specs.Options.{sizesOf, pastOptions};
+ghost use Rattle.deed.specs.Status.{nothing, ReadStatus, CodeStatus};
+ghost use Rattle.deed.specs.Commands.{oneFile, aRun, takesPlain, decided, Keeps};
 
 // What reading found, as one line of numbers.
 fn show_plain(v: Verdict, table: &[u16], uses: bool) {
@@ -60,12 +65,15 @@ fn is_uses(job: Job) -> bool {
     }
 }
 
-fn tell(name: &[u8], source: &[u8], plain: bool, job: Job) -> u8 {
+fn tell(name: &[u8], source: &[u8], plain: bool, job: Job) -> u8
+    ensures { λ r. ⌜ ReadStatus (now (source .entry)) r ⌝ }
+{
     let mut table = [0u16; 32768];
     let v = read(source, &mut table);
+    let ended = status::of_verdict(v);
     if plain {
         show_plain(v, &table, is_uses(job));
-        return status::of_verdict(v);
+        return ended;
     }
     match v {
         Verdict::Accepted => show_accepted(name, source, &table, job),
@@ -73,31 +81,38 @@ fn tell(name: &[u8], source: &[u8], plain: bool, job: Job) -> u8 {
             show_answer(name, source, b": refused, ", r.answer.number, r.place.at)
         }
     }
-    status::of_verdict(v)
+    ended
 }
 
 // The translation of a source.
-fn tell_code(name: &[u8], source: &[u8]) -> u8 {
+fn tell_code(name: &[u8], source: &[u8]) -> u8
+    ensures { λ r. ⌜ CodeStatus (now (source .entry)) r ⌝ }
+{
     let mut code = [0u32; 16384];
     let v = translate(source, &mut code);
+    let ended = status::of_verdict(v);
     match v {
         Verdict::Accepted => show_code(source, &code),
         Verdict::Refused(r) => {
             show_answer(name, source, b": refused, ", r.answer.number, r.place.at)
         }
     }
-    status::of_verdict(v)
+    ended
 }
 
 // The page of a source, accepted or refused.
-fn tell_page(name: &[u8], source: &[u8]) -> u8 {
+fn tell_page(name: &[u8], source: &[u8]) -> u8
+    ensures { λ r. ⌜ ReadStatus (now (source .entry)) r ⌝ }
+{
     let mut table = [0u16; 32768];
     let v = read(source, &mut table);
     show_page(name, source, v, &table);
     status::of_verdict(v)
 }
 
-fn on_file(name: &[u8], plain: bool, job: Job) -> u8 {
+fn on_file(name: &[u8], plain: bool, job: Job) -> u8
+    ensures { λ r. ⌜ r ≤ nothing ⌝ }
+{
     let mut room = io::large_buffer();
     let got = load(name, &mut room);
     if !got.good {
@@ -115,6 +130,7 @@ fn on_file(name: &[u8], plain: bool, job: Job) -> u8 {
 // A run of the file that a word of the line names, on the numbers behind it.
 fn run_file(line: &[u8], from: usize, to: usize, sizes: Sizes) -> u8
     requires { ⌜ (from ≤ to) × (to ≤ length (now line)) ⌝ }
+    ensures { λ r. ⌜ r ≤ nothing ⌝ }
 {
     let mut input = [0i32; 32768];
     let mut room = io::large_buffer();
@@ -140,7 +156,9 @@ fn run_file(line: &[u8], from: usize, to: usize, sizes: Sizes) -> u8
 }
 
 // A run of the file that the next word but options names.
-fn run_next(line: &[u8], at: usize) -> u8 {
+fn run_next(line: &[u8], at: usize) -> u8
+    ensures { λ r. ⌜ Keeps (aRun (sizesOf (askedFrom (now (line .entry)) at)) (pastOptions (askedFrom (now (line .entry)) at))) r ⌝ }
+{
     let Asked::Are(sizes) = sizes_of(line, at) else {
         misused(
             b"-l, -c and -o want a number, -c at most 8192, -o at most 65536",
@@ -159,7 +177,9 @@ fn run_next(line: &[u8], at: usize) -> u8 {
 }
 
 // A job on the file that the next word names, and on nothing else.
-fn on_next(line: &[u8], at: usize, job: Job) -> u8 {
+fn on_next(line: &[u8], at: usize, job: Job) -> u8
+    ensures { λ r. ⌜ Keeps (oneFile (askedFrom (now (line .entry)) at)) r ⌝ }
+{
     let w = next_word(line, at);
     let from = w.from;
     let to = w.to;
@@ -186,7 +206,9 @@ fn unknown(word: &[u8]) {
 }
 
 // Whether a job has an answer for other programs.
-fn takes_plain(job: Job) -> bool {
+fn takes_plain(job: Job) -> bool
+    ensures { λ r. ⌜ r ≡ takesPlain job ⌝ }
+{
     match job {
         Job::Read | Job::Uses | Job::Run => true,
         _ => false,
@@ -194,7 +216,9 @@ fn takes_plain(job: Job) -> bool {
 }
 
 // Does what a line asks.
-pub fn obey(line: &[u8]) -> u8 {
+pub fn obey(line: &[u8]) -> u8
+    ensures { λ r. ⌜ Keeps (decided (has (wordsOf (now (line .entry))) plain) (askedFrom (now (line .entry)) 0)) r ⌝ }
+{
     let w = next_word(line, 0);
     let from = w.from;
     let to = w.to;

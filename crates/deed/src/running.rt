@@ -11,6 +11,11 @@ use showing::text::say_whole;
 use showing::words::show_answer;
 use showing::words::show_placeless;
 use translating::translating::translate;
+ghost use mathlib.Core.Path.{_≡_};
+ghost use Prim.Native.Nat.{min};
+ghost use lib.ListN.{length, take};
+ghost use Rattle.machine.specs.Machine.{onCode};
+ghost use Rattle.deed.specs.Status.{ofStop, RunStatus};
 
 // The outputs, each between two texts.
 fn show_output(before: &[u8], output: &[i32], after: &[u8]) {
@@ -61,7 +66,9 @@ fn show_plain(answer: u16, place: usize, done: u64, taken: usize, written: usize
 }
 
 // What a run gave; its outputs are the first of these.
-fn show_ran(name: &[u8], source: &[u8], plain: bool, ran: Ran, output: &[i32]) -> u8 {
+fn show_ran(name: &[u8], source: &[u8], plain: bool, ran: Ran, output: &[i32]) -> u8
+    ensures { λ r. ⌜ r ≡ ofStop (ran .stop) ⌝ }
+{
     let stop = ran.stop;
     let n = least(ran.written, output.len());
     let wrote = &output[0..n];
@@ -91,16 +98,18 @@ fn run_within(
     sizes: Sizes,
     store: &mut [i64],
     output: &mut [i32],
-) -> Ran {
+) -> Ran
+    ensures { λ r. ⌜ r .stop ≡ onCode (now (code .entry)) (take count (now (input .entry))) (sizes .limit) (min 8192 (min (sizes .cells) (length (now (store .entry))))) (min (sizes .room) (length (now (output .entry)))) .stop ⌝ }
+{
     let taken = least(count, input.len());
     let cells = least(sizes.cells, store.len());
     let room = least(sizes.room, output.len());
     machine::run(
         code,
-        &input[0..taken],
+        &input[..taken],
         sizes.limit,
-        &mut store[0..cells],
-        &mut output[0..room],
+        &mut store[..cells],
+        &mut output[..room],
     )
 }
 
@@ -112,7 +121,9 @@ fn run_code(
     input: &[i32],
     count: usize,
     sizes: Sizes,
-) -> u8 {
+) -> u8
+    ensures { λ r. ⌜ r ≡ ofStop (onCode (now (code .entry)) (take count (now (input .entry))) (sizes .limit) (min (sizes .cells) 8192) (min (sizes .room) 65536) .stop) ⌝ }
+{
     let mut store = [0i64; 8192];
     let mut output = [0i32; 65536];
     let ran = run_within(code, input, count, sizes, &mut store, &mut output);
@@ -127,7 +138,9 @@ pub fn run_source(
     input: &[i32],
     count: usize,
     sizes: Sizes,
-) -> u8 {
+) -> u8
+    ensures { λ r. ⌜ RunStatus (now (source .entry)) (take count (now (input .entry))) (sizes .limit) (min (sizes .cells) 8192) (min (sizes .room) 65536) r ⌝ }
+{
     let mut code = [0u32; 16384];
     match translate(source, &mut code) {
         Verdict::Accepted => run_code(name, source, plain, &code, input, count, sizes),

@@ -2,6 +2,9 @@
 // `deed` opens; where that is not open, nothing is written.
 use answers::Stop;
 use answers::Verdict;
+ghost use mathlib.Core.Path.{_≡_};
+ghost use Prim.Native.Nat.{max};
+ghost use Rattle.deed.specs.Status.{ofVerdict, ofStop};
 
 // Accepted, or a run that ended.
 pub const GOOD: u8 = 0;
@@ -12,21 +15,29 @@ pub const NOTHING: u8 = 2;
 
 const DESCRIPTOR: i32 = 9;
 
-pub fn of_verdict(v: Verdict) -> u8 {
+pub fn of_verdict(v: Verdict) -> u8
+    ensures { λ r. ⌜ r ≡ ofVerdict v ⌝ }
+{
     match v {
         Verdict::Accepted => GOOD,
         Verdict::Refused(_) => BAD,
     }
 }
 
-pub fn of_stop(s: Stop) -> u8 {
+pub fn of_stop(s: Stop) -> u8
+    ensures { λ r. ⌜ r ≡ ofStop s ⌝ }
+{
     match s {
         Stop::Ended => GOOD,
-        _ => BAD,
+        Stop::Limit => BAD,
+        Stop::Fault(_) => BAD,
+        Stop::Wrong(_) => BAD,
     }
 }
 
-pub fn greater(a: u8, b: u8) -> u8 {
+pub fn greater(a: u8, b: u8) -> u8
+    ensures { λ r. ⌜ r ≡ max a b ⌝ }
+{
     if a < b { b } else { a }
 }
 

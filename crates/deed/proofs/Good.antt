@@ -1,0 +1,41 @@
+-- A source has one status for each input and what is lent, and what the status 0 of a run says: the source is accepted, and its program ended as the
+-- source rules say.
+use Prim.Native.Nat.{ℕ}
+use mathlib.Core.Path.{_≡_, refl, sym, ap, _∙_}
+use mathlib.Core.List.{List}
+use native.Mathlib.Omega.{arith}
+use lib.IntN.{ℤ}
+use Rattle.answers.specs.Answers.{numberOf}
+use Rattle.answers.specs.declared.Verdict.{Verdict}
+use Rattle.answers.specs.declared.Verdict.the-variants.{Accepted, Refused}
+use Rattle.answers.specs.declared.Stop.{Stop}
+use Rattle.answers.specs.declared.Stop.the-variants.{Ended, Limit, Fault, Wrong}
+use Rattle.machine.specs.Machine.{Finish, onCode}
+use Rattle.reading.specs.Reading.{placeIn, Parsed, parsed}
+use Rattle.translation.specs.Faithful.{AsRules}
+use Rattle.translating.proofs.Promised.{only, faith}
+use Rattle.deed.specs.Status.{good, ofStop, ofRun, RunStatus}
+
+pub one-status : {text : List ℕ} {input : List ℤ} {limit cells space s s₂ : ℕ} → RunStatus text input limit cells space s
+    → RunStatus text input limit cells space s₂ → s ≡ s₂
+one-status {input = input} {limit = limit} {cells = cells} {space = space} a b =
+    let e = only (a .translates) (b .translates) in
+    a .told ∙ ap (λ (v : Verdict). ofRun v (onCode (a .words) input limit cells space)) (e .0)
+    ∙ ap (λ (w : List ℕ). ofRun (b .verdict) (onCode w input limit cells space)) (e .1) ∙ sym (b .told)
+
+good-stop : (q : Stop) → good ≡ ofStop q → q ≡ Ended
+good-stop Ended h = refl
+good-stop Limit h = absurd (omega arith)
+good-stop (Fault r) h = absurd (omega arith)
+good-stop (Wrong a) h = absurd (omega arith)
+
+good-run : (v : Verdict) (f : Finish) → good ≡ ofRun v f → (v ≡ Accepted) × (f .stop ≡ Ended)
+good-run Accepted f h = (refl, good-stop (f .stop) h)
+good-run (Refused r) f h = absurd (omega arith)
+
+pub good-ended : {text : List ℕ} {input : List ℤ} {limit cells space : ℕ} → RunStatus text input limit cells space good → (p : Parsed text)
+    → (f : Finish) × (f .stop ≡ Ended) × AsRules (placeIn text) (parsed p) input cells space limit f
+good-ended {input = input} {limit = limit} {cells = cells} {space = space} t p =
+    let f = onCode (t .words) input limit cells space in
+    let g = good-run (t .verdict) f (t .told) in
+    (f, g .1, faith (t .translates) (ap numberOf (g .0)) p input cells space limit)

@@ -1,0 +1,89 @@
+-- Laws of Status: a run within what was asked is the run on the first of the numbers, with as many cells and as much space as were asked, or as there are.
+use mathlib.Core.Path.{_≡_, refl, sym, ap, _∙_}
+use mathlib.Core.Bool.{Bool, true, false}
+use mathlib.Core.List.{List}
+use Prim.Native.Nat.{ℕ, _≤_, min}
+use native.Mathlib.Omega.{arith}
+use lib.Dec.{leb}
+use lib.IntN.{ℤ}
+use lib.ListN.{length, take}
+use lib.Seq.{length-take-le, take-all, take-length}
+use borrow.Author.Tests.{leb-true, leb-false}
+use Rattle.answers.specs.declared.Refusal.{Refusal}
+use Rattle.answers.specs.declared.Verdict.{Verdict}
+use Rattle.answers.specs.declared.Verdict.the-variants.{Accepted, Refused}
+use Rattle.answers.specs.declared.Stop.{Stop}
+use Rattle.answers.specs.declared.Stop.the-variants.{Ended, Limit, Fault, Wrong}
+use Rattle.machine.specs.declared.Ran.{Ran}
+use Rattle.machine.specs.Machine.{Finish, onCode, Exit, exit, afterwards, job}
+use Rattle.deed.specs.Status.{bad, nothing, ofVerdict, ofStop, ofRun, Told, RunStatus}
+
+-- ---- what the machine was lent
+
+-- the first n, of which there may be fewer
+take-least : (n k : ℕ) (l : List ℤ) → k ≡ min n (length l) → take k l ≡ take n l
+take-least n k l e = go (leb n (length l)) refl
+  where
+    go : (t : Bool) → leb n (length l) ≡ t → take k l ≡ take n l
+    go true b =
+        let h = leb-true n (length l) b in
+        let f : k ≡ n = omega arith in
+        ap (λ (x : ℕ). take x l) f
+    go false b =
+        let h = leb-false n (length l) b in
+        let f : k ≡ length l = omega arith in
+        ap (λ (x : ℕ). take x l) f ∙ take-length l ∙ sym (take-all n l (omega arith))
+
+-- so many of them
+length-least : (n k : ℕ) (l : List ℤ) → k ≡ min n (length l) → length (take k l) ≡ min n (length l)
+length-least n k l e = length-take-le k l (omega arith) ∙ e
+
+module _ (code : List ℕ) (input store output : List ℤ) (count limit cells space : ℕ) where
+  pub ran-stop : (n k m : ℕ) (r : Ran) (s o : List ℤ) → n ≡ min count (length input) → k ≡ min cells (length store) → m ≡ min space (length output)
+      → exit r s o ≡ job code (take n input) limit (take k store) (take m output)
+      → r .stop ≡ onCode code (take count input) limit (min 8192 (min cells (length store))) (min space (length output)) .stop
+  unfolding afterwards
+  ran-stop n k m r s o a b d e =
+      ap (λ (x : Exit). x .ran .stop) e
+      ∙ ap (λ (x : List ℤ). onCode code x limit (min 8192 (length (take k store))) (length (take m output)) .stop) (take-least count n input a)
+      ∙ ap (λ (x : ℕ). onCode code (take count input) limit (min 8192 x) (length (take m output)) .stop) (length-least cells k store b)
+      ∙ ap (λ (x : ℕ). onCode code (take count input) limit (min 8192 (min cells (length store))) x .stop) (length-least space m output d)
+
+  pub run-told : (s : ℕ) (q : Stop) → length store ≡ 8192 → length output ≡ 65536 → s ≡ ofStop q
+      → q ≡ onCode code input limit (min 8192 (min cells (length store))) (min space (length output)) .stop
+      → s ≡ ofStop (onCode code input limit (min cells 8192) (min space 65536) .stop)
+  run-told s q a b e h =
+      let f : min 8192 (min cells (length store)) ≡ min cells 8192 = omega arith in
+      let g : min space (length output) ≡ min space 65536 = omega arith in
+      e ∙ ap ofStop (h ∙ ap (λ (x : ℕ). onCode code input limit x (min space (length output)) .stop) f ∙ ap (λ (x : ℕ). onCode code input limit (min cells 8192) x .stop) g)
+
+-- ---- what translate answered
+
+module _ (v : Verdict) (f : Finish) where
+  pub accepted-told : v ≡ Accepted → (s : ℕ) → s ≡ ofStop (f .stop) → s ≡ ofRun v f
+  accepted-told e s h = rw e h
+
+  pub refused-told : (r : Refusal) → v ≡ Refused r → bad ≡ ofRun v f
+  refused-told r e = rw e refl
+
+-- ---- one of the three
+
+most-verdict : (v : Verdict) → ofVerdict v ≤ nothing
+most-verdict Accepted = omega arith
+most-verdict (Refused r) = omega arith
+
+most-stop : (q : Stop) → ofStop q ≤ nothing
+most-stop Ended = omega arith
+most-stop Limit = omega arith
+most-stop (Fault r) = omega arith
+most-stop (Wrong a) = omega arith
+
+most-run : (v : Verdict) (f : Finish) → ofRun v f ≤ nothing
+most-run Accepted f = most-stop (f .stop)
+most-run (Refused r) f = omega arith
+
+pub told-most : {P : Verdict → Type 0} {s : ℕ} → Told P s → s ≤ nothing
+told-most t = rw (t .told) (most-verdict (t .verdict))
+
+pub run-most : {text : List ℕ} {input : List ℤ} {limit cells space s : ℕ} → RunStatus text input limit cells space s → s ≤ nothing
+run-most {input = input} {limit = limit} {cells = cells} {space = space} t = rw (t .told) (most-run (t .verdict) (onCode (t .words) input limit cells space))

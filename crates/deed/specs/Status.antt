@@ -1,0 +1,61 @@
+-- The exit status of the tool: "0 where the source was accepted or the run ended, 1 where it was refused or stopped, and 2 where nothing was done; of do
+-- the greatest of its commands". These are definitions of the tool and no part of the paper.
+use Prim.Native.Nat.{ℕ}
+use mathlib.Core.Path.{_≡_}
+use mathlib.Core.List.{List}
+use lib.IntN.{ℤ}
+use lib.ListN.{replicate}
+use Rattle.answers.specs.declared.Verdict.{Verdict}
+use Rattle.answers.specs.declared.Verdict.the-variants.{Accepted, Refused}
+use Rattle.answers.specs.declared.Stop.{Stop}
+use Rattle.answers.specs.declared.Stop.the-variants.{Ended, Limit, Fault, Wrong}
+use Rattle.machine.specs.Machine.{Finish, onCode}
+use Rattle.reading.specs.Reading.{Reads}
+use Rattle.translating.specs.Job.{room, Translates}
+
+abbrev pub good : ℕ
+good = 0
+
+abbrev pub bad : ℕ
+bad = 1
+
+abbrev pub nothing : ℕ
+nothing = 2
+
+-- of an answer to a source
+abbrev pub ofVerdict : Verdict → ℕ
+ofVerdict Accepted = good
+ofVerdict (Refused r) = bad
+
+-- of a run
+abbrev pub ofStop : Stop → ℕ
+ofStop Ended = good
+ofStop Limit = bad
+ofStop (Fault r) = bad
+ofStop (Wrong a) = bad
+
+-- of a source that is run if it is accepted
+abbrev pub ofRun : Verdict → Finish → ℕ
+ofRun Accepted f = ofStop (f .stop)
+ofRun (Refused r) f = bad
+
+-- s is the status of an answer of which P holds
+pub record Told (P : Verdict → Type 0) (s : ℕ) : Type 0 where
+  pub verdict : Verdict
+  pub holds : P verdict
+  pub told : s ≡ ofVerdict verdict
+
+-- s is the status of what `read` answers to a source, and of what `translate` does
+abbrev pub ReadStatus : List ℕ → ℕ → Type 0
+ReadStatus text s = Told (λ v. (table : List ℕ) × Reads text (replicate 32768 0) v table) s
+
+abbrev pub CodeStatus : List ℕ → ℕ → Type 0
+CodeStatus text s = Told (λ v. (words : List ℕ) × Translates text (replicate room 0) v words) s
+
+-- s is the status of a source's run on this input, under this limit, with so many cells and so much space for output: of what `translate` answers, and
+-- of how the machine finishes on the words that it leaves
+pub record RunStatus (text : List ℕ) (input : List ℤ) (limit cells space s : ℕ) : Type 0 where
+  pub verdict : Verdict
+  pub words : List ℕ
+  pub translates : Translates text (replicate room 0) verdict words
+  pub told : s ≡ ofRun verdict (onCode words input limit cells space)
