@@ -5,7 +5,7 @@ use Prim.Native.Nat.{ℕ, _-_, _<_, _≤_}
 use mathlib.Core.Path.{_≡_}
 use mathlib.Core.List.{List, _++_}
 use mathlib.Core.Option.{none, some}
-use lib.ListN.{length, getD, drop}
+use lib.ListN.{length, getD}
 use Rattle.answers.specs.Numbers.{short, long, grammar, depth}
 use Rattle.answers.specs.Answers.{refusal}
 use Rattle.answers.specs.declared.Refusal.{Refusal}

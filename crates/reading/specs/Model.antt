@@ -1,13 +1,9 @@
 -- What the stages of the front end need and give back. No part of the paper.
-use Prim.Native.Nat.{ℕ, _+_, _*_, _-_, _%_, _<_, _≤_}
+use Prim.Native.Nat.{ℕ, _*_, _<_, _≤_}
 use mathlib.Core.Path.{_≡_}
-use mathlib.Core.Bool.{cond}
-use mathlib.Core.List.{List, [], _∷_, _++_}
+use mathlib.Core.List.{List}
 use mathlib.Core.Option.{none}
-use lib.ListN.{length, getD, take, drop}
-use Rattle.names.specs.Rows.{isUse, meantOf}
-use Rattle.names.specs.declared.Meant.{Meant}
-use Rattle.names.specs.declared.Meant.the-variants.{Declared as AtRow, Given, Nothing}
+use lib.ListN.{length, getD, take}
 use Rattle.grammar.specs.Trees.{nodesOf}
 use Rattle.names.specs.Identity.{Identified}
 use Rattle.names.specs.Program.{Statement}
@@ -18,7 +14,6 @@ use Rattle.answers.specs.declared.Verdict.{Verdict}
 use Rattle.answers.specs.declared.Verdict.the-variants.{Accepted, Refused as Wrong}
 use Rattle.names.specs.Rows.{outlineOf, usesOf}
 use Rattle.names.specs.Uses.{nameFaults, least}
-use Rattle.table.specs.Table.{fours, declarationWords, nodeWords}
 use Rattle.reading.specs.Judging.{parsed}
 use Rattle.reading.specs.Reading.{symbols, kindsIn, placeIn, cleared, Scanned, Parsed, Judged}
 use Rattle.reading.specs.declared.Sizes.{Sizes}

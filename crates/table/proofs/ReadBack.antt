@@ -1,6 +1,6 @@
 -- What is read back is what was written: in the table of a program, with any words behind it, the sections are found where they stand, and hold the
 -- paper's words of its uses, its declarations and its nodes.
-use Prim.Native.Nat.{ℕ, suc, _+_, _*_}
+use Prim.Native.Nat.{ℕ, _+_, _*_}
 use mathlib.Core.Path.{_≡_, refl, sym, ap, _∙_}
 use mathlib.Core.List.{List, [], _∷_, _++_, append-assoc}
 use native.Mathlib.Omega.{arith}
