@@ -11,7 +11,8 @@ use Rattle.answers.specs.declared.Verdict.the-variants.{Accepted, Refused}
 use Rattle.answers.specs.declared.Stop.{Stop}
 use Rattle.answers.specs.declared.Stop.the-variants.{Ended, Limit, Fault, Wrong}
 use Rattle.machine.specs.Machine.{Finish, onCode}
-use Rattle.reading.specs.Reading.{placeIn, Parsed, parsed}
+use Rattle.reading.specs.Judging.{parsed}
+use Rattle.reading.specs.Reading.{placeIn, Parsed}
 use Rattle.translation.specs.Faithful.{AsRules}
 use Rattle.translating.proofs.Promised.{only, faith}
 use Rattle.deed.specs.Status.{good, ofStop, ofRun, RunStatus}

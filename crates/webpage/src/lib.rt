@@ -4,7 +4,7 @@ use answers::Verdict;
 mod html; // bytes as HTML shows them
 mod looks; // what is to be seen of each byte
 mod levels; // at which level a symbol stands
-mod names; // which bytes are words and names, and what each name means
+mod painting; // which bytes are words and names, and what each name means
 mod lines; // the source, line by line
 mod lists; // declarations, the environment, and the tables as text
 
@@ -15,7 +15,7 @@ pub fn show_page(name: &[u8], source: &[u8], v: Verdict, table: &[u16]) {
     html::begin(name);
     match v {
         Verdict::Accepted => {
-            names::paint_accepted(source, table, &mut looks, &mut levels);
+            painting::paint_accepted(source, table, &mut looks, &mut levels);
             lines::head_accepted(name);
             lines::show_lines(source, &looks, &levels);
             lists::show_lists(source, table, &levels);
@@ -23,7 +23,7 @@ pub fn show_page(name: &[u8], source: &[u8], v: Verdict, table: &[u16]) {
         Verdict::Refused(r) => {
             let number = r.answer.number;
             let place = r.place.at;
-            names::paint_refused(source, number, place, &mut looks);
+            painting::paint_refused(source, number, place, &mut looks);
             lines::head_refused(name, source, number, place);
             lines::show_lines(source, &looks, &levels);
         }

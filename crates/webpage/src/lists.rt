@@ -7,8 +7,8 @@ use showing::text::say_nth;
 use showing::text::say_number;
 use showing::text::say_spot;
 use showing::text::spot_of;
+use showing::uses::show_uses;
 use table::sections::sections_of;
-use table::sections::show_uses;
 use table::sections::word;
 ghost use Prim.Native.Nat.{_<_};
 

@@ -1,10 +1,10 @@
--- `webpage::names::paint_accepted` meets its contract: a note is not marked, and no symbol is.
+-- `webpage::painting::paint_accepted` meets its contract: a note is not marked, and no symbol is.
 -- Assumes nothing.
 use mathlib.Core.Path.{_∙_}
 use native.Mathlib.Omega.{arith}
 use borrow.Author.Needs.{needs}
-use Rattle.webpage.proofs.names.paint_accepted.Statement.{statement}
-use Rattle.webpage.proofs.names.paint_accepted.Tie as tie
+use Rattle.webpage.proofs.painting.paint_accepted.Statement.{statement}
+use Rattle.webpage.proofs.painting.paint_accepted.Tie as tie
 
 returns : tie.Need-returns
 returns c =

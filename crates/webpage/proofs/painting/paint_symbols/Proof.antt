@@ -1,4 +1,4 @@
--- `webpage::names::paint_symbols` meets its contract: what a symbol is painted with marks nothing, and lies in the source.
+-- `webpage::painting::paint_symbols` meets its contract: what a symbol is painted with marks nothing, and lies in the source.
 -- Assumes nothing.
 use Prim.Native.Nat.{ℕ, _+_, _*_, _-_, _≤_, min}
 use mathlib.Core.Path.{_≡_, refl, _∙_}
@@ -9,8 +9,8 @@ use native.Mathlib.Omega.{arith}
 use lib.ListN.{length}
 use borrow.Author.Needs.{needs}
 use Rattle.webpage.specs.Looks.{Painted, Behind, Unmarked, Unmarking}
-use Rattle.webpage.proofs.names.paint_symbols.Statement.{statement}
-use Rattle.webpage.proofs.names.paint_symbols.Tie as tie
+use Rattle.webpage.proofs.painting.paint_symbols.Statement.{statement}
+use Rattle.webpage.proofs.painting.paint_symbols.Tie as tie
 
 more : {n from to x : ℕ} {row mid after : List ℕ} → Unmarking n row mid → Painted from to x mid after → to ≤ n → Unmarked x → Unmarking n row after
 more {from = from} {to = to} u p l m = record {

@@ -1,10 +1,10 @@
--- `webpage::names::paint_refused` meets its contract: the mark is painted last.
+-- `webpage::painting::paint_refused` meets its contract: the mark is painted last.
 -- Assumes nothing.
 use mathlib.Core.Path.{_∙_}
 use native.Mathlib.Omega.{arith}
 use borrow.Author.Needs.{needs}
-use Rattle.webpage.proofs.names.paint_refused.Statement.{statement}
-use Rattle.webpage.proofs.names.paint_refused.Tie as tie
+use Rattle.webpage.proofs.painting.paint_refused.Statement.{statement}
+use Rattle.webpage.proofs.painting.paint_refused.Tie as tie
 
 returns : tie.Need-returns
 returns c =

@@ -1,9 +1,9 @@
--- `webpage::names::number_of` meets its contract. The count falls.
+-- `webpage::painting::number_of` meets its contract. The count falls.
 -- Assumes nothing.
 use Prim.Native.Nat.{_<_}
 use borrow.Author.Needs.{needs}
-use Rattle.webpage.proofs.names.number_of.Statement.{statement}
-use Rattle.webpage.proofs.names.number_of.Tie as tie
+use Rattle.webpage.proofs.painting.number_of.Statement.{statement}
+use Rattle.webpage.proofs.painting.number_of.Tie as tie
 
 abbrev Inv-loop : tie.InvT-loop
 Inv-loop source table at s d₀ d = d < 65536
