@@ -90,6 +90,10 @@ channel = 28
 abbrev pub noInstruction : ℕ
 noInstruction = 29
 
+-- 30: "A store to one whose actual is no variable"
+abbrev pub noVariable : ℕ
+noVariable = 30
+
 -- ---- the environment: "The environment holds iabs (0), maxint (1), ininteger (2), outinteger (3)"
 
 abbrev pub iabs : ℕ

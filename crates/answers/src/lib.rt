@@ -1,7 +1,7 @@
 // The numbers of paper 01, "Numbered answers", and what carries them. Places, symbols, declarations and code addresses
 // are types of their own, so that none is taken for another; answer and environment numbers are constants of their types.
 ghost use mathlib.Core.Path.{_≡_};
-ghost use Rattle.answers.specs.Numbers.{accepted, ended, short, long, noSymbol, tooLarge, grammar, depth, twice, undeclared, heading, types, limit, range, zeroDivisor, unassigned, inputEnded, outputFull, cells, activations, channel, noInstruction, iabs, maxint, ininteger, outinteger};
+ghost use Rattle.answers.specs.Numbers.{accepted, ended, short, long, noSymbol, tooLarge, grammar, depth, twice, undeclared, heading, types, limit, range, zeroDivisor, unassigned, inputEnded, outputFull, cells, activations, channel, noInstruction, noVariable, iabs, maxint, ininteger, outinteger};
 ghost use Rattle.answers.specs.Answers.{answer, environment, refusal, numberOf, placeOf, stopNumber, stopPlace};
 
 // A byte of the source, counted from 0.
@@ -79,6 +79,8 @@ impl Answer {
     pub const CHANNEL: Answer = Answer { number: 28 };
     // No instruction at the counter, or none that can be done.
     pub const NO_INSTRUCTION: Answer = Answer { number: 29 };
+    // A store to a name formal whose actual is no variable.
+    pub const NO_VARIABLE: Answer = Answer { number: 30 };
 
     pub fn accepted() -> Answer
         ensures { λ r. ⌜ r ≡ answer accepted ⌝ }
@@ -210,6 +212,12 @@ impl Answer {
         ensures { λ r. ⌜ r ≡ answer noInstruction ⌝ }
     {
         Answer::NO_INSTRUCTION
+    }
+
+    pub fn no_variable() -> Answer
+        ensures { λ r. ⌜ r ≡ answer noVariable ⌝ }
+    {
+        Answer::NO_VARIABLE
     }
 }
 

@@ -10,8 +10,8 @@ use lib.IntN.{ℤ}
 use mir.Syntax.{w32}
 use mir.Val.{toZ}
 use Rattle.machine.specs.Values.{equiv, Unary, Binary}
-use Rattle.machine.specs.Data.{Act, push, load, store, assign, reserve, forget, receive, send, keep, bump, unary, binary, actOn, condition, upto, kept, gone}
-use Rattle.machine.specs.Instructions.{binaryOf, unaryOf, actOf, decode, variable, high, mid, low, END, DO, IF, JUMP, ENTER, LEAVE, CALL, RETURN, GO, NEXT}
+use Rattle.machine.specs.Data.{Act, push, load, store, assign, reserve, forget, receive, send, keep, bump, unary, binary, lend, channel, sum, actOn, condition, upto, kept, gone}
+use Rattle.machine.specs.Instructions.{binaryOf, unaryOf, actOf, decode, variable, high, mid, low, END, DO, IF, JUMP, ENTER, LEAVE, CALL, RETURN, GO, NEXT, NAME, WORK, SEEK, PASS, REFUSE}
 
 -- a number that is not m
 pub apart : (k m : ℕ) → m < k → eqb k m ≡ false
@@ -178,6 +178,38 @@ module _ (k q v : ℕ) where
   unfolding decode
   code-act h b = rw (apart k 0 (omega arith), apart k 1 (omega arith), apart k 2 (omega arith), apart k 3 (omega arith), apart k 4 (omega arith), apart k 5 (omega arith), apart k 6 (omega arith), apart k 7 (omega arith), apart k 8 (omega arith), apart k 9 (omega arith), apart k 10 (omega arith), apart k 11 (omega arith), lt-ltb k 39 b)
 
-  pub code-none : 39 ≤ k → decode k q v ≡ none
+  pub code-name : k ≡ 39 → decode k q v ≡ some (NAME q (low v))
   unfolding decode
-  code-none h = rw (apart k 0 (omega arith), apart k 1 (omega arith), apart k 2 (omega arith), apart k 3 (omega arith), apart k 4 (omega arith), apart k 5 (omega arith), apart k 6 (omega arith), apart k 7 (omega arith), apart k 8 (omega arith), apart k 9 (omega arith), apart k 10 (omega arith), apart k 11 (omega arith), le-ltb k 39 h)
+  code-name e = rw e
+
+  pub code-work : k ≡ 40 → decode k q v ≡ some (WORK q (high v) (mid v))
+  unfolding decode
+  code-work e = rw e
+
+  pub code-seek : k ≡ 41 → decode k q v ≡ some (SEEK q (high v) (mid v))
+  unfolding decode
+  code-seek e = rw e
+
+  pub code-pass : k ≡ 42 → decode k q v ≡ some (PASS q (high v) (mid v))
+  unfolding decode
+  code-pass e = rw e
+
+  pub code-lend : k ≡ 43 → decode k q v ≡ some (DO (lend (variable v)))
+  unfolding decode
+  code-lend e = rw e
+
+  pub code-refuse : k ≡ 44 → decode k q v ≡ some REFUSE
+  unfolding decode
+  code-refuse e = rw e
+
+  pub code-channel : k ≡ 45 → decode k q v ≡ some (DO (channel q))
+  unfolding decode
+  code-channel e = rw e
+
+  pub code-sum : k ≡ 46 → decode k q v ≡ some (DO (sum q (variable v)))
+  unfolding decode
+  code-sum e = rw e
+
+  pub code-none : 47 ≤ k → decode k q v ≡ none
+  unfolding decode
+  code-none h = rw (apart k 0 (omega arith), apart k 1 (omega arith), apart k 2 (omega arith), apart k 3 (omega arith), apart k 4 (omega arith), apart k 5 (omega arith), apart k 6 (omega arith), apart k 7 (omega arith), apart k 8 (omega arith), apart k 9 (omega arith), apart k 10 (omega arith), apart k 11 (omega arith), le-ltb k 39 (omega arith), apart k 39 (omega arith), apart k 40 (omega arith), apart k 41 (omega arith), apart k 42 (omega arith), apart k 43 (omega arith), apart k 44 (omega arith), apart k 45 (omega arith), apart k 46 (omega arith))

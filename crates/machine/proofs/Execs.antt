@@ -24,15 +24,15 @@ use Rattle.answers.specs.declared.Answer.{Answer}
 use Rattle.machine.specs.declared.Outcome.{Outcome}
 use Rattle.machine.specs.declared.Outcome.the-variants.{Goes, Strays}
 use Rattle.machine.specs.Run.{Trace}
-use Rattle.machine.specs.Data.{Data, cells, Res, bad, wrong, good, lift, guard, check, Act, load, store, actOn, downs, work, Test, upto, testOn, downsT, test, either, openBlock, closeBlock, enter, leave, Fate, kept, gone}
-use Rattle.machine.specs.Instructions.{Loc, Instr, END, DO, IF, JUMP, ENTER, LEAVE, CALL, RETURN, GO, NEXT, variable, high, mid, actOf, decode, fetch}
+use Rattle.machine.specs.Data.{Data, cells, Res, bad, wrong, good, lift, guard, check, foundIn, Act, load, store, sum, actOn, downs, work, Test, upto, testOn, downsT, test, either, openBlock, closeBlock, enter, leave, Fate, kept, gone}
+use Rattle.machine.specs.Instructions.{Loc, Instr, END, DO, IF, JUMP, ENTER, LEAVE, CALL, RETURN, GO, NEXT, variable, foundOffset, high, mid, actOf, decode, fetch}
 use Rattle.machine.specs.Machine.{Frame, fr, Mach, ms, base, floor, walk, cellIn, stray, exec, obey, step}
-use Rattle.machine.specs.Model.{After, told, goes, halted, stepped, lifted, dataOf, traceOf, seenD, seenT, seenO, machOf, wordOf, noteOf, begun, positionsOf, fateOf, framesOf, Lives, Sound, SoundD, SoundT, SoundO, SoundG}
+use Rattle.machine.specs.Model.{After, told, goes, halted, stepped, lifted, dataOf, traceOf, seenD, seenT, seenO, machOf, wordOf, noteOf, begun, positionsOf, fateOf, framesOf, foundOf, ownOf, Lives, Sound, SoundD, SoundT, SoundO, SoundG}
 use Rattle.machine.proofs.Decode.{act-on}
 use Rattle.machine.proofs.Stacks.{cells-length}
-use Rattle.machine.proofs.Frames.{frames-length, positions-length, begun-frames, begun-positions, begun-lives, push-positions, pop-positions, frames-own, lives-note, lives-count}
+use Rattle.machine.proofs.Frames.{frames-length, positions-length, begun-frames, begun-positions, begun-lives, begun-found, found-note, push-positions, pop-positions, frames-own, lives-note, lives-count}
 
-lift-stepped : {A : Type 0} (w : Stop) (f : A → Mach) (t : Trace) (r : Res A) → stepped t (lift w 1 f r) ≡ lifted w f (told t r)
+pub lift-stepped : {A : Type 0} (w : Stop) (f : A → Mach) (t : Trace) (r : Res A) → stepped t (lift w 1 f r) ≡ lifted w f (told t r)
 unfolding stepped lift lifted told
 lift-stepped w f t (bad a q) = refl
 lift-stepped w f t wrong = refl
@@ -49,18 +49,18 @@ module _ (t : Trace) (pc : ℕ) (ps : List ℕ) (fs : List Frame) (d : Data) whe
   do-stray a e = rw e
 
   pub do-lifted : (a : Act Loc) → leb (floor fs + downs a) (cells d) ≡ true
-      → lifted (stray pc) (ms (suc pc) ps fs) (told t (work (actOn (cellIn fs) a) d)) ≡ stepped t (exec (DO a) pc ps fs d)
+      → lifted (stray pc) (ms (suc pc) ps fs) (told t (work (actOn (cellIn fs d) a) d)) ≡ stepped t (exec (DO a) pc ps fs d)
   unfolding exec guard
-  do-lifted a e = rw e (sym (lift-stepped (stray pc) (ms (suc pc) ps fs) t (work (actOn (cellIn fs) a) d)))
+  do-lifted a e = rw e (sym (lift-stepped (stray pc) (ms (suc pc) ps fs) t (work (actOn (cellIn fs d) a) d)))
 
   pub if-stray : (a : Test Loc) (l : ℕ) → leb (floor fs + downsT a) (cells d) ≡ false → halted (stray pc) ≡ stepped t (exec (IF a l) pc ps fs d)
   unfolding exec guard lift stepped
   if-stray a l e = rw e
 
   pub if-lifted : (a : Test Loc) (l : ℕ) → leb (floor fs + downsT a) (cells d) ≡ true
-      → lifted (stray pc) (either (ms (suc pc) ps fs) (ms l ps fs)) (told t (test (testOn (cellIn fs) a) d)) ≡ stepped t (exec (IF a l) pc ps fs d)
+      → lifted (stray pc) (either (ms (suc pc) ps fs) (ms l ps fs)) (told t (test (testOn (cellIn fs d) a) d)) ≡ stepped t (exec (IF a l) pc ps fs d)
   unfolding exec guard
-  if-lifted a l e = rw e (sym (lift-stepped (stray pc) (either (ms (suc pc) ps fs) (ms l ps fs)) t (test (testOn (cellIn fs) a) d)))
+  if-lifted a l e = rw e (sym (lift-stepped (stray pc) (either (ms (suc pc) ps fs) (ms l ps fs)) t (test (testOn (cellIn fs d) a) d)))
 
   pub enter-lifted : (q n l : ℕ) → lifted (stray pc) (ms l ps fs) (told t (openBlock q n d)) ≡ stepped t (exec (ENTER q n l) pc ps fs d)
   unfolding exec
@@ -105,37 +105,46 @@ module _ (t : Trace) (pc : ℕ) (ps : List ℕ) (fs : List Frame) (d : Data) whe
 
 -- ---- calls, with the activations in the machine's own memory
 
-floor-is : (l : List ℕ) (a : ℕ) → floor (framesOf l a) ≡ base (framesOf l a) a
+pub floor-is : (l : List ℕ) (a : ℕ) → floor (framesOf l a) ≡ base (framesOf l a) a
 floor-is l a = ap (base (framesOf l a)) (frames-length l a)
 
 module _ (n : Counts) (a : ℕ) (s i o : List ℤ) (l : List ℕ) {f : ℕ} (e : f ≡ base (framesOf l a) a) where
-  pub room-no : (k : ℕ) → n .cells < f + k → leb (floor (framesOf l a) + k) (cells (dataOf n a s i o)) ≡ false
+  pub room-no : (k : ℕ) → n .cells < f + k → leb (floor (framesOf l a) + k) (cells (dataOf n (ownOf l a) s i o)) ≡ false
   room-no k h =
       let z : n .cells < floor (framesOf l a) + k = rw (floor-is l a, ← e) h in
       rw (cells-length (n .cells) s) (lt-leb (floor (framesOf l a) + k) (n .cells) z)
 
-  pub room-yes : (k : ℕ) → f + k ≤ n .cells → leb (floor (framesOf l a) + k) (cells (dataOf n a s i o)) ≡ true
+  pub room-yes : (k : ℕ) → f + k ≤ n .cells → leb (floor (framesOf l a) + k) (cells (dataOf n (ownOf l a) s i o)) ≡ true
   room-yes k h =
       let z : floor (framesOf l a) + k ≤ n .cells = rw (floor-is l a, ← e) h in
       rw (cells-length (n .cells) s) (le-leb (floor (framesOf l a) + k) (n .cells) z)
 
-pub cell-is : (l : List ℕ) (a v : ℕ) {f b r : ℕ} → f ≡ walk (framesOf l a) a (high v) → b ≡ base (framesOf l a) f → r ≡ b + mid v → r ≡ cellIn (framesOf l a) (variable v)
-unfolding cellIn
-cell-is l a v e g h = rw (frames-length l a, ← e, ← g) h
+module _ (l : List ℕ) (a v : ℕ) (d : Data) {r : ℕ} where
+  pub cell-is : {f b : ℕ} → (mid v ≡ foundOffset → ⊥) → f ≡ walk (framesOf l a) a (high v) → b ≡ base (framesOf l a) f → r ≡ b + mid v → r ≡ cellIn (framesOf l a) d (variable v)
+  unfolding cellIn
+  cell-is n e g h = rw (ne-eqb (mid v) foundOffset n, frames-length l a, ← e, ← g) h
+
+  pub cell-found : mid v ≡ foundOffset → r ≡ foundIn d → r ≡ cellIn (framesOf l a) d (variable v)
+  unfolding cellIn
+  cell-found e h = rw (eq-eqb (mid v) foundOffset e) h
+
+pub found-data : (n : Counts) (l : List ℕ) (a : ℕ) (s i o : List ℤ) → foundIn (dataOf n (ownOf l a) s i o) ≡ foundOf l
+unfolding foundIn
+found-data n l a s i o = refl
 
 module _ (n : Counts) (a : ℕ) (s i o : List ℤ) (l : List ℕ) (pc q e u k : ℕ) (f : Fate) {b : ℕ} (z : b ≡ base (framesOf l a) a) (h : b + k ≤ n .cells) where
-  pub call-full : 256 ≤ a → halted (Faulty (refusal activations q)) ≡ stepped (traceOf n o) (exec (CALL q e u k f) pc (positionsOf l a) (framesOf l a) (dataOf n a s i o))
+  pub call-full : 256 ≤ a → halted (Faulty (refusal activations q)) ≡ stepped (traceOf n o) (exec (CALL q e u k f) pc (positionsOf l a) (framesOf l a) (dataOf n (ownOf l a) s i o))
   unfolding exec guard enter check lift stepped
   call-full m = rw (room-yes n a s i o l z k h, le-ltb a 256 m)
 
   pub call-goes : {x y : ℕ} (l' : List ℕ) → a < 256 → x ≡ n .cells - k → y ≡ walk (framesOf l a) a u
-      → framesOf l' (suc a) ≡ fr (suc pc) x y f q (positionsOf l a) ∷ framesOf l a → positionsOf l' (suc a) ≡ []
-      → goes (ms e (positionsOf l' (suc a)) (framesOf l' (suc a)) (dataOf n (suc a) s i o)) (traceOf n o)
-      ≡ stepped (traceOf n o) (exec (CALL q e u k f) pc (positionsOf l a) (framesOf l a) (dataOf n a s i o))
+      → framesOf l' (suc a) ≡ fr (suc pc) x y f q (positionsOf l a) ∷ framesOf l a → positionsOf l' (suc a) ≡ [] → foundOf l' ≡ foundOf l
+      → goes (ms e (positionsOf l' (suc a)) (framesOf l' (suc a)) (dataOf n (ownOf l' (suc a)) s i o)) (traceOf n o)
+      ≡ stepped (traceOf n o) (exec (CALL q e u k f) pc (positionsOf l a) (framesOf l a) (dataOf n (ownOf l a) s i o))
   unfolding exec guard enter check lift stepped
-  call-goes l' m p g c d =
+  call-goes l' m p g c d j =
       let w : length (framesOf l a) ≡ a = frames-length l a in
-      rw (c, d, room-yes n a s i o l z k h, lt-ltb a 256 m, p, g, cells-length (n .cells) s, w)
+      rw (c, d, j, room-yes n a s i o l z k h, lt-ltb a 256 m, p, g, cells-length (n .cells) s, w)
 
 pub return-none : (t : Trace) (pc : ℕ) (ps : List ℕ) (l : List ℕ) (a : ℕ) (d : Data) → a ≡ 0 → halted (stray pc) ≡ stepped t (exec RETURN pc ps (framesOf l a) d)
 unfolding exec stepped framesOf
@@ -181,15 +190,15 @@ module _ {r : Outcome} {pc : ℕ} (e : r ≡ Strays pc) where
   strayed-sound s l o o' h = subst (λ (x : Outcome). SoundG x s l o o') (sym e) h
 
 module _ (w : Stop) (pc a : ℕ) (s i o : List ℤ) (l : List ℕ) {d : Did} where
-  pub lift-good : {m : Counts} → d ≡ Good m → goes (machOf pc a m s l i o) (traceOf m o) ≡ lifted w (ms pc (positionsOf l a) (framesOf l a)) (seenD d a s i o)
+  pub lift-good : {m : Counts} → d ≡ Good m → goes (machOf pc a m s l i o) (traceOf m o) ≡ lifted w (ms pc (positionsOf l a) (framesOf l a)) (seenD d (ownOf l a) s i o)
   unfolding lifted
   lift-good e = rw e
 
-  pub lift-bad : {x : Answer} {q : ℕ} → d ≡ Bad x q → halted (Faulty (refusal (x .number) q)) ≡ lifted w (ms pc (positionsOf l a) (framesOf l a)) (seenD d a s i o)
+  pub lift-bad : {x : Answer} {q : ℕ} → d ≡ Bad x q → halted (Faulty (refusal (x .number) q)) ≡ lifted w (ms pc (positionsOf l a) (framesOf l a)) (seenD d (ownOf l a) s i o)
   unfolding lifted
   lift-bad e = rw e
 
-  pub lift-none : d ≡ Stray → halted w ≡ lifted w (ms pc (positionsOf l a) (framesOf l a)) (seenD d a s i o)
+  pub lift-none : d ≡ Stray → halted w ≡ lifted w (ms pc (positionsOf l a) (framesOf l a)) (seenD d (ownOf l a) s i o)
   unfolding lifted
   lift-none e = rw e
 
@@ -205,20 +214,20 @@ module _ (s o o' : List ℤ) (l : List ℕ) {d : Did} (g : SoundO d s o o') wher
 
 module _ (w : Stop) (at other a : ℕ) (s i o : List ℤ) (l : List ℕ) {c : Chosen} where
   pub test-yes : {m : Counts} → c ≡ Yes m
-      → goes (machOf (at + 1) a m s l i o) (traceOf m o) ≡ lifted w (either (ms (suc at) (positionsOf l a) (framesOf l a)) (ms other (positionsOf l a) (framesOf l a))) (seenT c a s i o)
+      → goes (machOf (at + 1) a m s l i o) (traceOf m o) ≡ lifted w (either (ms (suc at) (positionsOf l a) (framesOf l a)) (ms other (positionsOf l a) (framesOf l a))) (seenT c (ownOf l a) s i o)
   unfolding lifted
   test-yes e = rw (e, add-one at)
 
   pub test-no : {m : Counts} → c ≡ No m
-      → goes (machOf other a m s l i o) (traceOf m o) ≡ lifted w (either (ms (suc at) (positionsOf l a) (framesOf l a)) (ms other (positionsOf l a) (framesOf l a))) (seenT c a s i o)
+      → goes (machOf other a m s l i o) (traceOf m o) ≡ lifted w (either (ms (suc at) (positionsOf l a) (framesOf l a)) (ms other (positionsOf l a) (framesOf l a))) (seenT c (ownOf l a) s i o)
   unfolding lifted
   test-no e = rw e
 
-  pub test-bad : {x : Answer} {q : ℕ} → c ≡ BadT x q → halted (Faulty (refusal (x .number) q)) ≡ lifted w (either (ms (suc at) (positionsOf l a) (framesOf l a)) (ms other (positionsOf l a) (framesOf l a))) (seenT c a s i o)
+  pub test-bad : {x : Answer} {q : ℕ} → c ≡ BadT x q → halted (Faulty (refusal (x .number) q)) ≡ lifted w (either (ms (suc at) (positionsOf l a) (framesOf l a)) (ms other (positionsOf l a) (framesOf l a))) (seenT c (ownOf l a) s i o)
   unfolding lifted
   test-bad e = rw e
 
-  pub test-none : c ≡ StrayT → halted w ≡ lifted w (either (ms (suc at) (positionsOf l a) (framesOf l a)) (ms other (positionsOf l a) (framesOf l a))) (seenT c a s i o)
+  pub test-none : c ≡ StrayT → halted w ≡ lifted w (either (ms (suc at) (positionsOf l a) (framesOf l a)) (ms other (positionsOf l a) (framesOf l a))) (seenT c (ownOf l a) s i o)
   unfolding lifted
   test-none e = rw e
 
@@ -241,12 +250,13 @@ module _ (n : Counts) (a : ℕ) (s i o : List ℤ) (l : List ℕ) (at q e u k w 
 
   pub call-done : x ≡ n .cells - k → y ≡ walk (framesOf l a) a u
       → goes (machOf e (a + 1) n s l' i o) (traceOf n o)
-      ≡ stepped (traceOf n o) (exec (CALL q e u k (fateOf w)) at (positionsOf l a) (framesOf l a) (dataOf n a s i o))
+      ≡ stepped (traceOf n o) (exec (CALL q e u k (fateOf w)) at (positionsOf l a) (framesOf l a) (dataOf n (ownOf l a) s i o))
   call-done p r =
       ap (λ (c : ℕ). goes (machOf e c n s l' i o) (traceOf n o)) (add-one a)
       ∙ call-goes n a s i o l at q e u k (fateOf w) z h l' m p r
       (ap (λ (c : List ℕ). framesOf c (suc a)) begun-is ∙ begun-frames l a (suc at) x y w q g m)
       (ap (λ (c : List ℕ). positionsOf c (suc a)) begun-is ∙ begun-positions l a (suc at) x y w q g m)
+      (ap foundOf begun-is ∙ begun-found l a (suc at) x y w q g m)
 
   pub call-sound : y ≤ a → Sound n s → n .written ≤ length o → SoundG (Goes e (a + 1) n) s l' o o
   call-sound v d j =
@@ -254,47 +264,49 @@ module _ (n : Counts) (a : ℕ) (s i o : List ℤ) (l : List ℕ) (at q e u k w 
       (d, rw (z', begun-is) (begun-lives l a (suc at) x y w q g m (omega arith)), j, refl)
 
 module _ (n : Counts) (a : ℕ) (s i o : List ℤ) (l : List ℕ) (at m : ℕ) {w : ℕ} (e : w ≡ wordOf l a 5) where
-  pub go-no : (b r : ℕ) → (m ≡ w → ⊥) → halted (stray at) ≡ stepped (traceOf n o) (exec (GO m b r) at (positionsOf l a) (framesOf l a) (dataOf n a s i o))
-  go-no b r h = go-stray (traceOf n o) at (positionsOf l a) (framesOf l a) (dataOf n a s i o) m b r (λ c. h (c ∙ positions-length l a ∙ sym e))
+  pub go-no : (b r : ℕ) → (m ≡ w → ⊥) → halted (stray at) ≡ stepped (traceOf n o) (exec (GO m b r) at (positionsOf l a) (framesOf l a) (dataOf n (ownOf l a) s i o))
+  go-no b r h = go-stray (traceOf n o) at (positionsOf l a) (framesOf l a) (dataOf n (ownOf l a) s i o) m b r (λ c. h (c ∙ positions-length l a ∙ sym e))
 
-  pub next-no : (m + 1 ≡ w → ⊥) → halted (stray at) ≡ stepped (traceOf n o) (exec (NEXT m) at (positionsOf l a) (framesOf l a) (dataOf n a s i o))
-  next-no h = next-stray (traceOf n o) at (positionsOf l a) (framesOf l a) (dataOf n a s i o) m (λ c. h (c ∙ positions-length l a ∙ sym e))
+  pub next-no : (m + 1 ≡ w → ⊥) → halted (stray at) ≡ stepped (traceOf n o) (exec (NEXT m) at (positionsOf l a) (framesOf l a) (dataOf n (ownOf l a) s i o))
+  next-no h = next-stray (traceOf n o) at (positionsOf l a) (framesOf l a) (dataOf n (ownOf l a) s i o) m (λ c. h (c ∙ positions-length l a ∙ sym e))
 
   module _ (b r : ℕ) {l' : List ℕ} (g : Lives l a) (h : m ≡ w) (k : m < 64) (c : l' ≡ noteOf (noteOf l a (6 + m) r) a 5 (m + 1)) where
-    pub go-done : goes (machOf b a n s l' i o) (traceOf n o) ≡ stepped (traceOf n o) (exec (GO m b r) at (positionsOf l a) (framesOf l a) (dataOf n a s i o))
+    pub go-done : goes (machOf b a n s l' i o) (traceOf n o) ≡ stepped (traceOf n o) (exec (GO m b r) at (positionsOf l a) (framesOf l a) (dataOf n (ownOf l a) s i o))
     go-done =
         let v = lives-note l a (6 + m) r g (omega arith) (omega arith) in
         let p = ap (λ (c : List ℕ). positionsOf c a) c ∙ push-positions l a m r g (h ∙ e) k in
         let f = ap (λ (c : List ℕ). framesOf c a) c ∙ frames-own (noteOf l a (6 + m) r) a 5 (m + 1) (v .notes) (omega arith) ∙ frames-own l a (6 + m) r (g .notes) (omega arith) in
-        ap₂ (λ (x : List ℕ) (y : List Frame). goes (ms b x y (dataOf n a s i o)) (traceOf n o)) p f
-        ∙ go-goes (traceOf n o) at (positionsOf l a) (framesOf l a) (dataOf n a s i o) m b r (h ∙ e ∙ sym (positions-length l a))
+        let j = ap foundOf c ∙ found-note (noteOf l a (6 + m) r) a 5 (m + 1) (omega arith) ∙ found-note l a (6 + m) r (omega arith) in
+        rw j (ap₂ (λ (x : List ℕ) (y : List Frame). goes (ms b x y (dataOf n (ownOf l a) s i o)) (traceOf n o)) p f
+        ∙ go-goes (traceOf n o) at (positionsOf l a) (framesOf l a) (dataOf n (ownOf l a) s i o) m b r (h ∙ e ∙ sym (positions-length l a)))
 
     pub go-lives : Lives l' a
     go-lives = rw c (lives-count (noteOf l a (6 + m) r) a (m + 1) (lives-note l a (6 + m) r g (omega arith) (omega arith)) (omega arith))
 
   module _ {r : ℕ} {l' : List ℕ} (g : Lives l a) (h : m + 1 ≡ w) (p : r ≡ wordOf l a (6 + m)) (c : l' ≡ noteOf l a 5 m) where
-    pub next-done : goes (machOf r a n s l' i o) (traceOf n o) ≡ stepped (traceOf n o) (exec (NEXT m) at (positionsOf l a) (framesOf l a) (dataOf n a s i o))
+    pub next-done : goes (machOf r a n s l' i o) (traceOf n o) ≡ stepped (traceOf n o) (exec (NEXT m) at (positionsOf l a) (framesOf l a) (dataOf n (ownOf l a) s i o))
     next-done =
         let f = ap (λ (c : List ℕ). framesOf c a) c ∙ frames-own l a 5 m (g .notes) (omega arith) in
         let j = pop-positions l a m g (h ∙ e) in
-        ap (λ (y : List Frame). goes (ms r (positionsOf l' a) y (dataOf n a s i o)) (traceOf n o)) f
-        ∙ next-goes (traceOf n o) at (positionsOf l a) (framesOf l a) (dataOf n a s i o) m r (positionsOf l' a)
-        (j ∙ ap₂ (λ (x : ℕ) (y : List ℕ). x ∷ y) (sym p) (ap (λ (c : List ℕ). positionsOf c a) (sym c))) (h ∙ e ∙ sym (positions-length l a))
+        let x = ap foundOf c ∙ found-note l a 5 m (omega arith) in
+        rw x (ap (λ (y : List Frame). goes (ms r (positionsOf l' a) y (dataOf n (ownOf l a) s i o)) (traceOf n o)) f
+        ∙ next-goes (traceOf n o) at (positionsOf l a) (framesOf l a) (dataOf n (ownOf l a) s i o) m r (positionsOf l' a)
+        (j ∙ ap₂ (λ (x : ℕ) (y : List ℕ). x ∷ y) (sym p) (ap (λ (c : List ℕ). positionsOf c a) (sym c))) (h ∙ e ∙ sym (positions-length l a)))
 
     pub next-lives : Lives l' a
     next-lives = rw c (lives-count l a m g (omega (arith, g .notes a (omega arith))))
 
 -- ---- operations on the data and tests, over the variable's cell
 
-module _ (t : Trace) (at : ℕ) (ps : List ℕ) (fs : List Frame) (d : Data) (q v : ℕ) {c : ℕ} (e : c ≡ cellIn fs (variable v)) where
+module _ (t : Trace) (at : ℕ) (ps : List ℕ) (fs : List Frame) (d : Data) (q v : ℕ) {c : ℕ} (e : c ≡ cellIn fs d (variable v)) where
   pub act-done : (k : ℕ) → leb (floor fs + downs (actOf k q (variable v) v)) (cells d) ≡ true
       → lifted (stray at) (ms (at + 1) ps fs) (told t (work (actOf k q c v) d)) ≡ stepped t (exec (DO (actOf k q (variable v) v)) at ps fs d)
   act-done k h =
       lifted-next (stray at) at ps fs _
-      ∙ ap (λ (x : Act ℕ). lifted (stray at) (ms (suc at) ps fs) (told t (work x d))) (ap (λ (y : ℕ). actOf k q y v) e ∙ sym (act-on (cellIn fs) k q (variable v) v))
+      ∙ ap (λ (x : Act ℕ). lifted (stray at) (ms (suc at) ps fs) (told t (work x d))) (ap (λ (y : ℕ). actOf k q y v) e ∙ sym (act-on (cellIn fs d) k q (variable v) v))
       ∙ do-lifted t at ps fs d (actOf k q (variable v) v) h
 
-  -- .. of LOAD and STORE
+  -- .. of LOAD, STORE and SUM
   pub load-done : leb (floor fs + 0) (cells d) ≡ true
       → lifted (stray at) (ms (at + 1) ps fs) (told t (work (load q c) d)) ≡ stepped t (exec (DO (load q (variable v))) at ps fs d)
   load-done h =
@@ -308,6 +320,13 @@ module _ (t : Trace) (at : ℕ) (ps : List ℕ) (fs : List Frame) (d : Data) (q 
       lifted-next (stray at) at ps fs _
       ∙ ap (λ (y : ℕ). lifted (stray at) (ms (suc at) ps fs) (told t (work (store y) d))) e
       ∙ do-lifted t at ps fs d (store (variable v)) h
+
+  pub sum-done : leb (floor fs + 0) (cells d) ≡ true
+      → lifted (stray at) (ms (at + 1) ps fs) (told t (work (sum q c) d)) ≡ stepped t (exec (DO (sum q (variable v))) at ps fs d)
+  sum-done h =
+      lifted-next (stray at) at ps fs _
+      ∙ ap (λ (y : ℕ). lifted (stray at) (ms (suc at) ps fs) (told t (work (sum q y) d))) e
+      ∙ do-lifted t at ps fs d (sum q (variable v)) h
 
   pub upto-done : (l : ℕ) → leb (floor fs + 0) (cells d) ≡ true
       → lifted (stray at) (either (ms (suc at) ps fs) (ms l ps fs)) (told t (test (upto q c) d)) ≡ stepped t (exec (IF (upto q (variable v)) l) at ps fs d)

@@ -9,7 +9,7 @@ use lib.ListN.{length, getD, set, length-set}
 use native.Mathlib.Numerals.{add-one}
 use lib.Seq.{getD-set-same, getD-set-other}
 use Rattle.machine.specs.Machine.{Frame, fr, frameAt, baseOf, walk, base}
-use Rattle.machine.specs.Model.{wordOf, noteOf, stacked, positionsOf, fateOf, framesOf, begun, Lives}
+use Rattle.machine.specs.Model.{wordOf, noteOf, stacked, positionsOf, fateOf, framesOf, foundOf, begun, Lives}
 
 pub frames-length : (l : List ℕ) (n : ℕ) → length (framesOf l n) ≡ n
 unfolding framesOf
@@ -286,6 +286,47 @@ module _ (l : List ℕ) (a r f u e q : ℕ) (g : Lives l a) (h : a < 256) where
         notes =
             λ i c. ⊎-elim (λ z. subst (λ (j : ℕ). wordOf (begun l (suc a) r f u e q) j 5 ≤ 64) (sym z) (rw begun-noted (omega arith))) (λ d. rw (begun-older i 5 (le-of-suc-le-suc d) (omega arith)) (g .notes i (le-of-suc-le-suc d))) (eq-or-lt-of-le c);
       }
+
+  pub begun-found : foundOf (begun l (suc a) r f u e q) ≡ foundOf l
+  unfolding foundOf
+  begun-found = begun-older 0 4 (omega arith) (omega arith)
+
+-- ---- the cell found, which is a word of the program's
+
+pub found-note : (l : List ℕ) (i k v : ℕ) → 5 ≤ k → foundOf (noteOf l i k v) ≡ foundOf l
+unfolding foundOf
+found-note l i k v h = note-other l i k v 0 4 (omega arith)
+
+pub found-same : (l : List ℕ) (a v : ℕ) → Lives l a → foundOf (noteOf l 0 4 v) ≡ v
+unfolding foundOf
+found-same l a v g = note-same l 0 4 v (g .long) (omega arith) (omega arith)
+
+pub positions-found : (l : List ℕ) (i v : ℕ) → positionsOf (noteOf l 0 4 v) i ≡ positionsOf l i
+unfolding positionsOf
+positions-found l i v = rw (note-other l 0 4 v i 5 (omega arith)) (stacked-low l (70 * i + 6) (wordOf l i 5) 0 4 v (omega arith))
+
+pub frames-found : (l : List ℕ) (a v : ℕ) → framesOf (noteOf l 0 4 v) a ≡ framesOf l a
+unfolding framesOf
+frames-found l zero v = refl
+frames-found l (suc n) v =
+    rw (
+      note-other l 0 4 v (suc n) 0 (omega arith),
+      note-other l 0 4 v (suc n) 1 (omega arith),
+      note-other l 0 4 v (suc n) 2 (omega arith),
+      note-other l 0 4 v (suc n) 3 (omega arith),
+      note-other l 0 4 v (suc n) 4 (omega arith),
+      positions-found l n v,
+      frames-found l n v,
+    )
+
+pub lives-found : (l : List ℕ) (a v : ℕ) → Lives l a → Lives (noteOf l 0 4 v) a
+lives-found l a v g =
+    record {
+      long = note-length l 0 4 v ∙ g .long;
+      many = g .many;
+      links = λ i c. rw (note-other l 0 4 v i 2 (omega arith)) (g .links i c);
+      notes = λ i c. rw (note-other l 0 4 v i 5 (omega arith)) (g .notes i c);
+    }
 
 -- ---- the activations live on
 

@@ -5,7 +5,7 @@ use Prim.Native.Nat.{ℕ, suc, _+_, _-_, _≤_, _<_}
 use native.Mathlib.Omega.{arith}
 use lib.ListN.{length, drop, length-replicate}
 use lib.Dec.{ltb}
-use mathlib.Core.Bool.{true, false}
+use mathlib.Core.Bool.{Bool, true, false}
 use mathlib.Core.Path.{subst}
 use mathlib.Core.Logic.{_≢_, ⊎-elim}
 use native.Mathlib.Nat.{eq-or-lt-of-le, le-of-suc-le-suc}
@@ -15,7 +15,7 @@ use lib.IntN.{ℤ}
 use mir.Syntax.{w32}
 use mir.Val.{SFits}
 use Rattle.machine.specs.declared.Cell.{Cell}
-use Rattle.machine.specs.declared.Cell.the-variants.{Unset, Holds}
+use Rattle.machine.specs.declared.Cell.the-variants.{Unset, Holds, Named}
 use Rattle.machine.specs.declared.Counts.{Counts}
 use Rattle.machine.specs.declared.Used.{Used}
 use Rattle.machine.specs.declared.Used.the-variants.{Value as Value1, Nothing as Nothing1}
@@ -25,27 +25,39 @@ use Rattle.machine.specs.declared.Did.{Did}
 use Rattle.machine.specs.declared.Did.the-variants.{Good, Bad, Stray}
 use Rattle.machine.specs.declared.Chosen.{Chosen}
 use Rattle.machine.specs.declared.Chosen.the-variants.{Yes, No, Bad as BadT, Stray as StrayT}
+use Rattle.machine.specs.declared.Number.the-variants.{Is as Number1, Not}
 use Rattle.machine.specs.declared.Value.{Value}
 use Rattle.machine.specs.declared.Value.the-variants.{Is, Fault}
 use Rattle.answers.specs.declared.Answer.{Answer}
 use Rattle.answers.specs.Numbers.{cells as noCell}
 use Rattle.machine.specs.Run.{Trace, quiet}
-use Rattle.machine.specs.Data.{Data, dat, cells, Res, bad, wrong, good, check, value, nothing, newest, two, back, put, look, newCells, openBlock, valued}
-use Rattle.machine.specs.Model.{Fitting, cellAt, putAt, roomOf, unassigned, cellsOf, heldIn, heldOf, dataOf, traceOf, seenU, onPair, told, fine, ill, fewer, holding, UsedIn, PairIn, Sound, SoundD, SoundT}
+use Rattle.machine.specs.Data.{Data, dat, Lent, cells, Res, bad, wrong, good, check, value, nothing, newest, two, back, put, look, plain, newCells, openBlock, valued}
+use Rattle.machine.specs.Model.{Own, Fitting, numberIn, cellAt, putAt, roomOf, unassigned, cellsOf, heldOf, dataOf, traceOf, seenU, onPair, told, fine, ill, fewer, holding, UsedIn, PairIn, Sound, SoundD, SoundT}
 use Rattle.machine.proofs.Stacks.{sound-unassigned, put-same, put-other, sound-put, sound-same, cells-unassigned, held-unassigned, room-unassigned, room-put, cells-length, cells-put, cells-new, cells-cons, cells-get, cells-set, held-length, held-put, held-new}
 
 -- one cell more
 abbrev pub more : ℕ → Counts → Counts
 more k n = record { cells = n .cells + k; held = n .held; taken = n .taken; written = n .written }
 
-module _ (n : Counts) (a : ℕ) (s i o : List ℤ) where
+-- what a cell holds that was found to hold a number, or none
+pub number-holds : (x : Cell) {v : ℤ} → numberIn x ≡ Number1 v → x ≡ Holds v
+number-holds Unset {v} e = absurd (let z : _≡_ {A = ℕ} 0 1 = cc in omega arith)
+number-holds (Holds w) {v} e = let z : w ≡ v = cc in ap Holds z
+number-holds (Named m) {v} e = absurd (let z : _≡_ {A = ℕ} 0 1 = cc in omega arith)
+
+newest-no : (x : Cell) (w : List Cell) (h : List ℤ) (a : ℕ) (l : Lent) → numberIn x ≡ Not → newest (dat (x ∷ w) h a l) ≡ nothing
+unfolding newest
+newest-no Unset w h a l e = refl
+newest-no (Holds v) w h a l e = absurd (let z : _≡_ {A = ℕ} 0 1 = cc in omega arith)
+newest-no (Named m) w h a l e = refl
+
+module _ (n : Counts) (a : Own) (s i o : List ℤ) where
   pub newest-none : n .cells ≡ 0 → newest (dataOf n a s i o) ≡ nothing
   unfolding newest cellsOf
   newest-none e = rw e
 
-  pub newest-unset : 1 ≤ n .cells → cellAt s (n .cells - 1) ≡ Unset → newest (dataOf n a s i o) ≡ nothing
-  unfolding newest
-  newest-unset h e = rw (cells-cons (n .cells) s h, e)
+  pub newest-not : 1 ≤ n .cells → numberIn (cellAt s (n .cells - 1)) ≡ Not → newest (dataOf n a s i o) ≡ nothing
+  newest-not h e = rw (cells-cons (n .cells) s h) (newest-no (cellAt s (n .cells - 1)) _ _ _ _ e)
 
   pub newest-holds : {v v' : ℤ} → 1 ≤ n .cells → cellAt s (n .cells - 1) ≡ Holds v → v' ≡ v → newest (dataOf n a s i o) ≡ value v' (dataOf (fewer 1 n) a s i o)
   unfolding newest
@@ -65,7 +77,7 @@ module _ (n : Counts) (a : ℕ) (s i o : List ℤ) where
   -- a new cell
   pub new-data : (x : Cell) → Fitting x → n .cells + n .held < roomOf s
       → dataOf (more 1 n) a (putAt s (n .cells) x) i o
-      ≡ dat (x ∷ cellsOf (n .cells) s) (heldOf (n .held) s) a (record { room = roomOf s; input = drop (n .taken) i; space = length o - n .written })
+      ≡ dat (x ∷ cellsOf (n .cells) s) (heldOf (n .held) s) (a .live) (record { room = roomOf s; input = drop (n .taken) i; space = length o - n .written; found = a .found })
   new-data x f h =
       let l : n .cells < roomOf s = omega arith in
       rw (cells-new (n .cells) s x f l, held-put (n .held) s (n .cells) x h, room-put s (n .cells) x)
@@ -80,6 +92,9 @@ module _ (n : Counts) (a : ℕ) (s i o : List ℤ) where
 
   pub cell-out : (c : ℕ) → n .cells ≤ c → ltb c (cells (dataOf n a s i o)) ≡ false
   cell-out c h = rw (cells-length (n .cells) s) (le-ltb c (n .cells) h)
+
+  pub plain-data : {b : Bool} (c : ℕ) → c < n .cells → plain (cellAt s c) ≡ b → plain (look c (dataOf n a s i o)) ≡ b
+  plain-data c h e = rw (look-data c h) e
 
   pub new-none : (q : ℕ) (x : Cell) → roomOf s ≤ n .cells + n .held → newCells q (x ∷ []) (dataOf n a s i o) ≡ bad noCell q
   unfolding newCells check
@@ -167,7 +182,7 @@ module _ (n : Counts) (a : ℕ) (s i o : List ℤ) where
   -- one more is held
   pub hold-data : (v : ℤ) → SFits w32 v → n .cells + n .held < roomOf s
       → dataOf (holding n) a (putAt s (roomOf s - 1 - n .held) (Holds v)) i o
-      ≡ dat (cellsOf (n .cells) s) (v ∷ heldOf (n .held) s) a (record { room = roomOf s; input = drop (n .taken) i; space = length o - n .written })
+      ≡ dat (cellsOf (n .cells) s) (v ∷ heldOf (n .held) s) (a .live) (record { room = roomOf s; input = drop (n .taken) i; space = length o - n .written; found = a .found })
   hold-data v f h =
       let c = roomOf s - 1 - n .held in
       let l : n .cells ≤ c = omega arith in
@@ -223,15 +238,13 @@ pub written-as : (k : ℕ) (n m : Counts) → m ≡ fewer k n → m .written ≡
 written-as k n m e = ap (λ (l : Counts). l .written) e
 
 -- a held cell holds a number
-pub held-number : (n : Counts) (s : List ℤ) (k : ℕ) → Sound n s → k < n .held → cellAt s (roomOf s - suc k) ≡ Unset → ⊥
-held-number n s k g h e = let z : _≡_ {A = Cell} Unset (Holds (heldIn (cellAt s (roomOf s - suc k)))) = sym e ∙ g .holds k h in unset-not z
+pub held-number : (n : Counts) (s : List ℤ) (k : ℕ) → Sound n s → k < n .held → numberIn (cellAt s (roomOf s - suc k)) ≡ Not → ⊥
+held-number n s k g h e = not-held (cellAt s (roomOf s - suc k)) (g .holds k h) e
   where
-    unset-not : {v : ℤ} → _≡_ {A = Cell} Unset (Holds v) → ⊥
-    unset-not e = let z : _≡_ {A = ℕ} 0 1 = ap code e in omega arith
-      where
-        code : Cell → ℕ
-        code Unset = 0
-        code (Holds v) = 1
+    not-held : (x : Cell) {v : ℤ} → x ≡ Holds v → numberIn x ≡ Not → ⊥
+    not-held Unset {v} p e = let z : _≡_ {A = ℕ} 0 1 = cc in omega arith
+    not-held (Holds w) {v} p e = let z : _≡_ {A = ℕ} 0 1 = cc in omega arith
+    not-held (Named m) {v} p e = let z : _≡_ {A = ℕ} 0 1 = cc in omega arith
 
 pub trace-as : (k : ℕ) (n m : Counts) (o : List ℤ) → m ≡ fewer k n → traceOf m o ≡ traceOf n o
 trace-as k n m o e = ap (λ (l : Counts). traceOf l o) e

@@ -8,6 +8,7 @@ pub mod Kept
 pub mod Works
 pub mod Told
 pub mod Execs
+pub mod Named
 pub mod Limits
 pub mod Runs
 pub mod Order

@@ -15,15 +15,17 @@ use lib.Seq.{length-take-le, drop-drop, drop-length}
 use lib.IntN.{ℤ, pos}
 use Rattle.answers.specs.declared.Stop.{Stop}
 use Rattle.answers.specs.declared.Stop.the-variants.{Limit, Wrong}
+use Rattle.machine.specs.declared.Cell.{Cell}
+use Rattle.machine.specs.declared.Cell.the-variants.{Unset, Holds, Named}
 use Rattle.machine.specs.declared.Counts.{Counts}
 use Rattle.machine.specs.declared.Ran.{Ran}
 use Rattle.machine.specs.declared.Outcome.{Outcome}
 use Rattle.machine.specs.declared.Outcome.the-variants.{Goes}
 use Rattle.machine.specs.Run.{Trace, untold, say, quiet, wrote, took, Out, halt, next, End, done, over, after, run}
-use Rattle.machine.specs.Data.{Data, Res, bad, wrong, good, lift}
-use Rattle.machine.specs.Instructions.{Instr, END, DO, IF, JUMP, ENTER, LEAVE, CALL, RETURN, GO, NEXT, fetch, decode}
-use Rattle.machine.specs.Machine.{Frame, fr, Mach, ms, exec, obey, step, finish, start, machine, used, exit, afterwards, job}
-use Rattle.machine.specs.Model.{goes, halted, stepped, traceOf, machOf, roomOf, cellsOf, heldOf, stacked, positionsOf, framesOf, wordOf, Sound, Lives, SoundG, seenO, Drove}
+use Rattle.machine.specs.Data.{Data, Res, bad, wrong, good, lift, Fate}
+use Rattle.machine.specs.Instructions.{Instr, END, DO, IF, JUMP, ENTER, LEAVE, CALL, RETURN, GO, NEXT, NAME, WORK, SEEK, PASS, REFUSE, fetch, decode}
+use Rattle.machine.specs.Machine.{Frame, fr, Mach, ms, workOut, exec, obey, step, finish, start, machine, used, exit, afterwards, job}
+use Rattle.machine.specs.Model.{goes, halted, stepped, traceOf, machOf, roomOf, cellsOf, heldOf, stacked, positionsOf, framesOf, foundOf, wordOf, Sound, Lives, SoundG, seenO, Drove}
 
 -- ---- every instruction counts one
 
@@ -41,6 +43,12 @@ cond-counted : (b : Bool) (x y : Out Mach) → Counted x → Counted y → Count
 cond-counted true x y g h = g
 cond-counted false x y g h = h
 
+workout-counted : (x : Cell) (f : ℕ) (t : Fate) (q q' pc : ℕ) (ps : List ℕ) (fs : List Frame) (d : Data) → Counted (workOut x f t q q' pc ps fs d)
+unfolding workOut
+workout-counted Unset f t q q' pc ps fs d = tt
+workout-counted (Holds v) f t q q' pc ps fs d = tt
+workout-counted (Named n) f t q q' pc ps fs d = lift-counted _ _ _
+
 exec-counted : (i : Instr) (pc : ℕ) (ps : List ℕ) (fs : List Frame) (d : Data) → Counted (exec i pc ps fs d)
 unfolding exec
 exec-counted END pc ps fs d = tt
@@ -55,6 +63,13 @@ exec-counted RETURN pc ps (fr r b l f q ps' ∷ fs) d = lift-counted _ _ _
 exec-counted (GO m l r) pc ps fs d = cond-counted (eqb m (length ps)) _ _ refl tt
 exec-counted (NEXT m) pc [] fs d = tt
 exec-counted (NEXT m) pc (r ∷ ps) fs d = cond-counted (eqb m (length ps)) _ _ refl tt
+exec-counted (NAME q l) pc ps fs d = lift-counted _ _ _
+exec-counted (WORK q u o) pc ps fs d = workout-counted _ _ _ _ _ _ _ _ _
+exec-counted (SEEK q u o) pc ps fs d = workout-counted _ _ _ _ _ _ _ _ _
+exec-counted (PASS q u o) pc ps [] d = tt
+exec-counted (PASS q u o) pc ps (x ∷ fs) d = workout-counted _ _ _ _ _ _ _ _ _
+exec-counted REFUSE pc ps [] d = tt
+exec-counted REFUSE pc ps (x ∷ fs) d = tt
 
 obey-counted : (x : Option Instr) (pc : ℕ) (ps : List ℕ) (fs : List Frame) (d : Data) → Counted (obey x pc ps fs d)
 unfolding obey
@@ -99,9 +114,9 @@ module _ (words : List ℕ) (m : Mach) (l d n : ℕ) (o : Trace) where
 
 -- ---- the whole run
 
-pub started : (s o i : List ℤ) (l : List ℕ) (n : Counts) → n ≡ record { cells = 0; held = 0; taken = 0; written = 0 } → wordOf l 0 5 ≡ 0 → machOf 0 0 n s l i o ≡ start i (roomOf s) (length o)
+pub started : (s o i : List ℤ) (l : List ℕ) (n : Counts) → n ≡ record { cells = 0; held = 0; taken = 0; written = 0 } → wordOf l 0 5 ≡ 0 → foundOf l ≡ 0 → machOf 0 0 n s l i o ≡ start i (roomOf s) (length o)
 unfolding positionsOf stacked framesOf cellsOf heldOf
-started s o i l n e z = rw (e, z, sub-zero (length o))
+started s o i l n e z f = rw (e, z, f, sub-zero (length o))
 
 module _ (n : Counts) (o o₀ : List ℤ) (k : ℕ) (h : n .written ≤ length o) (e : drop (n .written) o ≡ drop (n .written) o₀) where
   out-is : o ≡ take (n .written) o ++ drop (length (take (n .written) o)) o₀
@@ -144,9 +159,9 @@ few-cells : (s : List ℤ) → length s ≤ 8192 → roomOf s ≤ 8192
 unfolding roomOf
 few-cells s h = omega arith
 
-pub driving-start : (code : List ℕ) (input : List ℤ) (limit : ℕ) (store output : List ℤ) (own : List ℕ) → length store ≤ 8192 → Lives own 0 → wordOf own 0 5 ≡ 0
+pub driving-start : (code : List ℕ) (input : List ℤ) (limit : ℕ) (store output : List ℤ) (own : List ℕ) → length store ≤ 8192 → Lives own 0 → wordOf own 0 5 ≡ 0 → foundOf own ≡ 0
     → Driving code input limit store output store output own 0 0 (record { cells = 0; held = 0; taken = 0; written = 0 }) 0
-driving-start code input limit store output own h g z =
+driving-start code input limit store output own h g z f =
     record {
       within = omega arith;
       long-store = refl;
@@ -155,7 +170,7 @@ driving-start code input limit store output own h g z =
       lives = g;
       wrote = omega arith;
       behind = refl;
-      same = let e : limit - 0 ≡ limit = omega arith in rw (e, started store output input own _ refl z);
+      same = let e : limit - 0 ≡ limit = omega arith in rw (e, started store output input own _ refl z f);
     }
 
 module _ {code : List ℕ} {input : List ℤ} {limit : ℕ} {store₀ output₀ store output : List ℤ} {own : List ℕ} {at live : ℕ} {n : Counts} {d : ℕ}
@@ -227,6 +242,10 @@ first-lives =
 pub first-positions : wordOf (replicate 17990 0) 0 5 ≡ 0
 unfolding wordOf
 first-positions = refl
+
+pub first-found : foundOf (replicate 17990 0) ≡ 0
+unfolding foundOf wordOf
+first-found = refl
 
 pub filled : (i : ℕ) (d : List ℤ) {x : List ℤ} → i ≡ length d → x ≡ replicate i (pos 0) ++ drop i d → x ≡ replicate (length d) (pos 0)
 filled i d e h = h ∙ rw (e, drop-length d, append-nil (replicate (length d) (pos 0)))

@@ -1,5 +1,5 @@
--- "At one instruction the order is 20, 29, 28, 24 or 25, then 21 to 23, then 26, then 27." What an instruction asks of the state is a list of
--- demands, each with its answer and its own test of the state; the answer given is the first in the paper's order whose demand fails.
+-- "At one instruction the order is 20, 29, 28, 24 or 25, then 21 to 23, then 26, then 27", "27 coming before 30". What an instruction asks of the
+-- state is a list of demands, each with its answer and its own test of the state; the answer given is the first in the paper's order whose demand fails.
 use Prim.Native.Nat.{ℕ, zero, suc, _+_, _-_, _<_}
 use native.Mathlib.Omega.{arith}
 use mathlib.Core.Bool.{Bool, true, false, cond, not, _&&_, _||_}
@@ -13,16 +13,16 @@ use lib.ListN.{length, getD, drop, length-replicate}
 use lib.Seq.{drop-cons}
 use lib.Signed.{mag, quotZ}
 use Rattle.answers.specs.Answers.{stopNumber}
-use Rattle.answers.specs.Numbers.{ended, limit, range, zeroDivisor, unassigned, inputEnded, outputFull, activations, channel, noInstruction, cells as noCell}
+use Rattle.answers.specs.Numbers.{ended, limit, range, zeroDivisor, unassigned, inputEnded, outputFull, activations, channel, noInstruction, noVariable, cells as noCell}
 use Rattle.machine.specs.declared.Cell.{Cell}
-use Rattle.machine.specs.declared.Cell.the-variants.{Unset, Holds}
+use Rattle.machine.specs.declared.Cell.the-variants.{Unset, Holds, Named}
 use Rattle.machine.specs.declared.Value.{Value}
 use Rattle.machine.specs.declared.Value.the-variants.{Is, Fault}
 use Rattle.machine.specs.Values.{whole, isZero, same, Unary, minus, negation, absolute, apply1, Binary, plus, less, times, over, below, atMost, equal, atLeast, above, unequal, and, or, impl, equiv, apply2, past}
 use Rattle.machine.specs.Run.{Event, quiet, Trace, Out, halt, next, after, run}
-use Rattle.machine.specs.Data.{Data, dat, cells, Res, bad, wrong, good, lift, guard, check, newCells, newest, onValue, back, look, put, reading, valued, unhold, held, input, space, taking, writing, Act, push, load, store, assign, reserve, forget, receive, send, keep, bump, unary, binary, actOn, work, downs, Two, yea, nay, Test, condition, upto, testOn, test, downsT, openBlock, closeBlock, enter, Fate, kept, gone, given, leave, Lent}
-use Rattle.machine.specs.Instructions.{Loc, Instr, END, DO, IF, JUMP, ENTER, LEAVE, CALL, RETURN, GO, NEXT, fetch}
-use Rattle.machine.specs.Machine.{Frame, fr, Mach, ms, floor, cellIn, stray, exec, obey, step, finish}
+use Rattle.machine.specs.Data.{Data, dat, cells, Res, bad, wrong, good, lift, guard, check, newCells, newest, onValue, one, two, back, look, plain, put, reading, valued, unhold, held, input, space, taking, writing, Act, push, load, store, assign, reserve, forget, receive, send, keep, bump, unary, binary, lend, channel as tested, sum as added, actOn, work, downs, Two, yea, nay, Test, condition, upto, testOn, test, downsT, openBlock, closeBlock, nameCell, enter, Fate, kept, gone, given, leave, Lent}
+use Rattle.machine.specs.Instructions.{Loc, Instr, END, DO, IF, JUMP, ENTER, LEAVE, CALL, RETURN, GO, NEXT, NAME, WORK, SEEK, PASS, REFUSE, fetch}
+use Rattle.machine.specs.Machine.{Frame, fr, Mach, ms, walk, base, floor, cellIn, cellAt, stray, workOut, began, exec, obey, step, finish}
 
 -- ---- what is asked for. Cells are numbered from the oldest, values taken from the newest
 
@@ -30,7 +30,8 @@ pub data Demand : Type 0 where
   -- 20: one more instruction, of so many that are left
   left : ℕ → Demand
   -- 29: an instruction at the counter; so many cells of the running activation; numbers in the so many newest cells; with so many cells gone, this
-  -- cell in use; a step and a bound held; so many positions noted; an activation to return from, with its first cell where that is needed
+  -- cell in use and no name formal's; a step and a bound held; so many positions noted; an activation to return from, with its first cell, no name
+  -- formal's, where that is needed; a name formal's cell; an activation that runs
   there : Demand
   own : ℕ → Demand
   numbers : ℕ → Demand
@@ -38,6 +39,8 @@ pub data Demand : Type 0 where
   pair : Demand
   noted : ℕ → Demand
   activation : Demand
+  named : ℕ → Demand
+  running : Demand
   -- 28: the channel, among the values taken
   one-in : ℕ → Demand
   -- 24, 25: a number to take; room for one that is written
@@ -55,6 +58,8 @@ pub data Demand : Type 0 where
   new : ℕ → Demand
   -- 27: one more activation
   one-more : Demand
+  -- 30: an actual that is a variable
+  a-variable : Demand
   -- 0: more to do, where END stands
   more : Demand
 
@@ -67,6 +72,8 @@ answerTo (used k c) = noInstruction
 answerTo pair = noInstruction
 answerTo (noted m) = noInstruction
 answerTo activation = noInstruction
+answerTo (named c) = noInstruction
+answerTo running = noInstruction
 answerTo (one-in k) = channel
 answerTo a-number = inputEnded
 answerTo a-place = outputFull
@@ -78,6 +85,7 @@ answerTo (assigned c) = unassigned
 answerTo given-back = unassigned
 answerTo (new n) = noCell
 answerTo one-more = activations
+answerTo a-variable = noVariable
 answerTo more = ended
 
 -- ---- when it fails: each test by itself, of the state alone
@@ -87,21 +95,29 @@ abbrev none-left : ℕ → Bool
 none-left zero = true
 none-left (suc t) = false
 
--- one of the n newest cells is not there or unassigned
+-- one of the n newest cells holds no number
 abbrev lacks : ℕ → List Cell → Bool
 lacks zero w = false
 lacks (suc n) [] = true
 lacks (suc n) (Unset ∷ w) = true
 lacks (suc n) (Holds v ∷ w) = lacks n w
+lacks (suc n) (Named m ∷ w) = true
 
 abbrev unset : Cell → Bool
 unset Unset = true
 unset (Holds v) = false
+unset (Named m) = false
+
+abbrev unnamed : Cell → Bool
+unnamed Unset = true
+unnamed (Holds v) = true
+unnamed (Named m) = false
 
 -- it holds a number that is so
 abbrev such : (ℤ → Bool) → Cell → Bool
 such f Unset = false
 such f (Holds v) = f v
+such f (Named m) = false
 
 -- fewer than two are held; the step that is held is so
 abbrev few : List ℤ → Bool
@@ -123,11 +139,16 @@ abbrev fault : ℕ → Value → Bool
 fault n (Is v) = false
 fault n (Fault a) = eqb (a .number) n
 
--- no activation, or its first cell (a needed result) or those below it are not there
-abbrev no-return : List Frame → ℕ → Bool
-no-return [] n = true
-no-return (fr r b l kept q ps ∷ fs) n = not (ltb b n)
-no-return (fr r b l gone q ps ∷ fs) n = not (leb b n)
+-- the program runs, which is no activation
+abbrev no-activation : List Frame → Bool
+no-activation [] = true
+no-activation (x ∷ fs) = false
+
+-- no activation, or its first cell (a needed result, and no name formal's) or those below it are not there
+abbrev no-return : List Frame → List Cell → Bool
+no-return [] w = true
+no-return (fr r b l kept q ps ∷ fs) w = not (ltb b (length w) && plain (getD w (length w - suc b) Unset))
+no-return (fr r b l gone q ps ∷ fs) w = not (leb b (length w))
 
 -- a needed result is unassigned
 abbrev no-result : List Frame → List Cell → Bool
@@ -140,10 +161,12 @@ fails ps fs d (left t) = none-left t
 fails ps fs d there = true
 fails ps fs d (own n) = not (leb (floor fs + n) (cells d))
 fails ps fs (dat w h a l) (numbers n) = lacks n w
-fails ps fs (dat w h a l) (used k c) = not (ltb c (length (drop k w)))
+fails ps fs (dat w h a l) (used k c) = not (ltb c (length (drop k w)) && plain (getD (drop k w) (length (drop k w) - suc c) Unset))
 fails ps fs (dat w h a l) pair = few h
 fails ps fs d (noted m) = not (eqb m (length ps))
-fails ps fs (dat w h a l) activation = no-return fs (length w)
+fails ps fs (dat w h a l) activation = no-return fs w
+fails ps fs d (named c) = unnamed (cellAt c d)
+fails ps fs d running = no-activation fs
 fails ps fs (dat w h a l) (one-in k) = such (λ v. not (same v (pos 1))) (getD w k Unset)
 fails ps fs d a-number = none-of (input d)
 fails ps fs d a-place = not (ltb 0 (space d))
@@ -155,6 +178,7 @@ fails ps fs d (assigned c) = unset (look c d)
 fails ps fs (dat w h a l) given-back = no-result fs w
 fails ps fs (dat w h a l) (new n) = not (leb (length w + length h + n) (l .room))
 fails ps fs (dat w h a l) one-more = not (ltb a 256)
+fails ps fs d a-variable = true
 fails ps fs d more = true
 
 -- ---- what each instruction asks for, in no order that counts
@@ -172,32 +196,44 @@ asksAct keep = own 2 ∷ numbers 2 ∷ []
 asksAct (bump q c) = own 0 ∷ pair ∷ used 0 c ∷ assigned c ∷ sum c ∷ []
 asksAct (unary q o) = own 1 ∷ numbers 1 ∷ result1 o ∷ []
 asksAct (binary q o) = own 2 ∷ numbers 2 ∷ result2 o ∷ divisor o ∷ []
+asksAct (lend c) = own 0 ∷ used 0 c ∷ []
+asksAct (tested q) = own 1 ∷ numbers 1 ∷ one-in 0 ∷ []
+asksAct (added q c) = own 0 ∷ pair ∷ used 0 c ∷ assigned c ∷ sum c ∷ new 1 ∷ []
 
 abbrev pub asksTest : Test ℕ → List Demand
 asksTest condition = own 1 ∷ numbers 1 ∷ []
 asksTest (upto q c) = own 0 ∷ pair ∷ used 0 c ∷ assigned c ∷ []
 
-abbrev pub asks : List Frame → Instr → List Demand
-asks fs END = more ∷ []
-asks fs (DO a) = asksAct (actOn (cellIn fs) a)
-asks fs (IF t l) = asksTest (testOn (cellIn fs) t)
-asks fs (JUMP l) = []
-asks fs (ENTER q n l) = new n ∷ []
-asks fs (LEAVE n) = own n ∷ []
-asks fs (CALL q l u n f) = own n ∷ one-more ∷ []
-asks fs RETURN = activation ∷ given-back ∷ []
-asks fs (GO m l r) = noted m ∷ []
-asks fs (NEXT m) = noted (suc m) ∷ []
+-- a name formal's cell, o behind the first of the activation u out; and an activation more
+abbrev pub working : List Frame → ℕ → ℕ → List Demand
+working fs u o = named (base fs (walk fs (length fs) u) + o) ∷ one-more ∷ []
+
+abbrev pub asks : List Frame → Data → Instr → List Demand
+asks fs d END = more ∷ []
+asks fs d (DO a) = asksAct (actOn (cellIn fs d) a)
+asks fs d (IF t l) = asksTest (testOn (cellIn fs d) t)
+asks fs d (JUMP l) = []
+asks fs d (ENTER q n l) = new n ∷ []
+asks fs d (LEAVE n) = own n ∷ []
+asks fs d (CALL q l u n f) = own n ∷ one-more ∷ []
+asks fs d RETURN = activation ∷ given-back ∷ []
+asks fs d (GO m l r) = noted m ∷ []
+asks fs d (NEXT m) = noted (suc m) ∷ []
+asks fs d (NAME q l) = new 1 ∷ []
+asks fs d (WORK q u o) = working fs u o
+asks fs d (SEEK q u o) = working fs u o
+asks fs d (PASS q u o) = running ∷ working fs u o
+asks fs d REFUSE = running ∷ a-variable ∷ []
 
 -- .. and what stands at the counter: an instruction, or none
-abbrev pub asked : List Frame → Option Instr → List Demand
-asked fs none = there ∷ []
-asked fs (some i) = asks fs i
+abbrev pub asked : List Frame → Data → Option Instr → List Demand
+asked fs d none = there ∷ []
+asked fs d (some i) = asks fs d i
 
--- ---- the paper's order: "20, 29, 28, 24 or 25, then 21 to 23, then 26, then 27"; and 0 where END stands and nothing else is due
+-- ---- the paper's order: "20, 29, 28, 24 or 25, then 21 to 23, then 26, then 27", then 30; and 0 where END stands and nothing else is due
 
 abbrev pub order : List ℕ
-order = limit ∷ noInstruction ∷ channel ∷ inputEnded ∷ outputFull ∷ range ∷ zeroDivisor ∷ unassigned ∷ noCell ∷ activations ∷ ended ∷ []
+order = limit ∷ noInstruction ∷ channel ∷ inputEnded ∷ outputFull ∷ range ∷ zeroDivisor ∷ unassigned ∷ noCell ∷ activations ∷ noVariable ∷ ended ∷ []
 
 -- demands by their answers, each with whether it fails
 abbrev pub due : List ℕ → List Frame → Data → List Demand → List (ℕ × Bool)
@@ -243,15 +279,16 @@ lost A true l e = rw e
 lost A false l e = rw e
 
 -- the channel, then input
-receives : (g u s : Bool) (q : ℕ) (i : List ℤ) (c : ℕ) (d : Data)
-    → told (guard g (guard u (check s channel q (taking q c d i))))
-    ≡ given-out ((noInstruction, not g) ∷ (noInstruction, false) ∷ (noInstruction, not u) ∷ (channel, not s) ∷ (inputEnded, none-of i) ∷ [])
+receives : (g u p s : Bool) (q : ℕ) (i : List ℤ) (c : ℕ) (d : Data)
+    → told (guard g (guard u (guard p (check s channel q (taking q c d i)))))
+    ≡ given-out ((noInstruction, not g) ∷ (noInstruction, false) ∷ (noInstruction, not (u && p)) ∷ (channel, not s) ∷ (inputEnded, none-of i) ∷ [])
 unfolding guard check taking given-out
-receives true true true q [] c d = refl
-receives true true true q (v ∷ i) c d = refl
-receives true true false q i c d = refl
-receives true false s q i c d = refl
-receives false u s q i c d = refl
+receives true true true true q [] c d = refl
+receives true true true true q (v ∷ i) c d = refl
+receives true true true false q i c d = refl
+receives true true false s q i c d = refl
+receives true false p s q i c d = refl
+receives false u p s q i c d = refl
 
 module _ {A : Type 0} where
   fine : (g : Bool) (e : Event) (x : A) → told (guard g (good e x)) ≡ given-out ((noInstruction, not g) ∷ (noInstruction, false) ∷ [])
@@ -259,11 +296,19 @@ module _ {A : Type 0} where
   fine true e x = refl
   fine false e x = refl
 
-  in-use : (g u : Bool) (e : Event) (x : A) → told (guard g (guard u (good e x))) ≡ given-out ((noInstruction, not g) ∷ (noInstruction, false) ∷ (noInstruction, not u) ∷ [])
+  in-use : (g u p : Bool) (e : Event) (x : A) → told (guard g (guard u (guard p (good e x)))) ≡ given-out ((noInstruction, not g) ∷ (noInstruction, false) ∷ (noInstruction, not (u && p)) ∷ [])
   unfolding guard given-out
-  in-use true true e x = refl
-  in-use true false e x = refl
-  in-use false u e x = refl
+  in-use true true true e x = refl
+  in-use true true false e x = refl
+  in-use true false p e x = refl
+  in-use false u p e x = refl
+
+  lends : (g u p : Bool) (e : Event) (x : A) → told (guard g (guard u (guard p (good e x)))) ≡ given-out ((noInstruction, not g) ∷ (noInstruction, not (u && p)) ∷ [])
+  unfolding guard given-out
+  lends true true true e x = refl
+  lends true true false e x = refl
+  lends true false p e x = refl
+  lends false u p e x = refl
 
   -- a new cell
   roomy : (g r : Bool) (q : ℕ) (e : Event) (x : A) → told (guard g (check r noCell q (good e x))) ≡ given-out ((noInstruction, not g) ∷ (noCell, not r) ∷ [])
@@ -274,23 +319,32 @@ module _ {A : Type 0} where
 
   -- a cell read, and what its value comes to
   read-new : (g u r : Bool) (q : ℕ) (c : Cell) (k : ℤ → A)
-      → told (guard g (guard u (reading q (λ v. check r noCell q (good quiet (k v))) c)))
-      ≡ given-out ((noInstruction, not g) ∷ (noInstruction, not u) ∷ (unassigned, unset c) ∷ (noCell, not r) ∷ [])
+      → told (guard g (guard u (guard (plain c) (reading q (λ v. check r noCell q (good quiet (k v))) c))))
+      ≡ given-out ((noInstruction, not g) ∷ (noInstruction, not (u && plain c)) ∷ (unassigned, unset c) ∷ (noCell, not r) ∷ [])
   unfolding guard check reading given-out
   read-new true true true q (Holds v) k = refl
   read-new true true false q (Holds v) k = refl
   read-new true true r q Unset k = refl
+  read-new true true r q (Named m) k = refl
   read-new true false r q c k = refl
   read-new false u r q c k = refl
 
   read-test : (g u : Bool) (q : ℕ) (c : Cell) (k : ℤ → A)
-      → told (guard g (guard u (reading q (λ v. good quiet (k v)) c)))
-      ≡ given-out ((noInstruction, not g) ∷ (noInstruction, false) ∷ (noInstruction, not u) ∷ (unassigned, unset c) ∷ [])
+      → told (guard g (guard u (guard (plain c) (reading q (λ v. good quiet (k v)) c))))
+      ≡ given-out ((noInstruction, not g) ∷ (noInstruction, false) ∷ (noInstruction, not (u && plain c)) ∷ (unassigned, unset c) ∷ [])
   unfolding guard reading given-out
   read-test true true q (Holds v) k = refl
   read-test true true q Unset k = refl
+  read-test true true q (Named m) k = refl
   read-test true false q c k = refl
   read-test false u q c k = refl
+
+  -- the channel alone
+  tests : (g s : Bool) (q : ℕ) (e : Event) (x : A) → told (guard g (check s channel q (good e x))) ≡ given-out ((noInstruction, not g) ∷ (noInstruction, false) ∷ (channel, not s) ∷ [])
+  unfolding guard check given-out
+  tests true true q e x = refl
+  tests true false q e x = refl
+  tests false s q e x = refl
 
   -- the channel, then output
   sends : (g s r : Bool) (q : ℕ) (e : Event) (x : A)
@@ -320,21 +374,27 @@ module _ {A : Type 0} where
   calls true false q e x = refl
   calls false r q e x = refl
 
+  enters : (r : Bool) (q : ℕ) (e : Event) (x : A) → told (check r activations q (good e x)) ≡ given-out ((activations, not r) ∷ [])
+  unfolding check given-out
+  enters true q e x = refl
+  enters false q e x = refl
+
   -- a return, with the result that is needed and without
-  returns : (g b : Bool) (x : Res A) → (T g → told x ≡ given-out ((noInstruction, false) ∷ (unassigned, b) ∷ [])) → told (guard g x) ≡ given-out ((noInstruction, not g) ∷ (unassigned, b) ∷ [])
+  returns : (g p b : Bool) (x : Res A) → (T g → told x ≡ given-out ((noInstruction, not p) ∷ (unassigned, b) ∷ [])) → told (guard g x) ≡ given-out ((noInstruction, not (g && p)) ∷ (unassigned, b) ∷ [])
   unfolding guard given-out
-  returns true b x e = e tt
-  returns false b x e = refl
+  returns true p b x e = e tt
+  returns false p b x e = refl
 
   goes-back : (g : Bool) (e : Event) (x : A) → told (guard g (good e x)) ≡ given-out ((noInstruction, not g) ∷ (unassigned, false) ∷ [])
   unfolding guard given-out
   goes-back true e x = refl
   goes-back false e x = refl
 
-results : (q : ℕ) (c : Cell) (w : List Cell) (h : List ℤ) (a : ℕ) (l : Lent) → told (given q (c ∷ w) h a l) ≡ given-out ((noInstruction, false) ∷ (unassigned, unset c) ∷ [])
+results : (q : ℕ) (c : Cell) (w : List Cell) (h : List ℤ) (a : ℕ) (l : Lent) → told (given q (c ∷ w) h a l) ≡ given-out ((noInstruction, not (plain c)) ∷ (unassigned, unset c) ∷ [])
 unfolding given given-out
 results q Unset w h a l = refl
 results q (Holds v) w h a l = refl
+results q (Named m) w h a l = refl
 
 -- a return position
 positions : (t pc : ℕ) (b : Bool) (m : Mach) → answered (suc t) (cond b (next 1 quiet m) (halt (stray pc))) ≡ given-out ((noInstruction, not b) ∷ [])
@@ -410,13 +470,31 @@ module _ {A : Type 0} where
   two-values false q k v h = refl
 
   read-sum : (g u : Bool) (q : ℕ) (c : Cell) (k : ℤ → A) (f : ℤ → Value) → ((v : ℤ) → Ranged (f v))
-      → told (guard g (guard u (reading q (λ v. valued q (λ x. good quiet (k x)) (f v)) c)))
-      ≡ given-out ((noInstruction, not g) ∷ (noInstruction, false) ∷ (noInstruction, not u) ∷ (unassigned, unset c) ∷ (range, such (λ v. fault range (f v)) c) ∷ [])
+      → told (guard g (guard u (guard (plain c) (reading q (λ v. valued q (λ x. good quiet (k x)) (f v)) c))))
+      ≡ given-out ((noInstruction, not g) ∷ (noInstruction, false) ∷ (noInstruction, not (u && plain c)) ∷ (unassigned, unset c) ∷ (range, such (λ v. fault range (f v)) c) ∷ [])
   unfolding guard reading given-out
   read-sum true true q (Holds v) k f h = one-value true q k (f v) (h v)
   read-sum true true q Unset k f h = refl
+  read-sum true true q (Named m) k f h = refl
   read-sum true false q c k f h = refl
   read-sum false u q c k f h = refl
+
+  -- a value in a new cell, and a cell's sum there
+  new-value : (r : Bool) (q : ℕ) (k : ℤ → A) (v : Value) → Ranged v → told (valued q (λ x. check r noCell q (good quiet (k x))) v) ≡ given-out ((range, fault range v) ∷ (noCell, not r) ∷ [])
+  unfolding valued check given-out
+  new-value true q k (Is x) h = refl
+  new-value false q k (Is x) h = refl
+  new-value r q k (Fault a) h = rw h
+
+  new-sum : (g u r : Bool) (q : ℕ) (c : Cell) (k : ℤ → A) (f : ℤ → Value) → ((v : ℤ) → Ranged (f v))
+      → told (guard g (guard u (guard (plain c) (reading q (λ v. valued q (λ x. check r noCell q (good quiet (k x))) (f v)) c))))
+      ≡ given-out ((noInstruction, not g) ∷ (noInstruction, false) ∷ (noInstruction, not (u && plain c)) ∷ (unassigned, unset c) ∷ (range, such (λ v. fault range (f v)) c) ∷ (noCell, not r) ∷ [])
+  unfolding guard reading given-out
+  new-sum true true r q (Holds v) k f h = new-value r q k (f v) (h v)
+  new-sum true true r q Unset k f h = refl
+  new-sum true true r q (Named m) k f h = refl
+  new-sum true false r q c k f h = refl
+  new-sum false u r q c k f h = refl
 
 -- ---- each instruction
 
@@ -425,64 +503,81 @@ module _ (ps : List ℕ) (fs : List Frame) where
   abbrev Due : Data → List Demand → Option ℕ
   Due d l = given-out (due ps fs d l)
 
-  act-first : (a : Act Loc) (d : Data) → told (guard (leb (floor fs + downs a) (cells d)) (work (actOn (cellIn fs) a) d)) ≡ Due d (asksAct (actOn (cellIn fs) a))
-  unfolding work newCells newest onValue look input space writing held
-  act-first (push q v) (dat w h a l) = roomy (leb (floor fs + 0) (length w)) (leb (length w + length h + 1) (l .room)) q quiet _
-  act-first (load q c) (dat w h a l) =
-      read-new (leb (floor fs + 0) (length w)) (ltb (cellIn fs c) (length w)) (leb (length w + length h + 1) (l .room)) q (look (cellIn fs c) (dat w h a l)) (λ v. dat (Holds v ∷ w) h a l)
-  act-first (store c) (dat [] h a l) = lost Data (leb (floor fs + 1) 0) _ refl
-  act-first (store c) (dat (Unset ∷ w) h a l) = lost Data (leb (floor fs + 1) (length (Unset ∷ w))) _ refl
-  act-first (store c) (dat (Holds v ∷ w) h a l) = in-use (leb (floor fs + 1) (length (Holds v ∷ w))) (ltb (cellIn fs c) (length w)) quiet _
-  act-first (assign c) (dat [] h a l) = lost Data (leb (floor fs + 1) 0) _ refl
-  act-first (assign c) (dat (Unset ∷ w) h a l) = lost Data (leb (floor fs + 1) (length (Unset ∷ w))) _ refl
-  act-first (assign c) (dat (Holds v ∷ w) h a l) = in-use (leb (floor fs + 1) (length (Holds v ∷ w))) (ltb (cellIn fs c) (length w)) quiet _
-  act-first (reserve q) (dat w h a l) = roomy (leb (floor fs + 0) (length w)) (leb (length w + length h + 1) (l .room)) q quiet _
-  act-first forget (dat [] h a l) = lost Data (leb (floor fs + 1) 0) _ refl
-  act-first forget (dat (Unset ∷ w) h a l) = lost Data (leb (floor fs + 1) (length (Unset ∷ w))) _ refl
-  act-first forget (dat (Holds v ∷ w) h a l) = fine (leb (floor fs + 1) (length (Holds v ∷ w))) quiet _
-  act-first (receive q c) (dat [] h a l) = lost Data (leb (floor fs + 1) 0) _ refl
-  act-first (receive q c) (dat (Unset ∷ w) h a l) = lost Data (leb (floor fs + 1) (length (Unset ∷ w))) _ refl
-  act-first (receive q c) (dat (Holds v ∷ w) h a l) =
-      receives (leb (floor fs + 1) (length (Holds v ∷ w))) (ltb (cellIn fs c) (length w)) (same v (pos 1)) q (l .input) (cellIn fs c) (dat w h a l)
-  act-first (send q) (dat [] h a l) = lost Data (leb (floor fs + 2) 0) _ refl
-  act-first (send q) (dat (Unset ∷ w) h a l) = lost Data (leb (floor fs + 2) (length (Unset ∷ w))) _ refl
-  act-first (send q) (dat (Holds v ∷ []) h a l) = lost Data (leb (floor fs + 2) (length (Holds v ∷ []))) _ refl
-  act-first (send q) (dat (Holds v ∷ Unset ∷ w) h a l) = lost Data (leb (floor fs + 2) (length (Holds v ∷ Unset ∷ w))) _ refl
-  act-first (send q) (dat (Holds v ∷ Holds k ∷ w) h a l) =
-      sends (leb (floor fs + 2) (length (Holds v ∷ Holds k ∷ w))) (same k (pos 1)) (ltb 0 (l .space)) q _ _
-  act-first keep (dat [] h a l) = lost Data (leb (floor fs + 2) 0) _ refl
-  act-first keep (dat (Unset ∷ w) h a l) = lost Data (leb (floor fs + 2) (length (Unset ∷ w))) _ refl
-  act-first keep (dat (Holds v ∷ []) h a l) = lost Data (leb (floor fs + 2) (length (Holds v ∷ []))) _ refl
-  act-first keep (dat (Holds v ∷ Unset ∷ w) h a l) = lost Data (leb (floor fs + 2) (length (Holds v ∷ Unset ∷ w))) _ refl
-  act-first keep (dat (Holds v ∷ Holds k ∷ w) h a l) = fine (leb (floor fs + 2) (length (Holds v ∷ Holds k ∷ w))) quiet _
-  act-first (bump q c) (dat w [] a l) = lost Data (leb (floor fs + 0) (length w)) _ refl
-  act-first (bump q c) (dat w (y ∷ []) a l) = lost Data (leb (floor fs + 0) (length w)) _ refl
-  act-first (bump q c) (dat w (y ∷ x ∷ h) a l) =
-      read-sum (leb (floor fs + 0) (length w)) (ltb (cellIn fs c) (length w)) q (look (cellIn fs c) (dat w (y ∷ x ∷ h) a l)) (λ s. put (cellIn fs c) s (dat w (y ∷ x ∷ h) a l)) (λ v. whole (v +ℤ x)) (λ v. whole-ranged (v +ℤ x))
-  act-first (unary q o) (dat [] h a l) = lost Data (leb (floor fs + 1) 0) _ refl
-  act-first (unary q o) (dat (Unset ∷ w) h a l) = lost Data (leb (floor fs + 1) (length (Unset ∷ w))) _ refl
-  act-first (unary q o) (dat (Holds x ∷ w) h a l) =
-      one-value (leb (floor fs + 1) (length (Holds x ∷ w))) q (λ v. back v (dat w h a l)) (apply1 o x) (unary-ranged o x)
-  act-first (binary q o) (dat [] h a l) = lost Data (leb (floor fs + 2) 0) _ refl
-  act-first (binary q o) (dat (Unset ∷ w) h a l) = lost Data (leb (floor fs + 2) (length (Unset ∷ w))) _ refl
-  act-first (binary q o) (dat (Holds y ∷ []) h a l) = lost Data (leb (floor fs + 2) (length (Holds y ∷ []))) _ refl
-  act-first (binary q o) (dat (Holds y ∷ Unset ∷ w) h a l) = lost Data (leb (floor fs + 2) (length (Holds y ∷ Unset ∷ w))) _ refl
-  act-first (binary q o) (dat (Holds y ∷ Holds x ∷ w) h a l) =
-      two-values (leb (floor fs + 2) (length (Holds y ∷ Holds x ∷ w))) q (λ v. back v (dat w h a l)) (apply2 o x y) (binary-faulty o x y)
+  -- a value is taken: the newest cell holds a number; and two
+  module _ {A : Type 0} (x : List Demand) (z : (d : Data) → is-due limit (due ps fs d x) ≡ false) where
+    takes : (f : ℤ → Data → Res A) (w : List Cell) (h : List ℤ) (a : ℕ) (l : Lent)
+        → ((v : ℤ) (w : List Cell) → told (guard (leb (floor fs + 1) (length (Holds v ∷ w))) (f v (dat w h a l))) ≡ Due (dat (Holds v ∷ w) h a l) (own 1 ∷ numbers 1 ∷ x))
+        → told (guard (leb (floor fs + 1) (length w)) (one f (dat w h a l))) ≡ Due (dat w h a l) (own 1 ∷ numbers 1 ∷ x)
+    unfolding newest onValue
+    takes f [] h a l e = lost A (leb (floor fs + 1) 0) _ (z _)
+    takes f (Unset ∷ w) h a l e = lost A (leb (floor fs + 1) (length (Unset ∷ w))) _ (z _)
+    takes f (Holds v ∷ w) h a l e = e v w
+    takes f (Named m ∷ w) h a l e = lost A (leb (floor fs + 1) (length (Named m ∷ w))) _ (z _)
 
-  test-first : (a : Test Loc) (d : Data) → told (guard (leb (floor fs + downsT a) (cells d)) (test (testOn (cellIn fs) a) d)) ≡ Due d (asksTest (testOn (cellIn fs) a))
-  unfolding test newest onValue look held
-  test-first condition (dat [] h a l) = lost Two (leb (floor fs + 1) 0) _ refl
-  test-first condition (dat (Unset ∷ w) h a l) = lost Two (leb (floor fs + 1) (length (Unset ∷ w))) _ refl
-  test-first condition (dat (Holds v ∷ w) h a l) = fine (leb (floor fs + 1) (length (Holds v ∷ w))) quiet _
-  test-first (upto q c) (dat w [] a l) = lost Two (leb (floor fs + 0) (length w)) _ refl
-  test-first (upto q c) (dat w (y ∷ []) a l) = lost Two (leb (floor fs + 0) (length w)) _ refl
-  test-first (upto q c) (dat w (y ∷ x ∷ h) a l) =
-      read-test (leb (floor fs + 0) (length w)) (ltb (cellIn fs c) (length w)) q (look (cellIn fs c) (dat w (y ∷ x ∷ h) a l)) (λ v. cond (past v x y) (nay (unhold (dat w (y ∷ x ∷ h) a l))) (yea (dat w (y ∷ x ∷ h) a l)))
+    takes-two : (f : ℤ → ℤ → Data → Res A) (w : List Cell) (h : List ℤ) (a : ℕ) (l : Lent)
+        → ((v y : ℤ) (w : List Cell) → told (guard (leb (floor fs + 2) (length (Holds y ∷ Holds v ∷ w))) (f v y (dat w h a l))) ≡ Due (dat (Holds y ∷ Holds v ∷ w) h a l) (own 2 ∷ numbers 2 ∷ x))
+        → told (guard (leb (floor fs + 2) (length w)) (two f (dat w h a l))) ≡ Due (dat w h a l) (own 2 ∷ numbers 2 ∷ x)
+    unfolding newest onValue
+    takes-two f [] h a l e = lost A (leb (floor fs + 2) 0) _ (z _)
+    takes-two f (Unset ∷ w) h a l e = lost A (leb (floor fs + 2) (length (Unset ∷ w))) _ (z _)
+    takes-two f (Named m ∷ w) h a l e = lost A (leb (floor fs + 2) (length (Named m ∷ w))) _ (z _)
+    takes-two f (Holds y ∷ []) h a l e = lost A (leb (floor fs + 2) (length (Holds y ∷ []))) _ (z _)
+    takes-two f (Holds y ∷ Unset ∷ w) h a l e = lost A (leb (floor fs + 2) (length (Holds y ∷ Unset ∷ w))) _ (z _)
+    takes-two f (Holds y ∷ Holds v ∷ w) h a l e = e v y w
+    takes-two f (Holds y ∷ Named m ∷ w) h a l e = lost A (leb (floor fs + 2) (length (Holds y ∷ Named m ∷ w))) _ (z _)
+
+  -- f: which cell an operand means
+  act-first : (f : Loc → ℕ) (a : Act Loc) (d : Data) → told (guard (leb (floor fs + downs a) (cells d)) (work (actOn f a) d)) ≡ Due d (asksAct (actOn f a))
+  unfolding work newCells look input space writing held
+  act-first f (push q v) (dat w h a l) = roomy (leb (floor fs + 0) (length w)) (leb (length w + length h + 1) (l .room)) q quiet _
+  act-first f (load q c) (dat w h a l) =
+      read-new (leb (floor fs + 0) (length w)) (ltb (f c) (length w)) (leb (length w + length h + 1) (l .room)) q (look (f c) (dat w h a l)) (λ v. dat (Holds v ∷ w) h a l)
+  act-first f (store c) (dat w h a l) =
+      takes (used 1 (f c) ∷ []) (λ d. refl) _ w h a l λ v w. in-use (leb (floor fs + 1) (length (Holds v ∷ w))) (ltb (f c) (length w)) (plain (look (f c) (dat w h a l))) quiet _
+  act-first f (assign c) (dat w h a l) =
+      takes (used 1 (f c) ∷ []) (λ d. refl) _ w h a l λ v w. in-use (leb (floor fs + 1) (length (Holds v ∷ w))) (ltb (f c) (length w)) (plain (look (f c) (dat w h a l))) quiet _
+  act-first f (reserve q) (dat w h a l) = roomy (leb (floor fs + 0) (length w)) (leb (length w + length h + 1) (l .room)) q quiet _
+  act-first f forget (dat w h a l) = takes [] (λ d. refl) _ w h a l λ v w. fine (leb (floor fs + 1) (length (Holds v ∷ w))) quiet _
+  act-first f (receive q c) (dat w h a l) =
+      takes (used 1 (f c) ∷ one-in 0 ∷ a-number ∷ []) (λ d. refl) _ w h a l
+      λ v w. receives (leb (floor fs + 1) (length (Holds v ∷ w))) (ltb (f c) (length w)) (plain (look (f c) (dat w h a l))) (same v (pos 1)) q (l .input) (f c) (dat w h a l)
+  act-first f (send q) (dat w h a l) =
+      takes-two (one-in 1 ∷ a-place ∷ []) (λ d. refl) _ w h a l
+      λ k v w. sends (leb (floor fs + 2) (length (Holds v ∷ Holds k ∷ w))) (same k (pos 1)) (ltb 0 (l .space)) q _ _
+  act-first f keep (dat w h a l) = takes-two [] (λ d. refl) _ w h a l λ x y w. fine (leb (floor fs + 2) (length (Holds y ∷ Holds x ∷ w))) quiet _
+  act-first f (bump q c) (dat w [] a l) = lost Data (leb (floor fs + 0) (length w)) _ refl
+  act-first f (bump q c) (dat w (y ∷ []) a l) = lost Data (leb (floor fs + 0) (length w)) _ refl
+  act-first f (bump q c) (dat w (y ∷ x ∷ h) a l) =
+      read-sum (leb (floor fs + 0) (length w)) (ltb (f c) (length w)) q (look (f c) (dat w (y ∷ x ∷ h) a l)) (λ s. put (f c) s (dat w (y ∷ x ∷ h) a l)) (λ v. whole (v +ℤ x)) (λ v. whole-ranged (v +ℤ x))
+  act-first f (unary q o) (dat w h a l) =
+      takes (result1 o ∷ []) (λ d. refl) _ w h a l
+      λ x w. one-value (leb (floor fs + 1) (length (Holds x ∷ w))) q (λ v. back v (dat w h a l)) (apply1 o x) (unary-ranged o x)
+  act-first f (binary q o) (dat w h a l) =
+      takes-two (result2 o ∷ divisor o ∷ []) (λ d. refl) _ w h a l
+      λ x y w. two-values (leb (floor fs + 2) (length (Holds y ∷ Holds x ∷ w))) q (λ v. back v (dat w h a l)) (apply2 o x y) (binary-faulty o x y)
+  act-first f (lend c) (dat w h a l) = lends (leb (floor fs + 0) (length w)) (ltb (f c) (length w)) (plain (look (f c) (dat w h a l))) quiet _
+  act-first f (tested q) (dat w h a l) =
+      takes (one-in 0 ∷ []) (λ d. refl) _ w h a l λ k w. tests (leb (floor fs + 1) (length (Holds k ∷ w))) (same k (pos 1)) q quiet _
+  act-first f (added q c) (dat w [] a l) = lost Data (leb (floor fs + 0) (length w)) _ refl
+  act-first f (added q c) (dat w (y ∷ []) a l) = lost Data (leb (floor fs + 0) (length w)) _ refl
+  act-first f (added q c) (dat w (y ∷ x ∷ h) a l) =
+      new-sum (leb (floor fs + 0) (length w)) (ltb (f c) (length w)) (leb (length w + length (y ∷ x ∷ h) + 1) (l .room)) q (look (f c) (dat w (y ∷ x ∷ h) a l)) (λ s. dat (Holds s ∷ w) (y ∷ x ∷ h) a l) (λ v. whole (v +ℤ x)) (λ v. whole-ranged (v +ℤ x))
+
+  test-first : (f : Loc → ℕ) (a : Test Loc) (d : Data) → told (guard (leb (floor fs + downsT a) (cells d)) (test (testOn f a) d)) ≡ Due d (asksTest (testOn f a))
+  unfolding test look held
+  test-first f condition (dat w h a l) = takes [] (λ d. refl) _ w h a l λ v w. fine (leb (floor fs + 1) (length (Holds v ∷ w))) quiet _
+  test-first f (upto q c) (dat w [] a l) = lost Two (leb (floor fs + 0) (length w)) _ refl
+  test-first f (upto q c) (dat w (y ∷ []) a l) = lost Two (leb (floor fs + 0) (length w)) _ refl
+  test-first f (upto q c) (dat w (y ∷ x ∷ h) a l) =
+      read-test (leb (floor fs + 0) (length w)) (ltb (f c) (length w)) q (look (f c) (dat w (y ∷ x ∷ h) a l)) (λ v. cond (past v x y) (nay (unhold (dat w (y ∷ x ∷ h) a l))) (yea (dat w (y ∷ x ∷ h) a l)))
 
   open-first : (q n : ℕ) (d : Data) → told (openBlock q n d) ≡ Due d (new n ∷ [])
   unfolding openBlock newCells
   open-first q n (dat w h a l) = rw length-replicate (opens (leb (length w + length h + n) (l .room)) q quiet _)
+
+  name-first : (q n : ℕ) (d : Data) → told (nameCell q n d) ≡ Due d (new 1 ∷ [])
+  unfolding nameCell newCells
+  name-first q n (dat w h a l) = opens (leb (length w + length h + 1) (l .room)) q quiet _
 
   -- the cells above the activation's first are among those in use
   close-first : (n : ℕ) (d : Data) → told (guard (leb (floor fs + n) (cells d)) (closeBlock n d)) ≡ Due d (own n ∷ [])
@@ -494,20 +589,32 @@ module _ (ps : List ℕ) (fs : List Frame) where
   unfolding enter
   call-first q n (dat w h a l) = calls (leb (floor fs + n) (length w)) (ltb a 256) q quiet _
 
+  enter-first : (q : ℕ) (d : Data) → told (enter q d) ≡ Due d (one-more ∷ [])
+  unfolding enter
+  enter-first q (dat w h a l) = enters (ltb a 256) q quiet _
+
 -- the result's cell is the first of those that stay
 return-first : (ps : List ℕ) (r b k : ℕ) (f : Fate) (q : ℕ) (ps' : List ℕ) (fs : List Frame) (d : Data) → told (leave f q b d) ≡ Due ps (fr r b k f q ps' ∷ fs) d (activation ∷ given-back ∷ [])
 unfolding leave
 return-first ps r b k kept q ps' fs (dat w h a l) =
-    returns (ltb b (length w)) (unset (getD w (length w - suc b) Unset)) (given q (drop (length w - suc b) w) h (a - 1) l) λ e.
+    returns (ltb b (length w)) (plain (getD w (length w - suc b) Unset)) (unset (getD w (length w - suc b) Unset)) (given q (drop (length w - suc b) w) h (a - 1) l) λ e.
     let n : length w - suc b < length w = omega (arith, leb→le (suc b) (length w) e) in
     rw (drop-cons w (length w - suc b) Unset n) (results q (getD w (length w - suc b) Unset) (drop (suc (length w - suc b)) w) h (a - 1) l)
 return-first ps r b k gone q ps' fs (dat w h a l) = goes-back (leb b (length w)) quiet _
 
-exec-first : (t : ℕ) (i : Instr) (pc : ℕ) (ps : List ℕ) (fs : List Frame) (d : Data) → answered (suc t) (exec i pc ps fs d) ≡ Due ps fs d (asks fs i)
+-- a name formal's actual is worked out where the cell is a name formal's
+work-first : (t : ℕ) (c : Cell) (f : ℕ) (e : Fate) (q q' pc : ℕ) (ps : List ℕ) (fs : List Frame) (d : Data)
+    → answered (suc t) (workOut c f e q q' pc ps fs d) ≡ given-out ((noInstruction, unnamed c) ∷ (activations, fails ps fs d one-more) ∷ [])
+unfolding workOut given-out
+work-first t Unset f e q q' pc ps fs d = refl
+work-first t (Holds v) f e q q' pc ps fs d = refl
+work-first t (Named m) f e q q' pc ps fs d = lift-told t pc _ _ ∙ enter-first ps fs q d
+
+exec-first : (t : ℕ) (i : Instr) (pc : ℕ) (ps : List ℕ) (fs : List Frame) (d : Data) → answered (suc t) (exec i pc ps fs d) ≡ Due ps fs d (asks fs d i)
 unfolding exec given-out
 exec-first t END pc ps fs d = refl
-exec-first t (DO a) pc ps fs d = lift-told t pc _ _ ∙ act-first ps fs a d
-exec-first t (IF a l) pc ps fs d = lift-told t pc _ _ ∙ test-first ps fs a d
+exec-first t (DO a) pc ps fs d = lift-told t pc _ _ ∙ act-first ps fs (cellIn fs d) a d
+exec-first t (IF a l) pc ps fs d = lift-told t pc _ _ ∙ test-first ps fs (cellIn fs d) a d
 exec-first t (JUMP l) pc ps fs d = refl
 exec-first t (ENTER q n l) pc ps fs d = lift-told t pc _ _ ∙ open-first ps fs q n d
 exec-first t (LEAVE n) pc ps fs d = lift-told t pc _ _ ∙ close-first ps fs n d
@@ -517,8 +624,17 @@ exec-first t RETURN pc ps (fr r b l f q ps' ∷ fs) d = lift-told t pc _ _ ∙ r
 exec-first t (GO m l r) pc ps fs d = positions t pc (eqb m (length ps)) _
 exec-first t (NEXT m) pc [] fs d = rw (eqb·suc-zero m)
 exec-first t (NEXT m) pc (r ∷ ps) fs d = rw (eqb·suc-suc m (length ps)) (positions t pc (eqb m (length ps)) _)
+exec-first t (NAME q l) pc ps fs d = lift-told t pc _ _ ∙ name-first ps fs q (suc pc) d
+exec-first t (WORK q u o) pc ps fs d = work-first t (cellAt (base fs (walk fs (length fs) u) + o) d) (walk fs (length fs) u) kept q q pc ps fs d
+exec-first t (SEEK q u o) pc ps fs d = work-first t (cellAt (base fs (walk fs (length fs) u) + o) d) (walk fs (length fs) u) gone q q pc ps fs d
+exec-first t (PASS q u o) pc ps [] d = refl
+exec-first t (PASS q u o) pc ps (x ∷ fs) d =
+    let f = walk (x ∷ fs) (length (x ∷ fs)) u in
+    work-first t (cellAt (base (x ∷ fs) f + o) d) f gone q (began x) pc ps (x ∷ fs) d
+exec-first t REFUSE pc ps [] d = refl
+exec-first t REFUSE pc ps (x ∷ fs) d = refl
 
-obey-first : (t : ℕ) (i : Option Instr) (pc : ℕ) (ps : List ℕ) (fs : List Frame) (d : Data) → answered t (obey i pc ps fs d) ≡ first order (due ps fs d (left t ∷ asked fs i))
+obey-first : (t : ℕ) (i : Option Instr) (pc : ℕ) (ps : List ℕ) (fs : List Frame) (d : Data) → answered t (obey i pc ps fs d) ≡ first order (due ps fs d (left t ∷ asked fs d i))
 unfolding obey given-out
 obey-first zero i pc ps fs d = refl
 obey-first (suc t) none pc ps fs d = refl
@@ -528,7 +644,7 @@ obey-first (suc t) (some i) pc ps fs d = exec-first t i pc ps fs d
 
 -- what stands at the counter asks for this, with t instructions left
 abbrev pub demands : List ℕ → ℕ → Mach → List (ℕ × Bool)
-demands words t (ms pc ps fs d) = due ps fs d (left t ∷ asked fs (fetch words pc))
+demands words t (ms pc ps fs d) = due ps fs d (left t ∷ asked fs d (fetch words pc))
 
 pub in-order : (words : List ℕ) (t : ℕ) (m : Mach) → answered t (step words m) ≡ first order (demands words t m)
 unfolding step
@@ -564,6 +680,7 @@ one-fault (Fault a) (inr h) = rw h
 unset-or-so : (f : ℤ → Bool) (c : Cell) → ((such f c || false) && (unset c || false)) ≡ false
 unset-or-so f Unset = refl
 unset-or-so f (Holds v) = and-no (f v || false)
+unset-or-so f (Named m) = refl
 
 module _ (ps : List ℕ) (fs : List Frame) (t : ℕ) where
   abbrev is : ℕ → Act ℕ → Data → Bool
@@ -585,21 +702,28 @@ module _ (ps : List ℕ) (fs : List Frame) (t : ℕ) where
   act-apart (unary q o) d = (refl, and-no (is range (unary q o) d), and-no (is range (unary q o) d), refl)
   act-apart (binary q o) (dat [] h a l) = (refl, refl, refl, refl)
   act-apart (binary q o) (dat (Unset ∷ w) h a l) = (refl, refl, refl, refl)
+  act-apart (binary q o) (dat (Named m ∷ w) h a l) = (refl, refl, refl, refl)
   act-apart (binary q o) (dat (Holds y ∷ []) h a l) = (refl, refl, refl, refl)
+  act-apart (binary q o) (dat (Holds y ∷ Named m ∷ w) h a l) = (refl, refl, refl, refl)
   act-apart (binary q o) (dat (Holds y ∷ Unset ∷ w) h a l) = (refl, refl, refl, refl)
   act-apart (binary q o) (dat (Holds y ∷ Holds x ∷ w) h a l) =
       let d : Data = dat (Holds y ∷ Holds x ∷ w) h a l in
       (refl, one-fault (apply2 o x y) (binary-faulty o x y), and-no (is range (binary q o) d), and-no (is zeroDivisor (binary q o) d))
+  act-apart (lend c) d = (refl, refl, refl, refl)
+  act-apart (tested q) d = (refl, refl, refl, refl)
+  act-apart (added q c) (dat w [] a l) = (refl, refl, refl, refl)
+  act-apart (added q c) (dat w (y ∷ []) a l) = (refl, refl, refl, refl)
+  act-apart (added q c) (dat w (y ∷ x ∷ h) a l) = (refl, and-no (is range (added q c) (dat w (y ∷ x ∷ h) a l)), unset-or-so (λ v. fault range (whole (v +ℤ x))) (look c (dat w (y ∷ x ∷ h) a l)), refl)
 
   test-apart : (a : Test ℕ) (d : Data) → Apart (due ps fs d (left t ∷ asksTest a))
   test-apart condition d = (refl, refl, refl, refl)
   test-apart (upto q c) d = (refl, refl, refl, refl)
 
-  asked-apart : (i : Option Instr) (d : Data) → Apart (due ps fs d (left t ∷ asked fs i))
+  asked-apart : (i : Option Instr) (d : Data) → Apart (due ps fs d (left t ∷ asked fs d i))
   asked-apart none d = (refl, refl, refl, refl)
   asked-apart (some END) d = (refl, refl, refl, refl)
-  asked-apart (some (DO a)) d = act-apart (actOn (cellIn fs) a) d
-  asked-apart (some (IF a l)) d = test-apart (testOn (cellIn fs) a) d
+  asked-apart (some (DO a)) d = act-apart (actOn (cellIn fs d) a) d
+  asked-apart (some (IF a l)) d = test-apart (testOn (cellIn fs d) a) d
   asked-apart (some (JUMP l)) d = (refl, refl, refl, refl)
   asked-apart (some (ENTER q n l)) d = (refl, refl, refl, refl)
   asked-apart (some (LEAVE n)) d = (refl, refl, refl, refl)
@@ -607,6 +731,11 @@ module _ (ps : List ℕ) (fs : List Frame) (t : ℕ) where
   asked-apart (some RETURN) d = (refl, refl, refl, refl)
   asked-apart (some (GO m l r)) d = (refl, refl, refl, refl)
   asked-apart (some (NEXT m)) d = (refl, refl, refl, refl)
+  asked-apart (some (NAME q l)) d = (refl, refl, refl, refl)
+  asked-apart (some (WORK q u o)) d = (refl, refl, refl, refl)
+  asked-apart (some (SEEK q u o)) d = (refl, refl, refl, refl)
+  asked-apart (some (PASS q u o)) d = (refl, refl, refl, refl)
+  asked-apart (some REFUSE) d = (refl, refl, refl, refl)
 
 pub apart : (words : List ℕ) (t : ℕ) (m : Mach) → Apart (demands words t m)
 apart words t (ms pc ps fs d) = asked-apart ps fs t (fetch words pc) d

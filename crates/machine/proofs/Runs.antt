@@ -10,9 +10,9 @@ use Rattle.machine.specs.Values.{whole, over, apply1, apply2, past}
 use Rattle.machine.specs.declared.Value.{Value}
 use Rattle.machine.specs.declared.Value.the-variants.{Is, Fault as Refused}
 use Rattle.machine.specs.Run.{run}
-use Rattle.machine.specs.Data.{work, test, openBlock, closeBlock, enter, leave, given, newCells, newest, onValue, back, look, put, reading, valued, hold, unhold, held, input, space, rest, spend, taking, writing, lift, guard, check}
+use Rattle.machine.specs.Data.{work, test, openBlock, closeBlock, enter, leave, given, newCells, newest, onValue, back, look, put, reading, valued, hold, unhold, held, foundIn, find, nameCell, input, space, rest, spend, taking, writing, lift, guard, check}
 use Rattle.machine.specs.Instructions.{fetch, decode, actOf, unaryOf, binaryOf}
-use Rattle.machine.specs.Machine.{machine, finish, step, obey, exec, frameAt, walk, cellIn, afterwards}
+use Rattle.machine.specs.Machine.{machine, finish, step, obey, exec, workOut, frameAt, walk, cellIn, afterwards}
 
 -- ended: ENTER@0 1 1; CONST@10 1; STORE 0 0; CONST@20 1; LOAD@22 0 0; OUT@15; LEAVE 1; END
 ended : machine (3 ∷ 8193 ∷ 652 ∷ 1 ∷ 14 ∷ 0 ∷ 1292 ∷ 1 ∷ 1421 ∷ 0 ∷ 979 ∷ 0 ∷ 4 ∷ 8192 ∷ 1 ∷ 0 ∷ []) ([]) 1000 6 3 ≡ record { stop = Ended; done = 8; taken = 0; written = pos 1 ∷ [] }
@@ -50,7 +50,7 @@ unfolding machine finish run step obey exec fetch decode actOf unaryOf binaryOf 
 zero-words = refl
 
 -- unknown operation
-unknown-operation : machine (39 ∷ 0 ∷ []) ([]) 1000 6 3 ≡ record { stop = Wrong (record { at = 0 }); done = 1; taken = 0; written = [] }
+unknown-operation : machine (47 ∷ 0 ∷ []) ([]) 1000 6 3 ≡ record { stop = Wrong (record { at = 0 }); done = 1; taken = 0; written = [] }
 unfolding machine finish run step obey exec fetch decode actOf unaryOf binaryOf work test openBlock closeBlock enter leave given newCells newest onValue back look put reading valued hold unhold held input space rest spend taking writing lift guard check frameAt walk cellIn whole apply1 apply2 past
 unknown-operation = refl
 
@@ -268,6 +268,98 @@ all-lengths-0 = refl
 no-store : machine (268 ∷ 1 ∷ 1 ∷ 0 ∷ []) ([]) 1000 0 0 ≡ record { stop = Fault (refusal 26 4); done = 1; taken = 0; written = [] }
 unfolding machine finish run step obey exec fetch decode actOf unaryOf binaryOf work test openBlock closeBlock enter leave given newCells newest onValue back look put reading valued hold unhold held input space rest spend taking writing lift guard check frameAt walk cellIn whole apply1 apply2 past
 no-store = refl
+
+-- ---- formals called by name
+
+-- name read: JUMP 8; CONST 1; WORK@7 0 0; OUT@8; CONST 1; WORK@9 0 0; OUT@10; RETURN; NAME@5 13; REFUSE; RETURN; CONST@6 40; RETURN; CALL@4 1 0 1; END
+name-read : machine (2 ∷ 8 ∷ 12 ∷ 1 ∷ 488 ∷ 0 ∷ 531 ∷ 0 ∷ 12 ∷ 1 ∷ 616 ∷ 0 ∷ 659 ∷ 0 ∷ 7 ∷ 0 ∷ 359 ∷ 13 ∷ 44 ∷ 0 ∷ 7 ∷ 0 ∷ 396 ∷ 40 ∷ 7 ∷ 0 ∷ 262 ∷ 8193 ∷ 1 ∷ 0 ∷ []) ([]) 1000 6 3 ≡ record { stop = Ended; done = 15; taken = 0; written = pos 40 ∷ pos 40 ∷ [] }
+unfolding machine finish run step obey exec workOut fetch decode actOf unaryOf binaryOf work test openBlock closeBlock nameCell enter leave given newCells newest onValue back look put reading valued hold unhold held foundIn find input space rest spend taking writing lift guard check frameAt walk cellIn whole apply1 apply2 past
+name-read = refl
+
+-- name read, no cell: JUMP 8; CONST 1; WORK@7 0 0; OUT@8; CONST 1; WORK@9 0 0; OUT@10; RETURN; NAME@5 13; REFUSE; RETURN; CONST@6 40; RETURN; CALL@4 1 0 1; END
+name-read-no-cell : machine (2 ∷ 8 ∷ 12 ∷ 1 ∷ 488 ∷ 0 ∷ 531 ∷ 0 ∷ 12 ∷ 1 ∷ 616 ∷ 0 ∷ 659 ∷ 0 ∷ 7 ∷ 0 ∷ 359 ∷ 13 ∷ 44 ∷ 0 ∷ 7 ∷ 0 ∷ 396 ∷ 40 ∷ 7 ∷ 0 ∷ 262 ∷ 8193 ∷ 1 ∷ 0 ∷ []) ([]) 1000 2 3 ≡ record { stop = Fault (refusal 26 6); done = 6; taken = 0; written = [] }
+unfolding machine finish run step obey exec workOut fetch decode actOf unaryOf binaryOf work test openBlock closeBlock nameCell enter leave given newCells newest onValue back look put reading valued hold unhold held foundIn find input space rest spend taking writing lift guard check frameAt walk cellIn whole apply1 apply2 past
+name-read-no-cell = refl
+
+-- name store: ENTER@0 1 5; CONST@3 7; SEEK@2 0 0; STORE found; RETURN; NAME@9 10; LEND 1 0; RETURN; LOAD@9 1 0; RETURN; CALL@8 1 0 1; CONST 1; LOAD@12 0 0; OUT@11; LEAVE 1; END
+name-store : machine (3 ∷ 8197 ∷ 204 ∷ 7 ∷ 169 ∷ 0 ∷ 14 ∷ 67100672 ∷ 7 ∷ 0 ∷ 615 ∷ 10 ∷ 43 ∷ 67108864 ∷ 7 ∷ 0 ∷ 589 ∷ 67108864 ∷ 7 ∷ 0 ∷ 518 ∷ 8193 ∷ 12 ∷ 1 ∷ 781 ∷ 0 ∷ 723 ∷ 0 ∷ 4 ∷ 8192 ∷ 1 ∷ 0 ∷ []) ([]) 1000 6 3 ≡ record { stop = Ended; done = 14; taken = 0; written = pos 7 ∷ [] }
+unfolding machine finish run step obey exec workOut fetch decode actOf unaryOf binaryOf work test openBlock closeBlock nameCell enter leave given newCells newest onValue back look put reading valued hold unhold held foundIn find input space rest spend taking writing lift guard check frameAt walk cellIn whole apply1 apply2 past
+name-store = refl
+
+-- answer 30: ENTER@0 1 5; CONST@3 7; SEEK@2 0 0; STORE found; RETURN; NAME@9 10; REFUSE; RETURN; LOAD@9 1 0; RETURN; CALL@8 1 0 1; CONST 1; LOAD@12 0 0; OUT@11; LEAVE 1; END
+answer-30 : machine (3 ∷ 8197 ∷ 204 ∷ 7 ∷ 169 ∷ 0 ∷ 14 ∷ 67100672 ∷ 7 ∷ 0 ∷ 615 ∷ 10 ∷ 44 ∷ 0 ∷ 7 ∷ 0 ∷ 589 ∷ 67108864 ∷ 7 ∷ 0 ∷ 518 ∷ 8193 ∷ 12 ∷ 1 ∷ 781 ∷ 0 ∷ 723 ∷ 0 ∷ 4 ∷ 8192 ∷ 1 ∷ 0 ∷ []) ([]) 1000 6 3 ≡ record { stop = Fault (refusal 30 2); done = 6; taken = 0; written = [] }
+unfolding machine finish run step obey exec workOut fetch decode actOf unaryOf binaryOf work test openBlock closeBlock nameCell enter leave given newCells newest onValue back look put reading valued hold unhold held foundIn find input space rest spend taking writing lift guard check frameAt walk cellIn whole apply1 apply2 past
+answer-30 = refl
+
+-- store passed on: ENTER@0 1 12; CONST@3 7; SEEK@2 0 0; STORE found; RETURN; NAME@20 10; PASS@20 1 0; RETURN; WORK@20 1 0; RETURN; CALL@19 1 1 1; RETURN; NAME@30 17; LEND 1 0; RETURN; LOAD@30 1 0; RETURN; CALL@29 5 0 1; CONST 1; LOAD@41 0 0; OUT@40; LEAVE 1; END
+store-passed-on : machine (3 ∷ 8204 ∷ 204 ∷ 7 ∷ 169 ∷ 0 ∷ 14 ∷ 67100672 ∷ 7 ∷ 0 ∷ 1319 ∷ 10 ∷ 1322 ∷ 67108864 ∷ 7 ∷ 0 ∷ 1320 ∷ 67108864 ∷ 7 ∷ 0 ∷ 1222 ∷ 67117057 ∷ 7 ∷ 0 ∷ 1959 ∷ 17 ∷ 43 ∷ 67108864 ∷ 7 ∷ 0 ∷ 1933 ∷ 67108864 ∷ 7 ∷ 0 ∷ 1862 ∷ 8197 ∷ 12 ∷ 1 ∷ 2637 ∷ 0 ∷ 2579 ∷ 0 ∷ 4 ∷ 8192 ∷ 1 ∷ 0 ∷ []) ([]) 1000 8 3 ≡ record { stop = Ended; done = 19; taken = 0; written = pos 7 ∷ [] }
+unfolding machine finish run step obey exec workOut fetch decode actOf unaryOf binaryOf work test openBlock closeBlock nameCell enter leave given newCells newest onValue back look put reading valued hold unhold held foundIn find input space rest spend taking writing lift guard check frameAt walk cellIn whole apply1 apply2 past
+store-passed-on = refl
+
+-- answer 30, passed on: ENTER@0 1 12; CONST@3 7; SEEK@2 0 0; STORE found; RETURN; NAME@20 10; PASS@20 1 0; RETURN; WORK@20 1 0; RETURN; CALL@19 1 1 1; RETURN; NAME@30 17; REFUSE; RETURN; LOAD@30 1 0; RETURN; CALL@29 5 0 1; END
+answer-30-passed-on : machine (3 ∷ 8204 ∷ 204 ∷ 7 ∷ 169 ∷ 0 ∷ 14 ∷ 67100672 ∷ 7 ∷ 0 ∷ 1319 ∷ 10 ∷ 1322 ∷ 67108864 ∷ 7 ∷ 0 ∷ 1320 ∷ 67108864 ∷ 7 ∷ 0 ∷ 1222 ∷ 67117057 ∷ 7 ∷ 0 ∷ 1959 ∷ 17 ∷ 44 ∷ 0 ∷ 7 ∷ 0 ∷ 1933 ∷ 67108864 ∷ 7 ∷ 0 ∷ 1862 ∷ 8197 ∷ 1 ∷ 0 ∷ []) ([]) 1000 8 3 ≡ record { stop = Fault (refusal 30 2); done = 9; taken = 0; written = [] }
+unfolding machine finish run step obey exec workOut fetch decode actOf unaryOf binaryOf work test openBlock closeBlock nameCell enter leave given newCells newest onValue back look put reading valued hold unhold held foundIn find input space rest spend taking writing lift guard check frameAt walk cellIn whole apply1 apply2 past
+answer-30-passed-on = refl
+
+-- answer 27, worked out: JUMP 4; WORK@7 0 0; RETURN; END; NAME@5 9; REFUSE; RETURN; WORK@8 1 0; RETURN; CALL@6 1 0 1; END
+answer-27-worked-out : machine (2 ∷ 4 ∷ 488 ∷ 0 ∷ 7 ∷ 0 ∷ 1 ∷ 0 ∷ 359 ∷ 9 ∷ 44 ∷ 0 ∷ 7 ∷ 0 ∷ 552 ∷ 67108864 ∷ 7 ∷ 0 ∷ 390 ∷ 8193 ∷ 1 ∷ 0 ∷ []) ([]) 5000 24 3 ≡ record { stop = Fault (refusal 27 8); done = 259; taken = 0; written = [] }
+unfolding machine finish run step obey exec workOut fetch decode actOf unaryOf binaryOf work test openBlock closeBlock nameCell enter leave given newCells newest onValue back look put reading valued hold unhold held foundIn find input space rest spend taking writing lift guard check frameAt walk cellIn whole apply1 apply2 past
+answer-27-worked-out = refl
+
+-- channel: ENTER@0 1 6; CONST@3 2; CHANNEL@2; SEEK@4 0 0; IN@2 found; RETURN; NAME@9 11; LEND 1 0; RETURN; LOAD@9 1 0; RETURN; CALL@8 1 0 1; END
+channel-two : machine (3 ∷ 8198 ∷ 204 ∷ 2 ∷ 173 ∷ 0 ∷ 297 ∷ 0 ∷ 146 ∷ 67100672 ∷ 7 ∷ 0 ∷ 615 ∷ 11 ∷ 43 ∷ 67108864 ∷ 7 ∷ 0 ∷ 589 ∷ 67108864 ∷ 7 ∷ 0 ∷ 518 ∷ 8193 ∷ 1 ∷ 0 ∷ []) (pos 5 ∷ []) 1000 6 3 ≡ record { stop = Fault (refusal 28 2); done = 5; taken = 0; written = [] }
+unfolding machine finish run step obey exec workOut fetch decode actOf unaryOf binaryOf work test openBlock closeBlock nameCell enter leave given newCells newest onValue back look put reading valued hold unhold held foundIn find input space rest spend taking writing lift guard check frameAt walk cellIn whole apply1 apply2 past
+channel-two = refl
+
+-- ininteger by name: ENTER@0 1 6; CONST@3 1; CHANNEL@2; SEEK@4 0 0; IN@2 found; RETURN; NAME@9 11; LEND 1 0; RETURN; LOAD@9 1 0; RETURN; CALL@8 1 0 1; CONST 1; LOAD@12 0 0; OUT@11; END
+ininteger-by-name : machine (3 ∷ 8198 ∷ 204 ∷ 1 ∷ 173 ∷ 0 ∷ 297 ∷ 0 ∷ 146 ∷ 67100672 ∷ 7 ∷ 0 ∷ 615 ∷ 11 ∷ 43 ∷ 67108864 ∷ 7 ∷ 0 ∷ 589 ∷ 67108864 ∷ 7 ∷ 0 ∷ 518 ∷ 8193 ∷ 12 ∷ 1 ∷ 781 ∷ 0 ∷ 723 ∷ 0 ∷ 1 ∷ 0 ∷ []) (pos 5 ∷ []) 1000 6 3 ≡ record { stop = Ended; done = 14; taken = 1; written = pos 5 ∷ [] }
+unfolding machine finish run step obey exec workOut fetch decode actOf unaryOf binaryOf work test openBlock closeBlock nameCell enter leave given newCells newest onValue back look put reading valued hold unhold held foundIn find input space rest spend taking writing lift guard check frameAt walk cellIn whole apply1 apply2 past
+ininteger-by-name = refl
+
+-- sum: ENTER 1 1; CONST 3; STORE 0 0; CONST 2; CONST 9; HOLD; LEND 0 0; SUM@6 found; STORE found; CONST 1; LOAD 0 0; OUT; END
+sum-found : machine (3 ∷ 8193 ∷ 12 ∷ 3 ∷ 14 ∷ 0 ∷ 12 ∷ 2 ∷ 12 ∷ 9 ∷ 20 ∷ 0 ∷ 43 ∷ 0 ∷ 430 ∷ 67100672 ∷ 14 ∷ 67100672 ∷ 12 ∷ 1 ∷ 13 ∷ 0 ∷ 19 ∷ 0 ∷ 1 ∷ 0 ∷ []) ([]) 1000 6 3 ≡ record { stop = Ended; done = 13; taken = 0; written = pos 5 ∷ [] }
+unfolding machine finish run step obey exec workOut fetch decode actOf unaryOf binaryOf work test openBlock closeBlock nameCell enter leave given newCells newest onValue back look put reading valued hold unhold held foundIn find input space rest spend taking writing lift guard check frameAt walk cellIn whole apply1 apply2 past
+sum-found = refl
+
+-- sum, no cell: ENTER 1 1; CONST 3; STORE 0 0; CONST 2; CONST 9; HOLD; LEND 0 0; SUM@6 found; STORE found; CONST 1; LOAD 0 0; OUT; END
+sum-no-cell : machine (3 ∷ 8193 ∷ 12 ∷ 3 ∷ 14 ∷ 0 ∷ 12 ∷ 2 ∷ 12 ∷ 9 ∷ 20 ∷ 0 ∷ 43 ∷ 0 ∷ 430 ∷ 67100672 ∷ 14 ∷ 67100672 ∷ 12 ∷ 1 ∷ 13 ∷ 0 ∷ 19 ∷ 0 ∷ 1 ∷ 0 ∷ []) ([]) 1000 3 3 ≡ record { stop = Fault (refusal 26 6); done = 8; taken = 0; written = [] }
+unfolding machine finish run step obey exec workOut fetch decode actOf unaryOf binaryOf work test openBlock closeBlock nameCell enter leave given newCells newest onValue back look put reading valued hold unhold held foundIn find input space rest spend taking writing lift guard check frameAt walk cellIn whole apply1 apply2 past
+sum-no-cell = refl
+
+-- sum out of range: ENTER 1 1; CONST 2147483647; STORE 0 0; CONST 1; CONST 9; HOLD; SUM@6 0 0; END
+sum-out-of-range : machine (3 ∷ 8193 ∷ 12 ∷ 2147483647 ∷ 14 ∷ 0 ∷ 12 ∷ 1 ∷ 12 ∷ 9 ∷ 20 ∷ 0 ∷ 430 ∷ 0 ∷ 1 ∷ 0 ∷ []) ([]) 1000 3 3 ≡ record { stop = Fault (refusal 21 6); done = 7; taken = 0; written = [] }
+unfolding machine finish run step obey exec workOut fetch decode actOf unaryOf binaryOf work test openBlock closeBlock nameCell enter leave given newCells newest onValue back look put reading valued hold unhold held foundIn find input space rest spend taking writing lift guard check frameAt walk cellIn whole apply1 apply2 past
+sum-out-of-range = refl
+
+-- 29 work: CONST 4; WORK@3 0 0; END
+stray-work : machine (12 ∷ 4 ∷ 232 ∷ 0 ∷ 1 ∷ 0 ∷ []) ([]) 1000 6 3 ≡ record { stop = Wrong (record { at = 1 }); done = 2; taken = 0; written = [] }
+unfolding machine finish run step obey exec workOut fetch decode actOf unaryOf binaryOf work test openBlock closeBlock nameCell enter leave given newCells newest onValue back look put reading valued hold unhold held foundIn find input space rest spend taking writing lift guard check frameAt walk cellIn whole apply1 apply2 past
+stray-work = refl
+
+-- 29 load: NAME@5 1; LOAD@3 0 0; END
+stray-load : machine (359 ∷ 1 ∷ 205 ∷ 0 ∷ 1 ∷ 0 ∷ []) ([]) 1000 6 3 ≡ record { stop = Wrong (record { at = 1 }); done = 2; taken = 0; written = [] }
+unfolding machine finish run step obey exec workOut fetch decode actOf unaryOf binaryOf work test openBlock closeBlock nameCell enter leave given newCells newest onValue back look put reading valued hold unhold held foundIn find input space rest spend taking writing lift guard check frameAt walk cellIn whole apply1 apply2 past
+stray-load = refl
+
+-- 29 store: NAME@5 1; CONST 2; STORE 0 0; END
+stray-store : machine (359 ∷ 1 ∷ 12 ∷ 2 ∷ 14 ∷ 0 ∷ 1 ∷ 0 ∷ []) ([]) 1000 6 3 ≡ record { stop = Wrong (record { at = 2 }); done = 3; taken = 0; written = [] }
+unfolding machine finish run step obey exec workOut fetch decode actOf unaryOf binaryOf work test openBlock closeBlock nameCell enter leave given newCells newest onValue back look put reading valued hold unhold held foundIn find input space rest spend taking writing lift guard check frameAt walk cellIn whole apply1 apply2 past
+stray-store = refl
+
+-- 29 value: NAME@5 1; DROP; END
+stray-value : machine (359 ∷ 1 ∷ 17 ∷ 0 ∷ 1 ∷ 0 ∷ []) ([]) 1000 6 3 ≡ record { stop = Wrong (record { at = 1 }); done = 2; taken = 0; written = [] }
+unfolding machine finish run step obey exec workOut fetch decode actOf unaryOf binaryOf work test openBlock closeBlock nameCell enter leave given newCells newest onValue back look put reading valued hold unhold held foundIn find input space rest spend taking writing lift guard check frameAt walk cellIn whole apply1 apply2 past
+stray-value = refl
+
+-- 29 refuse: REFUSE; END
+stray-refuse : machine (44 ∷ 0 ∷ 1 ∷ 0 ∷ []) ([]) 1000 6 3 ≡ record { stop = Wrong (record { at = 0 }); done = 1; taken = 0; written = [] }
+unfolding machine finish run step obey exec workOut fetch decode actOf unaryOf binaryOf work test openBlock closeBlock nameCell enter leave given newCells newest onValue back look put reading valued hold unhold held foundIn find input space rest spend taking writing lift guard check frameAt walk cellIn whole apply1 apply2 past
+stray-refuse = refl
+
+-- 29 pass: NAME@5 1; PASS@3 0 0; END
+stray-pass : machine (359 ∷ 1 ∷ 234 ∷ 0 ∷ 1 ∷ 0 ∷ []) ([]) 1000 6 3 ≡ record { stop = Wrong (record { at = 1 }); done = 2; taken = 0; written = [] }
+unfolding machine finish run step obey exec workOut fetch decode actOf unaryOf binaryOf work test openBlock closeBlock nameCell enter leave given newCells newest onValue back look put reading valued hold unhold held foundIn find input space rest spend taking writing lift guard check frameAt walk cellIn whole apply1 apply2 past
+stray-pass = refl
 
 -- ---- two wrong machines, refuted: one that rounds a quotient down, one that touches the output behind the written part
 

@@ -2,27 +2,120 @@
 -- held values, and each change of one cell is the change of one entry.
 use mathlib.Core.Path.{_≡_, refl, sym, ap, _∙_}
 use mathlib.Core.Logic.{_≢_, ⊎-elim}
+use mathlib.Core.Bool.{Bool, true, false, cond, true≢false, false≢true}
 use mathlib.Core.List.{List, _∷_, _++_}
-use Prim.Native.Nat.{ℕ, zero, suc, _+_, _-_, _*_, _≤_, _<_}
+use Prim.Native.Nat.{ℕ, zero, suc, _+_, _-_, _*_, _%_, _≤_, _<_}
 use native.Mathlib.Omega.{arith}
 use native.Mathlib.Nat.{not-suc-le-zero, le-of-suc-le-suc, eq-or-lt-of-le}
 use native.Mathlib.Numerals.{add-one}
 use lib.ListN.{length, getD, set, drop, replicate, length-set}
 use lib.Seq.{getD-set-same, getD-set-other}
-use lib.IntN.{ℤ, pos}
-use lib.Signed.{mag}
-use mir.Syntax.{w32}
-use mir.Val.{SFits}
-use borrow.Author.Tests.{lt-ltb}
+use lib.Dec.{T, ltb}
+use lib.IntN.{ℤ, pos, negsuc, natAbs, _+ℤ_}
+use lib.Signed.{mag, ltZ, nonNeg}
+use mir.Syntax.{w32, w64}
+use mir.Val.{SFits, Fits, toZ, ofZ}
+use mir.Facts.{toZ-ofZ, toZ-pos}
+use borrow.Author.Tests.{lt-ltb, le-ltb, ltb-true, ltb-false}
 use Rattle.machine.specs.declared.Cell.{Cell}
-use Rattle.machine.specs.declared.Cell.the-variants.{Unset, Holds}
+use Rattle.machine.specs.declared.Cell.the-variants.{Unset, Holds, Named}
+use Rattle.machine.specs.declared.Number.the-variants.{Not}
 use Rattle.machine.specs.declared.Counts.{Counts}
-use Rattle.machine.specs.Model.{Fitting, cellOf, numberOf, cellAt, putAt, roomOf, unassigned, cellsOf, heldIn, heldOf, Sound}
+use Rattle.machine.specs.Data.{plain}
+use Rattle.machine.specs.Model.{Fitting, numberIn, numbers, firstName, names, otherOf, cellOf, numberOf, cellAt, putAt, roomOf, unassigned, cellsOf, heldIn, heldOf, Sound}
 
 cell-back : (x : Cell) → Fitting x → cellOf (numberOf x) ≡ x
-unfolding cellOf numberOf
+unfolding cellOf otherOf numberOf
 cell-back Unset h = refl
 cell-back (Holds v) h = simp (lt-ltb (mag v) 2147483648 (h .sfits))
+cell-back (Named n) h =
+    let e : (firstName + n - firstName) % names ≡ n = omega arith in
+    rw (le-ltb (firstName + n) 2147483648 (omega arith), le-ltb (firstName + n) firstName (omega arith), e)
+
+other-number : (x : ℤ) → numberIn (otherOf x) ≡ Not
+unfolding otherOf
+other-number (pos n) = go (ltb n firstName) _
+  where
+    go : (b : Bool) (k : ℕ) → numberIn (cond b Unset (Named k)) ≡ Not
+    go true k = refl
+    go false k = refl
+other-number (negsuc n) = refl
+
+-- a number of the store that is no whole number of 32 bits
+pub number-out : (s : List ℤ) (c : ℕ) → ltb (mag (getD s (numbers * c) (pos 0))) 2147483648 ≡ false → Not ≡ numberIn (cellAt s c)
+unfolding cellAt cellOf
+number-out s c e = rw e (sym (other-number (getD s (numbers * c) (pos 0))))
+
+pub other-low : (x : ℤ) (y : ℕ) → ltZ x (negsuc y) ≡ true → otherOf x ≡ Unset
+unfolding otherOf
+other-low (pos n) y e = absurd (false≢true e)
+other-low (negsuc n) y e = refl
+
+pub other-unset : (x : ℤ) → ltZ x (pos firstName) ≡ true → Unset ≡ otherOf x
+unfolding otherOf
+other-unset (pos n) e = rw e
+other-unset (negsuc n) e = refl
+
+named-is : (x : ℤ) → ltZ x (pos firstName) ≡ false → Named ((natAbs x - firstName) % names) ≡ otherOf x
+unfolding otherOf
+named-is (pos n) e = rw e
+named-is (negsuc n) e = absurd (true≢false e)
+
+plain-not : (x : ℤ) → ltZ x (pos firstName) ≡ plain (otherOf x)
+unfolding otherOf
+plain-not (pos n) = go (ltb n firstName) _
+  where
+    go : (b : Bool) (k : ℕ) → b ≡ plain (cond b Unset (Named k))
+    go true k = refl
+    go false k = refl
+plain-not (negsuc n) = refl
+
+plain-whole : (x : ℤ) → mag x < 2147483648 → ltZ x (pos firstName) ≡ true
+plain-whole (pos n) h = lt-ltb n firstName (omega arith)
+plain-whole (negsuc n) h = refl
+
+plain-of : (x : ℤ) → ltZ x (pos firstName) ≡ plain (cellOf x)
+unfolding cellOf
+plain-of x = go (ltb (mag x) 2147483648) refl
+  where
+    go : (b : Bool) → ltb (mag x) 2147483648 ≡ b → ltZ x (pos firstName) ≡ plain (cond b (Holds x) (otherOf x))
+    go true e = plain-whole x (ltb-true (mag x) 2147483648 e)
+    go false e = plain-not x
+
+-- from `firstName` on
+module _ (x : ℤ) (e : ltZ x (pos firstName) ≡ false) where
+  pub other-least : firstName ≤ natAbs x
+  other-least = go x e
+    where
+      go : (x : ℤ) → ltZ x (pos firstName) ≡ false → firstName ≤ natAbs x
+      go (pos n) e = ltb-false n firstName e
+      go (negsuc n) e = absurd (true≢false e)
+
+  pub other-count : SFits w64 x → T (nonNeg x) × Fits w64 (natAbs x)
+  other-count h = go x e h
+    where
+      go : (x : ℤ) → ltZ x (pos firstName) ≡ false → SFits w64 x → T (nonNeg x) × Fits w64 (natAbs x)
+      go (pos n) e h = (tt, record { fits = omega (arith, h .sfits) })
+      go (negsuc n) e h = absurd (true≢false e)
+
+  pub other-named : Named ((natAbs x - firstName) % names) ≡ otherOf x
+  other-named = named-is x e
+
+-- the number of a name formal's cell
+module _ (n : ℕ) (h : n < 4294967296) where
+  name-sum : pos firstName +ℤ toZ w64 n ≡ pos (firstName + n)
+  name-sum = rw (toZ-pos w64 {n = n} (omega arith))
+
+  pub name-fits : SFits w64 (pos firstName +ℤ toZ w64 n)
+  name-fits = rw name-sum (record { sfits = omega arith })
+
+  pub name-same : toZ w64 (ofZ w64 (pos firstName +ℤ toZ w64 n)) ≡ pos (firstName + n)
+  name-same = toZ-ofZ name-fits ∙ name-sum
+
+-- whether a cell is no name formal's
+pub plain-is : (s : List ℤ) (c : ℕ) → ltZ (getD s (numbers * c) (pos 0)) (pos firstName) ≡ plain (cellAt s c)
+unfolding cellAt
+plain-is s c = plain-of (getD s (numbers * c) (pos 0))
 
 pub room-put : (s : List ℤ) (c : ℕ) (x : Cell) → roomOf (putAt s c x) ≡ roomOf s
 unfolding roomOf putAt

@@ -14,14 +14,15 @@ use mir.Val.{SFits}
 use borrow.Author.Tests.{lt-ltb, le-ltb, le-leb, lt-leb}
 use Rattle.answers.specs.Numbers.{unassigned as notAssigned}
 use Rattle.machine.specs.declared.Cell.{Cell}
-use Rattle.machine.specs.declared.Cell.the-variants.{Unset, Holds}
+use Rattle.machine.specs.declared.Cell.the-variants.{Unset, Holds, Named}
 use Rattle.machine.specs.declared.Counts.{Counts}
 use Rattle.machine.specs.declared.Pair.{Pair}
 use Rattle.machine.specs.declared.Pair.the-variants.{Values as Values2, Nothing as Nothing2}
+use Rattle.machine.specs.declared.Number.the-variants.{Not}
 use Rattle.machine.specs.Values.{past}
 use Rattle.machine.specs.Run.{say, wrote}
 use Rattle.machine.specs.Data.{Data, dat, Lent, Res, wrong, guard, input, space, rest, spend, hold, unhold, held, closeBlock, kept, gone, given, leave}
-use Rattle.machine.specs.Model.{cellAt, putAt, roomOf, cellsOf, heldOf, dataOf, traceOf, told, fine, ill, lost, holding, HeldIn, Sound}
+use Rattle.machine.specs.Model.{Own, left, numberIn, cellAt, putAt, roomOf, cellsOf, heldOf, dataOf, traceOf, told, fine, ill, lost, holding, HeldIn, Sound}
 use Rattle.machine.proofs.Stacks.{cells-length, cells-cons, cells-drop, held-cons2, held-drop, room-put, sound-same}
 use Rattle.machine.proofs.Kept.{hold-data, sound-hold, held-number}
 
@@ -33,7 +34,7 @@ tookOne n = record { cells = n .cells; held = n .held; taken = n .taken + 1; wri
 abbrev pub wroteOne : Counts → Counts
 wroteOne n = record { cells = n .cells; held = n .held; taken = n .taken; written = n .written + 1 }
 
-module _ (n : Counts) (a : ℕ) (s i o : List ℤ) where
+module _ (n : Counts) (a : Own) (s i o : List ℤ) where
   pub input-none : length i ≤ n .taken → input (dataOf n a s i o) ≡ []
   unfolding input
   input-none h = drop-of-length-le i h
@@ -93,7 +94,7 @@ held-trace m l k o d d' = ap (λ (c : Counts). traceOf c o) d' ∙ ap (λ (c : C
 pub held-written : (m l k : Counts) → l ≡ holding m → k ≡ holding l → k .written ≡ m .written
 held-written m l k d d' = ap (λ (c : Counts). c .written) d' ∙ ap (λ (c : Counts). c .written) d
 
-module _ (m : Counts) (a : ℕ) (s i o : List ℤ) {s' s'' : List ℤ} {l k : Counts} {x y x' y' : ℤ}
+module _ (m : Counts) (a : Own) (s i o : List ℤ) {s' s'' : List ℤ} {l k : Counts} {x y x' y' : ℤ}
     (e : s' ≡ putAt s (roomOf s - 1 - m .held) (Holds x')) (p : x' ≡ x) (f : SFits w32 x) (d : l ≡ holding m)
     (e' : s'' ≡ putAt s' (roomOf s' - 1 - l .held) (Holds y')) (p' : y' ≡ y) (f' : SFits w32 y) (d' : k ≡ holding l)
     (h : m .cells + m .held + 2 ≤ roomOf s)
@@ -116,12 +117,12 @@ module _ (m : Counts) (a : ℕ) (s i o : List ℤ) {s' s'' : List ℤ} {l k : Co
         rw (d', e', p') (sound-hold l s' y f' u (first-less m s _ e d h))
 
 module _ {n : Counts} {s : List ℤ} (g : Sound n s) {r : ℕ} (e : r ≡ roomOf s) (h : 2 ≤ n .held) where
-  pub step-number : cellAt s (r - (n .held - 1)) ≡ Unset → ⊥
+  pub step-number : numberIn (cellAt s (r - (n .held - 1))) ≡ Not → ⊥
   step-number z =
       let k : roomOf s - suc (n .held - 2) ≡ r - (n .held - 1) = omega arith in
       held-number n s (n .held - 2) g (omega arith) (rw k z)
 
-  pub bound-number : cellAt s (r - n .held) ≡ Unset → ⊥
+  pub bound-number : numberIn (cellAt s (r - n .held)) ≡ Not → ⊥
   bound-number z =
       let k : roomOf s - suc (n .held - 1) ≡ r - n .held = omega arith in
       held-number n s (n .held - 1) g (omega arith) (rw k z)
@@ -135,9 +136,9 @@ held-few f zero w s a l h = refl
 held-few f (suc zero) w s a l h = refl
 held-few f (suc (suc k)) w s a l h = absurd (omega arith)
 
-module _ {A : Type 0} (n : Counts) (a : ℕ) (s i o : List ℤ) {u : Pair} (f : ℤ → ℤ → Res A) where
+module _ {A : Type 0} (n : Counts) (a : Own) (s i o : List ℤ) {u : Pair} (f : ℤ → ℤ → Res A) where
   pub held-none : u ≡ Nothing2 → HeldIn n u s → held f (dataOf n a s i o) ≡ wrong
-  held-none e h = held-few f (n .held) _ s a _ (subst (λ (w : Pair). HeldIn n w s) e h)
+  held-none e h = held-few f (n .held) _ s (a .live) _ (subst (λ (w : Pair). HeldIn n w s) e h)
 
   pub held-some : {x y : ℤ} {m : Counts} → u ≡ Values2 x y m → HeldIn n u s → held f (dataOf n a s i o) ≡ f x y
   unfolding held
@@ -150,7 +151,7 @@ held-least n s e h = subst (λ (w : Pair). HeldIn n w s) e h .0
 abbrev pub released : Counts → Counts
 released n = record { cells = n .cells; held = n .held - 2; taken = n .taken; written = n .written }
 
-pub unhold-data : (n : Counts) (a : ℕ) (s i o : List ℤ) → 2 ≤ n .held → dataOf (released n) a s i o ≡ unhold (dataOf n a s i o)
+pub unhold-data : (n : Counts) (a : Own) (s i o : List ℤ) → 2 ≤ n .held → dataOf (released n) a s i o ≡ unhold (dataOf n a s i o)
 unfolding unhold
 unhold-data n a s i o h = rw (held-drop (n .held) s h)
 
@@ -168,7 +169,7 @@ cut c n = record { cells = c; held = n .held; taken = n .taken; written = n .wri
 pub cut-sound : (c : ℕ) (n : Counts) (s : List ℤ) → Sound n s → c ≤ n .cells → Sound (cut c n) s
 cut-sound c n s g h = sound-same n (cut c n) s g (omega arith) (omega (arith, g .room))
 
-module _ (n : Counts) (a : ℕ) (s i o : List ℤ) where
+module _ (n : Counts) (a : Own) (s i o : List ℤ) where
   pub close-no : (k : ℕ) → n .cells < k → lost ≡ told (traceOf n o) (closeBlock k (dataOf n a s i o))
   unfolding closeBlock told guard
   close-no k h = rw (cells-length (n .cells) s, lt-leb k (n .cells) h)
@@ -182,7 +183,7 @@ module _ (n : Counts) (a : ℕ) (s i o : List ℤ) where
     unfolding leave told guard
     leave-gone-out e h = rw (e, cells-length (n .cells) s, lt-leb b (n .cells) h)
 
-    pub leave-gone : needed ≡ false → b ≤ n .cells → fine (dataOf (cut b n) (a - 1) s i o) (traceOf n o) ≡ told (traceOf n o) (leave (cond needed kept gone) q b (dataOf n a s i o))
+    pub leave-gone : needed ≡ false → b ≤ n .cells → fine (dataOf (cut b n) (left a) s i o) (traceOf n o) ≡ told (traceOf n o) (leave (cond needed kept gone) q b (dataOf n a s i o))
     unfolding leave told guard
     leave-gone e h =
         let l : n .cells - b ≤ n .cells = omega arith in
@@ -206,7 +207,11 @@ module _ (n : Counts) (a : ℕ) (s i o : List ℤ) where
       unfolding leave told guard given
       leave-unset u = rw (e, rest-cells, u, cells-length (n .cells) s, lt-ltb b (n .cells) h)
 
-      pub leave-kept : {v : ℤ} → cellAt s b ≡ Holds v → fine (dataOf (cut (b + 1) n) (a - 1) s i o) (traceOf n o) ≡ told (traceOf n o) (leave (cond needed kept gone) q b (dataOf n a s i o))
+      pub leave-named : {m : ℕ} → cellAt s b ≡ Named m → lost ≡ told (traceOf n o) (leave (cond needed kept gone) q b (dataOf n a s i o))
+      unfolding leave told guard given
+      leave-named u = rw (e, rest-cells, u, cells-length (n .cells) s, lt-ltb b (n .cells) h)
+
+      pub leave-kept : {v : ℤ} → cellAt s b ≡ Holds v → fine (dataOf (cut (b + 1) n) (left a) s i o) (traceOf n o) ≡ told (traceOf n o) (leave (cond needed kept gone) q b (dataOf n a s i o))
       unfolding leave told guard given
       leave-kept u =
           let y : b + 1 - 1 ≡ b = omega arith in

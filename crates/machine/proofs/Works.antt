@@ -1,19 +1,22 @@
 -- What each operation on the data comes to, by what it finds: the cells' numbers and values are given, and no store, count or word is known here.
 use mathlib.Core.Path.{_≡_, refl, sym, ap}
-use mathlib.Core.Bool.{true, false, cond}
+use mathlib.Core.Bool.{Bool, true, false, cond, not, true≢false, false≢true}
 use mathlib.Core.List.{List, [], _∷_}
 use Prim.Native.Nat.{ℕ}
+use native.Mathlib.Omega.{arith}
 use lib.Dec.{ltb}
 use lib.IntN.{ℤ, pos, _+ℤ_}
 use Rattle.answers.specs.declared.Answer.{Answer}
-use Rattle.answers.specs.Numbers.{unassigned, inputEnded, outputFull, channel}
-use Rattle.machine.specs.declared.Cell.the-variants.{Unset, Holds}
+use Rattle.answers.specs.Numbers.{unassigned, inputEnded, outputFull, channel as noChannel}
+use Rattle.machine.specs.declared.Cell.{Cell}
+use Rattle.machine.specs.declared.Cell.the-variants.{Unset, Holds, Named}
+use Rattle.machine.specs.declared.Number.the-variants.{Not}
 use Rattle.machine.specs.declared.Value.{Value}
 use Rattle.machine.specs.declared.Value.the-variants.{Is, Fault}
 use Rattle.machine.specs.Values.{isZero, same, past, whole, Unary, apply1, Binary, apply2}
 use Rattle.machine.specs.Run.{Trace, say, quiet, wrote, took}
-use Rattle.machine.specs.Data.{Data, cells, Res, wrong, good, guard, check, value, nothing, newest, onValue, two, back, put, look, newCells, reading, valued, within, onChannel, taking, writing, input, space, rest, spend, hold, unhold, held, Act, push, load, store, assign, reserve, forget, receive, send, keep, bump, unary, binary, work, Two, yea, nay, condition, upto, test}
-use Rattle.machine.specs.Model.{fine, ill, lost, told}
+use Rattle.machine.specs.Data.{Data, cells, Res, wrong, good, guard, check, value, nothing, newest, onValue, two, back, put, look, plain, newCells, reading, valued, within, nameCell, onChannel, taking, writing, input, space, rest, spend, hold, unhold, held, find, Act, push, load, store, assign, reserve, forget, receive, send, keep, bump, unary, binary, lend, channel, sum, work, Two, yea, nay, condition, upto, test}
+use Rattle.machine.specs.Model.{fine, ill, lost, told, numberIn}
 
 -- ---- values used
 
@@ -30,6 +33,31 @@ module _ (f : ℤ → ℤ → Data → Res Data) (d : Data) where
   unfolding onValue
   two-some e g p q = rw (e, g, p, q)
 
+-- ---- a cell that holds no number
+
+pub unset-is : (x : Cell) → numberIn x ≡ Not → plain x ≡ true → x ≡ Unset
+unset-is Unset e p = refl
+unset-is (Holds v) e p = absurd (let z : _≡_ {A = ℕ} 0 1 = cc in omega arith)
+unset-is (Named n) e p = absurd (let z : _≡_ {A = ℕ} 0 1 = cc in omega arith)
+
+-- the test, as the code has it
+pub yes-plain : {r b : Bool} → r ≡ b → not r ≡ false → b ≡ true
+yes-plain {r = true} e h = sym e
+yes-plain {r = false} e h = absurd (true≢false h)
+
+pub not-plain : {r b : Bool} → r ≡ b → not r ≡ true → b ≡ false
+not-plain {r = true} e h = absurd (false≢true h)
+not-plain {r = false} e h = sym e
+
+module _ (t : Trace) (q : ℕ) (f : ℤ → Res Data) (x : Cell) where
+  pub unread-unset : numberIn x ≡ Not → plain x ≡ true → ill unassigned q ≡ told t (guard (plain x) (reading q f x))
+  unfolding told guard reading
+  unread-unset e p = rw (unset-is x e p)
+
+  pub unread-named : plain x ≡ false → lost ≡ told t (guard (plain x) (reading q f x))
+  unfolding told guard
+  unread-named p = rw p
+
 module _ (t : Trace) (d : Data) where
   -- ---- variables
 
@@ -38,9 +66,9 @@ module _ (t : Trace) (d : Data) where
     unfolding work told guard
     load-out e = rw e
 
-    pub load-unset : ltb c (cells d) ≡ true → look c d ≡ Unset → ill unassigned q ≡ told t (work (load q c) d)
-    unfolding work told guard reading
-    load-unset e g = rw (e, g)
+    pub load-not : {x : Cell} → ltb c (cells d) ≡ true → look c d ≡ x → told t (guard (plain x) (reading q (λ v. newCells q (Holds v ∷ []) d) x)) ≡ told t (work (load q c) d)
+    unfolding work guard
+    load-not e g = rw (e, g)
 
     pub load-holds : {v v' : ℤ} → ltb c (cells d) ≡ true → look c d ≡ Holds v → v' ≡ v → told t (newCells q (Holds v' ∷ []) d) ≡ told t (work (load q c) d)
     unfolding work guard reading
@@ -64,14 +92,22 @@ module _ (t : Trace) (d : Data) where
       unfolding work told onValue guard
       assign-out g = rw (e, g)
 
-      module _ (g : ltb c (cells m) ≡ true) where
+      pub save-named : ltb c (cells m) ≡ true → plain (look c m) ≡ false → lost ≡ told t (work (store c) d)
+      unfolding work told onValue guard
+      save-named g z = rw (e, g, z)
+
+      pub assign-named : ltb c (cells m) ≡ true → plain (look c m) ≡ false → lost ≡ told t (work (assign c) d)
+      unfolding work told onValue guard
+      assign-named g z = rw (e, g, z)
+
+      module _ (g : ltb c (cells m) ≡ true) (z : plain (look c m) ≡ true) where
         pub save-in : {v' : ℤ} {t' : Trace} → v' ≡ v → t' ≡ t → fine (put c v' m) t' ≡ told t (work (store c) d)
         unfolding work told onValue guard
-        save-in p r = rw (e, g, p, r)
+        save-in p r = rw (e, g, z, p, r)
 
         pub assign-in : {v' : ℤ} {t' : Trace} {l : Data} → v' ≡ v → t' ≡ t → l ≡ put c v m → fine (back v' l) t' ≡ told t (work (assign c) d)
         unfolding work told onValue guard
-        assign-in p r k = rw (e, g, p, r, k)
+        assign-in p r k = rw (e, g, z, p, r, k)
 
   -- ---- values
 
@@ -120,18 +156,23 @@ module _ (t : Trace) (d : Data) where
     unfolding told guard
     taking-out e = rw e
 
-    pub taking-channel : ltb c (cells d) ≡ true → same k (pos 1) ≡ false → ill channel q ≡ told t (within c d (onChannel q k (taking q c d (input d))))
-    unfolding told guard check
-    taking-channel e g = rw (e, g)
+    pub taking-named : ltb c (cells d) ≡ true → plain (look c d) ≡ false → lost ≡ told t (within c d (onChannel q k (taking q c d (input d))))
+    unfolding told guard
+    taking-named e u = rw (e, u)
 
-    pub taking-ended : ltb c (cells d) ≡ true → same k (pos 1) ≡ true → input d ≡ [] → ill inputEnded q ≡ told t (within c d (onChannel q k (taking q c d (input d))))
-    unfolding told guard check taking
-    taking-ended e g h = rw (e, g, h)
+    module _ (e : ltb c (cells d) ≡ true) (u : plain (look c d) ≡ true) where
+      pub taking-channel : same k (pos 1) ≡ false → ill noChannel q ≡ told t (within c d (onChannel q k (taking q c d (input d))))
+      unfolding told guard check
+      taking-channel g = rw (e, u, g)
 
-    pub taking-some : {v v' : ℤ} {i : List ℤ} {m : Data} {t' : Trace} → ltb c (cells d) ≡ true → same k (pos 1) ≡ true → input d ≡ v ∷ i → v' ≡ v → t' ≡ say t took → m ≡ rest i d
-        → fine (put c v' m) t' ≡ told t (within c d (onChannel q k (taking q c d (input d))))
-    unfolding told guard check taking
-    taking-some e g h p r z = rw (e, g, h, p, r, z)
+      pub taking-ended : same k (pos 1) ≡ true → input d ≡ [] → ill inputEnded q ≡ told t (within c d (onChannel q k (taking q c d (input d))))
+      unfolding told guard check taking
+      taking-ended g h = rw (e, u, g, h)
+
+      pub taking-some : {v v' : ℤ} {i : List ℤ} {m : Data} {t' : Trace} → same k (pos 1) ≡ true → input d ≡ v ∷ i → v' ≡ v → t' ≡ say t took → m ≡ rest i d
+          → fine (put c v' m) t' ≡ told t (within c d (onChannel q k (taking q c d (input d))))
+      unfolding told guard check taking
+      taking-some g h p r z = rw (e, u, g, h, p, r, z)
 
   module _ (q : ℕ) where
     pub send-none : ((f : ℤ → ℤ → Data → Res Data) → two f d ≡ wrong) → lost ≡ told t (work (send q) d)
@@ -144,7 +185,7 @@ module _ (t : Trace) (d : Data) where
     send-some e r p p' = rw (r, p, p') (sym (ap (told t) (e _)))
 
   module _ (q : ℕ) (k v : ℤ) where
-    pub writing-channel : same k (pos 1) ≡ false → ill channel q ≡ told t (onChannel q k (writing q v d))
+    pub writing-channel : same k (pos 1) ≡ false → ill noChannel q ≡ told t (onChannel q k (writing q v d))
     unfolding told check
     writing-channel e = rw e
 
@@ -191,9 +232,10 @@ module _ (t : Trace) (d : Data) where
     unfolding told guard
     add-out e = rw e
 
-    pub add-unset : ltb c (cells d) ≡ true → look c d ≡ Unset → ill unassigned q ≡ told t (within c d (reading q (λ v. valued q (λ z. good quiet (put c z d)) (whole (v +ℤ x))) (look c d)))
-    unfolding told guard reading
-    add-unset e g = rw (e, g)
+    pub add-not : {y : Cell} → ltb c (cells d) ≡ true → look c d ≡ y
+        → told t (guard (plain y) (reading q (λ v. valued q (λ z. good quiet (put c z d)) (whole (v +ℤ x))) y)) ≡ told t (within c d (reading q (λ v. valued q (λ z. good quiet (put c z d)) (whole (v +ℤ x))) (look c d)))
+    unfolding guard
+    add-not e g = rw (e, g)
 
     pub add-fault : {v : ℤ} {a : Answer} → ltb c (cells d) ≡ true → look c d ≡ Holds v → Fault a ≡ whole (v +ℤ x) → ill (a .number) q ≡ told t (within c d (reading q (λ v. valued q (λ z. good quiet (put c z d)) (whole (v +ℤ x))) (look c d)))
     unfolding told guard reading valued
@@ -203,6 +245,35 @@ module _ (t : Trace) (d : Data) where
     unfolding told guard reading valued
     add-some e g h p = rw (e, g, p, ← h)
 
+  -- the sum in a new cell
+  module _ (q c : ℕ) (x : ℤ) where
+    pub total-out : ltb c (cells d) ≡ false → lost ≡ told t (within c d (reading q (λ v. valued q (λ z. newCells q (Holds z ∷ []) d) (whole (v +ℤ x))) (look c d)))
+    unfolding told guard
+    total-out e = rw e
+
+    pub total-not : {y : Cell} → ltb c (cells d) ≡ true → look c d ≡ y
+        → told t (guard (plain y) (reading q (λ v. valued q (λ z. newCells q (Holds z ∷ []) d) (whole (v +ℤ x))) y)) ≡ told t (within c d (reading q (λ v. valued q (λ z. newCells q (Holds z ∷ []) d) (whole (v +ℤ x))) (look c d)))
+    unfolding guard
+    total-not e g = rw (e, g)
+
+    pub total-fault : {v : ℤ} {a : Answer} → ltb c (cells d) ≡ true → look c d ≡ Holds v → Fault a ≡ whole (v +ℤ x) → ill (a .number) q ≡ told t (within c d (reading q (λ v. valued q (λ z. newCells q (Holds z ∷ []) d) (whole (v +ℤ x))) (look c d)))
+    unfolding told guard reading valued
+    total-fault e g h = rw (e, g, ← h)
+
+    pub total-some : {v z z' : ℤ} → ltb c (cells d) ≡ true → look c d ≡ Holds v → Is z ≡ whole (v +ℤ x) → z' ≡ z → told t (newCells q (Holds z' ∷ []) d) ≡ told t (within c d (reading q (λ v. valued q (λ z. newCells q (Holds z ∷ []) d) (whole (v +ℤ x))) (look c d)))
+    unfolding guard reading valued
+    total-some e g h p = rw (e, g, p, ← h)
+
+  module _ (q c : ℕ) where
+    pub sum-none : ((f : ℤ → ℤ → Res Data) → held f d ≡ wrong) → lost ≡ told t (work (sum q c) d)
+    unfolding work told
+    sum-none e = sym (ap (told t) (e _))
+
+    pub sum-some : {x y x' : ℤ} → ((f : ℤ → ℤ → Res Data) → held f d ≡ f x y) → x' ≡ x
+        → told t (within c d (reading q (λ v. valued q (λ z. newCells q (Holds z ∷ []) d) (whole (v +ℤ x'))) (look c d))) ≡ told t (work (sum q c) d)
+    unfolding work
+    sum-some e p = rw p (sym (ap (told t) (e _)))
+
   module _ (q c : ℕ) (x y : ℤ) where
     pub past-out : ltb c (cells d) ≡ false → lost ≡ told t (within c d (reading q (λ v. good quiet (cond (past v x y) (nay (unhold d)) (yea d))) (look c d)))
     unfolding told guard
@@ -211,6 +282,10 @@ module _ (t : Trace) (d : Data) where
     pub past-unset : ltb c (cells d) ≡ true → look c d ≡ Unset → ill unassigned q ≡ told t (within c d (reading q (λ v. good quiet (cond (past v x y) (nay (unhold d)) (yea d))) (look c d)))
     unfolding told guard reading
     past-unset e g = rw (e, g)
+
+    pub past-named : ltb c (cells d) ≡ true → plain (look c d) ≡ false → lost ≡ told t (within c d (reading q (λ v. good quiet (cond (past v x y) (nay (unhold d)) (yea d))) (look c d)))
+    unfolding told guard
+    past-named e g = rw (e, g)
 
     module _ {v v' : ℤ} (e : ltb c (cells d) ≡ true) (g : look c d ≡ Holds v) (p : v' ≡ v) where
       pub past-left : {m : Data} → past v' x y ≡ true → m ≡ unhold d → fine (nay m) t ≡ told t (within c d (reading q (λ v. good quiet (cond (past v x y) (nay (unhold d)) (yea d))) (look c d)))
@@ -236,7 +311,36 @@ module _ (t : Trace) (d : Data) where
     unfolding test told onValue
     condition-yes g = rw (e, r, g)
 
-  -- ---- numbers and result cells
+  -- ---- a channel that is tested before the store, and the cell found
+
+  module _ (q : ℕ) where
+    pub channel-none : newest d ≡ nothing → lost ≡ told t (work (channel q) d)
+    unfolding work told onValue
+    channel-none e = rw e
+
+    module _ {k : ℤ} {m : Data} (e : newest d ≡ value k m) where
+      pub channel-not : same k (pos 1) ≡ false → ill noChannel q ≡ told t (work (channel q) d)
+      unfolding work told onValue check
+      channel-not g = rw (e, g)
+
+      pub channel-one : {k' : ℤ} {t' : Trace} → same k (pos 1) ≡ true → k' ≡ k → t' ≡ t → fine (back k' m) t' ≡ told t (work (channel q) d)
+      unfolding work told onValue check
+      channel-one g p r = rw (e, g, p, r)
+
+  module _ (c : ℕ) where
+    pub lend-out : ltb c (cells d) ≡ false → lost ≡ told t (work (lend c) d)
+    unfolding work told guard
+    lend-out e = rw e
+
+    pub lend-named : ltb c (cells d) ≡ true → plain (look c d) ≡ false → lost ≡ told t (work (lend c) d)
+    unfolding work told guard
+    lend-named e g = rw (e, g)
+
+    pub lend-in : ltb c (cells d) ≡ true → plain (look c d) ≡ true → fine (find c d) t ≡ told t (work (lend c) d)
+    unfolding work told guard
+    lend-in e g = rw (e, g)
+
+  -- ---- numbers, result cells and name formals' cells
 
   pub push-is : (q : ℕ) {z z' : ℤ} → z' ≡ z → told t (newCells q (Holds z' ∷ []) d) ≡ told t (work (push q z) d)
   unfolding work
@@ -245,6 +349,10 @@ module _ (t : Trace) (d : Data) where
   pub reserve-is : (q : ℕ) → told t (newCells q (Unset ∷ []) d) ≡ told t (work (reserve q) d)
   unfolding work
   reserve-is q = refl
+
+  pub name-is : (q n : ℕ) → told t (newCells q (Named n ∷ []) d) ≡ told t (nameCell q n d)
+  unfolding nameCell
+  name-is q n = refl
 
   -- the same operation
   pub same-work : {A B : Act ℕ} → A ≡ B → told t (work B d) ≡ told t (work A d)

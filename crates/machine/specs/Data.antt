@@ -6,12 +6,12 @@ use mathlib.Core.List.{List, [], _∷_, _++_}
 use lib.ListN.{length, getD, set, drop, replicate}
 use lib.Dec.{leb, ltb}
 use lib.IntN.{ℤ, pos, _+ℤ_}
-use Rattle.answers.specs.Numbers.{unassigned, inputEnded, outputFull, activations, channel, cells as noCell}
+use Rattle.answers.specs.Numbers.{unassigned, inputEnded, outputFull, activations, channel as noChannel, cells as noCell}
 use Rattle.answers.specs.Answers.{refusal}
 use Rattle.answers.specs.declared.Stop.{Stop}
 use Rattle.answers.specs.declared.Stop.the-variants.{Fault as Faulty}
 use Rattle.machine.specs.declared.Cell.{Cell}
-use Rattle.machine.specs.declared.Cell.the-variants.{Unset, Holds}
+use Rattle.machine.specs.declared.Cell.the-variants.{Unset, Holds, Named}
 use Rattle.machine.specs.declared.Value.{Value}
 use Rattle.machine.specs.declared.Value.the-variants.{Is, Fault}
 use Rattle.machine.specs.Limits.{mostLive}
@@ -20,11 +20,13 @@ use Rattle.machine.specs.Run.{Event, quiet, wrote, took, Out, halt, next
 
 -- ---- the data
 
--- what the run was lent: the cells that it may use, the input numbers not yet taken, and how many more may be written
+-- what the run was lent: the cells that it may use, the input numbers not yet taken, and how many more may be written; and the cell that the
+-- last store through a name formal came to
 pub record Lent : Type 0 where
   pub room : ℕ
   pub input : List ℤ
   pub space : ℕ
+  pub found : ℕ
 
 -- The cells in use, the newest first (cell 0 is the oldest): "one per variable of an entered block; for a typed call one result cell first;
 -- one per evaluated value until it is used; actuals become formals". Then the held steps and bounds, the newest first; then how many
@@ -74,6 +76,7 @@ unfoldable pub newest : Data → Took
 newest (dat [] h a l) = nothing
 newest (dat (Unset ∷ w) h a l) = nothing
 newest (dat (Holds v ∷ w) h a l) = value v (dat w h a l)
+newest (dat (Named n ∷ w) h a l) = nothing
 
 unfoldable pub onValue : {A : Type 0} → (ℤ → Data → Res A) → Took → Res A
 onValue f (value v d) = f v d
@@ -90,12 +93,18 @@ two f d = one (λ y. one (λ x. f x y)) d
 unfoldable pub back : ℤ → Data → Data
 back v (dat w h a l) = dat (Holds v ∷ w) h a l
 
--- cell c is in use
-abbrev pub within : {A : Type 0} → ℕ → Data → Res A → Res A
-within c d r = guard (ltb c (cells d)) r
-
 unfoldable pub look : ℕ → Data → Cell
 look c (dat w h a l) = getD w (length w - suc c) Unset
+
+-- no name formal's cell
+abbrev pub plain : Cell → Bool
+plain Unset = true
+plain (Holds v) = true
+plain (Named n) = false
+
+-- cell c is in use, and no name formal's
+abbrev pub within : {A : Type 0} → ℕ → Data → Res A → Res A
+within c d r = guard (ltb c (cells d)) (guard (plain (look c d)) r)
 
 unfoldable pub put : ℕ → ℤ → Data → Data
 put c v (dat w h a l) = dat (set w (length w - suc c) (Holds v)) h a l
@@ -104,6 +113,7 @@ put c v (dat w h a l) = dat (set w (length w - suc c) (Holds v)) h a l
 unfoldable pub reading : {A : Type 0} → ℕ → (ℤ → Res A) → Cell → Res A
 reading q f Unset = bad unassigned q
 reading q f (Holds v) = f v
+reading q f (Named n) = wrong
 
 -- what an operator gives, or its fault
 unfoldable pub valued : {A : Type 0} → ℕ → (ℤ → Res A) → Value → Res A
@@ -124,6 +134,14 @@ held f (dat w [] a l) = wrong
 held f (dat w (y ∷ []) a l) = wrong
 held f (dat w (y ∷ x ∷ h) a l) = f x y
 
+-- ---- the cell found
+
+unfoldable pub foundIn : Data → ℕ
+foundIn (dat w h a l) = l .found
+
+unfoldable pub find : ℕ → Data → Data
+find c (dat w h a l) = dat w h a (record { room = l .room; input = l .input; space = l .space; found = c })
+
 -- ---- input and output
 
 unfoldable pub input : Data → List ℤ
@@ -133,10 +151,10 @@ unfoldable pub space : Data → ℕ
 space (dat w h a l) = l .space
 
 unfoldable pub rest : List ℤ → Data → Data
-rest i (dat w h a l) = dat w h a (record { room = l .room; input = i; space = l .space })
+rest i (dat w h a l) = dat w h a (record { room = l .room; input = i; space = l .space; found = l .found })
 
 unfoldable pub spend : Data → Data
-spend (dat w h a l) = dat w h a (record { room = l .room; input = l .input; space = l .space - 1 })
+spend (dat w h a l) = dat w h a (record { room = l .room; input = l .input; space = l .space - 1; found = l .found })
 
 -- 24: "input ended". The next number goes to cell c
 unfoldable pub taking : ℕ → ℕ → Data → List ℤ → Res Data
@@ -149,7 +167,7 @@ writing q v d = check (ltb 0 (space d)) outputFull q (good (wrote v) (spend d))
 
 -- 28: "channel not 1"
 abbrev pub onChannel : {A : Type 0} → ℕ → ℤ → Res A → Res A
-onChannel q k r = check (same k (pos 1)) channel q r
+onChannel q k r = check (same k (pos 1)) noChannel q r
 
 -- ---- the operations, over what names a variable
 
@@ -174,6 +192,10 @@ pub data Act (X : Type 0) : Type 0 where
   -- an operator applied
   unary : ℕ → Unary → Act X
   binary : ℕ → Binary → Act X
+  -- a variable is found for a store; a channel tested; the held step and a variable added
+  lend : X → Act X
+  channel : ℕ → Act X
+  sum : ℕ → X → Act X
 
 abbrev pub actOn : {X Y : Type 0} → (X → Y) → Act X → Act Y
 actOn f (push q v) = push q v
@@ -188,6 +210,9 @@ actOn f keep = keep
 actOn f (bump q x) = bump q (f x)
 actOn f (unary q o) = unary q o
 actOn f (binary q o) = binary q o
+actOn f (lend x) = lend (f x)
+actOn f (channel q) = channel q
+actOn f (sum q x) = sum q (f x)
 
 unfoldable pub work : Act ℕ → Data → Res Data
 work (push q v) d = newCells q (Holds v ∷ []) d
@@ -208,6 +233,12 @@ work (bump q c) d =
 -- "its value replaces its actuals' cells" for iabs, and an operator's its operands'
 work (unary q o) d = one (λ x d. valued q (λ v. good quiet (back v d)) (apply1 o x)) d
 work (binary q o) d = two (λ x y d. valued q (λ v. good quiet (back v d)) (apply2 o x y)) d
+work (lend c) d = within c d (good quiet (find c d))
+-- "for ininteger between 28 and 24"
+work (channel q) d = one (λ k d. onChannel q k (good quiet (back k d))) d
+-- "the addition to it takes one, at 'step'"
+work (sum q c) d =
+    held (λ x y. within c d (reading q (λ v. valued q (λ s. newCells q (Holds s ∷ []) d) (whole (v +ℤ x))) (look c d))) d
 
 -- how many values an operation uses
 abbrev pub downs : {X : Type 0} → Act X → ℕ
@@ -223,6 +254,9 @@ downs keep = 2
 downs (bump q x) = 0
 downs (unary q o) = 1
 downs (binary q o) = 2
+downs (lend x) = 0
+downs (channel q) = 1
+downs (sum q x) = 0
 
 -- ---- tests
 
@@ -261,6 +295,10 @@ openBlock q n d = newCells q (replicate n Unset) d
 unfoldable pub closeBlock : ℕ → Data → Res Data
 closeBlock n (dat w h a l) = guard (leb n (length w)) (good quiet (dat (drop n w) h a l))
 
+-- a name formal's cell: "needed at its actual's first symbol, and giving it that cell is one step". n: where the actual's code is
+unfoldable pub nameCell : ℕ → ℕ → Data → Res Data
+nameCell q n d = newCells q (Named n ∷ []) d
+
 -- 27: "a 257th activation live". A call of a declared procedure enters one; "The program and environment calls are no activations"
 unfoldable pub enter : ℕ → Data → Res Data
 enter q (dat w h a l) = check (ltb a mostLive) activations q (good quiet (dat w h (suc a) l))
@@ -279,6 +317,7 @@ unfoldable pub given : ℕ → List Cell → List ℤ → ℕ → Lent → Res D
 given q [] h a l = wrong
 given q (Unset ∷ w) h a l = bad unassigned q
 given q (Holds v ∷ w) h a l = good quiet (dat (Holds v ∷ w) h a l)
+given q (Named n ∷ w) h a l = wrong
 
 unfoldable pub leave : Fate → ℕ → ℕ → Data → Res Data
 leave kept q b (dat w h a l) = guard (ltb b (length w)) (given q (drop (length w - suc b) w) h (a - 1) l)

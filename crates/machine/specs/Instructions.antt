@@ -7,13 +7,14 @@ use lib.Dec.{ltb, eqb}
 use lib.ListN.{length, getD}
 use mir.Syntax.{w32}
 use mir.Val.{toZ}
-use Rattle.machine.specs.Operations.{o-none, o-end, o-jump, o-enter, o-leave, o-call-needed, o-call, o-return, o-go, o-next, o-unless, o-test, o-const, o-load, o-store, o-assign, o-result, o-drop, o-in, o-out, o-hold, o-add, o-minus, o-not, o-plus, o-less, o-times, o-over, o-below, o-at-most, o-equal, o-at-least, o-above, o-unequal, o-and, o-or, o-impl, o-behind}
+use Rattle.machine.specs.Operations.{o-none, o-end, o-jump, o-enter, o-leave, o-call-needed, o-call, o-return, o-go, o-next, o-unless, o-test, o-const, o-load, o-store, o-assign, o-result, o-drop, o-in, o-out, o-hold, o-add, o-minus, o-not, o-plus, o-less, o-times, o-over, o-below, o-at-most, o-equal, o-at-least, o-above, o-unequal, o-and, o-or, o-impl, o-name, o-work, o-seek, o-pass, o-lend, o-refuse, o-channel, o-sum}
 use Rattle.machine.specs.Values.{Unary, minus, negation, absolute, Binary, plus, less, times, over, below, atMost, equal, atLeast, above, unequal, and, or, impl, equiv}
-use Rattle.machine.specs.Data.{Act, push, load, store, assign, reserve, forget, receive, send, keep, bump, unary, binary, Test, condition, upto, Fate, kept, gone}
+use Rattle.machine.specs.Data.{Act, push, load, store, assign, reserve, forget, receive, send, keep, bump, unary, binary, lend, channel, sum, Test, condition, upto, Fate, kept, gone}
 
--- a variable: activations out, offset there
+-- a variable: activations out, offset there; or the cell found
 pub data Loc : Type 0 where
   lc : ℕ → ℕ → Loc
+  fnd : Loc
 
 pub data Instr : Type 0 where
   -- the run ends
@@ -31,6 +32,14 @@ pub data Instr : Type 0 where
   -- to a loop's body, noting a position (nesting, body, position); and from it to the position noted
   GO : ℕ → ℕ → ℕ → Instr
   NEXT : ℕ → Instr
+  -- a name formal's cell, which holds where its actual's code is (place, where it goes on): the next instruction
+  NAME : ℕ → ℕ → Instr
+  -- an actual worked out, of the formal at an offset some activations out: for a read; for a store; for a store that passes on
+  WORK : ℕ → ℕ → ℕ → Instr
+  SEEK : ℕ → ℕ → ℕ → Instr
+  PASS : ℕ → ℕ → ℕ → Instr
+  -- the actual is no variable
+  REFUSE : Instr
 
 -- ---- the second word: three parts, of 6, 13 and 13 bits, or one number of 32 bits in two's complement
 
@@ -59,9 +68,13 @@ pack a b c = twentySixBits * a + thirteenBits * b + c
 abbrev pub packed : ℕ → ℕ → ℕ → ℕ
 packed a b c = pack (a % sixBits) (b % thirteenBits) (c % thirteenBits)
 
+-- the offset that no variable has, and that stands for the cell found
+abbrev pub foundOffset : ℕ
+foundOffset = 8191
+
 -- levels and offset
 abbrev pub variable : ℕ → Loc
-variable v = lc (high v) (mid v)
+variable v = cond (eqb (mid v) foundOffset) fnd (lc (high v) (mid v))
 
 -- ---- the first word: operation + 64 · place
 
@@ -115,8 +128,16 @@ decode k q v =
     (cond (eqb k o-next) (some (NEXT (high v)))
     (cond (eqb k o-unless) (some (IF condition (low v)))
     (cond (eqb k o-test) (some (IF (upto q (variable v)) (low v)))
-    (cond (ltb k o-behind) (some (DO (actOf k q (variable v) v)))
-    none))))))))))))
+    (cond (ltb k o-name) (some (DO (actOf k q (variable v) v)))
+    (cond (eqb k o-name) (some (NAME q (low v)))
+    (cond (eqb k o-work) (some (WORK q (high v) (mid v)))
+    (cond (eqb k o-seek) (some (SEEK q (high v) (mid v)))
+    (cond (eqb k o-pass) (some (PASS q (high v) (mid v)))
+    (cond (eqb k o-lend) (some (DO (lend (variable v))))
+    (cond (eqb k o-refuse) (some REFUSE)
+    (cond (eqb k o-channel) (some (DO (channel q)))
+    (cond (eqb k o-sum) (some (DO (sum q (variable v))))
+    none))))))))))))))))))))
 
 -- the instruction that two words hold
 abbrev pub instruction : ℕ → ℕ → Option Instr

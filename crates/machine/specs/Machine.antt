@@ -4,16 +4,20 @@ use Prim.Native.Nat.{ℕ, zero, suc, _+_, _-_, min}
 use mathlib.Core.Bool.{cond}
 use mathlib.Core.List.{List, [], _∷_, _++_}
 use mathlib.Core.Option.{Option, none, some}
-use lib.Dec.{leb, eqb}
-use lib.ListN.{getD, length, take, drop, replicate}
+use lib.Dec.{leb, ltb, eqb}
+use lib.ListN.{getD, length, drop, replicate, take}
 use lib.IntN.{ℤ, pos}
+use Rattle.answers.specs.Numbers.{noVariable}
+use Rattle.answers.specs.Answers.{refusal}
 use Rattle.answers.specs.declared.Stop.{Stop}
-use Rattle.answers.specs.declared.Stop.the-variants.{Ended, Limit, Wrong}
+use Rattle.answers.specs.declared.Stop.the-variants.{Ended, Limit, Wrong, Fault}
 use Rattle.machine.specs.declared.Ran.{Ran}
+use Rattle.machine.specs.declared.Cell.{Cell}
+use Rattle.machine.specs.declared.Cell.the-variants.{Unset, Holds, Named}
 use Rattle.machine.specs.Limits.{mostWords, mostCells}
 use Rattle.machine.specs.Run.{untold, Out, halt, next, End, done, over, run, quiet}
-use Rattle.machine.specs.Data.{Data, dat, cells, actOn, testOn, Fate, gone, lift, guard, downs, downsT, work, test, either, openBlock, closeBlock, enter, leave}
-use Rattle.machine.specs.Instructions.{Loc, lc, Instr, END, DO, IF, JUMP, ENTER, LEAVE, CALL, RETURN, GO, NEXT, fetch}
+use Rattle.machine.specs.Data.{Data, dat, cells, actOn, testOn, Fate, kept, gone, lift, guard, look, foundIn, nameCell, downs, downsT, work, test, either, openBlock, closeBlock, enter, leave}
+use Rattle.machine.specs.Instructions.{Loc, lc, fnd, Instr, END, DO, IF, JUMP, ENTER, LEAVE, CALL, RETURN, GO, NEXT, NAME, WORK, SEEK, PASS, REFUSE, fetch}
 
 -- an activation: where to return to, its first cell, the activation around it, the fate of its first cell, the call's place, and the return
 -- positions of its caller. Activations are numbered from 1, the oldest; 0 is the program
@@ -46,20 +50,45 @@ base fs (suc f) = baseOf (frameAt fs f)
 abbrev pub floor : List Frame → ℕ
 floor fs = base fs (length fs)
 
-unfoldable pub cellIn : List Frame → Loc → ℕ
-cellIn fs (lc u o) = base fs (walk fs (length fs) u) + o
+unfoldable pub cellIn : List Frame → Data → Loc → ℕ
+cellIn fs d (lc u o) = base fs (walk fs (length fs) u) + o
+cellIn fs d fnd = foundIn d
+
+-- what a name formal's cell holds
+abbrev pub cellAt : ℕ → Data → Cell
+cellAt c d = cond (ltb c (cells d)) (look c d) Unset
 
 -- 29 at the counter: "no instruction at the counter, an operand outside its range, or a value taken where none is held"
 abbrev pub stray : ℕ → Stop
 stray pc = Wrong (record { at = pc })
 
+-- a name formal's actual worked out: c its cell, f the activation whose formal it is. The activation before that one made the cell, and it is
+-- around the new one. The code of the actual is at n: of its store part there, of its read part 2 further
+abbrev pub partAt : Fate → ℕ → ℕ
+partAt kept n = suc (suc n)
+partAt gone n = n
+
+unfoldable pub workOut : Cell → ℕ → Fate → ℕ → ℕ → ℕ → List ℕ → List Frame → Data → Out Mach
+workOut (Named n) f t q q' pc ps fs d = lift (stray pc) 1 (ms (partAt t n) [] (fr (suc pc) (cells d) (f - 1) t q' ps ∷ fs)) (enter q d)
+workOut Unset f t q q' pc ps fs d = halt (stray pc)
+workOut (Holds v) f t q q' pc ps fs d = halt (stray pc)
+
+abbrev pub working : Fate → ℕ → ℕ → ℕ → ℕ → ℕ → List ℕ → List Frame → Data → Out Mach
+working t q q' u o pc ps fs d =
+    let f = walk fs (length fs) u in
+    workOut (cellAt (base fs f + o) d) f t q q' pc ps fs d
+
+-- where the store began that the running activation works out
+abbrev pub began : Frame → ℕ
+began (fr r b l f q ps) = q
+
 -- one instruction. The values that it uses lie above the first cell of the running activation
 unfoldable pub exec : Instr → ℕ → List ℕ → List Frame → Data → Out Mach
 exec END pc ps fs d = halt Ended
 exec (DO a) pc ps fs d =
-    lift (stray pc) 1 (ms (suc pc) ps fs) (guard (leb (floor fs + downs a) (cells d)) (work (actOn (cellIn fs) a) d))
+    lift (stray pc) 1 (ms (suc pc) ps fs) (guard (leb (floor fs + downs a) (cells d)) (work (actOn (cellIn fs d) a) d))
 exec (IF t l) pc ps fs d =
-    lift (stray pc) 1 (either (ms (suc pc) ps fs) (ms l ps fs)) (guard (leb (floor fs + downsT t) (cells d)) (test (testOn (cellIn fs) t) d))
+    lift (stray pc) 1 (either (ms (suc pc) ps fs) (ms l ps fs)) (guard (leb (floor fs + downsT t) (cells d)) (test (testOn (cellIn fs d) t) d))
 exec (JUMP l) pc ps fs d = next 1 quiet (ms l ps fs d)
 exec (ENTER q n l) pc ps fs d = lift (stray pc) 1 (ms l ps fs) (openBlock q n d)
 exec (LEAVE n) pc ps fs d = lift (stray pc) 1 (ms (suc pc) ps fs) (guard (leb (floor fs + n) (cells d)) (closeBlock n d))
@@ -71,6 +100,13 @@ exec RETURN pc ps (fr r b l f q ps' ∷ fs) d = lift (stray pc) 1 (ms r ps' fs) 
 exec (GO m l r) pc ps fs d = cond (eqb m (length ps)) (next 1 quiet (ms l (r ∷ ps) fs d)) (halt (stray pc))
 exec (NEXT m) pc [] fs d = halt (stray pc)
 exec (NEXT m) pc (r ∷ ps) fs d = cond (eqb m (length ps)) (next 1 quiet (ms r ps fs d)) (halt (stray pc))
+exec (NAME q l) pc ps fs d = lift (stray pc) 1 (ms l ps fs) (nameCell q (suc pc) d)
+exec (WORK q u o) pc ps fs d = working kept q q u o pc ps fs d
+exec (SEEK q u o) pc ps fs d = working gone q q u o pc ps fs d
+exec (PASS q u o) pc ps [] d = halt (stray pc)
+exec (PASS q u o) pc ps (x ∷ fs) d = working gone q (began x) u o pc ps (x ∷ fs) d
+exec REFUSE pc ps [] d = halt (stray pc)
+exec REFUSE pc ps (x ∷ fs) d = halt (Fault (refusal noVariable (began x)))
 
 unfoldable pub obey : Option Instr → ℕ → List ℕ → List Frame → Data → Out Mach
 obey none pc ps fs d = halt (stray pc)
@@ -95,7 +131,7 @@ finish (over n o m) = record { stop = Limit; done = n; taken = o .taken; written
 
 -- no cell in use, no activation, no number taken
 abbrev pub start : List ℤ → ℕ → ℕ → Mach
-start input room space = ms 0 [] [] (dat [] [] 0 (record { room = room; input = input; space = space }))
+start input room space = ms 0 [] [] (dat [] [] 0 (record { room = room; input = input; space = space; found = 0 }))
 
 -- It takes how many cells there are and how many numbers may be written, and never what stands there.
 unfoldable pub machine : List ℕ → List ℤ → ℕ → ℕ → ℕ → Finish

@@ -1,12 +1,12 @@
 -- How the code holds a state: a model that the contracts of the inner functions need, and no part of what `run` promises.
 -- The cells in use stand at the store's beginning and the held values at its end; an activation is 70 words of one array.
-use Prim.Native.Nat.{ℕ, zero, suc, _+_, _-_, _*_, _/_, _≤_, _<_}
+use Prim.Native.Nat.{ℕ, zero, suc, _+_, _-_, _*_, _/_, _%_, _≤_, _<_}
 use mathlib.Core.Path.{_≡_}
 use mathlib.Core.Bool.{cond}
 use mathlib.Core.List.{List, [], _∷_, _++_}
 use lib.Dec.{ltb, eqb}
 use lib.ListN.{length, getD, set, take, drop}
-use lib.IntN.{ℤ, pos}
+use lib.IntN.{ℤ, pos, negsuc}
 use lib.Signed.{mag}
 use mir.Syntax.{w32}
 use mir.Val.{SFits}
@@ -14,7 +14,9 @@ use Rattle.answers.specs.declared.Stop.{Stop}
 use Rattle.answers.specs.declared.Stop.the-variants.{Ended, Fault as Faulty}
 use Rattle.answers.specs.Answers.{refusal}
 use Rattle.machine.specs.declared.Cell.{Cell}
-use Rattle.machine.specs.declared.Cell.the-variants.{Unset, Holds}
+use Rattle.machine.specs.declared.Cell.the-variants.{Unset, Holds, Named}
+use Rattle.machine.specs.declared.Number.{Number}
+use Rattle.machine.specs.declared.Number.the-variants.{Is as Number1, Not}
 use Rattle.machine.specs.declared.Value.{Value}
 use Rattle.machine.specs.declared.Value.the-variants.{Is, Fault}
 use Rattle.machine.specs.declared.Counts.{Counts}
@@ -40,13 +42,25 @@ use Rattle.machine.specs.declared.Ran.{Ran}
 abbrev pub numbers : ℕ
 numbers = 1
 
--- a number of the store as a cell, and a cell as a number
+-- A number of the store as a cell, and a cell as a number. A whole number of 32 bits stands for itself; from `firstName` on a number stands for a
+-- name formal's cell, every other one for an unassigned one
+abbrev pub firstName : ℕ
+firstName = 8589934592
+
+abbrev pub names : ℕ
+names = 2147483648
+
+unfoldable pub otherOf : ℤ → Cell
+otherOf (pos n) = cond (ltb n firstName) Unset (Named ((n - firstName) % names))
+otherOf (negsuc n) = Unset
+
 unfoldable pub cellOf : ℤ → Cell
-cellOf x = cond (ltb (mag x) 2147483648) (Holds x) Unset
+cellOf x = cond (ltb (mag x) 2147483648) (Holds x) (otherOf x)
 
 unfoldable pub numberOf : Cell → ℤ
 numberOf Unset = pos 4294967296
 numberOf (Holds v) = v
+numberOf (Named n) = pos (firstName + n)
 
 unfoldable pub cellAt : List ℤ → ℕ → Cell
 cellAt s c = cellOf (getD s (numbers * c) (pos 0))
@@ -67,9 +81,16 @@ unfoldable pub cellsOf : ℕ → List ℤ → List Cell
 cellsOf zero s = []
 cellsOf (suc n) s = cellAt s n ∷ cellsOf n s
 
+-- the whole number in a cell
+abbrev pub numberIn : Cell → Number
+numberIn Unset = Not
+numberIn (Holds v) = Number1 v
+numberIn (Named n) = Not
+
 abbrev pub heldIn : Cell → ℤ
 heldIn Unset = pos 0
 heldIn (Holds v) = v
+heldIn (Named n) = pos 0
 
 -- the last n cells, the first of them first
 unfoldable pub heldOf : ℕ → List ℤ → List ℤ
@@ -78,10 +99,19 @@ heldOf (suc n) s = heldIn (cellAt s (roomOf s - suc n)) ∷ heldOf n s
 
 -- ---- the data
 
--- n the counts, a the live activations, s the store, i the input, o the output
-abbrev pub dataOf : Counts → ℕ → List ℤ → List ℤ → List ℤ → Data
+-- what the machine's own memory has of them: the live activations, and the cell found
+pub record Own : Type 0 where
+  pub live : ℕ
+  pub found : ℕ
+
+-- one activation less
+abbrev pub left : Own → Own
+left a = record { live = a .live - 1; found = a .found }
+
+-- n the counts, a what is apart, s the store, i the input, o the output
+abbrev pub dataOf : Counts → Own → List ℤ → List ℤ → List ℤ → Data
 dataOf n a s i o =
-    dat (cellsOf (n .cells) s) (heldOf (n .held) s) a (record { room = roomOf s; input = drop (n .taken) i; space = length o - n .written })
+    dat (cellsOf (n .cells) s) (heldOf (n .held) s) (a .live) (record { room = roomOf s; input = drop (n .taken) i; space = length o - n .written; found = a .found })
 
 abbrev pub traceOf : Counts → List ℤ → Trace
 traceOf n o = record { written = take (n .written) o; taken = n .taken }
@@ -97,20 +127,20 @@ told t (bad a q) = ill a q
 told t wrong = lost
 told t (good e x) = fine x (say t e)
 
-abbrev pub seenU : Used → ℕ → List ℤ → List ℤ → List ℤ → Took
+abbrev pub seenU : Used → Own → List ℤ → List ℤ → List ℤ → Took
 seenU (Value1 v n) a s i o = value v (dataOf n a s i o)
 seenU Nothing1 a s i o = nothing
 
-abbrev pub onPair : (ℤ → ℤ → Data → Res Data) → Pair → ℕ → List ℤ → List ℤ → List ℤ → Res Data
+abbrev pub onPair : (ℤ → ℤ → Data → Res Data) → Pair → Own → List ℤ → List ℤ → List ℤ → Res Data
 onPair f (Values2 x y n) a s i o = f x y (dataOf n a s i o)
 onPair f Nothing2 a s i o = wrong
 
-abbrev pub seenD : Did → ℕ → List ℤ → List ℤ → List ℤ → After Data
+abbrev pub seenD : Did → Own → List ℤ → List ℤ → List ℤ → After Data
 seenD (Good n) a s i o = fine (dataOf n a s i o) (traceOf n o)
 seenD (Bad x q) a s i o = ill (x .number) q
 seenD Stray a s i o = lost
 
-abbrev pub seenT : Chosen → ℕ → List ℤ → List ℤ → List ℤ → After Two
+abbrev pub seenT : Chosen → Own → List ℤ → List ℤ → List ℤ → After Two
 seenT (Yes n) a s i o = fine (yea (dataOf n a s i o)) (traceOf n o)
 seenT (No n) a s i o = fine (nay (dataOf n a s i o)) (traceOf n o)
 seenT (BadT x q) a s i o = ill (x .number) q
@@ -146,9 +176,16 @@ framesOf l (suc n) =
 abbrev pub begun : List ℕ → ℕ → ℕ → ℕ → ℕ → ℕ → ℕ → List ℕ
 begun l i r f u e q = noteOf (noteOf (noteOf (noteOf (noteOf (noteOf l i 0 r) i 1 f) i 2 u) i 3 e) i 4 q) i 5 0
 
+-- the cell found stands where the program, which is no call, has its call's place
+unfoldable pub foundOf : List ℕ → ℕ
+foundOf l = wordOf l 0 4
+
+abbrev pub ownOf : List ℕ → ℕ → Own
+ownOf l a = record { live = a; found = foundOf l }
+
 -- at the counter, with a live activations
 abbrev pub machOf : ℕ → ℕ → Counts → List ℤ → List ℕ → List ℤ → List ℤ → Mach
-machOf pc a n s l i o = ms pc (positionsOf l a) (framesOf l a) (dataOf n a s i o)
+machOf pc a n s l i o = ms pc (positionsOf l a) (framesOf l a) (dataOf n (ownOf l a) s i o)
 
 -- what an instruction leaves
 pub data Went : Type 0 where
@@ -177,6 +214,7 @@ seenO (Strays c) s l i o = halted (stray c)
 abbrev pub Fitting : Cell → Type 0
 Fitting Unset = Unit {0}
 Fitting (Holds v) = SFits w32 v
+Fitting (Named n) = n < names
 
 -- a value that a cell can hold
 abbrev pub FittingV : Value → Type 0
@@ -212,10 +250,10 @@ HeldIn n Nothing2 s = n .held < 2
 
 -- the operation A was done on the data that n and s hold
 abbrev pub Does : Act ℕ → Counts → Did → List ℤ → List ℤ → Type 0
-Does A n r s s' = (a : ℕ) (i o : List ℤ) → seenD r a s' i o ≡ told (traceOf n o) (work A (dataOf n a s i o))
+Does A n r s s' = (a : Own) (i o : List ℤ) → seenD r a s' i o ≡ told (traceOf n o) (work A (dataOf n a s i o))
 
 abbrev pub Tests : Test ℕ → Counts → Chosen → List ℤ → Type 0
-Tests t n r s = (a : ℕ) (i o : List ℤ) → seenT r a s i o ≡ told (traceOf n o) (test t (dataOf n a s i o))
+Tests t n r s = (a : Own) (i o : List ℤ) → seenT r a s i o ≡ told (traceOf n o) (test t (dataOf n a s i o))
 
 abbrev pub SoundD : Counts → Did → List ℤ → Type 0
 SoundD n (Good m) s = Sound m s × (m .written ≡ n .written)

@@ -129,6 +129,32 @@ o-impl = 37
 abbrev pub o-equiv : ℕ
 o-equiv = 38
 
+-- formals called by name: the cell, an actual worked out for a read, for a store and for a store passed on, the cell found, no variable
+abbrev pub o-name : ℕ
+o-name = 39
+
+abbrev pub o-work : ℕ
+o-work = 40
+
+abbrev pub o-seek : ℕ
+o-seek = 41
+
+abbrev pub o-pass : ℕ
+o-pass = 42
+
+abbrev pub o-lend : ℕ
+o-lend = 43
+
+abbrev pub o-refuse : ℕ
+o-refuse = 44
+
+-- the channel of an ininteger tested; the held step and a variable added
+abbrev pub o-channel : ℕ
+o-channel = 45
+
+abbrev pub o-sum : ℕ
+o-sum = 46
+
 -- no operation from here on
 abbrev pub o-behind : ℕ
-o-behind = 39
+o-behind = 47

@@ -4,10 +4,10 @@ use mathlib.Core.List.{List, [], _∷_}
 use lib.Signed.{mag}
 use mir.Syntax.{w32}
 use mir.Val.{ofZ}
-use Rattle.machine.specs.Operations.{o-end, o-jump, o-enter, o-leave, o-call-needed, o-call, o-return, o-go, o-next, o-unless, o-test, o-const, o-load, o-store, o-assign, o-result, o-drop, o-in, o-out, o-hold, o-add, o-minus, o-not, o-iabs, o-plus, o-less, o-times, o-over, o-below, o-at-most, o-equal, o-at-least, o-above, o-unequal, o-and, o-or, o-impl, o-equiv}
+use Rattle.machine.specs.Operations.{o-end, o-jump, o-enter, o-leave, o-call-needed, o-call, o-return, o-go, o-next, o-unless, o-test, o-const, o-load, o-store, o-assign, o-result, o-drop, o-in, o-out, o-hold, o-add, o-minus, o-not, o-iabs, o-plus, o-less, o-times, o-over, o-below, o-at-most, o-equal, o-at-least, o-above, o-unequal, o-and, o-or, o-impl, o-equiv, o-name, o-work, o-seek, o-pass, o-lend, o-refuse, o-channel, o-sum}
 use Rattle.machine.specs.Values.{Unary, minus, negation, absolute, Binary, plus, less, times, over, below, atMost, equal, atLeast, above, unequal, and, or, impl, equiv}
-use Rattle.machine.specs.Data.{Act, push, load, store, assign, reserve, forget, receive, send, keep, bump, unary, binary, Test, condition, upto, kept, gone}
-use Rattle.machine.specs.Instructions.{Loc, lc, Instr, END, DO, IF, JUMP, ENTER, LEAVE, CALL, RETURN, GO, NEXT, sixBits, thirteenBits, pack}
+use Rattle.machine.specs.Data.{Act, push, load, store, assign, reserve, forget, receive, send, keep, bump, unary, binary, lend, channel, sum, Test, condition, upto, kept, gone}
+use Rattle.machine.specs.Instructions.{Loc, lc, fnd, Instr, END, DO, IF, JUMP, ENTER, LEAVE, CALL, RETURN, GO, NEXT, NAME, WORK, SEEK, PASS, REFUSE, sixBits, thirteenBits, pack, foundOffset}
 
 -- ---- an instruction is its operation, its place and its operand
 
@@ -19,6 +19,7 @@ pub record Parts : Type 0 where
 -- a variable, and what stands beside it
 abbrev pub beside : Loc → ℕ → ℕ
 beside (lc u o) l = pack u o l
+beside fnd l = pack 0 foundOffset l
 
 abbrev pub unaryNumber : Unary → ℕ
 unaryNumber minus = o-minus
@@ -54,6 +55,9 @@ partsOfAct keep = record { operation = o-hold; place = 0; operand = 0 }
 partsOfAct (bump q x) = record { operation = o-add; place = q; operand = beside x 0 }
 partsOfAct (unary q o) = record { operation = unaryNumber o; place = q; operand = 0 }
 partsOfAct (binary q o) = record { operation = binaryNumber o; place = q; operand = 0 }
+partsOfAct (lend x) = record { operation = o-lend; place = 0; operand = beside x 0 }
+partsOfAct (channel q) = record { operation = o-channel; place = q; operand = 0 }
+partsOfAct (sum q x) = record { operation = o-sum; place = q; operand = beside x 0 }
 
 abbrev pub partsOf : Instr → Parts
 partsOf END = record { operation = o-end; place = 0; operand = 0 }
@@ -68,6 +72,11 @@ partsOf (NEXT m) = record { operation = o-next; place = 0; operand = pack m 0 0 
 partsOf (IF condition l) = record { operation = o-unless; place = 0; operand = pack 0 0 l }
 partsOf (IF (upto q x) l) = record { operation = o-test; place = q; operand = beside x l }
 partsOf (DO a) = partsOfAct a
+partsOf (NAME q l) = record { operation = o-name; place = q; operand = pack 0 0 l }
+partsOf (WORK q u o) = record { operation = o-work; place = q; operand = pack u o 0 }
+partsOf (SEEK q u o) = record { operation = o-seek; place = q; operand = pack u o 0 }
+partsOf (PASS q u o) = record { operation = o-pass; place = q; operand = pack u o 0 }
+partsOf REFUSE = record { operation = o-refuse; place = 0; operand = 0 }
 
 -- ---- the two words
 
@@ -78,10 +87,11 @@ unfoldable pub words : List Instr → List ℕ
 words [] = []
 words (i ∷ p) = firstWord (partsOf i) ∷ partsOf i .operand ∷ words p
 
--- ---- operands in range: levels and nesting below 64, offsets, counts and addresses below 8,192, numbers of 32 bits
+-- ---- operands in range: levels and nesting below 64, offsets below 8,191, counts and addresses below 8,192, numbers of 32 bits
 
 abbrev pub LocFits : Loc → Type 0
-LocFits (lc u o) = (u < sixBits) × (o < thirteenBits)
+LocFits (lc u o) = (u < sixBits) × (o < foundOffset)
+LocFits fnd = Unit {0}
 
 abbrev pub ActFits : Act Loc → Type 0
 ActFits (push q v) = mag v < 2147483648
@@ -96,6 +106,9 @@ ActFits keep = Unit {0}
 ActFits (bump q x) = LocFits x
 ActFits (unary q o) = Unit {0}
 ActFits (binary q o) = Unit {0}
+ActFits (lend x) = LocFits x
+ActFits (channel q) = Unit {0}
+ActFits (sum q x) = LocFits x
 
 abbrev pub TestFits : Test Loc → Type 0
 TestFits condition = Unit {0}
@@ -112,6 +125,11 @@ InstrFits (GO m l r) = (m < sixBits) × (l < thirteenBits) × (r < thirteenBits)
 InstrFits (NEXT m) = m < sixBits
 InstrFits (IF t l) = TestFits t × (l < thirteenBits)
 InstrFits (DO a) = ActFits a
+InstrFits (NAME q l) = l < thirteenBits
+InstrFits (WORK q u o) = (u < sixBits) × (o < foundOffset)
+InstrFits (SEEK q u o) = (u < sixBits) × (o < foundOffset)
+InstrFits (PASS q u o) = (u < sixBits) × (o < foundOffset)
+InstrFits REFUSE = Unit {0}
 
 abbrev pub CodeFits : List Instr → Type 0
 CodeFits [] = Unit {0}

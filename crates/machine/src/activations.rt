@@ -23,6 +23,8 @@ pub const AROUND: usize = 2;
 pub const NEEDED: usize = 3;
 // The call's place.
 pub const PLACE: usize = 4;
+// The program is no call, and its word has the cell found.
+pub const FOUND: usize = 4;
 // How many return positions are noted.
 pub const NOTED: usize = 5;
 // The first of them.

@@ -9,11 +9,11 @@ use answers::Answer;
 ghost use mathlib.Core.Path.{_≡_};
 ghost use mathlib.Core.Bool.{cond};
 ghost use mathlib.Core.List.{List};
-ghost use Prim.Native.Nat.{_<_, ℕ, _+_, _-_, _≤_};
+ghost use Prim.Native.Nat.{_<_, _+_, _-_, _≤_};
 ghost use lib.IntN.{ℤ};
 ghost use Rattle.machine.specs.Data.{Fate, openBlock, closeBlock, leave as leaveOf};
 ghost use Rattle.machine.specs.Instructions.{thirteenBits};
-ghost use Rattle.machine.specs.Model.{Sound, SoundD, dataOf, traceOf, seenD, told, roomOf, unassigned};
+ghost use Rattle.machine.specs.Model.{Own, left, Sound, SoundD, dataOf, traceOf, seenD, told, roomOf, unassigned};
 
 // The k cells from cell c on become unassigned.
 fn unassign(store: &mut [i64], c: usize, k: usize)
@@ -30,7 +30,7 @@ fn unassign(store: &mut [i64], c: usize, k: usize)
 // A block's cells.
 pub fn open(mut n: Counts, store: &mut [i64], q: usize, k: usize) -> Did
     requires { ⌜ Sound n (now store) × (k < thirteenBits) ⌝ }
-    ensures { λ r. ⌜ ((a : ℕ) (i o : List ℤ) → seenD r a (now (store .exit)) i o ≡ told (traceOf n o) (openBlock q k (dataOf n a (now (store .entry)) i o))) ⌝ }
+    ensures { λ r. ⌜ ((a : Own) (i o : List ℤ) → seenD r a (now (store .exit)) i o ≡ told (traceOf n o) (openBlock q k (dataOf n a (now (store .entry)) i o))) ⌝ }
     ensures { λ r. ⌜ SoundD n r (now (store .exit)) ⌝ }
 {
     let c = n.cells;
@@ -44,7 +44,7 @@ pub fn open(mut n: Counts, store: &mut [i64], q: usize, k: usize) -> Did
 }
 
 pub fn close(mut n: Counts, k: usize) -> Did
-    ensures { λ r. ⌜ ((a : ℕ) (s i o : List ℤ) → seenD r a s i o ≡ told (traceOf n o) (closeBlock k (dataOf n a s i o))) ⌝ }
+    ensures { λ r. ⌜ ((a : Own) (s i o : List ℤ) → seenD r a s i o ≡ told (traceOf n o) (closeBlock k (dataOf n a s i o))) ⌝ }
     ensures { λ r. ⌜ ((s : List ℤ) → Sound n s → SoundD n r s) ⌝ }
 {
     let c = n.cells;
@@ -58,7 +58,7 @@ pub fn close(mut n: Counts, k: usize) -> Did
 // An activation's cells, from b on, go; where its result is needed, that stays, for the call at q.
 pub fn leave(mut n: Counts, store: &[i64], needed: bool, q: usize, b: usize) -> Did
     requires { ⌜ Sound n (now store) ⌝ }
-    ensures { λ r. ⌜ ((a : ℕ) (i o : List ℤ) → seenD r (a - 1) (now (store .entry)) i o ≡ told (traceOf n o) (leaveOf (cond needed Fate.kept Fate.gone) q b (dataOf n a (now (store .entry)) i o))) ⌝ }
+    ensures { λ r. ⌜ ((a : Own) (i o : List ℤ) → seenD r (left a) (now (store .entry)) i o ≡ told (traceOf n o) (leaveOf (cond needed Fate.kept Fate.gone) q b (dataOf n a (now (store .entry)) i o))) ⌝ }
     ensures { λ r. ⌜ SoundD n r (now (store .entry)) ⌝ }
 {
     if needed {
@@ -67,6 +67,7 @@ pub fn leave(mut n: Counts, store: &[i64], needed: bool, q: usize, b: usize) -> 
         }
         match cell_at(store, b) {
             Cell::Unset => Did::Bad(Answer::UNASSIGNED, q),
+            Cell::Named(_) => Did::Stray,
             Cell::Holds(_) => {
                 n.cells = b + 1;
                 Did::Good(n)

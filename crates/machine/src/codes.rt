@@ -92,5 +92,23 @@ pub const IMPL: u32 = 37;
 
 pub const EQUIV: u32 = 38;
 
+// Formals called by name: the cell, an actual worked out for a read, for a store and for a store passed on, the cell found, no variable.
+pub const NAME: u32 = 39;
+
+pub const WORK: u32 = 40;
+
+pub const SEEK: u32 = 41;
+
+pub const PASS: u32 = 42;
+
+pub const LEND: u32 = 43;
+
+pub const REFUSE: u32 = 44;
+
+// The channel of an ininteger tested; the held step and a variable added.
+pub const CHANNEL: u32 = 45;
+
+pub const SUM: u32 = 46;
+
 // No operation from here on.
-pub const BEHIND: u32 = 39;
+pub const BEHIND: u32 = 47;

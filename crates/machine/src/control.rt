@@ -1,4 +1,5 @@
 // The instructions that open and close blocks and activations, and those of loops.
+use crate::Cell;
 use crate::Chosen;
 use crate::Counts;
 use crate::Did;
@@ -11,20 +12,25 @@ use crate::activations::note;
 use crate::activations::word;
 use crate::blocks;
 use crate::bounds;
+use crate::cells::cell_at;
+use crate::codes;
 use crate::operands::high;
 use crate::operands::low;
 use crate::operands::mid;
 use answers::Answer;
 ghost use mathlib.Core.Path.{_≡_};
+ghost use mathlib.Core.Bool.{cond};
 ghost use mathlib.Core.List.{List};
-ghost use Prim.Native.Nat.{ℕ, suc, _+_, _≤_, _<_};
+ghost use Prim.Native.Nat.{ℕ, suc, _+_, _-_, _≤_, _<_};
+ghost use lib.Dec.{eqb};
 ghost use lib.IntN.{ℤ};
 ghost use lib.ListN.{length};
 ghost use Rattle.machine.specs.Limits.{mostInstructions, mostCells, mostLive};
+ghost use Rattle.machine.specs.Operations.{o-work, o-pass};
 ghost use Rattle.machine.specs.Data.{either};
-ghost use Rattle.machine.specs.Instructions.{Instr, thirteenBits, high, mid, low};
-ghost use Rattle.machine.specs.Machine.{Mach, stray as strayOf, exec};
-ghost use Rattle.machine.specs.Model.{Sound, SoundT, SoundO, SoundG, Lives, dataOf, traceOf, seenD, seenT, seenO, lifted, stepped, positionsOf, framesOf, fateOf, begun};
+ghost use Rattle.machine.specs.Instructions.{Instr, thirteenBits, high, mid, low, decode};
+ghost use Rattle.machine.specs.Machine.{Mach, stray as strayOf, exec, obey, partAt, working};
+ghost use Rattle.machine.specs.Model.{Sound, SoundT, SoundO, SoundG, Lives, dataOf, traceOf, seenD, seenT, seenO, lifted, stepped, positionsOf, framesOf, ownOf, wordOf, fateOf, begun, names};
 
 // 29 at the counter.
 pub fn stray(at: u32) -> Outcome
@@ -35,7 +41,7 @@ pub fn stray(at: u32) -> Outcome
 
 // On to `next`, or the stop that the operation came to.
 pub fn lift(at: u32, next: u32, live: usize, did: Did) -> Outcome
-    ensures { λ r. ⌜ ((s i o : List ℤ) (l : List ℕ) → seenO r s l i o ≡ lifted (strayOf at) (Mach.ms next (positionsOf l live) (framesOf l live)) (seenD did live s i o)) ⌝ }
+    ensures { λ r. ⌜ ((s i o : List ℤ) (l : List ℕ) → seenO r s l i o ≡ lifted (strayOf at) (Mach.ms next (positionsOf l live) (framesOf l live)) (seenD did (ownOf l live) s i o)) ⌝ }
     ensures { λ r. ⌜ ((s o o' : List ℤ) (l : List ℕ) → SoundO did s o o' → Lives l live → SoundG r s l o o') ⌝ }
 {
     match did {
@@ -48,7 +54,7 @@ pub fn lift(at: u32, next: u32, live: usize, did: Did) -> Outcome
 // On to the next instruction, or to `other` where the test says no.
 pub fn lift_test(at: u32, other: u32, live: usize, chosen: Chosen) -> Outcome
     requires { ⌜ at < mostInstructions ⌝ }
-    ensures { λ r. ⌜ ((s i o : List ℤ) (l : List ℕ) → seenO r s l i o ≡ lifted (strayOf at) (either (Mach.ms (suc at) (positionsOf l live) (framesOf l live)) (Mach.ms other (positionsOf l live) (framesOf l live))) (seenT chosen live s i o)) ⌝ }
+    ensures { λ r. ⌜ ((s i o : List ℤ) (l : List ℕ) → seenO r s l i o ≡ lifted (strayOf at) (either (Mach.ms (suc at) (positionsOf l live) (framesOf l live)) (Mach.ms other (positionsOf l live) (framesOf l live))) (seenT chosen (ownOf l live) s i o)) ⌝ }
     ensures { λ r. ⌜ ((n : Counts) (s o : List ℤ) (l : List ℕ) → SoundT n chosen s → n .written ≤ length o → Lives l live → SoundG r s l o o) ⌝ }
 {
     match chosen {
@@ -62,7 +68,7 @@ pub fn lift_test(at: u32, other: u32, live: usize, chosen: Chosen) -> Outcome
 // A block is left: k cells.
 pub fn close(at: u32, live: usize, n: Counts, own: &Memory, k: usize) -> Outcome
     requires { ⌜ Lives (now own) live × (at < mostInstructions) × (k < thirteenBits) ⌝ }
-    ensures { λ r. ⌜ ((s i o : List ℤ) → seenO r s (now (own .entry)) i o ≡ stepped (traceOf n o) (exec (Instr.LEAVE k) at (positionsOf (now (own .entry)) live) (framesOf (now (own .entry)) live) (dataOf n live s i o))) ⌝ }
+    ensures { λ r. ⌜ ((s i o : List ℤ) → seenO r s (now (own .entry)) i o ≡ stepped (traceOf n o) (exec (Instr.LEAVE k) at (positionsOf (now (own .entry)) live) (framesOf (now (own .entry)) live) (dataOf n (ownOf (now (own .entry)) live) s i o))) ⌝ }
     ensures { λ r. ⌜ ((s o : List ℤ) → Sound n s → n .written ≤ length o → SoundG r s (now (own .entry)) o o) ⌝ }
 {
     if first_cell(own, live) + k > n.cells {
@@ -95,7 +101,7 @@ pub fn call(
     needed: u32,
 ) -> Outcome
     requires { ⌜ Lives (now own) live × (at < mostInstructions) × (n .cells ≤ mostCells) ⌝ }
-    ensures { λ r. ⌜ ((s i o : List ℤ) → seenO r s (now (own .exit)) i o ≡ stepped (traceOf n o) (exec (Instr.CALL q (low v) (high v) (mid v) (fateOf needed)) at (positionsOf (now (own .entry)) live) (framesOf (now (own .entry)) live) (dataOf n live s i o))) ⌝ }
+    ensures { λ r. ⌜ ((s i o : List ℤ) → seenO r s (now (own .exit)) i o ≡ stepped (traceOf n o) (exec (Instr.CALL q (low v) (high v) (mid v) (fateOf needed)) at (positionsOf (now (own .entry)) live) (framesOf (now (own .entry)) live) (dataOf n (ownOf (now (own .entry)) live) s i o))) ⌝ }
     ensures { λ r. ⌜ ((s o : List ℤ) → Sound n s → n .written ≤ length o → SoundG r s (now (own .exit)) o o) ⌝ }
 {
     let k = mid(v as usize);
@@ -114,7 +120,7 @@ pub fn call(
 // A call returns.
 pub fn leave(at: u32, live: usize, n: Counts, own: &Memory, store: &[i64]) -> Outcome
     requires { ⌜ Sound n (now store) × Lives (now own) live ⌝ }
-    ensures { λ r. ⌜ ((i o : List ℤ) → seenO r (now (store .entry)) (now (own .entry)) i o ≡ stepped (traceOf n o) (exec Instr.RETURN at (positionsOf (now (own .entry)) live) (framesOf (now (own .entry)) live) (dataOf n live (now (store .entry)) i o))) ⌝ }
+    ensures { λ r. ⌜ ((i o : List ℤ) → seenO r (now (store .entry)) (now (own .entry)) i o ≡ stepped (traceOf n o) (exec Instr.RETURN at (positionsOf (now (own .entry)) live) (framesOf (now (own .entry)) live) (dataOf n (ownOf (now (own .entry)) live) (now (store .entry)) i o))) ⌝ }
     ensures { λ r. ⌜ ((o : List ℤ) → n .written ≤ length o → SoundG r (now (store .entry)) (now (own .entry)) o o) ⌝ }
 {
     if live == 0 {
@@ -130,7 +136,7 @@ pub fn leave(at: u32, live: usize, n: Counts, own: &Memory, store: &[i64]) -> Ou
 // To a loop's body, noting where to go after it.
 pub fn go(at: u32, live: usize, n: Counts, own: &mut Memory, v: u32) -> Outcome
     requires { ⌜ Lives (now own) live ⌝ }
-    ensures { λ r. ⌜ ((s i o : List ℤ) → seenO r s (now (own .exit)) i o ≡ stepped (traceOf n o) (exec (Instr.GO (high v) (low v) (mid v)) at (positionsOf (now (own .entry)) live) (framesOf (now (own .entry)) live) (dataOf n live s i o))) ⌝ }
+    ensures { λ r. ⌜ ((s i o : List ℤ) → seenO r s (now (own .exit)) i o ≡ stepped (traceOf n o) (exec (Instr.GO (high v) (low v) (mid v)) at (positionsOf (now (own .entry)) live) (framesOf (now (own .entry)) live) (dataOf n (ownOf (now (own .entry)) live) s i o))) ⌝ }
     ensures { λ r. ⌜ ((s o : List ℤ) → Sound n s → n .written ≤ length o → SoundG r s (now (own .exit)) o o) ⌝ }
 {
     let nest = high(v as usize);
@@ -150,7 +156,7 @@ pub fn go(at: u32, live: usize, n: Counts, own: &mut Memory, v: u32) -> Outcome
 // From a loop's body to the position noted.
 pub fn next(at: u32, live: usize, n: Counts, own: &mut Memory, v: u32) -> Outcome
     requires { ⌜ Lives (now own) live ⌝ }
-    ensures { λ r. ⌜ ((s i o : List ℤ) → seenO r s (now (own .exit)) i o ≡ stepped (traceOf n o) (exec (Instr.NEXT (high v)) at (positionsOf (now (own .entry)) live) (framesOf (now (own .entry)) live) (dataOf n live s i o))) ⌝ }
+    ensures { λ r. ⌜ ((s i o : List ℤ) → seenO r s (now (own .exit)) i o ≡ stepped (traceOf n o) (exec (Instr.NEXT (high v)) at (positionsOf (now (own .entry)) live) (framesOf (now (own .entry)) live) (dataOf n (ownOf (now (own .entry)) live) s i o))) ⌝ }
     ensures { λ r. ⌜ ((s o : List ℤ) → Sound n s → n .written ≤ length o → SoundG r s (now (own .exit)) o o) ⌝ }
 {
     let nest = high(v as usize);
@@ -160,4 +166,118 @@ pub fn next(at: u32, live: usize, n: Counts, own: &mut Memory, v: u32) -> Outcom
     let position = word(own, live, activations::POSITIONS + nest);
     note(own, live, activations::NOTED, nest as u32);
     Outcome::Goes(position, live, n)
+}
+
+// The activation before activation f.
+fn before(f: usize) -> usize
+    ensures { λ r. ⌜ r ≡ f - 1 ⌝ }
+{
+    if f == 0 {
+        return 0;
+    }
+    f - 1
+}
+
+// The code of an actual, at a: its store part stands there, its read part behind it.
+fn part_at(needed: u32, a: u32) -> u32
+    requires { ⌜ a < names ⌝ }
+    ensures { λ r. ⌜ r ≡ partAt (fateOf needed) a ⌝ }
+{
+    if needed == 0 {
+        return a;
+    }
+    a + 2
+}
+
+// A name formal's actual worked out, for a use at q: the formal is `high` activations out, at the offset `mid`. The store that it is for, or the
+// read, began at `place`; a read needs a result.
+fn work_out(
+    at: u32,
+    live: usize,
+    n: Counts,
+    own: &mut Memory,
+    store: &[i64],
+    q: u32,
+    place: u32,
+    v: u32,
+    needed: u32,
+) -> Outcome
+    requires { ⌜ Sound n (now store) × Lives (now own) live × (at < mostInstructions) ⌝ }
+    ensures { λ r. ⌜ ((i o : List ℤ) → seenO r (now (store .entry)) (now (own .exit)) i o ≡ stepped (traceOf n o) (working (fateOf needed) q place (high v) (mid v) at (positionsOf (now (own .entry)) live) (framesOf (now (own .entry)) live) (dataOf n (ownOf (now (own .entry)) live) (now (store .entry)) i o))) ⌝ }
+    ensures { λ r. ⌜ ((o : List ℤ) → n .written ≤ length o → SoundG r (now (store .entry)) (now (own .exit)) o o) ⌝ }
+{
+    let c = n.cells;
+    let f = around(own, live, high(v as usize));
+    let b = first_cell(own, f) + mid(v as usize);
+    if b >= c {
+        return stray(at);
+    }
+    match cell_at(store, b) {
+        Cell::Unset => stray(at),
+        Cell::Holds(_) => stray(at),
+        Cell::Named(a) => {
+            if live >= bounds::LIVE {
+                return Outcome::Faults(Answer::ACTIVATIONS, q as usize);
+            }
+            begin(own, live + 1, at, c, before(f), needed, place);
+            Outcome::Goes(part_at(needed, a), live + 1, n)
+        }
+    }
+}
+
+// Where the store or the read began: here, or where the running activation's did.
+fn place_of(own: &Memory, live: usize, k: u32, q: u32) -> u32
+    requires { ⌜ live ≤ mostLive ⌝ }
+    ensures { λ r. ⌜ r ≡ cond (eqb k o-pass) (wordOf (now (own .entry)) live 4) q ⌝ }
+{
+    if k == codes::PASS {
+        return word(own, live, activations::PLACE);
+    }
+    q
+}
+
+// 1 for a read.
+fn needed_of(k: u32) -> u32
+    ensures { λ r. ⌜ r ≡ cond (eqb k o-work) 1 0 ⌝ }
+{
+    if k == codes::WORK { 1 } else { 0 }
+}
+
+// WORK, SEEK and PASS.
+pub fn seek(
+    at: u32,
+    live: usize,
+    n: Counts,
+    own: &mut Memory,
+    store: &[i64],
+    k: u32,
+    q: u32,
+    v: u32,
+) -> Outcome
+    requires { ⌜ Sound n (now store) × Lives (now own) live × (at < mostInstructions) × (o-work ≤ k) × (k ≤ o-pass) ⌝ }
+    ensures { λ r. ⌜ ((i o : List ℤ) → seenO r (now (store .entry)) (now (own .exit)) i o ≡ stepped (traceOf n o) (obey (decode k q v) at (positionsOf (now (own .entry)) live) (framesOf (now (own .entry)) live) (dataOf n (ownOf (now (own .entry)) live) (now (store .entry)) i o))) ⌝ }
+    ensures { λ r. ⌜ ((o : List ℤ) → n .written ≤ length o → SoundG r (now (store .entry)) (now (own .exit)) o o) ⌝ }
+{
+    if k == codes::PASS {
+        if live == 0 {
+            return stray(at);
+        }
+    }
+    let place = place_of(own, live, k, q);
+    work_out(at, live, n, own, store, q, place, v, needed_of(k))
+}
+
+// A store whose actual is no variable.
+pub fn refuse(at: u32, live: usize, own: &Memory) -> Outcome
+    requires { ⌜ Lives (now own) live ⌝ }
+    ensures { λ r. ⌜ ((n : Counts) (s i o : List ℤ) → seenO r s (now (own .entry)) i o ≡ stepped (traceOf n o) (exec Instr.REFUSE at (positionsOf (now (own .entry)) live) (framesOf (now (own .entry)) live) (dataOf n (ownOf (now (own .entry)) live) s i o))) ⌝ }
+    ensures { λ r. ⌜ ((s o : List ℤ) → SoundG r s (now (own .entry)) o o) ⌝ }
+{
+    if live == 0 {
+        return stray(at);
+    }
+    Outcome::Faults(
+        Answer::NO_VARIABLE,
+        word(own, live, activations::PLACE) as usize,
+    )
 }

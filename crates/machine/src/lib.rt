@@ -18,10 +18,17 @@ mod values;
 
 pub use steps::run;
 
-// What a cell holds: nothing yet, or a whole number. A logical value is 1 or 0.
+// What a cell holds: nothing yet; a whole number, where a logical value is 1 or 0; or where the code of a name formal's actual is.
 pub enum Cell {
     Unset,
     Holds(i32),
+    Named(u32),
+}
+
+// The whole number that a cell holds, or that it holds none.
+pub enum Number {
+    Is(i32),
+    Not,
 }
 
 // What an operator gives: a whole number of 32 bits, or its fault. It stands in 64 bits, so that it is handed on without being packed.

@@ -3,24 +3,28 @@ use crate::Cell;
 use crate::Chosen;
 use crate::Counts;
 use crate::Did;
+use crate::Number;
 use crate::Pair;
 use crate::Value;
-use crate::cells::cell_at;
+use crate::cells::is_plain;
+use crate::cells::number_at;
 use crate::cells::put_cell;
 use crate::cells::room;
+use crate::operations::new_cell;
 use crate::operations::newest_two;
 use crate::operations::put;
+use crate::operations::unread;
 use crate::values;
 use answers::Answer;
 ghost use mathlib.Core.Path.{_≡_};
 ghost use mathlib.Core.Bool.{cond};
-ghost use mathlib.Core.List.{List};
-ghost use Prim.Native.Nat.{ℕ, _-_, _≤_, _<_};
+ghost use mathlib.Core.List.{List, [], _∷_};
+ghost use Prim.Native.Nat.{_-_, _≤_, _<_};
 ghost use lib.IntN.{ℤ, _+ℤ_};
 ghost use Rattle.machine.specs.Values.{whole as wholeOf, past as pastOf};
 ghost use Rattle.machine.specs.Run.{Event};
-ghost use Rattle.machine.specs.Data.{Res, Act, Test, Two, put as putOf, unhold, within, reading, look, valued};
-ghost use Rattle.machine.specs.Model.{Sound, SoundD, SoundT, Does, Tests, HeldIn, holding, dataOf, traceOf, seenD, seenT, told, roomOf, putAt};
+ghost use Rattle.machine.specs.Data.{Res, Act, Test, Two, put as putOf, unhold, within, reading, look, valued, newCells};
+ghost use Rattle.machine.specs.Model.{Own, Sound, SoundD, SoundT, Does, Tests, HeldIn, holding, dataOf, traceOf, seenD, seenT, told, roomOf, putAt};
 
 // One more held value, at the store's end.
 fn hold(mut n: Counts, store: &mut [i64], v: i32) -> Counts
@@ -60,11 +64,11 @@ fn held(n: Counts, store: &[i64]) -> Pair
         return Pair::Nothing;
     }
     let top = room(store);
-    match cell_at(store, top - (h - 1)) {
-        Cell::Unset => Pair::Nothing,
-        Cell::Holds(x) => match cell_at(store, top - h) {
-            Cell::Unset => Pair::Nothing,
-            Cell::Holds(y) => Pair::Values(x, y, n),
+    match number_at(store, top - (h - 1)) {
+        Number::Not => Pair::Nothing,
+        Number::Is(x) => match number_at(store, top - h) {
+            Number::Not => Pair::Nothing,
+            Number::Is(y) => Pair::Values(x, y, n),
         },
     }
 }
@@ -72,15 +76,15 @@ fn held(n: Counts, store: &[i64]) -> Pair
 // x is added to cell c.
 fn add(n: Counts, store: &mut [i64], q: usize, c: usize, x: i32) -> Did
     requires { ⌜ Sound n (now store) ⌝ }
-    ensures { λ r. ⌜ ((a : ℕ) (i o : List ℤ) → seenD r a (now (store .exit)) i o ≡ told (traceOf n o) (within c (dataOf n a (now (store .entry)) i o) (reading q (λ v. valued q (λ z. Res.good Event.quiet (putOf c z (dataOf n a (now (store .entry)) i o))) (wholeOf (v +ℤ x))) (look c (dataOf n a (now (store .entry)) i o))))) ⌝ }
+    ensures { λ r. ⌜ ((a : Own) (i o : List ℤ) → seenD r a (now (store .exit)) i o ≡ told (traceOf n o) (within c (dataOf n a (now (store .entry)) i o) (reading q (λ v. valued q (λ z. Res.good Event.quiet (putOf c z (dataOf n a (now (store .entry)) i o))) (wholeOf (v +ℤ x))) (look c (dataOf n a (now (store .entry)) i o))))) ⌝ }
     ensures { λ r. ⌜ SoundD n r (now (store .exit)) ⌝ }
 {
     if c >= n.cells {
         return Did::Stray;
     }
-    match cell_at(store, c) {
-        Cell::Unset => Did::Bad(Answer::UNASSIGNED, q),
-        Cell::Holds(v) => match values::whole(v as i64 + x as i64) {
+    match number_at(store, c) {
+        Number::Not => unread(store, q, c),
+        Number::Is(v) => match values::whole(v as i64 + x as i64) {
             Value::Fault(a) => Did::Bad(a, q),
             Value::Is(s) => put(n, store, c, s as i32),
         },
@@ -99,19 +103,54 @@ pub fn bump(n: Counts, store: &mut [i64], q: usize, c: usize) -> Did
     }
 }
 
+// Cell c and x added, in a new cell.
+fn total(n: Counts, store: &mut [i64], q: usize, c: usize, x: i32) -> Did
+    requires { ⌜ Sound n (now store) ⌝ }
+    ensures { λ r. ⌜ ((a : Own) (i o : List ℤ) → seenD r a (now (store .exit)) i o ≡ told (traceOf n o) (within c (dataOf n a (now (store .entry)) i o) (reading q (λ v. valued q (λ z. newCells q (Cell.Holds z ∷ []) (dataOf n a (now (store .entry)) i o)) (wholeOf (v +ℤ x))) (look c (dataOf n a (now (store .entry)) i o))))) ⌝ }
+    ensures { λ r. ⌜ SoundD n r (now (store .exit)) ⌝ }
+{
+    if c >= n.cells {
+        return Did::Stray;
+    }
+    match number_at(store, c) {
+        Number::Not => unread(store, q, c),
+        Number::Is(v) => match values::whole(v as i64 + x as i64) {
+            Value::Fault(a) => Did::Bad(a, q),
+            Value::Is(s) => new_cell(n, store, q, Cell::Holds(s as i32)),
+        },
+    }
+}
+
+// Cell c and the held step added, in a new cell.
+pub fn sum(n: Counts, store: &mut [i64], q: usize, c: usize) -> Did
+    requires { ⌜ Sound n (now store) ⌝ }
+    ensures { λ r. ⌜ Does (Act.sum q c) n r (now (store .entry)) (now (store .exit)) ⌝ }
+    ensures { λ r. ⌜ SoundD n r (now (store .exit)) ⌝ }
+{
+    match held(n, store) {
+        Pair::Nothing => Did::Stray,
+        Pair::Values(x, _, _) => total(n, store, q, c, x),
+    }
+}
+
 // Whether the loop over cell c goes on, with the step x and the bound y; where it is left both go.
 fn goes_on(mut n: Counts, store: &[i64], q: usize, c: usize, x: i32, y: i32) -> Chosen
     requires { ⌜ Sound n (now store) × (2 ≤ n .held) ⌝ }
-    ensures { λ r. ⌜ ((a : ℕ) (i o : List ℤ) → seenT r a (now (store .entry)) i o ≡ told (traceOf n o) (within c (dataOf n a (now (store .entry)) i o) (reading q (λ v. Res.good Event.quiet (cond (pastOf v x y) (Two.nay (unhold (dataOf n a (now (store .entry)) i o))) (Two.yea (dataOf n a (now (store .entry)) i o)))) (look c (dataOf n a (now (store .entry)) i o))))) ⌝ }
+    ensures { λ r. ⌜ ((a : Own) (i o : List ℤ) → seenT r a (now (store .entry)) i o ≡ told (traceOf n o) (within c (dataOf n a (now (store .entry)) i o) (reading q (λ v. Res.good Event.quiet (cond (pastOf v x y) (Two.nay (unhold (dataOf n a (now (store .entry)) i o))) (Two.yea (dataOf n a (now (store .entry)) i o)))) (look c (dataOf n a (now (store .entry)) i o))))) ⌝ }
     ensures { λ r. ⌜ SoundT n r (now (store .entry)) ⌝ }
 {
     let h = n.held;
     if c >= n.cells {
         return Chosen::Stray;
     }
-    match cell_at(store, c) {
-        Cell::Unset => Chosen::Bad(Answer::UNASSIGNED, q),
-        Cell::Holds(v) => {
+    match number_at(store, c) {
+        Number::Not => {
+            if is_plain(store, c) {
+                return Chosen::Bad(Answer::UNASSIGNED, q);
+            }
+            Chosen::Stray
+        }
+        Number::Is(v) => {
             if values::past(v, x, y) {
                 n.held = h - 2;
                 return Chosen::No(n);

@@ -10,6 +10,9 @@ pub const THIRTEEN_BITS: usize = 8192;
 
 pub const TWENTY_SIX_BITS: usize = 67108864;
 
+// The offset that no variable has, and that stands for the cell found.
+pub const FOUND_OFFSET: usize = 8191;
+
 // Levels out, or the nesting.
 pub fn high(v: usize) -> usize
     ensures { λ r. ⌜ r ≡ high v ⌝ }

@@ -3,37 +3,39 @@ use crate::Cell;
 use crate::Chosen;
 use crate::Counts;
 use crate::Did;
+use crate::Number;
 use crate::Pair;
 use crate::Used;
 use crate::Value;
-use crate::cells::cell_at;
+use crate::cells::is_plain;
+use crate::cells::number_at;
 use crate::cells::put_cell;
 use crate::cells::room;
 use crate::values;
 use answers::Answer;
 ghost use mathlib.Core.Path.{_≡_};
 ghost use mathlib.Core.List.{List, [], _∷_};
-ghost use Prim.Native.Nat.{ℕ, _+_, _≤_, _<_};
+ghost use Prim.Native.Nat.{_+_, _≤_, _<_};
 ghost use lib.IntN.{ℤ};
 ghost use Rattle.machine.specs.Operations.{o-minus, o-plus};
-ghost use Rattle.machine.specs.Run.{Event};
-ghost use Rattle.machine.specs.Data.{Data, Res, Act, Test, newest as newestOf, two, back as backOf, put as putOf, newCells, valued};
+ghost use Rattle.machine.specs.Run.{Event, Trace};
+ghost use Rattle.machine.specs.Data.{Data, Res, Act, Test, newest as newestOf, two, back as backOf, put as putOf, newCells, guard, plain, reading, valued};
 ghost use Rattle.machine.specs.Instructions.{unaryOf, binaryOf};
-ghost use Rattle.machine.specs.Model.{Fitting, FittingV, Sound, SoundD, SoundT, Does, Tests, UsedIn, PairIn, dataOf, traceOf, seenU, seenD, onPair, told, fine, roomOf};
+ghost use Rattle.machine.specs.Model.{Own, Fitting, FittingV, Sound, SoundD, SoundT, Does, Tests, UsedIn, PairIn, dataOf, traceOf, seenU, seenD, onPair, told, fine, roomOf, cellAt, numberIn};
 
 // The value in the newest cell, which goes.
 pub fn newest(mut n: Counts, store: &[i64]) -> Used
     requires { ⌜ Sound n (now store) ⌝ }
-    ensures { λ r. ⌜ ((a : ℕ) (i o : List ℤ) → newestOf (dataOf n a (now (store .entry)) i o) ≡ seenU r a (now (store .entry)) i o) ⌝ }
+    ensures { λ r. ⌜ ((a : Own) (i o : List ℤ) → newestOf (dataOf n a (now (store .entry)) i o) ≡ seenU r a (now (store .entry)) i o) ⌝ }
     ensures { λ r. ⌜ UsedIn n r ⌝ }
 {
     let k = n.cells;
     if k == 0 {
         return Used::Nothing;
     }
-    match cell_at(store, k - 1) {
-        Cell::Unset => Used::Nothing,
-        Cell::Holds(v) => {
+    match number_at(store, k - 1) {
+        Number::Not => Used::Nothing,
+        Number::Is(v) => {
             n.cells = k - 1;
             Used::Value(v, n)
         }
@@ -43,7 +45,7 @@ pub fn newest(mut n: Counts, store: &[i64]) -> Used
 // The values in the two newest cells, which go.
 pub fn newest_two(n: Counts, store: &[i64]) -> Pair
     requires { ⌜ Sound n (now store) ⌝ }
-    ensures { λ r. ⌜ ((a : ℕ) (i o : List ℤ) (f : ℤ → ℤ → Data → Res Data) → two f (dataOf n a (now (store .entry)) i o) ≡ onPair f r a (now (store .entry)) i o) ⌝ }
+    ensures { λ r. ⌜ ((a : Own) (i o : List ℤ) (f : ℤ → ℤ → Data → Res Data) → two f (dataOf n a (now (store .entry)) i o) ≡ onPair f r a (now (store .entry)) i o) ⌝ }
     ensures { λ r. ⌜ PairIn n r ⌝ }
 {
     match newest(n, store) {
@@ -58,7 +60,7 @@ pub fn newest_two(n: Counts, store: &[i64]) -> Pair
 // A value in the place of one that was used.
 pub fn back(mut n: Counts, store: &mut [i64], v: i32) -> Did
     requires { ⌜ Sound n (now store) × (n .cells + n .held < roomOf (now store)) ⌝ }
-    ensures { λ r. ⌜ ((a : ℕ) (i o : List ℤ) → seenD r a (now (store .exit)) i o ≡ fine (backOf v (dataOf n a (now (store .entry)) i o)) (traceOf n o)) ⌝ }
+    ensures { λ r. ⌜ ((a : Own) (i o : List ℤ) → seenD r a (now (store .exit)) i o ≡ fine (backOf v (dataOf n a (now (store .entry)) i o)) (traceOf n o)) ⌝ }
     ensures { λ r. ⌜ SoundD n r (now (store .exit)) ⌝ }
 {
     let k = n.cells;
@@ -70,7 +72,7 @@ pub fn back(mut n: Counts, store: &mut [i64], v: i32) -> Did
 // A number to cell c.
 pub fn put(n: Counts, store: &mut [i64], c: usize, v: i32) -> Did
     requires { ⌜ Sound n (now store) × (c < n .cells) ⌝ }
-    ensures { λ r. ⌜ ((a : ℕ) (i o : List ℤ) → seenD r a (now (store .exit)) i o ≡ fine (putOf c v (dataOf n a (now (store .entry)) i o)) (traceOf n o)) ⌝ }
+    ensures { λ r. ⌜ ((a : Own) (i o : List ℤ) → seenD r a (now (store .exit)) i o ≡ fine (putOf c v (dataOf n a (now (store .entry)) i o)) (traceOf n o)) ⌝ }
     ensures { λ r. ⌜ SoundD n r (now (store .exit)) ⌝ }
 {
     put_cell(store, c, Cell::Holds(v));
@@ -80,7 +82,7 @@ pub fn put(n: Counts, store: &mut [i64], c: usize, v: i32) -> Did
 // A new cell, for what stands at q.
 pub fn new_cell(mut n: Counts, store: &mut [i64], q: usize, x: Cell) -> Did
     requires { ⌜ Sound n (now store) × Fitting x ⌝ }
-    ensures { λ r. ⌜ ((a : ℕ) (i o : List ℤ) → seenD r a (now (store .exit)) i o ≡ told (traceOf n o) (newCells q (x ∷ []) (dataOf n a (now (store .entry)) i o))) ⌝ }
+    ensures { λ r. ⌜ ((a : Own) (i o : List ℤ) → seenD r a (now (store .exit)) i o ≡ told (traceOf n o) (newCells q (x ∷ []) (dataOf n a (now (store .entry)) i o))) ⌝ }
     ensures { λ r. ⌜ SoundD n r (now (store .exit)) ⌝ }
 {
     let k = n.cells;
@@ -93,6 +95,18 @@ pub fn new_cell(mut n: Counts, store: &mut [i64], q: usize, x: Cell) -> Did
     Did::Good(n)
 }
 
+// What a read at q of cell c comes to, which holds no number.
+pub fn unread(store: &[i64], q: usize, c: usize) -> Did
+    requires { ⌜ (c < roomOf (now store)) × (numberIn (cellAt (now store) c) ≡ Number.Not) ⌝ }
+    ensures { λ r. ⌜ ((t : Trace) (f : ℤ → Res Data) (a : Own) (s i o : List ℤ) → seenD r a s i o ≡ told t (guard (plain (cellAt (now (store .entry)) c)) (reading q f (cellAt (now (store .entry)) c)))) ⌝ }
+    ensures { λ r. ⌜ ((n : Counts) (s : List ℤ) → SoundD n r s) ⌝ }
+{
+    if is_plain(store, c) {
+        return Did::Bad(Answer::UNASSIGNED, q);
+    }
+    Did::Stray
+}
+
 // The number in cell c, in a new cell.
 pub fn load(n: Counts, store: &mut [i64], q: usize, c: usize) -> Did
     requires { ⌜ Sound n (now store) ⌝ }
@@ -102,9 +116,9 @@ pub fn load(n: Counts, store: &mut [i64], q: usize, c: usize) -> Did
     if c >= n.cells {
         return Did::Stray;
     }
-    match cell_at(store, c) {
-        Cell::Unset => Did::Bad(Answer::UNASSIGNED, q),
-        Cell::Holds(v) => new_cell(n, store, q, Cell::Holds(v)),
+    match number_at(store, c) {
+        Number::Not => unread(store, q, c),
+        Number::Is(v) => new_cell(n, store, q, Cell::Holds(v)),
     }
 }
 
@@ -118,6 +132,9 @@ pub fn save(n: Counts, store: &mut [i64], c: usize) -> Did
         Used::Nothing => Did::Stray,
         Used::Value(v, m) => {
             if c >= m.cells {
+                return Did::Stray;
+            }
+            if !is_plain(store, c) {
                 return Did::Stray;
             }
             put(m, store, c, v)
@@ -135,6 +152,9 @@ pub fn assign(n: Counts, store: &mut [i64], c: usize) -> Did
         Used::Nothing => Did::Stray,
         Used::Value(v, m) => {
             if c >= m.cells {
+                return Did::Stray;
+            }
+            if !is_plain(store, c) {
                 return Did::Stray;
             }
             put_cell(store, c, Cell::Holds(v));
@@ -158,7 +178,7 @@ pub fn forget(n: Counts, store: &[i64]) -> Did
 // A value in the place of those that were used, or an operator's fault.
 fn give(n: Counts, store: &mut [i64], q: usize, v: Value) -> Did
     requires { ⌜ Sound n (now store) × (n .cells + n .held < roomOf (now store)) × FittingV v ⌝ }
-    ensures { λ r. ⌜ ((a : ℕ) (i o : List ℤ) → seenD r a (now (store .exit)) i o ≡ told (traceOf n o) (valued q (λ w. Res.good Event.quiet (backOf w (dataOf n a (now (store .entry)) i o))) v)) ⌝ }
+    ensures { λ r. ⌜ ((a : Own) (i o : List ℤ) → seenD r a (now (store .exit)) i o ≡ told (traceOf n o) (valued q (λ w. Res.good Event.quiet (backOf w (dataOf n a (now (store .entry)) i o))) v)) ⌝ }
     ensures { λ r. ⌜ SoundD n r (now (store .exit)) ⌝ }
 {
     match v {
@@ -186,6 +206,23 @@ pub fn binary(n: Counts, store: &mut [i64], q: usize, k: u32) -> Did
     match newest_two(n, store) {
         Pair::Nothing => Did::Stray,
         Pair::Values(x, y, m) => give(m, store, q, values::binary(k, x, y)),
+    }
+}
+
+// The newest value is the channel 1, and stays.
+pub fn channel(n: Counts, store: &mut [i64], q: usize) -> Did
+    requires { ⌜ Sound n (now store) ⌝ }
+    ensures { λ r. ⌜ Does (Act.channel q) n r (now (store .entry)) (now (store .exit)) ⌝ }
+    ensures { λ r. ⌜ SoundD n r (now (store .exit)) ⌝ }
+{
+    match newest(n, store) {
+        Used::Nothing => Did::Stray,
+        Used::Value(k, m) => {
+            if k != 1 {
+                return Did::Bad(Answer::CHANNEL, q);
+            }
+            back(m, store, k)
+        }
     }
 }
 

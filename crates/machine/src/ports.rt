@@ -4,26 +4,30 @@ use crate::Did;
 use crate::Pair;
 use crate::Used;
 use crate::Value;
+use crate::cells::is_plain;
 use crate::operations::newest;
 use crate::operations::newest_two;
 use crate::operations::put;
 use answers::Answer;
 ghost use mathlib.Core.Path.{_≡_};
 ghost use mathlib.Core.List.{List};
-ghost use Prim.Native.Nat.{ℕ, _≤_};
+ghost use Prim.Native.Nat.{_≤_};
 ghost use lib.IntN.{ℤ};
 ghost use lib.ListN.{length};
 ghost use Rattle.machine.specs.Data.{Act, work, onChannel, taking, input as inputOf, writing, within};
-ghost use Rattle.machine.specs.Model.{Sound, SoundD, SoundO, dataOf, traceOf, seenD, told};
+ghost use Rattle.machine.specs.Model.{Own, Sound, SoundD, SoundO, dataOf, traceOf, seenD, told};
 
 // The next input number to cell c, on the channel k.
 fn take_in(mut n: Counts, input: &[i32], store: &mut [i64], q: usize, c: usize, k: i32) -> Did
     requires { ⌜ Sound n (now store) ⌝ }
-    ensures { λ r. ⌜ ((a : ℕ) (o : List ℤ) → seenD r a (now (store .exit)) (now (input .entry)) o ≡ told (traceOf n o) (within c (dataOf n a (now (store .entry)) (now (input .entry)) o) (onChannel q k (taking q c (dataOf n a (now (store .entry)) (now (input .entry)) o) (inputOf (dataOf n a (now (store .entry)) (now (input .entry)) o)))))) ⌝ }
+    ensures { λ r. ⌜ ((a : Own) (o : List ℤ) → seenD r a (now (store .exit)) (now (input .entry)) o ≡ told (traceOf n o) (within c (dataOf n a (now (store .entry)) (now (input .entry)) o) (onChannel q k (taking q c (dataOf n a (now (store .entry)) (now (input .entry)) o) (inputOf (dataOf n a (now (store .entry)) (now (input .entry)) o)))))) ⌝ }
     ensures { λ r. ⌜ SoundD n r (now (store .exit)) ⌝ }
 {
     let t = n.taken;
     if c >= n.cells {
+        return Did::Stray;
+    }
+    if !is_plain(store, c) {
         return Did::Stray;
     }
     if k != 1 {
@@ -40,7 +44,7 @@ fn take_in(mut n: Counts, input: &[i32], store: &mut [i64], q: usize, c: usize, 
 // ininteger.
 pub fn receive(n: Counts, input: &[i32], store: &mut [i64], q: usize, c: usize) -> Did
     requires { ⌜ Sound n (now store) ⌝ }
-    ensures { λ r. ⌜ ((a : ℕ) (o : List ℤ) → seenD r a (now (store .exit)) (now (input .entry)) o ≡ told (traceOf n o) (work (Act.receive q c) (dataOf n a (now (store .entry)) (now (input .entry)) o))) ⌝ }
+    ensures { λ r. ⌜ ((a : Own) (o : List ℤ) → seenD r a (now (store .exit)) (now (input .entry)) o ≡ told (traceOf n o) (work (Act.receive q c) (dataOf n a (now (store .entry)) (now (input .entry)) o))) ⌝ }
     ensures { λ r. ⌜ SoundD n r (now (store .exit)) ⌝ }
 {
     match newest(n, store) {
@@ -52,7 +56,7 @@ pub fn receive(n: Counts, input: &[i32], store: &mut [i64], q: usize, c: usize) 
 // v goes to the output, on the channel k.
 fn put_out(mut n: Counts, output: &mut [i32], q: usize, k: i32, v: i32) -> Did
     requires { ⌜ n .written ≤ length (now output) ⌝ }
-    ensures { λ r. ⌜ ((a : ℕ) (s i : List ℤ) → seenD r a s i (now (output .exit)) ≡ told (traceOf n (now (output .entry))) (onChannel q k (writing q v (dataOf n a s i (now (output .entry)))))) ⌝ }
+    ensures { λ r. ⌜ ((a : Own) (s i : List ℤ) → seenD r a s i (now (output .exit)) ≡ told (traceOf n (now (output .entry))) (onChannel q k (writing q v (dataOf n a s i (now (output .entry)))))) ⌝ }
     ensures { λ r. ⌜ ((s : List ℤ) → Sound n s → SoundO r s (now (output .entry)) (now (output .exit))) ⌝ }
 {
     let w = n.written;
@@ -70,7 +74,7 @@ fn put_out(mut n: Counts, output: &mut [i32], q: usize, k: i32, v: i32) -> Did
 // outinteger.
 pub fn send(n: Counts, store: &[i64], output: &mut [i32], q: usize) -> Did
     requires { ⌜ Sound n (now store) × (n .written ≤ length (now output)) ⌝ }
-    ensures { λ r. ⌜ ((a : ℕ) (i : List ℤ) → seenD r a (now (store .entry)) i (now (output .exit)) ≡ told (traceOf n (now (output .entry))) (work (Act.send q) (dataOf n a (now (store .entry)) i (now (output .entry))))) ⌝ }
+    ensures { λ r. ⌜ ((a : Own) (i : List ℤ) → seenD r a (now (store .entry)) i (now (output .exit)) ≡ told (traceOf n (now (output .entry))) (work (Act.send q) (dataOf n a (now (store .entry)) i (now (output .entry))))) ⌝ }
     ensures { λ r. ⌜ SoundO r (now (store .entry)) (now (output .entry)) (now (output .exit)) ⌝ }
 {
     match newest_two(n, store) {

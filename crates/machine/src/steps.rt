@@ -4,16 +4,21 @@ use crate::Counts;
 use crate::Did;
 use crate::Outcome;
 use crate::Ran;
+use crate::activations::FOUND;
 use crate::activations::MEMORY;
 use crate::activations::Memory;
 use crate::activations::around;
 use crate::activations::first_cell;
+use crate::activations::note;
+use crate::activations::word;
 use crate::blocks;
 use crate::bounds;
+use crate::cells::is_plain;
 use crate::codes;
 use crate::control;
 use crate::control::stray;
 use crate::loops;
+use crate::operands::FOUND_OFFSET;
 use crate::operands::high;
 use crate::operands::low;
 use crate::operands::mid;
@@ -29,24 +34,32 @@ ghost use Prim.Native.Nat.{ℕ, _≤_, _<_, min};
 ghost use lib.IntN.{ℤ, pos};
 ghost use lib.ListN.{length, replicate};
 ghost use Rattle.machine.specs.Limits.{mostWords, mostInstructions, mostCells};
-ghost use Rattle.machine.specs.Operations.{o-const, o-behind};
+ghost use Rattle.machine.specs.Operations.{o-const, o-name};
 ghost use Rattle.machine.specs.Data.{Act, Test, work as workOf, downs as downsOf};
 ghost use Rattle.machine.specs.Instructions.{Loc, Instr, variable, low, actOf, decode};
-ghost use Rattle.machine.specs.Machine.{cellIn, exec, obey as obeyOf, step as stepOf, machine as machineOf, exit, job};
-ghost use Rattle.machine.specs.Model.{Sound, SoundO, SoundG, Lives, Drove, dataOf, traceOf, machOf, seenD, seenO, told, stepped, positionsOf, framesOf, wordOf, roomOf};
+ghost use Rattle.machine.specs.Machine.{base, cellIn, exec, obey as obeyOf, step as stepOf, machine as machineOf, exit, job};
+ghost use Rattle.machine.specs.Model.{Sound, SoundO, SoundG, Lives, Drove, dataOf, traceOf, machOf, seenD, seenO, told, stepped, positionsOf, framesOf, ownOf, foundOf, Own, wordOf, roomOf};
 
-// The cell of a variable: activations out and offset in the operand v.
-fn cell_of(live: usize, own: &Memory, v: u32) -> usize
-    requires { ⌜ Lives (now own) live ⌝ }
-    ensures { λ r. ⌜ r ≡ cellIn (framesOf (now (own .entry)) live) (variable v) ⌝ }
+// The cell of a variable: activations out and offset in the operand v, or the cell found. b is the first cell of the running activation: most
+// variables are its own.
+fn cell_of(b: usize, live: usize, own: &Memory, v: u32) -> usize
+    requires { ⌜ Lives (now own) live × (b ≡ base (framesOf (now own) live) live) × (b < 4294967296) ⌝ }
+    ensures { λ r. ⌜ ((n : Counts) (s i o : List ℤ) → r ≡ cellIn (framesOf (now (own .entry)) live) (dataOf n (ownOf (now (own .entry)) live) s i o) (variable v)) ⌝ }
 {
-    let f = around(own, live, high(v as usize));
-    first_cell(own, f) + mid(v as usize)
+    let o = mid(v as usize);
+    if o == FOUND_OFFSET {
+        return word(own, 0, FOUND) as usize;
+    }
+    let u = high(v as usize);
+    if u == 0 {
+        return b + o;
+    }
+    first_cell(own, around(own, live, u)) + o
 }
 
 // How many values operation k uses.
 fn downs(k: u32) -> usize
-    requires { ⌜ (o-const ≤ k) × (k < o-behind) ⌝ }
+    requires { ⌜ (o-const ≤ k) × (k < o-name) ⌝ }
     ensures { λ r. ⌜ ((q v : ℕ) (x : Loc) → r ≡ downsOf (actOf k q x v)) ⌝ }
     ensures { λ r. ⌜ r ≤ 2 ⌝ }
 {
@@ -81,8 +94,8 @@ fn work(
     store: &mut [i64],
     output: &mut [i32],
 ) -> Did
-    requires { ⌜ Sound n (now store) × (n .written ≤ length (now output)) × (o-const ≤ k) × (k < o-behind) ⌝ }
-    ensures { λ r. ⌜ ((a : ℕ) → seenD r a (now (store .exit)) (now (input .entry)) (now (output .exit)) ≡ told (traceOf n (now (output .entry))) (workOf (actOf k q c v) (dataOf n a (now (store .entry)) (now (input .entry)) (now (output .entry))))) ⌝ }
+    requires { ⌜ Sound n (now store) × (n .written ≤ length (now output)) × (o-const ≤ k) × (k < o-name) ⌝ }
+    ensures { λ r. ⌜ ((a : Own) → seenD r a (now (store .exit)) (now (input .entry)) (now (output .exit)) ≡ told (traceOf n (now (output .entry))) (workOf (actOf k q c v) (dataOf n a (now (store .entry)) (now (input .entry)) (now (output .entry))))) ⌝ }
     ensures { λ r. ⌜ SoundO r (now (store .exit)) (now (output .entry)) (now (output .exit)) ⌝ }
 {
     match k {
@@ -118,14 +131,15 @@ fn act(
     output: &mut [i32],
     own: &Memory,
 ) -> Outcome
-    requires { ⌜ Sound n (now store) × Lives (now own) live × (n .written ≤ length (now output)) × (at < mostInstructions) × (o-const ≤ k) × (k < o-behind) ⌝ }
-    ensures { λ r. ⌜ seenO r (now (store .exit)) (now (own .entry)) (now (input .entry)) (now (output .exit)) ≡ stepped (traceOf n (now (output .entry))) (exec (Instr.DO (actOf k q (variable v) v)) at (positionsOf (now (own .entry)) live) (framesOf (now (own .entry)) live) (dataOf n live (now (store .entry)) (now (input .entry)) (now (output .entry)))) ⌝ }
+    requires { ⌜ Sound n (now store) × Lives (now own) live × (n .written ≤ length (now output)) × (at < mostInstructions) × (o-const ≤ k) × (k < o-name) ⌝ }
+    ensures { λ r. ⌜ seenO r (now (store .exit)) (now (own .entry)) (now (input .entry)) (now (output .exit)) ≡ stepped (traceOf n (now (output .entry))) (exec (Instr.DO (actOf k q (variable v) v)) at (positionsOf (now (own .entry)) live) (framesOf (now (own .entry)) live) (dataOf n (ownOf (now (own .entry)) live) (now (store .entry)) (now (input .entry)) (now (output .entry)))) ⌝ }
     ensures { λ r. ⌜ SoundG r (now (store .exit)) (now (own .entry)) (now (output .entry)) (now (output .exit)) ⌝ }
 {
-    if first_cell(own, live) + downs(k) > n.cells {
+    let b = first_cell(own, live);
+    if b + downs(k) > n.cells {
         return stray(at);
     }
-    let c = cell_of(live, own, v);
+    let c = cell_of(b, live, own, v);
     control::lift(at, at + 1, live, work(k, q, c, v, n, input, store, output))
 }
 
@@ -140,33 +154,35 @@ fn load(
     own: &Memory,
 ) -> Outcome
     requires { ⌜ Sound n (now store) × Lives (now own) live × (at < mostInstructions) ⌝ }
-    ensures { λ r. ⌜ ((i o : List ℤ) → seenO r (now (store .exit)) (now (own .entry)) i o ≡ stepped (traceOf n o) (exec (Instr.DO (Act.load q (variable v))) at (positionsOf (now (own .entry)) live) (framesOf (now (own .entry)) live) (dataOf n live (now (store .entry)) i o))) ⌝ }
+    ensures { λ r. ⌜ ((i o : List ℤ) → seenO r (now (store .exit)) (now (own .entry)) i o ≡ stepped (traceOf n o) (exec (Instr.DO (Act.load q (variable v))) at (positionsOf (now (own .entry)) live) (framesOf (now (own .entry)) live) (dataOf n (ownOf (now (own .entry)) live) (now (store .entry)) i o))) ⌝ }
     ensures { λ r. ⌜ ((o : List ℤ) → n .written ≤ length o → SoundG r (now (store .exit)) (now (own .entry)) o o) ⌝ }
 {
-    if first_cell(own, live) > n.cells {
+    let b = first_cell(own, live);
+    if b > n.cells {
         return stray(at);
     }
-    let c = cell_of(live, own, v);
+    let c = cell_of(b, live, own, v);
     control::lift(at, at + 1, live, operations::load(n, store, q, c))
 }
 
 // The newest value to a variable.
 fn save(at: u32, live: usize, n: Counts, v: u32, store: &mut [i64], own: &Memory) -> Outcome
     requires { ⌜ Sound n (now store) × Lives (now own) live × (at < mostInstructions) ⌝ }
-    ensures { λ r. ⌜ ((i o : List ℤ) → seenO r (now (store .exit)) (now (own .entry)) i o ≡ stepped (traceOf n o) (exec (Instr.DO (Act.store (variable v))) at (positionsOf (now (own .entry)) live) (framesOf (now (own .entry)) live) (dataOf n live (now (store .entry)) i o))) ⌝ }
+    ensures { λ r. ⌜ ((i o : List ℤ) → seenO r (now (store .exit)) (now (own .entry)) i o ≡ stepped (traceOf n o) (exec (Instr.DO (Act.store (variable v))) at (positionsOf (now (own .entry)) live) (framesOf (now (own .entry)) live) (dataOf n (ownOf (now (own .entry)) live) (now (store .entry)) i o))) ⌝ }
     ensures { λ r. ⌜ ((o : List ℤ) → n .written ≤ length o → SoundG r (now (store .exit)) (now (own .entry)) o o) ⌝ }
 {
-    if first_cell(own, live) + 1 > n.cells {
+    let b = first_cell(own, live);
+    if b + 1 > n.cells {
         return stray(at);
     }
-    let c = cell_of(live, own, v);
+    let c = cell_of(b, live, own, v);
     control::lift(at, at + 1, live, operations::save(n, store, c))
 }
 
 // A condition.
 fn unless(at: u32, live: usize, n: Counts, v: u32, store: &[i64], own: &Memory) -> Outcome
     requires { ⌜ Sound n (now store) × Lives (now own) live × (at < mostInstructions) ⌝ }
-    ensures { λ r. ⌜ ((i o : List ℤ) → seenO r (now (store .entry)) (now (own .entry)) i o ≡ stepped (traceOf n o) (exec (Instr.IF Test.condition (low v)) at (positionsOf (now (own .entry)) live) (framesOf (now (own .entry)) live) (dataOf n live (now (store .entry)) i o))) ⌝ }
+    ensures { λ r. ⌜ ((i o : List ℤ) → seenO r (now (store .entry)) (now (own .entry)) i o ≡ stepped (traceOf n o) (exec (Instr.IF Test.condition (low v)) at (positionsOf (now (own .entry)) live) (framesOf (now (own .entry)) live) (dataOf n (ownOf (now (own .entry)) live) (now (store .entry)) i o))) ⌝ }
     ensures { λ r. ⌜ ((o : List ℤ) → n .written ≤ length o → SoundG r (now (store .entry)) (now (own .entry)) o o) ⌝ }
 {
     if first_cell(own, live) + 1 > n.cells {
@@ -183,19 +199,110 @@ fn unless(at: u32, live: usize, n: Counts, v: u32, store: &[i64], own: &Memory) 
 // The test of a step element.
 fn upto(at: u32, live: usize, n: Counts, q: usize, v: u32, store: &[i64], own: &Memory) -> Outcome
     requires { ⌜ Sound n (now store) × Lives (now own) live × (at < mostInstructions) ⌝ }
-    ensures { λ r. ⌜ ((i o : List ℤ) → seenO r (now (store .entry)) (now (own .entry)) i o ≡ stepped (traceOf n o) (exec (Instr.IF (Test.upto q (variable v)) (low v)) at (positionsOf (now (own .entry)) live) (framesOf (now (own .entry)) live) (dataOf n live (now (store .entry)) i o))) ⌝ }
+    ensures { λ r. ⌜ ((i o : List ℤ) → seenO r (now (store .entry)) (now (own .entry)) i o ≡ stepped (traceOf n o) (exec (Instr.IF (Test.upto q (variable v)) (low v)) at (positionsOf (now (own .entry)) live) (framesOf (now (own .entry)) live) (dataOf n (ownOf (now (own .entry)) live) (now (store .entry)) i o))) ⌝ }
     ensures { λ r. ⌜ ((o : List ℤ) → n .written ≤ length o → SoundG r (now (store .entry)) (now (own .entry)) o o) ⌝ }
 {
-    if first_cell(own, live) > n.cells {
+    let b = first_cell(own, live);
+    if b > n.cells {
         return stray(at);
     }
-    let c = cell_of(live, own, v);
+    let c = cell_of(b, live, own, v);
     control::lift_test(
         at,
         low(v as usize) as u32,
         live,
         loops::upto(n, store, q, c),
     )
+}
+
+// A variable is found for a store.
+fn lend(at: u32, live: usize, n: Counts, v: u32, store: &[i64], own: &mut Memory) -> Outcome
+    requires { ⌜ Sound n (now store) × Lives (now own) live × (at < mostInstructions) ⌝ }
+    ensures { λ r. ⌜ ((i o : List ℤ) → seenO r (now (store .entry)) (now (own .exit)) i o ≡ stepped (traceOf n o) (exec (Instr.DO (Act.lend (variable v))) at (positionsOf (now (own .entry)) live) (framesOf (now (own .entry)) live) (dataOf n (ownOf (now (own .entry)) live) (now (store .entry)) i o))) ⌝ }
+    ensures { λ r. ⌜ ((o : List ℤ) → n .written ≤ length o → SoundG r (now (store .entry)) (now (own .exit)) o o) ⌝ }
+{
+    let b = first_cell(own, live);
+    if b > n.cells {
+        return stray(at);
+    }
+    let c = cell_of(b, live, own, v);
+    if c >= n.cells {
+        return stray(at);
+    }
+    if !is_plain(store, c) {
+        return stray(at);
+    }
+    note(own, 0, FOUND, c as u32);
+    Outcome::Goes(at + 1, live, n)
+}
+
+// The channel of an ininteger is tested.
+fn channel(at: u32, live: usize, n: Counts, q: usize, store: &mut [i64], own: &Memory) -> Outcome
+    requires { ⌜ Sound n (now store) × Lives (now own) live × (at < mostInstructions) ⌝ }
+    ensures { λ r. ⌜ ((i o : List ℤ) → seenO r (now (store .exit)) (now (own .entry)) i o ≡ stepped (traceOf n o) (exec (Instr.DO (Act.channel q)) at (positionsOf (now (own .entry)) live) (framesOf (now (own .entry)) live) (dataOf n (ownOf (now (own .entry)) live) (now (store .entry)) i o))) ⌝ }
+    ensures { λ r. ⌜ ((o : List ℤ) → n .written ≤ length o → SoundG r (now (store .exit)) (now (own .entry)) o o) ⌝ }
+{
+    if first_cell(own, live) + 1 > n.cells {
+        return stray(at);
+    }
+    control::lift(at, at + 1, live, operations::channel(n, store, q))
+}
+
+// The held step and a variable, added.
+fn sum(
+    at: u32,
+    live: usize,
+    n: Counts,
+    q: usize,
+    v: u32,
+    store: &mut [i64],
+    own: &Memory,
+) -> Outcome
+    requires { ⌜ Sound n (now store) × Lives (now own) live × (at < mostInstructions) ⌝ }
+    ensures { λ r. ⌜ ((i o : List ℤ) → seenO r (now (store .exit)) (now (own .entry)) i o ≡ stepped (traceOf n o) (exec (Instr.DO (Act.sum q (variable v))) at (positionsOf (now (own .entry)) live) (framesOf (now (own .entry)) live) (dataOf n (ownOf (now (own .entry)) live) (now (store .entry)) i o))) ⌝ }
+    ensures { λ r. ⌜ ((o : List ℤ) → n .written ≤ length o → SoundG r (now (store .exit)) (now (own .entry)) o o) ⌝ }
+{
+    let b = first_cell(own, live);
+    if b > n.cells {
+        return stray(at);
+    }
+    let c = cell_of(b, live, own, v);
+    control::lift(at, at + 1, live, loops::sum(n, store, q, c))
+}
+
+// The instructions of formals called by name. They stand apart, so that the others are told as quickly as without them.
+fn by_name(
+    at: u32,
+    live: usize,
+    n: Counts,
+    k: u32,
+    q: u32,
+    v: u32,
+    store: &mut [i64],
+    own: &mut Memory,
+) -> Outcome
+    requires { ⌜ Sound n (now store) × Lives (now own) live × (at < mostInstructions) × (o-name ≤ k) ⌝ }
+    ensures { λ r. ⌜ ((i o : List ℤ) → seenO r (now (store .exit)) (now (own .exit)) i o ≡ stepped (traceOf n o) (obeyOf (decode k q v) at (positionsOf (now (own .entry)) live) (framesOf (now (own .entry)) live) (dataOf n (ownOf (now (own .entry)) live) (now (store .entry)) i o))) ⌝ }
+    ensures { λ r. ⌜ ((o : List ℤ) → n .written ≤ length o → SoundG r (now (store .exit)) (now (own .exit)) o o) ⌝ }
+{
+    if k == codes::NAME {
+        return control::lift(
+            at,
+            low(v as usize) as u32,
+            live,
+            operations::new_cell(n, store, q as usize, Cell::Named(at + 1)),
+        );
+    }
+    if k <= codes::PASS {
+        return control::seek(at, live, n, own, store, k, q, v);
+    }
+    match k {
+        codes::LEND => lend(at, live, n, v, store, own),
+        codes::REFUSE => control::refuse(at, live, own),
+        codes::CHANNEL => channel(at, live, n, q as usize, store, own),
+        codes::SUM => sum(at, live, n, q as usize, v, store, own),
+        _ => stray(at),
+    }
 }
 
 // The instruction of operation k, place q and operand v.
@@ -212,7 +319,7 @@ fn obey(
     own: &mut Memory,
 ) -> Outcome
     requires { ⌜ Sound n (now store) × Lives (now own) live × (n .written ≤ length (now output)) × (at < mostInstructions) ⌝ }
-    ensures { λ r. ⌜ seenO r (now (store .exit)) (now (own .exit)) (now (input .entry)) (now (output .exit)) ≡ stepped (traceOf n (now (output .entry))) (obeyOf (decode k q v) at (positionsOf (now (own .entry)) live) (framesOf (now (own .entry)) live) (dataOf n live (now (store .entry)) (now (input .entry)) (now (output .entry)))) ⌝ }
+    ensures { λ r. ⌜ seenO r (now (store .exit)) (now (own .exit)) (now (input .entry)) (now (output .exit)) ≡ stepped (traceOf n (now (output .entry))) (obeyOf (decode k q v) at (positionsOf (now (own .entry)) live) (framesOf (now (own .entry)) live) (dataOf n (ownOf (now (own .entry)) live) (now (store .entry)) (now (input .entry)) (now (output .entry)))) ⌝ }
     ensures { λ r. ⌜ SoundG r (now (store .exit)) (now (own .exit)) (now (output .entry)) (now (output .exit)) ⌝ }
 {
     match k {
@@ -235,8 +342,9 @@ fn obey(
         codes::TEST => upto(at, live, n, q as usize, v, store, own),
         codes::LOAD => load(at, live, n, q as usize, v, store, own),
         codes::STORE => save(at, live, n, v, store, own),
+        codes::NAME..=codes::SUM => by_name(at, live, n, k, q, v, store, own),
         _ => {
-            if k < codes::BEHIND {
+            if k < codes::NAME {
                 return act(at, live, n, k, q as usize, v, input, store, output, own);
             }
             stray(at)
@@ -300,7 +408,7 @@ fn drive(
     output: &mut [i32],
     own: &mut Memory,
 ) -> Ran
-    requires { ⌜ (length (now code) ≤ mostWords) × (length (now store) ≤ mostCells) × Lives (now own) 0 × (wordOf (now own) 0 5 ≡ 0) ⌝ }
+    requires { ⌜ (length (now code) ≤ mostWords) × (length (now store) ≤ mostCells) × Lives (now own) 0 × (wordOf (now own) 0 5 ≡ 0) × (foundOf (now own) ≡ 0) ⌝ }
     ensures { λ r. ⌜ Drove r (now (output .entry)) (now (output .exit)) (machineOf (now (code .entry)) (now (input .entry)) limit (roomOf (now (store .entry))) (length (now (output .entry)))) ⌝ }
 {
     let mut at: u32 = 0;

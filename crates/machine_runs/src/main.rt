@@ -1,5 +1,7 @@
 // Hand-written code for each instruction and each answer, run and shown: the answer and its place, the counts, and every lent word. Before a run
 // each store number is 7 and each output number 9. A comment names the instructions: operation @ place and operands.
+mod by_name; // formals called by name
+
 use machine::Ran;
 use showing::text::say;
 use showing::text::say_number;
@@ -191,7 +193,7 @@ fn part_2() {
     );
     let zero_words: [u32; 4] = [0, 0, 0, 0];
     tried(b"zero words", &zero_words, &none_in[..0], 1000, 6, 3);
-    let unknown_operation: [u32; 2] = [39, 0];
+    let unknown_operation: [u32; 2] = [47, 0];
     tried(
         b"unknown operation",
         &unknown_operation,
@@ -1134,5 +1136,7 @@ fn main() {
     part_9();
     part_10();
     part_11();
+    by_name::actuals();
+    by_name::sums();
     far();
 }

@@ -1,4 +1,4 @@
--- A number of 32 bits is what the cell holds; any other stands for an unassigned one.
+-- A number of 32 bits is what the cell holds; any other stands for an unassigned one or for a name formal's.
 use Rattle.machine.specs.Model.{roomOf, cellAt, cellOf}
 use Rattle.machine.proofs.Signed.{low-out, high-out, between, read-back}
 use lib.ListN.{getD}
@@ -9,12 +9,10 @@ use mir.Syntax.{w32, w64}
 use mir.Facts.{toZ-ofZ}
 use borrow.Author.Tests.{lt-ltb}
 use lib.Signed.{mag}
+use Rattle.machine.proofs.Stacks.{other-low}
 use borrow.Author.Needs.{needs}
 use Rattle.machine.proofs.cells.cell_at.Statement.{statement}
 use Rattle.machine.proofs.cells.cell_at.Tie as tie
-
-mul-x : tie.Need-mul-x
-mul-x c = search needs
 
 mul-x-2 : tie.Need-mul-x-2
 unfolding roomOf
@@ -28,13 +26,14 @@ returns : tie.Need-returns
 unfolding cellAt cellOf
 returns c =
     let z = getD (c .before .before .args .store .now) (1 * c .before .before .args .c) (pos 0) in
-    simp (low-out w32 z (simp (read-back w64 z (c .before .x .given)) at (c .if1 .taken)))
+    let l = simp (read-back w64 z (c .before .x .given)) at (c .if1 .taken) in
+    simp (low-out w32 z l, other-low z 2147483647 l)
 
 returns-2 : tie.Need-returns-2
 unfolding cellAt cellOf
 returns-2 c =
-    let z = getD (c .before .before .before .args .store .now) (1 * c .before .before .before .args .c) (pos 0) in
-    simp (high-out w32 z (simp (read-back w64 z (c .before .before .x .given)) at (c .if2 .taken)))
+    let z = getD (c .before .before .before .before .args .store .now) (1 * c .before .before .before .before .args .c) (pos 0) in
+    simp (high-out w32 z (simp (read-back w64 z (c .before .before .before .x .given)) at (c .before .if2 .taken))) (simp (read-back w64 z (c .before .before .before .x .given)) at (c .beyond .ensures))
 
 cast-t9 : tie.Need-cast-t9
 cast-t9 c =
@@ -50,4 +49,13 @@ returns-3 c =
 
 pub cell-at-spec : {M : Type 1} → statement M
 cell-at-spec =
-    tie.close (tie.spec mul-x mul-x-2 shared-slice-copy-out-x returns returns-2 cast-t9 returns-3)
+    tie.close
+    (tie.spec
+    (λ c. search needs)
+    mul-x-2
+    shared-slice-copy-out-x
+    returns
+    (λ c κs. search needs)
+    returns-2
+    cast-t9
+    returns-3)

@@ -2,20 +2,11 @@
 use mathlib.Core.Path.{refl, ap, _∙_}
 use native.Mathlib.Nat.{le-refl}
 use Rattle.machine.specs.Machine.{stray}
-use Rattle.machine.specs.Model.{lifted}
+use Rattle.machine.specs.Model.{lifted, ownOf}
 use Rattle.machine.proofs.Execs.{strayed, strayed-sound, leave-stray, leave-lifted, room-no, room-yes, lifted-next, did-quiet}
 use borrow.Author.Needs.{needs}
 use Rattle.machine.proofs.control.close.Statement.{statement}
 use Rattle.machine.proofs.control.close.Tie as tie
-
-first-cell-requires : tie.Need-first-cell-requires
-first-cell-requires c κs = search needs
-
-add-if1 : tie.Need-add-if1
-add-if1 c = search needs
-
-stray-requires : tie.Need-stray-requires
-stray-requires c κs = search needs
 
 returns : tie.Need-returns
 returns c = (
@@ -23,20 +14,11 @@ returns c = (
   λ s o g h. strayed-sound (c .stray .ensures) s _ o o refl,
 )
 
-add-lift : tie.Need-add-lift
-add-lift c = search needs
-
-close-requires : tie.Need-close-requires
-close-requires c κs = search needs
-
-lift-requires : tie.Need-lift-requires
-lift-requires c κs = search needs
-
 returns-2 : tie.Need-returns-2
 returns-2 c = (
   λ s i o.
       c .lift .ensures .0 s i o (c .before .before .before .before .before .args .own .now)
-      ∙ ap (lifted _ _) (c .before .close .ensures .0 (c .before .before .before .before .before .args .live) s i o)
+      ∙ ap (lifted _ _) (c .before .close .ensures .0 (ownOf (c .before .before .before .before .before .args .own .now) (c .before .before .before .before .before .args .live)) s i o)
       ∙ lifted-next _ _ _ _ _
       ∙ leave-lifted _ (c .before .before .before .before .before .args .at) _ _ _ (c .before .before .before .before .before .args .k) (room-yes (c .before .before .before .before .before .args .n) (c .before .before .before .before .before .args .live) s i o (c .before .before .before .before .before .args .own .now) (c .before .before .before .before .first-cell .ensures .0 (c .before .before .before .before .before .args .live) (le-refl _)) (c .before .before .before .before .before .args .k) (c .before .before .if1 .left)),
   λ s o g h. c .lift .ensures .1 s o o (c .before .before .before .before .before .args .own .now) (did-quiet (c .before .before .before .before .before .args .n) (c .before .close .result) s o (c .before .close .ensures .1 s g) h) (c .before .before .before .before .before .pre .0),
@@ -46,11 +28,11 @@ pub close-spec : {M : Type 1} → statement M
 close-spec =
     tie.close
     (tie.spec
-    first-cell-requires
-    add-if1
-    stray-requires
+    (λ c κs. search needs)
+    (λ c. search needs)
+    (λ c κs. search needs)
     returns
-    add-lift
-    close-requires
-    lift-requires
+    (λ c. search needs)
+    (λ c κs. search needs)
+    (λ c κs. search needs)
     returns-2)

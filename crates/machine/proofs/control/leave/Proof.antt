@@ -1,7 +1,7 @@
 -- The words of the newest activation say where to, what goes and what stays.
 use mathlib.Core.Path.{refl, ap, _∙_}
 use native.Mathlib.Omega.{arith}
-use Rattle.machine.specs.Model.{lifted}
+use Rattle.machine.specs.Model.{lifted, ownOf}
 use Rattle.machine.proofs.Execs.{strayed, strayed-sound, return-none, return-lifted, did-quiet}
 use Rattle.machine.proofs.Frames.{lives-less}
 use Rattle.machine.proofs.Signed.{bits-pos}
@@ -9,44 +9,14 @@ use borrow.Author.Needs.{needs}
 use Rattle.machine.proofs.control.leave.Statement.{statement}
 use Rattle.machine.proofs.control.leave.Tie as tie
 
-stray-requires : tie.Need-stray-requires
-stray-requires c κs = search needs
-
 returns : tie.Need-returns
 returns c = (λ i o. strayed (c .stray .ensures) _ _ i o ∙ return-none _ (c .before .before .args .at) _ (c .before .before .args .own .now) (c .before .before .args .live) _ (c .before .if1 .taken), λ o h. strayed-sound (c .stray .ensures) _ _ o o refl)
-
-word-requires : tie.Need-word-requires
-word-requires c κs = search needs
-
-word-requires-2 : tie.Need-word-requires-2
-word-requires-2 c κs = search needs
-
-cast-q : tie.Need-cast-q
-cast-q c = search needs
-
-word-requires-3 : tie.Need-word-requires-3
-word-requires-3 c κs = search needs
-
-cast-b : tie.Need-cast-b
-cast-b c = search needs
-
-word-requires-4 : tie.Need-word-requires-4
-word-requires-4 c κs = search needs
-
-sub-lift : tie.Need-sub-lift
-sub-lift c = search needs
-
-leave-requires : tie.Need-leave-requires
-leave-requires c κs = search needs
-
-lift-requires : tie.Need-lift-requires
-lift-requires c κs = search needs
 
 returns-2 : tie.Need-returns-2
 returns-2 c = (
   λ i o.
       c .lift .ensures .0 (c .before .before .before .before .before .before .before .args .store .now) i o (c .before .before .before .before .before .before .before .args .own .now)
-      ∙ ap (lifted _ _) (c .before .leave .ensures .0 (c .before .before .before .before .before .before .before .args .live) i o)
+      ∙ ap (lifted _ _) (c .before .leave .ensures .0 (ownOf (c .before .before .before .before .before .before .before .args .own .now) (c .before .before .before .before .before .before .before .args .live)) i o)
       ∙ return-lifted _ (c .before .before .before .before .before .before .before .args .at) _ (c .before .before .before .before .before .before .before .args .own .now) (c .before .before .before .before .before .before .before .args .live) _ (bits-pos _ (c .before .before .before .before .before .before .if1 .left)) (c .before .before .word4 .ensures) (c .before .before .before .before .before .word .ensures) refl (c .before .before .before .before .word2 .ensures) (c .before .before .before .word3 .ensures),
   λ o h. c .lift .ensures .1 (c .before .before .before .before .before .before .before .args .store .now) o o (c .before .before .before .before .before .before .before .args .own .now) (did-quiet (c .before .before .before .before .before .before .before .args .n) (c .before .leave .result) (c .before .before .before .before .before .before .before .args .store .now) o (c .before .leave .ensures .1) h) (lives-less (c .before .before .before .before .before .before .before .args .own .now) (c .before .before .before .before .before .before .before .args .live) _ (c .before .before .before .before .before .before .before .pre .1) (omega arith)),
 )
@@ -55,15 +25,15 @@ pub leave-spec : {M : Type 1} → statement M
 leave-spec =
     tie.close
     (tie.spec
-    stray-requires
+    (λ c κs. search needs)
     returns
-    word-requires
-    word-requires-2
-    cast-q
-    word-requires-3
-    cast-b
-    word-requires-4
-    sub-lift
-    leave-requires
-    lift-requires
+    (λ c κs. search needs)
+    (λ c κs. search needs)
+    (λ c. search needs)
+    (λ c κs. search needs)
+    (λ c. search needs)
+    (λ c κs. search needs)
+    (λ c. search needs)
+    (λ c κs. search needs)
+    (λ c κs. search needs)
     returns-2)

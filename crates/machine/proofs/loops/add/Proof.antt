@@ -2,8 +2,9 @@
 use Rattle.machine.specs.Model.{dataOf}
 use mathlib.Core.Path.{sym, ap, _∙_}
 use Rattle.machine.specs.Values.{whole}
-use Rattle.machine.proofs.Works.{add-out, add-unset, add-fault, add-some}
-use Rattle.machine.proofs.Kept.{cell-in, cell-out, look-data}
+use native.Mathlib.Omega.{arith}
+use Rattle.machine.proofs.Works.{add-out, add-not, add-fault, add-some}
+use Rattle.machine.proofs.Kept.{number-holds, cell-in, cell-out, look-data}
 use mir.Syntax.{w32, w64}
 use Rattle.machine.proofs.Signed.{wide-fits, sum-again, sum-again-fits, narrow-fits, narrow-same, is-fits}
 use borrow.Author.Needs.{needs}
@@ -12,15 +13,6 @@ use Rattle.machine.proofs.loops.add.Tie as tie
 
 returns : tie.Need-returns
 returns c = (λ a i o. add-out _ (dataOf (c .before .before .args .n) a (c .before .before .args .store .now) i o) (c .before .before .args .q) (c .before .before .args .c) (c .before .before .args .x) (cell-out (c .before .before .args .n) a (c .before .before .args .store .now) i o (c .before .before .args .c) (c .if1 .taken)), tt)
-
-cell-at-requires : tie.Need-cell-at-requires
-cell-at-requires c κs = search needs
-
-enum-told : tie.Need-enum-told
-enum-told c = search needs
-
-enum-known-v : tie.Need-enum-known-v
-enum-known-v c = search needs
 
 cast-whole : tie.Need-cast-whole
 cast-whole c = wide-fits w32 w64 tt {a = c .before .v .given .0 .0} (record { sfits = c .known-told .given .0 .1 })
@@ -31,45 +23,29 @@ cast-whole-2 c = wide-fits w32 w64 tt (c .before .before .before .before .before
 add-whole : tie.Need-add-whole
 add-whole c = sum-again-fits w32 w64 tt {a = c .before .v .given .0 .0} (record { sfits = c .known-told .given .0 .1 }) (c .before .before .before .before .before .before .before .fits .x)
 
-whole-requires : tie.Need-whole-requires
-whole-requires c κs = search needs
-
-enum-known-a : tie.Need-enum-known-a
-enum-known-a c = search needs
-
-enum-known-s : tie.Need-enum-known-s
-enum-known-s c = search needs
-
 cast-put : tie.Need-cast-put
 cast-put c = narrow-fits w32 w64 tt {a = c .before .before .s .given .0 .0} (is-fits _ (c .before .before .before .before .whole .ensures) (c .before .before .s .given .1))
 
-put-requires : tie.Need-put-requires
-put-requires c κs = search needs
-
-same-length : tie.Need-same-length
-same-length c = search needs
+unread-requires : tie.Need-unread-requires
+unread-requires c κs = (omega (arith, c .before .before .before .before .before .if1 .left, c .before .before .before .before .before .before .before .pre .room), sym (c .before .before .before .number-at .ensures) ∙ c .before .enum-told .given .1)
 
 returns-2 : tie.Need-returns-2
-returns-2 c =
-    (λ a i o. add-unset _ (dataOf (c .before .before .before .before .before .before .args .n) a (c .before .before .before .before .before .before .args .store .now) i o) (c .before .before .before .before .before .before .args .q) (c .before .before .before .before .before .before .args .c) (c .before .before .before .before .before .before .args .x) (cell-in (c .before .before .before .before .before .before .args .n) a (c .before .before .before .before .before .before .args .store .now) i o (c .before .before .before .before .before .before .args .c) (c .before .before .before .before .if1 .left)) (look-data (c .before .before .before .before .before .before .args .n) a (c .before .before .before .before .before .before .args .store .now) i o (c .before .before .before .before .before .before .args .c) (c .before .before .before .before .if1 .left) ∙ sym (c .before .before .cell-at .ensures) ∙ c .enum-told .given .1), tt)
-
-same-length-2 : tie.Need-same-length-2
-same-length-2 c = search needs
+returns-2 c = (
+  λ a i o. c .unread .ensures .0 _ _ a (c .before .before .before .before .before .before .before .before .args .store .now) i o ∙ add-not _ (dataOf (c .before .before .before .before .before .before .before .before .args .n) a (c .before .before .before .before .before .before .before .before .args .store .now) i o) (c .before .before .before .before .before .before .before .before .args .q) (c .before .before .before .before .before .before .before .before .args .c) (c .before .before .before .before .before .before .before .before .args .x) (cell-in (c .before .before .before .before .before .before .before .before .args .n) a (c .before .before .before .before .before .before .before .before .args .store .now) i o (c .before .before .before .before .before .before .before .before .args .c) (c .before .before .before .before .before .before .if1 .left)) (look-data (c .before .before .before .before .before .before .before .before .args .n) a (c .before .before .before .before .before .before .before .before .args .store .now) i o (c .before .before .before .before .before .before .before .before .args .c) (c .before .before .before .before .before .before .if1 .left)),
+  c .unread .ensures .1 (c .before .before .before .before .before .before .before .before .args .n) (c .before .before .before .before .before .before .before .before .args .store .now),
+)
 
 returns-3 : tie.Need-returns-3
 returns-3 c =
     let w = sym (c .before .a .given .1) ∙ c .before .before .before .whole .ensures ∙ ap whole (sum-again w32 w64 tt {a = c .before .before .before .before .before .v .given .0 .0} (record { sfits = c .before .before .before .before .known-told .given .0 .1 }) (c .before .before .before .before .before .before .before .before .before .before .before .fits .x)) in
-    (λ b i o. add-fault _ (dataOf (c .before .before .before .before .before .before .before .before .before .before .before .args .n) b (c .before .before .before .before .before .before .before .before .before .before .before .args .store .now) i o) (c .before .before .before .before .before .before .before .before .before .before .before .args .q) (c .before .before .before .before .before .before .before .before .before .before .before .args .c) (c .before .before .before .before .before .before .before .before .before .before .before .args .x) (cell-in (c .before .before .before .before .before .before .before .before .before .before .before .args .n) b (c .before .before .before .before .before .before .before .before .before .before .before .args .store .now) i o (c .before .before .before .before .before .before .before .before .before .before .before .args .c) (c .before .before .before .before .before .before .before .before .before .if1 .left)) (look-data (c .before .before .before .before .before .before .before .before .before .before .before .args .n) b (c .before .before .before .before .before .before .before .before .before .before .before .args .store .now) i o (c .before .before .before .before .before .before .before .before .before .before .before .args .c) (c .before .before .before .before .before .before .before .before .before .if1 .left) ∙ sym (c .before .before .before .before .before .before .before .cell-at .ensures) ∙ c .before .before .before .before .before .v .given .1) w, tt)
-
-same-length-3 : tie.Need-same-length-3
-same-length-3 c = search needs
+    (λ b i o. add-fault _ (dataOf (c .before .before .before .before .before .before .before .before .before .before .before .args .n) b (c .before .before .before .before .before .before .before .before .before .before .before .args .store .now) i o) (c .before .before .before .before .before .before .before .before .before .before .before .args .q) (c .before .before .before .before .before .before .before .before .before .before .before .args .c) (c .before .before .before .before .before .before .before .before .before .before .before .args .x) (cell-in (c .before .before .before .before .before .before .before .before .before .before .before .args .n) b (c .before .before .before .before .before .before .before .before .before .before .before .args .store .now) i o (c .before .before .before .before .before .before .before .before .before .before .before .args .c) (c .before .before .before .before .before .before .before .before .before .if1 .left)) (look-data (c .before .before .before .before .before .before .before .before .before .before .before .args .n) b (c .before .before .before .before .before .before .before .before .before .before .before .args .store .now) i o (c .before .before .before .before .before .before .before .before .before .before .before .args .c) (c .before .before .before .before .before .before .before .before .before .if1 .left) ∙ number-holds _ (sym (c .before .before .before .before .before .before .before .number-at .ensures) ∙ c .before .before .before .before .before .v .given .1)) w, tt)
 
 returns-4 : tie.Need-returns-4
 returns-4 c =
     let w = sym (c .before .before .before .before .s .given .1) ∙ c .before .before .before .before .before .before .whole .ensures ∙ ap whole (sum-again w32 w64 tt {a = c .before .before .before .before .before .before .before .before .v .given .0 .0} (record { sfits = c .before .before .before .before .before .before .before .known-told .given .0 .1 }) (c .before .before .before .before .before .before .before .before .before .before .before .before .before .before .fits .x)) in (
       λ a i o.
           c .before .put .ensures .0 a i o
-          ∙ add-some _ (dataOf (c .before .before .before .before .before .before .before .before .before .before .before .before .before .before .args .n) a (c .before .before .before .before .before .before .before .before .before .before .before .before .before .before .args .store .now) i o) (c .before .before .before .before .before .before .before .before .before .before .before .before .before .before .args .q) (c .before .before .before .before .before .before .before .before .before .before .before .before .before .before .args .c) (c .before .before .before .before .before .before .before .before .before .before .before .before .before .before .args .x) (cell-in (c .before .before .before .before .before .before .before .before .before .before .before .before .before .before .args .n) a (c .before .before .before .before .before .before .before .before .before .before .before .before .before .before .args .store .now) i o (c .before .before .before .before .before .before .before .before .before .before .before .before .before .before .args .c) (c .before .before .before .before .before .before .before .before .before .before .before .before .if1 .left)) (look-data (c .before .before .before .before .before .before .before .before .before .before .before .before .before .before .args .n) a (c .before .before .before .before .before .before .before .before .before .before .before .before .before .before .args .store .now) i o (c .before .before .before .before .before .before .before .before .before .before .before .before .before .before .args .c) (c .before .before .before .before .before .before .before .before .before .before .before .before .if1 .left) ∙ sym (c .before .before .before .before .before .before .before .before .before .before .cell-at .ensures) ∙ c .before .before .before .before .before .before .before .before .v .given .1)
+          ∙ add-some _ (dataOf (c .before .before .before .before .before .before .before .before .before .before .before .before .before .before .args .n) a (c .before .before .before .before .before .before .before .before .before .before .before .before .before .before .args .store .now) i o) (c .before .before .before .before .before .before .before .before .before .before .before .before .before .before .args .q) (c .before .before .before .before .before .before .before .before .before .before .before .before .before .before .args .c) (c .before .before .before .before .before .before .before .before .before .before .before .before .before .before .args .x) (cell-in (c .before .before .before .before .before .before .before .before .before .before .before .before .before .before .args .n) a (c .before .before .before .before .before .before .before .before .before .before .before .before .before .before .args .store .now) i o (c .before .before .before .before .before .before .before .before .before .before .before .before .before .before .args .c) (c .before .before .before .before .before .before .before .before .before .before .before .before .if1 .left)) (look-data (c .before .before .before .before .before .before .before .before .before .before .before .before .before .before .args .n) a (c .before .before .before .before .before .before .before .before .before .before .before .before .before .before .args .store .now) i o (c .before .before .before .before .before .before .before .before .before .before .before .before .before .before .args .c) (c .before .before .before .before .before .before .before .before .before .before .before .before .if1 .left) ∙ number-holds _ (sym (c .before .before .before .before .before .before .before .before .before .before .number-at .ensures) ∙ c .before .before .before .before .before .before .before .before .v .given .1))
           w (narrow-same w32 w64 tt (is-fits _ (c .before .before .before .before .before .before .whole .ensures) (c .before .before .before .before .s .given .1))),
       c .before .put .ensures .1,
     )
@@ -79,20 +55,21 @@ add-spec =
     tie.close
     (tie.spec
     returns
-    cell-at-requires
-    enum-told
-    enum-known-v
+    (λ c κs. search needs)
+    (λ c. search needs)
+    unread-requires
+    (λ c. search needs)
     cast-whole
     cast-whole-2
     add-whole
-    whole-requires
-    enum-known-a
-    enum-known-s
+    (λ c κs. search needs)
+    (λ c. search needs)
+    (λ c. search needs)
     cast-put
-    put-requires
-    same-length
+    (λ c κs. search needs)
+    (λ c. search needs)
     returns-2
-    same-length-2
+    (λ c. search needs)
     returns-3
-    same-length-3
+    (λ c. search needs)
     returns-4)

@@ -10,15 +10,6 @@ use Rattle.machine.proofs.Signed.{read-back}
 use Rattle.machine.proofs.loops.keep.Statement.{statement}
 use Rattle.machine.proofs.loops.keep.Tie as tie
 
-newest-two-requires : tie.Need-newest-two-requires
-newest-two-requires c κs = search needs
-
-enum-told : tie.Need-enum-told
-enum-told c = search needs
-
-enum-known-x : tie.Need-enum-known-x
-enum-known-x c = search needs
-
 hold-requires : tie.Need-hold-requires
 hold-requires c κs = omega (arith, pair-room (c .before .before .before .before .before .before .args .n) (c .before .before .x .given .1) (c .before .before .before .before .newest-two .ensures .1) (c .before .before .before .before .before .before .pre))
 
@@ -27,14 +18,8 @@ hold-requires-2 c κs =
     let h = pair-room (c .before .before .before .before .before .before .before .before .before .args .n) (c .before .before .before .before .before .x .given .1) (c .before .before .before .before .before .before .before .newest-two .ensures .1) (c .before .before .before .before .before .before .before .before .before .pre) in
     omega (arith, first-less (c .before .before .before .before .before .x .given .0 .1 .1 .0) (c .before .before .before .before .before .before .before .before .before .args .store .now) _ (c .before .before .hold .ensures .1) (c .before .before .hold .ensures .0) h)
 
-same-length : tie.Need-same-length
-same-length c = search needs
-
 returns : tie.Need-returns
 returns c = (λ a i o. keep-none _ _ (saw-no-two (c .before .before .before .before .args .n) a (c .before .before .before .before .args .store .now) i o (c .enum-told .given .1) (c .before .before .newest-two .ensures .0 a i o)), tt)
-
-same-length-2 : tie.Need-same-length-2
-same-length-2 c = search needs
 
 returns-2 : tie.Need-returns-2
 returns-2 c =
@@ -51,7 +36,7 @@ returns-2 c =
           (held-trace m _ _ o (c .before .before .before .before .hold .ensures .0) (c .before .hold2 .ensures .0) ∙ pair-trace (c .before .before .before .before .before .before .before .before .before .before .before .args .n) (c .before .before .before .before .before .before .before .x .given .1) (c .before .before .before .before .before .before .before .before .before .newest-two .ensures .1) o)
           (two-held m a s i o (c .before .before .before .before .hold .ensures .1) bx fx (c .before .before .before .before .hold .ensures .0) (c .before .hold2 .ensures .1) by fy (c .before .hold2 .ensures .0) h),
       (
-        two-held-sound m 0 s s s (c .before .before .before .before .hold .ensures .1) bx fx (c .before .before .before .before .hold .ensures .0) (c .before .hold2 .ensures .1) by fy (c .before .hold2 .ensures .0) h g,
+        two-held-sound m (record { live = 0; found = 0 }) s s s (c .before .before .before .before .hold .ensures .1) bx fx (c .before .before .before .before .hold .ensures .0) (c .before .hold2 .ensures .1) by fy (c .before .hold2 .ensures .0) h g,
         held-written m _ _ (c .before .before .before .before .hold .ensures .0) (c .before .hold2 .ensures .0) ∙ pair-written (c .before .before .before .before .before .before .before .before .before .before .before .args .n) (c .before .before .before .before .before .before .before .x .given .1) (c .before .before .before .before .before .before .before .before .before .newest-two .ensures .1),
       ),
     )
@@ -60,12 +45,12 @@ pub keep-spec : {M : Type 1} → statement M
 keep-spec =
     tie.close
     (tie.spec
-    newest-two-requires
-    enum-told
-    enum-known-x
+    (λ c κs. search needs)
+    (λ c. search needs)
+    (λ c. search needs)
     hold-requires
     hold-requires-2
-    same-length
+    (λ c. search needs)
     returns
-    same-length-2
+    (λ c. search needs)
     returns-2)

@@ -3,23 +3,14 @@ use mathlib.Core.Path.{refl, ap, _∙_}
 use native.Mathlib.Omega.{arith}
 use native.Mathlib.Nat.{le-refl}
 use Rattle.machine.specs.Instructions.{variable}
-use Rattle.machine.specs.Model.{lifted}
+use Rattle.machine.specs.Model.{lifted, ownOf}
 use Rattle.machine.proofs.Execs.{strayed, strayed-sound, do-stray, room-no, room-yes, act-done}
 use borrow.Author.Needs.{needs}
 use Rattle.machine.proofs.steps.act.Statement.{statement}
 use Rattle.machine.proofs.steps.act.Tie as tie
 
-first-cell-requires : tie.Need-first-cell-requires
-first-cell-requires c κs = search needs
-
-downs-requires : tie.Need-downs-requires
-downs-requires c κs = search needs
-
 add-if1 : tie.Need-add-if1
 add-if1 c = omega (arith, c .downs .ensures .1, c .before .first-cell .ensures .1)
-
-stray-requires : tie.Need-stray-requires
-stray-requires c κs = search needs
 
 returns : tie.Need-returns
 returns c = (
@@ -28,28 +19,13 @@ returns c = (
 )
 
 cell-of-requires : tie.Need-cell-of-requires
-cell-of-requires c κs = search needs
-
-add-lift : tie.Need-add-lift
-add-lift c = search needs
-
-work-requires : tie.Need-work-requires
-work-requires c κs = search needs
-
-lift-requires : tie.Need-lift-requires
-lift-requires c κs = search needs
-
-same-length : tie.Need-same-length
-same-length c = search needs
-
-same-length-2 : tie.Need-same-length-2
-same-length-2 c = search needs
+cell-of-requires c κs = (c .before .before .before .before .pre .1, c .before .before .before .first-cell .ensures .0 (c .before .before .before .before .args .live) (le-refl _), c .before .before .before .first-cell .ensures .1)
 
 returns-2 : tie.Need-returns-2
 returns-2 c = (
   c .lift .ensures .0 (c .before .before .before .work .last .1 .1 .1 .1 .1 .1 .0) (c .before .before .before .before .before .before .before .before .before .before .before .args .input .now) (c .before .before .before .work .last .1 .1 .1 .1 .1 .1 .1 .0) (c .before .before .before .before .before .before .before .before .before .before .before .args .own .now)
-      ∙ ap (lifted _ _) (c .before .before .before .work .ensures .0 (c .before .before .before .before .before .before .before .before .before .before .before .args .live))
-      ∙ act-done _ (c .before .before .before .before .before .before .before .before .before .before .before .args .at) _ _ _ (c .before .before .before .before .before .before .before .before .before .before .before .args .q) (c .before .before .before .before .before .before .before .before .before .before .before .args .v) (c .before .before .before .before .before .before .cell-of .ensures) (c .before .before .before .before .before .before .before .before .before .before .before .args .k) (room-yes (c .before .before .before .before .before .before .before .before .before .before .before .args .n) (c .before .before .before .before .before .before .before .before .before .before .before .args .live) (c .before .before .before .before .before .before .before .before .before .before .before .args .store .now) (c .before .before .before .before .before .before .before .before .before .before .before .args .input .now) (c .before .before .before .before .before .before .before .before .before .before .before .args .output .now) (c .before .before .before .before .before .before .before .before .before .before .before .args .own .now) (c .before .before .before .before .before .before .before .before .before .before .first-cell .ensures .0 (c .before .before .before .before .before .before .before .before .before .before .before .args .live) (le-refl _)) _ (omega (arith, c .before .before .before .before .before .before .before .if1 .left, c .before .before .before .before .before .before .before .before .before .downs .ensures .0 (c .before .before .before .before .before .before .before .before .before .before .before .args .q) (c .before .before .before .before .before .before .before .before .before .before .before .args .v) (variable (c .before .before .before .before .before .before .before .before .before .before .before .args .v))))),
+      ∙ ap (lifted _ _) (c .before .before .before .work .ensures .0 (ownOf (c .before .before .before .before .before .before .before .before .before .before .before .args .own .now) (c .before .before .before .before .before .before .before .before .before .before .before .args .live)))
+      ∙ act-done _ (c .before .before .before .before .before .before .before .before .before .before .before .args .at) _ _ _ (c .before .before .before .before .before .before .before .before .before .before .before .args .q) (c .before .before .before .before .before .before .before .before .before .before .before .args .v) (c .before .before .before .before .before .before .cell-of .ensures (c .before .before .before .before .before .before .before .before .before .before .before .args .n) (c .before .before .before .before .before .before .before .before .before .before .before .args .store .now) (c .before .before .before .before .before .before .before .before .before .before .before .args .input .now) (c .before .before .before .before .before .before .before .before .before .before .before .args .output .now)) (c .before .before .before .before .before .before .before .before .before .before .before .args .k) (room-yes (c .before .before .before .before .before .before .before .before .before .before .before .args .n) (c .before .before .before .before .before .before .before .before .before .before .before .args .live) (c .before .before .before .before .before .before .before .before .before .before .before .args .store .now) (c .before .before .before .before .before .before .before .before .before .before .before .args .input .now) (c .before .before .before .before .before .before .before .before .before .before .before .args .output .now) (c .before .before .before .before .before .before .before .before .before .before .before .args .own .now) (c .before .before .before .before .before .before .before .before .before .before .first-cell .ensures .0 (c .before .before .before .before .before .before .before .before .before .before .before .args .live) (le-refl _)) _ (omega (arith, c .before .before .before .before .before .before .before .if1 .left, c .before .before .before .before .before .before .before .before .before .downs .ensures .0 (c .before .before .before .before .before .before .before .before .before .before .before .args .q) (c .before .before .before .before .before .before .before .before .before .before .before .args .v) (variable (c .before .before .before .before .before .before .before .before .before .before .before .args .v))))),
   c .lift .ensures .1 (c .before .before .before .work .last .1 .1 .1 .1 .1 .1 .0) (c .before .before .before .before .before .before .before .before .before .before .before .args .output .now) (c .before .before .before .work .last .1 .1 .1 .1 .1 .1 .1 .0) (c .before .before .before .before .before .before .before .before .before .before .before .args .own .now) (c .before .before .before .work .ensures .1) (c .before .before .before .before .before .before .before .before .before .before .before .pre .1),
 )
 
@@ -57,15 +33,15 @@ pub act-spec : {M : Type 1} → statement M
 act-spec =
     tie.close
     (tie.spec
-    first-cell-requires
-    downs-requires
+    (λ c κs. search needs)
+    (λ c κs. search needs)
     add-if1
-    stray-requires
+    (λ c κs. search needs)
     returns
     cell-of-requires
-    add-lift
-    work-requires
-    lift-requires
-    same-length
-    same-length-2
+    (λ c. search needs)
+    (λ c κs. search needs)
+    (λ c κs. search needs)
+    (λ c. search needs)
+    (λ c. search needs)
     returns-2)

@@ -14,7 +14,7 @@ abbrev μ-loop : tie.MeasureT-loop
 μ-loop code input limit store₀ output₀ own₀ at₀ live₀ n₀ done₀ store output own at live n done = limit - done
 
 loop-holds : tie.Need-loop-holds Inv-loop μ-loop
-loop-holds c = driving-start (c .before .args .code .now) (c .before .args .input .now) (c .before .args .limit) (c .before .args .store .now) (c .before .args .output .now) (c .before .args .own .now) (c .before .pre .1) (c .before .pre .2) (c .before .pre .3)
+loop-holds c = driving-start (c .before .args .code .now) (c .before .args .input .now) (c .before .args .limit) (c .before .args .store .now) (c .before .args .output .now) (c .before .args .own .now) (c .before .pre .1) (c .before .pre .2) (c .before .pre .3) (c .before .pre .4)
 
 step-requires : tie.Need-step-requires Inv-loop μ-loop
 step-requires c κs = (c .before .before .before .before .loop .inv .sound, c .before .before .before .before .loop .inv .lives, c .before .before .before .before .loop .inv .wrote, c .before .before .before .before .before .before .pre .0)

@@ -3,7 +3,7 @@ use mathlib.Core.Path.{refl, ap, _∙_}
 use native.Mathlib.Nat.{le-refl}
 use Rattle.machine.specs.Data.{condition}
 use Rattle.machine.specs.Instructions.{low}
-use Rattle.machine.specs.Model.{lifted}
+use Rattle.machine.specs.Model.{lifted, ownOf}
 use Rattle.machine.proofs.Execs.{strayed, strayed-sound, if-stray, if-lifted, room-no, room-yes}
 use borrow.Author.Needs.{needs}
 use Rattle.machine.proofs.steps.unless.Statement.{statement}
@@ -20,7 +20,7 @@ returns-2 c =
     rw (← c .before .before .low .ensures) (
       λ i o.
           c .lift-test .ensures .0 (c .before .before .before .before .before .before .args .store .now) i o (c .before .before .before .before .before .before .args .own .now)
-          ∙ ap (lifted _ _) (c .before .condition .ensures .0 (c .before .before .before .before .before .before .args .live) i o)
+          ∙ ap (lifted _ _) (c .before .condition .ensures .0 (ownOf (c .before .before .before .before .before .before .args .own .now) (c .before .before .before .before .before .before .args .live)) i o)
           ∙ if-lifted _ (c .before .before .before .before .before .before .args .at) _ _ _ condition (c .before .before .low .result) (room-yes (c .before .before .before .before .before .before .args .n) (c .before .before .before .before .before .before .args .live) (c .before .before .before .before .before .before .args .store .now) i o (c .before .before .before .before .before .before .args .own .now) (c .before .before .before .before .before .first-cell .ensures .0 (c .before .before .before .before .before .before .args .live) (le-refl _)) 1 (c .before .before .before .if1 .left)),
       λ o h. c .lift-test .ensures .1 (c .before .before .before .before .before .before .args .n) (c .before .before .before .before .before .before .args .store .now) o (c .before .before .before .before .before .before .args .own .now) (c .before .condition .ensures .1) h (c .before .before .before .before .before .before .pre .1),
     )

@@ -4,7 +4,7 @@ use native.Mathlib.Omega.{arith}
 use native.Mathlib.Nat.{le-refl}
 use Rattle.machine.specs.Data.{upto}
 use Rattle.machine.specs.Instructions.{low, variable}
-use Rattle.machine.specs.Model.{lifted}
+use Rattle.machine.specs.Model.{lifted, ownOf}
 use Rattle.machine.proofs.Execs.{strayed, strayed-sound, if-stray, upto-done, room-no, room-yes}
 use borrow.Author.Needs.{needs}
 use Rattle.machine.proofs.steps.upto.Statement.{statement}
@@ -16,13 +16,16 @@ returns c = (
   λ o h. strayed-sound (c .stray .ensures) _ _ o o refl,
 )
 
+cell-of-requires : tie.Need-cell-of-requires
+cell-of-requires c κs = (c .before .before .before .pre .1, c .before .before .first-cell .ensures .0 (c .before .before .before .args .live) (le-refl _), c .before .before .first-cell .ensures .1)
+
 returns-2 : tie.Need-returns-2
 returns-2 c =
     rw (← c .before .before .low .ensures) (
       λ i o.
           c .lift-test .ensures .0 (c .before .before .before .before .before .before .before .args .store .now) i o (c .before .before .before .before .before .before .before .args .own .now)
-          ∙ ap (lifted _ _) (c .before .upto .ensures .0 (c .before .before .before .before .before .before .before .args .live) i o)
-          ∙ upto-done _ (c .before .before .before .before .before .before .before .args .at) _ _ _ (c .before .before .before .before .before .before .before .args .q) (c .before .before .before .before .before .before .before .args .v) (c .before .before .before .cell-of .ensures) (c .before .before .low .result) (room-yes (c .before .before .before .before .before .before .before .args .n) (c .before .before .before .before .before .before .before .args .live) (c .before .before .before .before .before .before .before .args .store .now) i o (c .before .before .before .before .before .before .before .args .own .now) (c .before .before .before .before .before .before .first-cell .ensures .0 (c .before .before .before .before .before .before .before .args .live) (le-refl _)) 0 (omega (arith, c .before .before .before .before .if1 .left))),
+          ∙ ap (lifted _ _) (c .before .upto .ensures .0 (ownOf (c .before .before .before .before .before .before .before .args .own .now) (c .before .before .before .before .before .before .before .args .live)) i o)
+          ∙ upto-done _ (c .before .before .before .before .before .before .before .args .at) _ _ _ (c .before .before .before .before .before .before .before .args .q) (c .before .before .before .before .before .before .before .args .v) (c .before .before .before .cell-of .ensures (c .before .before .before .before .before .before .before .args .n) (c .before .before .before .before .before .before .before .args .store .now) i o) (c .before .before .low .result) (room-yes (c .before .before .before .before .before .before .before .args .n) (c .before .before .before .before .before .before .before .args .live) (c .before .before .before .before .before .before .before .args .store .now) i o (c .before .before .before .before .before .before .before .args .own .now) (c .before .before .before .before .before .before .first-cell .ensures .0 (c .before .before .before .before .before .before .before .args .live) (le-refl _)) 0 (omega (arith, c .before .before .before .before .if1 .left))),
       λ o h. c .lift-test .ensures .1 (c .before .before .before .before .before .before .before .args .n) (c .before .before .before .before .before .before .before .args .store .now) o (c .before .before .before .before .before .before .before .args .own .now) (c .before .upto .ensures .1) h (c .before .before .before .before .before .before .before .pre .1),
     )
 
@@ -33,7 +36,7 @@ upto-spec =
     (λ c κs. search needs)
     (λ c κs. search needs)
     returns
-    (λ c κs. search needs)
+    cell-of-requires
     (λ c κs. search needs)
     (λ c. search needs)
     (λ c κs. search needs)

@@ -5,22 +5,13 @@ use lib.ListN.{length, replicate}
 use lib.IntN.{pos}
 use Rattle.machine.specs.Machine.{machine}
 use Rattle.machine.specs.Model.{Drove}
-use Rattle.machine.proofs.Limits.{first-lives, first-positions, room-length}
+use Rattle.machine.proofs.Limits.{first-lives, first-positions, first-found, room-length}
 use borrow.Author.Needs.{needs}
 use Rattle.machine.proofs.steps.used.Statement.{statement}
 use Rattle.machine.proofs.steps.used.Tie as tie
 
 drive-requires : tie.Need-drive-requires
-drive-requires c κs = (c .before .before .before .before .pre .0, c .before .before .before .before .pre .1, first-lives, first-positions)
-
-clear-requires : tie.Need-clear-requires
-clear-requires c κs = search needs
-
-same-length : tie.Need-same-length
-same-length c = search needs
-
-same-length-2 : tie.Need-same-length-2
-same-length-2 c = search needs
+drive-requires c κs = (c .before .before .before .before .pre .0, c .before .before .before .before .pre .1, first-lives, first-positions, first-found)
 
 returns : tie.Need-returns
 returns c = (
@@ -29,4 +20,11 @@ returns c = (
 )
 
 pub used-spec : {M : Type 1} → statement M
-used-spec = tie.close (tie.spec drive-requires clear-requires same-length same-length-2 returns)
+used-spec =
+    tie.close
+    (tie.spec
+    drive-requires
+    (λ c κs. search needs)
+    (λ c. search needs)
+    (λ c. search needs)
+    returns)

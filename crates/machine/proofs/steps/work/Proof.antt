@@ -11,46 +11,10 @@ use borrow.Author.Needs.{needs}
 use Rattle.machine.proofs.steps.work.Statement.{statement}
 use Rattle.machine.proofs.steps.work.Tie as tie
 
-number-requires : tie.Need-number-requires
-number-requires c κs = search needs
-
-new-cell-requires : tie.Need-new-cell-requires
-new-cell-requires c κs = search needs
-
-load-requires : tie.Need-load-requires
-load-requires c κs = search needs
-
-save-requires : tie.Need-save-requires
-save-requires c κs = search needs
-
-assign-requires : tie.Need-assign-requires
-assign-requires c κs = search needs
-
-new-cell-requires-2 : tie.Need-new-cell-requires-2
-new-cell-requires-2 c κs = search needs
-
-forget-requires : tie.Need-forget-requires
-forget-requires c κs = search needs
-
-receive-requires : tie.Need-receive-requires
-receive-requires c κs = search needs
-
-send-requires : tie.Need-send-requires
-send-requires c κs = search needs
-
-keep-requires : tie.Need-keep-requires
-keep-requires c κs = search needs
-
-bump-requires : tie.Need-bump-requires
-bump-requires c κs = search needs
-
 unary-requires : tie.Need-unary-requires
 unary-requires c κs =
     let r = c .before .before .match .rest in
     (c .before .before .before .pre .0, (next-up 21 _ (next-up 20 _ (next-up 19 _ (next-up 18 _ (next-up 17 _ (next-up 16 _ (next-up 15 _ (next-up 14 _ (next-up 13 _ (next-up 12 _ (c .before .before .before .pre .2) (r .0 .0 .0 .0 .0 .0 .0 .0 .0 .1)) (r .0 .0 .0 .0 .0 .0 .0 .0 .1)) (r .0 .0 .0 .0 .0 .0 .0 .1)) (r .0 .0 .0 .0 .0 .0 .1)) (r .0 .0 .0 .0 .0 .1)) (r .0 .0 .0 .0 .1)) (r .0 .0 .0 .1)) (r .0 .0 .1)) (r .0 .1)) (r .1)), c .before .if1 .taken)
-
-same-length : tie.Need-same-length
-same-length c = search needs
 
 returns : tie.Need-returns
 returns c =
@@ -59,20 +23,11 @@ returns c =
       did-quiet (c .before .before .before .before .before .args .n) (c .before .unary .result) (c .before .unary .last .1 .0) (c .before .before .before .before .before .args .output .now) (c .before .unary .ensures .1) (c .before .before .before .before .before .pre .1),
     )
 
-binary-requires : tie.Need-binary-requires
-binary-requires c κs = search needs
-
-same-length-2 : tie.Need-same-length-2
-same-length-2 c = search needs
-
 returns-2 : tie.Need-returns-2
 returns-2 c = (
   λ a. c .before .new-cell .ensures .0 a (c .before .before .before .before .before .args .input .now) (c .before .before .before .before .before .args .output .now) ∙ push-is _ _ (c .before .before .before .before .before .args .q) (ap (λ (z : ℤ). toZ w32 (ofZ w32 z)) (c .before .before .number .ensures) ∙ toZ-ofZ (sfits-toZ (c .before .before .before .before .before .fits .v))) ∙ same-work _ _ (act-12 (c .before .before .before .before .before .args .k) (c .before .before .before .before .before .args .q) (c .before .before .before .before .before .args .c) (c .before .before .before .before .before .args .v) (c .before .before .before .before .match .keys1)),
   did-quiet (c .before .before .before .before .before .args .n) (c .before .new-cell .result) (c .before .new-cell .last .1 .0) (c .before .before .before .before .before .args .output .now) (c .before .new-cell .ensures .1) (c .before .before .before .before .before .pre .1),
 )
-
-same-length-3 : tie.Need-same-length-3
-same-length-3 c = search needs
 
 returns-3 : tie.Need-returns-3
 returns-3 c = (
@@ -80,17 +35,11 @@ returns-3 c = (
   did-quiet (c .before .before .before .before .args .n) (c .before .load .result) (c .before .load .last .1 .0) (c .before .before .before .before .args .output .now) (c .before .load .ensures .1) (c .before .before .before .before .pre .1),
 )
 
-same-length-4 : tie.Need-same-length-4
-same-length-4 c = search needs
-
 returns-4 : tie.Need-returns-4
 returns-4 c = (
   λ a. c .before .save .ensures .0 a (c .before .before .before .before .args .input .now) (c .before .before .before .before .args .output .now) ∙ same-work _ _ (act-14 (c .before .before .before .before .args .k) (c .before .before .before .before .args .q) (c .before .before .before .before .args .c) (c .before .before .before .before .args .v) (c .before .before .before .match .keys3)),
   did-quiet (c .before .before .before .before .args .n) (c .before .save .result) (c .before .save .last .1 .0) (c .before .before .before .before .args .output .now) (c .before .save .ensures .1) (c .before .before .before .before .pre .1),
 )
-
-same-length-5 : tie.Need-same-length-5
-same-length-5 c = search needs
 
 returns-5 : tie.Need-returns-5
 returns-5 c = (
@@ -98,17 +47,11 @@ returns-5 c = (
   did-quiet (c .before .before .before .before .args .n) (c .before .assign .result) (c .before .assign .last .1 .0) (c .before .before .before .before .args .output .now) (c .before .assign .ensures .1) (c .before .before .before .before .pre .1),
 )
 
-same-length-6 : tie.Need-same-length-6
-same-length-6 c = search needs
-
 returns-6 : tie.Need-returns-6
 returns-6 c = (
   λ a. c .before .new-cell2 .ensures .0 a (c .before .before .before .before .args .input .now) (c .before .before .before .before .args .output .now) ∙ reserve-is _ _ (c .before .before .before .before .args .q) ∙ same-work _ _ (act-16 (c .before .before .before .before .args .k) (c .before .before .before .before .args .q) (c .before .before .before .before .args .c) (c .before .before .before .before .args .v) (c .before .before .before .match .keys5)),
   did-quiet (c .before .before .before .before .args .n) (c .before .new-cell2 .result) (c .before .new-cell2 .last .1 .0) (c .before .before .before .before .args .output .now) (c .before .new-cell2 .ensures .1) (c .before .before .before .before .pre .1),
 )
-
-same-length-7 : tie.Need-same-length-7
-same-length-7 c = search needs
 
 returns-7 : tie.Need-returns-7
 returns-7 c = (
@@ -116,26 +59,14 @@ returns-7 c = (
   did-quiet (c .before .before .before .args .n) (c .forget .result) (c .before .before .before .args .store .now) (c .before .before .before .args .output .now) (c .forget .ensures .1) (c .before .before .before .pre .1),
 )
 
-same-length-8 : tie.Need-same-length-8
-same-length-8 c = search needs
-
 returns-8 : tie.Need-returns-8
 returns-8 c = (
   λ a. c .before .receive .ensures .0 a (c .before .before .before .before .args .output .now) ∙ same-work _ _ (act-18 (c .before .before .before .before .args .k) (c .before .before .before .before .args .q) (c .before .before .before .before .args .c) (c .before .before .before .before .args .v) (c .before .before .before .match .keys7)),
   did-quiet (c .before .before .before .before .args .n) (c .before .receive .result) (c .before .receive .last .1 .1 .0) (c .before .before .before .before .args .output .now) (c .before .receive .ensures .1) (c .before .before .before .before .pre .1),
 )
 
-same-length-9 : tie.Need-same-length-9
-same-length-9 c = search needs
-
-same-length-10 : tie.Need-same-length-10
-same-length-10 c = search needs
-
 returns-9 : tie.Need-returns-9
 returns-9 c = (λ a. c .before .send .ensures .0 a (c .before .before .before .before .before .args .input .now) ∙ same-work _ _ (act-19 (c .before .before .before .before .before .args .k) (c .before .before .before .before .before .args .q) (c .before .before .before .before .before .args .c) (c .before .before .before .before .before .args .v) (c .before .before .before .before .match .keys8)), c .before .send .ensures .1)
-
-same-length-11 : tie.Need-same-length-11
-same-length-11 c = search needs
 
 returns-10 : tie.Need-returns-10
 returns-10 c = (
@@ -143,17 +74,11 @@ returns-10 c = (
   did-quiet (c .before .before .before .before .args .n) (c .before .keep .result) (c .before .keep .last .1 .0) (c .before .before .before .before .args .output .now) (c .before .keep .ensures .1) (c .before .before .before .before .pre .1),
 )
 
-same-length-12 : tie.Need-same-length-12
-same-length-12 c = search needs
-
 returns-11 : tie.Need-returns-11
 returns-11 c = (
   λ a. c .before .bump .ensures .0 a (c .before .before .before .before .args .input .now) (c .before .before .before .before .args .output .now) ∙ same-work _ _ (act-21 (c .before .before .before .before .args .k) (c .before .before .before .before .args .q) (c .before .before .before .before .args .c) (c .before .before .before .before .args .v) (c .before .before .before .match .keys10)),
   did-quiet (c .before .before .before .before .args .n) (c .before .bump .result) (c .before .bump .last .1 .0) (c .before .before .before .before .args .output .now) (c .before .bump .ensures .1) (c .before .before .before .before .pre .1),
 )
-
-same-length-13 : tie.Need-same-length-13
-same-length-13 c = search needs
 
 returns-12 : tie.Need-returns-12
 returns-12 c = (
@@ -165,41 +90,41 @@ pub work-spec : {M : Type 1} → statement M
 work-spec =
     tie.close
     (tie.spec
-    number-requires
-    new-cell-requires
-    load-requires
-    save-requires
-    assign-requires
-    new-cell-requires-2
-    forget-requires
-    receive-requires
-    send-requires
-    keep-requires
-    bump-requires
+    (λ c κs. search needs)
+    (λ c κs. search needs)
+    (λ c κs. search needs)
+    (λ c κs. search needs)
+    (λ c κs. search needs)
+    (λ c κs. search needs)
+    (λ c κs. search needs)
+    (λ c κs. search needs)
+    (λ c κs. search needs)
+    (λ c κs. search needs)
+    (λ c κs. search needs)
     unary-requires
-    same-length
+    (λ c. search needs)
     returns
-    binary-requires
-    same-length-2
+    (λ c κs. search needs)
+    (λ c. search needs)
     returns-2
-    same-length-3
+    (λ c. search needs)
     returns-3
-    same-length-4
+    (λ c. search needs)
     returns-4
-    same-length-5
+    (λ c. search needs)
     returns-5
-    same-length-6
+    (λ c. search needs)
     returns-6
-    same-length-7
+    (λ c. search needs)
     returns-7
-    same-length-8
+    (λ c. search needs)
     returns-8
-    same-length-9
-    same-length-10
+    (λ c. search needs)
+    (λ c. search needs)
     returns-9
-    same-length-11
+    (λ c. search needs)
     returns-10
-    same-length-12
+    (λ c. search needs)
     returns-11
-    same-length-13
+    (λ c. search needs)
     returns-12)

@@ -1,0 +1,43 @@
+-- No value is used.
+use mathlib.Core.Path.{refl, ap, _∙_}
+use native.Mathlib.Omega.{arith}
+use native.Mathlib.Nat.{le-refl}
+use Rattle.machine.specs.Data.{sum}
+use Rattle.machine.specs.Instructions.{variable}
+use Rattle.machine.specs.Model.{lifted, ownOf}
+use Rattle.machine.proofs.Execs.{strayed, strayed-sound, did-quiet, do-stray, room-no, room-yes, sum-done}
+use borrow.Author.Needs.{needs}
+use Rattle.machine.proofs.steps.sum.Statement.{statement}
+use Rattle.machine.proofs.steps.sum.Tie as tie
+
+returns : tie.Need-returns
+returns c = (
+  λ i o. strayed (c .stray .ensures) _ _ i o ∙ do-stray _ (c .before .before .before .before .args .at) _ _ _ (sum (c .before .before .before .before .args .q) (variable (c .before .before .before .before .args .v))) (room-no (c .before .before .before .before .args .n) (c .before .before .before .before .args .live) (c .before .before .before .before .args .store .now) i o (c .before .before .before .before .args .own .now) (c .before .before .before .first-cell .ensures .0 (c .before .before .before .before .args .live) (le-refl _)) 0 (omega (arith, c .before .if1 .taken))),
+  λ o h. strayed-sound (c .stray .ensures) _ _ o o refl,
+)
+
+cell-of-requires : tie.Need-cell-of-requires
+cell-of-requires c κs = (c .before .before .before .pre .1, c .before .before .first-cell .ensures .0 (c .before .before .before .args .live) (le-refl _), c .before .before .first-cell .ensures .1)
+
+returns-2 : tie.Need-returns-2
+returns-2 c = (
+  λ i o.
+      c .lift .ensures .0 (c .before .before .sum .last .1 .0) i o (c .before .before .before .before .before .before .before .before .args .own .now)
+      ∙ ap (lifted _ _) (c .before .before .sum .ensures .0 (ownOf (c .before .before .before .before .before .before .before .before .args .own .now) (c .before .before .before .before .before .before .before .before .args .live)) i o)
+      ∙ sum-done _ (c .before .before .before .before .before .before .before .before .args .at) _ _ _ (c .before .before .before .before .before .before .before .before .args .q) (c .before .before .before .before .before .before .before .before .args .v) (c .before .before .before .before .cell-of .ensures (c .before .before .before .before .before .before .before .before .args .n) (c .before .before .before .before .before .before .before .before .args .store .now) i o) (room-yes (c .before .before .before .before .before .before .before .before .args .n) (c .before .before .before .before .before .before .before .before .args .live) (c .before .before .before .before .before .before .before .before .args .store .now) i o (c .before .before .before .before .before .before .before .before .args .own .now) (c .before .before .before .before .before .before .before .first-cell .ensures .0 (c .before .before .before .before .before .before .before .before .args .live) (le-refl _)) 0 (omega (arith, c .before .before .before .before .before .if1 .left))),
+  λ o h. c .lift .ensures .1 (c .before .before .sum .last .1 .0) o o (c .before .before .before .before .before .before .before .before .args .own .now) (did-quiet (c .before .before .before .before .before .before .before .before .args .n) (c .before .before .sum .result) (c .before .before .sum .last .1 .0) o (c .before .before .sum .ensures .1) h) (c .before .before .before .before .before .before .before .before .pre .1),
+)
+
+pub sum-spec : {M : Type 1} → statement M
+sum-spec =
+    tie.close
+    (tie.spec
+    (λ c κs. search needs)
+    (λ c κs. search needs)
+    returns
+    cell-of-requires
+    (λ c. search needs)
+    (λ c κs. search needs)
+    (λ c κs. search needs)
+    (λ c. search needs)
+    returns-2)
