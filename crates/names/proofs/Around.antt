@@ -13,17 +13,16 @@ use lib.Seq.{getD-append-add}
 use borrow.Author.Tests.{eqb-true, eqb-false, eq-eqb, ne-eqb, lt-ltb}
 use Rattle.grammar.specs.NodeKinds.{n-variable, n-procedure, n-formal}
 use Rattle.names.specs.Program.{Name, Sort, integer, Expression, Specification, Statement, dummy, assignment, procedure, when, either, repeat, compound, block, Statements, last, first, Declarations, none as no-more, variables, declare, Procedure, heading}
-use Rattle.names.specs.Scopes.{same, has, Thing, variable, routine, formal, Declared, sortOf, formalsOf, valuesOf, specificationsOf, specified, variablesIn, Scope, ofBlock, ofBody, inBlock, inBody, declares, an, variable-of, Given, environment, Meaning, declared, given, nothing, findIn, findGiven, innermost, meaning}
+use Rattle.names.specs.Scopes.{same, has, Thing, variable, routine, formal, by-name, formalAs, Declared, sortOf, formalsOf, valuesOf, specificationsOf, specified, variablesIn, Scope, ofBlock, ofBody, inBlock, inBody, declares, an, variable-of, Given, environment, Meaning, declared, given, nothing, findIn, findGiven, innermost, meaning}
 use Rattle.names.specs.Uses.{thingKind}
 use Rattle.names.specs.Nodes.{node, sortNumber}
-use Rattle.names.specs.Modes.{typeIn}
+use Rattle.names.specs.Modes.{formalNumber}
 use Rattle.names.specs.Rows.{identityIn, sought, findRow, hasRow, declaredIn, outside, outsideOf, meantIn}
 use Rattle.names.specs.Identity.{GivenAs}
 use Rattle.names.specs.declared.Sought.{Sought}
 use Rattle.names.specs.declared.Meant.{Meant}
 use Rattle.names.specs.declared.Meant.the-variants.{Declared as at-row, Given as at-given, Nothing as nowhere}
 use Rattle.names.proofs.AllNames.{AllN, AllD, AllP}
-use Rattle.names.proofs.ModeLaws.{formal-type}
 use Rattle.names.specs.Outline.{sizeS, sizeSs, sizeD, sizeP, formalIn, rowsN, rowsS, rowsSs, rowsD, rowsP}
 
 -- ---- the words of row j
@@ -55,7 +54,8 @@ Formals R j (x ∷ xs) vs ss = RowIs R j n-formal (x .symbol) × (sortAt R j ≡
 abbrev pub ToldThing : List ℕ → ℕ → Thing → Type 0
 ToldThing R j (variable t) = sortAt R j ≡ sortNumber (some t)
 ToldThing R j (routine p) = (sortAt R j ≡ sortNumber (sortOf p)) × Formals R (j + 1) (formalsOf p) (valuesOf p) (specificationsOf p)
-ToldThing R j (formal t) = typeIn (sortAt R j) ≡ sortNumber t
+ToldThing R j (formal t) = sortAt R j ≡ formalNumber true t
+ToldThing R j (by-name t) = sortAt R j ≡ formalNumber false t
 
 -- row j tells of d
 pub record Told (R : List ℕ) (j : ℕ) (d : Declared) : Type 0 where
@@ -562,10 +562,12 @@ module _ (Q : Name → Type 0) (ids R : List ℕ) (agree : Agree Q ids) where
       record { row = row-is w; thing = w .sort }
 
   formal-told : (q : ℕ) (vs : List Name) (ss : List Specification) (y : Name) (a rest : List ℕ) (j : ℕ) → Q y → R ≡ a ++ (n-formal ∷ y .symbol ∷ q ∷ formalIn vs ss y ∷ rest) → 4 * j ≡ length a
-      → Told R j (record { name = y; thing = formal (specified ss y) })
-  formal-told q vs ss y a rest j h e l =
-      let w = words-at R a rest j n-formal (y .symbol) q (formalIn vs ss y) e l in
-      record { row = row-is w; thing = ap typeIn (w .sort) ∙ formal-type (has vs y) (specified ss y) }
+      → Told R j (record { name = y; thing = formalAs (has vs y) (specified ss y) })
+  formal-told q vs ss y a rest j h e l = let w = words-at R a rest j n-formal (y .symbol) q (formalIn vs ss y) e l in told (has vs y) (row-is w) (w .sort)
+    where
+      told : (v : Bool) → RowIs R j n-formal (y .symbol) → sortAt R j ≡ formalNumber v (specified ss y) → Told R j (record { name = y; thing = formalAs v (specified ss y) })
+      told true r s = record { row = r; thing = s }
+      told false r s = record { row = r; thing = s }
 
   -- the declarations of a block, behind rows that do not have the name
   found-in : (q : ℕ) (x : Name) → Q x → (ds : Declarations) (c : ℕ) (a b : List ℕ) → q ≤ c → AllD Q ds → Rows Any a → R ≡ a ++ (rowsD c q ds ++ b) → NoFormal b
@@ -618,9 +620,9 @@ module _ (Q : Name → Type 0) (ids R : List ℕ) (agree : Agree Q ids) where
       let n₂ : hasRow ids w r ≡ false = has-none ids w (row (λ u. omega arith) no-row) in
       let n₃ : hasRow ids w z ≡ false = clear-in ids w (omega arith) (rows-inS (c + 1) (c + 1) s) in
       let n₄ : hasRow ids w b ≡ false = clear ids w (omega arith) (omega arith) (o .rows .behind) in
-      let d : List Declared = map (λ y. record { name = y; thing = formal (specified ss y) }) xs in
+      let d : List Declared = map (λ y. record { name = y; thing = formalAs (has vs y) (specified ss y) }) xs in
       rw (← (append-nil d))
-      (found-names Q ids R agree (c + 1) x k (λ y. formal (specified ss y)) n-formal (formalIn vs ss) refl refl (formal-told (c + 1) vs ss) xs []
+      (found-names Q ids R agree (c + 1) x k (λ y. formalAs (has vs y) (specified ss y)) n-formal (formalIn vs ss) refl refl (formal-told (c + 1) vs ss) xs []
       (a ++ r) (z ++ b) (all .1) (rows-append (whole-rows (o .rows .before)) (one-row n-procedure (f .symbol) q (sortNumber t)))
       (o .rows .whole ∙ e) (has-append ids w r (o .rows .before) ∙ rw (n₁, n₂))
       (λ a'' rows' e' n'. ap (hasRow ids w) e' ∙ has-append ids w (z ++ b) rows' ∙ rw n' (has-append ids w b (rows-inS (c + 1) (c + 1) s) ∙ rw (n₃, n₄))))

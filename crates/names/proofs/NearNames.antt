@@ -2,7 +2,7 @@
 -- faults stand at names of its block or procedure, whatever is around it; so do the uses.
 use Prim.Native.Nat.{ℕ, _≤_, _<_}
 use native.Mathlib.Omega.{arith}
-use mathlib.Core.Bool.{Bool, true, false, cond, _||_}
+use mathlib.Core.Bool.{Bool, true, false, cond}
 use mathlib.Core.List.{List, [], _∷_, _++_, map}
 use Rattle.answers.specs.Numbers.{twice, heading as badHeading}
 use Rattle.names.specs.Program.{Name, Sort, Expression, number, logical, name, call, signed, operated, chosen, nested, Expressions, done, then, Element, value, while, step, Specification, Statement, dummy, assignment, procedure, when, either, repeat, compound, block, Statements, last, first, Declarations, none as no-more, variables, declare, Procedure, heading}
@@ -52,7 +52,7 @@ unfolding headingIn
 own-heading (ofBlock d) = tt
 own-heading (ofBody p) =
     let l = allNames (specificationsOf p) in
-    let lacks = missing (formalsOf p) (valuesOf p) || missing (formalsOf p) l in
+    let lacks = missing (formalsOf p) l in
     let a = each badHeading (stray (formalsOf p)) [] (valuesOf p) in
     let b = each badHeading (stray (formalsOf p)) [] l in
     let c : List Fault = cond lacks (at (nameOf p) badHeading ∷ []) [] in
@@ -231,7 +231,7 @@ module _ (n : ℕ) where
   below-scope (ofBlock d) h = below-append n (each twice has [] (namesIn (ofBlock d))) [] (below-each twice has [] (namesIn (ofBlock d)) (names-block Close d h)) tt
   below-scope (ofBody (heading t f xs vs ss b)) h =
       let l = allNames ss in
-      let lacks = missing xs vs || missing xs l in
+      let lacks = missing xs l in
       let a = each badHeading (stray xs) [] vs in
       let b = each badHeading (stray xs) [] l in
       let c : List Fault = cond lacks (at f badHeading ∷ []) [] in

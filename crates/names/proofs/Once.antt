@@ -8,7 +8,7 @@ use mathlib.Core.List.{List, [], _∷_, _++_, map, List·Memᴰ, List·Memᴰ·h
 use native.Mathlib.Omega.{arith}
 use Rattle.answers.specs.Numbers.{twice}
 use Rattle.names.specs.Program.{Name, Expression, number, logical, name, call, signed, operated, chosen, nested, Expressions, done, then, Element, value, while, step, Statement, dummy, assignment, procedure, when, either, repeat, compound, block, Statements, last, first, Declarations, none as no-more, variables, declare, Procedure, heading}
-use Rattle.names.specs.Scopes.{same, has, nameOf, formalsOf, specificationsOf, specified, formal, Declared, Scope, ofBlock, ofBody, inBody, declares}
+use Rattle.names.specs.Scopes.{same, has, nameOf, formalsOf, valuesOf, specificationsOf, specified, formalAs, Declared, Scope, ofBlock, ofBody, inBody, declares}
 use Rattle.names.specs.Uses.{Use, used, usesE, usesEs, usesL, usesS, usesSs, usesD, usesP, scopesS, scopesSs, scopesD, scopesP, at, each, twiceIn, headingIn, innermost, unmeant, joined, nameFaults}
 use Rattle.names.proofs.Identities.{same-letters, other-letters}
 use Rattle.names.proofs.Innermost.{FirstIn, Innermost}
@@ -55,7 +55,7 @@ later-not seen (y ∷ earlier) d later e = later-not (y .name ∷ seen) earlier 
 
 -- ---- one scope
 
-formals-names : (p : Procedure) (xs : List Name) → names (map (λ x. record { name = x; thing = formal (specified (specificationsOf p) x) }) xs) ≡ xs
+formals-names : (p : Procedure) (xs : List Name) → names (map (λ x. record { name = x; thing = formalAs (has (valuesOf p) x) (specified (specificationsOf p) x) }) xs) ≡ xs
 formals-names p [] = refl
 formals-names p (x ∷ xs) = ap (λ l. x ∷ l) (formals-names p xs)
 

@@ -426,11 +426,7 @@ module _ (ids : List ℕ) (Q : Name → Type 0) (agree : (x y : Name) → Q x �
       go true = refl
       go false = refl
 
-  -- a formal stands in no value part, or in no specification
-  abbrev lacks : List Name → List Name → List Specification → Bool
-  lacks xs vs ss = missing xs vs || missing xs (allNames ss)
-
-  lacking-is : (xs vs : List Name) (ss : List Specification) (q : ℕ) (rows : List ℕ) → Rows (λ r. r ≡ q → ⊥) rows → missingIn q (rows ++ rowsN n-formal q (formalIn vs ss) xs) ≡ lacks xs vs ss
+  lacking-is : (xs vs : List Name) (ss : List Specification) (q : ℕ) (rows : List ℕ) → Rows (λ r. r ≡ q → ⊥) rows → missingIn q (rows ++ rowsN n-formal q (formalIn vs ss) xs) ≡ missing xs (allNames ss)
   lacking-is xs vs ss q rows i = missing-behind q (rowsN n-formal q (formalIn vs ss) xs) i ∙ missing-names q (specified ss) xs vs (allNames ss) (some-specified ss)
 
   bodied-once : (f : Name) (b : Bool) (st : Known) → Fresh st → missingIn (hereIn (st .around)) (st .rows) ≡ b
@@ -474,19 +470,19 @@ module _ (ids : List ℕ) (Q : Name → Type 0) (agree : (x y : Name) → Q x �
   -- ---- procedures
 
   heading-key : (t : Option Sort) (f : Name) (xs vs : List Name) (ss : List Specification) (s : Statement)
-      → leastKey (twiceIn (ofBody (heading t f xs vs ss s)) ++ headingIn (ofBody (heading t f xs vs ss s))) ≡ min (headKey f xs vs ss) (leastKey (only (lacks xs vs ss) f badHeading))
+      → leastKey (twiceIn (ofBody (heading t f xs vs ss s)) ++ headingIn (ofBody (heading t f xs vs ss s))) ≡ min (headKey f xs vs ss) (leastKey (only (missing xs (allNames ss)) f badHeading))
   unfolding twiceIn headingIn
   heading-key t f xs vs ss s =
       let a = each twice has (f ∷ []) xs in
       let v = each badHeading (stray xs) [] vs in
       let l = each badHeading (stray xs) [] (allNames ss) in
-      let o = only (lacks xs vs ss) f badHeading in
+      let o = only (missing xs (allNames ss)) f badHeading in
       least-append a (v ++ (l ++ o))
       ∙ ap (min (leastKey a)) (least-append v (l ++ o) ∙ ap (min (leastKey v)) (least-append l o) ∙ sym (min-assoc (leastKey v) (leastKey l) (leastKey o)))
       ∙ sym (min-assoc (leastKey a) (min (leastKey v) (leastKey l)) (leastKey o))
 
   procedure-key : (g : List Scope) (t : Option Sort) (f : Name) (xs vs : List Name) (ss : List Specification) (s : Statement) (i : ℕ)
-      → min i (min (headKey f xs vs ss) (min (leastKey (only (lacks xs vs ss) f badHeading)) (leastKey (joined innermost (scopesS (ofBody (heading t f xs vs ss s) ∷ g) s)))))
+      → min i (min (headKey f xs vs ss) (min (leastKey (only (missing xs (allNames ss)) f badHeading)) (leastKey (joined innermost (scopesS (ofBody (heading t f xs vs ss s) ∷ g) s)))))
       ≡ min i (leastKey (joined innermost (scopesP g (heading t f xs vs ss s))))
   unfolding scopesP joined
   procedure-key g t f xs vs ss s i =
@@ -494,7 +490,7 @@ module _ (ids : List ℕ) (Q : Name → Type 0) (agree : (x y : Name) → Q x �
       let b = joined innermost (scopesS (ofBody p ∷ g) s) in
       ap (min i) (sym (least-append (twiceIn (ofBody p) ++ headingIn (ofBody p)) b
       ∙ ap (λ (n : ℕ). min n (leastKey b)) (heading-key t f xs vs ss s)
-      ∙ min-assoc (headKey f xs vs ss) (leastKey (only (lacks xs vs ss) f badHeading)) (leastKey b)))
+      ∙ min-assoc (headKey f xs vs ss) (leastKey (only (missing xs (allNames ss)) f badHeading)) (leastKey b)))
 
   procedure-words : (a b c e f g : List ℕ) → ((a ++ (b ++ c)) ++ (e ++ f)) ++ g ≡ a ++ (b ++ (c ++ (e ++ (f ++ g))))
   procedure-words a b c e f g = simp append-assoc
@@ -508,7 +504,7 @@ module _ (ids : List ℕ) (Q : Name → Type 0) (agree : (x y : Name) → Q x �
       let n = sortNumber t in
       let i = leastKey (only (has seen f) f twice) in
       let k = headKey f xs vs ss in
-      let o = leastKey (only (lacks xs vs ss) f badHeading) in
+      let o = leastKey (only (missing xs (allNames ss)) f badHeading) in
       let r = rowsN n-formal c (formalIn vs ss) xs in
       let inner = within (f .symbol) q n i st in
       let fresh' = fresh-within (f .symbol) n i st fresh in
@@ -520,7 +516,7 @@ module _ (ids : List ℕ) (Q : Name → Type 0) (agree : (x y : Name) → Q x �
       (steps-body f n i st (body-opened f n seen st qf fresh seeing)
       (steps-append {r' = rowsS c c s} (steps-head f xs vs ss inner qf ax av sp fresh' clear' refl)
       (λ t' h. let fresh'' = fresh-plus t' h k inner fresh' fresh-r (le-refl c) in
-      steps-then (goes-body f (lacks xs vs ss) (plus r c t' h k inner) fresh'' (lacking-is xs vs ss c (inner .rows) (clear' .rows)))
+      steps-then (goes-body f (missing xs (allNames ss)) (plus r c t' h k inner) fresh'' (lacking-is xs vs ss c (inner .rows) (clear' .rows)))
       (body (d + 1) (plus [] c t' h o (plus r c t' h k inner)) (fresh-plus t' h o (plus r c t' h k inner) fresh'' empty (le-refl c)))))))
 
   -- what a procedure writes in a block's scope is its own row

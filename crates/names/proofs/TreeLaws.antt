@@ -13,6 +13,7 @@ use Rattle.names.specs.Program.{Name, Sort, integer, boolean}
 use Rattle.names.specs.Scopes.{same, has}
 use Rattle.names.specs.Uses.{Fault, at, each, missing, joined}
 use Rattle.names.specs.Modes.{formalNumber}
+use Rattle.names.proofs.ModeLaws.{formal-type}
 use Rattle.names.specs.Rows.{faultKey, noFault, leastKey, notedIf, identityIn, sought, hasRow, saidIn, saying, lacking, missingIn}
 use Rattle.names.specs.declared.Sought.{Sought}
 use Rattle.grammar.specs.NodeKinds.{n-formal}
@@ -177,27 +178,17 @@ abbrev pub isSome : Option Sort → Bool
 isSome none = false
 isSome (some t) = true
 
-lacks-formal : (v : Bool) (t : Option Sort) → lacking (formalNumber v t) ≡ not v || not (isSome t)
-unfolding lacking
-lacks-formal true none = refl
-lacks-formal true (some integer) = refl
-lacks-formal true (some boolean) = refl
-lacks-formal false none = refl
-lacks-formal false (some integer) = refl
-lacks-formal false (some boolean) = refl
-
-apart : (a b c d : Bool) → (a || b) || (c || d) ≡ (a || c) || (b || d)
-apart true b c d = refl
-apart false true true d = refl
-apart false true false d = refl
-apart false false c d = refl
+lacks-formal : (v : Bool) (t : Option Sort) → lacking (formalNumber v t) ≡ not (isSome t)
+lacks-formal v none = rw (formal-type v none)
+lacks-formal v (some integer) = rw (formal-type v (some integer))
+lacks-formal v (some boolean) = rw (formal-type v (some boolean))
 
 pub missing-names : (q : ℕ) (t : Name → Option Sort) (xs vs l : List Name) → ((x : Name) → isSome (t x) ≡ has l x)
-    → missingIn q (rowsN n-formal q (λ x. formalNumber (has vs x) (t x)) xs) ≡ missing xs vs || missing xs l
+    → missingIn q (rowsN n-formal q (λ x. formalNumber (has vs x) (t x)) xs) ≡ missing xs l
 unfolding missingIn rowsN missing
 missing-names q t [] vs l h = refl
 missing-names q t (x ∷ xs) vs l h =
-    rw (eq-eqb q q refl, lacks-formal (has vs x) (t x), h x, missing-names q t xs vs l h) (apart (not (has vs x)) (not (has l x)) (missing xs vs) (missing xs l))
+    rw (eq-eqb q q refl, lacks-formal (has vs x) (t x), h x, missing-names q t xs vs l h)
 
 -- ---- the least fault
 

@@ -15,7 +15,7 @@ typeIn w = w % 4
 abbrev pub modeIn : ℕ → ℕ
 modeIn w = w / 4
 
--- "Each formal stands once in the value part": 0 where it does, and 1 where it does not, which is a call by name
+-- "A formal not in the value part is called by name": 0 by value, and 1 by name
 abbrev pub modeNumber : Bool → ℕ
 modeNumber true = 0
 modeNumber false = 1

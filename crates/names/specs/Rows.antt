@@ -191,9 +191,9 @@ specifiedAs ids s st =
     let t = saidIn ids w (st .rows) in
     marked ids w (not (eqb (typeIn t) 0)) (packed (typeIn (st .sort)) (modeIn t)) s st
 
--- a row that has no type, or is called by name; and whether the scope q has one
-unfoldable pub lacking : ℕ → Bool
-lacking t = not (eqb (modeIn t) 0) || eqb (typeIn t) 0
+-- a row that has no type; and whether the scope q has one
+abbrev pub lacking : ℕ → Bool
+lacking t = eqb (typeIn t) 0
 
 unfoldable pub missingIn : ℕ → List ℕ → Bool
 missingIn q [] = false

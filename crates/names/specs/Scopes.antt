@@ -1,7 +1,7 @@
 -- Paper 01, "Names and types": scopes, what they declare, and what a name means.
 use Prim.Native.Nat.{ℕ, _+_}
 use Prim.Native.String.{String}
-use mathlib.Core.Bool.{Bool, false, cond, _||_}
+use mathlib.Core.Bool.{Bool, true, false, cond, _||_}
 use mathlib.Core.List.{List, [], _∷_, _++_, map}
 use mathlib.Core.Option.{Option, none, some}
 use Rattle.symbols.specs.Text.{bytes}
@@ -19,11 +19,12 @@ has (y ∷ l) x = same y x || has l x
 
 -- ---- what is declared
 
--- a variable of a type; a procedure; a formal, with the type that its specification gives it
+-- a variable of a type; a procedure; a formal called by value and one called by name, with the type that its specification gives it
 pub data Thing : Type 0 where
   variable : Sort → Thing
   routine : Procedure → Thing
   formal : Option Sort → Thing
+  by-name : Option Sort → Thing
 
 pub record Declared : Type 0 where
   pub name : Name
@@ -52,6 +53,19 @@ unfoldable pub specified : List Specification → Name → Option Sort
 specified [] x = none
 specified (s ∷ l) x = cond (has (s .names) x) (some (s .sort)) (specified l x)
 
+-- "A formal not in the value part is called by name"
+abbrev pub formalAs : Bool → Option Sort → Thing
+formalAs true t = formal t
+formalAs false t = by-name t
+
+-- which of the formals are called by value
+unfoldable pub modes : List Name → List Name → List Bool
+modes vs [] = []
+modes vs (x ∷ xs) = has vs x ∷ modes vs xs
+
+abbrev pub modesOf : Procedure → List Bool
+modesOf p = modes (valuesOf p) (formalsOf p)
+
 unfoldable pub variablesIn : Sort → List Name → List Declared
 variablesIn t xs = map (λ x. record { name = x; thing = variable t }) xs
 
@@ -69,7 +83,7 @@ inBlock (variables t xs d) = variablesIn t xs ++ inBlock d
 inBlock (declare p d) = record { name = nameOf p; thing = routine p } ∷ inBlock d
 
 unfoldable pub inBody : Procedure → List Declared
-inBody p = map (λ x. record { name = x; thing = formal (specified (specificationsOf p) x) }) (formalsOf p)
+inBody p = map (λ x. record { name = x; thing = formalAs (has (valuesOf p) x) (specified (specificationsOf p) x) }) (formalsOf p)
 
 abbrev pub declares : Scope → List Declared
 declares (ofBlock d) = inBlock d

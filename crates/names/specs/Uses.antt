@@ -7,7 +7,7 @@ use mathlib.Core.Option.{Option, none, some}
 use lib.Dec.{eqb, ltb}
 use Rattle.answers.specs.Numbers.{twice, undeclared, heading as badHeading}
 use Rattle.names.specs.Program.{Name, Expression, number, logical, name, call, signed, operated, chosen, nested, Expressions, done, then, Element, value, while, step, Specification, Statement, dummy, assignment, procedure, when, either, repeat, compound, block, Statements, last, first, Declarations, none as no-more, variables, declare, Procedure, heading}
-use Rattle.names.specs.Scopes.{Thing, variable, routine, formal, Scope, ofBlock, ofBody, has, nameOf, formalsOf, valuesOf, specificationsOf, declares, Meaning, declared, given, nothing, meaning}
+use Rattle.names.specs.Scopes.{Thing, variable, routine, formal, by-name, Scope, ofBlock, ofBody, has, nameOf, formalsOf, valuesOf, specificationsOf, declares, Meaning, declared, given, nothing, meaning}
 
 -- ---- uses: "Names in declarations, formal, value and specification lists are no uses."
 
@@ -111,7 +111,7 @@ twiceIn (ofBlock d) = each twice has [] (namesIn (ofBlock d))
 twiceIn (ofBody p) = each twice has (nameOf p ∷ []) (formalsOf p)
 
 -- 9: "value or specification name no formal or repeated; formal missing": "that name; procedure's name if missing"
--- "Each formal stands once in the value part and once in an integer or Boolean specification."
+-- "Each formal stands .. once in an integer or Boolean specification." "Refusal 9 no longer asks for every formal in the value part."
 unfoldable pub allNames : List Specification → List Name
 allNames [] = []
 allNames (s ∷ l) = s .names ++ allNames l
@@ -129,7 +129,7 @@ headingIn (ofBody p) =
     let l = allNames (specificationsOf p) in
     each badHeading (stray (formalsOf p)) [] (valuesOf p)
     ++ (each badHeading (stray (formalsOf p)) [] l
-    ++ cond (missing (formalsOf p) (valuesOf p) || missing (formalsOf p) l) (at (nameOf p) badHeading ∷ []) [])
+    ++ cond (missing (formalsOf p) l) (at (nameOf p) badHeading ∷ []) [])
 
 abbrev pub innermost : List Scope → List Fault
 innermost [] = []
@@ -176,6 +176,7 @@ abbrev pub thingKind : Thing → ℕ
 thingKind (variable t) = 1
 thingKind (routine p) = 2
 thingKind (formal t) = 3
+thingKind (by-name t) = 3
 
 abbrev pub rowIn : Meaning → Name → List Row
 rowIn (declared d g) x = record { symbol = x .symbol; kind = thingKind (d .thing); means = d .name .symbol } ∷ []

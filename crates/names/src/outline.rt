@@ -170,17 +170,7 @@ fn specify(
     mark(o, again, word, symbol, want, ids, rows)
 }
 
-// Whether a row says no type, or that it is called by name.
-fn lacks(word: u16) -> bool
-    ensures { λ r. ⌜ r ≡ lacking word ⌝ }
-{
-    if modes::mode(word) != modes::VALUE {
-        return true;
-    }
-    modes::sort(word) == 0
-}
-
-// Whether row d is one of a scope, and does.
+// Whether row d is one of a scope, and says no type.
 fn is_missing(rows: &[u16], scope: u16, d: Declaration) -> bool
     ensures { λ r. ⌜ r ≡ eqb (rowIn (now (rows .entry)) (d .number) .scope) scope && lacking (rowIn (now (rows .entry)) (d .number) .sort) ⌝ }
 {
@@ -188,10 +178,10 @@ fn is_missing(rows: &[u16], scope: u16, d: Declaration) -> bool
     if r.scope != scope {
         return false;
     }
-    lacks(r.sort)
+    modes::sort(r.sort) == 0
 }
 
-// Whether a formal of a scope is missing in the value part or in the specifications.
+// Whether a formal of a scope is missing in the specifications.
 fn missing(rows: &[u16], scope: u16) -> bool
     ensures { λ r. ⌜ r ≡ missingIn scope (now (rows .entry)) ⌝ }
 {

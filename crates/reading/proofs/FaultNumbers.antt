@@ -3,7 +3,7 @@
 use Prim.Native.Nat.{ℕ, _≤_}
 use mathlib.Core.Path.{_≡_, refl, sym, ap, subst, _∙_}
 use mathlib.Core.Logic.{_⊎_, inl, inr}
-use mathlib.Core.Bool.{Bool, true, false, cond, _||_}
+use mathlib.Core.Bool.{Bool, true, false, cond}
 use mathlib.Core.List.{List, [], _∷_, _++_, map, List·Memᴰ, List·Memᴰ·head, List·Memᴰ·tail, Memᴰ·cast, Memᴰ·append-left, Memᴰ·append-right, List·Memᴰ·append-cases, List·Memᴰ·not-nil, List·Memᴰ·eq-of-singleton}
 use mathlib.Core.Option.{Option, none, some}
 use native.Mathlib.Omega.{arith}
@@ -94,7 +94,7 @@ module _ (P : ℕ → Type 0) (seven : P twice) (nine : P badHeading) where
   each-heading (ofBlock d) = tt
   each-heading (ofBody p) =
       let l = allNames (specificationsOf p) in
-      let lacks = missing (formalsOf p) (valuesOf p) || missing (formalsOf p) l in
+      let lacks = missing (formalsOf p) l in
       let a = each badHeading (stray (formalsOf p)) [] (valuesOf p) in
       let b = each badHeading (stray (formalsOf p)) [] l in
       let c : List Fault = cond lacks (at (nameOf p) badHeading ∷ []) [] in

@@ -9,7 +9,7 @@ use Rattle.symbols.specs.Names.{sameName}
 use Rattle.symbols.specs.Text.{bytes}
 use Rattle.grammar.specs.NodeKinds.{n-variable, n-formal}
 use Rattle.names.specs.Program.{Name, Expression, number, logical, name, call, signed, operated, chosen, nested, Expressions, done, then, Element, value, while, step, Statement, dummy, assignment, procedure, when, either, repeat, compound, block, Statements, last, first, Declarations, none as no-more, variables, declare, Procedure, heading}
-use Rattle.names.specs.Scopes.{same, Thing, variable, formal, Declared, nameOf, specified, variablesIn, Scope, ofBlock, ofBody, inBlock, inBody, declares, Given, environment, Meaning, declared, given, nothing, findIn, findGiven, innermost, meaning}
+use Rattle.names.specs.Scopes.{same, has, Thing, variable, formalAs, Declared, nameOf, specified, variablesIn, Scope, ofBlock, ofBody, inBlock, inBody, declares, Given, environment, Meaning, declared, given, nothing, findIn, findGiven, innermost, meaning}
 use Rattle.names.specs.Uses.{Use, used, usesE, usesEs, usesL, usesS, usesSs, usesD, usesP, joined, rowIn, rowOf, rows}
 use Rattle.names.specs.Nodes.{sortNumber}
 use Rattle.names.specs.Outline.{sizeS, sizeD, sizeP, formalIn, rowsN, rowsS, rowsSs, rowsD, rowsP}
@@ -115,7 +115,7 @@ module _ (Q : Name → Type 0) where
 
   body-names : (p : Procedure) → AllP Q p → AllDeclared (inBody p)
   unfolding inBody
-  body-names (heading t f xs vs ss s) h = declared-names (λ x. formal (specified ss x)) xs (h .1)
+  body-names (heading t f xs vs ss s) h = declared-names (λ x. formalAs (has vs x) (specified ss x)) xs (h .1)
 
   usesN-all : (g : List Scope) (xs : List Name) → AllScopes g → AllN Q xs → AllUses (map (used g) xs)
   usesN-all g [] a h = tt

@@ -15,10 +15,9 @@ use Rattle.grammar.specs.NodeKinds.{n-formal}
 use Rattle.symbols.specs.Text.{bytes}
 use Rattle.symbols.specs.Names.{sameName}
 use Rattle.names.specs.Program.{Name, Sort, integer, boolean, Specification, Declarations, none as no-more, variables, declare, Procedure}
-use Rattle.names.specs.Scopes.{Thing, variable, routine, formal, Declared, nameOf, sortOf, formalsOf, valuesOf, specificationsOf, specified, same, has, Scope, ofBlock, ofBody, inBlock, inBody, variablesIn, declares, Wanted, an, variable-of, Given, environment, Meaning, declared, given, nothing, findIn, findGiven, innermost, meaning}
+use Rattle.names.specs.Scopes.{Thing, variable, routine, formal, by-name, formalAs, Declared, nameOf, sortOf, formalsOf, valuesOf, specificationsOf, specified, same, has, Scope, ofBlock, ofBody, inBlock, inBody, variablesIn, declares, Wanted, an, variable-of, Given, environment, Meaning, declared, given, nothing, findIn, findGiven, innermost, meaning}
 use Rattle.names.specs.Uses.{Use, thingKind}
-use Rattle.names.specs.Modes.{typeIn}
-use Rattle.names.specs.Outline.{formalIn}
+use Rattle.names.specs.Modes.{typeIn, formalNumber}
 use Rattle.names.specs.Rows.{meantOf, rowIn}
 use Rattle.names.specs.declared.Row.{Row}
 use Rattle.names.specs.Nodes.{sortNumber}
@@ -119,6 +118,7 @@ abbrev pub Named : Thing → Name → Type 0
 Named (variable t) x = Unit {0}
 Named (routine p) x = x .symbol ≡ nameOf p .symbol
 Named (formal t) x = Unit {0}
+Named (by-name t) x = Unit {0}
 
 abbrev pub Proper : Meaning → Type 0
 Proper (declared d g) = Named (d .thing) (d .name)
@@ -144,14 +144,18 @@ block-named no-more = tt
 block-named (variables t xs d) = both-named (variablesIn t xs) (inBlock d) (variables-named t xs) (block-named d)
 block-named (declare p d) = (refl, block-named d)
 
-formals-named : (f : Name → Option Sort) (xs : List Name) → AllNamed (map (λ x. record { name = x; thing = formal (f x) }) xs)
-formals-named f [] = tt
-formals-named f (x ∷ xs) = (tt, formals-named f xs)
+formal-named : (v : Bool) (t : Option Sort) (x : Name) → Named (formalAs v t) x
+formal-named true t x = tt
+formal-named false t x = tt
+
+formals-named : (v : Name → Bool) (f : Name → Option Sort) (xs : List Name) → AllNamed (map (λ x. record { name = x; thing = formalAs (v x) (f x) }) xs)
+formals-named v f [] = tt
+formals-named v f (x ∷ xs) = (formal-named (v x) (f x) x, formals-named v f xs)
 
 scope-named : (s : Scope) → AllNamed (declares s)
 unfolding inBody
 scope-named (ofBlock d) = block-named d
-scope-named (ofBody p) = formals-named (specified (specificationsOf p)) (formalsOf p)
+scope-named (ofBody p) = formals-named (has (valuesOf p)) (specified (specificationsOf p)) (formalsOf p)
 
 found-proper : (l : List Declared) (g : List Scope) (x : Name) (m : Meaning) → AllNamed l → Proper m → Proper (innermost (findIn l x) g m)
 unfolding findIn
@@ -206,8 +210,8 @@ module _ (R : List ℕ) where
   plain-sort : {j k s : ℕ} (t : Option Sort) → RowIs R j k s → sortAt R j ≡ sortNumber t → sortIn R j ≡ sortNumber t
   plain-sort t r h = sort-is (sortNumber t) r (ap typeIn h ∙ type-alone t)
 
-  formal-sort : {j k s : ℕ} (vs : List Name) (ss : List Specification) (x : Name) → RowIs R j k s → sortAt R j ≡ formalIn vs ss x → sortIn R j ≡ sortNumber (specified ss x)
-  formal-sort vs ss x r h = sort-is (sortNumber (specified ss x)) r (ap typeIn h ∙ formal-type (has vs x) (specified ss x))
+  formal-sort : {j k s : ℕ} (v : Bool) (t : Option Sort) → RowIs R j k s → sortAt R j ≡ formalNumber v t → sortIn R j ≡ sortNumber t
+  formal-sort v t r h = sort-is (sortNumber t) r (ap typeIn h ∙ formal-type v t)
 
   four : (j : ℕ) → 4 * j + 3 < length R
       → drop (4 * j) R ≡ kindAt R j ∷ symbolAt R j ∷ getD R (4 * j + 2) 0 ∷ sortAt R j ∷ drop (4 * (j + 1)) R
@@ -245,7 +249,8 @@ module _ (R : List ℕ) where
   unfolding primaryOf
   primary-row j (variable t) s n r h = rw (kind-is r, plain-sort (some t) r h) (plainly-is (some t) n)
   primary-row j (routine p) s n r h = rw (kind-is r, plain-sort (sortOf p) r (h .0), formals-are j p h) (applied-is (sortOf p) (length (formalsOf p)) n)
-  primary-row j (formal t) s n r h = rw (kind-is r, sort-is (sortNumber t) r h) (plainly-is t n)
+  primary-row j (formal t) s n r h = rw (kind-is r, formal-sort true t r h) (plainly-is t n)
+  primary-row j (by-name t) s n r h = rw (kind-is r, formal-sort false t r h) (plainly-is t n)
 
   pub primary : (m : Meant) (g : Meaning) (n : ℕ) → Means R m g → primaryOf R m n ≡ inNumbers (inExpression g n)
   unfolding inExpression primaryOf
@@ -267,6 +272,7 @@ module _ (R : List ℕ) where
   miscalled-row j (variable t) s n r h = rw (kind-is r)
   miscalled-row j (routine p) s n r h = rw (kind-is r, formals-are j p h)
   miscalled-row j (formal t) s n r h = rw (kind-is r)
+  miscalled-row j (by-name t) s n r h = rw (kind-is r)
 
   pub called-is : (m : Meant) (g : Meaning) (n : ℕ) → Means R m g → miscalledOf R m n ≡ miscalled g n
   unfolding miscalled miscalledOf
@@ -286,7 +292,7 @@ module _ (R : List ℕ) where
       → cond (leb (length xs) k) Anything (An (sortIn R (j + k))) ≡ wantAt (wants p xs) k
   unfolding wants
   formals-want p [] j k f = rw (leb·zero k)
-  formals-want p (x ∷ xs) j zero f = rw (leb·suc-zero (length xs), add-zero j, formal-sort (valuesOf p) (specificationsOf p) x (f .0) (f .1))
+  formals-want p (x ∷ xs) j zero f = rw (leb·suc-zero (length xs), add-zero j, formal-sort (has (valuesOf p) x) (specified (specificationsOf p) x) (f .0) (f .1))
   formals-want p (x ∷ xs) j (suc k) f =
       let e : j + suc k ≡ j + 1 + k = omega arith in
       rw (leb·suc-suc (length xs) k, e) (formals-want p xs (j + 1) k (f .2))
@@ -297,6 +303,7 @@ module _ (R : List ℕ) where
   want-row j (variable t) s k r h = rw (kind-is r)
   want-row j (routine p) s k r h = rw (kind-is r, formals-are j p h) (formals-want p (formalsOf p) (j + 1) k (h .1))
   want-row j (formal t) s k r h = rw (kind-is r)
+  want-row j (by-name t) s k r h = rw (kind-is r)
 
   pub want-is : (m : Meant) (g : Meaning) (k : ℕ) → Means R m g → wantOf R m k ≡ wantAt (wantedBy g) k
   unfolding wantedBy wantOf
@@ -319,20 +326,20 @@ module _ (R : List ℕ) where
   of-sort boolean integer = refl
   of-sort boolean boolean = refl
 
-  of-formal : (s : Option Sort) (t : Sort) → not (apartOf (sortNumber s) (sortNumber (some t))) ≡ thingOf t (formal s)
+  of-formal : (v : Bool) (s : Option Sort) (t : Sort) → not (apartOf (sortNumber s) (sortNumber (some t))) ≡ thingOf t (formalAs v s)
   unfolding apartOf
-  of-formal none t = refl
-  of-formal (some integer) integer = refl
-  of-formal (some integer) boolean = refl
-  of-formal (some boolean) integer = refl
-  of-formal (some boolean) boolean = refl
+  of-formal true none t = refl
+  of-formal false none t = refl
+  of-formal true (some s) t = of-sort s t
+  of-formal false (some s) t = of-sort s t
 
   variable-row : (j : ℕ) (u : Thing) (s : ℕ) (t : Sort) → RowIs R j (4 + thingKind u) s → ToldThing R j u
       → variableOf R (at-row (record { number = j })) (sortNumber (some t)) ≡ thingOf t u
   unfolding variableOf
   variable-row j (variable u) s t r h = rw (kind-is r, plain-sort (some u) r h) (of-sort u t)
   variable-row j (routine p) s t r h = rw (kind-is r)
-  variable-row j (formal u) s t r h = rw (kind-is r, sort-is (sortNumber u) r h) (of-formal u t)
+  variable-row j (formal u) s t r h = rw (kind-is r, formal-sort true u r h) (of-formal true u t)
+  variable-row j (by-name u) s t r h = rw (kind-is r, formal-sort false u r h) (of-formal false u t)
 
   pub variable-is : (m : Meant) (g : Meaning) (t : Sort) → Means R m g → variableOf R m (sortNumber (some t)) ≡ isVariable t g
   unfolding isVariable variableOf
@@ -370,7 +377,8 @@ module _ (R : List ℕ) where
   unfolding leftOf
   left-row g bs j (variable t) x b r h n = rw (kind-is r, plain-sort (some t) r h)
   left-row g bs j (routine p) x b r h n = rw (kind-is r, symbol-is r, n) (own-is g bs p b)
-  left-row g bs j (formal t) x b r h n = rw (kind-is r, sort-is (sortNumber t) r h)
+  left-row g bs j (formal t) x b r h n = rw (kind-is r, formal-sort true t r h)
+  left-row g bs j (by-name t) x b r h n = rw (kind-is r, formal-sort false t r h)
 
   pub left-is : (g : List Scope) (bs : List ℕ) (m : Meant) (u : Meaning) → Bodies R g bs → Means R m u → Proper u
       → leftOf R bs m ≡ inNumbers (asLeft g u)

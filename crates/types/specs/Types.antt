@@ -8,7 +8,7 @@ use lib.Dec.{eqb}
 use lib.ListN.{length}
 use Rattle.answers.specs.Numbers.{types}
 use Rattle.names.specs.Program.{Name, Sort, integer, boolean, Sign, positive, negative, negation, Operator, times, over, plus, minus, less, atMost, equal, atLeast, greater, unequal, and, or, impl, equiv, Expression, number, logical, name, call, signed, operated, chosen, nested, Expressions, done, then, count, Element, value, while, step, Statement, dummy, assignment, procedure, when, either, repeat, compound, block, Statements, last, first, Declarations, none as no-more, variables, declare, Procedure, heading, firstSymbol}
-use Rattle.names.specs.Scopes.{Thing, variable, routine, formal, nameOf, sortOf, formalsOf, specificationsOf, specified, Scope, ofBlock, ofBody, Wanted, an, variable-of, Meaning, declared, given, nothing, meaning}
+use Rattle.names.specs.Scopes.{Thing, variable, routine, formal, by-name, nameOf, sortOf, formalsOf, specificationsOf, specified, Scope, ofBlock, ofBody, Wanted, an, variable-of, Meaning, declared, given, nothing, meaning}
 use Rattle.names.specs.Uses.{Fault, least}
 
 -- ---- types that are known, and those that are not: what has none "causes no other fault"
@@ -58,6 +58,7 @@ plainly t (suc n) = judge none true
 abbrev pub thingIn : Thing → ℕ → Judged
 thingIn (variable t) n = plainly (some t) n
 thingIn (formal t) n = plainly t n
+thingIn (by-name t) n = plainly t n
 thingIn (routine p) n = applied (sortOf p) (length (formalsOf p)) n
 
 -- a name with n actuals as a primary
@@ -75,6 +76,7 @@ wants p xs = map (λ x. an (specified (specificationsOf p) x)) xs
 abbrev pub thingWants : Thing → List Wanted
 thingWants (variable t) = []
 thingWants (formal t) = []
+thingWants (by-name t) = []
 thingWants (routine p) = wants p (formalsOf p)
 
 unfoldable pub wantedBy : Meaning → List Wanted
@@ -87,6 +89,8 @@ abbrev pub thingOf : Sort → Thing → Bool
 thingOf t (variable s) = alike s t
 thingOf t (formal none) = true
 thingOf t (formal (some s)) = alike s t
+thingOf t (by-name none) = true
+thingOf t (by-name (some s)) = alike s t
 thingOf t (routine p) = false
 
 unfoldable pub isVariable : Sort → Meaning → Bool
@@ -203,6 +207,7 @@ ownResult (some t) = judge (some t) false
 abbrev pub thingLeft : List Scope → Thing → Judged
 thingLeft g (variable t) = judge (some t) false
 thingLeft g (formal t) = judge t false
+thingLeft g (by-name t) = judge t false
 thingLeft g (routine p) = ownResult (ownSort g p)
 
 unfoldable pub asLeft : List Scope → Meaning → Judged
@@ -223,6 +228,7 @@ faultsLeft g t (x ∷ xs) = when-so (leftOf g x .wrong || apart t (leftOf g x .s
 abbrev pub thingCalled : Thing → ℕ → Bool
 thingCalled (variable t) n = true
 thingCalled (formal t) n = true
+thingCalled (by-name t) n = true
 thingCalled (routine p) n = not (eqb (length (formalsOf p)) n)
 
 unfoldable pub miscalled : Meaning → ℕ → Bool
