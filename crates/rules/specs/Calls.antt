@@ -3,13 +3,14 @@
 use Prim.Native.Nat.{ℕ, zero, suc}
 use mathlib.Core.Option.{Option, none, some}
 use Rattle.names.specs.Program.{Name, Sort, Procedure, Expression, number, logical, name, call, signed, operated, chosen, nested, Expressions, done, then}
-use Rattle.names.specs.Scopes.{Thing, variable, routine, formal, sortOf, Meaning, declared, given, nothing}
+use Rattle.names.specs.Scopes.{Thing, variable, routine, formal, by-name, sortOf, Meaning, declared, given, nothing}
 
 -- ---- in an expression
 
--- a variable or formal; a procedure with a type; iabs; maxint; or what no accepted program has there
+-- a variable or value formal; a name formal; a procedure with a type; iabs; maxint; or what no accepted program has there
 pub data Primary : Type 0 where
   held : Primary
+  worked : Primary
   function : Procedure → Primary
   absolute : Primary
   greatest : Primary
@@ -23,9 +24,14 @@ abbrev pub alone : Expressions → Primary
 alone done = held
 alone (then e es) = no-primary
 
+abbrev pub aloneOut : Expressions → Primary
+aloneOut done = worked
+aloneOut (then e es) = no-primary
+
 abbrev pub thingAs : Thing → Expressions → Primary
 thingAs (variable t) es = alone es
 thingAs (formal t) es = alone es
+thingAs (by-name t) es = aloneOut es
 thingAs (routine p) es = withType (sortOf p) p
 
 -- "The environment holds iabs (0), maxint (1), ininteger (2), outinteger (3)"
@@ -56,6 +62,7 @@ pub data Command : Type 0 where
 abbrev pub thingTold : Thing → Command
 thingTold (variable t) = no-command
 thingTold (formal t) = no-command
+thingTold (by-name t) = no-command
 thingTold (routine p) = routine-of p
 
 -- "The second actual of ininteger is an integer variable or formal alone."
@@ -89,3 +96,20 @@ unfoldable pub command : Meaning → Expressions → Command
 command (declared d g) es = thingTold (d .thing)
 command (given n e) es = givenTold n es
 command nothing es = no-command
+
+-- ---- where it is stored to
+
+-- in its own cell; or in what its actual comes to
+pub data Way : Type 0 where
+  direct sought : Way
+
+abbrev pub thingWay : Thing → Way
+thingWay (variable t) = direct
+thingWay (formal t) = direct
+thingWay (by-name t) = sought
+thingWay (routine p) = direct
+
+unfoldable pub way : Meaning → Way
+way (declared d g) = thingWay (d .thing)
+way (given n e) = direct
+way nothing = direct

@@ -5,25 +5,27 @@ use mathlib.Core.Bool.{Bool, true, false, cond}
 use mathlib.Core.List.{List, [], _∷_}
 use mathlib.Core.Option.{Option, none, some}
 use lib.Dec.{eqb}
-use Rattle.names.specs.Program.{Name, Sort, Procedure}
-use Rattle.names.specs.Scopes.{Thing, variable, routine, formal, Declared, Scope, ofBlock, ofBody, declares, nameOf, sortOf, same, findIn, Meaning, declared, given, nothing, meaning}
+use Rattle.names.specs.Program.{Name, Sort, Procedure, Declarations, Expression, Expressions, done, then}
+use Rattle.names.specs.Scopes.{Thing, variable, routine, formal, by-name, Declared, Scope, ofBlock, ofBody, declares, nameOf, sortOf, formalsOf, same, findIn, Meaning, declared, given, nothing, meaning}
 
--- an entered scope, with its first cell
-pub data Entry : Type 0 where
-  entered : Scope → ℕ → Entry
+-- the innermost entered scope, and those around it: a block with its first cell; a body with its first cell, its actuals, and the environment of
+-- its call
+pub data Env : Type 0 where
+  outside : Env
+  entered : Declarations → ℕ → Env → Env
+  called : Procedure → ℕ → Expressions → Env → Env → Env
 
-abbrev pub scopeOf : Entry → Scope
-scopeOf (entered s c) = s
-
-abbrev pub scopesOf : List Entry → List Scope
-scopesOf [] = []
-scopesOf (e ∷ v) = scopeOf e ∷ scopesOf v
+abbrev pub scopesOf : Env → List Scope
+scopesOf outside = []
+scopesOf (entered ds c v) = ofBlock ds ∷ scopesOf v
+scopesOf (called p c es v' v) = ofBody p ∷ scopesOf v
 
 -- ---- the cells of a scope: "one per variable of an entered block; for a typed call one result cell first; .. actuals become formals"
 
 abbrev pub cellsOf : Thing → ℕ
 cellsOf (variable t) = 1
 cellsOf (formal t) = 1
+cellsOf (by-name t) = 1
 cellsOf (routine p) = 0
 
 unfoldable pub total : List Declared → ℕ
@@ -54,9 +56,10 @@ placeIn s x = results s + before (declares s) x
 -- ---- outward to a scope
 
 -- the entries from the innermost scope of a kind outward
-unfoldable pub cut : (Scope → Bool) → List Entry → List Entry
-cut t [] = []
-cut t (e ∷ v) = cond (t (scopeOf e)) (e ∷ v) (cut t v)
+unfoldable pub cut : (Scope → Bool) → Env → Env
+cut t outside = outside
+cut t (entered ds c v) = cond (t (ofBlock ds)) (entered ds c v) (cut t v)
+cut t (called p c es v' v) = cond (t (ofBody p)) (called p c es v' v) (cut t v)
 
 abbrev pub isSome : Option Declared → Bool
 isSome none = false
@@ -73,26 +76,49 @@ bodyOfThis p (ofBody p') = eqb (nameOf p' .symbol) (nameOf p .symbol)
 
 -- ---- the cell that a name means; n where there is none
 
-abbrev pub among : ℕ → List Entry → Name → ℕ
-among n [] x = n
-among n (entered s c ∷ v) x = c + placeIn s x
+abbrev pub among : ℕ → Env → Name → ℕ
+among n outside x = n
+among n (entered ds c v) x = c + placeIn (ofBlock ds) x
+among n (called p c es v' v) x = c + placeIn (ofBody p) x
 
-abbrev pub firstOr : ℕ → List Entry → ℕ
-firstOr n [] = n
-firstOr n (entered s c ∷ v) = c
+abbrev pub firstOr : ℕ → Env → ℕ
+firstOr n outside = n
+firstOr n (entered ds c v) = c
+firstOr n (called p c es v' v) = c
 
 -- a variable or formal: its cell in the innermost entered scope that declares it; "typed procedure inside its own body": the result cell of the
 -- nearest entered body of that procedure
-abbrev pub cellFor : ℕ → List Entry → Thing → Name → ℕ
+abbrev pub cellFor : ℕ → Env → Thing → Name → ℕ
 cellFor n v (variable t) x = among n (cut (declaring x) v) x
 cellFor n v (formal t) x = among n (cut (declaring x) v) x
+cellFor n v (by-name t) x = n
 cellFor n v (routine p) x = firstOr n (cut (bodyOfThis p) v)
 
-abbrev pub cellAs : ℕ → List Entry → Meaning → Name → ℕ
+abbrev pub cellAs : ℕ → Env → Meaning → Name → ℕ
 cellAs n v (declared d g) x = cellFor n v (d .thing) x
 cellAs n v (given i e) x = n
 cellAs n v nothing x = n
 
 -- Demand 2: "Each name means the innermost declaration or formal around it, else the environment's"
-unfoldable pub cellOf : ℕ → List Entry → Name → ℕ
+unfoldable pub cellOf : ℕ → Env → Name → ℕ
 cellOf n v x = cellAs n v (meaning (scopesOf v) x) x
+
+-- ---- what a name formal stands for: "the actual's text with the environment at the call"
+
+pub data Actual : Type 0 where
+  actual : Expression → Env → Actual
+  no-actual : Actual
+
+-- the actual of the formal with a name
+unfoldable pub actualOf : Env → List Name → Expressions → Name → Actual
+actualOf v [] es x = no-actual
+actualOf v (y ∷ ys) done x = no-actual
+actualOf v (y ∷ ys) (then e es) x = cond (same y x) (actual e v) (actualOf v ys es x)
+
+abbrev pub standsIn : Env → Name → Actual
+standsIn outside x = no-actual
+standsIn (entered ds c v) x = no-actual
+standsIn (called p c es v' v) x = actualOf v' (formalsOf p) es x
+
+abbrev pub standsFor : Env → Name → Actual
+standsFor v x = standsIn (cut (declaring x) v) x

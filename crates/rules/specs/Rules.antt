@@ -1,24 +1,27 @@
 -- Paper 01, "The run by the source rules": a state has an agenda (what is still to be done, in order), the environment of entered scopes, and the
 -- data. One rule a kind of task; each counts 1 where it is a step of the paper's list and 0 where it is none:
 -- "A step is each statement begun, primary evaluated, operator applied, left part or controlled variable stored, result cell taken, call made, for
--- element tested, block left or call returned."
+-- element tested, block left or call returned." Of a name formal "giving it that cell is one step; each working out .. is .. two more steps".
 -- `place` says where the symbol with a number stands, so that faults have the places of the paper and trees stay free of them.
 -- Assumes nothing: these are definitions.
 use Prim.Native.Nat.{ℕ, _-_}
+use mathlib.Core.Bool.{Bool, true, false}
 use mathlib.Core.List.{List, [], _∷_}
 use mathlib.Core.Option.{Option, none, some}
 use lib.IntN.{ℤ, pos}
+use Rattle.answers.specs.Answers.{refusal}
+use Rattle.answers.specs.Numbers.{noVariable}
 use Rattle.answers.specs.declared.Stop.{Stop}
-use Rattle.answers.specs.declared.Stop.the-variants.{Ended, Wrong}
+use Rattle.answers.specs.declared.Stop.the-variants.{Ended, Wrong, Fault}
 use Rattle.machine.specs.Values
 use Rattle.machine.specs.Values.{Binary, truth}
 use Rattle.machine.specs.Run.{quiet, untold, Out, halt, next, End, run}
-use Rattle.machine.specs.Data.{Data, dat, cells, Res, lift, Act, push, load, store, assign, reserve, forget, receive, send, keep, bump, unary, binary, actOn, work, Two, either as byTest, Test, condition, upto, testOn, test, openBlock, closeBlock, enter, Fate, kept, gone, leave}
+use Rattle.machine.specs.Data.{Data, dat, cells, Res, lift, Act, push, load, store, assign, reserve, forget, receive, send, keep, bump, unary, binary, lend, channel, sum, foundIn, nameCell, actOn, work, Two, either as byTest, Test, condition, upto, testOn, test, openBlock, closeBlock, enter, Fate, kept, gone, leave}
 use Rattle.names.specs.Program
-use Rattle.names.specs.Program.{Name, Sort, Sign, positive, negative, negation, Operator, Expression, number, logical, name, call, signed, operated, chosen, nested, Expressions, done, then, Element, value, while, step, Statement, dummy, assignment, procedure, when, either, repeat, compound, block, Statements, last, first}
-use Rattle.names.specs.Scopes.{Thing, variable, routine, formal, ofBlock, ofBody, sortOf, bodyOf, Meaning, declared, given, nothing, meaning}
-use Rattle.rules.specs.Entered.{Entry, entered, scopesOf, cellsIn, cut, declaring, cellOf}
-use Rattle.rules.specs.Calls.{Primary, held, function, absolute, greatest, no-primary, primary, Command, routine-of, absolute-of, greatest-of, input-to, output-of, no-command, command}
+use Rattle.names.specs.Program.{Name, Sort, Sign, positive, negative, negation, Operator, Expression, number, logical, name, call, signed, operated, chosen, nested, Expressions, done, then, firstSymbol, Element, value, while, step, Statement, dummy, assignment, procedure, when, either, repeat, compound, block, Statements, last, first}
+use Rattle.names.specs.Scopes.{Thing, variable, routine, formal, by-name, ofBlock, ofBody, sortOf, bodyOf, modesOf, Meaning, declared, given, nothing, meaning}
+use Rattle.rules.specs.Entered.{Env, outside, entered, called, scopesOf, cellsIn, cut, declaring, cellOf, Actual, actual, no-actual, standsFor}
+use Rattle.rules.specs.Calls.{Primary, held, worked, function, absolute, greatest, no-primary, primary, Command, routine-of, absolute-of, greatest-of, input-to, output-of, no-command, command, Way, direct, sought, way}
 
 -- ---- the agenda
 
@@ -34,10 +37,17 @@ pub data Choice : Type 0 where
 pub data Stepping : Type 0 where
   stepping : ℕ → Name → List Element → Statement → Stepping
 
+-- what is stored to, read or tested: the variable of a name, or the cell found through a name formal
+pub data Spot : Type 0 where
+  here : Name → Spot
+  there : Spot
+
 pub data Task : Type 0 where
   -- evaluate an expression, actuals; begin a statement, go on with the statements of a list
   ev : Expression → Task
-  evs : Expressions → Task
+  evs : List Bool → Expressions → Task
+  -- give a name formal its cell, for the actual whose first symbol it is
+  naming : ℕ → Task
   ex : Statement → Task
   exs : Statements → Task
   -- store a value in a left part and the others
@@ -45,7 +55,7 @@ pub data Task : Type 0 where
   -- the elements left of a for statement, and its body
   loop : Name → List Element → Statement → Task
   -- an operation on the data that is a step
-  act : Act Name → Task
+  act : Act Spot → Task
   -- the sign + is applied; a value that nobody needs goes
   unchanged : Task
   drop : Task
@@ -55,14 +65,22 @@ pub data Task : Type 0 where
   hold : Stepping → Task
   tested : Stepping → Task
   add : Stepping → Task
+  -- the same where the controlled variable is a name formal, once its cell is found: the test; the sum; its store
+  trying : Stepping → Task
+  summing : Stepping → Task
+  settling : Stepping → Task
+  -- work out for a store that began at a place: a name formal; its actual. ininteger's second actual
+  seek : Name → ℕ → Task
+  find : Expression → ℕ → Task
+  receiving : ℕ → Name → Task
   -- call the procedure that the name means; leave a block of so many cells; return from a call (fate of the result, place of the call, first cell of
   -- the activation, environment of the call)
-  invoke : Name → Fate → Task
+  invoke : Name → Expressions → Fate → Task
   close : ℕ → Task
-  return : Fate → ℕ → ℕ → List Entry → Task
+  return : Fate → ℕ → ℕ → Env → Task
 
 pub data State : Type 0 where
-  st : List Task → List Entry → Data → State
+  st : List Task → Env → Data → State
 
 -- what no accepted program comes to
 abbrev pub noRule : Stop
@@ -93,21 +111,25 @@ maxint = pos 2147483647
 -- ---- operations and tests in an environment
 
 -- A name that has no cell means the first cell not in use: every operation on it is wrong.
-abbrev pub doing : Act Name → List Entry → Data → Res Data
-doing a v d = work (actOn (cellOf (cells d) v) a) d
+abbrev pub cellAt : Data → Env → Spot → ℕ
+cellAt d v (here x) = cellOf (cells d) v x
+cellAt d v there = foundIn d
 
-abbrev pub testing : Test Name → List Entry → Data → Res Two
-testing t v d = test (testOn (cellOf (cells d) v) t) d
+abbrev pub doing : Act Spot → Env → Data → Res Data
+doing a v d = work (actOn (cellAt d v) a) d
+
+abbrev pub testing : Test Spot → Env → Data → Res Two
+testing t v d = test (testOn (cellAt d v) t) d
 
 -- an operation that is a step
-abbrev pub acting : Act Name → List Task → List Entry → Data → Out State
+abbrev pub acting : Act Spot → List Task → Env → Data → Out State
 acting a k v d = lift noRule 1 (st k v) (doing a v d)
 
-abbrev pub goOn : List Task → List Entry → Data → Out State
+abbrev pub goOn : List Task → Env → Data → Out State
 goOn k v d = next 0 quiet (st k v d)
 
 -- a statement begun
-abbrev pub begun : List Task → List Entry → Data → Out State
+abbrev pub begun : List Task → Env → Data → Out State
 begun k v d = next 1 quiet (st k v d)
 
 -- ---- choices
@@ -133,8 +155,14 @@ counts (whiling x q e c l s) = 1
 
 -- ---- step elements: "step-until, where start is assigned, then step and bound are evaluated once and held"
 
-abbrev pub adds : Stepping → Act Name
-adds (stepping q x l s) = bump q x
+abbrev pub adds : Stepping → Act Spot
+adds (stepping q x l s) = bump q (here x)
+
+abbrev pub sums : Stepping → Act Spot
+sums (stepping q x l s) = sum q there
+
+abbrev pub controlled : Stepping → Name
+controlled (stepping q x l s) = x
 
 -- the body, then the addition; or the elements that are left
 abbrev pub again : Stepping → List Task → List Task
@@ -148,8 +176,8 @@ module _ (place : ℕ → ℕ) where
   at x = place (x .symbol)
 
   -- "The loop is left when (variable − bound) × sign(step) > 0"
-  abbrev pub tries : Stepping → Test Name
-  tries (stepping q x l s) = upto (at x) x
+  abbrev pub tries : Spot → Stepping → Test Spot
+  tries c (stepping q x l s) = upto (at x) c
 
   -- ---- signs
 
@@ -159,48 +187,105 @@ module _ (place : ℕ → ℕ) where
   applied q negative = act (unary (place q) Values.minus)
   applied q negation = act (unary (place q) Values.negation)
 
+  -- ---- name formals: "it stands for the actual's text with the environment at the call, worked out afresh at each use"
+
+  -- "each working out, for a read or a store, is an activation under 27, placed at the formal's use, and two more steps"
+  unfoldable pub reads : Actual → Name → List Task → Env → Data → Out State
+  reads (actual e v') x k v d = lift noRule 1 (st (ev e ∷ return kept (at x) (cells d) v ∷ k) v') (enter (at x) d)
+  reads no-actual x k v d = halt noRule
+
+  unfoldable pub seeks : Actual → Name → ℕ → List Task → Env → Data → Out State
+  seeks (actual e v') x q k v d = lift noRule 1 (st (find e q ∷ return gone q (cells d) v ∷ k) v') (enter (at x) d)
+  seeks no-actual x q k v d = halt noRule
+
+  -- 30: "A store to one whose actual is no variable", "at the name where the store began"; "a value formal is a variable here, a name formal passes
+  -- the store on"
+  abbrev pub refused : ℕ → Out State
+  refused q = halt (Fault (refusal noVariable q))
+
+  unfoldable pub finds : Primary → Name → ℕ → List Task → Env → Data → Out State
+  finds held y q k v d = lift noRule 0 (st k v) (doing (lend (here y)) v d)
+  finds worked y q k v d = goOn (seek y q ∷ k) v d
+  finds (function p) y q k v d = refused q
+  finds absolute y q k v d = refused q
+  finds greatest y q k v d = refused q
+  finds no-primary y q k v d = refused q
+
+  -- an actual: a value; or a name formal's cell: "one cell, needed at its actual's first symbol". An environment's actuals have no modes
+  abbrev pub giving : Bool → Expression → Task
+  giving true e = ev e
+  giving false e = naming (firstSymbol e)
+
+  abbrev pub laying : List Bool → Expression → Expressions → List Task → List Task
+  laying [] e es k = ev e ∷ evs [] es ∷ k
+  laying (b ∷ m) e es k = giving b e ∷ evs m es ∷ k
+
+  -- ---- stores: "the formal is worked out after the value to be stored, 27 coming before 30, and for ininteger between 28 and 24"
+
+  unfoldable pub storing : Way → Name → List Name → List Task → Env → Data → Out State
+  storing direct x [] k v d = acting (store (here x)) k v d
+  storing direct x (y ∷ ys) k v d = acting (assign (here x)) (stores y ys ∷ k) v d
+  storing sought x [] k v d = goOn (seek x (at x) ∷ act (store there) ∷ k) v d
+  storing sought x (y ∷ ys) k v d = goOn (seek x (at x) ∷ act (assign there) ∷ stores y ys ∷ k) v d
+
+  unfoldable pub taking-in : Way → ℕ → Name → List Task → Env → Data → Out State
+  taking-in direct q y k v d = acting (receive q (here y)) k v d
+  taking-in sought q y k v d = lift noRule 0 (st (seek y (at y) ∷ act (receive q there) ∷ k) v) (doing (channel q) v d)
+
+  -- "Read for a step element's test or addition, a controlled one takes no cell for its value; the addition to it takes one, at 'step'"
+  unfoldable pub passing : Way → Stepping → List Task → Env → Data → Out State
+  passing direct s k v d = lift noRule 1 (byTest (st (again s k) v) (st (through s k) v)) (testing (tries (here (controlled s)) s) v d)
+  passing sought s k v d = goOn (seek (controlled s) (at (controlled s)) ∷ trying s ∷ k) v d
+
+  unfoldable pub adding : Way → Stepping → List Task → Env → Data → Out State
+  adding direct s k v d = lift noRule 1 (st (tested s ∷ k) v) (doing (adds s) v d)
+  adding sought s k v d = goOn (seek (controlled s) (at (controlled s)) ∷ summing s ∷ k) v d
+
   -- ---- names in expressions
 
-  unfoldable pub evaluate : Primary → Name → Expressions → List Task → List Entry → Data → Out State
+  unfoldable pub evaluate : Primary → Name → Expressions → List Task → Env → Data → Out State
   -- a variable or formal evaluated
-  evaluate held x es k v d = acting (load (at x) x) k v d
+  evaluate held x es k v d = acting (load (at x) (here x)) k v d
+  -- a name formal: its actual is worked out
+  evaluate worked x es k v d = reads (standsFor v x) x k v d
   -- "for a typed call one result cell first"; "Operands and actuals go left to right"
-  evaluate (function p) x es k v d = goOn (act (reserve (at x)) ∷ evs es ∷ invoke x kept ∷ k) v d
+  evaluate (function p) x es k v d = goOn (act (reserve (at x)) ∷ evs (modesOf p) es ∷ invoke x es kept ∷ k) v d
   -- "An environment call takes no result cell: its value replaces its actuals' cells"
-  evaluate absolute x es k v d = goOn (evs es ∷ act (unary (at x) Values.absolute) ∷ k) v d
+  evaluate absolute x es k v d = goOn (evs [] es ∷ act (unary (at x) Values.absolute) ∷ k) v d
   evaluate greatest x es k v d = acting (push (at x) maxint) k v d
   evaluate no-primary x es k v d = halt noRule
 
   -- ---- procedures called as statements
 
   -- "A typed procedure may be called as a statement": its result cell is taken all the same
-  abbrev pub calls : Option Sort → Name → Expressions → List Task → List Task
-  calls none x es k = evs es ∷ invoke x gone ∷ k
-  calls (some t) x es k = act (reserve (at x)) ∷ evs es ∷ invoke x gone ∷ k
+  abbrev pub calls : Option Sort → List Bool → Name → Expressions → List Task → List Task
+  calls none m x es k = evs m es ∷ invoke x es gone ∷ k
+  calls (some t) m x es k = act (reserve (at x)) ∷ evs m es ∷ invoke x es gone ∷ k
 
-  unfoldable pub perform : Command → Name → Expressions → List Task → List Entry → Data → Out State
-  perform (routine-of p) x es k v d = begun (calls (sortOf p) x es k) v d
+  unfoldable pub perform : Command → Name → Expressions → List Task → Env → Data → Out State
+  perform (routine-of p) x es k v d = begun (calls (sortOf p) (modesOf p) x es k) v d
   perform (absolute-of e) x es k v d = begun (ev e ∷ act (unary (at x) Values.absolute) ∷ drop ∷ k) v d
   perform greatest-of x es k v d = begun (act (push (at x) maxint) ∷ drop ∷ k) v d
   -- "ininteger's second actual is neither read nor held"
-  perform (input-to e y) x es k v d = begun (ev e ∷ act (receive (at x) y) ∷ k) v d
+  perform (input-to e y) x es k v d = begun (ev e ∷ receiving (at x) y ∷ k) v d
   perform (output-of e f) x es k v d = begun (ev e ∷ ev f ∷ act (send (at x)) ∷ k) v d
   perform no-command x es k v d = halt noRule
 
   -- ---- calls: "An activation is counted after the actuals." The actuals' cells become the formals'; the body runs in the environment that the
   -- procedure's declaration has. "The program and environment calls are no activations": nothing else counts one (`enter`)
 
-  abbrev pub entering : Thing → Name → Fate → List Task → List Entry → Data → Out State
-  entering (variable t) x f k v d = halt noRule
-  entering (formal t) x f k v d = halt noRule
-  entering (routine p) x f k v d =
+  abbrev pub entering : Thing → Name → Expressions → Fate → List Task → Env → Data → Out State
+  entering (variable t) x es f k v d = halt noRule
+  entering (formal t) x es f k v d = halt noRule
+  entering (by-name t) x es f k v d = halt noRule
+  entering (routine p) x es f k v d =
       let b = cells d - cellsIn (ofBody p) in
-      lift noRule 1 (st (ex (bodyOf p) ∷ return f (at x) b v ∷ k) (entered (ofBody p) b ∷ cut (declaring x) v)) (enter (at x) d)
+      lift noRule 1 (st (ex (bodyOf p) ∷ return f (at x) b v ∷ k) (called p b es v (cut (declaring x) v))) (enter (at x) d)
 
-  unfoldable pub calling : Meaning → Name → Fate → List Task → List Entry → Data → Out State
-  calling (declared m g) x f k v d = entering (m .thing) x f k v d
-  calling (given n e) x f k v d = halt noRule
-  calling nothing x f k v d = halt noRule
+  unfoldable pub calling : Meaning → Name → Expressions → Fate → List Task → Env → Data → Out State
+  calling (declared m g) x es f k v d = entering (m .thing) x es f k v d
+  calling (given n e) x es f k v d = halt noRule
+  calling nothing x es f k v d = halt noRule
 
   -- ---- the rules
 
@@ -216,8 +301,9 @@ module _ (place : ℕ → ℕ) where
   sstep (st (ev (operated q o e f) ∷ k) v d) = goOn (ev e ∷ ev f ∷ act (binary (place q) (binaryOf o)) ∷ k) v d
   sstep (st (ev (chosen q r c e f) ∷ k) v d) = goOn (ev c ∷ pick (expressions e f) ∷ k) v d
   sstep (st (ev (nested q e) ∷ k) v d) = goOn (ev e ∷ k) v d
-  sstep (st (evs done ∷ k) v d) = goOn k v d
-  sstep (st (evs (then e es) ∷ k) v d) = goOn (ev e ∷ evs es ∷ k) v d
+  sstep (st (evs m done ∷ k) v d) = goOn k v d
+  sstep (st (evs m (then e es) ∷ k) v d) = goOn (laying m e es k) v d
+  sstep (st (naming q ∷ k) v d) = lift noRule 1 (st k v) (nameCell (place q) 0 d)
   -- statements: "each statement begun"
   sstep (st (ex dummy ∷ k) v d) = begun k v d
   sstep (st (ex (assignment x xs q e) ∷ k) v d) = begun (ev e ∷ stores x xs ∷ k) v d
@@ -229,35 +315,49 @@ module _ (place : ℕ → ℕ) where
   -- a block: its cells all at once, 26 at its 'begin'
   sstep (st (ex (block q ds ss) ∷ k) v d) =
       let n = cellsIn (ofBlock ds) in
-      lift noRule 1 (st (exs ss ∷ close n ∷ k) (entered (ofBlock ds) (cells d) ∷ v)) (openBlock (place q) n d)
+      lift noRule 1 (st (exs ss ∷ close n ∷ k) (entered ds (cells d) v)) (openBlock (place q) n d)
   sstep (st (exs (last s) ∷ k) v d) = goOn (ex s ∷ k) v d
   sstep (st (exs (first s ss) ∷ k) v d) = goOn (ex s ∷ exs ss ∷ k) v d
   -- "A left part list takes one value, stored left to right"
-  sstep (st (stores x [] ∷ k) v d) = acting (store x) k v d
-  sstep (st (stores x (y ∷ ys) ∷ k) v d) = acting (assign x) (stores y ys ∷ k) v d
+  sstep (st (stores x ys ∷ k) v d) = storing (way (meaning (scopesOf v) x)) x ys k v d
   -- "For elements: a value; a value with 'while'; step-until"
   sstep (st (loop x [] s ∷ k) v d) = goOn k v d
-  sstep (st (loop x (value e ∷ l) s ∷ k) v d) = goOn (ev e ∷ act (store x) ∷ ex s ∷ loop x l s ∷ k) v d
-  sstep (st (loop x (while q e c ∷ l) s ∷ k) v d) = goOn (ev e ∷ act (store x) ∷ ev c ∷ pick (whiling x q e c l s) ∷ k) v d
+  sstep (st (loop x (value e ∷ l) s ∷ k) v d) = goOn (ev e ∷ stores x [] ∷ ex s ∷ loop x l s ∷ k) v d
+  sstep (st (loop x (while q e c ∷ l) s ∷ k) v d) = goOn (ev e ∷ stores x [] ∷ ev c ∷ pick (whiling x q e c l s) ∷ k) v d
   sstep (st (loop x (step q e f h ∷ l) s ∷ k) v d) =
-      goOn (ev e ∷ act (store x) ∷ ev f ∷ ev h ∷ hold (stepping (place q) x l s) ∷ k) v d
+      goOn (ev e ∷ stores x [] ∷ ev f ∷ ev h ∷ hold (stepping (place q) x l s) ∷ k) v d
   sstep (st (act a ∷ k) v d) = acting a k v d
   sstep (st (unchanged ∷ k) v d) = next 1 quiet (st k v d)
   sstep (st (drop ∷ k) v d) = lift noRule 0 (st k v) (doing forget v d)
   sstep (st (pick c ∷ k) v d) = lift noRule (counts c) (byTest (st (yes c k) v) (st (no c k) v)) (testing condition v d)
   sstep (st (hold s ∷ k) v d) = lift noRule 0 (st (tested s ∷ k) v) (doing keep v d)
   -- "The test and addition of a step element take no cell of their own": they read the variable where it stands
-  sstep (st (tested s ∷ k) v d) = lift noRule 1 (byTest (st (again s k) v) (st (through s k) v)) (testing (tries s) v d)
-  sstep (st (add s ∷ k) v d) = lift noRule 1 (st (tested s ∷ k) v) (doing (adds s) v d)
-  sstep (st (invoke x f ∷ k) v d) = calling (meaning (scopesOf v) x) x f k v d
-  sstep (st (close n ∷ k) (e ∷ v) d) = lift noRule 1 (st k v) (closeBlock n d)
-  sstep (st (close n ∷ k) [] d) = halt noRule
+  sstep (st (tested s ∷ k) v d) = passing (way (meaning (scopesOf v) (controlled s))) s k v d
+  sstep (st (add s ∷ k) v d) = adding (way (meaning (scopesOf v) (controlled s))) s k v d
+  sstep (st (trying s ∷ k) v d) = lift noRule 1 (byTest (st (again s k) v) (st (through s k) v)) (testing (tries there s) v d)
+  -- "The addition of a step element, with its store, is one operator"
+  sstep (st (summing s ∷ k) v d) = lift noRule 1 (st (seek (controlled s) (at (controlled s)) ∷ settling s ∷ k) v) (doing (sums s) v d)
+  sstep (st (settling s ∷ k) v d) = lift noRule 0 (st (tested s ∷ k) v) (doing (store there) v d)
+  sstep (st (seek x q ∷ k) v d) = seeks (standsFor v x) x q k v d
+  sstep (st (find (number a n) q ∷ k) v d) = refused q
+  sstep (st (find (logical a b) q ∷ k) v d) = refused q
+  sstep (st (find (name y) q ∷ k) v d) = finds (primary (meaning (scopesOf v) y) done) y q k v d
+  sstep (st (find (call y e es) q ∷ k) v d) = refused q
+  sstep (st (find (signed a o e) q ∷ k) v d) = refused q
+  sstep (st (find (operated a o e f) q ∷ k) v d) = refused q
+  sstep (st (find (chosen a r c e f) q ∷ k) v d) = refused q
+  sstep (st (find (nested a e) q ∷ k) v d) = refused q
+  sstep (st (receiving q y ∷ k) v d) = taking-in (way (meaning (scopesOf v) y)) q y k v d
+  sstep (st (invoke x es f ∷ k) v d) = calling (meaning (scopesOf v) x) x es f k v d
+  sstep (st (close n ∷ k) (entered ds c v) d) = lift noRule 1 (st k v) (closeBlock n d)
+  sstep (st (close n ∷ k) (called p c es v' v) d) = halt noRule
+  sstep (st (close n ∷ k) outside d) = halt noRule
   sstep (st (return f q b v' ∷ k) v d) = lift noRule 1 (st k v') (leave f q b d)
 
   -- ---- the run of a program: so many rules, from no cell in use, no activation and no number taken
 
   abbrev pub beginning : Statement → List ℤ → ℕ → ℕ → State
-  beginning s input room space = st (ex s ∷ []) [] (dat [] [] 0 (record { room = room; input = input; space = space }))
+  beginning s input room space = st (ex s ∷ []) outside (dat [] [] 0 (record { room = room; input = input; space = space; found = 0 }))
 
   abbrev pub source : Statement → List ℤ → ℕ → ℕ → ℕ → End State
   source s input room space t = run sstep t (beginning s input room space) 0 untold

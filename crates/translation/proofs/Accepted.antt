@@ -12,12 +12,12 @@ use borrow.Author.Tests.{eqb-true}
 use Rattle.symbols.specs.Text.{bytes}
 use Rattle.symbols.specs.Names.{sameName}
 use Rattle.names.specs.Program.{Name, Sort, integer, boolean, Expression, number, logical, name, call, signed, operated, chosen, nested, Expressions, done, then, count, Element, value, while, step, Statement, dummy, assignment, procedure, when, either, repeat, compound, block, Statements, last, first, Declarations, none as no-more, variables, declare, Procedure, heading, firstSymbol}
-use Rattle.names.specs.Scopes.{Thing, variable, routine, formal, Declared, Scope, ofBlock, ofBody, nameOf, sortOf, formalsOf, specificationsOf, specified, inBody, Wanted, an, variable-of, Given, environment, findIn, findGiven, innermost, Meaning, declared, given, nothing, meaning}
+use Rattle.names.specs.Scopes.{Thing, variable, routine, formal, by-name, Declared, Scope, ofBlock, ofBody, nameOf, sortOf, formalsOf, Wanted, an, variable-of, Given, environment, findIn, findGiven, innermost, Meaning, declared, given, nothing, meaning}
 use Rattle.names.specs.Uses.{Use, used, usesE, usesEs, usesL, usesS, usesSs, usesD, usesP, scopesS, unmeant, meantOrNot, joined, nameFaults}
 use Rattle.types.specs.Types.{unlike, apart, when-so, applied, thingIn, inExpression, wantedBy, isVariable, thingOf, isName, sortE, misfit, misfits, faultsE, faultsEs, ownSort, ownResult, thingLeft, asLeft, leftOf, faultsLeft, thingCalled, miscalled, faultsFor, faultsL, faultsS, faultsSs, faultsD, faultsP, typeFaults}
-use Rattle.rules.specs.Entered.{cellsOf, total, oneIf, bodyOfThis}
-use Rattle.rules.specs.Calls.{primary, command, into, thingTold, givenTold}
-use Rattle.translation.specs.Scoped.{nearest, HasCell, CellAs, OkV, OkVs, MeansAs, OkPrimary, OkE, OkEs, OkL, OkCommand, OkS, OkSs, OkDs, OkP, Scoped}
+use Rattle.rules.specs.Entered.{oneIf, bodyOfThis}
+use Rattle.rules.specs.Calls.{primary, command, into, thingTold, givenTold, Way, direct, way, thingWay}
+use Rattle.translation.specs.Scoped.{nearest, HasCell, CellAs, OkV, OkWay, OkW, OkVs, MeansAs, OkPrimary, OkE, OkEs, OkL, OkCommand, OkS, OkSs, OkDs, OkP, Scoped}
 
 -- ---- empty lists
 
@@ -115,18 +115,18 @@ or-left : (t u : Bool) → (t || u) ≡ false → t ≡ false
 or-left true u h = h
 or-left false u h = refl
 
-total-formals : (f : Name → Declared) (xs : List Name) → ((x : Name) → cellsOf (f x .thing) ≡ 1) → total (map f xs) ≡ length xs
-unfolding total
-total-formals f [] h = refl
-total-formals f (x ∷ xs) h = let a = h x in let b = total-formals f xs h in omega arith
-
-total-body : (p : Procedure) → total (inBody p) ≡ length (formalsOf p)
-unfolding inBody
-total-body p = total-formals (λ x. record { name = x; thing = formal (specified (specificationsOf p) x) }) (formalsOf p) (λ x. refl)
-
 module _ (g : List Scope) (x : Name) where
   cell-as : (d : Declared) (h : List Scope) (t : Thing) → meaning g x ≡ declared d h → d .thing ≡ t → HasCell g t → OkV g x
   cell-as d h t e f k = subst (CellAs g) (sym e) (subst (HasCell g) (sym f) k)
+
+  -- stored to in its own cell; or it is a name formal
+  way-direct : (d : Declared) (h : List Scope) (t : Thing) → meaning g x ≡ declared d h → d .thing ≡ t → thingWay t ≡ direct → OkV g x → OkW g x
+  unfolding way
+  way-direct d h t e f k o = subst (λ (w : Way). OkWay w g x) (sym (ap way e ∙ ap thingWay f ∙ k)) o
+
+  way-sought : (d : Declared) (h : List Scope) (t : Option Sort) → meaning g x ≡ declared d h → d .thing ≡ by-name t → OkW g x
+  unfolding way
+  way-sought d h t e f = subst (λ (w : Way). OkWay w g x) (sym (ap way e ∙ ap thingWay f)) tt
 
   means-as : (d : Declared) (h : List Scope) (p : Procedure) → meaning g x ≡ declared d h → d .thing ≡ routine p → MeansAs (meaning g x) p
   means-as d h p e f = subst (λ (m : Meaning). MeansAs m p) (sym e) f
@@ -139,24 +139,22 @@ module _ (g : List Scope) (x : Name) where
   prim-thing (then a es) d h (variable s) e f w = absurd (true-false w)
   prim-thing done d h (formal s) e f w = cell-as d h (formal s) e f tt
   prim-thing (then a es) d h (formal s) e f w = absurd (true-false w)
+  prim-thing done d h (by-name s) e f w = tt
+  prim-thing (then a es) d h (by-name s) e f w = absurd (true-false w)
   prim-thing done d h (routine p) e f w = go (sortOf p) refl w
     where
       go : (o : Option Sort) → sortOf p ≡ o → applied o (length (formalsOf p)) 0 .wrong ≡ false → OkPrimary g x 0 (Rattle.rules.specs.Calls.withType o p)
       go none q w' = absurd (true-false w')
       go (some s) q w' =
           let n = eqb-true (length (formalsOf p)) 0 (not-false (eqb (length (formalsOf p)) 0) w') in
-          let c : oneIf (sortOf p) ≡ 1 = ap oneIf q in
-          let m = total-body p in
-          (means-as d h p e f, omega arith)
+          (means-as d h p e f, ap oneIf q, n)
   prim-thing (then a es) d h (routine p) e f w = go (sortOf p) refl w
     where
       go : (o : Option Sort) → sortOf p ≡ o → applied o (length (formalsOf p)) (suc (count es)) .wrong ≡ false → OkPrimary g x (suc (count es)) (Rattle.rules.specs.Calls.withType o p)
       go none q w' = absurd (true-false w')
       go (some s) q w' =
           let n = eqb-true (length (formalsOf p)) (suc (count es)) (not-false (eqb (length (formalsOf p)) (suc (count es))) w') in
-          let c : oneIf (sortOf p) ≡ 1 = ap oneIf q in
-          let m = total-body p in
-          (means-as d h p e f, omega arith)
+          (means-as d h p e f, ap oneIf q, n)
 
 counted : (o : Option Sort) (w n : ℕ) → applied o w n .wrong ≡ false → w ≡ n
 counted none w n h = absurd (true-false h)
@@ -295,27 +293,29 @@ own-nearest (ofBody p' ∷ g) p t e = go (eqb (nameOf p' .symbol) (nameOf p .sym
     go false f e' = f e'
 
 module _ (g : List Scope) (x : Name) where
-  left-thing : (d : Declared) (h : List Scope) (t : Thing) → meaning g x ≡ declared d h → d .thing ≡ t → thingLeft g t .wrong ≡ false → OkV g x
-  left-thing d h (variable s) e f w = cell-as g x d h (variable s) e f tt
-  left-thing d h (formal s) e f w = cell-as g x d h (formal s) e f tt
+  left-thing : (d : Declared) (h : List Scope) (t : Thing) → meaning g x ≡ declared d h → d .thing ≡ t → thingLeft g t .wrong ≡ false → OkW g x
+  left-thing d h (variable s) e f w = way-direct g x d h (variable s) e f refl (cell-as g x d h (variable s) e f tt)
+  left-thing d h (formal s) e f w = way-direct g x d h (formal s) e f refl (cell-as g x d h (formal s) e f tt)
+  left-thing d h (by-name s) e f w = way-sought g x d h s e f
   left-thing d h (routine p) e f w = go (ownSort g p) refl w
     where
-      go : (o : Option Sort) → ownSort g p ≡ o → ownResult o .wrong ≡ false → OkV g x
+      go : (o : Option Sort) → ownSort g p ≡ o → ownResult o .wrong ≡ false → OkW g x
       go none q w' = absurd (true-false w')
-      go (some s) q w' = cell-as g x d h (routine p) e f (own-nearest g p s q)
+      go (some s) q w' = way-direct g x d h (routine p) e f refl (cell-as g x d h (routine p) e f (own-nearest g p s q))
 
-  left-ok : (m : Meaning) → meaning g x ≡ m → Something m → asLeft g m .wrong ≡ false → OkV g x
+  left-ok : (m : Meaning) → meaning g x ≡ m → Something m → asLeft g m .wrong ≡ false → OkW g x
   unfolding asLeft
   left-ok (declared d h) e s w = left-thing d h (d .thing) e refl w
   left-ok (given k a) e s w = absurd (true-false w)
   left-ok nothing e s w = absurd s
 
-  held-thing : (t : Sort) (d : Declared) (h : List Scope) (k : Thing) → meaning g x ≡ declared d h → d .thing ≡ k → thingOf t k ≡ true → OkV g x
-  held-thing t d h (variable s) e f w = cell-as g x d h (variable s) e f tt
-  held-thing t d h (formal s) e f w = cell-as g x d h (formal s) e f tt
+  held-thing : (t : Sort) (d : Declared) (h : List Scope) (k : Thing) → meaning g x ≡ declared d h → d .thing ≡ k → thingOf t k ≡ true → OkW g x
+  held-thing t d h (variable s) e f w = way-direct g x d h (variable s) e f refl (cell-as g x d h (variable s) e f tt)
+  held-thing t d h (formal s) e f w = way-direct g x d h (formal s) e f refl (cell-as g x d h (formal s) e f tt)
+  held-thing t d h (by-name s) e f w = way-sought g x d h s e f
   held-thing t d h (routine p) e f w = absurd (true-false (sym w))
 
-  held-ok : (t : Sort) (m : Meaning) → meaning g x ≡ m → Something m → isVariable t m ≡ true → OkV g x
+  held-ok : (t : Sort) (m : Meaning) → meaning g x ≡ m → Something m → isVariable t m ≡ true → OkW g x
   unfolding isVariable
   held-ok t (declared d h) e s w = held-thing t d h (d .thing) e refl w
   held-ok t (given k a) e s w = absurd (true-false (sym w))
@@ -368,10 +368,10 @@ module _ (g : List Scope) (x : Name) where
       → thingCalled t (count es) ≡ false → OkEs g es → OkCommand g x es (thingTold t)
   told-thing es d h (variable s) e f w k = absurd (true-false w)
   told-thing es d h (formal s) e f w k = absurd (true-false w)
+  told-thing es d h (by-name s) e f w k = absurd (true-false w)
   told-thing es d h (routine p) e f w k =
       let n = eqb-true (length (formalsOf p)) (count es) (not-false (eqb (length (formalsOf p)) (count es)) w) in
-      let m = total-body p in
-      ((means-as g x d h p e f, omega arith), k)
+      ((means-as g x d h p e f, refl, n), k)
 
   -- the second actual of ininteger
   told-into : (e f : Expression) → isName g integer f ≡ true → Meant (usesE g f) → OkE g e → OkCommand g x (then e (then f done)) (into e f)
@@ -478,7 +478,7 @@ module _ (g : List Scope) where
       )
 
   of-repeat : (x : Name) (l : Element) (ls : List Element) (s : Statement) → Meant (usesS g (repeat x l ls s)) → faultsS g (repeat x l ls s) ≡ []
-      → OkV g x × OkL g (l ∷ ls) × Part s
+      → OkW g x × OkL g (l ∷ ls) × Part s
   unfolding usesS faultsS
   of-repeat x l ls s u f =
       let v = isVariable integer (meaning g x) in

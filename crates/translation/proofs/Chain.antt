@@ -1,23 +1,27 @@
 -- The environment of the source rules against the chain of enclosing activations: an entry of an activation has its first cell at the activation's
--- base and the scope's offset. So the machine finds the cell that the source means. Assumes nothing.
+-- base and the scope's offset, and a called body's has below it the chain of its call. So the machine finds the cell that the source means, and the
+-- code of the actual that a name formal stands for. Assumes nothing.
 use Prim.Native.Nat.{ℕ, zero, suc, _+_, _-_, _≤_, _<_}
 use native.Mathlib.Omega.{arith}
 use mathlib.Core.Bool.{Bool, true, false, cond}
 use mathlib.Core.Path.{_≡_, refl, sym, ap, _∙_}
-use mathlib.Core.List.{List, [], _∷_, map}
+use mathlib.Core.List.{List, [], _∷_, _++_, map}
 use mathlib.Core.Option.{Option, none, some, Option·none-ne-some}
 use lib.ListN.{getD, length}
 use Rattle.symbols.specs.Names.{sameName}
 use Rattle.symbols.specs.Text.{bytes}
-use Rattle.machine.specs.Data.{Fate, gone, Act, push, load, store, assign, reserve, forget, receive, send, keep, bump, unary, binary, actOn, Test, condition, upto, testOn}
-use Rattle.machine.specs.Instructions.{Instr}
+use Rattle.machine.specs.Data.{Fate, gone, Act, push, load, store, assign, reserve, forget, receive, send, keep, bump, unary, binary, lend, channel, sum, Data, foundIn, actOn, Test, condition, upto, testOn}
+use Rattle.machine.specs.Instructions.{Instr, Loc, lc, fnd, RETURN}
 use Rattle.machine.specs.Machine.{Frame, fr, frameAt, linkOf, baseOf, base, walk, cellIn}
-use Rattle.names.specs.Program.{Name, Specification, Declarations, Procedure}
-use Rattle.names.specs.Scopes.{Thing, variable, routine, formal, Declared, Scope, ofBlock, ofBody, declares, inBlock, inBody, specified, specificationsOf, formalsOf, same, findIn, findGiven, Given, Meaning, declared, given, nothing, innermost, meaning}
-use Rattle.rules.specs.Entered.{Entry, entered, scopesOf, cellsOf, total, results, cellsIn, before, cut, isSome, declaring, bodyOfThis, among, firstOr, cellFor, cellAs, cellOf}
-use Rattle.translation.specs.Translate.{Mark, blk, own, scopeAt, scopes, cutG, levels, amongG, offsetOf, locFor, locAs, loc, target, codeDs}
-use Rattle.translation.specs.Scoped.{nearest, HasCell, CellAs, OkV, MeansAs, OkDs}
+use Rattle.names.specs.Program.{Name, Sort, Specification, Declarations, none as no-more, variables, declare, Procedure, Expression, Expressions, done, then}
+use Rattle.names.specs.Scopes.{Thing, variable, routine, formal, by-name, formalAs, has, sortOf, valuesOf, nameOf, variablesIn, Declared, Scope, ofBlock, ofBody, inBlock, inBody, specified, specificationsOf, formalsOf, same, findIn, findGiven, Given, Meaning, declared, given, nothing, innermost, meaning}
+use Rattle.rules.specs.Entered.{Env, outside, entered, called, scopesOf, cellsOf, total, oneIf, cellsIn, before, placeIn, cut, isSome, declaring, bodyOfThis, among, firstOr, cellFor, cellAs, cellOf, actual, actualOf, standsIn}
+use Rattle.rules.specs.Calls.{Primary, held, worked, function, absolute, greatest, no-primary, primary, givenAs, withType, alone, thingAs, thingWay, Way, direct, sought, way}
+use Rattle.rules.specs.Rules.{Spot, here, there, cellAt}
+use Rattle.translation.specs.Translate.{Mark, blk, own, acl, scopes, cutG, levels, amongG, offsetOf, locFor, locAs, loc, spot, target, codeDs, storePart, codeE}
+use Rattle.translation.specs.Scoped.{nearest, HasCell, CellAs, OkV, MeansAs, OkDs, OkE}
 use Rattle.translation.proofs.Stands.{procedureOf, CodeAt, Ready, ready}
+use Rattle.translation.proofs.CellKinds.{Kind, nam, Plain, plain-eq}
 
 -- ---- scopes
 
@@ -36,18 +40,143 @@ bound (c ∷ l) x d e h = go (same (c .name) x) (λ e. bound l x d e h) e
         let w = f e in
         omega arith
 
+-- what a formal is
+abbrev formalIn : List Specification → List Name → Name → Declared
+formalIn ss vs y = record { name = y; thing = formalAs (has vs y) (specified ss y) }
+
 -- a formal is no procedure
-no-routine : (ss : List Specification) (xs : List Name) (x : Name) (d : Declared) (p : Procedure) → findIn (map (λ y. record { name = y; thing = formal (specified ss y) }) xs) x ≡ some d → d .thing ≡ routine p → ⊥
+no-procedure : (b : Bool) (t : Option Sort) → procedureOf (formalAs b t) ≡ none
+no-procedure true t = refl
+no-procedure false t = refl
+
+no-routine : (ss : List Specification) (vs xs : List Name) (x : Name) (d : Declared) (p : Procedure) → findIn (map (formalIn ss vs) xs) x ≡ some d → d .thing ≡ routine p → ⊥
 unfolding findIn
-no-routine ss [] x d p e e' = Option·none-ne-some d e
-no-routine ss (y ∷ ys) x d p e e' = go (same y x) (λ e. no-routine ss ys x d p e e') e
+no-routine ss vs [] x d p e e' = Option·none-ne-some d e
+no-routine ss vs (y ∷ ys) x d p e e' = go (same y x) (λ e. no-routine ss vs ys x d p e e') e
   where
-    go : (t : Bool) → (findIn (map (λ y. record { name = y; thing = formal (specified ss y) }) ys) x ≡ some d → ⊥) → cond t (some (record { name = y; thing = formal (specified ss y) })) (findIn (map (λ y. record { name = y; thing = formal (specified ss y) }) ys) x) ≡ some d → ⊥
+    go : (t : Bool) → (findIn (map (formalIn ss vs) ys) x ≡ some d → ⊥) → cond t (some (formalIn ss vs y)) (findIn (map (formalIn ss vs) ys) x) ≡ some d → ⊥
     go true f e =
-        let e₁ : record { name = y; thing = formal (specified ss y) } ≡ d = cc in
-        let e₂ : formal (specified ss y) ≡ routine p = ap (λ d. d .thing) e₁ ∙ e' in
-        Option·none-ne-some p (ap procedureOf e₂)
+        let e₁ : formalIn ss vs y ≡ d = cc in
+        let e₂ : formalAs (has vs y) (specified ss y) ≡ routine p = ap (λ d. d .thing) e₁ ∙ e' in
+        Option·none-ne-some p (sym (no-procedure (has vs y) (specified ss y)) ∙ ap procedureOf e₂)
     go false f e = f e
+
+-- a formal has one cell
+one-cell : (b : Bool) (t : Option Sort) → cellsOf (formalAs b t) ≡ 1
+one-cell true t = refl
+one-cell false t = refl
+
+formal-cells : (ss : List Specification) (vs xs : List Name) → total (map (formalIn ss vs) xs) ≡ length xs
+unfolding total
+formal-cells ss vs [] = refl
+formal-cells ss vs (y ∷ ys) = omega (arith, one-cell (has vs y) (specified ss y), formal-cells ss vs ys)
+
+pub body-cells : (p : Procedure) → total (inBody p) ≡ length (formalsOf p)
+unfolding inBody
+body-cells p = formal-cells (specificationsOf p) (valuesOf p) (formalsOf p)
+
+-- a variable or value formal; a name formal
+abbrev Valued : Thing → Type 0
+Valued (variable t) = Unit {0}
+Valued (formal t) = Unit {0}
+Valued (by-name t) = ⊥
+Valued (routine p) = ⊥
+
+abbrev ByName : Thing → Type 0
+ByName (variable t) = ⊥
+ByName (formal t) = ⊥
+ByName (by-name t) = Unit {0}
+ByName (routine p) = ⊥
+
+abbrev pub NamedAs : Meaning → Type 0
+NamedAs (declared d h) = ByName (d .thing)
+NamedAs (given n e) = ⊥
+NamedAs nothing = ⊥
+
+valued-one : (t : Thing) → Valued t → cellsOf t ≡ 1
+valued-one (variable t) h = refl
+valued-one (formal t) h = refl
+valued-one (by-name t) h = absurd h
+valued-one (routine p) h = absurd h
+
+-- a name formal is no variable and no procedure of a block
+no-variable : (t : Sort) (xs : List Name) (l : List Declared) (x : Name) (d : Declared) → findIn (variablesIn t xs ++ l) x ≡ some d → ByName (d .thing) → findIn l x ≡ some d
+unfolding variablesIn findIn
+no-variable t [] l x d e n = e
+no-variable t (y ∷ ys) l x d e n = go (same y x) (λ e. no-variable t ys l x d e n) e
+  where
+    go : (b : Bool) → (findIn (variablesIn t ys ++ l) x ≡ some d → findIn l x ≡ some d) → cond b (some (record { name = y; thing = variable t })) (findIn (variablesIn t ys ++ l) x) ≡ some d → findIn l x ≡ some d
+    go true f e =
+        let e₁ : d ≡ record { name = y; thing = variable t } = cc in
+        let n' : ByName (variable t) = rw (ap (λ d. d .thing) e₁) at n in
+        absurd n'
+    go false f e = f e
+
+none-by-name : (ds : Declarations) (x : Name) (d : Declared) → findIn (inBlock ds) x ≡ some d → ByName (d .thing) → ⊥
+unfolding inBlock findIn
+none-by-name no-more x d e n = Option·none-ne-some d e
+none-by-name (variables t xs ds) x d e n = none-by-name ds x d (no-variable t xs (inBlock ds) x d e n) n
+none-by-name (declare q ds) x d e n = go (same (nameOf q) x) (λ e. none-by-name ds x d e n) e
+  where
+    go : (b : Bool) → (findIn (inBlock ds) x ≡ some d → ⊥) → cond b (some (record { name = nameOf q; thing = routine q })) (findIn (inBlock ds) x) ≡ some d → ⊥
+    go true f e =
+        let e₁ : d ≡ record { name = nameOf q; thing = routine q } = cc in
+        let n' : ByName (routine q) = rw (ap (λ d. d .thing) e₁) at n in
+        n'
+    go false f e = f e
+
+-- a name that is worked out, or sought for a store, is a name formal
+abbrev rankP : Primary → ℕ
+rankP held = 0
+rankP worked = 1
+rankP (function p) = 0
+rankP absolute = 0
+rankP greatest = 0
+rankP no-primary = 0
+
+abbrev rankW : Way → ℕ
+rankW direct = 0
+rankW sought = 1
+
+given-rank : (n : ℕ) (es : Expressions) → rankP (givenAs n es) ≡ 0
+given-rank zero done = refl
+given-rank zero (then e done) = refl
+given-rank zero (then e (then f es)) = refl
+given-rank (suc zero) done = refl
+given-rank (suc zero) (then e es) = refl
+given-rank (suc (suc n)) es = refl
+
+typed-rank : (t : Option Sort) (p : Procedure) → rankP (withType t p) ≡ 0
+typed-rank none p = refl
+typed-rank (some t) p = refl
+
+alone-rank : (es : Expressions) → rankP (alone es) ≡ 0
+alone-rank done = refl
+alone-rank (then e es) = refl
+
+pub worked-named : (m : Meaning) (es : Expressions) → primary m es ≡ worked → NamedAs m
+unfolding primary
+worked-named (declared d h) es e = go (d .thing) e
+  where
+    go : (t : Thing) → thingAs t es ≡ worked → ByName t
+    go (variable t) e = absurd (omega (arith, alone-rank es, ap rankP e))
+    go (formal t) e = absurd (omega (arith, alone-rank es, ap rankP e))
+    go (by-name t) e = tt
+    go (routine p) e = absurd (omega (arith, typed-rank (sortOf p) p, ap rankP e))
+worked-named (given n i) es e = absurd (omega (arith, given-rank n es, ap rankP e))
+worked-named nothing es e = absurd (omega (arith, ap rankP e))
+
+pub sought-named : (m : Meaning) → way m ≡ sought → NamedAs m
+unfolding way
+sought-named (declared d h) e = go (d .thing) e
+  where
+    go : (t : Thing) → thingWay t ≡ sought → ByName t
+    go (variable t) e = absurd (omega (arith, ap rankW e))
+    go (formal t) e = absurd (omega (arith, ap rankW e))
+    go (by-name t) e = tt
+    go (routine p) e = absurd (omega (arith, ap rankW e))
+sought-named (given n i) e = absurd (omega (arith, ap rankW e))
+sought-named nothing e = absurd (omega (arith, ap rankW e))
 
 abbrev isDeclared : Meaning → Option Declared
 isDeclared (declared d g) = some d
@@ -67,32 +196,50 @@ given-only n (y ∷ l) x = go (sameName (bytes (y .spelling)) (x .letters)) (fin
 -- the innermost of these scopes declares d under the name
 abbrev Finds : List Mark → Name → Declared → Type 0
 Finds [] x d = ⊥
-Finds (m ∷ g) x d = findIn (declares (scopeAt m)) x ≡ some d
+Finds (blk o ds b ∷ g) x d = findIn (inBlock ds) x ≡ some d
+Finds (own p ∷ g) x d = findIn (inBody p) x ≡ some d
+Finds (acl ∷ g) x d = ⊥
 
 found-in : (g : List Mark) (x : Name) (d : Declared) (h : List Scope) → meaning (scopes g) x ≡ declared d h → Finds (cutG (declaring x) g) x d
 unfolding meaning cutG declaring
 found-in [] x d h e = absurd (Option·none-ne-some d (sym (given-only 0 _ x) ∙ ap isDeclared e))
-found-in (m ∷ g) x d h e = go (findIn (declares (scopeAt m)) x) refl (found-in g x d h) e
+found-in (blk o ds b ∷ g) x d h e = go (findIn (inBlock ds) x) refl (found-in g x d h) e
   where
-    go : (o : Option Declared) → findIn (declares (scopeAt m)) x ≡ o → (meaning (scopes g) x ≡ declared d h → Finds (cutG (declaring x) g) x d) → innermost o (scopeAt m ∷ scopes g) (meaning (scopes g) x) ≡ declared d h → Finds (cond (isSome o) (m ∷ g) (cutG (declaring x) g)) x d
+    go : (i : Option Declared) → findIn (inBlock ds) x ≡ i → (meaning (scopes g) x ≡ declared d h → Finds (cutG (declaring x) g) x d) → innermost i (ofBlock ds ∷ scopes g) (meaning (scopes g) x) ≡ declared d h → Finds (cond (isSome i) (blk o ds b ∷ g) (cutG (declaring x) g)) x d
     go none e' f e = f e
     go (some c) e' f e =
         let e₁ : c ≡ d = cc in
         e' ∙ ap some e₁
+found-in (own p ∷ g) x d h e = go (findIn (inBody p) x) refl (found-in g x d h) e
+  where
+    go : (i : Option Declared) → findIn (inBody p) x ≡ i → (meaning (scopes g) x ≡ declared d h → Finds (cutG (declaring x) g) x d) → innermost i (ofBody p ∷ scopes g) (meaning (scopes g) x) ≡ declared d h → Finds (cond (isSome i) (own p ∷ g) (cutG (declaring x) g)) x d
+    go none e' f e = f e
+    go (some c) e' f e =
+        let e₁ : c ≡ d = cc in
+        e' ∙ ap some e₁
+found-in (acl ∷ g) x d h e = found-in g x d h e
 
 -- how many result cells the innermost scope has
 abbrev resultsG : List Mark → ℕ
 resultsG [] = 0
-resultsG (m ∷ g) = results (scopeAt m)
+resultsG (blk o ds b ∷ g) = 0
+resultsG (own p ∷ g) = oneIf (sortOf p)
+resultsG (acl ∷ g) = 0
 
 nearest-cut : (g : List Mark) (p : Procedure) → nearest (scopes g) p ≡ resultsG (cutG (bodyOfThis p) g)
 unfolding nearest cutG
 nearest-cut [] p = refl
-nearest-cut (m ∷ g) p = go (bodyOfThis p (scopeAt m)) (nearest-cut g p)
+nearest-cut (blk o ds b ∷ g) p = go (bodyOfThis p (ofBlock ds)) (nearest-cut g p)
   where
-    go : (t : Bool) → nearest (scopes g) p ≡ resultsG (cutG (bodyOfThis p) g) → cond t (results (scopeAt m)) (nearest (scopes g) p) ≡ resultsG (cond t (m ∷ g) (cutG (bodyOfThis p) g))
+    go : (t : Bool) → nearest (scopes g) p ≡ resultsG (cutG (bodyOfThis p) g) → cond t 0 (nearest (scopes g) p) ≡ resultsG (cond t (blk o ds b ∷ g) (cutG (bodyOfThis p) g))
     go true e = refl
     go false e = e
+nearest-cut (own p' ∷ g) p = go (bodyOfThis p (ofBody p')) (nearest-cut g p)
+  where
+    go : (t : Bool) → nearest (scopes g) p ≡ resultsG (cutG (bodyOfThis p) g) → cond t (oneIf (sortOf p')) (nearest (scopes g) p) ≡ resultsG (cond t (own p' ∷ g) (cutG (bodyOfThis p) g))
+    go true e = refl
+    go false e = e
+nearest-cut (acl ∷ g) p = nearest-cut g p
 
 -- ---- a frame more
 
@@ -122,144 +269,333 @@ Vars Q keep = Unit {0}
 Vars Q (bump q x) = Q x
 Vars Q (unary q o) = Unit {0}
 Vars Q (binary q o) = Unit {0}
+Vars Q (lend x) = Q x
+Vars Q (channel q) = Unit {0}
+Vars Q (sum q x) = Q x
 
 abbrev pub VarsT : {X : Type 0} → (X → Type 0) → Test X → Type 0
 VarsT Q condition = Unit {0}
 VarsT Q (upto q x) = Q x
 
-module _ (place : ℕ → ℕ) (P : List Instr) where
-  -- the entries of activation f begin at its base and their offset, those around belong to the activation around, and all cells are below z; the
-  -- procedures of each block are well-scoped, and their code stands where the translator says
-  pub data Chain (fs : List Frame) : ℕ → ℕ → List Mark → List Entry → Type 0 where
-    root : {z : ℕ} → Chain fs z 0 [] []
-    inner : {z f o b : ℕ} {ds : Declarations} {g : List Mark} {v : List Entry} (r : List Instr) → CodeAt place P b (codeDs place (blk o ds b ∷ g) ds b r) → OkDs (ofBlock ds ∷ scopes g) ds → base fs f + o + cellsIn (ofBlock ds) ≤ z → Chain fs (base fs f + o) f g v → Chain fs z f (blk o ds b ∷ g) (entered (ofBlock ds) (base fs f + o) ∷ v)
-    link : {z f : ℕ} {p : Procedure} {g : List Mark} {v : List Entry} → f < length fs → baseOf (frameAt fs f) + cellsIn (ofBody p) ≤ z → Chain fs (baseOf (frameAt fs f)) (linkOf (frameAt fs f)) g v → Chain fs z (suc f) (own p ∷ g) (entered (ofBody p) (baseOf (frameAt fs f)) ∷ v)
+-- n cells from c on that are no name formal's
+abbrev pub Clear : (ℕ → Kind) → ℕ → ℕ → Type 0
+Clear K c n = (i : ℕ) → i < n → Plain (K (c + i))
 
-  pub chain-more : (fs : List Frame) {z z' f : ℕ} {g : List Mark} {v : List Entry} → Chain fs z f g v → z ≤ z' → Chain fs z' f g v
+-- what a name or the cell found needs: a name has a cell
+abbrev pub OkSpot : List Scope → Spot → Type 0
+OkSpot g (here x) = OkV g x
+OkSpot g there = Unit {0}
+
+module _ (place : ℕ → ℕ) (P : List Instr) where
+  -- the code of a name formal's actual stands at a: its store part, its read part two further; g: the scopes of the call
+  abbrev pub ActualAt : List Mark → Expression → ℕ → Type 0
+  ActualAt g e a = (r : List Instr) × CodeAt place P a (storePart place (acl ∷ g) e ∷ RETURN ∷ codeE place (acl ∷ g) e (suc (suc a)) (RETURN ∷ r)) × OkE (scopes g) e
+
+  -- the cells of the formals, from c on
+  abbrev pub ActualOne : (ℕ → Kind) → List Mark → Bool → Expression → ℕ → Type 0
+  ActualOne K g true e c = Plain (K c)
+  ActualOne K g false e c = (a : ℕ) × (K c ≡ nam a) × ActualAt g e a
+
+  abbrev pub Actuals : (ℕ → Kind) → List Mark → List Name → List Name → Expressions → ℕ → Type 0
+  Actuals K g vs [] done c = Unit {0}
+  Actuals K g vs [] (then e es) c = ⊥
+  Actuals K g vs (x ∷ xs) done c = ⊥
+  Actuals K g vs (x ∷ xs) (then e es) c = ActualOne K g (has vs x) e c × Actuals K g vs xs es (suc c)
+
+  -- the entries of activation f begin at its base and their offset, those around belong to the activation around, and all cells are below z; the
+  -- procedures of each block are well-scoped, and their code stands where the translator says; K: the kinds of the cells. A body's call was made by
+  -- the activation before it, whose environment is such a chain too, and a name formal's cell says where its actual's code stands
+  pub data Chain (fs : List Frame) (K : ℕ → Kind) : ℕ → ℕ → List Mark → Env → Type 0 where
+    root : {z : ℕ} → Chain fs K z 0 [] outside
+    inner : {z f o b : ℕ} {ds : Declarations} {g : List Mark} {v : Env} (r : List Instr) → CodeAt place P b (codeDs place (blk o ds b ∷ g) ds b r) → OkDs (ofBlock ds ∷ scopes g) ds → base fs f + o + cellsIn (ofBlock ds) ≤ z → Clear K (base fs f + o) (cellsIn (ofBlock ds)) → Chain fs K (base fs f + o) f g v → Chain fs K z f (blk o ds b ∷ g) (entered ds (base fs f + o) v)
+    link : {z f : ℕ} {p : Procedure} {es : Expressions} {g g' : List Mark} {v v' : Env} → f < length fs → baseOf (frameAt fs f) + cellsIn (ofBody p) ≤ z → (oneIf (sortOf p) ≡ 1 → Plain (K (baseOf (frameAt fs f)))) → Actuals K g' (valuesOf p) (formalsOf p) es (baseOf (frameAt fs f) + oneIf (sortOf p)) → Chain fs K (baseOf (frameAt fs f)) f g' v' → Chain fs K (baseOf (frameAt fs f)) (linkOf (frameAt fs f)) g v → Chain fs K z (suc f) (own p ∷ g) (called p (baseOf (frameAt fs f)) es v' v)
+    working : {z y f : ℕ} {g : List Mark} {v : Env} → f < length fs → suc y ≤ z → Chain fs K y (linkOf (frameAt fs f)) g v → Chain fs K z (suc f) (acl ∷ g) v
+
+  pub chain-more : (fs : List Frame) {K : ℕ → Kind} {z z' f : ℕ} {g : List Mark} {v : Env} → Chain fs K z f g v → z ≤ z' → Chain fs K z' f g v
   chain-more fs root le = root
-  chain-more fs {z' = z'} (inner {f = f} {o = o} {ds = ds} r h k w c) le =
+  chain-more fs {z' = z'} (inner {f = f} {o = o} {ds = ds} r h k w u c) le =
       let w' : base fs f + o + cellsIn (ofBlock ds) ≤ z' = omega arith in
-      inner r h k w' c
-  chain-more fs {z' = z'} (link {f = f} {p = p} h w c) le =
+      inner r h k w' u c
+  chain-more fs {z' = z'} (link {f = f} {p = p} h w u a c' c) le =
       let w' : baseOf (frameAt fs f) + cellsIn (ofBody p) ≤ z' = omega arith in
-      link h w' c
+      link h w' u a c' c
+  chain-more fs {z' = z'} (working {y = y} h w c) le =
+      let w' : suc y ≤ z' = omega arith in
+      working h w' c
+
+  -- kinds of cells above do not matter
+  one-as : (K K' : ℕ → Kind) (g : List Mark) (m : Bool) (e : Expression) (c : ℕ) → K c ≡ K' c → ActualOne K g m e c → ActualOne K' g m e c
+  one-as K K' g true e c i h = plain-eq (K c) (K' c) i h
+  one-as K K' g false e c i h = (h .0, sym i ∙ h .1, h .2)
+
+  actuals-as : (K K' : ℕ → Kind) (g : List Mark) (vs xs : List Name) (es : Expressions) (c z : ℕ) → c + length xs ≤ z → ((c : ℕ) → c < z → K c ≡ K' c) → Actuals K g vs xs es c → Actuals K' g vs xs es c
+  actuals-as K K' g vs [] done c z le i h = tt
+  actuals-as K K' g vs [] (then e es) c z le i h = absurd h
+  actuals-as K K' g vs (x ∷ xs) done c z le i h = absurd h
+  actuals-as K K' g vs (x ∷ xs) (then e es) c z le i h = (one-as K K' g (has vs x) e c (i c (omega arith)) (h .0), actuals-as K K' g vs xs es (suc c) z (omega arith) i (h .1))
+
+  pub chain-as : (fs : List Frame) {K : ℕ → Kind} (K' : ℕ → Kind) {z f : ℕ} {g : List Mark} {v : Env} → Chain fs K z f g v → ((c : ℕ) → c < z → K c ≡ K' c) → Chain fs K' z f g v
+  chain-as fs K' root i = root
+  chain-as fs {K} K' {z = z} (inner {f = f} {o = o} {ds = ds} r h k w u c) i =
+      let u' : Clear K' (base fs f + o) (cellsIn (ofBlock ds)) = (λ n l. plain-eq (K (base fs f + o + n)) (K' (base fs f + o + n)) (i (base fs f + o + n) (omega arith)) (u n l)) in
+      inner r h k w u' (chain-as fs K' c (λ n l. i n (omega arith)))
+  chain-as fs {K} K' {z = z} (link {f = f} {p = p} {es = es} {g' = g'} h w u a c' c) i =
+      let e = body-cells p in
+      let b = baseOf (frameAt fs f) in
+      let u' : oneIf (sortOf p) ≡ 1 → Plain (K' b) = (λ l. plain-eq (K b) (K' b) (i b (omega arith)) (u l)) in
+      link h w u' (actuals-as K K' g' (valuesOf p) (formalsOf p) es (b + oneIf (sortOf p)) z (omega arith) i a) (chain-as fs K' c' (λ n l. i n (omega arith))) (chain-as fs K' c (λ n l. i n (omega arith)))
+  chain-as fs K' (working h w c) i = working h w (chain-as fs K' c (λ n l. i n (omega arith)))
 
   -- the environment and the translator know the same scopes
-  pub chain-scopes : (fs : List Frame) {z f : ℕ} {g : List Mark} {v : List Entry} → Chain fs z f g v → scopesOf v ≡ scopes g
+  pub chain-scopes : (fs : List Frame) {K : ℕ → Kind} {z f : ℕ} {g : List Mark} {v : Env} → Chain fs K z f g v → scopesOf v ≡ scopes g
   chain-scopes fs root = refl
-  chain-scopes fs (inner {ds = ds} r h k w c) = ap (λ g. ofBlock ds ∷ g) (chain-scopes fs c)
-  chain-scopes fs (link {p = p} h w c) = ap (λ g. ofBody p ∷ g) (chain-scopes fs c)
+  chain-scopes fs (inner {ds = ds} r h k w u c) = ap (λ g. ofBlock ds ∷ g) (chain-scopes fs c)
+  chain-scopes fs (link {p = p} h w u a c' c) = ap (λ g. ofBody p ∷ g) (chain-scopes fs c)
+  chain-scopes fs (working h w c) = chain-scopes fs c
 
   -- a block left
-  pub chain-outer : (fs : List Frame) {z f o b : ℕ} {ds : Declarations} {g : List Mark} {e : Entry} {v : List Entry} → Chain fs z f (blk o ds b ∷ g) (e ∷ v) → Chain fs (base fs f + o) f g v
-  chain-outer fs (inner r h k w c) = c
+  pub chain-outer : (fs : List Frame) {K : ℕ → Kind} {z f o b n : ℕ} {ds ds' : Declarations} {g : List Mark} {v : Env} → Chain fs K z f (blk o ds b ∷ g) (entered ds' n v) → Chain fs K (base fs f + o) f g v
+  chain-outer fs (inner r h k w u c) = c
 
   -- out to a scope
-  pub chain-cut : (fs : List Frame) (t : Scope → Bool) {z f : ℕ} {g : List Mark} {v : List Entry} → Chain fs z f g v → Chain fs z (walk fs f (levels t g)) (cutG t g) (cut t v)
+  pub chain-cut : (fs : List Frame) (t : Scope → Bool) {K : ℕ → Kind} {z f : ℕ} {g : List Mark} {v : Env} → Chain fs K z f g v → Chain fs K z (walk fs f (levels t g)) (cutG t g) (cut t v)
   unfolding cut cutG levels walk
   chain-cut fs t root = root
-  chain-cut fs t (inner {z = z} {f = f} {o = o} {b = b} {ds = ds} {g = g} {v = v} r h k w c) = go (t (ofBlock ds)) (chain-more fs (chain-cut fs t c) (omega arith))
+  chain-cut fs t {K} (inner {z = z} {f = f} {o = o} {b = b} {ds = ds} {g = g} {v = v} r h k w u c) = go (t (ofBlock ds)) (chain-more fs (chain-cut fs t c) (omega arith))
     where
-      go : (y : Bool) → Chain fs z (walk fs f (levels t g)) (cutG t g) (cut t v) → Chain fs z (walk fs f (cond y 0 (levels t g))) (cond y (blk o ds b ∷ g) (cutG t g)) (cond y (entered (ofBlock ds) (base fs f + o) ∷ v) (cut t v))
-      go true x = inner r h k w c
+      go : (y : Bool) → Chain fs K z (walk fs f (levels t g)) (cutG t g) (cut t v) → Chain fs K z (walk fs f (cond y 0 (levels t g))) (cond y (blk o ds b ∷ g) (cutG t g)) (cond y (entered ds (base fs f + o) v) (cut t v))
+      go true x = inner r h k w u c
       go false x = x
-  chain-cut fs t (link {z = z} {f = f} {p = p} {g = g} {v = v} h w c) = go (t (ofBody p)) (chain-more fs (chain-cut fs t c) (omega arith))
+  chain-cut fs t {K} (link {z = z} {f = f} {p = p} {es = es} {g = g} {v = v} {v' = v'} h w u a c' c) = go (t (ofBody p)) (chain-more fs (chain-cut fs t c) (omega arith))
     where
-      go : (y : Bool) → Chain fs z (walk fs (linkOf (frameAt fs f)) (levels t g)) (cutG t g) (cut t v) → Chain fs z (walk fs (suc f) (cond y 0 (suc (levels t g)))) (cond y (own p ∷ g) (cutG t g)) (cond y (entered (ofBody p) (baseOf (frameAt fs f)) ∷ v) (cut t v))
-      go true x = link h w c
+      go : (y : Bool) → Chain fs K z (walk fs (linkOf (frameAt fs f)) (levels t g)) (cutG t g) (cut t v) → Chain fs K z (walk fs (suc f) (cond y 0 (suc (levels t g)))) (cond y (own p ∷ g) (cutG t g)) (cond y (called p (baseOf (frameAt fs f)) es v' v) (cut t v))
+      go true x = link h w u a c' c
       go false x = x
+  chain-cut fs t (working h w c) = chain-more fs (chain-cut fs t c) (omega arith)
 
-  -- ---- the machine finds the cell that the source means, and it is below z
+  -- ---- the machine finds the cell that the source means, it is below z, and no name formal's
 
-  chain-cell : (fs : List Frame) (n : ℕ) (x : Name) (d : Declared) {z f : ℕ} {g : List Mark} {v : List Entry} → Chain fs z f g v → Finds g x d → cellsOf (d .thing) ≡ 1 → (base fs f + amongG g x ≡ among n v x) × (among n v x < z)
+  value-plain : (K : ℕ → Kind) (g : List Mark) (ss : List Specification) (vs xs : List Name) (es : Expressions) (c : ℕ) (x : Name) (d : Declared) → Actuals K g vs xs es c → findIn (map (formalIn ss vs) xs) x ≡ some d → Valued (d .thing) → Plain (K (c + before (map (formalIn ss vs) xs) x))
+  unfolding findIn before
+  value-plain K g ss vs [] es c x d h e n = absurd (Option·none-ne-some d e)
+  value-plain K g ss vs (y ∷ ys) done c x d h e n = absurd h
+  value-plain K g ss vs (y ∷ ys) (then i es) c x d h e n = go (same y x) (has vs y) (h .0) (λ e. value-plain K g ss vs ys es (suc c) x d (h .1) e n) e
+    where
+      go : (t m : Bool) → ActualOne K g m i c → (findIn (map (formalIn ss vs) ys) x ≡ some d → Plain (K (suc c + before (map (formalIn ss vs) ys) x))) → cond t (some (record { name = y; thing = formalAs m (specified ss y) })) (findIn (map (formalIn ss vs) ys) x) ≡ some d → Plain (K (c + cond t 0 (cellsOf (formalAs m (specified ss y)) + before (map (formalIn ss vs) ys) x)))
+      go true true k f e =
+          let e' : c ≡ c + 0 = omega arith in
+          plain-eq (K c) (K (c + 0)) (ap K e') k
+      go true false k f e =
+          let e₁ : d ≡ record { name = y; thing = by-name (specified ss y) } = cc in
+          let n' : Valued (by-name (specified ss y)) = rw (ap (λ d. d .thing) e₁) at n in
+          absurd n'
+      go false true k f e =
+          let e' : suc c + before (map (formalIn ss vs) ys) x ≡ c + (1 + before (map (formalIn ss vs) ys) x) = omega arith in
+          plain-eq _ _ (ap K e') (f e)
+      go false false k f e =
+          let e' : suc c + before (map (formalIn ss vs) ys) x ≡ c + (1 + before (map (formalIn ss vs) ys) x) = omega arith in
+          plain-eq _ _ (ap K e') (f e)
+
+  chain-cell : (fs : List Frame) (n : ℕ) (x : Name) (d : Declared) {K : ℕ → Kind} {z f : ℕ} {g : List Mark} {v : Env} → Chain fs K z f g v → Finds g x d → Valued (d .thing) → (base fs f + amongG g x ≡ among n v x) × (among n v x < z) × Plain (K (among n v x))
+  unfolding inBody
   chain-cell fs n x d root e h = absurd e
-  chain-cell fs n x d (inner {ds = ds} r k o w c) e h =
-      let u = bound (inBlock ds) x d e h in
-      (omega arith, omega arith)
-  chain-cell fs n x d (link {p = p} k w c) e h =
-      let u = bound (inBody p) x d e h in
-      (omega arith, omega arith)
+  chain-cell fs n x d {K} (inner {f = f} {o = o} {ds = ds} r k i w p c) e h =
+      let u = bound (inBlock ds) x d e (valued-one (d .thing) h) in
+      (omega arith, omega arith, p (placeIn (ofBlock ds) x) (omega arith))
+  chain-cell fs n x d {K} (link {f = f} {p = p} {es = es} {g' = g'} k w y a c' c) e h =
+      let u = bound (inBody p) x d e (valued-one (d .thing) h) in
+      let b = baseOf (frameAt fs f) in
+      let q = value-plain K g' (specificationsOf p) (valuesOf p) (formalsOf p) es (b + oneIf (sortOf p)) x d a e h in
+      let i : b + oneIf (sortOf p) + before (inBody p) x ≡ b + (oneIf (sortOf p) + before (inBody p) x) = omega arith in
+      (omega arith, omega arith, plain-eq _ _ (ap K i) q)
+  chain-cell fs n x d (working k w c) e h = absurd e
 
-  chain-result : (fs : List Frame) (n : ℕ) {z f : ℕ} {g : List Mark} {v : List Entry} → Chain fs z f g v → resultsG g ≡ 1 → (base fs f + offsetOf g ≡ firstOr n v) × (firstOr n v < z)
+  chain-result : (fs : List Frame) (n : ℕ) {K : ℕ → Kind} {z f : ℕ} {g : List Mark} {v : Env} → Chain fs K z f g v → resultsG g ≡ 1 → (base fs f + offsetOf g ≡ firstOr n v) × (firstOr n v < z) × Plain (K (firstOr n v))
   chain-result fs n root h = absurd (omega arith)
-  chain-result fs n (inner r k o w c) h = absurd (omega arith)
-  chain-result fs n (link k w c) h = (omega arith, omega arith)
+  chain-result fs n (inner r k o w u c) h = absurd (omega arith)
+  chain-result fs n (link k w u a c' c) h = (omega arith, omega arith, u h)
+  chain-result fs n (working k w c) h = absurd (omega arith)
 
-  pub found : {z : ℕ} {fs : List Frame} {g : List Mark} {v : List Entry} → Chain fs z (length fs) g v → (n : ℕ) (x : Name) → OkV (scopes g) x → (cellIn fs (loc g x) ≡ cellOf n v x) × (cellOf n v x < z)
-  unfolding cellIn loc cellOf
-  found {z = z} {fs = fs} {g = g} {v = v} c n x o = rw (chain-scopes fs c) (go (meaning (scopes g) x) refl o)
+  -- seen from activation f, the place is the cell
+  abbrev pub At : List Frame → ℕ → Loc → ℕ → Type 0
+  At fs f (lc u o) c = base fs (walk fs f u) + o ≡ c
+  At fs f fnd c = ⊥
+
+  pub found : {K : ℕ → Kind} {z f : ℕ} {fs : List Frame} {g : List Mark} {v : Env} → Chain fs K z f g v → (n : ℕ) (x : Name) → OkV (scopes g) x → At fs f (loc g x) (cellOf n v x) × (cellOf n v x < z) × Plain (K (cellOf n v x))
+  unfolding loc cellOf
+  found {K = K} {z = z} {f = f} {fs = fs} {g = g} {v = v} c n x o = rw (chain-scopes fs c) (go (meaning (scopes g) x) refl o)
     where
-      thing : (d : Declared) (h : List Scope) → meaning (scopes g) x ≡ declared d h → (th : Thing) → d .thing ≡ th → HasCell (scopes g) th → (cellIn fs (locFor g th x) ≡ cellFor n v th x) × (cellFor n v th x < z)
-      thing d h e (variable t) e' o = chain-cell fs n x d (chain-cut fs (declaring x) c) (found-in g x d h e) (ap cellsOf e')
-      thing d h e (formal t) e' o = chain-cell fs n x d (chain-cut fs (declaring x) c) (found-in g x d h e) (ap cellsOf e')
+      thing : (d : Declared) (h : List Scope) → meaning (scopes g) x ≡ declared d h → (th : Thing) → d .thing ≡ th → HasCell (scopes g) th → At fs f (locFor g th x) (cellFor n v th x) × (cellFor n v th x < z) × Plain (K (cellFor n v th x))
+      thing d h e (variable t) e' o = chain-cell fs n x d (chain-cut fs (declaring x) c) (found-in g x d h e) (rw e' tt)
+      thing d h e (formal t) e' o = chain-cell fs n x d (chain-cut fs (declaring x) c) (found-in g x d h e) (rw e' tt)
+      thing d h e (by-name t) e' o = absurd o
       thing d h e (routine p) e' o = chain-result fs n (chain-cut fs (bodyOfThis p) c) (sym (nearest-cut g p) ∙ o)
 
-      go : (m : Meaning) → meaning (scopes g) x ≡ m → CellAs (scopes g) m → (cellIn fs (locAs g m x) ≡ cellAs n v m x) × (cellAs n v m x < z)
+      go : (m : Meaning) → meaning (scopes g) x ≡ m → CellAs (scopes g) m → At fs f (locAs g m x) (cellAs n v m x) × (cellAs n v m x < z) × Plain (K (cellAs n v m x))
       go (declared d h) e o = thing d h e (d .thing) refl o
       go (given i e') e o = absurd o
       go nothing e o = absurd o
 
-  -- so an operation on variables is the same operation on cells
-  pub same-act : {z : ℕ} {fs : List Frame} {g : List Mark} {v : List Entry} → Chain fs z (length fs) g v → (n : ℕ) (a : Act Name) → Vars (OkV (scopes g)) a → actOn (cellIn fs) (actOn (loc g) a) ≡ actOn (cellOf n v) a
-  same-act c n (push q i) o = refl
-  same-act c n (load q x) o = ap (load q) (found c n x o .0)
-  same-act c n (store x) o = ap store (found c n x o .0)
-  same-act c n (assign x) o = ap assign (found c n x o .0)
-  same-act c n (reserve q) o = refl
-  same-act c n forget o = refl
-  same-act c n (receive q x) o = ap (receive q) (found c n x o .0)
-  same-act c n (send q) o = refl
-  same-act c n keep o = refl
-  same-act c n (bump q x) o = ap (bump q) (found c n x o .0)
-  same-act c n (unary q i) o = refl
-  same-act c n (binary q i) o = refl
+  -- in a working out a variable's cell is further below
+  pub found-under : {K : ℕ → Kind} {z f : ℕ} {fs : List Frame} {g : List Mark} {v : Env} → Chain fs K z f (acl ∷ g) v → (n : ℕ) (x : Name) → OkV (scopes g) x → suc (cellOf n v x) < z
+  found-under {fs = fs} (working h w c) n x o =
+      let u = found c n x o in
+      omega arith
 
-  pub same-test : {z : ℕ} {fs : List Frame} {g : List Mark} {v : List Entry} → Chain fs z (length fs) g v → (n : ℕ) (a : Test Name) → VarsT (OkV (scopes g)) a → testOn (cellIn fs) (testOn (loc g) a) ≡ testOn (cellOf n v) a
-  same-test c n condition o = refl
-  same-test c n (upto q x) o = ap (upto q) (found c n x o .0)
+  at-cell : (fs : List Frame) (d : Data) (l : Loc) (c : ℕ) → At fs (length fs) l c → cellIn fs d l ≡ c
+  unfolding cellIn
+  at-cell fs d (lc u o) c e = e
+  at-cell fs d fnd c e = absurd e
+
+  -- so an operation on variables is the same operation on cells
+  same-spot : {K : ℕ → Kind} {z : ℕ} {fs : List Frame} {g : List Mark} {v : Env} → Chain fs K z (length fs) g v → (d d' : Data) → foundIn d ≡ foundIn d' → (s : Spot) → OkSpot (scopes g) s → cellIn fs d (spot g s) ≡ cellAt d' v s
+  unfolding cellIn
+  same-spot {fs = fs} {g = g} c d d' e (here x) o = at-cell fs d (loc g x) _ (found c _ x o .0)
+  same-spot c d d' e there o = e
+
+  pub same-act : {K : ℕ → Kind} {z : ℕ} {fs : List Frame} {g : List Mark} {v : Env} → Chain fs K z (length fs) g v → (d d' : Data) → foundIn d ≡ foundIn d' → (a : Act Spot) → Vars (OkSpot (scopes g)) a → actOn (cellIn fs d) (actOn (spot g) a) ≡ actOn (cellAt d' v) a
+  same-act c d d' e (push q i) o = refl
+  same-act c d d' e (load q x) o = ap (load q) (same-spot c d d' e x o)
+  same-act c d d' e (store x) o = ap store (same-spot c d d' e x o)
+  same-act c d d' e (assign x) o = ap assign (same-spot c d d' e x o)
+  same-act c d d' e (reserve q) o = refl
+  same-act c d d' e forget o = refl
+  same-act c d d' e (receive q x) o = ap (receive q) (same-spot c d d' e x o)
+  same-act c d d' e (send q) o = refl
+  same-act c d d' e keep o = refl
+  same-act c d d' e (bump q x) o = ap (bump q) (same-spot c d d' e x o)
+  same-act c d d' e (unary q i) o = refl
+  same-act c d d' e (binary q i) o = refl
+  same-act c d d' e (lend x) o = ap lend (same-spot c d d' e x o)
+  same-act c d d' e (channel q) o = refl
+  same-act c d d' e (sum q x) o = ap (sum q) (same-spot c d d' e x o)
+
+  pub same-test : {K : ℕ → Kind} {z : ℕ} {fs : List Frame} {g : List Mark} {v : Env} → Chain fs K z (length fs) g v → (d d' : Data) → foundIn d ≡ foundIn d' → (a : Test Spot) → VarsT (OkSpot (scopes g)) a → testOn (cellIn fs d) (testOn (spot g) a) ≡ testOn (cellAt d' v) a
+  same-test c d d' e condition o = refl
+  same-test c d d' e (upto q x) o = ap (upto q) (same-spot c d d' e x o)
+
+  -- ---- what a name formal stands for
+
+  -- x is a name formal of activation f, with actual e: its cell says where that one's code stands; the activation before made the call
+  pub data Stood (fs : List Frame) (K : ℕ → Kind) (z f : ℕ) (g : List Mark) (v : Env) (x : Name) : Type 0 where
+    stood : {y a : ℕ} {g' : List Mark} {v' : Env} (e : Expression) → standsIn v x ≡ actual e v' → K (base fs f + amongG g x) ≡ nam a → base fs f + amongG g x < z → suc y ≤ z → Chain fs K y (f - 1) g' v' → ActualAt g' e a → Stood fs K z f g v x
+
+  name-actual : (K : ℕ → Kind) (g : List Mark) (v : Env) (ss : List Specification) (vs xs : List Name) (es : Expressions) (c : ℕ) (x : Name) (d : Declared) → Actuals K g vs xs es c → findIn (map (formalIn ss vs) xs) x ≡ some d → ByName (d .thing) → (e : Expression) × (a : ℕ) × (actualOf v xs es x ≡ actual e v) × (K (c + before (map (formalIn ss vs) xs) x) ≡ nam a) × ActualAt g e a
+  unfolding findIn before actualOf
+  name-actual K g v ss vs [] es c x d h e n = absurd (Option·none-ne-some d e)
+  name-actual K g v ss vs (y ∷ ys) done c x d h e n = absurd h
+  name-actual K g v ss vs (y ∷ ys) (then i es) c x d h e n = go (same y x) (has vs y) (h .0) (λ e. name-actual K g v ss vs ys es (suc c) x d (h .1) e n) e
+    where
+      go : (t m : Bool) → ActualOne K g m i c → (findIn (map (formalIn ss vs) ys) x ≡ some d → (e : Expression) × (a : ℕ) × (actualOf v ys es x ≡ actual e v) × (K (suc c + before (map (formalIn ss vs) ys) x) ≡ nam a) × ActualAt g e a) → cond t (some (record { name = y; thing = formalAs m (specified ss y) })) (findIn (map (formalIn ss vs) ys) x) ≡ some d → (e : Expression) × (a : ℕ) × (cond t (actual i v) (actualOf v ys es x) ≡ actual e v) × (K (c + cond t 0 (cellsOf (formalAs m (specified ss y)) + before (map (formalIn ss vs) ys) x)) ≡ nam a) × ActualAt g e a
+      go true true k f e =
+          let e₁ : d ≡ record { name = y; thing = formal (specified ss y) } = cc in
+          let n' : ByName (formal (specified ss y)) = rw (ap (λ d. d .thing) e₁) at n in
+          absurd n'
+      go true false k f e =
+          let e' : c + 0 ≡ c = omega arith in
+          (i, k .0, refl, ap K e' ∙ k .1, k .2)
+      go false true k f e =
+          let e' : c + (1 + before (map (formalIn ss vs) ys) x) ≡ suc c + before (map (formalIn ss vs) ys) x = omega arith in
+          let w = f e in
+          (w .0, w .1, w .2, ap K e' ∙ w .3, w .4)
+      go false false k f e =
+          let e' : c + (1 + before (map (formalIn ss vs) ys) x) ≡ suc c + before (map (formalIn ss vs) ys) x = omega arith in
+          let w = f e in
+          (w .0, w .1, w .2, ap K e' ∙ w .3, w .4)
+
+  by-name-one : (t : Thing) → ByName t → cellsOf t ≡ 1
+  by-name-one (variable t) h = absurd h
+  by-name-one (formal t) h = absurd h
+  by-name-one (by-name t) h = refl
+  by-name-one (routine p) h = absurd h
+
+  chain-stood : (fs : List Frame) (x : Name) (d : Declared) {K : ℕ → Kind} {z f : ℕ} {g : List Mark} {v : Env} → Chain fs K z f g v → Finds g x d → ByName (d .thing) → Stood fs K z f g v x
+  unfolding inBody
+  chain-stood fs x d root e n = absurd e
+  chain-stood fs x d (inner {ds = ds} r h k w u c) e n = absurd (none-by-name ds x d e n)
+  chain-stood fs x d {K} (link {z = z} {f = f} {p = p} {es = es} {g' = g'} {v' = v'} h w u a c' c) e n =
+      let i = bound (inBody p) x d e (by-name-one (d .thing) n) in
+      let b = baseOf (frameAt fs f) in
+      let q = name-actual K g' v' (specificationsOf p) (valuesOf p) (formalsOf p) es (b + oneIf (sortOf p)) x d a e n in
+      let j : b + (oneIf (sortOf p) + before (inBody p) x) ≡ b + oneIf (sortOf p) + before (inBody p) x = omega arith in
+      let l : b + (oneIf (sortOf p) + before (inBody p) x) < z = omega arith in
+      let l' : suc b ≤ z = omega arith in
+      let i' : suc f - 1 ≡ f = omega arith in
+      let c'' : Chain fs K b (suc f - 1) g' v' = rw i' c' in
+      stood (q .0) (q .2) (ap K j ∙ q .3) l l' c'' (q .4)
+  chain-stood fs x d (working h w c) e n = absurd e
+
+  pub stands-for : {K : ℕ → Kind} {z f : ℕ} (fs : List Frame) (x : Name) {g : List Mark} {v : Env} → Chain fs K z f g v → NamedAs (meaning (scopes g) x) → Stood fs K z (walk fs f (levels (declaring x) g)) (cutG (declaring x) g) (cut (declaring x) v) x
+  stands-for {K} {z} {f} fs x {g} {v} c o = go (meaning (scopes g) x) refl o
+    where
+      go : (m : Meaning) → meaning (scopes g) x ≡ m → NamedAs m → Stood fs K z (walk fs f (levels (declaring x) g)) (cutG (declaring x) g) (cut (declaring x) v) x
+      go (declared d h) e o = chain-stood fs x d (chain-cut fs (declaring x) c) (found-in g x d h e) o
+      go (given i e') e o = absurd o
+      go nothing e o = absurd o
 
   -- ---- an activation more
 
-  chain-in : (fs : List Frame) {z f : ℕ} {g : List Mark} {v : List Entry} → Chain fs z f g v → f ≤ length fs
+  chain-in : (fs : List Frame) {K : ℕ → Kind} {z f : ℕ} {g : List Mark} {v : Env} → Chain fs K z f g v → f ≤ length fs
   chain-in fs root = omega arith
-  chain-in fs (inner r h k w c) = chain-in fs c
-  chain-in fs (link h w c) = h
+  chain-in fs (inner r h k w u c) = chain-in fs c
+  chain-in fs (link h w u a c' c) = h
+  chain-in fs (working h w c) = h
 
   base-older : (x : Frame) (fs : List Frame) (f : ℕ) → f ≤ length fs → base (x ∷ fs) f ≡ base fs f
   base-older x fs zero h = refl
   base-older x fs (suc f) h = ap baseOf (at-older x fs f h)
 
-  chain-older : (x : Frame) (fs : List Frame) {z f : ℕ} {g : List Mark} {v : List Entry} → Chain fs z f g v → Chain (x ∷ fs) z f g v
+  pub chain-older : (x : Frame) (fs : List Frame) {K : ℕ → Kind} {z f : ℕ} {g : List Mark} {v : Env} → Chain fs K z f g v → Chain (x ∷ fs) K z f g v
   chain-older x fs root = root
-  chain-older x fs (inner {z = z} {f = f} {o = o} {ds = ds} r h k w c) =
+  chain-older x fs {K} (inner {z = z} {f = f} {o = o} {ds = ds} r h k w u c) =
       let e = base-older x fs f (chain-in fs c) in
       let w' : base (x ∷ fs) f + o + cellsIn (ofBlock ds) ≤ z = rw e w in
-      rw (← e) (inner r h k w' (chain-more (x ∷ fs) (chain-older x fs c) (omega (arith, e))))
-  chain-older x fs (link {z = z} {f = f} {p = p} {g = g} {v = v} h w c) =
+      let u' : Clear K (base (x ∷ fs) f + o) (cellsIn (ofBlock ds)) = rw e u in
+      rw (← e) (inner r h k w' u' (chain-more (x ∷ fs) (chain-older x fs c) (omega (arith, e))))
+  chain-older x fs {K} (link {z = z} {f = f} {p = p} {es = es} {g = g} {g' = g'} {v = v} {v' = v'} h w u a c' c) =
       let e = at-older x fs f h in
-      let y : Chain (x ∷ fs) (baseOf (frameAt (x ∷ fs) f)) (linkOf (frameAt (x ∷ fs) f)) g v = rw e (chain-older x fs c) in
+      let y' : Chain (x ∷ fs) K (baseOf (frameAt (x ∷ fs) f)) f g' v' = rw e (chain-older x fs c') in
+      let y : Chain (x ∷ fs) K (baseOf (frameAt (x ∷ fs) f)) (linkOf (frameAt (x ∷ fs) f)) g v = rw e (chain-older x fs c) in
       let w' : baseOf (frameAt (x ∷ fs) f) + cellsIn (ofBody p) ≤ z = rw e w in
-      rw (← e) (link {f = f} {p = p} (omega arith) w' y)
+      let u' : oneIf (sortOf p) ≡ 1 → Plain (K (baseOf (frameAt (x ∷ fs) f))) = rw e u in
+      let a' : Actuals K g' (valuesOf p) (formalsOf p) es (baseOf (frameAt (x ∷ fs) f) + oneIf (sortOf p)) = rw e a in
+      rw (← e) (link {f = f} {p = p} (omega arith) w' u' a' y' y)
+  chain-older x fs {K} (working {z = z} {y = y} {f = f} {g = g} {v = v} h w c) =
+      let e = at-older x fs f h in
+      let c' : Chain (x ∷ fs) K y (linkOf (frameAt (x ∷ fs) f)) g v = rw e (chain-older x fs c) in
+      working {f = f} (omega arith) w c'
 
-  pub chain-new : (r b l z : ℕ) (p : Procedure) (t : Fate) (q : ℕ) (ps : List ℕ) (fs : List Frame) {g : List Mark} {v : List Entry} → b + cellsIn (ofBody p) ≤ z → Chain fs b l g v → Chain (fr r b l t q ps ∷ fs) z (suc (length fs)) (own p ∷ g) (entered (ofBody p) b ∷ v)
-  chain-new r b l z p t q ps fs {g} {v} le c =
+  pub chain-new : (r b l z : ℕ) (p : Procedure) (es : Expressions) (t : Fate) (q : ℕ) (ps : List ℕ) (fs : List Frame) {K : ℕ → Kind} {g g' : List Mark} {v v' : Env} → b + cellsIn (ofBody p) ≤ z → (oneIf (sortOf p) ≡ 1 → Plain (K b)) → Actuals K g' (valuesOf p) (formalsOf p) es (b + oneIf (sortOf p)) → Chain fs K b (length fs) g' v' → Chain fs K b l g v → Chain (fr r b l t q ps ∷ fs) K z (suc (length fs)) (own p ∷ g) (called p b es v' v)
+  chain-new r b l z p es t q ps fs {K} {g} {g'} {v} {v'} le u a c' c =
       let x : Frame = fr r b l t q ps in
       let e = at-newest x fs in
-      let y : Chain (x ∷ fs) (baseOf (frameAt (x ∷ fs) (length fs))) (linkOf (frameAt (x ∷ fs) (length fs))) g v = rw e (chain-older x fs c) in
+      let y' : Chain (x ∷ fs) K (baseOf (frameAt (x ∷ fs) (length fs))) (length fs) g' v' = rw e (chain-older x fs c') in
+      let y : Chain (x ∷ fs) K (baseOf (frameAt (x ∷ fs) (length fs))) (linkOf (frameAt (x ∷ fs) (length fs))) g v = rw e (chain-older x fs c) in
       let le' : baseOf (frameAt (x ∷ fs) (length fs)) + cellsIn (ofBody p) ≤ z = rw e le in
-      let w : Chain (x ∷ fs) z (suc (length fs)) (own p ∷ g) (entered (ofBody p) (baseOf (frameAt (x ∷ fs) (length fs))) ∷ v) = link {f = length fs} {p = p} (omega arith) le' y in
+      let u' : oneIf (sortOf p) ≡ 1 → Plain (K (baseOf (frameAt (x ∷ fs) (length fs)))) = rw e u in
+      let a' : Actuals K g' (valuesOf p) (formalsOf p) es (baseOf (frameAt (x ∷ fs) (length fs)) + oneIf (sortOf p)) = rw e a in
+      let w : Chain (x ∷ fs) K z (suc (length fs)) (own p ∷ g) (called p (baseOf (frameAt (x ∷ fs) (length fs))) es v' v) = link {f = length fs} {p = p} (omega arith) le' u' a' y' y in
       rw e at w
+
+  -- a working out
+  pub chain-work : (r b l y z : ℕ) (t : Fate) (q : ℕ) (ps : List ℕ) (fs : List Frame) {K : ℕ → Kind} {g : List Mark} {v : Env} → suc y ≤ z → Chain fs K y l g v → Chain (fr r b l t q ps ∷ fs) K z (suc (length fs)) (acl ∷ g) v
+  chain-work r b l y z t q ps fs {K} {g} {v} le c =
+      let x : Frame = fr r b l t q ps in
+      let e = at-newest x fs in
+      let c' : Chain (x ∷ fs) K y (linkOf (frameAt (x ∷ fs) (length fs))) g v = rw e (chain-older x fs c) in
+      working {f = length fs} (omega arith) le c'
 
   -- ---- the procedure that is called: where its code stands
 
-  ready-at : (fs : List Frame) (x : Name) (d : Declared) (p : Procedure) {z f : ℕ} {g : List Mark} {v : List Entry} → Chain fs z f g v → Finds g x d → d .thing ≡ routine p → Ready place P g p (target g x)
+  ready-at : (fs : List Frame) (x : Name) (d : Declared) (p : Procedure) {K : ℕ → Kind} {z f : ℕ} {g : List Mark} {v : Env} → Chain fs K z f g v → Finds g x d → d .thing ≡ routine p → Ready place P g p (target g x)
   unfolding inBody
   ready-at fs x d p root e e' = absurd e
-  ready-at fs x d p (inner {b = b} {ds = ds} r h k w c) e e' = ready place P _ ds b r x d p h k e e'
-  ready-at fs x d p (link {p = p'} h w c) e e' = absurd (no-routine (specificationsOf p') (formalsOf p') x d p e e')
+  ready-at fs x d p (inner {b = b} {ds = ds} r h k w u c) e e' = ready place P _ ds b r x d p h k e e'
+  ready-at fs x d p (link {p = p'} h w u a c' c) e e' = absurd (no-routine (specificationsOf p') (valuesOf p') (formalsOf p') x d p e e')
+  ready-at fs x d p (working h w c) e e' = absurd e
 
-  pub called : (fs : List Frame) (x : Name) (p : Procedure) {z f : ℕ} {g : List Mark} {v : List Entry} → Chain fs z f g v → MeansAs (meaning (scopes g) x) p → Ready place P (cutG (declaring x) g) p (target (cutG (declaring x) g) x)
-  called fs x p {g = g} c o = go (meaning (scopes g) x) refl o
+  pub callee : (fs : List Frame) (x : Name) (p : Procedure) {K : ℕ → Kind} {z f : ℕ} {g : List Mark} {v : Env} → Chain fs K z f g v → MeansAs (meaning (scopes g) x) p → Ready place P (cutG (declaring x) g) p (target (cutG (declaring x) g) x)
+  callee fs x p {g = g} c o = go (meaning (scopes g) x) refl o
     where
       go : (m : Meaning) → meaning (scopes g) x ≡ m → MeansAs m p → Ready place P (cutG (declaring x) g) p (target (cutG (declaring x) g) x)
       go (declared d h) e o = ready-at fs x d p (chain-cut fs (declaring x) c) (found-in g x d h e) o

@@ -1,5 +1,5 @@
 -- Demand 3 for the machine on a list of instructions: the translation of a well-scoped program does what the source rules say, in at most 16 n + 16
--- instructions for n steps; and it stops with 0 or 21 to 28 alone. Assumes nothing.
+-- instructions for n steps; and it stops with 0, 21 to 28 or 30 alone. Assumes nothing.
 use Prim.Native.Nat.{ℕ, _+_, _*_, _≤_}
 use native.Mathlib.Omega.{arith}
 use mathlib.Core.Path.{_≡_, refl}
@@ -78,7 +78,7 @@ module _ (place : ℕ → ℕ) (s : Statement) (ok : Scoped s) (input : List ℤ
   ordinary (done q i o) L e = inl (stops-as L i q o e .3)
   ordinary (over i o m) L e = inr refl
 
-  -- the source rules answer nothing but 0 and 21 to 28
+  -- the source rules answer nothing but 0, 21 to 28 and 30
   pub source-answers : (t n : ℕ) (q : Stop) (o : Trace) → source place s input room space t ≡ done q n o → Ordinary q
   source-answers t n q o e =
       let w = stops-in t n q o e (16 * n + 16) (omega arith) in

@@ -3,34 +3,39 @@
 use Prim.Native.Nat.{ℕ, zero, suc, _+_, _-_, _≤_, _<_}
 use native.Mathlib.Omega.{arith}
 use mathlib.Core.Bool.{Bool, true, false, cond}
-use mathlib.Core.Path.{_≡_, refl, ap}
+use mathlib.Core.Path.{_≡_, refl, ap, sym}
 use mathlib.Core.List.{List, [], _∷_, _++_, append-assoc}
 use lib.Dec.{T, leb, ltb, le→leb, lt→ltb}
-use lib.ListN.{length, length-append, set, drop, replicate}
+use lib.ListN.{length, length-append, getD, set, drop, replicate}
 use lib.IntN.{ℤ}
 use lib.Signed.{mag, quotZ}
 use Rattle.machine.specs.declared.Cell.{Cell}
-use Rattle.machine.specs.declared.Cell.the-variants.{Unset, Holds}
+use Rattle.machine.specs.declared.Cell.the-variants.{Unset, Holds, Named}
 use Rattle.machine.specs.declared.Value.{Value}
 use Rattle.machine.specs.declared.Value.the-variants.{Is, Fault}
 use Rattle.machine.specs.Values.{whole, isZero, Unary, minus, negation, absolute, apply1, Binary, plus, less, times, over, below, atMost, equal, atLeast, above, unequal, and, or, impl, equiv, apply2, past}
-use Rattle.machine.specs.Data.{Lent, Data, dat, cells, Res, bad, wrong, good, guard, check, newCells, newest, onValue, back, put, reading, valued, hold, unhold, held, input, rest, spend, taking, writing, Act, push, load, store, assign, reserve, forget, receive, send, keep, bump, unary, binary, actOn, work, downs, Two, yea, nay, Test, condition, upto, testOn, test, downsT, openBlock, closeBlock, enter, Fate, kept, gone, stays, given, leave}
+use Rattle.machine.specs.Data.{Lent, Data, dat, cells, Res, bad, wrong, good, guard, check, newCells, newest, onValue, back, look, put, plain, find, foundIn, nameCell, reading, valued, hold, unhold, held, input, rest, spend, taking, writing, Act, push, load, store, assign, reserve, forget, receive, send, keep, bump, unary, binary, lend, channel, sum, actOn, work, downs, Two, yea, nay, Test, condition, upto, testOn, test, downsT, openBlock, closeBlock, enter, Fate, kept, gone, stays, given, leave}
+use Rattle.translation.proofs.CellKinds.{Kind, val, any, nam, Plain, plain-eq, kindAt, kind-on}
 use Rattle.translation.proofs.Chain.{Vars, VarsT}
 
--- ---- kinds of cells
+-- ---- cells of a kind
 
--- a value, or a cell that may have none
-pub data Kind : Type 0 where
-  val any : Kind
+abbrev pub Fits1 : Kind → Cell → Type 0
+Fits1 any Unset = Unit {0}
+Fits1 any (Holds x) = Unit {0}
+Fits1 any (Named n) = ⊥
+Fits1 val Unset = ⊥
+Fits1 val (Holds x) = Unit {0}
+Fits1 val (Named n) = ⊥
+Fits1 (nam a) Unset = ⊥
+Fits1 (nam a) (Holds x) = ⊥
+Fits1 (nam a) (Named n) = a ≡ n
 
 abbrev pub Fits : List Kind → List Cell → Type 0
 Fits [] [] = Unit {0}
 Fits [] (c ∷ w) = ⊥
-Fits (any ∷ ks) [] = ⊥
-Fits (val ∷ ks) [] = ⊥
-Fits (any ∷ ks) (c ∷ w) = Fits ks w
-Fits (val ∷ ks) (Holds x ∷ w) = Fits ks w
-Fits (val ∷ ks) (Unset ∷ w) = ⊥
+Fits (k ∷ ks) [] = ⊥
+Fits (k ∷ ks) (c ∷ w) = Fits1 k c × Fits ks w
 
 -- the cells fit, and n values are held
 abbrev pub FitsD : List Kind → ℕ → Data → Type 0
@@ -105,6 +110,9 @@ takes keep ks = val ∷ val ∷ ks
 takes (bump q x) ks = ks
 takes (unary q o) ks = val ∷ ks
 takes (binary q o) ks = val ∷ val ∷ ks
+takes (lend x) ks = ks
+takes (channel q) ks = val ∷ ks
+takes (sum q x) ks = ks
 
 abbrev pub gives : {X : Type 0} → Act X → List Kind → List Kind
 gives (push q v) ks = val ∷ ks
@@ -119,6 +127,9 @@ gives keep ks = ks
 gives (bump q x) ks = ks
 gives (unary q o) ks = val ∷ ks
 gives (binary q o) ks = val ∷ ks
+gives (lend x) ks = ks
+gives (channel q) ks = val ∷ ks
+gives (sum q x) ks = val ∷ ks
 
 abbrev pub takesT : {X : Type 0} → Test X → List Kind → List Kind
 takesT condition ks = val ∷ ks
@@ -138,6 +149,9 @@ needs keep n = n
 needs (bump q x) n = suc (suc n)
 needs (unary q o) n = n
 needs (binary q o) n = n
+needs (lend x) n = n
+needs (channel q) n = n
+needs (sum q x) n = suc (suc n)
 
 abbrev pub holds : {X : Type 0} → Act X → ℕ → ℕ
 holds (push q v) n = n
@@ -152,6 +166,9 @@ holds keep n = suc (suc n)
 holds (bump q x) n = suc (suc n)
 holds (unary q o) n = n
 holds (binary q o) n = n
+holds (lend x) n = n
+holds (channel q) n = n
+holds (sum q x) n = suc (suc n)
 
 abbrev pub needsT : {X : Type 0} → Test X → ℕ → ℕ
 needsT condition n = n
@@ -170,6 +187,9 @@ vars f keep o = tt
 vars f (bump q x) o = f x o
 vars f (unary q i) o = tt
 vars f (binary q i) o = tt
+vars f (lend x) o = f x o
+vars f (channel q) o = tt
+vars f (sum q x) o = f x o
 
 pub varsT : {X : Type 0} {Q R : X → Type 0} → ((x : X) → Q x → R x) → (a : Test X) → VarsT Q a → VarsT R a
 varsT f condition o = tt
@@ -189,6 +209,9 @@ taken-length keep ks kt = omega arith
 taken-length (bump q x) ks kt = omega arith
 taken-length (unary q i) ks kt = omega arith
 taken-length (binary q i) ks kt = omega arith
+taken-length (lend x) ks kt = omega arith
+taken-length (channel q) ks kt = omega arith
+taken-length (sum q x) ks kt = omega arith
 
 pub takes-on : {X : Type 0} (a : Act X) (ks kt : List Kind) → takes a ks ++ kt ≡ takes a (ks ++ kt)
 takes-on (push q v) ks kt = refl
@@ -203,6 +226,9 @@ takes-on keep ks kt = refl
 takes-on (bump q x) ks kt = refl
 takes-on (unary q i) ks kt = refl
 takes-on (binary q i) ks kt = refl
+takes-on (lend x) ks kt = refl
+takes-on (channel q) ks kt = refl
+takes-on (sum q x) ks kt = refl
 
 pub gives-on : {X : Type 0} (a : Act X) (ks kt : List Kind) → gives a ks ++ kt ≡ gives a (ks ++ kt)
 gives-on (push q v) ks kt = refl
@@ -217,6 +243,9 @@ gives-on keep ks kt = refl
 gives-on (bump q x) ks kt = refl
 gives-on (unary q i) ks kt = refl
 gives-on (binary q i) ks kt = refl
+gives-on (lend x) ks kt = refl
+gives-on (channel q) ks kt = refl
+gives-on (sum q x) ks kt = refl
 
 pub takesT-length : {X : Type 0} (a : Test X) (ks kt : List Kind) → length (takesT a ks ++ kt) ≡ downsT a + length (ks ++ kt)
 takesT-length condition ks kt = omega arith
@@ -240,6 +269,9 @@ downs-on f keep = refl
 downs-on f (bump q x) = refl
 downs-on f (unary q i) = refl
 downs-on f (binary q i) = refl
+downs-on f (lend x) = refl
+downs-on f (channel q) = refl
+downs-on f (sum q x) = refl
 
 pub downsT-on : {X Y : Type 0} (f : X → Y) (a : Test X) → downsT (testOn f a) ≡ downsT a
 downsT-on f condition = refl
@@ -250,23 +282,55 @@ downsT-on f (upto q x) = refl
 fits-length : (ks : List Kind) (w : List Cell) → Fits ks w → length w ≡ length ks
 fits-length [] [] f = refl
 fits-length [] (c ∷ w) f = absurd f
-fits-length (any ∷ ks) [] f = absurd f
-fits-length (val ∷ ks) [] f = absurd f
-fits-length (any ∷ ks) (c ∷ w) f = ap suc (fits-length ks w f)
-fits-length (val ∷ ks) (Holds x ∷ w) f = ap suc (fits-length ks w f)
-fits-length (val ∷ ks) (Unset ∷ w) f = absurd f
+fits-length (k ∷ ks) [] f = absurd f
+fits-length (k ∷ ks) (c ∷ w) f = ap suc (fits-length ks w (f .1))
 
 pub fits-cells : (ks : List Kind) (n : ℕ) (d : Data) → FitsD ks n d → cells d ≡ length ks
 fits-cells ks n (dat w h a l) f = fits-length ks w (f .0)
 
-fits-set : (ks : List Kind) (w : List Cell) (i : ℕ) (v : ℤ) → Fits ks w → Fits ks (set w i (Holds v))
-fits-set ks [] i v f = f
-fits-set [] (c ∷ w) i v f = absurd f
-fits-set (any ∷ ks) (c ∷ w) zero v f = f
-fits-set (any ∷ ks) (c ∷ w) (suc i) v f = fits-set ks w i v f
-fits-set (val ∷ ks) (Holds x ∷ w) zero v f = f
-fits-set (val ∷ ks) (Holds x ∷ w) (suc i) v f = fits-set ks w i v f
-fits-set (val ∷ ks) (Unset ∷ w) i v f = absurd f
+fits-get : (ks : List Kind) (w : List Cell) (i : ℕ) → Fits ks w → Fits1 (getD ks i any) (getD w i Unset)
+fits-get [] [] i f = tt
+fits-get [] (c ∷ w) i f = absurd f
+fits-get (k ∷ ks) [] i f = absurd f
+fits-get (k ∷ ks) (c ∷ w) zero f = f .0
+fits-get (k ∷ ks) (c ∷ w) (suc i) f = fits-get ks w i (f .1)
+
+-- what stands in a cell is of its kind
+pub fits-look : (ks : List Kind) (n c : ℕ) (d : Data) → FitsD ks n d → Fits1 (kindAt ks c) (look c d)
+unfolding look kindAt
+fits-look ks n c (dat w h a l) f = rw (fits-length ks w (f .0)) (fits-get ks w (length ks - suc c) (f .0))
+
+fits-plain : (k : Kind) (c : Cell) → Fits1 k c → Plain k → T (plain c)
+fits-plain any Unset f p = tt
+fits-plain any (Holds x) f p = tt
+fits-plain any (Named n) f p = absurd f
+fits-plain val Unset f p = tt
+fits-plain val (Holds x) f p = tt
+fits-plain val (Named n) f p = absurd f
+fits-plain (nam a) c f p = absurd p
+
+fits-named : (k : Kind) (c : Cell) (a : ℕ) → Fits1 k c → k ≡ nam a → c ≡ Named a
+fits-named k c a f e = go c (rw e at f)
+  where
+    go : (c : Cell) → Fits1 (nam a) c → c ≡ Named a
+    go Unset f = absurd f
+    go (Holds x) f = absurd f
+    go (Named n) f = ap Named (sym f)
+
+-- a name formal's cell holds its address
+pub look-named : (ks : List Kind) (n c a : ℕ) (d : Data) → FitsD ks n d → kindAt ks c ≡ nam a → look c d ≡ Named a
+look-named ks n c a d f e = fits-named (kindAt ks c) (look c d) a (fits-look ks n c d f) e
+
+set-one : (k : Kind) (c : Cell) (v : ℤ) → Plain k → Fits1 k (Holds v)
+set-one any c v p = tt
+set-one val c v p = tt
+set-one (nam a) c v p = absurd p
+
+fits-set : (ks : List Kind) (w : List Cell) (i : ℕ) (v : ℤ) → Fits ks w → Plain (getD ks i any) → Fits ks (set w i (Holds v))
+fits-set ks [] i v f p = f
+fits-set [] (c ∷ w) i v f p = absurd f
+fits-set (k ∷ ks) (c ∷ w) zero v f p = (set-one k c v p, f .1)
+fits-set (k ∷ ks) (c ∷ w) (suc i) v f p = (f .0, fits-set ks w i v (f .1) p)
 
 -- n cells more
 abbrev pub more-of : Kind → ℕ → List Kind → List Kind
@@ -277,26 +341,34 @@ pub more-length : (k : Kind) (n : ℕ) (ks : List Kind) → length (more-of k n 
 more-length k zero ks = omega arith
 more-length k (suc n) ks = omega (arith, more-length k n ks)
 
-pub more-once : (k : Kind) (n : ℕ) (ks : List Kind) → more-of k n (k ∷ ks) ≡ k ∷ more-of k n ks
-more-once k zero ks = refl
-more-once k (suc n) ks = ap (λ x. k ∷ x) (more-once k n ks)
-
 pub more-on : (k : Kind) (n : ℕ) (ks kt : List Kind) → more-of k n (ks ++ kt) ≡ more-of k n ks ++ kt
 more-on k zero ks kt = refl
 more-on k (suc n) ks kt = ap (λ x. k ∷ x) (more-on k n ks kt)
 
+-- those cells are no name formals'
+pub more-plain : (n : ℕ) (ks : List Kind) (i : ℕ) → i < n → Plain (kindAt (more-of any n ks) (length ks + i))
+unfolding kindAt
+more-plain zero ks i h = absurd (omega arith)
+more-plain (suc n) ks i h = go (more-plain n ks i)
+  where
+    go : (i < n → Plain (getD (more-of any n ks) (length (more-of any n ks) - suc (length ks + i)) any)) → Plain (getD (any ∷ more-of any n ks) (suc (length (more-of any n ks)) - suc (length ks + i)) any)
+    go f = at (suc (length (more-of any n ks)) - suc (length ks + i)) refl
+      where
+        at : (m : ℕ) → suc (length (more-of any n ks)) - suc (length ks + i) ≡ m → Plain (getD (any ∷ more-of any n ks) m any)
+        at zero e = tt
+        at (suc m) e =
+            let e' : length (more-of any n ks) - suc (length ks + i) ≡ m = omega arith in
+            rw e' at (f (omega (arith, more-length any n ks)))
+
 fits-more : (n : ℕ) (ks : List Kind) (w : List Cell) → Fits ks w → Fits (more-of any n ks) (replicate n Unset ++ w)
 fits-more zero ks w f = f
-fits-more (suc n) ks w f = fits-more n ks w f
+fits-more (suc n) ks w f = (tt, fits-more n ks w f)
 
 -- some cells less
 fits-drop : (js ks : List Kind) (w : List Cell) → Fits (js ++ ks) w → Fits ks (drop (length js) w)
 fits-drop [] ks w f = f
-fits-drop (any ∷ js) ks [] f = absurd f
-fits-drop (val ∷ js) ks [] f = absurd f
-fits-drop (any ∷ js) ks (c ∷ w) f = fits-drop js ks w f
-fits-drop (val ∷ js) ks (Holds x ∷ w) f = fits-drop js ks w f
-fits-drop (val ∷ js) ks (Unset ∷ w) f = absurd f
+fits-drop (j ∷ js) ks [] f = absurd f
+fits-drop (j ∷ js) ks (c ∷ w) f = fits-drop js ks w (f .1)
 
 -- ---- the parts of operations
 
@@ -319,17 +391,22 @@ checked Q false a q r w x = w
 used : {A : Type 0} (Q : A → Type 0) (f : ℤ → Data → Res A) (ks : List Kind) (n : ℕ) (d : Data) → FitsD (val ∷ ks) n d → ((v : ℤ) (d : Data) → FitsD ks n d → All Q (f v d)) → All Q (onValue f (newest d))
 unfolding onValue newest
 used Q f ks n (dat [] h a l) k g = absurd (k .0)
-used Q f ks n (dat (Unset ∷ w) h a l) k g = absurd (k .0)
-used Q f ks n (dat (Holds v ∷ w) h a l) k g = g v (dat w h a l) (k .0, k .1)
+used Q f ks n (dat (Unset ∷ w) h a l) k g = absurd (k .0 .0)
+used Q f ks n (dat (Holds v ∷ w) h a l) k g = g v (dat w h a l) (k .0 .1, k .1)
+used Q f ks n (dat (Named m ∷ w) h a l) k g = absurd (k .0 .0)
 
--- a cell in use
-in-use : {A : Type 0} (Q : A → Type 0) (c : ℕ) (ks : List Kind) (n : ℕ) (d : Data) (r : Res A) → FitsD ks n d → c < length ks → All Q r → All Q (guard (ltb c (cells d)) r)
-in-use Q c ks n d r k h x = guarded Q _ r (lt→ltb c (cells d) (omega (arith, fits-cells ks n d k))) x
+-- a cell in use, and no name formal's
+abbrev pub Usable : List Kind → ℕ → Type 0
+Usable ks c = (c < length ks) × Plain (kindAt ks c)
 
-read : {A : Type 0} (Q : A → Type 0) (q : ℕ) (f : ℤ → Res A) (c : Cell) → ((v : ℤ) → All Q (f v)) → All Q (reading q f c)
+in-use : {A : Type 0} (Q : A → Type 0) (c : ℕ) (ks : List Kind) (n : ℕ) (d : Data) (r : Res A) → FitsD ks n d → Usable ks c → All Q r → All Q (guard (ltb c (cells d)) (guard (plain (look c d)) r))
+in-use Q c ks n d r k h x = guarded Q _ _ (lt→ltb c (cells d) (omega (arith, fits-cells ks n d k))) (guarded Q _ r (fits-plain (kindAt ks c) (look c d) (fits-look ks n c d k) (h .1)) x)
+
+read : {A : Type 0} (Q : A → Type 0) (q : ℕ) (f : ℤ → Res A) (c : Cell) (k : Kind) → Fits1 k c → Plain k → ((v : ℤ) → All Q (f v)) → All Q (reading q f c)
 unfolding reading
-read Q q f Unset g = (omega arith, omega arith)
-read Q q f (Holds v) g = g v
+read Q q f Unset k e p g = (omega arith, omega arith)
+read Q q f (Holds v) k e p g = g v
+read Q q f (Named m) k e p g = absurd (fits-plain k (Named m) e p)
 
 worked : {A : Type 0} (Q : A → Type 0) (q : ℕ) (f : ℤ → Res A) (v : Value) → ProperV v → ((x : ℤ) → All Q (f x)) → All Q (valued q f v)
 unfolding valued
@@ -342,13 +419,13 @@ with-held Q f ks n (dat w [] a l) k g = absurd (omega arith)
 with-held Q f ks n (dat w (y ∷ []) a l) k g = absurd (omega arith)
 with-held Q f ks n (dat w (y ∷ x ∷ h) a l) k g = g x y
 
-put-fits : (ks : List Kind) (n c : ℕ) (v : ℤ) (d : Data) → FitsD ks n d → FitsD ks n (put c v d)
-unfolding put
-put-fits ks n c v (dat w h a l) k = (fits-set ks w (length w - suc c) v (k .0), k .1)
+put-fits : (ks : List Kind) (n c : ℕ) (v : ℤ) (d : Data) → FitsD ks n d → Usable ks c → FitsD ks n (put c v d)
+unfolding put kindAt
+put-fits ks n c v (dat w h a l) k u = (rw (fits-length ks w (k .0)) (fits-set ks w (length ks - suc c) v (k .0) (u .1)), k .1)
 
 back-fits : (ks : List Kind) (n : ℕ) (v : ℤ) (d : Data) → FitsD ks n d → FitsD (val ∷ ks) n (back v d)
 unfolding back
-back-fits ks n v (dat w h a l) k = k
+back-fits ks n v (dat w h a l) k = ((tt, k .0), k .1)
 
 rest-fits : (ks : List Kind) (n : ℕ) (i : List ℤ) (d : Data) → FitsD ks n d → FitsD ks n (rest i d)
 unfolding rest
@@ -368,15 +445,19 @@ unhold-fits ks n (dat w [] a l) k = (k .0, absurd (omega arith))
 unhold-fits ks n (dat w (y ∷ []) a l) k = (k .0, absurd (omega arith))
 unhold-fits ks n (dat w (y ∷ x ∷ h) a l) k = (k .0, omega arith)
 
+find-fits : (ks : List Kind) (n c : ℕ) (d : Data) → FitsD ks n d → FitsD ks n (find c d)
+unfolding find
+find-fits ks n c (dat w h a l) k = k
+
 -- new cells
 new-fits : (q : ℕ) (x : List Cell) (ks' ks : List Kind) (n : ℕ) (d : Data) → FitsD ks n d → ((w : List Cell) → Fits ks w → Fits ks' (x ++ w)) → All (FitsD ks' n) (newCells q x d)
 unfolding newCells
 new-fits q x ks' ks n (dat w h a l) k g = checked (FitsD ks' n) _ _ q _ (omega arith, omega arith) (g w (k .0), k .1)
 
-take-fits : (ks : List Kind) (n q c : ℕ) (d : Data) (i : List ℤ) → FitsD ks n d → All (FitsD ks n) (taking q c d i)
+take-fits : (ks : List Kind) (n q c : ℕ) (d : Data) (i : List ℤ) → FitsD ks n d → Usable ks c → All (FitsD ks n) (taking q c d i)
 unfolding taking
-take-fits ks n q c d [] k = (omega arith, omega arith)
-take-fits ks n q c d (v ∷ i) k = put-fits ks n c v (rest i d) (rest-fits ks n i d k)
+take-fits ks n q c d [] k u = (omega arith, omega arith)
+take-fits ks n q c d (v ∷ i) k u = put-fits ks n c v (rest i d) (rest-fits ks n i d k) u
 
 write-fits : (ks : List Kind) (n q : ℕ) (v : ℤ) (d : Data) → FitsD ks n d → All (FitsD ks n) (writing q v d)
 unfolding writing
@@ -384,36 +465,41 @@ write-fits ks n q v d k = checked (FitsD ks n) _ _ q _ (omega arith, omega arith
 
 -- ---- operations on cells that fit, and on variables among them
 
-pub works : {X : Type 0} (f : X → ℕ) (a : Act X) (ks : List Kind) (n : ℕ) (d : Data) → FitsD (takes a ks) (needs a n) d → Vars (λ x. f x < length ks) a → All (FitsD (gives a ks) (holds a n)) (work (actOn f a) d)
+pub works : {X : Type 0} (f : X → ℕ) (a : Act X) (ks : List Kind) (n : ℕ) (d : Data) → FitsD (takes a ks) (needs a n) d → Vars (λ x. Usable ks (f x)) a → All (FitsD (gives a ks) (holds a n)) (work (actOn f a) d)
 unfolding work
-works f (push q v) ks n d k o = new-fits q (Holds v ∷ []) (val ∷ ks) ks n d k (λ w x. x)
-works f (load q x) ks n d k o = in-use _ (f x) ks n d _ k o (read _ q _ _ (λ v. new-fits q (Holds v ∷ []) (val ∷ ks) ks n d k (λ w x. x)))
-works f (store x) ks n d k o = used _ _ ks n d k (λ v d k. in-use _ (f x) ks n d _ k o (put-fits ks n (f x) v d k))
-works f (assign x) ks n d k o = used _ _ ks n d k (λ v d k. in-use _ (f x) ks n d _ k o (back-fits ks n v (put (f x) v d) (put-fits ks n (f x) v d k)))
-works f (reserve q) ks n d k o = new-fits q (Unset ∷ []) (any ∷ ks) ks n d k (λ w x. x)
+works f (push q v) ks n d k o = new-fits q (Holds v ∷ []) (val ∷ ks) ks n d k (λ w x. (tt, x))
+works f (load q x) ks n d k o = in-use _ (f x) ks n d _ k o (read _ q _ _ (kindAt ks (f x)) (fits-look ks n (f x) d k) (o .1) (λ v. new-fits q (Holds v ∷ []) (val ∷ ks) ks n d k (λ w x. (tt, x))))
+works f (store x) ks n d k o = used _ _ ks n d k (λ v d k. in-use _ (f x) ks n d _ k o (put-fits ks n (f x) v d k o))
+works f (assign x) ks n d k o = used _ _ ks n d k (λ v d k. in-use _ (f x) ks n d _ k o (back-fits ks n v (put (f x) v d) (put-fits ks n (f x) v d k o)))
+works f (reserve q) ks n d k o = new-fits q (Unset ∷ []) (any ∷ ks) ks n d k (λ w x. (tt, x))
 works f forget ks n d k o = used _ _ ks n d k (λ v d k. k)
 works f (receive q x) ks n d k o =
-    used _ _ ks n d k (λ v d k. in-use _ (f x) ks n d _ k o (checked _ _ _ q _ (omega arith, omega arith) (take-fits ks n q (f x) d (input d) k)))
+    used _ _ ks n d k (λ v d k. in-use _ (f x) ks n d _ k o (checked _ _ _ q _ (omega arith, omega arith) (take-fits ks n q (f x) d (input d) k o)))
 works f (send q) ks n d k o =
     used _ _ (val ∷ ks) n d k (λ v d k. used _ _ ks n d k (λ c d k. checked _ _ _ q _ (omega arith, omega arith) (write-fits ks n q v d k)))
 works f keep ks n d k o = used _ _ (val ∷ ks) n d k (λ y d k. used _ _ ks n d k (λ x d k. hold-fits ks n x y d k))
 works f (bump q u) ks n d k o =
     with-held _ _ ks n d k
-    (λ x y. in-use _ (f u) ks (suc (suc n)) d _ k o (read _ q _ _ (λ v. worked _ q _ _ (whole-proper _) (λ s. put-fits ks (suc (suc n)) (f u) s d k))))
+    (λ x y. in-use _ (f u) ks (suc (suc n)) d _ k o (read _ q _ _ (kindAt ks (f u)) (fits-look ks (suc (suc n)) (f u) d k) (o .1) (λ v. worked _ q _ _ (whole-proper _) (λ s. put-fits ks (suc (suc n)) (f u) s d k o))))
 works f (unary q i) ks n d k o = used _ _ ks n d k (λ x d k. worked _ q _ _ (proper1 i x) (λ v. back-fits ks n v d k))
 works f (binary q i) ks n d k o =
     used _ _ (val ∷ ks) n d k (λ y d k. used _ _ ks n d k (λ x d k. worked _ q _ _ (proper2 i x y) (λ v. back-fits ks n v d k)))
+works f (lend x) ks n d k o = in-use _ (f x) ks n d _ k o (find-fits ks n (f x) d k)
+works f (channel q) ks n d k o = used _ _ ks n d k (λ v d k. checked _ _ _ q _ (omega arith, omega arith) (back-fits ks n v d k))
+works f (sum q u) ks n d k o =
+    with-held _ _ ks n d k
+    (λ x y. in-use _ (f u) ks (suc (suc n)) d _ k o (read _ q _ _ (kindAt ks (f u)) (fits-look ks (suc (suc n)) (f u) d k) (o .1) (λ v. worked _ q _ _ (whole-proper _) (λ s. new-fits q (Holds s ∷ []) (val ∷ ks) ks (suc (suc n)) d k (λ w x. (tt, x))))))
 
 chosen-fits : (t : Bool) (ks : List Kind) (n m : ℕ) (x y : Data) → FitsD ks m x → FitsD ks n y → Fits2 ks n m (cond t (nay x) (yea y))
 chosen-fits true ks n m x y e e' = e
 chosen-fits false ks n m x y e e' = e'
 
-pub works-test : {X : Type 0} (f : X → ℕ) (a : Test X) (ks : List Kind) (n : ℕ) (d : Data) → FitsD (takesT a ks) (needsT a n) d → VarsT (λ x. f x < length ks) a → All (Fits2 ks (needsT a n) n) (test (testOn f a) d)
+pub works-test : {X : Type 0} (f : X → ℕ) (a : Test X) (ks : List Kind) (n : ℕ) (d : Data) → FitsD (takesT a ks) (needsT a n) d → VarsT (λ x. Usable ks (f x)) a → All (Fits2 ks (needsT a n) n) (test (testOn f a) d)
 unfolding test
 works-test f condition ks n d k o = used _ _ ks n d k (λ v d k. chosen-fits (isZero v) ks n n d d k k)
 works-test f (upto q u) ks n d k o =
     with-held _ _ ks n d k
-    (λ x y. in-use _ (f u) ks (suc (suc n)) d _ k o (read _ q _ _ (λ v. chosen-fits (past v x y) ks (suc (suc n)) n (unhold d) d (unhold-fits ks n d k) k)))
+    (λ x y. in-use _ (f u) ks (suc (suc n)) d _ k o (read _ q _ _ (kindAt ks (f u)) (fits-look ks (suc (suc n)) (f u) d k) (o .1) (λ v. chosen-fits (past v x y) ks (suc (suc n)) n (unhold d) d (unhold-fits ks n d k) k)))
 
 -- ---- blocks and activations
 
@@ -428,6 +514,10 @@ close-fits m ks n (dat w h a l) k =
     let e' : length (more-of any m []) ≡ m = omega arith in
     let k' : Fits (more-of any m [] ++ ks) w = rw (← more-on any m [] ks) (k .0) in
     guarded (FitsD ks n) _ _ (le→leb m (length w) (omega (arith, fits-length (more-of any m ks) w (k .0), more-length any m ks))) (rw e' at (fits-drop (more-of any m []) ks w k'), k .1)
+
+pub name-fits : (q m : ℕ) (ks : List Kind) (n : ℕ) (d : Data) → FitsD ks n d → All (FitsD (nam m ∷ ks) n) (nameCell q m d)
+unfolding nameCell
+name-fits q m ks n d k = new-fits q (Named m ∷ []) (nam m ∷ ks) ks n d k (λ w x. (refl, x))
 
 pub enter-fits : (q : ℕ) (ks : List Kind) (n : ℕ) (d : Data) → FitsD ks n d → All (FitsD ks n) (enter q d)
 unfolding enter
@@ -447,6 +537,7 @@ unfolding given
 given-fits q ks [] h n a l k e = absurd k
 given-fits q ks (Unset ∷ w) h n a l k e = (omega arith, omega arith)
 given-fits q ks (Holds v ∷ w) h n a l k e = (k, e)
+given-fits q ks (Named m ∷ w) h n a l k e = absurd (k .0)
 
 pub leave-fits : (f : Fate) (q b : ℕ) (js ks : List Kind) (n : ℕ) (d : Data) → FitsD (js ++ before f ks) n d → b ≡ length ks → All (FitsD (left f ks) n) (leave f q b d)
 unfolding leave
@@ -472,3 +563,45 @@ left-on gone ks kt = refl
 pub before-length : (f : Fate) (ks : List Kind) → length (before f ks) ≡ stays f + length ks
 before-length kept ks = omega arith
 before-length gone ks = omega arith
+
+-- a working out for a read ends: its value stays
+loose : (ks : List Kind) (w : List Cell) → Fits (val ∷ ks) w → Fits (any ∷ ks) w
+loose ks [] f = absurd f
+loose ks (Unset ∷ w) f = absurd (f .0)
+loose ks (Holds v ∷ w) f = f
+loose ks (Named m ∷ w) f = absurd (f .0)
+
+pub work-fits : (q b : ℕ) (ks : List Kind) (n : ℕ) (d : Data) → FitsD (val ∷ ks) n d → b ≡ length ks → All (FitsD (val ∷ ks) n) (leave kept q b d)
+work-fits q b ks n (dat w h a l) k e = leave-fits kept q b [] ks n (dat w h a l) (loose ks w (k .0), k .1) e
+
+-- ---- the cell found
+
+-- it is below the newest cell, and no name formal's
+abbrev pub Found : List Kind → Data → Type 0
+Found ks d = (suc (foundIn d) < length ks) × Plain (kindAt ks (foundIn d))
+
+-- how an operation gets at it: among the cells as they are, or below the value that it takes
+pub found-level : (ks : List Kind) (d : Data) → Found ks d → Usable ks (foundIn d)
+found-level ks d f = (omega arith, f .1)
+
+pub found-below : (k : Kind) (ks : List Kind) (d : Data) → Found (k ∷ ks) d → Usable ks (foundIn d)
+found-below k ks d f =
+    let h : foundIn d < length ks = omega arith in
+    (h, plain-eq (kindAt (k ∷ ks) (foundIn d)) (kindAt ks (foundIn d)) (kind-on k ks (foundIn d) h) (f .1))
+
+-- a working out for a store ends: the cell found stays
+pub leave-found : (q b : ℕ) (ks : List Kind) (n : ℕ) (d : Data) → FitsD ks n d → b ≡ length ks → All (λ d'. FitsD ks n d' × (foundIn d' ≡ foundIn d)) (leave gone q b d)
+unfolding leave foundIn
+leave-found q b ks n (dat w h a l) k e =
+    let e₁ = fits-length ks w (k .0) in
+    let e₃ : length w - b ≡ 0 = omega arith in
+    guarded _ _ _ (le→leb b (length w) (omega arith)) (rw e₃ (k .0, k .1), refl)
+
+-- a variable lent is found
+find-is : (c : ℕ) (d : Data) → foundIn (find c d) ≡ c
+unfolding find foundIn
+find-is c (dat w h a l) = refl
+
+pub lend-found : (c : ℕ) (ks : List Kind) (n : ℕ) (d : Data) → FitsD ks n d → Usable ks c → All (λ d'. FitsD ks n d' × (foundIn d' ≡ c)) (work (lend c) d)
+unfolding work
+lend-found c ks n d k o = in-use _ c ks n d _ k o (find-fits ks n c d k, find-is c d)

@@ -1,17 +1,20 @@
 -- Code ends where it is said to end; so the words of a program within the paper's limits fit 16,384. One line a construct. Assumes nothing.
 use Prim.Native.Nat.{ℕ, suc, _+_, _*_, _≤_}
 use native.Mathlib.Omega.{arith}
+use mathlib.Core.Bool.{Bool, true, false}
 use mathlib.Core.Path.{_≡_, refl}
 use mathlib.Core.List.{List, [], _∷_}
 use mathlib.Core.Option.{Option, none, some}
 use lib.ListN.{length}
-use Rattle.machine.specs.Instructions.{Instr, END}
+use Rattle.machine.specs.Data.{Act}
+use Rattle.machine.specs.Instructions.{Loc, Instr, END}
 use Rattle.names.specs.Program.{Name, Sort, Sign, positive, negative, negation, Expression, number, logical, name, call, signed, operated, chosen, nested, Expressions, done, then, Element, value, while, step, Statement, dummy, assignment, procedure, when, either, repeat, compound, block, Statements, last, first, Declarations, none as no-more, variables, declare, Procedure, heading}
-use Rattle.names.specs.Scopes.{sortOf, meaning}
-use Rattle.rules.specs.Calls.{Primary, held, function, absolute, greatest, no-primary, primary, Command, routine-of, absolute-of, greatest-of, input-to, output-of, no-command, command}
-use Rattle.translation.specs.Translate.{Mark, blk, own, scopes, reach, endName, endSign, endE, endEs, endL, endStores, endCall, endCommand, endS, endSs, endDs, endP, codeName, codeSign, codeE, codeEs, codeL, codeStores, codeCall, codeCommand, codeS, codeSs, codeDs, codeP, code}
-use Rattle.machine.specs.Words.{words}
+use Rattle.names.specs.Scopes.{sortOf, modesOf, meaning}
+use Rattle.rules.specs.Calls.{Primary, held, worked, function, absolute, greatest, no-primary, primary, Command, routine-of, absolute-of, greatest-of, input-to, output-of, no-command, command, Way, direct, sought, way}
+use Rattle.rules.specs.Rules.{Spot}
+use Rattle.translation.specs.Translate.{Mark, blk, own, acl, scopes, reach, endName, endActual, endThen, endSign, endE, endEs, endWay, endTest, endSum, endL, endStores, endCall, endTake, endCommand, endS, endSs, endDs, endP, codeName, codeActual, codeThen, codeSign, codeE, codeEs, codeWay, codeTest, codeSum, codeL, codeStores, codeCall, codeTake, codeCommand, codeS, codeSs, codeDs, codeP, code}
 use Rattle.translation.specs.Sizes.{Limited}
+use Rattle.machine.specs.Words.{words}
 use Rattle.translation.proofs.Ranges.{ends}
 
 -- code r that stands at b ends at k
@@ -23,12 +26,21 @@ one : {i : Instr} {r : List Instr} {b k : ℕ} → Ends r (suc b) k → Ends (i 
 one (so h) = so (omega arith)
 
 module _ (place : ℕ → ℕ) where
-  long-name : (pr : Primary) (g : List Mark) (x : Name) (n : ℕ) (f : ℕ → ℕ) (c : ℕ → List Instr → List Instr) → ((b : ℕ) (r : List Instr) (k : ℕ) → Ends r (f b) k → Ends (c b r) b k) → (b : ℕ) (r : List Instr) (k : ℕ) → Ends r (endName pr f b) k → Ends (codeName place pr g x n c b r) b k
+  long-name : (pr : Primary) (g : List Mark) (x : Name) (n : ℕ) (f : List Bool → ℕ → ℕ) (c : List Bool → ℕ → List Instr → List Instr) → ((m : List Bool) (b : ℕ) (r : List Instr) (k : ℕ) → Ends r (f m b) k → Ends (c m b r) b k) → (b : ℕ) (r : List Instr) (k : ℕ) → Ends r (endName pr f b) k → Ends (codeName place pr g x n c b r) b k
   long-name held g x n f c w b r k h = one h
-  long-name (function p) g x n f c w b r k h = one (w (suc b) _ k (one h))
-  long-name absolute g x n f c w b r k h = w b _ k (one h)
+  long-name worked g x n f c w b r k h = one h
+  long-name (function p) g x n f c w b r k h = one (w (modesOf p) (suc b) _ k (one h))
+  long-name absolute g x n f c w b r k h = w [] b _ k (one h)
   long-name greatest g x n f c w b r k h = one h
   long-name no-primary g x n f c w b r k h = h
+
+  long-actual : (m : Bool) (g : List Mark) (e : Expression) (f : ℕ → ℕ) (c : List Mark → ℕ → List Instr → List Instr) → ((b : ℕ) (r : List Instr) (k : ℕ) → Ends r (f b) k → Ends (c g b r) b k) → ((b : ℕ) (r : List Instr) (k : ℕ) → Ends r (f b) k → Ends (c (acl ∷ g) b r) b k) → (b : ℕ) (r : List Instr) (k : ℕ) → Ends r (endActual m f b) k → Ends (codeActual place m g e f c b r) b k
+  long-actual true g e f c w w' b r k h = w b r k h
+  long-actual false g e f c w w' b r k h = one (one (one (w' _ _ k (one h))))
+
+  long-then : (m : List Bool) (g : List Mark) (e : Expression) (f : ℕ → ℕ) (fs : List Bool → ℕ → ℕ) (c : List Mark → ℕ → List Instr → List Instr) (cs : List Bool → ℕ → List Instr → List Instr) → ((b : ℕ) (r : List Instr) (k : ℕ) → Ends r (f b) k → Ends (c g b r) b k) → ((b : ℕ) (r : List Instr) (k : ℕ) → Ends r (f b) k → Ends (c (acl ∷ g) b r) b k) → ((m : List Bool) (b : ℕ) (r : List Instr) (k : ℕ) → Ends r (fs m b) k → Ends (cs m b r) b k) → (b : ℕ) (r : List Instr) (k : ℕ) → Ends r (endThen m f fs b) k → Ends (codeThen place m g e f c cs b r) b k
+  long-then [] g e f fs c cs w w' ws b r k h = w b _ k (ws [] (f b) r k h)
+  long-then (m ∷ ms) g e f fs c cs w w' ws b r k h = long-actual m g e f c w w' b _ k (ws ms (endActual m f b) r k h)
 
   long-sign : (q : ℕ) (o : Sign) (b : ℕ) (r : List Instr) (k : ℕ) → Ends r (endSign o b) k → Ends (codeSign place q o r) b k
   long-sign q positive b r k h = h
@@ -41,38 +53,58 @@ module _ (place : ℕ → ℕ) where
     longE : (g : List Mark) (e : Expression) (b : ℕ) (r : List Instr) (k : ℕ) → Ends r (endE (scopes g) e b) k → Ends (codeE place g e b r) b k
     longE g (number q n) b r k h = one h
     longE g (logical q t) b r k h = one h
-    longE g (name x) b r k h = long-name (primary (meaning (scopes g) x) done) g x 0 (λ b. b) (λ b r. r) (λ b r k h. h) b r k h
-    longE g (call x e es) b r k h = long-name (primary (meaning (scopes g) x) (then e es)) g x _ (λ b. endEs (scopes g) es (endE (scopes g) e b)) (λ b r. codeE place g e b (codeEs place g es (endE (scopes g) e b) r)) (λ b r k h. longE g e b _ k (longEs g es _ r k h)) b r k h
+    longE g (name x) b r k h = long-name (primary (meaning (scopes g) x) done) g x 0 (λ m b. b) (λ m b r. r) (λ m b r k h. h) b r k h
+    longE g (call x e es) b r k h = long-name (primary (meaning (scopes g) x) (then e es)) g x _ (λ m b. endThen m (λ b. endE (scopes g) e b) (λ m b. endEs (scopes g) m es b) b) (λ m b r. codeThen place m g e (λ b. endE (scopes g) e b) (λ g b r. codeE place g e b r) (λ m b r. codeEs place g m es b r) b r) (λ m b r k h. long-then m g e (λ b. endE (scopes g) e b) (λ m b. endEs (scopes g) m es b) (λ g b r. codeE place g e b r) (λ m b r. codeEs place g m es b r) (λ b r k h. longE g e b r k h) (λ b r k h. longE (acl ∷ g) e b r k h) (λ m b r k h. longEs g m es b r k h) b r k h) b r k h
     longE g (signed q o e) b r k h = longE g e b _ k (long-sign q o _ r k h)
     longE g (operated q o e f) b r k h = longE g e b _ k (longE g f _ _ k (one h))
     longE g (chosen q q' c e f) b r k h = longE g c b _ k (one (longE g e _ _ k (one (longE g f _ r k h))))
     longE g (nested q e) b r k h = longE g e b r k h
 
-    longEs : (g : List Mark) (es : Expressions) (b : ℕ) (r : List Instr) (k : ℕ) → Ends r (endEs (scopes g) es b) k → Ends (codeEs place g es b r) b k
-    longEs g done b r k h = h
-    longEs g (then e es) b r k h = longE g e b _ k (longEs g es _ r k h)
+    longEs : (g : List Mark) (m : List Bool) (es : Expressions) (b : ℕ) (r : List Instr) (k : ℕ) → Ends r (endEs (scopes g) m es b) k → Ends (codeEs place g m es b r) b k
+    longEs g m done b r k h = h
+    longEs g m (then e es) b r k h = long-then m g e (λ b. endE (scopes g) e b) (λ m b. endEs (scopes g) m es b) (λ g b r. codeE place g e b r) (λ m b r. codeEs place g m es b r) (λ b r k h. longE g e b r k h) (λ b r k h. longE (acl ∷ g) e b r k h) (λ m b r k h. longEs g m es b r k h) b r k h
 
-  longL : (g : List Mark) (m : ℕ) (x : Name) (l : List Element) (s n b : ℕ) (r : List Instr) (k : ℕ) → Ends r (endL (scopes g) l b) k → Ends (codeL place g m x l s n b r) b k
+  long-way : (w : Way) (g : List Mark) (x : Name) (i : Spot → Act Loc) (b : ℕ) (r : List Instr) (k : ℕ) → Ends r (endWay w b) k → Ends (codeWay place w g x i r) b k
+  unfolding endWay codeWay
+  long-way direct g x i b r k h = one h
+  long-way sought g x i b r k h = one (one h)
+
+  long-test : (w : Way) (g : List Mark) (x : Name) (n b : ℕ) (r : List Instr) (k : ℕ) → Ends r (endTest w b) k → Ends (codeTest place w g x n r) b k
+  unfolding endTest codeTest
+  long-test direct g x n b r k h = one h
+  long-test sought g x n b r k h = one (one h)
+
+  long-sum : (w : Way) (g : List Mark) (q : ℕ) (x : Name) (b : ℕ) (r : List Instr) (k : ℕ) → Ends r (endSum w b) k → Ends (codeSum place w g q x r) b k
+  unfolding endSum codeSum
+  long-sum direct g q x b r k h = one h
+  long-sum sought g q x b r k h = one (one (one (one h)))
+
+  long-take : (w : Way) (g : List Mark) (q : ℕ) (y : Name) (b : ℕ) (r : List Instr) (k : ℕ) → Ends r (endTake w b) k → Ends (codeTake place w g q y r) b k
+  unfolding endTake codeTake
+  long-take direct g q y b r k h = one h
+  long-take sought g q y b r k h = one (one (one h))
+
+  longL : (g : List Mark) (m : ℕ) (x : Name) (l : List Element) (s n b : ℕ) (r : List Instr) (k : ℕ) → Ends r (endL (scopes g) x l b) k → Ends (codeL place g m x l s n b r) b k
   unfolding endL codeL
   longL g m x [] s n b r k h = h
-  longL g m x (value e ∷ l) s n b r k h = longE g e b _ k (one (one (longL g m x l s n _ r k h)))
-  longL g m x (while q e c ∷ l) s n b r k h = longE g e b _ k (one (longE g c _ _ k (one (one (longL g m x l s n _ r k h)))))
-  longL g m x (step q e f i ∷ l) s n b r k h = longE g e b _ k (one (longE g f _ _ k (longE g i _ _ k (one (one (one (one (one (longL g m x l s n _ r k h)))))))))
+  longL g m x (value e ∷ l) s n b r k h = longE g e b _ k (long-way (way (meaning (scopes g) x)) g x _ _ _ k (one (longL g m x l s n _ r k h)))
+  longL g m x (while q e c ∷ l) s n b r k h = longE g e b _ k (long-way (way (meaning (scopes g) x)) g x _ _ _ k (longE g c _ _ k (one (one (longL g m x l s n _ r k h)))))
+  longL g m x (step q e f i ∷ l) s n b r k h = longE g e b _ k (long-way (way (meaning (scopes g) x)) g x _ _ _ k (longE g f _ _ k (longE g i _ _ k (one (long-test (way (meaning (scopes g) x)) g x _ _ _ k (one (long-sum (way (meaning (scopes g) x)) g q x _ _ k (one (longL g m x l s n _ r k h)))))))))
 
-  long-stores : (g : List Mark) (x : Name) (xs : List Name) (b : ℕ) (r : List Instr) (k : ℕ) → Ends r (endStores xs b) k → Ends (codeStores place g x xs r) b k
+  long-stores : (g : List Mark) (x : Name) (xs : List Name) (b : ℕ) (r : List Instr) (k : ℕ) → Ends r (endStores (scopes g) x xs b) k → Ends (codeStores place g x xs r) b k
   unfolding endStores codeStores
-  long-stores g x [] b r k h = one h
-  long-stores g x (y ∷ ys) b r k h = one (long-stores g y ys _ r k h)
+  long-stores g x [] b r k h = long-way (way (meaning (scopes g) x)) g x _ b r k h
+  long-stores g x (y ∷ ys) b r k h = long-way (way (meaning (scopes g) x)) g x _ b _ k (long-stores g y ys _ r k h)
 
-  long-call : (g : List Mark) (t : Option Sort) (x : Name) (es : Expressions) (b : ℕ) (r : List Instr) (k : ℕ) → Ends r (endCall (scopes g) t es b) k → Ends (codeCall place g t x es b r) b k
-  long-call g none x es b r k h = longEs g es b _ k (one h)
-  long-call g (some t) x es b r k h = one (longEs g es _ _ k (one h))
+  long-call : (g : List Mark) (t : Option Sort) (m : List Bool) (x : Name) (es : Expressions) (b : ℕ) (r : List Instr) (k : ℕ) → Ends r (endCall (scopes g) t m es b) k → Ends (codeCall place g t m x es b r) b k
+  long-call g none m x es b r k h = longEs g m es b _ k (one h)
+  long-call g (some t) m x es b r k h = one (longEs g m es _ _ k (one h))
 
   long-command : (c : Command) (g : List Mark) (x : Name) (es : Expressions) (b : ℕ) (r : List Instr) (k : ℕ) → Ends r (endCommand (scopes g) c es b) k → Ends (codeCommand place c g x es b r) b k
-  long-command (routine-of p) g x es b r k h = long-call g (sortOf p) x es b r k h
+  long-command (routine-of p) g x es b r k h = long-call g (sortOf p) (modesOf p) x es b r k h
   long-command (absolute-of e) g x es b r k h = longE g e b _ k (one (one h))
   long-command greatest-of g x es b r k h = one (one h)
-  long-command (input-to e y) g x es b r k h = longE g e b _ k (one h)
+  long-command (input-to e y) g x es b r k h = longE g e b _ k (long-take (way (meaning (scopes g) y)) g _ y _ r k h)
   long-command (output-of e f) g x es b r k h = longE g e b _ k (longE g f _ _ k (one h))
   long-command no-command g x es b r k h = h
 

@@ -1,31 +1,42 @@
 -- Every operand of a translated program is in its range: levels and nesting below 64, offsets, counts and addresses below 8,192. Assumes nothing.
-use Prim.Native.Nat.{ℕ, zero, suc, _+_, _≤_, _<_}
+use Prim.Native.Nat.{ℕ, zero, suc, _+_, _≤_, _<_, max}
 use native.Mathlib.Omega.{arith}
 use mathlib.Core.Bool.{Bool, true, false, cond}
-use mathlib.Core.Path.{_≡_, refl}
-use mathlib.Core.List.{List, [], _∷_, _++_, map}
+use mathlib.Core.Path.{_≡_}
+use mathlib.Core.List.{List, [], _∷_, _++_}
 use mathlib.Core.Option.{Option, none, some}
 use lib.ListN.{length}
 use Rattle.machine.specs.Values.{truth}
 use Rattle.machine.specs.Data.{Act}
-use Rattle.machine.specs.Instructions.{Instr, END}
-use Rattle.names.specs.Program.{Name, Sort, Sign, positive, negative, negation, Expression, number, logical, name, call, signed, operated, chosen, nested, Expressions, done, then, count, Element, value, while, step, Specification, Statement, dummy, assignment, procedure, when, either, repeat, compound, block, Statements, last, first, Declarations, none as no-more, variables, declare, Procedure, heading}
-use Rattle.names.specs.Scopes.{Thing, variable, routine, formal, Declared, Scope, ofBlock, ofBody, declares, inBlock, inBody, variablesIn, specified, specificationsOf, formalsOf, nameOf, sortOf, same, Meaning, declared, given, nothing, meaning}
+use Rattle.machine.specs.Instructions.{Loc, Instr, END}
+use Rattle.names.specs.Program.{Name, Sort, Sign, positive, negative, negation, Expression, number, logical, name, call, signed, operated, chosen, nested, Expressions, done, then, count, Element, value, while, step, Statement, dummy, assignment, procedure, when, either, repeat, compound, block, Statements, last, first, Declarations, none as no-more, variables, declare, Procedure, heading}
+use Rattle.names.specs.Scopes.{Thing, variable, routine, formal, by-name, modesOf, Declared, Scope, ofBlock, ofBody, inBlock, inBody, variablesIn, formalsOf, nameOf, sortOf, same, Meaning, declared, given, nothing, meaning}
 use Rattle.rules.specs.Entered.{cellsOf, total, oneIf, cellsIn, before, declaring, bodyOfThis}
-use Rattle.rules.specs.Calls.{Primary, held, function, absolute, greatest, no-primary, primary, Command, routine-of, absolute-of, greatest-of, input-to, output-of, no-command, command, thingTold, into, givenTold}
-use Rattle.translation.specs.Translate.{Mark, blk, own, scopeAt, scopes, offset, reach, cutG, levels, amongG, offsetOf, locFor, locAs, loc, endName, endSign, endE, endEs, endL, onward, endStores, endCall, endCommand, endS, endSs, endDs, endP, entry, target, codeName, codeSign, codeE, codeEs, codeL, codeStores, codeCall, codeCommand, codeS, codeSs, codeDs, codeP, code}
-use Rattle.machine.specs.Words.{LocFits, CodeFits}
+use Rattle.rules.specs.Calls.{Primary, held, worked, function, absolute, greatest, no-primary, primary, Command, routine-of, absolute-of, greatest-of, input-to, output-of, no-command, command, thingTold, into, givenTold, Way, direct, sought, way}
+use Rattle.rules.specs.Rules.{Spot, here, there}
+use Rattle.translation.specs.Translate.{Mark, blk, own, acl, scopes, spot, reach, cutG, levels, amongG, offsetOf, locFor, locAs, loc, endName, endActual, endThen, endSign, endE, endEs, endWay, endTest, endSum, endL, onward, endStores, endCall, endTake, endCommand, endS, endSs, endDs, endP, entry, target, storeName, storePart, codeName, codeActual, codeThen, codeSign, codeE, codeEs, codeWay, codeTest, codeSum, codeL, codeStores, codeCall, codeTake, codeCommand, codeS, codeSs, codeDs, codeP, code}
+use Rattle.translation.proofs.Chain.{body-cells as formals-cells}
 use Rattle.translation.proofs.Sizes.{symbolsC, few, actuals-most, sizeSs, sizeDs}
-use Rattle.translation.specs.Sizes.{symbolsE, symbolsEs, symbolsL, listed, symbolsS, symbolsSs, symbolsDs, symbolsP, deepS, deepSs, deepDs, deepP, SmallE, SmallEs, SmallL, SmallS, SmallSs, SmallDs, SmallP, Whole, Limited}
+use Rattle.translation.specs.Sizes.{symbolsE, symbolsEs, symbolsL, listed, symbolsS, symbolsSs, symbolsDs, symbolsP, deepE, deepEs, deepA, deepL, deepS, deepSs, deepDs, deepP, SmallE, SmallEs, SmallL, SmallS, SmallSs, SmallDs, SmallP, Whole, Limited}
+use Rattle.machine.specs.Words.{LocFits, ActFits, InstrFits, CodeFits}
 
 -- ---- code does not end before it begins
 
-pub grow-name : (pr : Primary) (f : ℕ → ℕ) → ((b : ℕ) → b ≤ f b) → (b : ℕ) → b ≤ endName pr f b
+pub grow-name : (pr : Primary) (f : List Bool → ℕ → ℕ) → ((m : List Bool) (b : ℕ) → b ≤ f m b) → (b : ℕ) → b ≤ endName pr f b
 grow-name held f h b = omega arith
-grow-name (function p) f h b = omega (arith, h (suc b))
-grow-name absolute f h b = omega (arith, h b)
+grow-name worked f h b = omega arith
+grow-name (function p) f h b = omega (arith, h (modesOf p) (suc b))
+grow-name absolute f h b = omega (arith, h [] b)
 grow-name greatest f h b = omega arith
 grow-name no-primary f h b = omega arith
+
+grow-actual : (m : Bool) (f : ℕ → ℕ) → ((b : ℕ) → b ≤ f b) → (b : ℕ) → b ≤ endActual m f b
+grow-actual true f h b = h b
+grow-actual false f h b = omega (arith, h (suc (suc (suc b))))
+
+pub grow-then : (m : List Bool) (f : ℕ → ℕ) (fs : List Bool → ℕ → ℕ) → ((b : ℕ) → b ≤ f b) → ((m : List Bool) (b : ℕ) → b ≤ fs m b) → (b : ℕ) → b ≤ endThen m f fs b
+grow-then [] f fs h h' b = omega (arith, h b, h' [] (f b))
+grow-then (m ∷ ms) f fs h h' b = omega (arith, grow-actual m f h b, h' ms (endActual m f b))
 
 pub grow-sign : (o : Sign) (b : ℕ) → b ≤ endSign o b
 grow-sign positive b = omega arith
@@ -38,40 +49,68 @@ mutual
   growE : (g : List Scope) (e : Expression) (b : ℕ) → b ≤ endE g e b
   growE g (number q n) b = omega arith
   growE g (logical q t) b = omega arith
-  growE g (name x) b = grow-name (primary (meaning g x) done) (λ b. b) (λ b. omega arith) b
-  growE g (call x e es) b = grow-name (primary (meaning g x) (then e es)) (λ b. endEs g es (endE g e b)) (λ b. omega (arith, growE g e b, growEs g es (endE g e b))) b
+  growE g (name x) b = grow-name (primary (meaning g x) done) (λ m b. b) (λ m b. omega arith) b
+  growE g (call x e es) b = grow-name (primary (meaning g x) (then e es)) (λ m b. endThen m (λ b. endE g e b) (λ m b. endEs g m es b) b) (λ m b. grow-then m (λ b. endE g e b) (λ m b. endEs g m es b) (λ b. growE g e b) (λ m b. growEs g m es b) b) b
   growE g (signed q o e) b = omega (arith, growE g e b, grow-sign o (endE g e b))
   growE g (operated q o e f) b = omega (arith, growE g e b, growE g f (endE g e b))
   growE g (chosen q r c e f) b = omega (arith, growE g c b, growE g e (suc (endE g c b)), growE g f (suc (endE g e (suc (endE g c b)))))
   growE g (nested q e) b = growE g e b
 
-  growEs : (g : List Scope) (es : Expressions) (b : ℕ) → b ≤ endEs g es b
-  growEs g done b = omega arith
-  growEs g (then e es) b = omega (arith, growE g e b, growEs g es (endE g e b))
+  growEs : (g : List Scope) (m : List Bool) (es : Expressions) (b : ℕ) → b ≤ endEs g m es b
+  growEs g m done b = omega arith
+  growEs g m (then e es) b = grow-then m (λ b. endE g e b) (λ m b. endEs g m es b) (λ b. growE g e b) (λ m b. growEs g m es b) b
 
-growL : (g : List Scope) (l : List Element) (b : ℕ) → b ≤ endL g l b
+pub grow-way : (w : Way) (b : ℕ) → b < endWay w b
+unfolding endWay
+grow-way direct b = omega arith
+grow-way sought b = omega arith
+
+pub grow-test : (w : Way) (b : ℕ) → b < endTest w b
+unfolding endTest
+grow-test direct b = omega arith
+grow-test sought b = omega arith
+
+pub grow-sum : (w : Way) (b : ℕ) → b < endSum w b
+unfolding endSum
+grow-sum direct b = omega arith
+grow-sum sought b = omega arith
+
+pub grow-take : (w : Way) (b : ℕ) → b < endTake w b
+unfolding endTake
+grow-take direct b = omega arith
+grow-take sought b = omega arith
+
+growL : (g : List Scope) (x : Name) (l : List Element) (b : ℕ) → b ≤ endL g x l b
 unfolding endL
-growL g [] b = omega arith
-growL g (value e ∷ l) b = omega (arith, growE g e b, growL g l (suc (suc (endE g e b))))
-growL g (while q e c ∷ l) b = omega (arith, growE g e b, growE g c (suc (endE g e b)), growL g l (suc (suc (endE g c (suc (endE g e b))))))
-growL g (step q e f h ∷ l) b =
-    let a = suc (endE g e b) in
-    omega (arith, growE g e b, growE g f a, growE g h (endE g f a), growL g l (suc (suc (suc (suc (suc (endE g h (endE g f a))))))))
+growL g x [] b = omega arith
+growL g x (value e ∷ l) b =
+    let w = way (meaning g x) in
+    omega (arith, growE g e b, grow-way w (endE g e b), growL g x l (suc (endWay w (endE g e b))))
+growL g x (while q e c ∷ l) b =
+    let w = way (meaning g x) in
+    let a = endWay w (endE g e b) in
+    omega (arith, growE g e b, grow-way w (endE g e b), growE g c a, growL g x l (suc (suc (endE g c a))))
+growL g x (step q e f h ∷ l) b =
+    let w = way (meaning g x) in
+    let a = endWay w (endE g e b) in
+    let i = endE g h (endE g f a) in
+    let t = endTest w (suc i) in
+    omega (arith, growE g e b, grow-way w (endE g e b), growE g f a, growE g h (endE g f a), grow-test w (suc i), grow-sum w (suc t), growL g x l (suc (endSum w (suc t))))
 
-pub grow-stores : (xs : List Name) (b : ℕ) → b ≤ endStores xs b
+pub grow-stores : (g : List Scope) (x : Name) (xs : List Name) (b : ℕ) → b ≤ endStores g x xs b
 unfolding endStores
-grow-stores [] b = omega arith
-grow-stores (y ∷ ys) b = omega (arith, grow-stores ys (suc b))
+grow-stores g x [] b = omega (arith, grow-way (way (meaning g x)) b)
+grow-stores g x (y ∷ ys) b = omega (arith, grow-way (way (meaning g x)) b, grow-stores g y ys (endWay (way (meaning g x)) b))
 
-grow-call : (g : List Scope) (t : Option Sort) (es : Expressions) (b : ℕ) → b ≤ endCall g t es b
-grow-call g none es b = omega (arith, growEs g es b)
-grow-call g (some t) es b = omega (arith, growEs g es (suc b))
+grow-call : (g : List Scope) (t : Option Sort) (m : List Bool) (es : Expressions) (b : ℕ) → b ≤ endCall g t m es b
+grow-call g none m es b = omega (arith, growEs g m es b)
+grow-call g (some t) m es b = omega (arith, growEs g m es (suc b))
 
 grow-command : (g : List Scope) (c : Command) (es : Expressions) (b : ℕ) → b ≤ endCommand g c es b
-grow-command g (routine-of p) es b = grow-call g (sortOf p) es b
+grow-command g (routine-of p) es b = grow-call g (sortOf p) (modesOf p) es b
 grow-command g (absolute-of e) es b = omega (arith, growE g e b)
 grow-command g greatest-of es b = omega arith
-grow-command g (input-to e y) es b = omega (arith, growE g e b)
+grow-command g (input-to e y) es b = omega (arith, growE g e b, grow-take (way (meaning g y)) (endE g e b))
 grow-command g (output-of e f) es b = omega (arith, growE g e b, growE g f (endE g e b))
 grow-command g no-command es b = omega arith
 
@@ -80,11 +119,11 @@ mutual
 
   growS : (g : List Scope) (s : Statement) (b : ℕ) → b ≤ endS g s b
   growS g dummy b = omega arith
-  growS g (assignment x xs q e) b = omega (arith, growE g e b, grow-stores xs (endE g e b))
+  growS g (assignment x xs q e) b = omega (arith, growE g e b, grow-stores g x xs (endE g e b))
   growS g (procedure x es) b = grow-command g (command (meaning g x) es) es b
   growS g (when q c s) b = omega (arith, growE g c b, growS g s (suc (endE g c b)))
   growS g (either q c s t) b = omega (arith, growE g c b, growS g s (suc (endE g c b)), growS g t (suc (endS g s (suc (endE g c b)))))
-  growS g (repeat x l ls s) b = omega (arith, growL g (l ∷ ls) b, growS g s (endL g (l ∷ ls) b))
+  growS g (repeat x l ls s) b = omega (arith, growL g x (l ∷ ls) b, growS g s (endL g x (l ∷ ls) b))
   growS g (compound ss) b = growSs g ss b
   growS g (block q ds ss) b = omega (arith, growDs (ofBlock ds ∷ g) ds (suc b), growSs (ofBlock ds ∷ g) ss (endDs (ofBlock ds ∷ g) ds (suc b)))
 
@@ -111,18 +150,17 @@ before-most (d ∷ l) x = go (same (d .name) x) (before-most l x)
     go true h = omega arith
     go false h = omega arith
 
-abbrev endAt : Mark → List Mark → ℕ
-endAt (blk o ds b) g = endDs (ofBlock ds ∷ scopes g) ds b
-endAt (own p) g = 0
-
 abbrev pub owns : List Mark → ℕ
 owns [] = 0
 owns (blk o ds b ∷ g) = owns g
 owns (own p ∷ g) = suc (owns g)
+owns (acl ∷ g) = suc (owns g)
 
 abbrev Reaches : List Mark → Type 0
 Reaches [] = Unit {0}
-Reaches (m ∷ g) = (offset m + cellsIn (scopeAt m) < 8192) × (endAt m g < 8192) × Reaches g
+Reaches (blk o ds b ∷ g) = (o + cellsIn (ofBlock ds) < 8191) × (endDs (ofBlock ds ∷ scopes g) ds b < 8192) × Reaches g
+Reaches (own p ∷ g) = (cellsIn (ofBody p) < 8191) × Reaches g
+Reaches (acl ∷ g) = Reaches g
 
 levels-most : (t : Scope → Bool) (g : List Mark) → levels t g ≤ owns g
 unfolding levels
@@ -137,24 +175,37 @@ levels-most t (own p ∷ g) = go (t (ofBody p)) (levels-most t g)
     go : (y : Bool) → levels t g ≤ owns g → cond y 0 (suc (levels t g)) ≤ suc (owns g)
     go true h = omega arith
     go false h = omega arith
+levels-most t (acl ∷ g) = omega (arith, levels-most t g)
 
-among-most : (t : Scope → Bool) (x : Name) (g : List Mark) → Reaches g → amongG (cutG t g) x < 8192
+among-most : (t : Scope → Bool) (x : Name) (g : List Mark) → Reaches g → amongG (cutG t g) x < 8191
 unfolding cutG
 among-most t x [] h = omega arith
-among-most t x (m ∷ g) h = go (t (scopeAt m)) (among-most t x g (h .2))
+among-most t x (blk o ds b ∷ g) h = go (t (ofBlock ds)) (among-most t x g (h .2))
   where
-    go : (y : Bool) → amongG (cutG t g) x < 8192 → amongG (cond y (m ∷ g) (cutG t g)) x < 8192
-    go true w = omega (arith, before-most (declares (scopeAt m)) x, h .0)
+    go : (y : Bool) → amongG (cutG t g) x < 8191 → amongG (cond y (blk o ds b ∷ g) (cutG t g)) x < 8191
+    go true w = omega (arith, before-most (inBlock ds) x, h .0)
     go false w = w
+among-most t x (own p ∷ g) h = go (t (ofBody p)) (among-most t x g (h .1))
+  where
+    go : (y : Bool) → amongG (cutG t g) x < 8191 → amongG (cond y (own p ∷ g) (cutG t g)) x < 8191
+    go true w = omega (arith, before-most (inBody p) x, h .0)
+    go false w = w
+among-most t x (acl ∷ g) h = among-most t x g h
 
-offset-most : (t : Scope → Bool) (g : List Mark) → Reaches g → offsetOf (cutG t g) < 8192
+offset-most : (t : Scope → Bool) (g : List Mark) → Reaches g → offsetOf (cutG t g) < 8191
 unfolding cutG
 offset-most t [] h = omega arith
-offset-most t (m ∷ g) h = go (t (scopeAt m)) (offset-most t g (h .2))
+offset-most t (blk o ds b ∷ g) h = go (t (ofBlock ds)) (offset-most t g (h .2))
   where
-    go : (y : Bool) → offsetOf (cutG t g) < 8192 → offsetOf (cond y (m ∷ g) (cutG t g)) < 8192
+    go : (y : Bool) → offsetOf (cutG t g) < 8191 → offsetOf (cond y (blk o ds b ∷ g) (cutG t g)) < 8191
     go true w = omega (arith, h .0)
     go false w = w
+offset-most t (own p ∷ g) h = go (t (ofBody p)) (offset-most t g (h .1))
+  where
+    go : (y : Bool) → offsetOf (cutG t g) < 8191 → offsetOf (cond y (own p ∷ g) (cutG t g)) < 8191
+    go true w = omega arith
+    go false w = w
+offset-most t (acl ∷ g) h = offset-most t g h
 
 entry-most : (g : List Scope) (ds : Declarations) (b : ℕ) (x : Name) → entry g ds b x ≤ endDs g ds b
 unfolding entry endS
@@ -166,18 +217,20 @@ entry-most g (declare p ds) b x = go (same (nameOf p) x) (entry-most g ds (endP 
     go true w = omega (arith, growP g p b, growDs g ds (endP g p b))
     go false w = w
 
-target-at : (m : Mark) (g : List Mark) (x : Name) → endAt m g < 8192 → target (m ∷ g) x < 8192
-target-at (blk o ds b) g x h = omega (arith, entry-most (ofBlock ds ∷ scopes g) ds b x)
-target-at (own p) g x h = omega arith
-
 target-most : (t : Scope → Bool) (x : Name) (g : List Mark) → Reaches g → target (cutG t g) x < 8192
 unfolding cutG
 target-most t x [] h = omega arith
-target-most t x (m ∷ g) h = go (t (scopeAt m)) (target-most t x g (h .2))
+target-most t x (blk o ds b ∷ g) h = go (t (ofBlock ds)) (target-most t x g (h .2))
   where
-    go : (y : Bool) → target (cutG t g) x < 8192 → target (cond y (m ∷ g) (cutG t g)) x < 8192
-    go true w = target-at m g x (h .1)
+    go : (y : Bool) → target (cutG t g) x < 8192 → target (cond y (blk o ds b ∷ g) (cutG t g)) x < 8192
+    go true w = omega (arith, entry-most (ofBlock ds ∷ scopes g) ds b x, h .1)
     go false w = w
+target-most t x (own p ∷ g) h = go (t (ofBody p)) (target-most t x g (h .1))
+  where
+    go : (y : Bool) → target (cutG t g) x < 8192 → target (cond y (own p ∷ g) (cutG t g)) x < 8192
+    go true w = omega arith
+    go false w = w
+target-most t x (acl ∷ g) h = target-most t x g h
 
 loc-fits : (g : List Mark) (x : Name) → Reaches g → owns g < 64 → LocFits (loc g x)
 unfolding loc
@@ -186,12 +239,17 @@ loc-fits g x h w = go (meaning (scopes g) x)
     thing : (t : Thing) → LocFits (locFor g t x)
     thing (variable t) = (omega (arith, levels-most (declaring x) g), among-most (declaring x) x g h)
     thing (formal t) = (omega (arith, levels-most (declaring x) g), among-most (declaring x) x g h)
+    thing (by-name t) = (omega arith, omega arith)
     thing (routine p) = (omega (arith, levels-most (bodyOfThis p) g), offset-most (bodyOfThis p) g h)
 
     go : (m : Meaning) → LocFits (locAs g m x)
     go (declared d k) = thing (d .thing)
     go (given n e) = (omega arith, omega arith)
     go nothing = (omega arith, omega arith)
+
+-- a name formal's level and offset
+formal-fits : (g : List Mark) (x : Name) → Reaches g → owns g < 64 → (levels (declaring x) g < 64) × (amongG (cutG (declaring x) g) x < 8191)
+formal-fits g x h w = (omega (arith, levels-most (declaring x) g), among-most (declaring x) x g h)
 
 count-most : (es : Expressions) → count es ≤ symbolsEs es
 unfolding count symbolsE
@@ -215,14 +273,8 @@ block-cells no-more = omega arith
 block-cells (variables t xs ds) = omega (arith, total-variables t xs (inBlock ds), listed-most xs, block-cells ds)
 block-cells (declare p ds) = omega (arith, block-cells ds)
 
-total-formals : (ss : List Specification) (xs : List Name) → total (map (λ y. record { name = y; thing = formal (specified ss y) }) xs) ≡ length xs
-unfolding total
-total-formals ss [] = refl
-total-formals ss (x ∷ xs) = omega (arith, total-formals ss xs)
-
 pub body-cells : (p : Procedure) → cellsIn (ofBody p) ≡ oneIf (sortOf p) + length (formalsOf p)
-unfolding inBody
-body-cells p = omega (arith, total-formals (specificationsOf p) (formalsOf p))
+body-cells p = omega (arith, formals-cells p)
 
 pub one-most : (t : Option Sort) → oneIf t ≤ 1
 one-most none = omega arith
@@ -245,6 +297,7 @@ SmallC no-command = Unit {0}
 small-told : (t : Thing) → SmallC (thingTold t)
 small-told (variable t) = tt
 small-told (formal t) = tt
+small-told (by-name t) = tt
 small-told (routine p) = tt
 
 small-into : (e f : Expression) → SmallE e → SmallC (into e f)
@@ -283,13 +336,101 @@ onward-most : (l : List Element) (a n : ℕ) → a < 8192 → n < 8192 → onwar
 onward-most [] a n h h' = h'
 onward-most (x ∷ l) a n h h' = h
 
+-- the expressions of a command are no deeper than its actuals
+abbrev deepC : Command → ℕ
+deepC (routine-of p) = 0
+deepC (absolute-of e) = deepE e
+deepC greatest-of = 0
+deepC (input-to e y) = deepE e
+deepC (output-of e f) = max (deepE e) (deepE f)
+deepC no-command = 0
+
+deep-told : (t : Thing) → deepC (thingTold t) ≤ 0
+deep-told (variable t) = omega arith
+deep-told (formal t) = omega arith
+deep-told (by-name t) = omega arith
+deep-told (routine p) = omega arith
+
+deep-into : (e f : Expression) → deepC (into e f) ≤ deepE e
+deep-into e (number q n) = omega arith
+deep-into e (logical q b) = omega arith
+deep-into e (name x) = omega arith
+deep-into e (call x f fs) = omega arith
+deep-into e (signed q o f) = omega arith
+deep-into e (operated q o f f') = omega arith
+deep-into e (chosen q r c f f') = omega arith
+deep-into e (nested q f) = omega arith
+
+deep-given : (n : ℕ) (es : Expressions) → deepC (givenTold n es) ≤ deepEs es
+unfolding deepE
+deep-given zero done = omega arith
+deep-given zero (then e done) = omega arith
+deep-given zero (then e (then f es)) = omega arith
+deep-given (suc zero) done = omega arith
+deep-given (suc zero) (then e es) = omega arith
+deep-given (suc (suc zero)) done = omega arith
+deep-given (suc (suc zero)) (then e done) = omega arith
+deep-given (suc (suc zero)) (then e (then f done)) = omega (arith, deep-into e f)
+deep-given (suc (suc zero)) (then e (then f (then f' es))) = omega arith
+deep-given (suc (suc (suc zero))) done = omega arith
+deep-given (suc (suc (suc zero))) (then e done) = omega arith
+deep-given (suc (suc (suc zero))) (then e (then f done)) = omega arith
+deep-given (suc (suc (suc zero))) (then e (then f (then f' es))) = omega arith
+deep-given (suc (suc (suc (suc n)))) es = omega arith
+
+-- actuals are one deeper than what holds them, where there are any
+deep-most : (es : Expressions) → deepA es ≤ suc (deepEs es)
+unfolding deepA
+deep-most done = omega arith
+deep-most (then e es) = omega arith
+
+deep-least : (es : Expressions) → deepEs es ≤ deepA es
+unfolding deepA deepE
+deep-least done = omega arith
+deep-least (then e es) = omega arith
+
+deep-command : (m : Meaning) (es : Expressions) → deepC (command m es) ≤ deepEs es
+unfolding command
+deep-command (declared d g) es = omega (arith, deep-told (d .thing))
+deep-command (given n e) es = deep-given n es
+deep-command nothing es = omega arith
+
 module _ (place : ℕ → ℕ) where
-  fits-name : (pr : Primary) (g : List Mark) (x : Name) (n : ℕ) (f : ℕ → ℕ) (c : ℕ → List Instr → List Instr) → ((b : ℕ) (r : List Instr) → f b < 8192 → CodeFits r → CodeFits (c b r)) → (b : ℕ) (r : List Instr) → Reaches g → owns g < 64 → suc n < 8192 → endName pr f b < 8192 → CodeFits r → CodeFits (codeName place pr g x n c b r)
+  fits-name : (pr : Primary) (g : List Mark) (x : Name) (n : ℕ) (f : List Bool → ℕ → ℕ) (c : List Bool → ℕ → List Instr → List Instr) → ((m : List Bool) (b : ℕ) (r : List Instr) → f m b < 8192 → CodeFits r → CodeFits (c m b r)) → (b : ℕ) (r : List Instr) → Reaches g → owns g < 64 → suc n < 8192 → endName pr f b < 8192 → CodeFits r → CodeFits (codeName place pr g x n c b r)
   fits-name held g x n f c k b r h w i e z = (loc-fits g x h w, z)
-  fits-name (function p) g x n f c k b r h w i e z = (tt, k (suc b) _ (omega arith) ((target-most (declaring x) x g h, omega (arith, levels-most (declaring x) g), i), z))
-  fits-name absolute g x n f c k b r h w i e z = k b _ (omega arith) (tt, z)
+  fits-name worked g x n f c k b r h w i e z = (formal-fits g x h w, z)
+  fits-name (function p) g x n f c k b r h w i e z = (tt, k (modesOf p) (suc b) _ (omega arith) ((target-most (declaring x) x g h, omega (arith, levels-most (declaring x) g), i), z))
+  fits-name absolute g x n f c k b r h w i e z = k [] b _ (omega arith) (tt, z)
   fits-name greatest g x n f c k b r h w i e z = (omega arith, z)
   fits-name no-primary g x n f c k b r h w i e z = z
+
+  -- the store part of an actual
+  fits-store-name : (pr : Primary) (g : List Mark) (y : Name) → Reaches g → owns g < 64 → InstrFits (storeName place pr g y)
+  fits-store-name held g y h w = loc-fits g y h w
+  fits-store-name worked g y h w = formal-fits g y h w
+  fits-store-name (function p) g y h w = tt
+  fits-store-name absolute g y h w = tt
+  fits-store-name greatest g y h w = tt
+  fits-store-name no-primary g y h w = tt
+
+  fits-store : (g : List Mark) (e : Expression) → Reaches g → owns g < 64 → InstrFits (storePart place g e)
+  fits-store g (number q n) h w = tt
+  fits-store g (logical q t) h w = tt
+  fits-store g (name y) h w = fits-store-name (primary (meaning (scopes g) y) done) g y h w
+  fits-store g (call y e es) h w = tt
+  fits-store g (signed q o e) h w = tt
+  fits-store g (operated q o e f) h w = tt
+  fits-store g (chosen q q' c e f) h w = tt
+  fits-store g (nested q e) h w = tt
+
+  -- an actual, whose code fits one level in as well; and others behind it
+  fits-actual : (m : Bool) (g : List Mark) (e : Expression) (f : ℕ → ℕ) (c : List Mark → ℕ → List Instr → List Instr) → ((b : ℕ) (r : List Instr) → f b < 8192 → CodeFits r → CodeFits (c g b r)) → ((b : ℕ) (r : List Instr) → f b < 8192 → CodeFits r → CodeFits (c (acl ∷ g) b r)) → (b : ℕ) (r : List Instr) → Reaches g → suc (owns g) < 64 → endActual m f b < 8192 → CodeFits r → CodeFits (codeActual place m g e f c b r)
+  fits-actual true g e f c k k' b r h w i z = k b r i z
+  fits-actual false g e f c k k' b r h w i z = (i, (fits-store (acl ∷ g) e h w, (tt, k' (suc (suc (suc b))) _ (omega arith) (tt, z))))
+
+  fits-then : (m : List Bool) (g : List Mark) (e : Expression) (f : ℕ → ℕ) (fs : List Bool → ℕ → ℕ) (c : List Mark → ℕ → List Instr → List Instr) (cs : List Bool → ℕ → List Instr → List Instr) → ((m : List Bool) (b : ℕ) → b ≤ fs m b) → ((b : ℕ) (r : List Instr) → f b < 8192 → CodeFits r → CodeFits (c g b r)) → ((b : ℕ) (r : List Instr) → f b < 8192 → CodeFits r → CodeFits (c (acl ∷ g) b r)) → ((m : List Bool) (b : ℕ) (r : List Instr) → fs m b < 8192 → CodeFits r → CodeFits (cs m b r)) → (b : ℕ) (r : List Instr) → Reaches g → suc (owns g) < 64 → endThen m f fs b < 8192 → CodeFits r → CodeFits (codeThen place m g e f c cs b r)
+  fits-then [] g e f fs c cs u k k' ks b r h w i z = k b _ (omega (arith, u [] (f b))) (ks [] (f b) r i z)
+  fits-then (m ∷ ms) g e f fs c cs u k k' ks b r h w i z = fits-actual m g e f c k k' b _ h w (omega (arith, u ms (endActual m f b))) (ks ms (endActual m f b) r i z)
 
   fits-sign : (q : ℕ) (o : Sign) (r : List Instr) → CodeFits r → CodeFits (codeSign place q o r)
   fits-sign q positive r z = z
@@ -297,74 +438,107 @@ module _ (place : ℕ → ℕ) where
   fits-sign q negation r z = (tt, z)
 
   mutual
-    unfolding endE codeE symbolsE count
+    unfolding endE codeE symbolsE deepE deepA count
 
-    fitsE : (g : List Mark) (e : Expression) (b : ℕ) (r : List Instr) → Reaches g → owns g < 64 → SmallE e → symbolsE e < 8192 → endE (scopes g) e b < 8192 → CodeFits r → CodeFits (codeE place g e b r)
+    fitsE : (g : List Mark) (e : Expression) (b : ℕ) (r : List Instr) → Reaches g → owns g + deepE e < 64 → SmallE e → symbolsE e < 8192 → endE (scopes g) e b < 8192 → CodeFits r → CodeFits (codeE place g e b r)
     fitsE g (number q n) b r h w s i e z = (s, z)
     fitsE g (logical q t) b r h w s i e z = (truth-small t .0, z)
-    fitsE g (name x) b r h w s i e z = fits-name (primary (meaning (scopes g) x) done) g x 0 (λ b. b) (λ b r. r) (λ b r e z. z) b r h w (omega arith) e z
-    fitsE g (call x y ys) b r h w s i e z = fits-name (primary (meaning (scopes g) x) (then y ys)) g x (suc (count ys)) (λ b. endEs (scopes g) ys (endE (scopes g) y b)) (λ b r. codeE place g y b (codeEs place g ys (endE (scopes g) y b) r)) (λ b r e z. fitsE g y b _ h w (s .0) (omega arith) (omega (arith, growEs (scopes g) ys (endE (scopes g) y b))) (fitsEs g ys (endE (scopes g) y b) r h w (s .1) (omega arith) e z)) b r h w (omega (arith, count-most ys)) e z
+    fitsE g (name x) b r h w s i e z = fits-name (primary (meaning (scopes g) x) done) g x 0 (λ m b. b) (λ m b r. r) (λ m b r e z. z) b r h (omega arith) (omega arith) e z
+    fitsE g (call x y ys) b r h w s i e z = fits-name (primary (meaning (scopes g) x) (then y ys)) g x (suc (count ys)) (λ m b. endThen m (λ b. endE (scopes g) y b) (λ m b. endEs (scopes g) m ys b) b) (λ m b r. codeThen place m g y (λ b. endE (scopes g) y b) (λ g b r. codeE place g y b r) (λ m b r. codeEs place g m ys b r) b r) (λ m b r e z. fits-then m g y (λ b. endE (scopes g) y b) (λ m b. endEs (scopes g) m ys b) (λ g b r. codeE place g y b r) (λ m b r. codeEs place g m ys b r) (λ m b. growEs (scopes g) m ys b) (λ b r e z. fitsE g y b r h (omega arith) (s .0) (omega arith) e z) (λ b r e z. fitsE (acl ∷ g) y b r h (omega arith) (s .0) (omega arith) e z) (λ m b r e z. fitsEs g m ys b r h (omega (arith, deep-most ys)) (s .1) (omega arith) e z) b r h (omega arith) e z) b r h (omega arith) (omega (arith, count-most ys)) e z
     fitsE g (signed q o y) b r h w s i e z = fitsE g y b _ h w s (omega arith) (omega (arith, grow-sign o (endE (scopes g) y b))) (fits-sign q o r z)
-    fitsE g (operated q o y y') b r h w s i e z = fitsE g y b _ h w (s .0) (omega arith) (omega (arith, growE (scopes g) y' (endE (scopes g) y b))) (fitsE g y' (endE (scopes g) y b) _ h w (s .1) (omega arith) (omega arith) (tt, z))
+    fitsE g (operated q o y y') b r h w s i e z = fitsE g y b _ h (omega arith) (s .0) (omega arith) (omega (arith, growE (scopes g) y' (endE (scopes g) y b))) (fitsE g y' (endE (scopes g) y b) _ h (omega arith) (s .1) (omega arith) (omega arith) (tt, z))
     fitsE g (chosen q q' c y y') b r h w s i e z =
         let m = endE (scopes g) c b in
         let n = endE (scopes g) y (suc m) in
         let e₁ = growE (scopes g) y (suc m) in
         let e₂ = growE (scopes g) y' (suc n) in
-        fitsE g c b _ h w (s .0) (omega arith) (omega arith) ((tt, omega arith), fitsE g y (suc m) _ h w (s .1) (omega arith) (omega arith) (e, fitsE g y' (suc n) r h w (s .2) (omega arith) e z))
+        fitsE g c b _ h (omega arith) (s .0) (omega arith) (omega arith) ((tt, omega arith), fitsE g y (suc m) _ h (omega arith) (s .1) (omega arith) (omega arith) (e, fitsE g y' (suc n) r h (omega arith) (s .2) (omega arith) e z))
     fitsE g (nested q y) b r h w s i e z = fitsE g y b r h w s (omega arith) e z
 
-    fitsEs : (g : List Mark) (es : Expressions) (b : ℕ) (r : List Instr) → Reaches g → owns g < 64 → SmallEs es → symbolsEs es < 8192 → endEs (scopes g) es b < 8192 → CodeFits r → CodeFits (codeEs place g es b r)
-    fitsEs g done b r h w s i e z = z
-    fitsEs g (then y ys) b r h w s i e z = fitsE g y b _ h w (s .0) (omega arith) (omega (arith, growEs (scopes g) ys (endE (scopes g) y b))) (fitsEs g ys (endE (scopes g) y b) r h w (s .1) (omega arith) e z)
+    fitsEs : (g : List Mark) (m : List Bool) (es : Expressions) (b : ℕ) (r : List Instr) → Reaches g → owns g + deepA es < 64 → SmallEs es → symbolsEs es < 8192 → endEs (scopes g) m es b < 8192 → CodeFits r → CodeFits (codeEs place g m es b r)
+    fitsEs g m done b r h w s i e z = z
+    fitsEs g m (then y ys) b r h w s i e z = fits-then m g y (λ b. endE (scopes g) y b) (λ m b. endEs (scopes g) m ys b) (λ g b r. codeE place g y b r) (λ m b r. codeEs place g m ys b r) (λ m b. growEs (scopes g) m ys b) (λ b r e z. fitsE g y b r h (omega arith) (s .0) (omega arith) e z) (λ b r e z. fitsE (acl ∷ g) y b r h (omega arith) (s .0) (omega arith) e z) (λ m b r e z. fitsEs g m ys b r h (omega (arith, deep-most ys)) (s .1) (omega arith) e z) b r h (omega arith) e z
 
-  fitsL : (g : List Mark) (m : ℕ) (x : Name) (l : List Element) (s n b : ℕ) (r : List Instr) → Reaches g → owns g < 64 → m < 64 → s < 8192 → n < 8192 → SmallL l → symbolsL l < 8192 → endL (scopes g) l b < 8192 → CodeFits r → CodeFits (codeL place g m x l s n b r)
-  unfolding endL codeL symbolsL
+  spot-fits : (g : List Mark) (s : Spot) → Reaches g → owns g < 64 → LocFits (spot g s)
+  spot-fits g (here x) h w = loc-fits g x h w
+  spot-fits g there h w = tt
+
+  fits-way : (wy : Way) (g : List Mark) (x : Name) (i : Spot → Act Loc) (r : List Instr) → ((s : Spot) → ActFits (i s)) → Reaches g → owns g < 64 → CodeFits r → CodeFits (codeWay place wy g x i r)
+  unfolding codeWay
+  fits-way direct g x i r k h w z = (k (here x), z)
+  fits-way sought g x i r k h w z = (formal-fits g x h w, (k there, z))
+
+  fits-test : (wy : Way) (g : List Mark) (x : Name) (n : ℕ) (r : List Instr) → Reaches g → owns g < 64 → n < 8192 → CodeFits r → CodeFits (codeTest place wy g x n r)
+  unfolding codeTest
+  fits-test direct g x n r h w e z = ((loc-fits g x h w, e), z)
+  fits-test sought g x n r h w e z = (formal-fits g x h w, ((tt, e), z))
+
+  fits-sum : (wy : Way) (g : List Mark) (q : ℕ) (x : Name) (r : List Instr) → Reaches g → owns g < 64 → CodeFits r → CodeFits (codeSum place wy g q x r)
+  unfolding codeSum
+  fits-sum direct g q x r h w z = (loc-fits g x h w, z)
+  fits-sum sought g q x r h w z = (formal-fits g x h w, (tt, (formal-fits g x h w, (tt, z))))
+
+  fits-take : (wy : Way) (g : List Mark) (q : ℕ) (y : Name) (r : List Instr) → Reaches g → owns g < 64 → CodeFits r → CodeFits (codeTake place wy g q y r)
+  unfolding codeTake
+  fits-take direct g q y r h w z = (loc-fits g y h w, z)
+  fits-take sought g q y r h w z = (tt, (formal-fits g y h w, (tt, z)))
+
+  fitsL : (g : List Mark) (m : ℕ) (x : Name) (l : List Element) (s n b : ℕ) (r : List Instr) → Reaches g → owns g + deepL l < 64 → m < 64 → s < 8192 → n < 8192 → SmallL l → symbolsL l < 8192 → endL (scopes g) x l b < 8192 → CodeFits r → CodeFits (codeL place g m x l s n b r)
+  unfolding endL codeL symbolsL deepL
   fitsL g m x [] s n b r h w hm hs hn v i e z = z
   fitsL g m x (value y ∷ l) s n b r h w hm hs hn v i e z =
-      let a = suc (suc (endE (scopes g) y b)) in
-      let u = growL (scopes g) l a in
-      fitsE g y b _ h w (v .0) (omega arith) (omega arith) (loc-fits g x h w, ((hm, hs, onward-most l a n (omega arith) hn), fitsL g m x l s n a r h w hm hs hn (v .1) (omega arith) e z))
+      let wy = way (meaning (scopes g) x) in
+      let a = suc (endWay wy (endE (scopes g) y b)) in
+      let u = growL (scopes g) x l a in
+      let u₁ = grow-way wy (endE (scopes g) y b) in
+      fitsE g y b _ h (omega arith) (v .0) (omega arith) (omega arith) (fits-way wy g x (λ c. Act.store (spot g c)) _ (λ c. spot-fits g c h (omega arith)) h (omega arith) ((hm, hs, onward-most l a n (omega arith) hn), fitsL g m x l s n a r h (omega arith) hm hs hn (v .1) (omega arith) e z))
   fitsL g m x (while q y c ∷ l) s n b r h w hm hs hn v i e z =
-      let a = suc (endE (scopes g) y b) in
+      let wy = way (meaning (scopes g) x) in
+      let a = endWay wy (endE (scopes g) y b) in
       let k = suc (suc (endE (scopes g) c a)) in
-      let u = growL (scopes g) l k in
+      let u = growL (scopes g) x l k in
       let u₁ = growE (scopes g) c a in
       let u₂ = growE (scopes g) y b in
-      fitsE g y b _ h w (v .0) (omega arith) (omega arith) (loc-fits g x h w, fitsE g c a _ h w (v .1) (omega arith) (omega arith) ((tt, onward-most l k n (omega arith) hn), ((hm, hs, omega arith), fitsL g m x l s n k r h w hm hs hn (v .2) (omega arith) e z)))
+      let u₃ = grow-way wy (endE (scopes g) y b) in
+      fitsE g y b _ h (omega arith) (v .0) (omega arith) (omega arith) (fits-way wy g x (λ c. Act.store (spot g c)) _ (λ c. spot-fits g c h (omega arith)) h (omega arith) (fitsE g c a _ h (omega arith) (v .1) (omega arith) (omega arith) ((tt, onward-most l k n (omega arith) hn), ((hm, hs, omega arith), fitsL g m x l s n k r h (omega arith) hm hs hn (v .2) (omega arith) e z))))
   fitsL g m x (step q y y' y'' ∷ l) s n b r h w hm hs hn v i e z =
-      let a = suc (endE (scopes g) y b) in
+      let wy = way (meaning (scopes g) x) in
+      let a = endWay wy (endE (scopes g) y b) in
       let j = endE (scopes g) y'' (endE (scopes g) y' a) in
-      let k = suc (suc (suc (suc (suc j)))) in
-      let u = growL (scopes g) l k in
+      let t = endTest wy (suc j) in
+      let k = suc (endSum wy (suc t)) in
+      let u = growL (scopes g) x l k in
       let u₁ = growE (scopes g) y' a in
       let u₂ = growE (scopes g) y'' (endE (scopes g) y' a) in
-      fitsE g y b _ h w (v .0) (omega arith) (omega arith) (loc-fits g x h w, fitsE g y' a _ h w (v .1) (omega arith) (omega arith) (fitsE g y'' (endE (scopes g) y' a) _ h w (v .2) (omega arith) (omega arith) (tt, ((loc-fits g x h w, onward-most l k n (omega arith) hn), ((hm, hs, omega arith), (loc-fits g x h w, (omega arith, fitsL g m x l s n k r h w hm hs hn (v .3) (omega arith) e z)))))))
+      let u₃ = grow-way wy (endE (scopes g) y b) in
+      let u₄ = grow-test wy (suc j) in
+      let u₅ = grow-sum wy (suc t) in
+      fitsE g y b _ h (omega arith) (v .0) (omega arith) (omega arith) (fits-way wy g x (λ c. Act.store (spot g c)) _ (λ c. spot-fits g c h (omega arith)) h (omega arith) (fitsE g y' a _ h (omega arith) (v .1) (omega arith) (omega arith) (fitsE g y'' (endE (scopes g) y' a) _ h (omega arith) (v .2) (omega arith) (omega arith) (tt, fits-test wy g x (onward l k n) _ h (omega arith) (onward-most l k n (omega arith) hn) ((hm, hs, omega arith), fits-sum wy g q x _ h (omega arith) (omega arith, fitsL g m x l s n k r h (omega arith) hm hs hn (v .3) (omega arith) e z))))))
 
   fits-stores : (g : List Mark) (x : Name) (xs : List Name) (r : List Instr) → Reaches g → owns g < 64 → CodeFits r → CodeFits (codeStores place g x xs r)
   unfolding codeStores
-  fits-stores g x [] r h w z = (loc-fits g x h w, z)
-  fits-stores g x (y ∷ ys) r h w z = (loc-fits g x h w, fits-stores g y ys r h w z)
+  fits-stores g x [] r h w z = fits-way (way (meaning (scopes g) x)) g x (λ c. Act.store (spot g c)) r (λ c. spot-fits g c h w) h w z
+  fits-stores g x (y ∷ ys) r h w z = fits-way (way (meaning (scopes g) x)) g x (λ c. Act.assign (spot g c)) _ (λ c. spot-fits g c h w) h w (fits-stores g y ys r h w z)
 
-  fits-call : (g : List Mark) (t : Option Sort) (x : Name) (es : Expressions) (b : ℕ) (r : List Instr) → Reaches g → owns g < 64 → SmallEs es → symbolsEs es + 1 < 8192 → endCall (scopes g) t es b < 8192 → CodeFits r → CodeFits (codeCall place g t x es b r)
-  fits-call g none x es b r h w s i e z = fitsEs g es b _ h w s (omega arith) (omega arith) ((target-most (declaring x) x g h, omega (arith, levels-most (declaring x) g), omega (arith, count-most es)), z)
-  fits-call g (some t) x es b r h w s i e z = (tt, fitsEs g es (suc b) _ h w s (omega arith) (omega arith) ((target-most (declaring x) x g h, omega (arith, levels-most (declaring x) g), omega (arith, count-most es)), z))
+  fits-call : (g : List Mark) (t : Option Sort) (m : List Bool) (x : Name) (es : Expressions) (b : ℕ) (r : List Instr) → Reaches g → owns g + deepA es < 64 → SmallEs es → symbolsEs es + 1 < 8192 → endCall (scopes g) t m es b < 8192 → CodeFits r → CodeFits (codeCall place g t m x es b r)
+  fits-call g none m x es b r h w s i e z = fitsEs g m es b _ h w s (omega arith) (omega arith) ((target-most (declaring x) x g h, omega (arith, levels-most (declaring x) g), omega (arith, count-most es)), z)
+  fits-call g (some t) m x es b r h w s i e z = (tt, fitsEs g m es (suc b) _ h w s (omega arith) (omega arith) ((target-most (declaring x) x g h, omega (arith, levels-most (declaring x) g), omega (arith, count-most es)), z))
 
-  fits-command : (c : Command) (g : List Mark) (x : Name) (es : Expressions) (b : ℕ) (r : List Instr) → Reaches g → owns g < 64 → SmallEs es → SmallC c → symbolsC c ≤ symbolsEs es → symbolsEs es + 1 < 8192 → endCommand (scopes g) c es b < 8192 → CodeFits r → CodeFits (codeCommand place c g x es b r)
-  fits-command (routine-of p) g x es b r h w s v j i e z = fits-call g (sortOf p) x es b r h w s i e z
-  fits-command (absolute-of y) g x es b r h w s v j i e z = fitsE g y b _ h w v (omega arith) (omega arith) (tt, (tt, z))
-  fits-command greatest-of g x es b r h w s v j i e z = (omega arith, (tt, z))
-  fits-command (input-to y u) g x es b r h w s v j i e z = fitsE g y b _ h w v (omega arith) (omega arith) (loc-fits g u h w, z)
-  fits-command (output-of y y') g x es b r h w s v j i e z = fitsE g y b _ h w (v .0) (omega arith) (omega (arith, growE (scopes g) y' (endE (scopes g) y b))) (fitsE g y' (endE (scopes g) y b) _ h w (v .1) (omega arith) (omega arith) (tt, z))
-  fits-command no-command g x es b r h w s v j i e z = z
+  fits-command : (c : Command) (g : List Mark) (x : Name) (es : Expressions) (b : ℕ) (r : List Instr) → Reaches g → owns g + deepA es < 64 → SmallEs es → SmallC c → symbolsC c ≤ symbolsEs es → deepC c ≤ deepEs es → symbolsEs es + 1 < 8192 → endCommand (scopes g) c es b < 8192 → CodeFits r → CodeFits (codeCommand place c g x es b r)
+  fits-command (routine-of p) g x es b r h w s v j dp i e z = fits-call g (sortOf p) (modesOf p) x es b r h w s i e z
+  fits-command (absolute-of y) g x es b r h w s v j dp i e z = fitsE g y b _ h (omega (arith, deep-least es)) v (omega arith) (omega arith) (tt, (tt, z))
+  fits-command greatest-of g x es b r h w s v j dp i e z = (omega arith, (tt, z))
+  fits-command (input-to y u) g x es b r h w s v j dp i e z = fitsE g y b _ h (omega (arith, deep-least es)) v (omega arith) (omega (arith, grow-take (way (meaning (scopes g) u)) (endE (scopes g) y b))) (fits-take (way (meaning (scopes g) u)) g _ u r h (omega arith) z)
+  fits-command (output-of y y') g x es b r h w s v j dp i e z = fitsE g y b _ h (omega (arith, deep-least es)) (v .0) (omega arith) (omega (arith, growE (scopes g) y' (endE (scopes g) y b))) (fitsE g y' (endE (scopes g) y b) _ h (omega (arith, deep-least es)) (v .1) (omega arith) (omega arith) (tt, z))
+  fits-command no-command g x es b r h w s v j dp i e z = z
 
   mutual
     unfolding endS codeS symbolsS deepS
 
     fitsS : (g : List Mark) (m : ℕ) (s : Statement) (b : ℕ) (r : List Instr) → Reaches g → owns g + deepS s < 64 → m + deepS s < 64 → reach g + symbolsS s < 8191 → SmallS s → endS (scopes g) s b < 8191 → CodeFits r → CodeFits (codeS place g m s b r)
     fitsS g m dummy b r h w n i v e z = z
-    fitsS g m (assignment x xs q y) b r h w n i v e z = fitsE g y b _ h (omega arith) v (omega arith) (omega (arith, grow-stores xs (endE (scopes g) y b))) (fits-stores g x xs r h (omega arith) z)
-    fitsS g m (procedure x es) b r h w n i v e z = fits-command (command (meaning (scopes g) x) es) g x es b r h (omega arith) v (small-command (meaning (scopes g) x) es v) (few (meaning (scopes g) x) es) (omega (arith, actuals-most es)) (omega arith) z
+    fitsS g m (assignment x xs q y) b r h w n i v e z = fitsE g y b _ h (omega arith) v (omega arith) (omega (arith, grow-stores (scopes g) x xs (endE (scopes g) y b))) (fits-stores g x xs r h (omega arith) z)
+    fitsS g m (procedure x es) b r h w n i v e z = fits-command (command (meaning (scopes g) x) es) g x es b r h (omega arith) v (small-command (meaning (scopes g) x) es v) (few (meaning (scopes g) x) es) (deep-command (meaning (scopes g) x) es) (omega (arith, actuals-most es)) (omega arith) z
     fitsS g m (when q c s) b r h w n i v e z =
         let a = suc (endE (scopes g) c b) in
         let u = growS (scopes g) s a in
@@ -376,7 +550,7 @@ module _ (place : ℕ → ℕ) where
         let u₁ = growS (scopes g) t k in
         fitsE g c b _ h (omega arith) (v .0) (omega arith) (omega arith) ((tt, omega arith), fitsS g m s a _ h (omega arith) (omega arith) (omega arith) (v .1) (omega arith) (omega arith, fitsS g m t k r h (omega arith) (omega arith) (omega arith) (v .2) e z))
     fitsS g m (repeat x l ls s) b r h w n i v e z =
-        let a = endL (scopes g) (l ∷ ls) b in
+        let a = endL (scopes g) x (l ∷ ls) b in
         let u = growS (scopes g) s a in
         fitsL g m x (l ∷ ls) a (suc (endS (scopes g) s a)) b _ h (omega arith) (omega arith) (omega arith) (omega arith) (v .0) (omega arith) (omega arith) (fitsS g (suc m) s a _ h (omega arith) (omega arith) (omega arith) (v .1) (omega arith) (omega arith, z))
     fitsS g m (compound ss) b r h w n i v e z = fitsSs g m ss b r h (omega arith) (omega arith) (omega arith) v e z
@@ -401,7 +575,7 @@ module _ (place : ℕ → ℕ) where
     fitsP g (heading t f xs vs ss s) b r h w i v e z =
         let k = body-cells (heading t f xs vs ss s) in
         let k' = listed-most xs in
-        fitsS (own (heading t f xs vs ss s) ∷ g) 0 s b _ (omega arith, omega arith, h) (omega arith) (omega arith) (omega arith) v (omega arith) (tt, z)
+        fitsS (own (heading t f xs vs ss s) ∷ g) 0 s b _ (omega arith, h) (omega arith) (omega arith) (omega arith) v (omega arith) (tt, z)
 
   -- ---- whole programs
 

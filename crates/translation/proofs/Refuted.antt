@@ -1,4 +1,5 @@
--- Demand 3 is no empty promise: wrong machines do not keep it, shown by computed programs. Assumes nothing.
+-- Demand 3 is no empty promise: wrong machines do not keep it, and it speaks of programs with name formals; shown by computed programs. Assumes
+-- nothing.
 use Prim.Native.Nat.{ℕ, suc, _+_, min}
 use native.Mathlib.Omega.{arith}
 use mathlib.Core.Path.{_≡_, refl, ap, sym, _∙_}
@@ -9,26 +10,30 @@ use Rattle.answers.specs.Answers.{stopNumber}
 use Rattle.answers.specs.declared.Stop.the-variants.{Ended, Limit}
 use Rattle.symbols.specs.Names.{sameName, equal as equalBytes}
 use Rattle.machine.specs.Values.{whole, apply1, apply2, past}
-use Rattle.machine.specs.Run.{Trace, untold, End, done, over, run}
-use Rattle.machine.specs.Data.{lift, guard, check, newCells, newest, onValue, back, look, put, reading, valued, hold, unhold, held, input, space, rest, spend, taking, writing, work, test, openBlock, closeBlock, enter, given, leave}
-use Rattle.names.specs.Program.{Statement, count}
-use Rattle.names.specs.Scopes.{has, specified, variablesIn, inBlock, inBody, findIn, findGiven, meaning}
-use Rattle.rules.specs.Entered.{total, before, cut, declaring, bodyOfThis, cellOf}
-use Rattle.rules.specs.Calls.{primary, command}
-use Rattle.rules.specs.Rules.{State, evaluate, perform, calling, sstep, beginning, source}
-use Rattle.rules.specs.Samples.{factorial}
-use Rattle.translation.specs.Scoped.{nearest, Scoped}
-use Rattle.translation.specs.Faithful.{Machine, Follows, Runner, Faithful}
+use Rattle.machine.specs.Run.{done, run, Trace, untold, End, over}
+use Rattle.machine.specs.Data.{lift, guard, check, newCells, newest, onValue, back, look, put, reading, valued, hold, unhold, held, input, space, rest, spend, taking, writing, work, test, openBlock, closeBlock, enter, given, leave, find, foundIn, nameCell}
+use Rattle.names.specs.Program.{count, firstSymbol, Statement, number}
+use Rattle.names.specs.Scopes.{has, modes, specified, variablesIn, inBlock, inBody, findIn, findGiven, meaning}
+use Rattle.rules.specs.Entered.{total, before, cut, declaring, bodyOfThis, cellOf, actualOf}
+use Rattle.rules.specs.Calls.{primary, command, way}
+use Rattle.rules.specs.Rules.{reads, seeks, finds, storing, taking-in, passing, adding, evaluate, perform, calling, sstep, source, State, beginning}
+use Rattle.rules.specs.Samples.{var, factorial}
+use Rattle.rules.specs.ByName.{man-or-boy, jensen, handed-on, taken-in}
+use Rattle.translation.specs.Scoped.{Scoped}
+use Rattle.translation.specs.Faithful.{Machine, Follows, Faithful, Runner}
 use Rattle.translation.proofs.Sim.{Cmp, cmp}
-use Rattle.translation.proofs.Correct.{translated}
+use Rattle.translation.proofs.Accepted.{accepted-scoped}
+use Rattle.translation.proofs.Correct.{faithful, translated}
+use Rattle.names.specs.Uses.{usesE, usesL, usesS, scopesS, each, twiceIn, allNames, missing, headingIn, joined, nameFaults}
+use Rattle.types.specs.Types.{inExpression, wants, wantedBy, isVariable, isName, sortE, misfit, misfits, faultsE, ownSort, asLeft, faultsLeft, miscalled, faultsL, faultsS, typeFaults}
 
 -- M12, by the source rules: 120 after 80 steps
 scoped : Scoped factorial
-unfolding factorial nearest bodyOfThis count primary command meaning findIn findGiven inBlock inBody variablesIn specified has sameName equalBytes total
-scoped = (((((refl, tt), ((tt, tt), tt, (((refl, refl), (tt, tt), tt), tt))), tt), (tt, ((refl, refl), tt, tt))))
+unfolding factorial nameFaults typeFaults joined scopesS usesS usesE usesL each twiceIn allNames missing headingIn inExpression wants wantedBy isVariable isName sortE misfit misfits faultsE ownSort asLeft faultsLeft miscalled faultsL faultsS count firstSymbol meaning findIn findGiven inBlock inBody variablesIn specified has sameName equalBytes
+scoped = accepted-scoped factorial refl refl
 
 runs : source (λ q. q) factorial [] 100 9 400 ≡ done Ended 80 (record { written = pos 120 ∷ []; taken = 0 })
-unfolding run sstep lift guard check newCells newest onValue back look put reading valued hold unhold held input space rest spend taking writing work test openBlock closeBlock enter given leave whole apply1 apply2 past cut cellOf declaring bodyOfThis total before evaluate perform calling primary command meaning findIn findGiven inBlock inBody variablesIn specified has sameName equalBytes factorial
+unfolding run sstep lift guard check newCells newest onValue back look put reading valued hold unhold held input space rest spend taking writing work test openBlock closeBlock enter given leave find foundIn nameCell whole apply1 apply2 past cut cellOf actualOf declaring bodyOfThis total before reads seeks finds storing taking-in passing adding evaluate perform calling primary command way meaning findIn findGiven inBlock inBody variablesIn specified has modes sameName equalBytes firstSymbol factorial
 runs = refl
 
 -- "A machine that stops at once with nothing written breaks demand 3 on any program that writes a number."
@@ -65,3 +70,28 @@ not-counting n f =
     let w = f (λ q. q) factorial scoped [] 100 9 1296 .enough 400 80 Ended _ runs (omega arith) in
     let e : _≡_ {A = ℕ} 20 0 = ap stopNumber (w .0) in
     omega arith
+
+-- man or boy, Jensen's device, ininteger through a name formal, and 30 through a chain: accepted, so well-scoped
+scoped-boy : Scoped (man-or-boy 2)
+unfolding man-or-boy nameFaults typeFaults joined scopesS usesS usesE usesL each twiceIn allNames missing headingIn inExpression wants wantedBy isVariable isName sortE misfit misfits faultsE ownSort asLeft faultsLeft miscalled faultsL faultsS count firstSymbol meaning findIn findGiven inBlock inBody variablesIn specified has sameName equalBytes
+scoped-boy = accepted-scoped (man-or-boy 2) refl refl
+
+scoped-jensen : Scoped jensen
+unfolding jensen nameFaults typeFaults joined scopesS usesS usesE usesL each twiceIn allNames missing headingIn inExpression wants wantedBy isVariable isName sortE misfit misfits faultsE ownSort asLeft faultsLeft miscalled faultsL faultsS count firstSymbol meaning findIn findGiven inBlock inBody variablesIn specified has sameName equalBytes
+scoped-jensen = accepted-scoped jensen refl refl
+
+scoped-in : Scoped (taken-in 1 (var 16 "x"))
+unfolding taken-in nameFaults typeFaults joined scopesS usesS usesE usesL each twiceIn allNames missing headingIn inExpression wants wantedBy isVariable isName sortE misfit misfits faultsE ownSort asLeft faultsLeft miscalled faultsL faultsS count firstSymbol meaning findIn findGiven inBlock inBody variablesIn specified has sameName equalBytes
+scoped-in = accepted-scoped (taken-in 1 (var 16 "x")) refl refl
+
+scoped-chain : Scoped (handed-on (number 23 3))
+unfolding handed-on nameFaults typeFaults joined scopesS usesS usesE usesL each twiceIn allNames missing headingIn inExpression wants wantedBy isVariable isName sortE misfit misfits faultsE ownSort asLeft faultsLeft miscalled faultsL faultsS count firstSymbol meaning findIn findGiven inBlock inBody variablesIn specified has sameName equalBytes
+scoped-chain = accepted-scoped (handed-on (number 23 3)) refl refl
+
+-- Jensen's device, by the source rules: 385 and 11 after 204 steps; so its translation writes them with a limit of 3,280
+device : source (λ q. q) jensen [] 100 9 5000 ≡ done Ended 204 (record { written = pos 385 ∷ pos 11 ∷ []; taken = 0 })
+unfolding run sstep lift guard check newCells newest onValue back look put reading valued hold unhold held input space rest spend taking writing work test openBlock closeBlock enter given leave find foundIn nameCell whole apply1 apply2 past cut cellOf actualOf declaring bodyOfThis total before reads seeks finds storing taking-in passing adding evaluate perform calling primary command way meaning findIn findGiven inBlock inBody variablesIn specified has modes sameName equalBytes firstSymbol jensen
+device = refl
+
+pub series : translated (λ q. q) jensen [] 3280 100 9 .written ≡ pos 385 ∷ pos 11 ∷ []
+series = faithful (λ q. q) jensen scoped-jensen [] 100 9 3280 .enough 5000 204 Ended _ device (omega arith) .1 .0

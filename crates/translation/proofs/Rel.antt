@@ -1,24 +1,28 @@
 -- What code carries out an agenda: a task and the code that it needs; the agenda, task after task, with the jumps between them; and the whole
 -- relation of machine and source. Assumes nothing.
-use Prim.Native.Nat.{ℕ, suc, _+_, _≤_}
+use Prim.Native.Nat.{ℕ, suc, _+_, _*_, _≤_}
 use native.Mathlib.Omega.{arith}
+use mathlib.Core.Bool.{Bool, true, false}
 use mathlib.Core.Path.{_≡_}
 use mathlib.Core.List.{List, [], _∷_, _++_}
 use mathlib.Core.Option.{some}
 use lib.ListN.{length}
-use Rattle.machine.specs.Data.{Data, Act, actOn, forget, keep, bump, upto, Fate, stays}
-use Rattle.machine.specs.Instructions.{Instr, END, DO, IF, JUMP, LEAVE, RETURN, GO, NEXT}
+use Rattle.machine.specs.Data.{Data, Act, push, load, store, assign, reserve, forget, receive, send, keep, bump, unary, binary, lend, channel, sum, Test, condition, upto, actOn, Fate, kept, gone, stays}
+use Rattle.machine.specs.Instructions.{Instr, END, DO, IF, JUMP, LEAVE, RETURN, GO, NEXT, NAME}
 use Rattle.machine.specs.Machine.{Frame, fr, Mach, ms, base}
-use Rattle.names.specs.Program.{Name, Expression, number, logical, name, call, signed, operated, chosen, nested, Expressions, done, then, count, Element, value, while, step, Statement, dummy, assignment, procedure, when, either, repeat, compound, block, Statements, last, first, Declarations, Procedure}
-use Rattle.names.specs.Scopes.{ofBlock}
-use Rattle.rules.specs.Entered.{Entry, cellsIn}
-use Rattle.rules.specs.Rules.{Choice, expressions, statements, only, whiling, stepping, Task, ev, evs, ex, exs, stores, loop, act, unchanged, drop, pick, hold, tested, add, invoke, close, return, State, st, at}
-use Rattle.translation.specs.Translate.{Mark, blk, scopes, loc, reach, endE, endEs, onward, endStores, endS, endSs, CALLS, codeE, codeEs, codeL, codeStores, codeS, codeSs}
-use Rattle.translation.specs.Scoped.{OkV, OkVs, OkE, OkEs, OkL, OkS, OkSs, OkCall}
+use Rattle.names.specs.Program.{Name, Expression, number, logical, name, call, signed, operated, chosen, nested, Expressions, done, then, Element, value, while, step, Statement, dummy, assignment, procedure, when, either, repeat, compound, block, Statements, last, first, Declarations, Procedure}
+use Rattle.names.specs.Scopes.{has, Scope, ofBlock, valuesOf, formalsOf, meaning}
+use Rattle.rules.specs.Entered.{Env, entered, cellsIn}
+use Rattle.rules.specs.Calls.{Way, sought, way}
+use Rattle.rules.specs.Rules.{Choice, expressions, statements, only, whiling, stepping, Spot, here, there, Task, ev, evs, naming, ex, exs, stores, loop, act, unchanged, drop, pick, hold, tested, add, trying, summing, settling, seek, find, receiving, invoke, close, return, State, st, at}
+use Rattle.translation.specs.Translate.{Mark, blk, acl, scopes, spot, reach, endActual, endE, endEs, endTest, endSum, onward, endStores, endTake, endS, endSs, CALLS, SEEKS, PASSES, storePart, codeE, codeEs, codeTest, codeSum, codeL, codeStores, codeTake, codeS, codeSs}
+use Rattle.translation.specs.Scoped.{OkW, OkVs, OkE, OkEs, OkL, OkS, OkSs, OkCall}
 use Rattle.translation.specs.Listed.{instructionAt}
 use Rattle.translation.proofs.Stands.{CodeAt}
-use Rattle.translation.proofs.Chain.{Chain, Vars}
-use Rattle.translation.proofs.Fits.{Kind, val, any, FitsD, takes, gives, needs, holds, more-of, before, left}
+use Rattle.translation.proofs.Chain.{Chain, Vars, OkSpot, NamedAs, ActualAt}
+use Rattle.translation.proofs.CellKinds.{Kind, val, any, nam, Plain, kindAt, revOn}
+use Rattle.translation.proofs.Blank.{blank}
+use Rattle.translation.proofs.Fits.{FitsD, takes, gives, needs, holds, more-of, before, left, Found}
 
 -- ---- what is owed: instructions that no step has paid for yet
 
@@ -31,7 +35,8 @@ owesC (whiling x q e c l s) = 0
 
 abbrev pub owes : Task → ℕ
 owes (ev e) = 0
-owes (evs es) = 0
+owes (evs m es) = 0
+owes (naming q) = 0
 owes (ex s) = 0
 owes (exs ss) = 0
 owes (stores x xs) = 0
@@ -43,7 +48,13 @@ owes (pick c) = owesC c
 owes (hold s) = 1
 owes (tested s) = 0
 owes (add s) = 0
-owes (invoke x f) = 0
+owes (trying s) = 0
+owes (summing s) = 0
+owes (settling s) = 2
+owes (seek x q) = 0
+owes (find e q) = 1
+owes (receiving q y) = 1
+owes (invoke x es f) = 0
 owes (close n) = 0
 owes (return f q b v) = 0
 
@@ -60,7 +71,8 @@ slackC (whiling x q e c l s) = 2
 
 abbrev pub slack : Task → ℕ
 slack (ev e) = 3
-slack (evs es) = 0
+slack (evs m es) = 0
+slack (naming q) = 3
 slack (ex s) = 2
 slack (exs ss) = 2
 slack (stores x xs) = 3
@@ -72,7 +84,13 @@ slack (pick c) = slackC c
 slack (hold s) = 2
 slack (tested s) = 2
 slack (add s) = 2
-slack (invoke x f) = 3
+slack (trying s) = 2
+slack (summing s) = 2
+slack (settling s) = 2
+slack (seek x q) = 7
+slack (find e q) = 0
+slack (receiving q y) = 2
+slack (invoke x es f) = 3
 slack (close n) = 3
 slack (return f q b v) = 3
 
@@ -84,7 +102,8 @@ owesC-most (whiling x q e c l s) = omega arith
 
 owes-most : (t : Task) → owes t ≤ 3
 owes-most (ev e) = omega arith
-owes-most (evs es) = omega arith
+owes-most (evs m es) = omega arith
+owes-most (naming q) = omega arith
 owes-most (ex s) = omega arith
 owes-most (exs ss) = omega arith
 owes-most (stores x xs) = omega arith
@@ -96,7 +115,13 @@ owes-most (pick c) = owesC-most c
 owes-most (hold s) = omega arith
 owes-most (tested s) = omega arith
 owes-most (add s) = omega arith
-owes-most (invoke x f) = omega arith
+owes-most (trying s) = omega arith
+owes-most (summing s) = omega arith
+owes-most (settling s) = omega arith
+owes-most (seek x q) = omega arith
+owes-most (find e q) = omega arith
+owes-most (receiving q y) = omega arith
+owes-most (invoke x es f) = omega arith
 owes-most (close n) = omega arith
 owes-most (return f q b v) = omega arith
 
@@ -104,11 +129,83 @@ pub owed-most : (k : List Task) → owed k ≤ 3
 owed-most [] = omega arith
 owed-most (t ∷ k) = owes-most t
 
+-- ---- what an agenda wants of the cell found: 1 where its next operation is on it, once the workings out that are under way have ended
+
+abbrev pub wantsX : Spot → ℕ
+wantsX (here x) = 0
+wantsX there = 1
+
+abbrev pub wantsA : Act Spot → ℕ
+wantsA (push q v) = 0
+wantsA (load q x) = wantsX x
+wantsA (store x) = wantsX x
+wantsA (assign x) = wantsX x
+wantsA (reserve q) = 0
+wantsA forget = 0
+wantsA (receive q x) = wantsX x
+wantsA (send q) = 0
+wantsA keep = 0
+wantsA (bump q x) = wantsX x
+wantsA (unary q o) = 0
+wantsA (binary q o) = 0
+wantsA (lend x) = wantsX x
+wantsA (channel q) = 0
+wantsA (sum q x) = wantsX x
+
+abbrev pub wantsV : Test Spot → ℕ
+wantsV condition = 0
+wantsV (upto q x) = wantsX x
+
+abbrev pub wantsT : Task → ℕ → ℕ
+wantsT (ev e) n = 0
+wantsT (evs m es) n = 0
+wantsT (naming q) n = 0
+wantsT (ex s) n = 0
+wantsT (exs ss) n = 0
+wantsT (stores x xs) n = 0
+wantsT (loop x l s) n = 0
+wantsT (act a) n = wantsA a
+wantsT unchanged n = 0
+wantsT drop n = 0
+wantsT (pick c) n = 0
+wantsT (hold s) n = 0
+wantsT (tested s) n = 0
+wantsT (add s) n = 0
+wantsT (trying s) n = 1
+wantsT (summing s) n = 1
+wantsT (settling s) n = 1
+wantsT (seek x q) n = 0
+wantsT (find e q) n = 0
+wantsT (receiving q y) n = 0
+wantsT (invoke x es f) n = 0
+wantsT (close m) n = 0
+wantsT (return f q b v) n = n
+
+abbrev pub wants : List Task → ℕ
+wants [] = 0
+wants (t ∷ k) = wantsT t (wants k)
+
+-- what is owed, and whether the cell found is wanted, as one number: less than 4 where it is not
+abbrev pub due : List Task → ℕ
+due k = owed k + 4 * wants k
+
+-- ---- kinds of the cells that actuals have, the first one's first
+
+abbrev pub kindOf : Bool → ℕ → Kind
+kindOf true b = val
+kindOf false b = nam (suc b)
+
+abbrev pub kindsOf : List Scope → List Bool → Expressions → ℕ → List Kind
+kindsOf g m done b = []
+kindsOf g [] (then e es) b = val ∷ kindsOf g [] es (endE g e b)
+kindsOf g (n ∷ m) (then e es) b = kindOf n b ∷ kindsOf g m es (endActual n (λ b. endE g e b) b)
+
 -- ---- how many values an agenda has held: two for each step element under way
 
 abbrev pub heldT : Task → ℕ → ℕ
 heldT (ev e) n = n
-heldT (evs es) n = n
+heldT (evs m es) n = n
+heldT (naming q) n = n
 heldT (ex s) n = n
 heldT (exs ss) n = n
 heldT (stores x xs) n = n
@@ -120,7 +217,13 @@ heldT (pick c) n = n
 heldT (hold s) n = n
 heldT (tested s) n = suc (suc n)
 heldT (add s) n = suc (suc n)
-heldT (invoke x f) n = n
+heldT (trying s) n = suc (suc n)
+heldT (summing s) n = suc (suc n)
+heldT (settling s) n = suc (suc n)
+heldT (seek x q) n = n
+heldT (find e q) n = n
+heldT (receiving q y) n = n
+heldT (invoke x es f) n = n
 heldT (close m) n = n
 heldT (return f q b v) n = n
 
@@ -133,15 +236,29 @@ abbrev pub Level : {X : Type 0} → Act X → Type 0
 Level a = (n : ℕ) → (needs a n ≡ n) × (holds a n ≡ n)
 
 module _ (place : ℕ → ℕ) (P : List Instr) where
-  -- a step element under way: its code from the instruction that holds step and bound on; s: where the body begins
-  abbrev pub StepAt : List Mark → ℕ → ℕ → Name → List Element → Statement → ℕ → ℕ → List Instr → List Instr → Type 0
-  StepAt g m q x l y s i r r' =
-      CodeAt place P i
-      (DO keep ∷
-      IF (upto (at place x) (loc g x)) (onward l (suc (suc (suc (suc (suc i))))) (suc (endS (scopes g) y s))) ∷
-      GO m s (suc (suc (suc i))) ∷ DO (bump q (loc g x)) ∷ JUMP (suc i) ∷ codeL place g m x l s (suc (endS (scopes g) y s)) (suc (suc (suc (suc (suc i))))) r)
+  -- actuals under way: of these kinds, and the code of the name formals' stands where their cells will say
+  abbrev pub LaidOne : List Mark → Bool → Expression → Kind → Type 0
+  LaidOne g true e i = Plain i
+  LaidOne g false e i = (a : ℕ) × (i ≡ nam a) × ActualAt place P g e a
+
+  abbrev pub Laid : List Mark → List Name → List Name → Expressions → List Kind → Type 0
+  Laid g vs [] done [] = Unit {0}
+  Laid g vs [] done (i ∷ is) = ⊥
+  Laid g vs [] (then e es) is = ⊥
+  Laid g vs (x ∷ xs) done is = ⊥
+  Laid g vs (x ∷ xs) (then e es) [] = ⊥
+  Laid g vs (x ∷ xs) (then e es) (i ∷ is) = LaidOne g (has vs x) e i × Laid g vs xs es is
+
+  -- a step element under way, whose variable is stored to in a way w: its code from the instruction that holds step and bound on; s: where the body
+  -- begins
+  abbrev pub StepAt : Way → List Mark → ℕ → ℕ → Name → List Element → Statement → ℕ → ℕ → List Instr → List Instr → Type 0
+  StepAt w g m q x l y s i r r' =
+      let t = endTest w (suc i) in
+      let k = suc (endSum w (suc t)) in
+      (way (meaning (scopes g) x) ≡ w)
+      × CodeAt place P i (DO keep ∷ codeTest place w g x (onward l k (suc (endS (scopes g) y s))) (GO m s (suc t) ∷ codeSum place w g q x (JUMP (suc i) ∷ codeL place g m x l s (suc (endS (scopes g) y s)) k r)))
       × CodeAt place P s (codeS place g (suc m) y s (NEXT m ∷ r'))
-      × OkV (scopes g) x
+      × OkW (scopes g) x
       × OkL (scopes g) l
       × OkS (scopes g) y
 
@@ -149,41 +266,59 @@ module _ (place : ℕ → ℕ) (P : List Instr) where
   -- the task needs
   pub data AtT (g : List Mark) (m : ℕ) : ℕ → List Kind → Task → ℕ → List Kind → Type 0 where
     t-ev : {b : ℕ} {ks : List Kind} (e : Expression) (r : List Instr) → CodeAt place P b (codeE place g e b r) → OkE (scopes g) e → AtT g m b ks (ev e) (endE (scopes g) e b) (val ∷ ks)
-    t-evs : {b : ℕ} {ks ks' : List Kind} (es : Expressions) (r : List Instr) → CodeAt place P b (codeEs place g es b r) → OkEs (scopes g) es → ks' ≡ more-of val (count es) ks → AtT g m b ks (evs es) (endEs (scopes g) es b) ks'
+    t-evs : {b : ℕ} {ks ks' : List Kind} (n : List Bool) (es : Expressions) (r : List Instr) → CodeAt place P b (codeEs place g n es b r) → OkEs (scopes g) es → ks' ≡ revOn (kindsOf (scopes g) n es b) ks → AtT g m b ks (evs n es) (endEs (scopes g) n es b) ks'
+    t-naming : {b q r : ℕ} {ks : List Kind} → instructionAt P b ≡ some (NAME (place q) r) → AtT g m b ks (naming q) r (nam (suc b) ∷ ks)
     t-ex : {b : ℕ} (s : Statement) (r : List Instr) → CodeAt place P b (codeS place g m s b r) → OkS (scopes g) s → AtT g m b [] (ex s) (endS (scopes g) s b) []
     t-exs : {b : ℕ} (ss : Statements) (r : List Instr) → CodeAt place P b (codeSs place g m ss b r) → OkSs (scopes g) ss → AtT g m b [] (exs ss) (endSs (scopes g) ss b) []
-    t-stores : {b : ℕ} (x : Name) (xs : List Name) (r : List Instr) → CodeAt place P b (codeStores place g x xs r) → OkVs (scopes g) (x ∷ xs) → AtT g m b (val ∷ []) (stores x xs) (endStores xs b) []
-    t-act : {pc : ℕ} (ks : List Kind) (a : Act Name) → instructionAt P pc ≡ some (DO (actOn (loc g) a)) → Vars (OkV (scopes g)) a → Level a → AtT g m pc (takes a ks) (act a) (suc pc) (gives a ks)
+    t-stores : {b : ℕ} (x : Name) (xs : List Name) (r : List Instr) → CodeAt place P b (codeStores place g x xs r) → OkVs (scopes g) (x ∷ xs) → AtT g m b (val ∷ []) (stores x xs) (endStores (scopes g) x xs b) []
+    t-act : {pc : ℕ} (ks : List Kind) (a : Act Spot) → instructionAt P pc ≡ some (DO (actOn (spot g) a)) → Vars (OkSpot (scopes g)) a → Level a → AtT g m pc (takes a ks) (act a) (suc pc) (gives a ks)
     t-unchanged : {pc : ℕ} {ks : List Kind} → AtT g m pc ks unchanged pc ks
     t-drop : {pc : ℕ} {ks : List Kind} → instructionAt P pc ≡ some (DO forget) → AtT g m pc (val ∷ ks) drop (suc pc) ks
-    t-invoke : {pc : ℕ} {ks' : List Kind} {x : Name} {f : Fate} (js ks : List Kind) (n : ℕ) (p : Procedure) → ks' ≡ js ++ before f ks → instructionAt P pc ≡ some (CALLS place g x n f) → OkCall (scopes g) x p n → length js + stays f ≡ n → AtT g m pc ks' (invoke x f) (suc pc) (left f ks)
+    t-seek : {pc : ℕ} {ks : List Kind} {x : Name} → instructionAt P pc ≡ some (SEEKS place g x) → NamedAs (meaning (scopes g) x) → AtT g m pc ks (seek x (at place x)) (suc pc) ks
+    t-receiving : {pc q : ℕ} (w : Way) (y : Name) (r : List Instr) → way (meaning (scopes g) y) ≡ w → CodeAt place P pc (codeTake place w g q y r) → OkW (scopes g) y → AtT g m pc (val ∷ []) (receiving q y) (endTake w pc) []
+    -- t: how many result cells it has
+    t-invoke : {pc : ℕ} {ks' : List Kind} {x : Name} {es : Expressions} {f : Fate} (is ks : List Kind) (t n : ℕ) (p : Procedure) → ks' ≡ revOn is (more-of any t ks) → instructionAt P pc ≡ some (CALLS place g x n f) → n ≡ t + length is → OkCall (scopes g) x p t (length is) → stays f ≤ t → t ≤ 1 → Laid g (valuesOf p) (formalsOf p) es is → AtT g m pc ks' (invoke x es f) (suc pc) (left f ks)
     t-expressions : {ks : List Kind} (q q' : ℕ) (c e f : Expression) (b : ℕ) (r : List Instr) → CodeAt place P b (codeE place g (chosen q q' c e f) b r) → OkE (scopes g) (chosen q q' c e f) → AtT g m (endE (scopes g) c b) (val ∷ ks) (pick (expressions e f)) (endE (scopes g) (chosen q q' c e f) b) (val ∷ ks)
     t-statements : (q : ℕ) (c : Expression) (s t : Statement) (b : ℕ) (r : List Instr) → CodeAt place P b (codeS place g m (either q c s t) b r) → OkS (scopes g) (either q c s t) → AtT g m (endE (scopes g) c b) (val ∷ []) (pick (statements s t)) (endS (scopes g) (either q c s t) b) []
     t-only : (q : ℕ) (c : Expression) (s : Statement) (b : ℕ) (r : List Instr) → CodeAt place P b (codeS place g m (when q c s) b r) → OkS (scopes g) (when q c s) → AtT g m (endE (scopes g) c b) (val ∷ []) (pick (only s)) (endS (scopes g) (when q c s) b) []
     -- s: where the body begins; b: where the elements that are left begin
-    t-loop : (x : Name) (l : List Element) (y : Statement) (s b : ℕ) (r r' : List Instr) → CodeAt place P b (codeL place g m x l s (suc (endS (scopes g) y s)) b r) → CodeAt place P s (codeS place g (suc m) y s (NEXT m ∷ r')) → OkV (scopes g) x → OkL (scopes g) l → OkS (scopes g) y → AtT g m (onward l b (suc (endS (scopes g) y s))) [] (loop x l y) (suc (endS (scopes g) y s)) []
-    t-whiling : (x : Name) (q : ℕ) (e c : Expression) (l : List Element) (y : Statement) (s b : ℕ) (r r' : List Instr) → CodeAt place P b (codeL place g m x (while q e c ∷ l) s (suc (endS (scopes g) y s)) b r) → CodeAt place P s (codeS place g (suc m) y s (NEXT m ∷ r')) → OkV (scopes g) x → OkL (scopes g) (while q e c ∷ l) → OkS (scopes g) y → AtT g m (endE (scopes g) c (suc (endE (scopes g) e b))) (val ∷ []) (pick (whiling x q e c l y)) (suc (endS (scopes g) y s)) []
-    t-hold : (q : ℕ) (x : Name) (l : List Element) (y : Statement) (s i : ℕ) (r r' : List Instr) → StepAt g m q x l y s i r r' → AtT g m i (val ∷ val ∷ []) (hold (stepping q x l y)) (suc (endS (scopes g) y s)) []
-    t-tested : (q : ℕ) (x : Name) (l : List Element) (y : Statement) (s i : ℕ) (r r' : List Instr) → StepAt g m q x l y s i r r' → AtT g m (suc i) [] (tested (stepping q x l y)) (suc (endS (scopes g) y s)) []
-    t-add : (q : ℕ) (x : Name) (l : List Element) (y : Statement) (s i : ℕ) (r r' : List Instr) → StepAt g m q x l y s i r r' → AtT g m (suc (suc (suc i))) [] (add (stepping q x l y)) (suc (endS (scopes g) y s)) []
+    t-loop : (x : Name) (l : List Element) (y : Statement) (s b : ℕ) (r r' : List Instr) → CodeAt place P b (codeL place g m x l s (suc (endS (scopes g) y s)) b r) → CodeAt place P s (codeS place g (suc m) y s (NEXT m ∷ r')) → OkW (scopes g) x → OkL (scopes g) l → OkS (scopes g) y → AtT g m (onward l b (suc (endS (scopes g) y s))) [] (loop x l y) (suc (endS (scopes g) y s)) []
+    t-whiling : (x : Name) (q : ℕ) (e c : Expression) (l : List Element) (y : Statement) (s b i : ℕ) (r r' r'' : List Instr) → CodeAt place P b (codeL place g m x (while q e c ∷ l) s (suc (endS (scopes g) y s)) b r) → CodeAt place P i (IF condition (onward l (suc (suc i)) (suc (endS (scopes g) y s))) ∷ GO m s b ∷ codeL place g m x l s (suc (endS (scopes g) y s)) (suc (suc i)) r'') → CodeAt place P s (codeS place g (suc m) y s (NEXT m ∷ r')) → OkW (scopes g) x → OkL (scopes g) (while q e c ∷ l) → OkS (scopes g) y → AtT g m i (val ∷ []) (pick (whiling x q e c l y)) (suc (endS (scopes g) y s)) []
+    t-hold : (w : Way) (q : ℕ) (x : Name) (l : List Element) (y : Statement) (s i : ℕ) (r r' : List Instr) → StepAt w g m q x l y s i r r' → AtT g m i (val ∷ val ∷ []) (hold (stepping (place q) x l y)) (suc (endS (scopes g) y s)) []
+    t-tested : (w : Way) (q : ℕ) (x : Name) (l : List Element) (y : Statement) (s i : ℕ) (r r' : List Instr) → StepAt w g m q x l y s i r r' → AtT g m (suc i) [] (tested (stepping (place q) x l y)) (suc (endS (scopes g) y s)) []
+    t-add : (w : Way) (q : ℕ) (x : Name) (l : List Element) (y : Statement) (s i : ℕ) (r r' : List Instr) → StepAt w g m q x l y s i r r' → AtT g m (suc (endTest w (suc i))) [] (add (stepping (place q) x l y)) (suc (endS (scopes g) y s)) []
+    t-trying : (q : ℕ) (x : Name) (l : List Element) (y : Statement) (s i : ℕ) (r r' : List Instr) → StepAt sought g m q x l y s i r r' → AtT g m (suc (suc i)) [] (trying (stepping (place q) x l y)) (suc (endS (scopes g) y s)) []
+    t-summing : (q : ℕ) (x : Name) (l : List Element) (y : Statement) (s i : ℕ) (r r' : List Instr) → StepAt sought g m q x l y s i r r' → AtT g m (suc (suc (endTest sought (suc i)))) [] (summing (stepping (place q) x l y)) (suc (endS (scopes g) y s)) []
+    t-settling : (q : ℕ) (x : Name) (l : List Element) (y : Statement) (s i : ℕ) (r r' : List Instr) → StepAt sought g m q x l y s i r r' → AtT g m (suc (suc (suc (suc (endTest sought (suc i)))))) (val ∷ []) (settling (stepping (place q) x l y)) (suc (endS (scopes g) y s)) []
+
+  -- the activation's own scopes around, below the cells kt
+  abbrev pub Here : List Frame → List Mark → List Kind → Env → Type 0
+  Here fs g kt v = Chain place P fs (kindAt kt) (length kt) (length fs) g v × (length kt ≡ base fs (length fs) + reach g)
 
   -- the code from an address on, in the scopes g, with values ks not used yet above the cells kt, with these return positions and activations,
   -- carries out the agenda in an environment, and passes j jumps between its tasks
-  pub data Does : ℕ → List Mark → List Kind → List Kind → List ℕ → List Frame → List Task → List Entry → ℕ → Type 0 where
-    over-jump : {pc r j : ℕ} {g : List Mark} {ks kt : List Kind} {ps : List ℕ} {fs : List Frame} {k : List Task} {v : List Entry} → instructionAt P pc ≡ some (JUMP r) → Does r g ks kt ps fs k v j → Does pc g ks kt ps fs k v (suc j)
-    at-go : {pc l r j : ℕ} {g : List Mark} {ks kt : List Kind} {ps : List ℕ} {fs : List Frame} {k : List Task} {v : List Entry} → instructionAt P pc ≡ some (GO (length ps) l r) → Does l g ks kt (r ∷ ps) fs k v j → Does pc g ks kt ps fs k v (suc j)
-    at-next : {pc r j : ℕ} {g : List Mark} {ks kt : List Kind} {ps : List ℕ} {fs : List Frame} {k : List Task} {v : List Entry} → instructionAt P pc ≡ some (NEXT (length ps)) → Does r g ks kt ps fs k v j → Does pc g ks kt (r ∷ ps) fs k v (suc j)
-    at-end : {pc : ℕ} {g : List Mark} {ks kt : List Kind} {v : List Entry} → instructionAt P pc ≡ some END → Does pc g ks kt [] [] [] v 0
-    at-task : {pc r j : ℕ} {g : List Mark} {ks ks' kt : List Kind} {ps : List ℕ} {fs : List Frame} {t : Task} {k : List Task} {v : List Entry} → AtT g (length ps) pc ks t r ks' → owed k ≤ slack t → Does r g ks' kt ps fs k v j → Does pc g ks kt ps fs (t ∷ k) v j
-    at-close : {pc b j : ℕ} {ds : Declarations} {g : List Mark} {ps : List ℕ} {fs : List Frame} {e : Entry} {k : List Task} {v : List Entry} (n : ℕ) (kt : List Kind) → instructionAt P pc ≡ some (LEAVE n) → n ≡ cellsIn (ofBlock ds) → Does (suc pc) g [] kt ps fs k v j → Does pc (blk (reach g) ds b ∷ g) [] (more-of any n kt) ps fs (close n ∷ k) (e ∷ v) j
-    at-ret : {pc r b l q j : ℕ} {f : Fate} {g g' : List Mark} {ps : List ℕ} {fs : List Frame} {k : List Task} {v v' : List Entry} (js ks kt : List Kind) → instructionAt P pc ≡ some RETURN → Chain place P fs (length kt) (length fs) g v → length kt ≡ base fs (length fs) + reach g → b ≡ length (ks ++ kt) → Does r g (left f ks) kt ps fs k v j → Does pc g' [] (js ++ before f (ks ++ kt)) [] (fr r b l f q ps ∷ fs) (return f q b v ∷ k) v' j
+  pub data Does : ℕ → List Mark → List Kind → List Kind → List ℕ → List Frame → List Task → Env → ℕ → Type 0 where
+    over-jump : {pc r j : ℕ} {g : List Mark} {ks kt : List Kind} {ps : List ℕ} {fs : List Frame} {k : List Task} {v : Env} → instructionAt P pc ≡ some (JUMP r) → Does r g ks kt ps fs k v j → Does pc g ks kt ps fs k v (suc j)
+    at-go : {pc l r j : ℕ} {g : List Mark} {ks kt : List Kind} {ps : List ℕ} {fs : List Frame} {k : List Task} {v : Env} → instructionAt P pc ≡ some (GO (length ps) l r) → Does l g ks kt (r ∷ ps) fs k v j → Does pc g ks kt ps fs k v (suc j)
+    at-next : {pc r j : ℕ} {g : List Mark} {ks kt : List Kind} {ps : List ℕ} {fs : List Frame} {k : List Task} {v : Env} → instructionAt P pc ≡ some (NEXT (length ps)) → Does r g ks kt ps fs k v j → Does pc g ks kt (r ∷ ps) fs k v (suc j)
+    at-end : {pc : ℕ} {g : List Mark} {ks kt : List Kind} {v : Env} → instructionAt P pc ≡ some END → Does pc g ks kt [] [] [] v 0
+    at-task : {pc r j : ℕ} {g : List Mark} {ks ks' kt : List Kind} {ps : List ℕ} {fs : List Frame} {t : Task} {k : List Task} {v : Env} → AtT g (length ps) pc ks t r ks' → due k ≤ slack t → Does r g ks' kt ps fs k v j → Does pc g ks kt ps fs (t ∷ k) v j
+    at-close : {pc b c j : ℕ} {ds ds' : Declarations} {g : List Mark} {ps : List ℕ} {fs : List Frame} {k : List Task} {v : Env} (n : ℕ) (kt : List Kind) → instructionAt P pc ≡ some (LEAVE n) → n ≡ cellsIn (ofBlock ds) → due k ≤ 3 → Does (suc pc) g [] kt ps fs k v j → Does pc (blk (reach g) ds b ∷ g) [] (more-of any n kt) ps fs (close n ∷ k) (entered ds' c v) j
+    at-ret : {pc r b l q j : ℕ} {f : Fate} {g g' : List Mark} {ps : List ℕ} {fs : List Frame} {k : List Task} {v v' : Env} (js ks kt kt' : List Kind) → instructionAt P pc ≡ some RETURN → Here fs g kt v → b ≡ length (ks ++ kt) → kt' ≡ js ++ before f (ks ++ kt) → due k ≤ 3 → Does r g (left f ks) kt ps fs k v j → Does pc g' [] kt' [] (fr r b l f q ps ∷ fs) (return f q b v ∷ k) v' j
+    -- the end of a working out: for a read, with its value; for a store
+    at-worked : {pc r b l q j : ℕ} {g g' : List Mark} {ps : List ℕ} {fs : List Frame} {k : List Task} {v v' : Env} (ks kt : List Kind) → instructionAt P pc ≡ some RETURN → Here fs g kt v → b ≡ length (ks ++ kt) → due k ≤ 3 → Does r g (val ∷ ks) kt ps fs k v j → Does pc g' (val ∷ []) (ks ++ kt) [] (fr r b l kept q ps ∷ fs) (return kept q b v ∷ k) v' j
+    at-sought : {pc r b l q j : ℕ} {g g' : List Mark} {ps : List ℕ} {fs : List Frame} {k : List Task} {v v' : Env} (ks kt : List Kind) → instructionAt P pc ≡ some RETURN → Here fs g kt v → b ≡ length (ks ++ kt) → Does r g ks kt ps fs k v j → Does pc g' [] (ks ++ kt) [] (fr r b l gone q ps ∷ fs) (return gone q b v ∷ k) v' j
+    -- in a working out for a store: its actual, and a name formal that passes it on
+    at-find : {pc r b l q j : ℕ} {g : List Mark} {kt : List Kind} {ps ps' : List ℕ} {fs : List Frame} {k : List Task} {v : Env} (e : Expression) → instructionAt P pc ≡ some (storePart place (acl ∷ g) e) → OkE (scopes g) e → owed k ≤ 0 → Does (suc pc) (acl ∷ g) [] kt ps' (fr r b l gone q ps ∷ fs) k v j → Does pc (acl ∷ g) [] kt ps' (fr r b l gone q ps ∷ fs) (find e q ∷ k) v j
+    at-pass : {pc r b l q j : ℕ} {g : List Mark} {kt : List Kind} {ps ps' : List ℕ} {fs : List Frame} {k : List Task} {v : Env} (x : Name) → instructionAt P pc ≡ some (PASSES place g x) → NamedAs (meaning (scopes g) x) → Does (suc pc) g [] kt ps' (fr r b l gone q ps ∷ fs) k v j → Does pc g [] kt ps' (fr r b l gone q ps ∷ fs) (seek x q ∷ k) v j
 
   -- the running activation: its scopes' entries below the cells kt; what the cells hold, and how many values are held
-  pub data Stand (fs : List Frame) (g : List Mark) (ks kt : List Kind) (v : List Entry) (n : ℕ) (d : Data) : Type 0 where
-    stands : Chain place P fs (length kt) (length fs) g v → length kt ≡ base fs (length fs) + reach g → FitsD (ks ++ kt) n d → Stand fs g ks kt v n d
+  pub data Stand (fs : List Frame) (g : List Mark) (ks kt : List Kind) (v : Env) (n : ℕ) (d : Data) : Type 0 where
+    stands : Chain place P fs (kindAt kt) (length kt) (length fs) g v → length kt ≡ base fs (length fs) + reach g → FitsD (ks ++ kt) n d → Stand fs g ks kt v n d
 
+  -- the source's cells of name formals have no address
   pub data Rel : ℕ → Mach → State → Type 0 where
-    rel : {p pc j : ℕ} {g : List Mark} {ks kt : List Kind} {ps : List ℕ} {fs : List Frame} {k : List Task} {v : List Entry} {d : Data} → Does pc g ks kt ps fs k v j → Stand fs g ks kt v (heldK k) d → j + owed k ≤ p → Rel p (ms pc ps fs d) (st k v d)
+    rel : {p pc j : ℕ} {g : List Mark} {ks kt : List Kind} {ps : List ℕ} {fs : List Frame} {k : List Task} {v : Env} {d : Data} → Does pc g ks kt ps fs k v j → Stand fs g ks kt v (heldK k) d → (1 ≤ wants k → Found (ks ++ kt) d) → j + owed k ≤ p → Rel p (ms pc ps fs d) (st k v (blank d))
 
 -- ---- how far a tree can be taken apart with no instruction
 
@@ -192,7 +327,7 @@ abbrev mutual
   sizeE (number q n) = 1
   sizeE (logical q b) = 1
   sizeE (name x) = 4
-  sizeE (call x e es) = sizeE e + sizeEs es + 1 + 3
+  sizeE (call x e es) = sizeE e + sizeEs es + 2 + 3
   sizeE (signed q o e) = sizeE e + 2
   sizeE (operated q o e f) = sizeE e + sizeE f + 2
   sizeE (chosen q r c e f) = sizeE c + 2
@@ -200,19 +335,23 @@ abbrev mutual
 
   pub sizeEs : Expressions → ℕ
   sizeEs done = 1
-  sizeEs (then e es) = sizeE e + sizeEs es + 1
+  sizeEs (then e es) = sizeE e + sizeEs es + 2
+
+abbrev pub sizeX : List Name → ℕ
+sizeX [] = 3
+sizeX (y ∷ ys) = 3 + sizeX ys
 
 abbrev pub sizeL : List Element → ℕ → ℕ
 sizeL [] n = 1
-sizeL (value e ∷ l) n = sizeE e + n + sizeL l n + 2
-sizeL (while q e c ∷ l) n = sizeE e + sizeE c + 3
-sizeL (step q e f h ∷ l) n = sizeE e + sizeE f + sizeE h + 3
+sizeL (value e ∷ l) n = sizeE e + n + sizeL l n + 4
+sizeL (while q e c ∷ l) n = sizeE e + sizeE c + 5
+sizeL (step q e f h ∷ l) n = sizeE e + sizeE f + sizeE h + 5
 
 -- the expressions of a command are those of its actuals
 abbrev mutual
   pub sizeS : Statement → ℕ
   sizeS dummy = 1
-  sizeS (assignment x xs q e) = sizeE e + 2
+  sizeS (assignment x xs q e) = sizeE e + sizeX xs + 2
   sizeS (procedure x es) = sizeEs es + 4
   sizeS (when q c s) = sizeE c + 2
   sizeS (either q c s t) = sizeE c + 2
@@ -226,19 +365,26 @@ abbrev mutual
 
 abbrev pub sizeT : Task → ℕ
 sizeT (ev e) = sizeE e
-sizeT (evs es) = sizeEs es
+sizeT (evs m es) = sizeEs es
+sizeT (naming q) = 1
 sizeT (ex s) = sizeS s
 sizeT (exs ss) = sizeSs ss
-sizeT (stores x xs) = 1
+sizeT (stores x xs) = sizeX xs
 sizeT (loop x l s) = sizeL l (sizeS s)
 sizeT (act a) = 1
 sizeT unchanged = 1
 sizeT drop = 1
 sizeT (pick c) = 1
 sizeT (hold s) = 1
-sizeT (tested s) = 1
-sizeT (add s) = 1
-sizeT (invoke x f) = 1
+sizeT (tested s) = 3
+sizeT (add s) = 3
+sizeT (trying s) = 1
+sizeT (summing s) = 1
+sizeT (settling s) = 1
+sizeT (seek x q) = 1
+sizeT (find e q) = 2
+sizeT (receiving q y) = 1
+sizeT (invoke x es f) = 1
 sizeT (close n) = 1
 sizeT (return f q b v) = 1
 

@@ -1,23 +1,33 @@
 -- A tree has at most four instructions a symbol, and an expression two fewer. One line a construct. Assumes nothing.
 use Prim.Native.Nat.{ℕ, zero, suc, _+_, _*_, _≤_}
 use native.Mathlib.Omega.{arith}
-use mathlib.Core.Path.{_≡_}
+use mathlib.Core.Bool.{Bool, true, false}
 use mathlib.Core.List.{List, [], _∷_}
 use mathlib.Core.Option.{Option, none, some}
 use lib.ListN.{length}
 use Rattle.names.specs.Program.{Name, Sort, Sign, positive, negative, negation, Expression, number, logical, name, call, signed, operated, chosen, nested, Expressions, done, then, Element, value, while, step, Statement, dummy, assignment, procedure, when, either, repeat, compound, block, Statements, last, first, Declarations, none as no-more, variables, declare, Procedure, heading}
-use Rattle.names.specs.Scopes.{Thing, variable, routine, formal, Scope, ofBlock, ofBody, sortOf, Meaning, declared, given, nothing, meaning}
-use Rattle.rules.specs.Calls.{Primary, held, function, absolute, greatest, no-primary, primary, Command, routine-of, absolute-of, greatest-of, input-to, output-of, no-command, command, thingTold, into, givenTold}
-use Rattle.translation.specs.Translate.{endName, endSign, endE, endEs, endL, endStores, endCall, endCommand, endS, endSs, endDs, endP}
+use Rattle.names.specs.Scopes.{Thing, variable, routine, formal, by-name, modesOf, Scope, ofBlock, ofBody, sortOf, Meaning, declared, given, nothing, meaning}
+use Rattle.rules.specs.Calls.{Primary, held, worked, function, absolute, greatest, no-primary, primary, Command, routine-of, absolute-of, greatest-of, input-to, output-of, no-command, command, thingTold, into, givenTold, Way, direct, sought, way}
+use Rattle.translation.specs.Translate.{endName, endActual, endThen, endSign, endE, endEs, endWay, endTest, endSum, endL, endStores, endCall, endTake, endCommand, endS, endSs, endDs, endP}
 use Rattle.translation.specs.Sizes.{symbolsE, symbolsEs, actuals, symbolsL, symbolsS, symbolsSs, symbolsDs, symbolsP}
 
 -- a name with actuals of so many symbols
-name-size : (pr : Primary) (f : ℕ → ℕ) (n : ℕ) → ((b : ℕ) → f b ≤ b + 4 * n) → (b : ℕ) → endName pr f b + 2 ≤ b + 4 * (n + 1)
+name-size : (pr : Primary) (f : List Bool → ℕ → ℕ) (n : ℕ) → ((m : List Bool) (b : ℕ) → f m b ≤ b + 4 * n) → (b : ℕ) → endName pr f b + 2 ≤ b + 4 * (n + 1)
 name-size held f n h b = omega arith
-name-size (function p) f n h b = omega (arith, h (suc b))
-name-size absolute f n h b = omega (arith, h b)
+name-size worked f n h b = omega arith
+name-size (function p) f n h b = omega (arith, h (modesOf p) (suc b))
+name-size absolute f n h b = omega (arith, h [] b)
 name-size greatest f n h b = omega arith
 name-size no-primary f n h b = omega arith
+
+-- an actual with the comma or `(` before it, and those behind it
+actual-size : (m : Bool) (f : ℕ → ℕ) (n : ℕ) → ((b : ℕ) → f b + 2 ≤ b + 4 * n) → (b : ℕ) → endActual m f b ≤ b + 4 * (n + 1)
+actual-size true f n h b = omega (arith, h b)
+actual-size false f n h b = omega (arith, h (suc (suc (suc b))))
+
+then-size : (m : List Bool) (f : ℕ → ℕ) (fs : List Bool → ℕ → ℕ) (n k : ℕ) → ((b : ℕ) → f b + 2 ≤ b + 4 * n) → ((m : List Bool) (b : ℕ) → fs m b ≤ b + 4 * k) → (b : ℕ) → endThen m f fs b ≤ b + 4 * (n + 1 + k)
+then-size [] f fs n k h h' b = omega (arith, h b, h' [] (f b))
+then-size (m ∷ ms) f fs n k h h' b = omega (arith, actual-size m f n h b, h' ms (endActual m f b))
 
 sign-size : (o : Sign) (b : ℕ) → endSign o b ≤ b + 1
 sign-size positive b = omega arith
@@ -30,31 +40,58 @@ mutual
   pub sizeE : (g : List Scope) (e : Expression) (b : ℕ) → endE g e b + 2 ≤ b + 4 * symbolsE e
   sizeE g (number q n) b = omega arith
   sizeE g (logical q t) b = omega arith
-  sizeE g (name x) b = omega (arith, name-size (primary (meaning g x) done) (λ b. b) 0 (λ b. omega arith) b)
-  sizeE g (call x e es) b = omega (arith, name-size (primary (meaning g x) (then e es)) (λ b. endEs g es (endE g e b)) (symbolsE e + symbolsEs es) (λ b. omega (arith, sizeE g e b, sizeEs g es (endE g e b))) b)
+  sizeE g (name x) b = omega (arith, name-size (primary (meaning g x) done) (λ m b. b) 0 (λ m b. omega arith) b)
+  sizeE g (call x e es) b = omega (arith, name-size (primary (meaning g x) (then e es)) (λ m b. endThen m (λ b. endE g e b) (λ m b. endEs g m es b) b) (symbolsE e + 1 + symbolsEs es) (λ m b. then-size m (λ b. endE g e b) (λ m b. endEs g m es b) (symbolsE e) (symbolsEs es) (λ b. sizeE g e b) (λ m b. sizeEs g m es b) b) b)
   sizeE g (signed q o e) b = omega (arith, sizeE g e b, sign-size o (endE g e b))
   sizeE g (operated q o e f) b = omega (arith, sizeE g e b, sizeE g f (endE g e b))
   sizeE g (chosen q r c e f) b = omega (arith, sizeE g c b, sizeE g e (suc (endE g c b)), sizeE g f (suc (endE g e (suc (endE g c b)))))
   sizeE g (nested q e) b = omega (arith, sizeE g e b)
 
-  pub sizeEs : (g : List Scope) (es : Expressions) (b : ℕ) → endEs g es b ≤ b + 4 * symbolsEs es
-  sizeEs g done b = omega arith
-  sizeEs g (then e es) b = omega (arith, sizeE g e b, sizeEs g es (endE g e b))
+  pub sizeEs : (g : List Scope) (m : List Bool) (es : Expressions) (b : ℕ) → endEs g m es b ≤ b + 4 * symbolsEs es
+  sizeEs g m done b = omega arith
+  sizeEs g m (then e es) b = then-size m (λ b. endE g e b) (λ m b. endEs g m es b) (symbolsE e) (symbolsEs es) (λ b. sizeE g e b) (λ m b. sizeEs g m es b) b
 
-pub sizeL : (g : List Scope) (l : List Element) (b : ℕ) → endL g l b ≤ b + 4 * symbolsL l
+way-size : (w : Way) (b : ℕ) → endWay w b ≤ b + 2
+unfolding endWay
+way-size direct b = omega arith
+way-size sought b = omega arith
+
+test-size : (w : Way) (b : ℕ) → endTest w b ≤ b + 2
+unfolding endTest
+test-size direct b = omega arith
+test-size sought b = omega arith
+
+sum-size : (w : Way) (b : ℕ) → endSum w b ≤ b + 4
+unfolding endSum
+sum-size direct b = omega arith
+sum-size sought b = omega arith
+
+take-size : (w : Way) (b : ℕ) → endTake w b ≤ b + 3
+unfolding endTake
+take-size direct b = omega arith
+take-size sought b = omega arith
+
+pub sizeL : (g : List Scope) (x : Name) (l : List Element) (b : ℕ) → endL g x l b ≤ b + 4 * symbolsL l
 unfolding endL symbolsL
-sizeL g [] b = omega arith
-sizeL g (value e ∷ l) b = omega (arith, sizeE g e b, sizeL g l (suc (suc (endE g e b))))
-sizeL g (while q e c ∷ l) b = omega (arith, sizeE g e b, sizeE g c (suc (endE g e b)), sizeL g l (suc (suc (endE g c (suc (endE g e b))))))
-sizeL g (step q e f h ∷ l) b =
-    let a = suc (endE g e b) in
+sizeL g x [] b = omega arith
+sizeL g x (value e ∷ l) b =
+    let w = way (meaning g x) in
+    omega (arith, sizeE g e b, way-size w (endE g e b), sizeL g x l (suc (endWay w (endE g e b))))
+sizeL g x (while q e c ∷ l) b =
+    let w = way (meaning g x) in
+    let a = endWay w (endE g e b) in
+    omega (arith, sizeE g e b, way-size w (endE g e b), sizeE g c a, sizeL g x l (suc (suc (endE g c a))))
+sizeL g x (step q e f h ∷ l) b =
+    let w = way (meaning g x) in
+    let a = endWay w (endE g e b) in
     let i = endE g h (endE g f a) in
-    omega (arith, sizeE g e b, sizeE g f a, sizeE g h (endE g f a), sizeL g l (suc (suc (suc (suc (suc i))))))
+    let t = endTest w (suc i) in
+    omega (arith, sizeE g e b, way-size w (endE g e b), sizeE g f a, sizeE g h (endE g f a), test-size w (suc i), sum-size w (suc t), sizeL g x l (suc (endSum w (suc t))))
 
-size-stores : (xs : List Name) (b : ℕ) → endStores xs b ≡ b + length xs + 1
+size-stores : (g : List Scope) (x : Name) (xs : List Name) (b : ℕ) → endStores g x xs b ≤ b + 2 * length xs + 2
 unfolding endStores
-size-stores [] b = omega arith
-size-stores (y ∷ ys) b = omega (arith, size-stores ys (suc b))
+size-stores g x [] b = omega (arith, way-size (way (meaning g x)) b)
+size-stores g x (y ∷ ys) b = omega (arith, way-size (way (meaning g x)) b, size-stores g y ys (endWay (way (meaning g x)) b))
 
 -- ---- commands: their expressions are among the actuals
 
@@ -69,6 +106,7 @@ symbolsC no-command = 0
 told-few : (t : Thing) → symbolsC (thingTold t) ≤ 0
 told-few (variable t) = omega arith
 told-few (formal t) = omega arith
+told-few (by-name t) = omega arith
 told-few (routine p) = omega arith
 
 into-few : (e f : Expression) → symbolsC (into e f) ≤ symbolsE e
@@ -109,15 +147,15 @@ unfolding actuals symbolsE
 actuals-most done = omega arith
 actuals-most (then e es) = omega arith
 
-call-size : (g : List Scope) (t : Option Sort) (es : Expressions) (b : ℕ) → endCall g t es b ≤ b + 4 * symbolsEs es + 2
-call-size g none es b = omega (arith, sizeEs g es b)
-call-size g (some t) es b = omega (arith, sizeEs g es (suc b))
+call-size : (g : List Scope) (t : Option Sort) (m : List Bool) (es : Expressions) (b : ℕ) → endCall g t m es b ≤ b + 4 * symbolsEs es + 2
+call-size g none m es b = omega (arith, sizeEs g m es b)
+call-size g (some t) m es b = omega (arith, sizeEs g m es (suc b))
 
 size-command : (g : List Scope) (c : Command) (es : Expressions) (b : ℕ) → symbolsC c ≤ symbolsEs es → endCommand g c es b ≤ b + 4 * symbolsEs es + 2
-size-command g (routine-of p) es b h = call-size g (sortOf p) es b
+size-command g (routine-of p) es b h = call-size g (sortOf p) (modesOf p) es b
 size-command g (absolute-of e) es b h = omega (arith, sizeE g e b)
 size-command g greatest-of es b h = omega arith
-size-command g (input-to e y) es b h = omega (arith, sizeE g e b)
+size-command g (input-to e y) es b h = omega (arith, sizeE g e b, take-size (way (meaning g y)) (endE g e b))
 size-command g (output-of e f) es b h = omega (arith, sizeE g e b, sizeE g f (endE g e b))
 size-command g no-command es b h = omega arith
 
@@ -128,11 +166,11 @@ mutual
 
   pub sizeS : (g : List Scope) (s : Statement) (b : ℕ) → endS g s b ≤ b + 4 * symbolsS s
   sizeS g dummy b = omega arith
-  sizeS g (assignment x xs q e) b = omega (arith, sizeE g e b, size-stores xs (endE g e b))
+  sizeS g (assignment x xs q e) b = omega (arith, sizeE g e b, size-stores g x xs (endE g e b))
   sizeS g (procedure x es) b = omega (arith, size-command g (command (meaning g x) es) es b (few (meaning g x) es), actuals-most es)
   sizeS g (when q c s) b = omega (arith, sizeE g c b, sizeS g s (suc (endE g c b)))
   sizeS g (either q c s t) b = omega (arith, sizeE g c b, sizeS g s (suc (endE g c b)), sizeS g t (suc (endS g s (suc (endE g c b)))))
-  sizeS g (repeat x l ls s) b = omega (arith, sizeL g (l ∷ ls) b, sizeS g s (endL g (l ∷ ls) b))
+  sizeS g (repeat x l ls s) b = omega (arith, sizeL g x (l ∷ ls) b, sizeS g s (endL g x (l ∷ ls) b))
   sizeS g (compound ss) b = omega (arith, sizeSs g ss b)
   sizeS g (block q ds ss) b = omega (arith, sizeDs (ofBlock ds ∷ g) ds (suc b), sizeSs (ofBlock ds ∷ g) ss (endDs (ofBlock ds ∷ g) ds (suc b)))
 

@@ -6,12 +6,14 @@ use mathlib.Core.Bool.{Bool, true, false, cond}
 use mathlib.Core.List.{List, [], _∷_, _++_}
 use mathlib.Core.Option.{Option, none, some, Option·none-ne-some}
 use lib.ListN.{drop}
-use Rattle.machine.specs.Instructions.{Instr}
+use Rattle.machine.specs.Data.{Act}
+use Rattle.machine.specs.Instructions.{Loc, Instr}
 use Rattle.names.specs.Program.{Name, Sort, Sign, positive, negative, negation, Expression, number, logical, name, call, signed, operated, chosen, nested, Expressions, done, then, Element, value, while, step, Statement, dummy, assignment, procedure, when, either, repeat, compound, block, Statements, last, first, Declarations, none as no-more, variables, declare, Procedure, heading}
-use Rattle.names.specs.Scopes.{Thing, variable, routine, formal, Declared, nameOf, sortOf, same, variablesIn, inBlock, findIn, meaning}
-use Rattle.rules.specs.Calls.{Primary, held, function, absolute, greatest, no-primary, primary, Command, routine-of, absolute-of, greatest-of, input-to, output-of, no-command, command}
-use Rattle.translation.specs.Translate.{Mark, scopes, endName, endE, endEs, endL, endStores, endCall, endCommand, endS, endSs, endDs, endP, entry, codeName, codeSign, codeE, codeEs, codeL, codeStores, codeCall, codeCommand, codeS, codeSs, codeDs, codeP}
-use Rattle.translation.specs.Translate.{endSign}
+use Rattle.names.specs.Scopes.{Thing, variable, routine, formal, by-name, Declared, nameOf, sortOf, modesOf, same, variablesIn, inBlock, findIn, meaning}
+use Rattle.rules.specs.Calls.{Primary, held, worked, function, absolute, greatest, no-primary, primary, Command, routine-of, absolute-of, greatest-of, input-to, output-of, no-command, command, Way, direct, sought}
+use Rattle.rules.specs.Rules.{Spot}
+use Rattle.translation.specs.Translate.{Mark, acl, scopes, endName, endActual, endThen, endE, endEs, endWay, endTest, endSum, endL, endStores, endCall, endTake, endCommand, endS, endSs, endDs, endP, entry, codeName, codeActual, codeThen, codeSign, codeE, codeEs, codeWay, codeTest, codeSum, codeL, codeStores, codeCall, codeTake, codeCommand, codeS, codeSs, codeDs, codeP}
+use Rattle.translation.specs.Translate.{endSign, Mark, acl, scopes, endName, endActual, endThen, endE, endEs, endWay, endTest, endSum, endL, endStores, endCall, endTake, endCommand, endS, endSs, endDs, endP, entry, codeName, codeActual, codeThen, codeSign, codeE, codeEs, codeWay, codeTest, codeSum, codeL, codeStores, codeCall, codeTake, codeCommand, codeS, codeSs, codeDs, codeP}
 use Rattle.translation.specs.Scoped.{OkDs, OkP}
 use Rattle.translation.specs.Listed.{instructionAt}
 
@@ -19,6 +21,7 @@ use Rattle.translation.specs.Listed.{instructionAt}
 abbrev pub procedureOf : Thing → Option Procedure
 procedureOf (variable t) = none
 procedureOf (formal t) = none
+procedureOf (by-name t) = none
 procedureOf (routine p) = some p
 
 -- a procedure is found behind variables
@@ -42,12 +45,22 @@ module _ (place : ℕ → ℕ) (P : List Instr) where
 
   -- ---- what stands after the code of a tree
 
-  past-name : (pr : Primary) (g : List Mark) (x : Name) (n : ℕ) (f : ℕ → ℕ) (c : ℕ → List Instr → List Instr) → ((b : ℕ) (r : List Instr) → CodeAt b (c b r) → CodeAt (f b) r) → (b : ℕ) (r : List Instr) → CodeAt b (codeName place pr g x n c b r) → CodeAt (endName pr f b) r
+  past-name : (pr : Primary) (g : List Mark) (x : Name) (n : ℕ) (f : List Bool → ℕ → ℕ) (c : List Bool → ℕ → List Instr → List Instr) → ((m : List Bool) (b : ℕ) (r : List Instr) → CodeAt b (c m b r) → CodeAt (f m b) r) → (b : ℕ) (r : List Instr) → CodeAt b (codeName place pr g x n c b r) → CodeAt (endName pr f b) r
   past-name held g x n f c w b r h = h .1
-  past-name (function p) g x n f c w b r h = (w _ _ (h .1)) .1
-  past-name absolute g x n f c w b r h = (w _ _ h) .1
+  past-name worked g x n f c w b r h = h .1
+  past-name (function p) g x n f c w b r h = (w _ _ _ (h .1)) .1
+  past-name absolute g x n f c w b r h = (w _ _ _ h) .1
   past-name greatest g x n f c w b r h = h .1
   past-name no-primary g x n f c w b r h = h
+
+  -- an actual, and others after it
+  pub past-actual : (m : Bool) (g : List Mark) (e : Expression) (f : ℕ → ℕ) (c : List Mark → ℕ → List Instr → List Instr) → ((b : ℕ) (r : List Instr) → CodeAt b (c g b r) → CodeAt (f b) r) → ((b : ℕ) (r : List Instr) → CodeAt b (c (acl ∷ g) b r) → CodeAt (f b) r) → (b : ℕ) (r : List Instr) → CodeAt b (codeActual place m g e f c b r) → CodeAt (endActual m f b) r
+  past-actual true g e f c w w' b r h = w b r h
+  past-actual false g e f c w w' b r h = (w' _ _ (h .1 .1 .1)) .1
+
+  past-then : (m : List Bool) (g : List Mark) (e : Expression) (f : ℕ → ℕ) (fs : List Bool → ℕ → ℕ) (c : List Mark → ℕ → List Instr → List Instr) (cs : List Bool → ℕ → List Instr → List Instr) → ((b : ℕ) (r : List Instr) → CodeAt b (c g b r) → CodeAt (f b) r) → ((b : ℕ) (r : List Instr) → CodeAt b (c (acl ∷ g) b r) → CodeAt (f b) r) → ((m : List Bool) (b : ℕ) (r : List Instr) → CodeAt b (cs m b r) → CodeAt (fs m b) r) → (b : ℕ) (r : List Instr) → CodeAt b (codeThen place m g e f c cs b r) → CodeAt (endThen m f fs b) r
+  past-then [] g e f fs c cs w w' ws b r h = ws _ _ _ (w _ _ h)
+  past-then (m ∷ ms) g e f fs c cs w w' ws b r h = ws _ _ _ (past-actual m g e f c w w' b _ h)
 
   pub past-sign : (q : ℕ) (o : Sign) (b : ℕ) (r : List Instr) → CodeAt b (codeSign place q o r) → CodeAt (endSign o b) r
   past-sign q positive b r h = h
@@ -60,38 +73,60 @@ module _ (place : ℕ → ℕ) (P : List Instr) where
     pub pastE : (g : List Mark) (e : Expression) (b : ℕ) (r : List Instr) → CodeAt b (codeE place g e b r) → CodeAt (endE (scopes g) e b) r
     pastE g (number q n) b r h = h .1
     pastE g (logical q t) b r h = h .1
-    pastE g (name x) b r h = past-name (primary (meaning (scopes g) x) done) g x 0 (λ b. b) (λ b r. r) (λ b r h. h) b r h
-    pastE g (call x e es) b r h = past-name (primary (meaning (scopes g) x) (then e es)) g x _ _ _ (λ b r h. pastEs g es _ _ (pastE g e _ _ h)) b r h
+    pastE g (name x) b r h = past-name (primary (meaning (scopes g) x) done) g x 0 (λ m b. b) (λ m b r. r) (λ m b r h. h) b r h
+    pastE g (call x e es) b r h = past-name (primary (meaning (scopes g) x) (then e es)) g x _ _ _ (λ m b r h. past-then m g e _ _ _ _ (λ b r h. pastE g e b r h) (λ b r h. pastE (acl ∷ g) e b r h) (λ m b r h. pastEs g m es b r h) b r h) b r h
     pastE g (signed q o e) b r h = past-sign q o _ _ (pastE g e _ _ h)
     pastE g (operated q o e f) b r h = (pastE g f _ _ (pastE g e _ _ h)) .1
     pastE g (chosen q q' c e f) b r h = pastE g f _ _ ((pastE g e _ _ ((pastE g c _ _ h) .1)) .1)
     pastE g (nested q e) b r h = pastE g e b r h
 
-    pub pastEs : (g : List Mark) (es : Expressions) (b : ℕ) (r : List Instr) → CodeAt b (codeEs place g es b r) → CodeAt (endEs (scopes g) es b) r
-    pastEs g done b r h = h
-    pastEs g (then e es) b r h = pastEs g es _ _ (pastE g e _ _ h)
+    pub pastEs : (g : List Mark) (m : List Bool) (es : Expressions) (b : ℕ) (r : List Instr) → CodeAt b (codeEs place g m es b r) → CodeAt (endEs (scopes g) m es b) r
+    pastEs g m done b r h = h
+    pastEs g m (then e es) b r h = past-then m g e _ _ _ _ (λ b r h. pastE g e b r h) (λ b r h. pastE (acl ∷ g) e b r h) (λ m b r h. pastEs g m es b r h) b r h
 
-  pub pastL : (g : List Mark) (m : ℕ) (x : Name) (l : List Element) (s n b : ℕ) (r : List Instr) → CodeAt b (codeL place g m x l s n b r) → CodeAt (endL (scopes g) l b) r
+  pub past-way : (w : Way) (g : List Mark) (x : Name) (i : Spot → Act Loc) (b : ℕ) (r : List Instr) → CodeAt b (codeWay place w g x i r) → CodeAt (endWay w b) r
+  unfolding endWay codeWay
+  past-way direct g x i b r h = h .1
+  past-way sought g x i b r h = h .1 .1
+
+  pub past-test : (w : Way) (g : List Mark) (x : Name) (n b : ℕ) (r : List Instr) → CodeAt b (codeTest place w g x n r) → CodeAt (endTest w b) r
+  unfolding endTest codeTest
+  past-test direct g x n b r h = h .1
+  past-test sought g x n b r h = h .1 .1
+
+  pub past-sum : (w : Way) (g : List Mark) (q : ℕ) (x : Name) (b : ℕ) (r : List Instr) → CodeAt b (codeSum place w g q x r) → CodeAt (endSum w b) r
+  unfolding endSum codeSum
+  past-sum direct g q x b r h = h .1
+  past-sum sought g q x b r h = h .1 .1 .1 .1
+
+  past-take : (w : Way) (g : List Mark) (q : ℕ) (x : Name) (b : ℕ) (r : List Instr) → CodeAt b (codeTake place w g q x r) → CodeAt (endTake w b) r
+  unfolding endTake codeTake
+  past-take direct g q x b r h = h .1
+  past-take sought g q x b r h = h .1 .1 .1
+
+  pub pastL : (g : List Mark) (m : ℕ) (x : Name) (l : List Element) (s n b : ℕ) (r : List Instr) → CodeAt b (codeL place g m x l s n b r) → CodeAt (endL (scopes g) x l b) r
   unfolding endL codeL
   pastL g m x [] s n b r h = h
-  pastL g m x (value e ∷ l) s n b r h = pastL g m x l s n _ _ ((pastE g e _ _ h) .1 .1)
-  pastL g m x (while q e c ∷ l) s n b r h = pastL g m x l s n _ _ ((pastE g c _ _ ((pastE g e _ _ h) .1)) .1 .1)
-  pastL g m x (step q e f i ∷ l) s n b r h = pastL g m x l s n _ _ ((pastE g i _ _ (pastE g f _ _ ((pastE g e _ _ h) .1))) .1 .1 .1 .1 .1)
+  pastL g m x (value e ∷ l) s n b r h = pastL g m x l s n _ _ ((past-way _ g x _ _ _ (pastE g e _ _ h)) .1)
+  pastL g m x (while q e c ∷ l) s n b r h = pastL g m x l s n _ _ ((pastE g c _ _ (past-way _ g x _ _ _ (pastE g e _ _ h))) .1 .1)
+  pastL g m x (step q e f i ∷ l) s n b r h =
+      let h₁ = pastE g i _ _ (pastE g f _ _ (past-way _ g x _ _ _ (pastE g e _ _ h))) in
+      pastL g m x l s n _ _ ((past-sum _ g q x _ _ ((past-test _ g x _ _ _ (h₁ .1)) .1)) .1)
 
-  pub past-stores : (g : List Mark) (x : Name) (xs : List Name) (b : ℕ) (r : List Instr) → CodeAt b (codeStores place g x xs r) → CodeAt (endStores xs b) r
+  pub past-stores : (g : List Mark) (x : Name) (xs : List Name) (b : ℕ) (r : List Instr) → CodeAt b (codeStores place g x xs r) → CodeAt (endStores (scopes g) x xs b) r
   unfolding endStores codeStores
-  past-stores g x [] b r h = h .1
-  past-stores g x (y ∷ ys) b r h = past-stores g y ys _ r (h .1)
+  past-stores g x [] b r h = past-way _ g x _ _ _ h
+  past-stores g x (y ∷ ys) b r h = past-stores g y ys _ r (past-way _ g x _ _ _ h)
 
-  past-call : (g : List Mark) (t : Option Sort) (x : Name) (es : Expressions) (b : ℕ) (r : List Instr) → CodeAt b (codeCall place g t x es b r) → CodeAt (endCall (scopes g) t es b) r
-  past-call g none x es b r h = (pastEs g es _ _ h) .1
-  past-call g (some t) x es b r h = (pastEs g es _ _ (h .1)) .1
+  past-call : (g : List Mark) (t : Option Sort) (m : List Bool) (x : Name) (es : Expressions) (b : ℕ) (r : List Instr) → CodeAt b (codeCall place g t m x es b r) → CodeAt (endCall (scopes g) t m es b) r
+  past-call g none m x es b r h = (pastEs g m es _ _ h) .1
+  past-call g (some t) m x es b r h = (pastEs g m es _ _ (h .1)) .1
 
   past-command : (c : Command) (g : List Mark) (x : Name) (es : Expressions) (b : ℕ) (r : List Instr) → CodeAt b (codeCommand place c g x es b r) → CodeAt (endCommand (scopes g) c es b) r
-  past-command (routine-of p) g x es b r h = past-call g (sortOf p) x es b r h
+  past-command (routine-of p) g x es b r h = past-call g (sortOf p) (modesOf p) x es b r h
   past-command (absolute-of e) g x es b r h = (pastE g e _ _ h) .1 .1
   past-command greatest-of g x es b r h = h .1 .1
-  past-command (input-to e y) g x es b r h = (pastE g e _ _ h) .1
+  past-command (input-to e y) g x es b r h = past-take _ g _ y _ _ (pastE g e _ _ h)
   past-command (output-of e f) g x es b r h = (pastE g f _ _ (pastE g e _ _ h)) .1
   past-command no-command g x es b r h = h
 

@@ -4,6 +4,7 @@
 use Prim.Native.Nat.{ℕ, _+_, _*_, _≤_}
 use mathlib.Core.Path.{_≡_}
 use mathlib.Core.List.{List, _++_}
+use mathlib.Core.Logic.{_⊎_}
 use lib.IntN.{ℤ}
 use Rattle.answers.specs.declared.Stop.{Stop}
 use Rattle.answers.specs.declared.Stop.the-variants.{Ended, Limit, Fault, Wrong}
@@ -21,11 +22,11 @@ Begins x y = (z : List ℤ) × (y ≡ x ++ z)
 abbrev pub Tells : Finish → Trace → Type 0
 Tells f o = (f .written ≡ o .written) × (f .taken ≡ o .taken)
 
--- how a run of a translated program stops by itself: it ends, or with one of 21 to 28
+-- how a run of a translated program stops by itself: it ends, or with one of 21 to 28 or 30
 abbrev pub Ordinary : Stop → Type 0
 Ordinary Ended = Unit {0}
 Ordinary Limit = ⊥
-Ordinary (Fault r) = (21 ≤ r .answer .number) × (r .answer .number ≤ 28)
+Ordinary (Fault r) = ((21 ≤ r .answer .number) × (r .answer .number ≤ 28)) ⊎ (r .answer .number ≡ 30)
 Ordinary (Wrong a) = ⊥
 
 -- a run that was lent this input, so many cells and so much room for output, and finished so under this limit, did what the source rules say of s

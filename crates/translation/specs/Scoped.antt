@@ -1,13 +1,14 @@
 -- The static condition under which the translation is right: a name that is called means a procedure and is called as it is declared, and a name
--- that is read or stored has a cell. It follows from acceptance (names and types). Assumes nothing: these are definitions.
-use Prim.Native.Nat.{ℕ, suc, _+_}
+-- that is read or stored has a cell or is a name formal. It follows from acceptance (names and types). Assumes nothing: these are definitions.
+use Prim.Native.Nat.{ℕ, suc}
 use mathlib.Core.Path.{_≡_}
 use mathlib.Core.Bool.{cond}
 use mathlib.Core.List.{List, [], _∷_}
+use lib.ListN.{length}
 use Rattle.names.specs.Program.{Name, Expression, number, logical, name, call, signed, operated, chosen, nested, Expressions, done, then, count, Element, value, while, step, Statement, dummy, assignment, procedure, when, either, repeat, compound, block, Statements, last, first, Declarations, none as no-more, variables, declare, Procedure, heading}
-use Rattle.names.specs.Scopes.{Thing, variable, routine, formal, Scope, ofBlock, ofBody, sortOf, Meaning, declared, given, nothing, meaning}
-use Rattle.rules.specs.Entered.{cellsIn, results, oneIf, bodyOfThis}
-use Rattle.rules.specs.Calls.{Primary, held, function, absolute, greatest, no-primary, primary, Command, routine-of, absolute-of, greatest-of, input-to, output-of, no-command, command}
+use Rattle.names.specs.Scopes.{Thing, variable, routine, formal, by-name, Scope, ofBlock, ofBody, sortOf, formalsOf, Meaning, declared, given, nothing, meaning}
+use Rattle.rules.specs.Entered.{results, oneIf, bodyOfThis}
+use Rattle.rules.specs.Calls.{Primary, held, worked, function, absolute, greatest, no-primary, primary, Command, routine-of, absolute-of, greatest-of, input-to, output-of, no-command, command, Way, direct, sought, way}
 
 -- ---- names
 
@@ -20,6 +21,7 @@ nearest (s ∷ g) p = cond (bodyOfThis p s) (results s) (nearest g p)
 abbrev pub HasCell : List Scope → Thing → Type 0
 HasCell g (variable t) = Unit {0}
 HasCell g (formal t) = Unit {0}
+HasCell g (by-name t) = ⊥
 HasCell g (routine p) = nearest g p ≡ 1
 
 abbrev pub CellAs : List Scope → Meaning → Type 0
@@ -30,24 +32,33 @@ CellAs g nothing = ⊥
 abbrev pub OkV : List Scope → Name → Type 0
 OkV g x = CellAs g (meaning g x)
 
+-- what is stored to: it has a cell; or it is a name formal
+abbrev pub OkWay : Way → List Scope → Name → Type 0
+OkWay direct g x = OkV g x
+OkWay sought g x = Unit {0}
+
+abbrev pub OkW : List Scope → Name → Type 0
+OkW g x = OkWay (way (meaning g x)) g x
+
 abbrev pub OkVs : List Scope → List Name → Type 0
 OkVs g [] = Unit {0}
-OkVs g (x ∷ xs) = OkV g x × OkVs g xs
+OkVs g (x ∷ xs) = OkW g x × OkVs g xs
 
 abbrev pub MeansAs : Meaning → Procedure → Type 0
 MeansAs (declared d h) p = d .thing ≡ routine p
 MeansAs (given n e) p = ⊥
 MeansAs nothing p = ⊥
 
--- the name means the procedure, and as many cells are handed over as it has: its formals, and before them its result where it has a type
-abbrev pub OkCall : List Scope → Name → Procedure → ℕ → Type 0
-OkCall g x p n = MeansAs (meaning g x) p × (cellsIn (ofBody p) ≡ n)
+-- the name means the procedure, and as many cells are handed over as it has: r for its result where it has a type, and n for its formals
+abbrev pub OkCall : List Scope → Name → Procedure → ℕ → ℕ → Type 0
+OkCall g x p r n = MeansAs (meaning g x) p × (oneIf (sortOf p) ≡ r) × (length (formalsOf p) ≡ n)
 
 -- ---- expressions
 
 abbrev pub OkPrimary : List Scope → Name → ℕ → Primary → Type 0
 OkPrimary g x n held = OkV g x
-OkPrimary g x n (function p) = OkCall g x p (suc n)
+OkPrimary g x n worked = Unit {0}
+OkPrimary g x n (function p) = OkCall g x p 1 n
 OkPrimary g x n absolute = n ≡ 1
 OkPrimary g x n greatest = Unit {0}
 OkPrimary g x n no-primary = ⊥
@@ -76,10 +87,10 @@ OkL g (while q e c ∷ l) = OkE g e × OkE g c × OkL g l
 OkL g (step q e f h ∷ l) = OkE g e × OkE g f × OkE g h × OkL g l
 
 abbrev pub OkCommand : List Scope → Name → Expressions → Command → Type 0
-OkCommand g x es (routine-of p) = OkCall g x p (oneIf (sortOf p) + count es) × OkEs g es
+OkCommand g x es (routine-of p) = OkCall g x p (oneIf (sortOf p)) (count es) × OkEs g es
 OkCommand g x es (absolute-of e) = OkE g e
 OkCommand g x es greatest-of = Unit {0}
-OkCommand g x es (input-to e y) = OkE g e × OkV g y
+OkCommand g x es (input-to e y) = OkE g e × OkW g y
 OkCommand g x es (output-of e f) = OkE g e × OkE g f
 OkCommand g x es no-command = ⊥
 
@@ -90,7 +101,7 @@ abbrev mutual
   OkS g (procedure x es) = OkCommand g x es (command (meaning g x) es)
   OkS g (when q c s) = OkE g c × OkS g s
   OkS g (either q c s t) = OkE g c × OkS g s × OkS g t
-  OkS g (repeat x l ls s) = OkV g x × OkL g (l ∷ ls) × OkS g s
+  OkS g (repeat x l ls s) = OkW g x × OkL g (l ∷ ls) × OkS g s
   OkS g (compound ss) = OkSs g ss
   OkS g (block q ds ss) = OkDs (ofBlock ds ∷ g) ds × OkSs (ofBlock ds ∷ g) ss
 

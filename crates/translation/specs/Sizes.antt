@@ -68,15 +68,42 @@ unfoldable mutual
 
 -- ---- how deep statements nest, and whether numbers are of 32 bits
 
+-- "An actual is one deeper": levels below an expression, as far as actuals make them
+unfoldable mutual
+  pub deepE : Expression → ℕ
+  deepE (number q n) = 0
+  deepE (logical q b) = 0
+  deepE (name x) = 0
+  deepE (call x e es) = suc (max (deepE e) (deepEs es))
+  deepE (signed q o e) = deepE e
+  deepE (operated q o e f) = max (deepE e) (deepE f)
+  deepE (chosen q r c e f) = max (deepE c) (max (deepE e) (deepE f))
+  deepE (nested q e) = deepE e
+
+  pub deepEs : Expressions → ℕ
+  deepEs done = 0
+  deepEs (then e es) = max (deepE e) (deepEs es)
+
+-- actuals, one deeper than what holds them
+unfoldable pub deepA : Expressions → ℕ
+deepA done = 0
+deepA (then e es) = suc (deepEs (then e es))
+
+unfoldable pub deepL : List Element → ℕ
+deepL [] = 0
+deepL (value e ∷ l) = max (deepE e) (deepL l)
+deepL (while q e c ∷ l) = max (deepE e) (max (deepE c) (deepL l))
+deepL (step q e f h ∷ l) = max (deepE e) (max (deepE f) (max (deepE h) (deepL l)))
+
 -- "A statement inside 'begin', after 'then', 'else' or 'do', or as a procedure body is one deeper than what holds it": levels below a statement
 unfoldable mutual
   pub deepS : Statement → ℕ
   deepS dummy = 0
-  deepS (assignment x xs q e) = 0
-  deepS (procedure x es) = 0
-  deepS (when q c s) = suc (deepS s)
-  deepS (either q c s t) = suc (max (deepS s) (deepS t))
-  deepS (repeat x l ls s) = suc (deepS s)
+  deepS (assignment x xs q e) = deepE e
+  deepS (procedure x es) = deepA es
+  deepS (when q c s) = max (deepE c) (suc (deepS s))
+  deepS (either q c s t) = max (deepE c) (suc (max (deepS s) (deepS t)))
+  deepS (repeat x l ls s) = max (deepL (l ∷ ls)) (suc (deepS s))
   deepS (compound ss) = suc (deepSs ss)
   deepS (block q ds ss) = suc (max (deepDs ds) (deepSs ss))
 

@@ -1,66 +1,72 @@
 -- The translation: the code of a tree at an address, in front of the code r that follows it. docs/MACHINE.md has it in words. The end of a tree's
 -- code is worked out by functions of their own, so that every address is known where it is written. Assumes nothing: these are definitions.
 use Prim.Native.Nat.{ℕ, suc, _+_}
-use mathlib.Core.Bool.{Bool, cond}
+use mathlib.Core.Bool.{Bool, true, false, cond}
 use mathlib.Core.List.{List, [], _∷_}
 use mathlib.Core.Option.{Option, none, some}
 use lib.IntN.{pos}
 use Rattle.machine.specs.Values
 use Rattle.machine.specs.Values.{truth}
-use Rattle.machine.specs.Data.{push, load, store, assign, reserve, forget, receive, send, keep, bump, unary, binary, condition, upto, Fate, kept, gone}
-use Rattle.machine.specs.Instructions.{Loc, lc, Instr, END, DO, IF, JUMP, ENTER, LEAVE, CALL, RETURN, GO, NEXT}
-use Rattle.names.specs.Program.{Name, Sort, Sign, positive, negative, negation, Expression, number, logical, name, call, signed, operated, chosen, nested, Expressions, done, then, count, Element, value, while, step, Statement, dummy, assignment, procedure, when, either, repeat, compound, block, Statements, last, first, Declarations, none as no-more, variables, declare, Procedure, heading}
-use Rattle.names.specs.Scopes.{Thing, variable, routine, formal, Scope, ofBlock, ofBody, nameOf, sortOf, same, Meaning, declared, given, nothing, meaning}
+use Rattle.machine.specs.Data.{Act, push, load, store, assign, reserve, forget, receive, send, keep, bump, unary, binary, lend, channel, sum, condition, upto, Fate, kept, gone}
+use Rattle.machine.specs.Instructions.{Loc, lc, fnd, Instr, END, DO, IF, JUMP, ENTER, LEAVE, CALL, RETURN, GO, NEXT, NAME, WORK, SEEK, PASS, REFUSE}
+use Rattle.names.specs.Program.{Name, Sort, Sign, positive, negative, negation, Expression, number, logical, name, call, signed, operated, chosen, nested, Expressions, done, then, count, firstSymbol, Element, value, while, step, Statement, dummy, assignment, procedure, when, either, repeat, compound, block, Statements, last, first, Declarations, none as no-more, variables, declare, Procedure, heading}
+use Rattle.names.specs.Scopes.{Thing, variable, routine, formal, by-name, Scope, ofBlock, ofBody, nameOf, sortOf, modesOf, same, Meaning, declared, given, nothing, meaning}
 use Rattle.rules.specs.Entered.{cellsIn, placeIn, declaring, bodyOfThis}
-use Rattle.rules.specs.Calls.{Primary, held, function, absolute, greatest, no-primary, primary, Command, routine-of, absolute-of, greatest-of, input-to, output-of, no-command, command}
-use Rattle.rules.specs.Rules.{binaryOf, maxint, at}
+use Rattle.rules.specs.Calls.{Primary, held, worked, function, absolute, greatest, no-primary, primary, Command, routine-of, absolute-of, greatest-of, input-to, output-of, no-command, command, Way, direct, sought, way}
+use Rattle.rules.specs.Rules.{binaryOf, maxint, at, Spot, here, there}
 
 -- ---- what the translator knows of the scopes around, the innermost first
 
--- a block: its offset in its activation, its declarations, the address of its first procedure; a body, which begins an activation
+-- a block: its offset in its activation, its declarations, the address of its first procedure; a body, which begins an activation; a name
+-- formal's actual, whose working out is an activation without cells
 pub data Mark : Type 0 where
   blk : ℕ → Declarations → ℕ → Mark
   own : Procedure → Mark
-
-abbrev pub scopeAt : Mark → Scope
-scopeAt (blk o ds b) = ofBlock ds
-scopeAt (own p) = ofBody p
+  acl : Mark
 
 abbrev pub scopes : List Mark → List Scope
 scopes [] = []
-scopes (m ∷ g) = scopeAt m ∷ scopes g
-
-abbrev pub offset : Mark → ℕ
-offset (blk o ds b) = o
-offset (own p) = 0
+scopes (blk o ds b ∷ g) = ofBlock ds ∷ scopes g
+scopes (own p ∷ g) = ofBody p ∷ scopes g
+scopes (acl ∷ g) = scopes g
 
 -- how many cells of the running activation the scopes have
 abbrev pub reach : List Mark → ℕ
 reach [] = 0
-reach (m ∷ g) = offset m + cellsIn (scopeAt m)
+reach (blk o ds b ∷ g) = o + cellsIn (ofBlock ds)
+reach (own p ∷ g) = cellsIn (ofBody p)
+reach (acl ∷ g) = 0
 
 -- outward to a scope of a kind, and how many activations that is
 unfoldable pub cutG : (Scope → Bool) → List Mark → List Mark
 cutG t [] = []
-cutG t (m ∷ g) = cond (t (scopeAt m)) (m ∷ g) (cutG t g)
+cutG t (blk o ds b ∷ g) = cond (t (ofBlock ds)) (blk o ds b ∷ g) (cutG t g)
+cutG t (own p ∷ g) = cond (t (ofBody p)) (own p ∷ g) (cutG t g)
+cutG t (acl ∷ g) = cutG t g
 
 unfoldable pub levels : (Scope → Bool) → List Mark → ℕ
 levels t [] = 0
 levels t (blk o ds b ∷ g) = cond (t (ofBlock ds)) 0 (levels t g)
 levels t (own p ∷ g) = cond (t (ofBody p)) 0 (suc (levels t g))
+levels t (acl ∷ g) = suc (levels t g)
 
 abbrev pub amongG : List Mark → Name → ℕ
 amongG [] x = 0
-amongG (m ∷ g) x = offset m + placeIn (scopeAt m) x
+amongG (blk o ds b ∷ g) x = o + placeIn (ofBlock ds) x
+amongG (own p ∷ g) x = placeIn (ofBody p) x
+amongG (acl ∷ g) x = 0
 
 abbrev pub offsetOf : List Mark → ℕ
 offsetOf [] = 0
-offsetOf (m ∷ g) = offset m
+offsetOf (blk o ds b ∷ g) = o
+offsetOf (own p ∷ g) = 0
+offsetOf (acl ∷ g) = 0
 
 -- a variable or formal; or the result of the procedure around
 abbrev pub locFor : List Mark → Thing → Name → Loc
 locFor g (variable t) x = lc (levels (declaring x) g) (amongG (cutG (declaring x) g) x)
 locFor g (formal t) x = lc (levels (declaring x) g) (amongG (cutG (declaring x) g) x)
+locFor g (by-name t) x = lc 0 0
 locFor g (routine p) x = lc (levels (bodyOfThis p) g) (offsetOf (cutG (bodyOfThis p) g))
 
 abbrev pub locAs : List Mark → Meaning → Name → Loc
@@ -71,13 +77,18 @@ locAs g nothing x = lc 0 0
 unfoldable pub loc : List Mark → Name → Loc
 loc g x = locAs g (meaning (scopes g) x) x
 
+abbrev pub spot : List Mark → Spot → Loc
+spot g (here x) = loc g x
+spot g there = fnd
+
 -- ---- the address after the code of a tree at b; g: the scopes around
 
--- a name in an expression; f: the address after the code of its actuals
-abbrev pub endName : Primary → (ℕ → ℕ) → ℕ → ℕ
+-- a name in an expression; f: the address after the code of its actuals, by the formals' modes
+abbrev pub endName : Primary → (List Bool → ℕ → ℕ) → ℕ → ℕ
 endName held f b = suc b
-endName (function p) f b = suc (f (suc b))
-endName absolute f b = suc (f b)
+endName worked f b = suc b
+endName (function p) f b = suc (f (modesOf p) (suc b))
+endName absolute f b = suc (f [] b)
 endName greatest f b = suc b
 endName no-primary f b = b
 
@@ -87,56 +98,87 @@ endSign positive b = b
 endSign negative b = suc b
 endSign negation b = suc b
 
+-- an actual; e: the address after the code of its expression
+abbrev pub endActual : Bool → (ℕ → ℕ) → ℕ → ℕ
+endActual true e b = e b
+endActual false e b = suc (e (suc (suc (suc b))))
+
+-- actuals, the first of which ends as e says and the others as es
+abbrev pub endThen : List Bool → (ℕ → ℕ) → (List Bool → ℕ → ℕ) → ℕ → ℕ
+endThen [] e es b = es [] (e b)
+endThen (m ∷ ms) e es b = es ms (endActual m e b)
+
 unfoldable mutual
   pub endE : List Scope → Expression → ℕ → ℕ
   endE g (number q n) b = suc b
   endE g (logical q t) b = suc b
-  endE g (name x) b = endName (primary (meaning g x) done) (λ b. b) b
-  endE g (call x e es) b = endName (primary (meaning g x) (then e es)) (λ b. endEs g es (endE g e b)) b
+  endE g (name x) b = endName (primary (meaning g x) done) (λ m b. b) b
+  endE g (call x e es) b = endName (primary (meaning g x) (then e es)) (λ m b. endThen m (λ b. endE g e b) (λ m b. endEs g m es b) b) b
   endE g (signed q o e) b = endSign o (endE g e b)
   endE g (operated q o e f) b = suc (endE g f (endE g e b))
   endE g (chosen q r c e f) b = endE g f (suc (endE g e (suc (endE g c b))))
   endE g (nested q e) b = endE g e b
 
-  pub endEs : List Scope → Expressions → ℕ → ℕ
-  endEs g done b = b
-  endEs g (then e es) b = endEs g es (endE g e b)
+  pub endEs : List Scope → List Bool → Expressions → ℕ → ℕ
+  endEs g m done b = b
+  endEs g m (then e es) b = endThen m (λ b. endE g e b) (λ m b. endEs g m es b) b
 
-unfoldable pub endL : List Scope → List Element → ℕ → ℕ
-endL g [] b = b
-endL g (value e ∷ l) b = endL g l (suc (suc (endE g e b)))
-endL g (while q e c ∷ l) b = endL g l (suc (suc (endE g c (suc (endE g e b)))))
-endL g (step q e f h ∷ l) b = endL g l (suc (suc (suc (suc (suc (endE g h (endE g f (suc (endE g e b)))))))))
+-- a store: a name formal's is worked out before
+unfoldable pub endWay : Way → ℕ → ℕ
+endWay direct b = suc b
+endWay sought b = suc (suc b)
+
+abbrev pub endStore : List Scope → Name → ℕ → ℕ
+endStore g x b = endWay (way (meaning g x)) b
+
+-- a step element from the instruction on that holds step and bound: the test; the jump to the body; the addition; the jump back to the test
+unfoldable pub endTest : Way → ℕ → ℕ
+endTest direct b = suc b
+endTest sought b = suc (suc b)
+
+unfoldable pub endSum : Way → ℕ → ℕ
+endSum direct b = suc b
+endSum sought b = suc (suc (suc (suc b)))
+
+unfoldable pub endL : List Scope → Name → List Element → ℕ → ℕ
+endL g x [] b = b
+endL g x (value e ∷ l) b = endL g x l (suc (endStore g x (endE g e b)))
+endL g x (while q e c ∷ l) b = endL g x l (suc (suc (endE g c (endStore g x (endE g e b)))))
+endL g x (step q e f h ∷ l) b = endL g x l (suc (endSum (way (meaning g x)) (suc (endTest (way (meaning g x)) (suc (endE g h (endE g f (endStore g x (endE g e b)))))))))
 
 -- where the elements go on: at b, or behind the loop
 abbrev pub onward : List Element → ℕ → ℕ → ℕ
 onward [] b n = n
 onward (x ∷ l) b n = b
 
-unfoldable pub endStores : List Name → ℕ → ℕ
-endStores [] b = suc b
-endStores (y ∷ ys) b = endStores ys (suc b)
+unfoldable pub endStores : List Scope → Name → List Name → ℕ → ℕ
+endStores g x [] b = endStore g x b
+endStores g x (y ∷ ys) b = endStores g y ys (endStore g x b)
 
-abbrev pub endCall : List Scope → Option Sort → Expressions → ℕ → ℕ
-endCall g none es b = suc (endEs g es b)
-endCall g (some t) es b = suc (endEs g es (suc b))
+abbrev pub endCall : List Scope → Option Sort → List Bool → Expressions → ℕ → ℕ
+endCall g none m es b = suc (endEs g m es b)
+endCall g (some t) m es b = suc (endEs g m es (suc b))
+
+unfoldable pub endTake : Way → ℕ → ℕ
+endTake direct b = suc b
+endTake sought b = suc (suc (suc b))
 
 abbrev pub endCommand : List Scope → Command → Expressions → ℕ → ℕ
-endCommand g (routine-of p) es b = endCall g (sortOf p) es b
+endCommand g (routine-of p) es b = endCall g (sortOf p) (modesOf p) es b
 endCommand g (absolute-of e) es b = suc (suc (endE g e b))
 endCommand g greatest-of es b = suc (suc b)
-endCommand g (input-to e y) es b = suc (endE g e b)
+endCommand g (input-to e y) es b = endTake (way (meaning g y)) (endE g e b)
 endCommand g (output-of e f) es b = suc (endE g f (endE g e b))
 endCommand g no-command es b = b
 
 unfoldable mutual
   pub endS : List Scope → Statement → ℕ → ℕ
   endS g dummy b = b
-  endS g (assignment x xs q e) b = endStores xs (endE g e b)
+  endS g (assignment x xs q e) b = endStores g x xs (endE g e b)
   endS g (procedure x es) b = endCommand g (command (meaning g x) es) es b
   endS g (when q c s) b = endS g s (suc (endE g c b))
   endS g (either q c s t) b = endS g t (suc (endS g s (suc (endE g c b))))
-  endS g (repeat x l ls s) b = suc (endS g s (endL g (l ∷ ls) b))
+  endS g (repeat x l ls s) b = suc (endS g s (endL g x (l ∷ ls) b))
   endS g (compound ss) b = endSs g ss b
   endS g (block q ds ss) b = suc (endSs (ofBlock ds ∷ g) ss (endDs (ofBlock ds ∷ g) ds (suc b)))
 
@@ -162,6 +204,7 @@ abbrev pub target : List Mark → Name → ℕ
 target [] x = 0
 target (blk o ds b ∷ g) x = entry (ofBlock ds ∷ scopes g) ds b x
 target (own p ∷ g) x = 0
+target (acl ∷ g) x = 0
 
 -- ---- the code; g: the scopes around
 
@@ -170,13 +213,54 @@ module _ (place : ℕ → ℕ) where
   abbrev pub CALLS : List Mark → Name → ℕ → Fate → Instr
   CALLS g x n f = CALL (at place x) (target (cutG (declaring x) g) x) (levels (declaring x) g) n f
 
-  -- a name in an expression, with n actuals; c: their code
-  abbrev pub codeName : Primary → List Mark → Name → ℕ → (ℕ → List Instr → List Instr) → ℕ → List Instr → List Instr
+  -- a name formal: which it is of its activation, and how far out that is
+  abbrev pub WORKS : List Mark → Name → Instr
+  WORKS g x = WORK (at place x) (levels (declaring x) g) (amongG (cutG (declaring x) g) x)
+
+  abbrev pub SEEKS : List Mark → Name → Instr
+  SEEKS g x = SEEK (at place x) (levels (declaring x) g) (amongG (cutG (declaring x) g) x)
+
+  abbrev pub PASSES : List Mark → Name → Instr
+  PASSES g x = PASS (at place x) (levels (declaring x) g) (amongG (cutG (declaring x) g) x)
+
+  -- a name in an expression, with n actuals; c: their code, by the formals' modes
+  abbrev pub codeName : Primary → List Mark → Name → ℕ → (List Bool → ℕ → List Instr → List Instr) → ℕ → List Instr → List Instr
   codeName held g x n c b r = DO (load (at place x) (loc g x)) ∷ r
-  codeName (function p) g x n c b r = DO (reserve (at place x)) ∷ c (suc b) (CALLS g x (suc n) kept ∷ r)
-  codeName absolute g x n c b r = c b (DO (unary (at place x) Values.absolute) ∷ r)
+  codeName worked g x n c b r = WORKS g x ∷ r
+  codeName (function p) g x n c b r = DO (reserve (at place x)) ∷ c (modesOf p) (suc b) (CALLS g x (suc n) kept ∷ r)
+  codeName absolute g x n c b r = c [] b (DO (unary (at place x) Values.absolute) ∷ r)
   codeName greatest g x n c b r = DO (push (at place x) maxint) ∷ r
   codeName no-primary g x n c b r = r
+
+  -- the store part of an actual's code; g: the scopes around it, the actual's own mark among them
+  abbrev pub storeName : Primary → List Mark → Name → Instr
+  storeName held g y = DO (lend (loc g y))
+  storeName worked g y = PASSES g y
+  storeName (function p) g y = REFUSE
+  storeName absolute g y = REFUSE
+  storeName greatest g y = REFUSE
+  storeName no-primary g y = REFUSE
+
+  abbrev pub storePart : List Mark → Expression → Instr
+  storePart g (number q n) = REFUSE
+  storePart g (logical q t) = REFUSE
+  storePart g (name y) = storeName (primary (meaning (scopes g) y) done) g y
+  storePart g (call y e es) = REFUSE
+  storePart g (signed q o e) = REFUSE
+  storePart g (operated q o e f) = REFUSE
+  storePart g (chosen q q' c e f) = REFUSE
+  storePart g (nested q e) = REFUSE
+
+  -- an actual. A name formal's cell holds the address behind NAME: there is the store part, and two behind it the read part, each an activation's
+  -- code, so one level further in. c: the code of the expression; f: where that ends
+  abbrev pub codeActual : Bool → List Mark → Expression → (ℕ → ℕ) → (List Mark → ℕ → List Instr → List Instr) → ℕ → List Instr → List Instr
+  codeActual true g e f c b r = c g b r
+  codeActual false g e f c b r =
+      NAME (place (firstSymbol e)) (endActual false f b) ∷ storePart (acl ∷ g) e ∷ RETURN ∷ c (acl ∷ g) (suc (suc (suc b))) (RETURN ∷ r)
+
+  abbrev pub codeThen : List Bool → List Mark → Expression → (ℕ → ℕ) → (List Mark → ℕ → List Instr → List Instr) → (List Bool → ℕ → List Instr → List Instr) → ℕ → List Instr → List Instr
+  codeThen [] g e f c cs b r = c g b (cs [] (f b) r)
+  codeThen (m ∷ ms) g e f c cs b r = codeActual m g e f c b (cs ms (endActual m f b) r)
 
   abbrev pub codeSign : ℕ → Sign → List Instr → List Instr
   codeSign q positive r = r
@@ -187,9 +271,9 @@ module _ (place : ℕ → ℕ) where
     pub codeE : List Mark → Expression → ℕ → List Instr → List Instr
     codeE g (number q n) b r = DO (push (place q) (pos n)) ∷ r
     codeE g (logical q t) b r = DO (push (place q) (truth t)) ∷ r
-    codeE g (name x) b r = codeName (primary (meaning (scopes g) x) done) g x 0 (λ b r. r) b r
+    codeE g (name x) b r = codeName (primary (meaning (scopes g) x) done) g x 0 (λ m b r. r) b r
     codeE g (call x e es) b r =
-        codeName (primary (meaning (scopes g) x) (then e es)) g x (suc (count es)) (λ b r. codeE g e b (codeEs g es (endE (scopes g) e b) r)) b r
+        codeName (primary (meaning (scopes g) x) (then e es)) g x (suc (count es)) (λ m b r. codeThen m g e (λ b. endE (scopes g) e b) (λ g b r. codeE g e b r) (λ m b r. codeEs g m es b r) b r) b r
     codeE g (signed q o e) b r = codeE g e b (codeSign q o r)
     codeE g (operated q o e f) b r = codeE g e b (codeE g f (endE (scopes g) e b) (DO (binary (place q) (binaryOf o)) ∷ r))
     codeE g (chosen q q' c e f) b r =
@@ -198,46 +282,68 @@ module _ (place : ℕ → ℕ) where
         codeE g c b (IF condition (suc n) ∷ codeE g e (suc m) (JUMP (endE (scopes g) f (suc n)) ∷ codeE g f (suc n) r))
     codeE g (nested q e) b r = codeE g e b r
 
-    pub codeEs : List Mark → Expressions → ℕ → List Instr → List Instr
-    codeEs g done b r = r
-    codeEs g (then e es) b r = codeE g e b (codeEs g es (endE (scopes g) e b) r)
+    pub codeEs : List Mark → List Bool → Expressions → ℕ → List Instr → List Instr
+    codeEs g m done b r = r
+    codeEs g m (then e es) b r = codeThen m g e (λ b. endE (scopes g) e b) (λ g b r. codeE g e b r) (λ m b r. codeEs g m es b r) b r
+
+  -- a store; i: of the value in the newest cell, the last or another left part
+  unfoldable pub codeWay : Way → List Mark → Name → (Spot → Act Loc) → List Instr → List Instr
+  codeWay direct g x i r = DO (i (here x)) ∷ r
+  codeWay sought g x i r = SEEKS g x ∷ DO (i there) ∷ r
+
+  abbrev pub codeStore : List Mark → Name → List Instr → List Instr
+  codeStore g x r = codeWay (way (meaning (scopes g) x)) g x (λ c. store (spot g c)) r
+
+  -- the test of a step element, which goes on at n where the loop is left; the addition
+  unfoldable pub codeTest : Way → List Mark → Name → ℕ → List Instr → List Instr
+  codeTest direct g x n r = IF (upto (at place x) (loc g x)) n ∷ r
+  codeTest sought g x n r = SEEKS g x ∷ IF (upto (at place x) fnd) n ∷ r
+
+  unfoldable pub codeSum : Way → List Mark → ℕ → Name → List Instr → List Instr
+  codeSum direct g q x r = DO (bump (place q) (loc g x)) ∷ r
+  codeSum sought g q x r = SEEKS g x ∷ DO (sum (place q) fnd) ∷ SEEKS g x ∷ DO (store fnd) ∷ r
 
   -- the elements of a for statement, nested in m others of its activation: s is where its body begins, n where it ends
   unfoldable pub codeL : List Mark → ℕ → Name → List Element → ℕ → ℕ → ℕ → List Instr → List Instr
   codeL g m x [] s n b r = r
   codeL g m x (value e ∷ l) s n b r =
-      let a = suc (suc (endE (scopes g) e b)) in
-      codeE g e b (DO (store (loc g x)) ∷ GO m s (onward l a n) ∷ codeL g m x l s n a r)
+      let a = suc (endStore (scopes g) x (endE (scopes g) e b)) in
+      codeE g e b (codeStore g x (GO m s (onward l a n) ∷ codeL g m x l s n a r))
   codeL g m x (while q e c ∷ l) s n b r =
-      let a = suc (endE (scopes g) e b) in
+      let a = endStore (scopes g) x (endE (scopes g) e b) in
       let k = suc (suc (endE (scopes g) c a)) in
-      codeE g e b (DO (store (loc g x)) ∷ codeE g c a (IF condition (onward l k n) ∷ GO m s b ∷ codeL g m x l s n k r))
+      codeE g e b (codeStore g x (codeE g c a (IF condition (onward l k n) ∷ GO m s b ∷ codeL g m x l s n k r)))
   codeL g m x (step q e f h ∷ l) s n b r =
-      let a = suc (endE (scopes g) e b) in
+      let a = endStore (scopes g) x (endE (scopes g) e b) in
+      let w = way (meaning (scopes g) x) in
       let i = endE (scopes g) h (endE (scopes g) f a) in
-      let k = suc (suc (suc (suc (suc i)))) in
+      let t = endTest w (suc i) in
+      let k = suc (endSum w (suc t)) in
       codeE g e b
-      (DO (store (loc g x)) ∷
-      codeE g f a
+      (codeStore g x
+      (codeE g f a
       (codeE g h (endE (scopes g) f a)
-      (DO keep ∷
-      IF (upto (at place x) (loc g x)) (onward l k n) ∷
-      GO m s (suc (suc (suc i))) ∷ DO (bump (place q) (loc g x)) ∷ JUMP (suc i) ∷ codeL g m x l s n k r)))
+      (DO keep ∷ codeTest w g x (onward l k n) (GO m s (suc t) ∷ codeSum w g q x (JUMP (suc i) ∷ codeL g m x l s n k r))))))
 
   -- "A left part list takes one value, stored left to right"
   unfoldable pub codeStores : List Mark → Name → List Name → List Instr → List Instr
-  codeStores g x [] r = DO (store (loc g x)) ∷ r
-  codeStores g x (y ∷ ys) r = DO (assign (loc g x)) ∷ codeStores g y ys r
+  codeStores g x [] r = codeStore g x r
+  codeStores g x (y ∷ ys) r = codeWay (way (meaning (scopes g) x)) g x (λ c. assign (spot g c)) (codeStores g y ys r)
 
-  abbrev pub codeCall : List Mark → Option Sort → Name → Expressions → ℕ → List Instr → List Instr
-  codeCall g none x es b r = codeEs g es b (CALLS g x (count es) gone ∷ r)
-  codeCall g (some t) x es b r = DO (reserve (at place x)) ∷ codeEs g es (suc b) (CALLS g x (suc (count es)) gone ∷ r)
+  abbrev pub codeCall : List Mark → Option Sort → List Bool → Name → Expressions → ℕ → List Instr → List Instr
+  codeCall g none m x es b r = codeEs g m es b (CALLS g x (count es) gone ∷ r)
+  codeCall g (some t) m x es b r = DO (reserve (at place x)) ∷ codeEs g m es (suc b) (CALLS g x (suc (count es)) gone ∷ r)
+
+  -- ininteger's second actual
+  unfoldable pub codeTake : Way → List Mark → ℕ → Name → List Instr → List Instr
+  codeTake direct g q y r = DO (receive q (loc g y)) ∷ r
+  codeTake sought g q y r = DO (channel q) ∷ SEEKS g y ∷ DO (receive q fnd) ∷ r
 
   abbrev pub codeCommand : Command → List Mark → Name → Expressions → ℕ → List Instr → List Instr
-  codeCommand (routine-of p) g x es b r = codeCall g (sortOf p) x es b r
+  codeCommand (routine-of p) g x es b r = codeCall g (sortOf p) (modesOf p) x es b r
   codeCommand (absolute-of e) g x es b r = codeE g e b (DO (unary (at place x) Values.absolute) ∷ DO forget ∷ r)
   codeCommand greatest-of g x es b r = DO (push (at place x) maxint) ∷ DO forget ∷ r
-  codeCommand (input-to e y) g x es b r = codeE g e b (DO (receive (at place x) (loc g y)) ∷ r)
+  codeCommand (input-to e y) g x es b r = codeE g e b (codeTake (way (meaning (scopes g) y)) g (at place x) y r)
   codeCommand (output-of e f) g x es b r = codeE g e b (codeE g f (endE (scopes g) e b) (DO (send (at place x)) ∷ r))
   codeCommand no-command g x es b r = r
 
@@ -255,7 +361,7 @@ module _ (place : ℕ → ℕ) where
         let n = endS (scopes g) s (suc i) in
         codeE g c b (IF condition (suc n) ∷ codeS g m s (suc i) (JUMP (endS (scopes g) t (suc n)) ∷ codeS g m t (suc n) r))
     codeS g m (repeat x l ls s) b r =
-        let i = endL (scopes g) (l ∷ ls) b in
+        let i = endL (scopes g) x (l ∷ ls) b in
         codeL g m x (l ∷ ls) i (suc (endS (scopes g) s i)) b (codeS g (suc m) s i (NEXT m ∷ r))
     codeS g m (compound ss) b r = codeSs g m ss b r
     -- a block's opening instruction carries the address of its first statement: procedures lie between, and nothing is done for a declaration
