@@ -1,21 +1,21 @@
--- The counts stay small: no node adds more than six to one, nor opens more than one thing. So behind i nodes the counts are at most 65,536, which a
--- place or a kind may be, and six a node; the second number of each thing that is open is a word of 32 bits, or what a use means.
+-- The counts stay small: no node adds more than ten to one, nor opens more than one thing. So behind i nodes the counts are at most 65,536, which a
+-- place or a kind may be, and ten a node; the second number of each thing that is open is a word of 32 bits, or what a use means.
 use mathlib.Core.Path.{subst}
 use mathlib.Core.Bool.{Bool, true, false, cond, _||_}
 use mathlib.Core.List.{List, [], _∷_}
-use Prim.Native.Nat.{ℕ, _+_, _-_, _≤_, _<_}
+use Prim.Native.Nat.{ℕ, _+_, _-_, _%_, _≤_, _<_}
 use native.Mathlib.Omega.{arith}
-use lib.Dec.{eqb}
+use lib.Dec.{eqb, ltb}
 use lib.ListN.{getD}
-use Rattle.machine.specs.Instructions.{high, mid}
+use Rattle.machine.specs.Instructions.{high, mid, low}
 use Rattle.grammar.specs.NodeKinds.{n-block, n-statements, n-variable, n-procedure, n-formal, n-procedure-end, n-then, n-else, n-start, n-once, n-while, n-do, n-for-end, n-left, n-assign, n-unary, n-binary, n-number, n-logical, n-use, n-call, n-call-end, n-actual}
 use Rattle.names.specs.Rows.{isUse}
 use Rattle.emitting.specs.Layout.{packed}
-use Rattle.emitting.specs.Emission.{Used, State, Opened, put, withOpen, withSlot, noted, within, withLefts, withVariable, withUses, withCell, withEntry, top, pushed, popped, replaced, kindNext, meansNext, othersNext, signed, largest, cellOf, resultOf, calledWith, resultFor, dropped, named, namedOr, calling, actualIn, callEnded, repeated, useNode, element, bodied, stepping, elementNode, loopNode, choiceNode, blockNode, procedureNode, leftsOf, assigned, plainNode, isElement, isChoice, isBlock, codeNode}
+use Rattle.emitting.specs.Emission.{Used, State, Opened, put, withOpen, withSlot, noted, within, withLefts, withVariable, withUses, withCell, withEntry, top, pushed, popped, replaced, nameless, bare, onCell, formalAt, kindNext, meansNext, othersNext, signed, largest, aheadAt, cellOf, resultOf, calledWith, resultFor, dropped, named, wordOf, namedOr, lending, nameBegun, nameEnded, takenIn, callEnded, repeated, begun, calling, actualIn, useNode, element, bodied, tested, added, tests, stepping, elementNode, loopNode, choiceNode, blockNode, procedureNode, leftsOf, assigned, plainNode, isElement, isChoice, isBlock, codeNode}
 use Rattle.emitting.specs.declared.Writing.{Writing}
 use Rattle.emitting.specs.Model.{thingsOf, see, Slim, AllSlim, Small, Fit}
 use Rattle.emitting.proofs.Stacked.{length-things}
-use Rattle.emitting.proofs.LeftParts.{slim-below, fewer-below, slim-behind, fewer-behind, behind-things, length-lefts, storing}
+use Rattle.emitting.proofs.LeftParts.{slim-below, fewer-below, one-below, slim-behind, fewer-behind, behind-things, length-lefts, storing}
 
 -- ---- what is open
 
@@ -121,6 +121,23 @@ module _ {b n : ℕ} (st : State) (h : Small b n st) where
         things = (record { first = p; second = q; third = r; fourth = s }, slim-below b (st .open-ones) (h .things));
       }
 
+  -- where something is open
+  in-renewed : (v w x y : ℕ) → 1 ≤ n → v ≤ b → w < 4294967296 → x ≤ b → y ≤ b → Small b n (replaced v w x y st)
+  unfolding replaced withOpen AllSlim
+  in-renewed v w x y o p q r s =
+      let k = one-below n (st .open-ones) (h .many) o in
+      record {
+        at = h .at;
+        slots = h .slots;
+        level = h .level;
+        loops = h .loops;
+        cells = h .cells;
+        declared = h .declared;
+        variable = h .variable;
+        many = omega arith;
+        things = (record { first = p; second = q; third = r; fourth = s }, slim-below b (st .open-ones) (h .things));
+      }
+
   in-popped : Small b n (popped st)
   unfolding popped withOpen
   in-popped =
@@ -187,7 +204,7 @@ module _ {b n : ℕ} (st : State) (h : Small b n st) where
         things = h .things;
       }
 
-  in-lefts : Small (b + 1) n (withLefts (st .lefts + 1) st)
+  in-lefts : Small (b + 2) n (withLefts (st .lefts + 1) st)
   unfolding withLefts
   in-lefts =
       let a = h .at in
@@ -205,7 +222,7 @@ module _ {b n : ℕ} (st : State) (h : Small b n st) where
         declared = omega arith;
         variable = h .variable;
         many = h .many;
-        things = all-up (st .open-ones) one-more (h .things);
+        things = all-up (st .open-ones) (omega arith) (h .things);
       }
 
   in-variable : (v w : ℕ) → w < 4294967296 → Small b n (withVariable v w st)
@@ -222,6 +239,10 @@ module _ {b n : ℕ} (st : State) (h : Small b n st) where
         many = h .many;
         things = h .things;
       }
+
+  in-nameless : Small b n (nameless st)
+  unfolding nameless
+  in-nameless = in-variable (st .awaits) 0 (omega arith)
 
   in-uses : (l : List Used) → Small b n (withUses l st)
   unfolding withUses
@@ -280,6 +301,11 @@ module _ {b n : ℕ} (st : State) (h : Small b n st) where
         things = all-up (st .open-ones) one-more (h .things);
       }
 
+-- on a cell: at most two instructions
+in-on : {b n : ℕ} (st : State) → Small b n st → (o q p v : ℕ) → Small (b + 1 + 1) n (onCell o q p v st)
+unfolding onCell
+in-on st h o q p v = either (eqb (low v) 2) (in-put _ (in-put st h 41 p (bare v)) o q _) (small-up _ (in-put st h o q (bare v)) (omega arith) (omega arith))
+
 -- an operand of three parts is a word
 pub packed-word : (u o l : ℕ) → packed u o l < 4294967296
 packed-word u o l = omega arith
@@ -293,7 +319,7 @@ either-word false p q = q
 module _ (vs ly ks es : List ℕ) where
   pub cell-word : (level k m : ℕ) → cellOf vs ly ks es level k m < 4294967296
   unfolding cellOf
-  cell-word level k m = let w = getD ly m 0 in either-word (eqb k 2) (packed-word (level - (high w + 1)) 0 0) (packed-word (level - high w) (mid w) 0)
+  cell-word level k m = let w = getD ly m 0 in either-word (eqb k 2) (packed-word (level - (high w + 1)) 0 1) (packed-word (level - high w) (mid w) (cond (eqb k 4) 2 1))
 
 module _ (vs ly ks es : List ℕ) {b n : ℕ} (st : State) (h : Small b n st) where
   in-called : (k m a u p : ℕ) → Small (b + 1) n (calledWith vs ly ks es k m a u p st)
@@ -318,21 +344,21 @@ module _ (vs ly ks es : List ℕ) {b n : ℕ} (st : State) (h : Small b n st) wh
   in-named k m u p =
       either (eqb k 0) (in-dropped vs ly ks es _ (in-put st h 12 p largest) u)
       (either (eqb k 2) (in-called vs ly ks es _ (in-result vs ly ks es st h k m p) k m 0 u p)
-      (small-up _ (in-put st h 13 p _) (omega arith) (omega arith)))
+      (small-up _ (in-put st h _ p _) (omega arith) (omega arith)))
 
-  in-named-or : (k m u p : ℕ) → Small (b + 1 + 1) n (namedOr vs ly ks es k m u p st)
+  word-word : (k m d : ℕ) → wordOf vs ly ks es k m d st < 4294967296
+  unfolding wordOf
+  word-word k m d = either-word (eqb k 0 || eqb k 2) (omega arith) (either-word (eqb d (top (st .open-ones) .fourth)) (cell-word vs ly ks es (st .level) k m) (omega arith))
+
+  in-named-or : (k m u p d : ℕ) → Small (b + 1 + 1) n (namedOr vs ly ks es k m u p d st)
   unfolding namedOr
-  in-named-or k m u p =
-      either (eqb (st .awaits) 0) (in-named k m u p)
+  in-named-or k m u p d =
+      either (eqb (st .awaits) 0) (in-variable _ (in-named k m u p) 0 _ (word-word k m d))
       (in-variable st (small-up st h (omega arith) (omega arith)) 0 _ (cell-word vs ly ks es (st .level) k m))
 
-  in-calling : (k m p : ℕ) → k ≤ b → m < 4294967296 → Small (b + 1) (n + 1) (calling vs ly ks es k m p st)
-  unfolding calling
-  in-calling k m p q r = in-pushed _ (in-result vs ly ks es st h k m p) k m 0 0 (omega arith) r (omega arith) (omega arith)
-
-  in-left : (k m : ℕ) → Small (b + 1) (n + 1) (withLefts (st .lefts + 1) (pushed 0 (cellOf vs ly ks es (st .level) k m) 0 0 st))
+  in-left : (k m p : ℕ) → p ≤ b → Small (b + 2) (n + 1) (withLefts (st .lefts + 1) (pushed 0 (cellOf vs ly ks es (st .level) k m) p 0 st))
   unfolding pushed withOpen
-  in-left k m = in-lefts _ (in-pushed st h 0 _ 0 0 (omega arith) (cell-word vs ly ks es (st .level) k m) (omega arith) (omega arith))
+  in-left k m p q = in-lefts _ (in-pushed st h 0 _ p 0 (omega arith) (cell-word vs ly ks es (st .level) k m) q (omega arith))
 
   in-repeated : (k m p : ℕ) → p ≤ b → Small (b + 1) (n + 1) (repeated vs ly ks es k m p st)
   unfolding repeated
@@ -340,28 +366,75 @@ module _ (vs ly ks es : List ℕ) {b n : ℕ} (st : State) (h : Small b n st) wh
       let a = h .at in
       in-slot _ (in-pushed st h (st .slots) _ p (st .at) (h .slots) (cell-word vs ly ks es (st .level) k m) q (omega arith))
 
-  in-use : (i k m u p a : ℕ) → k ≤ b → m < 4294967296 → p ≤ b → Small (b + 6) (n + 1) (useNode vs ly ks es i k m u p a st)
+  in-lending : (w p : ℕ) → Small (b + 1) n (lending vs ly ks es w p st)
+  unfolding lending
+  in-lending w p = either (eqb (low w) 0) (in-put st h 44 0 0) (either (eqb (low w) 1) (in-put st h 43 0 _) (in-put st h 42 p _))
+
+  in-name-ended : (f : Opened) (p : ℕ) → Small (b + 1) n (nameEnded vs ly ks es f p st)
+  unfolding nameEnded
+  in-name-ended f p =
+      let x = h .level in
+      let y = h .loops in
+      let z = h .cells in
+      in-noted _ (in-noted _ (in-noted _ (in-within _ (in-put st h 7 0 0) (st .level - 1) (st .loops) (st .cells) (omega arith) (omega arith) (omega arith)) _ _) _ _) _ _
+
+  in-taken-in : (p q : ℕ) → Small (b + 1 + 1 + 1) n (takenIn vs ly ks es p q st)
+  unfolding takenIn
+  in-taken-in p q = in-on _ (either (eqb (low (st .variable)) 2) (in-put st h 45 p 0) (small-up st h (omega arith) (omega arith))) 18 p q (st .variable)
+
+-- an actual begins: three instructions, three slots
+module _ (vs ly ks es : List ℕ) {b n : ℕ} (st : State) (h : Small b n st) (m j d : ℕ) (o : 1 ≤ n) (p : m < 4294967296) (q : j ≤ b) (r : d ≤ b) where
+  in-name-begun : Small (b + 4 + 1 + 1 + 1) n (nameBegun vs ly ks es m j d st)
+  unfolding nameBegun
+  in-name-begun =
+      let x = h .level in
+      let y = h .loops in
+      let z = h .cells in
+      let w = h .slots in
+      let c = in-put _ (in-lending vs ly ks es _ (in-put st h 39 (aheadAt vs ly ks es (st .slots + 1) % 65536) (aheadAt vs ly ks es (st .slots))) (aheadAt vs ly ks es (st .slots + 2)) (aheadAt vs ly ks es (st .slots + 1) % 65536)) 7 0 0 in
+      let e = in-renewed _ (small-up _ c {d = b + 4} {m = n} (omega arith) (omega arith)) (4 + st .slots) m j d o (omega arith) p (omega arith) (omega arith) in
+      in-within _ (in-slot _ (in-slot _ (in-slot _ e))) (st .level + 1) (st .loops) (st .cells) (omega arith) (omega arith) (omega arith)
+
+  in-begun : (rows : List ℕ) → Small (b + 4 + 1 + 1 + 1) n (begun vs ly ks es rows m j d st)
+  unfolding begun
+  in-begun rows = either (eqb (formalAt rows (m + 1 + j)) 2) in-name-begun (small-up st h (omega arith) (omega arith))
+
+module _ (vs ly ks es rows : List ℕ) {b n : ℕ} (st : State) (h : Small b n st) (g : 2 ≤ b) where
+  in-calling : (k m p a : ℕ) → k ≤ b → m < 4294967296 → a + 1 ≤ b → Small (b + 10) (n + 1) (calling vs ly ks es rows k m p a st)
+  unfolding calling
+  in-calling k m p a q r s =
+      let e = in-result vs ly ks es st h k m p in
+      either (eqb k 2)
+      (small-up _ (in-begun vs ly ks es _ (in-pushed _ e 2 m 0 (a + 1) (omega arith) r (omega arith) (omega arith)) m 0 (a + 1) (omega arith) r (omega arith) (omega arith) rows) (omega arith) (omega arith))
+      (small-up _ (in-pushed _ e k m 0 0 (omega arith) r (omega arith) (omega arith)) (omega arith) (omega arith))
+
+  in-use : (i k m u p a : ℕ) → k ≤ b → m < 4294967296 → p ≤ b → a + 1 ≤ b → Small (b + 10) (n + 1) (useNode vs ly ks es rows i k m u p a st)
   unfolding useNode
-  in-use i k m u p a q r s =
-      either (eqb i n-use) (small-up _ (in-named-or k m u p) (omega arith) (omega arith))
-      (either (eqb i n-call) (small-up _ (in-calling k m p q r) (omega arith) (omega arith))
-      (either (eqb i n-left) (small-up _ (in-left k m) (omega arith) (omega arith))
-      (small-up _ (in-repeated k m p s) (omega arith) (omega arith))))
+  in-use i k m u p a q r s t =
+      either (eqb i n-use) (small-up _ (in-named-or vs ly ks es st h k m u p a) (omega arith) (omega arith))
+      (either (eqb i n-call) (in-calling k m p a q r t)
+      (either (eqb i n-left) (small-up _ (in-left vs ly ks es st h k m p s) (omega arith) (omega arith))
+      (small-up _ (in-repeated vs ly ks es st h k m p s) (omega arith) (omega arith))))
 
-  in-actual : (f : Opened) → Slim b f → Small (b + 6) (n + 1) (actualIn vs ly ks es f st)
+  in-actual : (f : Opened) → Slim b f → (p : ℕ) → p ≤ b → Small (b + 10) (n + 1) (actualIn vs ly ks es rows f p st)
   unfolding actualIn
-  in-actual f s =
-      let x = s .first in
+  in-actual f s p q =
       let y = s .third in
-      in-variable _ (in-replaced st (small-up st h (omega arith) (omega arith)) (f .first) (f .second) (f .third + 1) 0 (omega arith) (s .second) (omega arith) (omega arith)) _ _ (h .variable)
+      let z = s .fourth in
+      let e = either (ltb (f .first) 4) (small-up st h (omega arith) (omega arith)) (in-name-ended vs ly ks es st h f p) in
+      either (eqb (f .first) 0)
+      (in-variable _ (in-replaced st (small-up st h (omega arith) (omega arith)) 0 (f .second) (f .third + 1) p (omega arith) (s .second) (omega arith) (omega arith)) _ _ (h .variable))
+      (small-up _ (in-begun vs ly ks es _ (in-replaced _ e 2 (f .second) (f .third + 1) (f .fourth) (omega arith) (s .second) (omega arith) (omega arith)) (f .second) (f .third + 1) (f .fourth) (omega arith) (s .second) (omega arith) (omega arith) rows) (omega arith) (omega arith))
 
-  in-call-ended : (f : Opened) (p u : ℕ) → Small (b + 6) (n + 1) (callEnded vs ly ks es f p u st)
+module _ (vs ly ks es : List ℕ) {b n : ℕ} (st : State) (h : Small b n st) where
+  in-call-ended : (f : Opened) (p u : ℕ) → Small (b + 10) (n + 1) (callEnded vs ly ks es f p u st)
   unfolding callEnded
   in-call-ended f p u =
-      either (eqb (f .first) 2) (small-up _ (in-called vs ly ks es st h 2 (f .second) (f .third) u p) (omega arith) (omega arith))
+      in-nameless _
+      (either (eqb (f .first) 2) (small-up _ (in-called vs ly ks es st h 2 (f .second) (f .third) u p) (omega arith) (omega arith))
       (either (eqb (f .second) 0) (small-up _ (in-dropped vs ly ks es _ (in-put st h 24 p 0) u) (omega arith) (omega arith))
-      (either (eqb (f .second) 2) (small-up _ (in-put st h 18 p _) (omega arith) (omega arith))
-      (small-up _ (in-put st h 19 p 0) (omega arith) (omega arith))))
+      (either (eqb (f .second) 2) (small-up _ (in-taken-in vs ly ks es st h p (f .fourth)) (omega arith) (omega arith))
+      (small-up _ (in-put st h 19 p 0) (omega arith) (omega arith)))))
 
   -- ---- for statements
 
@@ -371,20 +444,33 @@ module _ (vs ly ks es : List ℕ) {b n : ℕ} (st : State) (h : Small b n st) wh
       let a = h .at in
       in-noted _ (in-slot _ (in-replaced st h (f .first) (f .second) (f .third) (st .at) (s .first) (s .second) (s .third) (omega arith))) _ _
 
-  in-stepping : (f : Opened) (p : ℕ) → Small (b + 1 + 1 + 1 + 1 + 1) n (stepping vs ly ks es f p st)
+  in-tested : (q v w : ℕ) → Small (b + 1 + 1) n (tested vs ly ks es q v w st)
+  unfolding tested
+  in-tested q v w = either (eqb (low v) 2) (in-put _ (in-put st h 41 q _) 11 q _) (small-up _ (in-put st h 11 q _) (omega arith) (omega arith))
+
+  in-added : (q v p : ℕ) → Small (b + 1 + 1 + 1 + 1) n (added vs ly ks es q v p st)
+  unfolding added
+  in-added q v p = either (eqb (low v) 2) (in-on _ (in-on st h 46 p q v) 14 0 q v) (small-up _ (in-put st h 21 p _) (omega arith) (omega arith))
+
+module _ (vs ly ks es : List ℕ) {b n : ℕ} (st : State) (h : Small b n st) where
+  in-tests : (f : Opened) → Small (b + 1 + 1 + 1) n (tests vs ly ks es f st)
+  unfolding tests
+  in-tests f = in-tested vs ly ks es _ (in-put st h 20 0 0) (f .third) (f .second) _
+
+  in-stepping : (f : Opened) (p : ℕ) → Small (b + 9) n (stepping vs ly ks es f p st)
   unfolding stepping
-  in-stepping f p = in-put _ (in-put _ (in-bodied vs ly ks es _ (in-put _ (in-put st h 20 0 0) 11 (f .third) _) f _) 21 p (f .second)) 2 0 _
+  in-stepping f p = small-up _ (in-put _ (in-added vs ly ks es _ (in-bodied vs ly ks es _ (in-tests f) f _) (f .third) (f .second) p) 2 0 _) (omega arith) (omega arith)
 
 module _ (vs ly ks es : List ℕ) {b n : ℕ} (st : State) (h : Small b n st) (f : Opened) (s : Slim b f) where
-  in-elements : (k p : ℕ) → Small (b + 6) (n + 1) (elementNode vs ly ks es k f p st)
+  in-elements : (k p : ℕ) → Small (b + 10) (n + 1) (elementNode vs ly ks es k f p st)
   unfolding elementNode
   in-elements k p =
-      either (eqb k n-start) (small-up _ (in-put st h 14 0 (f .second)) (omega arith) (omega arith))
+      either (eqb k n-start) (small-up _ (in-on st h 14 0 (f .third) (f .second)) (omega arith) (omega arith))
       (either (eqb k n-once) (small-up _ (in-element vs ly ks es _ (in-bodied vs ly ks es st h f _) f (slim-up f (omega arith) s)) (omega arith) (omega arith))
       (either (eqb k n-while) (small-up _ (in-element vs ly ks es _ (in-bodied vs ly ks es _ (in-put st h 10 0 _) f _) f (slim-up f (omega arith) s)) (omega arith) (omega arith))
       (small-up _ (in-element vs ly ks es _ (in-stepping vs ly ks es st h f p) f (slim-up f (omega arith) s)) (omega arith) (omega arith))))
 
-  in-loop : (k : ℕ) → Small (b + 6) (n + 1) (loopNode vs ly ks es k f st)
+  in-loop : (k : ℕ) → Small (b + 10) (n + 1) (loopNode vs ly ks es k f st)
   unfolding loopNode
   in-loop k =
       let x = h .slots in
@@ -397,7 +483,7 @@ module _ (vs ly ks es : List ℕ) {b n : ℕ} (st : State) (h : Small b n st) (f
 
   -- ---- conditions, blocks, procedures
 
-  in-choice : (k : ℕ) → Small (b + 6) (n + 1) (choiceNode vs ly ks es k f st)
+  in-choice : (k : ℕ) → Small (b + 10) (n + 1) (choiceNode vs ly ks es k f st)
   unfolding choiceNode
   in-choice k =
       let x = h .slots in
@@ -405,9 +491,9 @@ module _ (vs ly ks es : List ℕ) {b n : ℕ} (st : State) (h : Small b n st) (f
       (small-up _ (in-slot _ (in-pushed _ (in-put st h 10 0 _) (st .slots) 0 0 0 (omega arith) (omega arith) (omega arith) (omega arith))) (omega arith) (omega arith))
       (either (eqb k n-else)
       (small-up _ (in-noted _ (in-slot _ (in-replaced _ (in-put st h 2 0 _) (st .slots) 0 0 0 (omega arith) (omega arith) (omega arith) (omega arith))) _ _) (omega arith) (omega arith))
-      (small-up _ (in-noted _ (in-popped st h) _ _) (omega arith) (omega arith)))
+      (small-up _ (in-nameless _ (in-noted _ (in-popped st h) _ _)) (omega arith) (omega arith)))
 
-  in-block : (k p : ℕ) → Small (b + 6) (n + 1) (blockNode vs ly ks es k f p st)
+  in-block : (k p : ℕ) → Small (b + 10) (n + 1) (blockNode vs ly ks es k f p st)
   unfolding blockNode
   in-block k p =
       let x = h .slots in
@@ -421,7 +507,7 @@ module _ (vs ly ks es : List ℕ) {b n : ℕ} (st : State) (h : Small b n st) (f
       (small-up _ (in-noted _ (in-replaced st h (f .first) 0 (st .cells) (f .fourth) (s .first) (omega arith) (h .cells) (s .fourth)) _ _) (omega arith) (omega arith))
       (small-up _ (in-within _ (in-popped _ (in-put st h 4 0 _)) (st .level) (st .loops) (f .fourth) (omega arith) (omega arith) (omega arith)) (omega arith) (omega arith)))
 
-  in-procedure : (k : ℕ) → Small (b + 6) (n + 1) (procedureNode vs ly ks es k f st)
+  in-procedure : (k : ℕ) → Small (b + 10) (n + 1) (procedureNode vs ly ks es k f st)
   unfolding procedureNode
   in-procedure k =
       let y = h .loops in
@@ -439,7 +525,7 @@ unfolding signed
 in-signed st h k p = either (eqb k 19) (in-put st h 23 p 0) (either (eqb k 23) (in-put st h 22 p 0) (small-up st h (omega arith) (omega arith)))
 
 module _ (vs ly ks es : List ℕ) {b n : ℕ} (st : State) (h : Small b n st) where
-  -- as many instructions as there were left parts
+  -- no more than twice as many instructions as there were left parts
   in-assigned : Small b n (assigned vs ly ks es st)
   unfolding assigned withLefts withOpen
   in-assigned =
@@ -473,29 +559,29 @@ module _ (vs ly ks es : List ℕ) {b n : ℕ} (st : State) (h : Small b n st) wh
         things = slim-behind vs ly ks es b (st .lefts) (st .open-ones) (h .things);
       }
 
-  in-plain : (k q p a : ℕ) → Small (b + 6) (n + 1) (plainNode vs ly ks es k q p a st)
+  in-plain : (k q p a : ℕ) → Small (b + 10) (n + 1) (plainNode vs ly ks es k q p a st)
   unfolding plainNode
   in-plain k q p a =
       let y = h .loops in
       let z = h .level in
       let w = h .cells in
-      either (eqb k n-number) (small-up _ (in-put st h 12 p _) (omega arith) (omega arith))
-      (either (eqb k n-logical) (small-up _ (in-put st h 12 p a) (omega arith) (omega arith))
-      (either (eqb k n-unary) (small-up _ (in-signed st h a p) (omega arith) (omega arith))
-      (either (eqb k n-binary) (small-up _ (in-put st h _ p 0) (omega arith) (omega arith))
+      either (eqb k n-number) (small-up _ (in-nameless _ (in-put st h 12 p _)) (omega arith) (omega arith))
+      (either (eqb k n-logical) (small-up _ (in-nameless _ (in-put st h 12 p a)) (omega arith) (omega arith))
+      (either (eqb k n-unary) (small-up _ (in-nameless _ (in-signed st h a p)) (omega arith) (omega arith))
+      (either (eqb k n-binary) (small-up _ (in-nameless _ (in-put st h _ p 0)) (omega arith) (omega arith))
       (either (eqb k n-assign) (small-up _ in-assigned (omega arith) (omega arith))
       (either (eqb k n-variable) (small-up _ (in-cell _ (in-within st (small-up st h {d = b + 1} {m = n} (omega arith) (omega arith)) (st .level) (st .loops) (st .cells + 1) (omega arith) (omega arith) (omega arith))) (omega arith) (omega arith))
       (either (eqb k n-formal) (small-up _ (in-cell st h) (omega arith) (omega arith))
       (small-up st h (omega arith) (omega arith))))))))
 
   -- what a node adds
-  pub small-node : 65536 ≤ b → (k y p a c : ℕ) → p < 65536 → kindNext (st .uses) < 65536 → meansNext (st .uses) < 65536 → Small (b + 6) (n + 1) (codeNode vs ly ks es k y p a c st)
+  pub small-node : (rows : List ℕ) → 65536 ≤ b → (k y p a c : ℕ) → p < 65536 → a < 65536 → kindNext (st .uses) < 65536 → meansNext (st .uses) < 65536 → Small (b + 10) (n + 1) (codeNode vs ly ks es rows k y p a c st)
   unfolding codeNode
-  small-node q k y p a c r i j =
+  small-node rows q k y p a c r t i j =
       let f = top (st .open-ones) in
       let s = slim-top b (st .open-ones) (h .things) in
-      either (isUse k) (in-use vs ly ks es _ (in-uses st h (othersNext (st .uses))) k _ _ c p a (omega arith) (omega arith) (omega arith))
-      (either (eqb k n-actual) (in-actual vs ly ks es st h f s)
+      either (isUse k) (in-use vs ly ks es rows _ (in-uses st h (othersNext (st .uses))) (omega arith) k _ _ c p a (omega arith) (omega arith) (omega arith) (omega arith))
+      (either (eqb k n-actual) (in-actual vs ly ks es rows st h (omega arith) f s p (omega arith))
       (either (eqb k n-call-end) (in-call-ended vs ly ks es _ (in-popped st h) f p c)
       (either (isElement vs ly ks es k) (in-elements vs ly ks es st h f s k p)
       (either (eqb k n-do || eqb k n-for-end) (in-loop vs ly ks es st h f s k)
@@ -521,7 +607,7 @@ small-alone t us op co ah en h =
       things = h .things;
     }
 
-pub fit : (t : Writing) (op : List ℕ) → Small 131071 8191 (see t [] op [] [] []) → Fit t
+pub fit : (t : Writing) (op : List ℕ) → Small 262143 8191 (see t [] op [] [] []) → Fit t
 fit t op h =
     let a = h .at in
     let c = h .slots in
@@ -533,6 +619,6 @@ fit t op h =
     let l = length-things (t .open) op in
     record { at = omega arith; slots = omega arith; level = omega arith; loops = omega arith; cells = omega arith; declared = omega arith; variable = h .variable; open-ones = omega arith }
 
--- a left part's word
-pub left-word : (b m n : ℕ) (op : List ℕ) → AllSlim b (thingsOf m op) → top (thingsOf (m - n) op) .second < 4294967296
-left-word b m n op h = slim-top b (thingsOf (m - n) op) (subst (AllSlim b) (behind-things [] [] [] [] n m op) (slim-behind [] [] [] [] b n (thingsOf m op) h)) .second
+-- a left part's place
+pub left-third : (b m n : ℕ) (op : List ℕ) → AllSlim b (thingsOf m op) → top (thingsOf (m - n) op) .third ≤ b
+left-third b m n op h = slim-top b (thingsOf (m - n) op) (subst (AllSlim b) (behind-things [] [] [] [] n m op) (slim-behind [] [] [] [] b n (thingsOf m op) h)) .third

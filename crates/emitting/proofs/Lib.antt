@@ -1,4 +1,5 @@
 pub mod Spreading
+pub mod Alikes
 pub mod Stacked
 pub mod NextUses
 pub mod LeftParts

@@ -2,16 +2,16 @@
 use mathlib.Core.Path.{_≡_, refl, ap, _∙_}
 use mathlib.Core.Bool.{Bool, true, false, cond}
 use mathlib.Core.List.{List, [], _∷_}
-use Prim.Native.Nat.{ℕ, zero, suc, _+_, _*_, _-_, _<_, _≤_}
+use Prim.Native.Nat.{ℕ, zero, suc, _+_, _*_, _-_, _%_, _<_, _≤_}
 use native.Mathlib.Omega.{arith}
-use lib.Dec.{ltb}
+use lib.Dec.{eqb, ltb}
 use lib.ListN.{length, getD, drop}
 use borrow.Author.Tests.{ltb-true, ltb-false}
 use Rattle.names.specs.Rows.{meantOf}
 use Rattle.names.specs.declared.Meant.the-variants.{Declared, Given, Nothing}
 use Rattle.answers.specs.declared.Declaration.{Declaration}
 use Rattle.answers.specs.declared.Environment.{Environment}
-use Rattle.emitting.specs.Emission.{usedAs, usesIn, kindNext, meansNext, othersNext}
+use Rattle.emitting.specs.Emission.{formalAt, usedAs, usesIn, kindNext, meansNext, othersNext}
 
 module _ (rows : List ℕ) where
   -- there is one
@@ -52,10 +52,14 @@ module _ (rows : List ℕ) where
   unfolding usedAs meantOf
   used-small w s = go (ltb w 8192) (ltb w 8196)
     where
+      kind : (b : Bool) → cond b 4 (getD rows (4 * w) 0 % 65536 - 4) < 65536
+      kind true = omega arith
+      kind false = omega arith
+
       go : (b c : Bool)
           → (usedAs rows (cond b (Declared (record { number = w })) (cond c (Given (record { number = w - 8192 })) Nothing)) .kind < 65536)
           × (usedAs rows (cond b (Declared (record { number = w })) (cond c (Given (record { number = w - 8192 })) Nothing)) .means < 65536)
-      go true c = (omega arith, s)
+      go true c = (kind (eqb (formalAt rows w) 2), s)
       go false true = (omega arith, omega arith)
       go false false = (omega arith, omega arith)
 
@@ -90,10 +94,10 @@ given-small w d e = go (ltb w 8192) refl (ltb w 8196) refl e
     go false l false l' e = absurd (let z : _≡_ {A = ℕ} 0 1 = cc in omega arith)
 
 module _ (rows : List ℕ) (w : ℕ) {k m : ℕ} where
-  pub declared-use : (d : Declaration) {v : ℕ} → meantOf w ≡ Declared d → v ≡ getD rows (4 * d .number) 0 → v < 65536 → k ≡ v - 4 → m ≡ d .number
+  pub declared-use : (d : Declaration) → meantOf w ≡ Declared d → k ≡ cond (eqb (formalAt rows (d .number)) 2) 4 (getD rows (4 * d .number) 0 % 65536 - 4) → m ≡ d .number
       → (k ≡ usedAs rows (meantOf w) .kind) × (m ≡ usedAs rows (meantOf w) .means)
   unfolding usedAs
-  declared-use d e f l i j = rw e (omega arith, j)
+  declared-use d e i j = rw e (i, j)
 
   pub given-use : (d : Environment) → meantOf w ≡ Given d → k ≡ 0 → m ≡ d .number → (k ≡ usedAs rows (meantOf w) .kind) × (m ≡ usedAs rows (meantOf w) .means)
   unfolding usedAs

@@ -4,8 +4,8 @@ use mathlib.Core.Path.{_≡_, ap, _∙_}
 use mathlib.Core.List.{List, []}
 use Rattle.emitting.specs.Emission.{Used, emitted, codeOf}
 
-pub second-run : (r : ℕ) (p : ℕ → ℕ) (v l n : List ℕ) (u : List Used) {m : ℕ} {a e ws : List ℕ} → ws ≡ emitted v l a e m p n u .code → m ≡ r → a ≡ emitted v l [] [] r p n u .ahead → e ≡ emitted v l [] [] r p n u .entries
-    → ws ≡ codeOf r p v l n u
+pub second-run : (r : ℕ) (p : ℕ → ℕ) (v l rows n : List ℕ) (u : List Used) {m : ℕ} {a e ws : List ℕ} → ws ≡ emitted v l a e rows m p n u .code → m ≡ r → a ≡ emitted v l [] [] rows r p n u .ahead → e ≡ emitted v l [] [] rows r p n u .entries
+    → ws ≡ codeOf r p v l rows n u
 unfolding codeOf
-second-run r p v l n u {m} {a} {e} q k f g =
-    q ∙ ap (λ x. emitted v l a e x p n u .code) k ∙ ap (λ x. emitted v l x e r p n u .code) f ∙ ap (λ x. emitted v l (emitted v l [] [] r p n u .ahead) x r p n u .code) g
+second-run r p v l rows n u {m} {a} {e} q k f g =
+    q ∙ ap (λ x. emitted v l a e rows x p n u .code) k ∙ ap (λ x. emitted v l x e rows r p n u .code) f ∙ ap (λ x. emitted v l (emitted v l [] [] rows r p n u .ahead) x rows r p n u .code) g

@@ -6,7 +6,7 @@ use mathlib.Core.Bool.{Bool, cond, _&&_, _||_}
 use mathlib.Core.List.{List, [], _∷_}
 use lib.Dec.{eqb, ltb}
 use lib.ListN.{getD, set, replicate}
-use Rattle.machine.specs.Instructions.{high, mid}
+use Rattle.machine.specs.Instructions.{high, mid, low}
 use Rattle.grammar.specs.NodeKinds.{n-block, n-statements, n-block-end, n-variable, n-procedure, n-formal, n-procedure-end, n-then, n-else, n-if-end, n-start, n-once, n-while, n-step, n-do, n-for-end, n-left, n-assign, n-condition-end, n-unary, n-binary, n-number, n-logical, n-use, n-call, n-call-end, n-actual}
 use Rattle.names.specs.Rows.{foldNodes, isUse, meantOf}
 use Rattle.names.specs.declared.Meant.{Meant}
@@ -15,14 +15,19 @@ use Rattle.emitting.specs.Layout.{packed, declarationRoom}
 
 -- ---- uses
 
--- kind: 0 environment, 1 variable, 2 procedure, 3 formal; means: the declaration's number, or the environment's
+-- kind: 0 environment, 1 variable, 2 procedure, 3 formal called by value, 4 formal called by name; means: the declaration's number, or the
+-- environment's
 pub record Used : Type 0 where
   pub kind : ℕ
   pub means : ℕ
 
+-- row i as a formal's: 0 it is of no formal, 1 called by value, 2 called by name
+unfoldable pub formalAt : List ℕ → ℕ → ℕ
+formalAt rows i = cond (eqb (getD rows (4 * i) 0) n-formal) (cond (ltb (getD rows (4 * i + 3) 0) 4) 1 2) 0
+
 -- of a declaration the kind stands in its row, a word of 16 bits; nothing, which no accepted program has, is zeros
 unfoldable pub usedAs : List ℕ → Meant → Used
-usedAs rows (Declared d) = record { kind = getD rows (4 * d .number) 0 % 65536 - 4; means = d .number }
+usedAs rows (Declared d) = record { kind = cond (eqb (formalAt rows (d .number)) 2) 4 (getD rows (4 * d .number) 0 % 65536 - 4); means = d .number }
 usedAs rows (Given e) = record { kind = 0; means = e .number }
 usedAs rows Nothing = record { kind = 0; means = 0 }
 
@@ -63,8 +68,8 @@ opened a b c d = record { first = a; second = b; third = c; fourth = d }
 
 -- the uses to come; the address of the next instruction; how many addresses lie ahead so far; the activations and the for
 -- statements of the running one that are around; the variables of the block so far; the left parts before; 1 where a name stands that a number is
--- taken to, and the last such variable; how many declarations and formals there were; what is open, newest first; the words; the addresses that lay
--- ahead; those of procedures, by their declarations' numbers
+-- taken to; the word of the name that was the last node, 0 where it was no such name; how many declarations and formals there were; what is open,
+-- newest first; the words; the addresses that lay ahead; those of procedures, by their declarations' numbers
 pub record State : Type 0 where
   pub uses : List Used
   pub at : ℕ
@@ -154,6 +159,23 @@ popped st = withOpen (below (st .open-ones)) st
 unfoldable pub replaced : ℕ → ℕ → ℕ → ℕ → State → State
 replaced a b c d st = withOpen (opened a b c d ∷ below (st .open-ones)) st
 
+-- the last node was no name
+unfoldable pub nameless : State → State
+nameless st = withVariable (st .awaits) 0 st
+
+-- ---- words: where a name's cell lies, and in the low part 1 for one that has it, 2 for a formal called by name, whose cell is sought
+
+-- as an operand; and that of the cell found
+unfoldable pub bare : ℕ → ℕ
+bare v = packed (high v) (mid v) 0
+
+abbrev pub foundWord : ℕ
+foundWord = packed 0 8191 0
+
+-- an operation on the cell of a name at p, whose own place is q
+unfoldable pub onCell : ℕ → ℕ → ℕ → ℕ → State → State
+onCell o q p v st = cond (eqb (low v) 2) (put o q foundWord (put 41 p (bare v) st)) (put o q (bare v) st)
+
 -- ---- operators, by their symbols' kinds: 17 'and', 18 'or', 20 'impl', 21 'equiv', 22 `+` to 31 `#`; 19 is 'not'
 
 unfoldable pub operationOf : ℕ → ℕ
@@ -172,11 +194,11 @@ module _ (values layout ahead entries : List ℕ) where
   unfoldable pub aheadAt : ℕ → ℕ
   aheadAt i = getD ahead i 0
 
-  -- a use of kind k that means m, as a variable; of a procedure its result
+  -- the word of a use of kind k that means m; of a procedure that of its result
   unfoldable pub cellOf : ℕ → ℕ → ℕ → ℕ
   cellOf level k m =
       let w = getD layout m 0 in
-      cond (eqb k 2) (packed (level - (high w + 1)) 0 0) (packed (level - high w) (mid w) 0)
+      cond (eqb k 2) (packed (level - (high w + 1)) 0 1) (packed (level - high w) (mid w) (cond (eqb k 4) 2 1))
 
   -- 1 where it is a procedure with a result
   unfoldable pub resultOf : ℕ → ℕ → ℕ
@@ -194,43 +216,81 @@ module _ (values layout ahead entries : List ℕ) where
   unfoldable pub dropped : ℕ → State → State
   dropped u st = cond (eqb u 0) st (put 17 0 0 st)
 
-  -- a name alone; a variable, a procedure, maxint
+  -- a name alone; a variable or formal, a procedure, maxint
   unfoldable pub named : ℕ → ℕ → ℕ → ℕ → State → State
   named k m u p st =
       cond (eqb k 0) (dropped u (put 12 p largest st))
       (cond (eqb k 2) (calledWith k m 0 u p (resultFor k m p st))
-      (put 13 p (cellOf (st .level) k m) st))
+      (put (cond (eqb k 4) 40 13) p (bare (cellOf (st .level) k m)) st))
+
+  -- the word that an actual has which is this name and nothing else, not even in parentheses: those are deeper, by d, than the call that is open
+  unfoldable pub wordOf : ℕ → ℕ → ℕ → State → ℕ
+  wordOf k m d st = cond (eqb k 0 || eqb k 2) 0 (cond (eqb d (top (st .open-ones) .fourth)) (cellOf (st .level) k m) 0)
 
   -- the second actual of ininteger is stored to, not loaded
-  unfoldable pub namedOr : ℕ → ℕ → ℕ → ℕ → State → State
-  namedOr k m u p st = cond (eqb (st .awaits) 0) (named k m u p st) (withVariable 0 (cellOf (st .level) k m) st)
+  unfoldable pub namedOr : ℕ → ℕ → ℕ → ℕ → ℕ → State → State
+  namedOr k m u p d st =
+      cond (eqb (st .awaits) 0) (withVariable 0 (wordOf k m d st) (named k m u p st)) (withVariable 0 (cellOf (st .level) k m) st)
 
-  -- an open call: kind, meaning, actuals so far
-  unfoldable pub calling : ℕ → ℕ → ℕ → State → State
-  calling k m p st = pushed k m 0 0 (resultFor k m p st)
+  -- the store part of an actual, by its word
+  unfoldable pub lending : ℕ → ℕ → State → State
+  lending w p st = cond (eqb (low w) 0) (put 44 0 0 st) (cond (eqb (low w) 1) (put 43 0 (bare w) st) (put 42 p (bare w) st))
 
-  unfoldable pub actualIn : Opened → State → State
-  actualIn c st =
-      withVariable (cond (eqb (c .first) 0 && (eqb (c .second) 2 && eqb (c .third) 0)) 1 0) (st .variable)
-      (replaced (c .first) (c .second) (c .third + 1) 0 st)
+  -- actual j of a call of the procedure m, whose formal is called by name, d deep, begins: three slots, of where it ends, its place and its word. The
+  -- open call's first number is then 4 and the first of the slots
+  unfoldable pub nameBegun : ℕ → ℕ → ℕ → State → State
+  nameBegun m j d st =
+      within (st .level + 1) (st .loops) (st .cells)
+      (withSlot (withSlot (withSlot (replaced (4 + st .slots) m j d
+      (put 7 0 0
+      (lending (aheadAt (st .slots + 2)) (aheadAt (st .slots + 1) % 65536)
+      (put 39 (aheadAt (st .slots + 1) % 65536) (aheadAt (st .slots)) st)))))))
 
+  -- it ends; p: the place of its first symbol
+  unfoldable pub nameEnded : Opened → ℕ → State → State
+  nameEnded c p st =
+      noted (c .first - 4) (packed 0 0 (st .at + 1))
+      (noted (c .first - 4 + 1) p
+      (noted (c .first - 4 + 2) (st .variable) (within (st .level - 1) (st .loops) (st .cells) (put 7 0 0 st))))
+
+  -- what is taken in goes to the cell of the last name, at q
+  unfoldable pub takenIn : ℕ → ℕ → State → State
+  takenIn p q st = onCell 18 p q (st .variable) (cond (eqb (low (st .variable)) 2) (put 45 p 0 st) st)
+
+  -- an open call: 2, the procedure, actuals so far and how deep they are; or 0, what the environment gives, actuals so far and the place of the last
   unfoldable pub callEnded : Opened → ℕ → ℕ → State → State
   callEnded c p u st =
-      cond (eqb (c .first) 2) (calledWith 2 (c .second) (c .third) u p st)
+      nameless
+      (cond (eqb (c .first) 2) (calledWith 2 (c .second) (c .third) u p st)
       (cond (eqb (c .second) 0) (dropped u (put 24 p 0 st))
-      (cond (eqb (c .second) 2) (put 18 p (st .variable) st)
-      (put 19 p 0 st)))
+      (cond (eqb (c .second) 2) (takenIn p (c .fourth) st)
+      (put 19 p 0 st))))
 
   -- a for statement with its elements: slot of the body's address, the variable, its place, the address of the element
   unfoldable pub repeated : ℕ → ℕ → ℕ → State → State
   repeated k m p st = withSlot (pushed (st .slots) (cellOf (st .level) k m) p (st .at) st)
 
-  unfoldable pub useNode : ℕ → ℕ → ℕ → ℕ → ℕ → ℕ → State → State
-  useNode n k m b p a st =
-      cond (eqb n n-use) (namedOr k m b p st)
-      (cond (eqb n n-call) (calling k m p st)
-      (cond (eqb n n-left) (withLefts (st .lefts + 1) (pushed 0 (cellOf (st .level) k m) 0 0 st))
-      (repeated k m p st)))
+  -- rows: of the declarations, which tell how formals are called
+  module _ (rows : List ℕ) where
+    -- actual j of a call of the procedure m begins, d deep
+    unfoldable pub begun : ℕ → ℕ → ℕ → State → State
+    begun m j d st = cond (eqb (formalAt rows (m + 1 + j)) 2) (nameBegun m j d st) st
+
+    unfoldable pub calling : ℕ → ℕ → ℕ → ℕ → State → State
+    calling k m p a st = cond (eqb k 2) (begun m 0 (a + 1) (pushed 2 m 0 (a + 1) (resultFor k m p st))) (pushed k m 0 0 (resultFor k m p st))
+
+    -- an actual ends, whose first symbol's place is p, and the next begins
+    unfoldable pub actualIn : Opened → ℕ → State → State
+    actualIn c p st =
+        cond (eqb (c .first) 0) (withVariable (cond (eqb (c .second) 2 && eqb (c .third) 0) 1 0) (st .variable) (replaced 0 (c .second) (c .third + 1) p st))
+        (begun (c .second) (c .third + 1) (c .fourth) (replaced 2 (c .second) (c .third + 1) (c .fourth) (cond (ltb (c .first) 4) st (nameEnded c p st))))
+
+    unfoldable pub useNode : ℕ → ℕ → ℕ → ℕ → ℕ → ℕ → State → State
+    useNode n k m b p a st =
+        cond (eqb n n-use) (namedOr k m b p a st)
+        (cond (eqb n n-call) (calling k m p a st)
+        (cond (eqb n n-left) (withLefts (st .lefts + 1) (pushed 0 (cellOf (st .level) k m) p 0 st))
+        (repeated k m p st)))
 
   -- behind an element: it goes on there, if it is not the last
   unfoldable pub element : Opened → State → State
@@ -240,16 +300,24 @@ module _ (values layout ahead entries : List ℕ) where
   unfoldable pub bodied : Opened → ℕ → State → State
   bodied f r st = put 8 0 (packed (st .loops) r (aheadAt (f .first))) st
 
-  -- the five instructions of a step element
+  -- the test of a step element, on the cell of a name at q with the word v; w: where it goes on
+  unfoldable pub tested : ℕ → ℕ → ℕ → State → State
+  tested q v w st = cond (eqb (low v) 2) (put 11 q (packed 0 8191 w) (put 41 q (bare v) st)) (put 11 q (packed (high v) (mid v) w) st)
+
+  -- the addition; p: the place of 'step'
+  unfoldable pub added : ℕ → ℕ → ℕ → State → State
+  added q v p st = cond (eqb (low v) 2) (onCell 14 0 q v (onCell 46 p q v st)) (put 21 p (bare v) st)
+
+  -- a step element: step and bound held, the test, the body, the addition, back to the test
+  unfoldable pub tests : Opened → State → State
+  tests f st = tested (f .third) (f .second) (aheadAt (st .slots)) (put 20 0 0 st)
+
   unfoldable pub stepping : Opened → ℕ → State → State
-  stepping f p st =
-      put 2 0 (packed 0 0 (st .at + 1))
-      (put 21 p (f .second)
-      (bodied f (st .at + 3) (put 11 (f .third) (packed (high (f .second)) (mid (f .second)) (aheadAt (st .slots))) (put 20 0 0 st))))
+  stepping f p st = put 2 0 (packed 0 0 (st .at + 1)) (added (f .third) (f .second) p (bodied f (tests f st .at + 1) (tests f st)))
 
   unfoldable pub elementNode : ℕ → Opened → ℕ → State → State
   elementNode k f p st =
-      cond (eqb k n-start) (put 14 0 (f .second) st)
+      cond (eqb k n-start) (onCell 14 0 (f .third) (f .second) st)
       (cond (eqb k n-once) (element f (bodied f (aheadAt (st .slots)) st))
       (cond (eqb k n-while) (element f (bodied f (f .fourth) (put 10 0 (packed 0 0 (aheadAt (st .slots))) st)))
       (element f (stepping f p st))))
@@ -265,7 +333,7 @@ module _ (values layout ahead entries : List ℕ) where
   choiceNode k c st =
       cond (eqb k n-then) (withSlot (pushed (st .slots) 0 0 0 (put 10 0 (packed 0 0 (aheadAt (st .slots))) st)))
       (cond (eqb k n-else) (noted (c .first) (packed 0 0 (st .at + 1)) (withSlot (replaced (st .slots) 0 0 0 (put 2 0 (packed 0 0 (aheadAt (st .slots))) st))))
-      (noted (c .first) (packed 0 0 (st .at)) (popped st)))
+      (nameless (noted (c .first) (packed 0 0 (st .at)) (popped st))))
 
   -- a block: slot of its cells and its first statement; its own variables, and those of the block around
   unfoldable pub blockNode : ℕ → Opened → ℕ → State → State
@@ -283,8 +351,8 @@ module _ (values layout ahead entries : List ℕ) where
   -- left parts, from the first to the last
   unfoldable pub stored : List Opened → State → State
   stored [] st = st
-  stored (x ∷ []) st = put 14 0 (x .second) st
-  stored (x ∷ y ∷ l) st = stored (y ∷ l) (put 15 0 (x .second) st)
+  stored (x ∷ []) st = onCell 14 0 (x .third) (x .second) st
+  stored (x ∷ y ∷ l) st = stored (y ∷ l) (onCell 15 0 (x .third) (x .second) st)
 
   unfoldable pub leftsOf : ℕ → List Opened → List Opened → List Opened
   leftsOf zero l acc = acc
@@ -300,10 +368,10 @@ module _ (values layout ahead entries : List ℕ) where
   -- of the symbol s, whose place is p
   unfoldable pub plainNode : ℕ → ℕ → ℕ → ℕ → State → State
   plainNode k s p a st =
-      cond (eqb k n-number) (put 12 p (getD values s 0) st)
-      (cond (eqb k n-logical) (put 12 p a st)
-      (cond (eqb k n-unary) (signed a p st)
-      (cond (eqb k n-binary) (put (operationOf a) p 0 st)
+      cond (eqb k n-number) (nameless (put 12 p (getD values s 0) st))
+      (cond (eqb k n-logical) (nameless (put 12 p a st))
+      (cond (eqb k n-unary) (nameless (signed a p st))
+      (cond (eqb k n-binary) (nameless (put (operationOf a) p 0 st))
       (cond (eqb k n-assign) (assigned st)
       (cond (eqb k n-variable) (withCell (within (st .level) (st .loops) (st .cells + 1) st))
       (cond (eqb k n-formal) (withCell st)
@@ -318,29 +386,30 @@ module _ (values layout ahead entries : List ℕ) where
   abbrev pub isBlock : ℕ → Bool
   isBlock k = eqb k n-block || (eqb k n-statements || eqb k n-block-end)
 
-  -- what a node adds
-  unfoldable pub codeNode : ℕ → ℕ → ℕ → ℕ → ℕ → State → State
-  codeNode k s p a b st =
-      cond (isUse k) (useNode k (kindNext (st .uses)) (meansNext (st .uses)) b p a (withUses (othersNext (st .uses)) st))
-      (cond (eqb k n-actual) (actualIn (top (st .open-ones)) st)
-      (cond (eqb k n-call-end) (callEnded (top (st .open-ones)) p b (popped st))
-      (cond (isElement k) (elementNode k (top (st .open-ones)) p st)
-      (cond (eqb k n-do || eqb k n-for-end) (loopNode k (top (st .open-ones)) st)
-      (cond (isChoice k) (choiceNode k (top (st .open-ones)) st)
-      (cond (isBlock k) (blockNode k (top (st .open-ones)) p st)
-      (cond (eqb k n-procedure || eqb k n-procedure-end) (procedureNode k (top (st .open-ones)) st)
-      (plainNode k s p a st))))))))
+  module _ (rows : List ℕ) where
+    -- what a node adds
+    unfoldable pub codeNode : ℕ → ℕ → ℕ → ℕ → ℕ → State → State
+    codeNode k s p a b st =
+        cond (isUse k) (useNode rows k (kindNext (st .uses)) (meansNext (st .uses)) b p a (withUses (othersNext (st .uses)) st))
+        (cond (eqb k n-actual) (actualIn rows (top (st .open-ones)) p st)
+        (cond (eqb k n-call-end) (callEnded (top (st .open-ones)) p b (popped st))
+        (cond (isElement k) (elementNode k (top (st .open-ones)) p st)
+        (cond (eqb k n-do || eqb k n-for-end) (loopNode k (top (st .open-ones)) st)
+        (cond (isChoice k) (choiceNode k (top (st .open-ones)) st)
+        (cond (isBlock k) (blockNode k (top (st .open-ones)) p st)
+        (cond (eqb k n-procedure || eqb k n-procedure-end) (procedureNode k (top (st .open-ones)) st)
+        (plainNode k s p a st))))))))
 
-  -- a node, whose symbol's place is looked up
-  abbrev pub placedNode : (ℕ → ℕ) → ℕ → ℕ → ℕ → ℕ → State → State
-  placedNode place k s a b st = codeNode k s (place s) a b st
+    -- a node, whose symbol's place is looked up
+    abbrev pub placedNode : (ℕ → ℕ) → ℕ → ℕ → ℕ → ℕ → State → State
+    placedNode place k s a b st = codeNode k s (place s) a b st
 
-  -- all nodes, and the end
-  unfoldable pub emitted : ℕ → (ℕ → ℕ) → List ℕ → List Used → State
-  emitted room place nodes uses = put 1 0 0 (foldNodes (placedNode place) nodes (fresh room uses))
+    -- all nodes, and the end
+    unfoldable pub emitted : ℕ → (ℕ → ℕ) → List ℕ → List Used → State
+    emitted room place nodes uses = put 1 0 0 (foldNodes (placedNode place) nodes (fresh room uses))
 
 -- twice: what lies ahead is found, then the code is written
-unfoldable pub codeOf : ℕ → (ℕ → ℕ) → List ℕ → List ℕ → List ℕ → List Used → List ℕ
-codeOf room place values layout nodes uses =
-    let found = emitted values layout [] [] room place nodes uses in
-    emitted values layout (found .ahead) (found .entries) room place nodes uses .code
+unfoldable pub codeOf : ℕ → (ℕ → ℕ) → List ℕ → List ℕ → List ℕ → List ℕ → List Used → List ℕ
+codeOf room place values layout rows nodes uses =
+    let found = emitted values layout [] [] rows room place nodes uses in
+    emitted values layout (found .ahead) (found .entries) rows room place nodes uses .code

@@ -72,7 +72,7 @@ AllSlim b (f ∷ l) = Slim b f × AllSlim b l
 
 -- counts up to b, and no more than n things open
 pub record Small (b n : ℕ) (st : State) : Type 0 where
-  pub at : st .at + st .lefts ≤ b
+  pub at : st .at + 2 * st .lefts ≤ b
   pub slots : st .slots ≤ b
   pub level : st .level ≤ b
   pub loops : st .loops ≤ b
@@ -84,12 +84,12 @@ pub record Small (b n : ℕ) (st : State) : Type 0 where
 
 -- the same of a state's numbers alone
 pub record Fit (t : Writing) : Type 0 where
-  pub at : t .here .at + t .lefts < 131072
-  pub slots : t .slots < 131072
-  pub level : t .level < 131072
-  pub loops : t .loops < 131072
-  pub cells : t .cells < 131072
-  pub declared : t .declared < 131072
+  pub at : t .here .at + 2 * t .lefts < 262144
+  pub slots : t .slots < 262144
+  pub level : t .level < 262144
+  pub loops : t .loops < 262144
+  pub cells : t .cells < 262144
+  pub declared : t .declared < 262144
   pub variable : t .variable < 4294967296
   pub open-ones : t .open < 8192
 
@@ -110,5 +110,5 @@ abbrev pub freshIn : List Used → List ℕ → List ℕ → List ℕ → State
 freshIn uses code ahead entries =
     record { uses = uses; at = 0; slots = 0; level = 0; loops = 0; cells = 0; lefts = 0; awaits = 0; variable = 0; declared = 0; open-ones = []; code = code; ahead = ahead; entries = entries }
 
-abbrev pub emittedFrom : (ℕ → ℕ) → List ℕ → List ℕ → List ℕ → List ℕ → List ℕ → State → State
-emittedFrom place values layout ahead entries nodes st = put 1 0 0 (foldNodes (placedNode values layout ahead entries place) nodes st)
+abbrev pub emittedFrom : (ℕ → ℕ) → List ℕ → List ℕ → List ℕ → List ℕ → List ℕ → List ℕ → State → State
+emittedFrom place values layout ahead entries rows nodes st = put 1 0 0 (foldNodes (placedNode values layout ahead entries rows place) nodes st)

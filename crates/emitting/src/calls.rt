@@ -1,6 +1,8 @@
-// Names, calls and their actuals.
+// Names and calls.
 use crate::Thing;
 use crate::Writing;
+use crate::actuals;
+use crate::cells;
 use crate::codes;
 use crate::parts;
 use crate::putting;
@@ -10,15 +12,22 @@ use answers::Place;
 use grammar::nodes;
 use machine::operands;
 ghost use mathlib.Core.Path.{_≡_};
-ghost use mathlib.Core.Bool.{cond, _&&_};
+ghost use mathlib.Core.Bool.{cond};
 ghost use mathlib.Core.List.{List};
 ghost use Prim.Native.Nat.{ℕ, _+_, _≤_, _<_};
 ghost use lib.Dec.{eqb};
 ghost use lib.ListN.{drop};
-ghost use Rattle.emitting.specs.Emission.{Used, usesIn, kindNext, meansNext, othersNext, withUses, withLefts, pushed, cellOf, resultOf, calledWith, resultFor, dropped, named, namedOr, calling, actualIn, callEnded, repeated, useNode};
-ghost use Rattle.emitting.specs.Model.{seen, see, Slim, Fit};
+ghost use Rattle.emitting.specs.Emission.{Used, usesIn, kindNext, meansNext, othersNext, withUses, withLefts, put, pushed, cellOf, resultOf, calledWith, resultFor, dropped, named, wordOf, namedOr, calling, takenIn, callEnded, repeated, useNode};
+ghost use Rattle.emitting.specs.Model.{seen, see, Alike, Slim, Fit};
 
-// A use of kind k that means a declaration, as a variable; of a procedure its result.
+// The low part of the word of a name of kind k: 1 for one that has its cell, 2 for a formal called by name.
+fn sought(k: usize) -> usize
+    ensures { λ r. ⌜ r ≡ cond (eqb k 4) 2 1 ⌝ }
+{
+    if k == 4 { 2 } else { 1 }
+}
+
+// The word of a use of kind k that means a declaration; of a procedure that of its result.
 fn cell_of(level: usize, k: usize, d: Declaration, layout: &[u32]) -> usize
     ensures { λ r. ⌜ ((vs ks es : List ℕ) → r ≡ cellOf vs (now (layout .entry)) ks es level k (d .number)) ⌝ }
     ensures { λ r. ⌜ r < 4294967296 ⌝ }
@@ -26,9 +35,9 @@ fn cell_of(level: usize, k: usize, d: Declaration, layout: &[u32]) -> usize
     let w = parts::word_at(layout, d.number);
     let out = operands::high(w);
     if k == 2 {
-        return operands::packed(parts::less(level, out + 1), 0, 0);
+        return operands::packed(parts::less(level, out + 1), 0, 1);
     }
-    operands::packed(parts::less(level, out), operands::mid(w), 0)
+    operands::packed(parts::less(level, out), operands::mid(w), sought(k))
 }
 
 // 1 where it is a procedure with a result.
@@ -74,7 +83,7 @@ fn result_for(
 ) -> Writing
     requires { ⌜ (t .here .at < 1048576) × (place .at < 65536) ⌝ }
     ensures { λ r. ⌜ ((vs ks es : List ℕ) (us : List Used) (op ah en : List ℕ) → see r us op (now (code .exit)) ah en ≡ resultFor vs (now (layout .entry)) ks es k (d .number) (place .at) (see t us op (now (code .entry)) ah en)) ⌝ }
-    ensures { λ r. ⌜ (r .here .at ≤ t .here .at + 1) × (r .open ≡ t .open) ⌝ }
+    ensures { λ r. ⌜ Alike t r × (r .here .at ≤ t .here .at + 1) × (r .open ≡ t .open) ⌝ }
 {
     if result_of(k, d, layout) == 0 {
         return t;
@@ -93,7 +102,15 @@ fn dropped(t: Writing, u: usize, code: &mut [u32]) -> Writing
     putting::put(t, code, codes::DROP, codes::NOWHERE, 0)
 }
 
-// A name alone: a variable, a procedure, maxint.
+// The operation that reads a variable or formal.
+fn reading(k: usize) -> usize
+    ensures { λ r. ⌜ r ≡ cond (eqb k 4) 40 13 ⌝ }
+    ensures { λ r. ⌜ r < 64 ⌝ }
+{
+    if k == 4 { codes::WORK } else { codes::LOAD }
+}
+
+// A name alone: a variable or formal, a procedure, maxint.
 fn named(
     t: Writing,
     k: usize,
@@ -104,7 +121,7 @@ fn named(
     entries: &[u32],
     code: &mut [u32],
 ) -> Writing
-    requires { ⌜ (t .here .at < 131072) × (u < 65536) × (place .at < 65536) ⌝ }
+    requires { ⌜ (t .here .at < 262144) × (u < 65536) × (place .at < 65536) ⌝ }
     ensures { λ r. ⌜ ((vs ks : List ℕ) (us : List Used) (op ah en : List ℕ) → see r us op (now (code .exit)) ah en ≡ named vs (now (layout .entry)) ks (now (entries .entry)) k m u (place .at) (see t us op (now (code .entry)) ah en)) ⌝ }
 {
     if k == 0 {
@@ -128,78 +145,113 @@ fn named(
             code,
         );
     }
-    putting::put(
-        t,
-        code,
-        codes::LOAD,
-        place,
-        cell_of(t.level, k, Declaration { number: m }, layout),
-    )
+    let v = cells::bare(cell_of(t.level, k, Declaration { number: m }, layout));
+    putting::put(t, code, reading(k), place, v)
 }
 
-// The second actual of ininteger is stored to, not loaded.
+// The word that an actual has which is this name and nothing else, not even in parentheses: those are deeper, by d, than the
+// call that is open.
+fn word_of(
+    t: Writing,
+    k: usize,
+    m: usize,
+    d: usize,
+    layout: &[u32],
+    things: &[usize; 32768],
+) -> usize
+    requires { ⌜ t .open ≤ 8192 ⌝ }
+    ensures { λ r. ⌜ ((vs ks es : List ℕ) (us : List Used) (co ah en : List ℕ) → r ≡ wordOf vs (now (layout .entry)) ks es k m d (see t us (now (things .entry)) co ah en)) ⌝ }
+    ensures { λ r. ⌜ r < 4294967296 ⌝ }
+{
+    if k == 0 {
+        return 0;
+    }
+    if k == 2 {
+        return 0;
+    }
+    let c = putting::top(t, things);
+    if d == c.fourth {
+        return cell_of(t.level, k, Declaration { number: m }, layout);
+    }
+    0
+}
+
+// A name, d deep; the second actual of ininteger is stored to, not loaded.
 fn named_or(
     mut t: Writing,
     k: usize,
     m: usize,
     u: usize,
     place: Place,
+    d: usize,
     layout: &[u32],
     entries: &[u32],
+    things: &[usize; 32768],
     code: &mut [u32],
 ) -> Writing
-    requires { ⌜ (t .here .at < 131072) × (u < 65536) × (place .at < 65536) ⌝ }
-    ensures { λ r. ⌜ ((vs ks : List ℕ) (us : List Used) (op ah en : List ℕ) → see r us op (now (code .exit)) ah en ≡ namedOr vs (now (layout .entry)) ks (now (entries .entry)) k m u (place .at) (see t us op (now (code .entry)) ah en)) ⌝ }
+    requires { ⌜ (t .here .at < 262144) × (t .open ≤ 8192) × (u < 65536) × (place .at < 65536) ⌝ }
+    ensures { λ r. ⌜ ((vs ks : List ℕ) (us : List Used) (ah en : List ℕ) → see r us (now (things .entry)) (now (code .exit)) ah en ≡ namedOr vs (now (layout .entry)) ks (now (entries .entry)) k m u (place .at) d (see t us (now (things .entry)) (now (code .entry)) ah en)) ⌝ }
 {
     if t.awaits == 0 {
-        return named(t, k, m, u, place, layout, entries, code);
+        let w = word_of(t, k, m, d, layout, things);
+        let mut r = named(t, k, m, u, place, layout, entries, code);
+        r.awaits = 0;
+        r.variable = w;
+        return r;
     }
     t.awaits = 0;
     t.variable = cell_of(t.level, k, Declaration { number: m }, layout);
     t
 }
 
-// An open call: kind, meaning, actuals so far.
+// An open call, of a procedure with its actuals d deep.
 fn calling(
     t: Writing,
     k: usize,
     m: usize,
     place: Place,
+    d: usize,
+    rows: &[u16],
     layout: &[u32],
+    ahead: &[u32],
     things: &mut [usize; 32768],
     code: &mut [u32],
 ) -> Writing
-    requires { ⌜ (t .here .at < 131072) × (t .open < 8192) × (place .at < 65536) ⌝ }
-    ensures { λ r. ⌜ ((vs ks es : List ℕ) (us : List Used) (ah en : List ℕ) → see r us (now (things .exit)) (now (code .exit)) ah en ≡ calling vs (now (layout .entry)) ks es k m (place .at) (see t us (now (things .entry)) (now (code .entry)) ah en)) ⌝ }
+    requires { ⌜ (t .here .at < 262144) × (t .slots < 262144) × (t .level < 262144) × (t .open < 8192) × (m < 4294967296) × (place .at < 65536) × (d < 65536) ⌝ }
+    ensures { λ r. ⌜ ((vs es : List ℕ) (us : List Used) (ah en : List ℕ) → see r us (now (things .exit)) (now (code .exit)) ah en ≡ calling vs (now (layout .entry)) (now (ahead .entry)) es (now (rows .entry)) k m (place .at) d (see t us (now (things .entry)) (now (code .entry)) ah en)) ⌝ }
 {
     let r = result_for(t, k, Declaration { number: m }, place, layout, code);
+    if k == 2 {
+        let s = putting::push(r, things, 2, m, 0, d + 1);
+        return actuals::begun(s, m, 0, d + 1, rows, ahead, things, code);
+    }
     putting::push(r, things, k, m, 0, 0)
 }
 
-// 1 where the next actual is one that a number is taken to: the second one of ininteger.
-fn awaited(c: Thing) -> usize
-    ensures { λ r. ⌜ r ≡ cond (eqb (c .first) 0 && (eqb (c .second) 2 && eqb (c .third) 0)) 1 0 ⌝ }
+// What is taken in goes to the cell of the last name, whose place is given.
+fn taken_in(t: Writing, place: Place, name: Place, code: &mut [u32]) -> Writing
+    requires { ⌜ (t .here .at < 262144) × (place .at < 65536) × (name .at < 262144) ⌝ }
+    ensures { λ r. ⌜ ((vs ly ks es : List ℕ) (us : List Used) (op ah en : List ℕ) → see r us op (now (code .exit)) ah en ≡ takenIn vs ly ks es (place .at) (name .at) (see t us op (now (code .entry)) ah en)) ⌝ }
 {
-    if c.first == 0 {
-        if c.second == 2 {
-            if c.third == 0 {
-                return 1;
-            }
-            return 0;
-        }
-        return 0;
+    if operands::low(t.variable) == 2 {
+        let s = putting::put(t, code, codes::CHANNEL, place, 0);
+        return cells::on_cell(s, code, codes::IN, place, name, t.variable);
     }
-    0
+    cells::on_cell(t, code, codes::IN, place, name, t.variable)
 }
 
-// The end of an actual.
-pub fn actual_in(t: Writing, c: Thing, things: &mut [usize; 32768]) -> Writing
-    requires { ⌜ Fit t × Slim 131071 (seen c) ⌝ }
-    ensures { λ r. ⌜ ((vs ly ks es : List ℕ) (us : List Used) (co ah en : List ℕ) → see r us (now (things .exit)) co ah en ≡ actualIn vs ly ks es (seen c) (see t us (now (things .entry)) co ah en)) ⌝ }
+// The end of a call of what the environment gives.
+fn given_ended(t: Writing, c: Thing, place: Place, u: usize, code: &mut [u32]) -> Writing
+    requires { ⌜ Fit t × Slim 262143 (seen c) × (place .at < 65536) ⌝ }
+    ensures { λ r. ⌜ ((vs ly ks es : List ℕ) (us : List Used) (op ah en : List ℕ) → see r us op (now (code .exit)) ah en ≡ cond (eqb (c .second) 0) (dropped vs ly ks es u (put 24 (place .at) 0 (see t us op (now (code .entry)) ah en))) (cond (eqb (c .second) 2) (takenIn vs ly ks es (place .at) (c .fourth) (see t us op (now (code .entry)) ah en)) (put 19 (place .at) 0 (see t us op (now (code .entry)) ah en)))) ⌝ }
 {
-    let mut r = putting::replace(t, things, c.first, c.second, c.third + 1, 0);
-    r.awaits = awaited(c);
-    r
+    if c.second == 0 {
+        return dropped(putting::put(t, code, codes::IABS, place, 0), u, code);
+    }
+    if c.second == 2 {
+        return taken_in(t, place, Place { at: c.fourth }, code);
+    }
+    putting::put(t, code, codes::OUT, place, 0)
 }
 
 // The end of a call.
@@ -212,42 +264,38 @@ pub fn call_ended(
     entries: &[u32],
     code: &mut [u32],
 ) -> Writing
-    requires { ⌜ Fit t × Slim 131071 (seen c) × (u < 65536) × (place .at < 65536) ⌝ }
+    requires { ⌜ Fit t × Slim 262143 (seen c) × (u < 65536) × (place .at < 65536) ⌝ }
     ensures { λ r. ⌜ ((vs ks : List ℕ) (us : List Used) (op ah en : List ℕ) → see r us op (now (code .exit)) ah en ≡ callEnded vs (now (layout .entry)) ks (now (entries .entry)) (seen c) (place .at) u (see t us op (now (code .entry)) ah en)) ⌝ }
 {
     if c.first == 2 {
-        return called_with(
-            t,
-            2,
-            Declaration { number: c.second },
-            c.third,
-            u,
-            place,
-            layout,
-            entries,
-            code,
-        );
+        let d = Declaration { number: c.second };
+        let mut r = called_with(t, 2, d, c.third, u, place, layout, entries, code);
+        r.variable = 0;
+        return r;
     }
-    if c.second == 0 {
-        return dropped(putting::put(t, code, codes::IABS, place, 0), u, code);
-    }
-    if c.second == 2 {
-        return putting::put(t, code, codes::IN, place, t.variable);
-    }
-    putting::put(t, code, codes::OUT, place, 0)
+    let mut r = given_ended(t, c, place, u, code);
+    r.variable = 0;
+    r
 }
 
 // A left part.
-fn left_part(t: Writing, k: usize, m: usize, layout: &[u32], things: &mut [usize; 32768]) -> Writing
+fn left_part(
+    t: Writing,
+    k: usize,
+    m: usize,
+    place: Place,
+    layout: &[u32],
+    things: &mut [usize; 32768],
+) -> Writing
     requires { ⌜ (t .lefts < 1048576) × (t .open < 8192) ⌝ }
-    ensures { λ r. ⌜ ((vs ks es : List ℕ) (us : List Used) (co ah en : List ℕ) → see r us (now (things .exit)) co ah en ≡ withLefts (t .lefts + 1) (pushed 0 (cellOf vs (now (layout .entry)) ks es (t .level) k m) 0 0 (see t us (now (things .entry)) co ah en))) ⌝ }
+    ensures { λ r. ⌜ ((vs ks es : List ℕ) (us : List Used) (co ah en : List ℕ) → see r us (now (things .exit)) co ah en ≡ withLefts (t .lefts + 1) (pushed 0 (cellOf vs (now (layout .entry)) ks es (t .level) k m) (place .at) 0 (see t us (now (things .entry)) co ah en))) ⌝ }
 {
     let mut r = putting::push(
         t,
         things,
         0,
         cell_of(t.level, k, Declaration { number: m }, layout),
-        0,
+        place.at,
         0,
     );
     r.lefts += 1;
@@ -275,25 +323,27 @@ pub fn use_node(
     t: Writing,
     kind: u16,
     place: Place,
+    one: usize,
     u: usize,
     uses: &[u16],
-    rows: &[u16; 32768],
+    rows: &[u16],
     layout: &[u32],
+    ahead: &[u32],
     entries: &[u32],
     things: &mut [usize; 32768],
     code: &mut [u32],
 ) -> Writing
-    requires { ⌜ Fit t × (u < 65536) × (place .at < 65536) ⌝ }
-    ensures { λ r. ⌜ ((vs ks ah en : List ℕ) (one : ℕ) → see r (usesIn (now (rows .entry)) (now (uses .entry))) (now (things .exit)) (now (code .exit)) ah en ≡ useNode vs (now (layout .entry)) ks (now (entries .entry)) kind (kindNext (drop (t .uses) (usesIn (now (rows .entry)) (now (uses .entry))))) (meansNext (drop (t .uses) (usesIn (now (rows .entry)) (now (uses .entry))))) u (place .at) one (withUses (othersNext (drop (t .uses) (usesIn (now (rows .entry)) (now (uses .entry))))) (see t (usesIn (now (rows .entry)) (now (uses .entry))) (now (things .entry)) (now (code .entry)) ah en))) ⌝ }
+    requires { ⌜ Fit t × (one < 65536) × (u < 65536) × (place .at < 65536) ⌝ }
+    ensures { λ r. ⌜ ((vs ah en : List ℕ) → see r (usesIn (now (rows .entry)) (now (uses .entry))) (now (things .exit)) (now (code .exit)) ah en ≡ useNode vs (now (layout .entry)) (now (ahead .entry)) (now (entries .entry)) (now (rows .entry)) kind (kindNext (drop (t .uses) (usesIn (now (rows .entry)) (now (uses .entry))))) (meansNext (drop (t .uses) (usesIn (now (rows .entry)) (now (uses .entry))))) u (place .at) one (withUses (othersNext (drop (t .uses) (usesIn (now (rows .entry)) (now (uses .entry))))) (see t (usesIn (now (rows .entry)) (now (uses .entry))) (now (things .entry)) (now (code .entry)) ah en))) ⌝ }
 {
     let n = uses::next(t, uses, rows);
     let k = n.kind;
     let m = n.means;
     let r = uses::passed(t, uses);
     match kind {
-        nodes::USE => named_or(r, k, m, u, place, layout, entries, code),
-        nodes::CALL => calling(r, k, m, place, layout, things, code),
-        nodes::LEFT => left_part(r, k, m, layout, things),
+        nodes::USE => named_or(r, k, m, u, place, one, layout, entries, things, code),
+        nodes::CALL => calling(r, k, m, place, one, rows, layout, ahead, things, code),
+        nodes::LEFT => left_part(r, k, m, place, layout, things),
         _ => repeated(r, k, m, place, layout, things),
     }
 }

@@ -55,5 +55,23 @@ pub const NOT: usize = codes::NOT as usize;
 
 pub const IABS: usize = codes::IABS as usize;
 
+// Formals called by name: an actual's code, its work for a read, for a store and for a store that passes on, what it stores to.
+pub const NAME: usize = codes::NAME as usize;
+
+pub const WORK: usize = codes::WORK as usize;
+
+pub const SEEK: usize = codes::SEEK as usize;
+
+pub const PASS: usize = codes::PASS as usize;
+
+pub const LEND: usize = codes::LEND as usize;
+
+pub const REFUSE: usize = codes::REFUSE as usize;
+
+// Ininteger to a cell that is sought: its channel; the step added to one.
+pub const CHANNEL: usize = codes::CHANNEL as usize;
+
+pub const SUM: usize = codes::SUM as usize;
+
 // The place of an instruction that has none.
 pub const NOWHERE: Place = Place { at: 0 };

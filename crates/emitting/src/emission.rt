@@ -1,6 +1,9 @@
 // The nodes with what is known behind some of them.
+use crate::Thing;
 use crate::Writing;
+use crate::actuals;
 use crate::calls;
+use crate::cells;
 use crate::codes;
 use crate::flow;
 use crate::loops;
@@ -13,13 +16,13 @@ use grammar::nodes;
 ghost use mathlib.Core.Path.{_≡_};
 ghost use mathlib.Core.Bool.{cond, _||_};
 ghost use mathlib.Core.List.{List, []};
-ghost use Prim.Native.Nat.{ℕ, _+_, _-_, _≤_, _<_};
+ghost use Prim.Native.Nat.{ℕ, _+_, _*_, _-_, _≤_, _<_};
 ghost use lib.Dec.{eqb};
 ghost use lib.ListN.{length};
 ghost use Rattle.grammar.specs.NodeKinds.{n-do, n-for-end, n-procedure, n-procedure-end};
 ghost use Rattle.names.specs.Rows.{isUse};
 ghost use Rattle.emitting.specs.Emission.{Used, usesIn, placeAt, top, operationOf, signed, stored, leftsOf, assigned, plainNode, isElement, isChoice, isBlock, codeNode, emitted};
-ghost use Rattle.emitting.specs.Model.{thingsOf, see, AllSlim, Small, Fit, restNode, freshIn, emittedFrom};
+ghost use Rattle.emitting.specs.Model.{thingsOf, seen, see, AllSlim, Small, Fit, restNode, freshIn, emittedFrom};
 
 // The operation of an operator, by its symbol's kind.
 fn operation_of(k: usize) -> usize
@@ -38,7 +41,7 @@ fn operation_of(k: usize) -> usize
 
 // A sign or 'not'.
 fn signed(t: Writing, k: usize, place: Place, code: &mut [u32]) -> Writing
-    requires { ⌜ (t .here .at < 131072) × (place .at < 65536) ⌝ }
+    requires { ⌜ (t .here .at < 262144) × (place .at < 65536) ⌝ }
     ensures { λ r. ⌜ ((us : List Used) (op ah en : List ℕ) → see r us op (now (code .exit)) ah en ≡ signed k (place .at) (see t us op (now (code .entry)) ah en)) ⌝ }
 {
     if k == 19 {
@@ -50,14 +53,13 @@ fn signed(t: Writing, k: usize, place: Place, code: &mut [u32]) -> Writing
     t
 }
 
-// The word of the left part with n behind it.
-fn left_word(mut t: Writing, things: &[usize; 32768], n: usize) -> usize
+// The left part with n behind it.
+fn left_at(mut t: Writing, things: &[usize; 32768], n: usize) -> Thing
     requires { ⌜ t .open ≤ 8192 ⌝ }
-    ensures { λ r. ⌜ r ≡ top (thingsOf (t .open - n) (now (things .entry))) .second ⌝ }
+    ensures { λ r. ⌜ seen r ≡ top (thingsOf (t .open - n) (now (things .entry))) ⌝ }
 {
     t.open = parts::less(t.open, n);
-    let f = putting::top(t, things);
-    f.second
+    putting::top(t, things)
 }
 
 // The operation that stores to a left part with n behind it.
@@ -70,21 +72,22 @@ fn storing(n: usize) -> usize
 
 // Left parts, from the first to the last.
 fn stored(mut t: Writing, things: &[usize; 32768], code: &mut [u32]) -> Writing
-    requires { ⌜ (t .here .at + t .lefts < 131072) × (t .open ≤ 8192) × AllSlim 131071 (thingsOf (t .open) (now things)) ⌝ }
+    requires { ⌜ (t .here .at + 2 * t .lefts < 262144) × (t .open ≤ 8192) × AllSlim 262143 (thingsOf (t .open) (now things)) ⌝ }
     ensures { λ r. ⌜ ((vs ly ks es : List ℕ) (us : List Used) (ah en : List ℕ) → see r us (now (things .entry)) (now (code .exit)) ah en ≡ stored vs ly ks es (leftsOf vs ly ks es (t .lefts) (thingsOf (t .open) (now (things .entry))) []) (see t us (now (things .entry)) (now (code .entry)) ah en)) ⌝ }
 {
     let mut n = t.lefts;
     while 0 < n {
         n -= 1;
-        let v = left_word(t, things, n);
-        t = putting::put(t, code, storing(n), codes::NOWHERE, v);
+        let f = left_at(t, things, n);
+        let name = Place { at: f.third };
+        t = cells::on_cell(t, code, storing(n), codes::NOWHERE, name, f.second);
     }
     t
 }
 
 // The end of an assignment.
 fn assigned(t: Writing, things: &[usize; 32768], code: &mut [u32]) -> Writing
-    requires { ⌜ (t .here .at + t .lefts < 131072) × (t .open ≤ 8192) × AllSlim 131071 (thingsOf (t .open) (now things)) ⌝ }
+    requires { ⌜ (t .here .at + 2 * t .lefts < 262144) × (t .open ≤ 8192) × AllSlim 262143 (thingsOf (t .open) (now things)) ⌝ }
     ensures { λ r. ⌜ ((vs ly ks es : List ℕ) (us : List Used) (ah en : List ℕ) → see r us (now (things .entry)) (now (code .exit)) ah en ≡ assigned vs ly ks es (see t us (now (things .entry)) (now (code .entry)) ah en)) ⌝ }
 {
     let mut r = stored(t, things, code);
@@ -104,17 +107,31 @@ fn plain_node(
     things: &[usize; 32768],
     code: &mut [u32],
 ) -> Writing
-    requires { ⌜ Fit t × AllSlim 131071 (thingsOf (t .open) (now things)) × (place .at < 65536) × (one < 65536) ⌝ }
+    requires { ⌜ Fit t × AllSlim 262143 (thingsOf (t .open) (now things)) × (place .at < 65536) × (one < 65536) ⌝ }
     ensures { λ r. ⌜ ((ly ks es : List ℕ) (us : List Used) (ah en : List ℕ) → see r us (now (things .entry)) (now (code .exit)) ah en ≡ plainNode (now (values .entry)) ly ks es kind (symbol .number) (place .at) one (see t us (now (things .entry)) (now (code .entry)) ah en)) ⌝ }
 {
     match kind {
         nodes::NUMBER => {
             let v = parts::value_of(values, symbol);
-            putting::put(t, code, codes::CONST, place, v)
+            let mut r = putting::put(t, code, codes::CONST, place, v);
+            r.variable = 0;
+            r
         }
-        nodes::LOGICAL => putting::put(t, code, codes::CONST, place, one),
-        nodes::UNARY => signed(t, one, place, code),
-        nodes::BINARY => putting::put(t, code, operation_of(one), place, 0),
+        nodes::LOGICAL => {
+            let mut r = putting::put(t, code, codes::CONST, place, one);
+            r.variable = 0;
+            r
+        }
+        nodes::UNARY => {
+            let mut r = signed(t, one, place, code);
+            r.variable = 0;
+            r
+        }
+        nodes::BINARY => {
+            let mut r = putting::put(t, code, operation_of(one), place, 0);
+            r.variable = 0;
+            r
+        }
         nodes::ASSIGN => assigned(t, things, code),
         nodes::VARIABLE => {
             t.cells += 1;
@@ -216,7 +233,7 @@ fn rest_node(
     next_entries: &mut [u32],
     code: &mut [u32],
 ) -> Writing
-    requires { ⌜ Small 131071 8191 (see t [] (now things) [] [] []) × (place .at < 65536) × (one < 65536) ⌝ }
+    requires { ⌜ Small 262143 8191 (see t [] (now things) [] [] []) × (place .at < 65536) × (one < 65536) ⌝ }
     ensures { λ r. ⌜ ((ly es : List ℕ) (us : List Used) → see r us (now (things .exit)) (now (code .exit)) (now («next_ahead» .exit)) (now («next_entries» .exit)) ≡ restNode (now (values .entry)) ly (now (ahead .entry)) es kind (symbol .number) (place .at) one (see t us (now (things .entry)) (now (code .entry)) (now («next_ahead» .entry)) (now («next_entries» .entry)))) ⌝ }
 {
     let c = putting::top(t, things);
@@ -246,7 +263,7 @@ fn node(
     one: u16,
     two: u16,
     uses: &[u16],
-    rows: &[u16; 32768],
+    rows: &[u16],
     places: &[usize; 2048],
     values: &[u32],
     layout: &[u32],
@@ -257,18 +274,31 @@ fn node(
     next_entries: &mut [u32],
     code: &mut [u32],
 ) -> Writing
-    requires { ⌜ Small 131071 8191 (see t [] (now things) [] [] []) ⌝ }
-    ensures { λ r. ⌜ see r (usesIn (now (rows .entry)) (now (uses .entry))) (now (things .exit)) (now (code .exit)) (now («next_ahead» .exit)) (now («next_entries» .exit)) ≡ codeNode (now (values .entry)) (now (layout .entry)) (now (ahead .entry)) (now (entries .entry)) kind (symbol .number) (placeAt (now (places .entry)) (symbol .number)) one two (see t (usesIn (now (rows .entry)) (now (uses .entry))) (now (things .entry)) (now (code .entry)) (now («next_ahead» .entry)) (now («next_entries» .entry))) ⌝ }
+    requires { ⌜ Small 262143 8191 (see t [] (now things) [] [] []) ⌝ }
+    ensures { λ r. ⌜ see r (usesIn (now (rows .entry)) (now (uses .entry))) (now (things .exit)) (now (code .exit)) (now («next_ahead» .exit)) (now («next_entries» .exit)) ≡ codeNode (now (values .entry)) (now (layout .entry)) (now (ahead .entry)) (now (entries .entry)) (now (rows .entry)) kind (symbol .number) (placeAt (now (places .entry)) (symbol .number)) one two (see t (usesIn (now (rows .entry)) (now (uses .entry))) (now (things .entry)) (now (code .entry)) (now («next_ahead» .entry)) (now («next_entries» .entry))) ⌝ }
 {
     let p = parts::place_in(places, symbol);
     let u = two as usize;
     if is_use(kind) {
-        return calls::use_node(t, kind, p, u, uses, rows, layout, entries, things, code);
+        return calls::use_node(
+            t,
+            kind,
+            p,
+            one as usize,
+            u,
+            uses,
+            rows,
+            layout,
+            ahead,
+            entries,
+            things,
+            code,
+        );
     }
     match kind {
         nodes::ACTUAL => {
             let c = putting::top(t, things);
-            calls::actual_in(t, c, things)
+            actuals::actual_in(t, c, p, rows, ahead, things, next_ahead, code)
         }
         nodes::CALL_END => {
             let c = putting::top(t, things);
@@ -294,7 +324,7 @@ fn node(
 fn walk(
     nodes: &[u16],
     uses: &[u16],
-    rows: &[u16; 32768],
+    rows: &[u16],
     places: &[usize; 2048],
     values: &[u32],
     layout: &[u32],
@@ -306,9 +336,9 @@ fn walk(
     code: &mut [u32],
 )
     requires { ⌜ length (now nodes) ≤ 32768 ⌝ }
-    ensures { λ _. ⌜ now (code .exit) ≡ emittedFrom (placeAt (now (places .entry))) (now (values .entry)) (now (layout .entry)) (now (ahead .entry)) (now (entries .entry)) (now (nodes .entry)) (freshIn (usesIn (now (rows .entry)) (now (uses .entry))) (now (code .entry)) (now («next_ahead» .entry)) (now («next_entries» .entry))) .code ⌝ }
-    ensures { λ _. ⌜ now («next_ahead» .exit) ≡ emittedFrom (placeAt (now (places .entry))) (now (values .entry)) (now (layout .entry)) (now (ahead .entry)) (now (entries .entry)) (now (nodes .entry)) (freshIn (usesIn (now (rows .entry)) (now (uses .entry))) (now (code .entry)) (now («next_ahead» .entry)) (now («next_entries» .entry))) .ahead ⌝ }
-    ensures { λ _. ⌜ now («next_entries» .exit) ≡ emittedFrom (placeAt (now (places .entry))) (now (values .entry)) (now (layout .entry)) (now (ahead .entry)) (now (entries .entry)) (now (nodes .entry)) (freshIn (usesIn (now (rows .entry)) (now (uses .entry))) (now (code .entry)) (now («next_ahead» .entry)) (now («next_entries» .entry))) .entries ⌝ }
+    ensures { λ _. ⌜ now (code .exit) ≡ emittedFrom (placeAt (now (places .entry))) (now (values .entry)) (now (layout .entry)) (now (ahead .entry)) (now (entries .entry)) (now (rows .entry)) (now (nodes .entry)) (freshIn (usesIn (now (rows .entry)) (now (uses .entry))) (now (code .entry)) (now («next_ahead» .entry)) (now («next_entries» .entry))) .code ⌝ }
+    ensures { λ _. ⌜ now («next_ahead» .exit) ≡ emittedFrom (placeAt (now (places .entry))) (now (values .entry)) (now (layout .entry)) (now (ahead .entry)) (now (entries .entry)) (now (rows .entry)) (now (nodes .entry)) (freshIn (usesIn (now (rows .entry)) (now (uses .entry))) (now (code .entry)) (now («next_ahead» .entry)) (now («next_entries» .entry))) .ahead ⌝ }
+    ensures { λ _. ⌜ now («next_entries» .exit) ≡ emittedFrom (placeAt (now (places .entry))) (now (values .entry)) (now (layout .entry)) (now (ahead .entry)) (now (entries .entry)) (now (rows .entry)) (now (nodes .entry)) (freshIn (usesIn (now (rows .entry)) (now (uses .entry))) (now (code .entry)) (now («next_ahead» .entry)) (now («next_entries» .entry))) .entries ⌝ }
 {
     let mut t = Writing {
         uses: 0,
@@ -355,7 +385,7 @@ fn walk(
 pub fn pass(
     nodes: &[u16],
     uses: &[u16],
-    rows: &[u16; 32768],
+    rows: &[u16],
     places: &[usize; 2048],
     values: &[u32],
     layout: &[u32],
@@ -366,9 +396,9 @@ pub fn pass(
     code: &mut [u32],
 )
     requires { ⌜ (length (now nodes) ≤ 32768) × (length (now «next_ahead») ≡ 8192) × (length (now «next_entries») ≡ 2048) ⌝ }
-    ensures { λ _. ⌜ now (code .exit) ≡ emitted (now (values .entry)) (now (layout .entry)) (now (ahead .entry)) (now (entries .entry)) (length (now (code .entry))) (placeAt (now (places .entry))) (now (nodes .entry)) (usesIn (now (rows .entry)) (now (uses .entry))) .code ⌝ }
-    ensures { λ _. ⌜ now («next_ahead» .exit) ≡ emitted (now (values .entry)) (now (layout .entry)) (now (ahead .entry)) (now (entries .entry)) (length (now (code .entry))) (placeAt (now (places .entry))) (now (nodes .entry)) (usesIn (now (rows .entry)) (now (uses .entry))) .ahead ⌝ }
-    ensures { λ _. ⌜ now («next_entries» .exit) ≡ emitted (now (values .entry)) (now (layout .entry)) (now (ahead .entry)) (now (entries .entry)) (length (now (code .entry))) (placeAt (now (places .entry))) (now (nodes .entry)) (usesIn (now (rows .entry)) (now (uses .entry))) .entries ⌝ }
+    ensures { λ _. ⌜ now (code .exit) ≡ emitted (now (values .entry)) (now (layout .entry)) (now (ahead .entry)) (now (entries .entry)) (now (rows .entry)) (length (now (code .entry))) (placeAt (now (places .entry))) (now (nodes .entry)) (usesIn (now (rows .entry)) (now (uses .entry))) .code ⌝ }
+    ensures { λ _. ⌜ now («next_ahead» .exit) ≡ emitted (now (values .entry)) (now (layout .entry)) (now (ahead .entry)) (now (entries .entry)) (now (rows .entry)) (length (now (code .entry))) (placeAt (now (places .entry))) (now (nodes .entry)) (usesIn (now (rows .entry)) (now (uses .entry))) .ahead ⌝ }
+    ensures { λ _. ⌜ now («next_entries» .exit) ≡ emitted (now (values .entry)) (now (layout .entry)) (now (ahead .entry)) (now (entries .entry)) (now (rows .entry)) (length (now (code .entry))) (placeAt (now (places .entry))) (now (nodes .entry)) (usesIn (now (rows .entry)) (now (uses .entry))) .entries ⌝ }
 {
     let mut things = [0usize; 32768];
     parts::clear(next_ahead);

@@ -13,7 +13,7 @@ ghost use mathlib.Core.Path.{_≡_};
 ghost use mathlib.Core.List.{List};
 ghost use Prim.Native.Nat.{ℕ, _+_, _-_, _<_};
 ghost use Rattle.emitting.specs.Layout.{packed};
-ghost use Rattle.emitting.specs.Emission.{Used, put, noted, within, withSlot, withEntry, pushed, popped, replaced, aheadAt, choiceNode, blockNode, procedureNode};
+ghost use Rattle.emitting.specs.Emission.{Used, put, noted, within, withSlot, withEntry, pushed, popped, replaced, nameless, aheadAt, choiceNode, blockNode, procedureNode};
 ghost use Rattle.emitting.specs.Model.{seen, see, Fit};
 
 // Behind a condition: the slot of where it goes on.
@@ -47,10 +47,12 @@ fn otherwise(
 
 // Behind it all.
 fn joined(t: Writing, c: Thing, next_ahead: &mut [u32]) -> Writing
-    ensures { λ r. ⌜ ((us : List Used) (op co en : List ℕ) → see r us op co (now («next_ahead» .exit)) en ≡ noted (c .first) (packed 0 0 (t .here .at)) (popped (see t us op co (now («next_ahead» .entry)) en))) ⌝ }
+    ensures { λ r. ⌜ ((us : List Used) (op co en : List ℕ) → see r us op co (now («next_ahead» .exit)) en ≡ nameless (noted (c .first) (packed 0 0 (t .here .at)) (popped (see t us op co (now («next_ahead» .entry)) en)))) ⌝ }
 {
     parts::set_word(next_ahead, c.first, parts::going_to(t.here));
-    putting::pop(t)
+    let mut r = putting::pop(t);
+    r.variable = 0;
+    r
 }
 
 // A node of a condition.

@@ -5,7 +5,9 @@ mod parts; // the parts of an operand, and words in lent arrays
 mod uses; // what a use means
 mod layout; // where the cells of a program lie
 mod putting; // an instruction, and what is open
-mod calls; // names, calls and their actuals
+mod cells; // operations on the cells of names
+mod actuals; // the actuals of calls
+mod calls; // names and calls
 mod loops; // for statements
 mod flow; // conditions, blocks and procedures
 mod emission; // the pass over the nodes
@@ -13,12 +15,13 @@ mod passes; // one pass after the other
 
 use answers::Address;
 ghost use mathlib.Core.Path.{_≡_};
+ghost use Prim.Native.Nat.{_*_};
 ghost use lib.ListN.{length, take, replicate};
 ghost use Rattle.emitting.specs.Layout.{layoutOf};
 ghost use Rattle.emitting.specs.Emission.{usesIn, placeAt, codeOf};
 
-// What a use means: its kind (0 environment, 1 variable, 2 procedure, 3 formal), and the declaration's number or the
-// environment's.
+// What a use means: its kind (0 environment, 1 variable, 2 procedure, 3 formal called by value, 4 formal called by name), and
+// the declaration's number or the environment's.
 pub struct Named {
     pub kind: usize,
     pub means: usize,
@@ -36,8 +39,8 @@ pub struct Laid {
 
 // What is known behind some nodes of the code: how many uses were passed; the address of the next instruction; how many
 // addresses lie ahead so far; the activations and the for statements of the running one that are around; the variables of
-// the block so far; the left parts before; 1 where a name stands that a number is taken to, and the last such variable; how
-// many declarations and formals there were; how much is open.
+// the block so far; the left parts before; 1 where a name stands that a number is taken to; the word of the name that was the
+// last node, 0 where it was no such name; how many declarations and formals there were; how much is open.
 pub struct Writing {
     pub uses: usize,
     pub here: Address,
@@ -60,24 +63,25 @@ pub struct Thing {
     pub fourth: usize,
 }
 
-// The code of a program, of which the first n words of the nodes, the first u uses, the rows, and the places and values of
-// the symbols are lent: it fills the words that are lent for it, with zeros behind.
+// The code of a program, of which the first n words of the nodes, the first u uses, the first d rows, and the places and
+// values of the symbols are lent: it fills the words that are lent for it, with zeros behind.
 pub fn emit(
     nodes: &[u16; 32768],
     n: usize,
     uses: &[u16; 8192],
     u: usize,
     rows: &[u16; 32768],
+    d: usize,
     places: &[usize; 2048],
     values: &[u32; 2048],
     code: &mut [u32],
 )
-    ensures { λ _. ⌜ now (code .exit) ≡ codeOf (length (now (code .entry))) (placeAt (now (places .entry))) (now (values .entry)) (layoutOf (take n (now (nodes .entry)))) (take n (now (nodes .entry))) (usesIn (now (rows .entry)) (take u (now (uses .entry)))) ⌝ }
+    ensures { λ _. ⌜ now (code .exit) ≡ codeOf (length (now (code .entry))) (placeAt (now (places .entry))) (now (values .entry)) (layoutOf (take n (now (nodes .entry)))) (take (4 * d) (now (rows .entry))) (take n (now (nodes .entry))) (usesIn (take (4 * d) (now (rows .entry))) (take u (now (uses .entry)))) ⌝ }
 {
     passes::laid_out(
         parts::front(nodes, n),
         parts::front(uses, u),
-        rows,
+        parts::front(rows, parts::row_words(d)),
         places,
         values,
         code,

@@ -1,6 +1,7 @@
 // For statements.
 use crate::Thing;
 use crate::Writing;
+use crate::cells;
 use crate::codes;
 use crate::parts;
 use crate::putting;
@@ -12,7 +13,7 @@ ghost use mathlib.Core.Path.{_≡_};
 ghost use mathlib.Core.List.{List};
 ghost use Prim.Native.Nat.{ℕ, _+_, _-_, _≤_, _<_};
 ghost use Rattle.emitting.specs.Layout.{packed};
-ghost use Rattle.emitting.specs.Emission.{Used, put, noted, within, popped, replaced, aheadAt, element, bodied, stepping, elementNode, loopNode};
+ghost use Rattle.emitting.specs.Emission.{Used, put, noted, within, popped, replaced, onCell, aheadAt, element, bodied, tested, added, tests, stepping, elementNode, loopNode};
 ghost use Rattle.emitting.specs.Model.{seen, see, Alike, Slim, Fit};
 
 // Behind an element: it goes on there, if it is not the last.
@@ -44,18 +45,69 @@ fn bodied(t: Writing, f: Thing, back: Address, ahead: &[u32], code: &mut [u32]) 
     putting::put(t, code, codes::GO, codes::NOWHERE, v)
 }
 
-// The five instructions of a step element.
+// The test of a step element; next: where it goes on.
+fn tested(t: Writing, f: Thing, next: Address, code: &mut [u32]) -> Writing
+    requires { ⌜ (t .here .at < 1048575) × Slim 262143 (seen f) ⌝ }
+    ensures { λ r. ⌜ ((vs ly ks es : List ℕ) (us : List Used) (op ah en : List ℕ) → see r us op (now (code .exit)) ah en ≡ tested vs ly ks es (f .third) (f .second) (next .at) (see t us op (now (code .entry)) ah en)) ⌝ }
+    ensures { λ r. ⌜ Alike t r × (r .here .at ≤ t .here .at + 2) × (r .open ≡ t .open) ⌝ }
+{
+    let name = Place { at: f.third };
+    if operands::low(f.second) == 2 {
+        let sought = putting::put(t, code, codes::SEEK, name, cells::bare(f.second));
+        return putting::put(
+            sought,
+            code,
+            codes::TEST,
+            name,
+            parts::operand(0, 8191, next),
+        );
+    }
+    let test = parts::operand(operands::high(f.second), operands::mid(f.second), next);
+    putting::put(t, code, codes::TEST, name, test)
+}
+
+// The addition; the place is that of 'step'.
+fn added(t: Writing, f: Thing, place: Place, code: &mut [u32]) -> Writing
+    requires { ⌜ (t .here .at < 1048000) × Slim 262143 (seen f) × (place .at < 65536) ⌝ }
+    ensures { λ r. ⌜ ((vs ly ks es : List ℕ) (us : List Used) (op ah en : List ℕ) → see r us op (now (code .exit)) ah en ≡ added vs ly ks es (f .third) (f .second) (place .at) (see t us op (now (code .entry)) ah en)) ⌝ }
+    ensures { λ r. ⌜ Alike t r × (r .here .at ≤ t .here .at + 4) × (r .open ≡ t .open) ⌝ }
+{
+    let v = f.second;
+    if operands::low(v) == 2 {
+        let name = Place { at: f.third };
+        let summed = cells::on_cell(t, code, codes::SUM, place, name, v);
+        return cells::on_cell(summed, code, codes::STORE, codes::NOWHERE, name, v);
+    }
+    putting::put(t, code, codes::ADD, place, cells::bare(v))
+}
+
+// Step and bound held, and the test.
+fn tests(t: Writing, f: Thing, ahead: &[u32], code: &mut [u32]) -> Writing
+    requires { ⌜ (t .here .at < 262144) × Slim 262143 (seen f) ⌝ }
+    ensures { λ r. ⌜ ((vs ly es : List ℕ) (us : List Used) (op ah en : List ℕ) → see r us op (now (code .exit)) ah en ≡ tests vs ly (now (ahead .entry)) es (seen f) (see t us op (now (code .entry)) ah en)) ⌝ }
+    ensures { λ r. ⌜ Alike t r × (r .here .at ≤ t .here .at + 3) × (r .open ≡ t .open) ⌝ }
+{
+    let next = parts::address_at(ahead, t.slots);
+    tested(
+        putting::put(t, code, codes::HOLD, codes::NOWHERE, 0),
+        f,
+        next,
+        code,
+    )
+}
+
+// A step element: step and bound held, the test, the body, the addition, back to the test.
 fn stepping(t: Writing, f: Thing, place: Place, ahead: &[u32], code: &mut [u32]) -> Writing
-    requires { ⌜ (t .here .at < 131072) × Slim 131071 (seen f) × (place .at < 65536) ⌝ }
+    requires { ⌜ (t .here .at < 262144) × Slim 262143 (seen f) × (place .at < 65536) ⌝ }
     ensures { λ r. ⌜ ((vs ly es : List ℕ) (us : List Used) (op ah en : List ℕ) → see r us op (now (code .exit)) ah en ≡ stepping vs ly (now (ahead .entry)) es (seen f) (place .at) (see t us op (now (code .entry)) ah en)) ⌝ }
     ensures { λ r. ⌜ (r .slots ≡ t .slots) × (r .open ≡ t .open) ⌝ }
 {
-    let next = parts::address_at(ahead, t.slots);
-    let test = parts::operand(operands::high(f.second), operands::mid(f.second), next);
-    let kept = putting::put(t, code, codes::HOLD, codes::NOWHERE, 0);
-    let tested = putting::put(kept, code, codes::TEST, Place { at: f.third }, test);
-    let gone = bodied(tested, f, Address { at: t.here.at + 3 }, ahead, code);
-    let bumped = putting::put(gone, code, codes::ADD, place, f.second);
+    let held = tests(t, f, ahead, code);
+    let back = Address {
+        at: held.here.at + 1,
+    };
+    let gone = bodied(held, f, back, ahead, code);
+    let bumped = added(gone, f, place, code);
     putting::put(
         bumped,
         code,
@@ -90,7 +142,7 @@ fn whiled(
     next_ahead: &mut [u32],
     code: &mut [u32],
 ) -> Writing
-    requires { ⌜ Fit t × Slim 131071 (seen f) ⌝ }
+    requires { ⌜ Fit t × Slim 262143 (seen f) ⌝ }
     ensures { λ r. ⌜ ((vs ly es : List ℕ) (us : List Used) (en : List ℕ) → see r us (now (things .exit)) (now (code .exit)) (now («next_ahead» .exit)) en ≡ element vs ly (now (ahead .entry)) es (seen f) (bodied vs ly (now (ahead .entry)) es (seen f) (f .fourth) (put 10 0 (packed 0 0 (aheadAt vs ly (now (ahead .entry)) es (t .slots))) (see t us (now (things .entry)) (now (code .entry)) (now («next_ahead» .entry)) en)))) ⌝ }
 {
     let next = parts::going_to(parts::address_at(ahead, t.slots));
@@ -100,6 +152,21 @@ fn whiled(
         f,
         things,
         next_ahead,
+    )
+}
+
+// The value of an element is stored.
+fn started(t: Writing, f: Thing, code: &mut [u32]) -> Writing
+    requires { ⌜ (t .here .at < 262144) × Slim 262143 (seen f) ⌝ }
+    ensures { λ r. ⌜ ((us : List Used) (op ah en : List ℕ) → see r us op (now (code .exit)) ah en ≡ onCell 14 0 (f .third) (f .second) (see t us op (now (code .entry)) ah en)) ⌝ }
+{
+    cells::on_cell(
+        t,
+        code,
+        codes::STORE,
+        codes::NOWHERE,
+        Place { at: f.third },
+        f.second,
     )
 }
 
@@ -114,11 +181,11 @@ pub fn element_node(
     next_ahead: &mut [u32],
     code: &mut [u32],
 ) -> Writing
-    requires { ⌜ Fit t × Slim 131071 (seen f) × (place .at < 65536) ⌝ }
+    requires { ⌜ Fit t × Slim 262143 (seen f) × (place .at < 65536) ⌝ }
     ensures { λ r. ⌜ ((vs ly es : List ℕ) (us : List Used) (en : List ℕ) → see r us (now (things .exit)) (now (code .exit)) (now («next_ahead» .exit)) en ≡ elementNode vs ly (now (ahead .entry)) es kind (seen f) (place .at) (see t us (now (things .entry)) (now (code .entry)) (now («next_ahead» .entry)) en)) ⌝ }
 {
     match kind {
-        nodes::START => putting::put(t, code, codes::STORE, codes::NOWHERE, f.second),
+        nodes::START => started(t, f, code),
         nodes::ONCE => once(t, f, ahead, things, next_ahead, code),
         nodes::WHILE => whiled(t, f, ahead, things, next_ahead, code),
         _ => element(stepping(t, f, place, ahead, code), f, things, next_ahead),

@@ -5,7 +5,9 @@ use answers::Ordinal;
 use answers::Place;
 use machine::operands;
 ghost use mathlib.Core.Path.{_≡_};
-ghost use Prim.Native.Nat.{_-_, _<_};
+ghost use mathlib.Core.Bool.{cond};
+ghost use Prim.Native.Nat.{_*_, _-_, _<_};
+ghost use lib.Dec.{ltb};
 ghost use lib.ListN.{length, getD, set, replicate, take};
 ghost use Rattle.emitting.specs.Layout.{packed};
 ghost use Rattle.emitting.specs.Emission.{placeAt};
@@ -48,6 +50,13 @@ pub fn clear(words: &mut [u32])
         words[i] = 0;
         i += 1;
     }
+}
+
+// The words of d rows, of which there are no more than 8,192.
+pub fn row_words(d: usize) -> usize
+    ensures { λ r. ⌜ r ≡ cond (ltb d 8192) (4 * d) 32768 ⌝ }
+{
+    if d < 8192 { 4 * d } else { 32768 }
 }
 
 // The first n words, or all where there are no more.
@@ -99,7 +108,7 @@ pub fn entry_of(entries: &[u32], d: Declaration) -> Address
     address_at(entries, d.number)
 }
 
-// The address of a procedure is noted.
+// It is noted.
 pub fn set_entry(entries: &mut [u32], d: Declaration, a: Address)
     ensures { λ _. ⌜ now (entries .exit) ≡ set (now (entries .entry)) (d .number) (a .at) ⌝ }
 {

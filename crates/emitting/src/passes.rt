@@ -11,7 +11,7 @@ ghost use Rattle.emitting.specs.Emission.{usesIn, placeAt, emitted, code
 fn again(
     nodes: &[u16],
     uses: &[u16],
-    rows: &[u16; 32768],
+    rows: &[u16],
     places: &[usize; 2048],
     values: &[u32],
     laid: &[u32],
@@ -20,7 +20,7 @@ fn again(
     code: &mut [u32],
 )
     requires { ⌜ length (now nodes) ≤ 32768 ⌝ }
-    ensures { λ _. ⌜ now (code .exit) ≡ emitted (now (values .entry)) (now (laid .entry)) (now (ahead .entry)) (now (entries .entry)) (length (now (code .entry))) (placeAt (now (places .entry))) (now (nodes .entry)) (usesIn (now (rows .entry)) (now (uses .entry))) .code ⌝ }
+    ensures { λ _. ⌜ now (code .exit) ≡ emitted (now (values .entry)) (now (laid .entry)) (now (ahead .entry)) (now (entries .entry)) (now (rows .entry)) (length (now (code .entry))) (placeAt (now (places .entry))) (now (nodes .entry)) (usesIn (now (rows .entry)) (now (uses .entry))) .code ⌝ }
 {
     let mut next_ahead = [0u32; 8192];
     let mut next_entries = [0u32; 2048];
@@ -43,14 +43,14 @@ fn again(
 fn twice(
     nodes: &[u16],
     uses: &[u16],
-    rows: &[u16; 32768],
+    rows: &[u16],
     places: &[usize; 2048],
     values: &[u32],
     laid: &[u32],
     code: &mut [u32],
 )
     requires { ⌜ length (now nodes) ≤ 32768 ⌝ }
-    ensures { λ _. ⌜ now (code .exit) ≡ codeOf (length (now (code .entry))) (placeAt (now (places .entry))) (now (values .entry)) (now (laid .entry)) (now (nodes .entry)) (usesIn (now (rows .entry)) (now (uses .entry))) ⌝ }
+    ensures { λ _. ⌜ now (code .exit) ≡ codeOf (length (now (code .entry))) (placeAt (now (places .entry))) (now (values .entry)) (now (laid .entry)) (now (rows .entry)) (now (nodes .entry)) (usesIn (now (rows .entry)) (now (uses .entry))) ⌝ }
 {
     let nothing = &values[..0];
     let mut ahead = [0u32; 8192];
@@ -87,13 +87,13 @@ fn twice(
 pub fn laid_out(
     nodes: &[u16],
     uses: &[u16],
-    rows: &[u16; 32768],
+    rows: &[u16],
     places: &[usize; 2048],
     values: &[u32],
     code: &mut [u32],
 )
     requires { ⌜ length (now nodes) ≤ 32768 ⌝ }
-    ensures { λ _. ⌜ now (code .exit) ≡ codeOf (length (now (code .entry))) (placeAt (now (places .entry))) (now (values .entry)) (layoutOf (now (nodes .entry))) (now (nodes .entry)) (usesIn (now (rows .entry)) (now (uses .entry))) ⌝ }
+    ensures { λ _. ⌜ now (code .exit) ≡ codeOf (length (now (code .entry))) (placeAt (now (places .entry))) (now (values .entry)) (layoutOf (now (nodes .entry))) (now (rows .entry)) (now (nodes .entry)) (usesIn (now (rows .entry)) (now (uses .entry))) ⌝ }
 {
     let mut cells = [0u32; 2048];
     layout(nodes, &mut cells);

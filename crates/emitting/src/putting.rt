@@ -51,7 +51,7 @@ pub fn push(
 ) -> Writing
     requires { ⌜ t .open < 8192 ⌝ }
     ensures { λ r. ⌜ ((us : List Used) (co ah en : List ℕ) → see r us (now (things .exit)) co ah en ≡ pushed a b c d (see t us (now (things .entry)) co ah en)) ⌝ }
-    ensures { λ r. ⌜ Alike t r × (r .here .at ≡ t .here .at) ⌝ }
+    ensures { λ r. ⌜ Alike t r × (r .here .at ≡ t .here .at) × (r .open ≡ t .open + 1) ⌝ }
 {
     let n = t.open;
     write(things, n, a, b, c, d);
@@ -82,7 +82,7 @@ pub fn replace(
 ) -> Writing
     requires { ⌜ t .open ≤ 8192 ⌝ }
     ensures { λ r. ⌜ ((us : List Used) (co ah en : List ℕ) → see r us (now (things .exit)) co ah en ≡ replaced a b c d (see t us (now (things .entry)) co ah en)) ⌝ }
-    ensures { λ r. ⌜ Alike t r × (r .here .at ≡ t .here .at) ⌝ }
+    ensures { λ r. ⌜ Alike t r × (r .here .at ≡ t .here .at) × (r .open ≤ 8192) ⌝ }
 {
     push(pop(t), things, a, b, c, d)
 }

@@ -2,14 +2,18 @@
 use crate::Named;
 use crate::Writing;
 use crate::parts;
+use answers::Declaration;
+use grammar::nodes;
 use names::Meant;
 use names::meanings::meant;
 ghost use mathlib.Core.Path.{_≡_};
+ghost use mathlib.Core.Bool.{cond};
 ghost use mathlib.Core.List.{List};
-ghost use Prim.Native.Nat.{ℕ, _<_};
+ghost use Prim.Native.Nat.{ℕ, _*_, _-_, _%_, _<_};
+ghost use lib.Dec.{eqb};
 ghost use lib.ListN.{getD, drop};
 ghost use Rattle.names.specs.Rows.{meantOf};
-ghost use Rattle.emitting.specs.Emission.{usedAs, usesIn, kindNext, meansNext, othersNext, withUses};
+ghost use Rattle.emitting.specs.Emission.{formalAt, usedAs, usesIn, kindNext, meansNext, othersNext, withUses};
 ghost use Rattle.emitting.specs.Model.{see, Alike};
 
 // A word of a row, 0 behind the last one.
@@ -23,19 +27,45 @@ fn row_word(rows: &[u16], at: usize) -> usize
     0
 }
 
+// A formal's kind as its row has it.
+const FORMAL: usize = nodes::FORMAL as usize;
+
+// Row i as a formal's: 0 it is of no formal, 1 called by value, 2 called by name.
+pub fn formal_at(rows: &[u16], i: usize) -> usize
+    requires { ⌜ i < 8589934592 ⌝ }
+    ensures { λ r. ⌜ r ≡ formalAt (now (rows .entry)) i ⌝ }
+{
+    if row_word(rows, 4 * i) == FORMAL {
+        if row_word(rows, 4 * i + 3) < 4 {
+            return 1;
+        }
+        return 2;
+    }
+    0
+}
+
+// The kind of a use that means a declaration.
+fn kind_of(d: Declaration, rows: &[u16]) -> usize
+    requires { ⌜ d .number < 65536 ⌝ }
+    ensures { λ r. ⌜ r ≡ cond (eqb (formalAt (now (rows .entry)) (d .number)) 2) 4 (getD (now (rows .entry)) (4 * d .number) 0 % 65536 - 4) ⌝ }
+    ensures { λ r. ⌜ r < 65536 ⌝ }
+{
+    if formal_at(rows, d.number) == 2 {
+        return 4;
+    }
+    parts::less(row_word(rows, 4 * d.number), 4)
+}
+
 // The use that is kept as a number: of a declaration its kind stands in its row.
-fn meaning(word: u16, rows: &[u16; 32768]) -> Named
+fn meaning(word: u16, rows: &[u16]) -> Named
     ensures { λ r. ⌜ (r .kind ≡ usedAs (now (rows .entry)) (meantOf word) .kind) × (r .means ≡ usedAs (now (rows .entry)) (meantOf word) .means) ⌝ }
     ensures { λ r. ⌜ (r .kind < 65536) × (r .means < 65536) ⌝ }
 {
     match meant(word) {
-        Meant::Declared(d) => {
-            let kind = row_word(rows, 4 * d.number);
-            Named {
-                kind: parts::less(kind, 4),
-                means: d.number,
-            }
-        }
+        Meant::Declared(d) => Named {
+            kind: kind_of(d, rows),
+            means: d.number,
+        },
         Meant::Given(e) => Named {
             kind: 0,
             means: e.number as usize,
@@ -45,7 +75,7 @@ fn meaning(word: u16, rows: &[u16; 32768]) -> Named
 }
 
 // The next use; zeros where there is none.
-pub fn next(t: Writing, uses: &[u16], rows: &[u16; 32768]) -> Named
+pub fn next(t: Writing, uses: &[u16], rows: &[u16]) -> Named
     ensures { λ r. ⌜ (r .kind ≡ kindNext (drop (t .uses) (usesIn (now (rows .entry)) (now (uses .entry))))) × (r .means ≡ meansNext (drop (t .uses) (usesIn (now (rows .entry)) (now (uses .entry))))) ⌝ }
     ensures { λ r. ⌜ (r .kind < 65536) × (r .means < 65536) ⌝ }
 {

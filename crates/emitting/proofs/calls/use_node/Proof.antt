@@ -8,59 +8,52 @@ use borrow.Author.Needs.{needs}
 use Rattle.emitting.proofs.calls.use_node.Statement.{statement}
 use Rattle.emitting.proofs.calls.use_node.Tie as tie
 
-next-requires : tie.Need-next-requires
-next-requires c κs = search needs
-
-passed-requires : tie.Need-passed-requires
-passed-requires c κs = search needs
-
-named-or-requires : tie.Need-named-or-requires
-named-or-requires c κs = search needs
-
-calling-requires : tie.Need-calling-requires
-calling-requires c κs = search needs
-
-left-part-requires : tie.Need-left-part-requires
-left-part-requires c κs = search needs
-
-repeated-requires : tie.Need-repeated-requires
-repeated-requires c κs = search needs
-
-same-length : tie.Need-same-length
-same-length c = search needs
-
 returns : tie.Need-returns
 unfolding useNode
-returns c = λ vs ks ah en one. simp (c .before .before .before .before .match .keys1) (rw (c .before .before .before .before .before .before .next .ensures .0 .0, c .before .before .before .before .before .before .next .ensures .0 .1) at (c .before .before .named-or .ensures vs ks (usesIn (c .before .before .before .before .before .before .before .before .before .before .before .args .rows .now) (c .before .before .before .before .before .before .before .before .before .before .before .args .uses .now)) (c .before .before .before .before .before .before .before .before .before .before .before .args .things .now) ah en ∙ ap (namedOr vs (c .before .before .before .before .before .before .before .before .before .before .before .args .layout .now) ks (c .before .before .before .before .before .before .before .before .before .before .before .args .entries .now) (c .before .before .before .before .before .before .next .result .kind) (c .before .before .before .before .before .before .next .result .means) (c .before .before .before .before .before .before .before .before .before .before .before .args .u) (c .before .before .before .before .before .before .before .before .before .before .before .args .place .at)) (c .before .before .before .before .before .passed .ensures .0 (c .before .before .before .before .before .before .before .before .before .before .before .args .rows .now) (c .before .before .before .before .before .before .before .before .before .before .before .args .things .now) (c .before .before .before .before .before .before .before .before .before .before .before .args .code .now) ah en)))
-
-same-length-2 : tie.Need-same-length-2
-same-length-2 c = search needs
+returns c =
+    let a = c .before .before .before .before .before .before .before .before .before .before .before .before .before .before .args in
+    let n = c .before .before .before .before .before .before .before .next .ensures .0 in
+    let us = usesIn (a .rows .now) (a .uses .now) in
+    λ vs ah en. simp (c .before .before .before .before .before .match .keys1) (rw (n .0, n .1) at (c .before .before .named-or .ensures vs (a .ahead .now) us ah en ∙ ap (namedOr vs (a .layout .now) (a .ahead .now) (a .entries .now) (c .before .before .before .before .before .before .before .next .result .kind) (c .before .before .before .before .before .before .before .next .result .means) (a .u) (a .place .at) (a .one)) (c .before .before .before .before .before .before .passed .ensures .0 (a .rows .now) (a .things .now) (a .code .now) ah en)))
 
 returns-2 : tie.Need-returns-2
 unfolding useNode
-returns-2 c = λ vs ks ah en one. simp (c .before .before .before .before .before .match .keys2) (rw (c .before .before .before .before .before .before .before .next .ensures .0 .0, c .before .before .before .before .before .before .before .next .ensures .0 .1) at (c .before .before .calling .ensures vs ks (c .before .before .before .before .before .before .before .before .before .before .before .before .args .entries .now) (usesIn (c .before .before .before .before .before .before .before .before .before .before .before .before .args .rows .now) (c .before .before .before .before .before .before .before .before .before .before .before .before .args .uses .now)) ah en ∙ ap (calling vs (c .before .before .before .before .before .before .before .before .before .before .before .before .args .layout .now) ks (c .before .before .before .before .before .before .before .before .before .before .before .before .args .entries .now) (c .before .before .before .before .before .before .before .next .result .kind) (c .before .before .before .before .before .before .before .next .result .means) (c .before .before .before .before .before .before .before .before .before .before .before .before .args .place .at)) (c .before .before .before .before .before .before .passed .ensures .0 (c .before .before .before .before .before .before .before .before .before .before .before .before .args .rows .now) (c .before .before .before .before .before .before .before .before .before .before .before .before .args .things .now) (c .before .before .before .before .before .before .before .before .before .before .before .before .args .code .now) ah en)))
+returns-2 c =
+    let a = c .before .before .before .before .before .before .before .before .before .before .before .before .before .before .args in
+    let n = c .before .before .before .before .before .before .before .next .ensures .0 in
+    let us = usesIn (a .rows .now) (a .uses .now) in
+    λ vs ah en. simp (c .before .before .before .before .before .match .keys2) (rw (n .0, n .1) at (c .before .before .calling .ensures vs (a .entries .now) us ah en ∙ ap (calling vs (a .layout .now) (a .ahead .now) (a .entries .now) (a .rows .now) (c .before .before .before .before .before .before .before .next .result .kind) (c .before .before .before .before .before .before .before .next .result .means) (a .place .at) (a .one)) (c .before .before .before .before .before .before .passed .ensures .0 (a .rows .now) (a .things .now) (a .code .now) ah en)))
 
 returns-3 : tie.Need-returns-3
 unfolding useNode
-returns-3 c = λ vs ks ah en one. simp (c .before .before .match .keys3) (rw (c .before .before .before .before .next .ensures .0 .0, c .before .before .before .before .next .ensures .0 .1) at (c .left-part .ensures vs ks (c .before .before .before .before .before .before .before .before .before .args .entries .now) (usesIn (c .before .before .before .before .before .before .before .before .before .args .rows .now) (c .before .before .before .before .before .before .before .before .before .args .uses .now)) (c .before .before .before .before .before .before .before .before .before .args .code .now) ah en ∙ ap (λ (z : State). withLefts (z .lefts + 1) (pushed 0 (cellOf vs (c .before .before .before .before .before .before .before .before .before .args .layout .now) ks (c .before .before .before .before .before .before .before .before .before .args .entries .now) (z .level) (c .before .before .before .before .next .result .kind) (c .before .before .before .before .next .result .means)) 0 0 z)) (c .before .before .before .passed .ensures .0 (c .before .before .before .before .before .before .before .before .before .args .rows .now) (c .before .before .before .before .before .before .before .before .before .args .things .now) (c .before .before .before .before .before .before .before .before .before .args .code .now) ah en)))
+returns-3 c =
+    let a = c .before .before .before .before .before .before .before .before .before .before .before .args in
+    let n = c .before .before .before .before .next .ensures .0 in
+    let us = usesIn (a .rows .now) (a .uses .now) in
+    λ vs ah en. simp (c .before .before .match .keys3) (rw (n .0, n .1) at (c .left-part .ensures vs (a .ahead .now) (a .entries .now) us (a .code .now) ah en ∙ ap (λ (z : State). withLefts (z .lefts + 1) (pushed 0 (cellOf vs (a .layout .now) (a .ahead .now) (a .entries .now) (z .level) (c .before .before .before .before .next .result .kind) (c .before .before .before .before .next .result .means)) (a .place .at) 0 z)) (c .before .before .before .passed .ensures .0 (a .rows .now) (a .things .now) (a .code .now) ah en)))
 
 returns-4 : tie.Need-returns-4
 unfolding useNode
-returns-4 c = λ vs ks ah en one. simp (ne-eqb _ _ (c .before .before .match .rest .1), ne-eqb _ _ (c .before .before .match .rest .0 .1), ne-eqb _ _ (c .before .before .match .rest .0 .0 .1)) (rw (c .before .before .before .before .next .ensures .0 .0, c .before .before .before .before .next .ensures .0 .1) at (c .repeated .ensures vs ks (c .before .before .before .before .before .before .before .before .before .args .entries .now) (usesIn (c .before .before .before .before .before .before .before .before .before .args .rows .now) (c .before .before .before .before .before .before .before .before .before .args .uses .now)) (c .before .before .before .before .before .before .before .before .before .args .code .now) ah en ∙ ap (repeated vs (c .before .before .before .before .before .before .before .before .before .args .layout .now) ks (c .before .before .before .before .before .before .before .before .before .args .entries .now) (c .before .before .before .before .next .result .kind) (c .before .before .before .before .next .result .means) (c .before .before .before .before .before .before .before .before .before .args .place .at)) (c .before .before .before .passed .ensures .0 (c .before .before .before .before .before .before .before .before .before .args .rows .now) (c .before .before .before .before .before .before .before .before .before .args .things .now) (c .before .before .before .before .before .before .before .before .before .args .code .now) ah en)))
+returns-4 c =
+    let a = c .before .before .before .before .before .before .before .before .before .before .before .args in
+    let n = c .before .before .before .before .next .ensures .0 in
+    let r = c .before .before .match .rest in
+    let us = usesIn (a .rows .now) (a .uses .now) in
+    λ vs ah en. simp (ne-eqb _ _ (r .1), ne-eqb _ _ (r .0 .1), ne-eqb _ _ (r .0 .0 .1)) (rw (n .0, n .1) at (c .repeated .ensures vs (a .ahead .now) (a .entries .now) us (a .code .now) ah en ∙ ap (repeated vs (a .layout .now) (a .ahead .now) (a .entries .now) (c .before .before .before .before .next .result .kind) (c .before .before .before .before .next .result .means) (a .place .at)) (c .before .before .before .passed .ensures .0 (a .rows .now) (a .things .now) (a .code .now) ah en)))
 
 pub use-node-spec : {M : Type 1} → statement M
 use-node-spec =
     tie.close
     (tie.spec
-    next-requires
-    passed-requires
-    named-or-requires
-    calling-requires
-    left-part-requires
-    repeated-requires
-    same-length
+    (λ c κs. search needs)
+    (λ c κs. search needs)
+    (λ c κs. search needs)
+    (λ c κs. search needs)
+    (λ c κs. search needs)
+    (λ c κs. search needs)
+    (λ c. search needs)
     returns
-    same-length-2
+    (λ c. search needs)
     returns-2
     returns-3
     returns-4)

@@ -1,7 +1,8 @@
 -- `emitting::emission::plain_node` meets its contract: each kind puts the tests of `plainNode` right.
 -- Assumes nothing.
+use mathlib.Core.Path.{ap}
 use borrow.Author.Tests.{ne-eqb}
-use Rattle.emitting.specs.Emission.{plainNode, within, withCell}
+use Rattle.emitting.specs.Emission.{plainNode, within, withCell, withVariable, nameless}
 use borrow.Author.Needs.{needs}
 use Rattle.emitting.proofs.emission.plain_node.Statement.{statement}
 use Rattle.emitting.proofs.emission.plain_node.Tie as tie
@@ -40,29 +41,29 @@ same-length : tie.Need-same-length
 same-length c = search needs
 
 returns : tie.Need-returns
-unfolding plainNode
-returns c = λ ly ks es us ah en. simp (c .before .before .before .before .before .match .keys1) (rw (c .before .before .before .before .value-of .ensures .0) at (c .before .before .put .ensures .0 us (c .before .before .before .before .before .before .before .before .args .things .now) ah en))
+unfolding plainNode nameless withVariable
+returns c = λ ly ks es us ah en. simp (c .before .before .before .before .before .match .keys1) (rw (c .before .before .before .before .value-of .ensures .0) at (ap nameless (c .before .before .put .ensures .0 us (c .before .before .before .before .before .before .before .before .args .things .now) ah en)))
 
 same-length-2 : tie.Need-same-length-2
 same-length-2 c = search needs
 
 returns-2 : tie.Need-returns-2
-unfolding plainNode
-returns-2 c = λ ly ks es us ah en. simp (c .before .before .before .before .match .keys2) (c .before .before .put2 .ensures .0 us (c .before .before .before .before .before .before .before .args .things .now) ah en)
+unfolding plainNode nameless withVariable
+returns-2 c = λ ly ks es us ah en. simp (c .before .before .before .before .match .keys2) (ap nameless (c .before .before .put2 .ensures .0 us (c .before .before .before .before .before .before .before .args .things .now) ah en))
 
 same-length-3 : tie.Need-same-length-3
 same-length-3 c = search needs
 
 returns-3 : tie.Need-returns-3
-unfolding plainNode
-returns-3 c = λ ly ks es us ah en. simp (c .before .before .before .before .match .keys3) (c .before .before .signed .ensures us (c .before .before .before .before .before .before .before .args .things .now) ah en)
+unfolding plainNode nameless withVariable
+returns-3 c = λ ly ks es us ah en. simp (c .before .before .before .before .match .keys3) (ap nameless (c .before .before .signed .ensures us (c .before .before .before .before .before .before .before .args .things .now) ah en))
 
 same-length-4 : tie.Need-same-length-4
 same-length-4 c = search needs
 
 returns-4 : tie.Need-returns-4
-unfolding plainNode
-returns-4 c = λ ly ks es us ah en. simp (c .before .before .before .before .before .match .keys4) (rw (c .before .before .before .operation-of .ensures .0) at (c .before .before .put3 .ensures .0 us (c .before .before .before .before .before .before .before .before .args .things .now) ah en))
+unfolding plainNode nameless withVariable
+returns-4 c = λ ly ks es us ah en. simp (c .before .before .before .before .before .match .keys4) (rw (c .before .before .before .operation-of .ensures .0) at (ap nameless (c .before .before .put3 .ensures .0 us (c .before .before .before .before .before .before .before .before .args .things .now) ah en)))
 
 same-length-5 : tie.Need-same-length-5
 same-length-5 c = search needs

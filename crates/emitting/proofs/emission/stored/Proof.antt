@@ -2,14 +2,16 @@
 -- all of them make of the first one.
 use mathlib.Core.Path.{_≡_, refl, sym, ap, _∙_}
 use native.Mathlib.Omega.{arith}
+use mathlib.Core.Bool.{cond}
 use mathlib.Core.List.{List, []}
-use Prim.Native.Nat.{ℕ, _+_, _-_, _≤_}
+use Prim.Native.Nat.{ℕ, _+_, _*_, _-_, _≤_}
+use lib.Dec.{eqb}
 use lib.ListN.{length}
-use borrow.Author.Needs.{needs}
-use Rattle.emitting.specs.Emission.{Used, top, stored, leftsOf}
-use Rattle.emitting.specs.Model.{thingsOf, see}
+use Rattle.emitting.specs.Emission.{Used, Opened, top, onCell, stored, leftsOf}
+use Rattle.emitting.specs.Model.{thingsOf, seen, see}
 use Rattle.emitting.proofs.LeftParts.{stored-step}
-use Rattle.emitting.proofs.Counters.{left-word}
+use Rattle.emitting.proofs.Counters.{left-third}
+use borrow.Author.Needs.{needs}
 use Rattle.emitting.proofs.emission.stored.Statement.{statement}
 use Rattle.emitting.proofs.emission.stored.Tie as tie
 
@@ -17,7 +19,7 @@ abbrev Inv-loop : tie.InvT-loop
 Inv-loop t₀ things code₀ n₀ t code n =
     (n ≤ t₀ .lefts)
     × (t .open ≡ t₀ .open)
-    × (t .here .at + n ≡ t₀ .here .at + t₀ .lefts)
+    × (t .here .at + 2 * n ≤ t₀ .here .at + 2 * t₀ .lefts)
     × (length code ≡ length code₀)
     × ((vs ly ks es : List ℕ) (us : List Used) (ah en : List ℕ) → stored vs ly ks es (leftsOf vs ly ks es n (thingsOf (t₀ .open) things) []) (see t us things code ah en) ≡ stored vs ly ks es (leftsOf vs ly ks es (t₀ .lefts) (thingsOf (t₀ .open) things) []) (see t₀ us things code₀ ah en))
 
@@ -25,29 +27,30 @@ abbrev μ-loop : tie.MeasureT-loop
 μ-loop t₀ things code₀ n₀ t code n = n
 
 loop-holds : tie.Need-loop-holds Inv-loop μ-loop
-loop-holds c = (omega arith, refl, refl, refl, λ vs ly ks es us ah en. refl)
+loop-holds c = (omega arith, refl, omega arith, refl, λ vs ly ks es us ah en. refl)
 
 sub-n : tie.Need-sub-n Inv-loop μ-loop
 sub-n c = omega arith
 
-left-word-requires : tie.Need-left-word-requires Inv-loop μ-loop
-left-word-requires c κs = let e = c .before .loop .inv .1 in let h = c .before .before .before .pre .1 in omega arith
+left-at-requires : tie.Need-left-at-requires Inv-loop μ-loop
+left-at-requires c κs = let e = c .before .loop .inv .1 in let h = c .before .before .before .pre .1 in omega arith
 
 storing-requires : tie.Need-storing-requires Inv-loop μ-loop
 storing-requires c κs = search needs
 
-put-requires : tie.Need-put-requires Inv-loop μ-loop
-put-requires c κs =
+on-cell-requires : tie.Need-on-cell-requires Inv-loop μ-loop
+on-cell-requires c κs =
     let m = c .before .before .before .before .before .before .args .t .open in
     let n = c .before .before .before .before .loop .n - 1 in
     let s = c .before .before .before .before .before .before .args .things .now in
-    let q : c .before .before .left-word .result ≡ top (thingsOf (m - n) s) .second = rw (c .before .before .before .before .loop .inv .1) at (c .before .before .left-word .ensures) in
-    let w = left-word 131071 m n s (c .before .before .before .before .before .before .pre .2) in
+    let q : seen (c .before .before .left-at .result) ≡ top (thingsOf (m - n) s) = rw (c .before .before .before .before .loop .inv .1) at (c .before .before .left-at .ensures) in
+    let q₁ : c .before .before .left-at .result .third ≡ top (thingsOf (m - n) s) .third = ap (λ (f : Opened). f .third) q in
+    let w = left-third 262143 m n s (c .before .before .before .before .before .before .pre .2) in
     let a = c .before .before .before .before .loop .inv .2 in
     let b = c .before .before .before .before .before .before .pre .0 in
     let d = c .storing .ensures .1 in
     let h = c .before .before .before .loop-test .taken in
-    (omega arith, omega arith, omega arith)
+    (omega arith, omega arith, omega arith, omega arith)
 
 loop-less : tie.Need-loop-less Inv-loop μ-loop
 loop-less c = omega arith
@@ -57,17 +60,19 @@ loop-again c =
     let m = c .before .before .before .before .before .before .before .before .before .args .t .open in
     let n = c .before .before .before .before .before .before .before .loop .n - 1 in
     let s = c .before .before .before .before .before .before .before .before .before .args .things .now in
+    let q : seen (c .before .before .before .before .before .left-at .result) ≡ top (thingsOf (m - n) s) = rw (c .before .before .before .before .before .before .before .loop .inv .1) at (c .before .before .before .before .before .left-at .ensures) in
+    let z = c .before .before .before .before .before .before .before .loop .t in
     let h = c .before .before .before .before .before .before .loop-test .taken in
-    let q : c .before .before .before .before .before .left-word .result ≡ top (thingsOf (m - n) s) .second = rw (c .before .before .before .before .before .before .before .loop .inv .1) at (c .before .before .before .before .before .left-word .ensures) in
     let a = c .before .before .before .before .before .before .before .loop .inv .2 in
-    let b = c .before .before .put .ensures .1 .1 in
+    let b = c .before .before .on-cell .ensures .1 .1 in
     let i = c .before .before .before .before .before .before .before .loop .inv .0 in (
       omega arith,
-      c .before .before .put .ensures .1 .2 ∙ c .before .before .before .before .before .before .before .loop .inv .1,
+      c .before .before .on-cell .ensures .1 .2 ∙ c .before .before .before .before .before .before .before .loop .inv .1,
       omega arith,
-      c .before .before .put .kept .1 .0 ∙ c .before .before .before .before .before .before .before .loop .inv .3,
-      λ vs ly ks es us ah en. ap (stored vs ly ks es (leftsOf vs ly ks es n (thingsOf m s) [])) (rw (c .before .before .before .storing .ensures .0, q) at (c .before .before .put .ensures .0 us s ah en))
-          ∙ sym (stored-step vs ly ks es (c .before .before .before .before .before .before .before .loop .n) m s (see (c .before .before .before .before .before .before .before .loop .t) us s (c .before .before .before .before .before .before .before .loop .code) ah en) h) ∙ c .before .before .before .before .before .before .before .loop .inv .4 vs ly ks es us ah en,
+      c .before .before .on-cell .kept .1 .0 ∙ c .before .before .before .before .before .before .before .loop .inv .3,
+      λ vs ly ks es us ah en. ap (stored vs ly ks es (leftsOf vs ly ks es n (thingsOf m s) [])) ((rw (c .before .before .before .storing .ensures .0) at (c .before .before .on-cell .ensures .0 us s ah en))
+          ∙ ap (λ (f : Opened). onCell (cond (eqb n 0) 14 15) 0 (f .third) (f .second) (see z us s (c .before .before .before .before .before .before .before .loop .code) ah en)) q)
+          ∙ sym (stored-step vs ly ks es (c .before .before .before .before .before .before .before .loop .n) m s (see z us s (c .before .before .before .before .before .before .before .loop .code) ah en) h) ∙ c .before .before .before .before .before .before .before .loop .inv .4 vs ly ks es us ah en,
     )
 
 same-length : tie.Need-same-length Inv-loop μ-loop
@@ -88,9 +93,9 @@ stored-spec =
     μ-loop
     loop-holds
     sub-n
-    left-word-requires
+    left-at-requires
     storing-requires
-    put-requires
+    on-cell-requires
     loop-less
     loop-again
     same-length

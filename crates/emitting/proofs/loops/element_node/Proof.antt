@@ -8,8 +8,8 @@ use borrow.Author.Needs.{needs}
 use Rattle.emitting.proofs.loops.element_node.Statement.{statement}
 use Rattle.emitting.proofs.loops.element_node.Tie as tie
 
-put-requires : tie.Need-put-requires
-put-requires c κs = search needs
+started-requires : tie.Need-started-requires
+started-requires c κs = search needs
 
 once-requires : tie.Need-once-requires
 once-requires c κs = search needs
@@ -28,7 +28,7 @@ same-length c = search needs
 
 returns : tie.Need-returns
 unfolding elementNode
-returns c = λ vs ly es us en. simp (c .before .before .before .before .match .keys1) (c .before .before .put .ensures .0 us (c .before .before .before .before .before .before .before .before .args .things .now) (c .before .before .before .before .before .before .before .before .args .next-ahead .now) en)
+returns c = λ vs ly es us en. simp (c .before .before .before .before .match .keys1) (c .before .before .started .ensures us (c .before .before .before .before .before .before .before .before .args .things .now) (c .before .before .before .before .before .before .before .before .args .next-ahead .now) en)
 
 same-length-2 : tie.Need-same-length-2
 same-length-2 c = search needs
@@ -64,7 +64,7 @@ pub element-node-spec : {M : Type 1} → statement M
 element-node-spec =
     tie.close
     (tie.spec
-    put-requires
+    started-requires
     once-requires
     whiled-requires
     stepping-requires

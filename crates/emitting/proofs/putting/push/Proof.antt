@@ -14,7 +14,7 @@ add-t c = search needs
 
 returns : tie.Need-returns
 unfolding pushed withOpen
-returns c = (λ us co ah en. rw (c .write .ensures), (record { slots = refl; level = refl; loops = refl; cells = refl; lefts = refl; declared = refl }, refl))
+returns c = (λ us co ah en. rw (c .write .ensures), (record { slots = refl; level = refl; loops = refl; cells = refl; lefts = refl; declared = refl }, refl, refl))
 
 pub push-spec : {M : Type 1} → statement M
 push-spec = tie.close (tie.spec write-requires add-t returns)

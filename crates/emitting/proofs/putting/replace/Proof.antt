@@ -2,6 +2,8 @@
 -- Assumes nothing.
 use mathlib.Core.Path.{_∙_, ap}
 use Rattle.emitting.specs.Emission.{pushed, popped, replaced, withOpen}
+use native.Mathlib.Omega.{arith}
+use Rattle.emitting.proofs.Alikes.{alike-then}
 use borrow.Author.Needs.{needs}
 use Rattle.emitting.proofs.putting.replace.Statement.{statement}
 use Rattle.emitting.proofs.putting.replace.Tie as tie
@@ -15,11 +17,11 @@ push-requires c κs = c .before .pop .ensures .1 .4 (c .before .before .pre)
 returns : tie.Need-returns
 unfolding replaced pushed popped withOpen
 returns c =
-    let a = c .push .ensures .1 .0 in
-    let b = c .before .before .pop .ensures .1 .0 in (
-      λ us co ah en. c .push .ensures .0 us co ah en ∙ ap (pushed (c .before .before .before .args .a) (c .before .before .before .args .b) (c .before .before .before .args .c) (c .before .before .before .args .d)) (c .before .before .pop .ensures .0 us (c .before .before .before .args .things .now) co ah en),
-      (record { slots = a .slots ∙ b .slots; level = a .level ∙ b .level; loops = a .loops ∙ b .loops; cells = a .cells ∙ b .cells; lefts = a .lefts ∙ b .lefts; declared = a .declared ∙ b .declared }, c .push .ensures .1 .1 ∙ c .before .before .pop .ensures .1 .1),
-    )
+    let a = c .before .before .before .args in
+    let f = c .push .ensures .1 in
+    let g = c .before .before .pop .ensures .1 in
+    let i = g .4 (c .before .before .before .pre) in
+    (λ us co ah en. c .push .ensures .0 us co ah en ∙ ap (pushed (a .a) (a .b) (a .c) (a .d)) (c .before .before .pop .ensures .0 us (a .things .now) co ah en), (alike-then (g .0) (f .0), f .1 ∙ g .1, omega (arith, f .2, i)))
 
 pub replace-spec : {M : Type 1} → statement M
 replace-spec = tie.close (tie.spec pop-requires push-requires returns)
