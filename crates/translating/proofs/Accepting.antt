@@ -49,6 +49,11 @@ strict lo hi k [] d r h = absurd (omega arith)
 strict lo hi zero (f ∷ l) d r h = r .1
 strict lo hi (suc k) (f ∷ l) d r h = strict (f .place + 1) hi k l d (r .2) (omega arith)
 
+inside : (lo hi k : ℕ) (l : List Found) → PlacesRise lo hi l → getD (placesOf l) k hi ≤ hi
+inside lo hi k [] r = omega arith
+inside lo hi zero (f ∷ l) r = omega (arith, r .1)
+inside lo hi (suc k) (f ∷ l) r = inside (f .place + 1) hi k l (r .2)
+
 -- every node's symbol comes before the end
 strictly : {n : ℕ} {ws : List ℕ} → SymbolsWithin n ws → SymbolsBelow (suc n) ws
 strictly no-node = tt
@@ -77,6 +82,10 @@ module _ {source : List ℕ} (p : Parsed source) where
   -- a symbol's place is one of the source's
   pub place-inside : (k : ℕ) → k < length found → placeIn source k < 16384
   place-inside k h = omega (arith, strict 0 (length source) k found (length source) (places-rise symbols source) h, p .scanned .short)
+
+  -- every place has 16 bits
+  pub place-small : (k : ℕ) → placeIn source k < 65536
+  place-small k = omega (arith, inside 0 (length source) k found (places-rise symbols source), p .scanned .short)
 
   -- the nodes' symbols are the source's
   pub below-nodes : SymbolsBelow (length found) (nodesS 1 (parsed p))

@@ -20,7 +20,7 @@ use Rattle.emitting.specs.Layout.{layoutOf}
 use Rattle.emitting.specs.Emission.{Used, State, usesIn, placeAt, fresh, put, placedNode, emitted, codeOf}
 use Rattle.translating.specs.Job.{filled, codeIn}
 use Rattle.translating.proofs.Sites.{numberOf}
-use Rattle.translating.proofs.Accepting.{found, few, place-inside, below-nodes, within-limits, in-order, numbered, well-scoped}
+use Rattle.translating.proofs.Accepting.{found, few, place-inside, place-small, below-nodes, within-limits, in-order, numbered, well-scoped}
 use Rattle.translating.proofs.ToldUses.{told-uses}
 use Rattle.translating.proofs.Written.{usesAs}
 use Rattle.translating.proofs.LaidOut.{laid}
@@ -29,30 +29,30 @@ use Rattle.translating.proofs.Emitted.{emitted-code}
 -- ---- places that agree on the nodes' symbols
 
 module _ (n : ℕ) (f g : ℕ → ℕ) (agree : (k : ℕ) → k < n → f k ≡ g k) where
-  same-fold : (vs ly ah es : List ℕ) (ws : List ℕ) (st : State) → SymbolsBelow n ws → foldNodes (placedNode vs ly ah es f) ws st ≡ foldNodes (placedNode vs ly ah es g) ws st
+  same-fold : (vs ly ah es rs : List ℕ) (ws : List ℕ) (st : State) → SymbolsBelow n ws → foldNodes (placedNode vs ly ah es rs f) ws st ≡ foldNodes (placedNode vs ly ah es rs g) ws st
   unfolding foldNodes
-  same-fold vs ly ah es [] st h = refl
-  same-fold vs ly ah es (k ∷ []) st h = refl
-  same-fold vs ly ah es (k ∷ s ∷ []) st h = refl
-  same-fold vs ly ah es (k ∷ s ∷ a ∷ []) st h = refl
-  same-fold vs ly ah es (k ∷ s ∷ a ∷ b ∷ ws) st h = rw (agree s (h .0)) (same-fold vs ly ah es ws (placedNode vs ly ah es g k s a b st) (h .1))
+  same-fold vs ly ah es rs [] st h = refl
+  same-fold vs ly ah es rs (k ∷ []) st h = refl
+  same-fold vs ly ah es rs (k ∷ s ∷ []) st h = refl
+  same-fold vs ly ah es rs (k ∷ s ∷ a ∷ []) st h = refl
+  same-fold vs ly ah es rs (k ∷ s ∷ a ∷ b ∷ ws) st h = rw (agree s (h .0)) (same-fold vs ly ah es rs ws (placedNode vs ly ah es rs g k s a b st) (h .1))
 
-  same-emitted : (vs ly ah es : List ℕ) (r : ℕ) (ws : List ℕ) (us : List Used) → SymbolsBelow n ws → emitted vs ly ah es r f ws us ≡ emitted vs ly ah es r g ws us
+  same-emitted : (vs ly ah es rs : List ℕ) (r : ℕ) (ws : List ℕ) (us : List Used) → SymbolsBelow n ws → emitted vs ly ah es rs r f ws us ≡ emitted vs ly ah es rs r g ws us
   unfolding emitted
-  same-emitted vs ly ah es r ws us h = ap (put 1 0 0) (same-fold vs ly ah es ws (fresh r us) h)
+  same-emitted vs ly ah es rs r ws us h = ap (put 1 0 0) (same-fold vs ly ah es rs ws (fresh r us) h)
 
-  same-code : (r : ℕ) (vs ly ws : List ℕ) (us : List Used) → SymbolsBelow n ws → codeOf r f vs ly ws us ≡ codeOf r g vs ly ws us
+  same-code : (r : ℕ) (vs ly rs ws : List ℕ) (us : List Used) → SymbolsBelow n ws → codeOf r f vs ly rs ws us ≡ codeOf r g vs ly rs ws us
   unfolding codeOf
-  same-code r vs ly ws us h =
-      ap (λ (st : State). emitted vs ly (st .ahead) (st .entries) r f ws us .code) (same-emitted vs ly [] [] r ws us h)
-      ∙ ap (λ (st : State). st .code) (same-emitted vs ly _ _ r ws us h)
+  same-code r vs ly rs ws us h =
+      ap (λ (st : State). emitted vs ly (st .ahead) (st .entries) rs r f ws us .code) (same-emitted vs ly [] [] rs r ws us h)
+      ∙ ap (λ (st : State). st .code) (same-emitted vs ly _ _ rs r ws us h)
 
 -- ---- what the front end fills for a source's one program
 
--- the nodes; the rows, in front of what else stands there; the uses, each with the number of what it means; places and values, by symbol
+-- the nodes; the rows; the uses, each with the number of what it means; places and values, by symbol
 pub record Lent {text : List ℕ} (p : Parsed text) (nodes uses rows places values : List ℕ) : Type 0 where
   pub noded : nodes ≡ nodesS 1 (parsed p)
-  pub rowed : (i : ℕ) → i < length (rowsS 0 0 (parsed p)) → getD rows i 0 ≡ getD (rowsS 0 0 (parsed p)) i 0
+  pub rowed : rows ≡ rowsS 0 0 (parsed p)
   pub used : Matches (rowsS 0 0 (parsed p)) uses (usesS [] (parsed p))
   pub placed : (k : ℕ) → k < length (found p) → getD places k 0 ≡ placeIn text k
   pub valued : (k : ℕ) → k < length (found p) → getD values k 0 ≡ getD (valuesOf (found p)) k 0
@@ -62,14 +62,16 @@ module _ {text nodes uses rows places values : List ℕ} {p : Parsed text} (t : 
   place-is k h = let i = place-inside p k h in let e = t .placed k h in omega arith
 
   pub coded : least (nameFaults (parsed p)) ≡ none → typeFault (parsed p) ≡ none
-      → codeOf 16384 (placeAt places) values (layoutOf nodes) nodes (usesIn rows uses) ≡ filled (codeIn p)
+      → codeOf 16384 (placeAt places) values (layoutOf nodes) rows nodes (usesIn rows uses) ≡ filled (codeIn p)
   coded named typed =
       let s = parsed p in
       let n = length (found p) in
       let place : ℕ → ℕ = placeIn text in
-      let us = usesAs (numberOf (rowsS 0 0 s)) (usesS [] s) in
-      ap (λ (u : List Used). codeOf 16384 (placeAt places) values (layoutOf nodes) nodes u) (told-uses n (rowsS 0 0 s) rows (in-order p) (t .rowed) uses (usesS [] s) (t .used))
-      ∙ ap (λ (ws : List ℕ). codeOf 16384 (placeAt places) values (layoutOf ws) ws us) (t .noded)
-      ∙ same-code n (placeAt places) place place-is 16384 values (layoutOf (nodesS 1 s)) (nodesS 1 s) us (below-nodes p)
-      ∙ emitted-code place n values (layoutOf (nodesS 1 s)) s (few p) (in-order p) (well-scoped p named typed) (within-limits p) (numbered p values (t .valued))
-      (laid n (few p) s (in-order p) (within-limits p))
+      let rs = rowsS 0 0 s in
+      let us = usesAs (numberOf rs) (usesS [] s) in
+      ap (λ (l : List ℕ). codeOf 16384 (placeAt places) values (layoutOf nodes) l nodes (usesIn l uses)) (t .rowed)
+      ∙ ap (λ (u : List Used). codeOf 16384 (placeAt places) values (layoutOf nodes) rs nodes u) (told-uses n rs (in-order p) uses (usesS [] s) (t .used))
+      ∙ ap (λ (ws : List ℕ). codeOf 16384 (placeAt places) values (layoutOf ws) rs ws us) (t .noded)
+      ∙ same-code n (placeAt places) place place-is 16384 values (layoutOf (nodesS 1 s)) rs (nodesS 1 s) us (below-nodes p)
+      ∙ emitted-code place (place-small p) n values (layoutOf (nodesS 1 s)) s (few p) (in-order p) (well-scoped p named typed) (within-limits p) (numbered p values (t .valued))
+      (laid n (few p) s (in-order p) (within-limits p)) uses (t .used)

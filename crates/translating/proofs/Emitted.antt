@@ -1,6 +1,6 @@
 -- The words that the pass over a program's nodes writes are the words of its translation: done once, the pass finds what lies ahead and where procedures
 -- begin; done again with these tables, it writes the code. Assumes nothing.
-use Prim.Native.Nat.{ℕ, _+_, _-_, _≤_}
+use Prim.Native.Nat.{ℕ, _+_, _-_, _≤_, _<_}
 use native.Mathlib.Omega.{arith}
 use mathlib.Core.Path.{_≡_, refl, sym, ap, _∙_}
 use mathlib.Core.List.{List, [], _∷_, _++_, append-nil}
@@ -11,12 +11,15 @@ use Rattle.names.specs.Nodes.{nodesS}
 use Rattle.names.specs.Rows.{foldNodes}
 use Rattle.names.specs.Uses.{usesS}
 use Rattle.names.specs.Outline.{rowsS}
-use Rattle.translation.specs.Translate.{codeS, code, endS}
+use Rattle.names.proofs.Resolved.{Matches}
+use Rattle.translation.specs.Translate.{Mark, codeS, code, endS}
 use Rattle.machine.specs.Words.{words}
 use Rattle.translation.specs.Scoped.{Scoped}
 use Rattle.translation.specs.Sizes.{Limited}
 use Rattle.emitting.specs.Emission.{Used, State, put, fresh, emitted, codeOf}
 use Rattle.translating.proofs.NumbersOf.{NumbersS}
+use Rattle.translating.proofs.ToldCalls.{Asked, ToldS, toldS}
+use Rattle.translating.proofs.ActualWords.{wordIn}
 use Rattle.translating.proofs.Rising.{Rising}
 use Rattle.translating.proofs.Sites.{numberOf, LaidS}
 use Rattle.translation.proofs.Ranges.{ends, in-range}
@@ -37,21 +40,25 @@ begun s = record { uses = usesS [] s; at = 0; variable = 0; code = []; slots = [
 fresh-is : (key : ℕ → ℕ) (s : Statement) → fresh 16384 (usesAs key (usesS [] s)) ≡ real key outermost (begun s)
 fresh-is key s = rw (shown-none 16384, shown-none 8192, shown-none 2048)
 
-module _ (place key : ℕ → ℕ) (values layout : List ℕ) (s : Statement) (ok : Scoped s) (numbers : NumbersS (λ q v. getD values q 0 ≡ v) s) (laid : LaidS key layout 0 0 s) where
+module _ (place key : ℕ → ℕ) (small : (q : ℕ) → place q < 65536) (values layout rows : List ℕ) (s : Statement) (ok : Scoped s) (calls : ToldS (λ q v. getD values q 0 ≡ v) (Asked key rows) [] s) (laid : LaidS key layout 0 0 s) where
   abbrev told : List ℕ → List ℕ → Tables
-  told ahead entries = record { place = place; key = key; values = values; layout = layout; ahead = ahead; entries = entries }
+  told ahead entries = record { place = place; key = key; values = values; layout = layout; ahead = ahead; entries = entries; rows = rows; small = small }
+
+  -- what lies ahead
+  abbrev before : List Mark → Statement → ℕ → List ℕ → List ℕ
+  before g s b = aheadS place (wordIn key layout) g s b
 
   abbrev uses : List Used
   uses = usesAs key (usesS [] s)
 
   -- a pass over all nodes
   whole : (R : Type 0) (ahead entries : List ℕ) → (R → RightS key entries [] s 0)
-      → Passed (told ahead entries) R outermost outermost (nodesS 1 s) [] (endS [] s 0) (aheadS [] s 0) (enteredS [] s 0) (codeS place [] 0 s 0) (begun s)
+      → Passed (told ahead entries) R outermost outermost (nodesS 1 s) [] (endS [] s 0) (before [] s 0) (enteredS [] s 0) (codeS place [] 0 s 0) (begun s)
   whole R ahead entries right =
-      emitsS (told ahead entries) R [] 0 s 1 0 (λ z. tt) right tt ok numbers laid .pass [] outermost (begun s) (record { level = refl; loops = refl; lefts = refl; awaits = refl }) (sym (append-nil (usesS [] s))) refl
+      emitsS (told ahead entries) R [] 0 s 1 0 (λ z. tt) right tt ok calls laid .pass [] outermost (begun s) (record { level = refl; loops = refl; lefts = refl; awaits = refl }) (sym (append-nil (usesS [] s))) refl
 
   ran : (R : Type 0) (ahead entries : List ℕ) (right : R → RightS key entries [] s 0)
-      → emitted values layout ahead entries 16384 place (nodesS 1 s) uses ≡ real key outermost (wrote 1 0 0 (whole R ahead entries right .next))
+      → emitted values layout ahead entries rows 16384 place (nodesS 1 s) uses ≡ real key outermost (wrote 1 0 0 (whole R ahead entries right .next))
   unfolding emitted step foldNodes
   ran R ahead entries right =
       let tb = told ahead entries in
@@ -64,7 +71,7 @@ module _ (place key : ℕ → ℕ) (values layout : List ℕ) (s : Statement) (o
 
   -- ---- the first run: its tables
 
-  first : Passed (told [] []) ⊥ outermost outermost (nodesS 1 s) [] (endS [] s 0) (aheadS [] s 0) (enteredS [] s 0) (codeS place [] 0 s 0) (begun s)
+  first : Passed (told [] []) ⊥ outermost outermost (nodesS 1 s) [] (endS [] s 0) (before [] s 0) (enteredS [] s 0) (codeS place [] 0 s 0) (begun s)
   first = whole ⊥ [] [] (λ z. absurd z)
 
   abbrev slots : List ℕ
@@ -76,22 +83,22 @@ module _ (place key : ℕ → ℕ) (values layout : List ℕ) (s : Statement) (o
   -- ---- the second
 
   second : RightS key entries [] s 0
-      → Passed (told (shown 8192 slots) entries) (Unit {0}) outermost outermost (nodesS 1 s) [] (endS [] s 0) (aheadS [] s 0) (enteredS [] s 0) (codeS place [] 0 s 0) (begun s)
+      → Passed (told (shown 8192 slots) entries) (Unit {0}) outermost outermost (nodesS 1 s) [] (endS [] s 0) (before [] s 0) (enteredS [] s 0) (codeS place [] 0 s 0) (begun s)
   second right = whole (Unit {0}) (shown 8192 slots) entries (λ z. right)
 
-  twice : (right : RightS key entries [] s 0) → codeOf 16384 place values layout (nodesS 1 s) uses ≡ shown 16384 (second right .next .code ++ (1 ∷ 0 ∷ []))
+  twice : (right : RightS key entries [] s 0) → codeOf 16384 place values layout rows (nodesS 1 s) uses ≡ shown 16384 (second right .next .code ++ (1 ∷ 0 ∷ []))
   unfolding codeOf first second
   twice right =
       let nodes = nodesS 1 s in
-      ap (λ (st : State). emitted values layout (st .ahead) (st .entries) 16384 place nodes uses .code) (ran ⊥ [] [] (λ z. absurd z))
-      ∙ ap (λ (l : List ℕ). emitted values layout (shown 8192 slots) (shown 2048 l) 16384 place nodes uses .code) (first .enters)
+      ap (λ (st : State). emitted values layout (st .ahead) (st .entries) rows 16384 place nodes uses .code) (ran ⊥ [] [] (λ z. absurd z))
+      ∙ ap (λ (l : List ℕ). emitted values layout (shown 8192 slots) (shown 2048 l) rows 16384 place nodes uses .code) (first .enters)
       ∙ ap (λ (st : State). st .code) (ran (Unit {0}) (shown 8192 slots) entries (λ z. right))
 
   -- the table of what lies ahead is right
   few-slots : Limited s → length slots ≤ 8192
-  few-slots l = omega (arith, ap length (more-slots (first .fills)), fewS [] s 0 [], ends place s (l .whole) (l .symbols))
+  few-slots l = omega (arith, ap length (more-slots (first .fills)), fewS place (wordIn key layout) [] s 0 [], ends place s (l .whole) (l .symbols))
 
-  ahead-right : Limited s → shown 8192 slots ≡ aheadS [] s 0 (replicate (8192 - length slots) 0)
+  ahead-right : Limited s → shown 8192 slots ≡ before [] s 0 (replicate (8192 - length slots) 0)
   ahead-right l = shown-whole 8192 slots (few-slots l) ∙ first .fills .so (replicate (8192 - length slots) 0)
 
   written : Limited s → (right : RightS key entries [] s 0) → second right .next .code ++ (1 ∷ 0 ∷ []) ≡ words (code place s)
@@ -99,12 +106,14 @@ module _ (place key : ℕ → ℕ) (values layout : List ℕ) (s : Statement) (o
   written l right = second right .right tt (replicate (8192 - length slots) 0) (END ∷ []) (ahead-right l) (in-range place s l) .0
 
 -- the words of the pass are the words of the translation, and zeros behind them
-pub emitted-code : (place : ℕ → ℕ) (n : ℕ) (values layout : List ℕ) (s : Statement) → n ≤ 2048 → Rising 0 n (rowsS 0 0 s) → Scoped s → Limited s
-    → NumbersS (λ q v. getD values q 0 ≡ v) s → LaidS (numberOf (rowsS 0 0 s)) layout 0 0 s
-    → codeOf 16384 place values layout (nodesS 1 s) (usesAs (numberOf (rowsS 0 0 s)) (usesS [] s)) ≡ words (code place s) ++ replicate (16384 - length (words (code place s))) 0
-emitted-code place n values layout s few rising ok limited numbers laid =
-    let key = numberOf (rowsS 0 0 s) in
+pub emitted-code : (place : ℕ → ℕ) → ((q : ℕ) → place q < 65536) → (n : ℕ) (values layout : List ℕ) (s : Statement) → n ≤ 2048 → Rising 0 n (rowsS 0 0 s) → Scoped s → Limited s
+    → NumbersS (λ q v. getD values q 0 ≡ v) s → LaidS (numberOf (rowsS 0 0 s)) layout 0 0 s → (words-of : List ℕ) → Matches (rowsS 0 0 s) words-of (usesS [] s)
+    → codeOf 16384 place values layout (rowsS 0 0 s) (nodesS 1 s) (usesAs (numberOf (rowsS 0 0 s)) (usesS [] s)) ≡ words (code place s) ++ replicate (16384 - length (words (code place s))) 0
+emitted-code place small n values layout s few rising ok limited numbers laid ws used =
+    let rows = rowsS 0 0 s in
+    let key = numberOf rows in
     let right = right-entries n few s rising in
-    twice place key values layout s ok numbers laid right
-    ∙ ap (shown 16384) (written place key values layout s ok numbers laid limited right)
+    let calls = toldS (λ q v. getD values q 0 ≡ v) n rows rising [] s numbers (ws, used) in
+    twice place key small values layout rows s ok calls laid right
+    ∙ ap (shown 16384) (written place key small values layout rows s ok calls laid limited right)
     ∙ shown-whole 16384 (words (code place s)) (fits-words place s limited)

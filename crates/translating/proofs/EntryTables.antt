@@ -35,7 +35,7 @@ unfoldable mutual
       let i = endE g c b in
       let n = endS g s (suc i) in
       enteredS g t (suc n) (enteredS g s (suc i) l)
-  enteredS g (repeat x y ys s) b l = enteredS g s (endL g (y ∷ ys) b) l
+  enteredS g (repeat x y ys s) b l = enteredS g s (endL g x (y ∷ ys) b) l
   enteredS g (compound ss) b l = enteredSs g ss b l
   enteredS g (block q ds ss) b l =
       let h = ofBlock ds ∷ g in
@@ -66,7 +66,7 @@ unfoldable mutual
   entriesS g (procedure x es) b = []
   entriesS g (when q c s) b = entriesS g s (suc (endE g c b))
   entriesS g (either q c s t) b = entriesS g s (suc (endE g c b)) ++ entriesS g t (suc (endS g s (suc (endE g c b))))
-  entriesS g (repeat x y ys s) b = entriesS g s (endL g (y ∷ ys) b)
+  entriesS g (repeat x y ys s) b = entriesS g s (endL g x (y ∷ ys) b)
   entriesS g (compound ss) b = entriesSs g ss b
   entriesS g (block q ds ss) b = entriesDs (ofBlock ds ∷ g) ds (suc b) ++ entriesSs (ofBlock ds ∷ g) ss (endDs (ofBlock ds ∷ g) ds (suc b))
 
@@ -102,7 +102,7 @@ mutual
   enteredS-are g (either q c s t) b l =
       let i = suc (endE g c b) in
       then-are l (entriesS g s i) (entriesS g t (suc (endS g s i))) (enteredS-are g s i l) (enteredS-are g t (suc (endS g s i)) (enteredS g s i l))
-  enteredS-are g (repeat x y ys s) b l = enteredS-are g s (endL g (y ∷ ys) b) l
+  enteredS-are g (repeat x y ys s) b l = enteredS-are g s (endL g x (y ∷ ys) b) l
   enteredS-are g (compound ss) b l = enteredSs-are g ss b l
   enteredS-are g (block q ds ss) b l =
       let h = ofBlock ds ∷ g in
@@ -136,7 +136,7 @@ mutual
   alikeS c q g (procedure x es) b = no-word
   alikeS c q g (when p e s) b = alikeS c q g s (suc (endE g e b))
   alikeS c q g (either p e s t) b = alike-append (alikeS c q g s (suc (endE g e b))) (alikeS (c + sizeS s) q g t (suc (endS g s (suc (endE g e b)))))
-  alikeS c q g (repeat x y ys s) b = alikeS c q g s (endL g (y ∷ ys) b)
+  alikeS c q g (repeat x y ys s) b = alikeS c q g s (endL g x (y ∷ ys) b)
   alikeS c q g (compound ss) b = alikeSs c q g ss b
   alikeS c q g (block p ds ss) b =
       let h = ofBlock ds ∷ g in
@@ -165,7 +165,7 @@ module _ (key : ℕ → ℕ) (T : List ℕ) where
     RightS g (procedure x es) b = Unit {0}
     RightS g (when q c s) b = RightS g s (suc (endE g c b))
     RightS g (either q c s t) b = RightS g s (suc (endE g c b)) × RightS g t (suc (endS g s (suc (endE g c b))))
-    RightS g (repeat x y ys s) b = RightS g s (endL g (y ∷ ys) b)
+    RightS g (repeat x y ys s) b = RightS g s (endL g x (y ∷ ys) b)
     RightS g (compound ss) b = RightSs g ss b
     RightS g (block q ds ss) b = RightDs (ofBlock ds ∷ g) ds (suc b) × RightSs (ofBlock ds ∷ g) ss (endDs (ofBlock ds ∷ g) ds (suc b))
 
@@ -215,7 +215,7 @@ module _ (key : ℕ → ℕ) (T : List ℕ) where
         let j = suc (endS g s i) in
         let r = found-split key T (entriesS g s i) (entriesS g t j) h in
         (rightS g s i (r .0), rightS g t j (r .1))
-    rightS g (repeat x y ys s) b h = rightS g s (endL g (y ∷ ys) b) h
+    rightS g (repeat x y ys s) b h = rightS g s (endL g x (y ∷ ys) b) h
     rightS g (compound ss) b h = rightSs g ss b h
     rightS g (block q ds ss) b h =
         let g' = ofBlock ds ∷ g in

@@ -27,6 +27,6 @@ as-refused {text} r n j e k = subst (Translated text (Refused r)) (sym (e ∙ ap
 
 -- 0
 pub as-accepted : {text nodes uses rows places values ws : List ℕ} {n : ℕ} (p : Parsed text) → Lent p nodes uses rows places values → least (nameFaults (parsed p)) ≡ none → typeFault (parsed p) ≡ none
-    → n ≡ room → ws ≡ codeOf n (placeAt places) values (layoutOf nodes) nodes (usesIn rows uses) → Translated text Accepted ws
+    → n ≡ room → ws ≡ codeOf n (placeAt places) values (layoutOf nodes) rows nodes (usesIn rows uses) → Translated text Accepted ws
 as-accepted {text} {nodes} {uses} {rows} {places} {values} p t named typed k e =
-    subst (Translated text Accepted) (sym (e ∙ ap (λ i. codeOf i (placeAt places) values (layoutOf nodes) nodes (usesIn rows uses)) k ∙ coded t named typed)) (accepted p named typed)
+    subst (Translated text Accepted) (sym (e ∙ ap (λ i. codeOf i (placeAt places) values (layoutOf nodes) rows nodes (usesIn rows uses)) k ∙ coded t named typed)) (accepted p named typed)

@@ -3,14 +3,14 @@
 use Prim.Native.Nat.{ℕ, suc, _+_, _≤_, _<_}
 use native.Mathlib.Omega.{arith}
 use native.Mathlib.Nat.{mod-eq-of-lt}
-use mathlib.Core.Path.{_≡_, subst, _∙_}
+use mathlib.Core.Path.{_≡_, refl, subst, _∙_}
 use mathlib.Core.Bool.{Bool, true, false, cond}
 use mathlib.Core.List.{List, [], _∷_, _++_, map}
 use mathlib.Core.Option.{Option, some, Option·none-ne-some}
-use lib.ListN.{length}
+use lib.ListN.{length, getD}
 use Rattle.machine.specs.Instructions.{pack}
 use Rattle.names.specs.Program.{Name, Sort, Specification, Statement, dummy, assignment, procedure, when, either, repeat, compound, block, Statements, last, first, Declarations, none as no-more, variables, declare, Procedure, heading}
-use Rattle.names.specs.Scopes.{same, Thing, formal, Declared, specified, variablesIn, ofBlock, ofBody, inBlock, inBody, findIn}
+use Rattle.names.specs.Scopes.{same, has, Thing, formalAs, Declared, specified, variablesIn, ofBlock, ofBody, inBlock, inBody, findIn}
 use Rattle.names.specs.Nodes.{nodesS}
 use Rattle.names.specs.Outline.{rowsS}
 use Rattle.rules.specs.Entered.{cellsOf, total, oneIf, cellsIn, before}
@@ -79,12 +79,24 @@ module _ (key : ℕ → ℕ) (L : List ℕ) where
         turn-to u (inBlock ds) (omega arith) (block-turn u o ds (r .1) i (omega arith)),
       )
 
-  formals-turn : (u o : ℕ) (ss : List Specification) (xs : List Name) → Found key L (writtenN u o xs) → u < 64 → o + length xs ≤ 8192
-      → InTurn u o (map (λ y. record { name = y; thing = formal (specified ss y) }) xs)
+  -- a formal lies so, however it is called
+  formal-lies : (u o k : ℕ) (b : Bool) (t : Option Sort) → getD L (key k) 0 ≡ pack u o 0 → o < 8192 → Lying key L u o (formalAs b t) k
+  formal-lies u o k true t e h = (e, h)
+  formal-lies u o k false t e h = (e, h)
+
+  formals-turn : (u o : ℕ) (vs : List Name) (ss : List Specification) (xs : List Name) → Found key L (writtenN u o xs) → u < 64 → o + length xs ≤ 8192
+      → InTurn u o (map (λ y. record { name = y; thing = formalAs (has vs y) (specified ss y) }) xs)
   unfolding writtenN
-  formals-turn u o ss [] h i j = tt
-  formals-turn u o ss (x ∷ xs) h i j =
-      ((h .0 ∙ whole-word u o i (omega arith), omega arith), formals-turn u (o + 1) ss xs (h .1) i (omega arith))
+  formals-turn u o vs ss [] h i j = tt
+  formals-turn u o vs ss (x ∷ xs) h i j = (
+    formal-lies u o (x .symbol) (has vs x) (specified ss x) (h .0 ∙ whole-word u o i (omega arith)) (omega arith),
+    subst (λ (n : ℕ). InTurn u n (map (λ y. record { name = y; thing = formalAs (has vs y) (specified ss y) }) xs)) (cells-one (has vs x) (specified ss x) o)
+        (formals-turn u (o + 1) vs ss xs (h .1) i (omega arith)),
+  )
+    where
+      cells-one : (b : Bool) (t : Option Sort) (o : ℕ) → o + 1 ≡ o + cellsOf (formalAs b t)
+      cells-one true t o = refl
+      cells-one false t o = refl
 
   mutual
     unfolding writtenS symbolsS deepS inBody
@@ -135,7 +147,7 @@ module _ (key : ℕ → ℕ) (L : List ℕ) where
           h .0 ∙ whole-word u (oneIf t) (omega arith) (omega arith),
           λ x d e.
               as-far (suc u) (d .thing) (d .name .symbol) (omega arith)
-              (in-turn (suc u) (inBody (heading t f xs vs ss s)) (oneIf t) x d (formals-turn (suc u) (oneIf t) ss xs (r .0) (omega arith) (omega arith)) e),
+              (in-turn (suc u) (inBody (heading t f xs vs ss s)) (oneIf t) x d (formals-turn (suc u) (oneIf t) vs ss xs (r .0) (omega arith) (omega arith)) e),
           laidS (suc u) n s (r .1) (omega arith) (omega arith),
         )
 

@@ -46,10 +46,10 @@ module _ {text places values nodes rows uses : List ℕ} {s : Sizes} (h : Holds 
   count-here : length (found program) ≡ s .symbols
   count-here = sym (known .ready .places-in .count ∙ length-map (found program) (λ f. kind (f .symbol)))
 
-  pub lent : Lent program (take (s .nodes) nodes) (take (s .uses) uses) rows places values
+  pub lent : Lent program (take (s .nodes) nodes) (take (s .uses) uses) (take (4 * s .rows) rows) places values
   lent = record {
     noded = nodes-are known;
-    rowed = first-word (4 * s .rows) rows (rowsS 0 0 (parsed program)) rows-here;
+    rowed = rows-here;
     used = uses-here;
     placed = λ k l. known .ready .places-in .placed k (omega (arith, count-here));
     valued = λ k l. first-word (s .symbols) values (valuesOf (found program)) (h .valued) k (omega (arith, length-map (found program) (λ f. valueOf (f .symbol))));

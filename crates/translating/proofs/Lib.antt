@@ -17,6 +17,10 @@ pub mod SlotLists
 pub mod Written
 pub mod NameWords
 pub mod WrittenChoices
+pub mod ToldCalls
+pub mod WrittenNames
+pub mod ActualWords
+pub mod WrittenActuals
 pub mod WrittenExpressions
 pub mod WrittenAssignments
 pub mod WrittenCommands

@@ -2,6 +2,7 @@
 -- and whether it has a result; the table of the entries tells where a procedure begins.
 use Prim.Native.Nat.{ℕ, suc, _+_, _-_, _<_}
 use native.Mathlib.Omega.{arith}
+use native.Mathlib.Nat.{zero-add}
 use mathlib.Core.Path.{_≡_, refl, sym, ap, subst, _∙_}
 use mathlib.Core.Bool.{Bool, true, false, cond}
 use mathlib.Core.List.{List, [], _∷_, _++_, map}
@@ -11,19 +12,18 @@ use lib.ListN.{getD}
 use borrow.Author.Tests.{eqb-true}
 use Rattle.symbols.specs.Text.{bytes}
 use Rattle.symbols.specs.Names.{sameName}
-use Rattle.machine.specs.Instructions.{pack, high}
+use Rattle.machine.specs.Instructions.{Loc, lc, pack, high, mid, low}
 use Rattle.names.specs.Program.{Name, Sort, Specification, Declarations, none as no-more, variables, declare, Procedure}
-use Rattle.names.specs.Scopes.{Thing, variable, routine, formal, Declared, Scope, ofBlock, ofBody, declares, variablesIn, inBlock, inBody, specified, specificationsOf, formalsOf, nameOf, sortOf, same, findIn, Given, environment, findGiven, innermost, Meaning, declared, given, nothing, meaning}
-use Rattle.rules.specs.Entered.{oneIf, isSome, declaring, bodyOfThis}
-use Rattle.translation.specs.Translate.{Mark, blk, own, scopes, cutG, levels, amongG, offsetOf, locFor, locAs, loc, entry, target}
+use Rattle.names.specs.Scopes.{has, Thing, variable, routine, formal, by-name, formalAs, valuesOf, Declared, Scope, ofBlock, ofBody, declares, variablesIn, inBlock, inBody, specified, specificationsOf, formalsOf, nameOf, sortOf, same, findIn, Given, environment, findGiven, innermost, Meaning, declared, given, nothing, meaning}
+use Rattle.rules.specs.Entered.{placeIn, oneIf, isSome, declaring, bodyOfThis}
+use Rattle.translation.specs.Translate.{Mark, blk, own, acl, scopes, cutG, levels, amongG, offsetOf, locFor, locAs, loc, entry, target}
 use Rattle.translation.specs.Scoped.{nearest, HasCell, CellAs, OkV}
 use Rattle.machine.specs.Words.{beside, LocFits}
 use Rattle.emitting.specs.Layout.{packed}
-use Rattle.emitting.specs.Emission.{cellOf, resultOf}
+use Rattle.emitting.specs.Emission.{bare, cellOf, resultOf}
 use Rattle.translating.proofs.Sites.{Lying, Lies}
 use Rattle.translation.proofs.Ranges.{owns}
-use Rattle.names.specs.Uses.{thingKind}
-use Rattle.translating.proofs.Written.{kindOf, meansOf}
+use Rattle.translating.proofs.Written.{useKind, kindOf, meansOf}
 use Rattle.machine.proofs.Words.{high-pack, mid-pack}
 use Rattle.translation.proofs.Stands.{procedureOf, behind}
 
@@ -61,23 +61,26 @@ block-name (declare q ds) x d p e e' = go (same (nameOf q) x) (λ e. block-name 
     go false f e = f e
 
 -- a formal is no procedure
-formals-none : (ss : List Specification) (xs : List Name) (x : Name) (d : Declared) (p : Procedure)
-    → findIn (map (λ x. record { name = x; thing = formal (specified ss x) }) xs) x ≡ some d → d .thing ≡ routine p → ⊥
+formal-none : (b : Bool) (t : Option Sort) (p : Procedure) → formalAs b t ≡ routine p → ⊥
+formal-none true t p e = Option·none-ne-some p (ap procedureOf e)
+formal-none false t p e = Option·none-ne-some p (ap procedureOf e)
+
+formals-none : (vs : List Name) (ss : List Specification) (xs : List Name) (x : Name) (d : Declared) (p : Procedure)
+    → findIn (map (λ x. record { name = x; thing = formalAs (has vs x) (specified ss x) }) xs) x ≡ some d → d .thing ≡ routine p → ⊥
 unfolding findIn
-formals-none ss [] x d p e e' = Option·none-ne-some d e
-formals-none ss (y ∷ ys) x d p e e' = go (same y x) (λ e. formals-none ss ys x d p e e') e
+formals-none vs ss [] x d p e e' = Option·none-ne-some d e
+formals-none vs ss (y ∷ ys) x d p e e' = go (same y x) (λ e. formals-none vs ss ys x d p e e') e
   where
-    go : (b : Bool) → (findIn (map (λ x. record { name = x; thing = formal (specified ss x) }) ys) x ≡ some d → ⊥)
-        → cond b (some (record { name = y; thing = formal (specified ss y) })) (findIn (map (λ x. record { name = x; thing = formal (specified ss x) }) ys) x) ≡ some d → ⊥
+    go : (b : Bool) → (findIn (map (λ x. record { name = x; thing = formalAs (has vs x) (specified ss x) }) ys) x ≡ some d → ⊥)
+        → cond b (some (record { name = y; thing = formalAs (has vs y) (specified ss y) })) (findIn (map (λ x. record { name = x; thing = formalAs (has vs x) (specified ss x) }) ys) x) ≡ some d → ⊥
     go true f e =
-        let e₁ : record { name = y; thing = formal (specified ss y) } ≡ d = cc in
-        let e₂ : formal (specified ss y) ≡ routine p = ap (λ d. d .thing) e₁ ∙ e' in
-        Option·none-ne-some p (ap procedureOf e₂)
+        let e₁ : record { name = y; thing = formalAs (has vs y) (specified ss y) } ≡ d = cc in
+        formal-none (has vs y) (specified ss y) p (ap (λ d. d .thing) e₁ ∙ e')
     go false f e = f e
 
 body-none : (q : Procedure) (x : Name) (d : Declared) (p : Procedure) → findIn (inBody q) x ≡ some d → d .thing ≡ routine p → ⊥
 unfolding inBody
-body-none q x d p e e' = formals-none (specificationsOf q) (formalsOf q) x d p e e'
+body-none q x d p e e' = formals-none (valuesOf q) (specificationsOf q) (formalsOf q) x d p e e'
 
 routine-name : (s : Scope) (x : Name) (d : Declared) (p : Procedure) → findIn (declares s) x ≡ some d → d .thing ≡ routine p → d .name ≡ nameOf p
 routine-name (ofBlock ds) x d p e e' = block-name ds x d p e e'
@@ -94,12 +97,22 @@ meant-name (s ∷ g) x d h p e e' = go (findIn (declares s) x) refl (λ e. meant
         let i' : findIn (declares s) x ≡ some d = cc in
         routine-name s x d p i' e'
 
+-- the word of a name that has its cell at l; of a formal called by name, whose cell is sought
+pub record Celled (w : ℕ) (l : Loc) : Type 0 where
+  pub bared : bare w ≡ beside l 0
+  pub plain : low w ≡ 1
+
+pub record Sought (w u o : ℕ) : Type 0 where
+  pub bared : bare w ≡ pack u o 0
+  pub found : low w ≡ 2
+
 module _ (key : ℕ → ℕ) (L : List ℕ) where
   -- the layout is right for the scopes around
   abbrev pub Known : List Mark → Type 0
   Known [] = Unit {0}
   Known (blk o ds b ∷ g) = Lies key L (owns g) o (ofBlock ds) × Known g
   Known (own p ∷ g) = Lies key L (suc (owns g)) 0 (ofBody p) × (getD L (key (nameOf p .symbol)) 0 ≡ pack (owns g) (oneIf (sortOf p)) 0) × Known g
+  Known (acl ∷ g) = Known g
 
   -- the scope that declares a name: its level, and what the layout has
   pub record Stands (g : List Mark) (x : Name) (d : Declared) : Type 0 where
@@ -129,7 +142,11 @@ module _ (key : ℕ → ℕ) (L : List ℕ) where
           record { level = w .level; out = rw i (omega (arith, w .out)); lies = rw i (w .lies) }
       go (some d') i f e =
           let i' : findIn (inBody p) x ≡ some d = cc in
-          record { level = suc (owns g); out = rw i (omega arith); lies = rw i (k .0 x d i') }
+          let y = subst (λ (n : ℕ). Lying key L (suc (owns g)) n (d .thing) (d .name .symbol)) (zero-add (placeIn (ofBody p) x)) (k .0 x d i') in
+          record { level = suc (owns g); out = rw i (omega arith); lies = rw i y }
+  stands (acl ∷ g) x d h k e =
+      let w = stands g x d h k e in
+      record { level = w .level; out = omega (arith, w .out); lies = w .lies }
 
   -- the nearest body of a procedure with a result: the level of its declaration, which the layout has
   pub record Returns (g : List Mark) (p : Procedure) : Type 0 where
@@ -166,6 +183,9 @@ module _ (key : ℕ → ℕ) (L : List ℕ) where
       go false i f e =
           let w = f e in
           record { level = w .level; out = rw i (omega (arith, w .out)); first = rw i (w .first); word = w .word }
+  returns (acl ∷ g) p k e =
+      let w = returns g p k e in
+      record { level = w .level; out = omega (arith, w .out); first = w .first; word = w .word }
 
   as-thing : (g : List Mark) (x : Name) (d : Declared) (t : Thing) → d .thing ≡ t → (w : Stands g x d)
       → Lying key L (w .level) (amongG (cutG (declaring x) g) x) t (d .name .symbol)
@@ -180,45 +200,82 @@ module _ (key : ℕ → ℕ) (L : List ℕ) where
   outward : (level u n : ℕ) → level + u ≡ n → n - level ≡ u
   outward level u n e = omega arith
 
-  module _ (values ahead entries : List ℕ) where
-    cell-found : (k level o u m : ℕ) → eqb k 2 ≡ false → getD L m 0 ≡ pack level o 0 → o < 8192 → u < 64 → (n : ℕ) → level + u ≡ n
-        → cellOf values L ahead entries n k m ≡ pack u o 0
-    unfolding cellOf
-    cell-found k level o u m f e h w n i =
-        rw (f, e, high-pack level o 0 h (omega arith), mid-pack level o 0 h (omega arith), outward level u n i) (packed-is u o 0 w h (omega arith))
+  -- as an operand; and what kind of word it is
+  bare-is : (u o l : ℕ) → u < 64 → o < 8192 → l < 8192 → bare (packed u o l) ≡ pack u o 0
+  unfolding bare
+  bare-is u o l h i j =
+      rw (packed-is u o l h i j, high-pack u o l i j, mid-pack u o l i j) (packed-is u o 0 h i (omega arith))
 
-    cell-result : (level u m : ℕ) → high (getD L m 0) ≡ level → u < 64 → (n : ℕ) → suc level + u ≡ n → cellOf values L ahead entries n 2 m ≡ pack u 0 0
+  low-is : (u o l : ℕ) → l < 8192 → low (packed u o l) ≡ l
+  low-is u o l j = omega arith
+
+  module _ (values ahead entries : List ℕ) where
+    -- the parts of a name's word: packed from these
+    cell-found : (k level o u m : ℕ) → eqb k 2 ≡ false → getD L m 0 ≡ pack level o 0 → o < 8192 → (n : ℕ) → level + u ≡ n
+        → cellOf values L ahead entries n k m ≡ packed u o (cond (eqb k 4) 2 1)
     unfolding cellOf
-    cell-result level u m e w n i =
+    cell-found k level o u m f e h n i =
+        rw (f, e, high-pack level o 0 h (omega arith), mid-pack level o 0 h (omega arith), outward level u n i)
+
+    cell-result : (level u m : ℕ) → high (getD L m 0) ≡ level → (n : ℕ) → suc level + u ≡ n → cellOf values L ahead entries n 2 m ≡ packed u 0 1
+    unfolding cellOf
+    cell-result level u m e n i =
         let z : n - (level + 1) ≡ u = omega arith in
-        rw (e, z) (packed-is u 0 0 w (omega arith) (omega arith))
+        rw (e, z)
+
+    celled : (w u o : ℕ) → w ≡ packed u o 1 → (u < 64) × (o < 8191) → Celled w (lc u o)
+    celled w u o e h = record { bared = ap bare e ∙ bare-is u o 1 (h .0) (omega (arith, h .1)) (omega arith); plain = ap low e ∙ low-is u o 1 (omega arith) }
+
+    -- its kind tells which of the two it is
+    pub low-word : (n k m : ℕ) → low (cellOf values L ahead entries n k m) ≡ cond (eqb k 4) 2 1
+    unfolding cellOf
+    low-word n k m = go (eqb k 2) (eqb k 4) (λ e. rw (eqb-true k 2 e) refl)
+      where
+        go : (b c : Bool) → (b ≡ true → c ≡ false)
+            → low (cond b (packed (n - (high (getD L m 0) + 1)) 0 1) (packed (n - high (getD L m 0)) (mid (getD L m 0)) (cond c 2 1))) ≡ cond c 2 1
+        go true c h = low-is (n - (high (getD L m 0) + 1)) 0 1 (omega arith) ∙ ap (λ (c : Bool). cond {A = ℕ} c 2 1) (sym (h refl))
+        go false true h = low-is (n - high (getD L m 0)) (mid (getD L m 0)) 2 (omega arith)
+        go false false h = low-is (n - high (getD L m 0)) (mid (getD L m 0)) 1 (omega arith)
 
     -- a name that has a cell
     pub cell-is : (g : List Mark) (x : Name) → Known g → OkV (scopes g) x → LocFits (loc g x)
-        → cellOf values L ahead entries (owns g) (kindOf (meaning (scopes g) x)) (meansOf key (meaning (scopes g) x)) ≡ beside (loc g x) 0
+        → Celled (cellOf values L ahead entries (owns g) (kindOf (meaning (scopes g) x)) (meansOf key (meaning (scopes g) x))) (loc g x)
     unfolding loc
     cell-is g x k ok fits = go (meaning (scopes g) x) refl ok fits
       where
         thing : (d : Declared) (h : List Scope) → meaning (scopes g) x ≡ declared d h → (t : Thing) → d .thing ≡ t → HasCell (scopes g) t → LocFits (locFor g t x)
-            → cellOf values L ahead entries (owns g) (thingKind t) (key (d .name .symbol)) ≡ beside (locFor g t x) 0
+            → Celled (cellOf values L ahead entries (owns g) (useKind t) (key (d .name .symbol))) (locFor g t x)
         thing d h e (variable t) i ok fits =
             let w = stands g x d h k e in
             let y = as-thing g x d (variable t) i w in
-            cell-found 1 (w .level) _ (levels (declaring x) g) (key (d .name .symbol)) refl (y .0) (y .1) (fits .0) (owns g) (w .out)
+            celled _ _ _ (cell-found 1 (w .level) _ (levels (declaring x) g) (key (d .name .symbol)) refl (y .0) (y .1) (owns g) (w .out)) fits
         thing d h e (formal t) i ok fits =
             let w = stands g x d h k e in
             let y = as-thing g x d (formal t) i w in
-            cell-found 3 (w .level) _ (levels (declaring x) g) (key (d .name .symbol)) refl (y .0) (y .1) (fits .0) (owns g) (w .out)
+            celled _ _ _ (cell-found 3 (w .level) _ (levels (declaring x) g) (key (d .name .symbol)) refl (y .0) (y .1) (owns g) (w .out)) fits
+        thing d h e (by-name t) i ok fits = absurd ok
         thing d h e (routine p) i ok fits =
             let w = returns g p k ok in
             let j = meant-name (scopes g) x d h p e i in
-            rw (j, w .first) (cell-result (w .level) (levels (bodyOfThis p) g) (key (nameOf p .symbol)) (w .word) (fits .0) (owns g) (w .out))
+            celled _ _ _ (rw (j, w .first) (cell-result (w .level) (levels (bodyOfThis p) g) (key (nameOf p .symbol)) (w .word) (owns g) (w .out))) fits
 
         go : (M : Meaning) → meaning (scopes g) x ≡ M → CellAs (scopes g) M → LocFits (locAs g M x)
-            → cellOf values L ahead entries (owns g) (kindOf M) (meansOf key M) ≡ beside (locAs g M x) 0
+            → Celled (cellOf values L ahead entries (owns g) (kindOf M) (meansOf key M)) (locAs g M x)
         go (declared d h) e ok fits = thing d h e (d .thing) refl ok fits
         go (given n y) e ok fits = absurd ok
         go nothing e ok fits = absurd ok
+
+    -- a formal called by name
+    pub sought-is : (g : List Mark) (x : Name) (d : Declared) (h : List Scope) (t : Option Sort) → Known g → meaning (scopes g) x ≡ declared d h → d .thing ≡ by-name t
+        → (levels (declaring x) g < 64) × (amongG (cutG (declaring x) g) x < 8191)
+        → Sought (cellOf values L ahead entries (owns g) 4 (key (d .name .symbol))) (levels (declaring x) g) (amongG (cutG (declaring x) g) x)
+    sought-is g x d h t k e i fits =
+        let w = stands g x d h k e in
+        let y = as-thing g x d (by-name t) i w in
+        let u = levels (declaring x) g in
+        let o = amongG (cutG (declaring x) g) x in
+        let z : cellOf values L ahead entries (owns g) 4 (key (d .name .symbol)) ≡ packed u o 2 = cell-found 4 (w .level) o u (key (d .name .symbol)) refl (y .0) (y .1) (owns g) (w .out) in
+        record { bared = ap bare z ∙ bare-is u o 2 (fits .0) (omega (arith, fits .1)) (omega arith); found = ap low z ∙ low-is u o 2 (omega arith) }
 
     -- whether a procedure has a result
     pub result-is : (g : List Mark) (x : Name) (d : Declared) (h : List Scope) (p : Procedure) → Known g → meaning (scopes g) x ≡ declared d h → d .thing ≡ routine p
@@ -247,6 +304,7 @@ module _ (key : ℕ → ℕ) (T : List ℕ) where
       ((x : Name) (d : Declared) (p : Procedure) → findIn (inBlock ds) x ≡ some d → d .thing ≡ routine p → getD T (key (d .name .symbol)) 0 ≡ entry (ofBlock ds ∷ scopes g) ds b x)
       × Targets g
   Targets (own p ∷ g) = Targets g
+  Targets (acl ∷ g) = Targets g
 
   pub target-is : (g : List Mark) (x : Name) (d : Declared) (h : List Scope) (p : Procedure) → Targets g → meaning (scopes g) x ≡ declared d h → d .thing ≡ routine p
       → getD T (key (d .name .symbol)) 0 ≡ target (cutG (declaring x) g) x
@@ -270,3 +328,4 @@ module _ (key : ℕ → ℕ) (T : List ℕ) where
       go (some d') j f e =
           let j' : findIn (inBody q) x ≡ some d = cc in
           absurd (body-none q x d p j' i)
+  target-is (acl ∷ g) x d h p k e i = target-is g x d h p k e i

@@ -113,7 +113,7 @@ refused-runs {text} {old} h (enough l v ws (refused r j)) z input limit cells sp
     ∙ zero-words room input limit cells space
 refused-runs h (enough l v ws (accepted p n t)) z input limit cells space = absurd (z refl)
 
--- a translated program never stops with 29: it ends, or stops with 21 to 28, or at its limit
+-- a translated program never stops with 29: it ends, or stops with 21 to 28 or 30, or at its limit
 pub never-wrong : {text old new : List ℕ} {v : Verdict} → Translates text old v new → numberOf v ≡ 0 → (input : List ℤ) (limit cells space : ℕ)
     → Ordinary (onCode new input limit cells space .stop) ⊎ (onCode new input limit cells space .stop ≡ Limit)
 never-wrong (too-short l) z input limit cells space = absurd (omega (arith, z))
@@ -124,7 +124,7 @@ never-wrong {text} {old} (enough h v ws (accepted p n t)) z input limit cells sp
     ∙ same-machine (code (placeIn text) (parsed p)) (room - length (codeIn p)) (in-range (placeIn text) (parsed p) (within-limits p)) input limit cells space in
     subst (λ (f : Finish). Ordinary (f .stop) ⊎ (f .stop ≡ Limit)) (sym e) (machine-answers (placeIn text) (parsed p) (well-scoped p n t) input cells space limit)
 
--- of an accepted source the source rules answer nothing but 0 and 21 to 28
+-- of an accepted source the source rules answer nothing but 0, 21 to 28 and 30
 pub rules-answers : {text : List ℕ} (p : Parsed text) → least (nameFaults (parsed p)) ≡ none → typeFault (parsed p) ≡ none → (input : List ℤ) (cells space t n : ℕ) (q : Stop) (o : Trace)
     → source (placeIn text) (parsed p) input cells space t ≡ done q n o → Ordinary q
 rules-answers {text} p named typed input cells space t n q o e = source-answers (placeIn text) (parsed p) (well-scoped p named typed) input cells space t n q o e

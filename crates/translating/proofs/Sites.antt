@@ -9,7 +9,7 @@ use lib.Dec.{eqb}
 use lib.ListN.{getD}
 use Rattle.machine.specs.Instructions.{pack}
 use Rattle.names.specs.Program.{Name, Statement, dummy, assignment, procedure, when, either, repeat, compound, block, Statements, last, first, Declarations, none as no-more, variables, declare, Procedure, heading}
-use Rattle.names.specs.Scopes.{Thing, variable, routine, formal, Declared, Scope, ofBlock, ofBody, declares, findIn, sortOf}
+use Rattle.names.specs.Scopes.{Thing, variable, routine, formal, by-name, Declared, Scope, ofBlock, ofBody, declares, findIn, sortOf}
 use Rattle.rules.specs.Entered.{cellsIn, placeIn, oneIf}
 
 -- a declaration's number: of the row with its name's symbol
@@ -26,6 +26,7 @@ module _ (key : ℕ → ℕ) (L : List ℕ) where
   abbrev pub Lying : ℕ → ℕ → Thing → ℕ → Type 0
   Lying level o (variable t) k = (getD L (key k) 0 ≡ pack level o 0) × (o < 8192)
   Lying level o (formal t) k = (getD L (key k) 0 ≡ pack level o 0) × (o < 8192)
+  Lying level o (by-name t) k = (getD L (key k) 0 ≡ pack level o 0) × (o < 8192)
   Lying level o (routine p) k = getD L (key k) 0 ≡ pack level (oneIf (sortOf p)) 0
 
   -- a scope at a level, whose first cell is at the offset o

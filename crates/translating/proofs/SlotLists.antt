@@ -1,20 +1,21 @@
 -- What lies ahead of a tree's code, in the order in which the pass takes slots for it, in front of what lies ahead behind the tree; and how slots are
--- taken and filled. No more slots are taken than instructions are written. Assumes nothing.
+-- taken and filled. An actual of a name formal takes three. No more slots are taken than instructions are written. Assumes nothing.
 use Prim.Native.Nat.{ℕ, suc, _+_, _-_, _≤_, _<_}
 use native.Mathlib.Omega.{arith}
 use native.Mathlib.Nat.{add-zero}
 use mathlib.Core.Path.{_≡_, refl, sym, ap, _∙_}
+use mathlib.Core.Bool.{Bool, true, false}
 use mathlib.Core.List.{List, [], _∷_, _++_, append-assoc, append-nil}
 use mathlib.Core.Option.{Option, none, some}
 use lib.ListN.{length, getD, drop, set, length-append}
 use lib.Seq.{set-append-seam, set-append-left, drop-append-seam, drop-append-add, drop-drop, getD-drop}
-use Rattle.names.specs.Program.{Sort, Expression, number, logical, name, call, signed, operated, chosen, nested, Expressions, done, then, Element, value, while, step, Statement, dummy, assignment, procedure, when, either, repeat, compound, block, Statements, last, first, Declarations, none as no-more, variables, declare, Procedure, heading}
-use Rattle.names.specs.Scopes.{Scope, ofBlock, ofBody, sortOf, meaning}
+use Rattle.names.specs.Program.{Name, Sort, firstSymbol, Expression, number, logical, name, call, signed, operated, chosen, nested, Expressions, done, then, Element, value, while, step, Statement, dummy, assignment, procedure, when, either, repeat, compound, block, Statements, last, first, Declarations, none as no-more, variables, declare, Procedure, heading}
+use Rattle.names.specs.Scopes.{Scope, ofBlock, sortOf, modesOf, meaning}
 use Rattle.rules.specs.Entered.{cellsIn}
-use Rattle.rules.specs.Calls.{Primary, held, function, absolute, greatest, no-primary, primary, Command, routine-of, absolute-of, greatest-of, input-to, output-of, no-command, command}
-use Rattle.translation.specs.Translate.{endName, endE, endEs, endL, endCall, endCommand, endS, endSs, endDs, endP}
+use Rattle.rules.specs.Calls.{Primary, held, worked, function, absolute, greatest, no-primary, primary, Command, routine-of, absolute-of, greatest-of, input-to, output-of, no-command, command, way}
+use Rattle.translation.specs.Translate.{Mark, blk, own, acl, scopes, reach, endName, endActual, endThen, endE, endEs, endStore, endTest, endSum, endL, endCall, endCommand, endS, endSs, endDs, endP}
 use Rattle.emitting.specs.Layout.{packed}
-use Rattle.translation.proofs.Ranges.{grow-name, grow-sign, grow-stores}
+use Rattle.translation.proofs.Ranges.{grow-name, grow-sign, grow-way, grow-test, grow-sum, grow-take, grow-stores}
 
 -- ---- slots taken and filled
 
@@ -75,189 +76,226 @@ slots-past {S} {T} {A} L k x e =
 abbrev pub there : ℕ → ℕ
 there b = packed 0 0 b
 
-abbrev pub aheadName : Primary → (ℕ → List ℕ → List ℕ) → ℕ → List ℕ → List ℕ
-aheadName held f b k = k
-aheadName (function p) f b k = f (suc b) k
-aheadName absolute f b k = f b k
-aheadName greatest f b k = k
-aheadName no-primary f b k = k
+-- where an element's code ends, whose variable is x
+unfoldable pub endX : List Scope → Name → Element → ℕ → ℕ
+endX g x (value e) b = suc (endStore g x (endE g e b))
+endX g x (while q e c) b = suc (suc (endE g c (endStore g x (endE g e b))))
+endX g x (step q e f h) b = suc (endSum (way (meaning g x)) (suc (endTest (way (meaning g x)) (suc (endE g h (endE g f (endStore g x (endE g e b))))))))
 
-unfoldable mutual
-  pub aheadE : List Scope → Expression → ℕ → List ℕ → List ℕ
-  aheadE g (number q n) b k = k
-  aheadE g (logical q t) b k = k
-  aheadE g (name x) b k = k
-  aheadE g (call x e es) b k = aheadName (primary (meaning g x) (then e es)) (λ b k. aheadE g e b (aheadEs g es (endE g e b) k)) b k
-  aheadE g (signed q o e) b k = aheadE g e b k
-  aheadE g (operated q o e f) b k = aheadE g e b (aheadE g f (endE g e b) k)
-  aheadE g (chosen q r c e f) b k =
-      let m = endE g c b in
-      let n = endE g e (suc m) in
-      aheadE g c b (there (suc n) ∷ aheadE g e (suc m) (there (endE g f (suc n)) ∷ aheadE g f (suc n) k))
-  aheadE g (nested q e) b k = aheadE g e b k
+-- place: of a symbol; word: of an actual
+module _ (place : ℕ → ℕ) (word : List Mark → Expression → ℕ) where
+  abbrev pub aheadName : Primary → (List Bool → ℕ → List ℕ → List ℕ) → ℕ → List ℕ → List ℕ
+  aheadName held f b k = k
+  aheadName worked f b k = k
+  aheadName (function p) f b k = f (modesOf p) (suc b) k
+  aheadName absolute f b k = f [] b k
+  aheadName greatest f b k = k
+  aheadName no-primary f b k = k
 
-  pub aheadEs : List Scope → Expressions → ℕ → List ℕ → List ℕ
-  aheadEs g done b k = k
-  aheadEs g (then e es) b k = aheadE g e b (aheadEs g es (endE g e b) k)
+  -- an actual; of a name formal: where it ends, its first symbol's place, its word. f: where its expression ends; a: what lies ahead in that
+  abbrev pub aheadActual : Bool → List Mark → Expression → (ℕ → ℕ) → (List Mark → ℕ → List ℕ → List ℕ) → ℕ → List ℕ → List ℕ
+  aheadActual true g e f a b k = a g b k
+  aheadActual false g e f a b k = there (endActual false f b) ∷ place (firstSymbol e) ∷ word (acl ∷ g) e ∷ a (acl ∷ g) (suc (suc (suc b))) k
 
--- the expressions of an element; where its code ends
-unfoldable pub aheadX : List Scope → Element → ℕ → List ℕ → List ℕ
-aheadX g (value e) b k = aheadE g e b k
-aheadX g (while q e c) b k = aheadE g e b (aheadE g c (suc (endE g e b)) k)
-aheadX g (step q e f h) b k =
-    let a = suc (endE g e b) in
-    aheadE g e b (aheadE g f a (aheadE g h (endE g f a) k))
+  abbrev pub aheadThen : List Bool → List Mark → Expression → (ℕ → ℕ) → (List Mark → ℕ → List ℕ → List ℕ) → (List Bool → ℕ → List ℕ → List ℕ) → ℕ → List ℕ → List ℕ
+  aheadThen [] g e f a more b k = a g b (more [] (f b) k)
+  aheadThen (m ∷ ms) g e f a more b k = aheadActual m g e f a b (more ms (endActual m f b) k)
 
-unfoldable pub endX : List Scope → Element → ℕ → ℕ
-endX g (value e) b = suc (suc (endE g e b))
-endX g (while q e c) b = suc (suc (endE g c (suc (endE g e b))))
-endX g (step q e f h) b = suc (suc (suc (suc (suc (endE g h (endE g f (suc (endE g e b))))))))
+  unfoldable mutual
+    pub aheadE : List Mark → Expression → ℕ → List ℕ → List ℕ
+    aheadE g (number q n) b k = k
+    aheadE g (logical q t) b k = k
+    aheadE g (name x) b k = k
+    aheadE g (call x e es) b k =
+        aheadName (primary (meaning (scopes g) x) (then e es)) (λ m b k. aheadThen m g e (λ b. endE (scopes g) e b) (λ g b k. aheadE g e b k) (λ m b k. aheadEs g m es b k) b k) b k
+    aheadE g (signed q o e) b k = aheadE g e b k
+    aheadE g (operated q o e f) b k = aheadE g e b (aheadE g f (endE (scopes g) e b) k)
+    aheadE g (chosen q r c e f) b k =
+        let m = endE (scopes g) c b in
+        let n = endE (scopes g) e (suc m) in
+        aheadE g c b (there (suc n) ∷ aheadE g e (suc m) (there (endE (scopes g) f (suc n)) ∷ aheadE g f (suc n) k))
+    aheadE g (nested q e) b k = aheadE g e b k
 
--- elements, up to the last one's own slot
-unfoldable pub aheadL : List Scope → Element → List Element → ℕ → List ℕ → List ℕ
-aheadL g x [] b k = aheadX g x b k
-aheadL g x (y ∷ l) b k = aheadX g x b (there (endX g x b) ∷ aheadL g y l (endX g x b) k)
+    pub aheadEs : List Mark → List Bool → Expressions → ℕ → List ℕ → List ℕ
+    aheadEs g m done b k = k
+    aheadEs g m (then e es) b k = aheadThen m g e (λ b. endE (scopes g) e b) (λ g b k. aheadE g e b k) (λ m b k. aheadEs g m es b k) b k
 
-abbrev pub aheadCall : List Scope → Option Sort → Expressions → ℕ → List ℕ → List ℕ
-aheadCall g none es b k = aheadEs g es b k
-aheadCall g (some t) es b k = aheadEs g es (suc b) k
+  -- the expressions of an element
+  unfoldable pub aheadX : List Mark → Name → Element → ℕ → List ℕ → List ℕ
+  aheadX g x (value e) b k = aheadE g e b k
+  aheadX g x (while q e c) b k = aheadE g e b (aheadE g c (endStore (scopes g) x (endE (scopes g) e b)) k)
+  aheadX g x (step q e f h) b k =
+      let a = endStore (scopes g) x (endE (scopes g) e b) in
+      aheadE g e b (aheadE g f a (aheadE g h (endE (scopes g) f a) k))
 
-abbrev pub aheadCommand : List Scope → Command → Expressions → ℕ → List ℕ → List ℕ
-aheadCommand g (routine-of p) es b k = aheadCall g (sortOf p) es b k
-aheadCommand g (absolute-of e) es b k = aheadE g e b k
-aheadCommand g greatest-of es b k = k
-aheadCommand g (input-to e y) es b k = aheadE g e b k
-aheadCommand g (output-of e f) es b k = aheadE g e b (aheadE g f (endE g e b) k)
-aheadCommand g no-command es b k = k
+  -- elements, up to the last one's own slot
+  unfoldable pub aheadL : List Mark → Name → Element → List Element → ℕ → List ℕ → List ℕ
+  aheadL g x l [] b k = aheadX g x l b k
+  aheadL g x l (y ∷ ls) b k = aheadX g x l b (there (endX (scopes g) x l b) ∷ aheadL g x y ls (endX (scopes g) x l b) k)
 
-unfoldable mutual
-  pub aheadS : List Scope → Statement → ℕ → List ℕ → List ℕ
-  aheadS g dummy b k = k
-  aheadS g (assignment x xs q e) b k = aheadE g e b k
-  aheadS g (procedure x es) b k = aheadCommand g (command (meaning g x) es) es b k
-  aheadS g (when q c s) b k =
-      let i = suc (endE g c b) in
-      aheadE g c b (there (endS g s i) ∷ aheadS g s i k)
-  aheadS g (either q c s t) b k =
-      let i = endE g c b in
-      let n = endS g s (suc i) in
-      aheadE g c b (there (suc n) ∷ aheadS g s (suc i) (there (endS g t (suc n)) ∷ aheadS g t (suc n) k))
-  aheadS g (repeat x l ls s) b k =
-      let i = endL g (l ∷ ls) b in
-      there i ∷ aheadL g l ls b (there (suc (endS g s i)) ∷ aheadS g s i k)
-  aheadS g (compound ss) b k = aheadSs g ss b k
-  aheadS g (block q ds ss) b k =
-      let h = ofBlock ds ∷ g in
-      let i = endDs h ds (suc b) in
-      packed 0 (cellsIn (ofBlock ds)) i ∷ aheadDs h ds (suc b) (aheadSs h ss i k)
+  abbrev pub aheadCall : List Mark → Option Sort → List Bool → Expressions → ℕ → List ℕ → List ℕ
+  aheadCall g none m es b k = aheadEs g m es b k
+  aheadCall g (some t) m es b k = aheadEs g m es (suc b) k
 
-  pub aheadSs : List Scope → Statements → ℕ → List ℕ → List ℕ
-  aheadSs g (last s) b k = aheadS g s b k
-  aheadSs g (first s ss) b k = aheadS g s b (aheadSs g ss (endS g s b) k)
+  abbrev pub aheadCommand : List Mark → Command → Expressions → ℕ → List ℕ → List ℕ
+  aheadCommand g (routine-of p) es b k = aheadCall g (sortOf p) (modesOf p) es b k
+  aheadCommand g (absolute-of e) es b k = aheadE g e b k
+  aheadCommand g greatest-of es b k = k
+  aheadCommand g (input-to e y) es b k = aheadE g e b k
+  aheadCommand g (output-of e f) es b k = aheadE g e b (aheadE g f (endE (scopes g) e b) k)
+  aheadCommand g no-command es b k = k
 
-  pub aheadDs : List Scope → Declarations → ℕ → List ℕ → List ℕ
-  aheadDs g no-more b k = k
-  aheadDs g (variables t xs ds) b k = aheadDs g ds b k
-  aheadDs g (declare p ds) b k = aheadP g p b (aheadDs g ds (endP g p b) k)
+  unfoldable mutual
+    pub aheadS : List Mark → Statement → ℕ → List ℕ → List ℕ
+    aheadS g dummy b k = k
+    aheadS g (assignment x xs q e) b k = aheadE g e b k
+    aheadS g (procedure x es) b k = aheadCommand g (command (meaning (scopes g) x) es) es b k
+    aheadS g (when q c s) b k =
+        let i = suc (endE (scopes g) c b) in
+        aheadE g c b (there (endS (scopes g) s i) ∷ aheadS g s i k)
+    aheadS g (either q c s t) b k =
+        let i = endE (scopes g) c b in
+        let n = endS (scopes g) s (suc i) in
+        aheadE g c b (there (suc n) ∷ aheadS g s (suc i) (there (endS (scopes g) t (suc n)) ∷ aheadS g t (suc n) k))
+    aheadS g (repeat x l ls s) b k =
+        let i = endL (scopes g) x (l ∷ ls) b in
+        there i ∷ aheadL g x l ls b (there (suc (endS (scopes g) s i)) ∷ aheadS g s i k)
+    aheadS g (compound ss) b k = aheadSs g ss b k
+    aheadS g (block q ds ss) b k =
+        let h = blk (reach g) ds (suc b) ∷ g in
+        let i = endDs (scopes h) ds (suc b) in
+        packed 0 (cellsIn (ofBlock ds)) i ∷ aheadDs h ds (suc b) (aheadSs h ss i k)
 
-  pub aheadP : List Scope → Procedure → ℕ → List ℕ → List ℕ
-  aheadP g (heading t f xs vs ss s) b k = aheadS (ofBody (heading t f xs vs ss s) ∷ g) s b k
+    pub aheadSs : List Mark → Statements → ℕ → List ℕ → List ℕ
+    aheadSs g (last s) b k = aheadS g s b k
+    aheadSs g (first s ss) b k = aheadS g s b (aheadSs g ss (endS (scopes g) s b) k)
 
--- ---- no more slots than instructions
+    pub aheadDs : List Mark → Declarations → ℕ → List ℕ → List ℕ
+    aheadDs g no-more b k = k
+    aheadDs g (variables t xs ds) b k = aheadDs g ds b k
+    aheadDs g (declare p ds) b k = aheadP g p b (aheadDs g ds (endP (scopes g) p b) k)
 
-few-name : (pr : Primary) (f : ℕ → ℕ) (a : ℕ → List ℕ → List ℕ) → ((b : ℕ) (k : List ℕ) → length (a b k) + b ≤ length k + f b) → (b : ℕ) (k : List ℕ) → length (aheadName pr a b k) + b ≤ length k + endName pr f b
-few-name held f a h b k = omega arith
-few-name (function p) f a h b k = omega (arith, h (suc b) k)
-few-name absolute f a h b k = omega (arith, h b k)
-few-name greatest f a h b k = omega arith
-few-name no-primary f a h b k = omega arith
+    pub aheadP : List Mark → Procedure → ℕ → List ℕ → List ℕ
+    aheadP g (heading t f xs vs ss s) b k = aheadS (own (heading t f xs vs ss s) ∷ g) s b k
 
-mutual
-  unfolding endE aheadE
+  -- ---- no more slots than instructions
 
-  fewE : (g : List Scope) (e : Expression) (b : ℕ) (k : List ℕ) → length (aheadE g e b k) + b ≤ length k + endE g e b
-  fewE g (number q n) b k = omega arith
-  fewE g (logical q t) b k = omega arith
-  fewE g (name x) b k = omega (arith, grow-name (primary (meaning g x) done) (λ b. b) (λ b. omega arith) b)
-  fewE g (call x e es) b k = few-name (primary (meaning g x) (then e es)) (λ b. endEs g es (endE g e b)) (λ b k. aheadE g e b (aheadEs g es (endE g e b) k)) (λ b k. omega (arith, fewE g e b (aheadEs g es (endE g e b) k), fewEs g es (endE g e b) k)) b k
-  fewE g (signed q o e) b k = omega (arith, fewE g e b k, grow-sign o (endE g e b))
-  fewE g (operated q o e f) b k = omega (arith, fewE g e b (aheadE g f (endE g e b) k), fewE g f (endE g e b) k)
-  fewE g (chosen q r c e f) b k =
-      let m = endE g c b in
-      let n = endE g e (suc m) in
-      let k₁ : List ℕ = there (endE g f (suc n)) ∷ aheadE g f (suc n) k in
-      omega (arith, fewE g c b (there (suc n) ∷ aheadE g e (suc m) k₁), fewE g e (suc m) k₁, fewE g f (suc n) k)
-  fewE g (nested q e) b k = fewE g e b k
+  abbrev Few : (ℕ → ℕ) → (ℕ → List ℕ → List ℕ) → Type 0
+  Few f a = (b : ℕ) (k : List ℕ) → length (a b k) + b ≤ length k + f b
 
-  fewEs : (g : List Scope) (es : Expressions) (b : ℕ) (k : List ℕ) → length (aheadEs g es b k) + b ≤ length k + endEs g es b
-  fewEs g done b k = omega arith
-  fewEs g (then e es) b k = omega (arith, fewE g e b (aheadEs g es (endE g e b) k), fewEs g es (endE g e b) k)
+  few-name : (pr : Primary) (f : List Bool → ℕ → ℕ) (a : List Bool → ℕ → List ℕ → List ℕ) → ((m : List Bool) → Few (f m) (a m)) → Few (endName pr f) (aheadName pr a)
+  few-name held f a h b k = omega arith
+  few-name worked f a h b k = omega arith
+  few-name (function p) f a h b k = omega (arith, h (modesOf p) (suc b) k)
+  few-name absolute f a h b k = omega (arith, h [] b k)
+  few-name greatest f a h b k = omega arith
+  few-name no-primary f a h b k = omega arith
 
-fewX : (g : List Scope) (x : Element) (b : ℕ) (k : List ℕ) → length (aheadX g x b k) + b + 1 ≤ length k + endX g x b
-unfolding aheadX endX
-fewX g (value e) b k = omega (arith, fewE g e b k)
-fewX g (while q e c) b k = omega (arith, fewE g e b (aheadE g c (suc (endE g e b)) k), fewE g c (suc (endE g e b)) k)
-fewX g (step q e f h) b k =
-    let a = suc (endE g e b) in
-    omega (arith, fewE g e b (aheadE g f a (aheadE g h (endE g f a) k)), fewE g f a (aheadE g h (endE g f a) k), fewE g h (endE g f a) k)
+  few-then : (m : List Bool) (g : List Mark) (e : Expression) (f : ℕ → ℕ) (a : List Mark → ℕ → List ℕ → List ℕ) (fs : List Bool → ℕ → ℕ) (more : List Bool → ℕ → List ℕ → List ℕ)
+      → Few f (a g) → Few f (a (acl ∷ g)) → ((m : List Bool) → Few (fs m) (more m)) → Few (endThen m f fs) (aheadThen m g e f a more)
+  few-then [] g e f a fs more h h' hs b k = omega (arith, h b (more [] (f b) k), hs [] (f b) k)
+  few-then (true ∷ ms) g e f a fs more h h' hs b k = omega (arith, h b (more ms (f b) k), hs ms (f b) k)
+  few-then (false ∷ ms) g e f a fs more h h' hs b k =
+      let n = suc (f (suc (suc (suc b)))) in
+      omega (arith, h' (suc (suc (suc b))) (more ms n k), hs ms n k)
+
+  mutual
+    unfolding endE aheadE
+
+    fewE : (g : List Mark) (e : Expression) → Few (endE (scopes g) e) (aheadE g e)
+    fewE g (number q n) b k = omega arith
+    fewE g (logical q t) b k = omega arith
+    fewE g (name x) b k = omega (arith, grow-name (primary (meaning (scopes g) x) done) (λ m b. b) (λ m b. omega arith) b)
+    fewE g (call x e es) b k =
+        few-name (primary (meaning (scopes g) x) (then e es)) (λ m b. endThen m (λ b. endE (scopes g) e b) (λ m b. endEs (scopes g) m es b) b) (λ m b k. aheadThen m g e (λ b. endE (scopes g) e b) (λ g b k. aheadE g e b k) (λ m b k. aheadEs g m es b k) b k)
+        (λ m b k. few-then m g e (λ b. endE (scopes g) e b) (λ g b k. aheadE g e b k) (λ m b. endEs (scopes g) m es b) (λ m b k. aheadEs g m es b k) (λ b k. fewE g e b k) (λ b k. fewE (acl ∷ g) e b k) (λ m b k. fewEs g m es b k) b k) b k
+    fewE g (signed q o e) b k = omega (arith, fewE g e b k, grow-sign o (endE (scopes g) e b))
+    fewE g (operated q o e f) b k = omega (arith, fewE g e b (aheadE g f (endE (scopes g) e b) k), fewE g f (endE (scopes g) e b) k)
+    fewE g (chosen q r c e f) b k =
+        let m = endE (scopes g) c b in
+        let n = endE (scopes g) e (suc m) in
+        let k₁ : List ℕ = there (endE (scopes g) f (suc n)) ∷ aheadE g f (suc n) k in
+        omega (arith, fewE g c b (there (suc n) ∷ aheadE g e (suc m) k₁), fewE g e (suc m) k₁, fewE g f (suc n) k)
+    fewE g (nested q e) b k = fewE g e b k
+
+    fewEs : (g : List Mark) (m : List Bool) (es : Expressions) → Few (endEs (scopes g) m es) (aheadEs g m es)
+    fewEs g m done b k = omega arith
+    fewEs g m (then e es) b k =
+        few-then m g e (λ b. endE (scopes g) e b) (λ g b k. aheadE g e b k) (λ m b. endEs (scopes g) m es b) (λ m b k. aheadEs g m es b k) (λ b k. fewE g e b k) (λ b k. fewE (acl ∷ g) e b k) (λ m b k. fewEs g m es b k) b k
+
+  fewX : (g : List Mark) (x : Name) (l : Element) (b : ℕ) (k : List ℕ) → length (aheadX g x l b k) + b + 1 ≤ length k + endX (scopes g) x l b
+  unfolding aheadX endX
+  fewX g x (value e) b k = omega (arith, fewE g e b k, grow-way (way (meaning (scopes g) x)) (endE (scopes g) e b))
+  fewX g x (while q e c) b k =
+      let a = endStore (scopes g) x (endE (scopes g) e b) in
+      omega (arith, fewE g e b (aheadE g c a k), fewE g c a k, grow-way (way (meaning (scopes g) x)) (endE (scopes g) e b))
+  fewX g x (step q e f h) b k =
+      let a = endStore (scopes g) x (endE (scopes g) e b) in
+      let w = way (meaning (scopes g) x) in
+      let i = endE (scopes g) h (endE (scopes g) f a) in
+      omega
+      (arith, fewE g e b (aheadE g f a (aheadE g h (endE (scopes g) f a) k)), fewE g f a (aheadE g h (endE (scopes g) f a) k), fewE g h (endE (scopes g) f a) k, grow-way w (endE (scopes g) e b), grow-test w (suc i), grow-sum w (suc (endTest w (suc i))))
 
 -- the address behind an element is where the others begin
-pub end-element : (g : List Scope) (x : Element) (l : List Element) (b : ℕ) → endL g (x ∷ l) b ≡ endL g l (endX g x b)
+pub end-element : (g : List Scope) (x : Name) (l : Element) (ls : List Element) (b : ℕ) → endL g x (l ∷ ls) b ≡ endL g x ls (endX g x l b)
 unfolding endL endX
-end-element g (value e) l b = refl
-end-element g (while q e c) l b = refl
-end-element g (step q e f h) l b = refl
+end-element g x (value e) ls b = refl
+end-element g x (while q e c) ls b = refl
+end-element g x (step q e f h) ls b = refl
 
-fewL : (g : List Scope) (x : Element) (l : List Element) (b : ℕ) (k : List ℕ) → length (aheadL g x l b k) + b + 1 ≤ length k + endL g (x ∷ l) b
-unfolding aheadL endL
-fewL g x [] b k = omega (arith, fewX g x b k, end-element g x [] b)
-fewL g x (y ∷ l) b k =
-    omega (arith, fewX g x b (there (endX g x b) ∷ aheadL g y l (endX g x b) k), fewL g y l (endX g x b) k, end-element g x (y ∷ l) b)
+module _ (place : ℕ → ℕ) (word : List Mark → Expression → ℕ) where
+  fewL : (g : List Mark) (x : Name) (l : Element) (ls : List Element) (b : ℕ) (k : List ℕ) → length (aheadL place word g x l ls b k) + b + 1 ≤ length k + endL (scopes g) x (l ∷ ls) b
+  unfolding aheadL endL
+  fewL g x l [] b k = omega (arith, fewX place word g x l b k, end-element (scopes g) x l [] b)
+  fewL g x l (y ∷ ls) b k =
+      let i = endX (scopes g) x l b in
+      omega (arith, fewX place word g x l b (there i ∷ aheadL place word g x y ls i k), fewL g x y ls i k, end-element (scopes g) x l (y ∷ ls) b)
 
-few-call : (g : List Scope) (t : Option Sort) (es : Expressions) (b : ℕ) (k : List ℕ) → length (aheadCall g t es b k) + b ≤ length k + endCall g t es b
-few-call g none es b k = omega (arith, fewEs g es b k)
-few-call g (some t) es b k = omega (arith, fewEs g es (suc b) k)
+  few-call : (g : List Mark) (t : Option Sort) (m : List Bool) (es : Expressions) (b : ℕ) (k : List ℕ) → length (aheadCall place word g t m es b k) + b ≤ length k + endCall (scopes g) t m es b
+  few-call g none m es b k = omega (arith, fewEs place word g m es b k)
+  few-call g (some t) m es b k = omega (arith, fewEs place word g m es (suc b) k)
 
-few-command : (g : List Scope) (c : Command) (es : Expressions) (b : ℕ) (k : List ℕ) → length (aheadCommand g c es b k) + b ≤ length k + endCommand g c es b
-few-command g (routine-of p) es b k = few-call g (sortOf p) es b k
-few-command g (absolute-of e) es b k = omega (arith, fewE g e b k)
-few-command g greatest-of es b k = omega arith
-few-command g (input-to e y) es b k = omega (arith, fewE g e b k)
-few-command g (output-of e f) es b k = omega (arith, fewE g e b (aheadE g f (endE g e b) k), fewE g f (endE g e b) k)
-few-command g no-command es b k = omega arith
+  few-command : (g : List Mark) (c : Command) (es : Expressions) (b : ℕ) (k : List ℕ) → length (aheadCommand place word g c es b k) + b ≤ length k + endCommand (scopes g) c es b
+  few-command g (routine-of p) es b k = few-call g (sortOf p) (modesOf p) es b k
+  few-command g (absolute-of e) es b k = omega (arith, fewE place word g e b k)
+  few-command g greatest-of es b k = omega arith
+  few-command g (input-to e y) es b k = omega (arith, fewE place word g e b k, grow-take (way (meaning (scopes g) y)) (endE (scopes g) e b))
+  few-command g (output-of e f) es b k =
+      omega (arith, fewE place word g e b (aheadE place word g f (endE (scopes g) e b) k), fewE place word g f (endE (scopes g) e b) k)
+  few-command g no-command es b k = omega arith
 
-mutual
-  unfolding endS aheadS
+  mutual
+    unfolding endS aheadS
 
-  pub fewS : (g : List Scope) (s : Statement) (b : ℕ) (k : List ℕ) → length (aheadS g s b k) + b ≤ length k + endS g s b
-  fewS g dummy b k = omega arith
-  fewS g (assignment x xs q e) b k = omega (arith, fewE g e b k, grow-stores xs (endE g e b))
-  fewS g (procedure x es) b k = few-command g (command (meaning g x) es) es b k
-  fewS g (when q c s) b k =
-      let i = suc (endE g c b) in
-      omega (arith, fewE g c b (there (endS g s i) ∷ aheadS g s i k), fewS g s i k)
-  fewS g (either q c s t) b k =
-      let i = endE g c b in
-      let n = endS g s (suc i) in
-      let k₁ : List ℕ = there (endS g t (suc n)) ∷ aheadS g t (suc n) k in
-      omega (arith, fewE g c b (there (suc n) ∷ aheadS g s (suc i) k₁), fewS g s (suc i) k₁, fewS g t (suc n) k)
-  fewS g (repeat x l ls s) b k =
-      let i = endL g (l ∷ ls) b in
-      omega (arith, fewL g l ls b (there (suc (endS g s i)) ∷ aheadS g s i k), fewS g s i k)
-  fewS g (compound ss) b k = fewSs g ss b k
-  fewS g (block q ds ss) b k =
-      let h = ofBlock ds ∷ g in
-      let i = endDs h ds (suc b) in
-      omega (arith, fewDs h ds (suc b) (aheadSs h ss i k), fewSs h ss i k)
+    pub fewS : (g : List Mark) (s : Statement) (b : ℕ) (k : List ℕ) → length (aheadS place word g s b k) + b ≤ length k + endS (scopes g) s b
+    fewS g dummy b k = omega arith
+    fewS g (assignment x xs q e) b k = omega (arith, fewE place word g e b k, grow-stores (scopes g) x xs (endE (scopes g) e b))
+    fewS g (procedure x es) b k = few-command g (command (meaning (scopes g) x) es) es b k
+    fewS g (when q c s) b k =
+        let i = suc (endE (scopes g) c b) in
+        omega (arith, fewE place word g c b (there (endS (scopes g) s i) ∷ aheadS place word g s i k), fewS g s i k)
+    fewS g (either q c s t) b k =
+        let i = endE (scopes g) c b in
+        let n = endS (scopes g) s (suc i) in
+        let k₁ : List ℕ = there (endS (scopes g) t (suc n)) ∷ aheadS place word g t (suc n) k in
+        omega (arith, fewE place word g c b (there (suc n) ∷ aheadS place word g s (suc i) k₁), fewS g s (suc i) k₁, fewS g t (suc n) k)
+    fewS g (repeat x l ls s) b k =
+        let i = endL (scopes g) x (l ∷ ls) b in
+        omega (arith, fewL g x l ls b (there (suc (endS (scopes g) s i)) ∷ aheadS place word g s i k), fewS g s i k)
+    fewS g (compound ss) b k = fewSs g ss b k
+    fewS g (block q ds ss) b k =
+        let h : List Mark = blk (reach g) ds (suc b) ∷ g in
+        let i = endDs (scopes h) ds (suc b) in
+        omega (arith, fewDs h ds (suc b) (aheadSs place word h ss i k), fewSs h ss i k)
 
-  fewSs : (g : List Scope) (ss : Statements) (b : ℕ) (k : List ℕ) → length (aheadSs g ss b k) + b ≤ length k + endSs g ss b
-  fewSs g (last s) b k = fewS g s b k
-  fewSs g (first s ss) b k = omega (arith, fewS g s b (aheadSs g ss (endS g s b) k), fewSs g ss (endS g s b) k)
+    fewSs : (g : List Mark) (ss : Statements) (b : ℕ) (k : List ℕ) → length (aheadSs place word g ss b k) + b ≤ length k + endSs (scopes g) ss b
+    fewSs g (last s) b k = fewS g s b k
+    fewSs g (first s ss) b k = omega (arith, fewS g s b (aheadSs place word g ss (endS (scopes g) s b) k), fewSs g ss (endS (scopes g) s b) k)
 
-  fewDs : (g : List Scope) (ds : Declarations) (b : ℕ) (k : List ℕ) → length (aheadDs g ds b k) + b ≤ length k + endDs g ds b
-  fewDs g no-more b k = omega arith
-  fewDs g (variables t xs ds) b k = fewDs g ds b k
-  fewDs g (declare p ds) b k = omega (arith, fewP g p b (aheadDs g ds (endP g p b) k), fewDs g ds (endP g p b) k)
+    fewDs : (g : List Mark) (ds : Declarations) (b : ℕ) (k : List ℕ) → length (aheadDs place word g ds b k) + b ≤ length k + endDs (scopes g) ds b
+    fewDs g no-more b k = omega arith
+    fewDs g (variables t xs ds) b k = fewDs g ds b k
+    fewDs g (declare p ds) b k = omega (arith, fewP g p b (aheadDs place word g ds (endP (scopes g) p b) k), fewDs g ds (endP (scopes g) p b) k)
 
-  fewP : (g : List Scope) (p : Procedure) (b : ℕ) (k : List ℕ) → length (aheadP g p b k) + b ≤ length k + endP g p b
-  fewP g (heading t f xs vs ss s) b k = omega (arith, fewS (ofBody (heading t f xs vs ss s) ∷ g) s b k)
+    fewP : (g : List Mark) (p : Procedure) (b : ℕ) (k : List ℕ) → length (aheadP place word g p b k) + b ≤ length k + endP (scopes g) p b
+    fewP g (heading t f xs vs ss s) b k = omega (arith, fewS (own (heading t f xs vs ss s) ∷ g) s b k)

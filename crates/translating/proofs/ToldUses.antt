@@ -3,20 +3,24 @@
 use Prim.Native.Nat.{ℕ, zero, suc, _+_, _*_, _-_, _<_, _%_}
 use native.Mathlib.Omega.{arith}
 use mathlib.Core.Path.{_≡_, refl, sym, ap, _∙_}
+use mathlib.Core.Bool.{cond}
 use mathlib.Core.List.{List, [], _∷_}
+use mathlib.Core.Option.{none, some}
+use lib.Dec.{eqb}
 use lib.ListN.{length, getD}
 use borrow.Author.Tests.{eq-eqb, ne-eqb}
-use Rattle.names.specs.Scopes.{Thing, variable, routine, formal, Meaning, declared, given, nothing, meaning}
+use Rattle.names.specs.Program.{integer, boolean}
+use Rattle.names.specs.Scopes.{Thing, variable, routine, formal, by-name, Meaning, declared, given, nothing, meaning}
 use Rattle.names.specs.Uses.{Use, thingKind}
 use Rattle.names.specs.Rows.{meantOf}
 use Rattle.names.specs.declared.Meant.{Meant}
 use Rattle.names.specs.declared.Meant.the-variants.{Declared as at-row, Given as at-given, Nothing as nowhere}
-use Rattle.names.proofs.Around.{Means}
+use Rattle.names.proofs.Around.{kindAt, ToldThing, Means}
 use Rattle.names.proofs.Resolved.{Matches}
-use Rattle.emitting.specs.Emission.{Used, usedAs, usesIn}
+use Rattle.emitting.specs.Emission.{Used, formalAt, usedAs, usesIn}
 use Rattle.translating.proofs.Rising.{Rising, no-row, row}
 use Rattle.translating.proofs.Sites.{numberOf}
-use Rattle.translating.proofs.Written.{usedFor, usesAs}
+use Rattle.translating.proofs.Written.{useKind, usedFor, usesAs}
 
 -- ---- the number of a row
 
@@ -38,22 +42,28 @@ number-is (suc j) (row {x = s} {ws = ws} m r) h =
 
 -- ---- a use, and all
 
-kind-back : (t : Thing) (v : ℕ) → v ≡ 4 + thingKind t → v % 65536 - 4 ≡ thingKind t
-kind-back (variable t) v e = rw e
-kind-back (routine p) v e = rw e
-kind-back (formal t) v e = rw e
+-- of a row whose kind and last word are known
+kind-of : (R : List ℕ) (j : ℕ) (t : Thing) → kindAt R j ≡ 4 + thingKind t → ToldThing R j t → cond (eqb (formalAt R j) 2) 4 (getD R (4 * j) 0 % 65536 - 4) ≡ useKind t
+unfolding formalAt
+kind-of R j (variable t) e h = rw e
+kind-of R j (routine p) e h = rw e
+kind-of R j (formal none) e h = rw (e, h)
+kind-of R j (formal (some integer)) e h = rw (e, h)
+kind-of R j (formal (some boolean)) e h = rw (e, h)
+kind-of R j (by-name none) e h = rw (e, h)
+kind-of R j (by-name (some integer)) e h = rw (e, h)
+kind-of R j (by-name (some boolean)) e h = rw (e, h)
 
 used-is : {k m k' m' : ℕ} → k ≡ k' → m ≡ m' → _≡_ {A = Used} (record { kind = k; means = m }) (record { kind = k'; means = m' })
 used-is e f = rw (e, f)
 
-module _ (n : ℕ) (R rows : List ℕ) (rising : Rising 0 n R) (told : (i : ℕ) → i < length R → getD rows i 0 ≡ getD R i 0) where
-  used : (m : Meant) (w : Meaning) → Means R m w → usedAs rows m ≡ usedFor (numberOf R) w
+module _ (n : ℕ) (R : List ℕ) (rising : Rising 0 n R) where
+  used : (m : Meant) (w : Meaning) → Means R m w → usedAs R m ≡ usedFor (numberOf R) w
   unfolding usedAs
   used (at-row j) (declared d g) h =
       let i = h .row .inside in
-      let a = told (4 * j .number) (omega arith) ∙ h .row .kind in
       let b = number-is (j .number) rising (omega arith) in
-      used-is (kind-back (d .thing) _ a) (sym b ∙ ap (numberOf R) (h .row .symbol))
+      used-is (kind-of R (j .number) (d .thing) (h .row .kind) (h .thing)) (sym b ∙ ap (numberOf R) (h .row .symbol))
   used (at-row j) (given k g) h = absurd h
   used (at-row j) nothing h = absurd h
   used (at-given e) (declared d g) h = absurd h
@@ -63,7 +73,7 @@ module _ (n : ℕ) (R rows : List ℕ) (rising : Rising 0 n R) (told : (i : ℕ)
   used nowhere (given k g) h = absurd h
   used nowhere nothing h = refl
 
-  pub told-uses : (ws : List ℕ) (us : List Use) → Matches R ws us → usesIn rows ws ≡ usesAs (numberOf R) us
+  pub told-uses : (ws : List ℕ) (us : List Use) → Matches R ws us → usesIn R ws ≡ usesAs (numberOf R) us
   unfolding usesIn usesAs
   told-uses [] [] h = refl
   told-uses [] (u ∷ us) h = absurd h

@@ -10,8 +10,8 @@ use lib.ListN.{length, drop, set, length-append, length-set}
 use Rattle.machine.specs.Instructions.{Instr}
 use Rattle.names.specs.Nodes.{node}
 use Rattle.names.specs.Rows.{foldNodes, isUse}
-use Rattle.names.specs.Scopes.{Scope, Meaning, declared, given, nothing, meaning}
-use Rattle.names.specs.Uses.{Use, used, thingKind}
+use Rattle.names.specs.Scopes.{Thing, variable, routine, formal, by-name, Scope, Meaning, declared, given, nothing, meaning}
+use Rattle.names.specs.Uses.{Use, used}
 use Rattle.names.specs.Program.{Name}
 use Rattle.translation.specs.Translate.{Mark}
 use Rattle.machine.specs.Words.{Parts, partsOf, firstWord, words, CodeFits}
@@ -20,8 +20,8 @@ use Rattle.translating.proofs.Shown.{shown, shown-next, shown-set, show
 use Rattle.translating.proofs.SlotLists.{Fills, no-slot, then-slots, slots-past}
 use Rattle.translation.proofs.Ranges.{owns}
 
--- what the pass is told: the places of symbols, and the declarations' numbers by their names' symbols; of symbols their values, of declarations how
--- they lie, of slots what lies ahead, of procedures where they begin
+-- what the pass is told: the places of symbols, which have 16 bits, and the declarations' numbers by their names' symbols; of symbols their values, of
+-- declarations how they lie, of slots what lies ahead, of procedures where they begin; the rows
 pub record Tables : Type 0 where
   pub place : ℕ → ℕ
   pub key : ℕ → ℕ
@@ -29,6 +29,8 @@ pub record Tables : Type 0 where
   pub layout : List ℕ
   pub ahead : List ℕ
   pub entries : List ℕ
+  pub rows : List ℕ
+  pub small : (q : ℕ) → place q < 65536
 
 -- what is around a part
 pub record Frame : Type 0 where
@@ -39,7 +41,7 @@ pub record Frame : Type 0 where
   pub awaits : ℕ
   pub opens : List Opened
 
--- what goes through it: the uses to come, the address, the last variable that a number is taken to, the words so far, the slots so far, and the
+-- what goes through it: the uses to come, the address, the word of the last node where that was a name, the words so far, the slots so far, and the
 -- entries so far: a word for each declaration, which of a procedure is where it begins
 pub record Flow : Type 0 where
   pub uses : List Use
@@ -52,8 +54,14 @@ pub record Flow : Type 0 where
 
 -- ---- uses, as the pass has them
 
+abbrev pub useKind : Thing → ℕ
+useKind (variable t) = 1
+useKind (routine p) = 2
+useKind (formal t) = 3
+useKind (by-name t) = 4
+
 abbrev pub kindOf : Meaning → ℕ
-kindOf (declared d g) = thingKind (d .thing)
+kindOf (declared d g) = useKind (d .thing)
 kindOf (given n e) = 0
 kindOf nothing = 0
 
@@ -127,7 +135,7 @@ entry-real key fr fl = rw (shown-next 2048 (fl .entries) (fl .at), length-append
 
 module _ (tb : Tables) where
   unfoldable pub step : ℕ → ℕ → ℕ → ℕ → State → State
-  step k s a b st = codeNode (tb .values) (tb .layout) (tb .ahead) (tb .entries) k s (tb .place s) a b st
+  step k s a b st = codeNode (tb .values) (tb .layout) (tb .ahead) (tb .entries) (tb .rows) k s (tb .place s) a b st
 
   abbrev pub run : List ℕ → State → State
   run = foldNodes step
@@ -284,14 +292,16 @@ fits-apart (i ∷ is) r h =
     ((h .0, w .0), w .1)
 
 module _ {tb : Tables} where
-  pub passed-all : {R : Type 0} {fr fr' : Frame} {us : List Use} {e : ℕ} (is : List Instr) (ps : List Parts) (k s a b : ℕ) {fl : Flow}
-      → step tb k s a b (state tb fr fl) ≡ putAll ps (state tb fr' (taken us fl)) → fl .at ≡ e → (R → CodeFits is → Same ps is)
+  -- v: the word of the last node behind it
+  pub passed-all : {R : Type 0} {fr fr' : Frame} {us : List Use} {e : ℕ} (v : ℕ) (is : List Instr) (ps : List Parts) (k s a b : ℕ) {fl : Flow}
+      → step tb k s a b (state tb fr fl) ≡ putAll ps (state tb fr' (varied v (taken us fl))) → fl .at ≡ e → (R → CodeFits is → Same ps is)
       → Passed tb R fr fr' (node k s a b) us (past ps e) (λ k. k) (λ t. t) (λ r. is ++ r) fl
-  passed-all {fr' = fr'} {us = us} {e = e} is ps k s a b {fl} i j h =
-      let w = wrote-all ps e (taken us fl) j in
+  passed-all {fr' = fr'} {us = us} {e = e} v is ps k s a b {fl} i j h =
+      let fl' = varied v (taken us fl) in
+      let w = wrote-all ps e fl' j in
       record {
-        next = wroteAll ps (taken us fl);
-        goes = goes-node k s a b (i ∙ puts-real (tb .key) ps fr' (taken us fl));
+        next = wroteAll ps fl';
+        goes = goes-node k s a b (i ∙ puts-real (tb .key) ps fr' fl');
         uses = w .uses;
         at = w .at;
         fills = rw (w .slots) no-slot;
@@ -338,12 +348,12 @@ module _ {tb : Tables} where
       record { next = fl; goes = goes-node k s a b e; uses = u; at = i; fills = no-slot; enters = refl; right = λ w k r d c. (refl, c) }
 
   -- as a part
-  pub emits-all : {R : Type 0} {g : List Mark} {h m : ℕ} {b : ℕ} (is : List Instr) (ps : List Parts) (k s a b' : ℕ)
-      → ((fr : Frame) (fl : Flow) → step tb k s a b' (state tb fr fl) ≡ putAll ps (state tb fr fl)) → (R → CodeFits is → Same ps is)
+  pub emits-all : {R : Type 0} {g : List Mark} {h m : ℕ} {b : ℕ} (word : Flow → ℕ) (is : List Instr) (ps : List Parts) (k s a b' : ℕ)
+      → ((fr : Frame) (fl : Flow) → step tb k s a b' (state tb fr fl) ≡ putAll ps (state tb fr (varied (word fl) fl))) → (R → CodeFits is → Same ps is)
       → Emits tb R g h m (node k s a b') [] b (past ps b) (λ k. k) (λ t. t) (λ r. is ++ r)
-  emits-all is ps k s a b' i h =
+  emits-all word is ps k s a b' i h =
       record {
-        pass = λ us fr fl w u j. passed-all is ps k s a b' (i fr fl ∙ ap (λ (us : List Use). putAll ps (state tb fr (taken us fl))) u) j h;
+        pass = λ us fr fl w u j. passed-all (word fl) is ps k s a b' (i fr fl ∙ ap (λ (us : List Use). putAll ps (state tb fr (varied (word fl) (taken us fl)))) u) j h;
       }
 
 -- ---- a use: its kind and what it means
@@ -351,6 +361,6 @@ module _ {tb : Tables} where
 module _ (tb : Tables) where
   pub use-step : (n s a b : ℕ) (fr : Frame) (fl : Flow) (gs : List Scope) (x : Name) (us : List Use) (k m : ℕ) → isUse n ≡ true
       → fl .uses ≡ used gs x ∷ us → kindOf (meaning gs x) ≡ k → meansOf (tb .key) (meaning gs x) ≡ m
-      → step tb n s a b (state tb fr fl) ≡ useNode (tb .values) (tb .layout) (tb .ahead) (tb .entries) n k m b (tb .place s) a (state tb fr (taken us fl))
+      → step tb n s a b (state tb fr fl) ≡ useNode (tb .values) (tb .layout) (tb .ahead) (tb .entries) (tb .rows) n k m b (tb .place s) a (state tb fr (taken us fl))
   unfolding step codeNode withUses kindNext meansNext othersNext usesAs
   use-step n s a b fr fl gs x us k m i u e e' = rw (i, u, e, e')

@@ -141,7 +141,7 @@ module _ {tb : Tables} {R : Type 0} where
 
   module _ {g : List Mark} {h m b : ℕ} where
     idle-part : (k s a : ℕ) → Idle tb k → Emits tb R g h m (node k s a 0) [] b b (λ k. k) (λ t. t) (λ r. r)
-    idle-part k s a f = emits-all [] [] k s a 0 (f s a) (λ z c. tt)
+    idle-part k s a f = emits-all (λ fl. fl .variable) [] [] k s a 0 (f s a) (λ z c. tt)
 
     pub nothing-part : Emits tb R g h m [] [] b b (λ k. k) (λ t. t) (λ r. r)
     nothing-part = record { pass = λ us fr fl w u i. passed-nothing u i }

@@ -15,9 +15,9 @@ use Rattle.names.specs.Nodes.{mark}
 use Rattle.names.specs.Rows.{isUse}
 use Rattle.names.specs.Uses.{Use}
 use Rattle.translation.specs.Translate.{Mark}
-use Rattle.emitting.specs.Emission.{Opened, opened, State, withOpen, withSlot, noted, pushed, popped, replaced, top, below, aheadAt, choiceNode, codeNode}
+use Rattle.emitting.specs.Emission.{Opened, opened, State, withOpen, withSlot, noted, pushed, popped, replaced, top, below, nameless, withVariable, aheadAt, choiceNode, codeNode}
 use Rattle.translating.proofs.SlotLists.{Fills, longer, then-slots, refill, slot-read, slot-past, slots-past, there}
-use Rattle.translating.proofs.Written.{Tables, Frame, Flow, withOpens, wrote, slotted, put-real, slot-real, noted-real, step, state, Passed, Fits, Emits, wrote-right, goes-node, goes-then}
+use Rattle.translating.proofs.Written.{Tables, Frame, Flow, withOpens, wrote, slotted, varied, put-real, slot-real, noted-real, step, state, Passed, Fits, Emits, wrote-right, goes-node, goes-then}
 
 -- an address that a table has
 pub address : (v n : ℕ) → v ≡ there n → n < 8192 → there v ≡ pack 0 0 n
@@ -69,10 +69,10 @@ module _ (tb : Tables) where
   closing false = n-if-end
 
   end-step : (t : Bool) (q i n : ℕ) (os : List Opened) (fr : Frame) (fl : Flow) → i < length (fl .slots) → fl .at ≡ n
-      → step tb (closing t) q 0 0 (state tb (withOpens (opened i 0 0 0 ∷ os) fr) fl) ≡ state tb (withOpens os fr) (slotted (set (fl .slots) i (there n)) fl)
-  unfolding step codeNode isUse choiceNode popped top below withOpen
-  end-step true q i n os fr fl h e = ap (λ (u : ℕ). noted i (there u) (state tb (withOpens os fr) fl)) e ∙ noted-real (tb .key) i (there n) (withOpens os fr) fl h
-  end-step false q i n os fr fl h e = ap (λ (u : ℕ). noted i (there u) (state tb (withOpens os fr) fl)) e ∙ noted-real (tb .key) i (there n) (withOpens os fr) fl h
+      → step tb (closing t) q 0 0 (state tb (withOpens (opened i 0 0 0 ∷ os) fr) fl) ≡ state tb (withOpens os fr) (varied 0 (slotted (set (fl .slots) i (there n)) fl))
+  unfolding step codeNode isUse choiceNode popped top below withOpen nameless withVariable
+  end-step true q i n os fr fl h e = ap (λ (u : ℕ). nameless (noted i (there u) (state tb (withOpens os fr) fl))) e ∙ ap nameless (noted-real (tb .key) i (there n) (withOpens os fr) fl h)
+  end-step false q i n os fr fl h e = ap (λ (u : ℕ). nameless (noted i (there u) (state tb (withOpens os fr) fl))) e ∙ ap nameless (noted-real (tb .key) i (there n) (withOpens os fr) fl h)
 
 -- ---- a choice with one part only
 
@@ -88,7 +88,7 @@ module _ {tb : Tables} {R : Type 0} {wc we : List ℕ} {us us' : List Use} {c e 
       let i = length (p .next .slots) in
       let j : i < length (s .next .slots) = omega (arith, longer (s .fills), length-append (p .next .slots) (0 ∷ [])) in
       record {
-        next = slotted (set (s .next .slots) i (there e)) (s .next);
+        next = varied 0 (slotted (set (s .next .slots) i (there e)) (s .next));
         goes =
             goes-then (p .goes)
             (goes-then (goes-node n-then q 0 0 (then-step tb q fr (p .next)))
@@ -131,7 +131,7 @@ module _ {tb : Tables} {R : Type 0} {wc we wf : List ℕ} {us us' us'' : List Us
       let j' : length l < length (z .next .slots) = omega (arith, longer (z .fills), length-append l (0 ∷ [])) in
       let filled : Fills (p .next .slots) l (λ k. there (suc n) ∷ Ae k) = refill 0 (there (suc n)) (s .fills) in
       record {
-        next = slotted (set (z .next .slots) (length l) (there e)) (z .next);
+        next = varied 0 (slotted (set (z .next .slots) (length l) (there e)) (z .next));
         goes =
             goes-then (p .goes)
             (goes-then (goes-node n-then q 0 0 (then-step tb q fr (p .next)))

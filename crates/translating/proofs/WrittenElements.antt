@@ -5,27 +5,30 @@ use native.Mathlib.Omega.{arith}
 use native.Mathlib.Numerals.{add-one}
 use mathlib.Core.Path.{_≡_, refl, sym, ap, _∙_}
 use mathlib.Core.List.{List, [], _∷_, _++_, append-assoc, append-nil}
+use lib.Dec.{eqb}
 use lib.ListN.{length, getD, drop, length-append}
 use lib.Seq.{set-append-seam}
-use Rattle.machine.specs.Data.{store, keep, bump, condition, upto}
-use Rattle.machine.specs.Instructions.{Loc, lc, Instr, DO, IF, JUMP, GO, pack, high, mid}
+use Rattle.machine.specs.Data.{store, keep, bump, sum, condition, upto}
+use Rattle.machine.specs.Instructions.{Loc, lc, fnd, Instr, DO, IF, JUMP, GO, pack, high, mid, low}
 use Rattle.grammar.specs.NodeKinds.{n-start, n-once, n-while, n-step, n-amount}
 use Rattle.names.specs.Program.{Name, Expression, firstSymbol, Element, value, while, step as by-step}
-use Rattle.names.specs.Scopes.{Scope}
+use Rattle.names.specs.Scopes.{Scope, meaning}
 use Rattle.names.specs.Nodes.{mark, amountNodes, nodesE, nodesL, nodesLs}
 use Rattle.names.specs.Rows.{isUse}
 use Rattle.names.specs.Uses.{Use, usesE, usesL}
-use Rattle.translation.specs.Translate.{Mark, scopes, loc, endE, endL, onward, codeE, codeL}
-use Rattle.machine.specs.Words.{Parts, beside, LocFits, CodeFits, words}
+use Rattle.rules.specs.Calls.{Way, direct, sought, way}
+use Rattle.translation.specs.Translate.{Mark, scopes, loc, endE, endStore, endTest, endSum, endL, onward, SEEKS, codeE, codeStore, codeTest, codeSum, codeL}
+use Rattle.machine.specs.Words.{Parts, beside, CodeFits, words}
 use Rattle.emitting.specs.Layout.{packed}
 use Rattle.translation.specs.Scoped.{OkE, OkL}
-use Rattle.emitting.specs.Emission.{opened, put, withOpen, noted, replaced, top, below, aheadAt, element, bodied, stepping, elementNode, plainNode, codeNode}
-use Rattle.translating.proofs.NumbersOf.{NumbersE, NumbersL}
+use Rattle.emitting.specs.Emission.{opened, State, put, withOpen, noted, replaced, top, below, bare, foundWord, onCell, aheadAt, element, bodied, tested, added, tests, stepping, elementNode, plainNode, codeNode}
+use Rattle.translating.proofs.ToldCalls.{ToldE, ToldL}
 use Rattle.translating.proofs.SlotLists.{Fills, a-slot, then-slots, slot-read, slot-past, slots-past, there, aheadE, aheadX, aheadL, endX, end-element}
-use Rattle.translating.proofs.Written.{Tables, Frame, Flow, withOpens, slotted, taken, slot-real, noted-real, putAll, wroteAll, puts-real, past, Same, wrote-all, fits-apart, step, state, Goes, Passed, Fits, goes-node, goes-then, _and-then_, passed-all, passed-idle}
-use Rattle.machine.proofs.Words.{high-pack, mid-pack}
+use Rattle.translating.proofs.Written.{Tables, Frame, Flow, withOpens, slotted, taken, slot-real, noted-real, putAll, wroteAll, puts-real, past, Same, wrote-all, fits-apart, step, state, Goes, Passed, Fits, goes-node, goes-then, _and-then_, passed-all, passed-as, passed-idle}
 use Rattle.translating.proofs.WrittenChoices.{address, fits-open}
-use Rattle.translating.proofs.WrittenExpressions.{parts, Numbered, emitsE}
+use Rattle.translating.proofs.WrittenNames.{parts, seeks, Worded, wayParts, on-cell, way-past, wayInstrs, way-code, way-same}
+use Rattle.translating.proofs.ActualWords.{wordIn}
+use Rattle.translating.proofs.WrittenExpressions.{Numbered, Moded, emitsE}
 use Rattle.translating.proofs.NameWords.{Known, Targets}
 
 -- a frame within a for statement: the slot of its body's address, its variable's word and place, the address of the element
@@ -113,9 +116,10 @@ module _ (tb : Tables) where
 
   -- ---- the nodes
 
-  start-step : (n s v p a : ℕ) (fr : Frame) (fl : Flow) → step tb n-start n 0 0 (state tb (inLoop s v p a fr) fl) ≡ putAll (parts 14 0 v ∷ []) (state tb (inLoop s v p a fr) fl)
+  start-step : (w : Way) (n s v p a : ℕ) (fr : Frame) (fl : Flow) → eqb (low v) 2 ≡ seeks w
+      → step tb n-start n 0 0 (state tb (inLoop s v p a fr) fl) ≡ putAll (wayParts w 14 0 p v) (state tb (inLoop s v p a fr) fl)
   unfolding step codeNode isUse elementNode top
-  start-step n s v p a fr fl = refl
+  start-step w n s v p a fr fl e = on-cell w 14 0 p v (state tb (inLoop s v p a fr) fl) e
 
   amount-step : (n : ℕ) (fr : Frame) (fl : Flow) → step tb n-amount n 0 0 (state tb fr fl) ≡ state tb fr fl
   unfolding step codeNode isUse plainNode
@@ -140,16 +144,56 @@ module _ (tb : Tables) where
   unfolding step codeNode isUse elementNode bodied aheadAt top put
   while-step q s v p a fr fl = refl
 
-  abbrev stepParts : ℕ → ℕ → ℕ → ℕ → Frame → Flow → List Parts
-  stepParts q s v p fr fl =
+  -- the test, the body, the addition, back to the test
+  abbrev stepParts : Way → ℕ → ℕ → ℕ → ℕ → Frame → Flow → List Parts
+  stepParts direct q s v p fr fl =
       parts 20 0 0 ∷
       parts 11 p (packed (high v) (mid v) (ahead-of (length (fl .slots)))) ∷
-      parts 8 0 (packed (fr .loops) (fl .at + 3) (ahead-of s)) ∷ parts 21 (tb .place q) v ∷ parts 2 0 (there (fl .at + 1)) ∷ []
+      parts 8 0 (packed (fr .loops) (fl .at + 1 + 1 + 1) (ahead-of s)) ∷ parts 21 (tb .place q) (bare v) ∷ parts 2 0 (there (fl .at + 1)) ∷ []
+  stepParts sought q s v p fr fl =
+      parts 20 0 0 ∷
+      parts 41 p (bare v) ∷
+      parts 11 p (packed 0 8191 (ahead-of (length (fl .slots)))) ∷
+      parts 8 0 (packed (fr .loops) (fl .at + 1 + 1 + 1 + 1) (ahead-of s)) ∷
+      parts 41 p (bare v) ∷ parts 46 (tb .place q) foundWord ∷ parts 41 p (bare v) ∷ parts 14 0 foundWord ∷ parts 2 0 (there (fl .at + 1)) ∷ []
 
-  step-step : (q s v p a : ℕ) (fr : Frame) (fl : Flow)
-      → step tb n-step q 0 0 (state tb (inLoop s v p a fr) fl) ≡ element (tb .values) (tb .layout) (tb .ahead) (tb .entries) (opened s v p a) (putAll (stepParts q s v p fr fl) (state tb (inLoop s v p a fr) fl))
-  unfolding step codeNode isUse elementNode stepping bodied aheadAt top put
-  step-step q s v p a fr fl = refl
+  abbrev testParts : Way → ℕ → ℕ → ℕ → List Parts
+  testParts direct p v o = parts 11 p (packed (high v) (mid v) o) ∷ []
+  testParts sought p v o = parts 41 p (bare v) ∷ parts 11 p (packed 0 8191 o) ∷ []
+
+  tested-puts : (w : Way) (p v o : ℕ) (st : State) → eqb (low v) 2 ≡ seeks w → tested (tb .values) (tb .layout) (tb .ahead) (tb .entries) p v o st ≡ putAll (testParts w p v o) st
+  unfolding tested
+  tested-puts direct p v o st e = rw e
+  tested-puts sought p v o st e = rw e
+
+  abbrev sumParts : Way → ℕ → ℕ → ℕ → List Parts
+  sumParts direct p v q = parts 21 q (bare v) ∷ []
+  sumParts sought p v q = parts 41 p (bare v) ∷ parts 46 q foundWord ∷ parts 41 p (bare v) ∷ parts 14 0 foundWord ∷ []
+
+  added-puts : (w : Way) (p v q : ℕ) (st : State) → eqb (low v) 2 ≡ seeks w → added (tb .values) (tb .layout) (tb .ahead) (tb .entries) p v q st ≡ putAll (sumParts w p v q) st
+  unfolding added onCell
+  added-puts direct p v q st e = rw e
+  added-puts sought p v q st e = rw e
+
+  -- both in their places
+  stepping-puts : (w : Way) (q s v p a : ℕ) (st : State) → eqb (low v) 2 ≡ seeks w
+      → let t = putAll (testParts w p v (getD (tb .ahead) (st .slots) 0)) (put 20 0 0 st) in
+      stepping (tb .values) (tb .layout) (tb .ahead) (tb .entries) (opened s v p a) q st
+      ≡ put 2 0 (there (st .at + 1)) (putAll (sumParts w p v q) (bodied (tb .values) (tb .layout) (tb .ahead) (tb .entries) (opened s v p a) (t .at + 1) t))
+  unfolding stepping tests aheadAt
+  stepping-puts w q s v p a st e =
+      let f = opened s v p a in
+      let o = getD (tb .ahead) (st .slots) 0 in
+      let st₀ = put 20 0 0 st in
+      let t = putAll (testParts w p v o) st₀ in
+      ap (λ (t : State). put 2 0 (there (st .at + 1)) (added (tb .values) (tb .layout) (tb .ahead) (tb .entries) p v q (bodied (tb .values) (tb .layout) (tb .ahead) (tb .entries) f (t .at + 1) t))) (tested-puts w p v o st₀ e)
+      ∙ ap (put 2 0 (there (st .at + 1))) (added-puts w p v q (bodied (tb .values) (tb .layout) (tb .ahead) (tb .entries) f (t .at + 1) t) e)
+
+  step-step : (w : Way) (q s v p a : ℕ) (fr : Frame) (fl : Flow) → eqb (low v) 2 ≡ seeks w
+      → step tb n-step q 0 0 (state tb (inLoop s v p a fr) fl) ≡ element (tb .values) (tb .layout) (tb .ahead) (tb .entries) (opened s v p a) (putAll (stepParts w q s v p fr fl) (state tb (inLoop s v p a fr) fl))
+  unfolding step codeNode isUse elementNode bodied aheadAt top put
+  step-step direct q s v p a fr fl e = ap (element (tb .values) (tb .layout) (tb .ahead) (tb .entries) (opened s v p a)) (stepping-puts direct (tb .place q) s v p a (state tb (inLoop s v p a fr) fl) e)
+  step-step sought q s v p a fr fl e = ap (element (tb .values) (tb .layout) (tb .ahead) (tb .entries) (opened s v p a)) (stepping-puts sought (tb .place q) s v p a (state tb (inLoop s v p a fr) fl) e)
 
   -- ---- words
 
@@ -162,8 +206,13 @@ module _ (tb : Tables) where
   jump-word : (u n : ℕ) → u ≡ n → n < 8192 → there u ≡ pack 0 0 n
   jump-word u n e h = omega arith
 
-  upto-word : (v o u : ℕ) (l : Loc) → v ≡ beside l 0 → u ≡ there o → LocFits l → o < 8192 → packed (high v) (mid v) u ≡ beside l o
-  upto-word v o u (lc a b) e f h i = rw (e, high-pack a b 0 (h .1) (omega arith), mid-pack a b 0 (h .1) (omega arith), f) (omega arith)
+  upto-word : (v o u : ℕ) (l : Loc) → bare v ≡ beside l 0 → u ≡ there o → o < 8192 → packed (high v) (mid v) u ≡ beside l o
+  unfolding bare
+  upto-word v o u (lc a b) e f h = omega arith
+  upto-word v o u fnd e f h = omega arith
+
+  upto-found : (o u : ℕ) → u ≡ there o → o < 8192 → packed 0 8191 u ≡ beside fnd o
+  upto-found o u e h = omega arith
 
 -- ---- the elements
 
@@ -188,30 +237,31 @@ ok-more g (value e) ls ok = ok
 ok-more g (while q e c) ls ok = ((ok .0, ok .1), ok .2)
 ok-more g (by-step q e f h) ls ok = ((ok .0, ok .1, ok .2), ok .3)
 
-abbrev NumbersX : (ℕ → ℕ → Type 0) → Element → Type 0
-NumbersX Q (value e) = NumbersE Q e
-NumbersX Q (while q e c) = NumbersE Q e × NumbersE Q c
-NumbersX Q (by-step q e f h) = NumbersE Q e × NumbersE Q f × NumbersE Q h
+abbrev ToldX : Tables → List Scope → Element → Type 0
+ToldX tb g (value e) = ToldE (Numbered tb) (Moded tb) g e
+ToldX tb g (while q e c) = ToldE (Numbered tb) (Moded tb) g e × ToldE (Numbered tb) (Moded tb) g c
+ToldX tb g (by-step q e f h) = ToldE (Numbered tb) (Moded tb) g e × ToldE (Numbered tb) (Moded tb) g f × ToldE (Numbered tb) (Moded tb) g h
 
-numbers-more : (Q : ℕ → ℕ → Type 0) (l : Element) (ls : List Element) → NumbersL Q (l ∷ ls) → NumbersX Q l × NumbersL Q ls
-numbers-more Q (value e) ls ok = ok
-numbers-more Q (while q e c) ls ok = ((ok .0, ok .1), ok .2)
-numbers-more Q (by-step q e f h) ls ok = ((ok .0, ok .1, ok .2), ok .3)
+told-more : (tb : Tables) (g : List Scope) (l : Element) (ls : List Element) → ToldL (Numbered tb) (Moded tb) g (l ∷ ls) → ToldX tb g l × ToldL (Numbered tb) (Moded tb) g ls
+told-more tb g (value e) ls ok = ok
+told-more tb g (while q e c) ls ok = ((ok .0, ok .1), ok .2)
+told-more tb g (by-step q e f h) ls ok = ((ok .0, ok .1, ok .2), ok .3)
 
 -- one element's code: in the scopes g and m for statements, over x; i: the body, o: where it goes on
 abbrev codeX : Tables → List Mark → ℕ → Name → Element → ℕ → ℕ → ℕ → List Instr → List Instr
-codeX tb g m x (value e) b i o r = codeE (tb .place) g e b (DO (store (loc g x)) ∷ GO m i o ∷ r)
+codeX tb g m x (value e) b i o r = codeE (tb .place) g e b (codeStore (tb .place) g x (GO m i o ∷ r))
 codeX tb g m x (while q e c) b i o r =
-    let a = suc (endE (scopes g) e b) in
-    codeE (tb .place) g e b (DO (store (loc g x)) ∷ codeE (tb .place) g c a (IF condition o ∷ GO m i b ∷ r))
+    let a = endStore (scopes g) x (endE (scopes g) e b) in
+    codeE (tb .place) g e b (codeStore (tb .place) g x (codeE (tb .place) g c a (IF condition o ∷ GO m i b ∷ r)))
 codeX tb g m x (by-step q e f h) b i o r =
-    let a = suc (endE (scopes g) e b) in
+    let a = endStore (scopes g) x (endE (scopes g) e b) in
+    let w = way (meaning (scopes g) x) in
     let n = endE (scopes g) h (endE (scopes g) f a) in
     codeE (tb .place) g e b
-    (DO (store (loc g x)) ∷
-    codeE (tb .place) g f a
+    (codeStore (tb .place) g x
+    (codeE (tb .place) g f a
     (codeE (tb .place) g h (endE (scopes g) f a)
-    (DO keep ∷ IF (upto (tb .place (x .symbol)) (loc g x)) o ∷ GO m i (suc (suc (suc n))) ∷ DO (bump (tb .place q) (loc g x)) ∷ JUMP (suc n) ∷ r)))
+    (DO keep ∷ codeTest (tb .place) w g x o (GO m i (suc (endTest w (suc n))) ∷ codeSum (tb .place) w g q x (JUMP (suc n) ∷ r))))))
 
 module _ {tb : Tables} where
   turned-words : {R : Type 0} {s v p a : ℕ} {fr : Frame} {ws : List ℕ} {us : List Use} {e : ℕ} {A : List ℕ → List ℕ} {C : ℕ → ℕ → List Instr → List Instr} {fl : Flow} (ws' : List ℕ) → ws ≡ ws'
@@ -239,38 +289,43 @@ module _ {tb : Tables} where
             (q .0 ∙ ap (λ (l : List Instr). fl .code ++ words l) (f i o r), q .1);
       }
 
-module _ (tb : Tables) (R : Type 0) (g : List Mark) (right : R → Targets (tb .key) (tb .entries) g) (known : Known (tb .key) (tb .layout) g) (m : ℕ) (x : Name) (s v : ℕ) (word : LocFits (loc g x) → v ≡ beside (loc g x) 0) where
+module _ (tb : Tables) (R : Type 0) (g : List Mark) (right : R → Targets (tb .key) (tb .entries) g) (known : Known (tb .key) (tb .layout) g) (m : ℕ) (x : Name) (s v : ℕ) (tell : eqb (low v) 2 ≡ seeks (way (meaning (scopes g) x))) (word : Worded (way (meaning (scopes g) x)) g x v) where
   abbrev F : ℕ → Frame → Frame
   F a fr = inLoop s v (tb .place (x .symbol)) a fr
+
+  abbrev ahead : Expression → ℕ → List ℕ → List ℕ
+  ahead e b = aheadE (tb .place) (wordIn (tb .key) (tb .layout)) g e b
 
   -- the start: an expression, and the store
   abbrev startWords : ℕ → Expression → List ℕ
   startWords d e = nodesE d e ++ mark n-start (firstSymbol e)
 
-  start-passed : (e : Expression) (d b : ℕ) → OkE (scopes g) e → NumbersE (Numbered tb) e → (us : List Use) (fr : Frame) (fl : Flow) → Fits tb g 0 m fr → fl .uses ≡ usesE (scopes g) e ++ us → fl .at ≡ b
-      → Passed tb R (F b fr) (F b fr) (startWords d e) us (suc (endE (scopes g) e b)) (aheadE (scopes g) e b) (λ t. t) (λ r. codeE (tb .place) g e b (DO (store (loc g x)) ∷ r)) fl
+  start-passed : (e : Expression) (d b : ℕ) → OkE (scopes g) e → ToldE (Numbered tb) (Moded tb) (scopes g) e → (us : List Use) (fr : Frame) (fl : Flow) → Fits tb g 0 m fr → fl .uses ≡ usesE (scopes g) e ++ us → fl .at ≡ b
+      → Passed tb R (F b fr) (F b fr) (startWords d e) us (endStore (scopes g) x (endE (scopes g) e b)) (ahead e b) (λ t. t) (λ r. codeE (tb .place) g e b (codeStore (tb .place) g x r)) fl
   start-passed e d b ok n us fr fl w u a =
       let p = tb .place (x .symbol) in
-      let y = emitsE tb R g right known 0 m e d b ok n .pass us (F b fr) fl (fits-open (opened s v p b ∷ fr .opens) w) u a in
+      let z = way (meaning (scopes g) x) in
+      let y = emitsE tb R 0 m g right known e d b ok n .pass us (F b fr) fl (fits-open (opened s v p b ∷ fr .opens) w) u a in
       y
-      and-then (passed-all (DO (store (loc g x)) ∷ []) (parts 14 0 v ∷ []) n-start (firstSymbol e) 0 0
-      (start-step tb (firstSymbol e) s v p b fr (y .next) ∙ ap (λ (us : List Use). putAll (parts 14 0 v ∷ []) (state tb (F b fr) (taken us (y .next)))) (y .uses))
-      (y .at) (λ z c. (ap (parts 14 0) (word (c .0)), tt)))
+      and-then (passed-as (endStore (scopes g) x (endE (scopes g) e b)) (codeStore (tb .place) g x) (way-past z 14 0 p v (endE (scopes g) e b)) (way-code tb z g x (λ l. store l))
+      (passed-all (y .next .variable) (wayInstrs tb z g x (λ l. store l)) (wayParts z 14 0 p v) n-start (firstSymbol e) 0 0
+      (start-step tb z (firstSymbol e) s v p b fr (y .next) tell ∙ ap (λ (us : List Use). putAll (wayParts z 14 0 p v) (state tb (F b fr) (taken us (y .next)))) (y .uses))
+      (y .at) (λ t c. way-same tb z g x (λ l. store l) 14 0 v (λ l. refl) (λ l f. f) word c)))
 
   -- an amount of a step: an expression
-  amount-passed : (e : Expression) (d b k : ℕ) → OkE (scopes g) e → NumbersE (Numbered tb) e → (us : List Use) (fr : Frame) (fl : Flow) → Fits tb g 0 m fr → fl .uses ≡ usesE (scopes g) e ++ us → fl .at ≡ b
-      → Passed tb R (F k fr) (F k fr) (amountNodes d e) us (endE (scopes g) e b) (aheadE (scopes g) e b) (λ t. t) (codeE (tb .place) g e b) fl
+  amount-passed : (e : Expression) (d b k : ℕ) → OkE (scopes g) e → ToldE (Numbered tb) (Moded tb) (scopes g) e → (us : List Use) (fr : Frame) (fl : Flow) → Fits tb g 0 m fr → fl .uses ≡ usesE (scopes g) e ++ us → fl .at ≡ b
+      → Passed tb R (F k fr) (F k fr) (amountNodes d e) us (endE (scopes g) e b) (ahead e b) (λ t. t) (codeE (tb .place) g e b) fl
   amount-passed e d b k ok n us fr fl w u a =
       let p = tb .place (x .symbol) in
-      let y = emitsE tb R g right known 0 m e d b ok n .pass us (F k fr) fl (fits-open (opened s v p k ∷ fr .opens) w) u a in
+      let y = emitsE tb R 0 m g right known e d b ok n .pass us (F k fr) fl (fits-open (opened s v p k ∷ fr .opens) w) u a in
       y and-then (passed-idle n-amount (firstSymbol e) 0 0 (amount-step tb (firstSymbol e) (F k fr) (y .next)) (y .uses) (y .at))
 
   abbrev IsX : Element → ℕ → ℕ → Type 0
   IsX l d b =
       (us : List Use) (fr : Frame) (fl : Flow) → Fits tb g 0 m fr → fl .uses ≡ usesX (scopes g) l ++ us → fl .at ≡ b
-      → Turned tb R s v (tb .place (x .symbol)) b fr (nodesL d l) us (endX (scopes g) l b) (aheadX (scopes g) l b) (codeX tb g m x l b) fl
+      → Turned tb R s v (tb .place (x .symbol)) b fr (nodesL d l) us (endX (scopes g) x l b) (aheadX (tb .place) (wordIn (tb .key) (tb .layout)) g x l b) (codeX tb g m x l b) fl
 
-  value-turned : (e : Expression) (d b : ℕ) → OkE (scopes g) e → NumbersE (Numbered tb) e → IsX (value e) d b
+  value-turned : (e : Expression) (d b : ℕ) → OkE (scopes g) e → ToldE (Numbered tb) (Moded tb) (scopes g) e → IsX (value e) d b
   unfolding nodesL endX aheadX
   value-turned e d b ok n us fr fl w u a =
       let p = tb .place (x .symbol) in
@@ -279,44 +334,65 @@ module _ (tb : Tables) (R : Type 0) (g : List Mark) (right : R → Targets (tb .
       (turn tb y (λ i o. GO m i o ∷ []) (onceParts tb s fr (y .next)) n-once 0 (once-step tb s v p b fr (y .next))
       (λ z i o h l c. (ap (parts 8 0) (go-word tb (fr .loops) m o i _ _ (w .loops) l h (c .0)), tt)))
 
-  while-turned : (q : ℕ) (e c : Expression) (d b : ℕ) → OkX (scopes g) (while q e c) → NumbersX (Numbered tb) (while q e c) → IsX (while q e c) d b
+  while-turned : (q : ℕ) (e c : Expression) (d b : ℕ) → OkX (scopes g) (while q e c) → ToldX tb (scopes g) (while q e c) → IsX (while q e c) d b
   unfolding nodesL endX aheadX
   while-turned q e c d b ok n us fr fl w u a =
       let p = tb .place (x .symbol) in
-      let f = suc (endE (scopes g) e b) in
+      let f = endStore (scopes g) x (endE (scopes g) e b) in
       let ue = usesE (scopes g) e in
       let uc = usesE (scopes g) c in
       let y = start-passed e d b (ok .0) (n .0) (uc ++ us) fr fl w (u ∙ append-assoc ue uc us) a in
-      let y' = emitsE tb R g right known 0 m c d f (ok .1) (n .1) .pass us (F b fr) (y .next) (fits-open (opened s v p b ∷ fr .opens) w) (y .uses) (y .at) in
+      let y' = emitsE tb R 0 m g right known c d f (ok .1) (n .1) .pass us (F b fr) (y .next) (fits-open (opened s v p b ∷ fr .opens) w) (y .uses) (y .at) in
       let t = y and-then y' in
       turned-words (nodesL d (while q e c)) (simp append-assoc)
       (turn tb t (λ i o. IF condition o ∷ GO m i b ∷ []) (whileParts tb s b fr (t .next)) n-while q (while-step tb q s v p b fr (t .next))
       (λ z i o h l c. (ap (parts 10 0) (address _ o l (c .0 .1)), (ap (parts 8 0) (go-back tb (fr .loops) m b i _ _ (w .loops) refl h (c .1 .0)), tt))))
 
   -- behind the amounts, which end at n
-  step-end : (q n b : ℕ) {ws : List ℕ} {us : List Use} {A : List ℕ → List ℕ} {C : List Instr → List Instr} {fr : Frame} {fl : Flow} → Fits tb g 0 m fr
+  step-end : (w : Way) (q n b : ℕ) {ws : List ℕ} {us : List Use} {A : List ℕ → List ℕ} {C : List Instr → List Instr} {fr : Frame} {fl : Flow} → eqb (low v) 2 ≡ seeks w → Worded w g x v → Fits tb g 0 m fr
       → Passed tb R (F b fr) (F b fr) ws us n A (λ t. t) C fl
-      → Turned tb R s v (tb .place (x .symbol)) b fr (ws ++ mark n-step q) us (suc (suc (suc (suc (suc n))))) A (λ i o r. C (DO keep ∷ IF (upto (tb .place (x .symbol)) (loc g x)) o ∷ GO m i (suc (suc (suc n))) ∷ DO (bump (tb .place q) (loc g x)) ∷ JUMP (suc n) ∷ r)) fl
-  step-end q n b {fr = fr} w t =
+      → Turned tb R s v (tb .place (x .symbol)) b fr (ws ++ mark n-step q) us (suc (endSum w (suc (endTest w (suc n))))) A (λ i o r. C (DO keep ∷ codeTest (tb .place) w g x o (GO m i (suc (endTest w (suc n))) ∷ codeSum (tb .place) w g q x (JUMP (suc n) ∷ r)))) fl
+  unfolding endTest endSum codeTest codeSum
+  step-end direct q n b {fr = fr} tell word w t =
       let p = tb .place (x .symbol) in
       let at₁ : t .next .at + 1 ≡ suc n = add-one (t .next .at) ∙ ap suc (t .at) in
-      let at₃ : t .next .at + 3 ≡ suc (suc (suc n)) = omega (arith, t .at) in
-      turn tb t (λ i o. DO keep ∷ IF (upto p (loc g x)) o ∷ GO m i (suc (suc (suc n))) ∷ DO (bump (tb .place q) (loc g x)) ∷ JUMP (suc n) ∷ []) (stepParts tb q s v p fr (t .next)) n-step q (step-step tb q s v p b fr (t .next))
+      let at₃ : t .next .at + 1 + 1 + 1 ≡ suc (suc (suc n)) = omega (arith, t .at) in
+      turn tb t (λ i o. DO keep ∷ IF (upto p (loc g x)) o ∷ GO m i (suc (suc (suc n))) ∷ DO (bump (tb .place q) (loc g x)) ∷ JUMP (suc n) ∷ []) (stepParts tb direct q s v p fr (t .next)) n-step q (step-step tb direct q s v p b fr (t .next) tell)
       (λ z i o h l c. (
         refl,
         (
-          ap (parts 11 p) (upto-word tb v o _ (loc g x) (word (c .1 .0 .0)) l (c .1 .0 .0) (c .1 .0 .1)),
+          ap (parts 11 p) (upto-word tb v o _ (loc g x) (word (c .1 .0 .0) .bared) l (c .1 .0 .1)),
           (
             ap (parts 8 0) (go-back tb (fr .loops) m (suc (suc (suc n))) i _ _ (w .loops) at₃ h (c .1 .1 .0)),
-            (ap (parts 21 (tb .place q)) (word (c .1 .1 .1 .0)), (ap (parts 2 0) (jump-word tb _ (suc n) at₁ (c .1 .1 .1 .1 .0)), tt)),
+            (ap (parts 21 (tb .place q)) (word (c .1 .1 .1 .0) .bared), (ap (parts 2 0) (jump-word tb _ (suc n) at₁ (c .1 .1 .1 .1 .0)), tt)),
+          ),
+        ),
+      ))
+  step-end sought q n b {fr = fr} tell word w t =
+      let p = tb .place (x .symbol) in
+      let at₁ : t .next .at + 1 ≡ suc n = add-one (t .next .at) ∙ ap suc (t .at) in
+      let at₄ : t .next .at + 1 + 1 + 1 + 1 ≡ suc (suc (suc (suc n))) = omega (arith, t .at) in
+      let k = SEEKS (tb .place) g x in
+      turn tb t (λ i o. DO keep ∷ k ∷ IF (upto p fnd) o ∷ GO m i (suc (suc (suc (suc n)))) ∷ k ∷ DO (sum (tb .place q) fnd) ∷ k ∷ DO (store fnd) ∷ JUMP (suc n) ∷ []) (stepParts tb sought q s v p fr (t .next)) n-step q (step-step tb sought q s v p b fr (t .next) tell)
+      (λ z i o h l c.
+      let e = ap (parts 41 p) (word (c .1 .0) .bared) in (
+        refl,
+        (
+          e,
+          (
+            ap (parts 11 p) (upto-found tb o _ l (c .1 .1 .0 .1)),
+            (
+              ap (parts 8 0) (go-back tb (fr .loops) m (suc (suc (suc (suc n)))) i _ _ (w .loops) at₄ h (c .1 .1 .1 .0)),
+              (e, (refl, (e, (refl, (ap (parts 2 0) (jump-word tb _ (suc n) at₁ (c .1 .1 .1 .1 .1 .1 .1 .1 .0)), tt))))),
+            ),
           ),
         ),
       ))
 
-  step-turned : (q : ℕ) (e f h : Expression) (d b : ℕ) → OkX (scopes g) (by-step q e f h) → NumbersX (Numbered tb) (by-step q e f h) → IsX (by-step q e f h) d b
+  step-turned : (q : ℕ) (e f h : Expression) (d b : ℕ) → OkX (scopes g) (by-step q e f h) → ToldX tb (scopes g) (by-step q e f h) → IsX (by-step q e f h) d b
   unfolding nodesL endX aheadX
   step-turned q e f h d b ok n us fr fl w u a =
-      let k = suc (endE (scopes g) e b) in
+      let k = endStore (scopes g) x (endE (scopes g) e b) in
       let k' = endE (scopes g) f k in
       let ue = usesE (scopes g) e in
       let uf = usesE (scopes g) f in
@@ -324,16 +400,16 @@ module _ (tb : Tables) (R : Type 0) (g : List Mark) (right : R → Targets (tb .
       let y₁ = start-passed e d b (ok .0) (n .0) ((uf ++ uh) ++ us) fr fl w (u ∙ append-assoc ue (uf ++ uh) us) a in
       let y₂ = amount-passed f d k b (ok .1) (n .1) (uh ++ us) fr (y₁ .next) w (y₁ .uses ∙ append-assoc uf uh us) (y₁ .at) in
       let y₃ = amount-passed h d k' b (ok .2) (n .2) us fr (y₂ .next) w (y₂ .uses) (y₂ .at) in
-      turned-words (nodesL d (by-step q e f h)) (simp append-assoc) (step-end q (endE (scopes g) h k') b w (y₁ and-then y₂ and-then y₃))
+      turned-words (nodesL d (by-step q e f h)) (simp append-assoc) (step-end (way (meaning (scopes g) x)) q (endE (scopes g) h k') b tell word w (y₁ and-then y₂ and-then y₃))
 
-  element-turned : (l : Element) (d b : ℕ) → OkX (scopes g) l → NumbersX (Numbered tb) l → IsX l d b
+  element-turned : (l : Element) (d b : ℕ) → OkX (scopes g) l → ToldX tb (scopes g) l → IsX l d b
   element-turned (value e) d b ok n = value-turned e d b ok n
   element-turned (while q e c) d b ok n = while-turned q e c d b ok n
   element-turned (by-step q e f h) d b ok n = step-turned q e f h d b ok n
 
   -- the code of elements is that of the first in front of the others'
   code-more : (l : Element) (ls : List Element) (b i n : ℕ) (r : List Instr)
-      → codeX tb g m x l b i (onward ls (endX (scopes g) l b) n) (codeL (tb .place) g m x ls i n (endX (scopes g) l b) r) ≡ codeL (tb .place) g m x (l ∷ ls) i n b r
+      → codeX tb g m x l b i (onward ls (endX (scopes g) x l b) n) (codeL (tb .place) g m x ls i n (endX (scopes g) x l b) r) ≡ codeL (tb .place) g m x (l ∷ ls) i n b r
   unfolding codeL endX
   code-more (value e) ls b i n r = refl
   code-more (while q e c) ls b i n r = refl
@@ -342,20 +418,20 @@ module _ (tb : Tables) (R : Type 0) (g : List Mark) (right : R → Targets (tb .
   abbrev IsL : Element → List Element → ℕ → ℕ → Type 0
   IsL l ls d b =
       (us : List Use) (fr : Frame) (fl : Flow) → Fits tb g 0 m fr → fl .uses ≡ usesL (scopes g) (l ∷ ls) ++ us → fl .at ≡ b
-      → Turned tb R s v (tb .place (x .symbol)) b fr (nodesL d l ++ nodesLs d ls) us (endL (scopes g) (l ∷ ls) b) (aheadL (scopes g) l ls b) (λ i n r. codeL (tb .place) g m x (l ∷ ls) i n b r) fl
+      → Turned tb R s v (tb .place (x .symbol)) b fr (nodesL d l ++ nodesLs d ls) us (endL (scopes g) x (l ∷ ls) b) (aheadL (tb .place) (wordIn (tb .key) (tb .layout)) g x l ls b) (λ i n r. codeL (tb .place) g m x (l ∷ ls) i n b r) fl
 
-  pub elements-turned : (l : Element) (ls : List Element) (d b : ℕ) → OkL (scopes g) (l ∷ ls) → NumbersL (Numbered tb) (l ∷ ls) → IsL l ls d b
+  pub elements-turned : (l : Element) (ls : List Element) (d b : ℕ) → OkL (scopes g) (l ∷ ls) → ToldL (Numbered tb) (Moded tb) (scopes g) (l ∷ ls) → IsL l ls d b
   unfolding nodesLs usesL aheadL endL codeL
   elements-turned l [] d b ok n = λ us fr fl w u a.
-      let y = element-turned l d b (ok-more (scopes g) l [] ok .0) (numbers-more (Numbered tb) l [] n .0) us fr fl w (u ∙ ap (λ (z : List Use). z ++ us) (uses-more (scopes g) l []) ∙ append-assoc (usesX (scopes g) l) [] us) a in
+      let y = element-turned l d b (ok-more (scopes g) l [] ok .0) (told-more tb (scopes g) l [] n .0) us fr fl w (u ∙ ap (λ (z : List Use). z ++ us) (uses-more (scopes g) l []) ∙ append-assoc (usesX (scopes g) l) [] us) a in
       turned-code (λ i n r. codeL (tb .place) g m x (l ∷ []) i n b r) (λ i n r. code-more l [] b i n r)
-      (turned-end (endL (scopes g) (l ∷ []) b) (sym (end-element (scopes g) l [] b)) (turned-words (nodesL d l ++ []) (sym (append-nil (nodesL d l))) y))
+      (turned-end (endL (scopes g) x (l ∷ []) b) (sym (end-element (scopes g) x l [] b)) (turned-words (nodesL d l ++ []) (sym (append-nil (nodesL d l))) y))
   elements-turned l (l' ∷ ls) d b ok n = λ us fr fl w u a.
       let ok' = ok-more (scopes g) l (l' ∷ ls) ok in
-      let n' = numbers-more (Numbered tb) l (l' ∷ ls) n in
-      let e = endX (scopes g) l b in
+      let n' = told-more tb (scopes g) l (l' ∷ ls) n in
+      let e = endX (scopes g) x l b in
       let vs = usesL (scopes g) (l' ∷ ls) in
       let y = element-turned l d b (ok' .0) (n' .0) (vs ++ us) fr fl w (u ∙ ap (λ (z : List Use). z ++ us) (uses-more (scopes g) l (l' ∷ ls)) ∙ append-assoc (usesX (scopes g) l) vs us) a in
       let z = elements-turned l' ls d e (ok' .1) (n' .1) us fr (y .next) w (y .uses) (y .at) in
       turned-code (λ i n r. codeL (tb .place) g m x (l ∷ l' ∷ ls) i n b r) (λ i n r. code-more l (l' ∷ ls) b i n r)
-      (turned-end (endL (scopes g) (l ∷ l' ∷ ls) b) (sym (end-element (scopes g) l (l' ∷ ls) b)) (turn-then tb y z))
+      (turned-end (endL (scopes g) x (l ∷ l' ∷ ls) b) (sym (end-element (scopes g) x l (l' ∷ ls) b)) (turn-then tb y z))

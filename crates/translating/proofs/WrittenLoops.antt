@@ -16,12 +16,14 @@ use Rattle.names.specs.Rows.{isUse}
 use Rattle.names.specs.Uses.{Use, used, usesL, usesS}
 use Rattle.translation.specs.Translate.{Mark, scopes, endL, endS, codeS}
 use Rattle.emitting.specs.Layout.{packed}
-use Rattle.translation.specs.Scoped.{OkV, OkL}
+use Rattle.translation.specs.Scoped.{OkW, OkL}
 use Rattle.emitting.specs.Emission.{opened, State, put, withOpen, withSlot, within, noted, pushed, popped, replaced, top, below, cellOf, repeated, useNode, loopNode, codeNode}
-use Rattle.translating.proofs.NumbersOf.{NumbersL}
+use Rattle.translating.proofs.ToldCalls.{ToldL}
 use Rattle.translating.proofs.SlotLists.{Fills, longer, then-slots, refill, slot-read, slot-past, slots-past, there, aheadS}
 use Rattle.translating.proofs.Written.{Tables, Frame, Flow, kindOf, meansOf, wrote, slotted, taken, put-real, slot-real, noted-real, step, state, Passed, Emits, wrote-right, goes-node, goes-then, passed-words, use-step}
-use Rattle.translating.proofs.WrittenExpressions.{Numbered, cell-word}
+use Rattle.translating.proofs.WrittenNames.{wordAt, seeks-is, worded}
+use Rattle.translating.proofs.ActualWords.{wordIn}
+use Rattle.translating.proofs.WrittenExpressions.{Numbered, Moded}
 use Rattle.translating.proofs.WrittenElements.{inLoop, Turned, elements-turned}
 use Rattle.translating.proofs.NameWords.{Known, Targets}
 use Rattle.translating.proofs.EntryTables.{enteredS}
@@ -36,11 +38,11 @@ module _ (tb : Tables) where
   abbrev forFlow : List Use → Flow → Flow
   forFlow us fl = slotted (fl .slots ++ (0 ∷ [])) (taken us fl)
 
-  for-step : (s d v b : ℕ) (fr : Frame) (fl : Flow) (gs : List Scope) (x : Name) (us : List Use) → fl .uses ≡ used gs x ∷ us → fl .at ≡ b → OkV gs x
+  for-step : (s d v b : ℕ) (fr : Frame) (fl : Flow) (gs : List Scope) (x : Name) (us : List Use) → fl .uses ≡ used gs x ∷ us → fl .at ≡ b
       → cellOf (tb .values) (tb .layout) (tb .ahead) (tb .entries) (fr .level) (kindOf (meaning gs x)) (meansOf (tb .key) (meaning gs x)) ≡ v
       → step tb n-for s d 0 (state tb fr fl) ≡ state tb (inLoop (length (fl .slots)) v (tb .place s) b fr) (forFlow us fl)
   unfolding useNode isUse repeated pushed withOpen
-  for-step s d v b fr fl gs x us u i ok e =
+  for-step s d v b fr fl gs x us u i e =
       use-step tb n-for s d 0 fr fl gs x us (kindOf (meaning gs x)) (meansOf (tb .key) (meaning gs x)) refl u refl refl
       ∙ ap (λ (v : ℕ). withSlot (state tb (inLoop (length (fl .slots)) v (tb .place s) (fl .at) fr) (taken us fl))) e
       ∙ ap (λ (b : ℕ). withSlot (state tb (inLoop (length (fl .slots)) v (tb .place s) b fr) (taken us fl))) i
@@ -81,13 +83,13 @@ next-word n m e h = omega arith
 
 module _ {tb : Tables} {R : Type 0} {wl wb : List ℕ} {us us' : List Use} {b i e v : ℕ} {A B E : List ℕ → List ℕ} {C : ℕ → ℕ → List Instr → List Instr} {D : List Instr → List Instr} where
   -- the elements, which end at i, and the body
-  loop-passed : (gs : List Scope) (x : Name) (d q m : ℕ) (us₀ : List Use) {fr : Frame} {fl : Flow} → fr .loops ≡ m → fl .uses ≡ used gs x ∷ us₀ → fl .at ≡ b → OkV gs x
+  loop-passed : (gs : List Scope) (x : Name) (d q m : ℕ) (us₀ : List Use) {fr : Frame} {fl : Flow} → fr .loops ≡ m → fl .uses ≡ used gs x ∷ us₀ → fl .at ≡ b
       → cellOf (tb .values) (tb .layout) (tb .ahead) (tb .entries) (fr .level) (kindOf (meaning gs x)) (meansOf (tb .key) (meaning gs x)) ≡ v
       → (t : Turned tb R (length (fl .slots)) v (tb .place (x .symbol)) b fr wl us i A C (forFlow tb us₀ fl))
       → let l = doSlots tb (length (fl .slots)) i (t .front) in
       (y : Passed tb R (inBody (length l) fr) (inBody (length l) fr) wb us' e B E D (slotted (l ++ (there i ∷ [])) (t .next)))
       → Passed tb R fr fr (node n-for (x .symbol) d 0 ++ (wl ++ (mark n-do 0 ++ (wb ++ mark n-for-end q)))) us' (suc e) (λ k. there i ∷ A (there (suc e) ∷ B k)) E (λ r. C i (suc e) (D (NEXT m ∷ r))) fl
-  loop-passed gs x d q m us₀ {fr} {fl} ml u a ok ev t y =
+  loop-passed gs x d q m us₀ {fr} {fl} ml u a ev t y =
       let s = length (fl .slots) in
       let l = doSlots tb s i (t .front) in
       let h : s < length (t .front) = omega (arith, longer (t .fills), length-append (fl .slots) (0 ∷ [])) in
@@ -96,7 +98,7 @@ module _ {tb : Tables} {R : Type 0} {wl wb : List ℕ} {us us' : List Use} {b i 
       record {
         next = slotted (set (y .next .slots) (length l) (there (suc e))) (wrote 9 0 (packed (fr .loops) 0 0) (y .next));
         goes =
-            goes-then (goes-node n-for (x .symbol) d 0 (for-step tb (x .symbol) d v b fr fl gs x us₀ u a ok ev))
+            goes-then (goes-node n-for (x .symbol) d 0 (for-step tb (x .symbol) d v b fr fl gs x us₀ u a ev))
             (goes-then (t .goes)
             (goes-then (goes-node n-do 0 0 0 (do-step tb s v (tb .place (x .symbol)) i i (t .front) fr (t .next) (t .slots) (t .at) h))
             (goes-then (y .goes) (goes-node n-for-end q 0 0 (end-step tb q (length l) e fr (y .next) (y .at) h')))));
@@ -114,23 +116,23 @@ module _ {tb : Tables} {R : Type 0} {wl wb : List ℕ} {us us' : List Use} {b i 
       }
 
 module _ (tb : Tables) (R : Type 0) (g : List Mark) (right : R → Targets (tb .key) (tb .entries) g) (known : Known (tb .key) (tb .layout) g) (m : ℕ) where
-  pub loop-part : (x : Name) (l : Element) (ls : List Element) (s : Statement) (d b : ℕ) → OkV (scopes g) x → OkL (scopes g) (l ∷ ls) → NumbersL (Numbered tb) (l ∷ ls)
-      → let i = endL (scopes g) (l ∷ ls) b in
-      Emits tb R g 0 (suc m) (nodesS (d + 1) s) (usesS (scopes g) s) i (endS (scopes g) s i) (aheadS (scopes g) s i) (enteredS (scopes g) s i) (codeS (tb .place) g (suc m) s i)
-      → Emits tb R g 0 m (nodesS d (repeat x l ls s)) (usesS (scopes g) (repeat x l ls s)) b (endS (scopes g) (repeat x l ls s) b) (aheadS (scopes g) (repeat x l ls s) b) (enteredS (scopes g) (repeat x l ls s) b) (codeS (tb .place) g m (repeat x l ls s) b)
+  pub loop-part : (x : Name) (l : Element) (ls : List Element) (s : Statement) (d b : ℕ) → OkW (scopes g) x → OkL (scopes g) (l ∷ ls) → ToldL (Numbered tb) (Moded tb) (scopes g) (l ∷ ls)
+      → let i = endL (scopes g) x (l ∷ ls) b in
+      Emits tb R g 0 (suc m) (nodesS (d + 1) s) (usesS (scopes g) s) i (endS (scopes g) s i) (aheadS (tb .place) (wordIn (tb .key) (tb .layout)) g s i) (enteredS (scopes g) s i) (codeS (tb .place) g (suc m) s i)
+      → Emits tb R g 0 m (nodesS d (repeat x l ls s)) (usesS (scopes g) (repeat x l ls s)) b (endS (scopes g) (repeat x l ls s) b) (aheadS (tb .place) (wordIn (tb .key) (tb .layout)) g (repeat x l ls s) b) (enteredS (scopes g) (repeat x l ls s) b) (codeS (tb .place) g m (repeat x l ls s) b)
   unfolding nodesS usesS endS aheadS enteredS codeS
   loop-part x l ls s d b ok ok' n body =
       record {
         pass = λ us fr fl w u a.
-            let i = endL (scopes g) (l ∷ ls) b in
-            let v = cellOf (tb .values) (tb .layout) (tb .ahead) (tb .entries) (fr .level) (kindOf (meaning (scopes g) x)) (meansOf (tb .key) (meaning (scopes g) x)) in
+            let i = endL (scopes g) x (l ∷ ls) b in
+            let v = wordAt tb g (fr .level) x in
             let ul = usesL (scopes g) (l ∷ ls) in
             let ub = usesS (scopes g) s in
             let us₀ : List Use = (ul ++ ub) ++ us in
-            let t = elements-turned tb R g right known m x (length (fl .slots)) v (cell-word tb g known x (fr .level) _ _ ok (w .level) refl refl) l ls d b ok' n (ub ++ us) fr (forFlow tb us₀ fl) w (append-assoc ul ub us) a in
+            let t = elements-turned tb R g right known m x (length (fl .slots)) v (seeks-is tb g (fr .level) x) (worded tb g known x (fr .level) (w .level) ok) l ls d b ok' n (ub ++ us) fr (forFlow tb us₀ fl) w (append-assoc ul ub us) a in
             let l' = doSlots tb (length (fl .slots)) i (t .front) in
             let y = body .pass us (inBody (length l') fr) (slotted (l' ++ (there i ∷ [])) (t .next)) (record { level = w .level; loops = ap suc (w .loops); lefts = w .lefts; awaits = w .awaits }) (t .uses) (t .at) in
             passed-words (nodesS d (repeat x l ls s))
             (ap (λ (z : List ℕ). node n-for (x .symbol) d 0 ++ z) (append-assoc (nodesL d l) (nodesLs d ls) (mark n-do 0 ++ (nodesS (d + 1) s ++ mark n-for-end (x .symbol - 1)))))
-            (loop-passed (scopes g) x d (x .symbol - 1) m us₀ (w .loops) u a ok refl t y);
+            (loop-passed (scopes g) x d (x .symbol - 1) m us₀ (w .loops) u a refl t y);
       }

@@ -37,6 +37,7 @@ fn judged(source: &[u8], words: &mut [u32]) -> Verdict
                 &uses,
                 s.uses,
                 &rows,
+                s.rows,
                 &places,
                 &values,
                 words,
