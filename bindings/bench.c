@@ -1,4 +1,4 @@
-/* bench [INSTRUCTIONS [ROUNDS]]: instructions a second of three loops, through the library and in the machine of own.h, one after the other in each
+/* bench [INSTRUCTIONS [ROUNDS]]: instructions a second of four loops, through the library and in the machine of own.h, one after the other in each
  * round; then the time of reading (and translating) the largest sources. Times are of this process on this processor: under an emulator only the
  * ratio of the two machines means something.
  * bench INSTRUCTIONS library, bench INSTRUCTIONS own: the first loop once, in one of the two, and nothing else (`bindings/run count` counts what it
@@ -97,6 +97,23 @@ static void calls(uint64_t limit)
     put(&code, DROP, 0);
     put(&code, END, 0);
 }
+
+#ifdef DEED_TRANSLATE
+/* A series summed by name, as a source's is laid down: 23 instructions a term. */
+static void series(uint64_t limit)
+{
+    char text[400];
+    size_t place;
+    int n = snprintf(text, sizeof text,
+                     "'begin' 'integer' i; 'integer' 'procedure' sum(k, low, high, term); 'value' low, high; 'integer' k, low, high, term; "
+                     "'begin' 'integer' s; s := 0; 'for' k := low 'step' 1 'until' high 'do' s := s + term; sum := s 'end'; "
+                     "outinteger(1, sum(i, 1, %u, i %% 1000000)) 'end'",
+                     (unsigned)(limit / 23 + 1));
+    if (deed_translate((const uint8_t *)text, (size_t)n, code.word, WORDS, &place) != DEED_ACCEPTED)
+        printf("the series is refused\n");
+    code.length = DEED_CODE;
+}
+#endif
 
 static struct own_ran through_library(uint64_t limit)
 {
@@ -270,6 +287,9 @@ int main(int argc, char **argv)
     time_code("loads, adds, stores, jumps", loads_adds_stores_jumps, limit, rounds);
     time_code("'step' 'until'", step_until, limit, rounds);
     time_code("calls", calls, limit, rounds);
+#ifdef DEED_TRANSLATE
+    time_code("a series summed by name", series, limit, rounds);
+#endif
     time_source("plain", plain);
     time_source("short names", short_names);
     time_source("long names", long_names);

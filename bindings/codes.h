@@ -133,6 +133,46 @@ static void by_hand_call(struct code *c)
     put(c, END, 0);
 }
 
+/* p(a) calls p(a) n times, a by name, and then does a := a + 1; the program calls it with a variable, which is written then, or with a number. */
+static void by_hand_names(struct code *c, uint32_t n, int is_variable)
+{
+    put(c, ENTER, parts(0, 2, 20));
+    put(c, LOAD, parts(1, 0, 0)); /* 1: p */
+    put(c, UNLESS, 14);
+    put(c, LOAD, parts(1, 0, 0));
+    put(c, CONST, 1);
+    put(c, LESS, 0);
+    put(c, STORE, parts(1, 0, 0));
+    put(c, NAME, 12);
+    put(c, PASS, parts(1, 0, 0));
+    put(c, RETURN, 0);
+    put(c, WORK, parts(1, 0, 0));
+    put(c, RETURN, 0);
+    put(c, CALL, parts(1, 1, 1)); /* 12 */
+    put(c, RETURN, 0);
+    put(c, WORK, parts(0, 0, 0)); /* 14 */
+    put(c, CONST, 1);
+    put(c, PLUS, 0);
+    put(c, SEEK, parts(0, 0, 0));
+    put(c, STORE, parts(0, FOUND, 0));
+    put(c, RETURN, 0);
+    put(c, CONST, n); /* 20 */
+    put(c, STORE, parts(0, 0, 0));
+    put(c, CONST, 5);
+    put(c, STORE, parts(0, 1, 0));
+    put(c, NAME, 29);
+    put(c, is_variable ? LEND : REFUSE, parts(1, 1, 0));
+    put(c, RETURN, 0);
+    put(c, is_variable ? LOAD : CONST, parts(1, 1, 0));
+    put(c, RETURN, 0);
+    put(c, CALL, parts(0, 1, 1)); /* 29 */
+    put(c, CONST, 1);
+    put(c, LOAD, parts(0, 1, 0));
+    put(c, OUT, 0);
+    put(c, LEAVE, parts(0, 2, 0));
+    put(c, END, 0);
+}
+
 /* More words than a run reads: the last instructions that it has, and those behind them. */
 static void by_hand_far(struct code *c)
 {
@@ -143,8 +183,8 @@ static void by_hand_far(struct code *c)
 
 /* ---- laid down */
 
-struct variable { uint32_t level, offset; };
-struct procedure { uint32_t level, entry, actuals, typed; };
+struct variable { uint32_t level, offset, named; };
+struct procedure { uint32_t level, entry, actuals, typed, named; }; /* named: a bit a formal */
 
 /* What is around the construct that is laid down. */
 struct laying {
@@ -158,10 +198,47 @@ struct laying {
 
 static void lay_expression(struct laying *l, unsigned depth);
 
+static uint32_t operand_of(const struct laying *l, struct variable v) { return parts(l->level - v.level, v.offset, 0); }
+
+/* An operation on a variable's cell, which for a name formal is sought first. */
+static void lay_on(struct laying *l, struct variable v, uint32_t operation)
+{
+    if (v.named)
+        put(l->code, SEEK, operand_of(l, v));
+    put(l->code, operation, v.named ? parts(0, FOUND, 0) : operand_of(l, v));
+}
+
 static void lay_variable(struct laying *l, uint32_t operation)
 {
     struct variable v = l->variable[below(l->variables)];
-    put(l->code, operation, parts(l->level - v.level, v.offset, 0));
+    if (operation == LOAD)
+        put(l->code, v.named ? WORK : LOAD, operand_of(l, v));
+    else {
+        if (v.named && operation == IN)
+            put(l->code, CHANNEL, 0);
+        lay_on(l, v, operation);
+    }
+}
+
+/* An actual called by name: its store part, then its read part, one level further in. */
+static void lay_named(struct laying *l, unsigned depth)
+{
+    uint32_t name = here(l->code);
+    put(l->code, NAME, 0);
+    l->level++;
+    if (l->variables != 0 && !once_in(3)) {
+        struct variable v = l->variable[below(l->variables)];
+        put(l->code, v.named ? PASS : LEND, operand_of(l, v));
+        put(l->code, RETURN, 0);
+        put(l->code, v.named ? WORK : LOAD, operand_of(l, v));
+    } else {
+        put(l->code, REFUSE, 0);
+        put(l->code, RETURN, 0);
+        lay_expression(l, depth);
+    }
+    put(l->code, RETURN, 0);
+    l->level--;
+    put_address(l->code, name, here(l->code));
 }
 
 static void lay_call(struct laying *l, unsigned depth, int needed)
@@ -174,7 +251,7 @@ static void lay_call(struct laying *l, unsigned depth, int needed)
     if (p.typed)
         put(l->code, RESULT, 0);
     for (uint32_t i = 0; i < p.actuals; i++)
-        lay_expression(l, depth);
+        (p.named >> i & 1) != 0 ? lay_named(l, depth) : lay_expression(l, depth);
     put(l->code, needed ? CALL_NEEDED : CALL, parts(l->level - p.level, p.actuals + p.typed, p.entry));
 }
 
@@ -216,7 +293,7 @@ static void lay_statement(struct laying *l, unsigned depth);
 static void lay_loop(struct laying *l, unsigned depth)
 {
     struct variable v = l->variable[below(l->variables)];
-    uint32_t operand = parts(l->level - v.level, v.offset, 0), count = 1 + below(3), go[3], leave[3], begins[4];
+    uint32_t count = 1 + below(3), go[3], leave[3], begins[4];
     int stays[3];
     for (uint32_t i = 0; i < count; i++) {
         uint32_t sort = below(3);
@@ -224,7 +301,8 @@ static void lay_loop(struct laying *l, unsigned depth)
         leave[i] = 0;
         stays[i] = sort != 0;
         lay_expression(l, 1);
-        put(l->code, STORE, operand);
+        lay_on(l, v, STORE);
+        uint32_t test = 0;
         if (sort == 1) {
             lay_expression(l, 1);
             leave[i] = here(l->code);
@@ -233,14 +311,17 @@ static void lay_loop(struct laying *l, unsigned depth)
             put(l->code, CONST, once_in(5) ? 0xffffffffu : 1 + below(3));
             lay_expression(l, 1);
             put(l->code, HOLD, 0);
-            leave[i] = here(l->code);
-            put(l->code, TEST, operand);
+            test = here(l->code);
+            lay_on(l, v, TEST);
+            leave[i] = here(l->code) - 1;
         }
         go[i] = here(l->code);
         put(l->code, GO, parts(l->nesting, sort == 1 ? begins[i] : go[i] + 1, 0));
         if (sort == 2) {
-            put(l->code, ADD, operand);
-            put(l->code, JUMP, leave[i]);
+            lay_on(l, v, v.named ? SUM : ADD);
+            if (v.named)
+                lay_on(l, v, STORE);
+            put(l->code, JUMP, test);
         }
     }
     uint32_t body = here(l->code);
@@ -264,15 +345,15 @@ static void lay_block(struct laying *l, unsigned depth)
     uint32_t enter = here(l->code), cells = below(4), variables = l->variables, procedures = l->procedures;
     put(l->code, ENTER, parts(0, cells, 0));
     for (uint32_t i = 0; i < cells && l->variables < 64; i++)
-        l->variable[l->variables++] = (struct variable){l->level, l->height + i};
+        l->variable[l->variables++] = (struct variable){l->level, l->height + i, 0};
     l->height += cells;
     for (uint32_t i = below(3); i != 0 && depth != 0 && l->procedures < 64; i--) {
-        struct procedure p = {l->level, here(l->code), below(3), below(2)};
+        struct procedure p = {l->level, here(l->code), below(3), below(2), below(4)};
         uint32_t outer = l->variables, height = l->height, nesting = l->nesting;
         l->procedure[l->procedures++] = p;
         l->level++;
         for (uint32_t k = 0; k < p.actuals + p.typed && l->variables < 64; k++)
-            l->variable[l->variables++] = (struct variable){l->level, k};
+            l->variable[l->variables++] = (struct variable){l->level, k, k >= p.typed && (p.named >> (k - p.typed) & 1) != 0};
         l->height = p.actuals + p.typed;
         l->nesting = 0;
         lay_statement(l, depth - 1);
@@ -344,8 +425,8 @@ static void random_instructions(struct code *c)
     uint32_t count = 1 + below(once_in(10) ? 200 : 24);
     put(c, ENTER, parts(0, below(5), 1));
     for (uint32_t i = 0; i < count; i++) {
-        uint32_t k = once_in(3) ? CONST : 1 + below(38);
-        put(c, k, k == CONST ? (once_in(6) ? random_word() : below(4)) : parts(once_in(6) ? below(64) : below(3), once_in(8) ? below(8192) : below(6), below(count + 2)));
+        uint32_t k = once_in(3) ? CONST : 1 + below(SUM);
+        put(c, k, k == CONST ? (once_in(6) ? random_word() : below(4)) : parts(once_in(6) ? below(64) : below(3), once_in(8) ? below(8192) : once_in(8) ? FOUND : below(6), below(count + 2)));
     }
 }
 
@@ -363,7 +444,7 @@ static void change_code(struct code *c, unsigned times)
         if (once_in(3))
             c->word[at] ^= 1u << below(32);
         else if (once_in(2))
-            c->word[at & ~1u] = (c->word[at & ~1u] & ~63u) | below(40);
+            c->word[at & ~1u] = (c->word[at & ~1u] & ~63u) | below(SUM + 2);
         else
             c->word[at | (c->length > (at | 1u))] = parts(below(3), below(4), below(here(c) + 1));
     }
@@ -374,13 +455,14 @@ static void change_code(struct code *c, unsigned times)
 static void code_by_hand(struct code *c)
 {
     static const uint32_t edges[] = {0, 1, 2, 3, 7, 0x7fffffffu, 0x80000000u, 0xffffffffu, 0xfffffffeu, 0x80000001u, 46340, 46341};
-    switch (below(once_in(10) ? 7 : 6)) {
+    switch (below(once_in(10) ? 8 : 7)) {
     case 0: by_hand_operators(c, edges[below(12)], edges[below(12)]); break;
     case 1: by_hand_factorial(c); break;
     case 2: by_hand_endless(c, below(once_in(3) ? 100 : 4)); break;
     case 3: by_hand_loops(c, edges[below(12)], below(5) - 2, 1 + below(once_in(10) ? 64 : 3)); break;
     case 4: by_hand_sums(c); break;
     case 5: by_hand_call(c); break;
+    case 6: by_hand_names(c, below(once_in(3) ? 130 : 4), !once_in(4)); break;
     default: by_hand_far(c); break;
     }
 }

@@ -14,7 +14,10 @@
 enum { MARGIN = 16 };
 
 static unsigned long differences;
-static unsigned long sources_seen[30], runs_seen[30];
+/* One more than the greatest answer. */
+enum { ANSWERS = 31 };
+
+static unsigned long sources_seen[ANSWERS], runs_seen[ANSWERS];
 
 static void differs(const char *what, unsigned long number)
 {
@@ -124,7 +127,7 @@ static void compare_source(unsigned long k)
     memcpy(table, before, sizeof table);
     unsigned number = deed_read(text.byte, text.length, table + MARGIN, lent, &place);
     const char *wrong = wrong_answer(lent, number, place);
-    if (number < 30)
+    if (number < ANSWERS)
         sources_seen[number]++;
     if (wrong != NULL) {
         differs("source", k);
@@ -175,7 +178,7 @@ static struct own_ran compare_run(unsigned long k, size_t inputs, uint64_t limit
     l.number = deed_run(code.word, code.length, input, inputs, limit, store + MARGIN, lent, output + MARGIN, outputs, &l.place, &l.done, &l.taken, &l.written);
     o = own_run(code.word, code.length, input, inputs, limit, lent, own_output + MARGIN, outputs);
     const char *wrong = wrong_run(l, o, lent);
-    if (l.number < 30)
+    if (l.number < ANSWERS)
         runs_seen[l.number]++;
     if (wrong != NULL) {
         differs("run", k);
@@ -213,7 +216,7 @@ static void compare_code(unsigned long k)
 
 enum { CODE = DEED_CODE + 64 };
 
-static unsigned long translations_seen[30];
+static unsigned long translations_seen[ANSWERS];
 static uint32_t words_after[CODE + 2 * MARGIN], words_before[CODE + 2 * MARGIN];
 
 static const char *wrong_translation(size_t lent, unsigned number, size_t place)
@@ -239,7 +242,7 @@ static void compare_translation(unsigned long k)
     memcpy(words_after, words_before, sizeof words_after);
     unsigned number = deed_translate(text.byte, text.length, words_after + MARGIN, lent, &place);
     const char *wrong = wrong_translation(lent, number, place);
-    if (number < 30)
+    if (number < ANSWERS)
         translations_seen[number]++;
     if (wrong == NULL && number == 0) {
         memcpy(code.word, words_after + MARGIN, DEED_CODE * sizeof code.word[0]);
@@ -262,10 +265,10 @@ static void compare_translation(unsigned long k)
 static void show_seen(const char *what, const unsigned long *seen)
 {
     unsigned long sum = 0;
-    for (unsigned i = 0; i < 30; i++)
+    for (unsigned i = 0; i < ANSWERS; i++)
         sum += seen[i];
     printf("%lu %s; answers", sum, what);
-    for (unsigned i = 0; i < 30; i++)
+    for (unsigned i = 0; i < ANSWERS; i++)
         if (seen[i] != 0)
             printf(" %u: %lu", i, seen[i]);
     printf("\n");

@@ -50,7 +50,8 @@ enum {
     DEED_NO_CELL = 26,
     DEED_ACTIVATIONS = 27,
     DEED_CHANNEL = 28,
-    DEED_NO_INSTRUCTION = 29
+    DEED_NO_INSTRUCTION = 29,
+    DEED_NO_VARIABLE = 30
 };
 
 /* Source to table. 0 to 10. The table's words are laid down in docs/TABLE.md; after a refusal but 1 the first DEED_TABLE are zero. */
@@ -66,7 +67,7 @@ uint16_t deed_translate(const uint8_t *source, size_t source_length,
                         size_t *place);
 #endif
 
-/* Code to a run. 0 or 20 to 29. The first DEED_CELLS cells of the store, or fewer if lent fewer, are zero afterwards; the output holds what was
+/* Code to a run. 0 or 20 to 30. The first DEED_CELLS cells of the store, or fewer if lent fewer, are zero afterwards; the output holds what was
  * written, and behind it what it held. */
 uint16_t deed_run(const uint32_t *code, size_t code_length,
                   const int32_t *input, size_t input_length,

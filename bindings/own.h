@@ -157,8 +157,11 @@ struct own_activation {
     uint32_t position[64];
 };
 
-/* No whole number of 32 bits. */
+/* No whole number of 32 bits: an unassigned cell, and above it those of name formals, with the address of their actual's code. */
 #define OWN_UNSET INT64_MIN
+#define OWN_NAMED(n) (OWN_UNSET + 1 + (int64_t)(n))
+#define OWN_IS_NAMED(x) ((x) < INT32_MIN && (x) != OWN_UNSET)
+#define OWN_ADDRESS(x) ((uint32_t)((x) - OWN_NAMED(0)))
 
 /* The activation `levels` out from a live one; the program has none around it. */
 static inline uint32_t own_out(const struct own_activation *a, uint32_t live, uint32_t levels)
@@ -178,6 +181,8 @@ static inline struct own_ran own_run(const uint32_t *code, size_t words, const i
     const uint32_t instructions = (uint32_t)((words < 16384 ? words : 16384) / 2);
     /* The counter; the live activations, and the first cell of the running one; the cells in use, and the values held. */
     uint32_t pc = 0, live = 0, floor = 0, cells = 0, holds = 0, w, v;
+    /* The cell that the last store through a name formal came to. */
+    uint32_t found = 0;
     struct own_ran r = {0, 0, 0, 0, 0};
     uint64_t done = 0;
     a[0].first = a[0].noted = 0;
@@ -186,11 +191,12 @@ static inline struct own_ran own_run(const uint32_t *code, size_t words, const i
 #define HIGH (v >> 26)
 #define MID ((v >> 13) & 8191)
 #define LOW (v & 8191)
-#define VARIABLE ((HIGH == 0 ? floor : a[own_out(a, live, HIGH)].first) + MID)
+#define VARIABLE (MID == 8191 ? found : (HIGH == 0 ? floor : a[own_out(a, live, HIGH)].first) + MID)
 #define STOP(n, p) do { r.number = (n); r.place = (p); goto stopped; } while (0)
 #define STRAY_IF(c) do { if (c) goto stray; } while (0)
-#define ONE_VALUE STRAY_IF(cells <= floor || cell[cells - 1] == OWN_UNSET)
-#define TWO_VALUES STRAY_IF(cells < floor + 2 || cell[cells - 1] == OWN_UNSET || cell[cells - 2] == OWN_UNSET)
+#define ONE_VALUE STRAY_IF(cells <= floor || cell[cells - 1] < INT32_MIN)
+#define TWO_VALUES STRAY_IF(cells < floor + 2 || cell[cells - 1] < INT32_MIN || cell[cells - 2] < INT32_MIN)
+#define IN_USE(c, n) STRAY_IF((c) >= (n) || OWN_IS_NAMED(cell[c]))
 #define ROOM if (cells + holds >= most) STOP(26, PLACE)
 #define WHOLE(z) if ((z) < INT32_MIN || (z) > INT32_MAX) STOP(21, PLACE)
 #define ARITHMETIC(e) { TWO_VALUES; int64_t x = cell[cells - 2], y = cell[cells - 1], z = (e); WHOLE(z); cell[--cells - 1] = z; pc++; break; }
@@ -239,8 +245,10 @@ static inline struct own_ran own_run(const uint32_t *code, size_t words, const i
         case 7:
             STRAY_IF(live == 0);
             STRAY_IF(cells < floor + a[live].needed);
-            if (a[live].needed && cell[floor] == OWN_UNSET)
+            if (a[live].needed && cell[floor] < INT32_MIN) {
+                STRAY_IF(cell[floor] != OWN_UNSET);
                 STOP(23, a[live].place);
+            }
             cells = floor + a[live].needed;
             pc = a[live].back;
             live--;
@@ -263,7 +271,8 @@ static inline struct own_ran own_run(const uint32_t *code, size_t words, const i
             break;
         case 11: {
             uint32_t c = VARIABLE;
-            STRAY_IF(holds < 2 || c >= cells);
+            STRAY_IF(holds < 2);
+            IN_USE(c, cells);
             if (cell[c] == OWN_UNSET)
                 STOP(23, PLACE);
             int64_t step = held[holds - 2], bound = held[holds - 1];
@@ -281,7 +290,7 @@ static inline struct own_ran own_run(const uint32_t *code, size_t words, const i
             break;
         case 13: {
             uint32_t c = VARIABLE;
-            STRAY_IF(c >= cells);
+            IN_USE(c, cells);
             if (cell[c] == OWN_UNSET)
                 STOP(23, PLACE);
             ROOM;
@@ -292,7 +301,7 @@ static inline struct own_ran own_run(const uint32_t *code, size_t words, const i
         case 14: {
             ONE_VALUE;
             uint32_t c = VARIABLE;
-            STRAY_IF(c >= cells - 1);
+            IN_USE(c, cells - 1);
             cell[c] = cell[--cells];
             pc++;
             break;
@@ -300,7 +309,7 @@ static inline struct own_ran own_run(const uint32_t *code, size_t words, const i
         case 15: {
             ONE_VALUE;
             uint32_t c = VARIABLE;
-            STRAY_IF(c >= cells - 1);
+            IN_USE(c, cells - 1);
             cell[c] = cell[cells - 1];
             pc++;
             break;
@@ -318,7 +327,7 @@ static inline struct own_ran own_run(const uint32_t *code, size_t words, const i
         case 18: {
             ONE_VALUE;
             uint32_t c = VARIABLE;
-            STRAY_IF(c >= cells - 1);
+            IN_USE(c, cells - 1);
             if (cell[cells - 1] != 1)
                 STOP(28, PLACE);
             if (r.taken == inputs)
@@ -347,7 +356,8 @@ static inline struct own_ran own_run(const uint32_t *code, size_t words, const i
             break;
         case 21: {
             uint32_t c = VARIABLE;
-            STRAY_IF(holds < 2 || c >= cells);
+            STRAY_IF(holds < 2);
+            IN_USE(c, cells);
             if (cell[c] == OWN_UNSET)
                 STOP(23, PLACE);
             int64_t z = cell[c] + held[holds - 2];
@@ -393,6 +403,59 @@ static inline struct own_ran own_run(const uint32_t *code, size_t words, const i
         case 36: LOGICAL(x != 0 || y != 0)
         case 37: LOGICAL(x == 0 || y != 0)
         case 38: LOGICAL((x != 0) == (y != 0))
+        case 39:
+            ROOM;
+            cell[cells++] = OWN_NAMED(pc + 1);
+            pc = LOW;
+            break;
+        case 40:
+        case 41:
+        case 42: {
+            STRAY_IF((w & 63) == 42 && live == 0);
+            uint32_t owner = own_out(a, live, HIGH), c = a[owner].first + MID;
+            STRAY_IF(c >= cells || !OWN_IS_NAMED(cell[c]));
+            if (live == 256)
+                STOP(27, PLACE);
+            uint32_t place = (w & 63) == 42 ? a[live].place : PLACE;
+            live++;
+            a[live].back = pc + 1;
+            a[live].first = floor = cells;
+            a[live].around = owner == 0 ? 0 : owner - 1;
+            a[live].place = place;
+            a[live].needed = (w & 63) == 40;
+            a[live].noted = 0;
+            pc = OWN_ADDRESS(cell[c]) + 2 * a[live].needed;
+            break;
+        }
+        case 43: {
+            uint32_t c = VARIABLE;
+            IN_USE(c, cells);
+            found = c;
+            pc++;
+            break;
+        }
+        case 44:
+            STRAY_IF(live == 0);
+            STOP(30, a[live].place);
+        case 45:
+            ONE_VALUE;
+            if (cell[cells - 1] != 1)
+                STOP(28, PLACE);
+            pc++;
+            break;
+        case 46: {
+            uint32_t c = VARIABLE;
+            STRAY_IF(holds < 2);
+            IN_USE(c, cells);
+            if (cell[c] == OWN_UNSET)
+                STOP(23, PLACE);
+            int64_t z = cell[c] + held[holds - 2];
+            WHOLE(z);
+            ROOM;
+            cell[cells++] = z;
+            pc++;
+            break;
+        }
         default:
             goto stray;
         }
@@ -412,6 +475,7 @@ stopped:
 #undef STRAY_IF
 #undef ONE_VALUE
 #undef TWO_VALUES
+#undef IN_USE
 #undef ROOM
 #undef WHOLE
 #undef ARITHMETIC

@@ -155,42 +155,72 @@ static void random_long(struct text *t)
     put_text(t, once_in(2) ? ";'end'" : "'end'");
 }
 
-/* A piece of a program that the grammar has, so that later answers come too. */
-static void put_statement(struct text *t, unsigned depth)
+/* A piece of a program that the grammar has, so that later answers come too; v: a variable or formal. */
+static void put_statement(struct text *t, unsigned depth, const char *v)
 {
-    switch (depth == 0 ? 0 : below(7)) {
-    case 0: put_text(t, "a := b + 1"); break;
-    case 1: put_text(t, "outinteger(1, a % 2)"); break;
+    switch (depth == 0 ? below(4) : below(9)) {
+    case 0:
+        put_text(t, v);
+        put_text(t, " := b + 1");
+        break;
+    case 1:
+        put_text(t, "outinteger(1, ");
+        put_text(t, v);
+        put_text(t, " % 2)");
+        break;
     case 2:
-        put_text(t, "'begin' 'integer' a, c; a := 2;");
-        put_statement(t, depth - 1);
-        put_text(t, "'end'");
+        put_text(t, "ininteger(1, ");
+        put_text(t, v);
+        put_text(t, ")");
         break;
     case 3:
-        put_text(t, "'if' a < b 'then' 'begin'");
-        put_statement(t, depth - 1);
-        put_text(t, "'end' 'else' ");
-        put_statement(t, depth - 1);
+        put_text(t, "p(");
+        put_text(t, v);
+        put_text(t, once_in(2) ? ", 1)" : once_in(2) ? ", b)" : ", a * b)");
         break;
     case 4:
-        put_text(t, "'for' a := 1, b 'while' a > 2, 1 'step' 2 'until' 9 'do' ");
-        put_statement(t, depth - 1);
+        put_text(t, "'begin' 'integer' a, c; a := 2;");
+        put_statement(t, depth - 1, v);
+        put_text(t, "'end'");
         break;
-    case 5: put_text(t, "p(a, 1)"); break;
-    default: put_text(t, "a := b := f('true') * 3"); break;
+    case 5:
+        put_text(t, "'if' b < ");
+        put_text(t, v);
+        put_text(t, " 'then' 'begin'");
+        put_statement(t, depth - 1, v);
+        put_text(t, "'end' 'else' ");
+        put_statement(t, depth - 1, v);
+        break;
+    case 6:
+        put_text(t, "'for' ");
+        put_text(t, v);
+        put_text(t, " := 1, b 'while' a > 2, 1 'step' 2 'until' 9 'do' ");
+        put_statement(t, depth - 1, v);
+        break;
+    case 7: put_text(t, "p(1, a)"); break;
+    default:
+        put_text(t, v);
+        put_text(t, " := b := f(a < b) * 3");
+        break;
     }
 }
 
+/* Its formals are called by value or by name. */
 static void random_program(struct text *t)
 {
-    put_text(t, "'begin' 'integer' a, b; 'procedure' p(x, y); 'value' x, y; 'integer' x, y; ");
-    put_statement(t, 2);
-    put_text(t, "; 'integer' 'procedure' f(l); 'value' l; 'Boolean' l; f := 'if' l 'then' 1 'else' 0; ");
+    static const char *const value[] = {"", "'value' x; ", "'value' y; ", "'value' x, y; "}, *const names[] = {"a", "x", "y"};
+    put_text(t, "'begin' 'integer' a, b; 'procedure' p(x, y); ");
+    put_text(t, value[below(4)]);
+    put_text(t, "'integer' x, y; ");
+    put_statement(t, 2, names[below(3)]);
+    put_text(t, once_in(2) ? "; 'integer' 'procedure' f(l); 'value' l; " : "; 'integer' 'procedure' f(l); ");
+    put_text(t, "'Boolean' l; f := 'if' l 'then' 1 'else' 0; ");
+    put_text(t, once_in(2) ? "a := b := 1; " : "");
     for (unsigned i = below(6); i != 0; i--) {
-        put_statement(t, 3);
+        put_statement(t, 3, "a");
         put_text(t, ";");
     }
-    put_statement(t, 3);
+    put_statement(t, 3, "a");
     put_text(t, " 'end'");
 }
 

@@ -6,6 +6,7 @@ use crate::text::say_number;
 use crate::text::say_spot;
 use machine::bounds;
 use machine::codes;
+use machine::operands::FOUND_OFFSET;
 use machine::operands::high;
 use machine::operands::low;
 use machine::operands::mid;
@@ -53,7 +54,15 @@ IABS
 and
 or
 impl
-equiv",
+equiv
+NAME
+WORK
+SEEK
+PASS
+LEND
+REFUSE
+CHANNEL
+SUM",
             wide(operation),
         );
     } else {
@@ -67,8 +76,12 @@ fn say_part(name: &[u8], n: usize) {
     say_number(n as u64);
 }
 
-// A variable: activations out, and the offset from the first cell there.
+// A variable: activations out, and the offset from the first cell there; or the cell found.
 fn say_variable(v: u32) {
+    if mid(wide(v)) == FOUND_OFFSET {
+        say(b" cell found");
+        return;
+    }
     say_part(b" cell ", mid(wide(v)));
     say_part(b", levels out ", high(wide(v)));
 }
@@ -102,6 +115,11 @@ fn say_route(operation: u32, v: u32) {
             say_part(b", nesting ", high(wide(v)));
         }
         codes::NEXT => say_part(b" nesting ", high(wide(v))),
+        codes::NAME => say_part(b" behind it ", low(wide(v))),
+        codes::WORK | codes::SEEK | codes::PASS => {
+            say_part(b" cell ", mid(wide(v)));
+            say_part(b", levels out ", high(wide(v)));
+        }
         _ => {}
     }
 }
@@ -114,6 +132,7 @@ fn say_operands(operation: u32, v: u32) {
         }
         codes::CONST => say_constant(v),
         codes::LOAD | codes::STORE | codes::ASSIGN | codes::IN | codes::ADD => say_variable(v),
+        codes::LEND | codes::SUM => say_variable(v),
         _ => say_route(operation, v),
     }
 }
@@ -123,7 +142,8 @@ fn placed(operation: u32) -> bool {
     match operation {
         codes::ENTER | codes::CALL_NEEDED | codes::CALL | codes::TEST => true,
         codes::CONST | codes::LOAD | codes::RESULT | codes::IN | codes::OUT => true,
-        codes::ADD..=codes::EQUIV => true,
+        codes::ADD..=codes::PASS => true,
+        codes::CHANNEL | codes::SUM => true,
         _ => false,
     }
 }

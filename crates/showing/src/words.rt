@@ -129,8 +129,8 @@ fn say_names(number: u16) {
         }
         8 => say(b"the name has no declaration, formal or environment entry"),
         _ => {
-            say(b"the value part or a specification names no formal, repeats one, ");
-            say(b"or, at a procedure's name, misses one")
+            say(b"the value part or a specification names no formal or repeats one, ");
+            say(b"or, at a procedure's name, a formal of it has no specification")
         }
     }
 }
@@ -147,6 +147,7 @@ fn say_run(number: u16) {
         26 => say(b"one more cell is needed than the run may use"),
         27 => say(b"a 257th activation would be live"),
         28 => say(b"the channel is not 1"),
+        30 => say(b"a formal called by name is stored to, and its actual is no variable"),
         _ => {
             say(b"there is no instruction at the counter, or an operand is outside its range, ");
             say(b"or a value is taken where none is held")
