@@ -17,3 +17,5 @@ pub mod Ranges
 pub mod OnWords
 pub mod Lengths
 pub mod OneStep
+pub mod CodePlaced
+pub mod RunPlaced

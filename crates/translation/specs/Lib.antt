@@ -3,3 +3,4 @@ pub mod Scoped
 pub mod Listed
 pub mod Sizes
 pub mod Faithful
+pub mod Places
