@@ -8,3 +8,8 @@ pub mod Follows
 pub mod Sources
 pub mod Examples
 pub mod FirstFault
+pub mod SpelledBytes
+pub mod SpelledSymbols
+pub mod Written
+pub mod OwnSymbols
+pub mod WrittenAgain

@@ -4,3 +4,4 @@ pub mod Names
 pub mod Scan
 pub mod Kinds
 pub mod Steps
+pub mod Spelling

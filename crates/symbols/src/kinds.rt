@@ -3,6 +3,48 @@ use crate::Symbol;
 ghost use mathlib.Core.Path.{_≡_};
 ghost use Rattle.symbols.specs.Kinds.{storedOf, symbolOf};
 
+// The kinds, by name.
+pub const BEGIN: u8 = 0;
+pub const END: u8 = 1;
+pub const IF: u8 = 2;
+pub const THEN: u8 = 3;
+pub const ELSE: u8 = 4;
+pub const FOR: u8 = 5;
+pub const DO: u8 = 6;
+pub const STEP: u8 = 7;
+pub const UNTIL: u8 = 8;
+pub const WHILE: u8 = 9;
+pub const COMMENT: u8 = 10;
+pub const INTEGER: u8 = 11;
+pub const BOOLEAN: u8 = 12;
+pub const PROCEDURE: u8 = 13;
+pub const VALUE: u8 = 14;
+pub const TRUE: u8 = 15;
+pub const FALSE: u8 = 16;
+pub const AND: u8 = 17;
+pub const OR: u8 = 18;
+pub const NOT: u8 = 19;
+pub const IMPL: u8 = 20;
+pub const EQUIV: u8 = 21;
+pub const PLUS: u8 = 22;
+pub const MINUS: u8 = 23;
+pub const TIMES: u8 = 24;
+pub const DIVIDE: u8 = 25;
+pub const LESS: u8 = 26;
+pub const LESS_EQUAL: u8 = 27;
+pub const EQUAL: u8 = 28;
+pub const GREATER_EQUAL: u8 = 29;
+pub const GREATER: u8 = 30;
+pub const NOT_EQUAL: u8 = 31;
+pub const COMMA: u8 = 32;
+pub const COLON: u8 = 33;
+pub const BECOMES: u8 = 34;
+pub const SEMICOLON: u8 = 35;
+pub const OPEN: u8 = 36;
+pub const CLOSE: u8 = 37;
+pub const NAME: u8 = 38;
+pub const NUMBER: u8 = 39;
+
 pub struct Stored {
     pub kind: u8,
     pub value: u32,
@@ -12,46 +54,46 @@ pub fn store(s: Symbol) -> Stored
     ensures { λ r. ⌜ r ≡ storedOf s ⌝ }
 {
     match s {
-        Symbol::Begin => Stored { kind: 0, value: 0 },
-        Symbol::End => Stored { kind: 1, value: 0 },
-        Symbol::If => Stored { kind: 2, value: 0 },
-        Symbol::Then => Stored { kind: 3, value: 0 },
-        Symbol::Else => Stored { kind: 4, value: 0 },
-        Symbol::For => Stored { kind: 5, value: 0 },
-        Symbol::Do => Stored { kind: 6, value: 0 },
-        Symbol::Step => Stored { kind: 7, value: 0 },
-        Symbol::Until => Stored { kind: 8, value: 0 },
-        Symbol::While => Stored { kind: 9, value: 0 },
-        Symbol::Comment => Stored { kind: 10, value: 0 },
-        Symbol::Integer => Stored { kind: 11, value: 0 },
-        Symbol::Boolean => Stored { kind: 12, value: 0 },
-        Symbol::Procedure => Stored { kind: 13, value: 0 },
-        Symbol::Value => Stored { kind: 14, value: 0 },
-        Symbol::True => Stored { kind: 15, value: 0 },
-        Symbol::False => Stored { kind: 16, value: 0 },
-        Symbol::And => Stored { kind: 17, value: 0 },
-        Symbol::Or => Stored { kind: 18, value: 0 },
-        Symbol::Not => Stored { kind: 19, value: 0 },
-        Symbol::Impl => Stored { kind: 20, value: 0 },
-        Symbol::Equiv => Stored { kind: 21, value: 0 },
-        Symbol::Plus => Stored { kind: 22, value: 0 },
-        Symbol::Minus => Stored { kind: 23, value: 0 },
-        Symbol::Times => Stored { kind: 24, value: 0 },
-        Symbol::Divide => Stored { kind: 25, value: 0 },
-        Symbol::Less => Stored { kind: 26, value: 0 },
-        Symbol::LessEqual => Stored { kind: 27, value: 0 },
-        Symbol::Equal => Stored { kind: 28, value: 0 },
-        Symbol::GreaterEqual => Stored { kind: 29, value: 0 },
-        Symbol::Greater => Stored { kind: 30, value: 0 },
-        Symbol::NotEqual => Stored { kind: 31, value: 0 },
-        Symbol::Comma => Stored { kind: 32, value: 0 },
-        Symbol::Colon => Stored { kind: 33, value: 0 },
-        Symbol::Becomes => Stored { kind: 34, value: 0 },
-        Symbol::Semicolon => Stored { kind: 35, value: 0 },
-        Symbol::Open => Stored { kind: 36, value: 0 },
-        Symbol::Close => Stored { kind: 37, value: 0 },
-        Symbol::Name => Stored { kind: 38, value: 0 },
-        Symbol::Number(v) => Stored { kind: 39, value: v },
+        Symbol::Begin => Stored { kind: BEGIN, value: 0 },
+        Symbol::End => Stored { kind: END, value: 0 },
+        Symbol::If => Stored { kind: IF, value: 0 },
+        Symbol::Then => Stored { kind: THEN, value: 0 },
+        Symbol::Else => Stored { kind: ELSE, value: 0 },
+        Symbol::For => Stored { kind: FOR, value: 0 },
+        Symbol::Do => Stored { kind: DO, value: 0 },
+        Symbol::Step => Stored { kind: STEP, value: 0 },
+        Symbol::Until => Stored { kind: UNTIL, value: 0 },
+        Symbol::While => Stored { kind: WHILE, value: 0 },
+        Symbol::Comment => Stored { kind: COMMENT, value: 0 },
+        Symbol::Integer => Stored { kind: INTEGER, value: 0 },
+        Symbol::Boolean => Stored { kind: BOOLEAN, value: 0 },
+        Symbol::Procedure => Stored { kind: PROCEDURE, value: 0 },
+        Symbol::Value => Stored { kind: VALUE, value: 0 },
+        Symbol::True => Stored { kind: TRUE, value: 0 },
+        Symbol::False => Stored { kind: FALSE, value: 0 },
+        Symbol::And => Stored { kind: AND, value: 0 },
+        Symbol::Or => Stored { kind: OR, value: 0 },
+        Symbol::Not => Stored { kind: NOT, value: 0 },
+        Symbol::Impl => Stored { kind: IMPL, value: 0 },
+        Symbol::Equiv => Stored { kind: EQUIV, value: 0 },
+        Symbol::Plus => Stored { kind: PLUS, value: 0 },
+        Symbol::Minus => Stored { kind: MINUS, value: 0 },
+        Symbol::Times => Stored { kind: TIMES, value: 0 },
+        Symbol::Divide => Stored { kind: DIVIDE, value: 0 },
+        Symbol::Less => Stored { kind: LESS, value: 0 },
+        Symbol::LessEqual => Stored { kind: LESS_EQUAL, value: 0 },
+        Symbol::Equal => Stored { kind: EQUAL, value: 0 },
+        Symbol::GreaterEqual => Stored { kind: GREATER_EQUAL, value: 0 },
+        Symbol::Greater => Stored { kind: GREATER, value: 0 },
+        Symbol::NotEqual => Stored { kind: NOT_EQUAL, value: 0 },
+        Symbol::Comma => Stored { kind: COMMA, value: 0 },
+        Symbol::Colon => Stored { kind: COLON, value: 0 },
+        Symbol::Becomes => Stored { kind: BECOMES, value: 0 },
+        Symbol::Semicolon => Stored { kind: SEMICOLON, value: 0 },
+        Symbol::Open => Stored { kind: OPEN, value: 0 },
+        Symbol::Close => Stored { kind: CLOSE, value: 0 },
+        Symbol::Name => Stored { kind: NAME, value: 0 },
+        Symbol::Number(v) => Stored { kind: NUMBER, value: v },
     }
 }
 
@@ -60,46 +102,46 @@ pub fn decode(k: u8, v: u32) -> Symbol
     ensures { λ r. ⌜ r ≡ symbolOf k v ⌝ }
 {
     match k {
-        0 => Symbol::Begin,
-        1 => Symbol::End,
-        2 => Symbol::If,
-        3 => Symbol::Then,
-        4 => Symbol::Else,
-        5 => Symbol::For,
-        6 => Symbol::Do,
-        7 => Symbol::Step,
-        8 => Symbol::Until,
-        9 => Symbol::While,
-        10 => Symbol::Comment,
-        11 => Symbol::Integer,
-        12 => Symbol::Boolean,
-        13 => Symbol::Procedure,
-        14 => Symbol::Value,
-        15 => Symbol::True,
-        16 => Symbol::False,
-        17 => Symbol::And,
-        18 => Symbol::Or,
-        19 => Symbol::Not,
-        20 => Symbol::Impl,
-        21 => Symbol::Equiv,
-        22 => Symbol::Plus,
-        23 => Symbol::Minus,
-        24 => Symbol::Times,
-        25 => Symbol::Divide,
-        26 => Symbol::Less,
-        27 => Symbol::LessEqual,
-        28 => Symbol::Equal,
-        29 => Symbol::GreaterEqual,
-        30 => Symbol::Greater,
-        31 => Symbol::NotEqual,
-        32 => Symbol::Comma,
-        33 => Symbol::Colon,
-        34 => Symbol::Becomes,
-        35 => Symbol::Semicolon,
-        36 => Symbol::Open,
-        37 => Symbol::Close,
-        38 => Symbol::Name,
-        39 => Symbol::Number(v),
+        BEGIN => Symbol::Begin,
+        END => Symbol::End,
+        IF => Symbol::If,
+        THEN => Symbol::Then,
+        ELSE => Symbol::Else,
+        FOR => Symbol::For,
+        DO => Symbol::Do,
+        STEP => Symbol::Step,
+        UNTIL => Symbol::Until,
+        WHILE => Symbol::While,
+        COMMENT => Symbol::Comment,
+        INTEGER => Symbol::Integer,
+        BOOLEAN => Symbol::Boolean,
+        PROCEDURE => Symbol::Procedure,
+        VALUE => Symbol::Value,
+        TRUE => Symbol::True,
+        FALSE => Symbol::False,
+        AND => Symbol::And,
+        OR => Symbol::Or,
+        NOT => Symbol::Not,
+        IMPL => Symbol::Impl,
+        EQUIV => Symbol::Equiv,
+        PLUS => Symbol::Plus,
+        MINUS => Symbol::Minus,
+        TIMES => Symbol::Times,
+        DIVIDE => Symbol::Divide,
+        LESS => Symbol::Less,
+        LESS_EQUAL => Symbol::LessEqual,
+        EQUAL => Symbol::Equal,
+        GREATER_EQUAL => Symbol::GreaterEqual,
+        GREATER => Symbol::Greater,
+        NOT_EQUAL => Symbol::NotEqual,
+        COMMA => Symbol::Comma,
+        COLON => Symbol::Colon,
+        BECOMES => Symbol::Becomes,
+        SEMICOLON => Symbol::Semicolon,
+        OPEN => Symbol::Open,
+        CLOSE => Symbol::Close,
+        NAME => Symbol::Name,
+        NUMBER => Symbol::Number(v),
         _ => Symbol::Colon,
     }
 }
