@@ -20,3 +20,4 @@ pub mod RowLaws
 pub mod TreeLaws
 pub mod UseLaws
 pub mod Weaken
+pub mod ReadAlike
