@@ -29,7 +29,7 @@ use Rattle.symbols.specs.Scan.{scan, valuesOf}
 use Rattle.types.proofs.NearTypes.{near-types, small-types}
 use Rattle.table.specs.Table.{tableOf}
 use Rattle.reading.specs.Judging.{accepted}
-use Rattle.reading.specs.Reading.{symbols, placeIn, refusedAt, room, cleared, filled, Judged, Reads, too-short}
+use Rattle.reading.specs.Reading.{symbols, kindsIn, placeIn, refusedAt, room, cleared, filled, Judged, Reads, too-short}
 use Rattle.reading.specs.declared.Sizes.{Sizes}
 use Rattle.reading.specs.declared.Found.{Found}
 use Rattle.reading.specs.declared.Found.the-variants.{Program, Refused as Wrong}
@@ -251,10 +251,11 @@ pub onward : {source : List ℕ} {P Q : Sizes → Type 0} {r : Found} → Tells 
 onward (told s h) f = told s (f s h)
 onward (refused r j) f = refused r j
 
-pub symbols-first : {source places values nodes rows uses : List ℕ} {n : ℕ} → take n values ≡ valuesOf (scan symbols source .found) → (s : Sizes)
-    → Declared source places nodes rows uses n s → Holds source places values nodes rows uses s
-symbols-first {source} {places} {values} {nodes} {rows} {uses} {n} v s h = record {
+pub symbols-first : {source kinds places values nodes rows uses : List ℕ} {n : ℕ} → take n kinds ≡ kindsIn source → take n values ≡ valuesOf (scan symbols source .found) → (s : Sizes)
+    → Declared source places nodes rows uses n s → Holds source kinds places values nodes rows uses s
+symbols-first {source} {kinds} {places} {values} {nodes} {rows} {uses} {n} k v s h = record {
   declared = subst (λ k. Declared source places nodes rows uses k s) (sym (h .resolved .count)) h;
+  kinded = ap (λ n. take n kinds) (h .resolved .count) ∙ k;
   valued = ap (λ k. take k values) (h .resolved .count) ∙ v;
 }
 

@@ -35,7 +35,7 @@ use Rattle.reading.proofs.Places.{few-symbols}
 
 -- ---- a stored kind gives itself
 
-same-kind : (s : Symbol) → kind (symbolOf (kind s) 0) ≡ kind s
+pub same-kind : (s : Symbol) → kind (symbolOf (kind s) 0) ≡ kind s
 unfolding symbolOf
 same-kind Begin = refl
 same-kind End = refl

@@ -82,10 +82,11 @@ pub record Declared (source places nodes rows uses : List ℕ) (n : ℕ) (s : Si
   pub ids : List ℕ
   pub resolved : Resolved source places nodes ids rows uses n s
 
--- and so are the values of the symbols: this is what every job that takes a source is told
-pub record Holds (source places values nodes rows uses : List ℕ) (s : Sizes) : Type 0 where
+-- and so are the kinds and the values of the symbols: this is what every job that takes a source is told
+pub record Holds (source kinds places values nodes rows uses : List ℕ) (s : Sizes) : Type 0 where
   pub declared : Declared source places nodes rows uses (s .symbols) s
+  pub kinded : take (s .symbols) kinds ≡ kindsIn source
   pub valued : take (s .symbols) values ≡ valuesOf (scan symbols source .found)
 
-abbrev pub Finds : List ℕ → List ℕ → List ℕ → List ℕ → List ℕ → List ℕ → Found → Type 0
-Finds source places values nodes rows uses = Tells source (Holds source places values nodes rows uses)
+abbrev pub Finds : List ℕ → List ℕ → List ℕ → List ℕ → List ℕ → List ℕ → List ℕ → Found → Type 0
+Finds source kinds places values nodes rows uses = Tells source (Holds source kinds places values nodes rows uses)

@@ -192,7 +192,7 @@ fn parsed(
     }
 }
 
-// What a source holds, for any bytes: 2 to 10, or its symbols' places and values, its nodes, its rows, and what each use means.
+// What a source holds, for any bytes: 2 to 10, or its symbols' kinds, places and values, its nodes, its rows, and what each use means.
 pub fn find(
     source: &[u8],
     kinds: &mut [u8; 2048],
@@ -202,7 +202,7 @@ pub fn find(
     rows: &mut [u16; 32768],
     uses: &mut [u16; 8192],
 ) -> Found
-    ensures { λ r. ⌜ Finds (now (source .entry)) (now (places .exit)) (now (values .exit)) (now (nodes .exit)) (now (rows .exit)) (now (uses .exit)) r ⌝ }
+    ensures { λ r. ⌜ Finds (now (source .entry)) (now (kinds .exit)) (now (places .exit)) (now (values .exit)) (now (nodes .exit)) (now (rows .exit)) (now (uses .exit)) r ⌝ }
 {
     if 16384 < source.len() {
         return Found::Refused(Refusal::new(Answer::LONG, 16384));

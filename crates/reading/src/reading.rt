@@ -37,8 +37,8 @@ fn written(
     rows: &[u16; 32768],
     places: &[usize; 2048],
 )
-    requires { ⌜ ((source values : List ℕ) × Holds source (now places) values (now nodes) (now rows) (now uses) s) × (now words ≡ cleared) ⌝ }
-    ensures { λ _. ⌜ ((source values : List ℕ) → Holds source (now (places .entry)) values (now (nodes .entry)) (now (rows .entry)) (now (uses .entry)) s → Judged source Accepted (now (words .exit))) ⌝ }
+    requires { ⌜ ((source kinds values : List ℕ) × Holds source kinds (now places) values (now nodes) (now rows) (now uses) s) × (now words ≡ cleared) ⌝ }
+    ensures { λ _. ⌜ ((source kinds values : List ℕ) → Holds source kinds (now (places .entry)) values (now (nodes .entry)) (now (rows .entry)) (now (uses .entry)) s → Judged source Accepted (now (words .exit))) ⌝ }
 {
     write(
         words,

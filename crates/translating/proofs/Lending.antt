@@ -25,7 +25,7 @@ use Rattle.translating.proofs.Coded.{Lent}
 first-word : (k : ℕ) (all part : List ℕ) → take k all ≡ part → (i : ℕ) → i < length part → getD all i 0 ≡ getD part i 0
 first-word k all part e i l = let h : i < k = omega (arith, ap length e, length-take k all) in sym (getD-take k all i 0 h) ∙ ap (λ w. getD w i 0) e
 
-module _ {text places values nodes rows uses : List ℕ} {s : Sizes} (h : Holds text places values nodes rows uses s) where
+module _ {text kinds places values nodes rows uses : List ℕ} {s : Sizes} (h : Holds text kinds places values nodes rows uses s) where
   abbrev named : Named text places (take (s .nodes) nodes) (h .declared .ids) (take (4 * s .rows) rows) (take (s .uses) uses) (s .symbols)
   named = h .declared .resolved .named
 
