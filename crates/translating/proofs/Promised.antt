@@ -32,7 +32,9 @@ use Rattle.translation.specs.Listed.{machineIn}
 use Rattle.translation.proofs.Lengths.{fits-words}
 use Rattle.translation.proofs.Ranges.{in-range}
 use Rattle.translation.proofs.Words.{same-machine}
-use Rattle.translation.proofs.Correct.{machine-answers, source-answers}
+use Rattle.translation.specs.Places.{finishP}
+use Rattle.translation.proofs.Correct.{machine-answers, source-answers, translated}
+use Rattle.translation.proofs.RunPlaced.{placed-words}
 use Rattle.translation.proofs.OnWords.{follows-as, onWords, faithful-words}
 use Rattle.translating.specs.Job.{room, filled, codeIn, Translated, refused, accepted, Translates, too-short, enough, RunsAs, Deed}
 use Rattle.translating.proofs.Accepting.{within-limits, well-scoped}
@@ -128,3 +130,15 @@ never-wrong {text} {old} (enough h v ws (accepted p n t)) z input limit cells sp
 pub rules-answers : {text : List ℕ} (p : Parsed text) → least (nameFaults (parsed p)) ≡ none → typeFault (parsed p) ≡ none → (input : List ℤ) (cells space t n : ℕ) (q : Stop) (o : Trace)
     → source (placeIn text) (parsed p) input cells space t ≡ done q n o → Ordinary q
 rules-answers {text} p named typed input cells space t n q o e = source-answers (placeIn text) (parsed p) (well-scoped p named typed) input cells space t n q o e
+
+-- ---- places aside
+
+-- a run of translated code is the run by symbols' numbers, with their places put in
+pub by-numbers : {text old new : List ℕ} {v : Verdict} → Translates text old v new → numberOf v ≡ 0 → (p : Parsed text) (input : List ℤ) (limit cells space : ℕ)
+    → onCode new input limit cells space ≡ finishP (placeIn text) (translated (λ q. q) (parsed p) input limit cells space)
+by-numbers (too-short l) z p input limit cells space = absurd (omega (arith, z))
+by-numbers (enough h v ws (refused r j)) z p input limit cells space = absurd (refused-accepted (zero-judged j z))
+by-numbers {text} {old} (enough h v ws (accepted p₀ n t)) z p input limit cells space =
+    ap (λ ws. machine ws input limit cells space) (take-filled (codeIn p₀) (drop room old) (code-fits p₀))
+    ∙ placed-words (room - length (codeIn p₀)) (placeIn text) (parsed p₀) (within-limits p₀) input limit cells space
+    ∙ ap (λ (s : Statement). finishP (placeIn text) (translated (λ q. q) s input limit cells space)) (one-program p₀ p)
