@@ -1,0 +1,13 @@
+pub mod Clean
+pub mod LinesLaid
+pub mod Same
+pub mod Examples
+pub mod Putting
+pub mod Penned
+pub mod Stacks
+pub mod Turns
+pub mod Spelled
+pub mod Laying
+pub mod Paged
+pub mod Tidy
+pub mod Promises

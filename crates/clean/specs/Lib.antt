@@ -1,0 +1,6 @@
+pub mod House
+pub mod Job
+pub mod Tidy
+pub mod Lines
+pub mod Model
+pub mod Pen
