@@ -9,6 +9,7 @@ pub enum Job {
     Levels,
     Page,
     Code,
+    Write,
     Run,
     Help,
     Other,
@@ -31,6 +32,9 @@ pub fn job_of(text: &[u8]) -> Job
     }
     if same_bytes(text, b"code") {
         return Job::Code;
+    }
+    if same_bytes(text, b"write") {
+        return Job::Write;
     }
     if same_bytes(text, b"run") {
         return Job::Run;
