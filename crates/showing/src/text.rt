@@ -21,12 +21,21 @@ const NEAR: usize = 80;
 // How much of a long line stands before the place.
 const BEFORE: usize = 60;
 
+// A text to a descriptor: a refusal is said to standard output where it was asked for, and to standard error where a page was.
+pub fn tell(to: i32, text: &[u8]) {
+    io::write_all(to, text);
+}
+
+pub fn tell_number(to: i32, n: u64) {
+    io::print_decimal(to, n);
+}
+
 pub fn say(text: &[u8]) {
-    io::write_all(STDOUT_FILENO, text);
+    tell(STDOUT_FILENO, text);
 }
 
 pub fn say_number(n: u64) {
-    io::print_decimal(STDOUT_FILENO, n);
+    tell_number(STDOUT_FILENO, n);
 }
 
 // A number, with the sign - where it is below 0.
@@ -40,7 +49,7 @@ pub fn say_whole(x: i64) {
 }
 
 pub fn complain(text: &[u8]) {
-    io::write_all(STDERR_FILENO, text);
+    tell(STDERR_FILENO, text);
 }
 
 // The least of two.
@@ -86,11 +95,15 @@ pub fn spot_of(source: &[u8], place: usize) -> Spot
 }
 
 // LINE:COLUMN.
-pub fn say_spot(source: &[u8], place: usize) {
+pub fn tell_spot(to: i32, source: &[u8], place: usize) {
     let s = spot_of(source, place);
-    say_number(s.line);
-    say(b":");
-    say_number(s.column);
+    tell_number(to, s.line);
+    tell(to, b":");
+    tell_number(to, s.column);
+}
+
+pub fn say_spot(source: &[u8], place: usize) {
+    tell_spot(STDOUT_FILENO, source, place);
 }
 
 // Where what is shown of a line begins.
@@ -175,33 +188,33 @@ fn mark_row(source: &[u8], from: usize, place: usize, row: &mut [u8]) -> usize
     n
 }
 
-fn say_line(source: &[u8], from: usize) {
+fn tell_line(to: i32, source: &[u8], from: usize) {
     let mut row = [0u8; 100];
     let n = line_row(source, from, &mut row);
-    say(&row[..n]);
-    say(b"\n");
+    tell(to, &row[..n]);
+    tell(to, b"\n");
 }
 
-fn say_mark(source: &[u8], from: usize, place: usize) {
+fn tell_mark(to: i32, source: &[u8], from: usize, place: usize) {
     let mut row = [0u8; 100];
     let n = mark_row(source, from, place, &mut row);
-    say(b"    ");
-    say(&row[..n]);
-    say(b"^\n");
+    tell(to, b"    ");
+    tell(to, &row[..n]);
+    tell(to, b"^\n");
 }
 
 // The line of a place, and a mark under the place.
-pub fn show_line(source: &[u8], place: usize) {
+pub fn tell_place(to: i32, source: &[u8], place: usize) {
     let s = spot_of(source, place);
     let start = s.start;
     let from = shown_from(start, place);
     if start < from {
-        say(b" .. ");
+        tell(to, b" .. ");
     } else {
-        say(b"    ");
+        tell(to, b"    ");
     }
-    say_line(source, from);
-    say_mark(source, from, place);
+    tell_line(to, source, from);
+    tell_mark(to, source, from, place);
 }
 
 // The letters and digits of the name at a place, as many as the row takes; gives how many.

@@ -2,8 +2,11 @@
 // place tells which ones it can be.
 use crate::text::say;
 use crate::text::say_number;
-use crate::text::say_spot;
-use crate::text::show_line;
+use crate::text::tell;
+use crate::text::tell_number;
+use crate::text::tell_place;
+use crate::text::tell_spot;
+use libc::STDOUT_FILENO;
 use symbols::text::is_blank;
 use symbols::text::is_digit;
 use symbols::text::is_letter;
@@ -19,57 +22,71 @@ fn byte_at(source: &[u8], at: usize) -> u8
     if at < source.len() { source[at] } else { 0 }
 }
 
-fn say_no_symbol(b: u8) {
+fn tell_no_symbol(to: i32, b: u8) {
     if b == b'\'' {
-        say(b"the apostrophe stays open, or the word is no delimiter word, or the note has no `;`");
+        tell(
+            to,
+            b"the apostrophe stays open, or the word is no delimiter word, or the note has no `;`",
+        );
     } else {
-        say(b"no symbol begins with this byte");
+        tell(to, b"no symbol begins with this byte");
     }
 }
 
-fn say_too_large(b: u8) {
+fn tell_too_large(to: i32, b: u8) {
     if is_digit(b) {
-        say(b"the number is over 2,147,483,647, or this is symbol 2,049");
+        tell(
+            to,
+            b"the number is over 2,147,483,647, or this is symbol 2,049",
+        );
     } else if is_letter(b) {
-        say(b"the name has over 32 characters, or this is symbol 2,049");
+        tell(
+            to,
+            b"the name has over 32 characters, or this is symbol 2,049",
+        );
     } else {
-        say(b"this is symbol 2,049, notes and remarks not counted");
+        tell(to, b"this is symbol 2,049, notes and remarks not counted");
     }
 }
 
-fn say_grammar(ended: bool) {
+fn tell_grammar(to: i32, ended: bool) {
     if ended {
-        say(b"the source ends where no program can end");
+        tell(to, b"the source ends where no program can end");
     } else {
-        say(b"no program can have this symbol here");
+        tell(to, b"no program can have this symbol here");
     }
 }
 
 // A type fault at a delimiter word, by its first two letters.
-fn say_type_of_word(a: u8, b: u8) {
+fn tell_type_of_word(to: i32, a: u8, b: u8) {
     match a {
-        b'w' => say(b"the condition is not Boolean"),
+        b'w' => tell(to, b"the condition is not Boolean"),
         b'i' => {
             if b == b'f' {
-                say(
+                tell(
+                    to,
                     b"the condition is not Boolean, or a wrong actual or for expression begins here",
                 );
             } else {
-                say(b"an operand is of the wrong type");
+                tell(to, b"an operand is of the wrong type");
             }
         }
         b'e' => {
             if b == b'l' {
-                say(b"the 'else' part is of another type than the 'then' part");
+                tell(
+                    to,
+                    b"the 'else' part is of another type than the 'then' part",
+                );
             } else {
-                say(b"an operand is of the wrong type");
+                tell(to, b"an operand is of the wrong type");
             }
         }
-        b'n' => say(
+        b'n' => tell(
+            to,
             b"the operand is of the wrong type, or a wrong actual or for expression begins here",
         ),
-        b't' | b'f' => say(b"a wrong actual or for expression begins here"),
-        _ => say(b"an operand is of the wrong type"),
+        b't' | b'f' => tell(to, b"a wrong actual or for expression begins here"),
+        _ => tell(to, b"an operand is of the wrong type"),
     }
 }
 
@@ -89,99 +106,139 @@ fn byte_behind(source: &[u8], at: usize) -> u8
 }
 
 // A type fault at a name; a left part or controlled variable is known by the `:=` behind it.
-fn say_type_of_name(behind: u8) {
+fn tell_type_of_name(to: i32, behind: u8) {
     if behind == b':' {
-        say(
+        tell(
+            to,
             b"the left part is no variable, formal or typed procedure inside its own body, or not of the first one's type, ",
         );
-        say(b"or the controlled variable is no integer variable or formal");
+        tell(
+            to,
+            b"or the controlled variable is no integer variable or formal",
+        );
     } else {
-        say(b"the name is used as what it isn't, or with a wrong number of actuals, ");
-        say(b"or a wrong actual or for expression begins here");
+        tell(
+            to,
+            b"the name is used as what it isn't, or with a wrong number of actuals, ",
+        );
+        tell(to, b"or a wrong actual or for expression begins here");
     }
 }
 
-fn say_type(source: &[u8], place: usize) {
+fn tell_type(to: i32, source: &[u8], place: usize) {
     let b = byte_at(source, place);
     match b {
-        b':' => say(b"the right side is of another type than the left part"),
-        b'*' | b'%' | b'<' | b'=' | b'>' | b'#' => say(b"an operand is of the wrong type"),
+        b':' => tell(to, b"the right side is of another type than the left part"),
+        b'*' | b'%' | b'<' | b'=' | b'>' | b'#' => tell(to, b"an operand is of the wrong type"),
         b'+' | b'-' => {
-            say(b"an operand is of the wrong type, or a wrong actual or for expression begins here")
+            tell(
+                to,
+                b"an operand is of the wrong type, or a wrong actual or for expression begins here",
+            )
         }
         b'\'' => {
             if place < source.len() {
-                say_type_of_word(byte_at(source, place + 1), byte_at(source, place + 2));
+                tell_type_of_word(to, byte_at(source, place + 1), byte_at(source, place + 2));
             }
         }
-        b'(' | b'0'..=b'9' => say(b"a wrong actual or for expression begins here"),
-        _ => say_type_of_name(byte_behind(source, place)),
+        b'(' | b'0'..=b'9' => tell(to, b"a wrong actual or for expression begins here"),
+        _ => tell_type_of_name(to, byte_behind(source, place)),
     }
 }
 
 // Of names: 7 to 9.
-fn say_names(number: u16) {
+fn tell_names(to: i32, number: u16) {
     match number {
         7 => {
-            say(
+            tell(
+                to,
                 b"the name is declared twice in one block, or is a formal repeated or named as its procedure",
             )
         }
-        8 => say(b"the name has no declaration, formal or environment entry"),
+        8 => tell(
+            to,
+            b"the name has no declaration, formal or environment entry",
+        ),
         _ => {
-            say(b"the value part or a specification names no formal or repeats one, ");
-            say(b"or, at a procedure's name, a formal of it has no specification")
+            tell(
+                to,
+                b"the value part or a specification names no formal or repeats one, ",
+            );
+            tell(
+                to,
+                b"or, at a procedure's name, a formal of it has no specification",
+            )
         }
     }
 }
 
 // Of runs.
-fn say_run(number: u16) {
+fn tell_run(to: i32, number: u16) {
     match number {
-        20 => say(b"the instruction limit is reached"),
-        21 => say(b"the result is outside -2,147,483,648 to 2,147,483,647"),
-        22 => say(b"the divisor is zero"),
-        23 => say(b"an unassigned variable, formal or needed result is read"),
-        24 => say(b"the input has ended"),
-        25 => say(b"the output is full"),
-        26 => say(b"one more cell is needed than the run may use"),
-        27 => say(b"a 257th activation would be live"),
-        28 => say(b"the channel is not 1"),
-        30 => say(b"a formal called by name is stored to, and its actual is no variable"),
+        20 => tell(to, b"the instruction limit is reached"),
+        21 => tell(to, b"the result is outside -2,147,483,648 to 2,147,483,647"),
+        22 => tell(to, b"the divisor is zero"),
+        23 => tell(
+            to,
+            b"an unassigned variable, formal or needed result is read",
+        ),
+        24 => tell(to, b"the input has ended"),
+        25 => tell(to, b"the output is full"),
+        26 => tell(to, b"one more cell is needed than the run may use"),
+        27 => tell(to, b"a 257th activation would be live"),
+        28 => tell(to, b"the channel is not 1"),
+        30 => tell(
+            to,
+            b"a formal called by name is stored to, and its actual is no variable",
+        ),
         _ => {
-            say(b"there is no instruction at the counter, or an operand is outside its range, ");
-            say(b"or a value is taken where none is held")
+            tell(
+                to,
+                b"there is no instruction at the counter, or an operand is outside its range, ",
+            );
+            tell(to, b"or a value is taken where none is held")
         }
     }
 }
 
 // The sentence for an answer.
-pub fn say_answer(number: u16, source: &[u8], place: usize) {
+fn tell_sentence(to: i32, number: u16, source: &[u8], place: usize) {
     match number {
-        1 => say(b"the table or the code is too short"),
-        2 => say(b"the source is over 16,384 bytes"),
-        3 => say_no_symbol(byte_at(source, place)),
-        4 => say_too_large(byte_at(source, place)),
-        5 => say_grammar(source.len() <= place),
-        6 => say(b"depth 65 would begin here, and the greatest depth is 64"),
-        7..=9 => say_names(number),
-        10 => say_type(source, place),
-        _ => say_run(number),
+        1 => tell(to, b"the table or the code is too short"),
+        2 => tell(to, b"the source is over 16,384 bytes"),
+        3 => tell_no_symbol(to, byte_at(source, place)),
+        4 => tell_too_large(to, byte_at(source, place)),
+        5 => tell_grammar(to, source.len() <= place),
+        6 => tell(
+            to,
+            b"depth 65 would begin here, and the greatest depth is 64",
+        ),
+        7..=9 => tell_names(to, number),
+        10 => tell_type(to, source, place),
+        _ => tell_run(to, number),
     }
+}
+
+pub fn say_answer(number: u16, source: &[u8], place: usize) {
+    tell_sentence(STDOUT_FILENO, number, source, place);
 }
 
 // An answer as people want it: file, line and column, how it was given, number, sentence, and the line with a mark under
 // the place.
+pub fn tell_answer(to: i32, name: &[u8], source: &[u8], how: &[u8], number: u16, place: usize) {
+    tell(to, name);
+    tell(to, b":");
+    tell_spot(to, source, place);
+    tell(to, how);
+    tell_number(to, number as u64);
+    tell(to, b": ");
+    tell_sentence(to, number, source, place);
+    tell(to, b"\n");
+    tell_place(to, source, place);
+}
+
 pub fn show_answer(name: &[u8], source: &[u8], how: &[u8], number: u16, place: usize) {
-    say(name);
-    say(b":");
-    say_spot(source, place);
-    say(how);
-    say_number(number as u64);
-    say(b": ");
-    say_answer(number, source, place);
-    say(b"\n");
-    show_line(source, place);
+    tell_answer(STDOUT_FILENO, name, source, how, number, place);
 }
 
 // A run's answer that has no place in the source.
@@ -190,6 +247,6 @@ pub fn show_placeless(name: &[u8], how: &[u8], number: u16) {
     say(how);
     say_number(number as u64);
     say(b": ");
-    say_run(number);
+    tell_run(STDOUT_FILENO, number);
     say(b"\n");
 }
