@@ -1,6 +1,6 @@
 /* compare COUNT [FILE..]: COUNT random sources, and COUNT random codes with their input, store and output, each handed to the library and to the
- * scanner and machine of own.h; shows each difference, and how many were compared. The files are sources that are changed at random. The seed is
- * fixed. Ends with 1 where something differs. */
+ * scanner and machine of own.h, and COUNT random sources to the writer of page.h; shows each difference, and how many were compared. The files are
+ * sources that are changed at random. The seed is fixed. Ends with 1 where something differs. */
 #include <stdio.h>
 #include <stdlib.h>
 #include <string.h>
@@ -8,6 +8,7 @@
 #include "codes.h"
 #include "deed.h"
 #include "own.h"
+#include "page.h"
 #include "sources.h"
 
 /* Stands around what is lent: the library must leave it alone. */
@@ -260,6 +261,94 @@ static void compare_translation(unsigned long k)
 }
 #endif
 
+/* ---- pages */
+
+enum { ROOM = DEED_SOURCE + 200 };
+
+static unsigned long pages_seen[ANSWERS];
+static uint8_t room[ROOM + 2 * MARGIN], room_due[ROOM + 2 * MARGIN], room_before[ROOM + 2 * MARGIN];
+static uint16_t table_again[TABLE];
+
+/* The number of the declaration at a place, by its row. */
+static unsigned declaration_at(const uint16_t *words, uint16_t at)
+{
+    const uint16_t *rows = words + 1 + 3 * words[0];
+    unsigned j = 0;
+    while (j < rows[0] && rows[1 + 4 * j] != at)
+        j++;
+    return j;
+}
+
+/* Whether two use sections pair uses with declarations alike: kind, and declaration number or environment number. */
+static int paired_alike(const uint16_t *a, const uint16_t *b)
+{
+    if (a[0] != b[0])
+        return 0;
+    for (unsigned i = 0; i < a[0]; i++) {
+        const uint16_t *x = a + 1 + 3 * i, *y = b + 1 + 3 * i;
+        if (x[1] != y[1] || (x[1] == 0 ? x[2] != y[2] : declaration_at(a, x[2]) != declaration_at(b, y[2])))
+            return 0;
+    }
+    return 1;
+}
+
+/* What is wrong with the page, read and written again: `size` bytes, of the source whose words are in `table`. */
+static const char *wrong_again(size_t size)
+{
+    static uint8_t again[DEED_SOURCE];
+    size_t place = 99999, length = 99999;
+    if (deed_read(room + MARGIN, size, table_again, TABLE, &place) != 0 || place != 0)
+        return "the page is not accepted";
+    if (!paired_alike(table + MARGIN, table_again))
+        return "uses and declarations are not paired alike";
+    if (deed_write(room + MARGIN, size, again, DEED_SOURCE, &place, &length) != 0 || place != 0 || length != size || memcmp(again, room + MARGIN, size) != 0)
+        return "the page is written otherwise";
+#ifdef DEED_TRANSLATE
+    static uint32_t code_of_source[DEED_CODE], code_of_page[DEED_CODE];
+    deed_translate(text.byte, text.length, code_of_source, DEED_CODE, &place);
+    deed_translate(room + MARGIN, size, code_of_page, DEED_CODE, &place);
+    for (unsigned i = 0; i < DEED_CODE; i += 2) /* operation, and behind it the place */
+        if ((code_of_source[i] & 63) != (code_of_page[i] & 63) || code_of_source[i + 1] != code_of_page[i + 1])
+            return "the page has another translation";
+#endif
+    return NULL;
+}
+
+static void compare_page(unsigned long k)
+{
+    size_t lent, due_place = 0, due_length = 0, place = 99999, length = 99999;
+    random_source(&text);
+    unsigned due = deed_read(text.byte, text.length, table + MARGIN, TABLE, &due_place);
+    lent = once_in(4) ? below(ROOM) : DEED_SOURCE + below(ROOM - DEED_SOURCE);
+    if (due == 0) {
+        own_scan(text.byte, text.length, &scan);
+        own_write(text.byte, text.length, &scan);
+        if (once_in(4) && page.size <= ROOM)
+            lent = page.size - below(2);
+        if (page.size > DEED_SOURCE) {
+            due = 2;
+            due_place = DEED_SOURCE;
+        } else if (lent < page.size)
+            due = 1;
+        else
+            due_length = page.size;
+    }
+    memcpy(room, room_before, sizeof room);
+    memcpy(room_due, room_before, sizeof room);
+    memcpy(room_due + MARGIN, page.byte, due_length);
+    unsigned number = deed_write(text.byte, text.length, room + MARGIN, lent, &place, &length);
+    const char *wrong = number != due || place != due_place || length != due_length ? "the own writer has another answer"
+        : memcmp(room, room_due, sizeof room) != 0 ? "the own writer has another page, or what is around it has changed"
+        : number == 0 ? wrong_again(length) : NULL;
+    if (number < ANSWERS)
+        pages_seen[number]++;
+    if (wrong != NULL) {
+        differs("page", k);
+        printf("%s: library %u at %zu, %zu bytes, own %u at %zu, %zu bytes, in %zu", wrong, number, place, length, due, due_place, due_length, lent);
+        show_text();
+    }
+}
+
 /* ---- the whole */
 
 static void show_seen(const char *what, const unsigned long *seen)
@@ -301,6 +390,11 @@ int main(int argc, char **argv)
     show_seen("translations compared", translations_seen);
 #endif
     show_seen("runs compared", runs_seen);
+    for (size_t i = 0; i < sizeof room_before; i++)
+        room_before[i] = (uint8_t)random_word();
+    for (unsigned long k = 0; k < count; k++)
+        compare_page(k);
+    show_seen("pages compared", pages_seen);
     printf("%lu differ\n", differences);
     return differences == 0 ? 0 : 1;
 }

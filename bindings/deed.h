@@ -67,6 +67,13 @@ uint16_t deed_translate(const uint8_t *source, size_t source_length,
                         size_t *place);
 #endif
 
+/* Source to its text in the house layout. 0 to 10, as deed_read has them but for 1 and 2: 1 where the room is shorter than the text, 2 also where
+ * the text is over DEED_SOURCE bytes. The first *length bytes of the room are the text, and behind it they are as they were; after a refusal
+ * *length is 0 and the whole room is as it was. */
+uint16_t deed_write(const uint8_t *source, size_t source_length,
+                    uint8_t *room, size_t room_length,
+                    size_t *place, size_t *length);
+
 /* Code to a run. 0 or 20 to 30. The first DEED_CELLS cells of the store, or fewer if lent fewer, are zero afterwards; the output holds what was
  * written, and behind it what it held. */
 uint16_t deed_run(const uint32_t *code, size_t code_length,

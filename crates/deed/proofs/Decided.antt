@@ -16,7 +16,7 @@ use Rattle.asking.specs.Words.{askedFrom, part, First}
 use Rattle.asking.specs.Options.{sizesOf, pastOptions}
 use Rattle.asking.specs.declared.words.Word.{Word}
 use Rattle.asking.specs.declared.jobs.Job.{Job}
-use Rattle.asking.specs.declared.jobs.Job.the-variants.{Read, Uses, Levels, Page, Code, Run, Help, Other}
+use Rattle.asking.specs.declared.jobs.Job.the-variants.{Read, Uses, Levels, Page, Code, Write, Run, Help, Other}
 use Rattle.asking.specs.declared.sizes.Sizes.{Sizes}
 use Rattle.asking.specs.declared.sizes.Asked.{Asked}
 use Rattle.asking.specs.declared.sizes.Asked.the-variants.{Are, Not}
@@ -27,20 +27,22 @@ use Rattle.deed.specs.Commands.{oneFile, aRun, takesPlain, shown, byJob,
 
 -- ---- the tags of jobs
 
-pub plain-taken : (j : Job) → OneOf (0 ∷ 1 ∷ 5 ∷ []) (tagOf the-type j) → true ≡ takesPlain j
+pub plain-taken : (j : Job) → OneOf (0 ∷ 1 ∷ 5 ∷ 6 ∷ []) (tagOf the-type j) → true ≡ takesPlain j
 plain-taken Read h = refl
 plain-taken Uses h = refl
+plain-taken Write h = refl
 plain-taken Run h = refl
-plain-taken Levels h = absurd (miss (0 ∷ 1 ∷ 5 ∷ []) 2 tt h)
-plain-taken Page h = absurd (miss (0 ∷ 1 ∷ 5 ∷ []) 3 tt h)
-plain-taken Code h = absurd (miss (0 ∷ 1 ∷ 5 ∷ []) 4 tt h)
-plain-taken Help h = absurd (miss (0 ∷ 1 ∷ 5 ∷ []) 6 tt h)
-plain-taken Other h = absurd (miss (0 ∷ 1 ∷ 5 ∷ []) 7 tt h)
+plain-taken Levels h = absurd (miss (0 ∷ 1 ∷ 5 ∷ 6 ∷ []) 2 tt h)
+plain-taken Page h = absurd (miss (0 ∷ 1 ∷ 5 ∷ 6 ∷ []) 3 tt h)
+plain-taken Code h = absurd (miss (0 ∷ 1 ∷ 5 ∷ 6 ∷ []) 4 tt h)
+plain-taken Help h = absurd (miss (0 ∷ 1 ∷ 5 ∷ 6 ∷ []) 7 tt h)
+plain-taken Other h = absurd (miss (0 ∷ 1 ∷ 5 ∷ 6 ∷ []) 8 tt h)
 
-pub plain-refused : (j : Job) → OneOf (2 ∷ 3 ∷ 4 ∷ 6 ∷ 7 ∷ []) (tagOf the-type j) → false ≡ takesPlain j
-plain-refused Read h = absurd (miss (2 ∷ 3 ∷ 4 ∷ 6 ∷ 7 ∷ []) 0 tt h)
-plain-refused Uses h = absurd (miss (2 ∷ 3 ∷ 4 ∷ 6 ∷ 7 ∷ []) 1 tt h)
-plain-refused Run h = absurd (miss (2 ∷ 3 ∷ 4 ∷ 6 ∷ 7 ∷ []) 5 tt h)
+pub plain-refused : (j : Job) → OneOf (2 ∷ 3 ∷ 4 ∷ 7 ∷ 8 ∷ []) (tagOf the-type j) → false ≡ takesPlain j
+plain-refused Read h = absurd (miss (2 ∷ 3 ∷ 4 ∷ 7 ∷ 8 ∷ []) 0 tt h)
+plain-refused Uses h = absurd (miss (2 ∷ 3 ∷ 4 ∷ 7 ∷ 8 ∷ []) 1 tt h)
+plain-refused Write h = absurd (miss (2 ∷ 3 ∷ 4 ∷ 7 ∷ 8 ∷ []) 5 tt h)
+plain-refused Run h = absurd (miss (2 ∷ 3 ∷ 4 ∷ 7 ∷ 8 ∷ []) 6 tt h)
 plain-refused Levels h = refl
 plain-refused Page h = refl
 plain-refused Code h = refl
@@ -118,20 +120,21 @@ module _ (plain : Bool) (line : List ℕ) (w : Word) (h : First (askedFrom line)
   unfolding byJob
   ran i s k = rw (by-job, i) k
 
-  module _ (i : OneOf (0 ∷ 1 ∷ 2 ∷ 3 ∷ 4 ∷ []) (tagOf the-type j)) where
+  module _ (i : OneOf (0 ∷ 1 ∷ 2 ∷ 3 ∷ 4 ∷ 5 ∷ []) (tagOf the-type j)) where
     by-shown : decided plain (askedFrom line 0) ≡ shown plain j (askedFrom line (w .to))
     unfolding byJob
     by-shown = by-job ∙ shows j i
       where
-        shows : (x : Job) → OneOf (0 ∷ 1 ∷ 2 ∷ 3 ∷ 4 ∷ []) (tagOf the-type x) → byJob plain x (askedFrom line (w .to)) ≡ shown plain x (askedFrom line (w .to))
+        shows : (x : Job) → OneOf (0 ∷ 1 ∷ 2 ∷ 3 ∷ 4 ∷ 5 ∷ []) (tagOf the-type x) → byJob plain x (askedFrom line (w .to)) ≡ shown plain x (askedFrom line (w .to))
         shows Read o = refl
         shows Uses o = refl
         shows Levels o = refl
         shows Page o = refl
         shows Code o = refl
-        shows Run o = absurd (miss (0 ∷ 1 ∷ 2 ∷ 3 ∷ 4 ∷ []) 5 tt o)
-        shows Help o = absurd (miss (0 ∷ 1 ∷ 2 ∷ 3 ∷ 4 ∷ []) 6 tt o)
-        shows Other o = absurd (miss (0 ∷ 1 ∷ 2 ∷ 3 ∷ 4 ∷ []) 7 tt o)
+        shows Write o = refl
+        shows Run o = absurd (miss (0 ∷ 1 ∷ 2 ∷ 3 ∷ 4 ∷ 5 ∷ []) 6 tt o)
+        shows Help o = absurd (miss (0 ∷ 1 ∷ 2 ∷ 3 ∷ 4 ∷ 5 ∷ []) 7 tt o)
+        shows Other o = absurd (miss (0 ∷ 1 ∷ 2 ∷ 3 ∷ 4 ∷ 5 ∷ []) 8 tt o)
 
     pub plain-misused : plain ≡ true → takesPlain j ≡ false → Keeps (decided plain (askedFrom line 0)) nothing
     unfolding shown

@@ -14,9 +14,11 @@ use Rattle.answers.specs.declared.Verdict.{Verdict}
 use Rattle.answers.specs.declared.Verdict.the-variants.{Accepted, Refused}
 use Rattle.answers.specs.declared.Stop.{Stop}
 use Rattle.answers.specs.declared.Stop.the-variants.{Ended, Limit, Fault, Wrong}
+use Rattle.clean.specs.declared.Written.{Written}
+use Rattle.clean.specs.declared.Written.the-variants.{Text, Refused as Unwritten}
 use Rattle.machine.specs.declared.Ran.{Ran}
 use Rattle.machine.specs.Machine.{Finish, onCode, Exit, exit, afterwards, job}
-use Rattle.deed.specs.Status.{bad, nothing, ofVerdict, ofStop, ofRun, Told, RunStatus}
+use Rattle.deed.specs.Status.{bad, nothing, ofVerdict, ofWritten, ofStop, ofRun, Told, WriteStatus, RunStatus}
 
 -- ---- what the machine was lent
 
@@ -72,6 +74,10 @@ most-verdict : (v : Verdict) → ofVerdict v ≤ nothing
 most-verdict Accepted = omega arith
 most-verdict (Refused r) = omega arith
 
+most-written : (w : Written) → ofWritten w ≤ nothing
+most-written (Text n) = omega arith
+most-written (Unwritten r) = omega arith
+
 most-stop : (q : Stop) → ofStop q ≤ nothing
 most-stop Ended = omega arith
 most-stop Limit = omega arith
@@ -84,6 +90,9 @@ most-run (Refused r) f = omega arith
 
 pub told-most : {P : Verdict → Type 0} {s : ℕ} → Told P s → s ≤ nothing
 told-most t = rw (t .told) (most-verdict (t .verdict))
+
+pub write-most : {text : List ℕ} {s : ℕ} → WriteStatus text s → s ≤ nothing
+write-most t = rw (t .told) (most-written (t .written))
 
 pub run-most : {text : List ℕ} {input : List ℤ} {limit cells space s : ℕ} → RunStatus text input limit cells space s → s ≤ nothing
 run-most {input = input} {limit = limit} {cells = cells} {space = space} t = rw (t .told) (most-run (t .verdict) (onCode (t .words) input limit cells space))

@@ -7,7 +7,7 @@ use mathlib.Core.Option.{Option, none, some}
 use Rattle.asking.specs.Jobs.{jobOf}
 use Rattle.asking.specs.Options.{sizesOf, pastOptions}
 use Rattle.asking.specs.declared.jobs.Job.{Job}
-use Rattle.asking.specs.declared.jobs.Job.the-variants.{Read, Uses, Levels, Page, Code, Run, Help, Other}
+use Rattle.asking.specs.declared.jobs.Job.the-variants.{Read, Uses, Levels, Page, Code, Write, Run, Help, Other}
 use Rattle.asking.specs.declared.sizes.Asked.{Asked}
 use Rattle.asking.specs.declared.sizes.Asked.the-variants.{Are, Not}
 use Rattle.deed.specs.Status.{good, nothing}
@@ -24,10 +24,11 @@ aRun Not ws = some nothing
 aRun (Are s) [] = some nothing
 aRun (Are s) (f ∷ ws) = none
 
--- "read, uses and run take --plain too"
+-- "read, uses, write and run take --plain too"
 abbrev pub takesPlain : Job → Bool
 takesPlain Read = true
 takesPlain Uses = true
+takesPlain Write = true
 takesPlain Run = true
 takesPlain Levels = false
 takesPlain Page = false
@@ -48,6 +49,7 @@ byJob plain Uses ws = shown plain Uses ws
 byJob plain Levels ws = shown plain Levels ws
 byJob plain Page ws = shown plain Page ws
 byJob plain Code ws = shown plain Code ws
+byJob plain Write ws = shown plain Write ws
 
 -- of the words that a line asks, --plain not among them
 unfoldable pub decided : Bool → List (List ℕ) → Option ℕ

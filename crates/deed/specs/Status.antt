@@ -9,6 +9,9 @@ use Rattle.answers.specs.declared.Verdict.{Verdict}
 use Rattle.answers.specs.declared.Verdict.the-variants.{Accepted, Refused}
 use Rattle.answers.specs.declared.Stop.{Stop}
 use Rattle.answers.specs.declared.Stop.the-variants.{Ended, Limit, Fault, Wrong}
+use Rattle.clean.specs.declared.Written.{Written}
+use Rattle.clean.specs.declared.Written.the-variants.{Text, Refused as Unwritten}
+use Rattle.clean.specs.Job.{Writes}
 use Rattle.machine.specs.Machine.{Finish, onCode}
 use Rattle.reading.specs.Reading.{Reads}
 use Rattle.translating.specs.Job.{room, Translates}
@@ -26,6 +29,11 @@ nothing = 2
 abbrev pub ofVerdict : Verdict → ℕ
 ofVerdict Accepted = good
 ofVerdict (Refused r) = bad
+
+-- of a source that is written
+abbrev pub ofWritten : Written → ℕ
+ofWritten (Text n) = good
+ofWritten (Unwritten r) = bad
 
 -- of a run
 abbrev pub ofStop : Stop → ℕ
@@ -51,6 +59,13 @@ ReadStatus text s = Told (λ v. (table : List ℕ) × Reads text (replicate 3276
 
 abbrev pub CodeStatus : List ℕ → ℕ → Type 0
 CodeStatus text s = Told (λ v. (words : List ℕ) × Translates text (replicate room 0) v words) s
+
+-- s is the status of what `write` answers to a source, lent room for the longest text
+pub record WriteStatus (text : List ℕ) (s : ℕ) : Type 0 where
+  pub written : Written
+  pub page : List ℕ
+  pub writes : Writes text (replicate 16384 0) written page
+  pub told : s ≡ ofWritten written
 
 -- s is the status of a source's run on this input, under this limit, with so many cells and so much space for output: of what `translate` answers, and
 -- of how the machine finishes on the words that it leaves

@@ -4,11 +4,11 @@ use showing::text::say;
 
 pub fn usage() {
     complain(
-        b"usage: deed read | uses | levels | page | code FILE
+        b"usage: deed read | uses | levels | page | code | write FILE
        deed run FILE [-l LIMIT] [-c CELLS] [-o ROOM] [-] NUMBER ..
        deed do FILE
        deed help
-read, uses and run take --plain too
+read, uses, write and run take --plain too
 ",
     );
 }
@@ -36,6 +36,8 @@ pub fn help() {
   deed levels FILE  each block and each procedure's body: its level, its place and what it declares
   deed page FILE    the source as a page of HTML: each name tied to what it means, or the refusal marked
   deed code FILE    the translation, instruction by instruction
+  deed write FILE   the program in one layout, a statement a line, without notes and remarks; a refusal goes to
+                    standard error, so that a page or nothing comes of deed write FILE >PAGE
   deed run FILE [-l LIMIT] [-c CELLS] [-o ROOM] [-] NUMBER ..
                     runs the program on these numbers, and behind them, where - stands, on those of
                     standard input; at most LIMIT instructions (1000000), CELLS cells (8192, the most)
@@ -51,6 +53,7 @@ stopped, and 2 where nothing was done; of do the greatest of its commands.
 With --plain, read, uses and run give other programs one line of numbers: the answer and its place in
 bytes from 0; for uses then the words of the use section, which are the number of uses and three numbers
 a use; for run then instructions done, numbers taken, numbers written and the numbers written themselves.
+write gives such a line of three numbers, answer, place and length of the text, and behind it the text.
 ",
     );
 }

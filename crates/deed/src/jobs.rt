@@ -7,6 +7,7 @@ use crate::help::see_help;
 use crate::help::usage;
 use crate::running::run_source;
 use crate::status;
+use crate::writing::tell_text;
 use answers::Verdict;
 use asking::jobs::Job;
 use asking::jobs::job_of;
@@ -123,6 +124,7 @@ fn on_file(name: &[u8], plain: bool, job: Job) -> u8
     match job {
         Job::Code => tell_code(name, &room[..n]),
         Job::Page => tell_page(name, &room[..n]),
+        Job::Write => tell_text(name, &room[..n], plain),
         _ => tell(name, &room[..n], plain, job),
     }
 }
@@ -210,7 +212,7 @@ fn takes_plain(job: Job) -> bool
     ensures { λ r. ⌜ r ≡ takesPlain job ⌝ }
 {
     match job {
-        Job::Read | Job::Uses | Job::Run => true,
+        Job::Read | Job::Uses | Job::Write | Job::Run => true,
         _ => false,
     }
 }
@@ -235,7 +237,7 @@ pub fn obey(line: &[u8]) -> u8
         Job::Run => run_next(line, to),
         _ => {
             if is_plain(line) && !takes_plain(job) {
-                misused(b"--plain goes with read, uses and run", b"");
+                misused(b"--plain goes with read, uses, write and run", b"");
                 return status::NOTHING;
             }
             on_next(line, to, job)

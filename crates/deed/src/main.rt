@@ -18,6 +18,7 @@ mod help; // what the tool says of itself
 mod jobs; // what is done for a line
 mod running; // deed run
 mod status; // how it ended, for a script
+mod writing; // deed write
 
 // One line of a file of commands.
 fn obey_text(text: &[u8]) -> u8 {

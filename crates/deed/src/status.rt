@@ -2,9 +2,10 @@
 // `deed` opens; where that is not open, nothing is written.
 use answers::Stop;
 use answers::Verdict;
+use clean::Written;
 ghost use mathlib.Core.Path.{_≡_};
 ghost use Prim.Native.Nat.{max};
-ghost use Rattle.deed.specs.Status.{ofVerdict, ofStop};
+ghost use Rattle.deed.specs.Status.{ofVerdict, ofWritten, ofStop};
 
 // Accepted, or a run that ended.
 pub const GOOD: u8 = 0;
@@ -21,6 +22,15 @@ pub fn of_verdict(v: Verdict) -> u8
     match v {
         Verdict::Accepted => GOOD,
         Verdict::Refused(_) => BAD,
+    }
+}
+
+pub fn of_written(w: Written) -> u8
+    ensures { λ r. ⌜ r ≡ ofWritten w ⌝ }
+{
+    match w {
+        Written::Text(_) => GOOD,
+        Written::Refused(_) => BAD,
     }
 }
 

@@ -5,6 +5,8 @@ use mathlib.Core.List.{List}
 use lib.IntN.{ℤ}
 use Rattle.answers.specs.Answers.{numberOf, placeOf, stopNumber, stopPlace}
 use Rattle.answers.specs.declared.Verdict.{Verdict}
+use Rattle.clean.specs.declared.Written.{Written}
+use Rattle.clean.specs.Numbers.{numberOf as pageNumber, placeOf as pagePlace, lengthOf}
 use Rattle.machine.specs.Machine.{Exit}
 
 -- read and translate: the number and the place are those of a verdict of which P holds
@@ -13,6 +15,14 @@ pub record Answers (P : Verdict → Type 0) (number place : ℕ) : Type 0 where
   pub holds : P verdict
   pub numbered : number ≡ numberOf verdict
   pub placed : place ≡ placeOf verdict
+
+-- write: the number, the place and the length are those of an answer of which P holds
+pub record Pages (P : Written → Type 0) (number place length : ℕ) : Type 0 where
+  pub written : Written
+  pub holds : P written
+  pub numbered : number ≡ pageNumber written
+  pub placed : place ≡ pagePlace written
+  pub sized : length ≡ lengthOf written
 
 -- run: the numbers, and what the store and the output hold afterwards
 pub record Given : Type 0 where

@@ -1,11 +1,13 @@
 // The jobs as C functions, for programs in other languages: `bindings/deed.h` declares them. A slice comes as a pointer and a length, and each
 // result behind the answer's number goes to where a reference points.
+use clean::writing::write;
 use machine::run;
 use reading::reading::read;
 use translating::translating::translate;
 ghost use mathlib.Core.Path.{_≡_};
+ghost use Rattle.clean.specs.Job.{Writes};
 ghost use Rattle.machine.specs.Machine.{job};
-ghost use Rattle.jobs.specs.Jobs.{Answers, exitOf, given};
+ghost use Rattle.jobs.specs.Jobs.{Answers, Pages, exitOf, given};
 ghost use Rattle.reading.specs.Reading.{Reads};
 ghost use Rattle.translating.specs.Job.{Translates};
 
@@ -27,6 +29,22 @@ pub extern "C" fn deed_translate(source: &[u8], code: &mut [u32], place: &mut us
     let verdict = translate(source, code);
     *place = verdict.place();
     verdict.answer().number
+}
+
+// Source to its text in the house layout: the answer's number; its place, and how many bytes the text has.
+#[no_mangle]
+pub extern "C" fn deed_write(
+    source: &[u8],
+    room: &mut [u8],
+    place: &mut usize,
+    length: &mut usize,
+) -> u16
+    ensures { λ r. ⌜ Pages (λ w. Writes (now (source .entry)) (now (room .entry)) w (now (room .exit))) r (now (place .exit)) (now (length .exit)) ⌝ }
+{
+    let written = write(source, room);
+    *place = written.place();
+    *length = written.length();
+    written.answer().number
 }
 
 // Code to a run: the answer's number; its place, the instructions done, the numbers taken and the numbers written.

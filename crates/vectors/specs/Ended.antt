@@ -1,4 +1,4 @@
--- What `translate` and `run` answer and leave, against what is listed of a source, as a tally. The second line of a text has: how many inputs, the
+-- What `translate` and `run` answer and leave, against what is listed of a source, as a tally. The second line of a text, unless it is a page's, has: how many inputs, the
 -- inputs, the lengths of store and output, the limit; the answer, its place, how many numbers are taken (negative: not listed), how many are written,
 -- those numbers, and the steps (negative: not listed).
 use Prim.Native.Nat.{ℕ, zero, suc, _+_, _*_, min}
@@ -18,7 +18,8 @@ use Rattle.machine.specs.declared.Ran.{Ran}
 use Rattle.translating.specs.Job.{Translates}
 use Rattle.vectors.specs.declared.texts.Numeral.{Numeral}
 use Rattle.vectors.specs.declared.tally.Tally.{Tally}
-use Rattle.vectors.specs.Listed.{numberAt, wholeOf, secondLine, oneRun, oneDifference, checked, mostOf, answeredBy, acceptedBy, ReadTold, nothing, oneSource}
+use Rattle.vectors.specs.Listed.{numberAt, wholeOf, secondLine, runListed, oneRun, oneDifference, checked, mostOf, answeredBy, acceptedBy, ReadTold, nothing, oneSource}
+use Rattle.vectors.specs.Pages.{WriteTold}
 
 -- ---- numbers in a row
 
@@ -122,7 +123,7 @@ afterRefused code t = checked (strays code 1 && strays code 1000000) (checked (a
 
 -- the code of an accepted one is run, where a run is listed
 unfoldable pub afterAccepted : List ℕ → List ℕ → Tally → Tally
-afterAccepted code text t = cond (ltb (secondLine text) (length text)) (afterListed code text (secondLine text) (oneRun t)) t
+afterAccepted code text t = cond (runListed text) (afterListed code text (secondLine text) (oneRun t)) t
 
 -- the tally after a source was translated with this answer and this code; the two words behind the code hold 7 before and afterwards
 unfoldable pub afterTranslate : Verdict → List ℕ → List ℕ → Tally → Tally
@@ -143,7 +144,9 @@ pub record TranslateTold (source text : List ℕ) (t r : Tally) : Type 0 where
 pub record RowTold (source text : List ℕ) (t r : Tally) : Type 0 where
   pub between : Tally
   pub was-read : ReadTold source text (oneSource t) between
-  pub was-translated : TranslateTold source text between r
+  pub then : Tally
+  pub was-translated : TranslateTold source text between then
+  pub was-written : WriteTold source text then r
 
 -- the tally of so many rows, whatever bytes their files have
 pub data Rows : ℕ → Tally → Type 0 where

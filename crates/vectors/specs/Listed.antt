@@ -2,7 +2,7 @@
 use Prim.Native.Nat.{ℕ, _+_, _*_, _%_, min}
 use Prim.Native.Char.{code}
 use mathlib.Core.Path.{_≡_}
-use mathlib.Core.Bool.{Bool, true, false, cond, _&&_, _||_}
+use mathlib.Core.Bool.{Bool, true, false, cond, not, _&&_, _||_}
 use mathlib.Core.List.{List, [], _∷_}
 use lib.Dec.{eqb, ltb, leb}
 use lib.IntN.{ℤ, pos, negℤ}
@@ -49,6 +49,17 @@ unfoldable pub secondLine : List ℕ → ℕ
 secondLine [] = 0
 secondLine (b ∷ bs) = cond (eqb b 10) 1 (secondLine bs + 1)
 
+-- whether the line that begins at a place is a page's: it begins with w
+abbrev pub pageAt : List ℕ → ℕ → Bool
+pageAt text from = eqb (getD text from 0) (code "w")
+
+-- what the second line lists, if there is one: a page, or a run
+unfoldable pub pageListed : List ℕ → Bool
+pageListed text = ltb (secondLine text) (length text) && pageAt text (secondLine text)
+
+unfoldable pub runListed : List ℕ → Bool
+runListed text = ltb (secondLine text) (length text) && not (pageAt text (secondLine text))
+
 -- ---- the tally
 
 -- one more; the greatest number of 32 bits stays
@@ -57,19 +68,31 @@ more n = min (n + 1) 4294967295
 
 -- nothing is counted yet
 abbrev pub nothing : Tally
-nothing = record { sources = 0; runs = 0; differences = 0; done = 0; steps = 1 }
+nothing = record { sources = 0; runs = 0; pages = 0; back = 0; again = 0; differences = 0; done = 0; steps = 1 }
 
 -- one source more
 abbrev pub oneSource : Tally → Tally
-oneSource t = record { sources = more (t .sources); runs = t .runs; differences = t .differences; done = t .done; steps = t .steps }
+oneSource t = record { sources = more (t .sources); runs = t .runs; pages = t .pages; back = t .back; again = t .again; differences = t .differences; done = t .done; steps = t .steps }
 
 -- one run more
 abbrev pub oneRun : Tally → Tally
-oneRun t = record { sources = t .sources; runs = more (t .runs); differences = t .differences; done = t .done; steps = t .steps }
+oneRun t = record { sources = t .sources; runs = more (t .runs); pages = t .pages; back = t .back; again = t .again; differences = t .differences; done = t .done; steps = t .steps }
+
+-- one page more
+abbrev pub onePage : Tally → Tally
+onePage t = record { sources = t .sources; runs = t .runs; pages = more (t .pages); back = t .back; again = t .again; differences = t .differences; done = t .done; steps = t .steps }
+
+-- one more that was read back as the same program
+abbrev pub oneBack : Tally → Tally
+oneBack t = record { sources = t .sources; runs = t .runs; pages = t .pages; back = more (t .back); again = t .again; differences = t .differences; done = t .done; steps = t .steps }
+
+-- one more that was written again as the same bytes
+abbrev pub oneAgain : Tally → Tally
+oneAgain t = record { sources = t .sources; runs = t .runs; pages = t .pages; back = t .back; again = more (t .again); differences = t .differences; done = t .done; steps = t .steps }
 
 -- one difference more
 abbrev pub oneDifference : Tally → Tally
-oneDifference t = record { sources = t .sources; runs = t .runs; differences = more (t .differences); done = t .done; steps = t .steps }
+oneDifference t = record { sources = t .sources; runs = t .runs; pages = t .pages; back = t .back; again = t .again; differences = more (t .differences); done = t .done; steps = t .steps }
 
 -- something that was found, and whether it is what is listed
 abbrev pub checked : Bool → Tally → Tally
@@ -80,7 +103,7 @@ checked false t = oneDifference t
 unfoldable pub mostOf : ℕ → ℕ → Tally → Tally
 mostOf done steps t =
     cond (ltb (t .done * steps) (done * t .steps))
-    (record { sources = t .sources; runs = t .runs; differences = t .differences; done = done; steps = steps })
+    (record { sources = t .sources; runs = t .runs; pages = t .pages; back = t .back; again = t .again; differences = t .differences; done = done; steps = steps })
     t
 
 -- ---- read, against the first line: the answer, its place, and how many words the uses have, with these words

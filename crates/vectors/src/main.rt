@@ -1,10 +1,11 @@
-// Reads, translates and runs the sources that the file `index` lists, and compares with what is listed: a line for each difference, and at
-// the end how many sources, runs and differences, and the most instructions that a run did for its steps.
+// Reads, translates, runs and writes the sources that the file `index` lists, and compares with what is listed: a line for each difference, and at
+// the end how many sources, runs, differences and pages, and the most instructions that a run did for its steps.
 mod reads; // the job read
 mod rows; // the rows of the index
 mod runs; // the jobs translate and run
 mod tally; // counts and lines
 mod texts; // numbers in a text
+mod writes; // the job write
 
 fn main() {
     let mut buf = io::large_buffer();

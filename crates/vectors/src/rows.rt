@@ -3,6 +3,7 @@ use crate::reads;
 use crate::runs;
 use crate::tally::Tally;
 use crate::tally::print;
+use crate::writes;
 ghost use mathlib.Core.List.{List};
 ghost use Prim.Native.Nat.{ℕ, _+_, _/_, _≤_};
 ghost use lib.ListN.{length};
@@ -41,12 +42,13 @@ pub fn load(name: &[u8], buf: &mut [u8; 65536]) -> usize
     n
 }
 
-// A source read, translated and run, and compared.
+// A source read, translated, run and written, and compared.
 fn compare(t: Tally, name: &[u8], source: &[u8], text: &[u8]) -> Tally
     ensures { λ r. ⌜ RowTold (now (source .entry)) (now (text .entry)) t r ⌝ }
 {
     let told = reads::compare(t.source(), name, source, text);
-    runs::compare(told, name, source, text)
+    let ran = runs::compare(told, name, source, text);
+    writes::compare(ran, name, source, text)
 }
 
 // The row at `from`.

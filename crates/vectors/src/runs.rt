@@ -1,5 +1,5 @@
 // A source translated and its code run, against a text: `translate` answers as `read` does; a refused source leaves zero words, which are
-// no instruction; and the code of an accepted one runs as the second line says. That line has: how many inputs, the inputs, the lengths of
+// no instruction; and the code of an accepted one runs as the second line says, unless that is a page's. That line has: how many inputs, the inputs, the lengths of
 // store and output, the limit; the answer, its place, how many numbers are taken (-1: not listed), how many are written, those numbers, and
 // the steps (-1: not listed).
 use crate::reads::accepted;
@@ -8,6 +8,7 @@ use crate::tally::Tally;
 use crate::texts::Numeral;
 use crate::texts::clipped;
 use crate::texts::number_at;
+use crate::texts::page_at;
 use crate::texts::second_line;
 use crate::texts::whole;
 use machine::Ran;
@@ -307,7 +308,9 @@ pub fn compare(t: Tally, name: &[u8], source: &[u8], text: &[u8]) -> Tally
     }
     let from = second_line(text);
     if from < text.len() {
-        return listed(kept.run(), name, &code, text, from);
+        if !page_at(text, from) {
+            return listed(kept.run(), name, &code, text, from);
+        }
     }
     kept
 }

@@ -2,7 +2,7 @@
 use libc::STDOUT_FILENO;
 ghost use mathlib.Core.Path.{_≡_};
 ghost use Prim.Native.Nat.{_*_};
-ghost use Rattle.vectors.specs.Listed.{more as moreOf, nothing, oneSource, oneRun, checked, mostOf};
+ghost use Rattle.vectors.specs.Listed.{more as moreOf, nothing, oneSource, oneRun, onePage, oneBack, oneAgain, checked, mostOf};
 
 pub fn print(text: &[u8]) {
     io::write_all(STDOUT_FILENO, text);
@@ -12,10 +12,14 @@ fn print_count(n: u32) {
     io::print_decimal(STDOUT_FILENO, n as u64);
 }
 
-// The sources, the runs and the differences so far; and of the run with the most instructions for its steps, how many of each.
+// The sources, the runs, the pages, those of them that were read back and those written again, and the differences so far; and of the run
+// with the most instructions for its steps, how many of each.
 pub struct Tally {
     pub sources: u32,
     pub runs: u32,
+    pub pages: u32,
+    pub back: u32,
+    pub again: u32,
     pub differences: u32,
     pub done: u32,
     pub steps: u32,
@@ -44,6 +48,9 @@ impl Tally {
         Tally {
             sources: 0,
             runs: 0,
+            pages: 0,
+            back: 0,
+            again: 0,
             differences: 0,
             done: 0,
             steps: 1,
@@ -61,6 +68,27 @@ impl Tally {
         ensures { λ r. ⌜ r ≡ oneRun self ⌝ }
     {
         self.runs = more(self.runs);
+        self
+    }
+
+    pub fn page(mut self) -> Tally
+        ensures { λ r. ⌜ r ≡ onePage self ⌝ }
+    {
+        self.pages = more(self.pages);
+        self
+    }
+
+    pub fn back(mut self) -> Tally
+        ensures { λ r. ⌜ r ≡ oneBack self ⌝ }
+    {
+        self.back = more(self.back);
+        self
+    }
+
+    pub fn again(mut self) -> Tally
+        ensures { λ r. ⌜ r ≡ oneAgain self ⌝ }
+    {
+        self.again = more(self.again);
         self
     }
 
@@ -96,7 +124,13 @@ impl Tally {
         print_count(self.runs);
         print(b" runs, ");
         print_count(self.differences);
-        print(b" differences\nat most ");
+        print(b" differences\n");
+        print_count(self.pages);
+        print(b" pages written, ");
+        print_count(self.back);
+        print(b" read back, ");
+        print_count(self.again);
+        print(b" written again\nat most ");
         print_count(self.done);
         print(b" instructions for ");
         print_count(self.steps);

@@ -2,7 +2,7 @@
 ghost use mathlib.Core.Path.{_≡_};
 ghost use Prim.Native.Nat.{_<_, min};
 ghost use Rattle.symbols.specs.Names.{digit};
-ghost use Rattle.vectors.specs.Listed.{digitsAt, numberAt, wholeOf, secondLine};
+ghost use Rattle.vectors.specs.Listed.{digitsAt, numberAt, wholeOf, secondLine, pageAt};
 
 // A number, and where the next one begins.
 pub struct Numeral {
@@ -95,4 +95,14 @@ pub fn second_line(text: &[u8]) -> usize
         i += 1;
     }
     i
+}
+
+// Whether the line that begins at `from` is a page's.
+pub fn page_at(text: &[u8], from: usize) -> bool
+    ensures { λ r. ⌜ r ≡ pageAt (now (text .entry)) from ⌝ }
+{
+    if from < text.len() {
+        return text[from] == b'w';
+    }
+    false
 }
