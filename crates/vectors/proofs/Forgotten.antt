@@ -1,9 +1,9 @@
 -- No difference is forgotten: what the contracts say together. The count of differences never falls, and where it is 0 at the end each row was answered
--- as is listed, by read and by translate. Assumes nothing.
+-- as is listed, by read, by translate and by write, and each page was read back and written again as it should be. Assumes nothing.
 use mathlib.Core.Path.{_≡_, refl, ap}
 use mathlib.Core.Bool.{Bool, true, false, cond, _&&_, _||_, true≢false}
 use mathlib.Core.List.{List}
-use Prim.Native.Nat.{ℕ, _+_, _*_, _≤_, _<_}
+use Prim.Native.Nat.{ℕ, _+_, _*_, _≤_, min}
 use native.Mathlib.Omega.{arith}
 use lib.Dec.{eqb, ltb, leb}
 use lib.IntN.{ℤ, pos}
@@ -11,13 +11,17 @@ use lib.ListN.{length, drop}
 use Rattle.answers.specs.Answers.{numberOf, refusal}
 use Rattle.answers.specs.declared.Verdict.{Verdict}
 use Rattle.answers.specs.declared.Verdict.the-variants.{Refused}
+use Rattle.answers.specs.Numbers.{accepted}
+use Rattle.clean.specs.declared.Written.{Written}
+use Rattle.clean.specs.Numbers.{numberOf as pageNumber, lengthOf}
 use Rattle.symbols.specs.Names.{digit, valueFrom}
 use Rattle.symbols.specs.Text.{bytes}
 use Rattle.machine.specs.Machine.{Exit}
 use Rattle.machine.specs.declared.Ran.{Ran}
 use Rattle.vectors.specs.declared.texts.Numeral.{Numeral}
 use Rattle.vectors.specs.declared.tally.Tally.{Tally}
-use Rattle.vectors.specs.Listed.{digits, behind, digitsAt, numberAt, secondLine, nothing, oneRun, oneSource, checked, mostOf, answeredBy, acceptedBy, sameUses, afterRead}
+use Rattle.vectors.specs.Listed.{digits, behind, digitsAt, numberAt, secondLine, runListed, nothing, oneRun, oneSource, onePage, oneBack, oneAgain, oneDifference, checked, mostOf, answeredBy, acceptedBy, sameUses, afterRead}
+use Rattle.vectors.specs.Pages.{all, samePage, sameMeanings, numbered, writtenBy, BackTold, AgainTold, afterPage, Turned, unwritten, turned, PageTold, afterLent, LentTold, roomListed, ListedTold, unlisted, listed, WriteTold}
 use Rattle.vectors.specs.Ended.{begins, numbers, after, allAre, allWords, stoppedBy, strays, afterSteps, afterWritten, afterTaken, afterPlace, afterStop, afterExit, afterSupplied, afterListed, afterRefused, afterAccepted, afterTranslate, RowTold, Rows, none, more}
 
 -- the count of 32 bits, and that it does not fall
@@ -87,7 +91,34 @@ accepted-keeps : (code text : List ℕ) (t : Tally) → t .differences ≤ 42949
 unfolding afterAccepted
 accepted-keeps code text t h =
     let a = listed-keeps code text (secondLine text) (oneRun t) h in
-    either-keeps (ltb (secondLine text) (length text)) (record { below = a .below; no-less = a .no-less }) (keep t h)
+    either-keeps (runListed text) (record { below = a .below; no-less = a .no-less }) (keep t h)
+
+-- ---- so does a source that is written
+
+lent-keeps : (w : Written) (room text : List ℕ) (from : ℕ) (t : Tally) → t .differences ≤ 4294967295 → Kept t (afterLent w room text from t)
+unfolding afterLent
+lent-keeps w room text from t h =
+    let n = numberAt text from in
+    let m = numberAt text (n .next) in
+    let a = check-keeps (numbered w (n .value) (m .value)) t h in
+    then a (check-keeps (samePage room (lengthOf w) (drop (min (m .next) (length text)) text)) _ (a .below))
+
+listed-page-keeps : {source text : List ℕ} {t r : Tally} → ListedTold source text t r → t .differences ≤ 4294967295 → Kept t r
+listed-page-keeps {t = t} (unlisted e) h = keep t h
+listed-page-keeps {text = text} {t = t} (listed e r l) h = rw (l .told) (lent-keeps (l .answer) (l .after) text (roomListed text .next) t h)
+
+back-keeps : {source page : List ℕ} {t r : Tally} → BackTold source page t r → t .differences ≤ 4294967295 → Kept t r
+back-keeps {t = t} b h = rw (b .told) (either-keeps (acceptedBy (b .verdict-back) && sameMeanings (b .table) (b .table-back)) (record { below = h; no-less = omega arith }) (check-keeps false t h))
+
+again-keeps : {page : List ℕ} {t r : Tally} → AgainTold page t r → t .differences ≤ 4294967295 → Kept t r
+again-keeps {page} {t} a h = rw (a .told) (either-keeps (eqb (pageNumber (a .answer)) accepted && samePage (a .room) (lengthOf (a .answer)) page) (record { below = h; no-less = omega arith }) (check-keeps false t h))
+
+turned-keeps : {source page : List ℕ} {w : Written} {t r : Tally} → Turned source w page t r → t .differences ≤ 4294967295 → Kept t r
+turned-keeps {t = t} (unwritten e) h = keep t h
+turned-keeps {t = t} (turned e s r b a) h =
+    let x = back-keeps b h in
+    let y = again-keeps a (x .below) in
+    record { below = y .below; no-less = omega (arith, x .no-less, y .no-less) }
 
 -- ---- what is counted first is not lost
 
@@ -104,57 +135,126 @@ module _ (v : Verdict) (text : List ℕ) (t : Tally) (h : t .differences ≤ 429
       let b = check-keeps (allWords code 16384 2 7) (checked (answeredBy v text) t) (a .below) in
       then b (either-keeps (acceptedBy v) (accepted-keeps code text _ (b .below)) (refused-keeps code _ (b .below)))
 
+module _ {source text : List ℕ} {t r : Tally} (w : WriteTold source text t r) (h : t .differences ≤ 4294967295) where
+  listed-kept : Kept t (w .between)
+  listed-kept = listed-page-keeps (w .was-listed) h
+
+  answer-checked : Kept (w .between) (checked (writtenBy (w .was-written .answer) text) (w .between))
+  answer-checked = check-keeps (writtenBy (w .was-written .answer) text) (w .between) (listed-kept .below)
+
+  behind-checked : Kept (checked (writtenBy (w .was-written .answer) text) (w .between)) (afterPage (w .was-written .answer) (w .was-written .room) text (w .between))
+  behind-checked = check-keeps (all 7 (drop (lengthOf (w .was-written .answer)) (w .was-written .room))) _ (answer-checked .below)
+
+  page-checked : Kept (w .between) (afterPage (w .was-written .answer) (w .was-written .room) text (w .between))
+  page-checked = then answer-checked behind-checked
+
+  write-keeps : Kept t r
+  write-keeps = then listed-kept (then page-checked (turned-keeps (w .was-written .told) (page-checked .below)))
+
 -- ---- the rows
 
 module _ {source text : List ℕ} {t r : Tally} (row : RowTold source text t r) (h : t .differences ≤ 4294967295) where
   read-row : Kept (checked (answeredBy (row .was-read .verdict) text) (oneSource t)) (row .between)
   read-row = rw (row .was-read .told) (read-keeps (row .was-read .verdict) text (oneSource t) h (row .was-read .table))
 
-  translate-row : Kept (checked (answeredBy (row .was-translated .verdict) text) (row .between)) r
+  translate-row : Kept (checked (answeredBy (row .was-translated .verdict) text) (row .between)) (row .ran)
   translate-row = rw (row .was-translated .told) (translate-keeps (row .was-translated .verdict) text (row .between) (read-row .below) (row .was-translated .code))
+
+  write-row : Kept (row .ran) r
+  write-row = write-keeps (row .was-written) (translate-row .below)
 
   -- a row keeps the count
   pub row-keeps : Kept t r
   row-keeps =
       let a = check-keeps (answeredBy (row .was-read .verdict) text) (oneSource t) h in
       let b = check-keeps (answeredBy (row .was-translated .verdict) text) (row .between) (read-row .below) in
-      let k = then a (then read-row (then b translate-row)) in
+      let k = then a (then read-row (then b (then translate-row write-row))) in
       record { below = k .below; no-less = k .no-less }
-
-  -- an answer of read, or of translate, that is not the listed one counts, while there is a greater number
-  pub read-counts : answeredBy (row .was-read .verdict) text ≡ false → t .differences < 4294967295 → t .differences < r .differences
-  read-counts e k =
-      let b = check-keeps (answeredBy (row .was-translated .verdict) text) (row .between) (read-row .below) in
-      let a = then (rw e at read-row) (then b translate-row) in
-      omega (arith, a .no-less)
-
-  pub translate-counts : answeredBy (row .was-translated .verdict) text ≡ false → t .differences < 4294967295 → t .differences < r .differences
-  translate-counts e k =
-      let a = then (check-keeps (answeredBy (row .was-read .verdict) text) (oneSource t) h) read-row in
-      let b = rw e at translate-row in
-      omega (arith, a .no-less, b .no-less, b .below)
 
 pub rows-small : {n : ℕ} {t : Tally} → Rows n t → t .differences ≤ 4294967295
 rows-small none = omega arith
 rows-small (more rs source text r row) = row-keeps row (rows-small rs) .below
 
--- each row was answered as is listed, by read and by translate
+-- ---- no difference: each thing that was compared is as it should be
+
+-- where nothing is counted in the end, nothing was counted before
+none-before : {t r : Tally} → Kept t r → r .differences ≡ 0 → t .differences ≡ 0
+none-before k e = omega (arith, k .no-less)
+
+right-check : (b : Bool) (t : Tally) → checked b t .differences ≡ 0 → b ≡ true
+right-check true t e = refl
+right-check false t e = absurd (omega arith)
+
+right-either : (b : Bool) (s t : Tally) → cond b s (oneDifference t) .differences ≡ 0 → b ≡ true
+right-either true s t e = refl
+right-either false s t e = absurd (omega arith)
+
+-- a page that is listed was written so
+unfoldable pub ListedRight : {source text : List ℕ} {t r : Tally} → ListedTold source text t r → Type 0
+ListedRight (unlisted e) = Unit {0}
+ListedRight {text = text} (listed e r l) =
+    let answer : Numeral = numberAt text (roomListed text .next) in
+    let place : Numeral = numberAt text (answer .next) in
+    (numbered (l .answer) (answer .value) (place .value) ≡ true) × (samePage (l .after) (lengthOf (l .answer)) (drop (min (place .next) (length text)) text) ≡ true)
+
+-- a page was read back as the same program, and written again as the same bytes
+unfoldable pub TurnedRight : {source page : List ℕ} {w : Written} {t r : Tally} → Turned source w page t r → Type 0
+TurnedRight (unwritten e) = Unit {0}
+TurnedRight {page = page} (turned e s r b a) =
+    ((acceptedBy (b .verdict-back) && sameMeanings (b .table) (b .table-back)) ≡ true)
+    × ((eqb (pageNumber (a .answer)) accepted && samePage (a .room) (lengthOf (a .answer)) page) ≡ true)
+
+lent-right : (w : Written) (room text : List ℕ) (from : ℕ) (t : Tally) → t .differences ≤ 4294967295 → afterLent w room text from t .differences ≡ 0
+    → (numbered w (numberAt text from .value) (numberAt text (numberAt text from .next) .value) ≡ true)
+    × (samePage room (lengthOf w) (drop (min (numberAt text (numberAt text from .next) .next) (length text)) text) ≡ true)
+unfolding afterLent
+lent-right w room text from t h e =
+    let n = numberAt text from in
+    let m = numberAt text (n .next) in
+    let a = check-keeps (numbered w (n .value) (m .value)) t h in
+    let b = check-keeps (samePage room (lengthOf w) (drop (min (m .next) (length text)) text)) _ (a .below) in
+    (right-check _ t (none-before b e), right-check _ _ e)
+
+listed-right : {source text : List ℕ} {t r : Tally} (l : ListedTold source text t r) → t .differences ≤ 4294967295 → r .differences ≡ 0 → ListedRight l
+unfolding ListedRight
+listed-right (unlisted e) h z = tt
+listed-right {text = text} {t = t} (listed e r l) h z = lent-right (l .answer) (l .after) text (roomListed text .next) t h (rw (l .told) at z)
+
+turned-right : {source page : List ℕ} {w : Written} {t r : Tally} (u : Turned source w page t r) → t .differences ≤ 4294967295 → r .differences ≡ 0 → TurnedRight u
+unfolding TurnedRight
+turned-right (unwritten e) h z = tt
+turned-right {t = t} (turned e s r b a) h z =
+    let x = back-keeps b h in
+    let y = none-before (again-keeps a (x .below)) z in
+    (right-either _ _ (onePage t) (rw (b .told) at y), right-either _ _ s (rw (a .told) at z))
+
+-- each row was answered as is listed, by read, by translate and by write, and its pages were right
 unfoldable pub Right : {n : ℕ} {t : Tally} → Rows n t → Type 0
 Right none = Unit {0}
-Right (more rs source text r row) = Right rs × (answeredBy (row .was-read .verdict) text ≡ true) × (answeredBy (row .was-translated .verdict) text ≡ true)
-
-answer-of : (b : Bool) → (b ≡ false → ⊥) → b ≡ true
-answer-of true h = refl
-answer-of false h = absurd (h refl)
+Right (more rs source text r row) =
+    Right rs × (answeredBy (row .was-read .verdict) text ≡ true) × (answeredBy (row .was-translated .verdict) text ≡ true)
+    × (writtenBy (row .was-written .was-written .answer) text ≡ true) × ListedRight (row .was-written .was-listed) × TurnedRight (row .was-written .was-written .told)
 
 pub no-difference : {n : ℕ} {t : Tally} (rs : Rows n t) → t .differences ≡ 0 → Right rs
 unfolding Right
 no-difference none e = tt
 no-difference (more {t = t} rs source text r row) e =
-    let s = rows-small rs in
-    let k = row-keeps row s .no-less in
-    let z : t .differences ≡ 0 = omega arith in
-    (no-difference rs z, answer-of _ (λ f. omega (arith, read-counts row s f (omega arith))), answer-of _ (λ f. omega (arith, translate-counts row s f (omega arith))))
+    let h = rows-small rs in
+    let w = row .was-written in
+    let l = translate-row row h .below in
+    let ran = none-before (write-row row h) e in
+    let between = none-before (then (check-keeps (answeredBy (row .was-translated .verdict) text) (row .between) (read-row row h .below)) (translate-row row h)) ran in
+    let paged = none-before (turned-keeps (w .was-written .told) (page-checked w l .below)) e in
+    let listed = none-before (page-checked w l) paged in
+    let answer = none-before (behind-checked w l) paged in
+    (
+      no-difference rs (none-before (row-keeps row h) e),
+      right-check _ _ (none-before (read-row row h) between),
+      right-check _ _ (none-before (translate-row row h) ran),
+      right-check _ _ answer,
+      listed-right (w .was-listed) l listed,
+      turned-right (w .was-written .told) (page-checked w l .below) e,
+    )
 
 -- ---- wrong programs
 

@@ -1,6 +1,6 @@
 -- Laws of the definitions in Ended: what is compared from a place on, by what is compared from the next one on.
 use mathlib.Core.Path.{_≡_, refl, sym, ap, _∙_}
-use mathlib.Core.Bool.{Bool, true, false, _&&_, _||_}
+use mathlib.Core.Bool.{Bool, true, false, cond, _&&_, _||_}
 use mathlib.Core.List.{List, [], _∷_}
 use Prim.Native.Nat.{ℕ, zero, suc, _+_, _-_, _≤_, _<_}
 use native.Mathlib.Omega.{arith}
@@ -14,9 +14,13 @@ use mir.Val.{SFits, ofZ}
 use borrow.Author.Tests.{eq-eqb, ne-eqb}
 use Rattle.answers.specs.Answers.{stopNumber, stopPlace}
 use Rattle.answers.specs.declared.Stop.{Stop}
+use Rattle.clean.specs.declared.Written.{Written}
+use Rattle.clean.specs.Job.{Writes}
 use Rattle.machine.specs.Values.{same}
 use Rattle.machine.proofs.Signed.{same-bits}
+use Rattle.vectors.specs.declared.tally.Tally.{Tally}
 use Rattle.vectors.specs.Listed.{numberAt, wholeOf}
+use Rattle.vectors.specs.Pages.{freshRoom}
 use Rattle.vectors.specs.Ended.{stoppedBy, numbers, after, begins, allAre}
 
 -- ---- tests in a row
@@ -36,6 +40,20 @@ or-no x y e = rw e
 pub and-true : (x : Bool) → x ≡ (x && true)
 and-true true = refl
 and-true false = refl
+
+module _ (x y : Bool) (a b : Tally) where
+  pub both-yes : x ≡ true → y ≡ true → a ≡ cond (x && y) a b
+  both-yes h k = rw (h, k)
+
+  pub first-no : x ≡ false → b ≡ cond (x && y) a b
+  first-no h = rw h
+
+  pub second-no : x ≡ true → y ≡ false → b ≡ cond (x && y) a b
+  second-no h k = rw (h, k)
+
+-- ---- what is written into fresh room
+pub into-fresh : (source : List ℕ) (w : Written) (lent after : List ℕ) → lent ≡ freshRoom → Writes source lent w after → Writes source freshRoom w after
+into-fresh source w lent after e h = rw e at h
 
 -- ---- a number is another one where its bits are
 

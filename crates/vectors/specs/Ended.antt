@@ -144,9 +144,9 @@ pub record TranslateTold (source text : List ℕ) (t r : Tally) : Type 0 where
 pub record RowTold (source text : List ℕ) (t r : Tally) : Type 0 where
   pub between : Tally
   pub was-read : ReadTold source text (oneSource t) between
-  pub then : Tally
-  pub was-translated : TranslateTold source text between then
-  pub was-written : WriteTold source text then r
+  pub ran : Tally
+  pub was-translated : TranslateTold source text between ran
+  pub was-written : WriteTold source text ran r
 
 -- the tally of so many rows, whatever bytes their files have
 pub data Rows : ℕ → Tally → Type 0 where

@@ -94,8 +94,8 @@ writtenBy w text =
     (numbered w (answer .value) (numberAt text (answer .next) .value))
 
 -- the tally after the answer, and after the bytes behind the page
-abbrev pub afterWritten : Written → List ℕ → List ℕ → Tally → Tally
-afterWritten w room text t = checked (all 7 (drop (lengthOf w) room)) (checked (writtenBy w text) t)
+abbrev pub afterPage : Written → List ℕ → List ℕ → Tally → Tally
+afterPage w room text t = checked (all 7 (drop (lengthOf w) room)) (checked (writtenBy w text) t)
 
 -- what is written is read back and written again
 pub data Turned (source : List ℕ) (w : Written) (page : List ℕ) (t : Tally) : Tally → Type 0 where
@@ -106,7 +106,7 @@ pub record PageTold (source text : List ℕ) (t r : Tally) : Type 0 where
   pub answer : Written
   pub room : List ℕ
   pub writes : Writes source freshRoom answer room
-  pub told : Turned source answer (take (lengthOf answer) room) (afterWritten answer room text t) r
+  pub told : Turned source answer (take (lengthOf answer) room) (afterPage answer room text t) r
 
 -- ---- a page that is listed
 

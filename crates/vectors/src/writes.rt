@@ -168,14 +168,7 @@ fn written(t: Tally, name: &[u8], source: &[u8], text: &[u8]) -> Tally
 }
 
 // A source written into this room, against the answer, the place and the page that are listed from `from` on.
-fn lent(
-    t: Tally,
-    name: &[u8],
-    source: &[u8],
-    room: &mut [u8],
-    text: &[u8],
-    from: usize,
-) -> Tally
+fn lent(t: Tally, name: &[u8], source: &[u8], room: &mut [u8], text: &[u8], from: usize) -> Tally
     ensures { λ r. ⌜ LentTold (now (source .entry)) (now (room .entry)) (now (text .entry)) from t r ⌝ }
 {
     let w = write(source, room);
