@@ -11,3 +11,4 @@ pub mod Laying
 pub mod Paged
 pub mod Tidy
 pub mod Promises
+pub mod Inside
