@@ -6,13 +6,16 @@ use mathlib.Core.List.{List}
 use lib.IntN.{ℤ}
 use Rattle.answers.specs.Answers.{numberOf, placeOf, stopNumber, stopPlace}
 use Rattle.answers.specs.declared.Verdict.{Verdict}
+use Rattle.clean.specs.Numbers.{numberOf as pageNumber, placeOf as pagePlace, lengthOf}
+use Rattle.clean.specs.Job.{Writes}
+use Rattle.clean.proofs.Promises.{only as only-page}
 use Rattle.machine.specs.Machine.{Exit, exit, job}
 use Rattle.machine.specs.declared.Ran.{Ran}
 use Rattle.reading.specs.Reading.{Parsed, Reads}
 use Rattle.reading.proofs.Only.{only}
 use Rattle.translating.specs.Job.{Translates, Deed}
 use Rattle.translating.proofs.Promised.{only as only-translation, deed}
-use Rattle.jobs.specs.Jobs.{Answers, Given, given, exitOf}
+use Rattle.jobs.specs.Jobs.{Answers, Pages, Given, given, exitOf}
 
 pub given-exit : {n p : ℕ} (r : Ran) (s o : List ℤ) {e : Exit} → exit r s o ≡ e → n ≡ stopNumber (r .stop) → p ≡ stopPlace (r .stop)
     → given n p (r .done) (r .taken) (r .written) s o ≡ exitOf e
@@ -35,6 +38,16 @@ one-read {source} {table} = one-answer {R = Reads source table} (λ v v₂ w w�
 pub one-translation : {text old w w₂ : List ℕ} {n p n₂ p₂ : ℕ} → Answers (λ v. Translates text old v w) n p → Answers (λ v. Translates text old v w₂) n₂ p₂
     → (n ≡ n₂) × (p ≡ p₂) × (w ≡ w₂)
 one-translation {text} {old} = one-answer {R = Translates text old} (λ v v₂ w w₂ a b. only-translation a b)
+
+pub one-page : {source room r r₂ : List ℕ} {n p l n₂ p₂ l₂ : ℕ} → Pages (λ w. Writes source room w r) n p l → Pages (λ w. Writes source room w r₂) n₂ p₂ l₂
+    → (n ≡ n₂) × (p ≡ p₂) × (l ≡ l₂) × (r ≡ r₂)
+one-page a b =
+    let e = only-page (a .holds) (b .holds) in (
+      a .numbered ∙ ap pageNumber (e .0) ∙ sym (b .numbered),
+      a .placed ∙ ap pagePlace (e .0) ∙ sym (b .placed),
+      a .sized ∙ ap lengthOf (e .0) ∙ sym (b .sized),
+      e .1,
+    )
 
 -- demand 3 of the two jobs one after the other: where the first answers 0, the second gives what a run leaves that did what the source rules say
 pub given-deed : {text old new : List ℕ} {n place : ℕ} → Answers (λ v. Translates text old v new) n place → n ≡ 0 → (p : Parsed text) (input : List ℤ) (limit : ℕ) (store output : List ℤ)

@@ -246,8 +246,7 @@ no-difference (more {t = t} rs source text r row) e =
     let between = none-before (then (check-keeps (answeredBy (row .was-translated .verdict) text) (row .between) (read-row row h .below)) (translate-row row h)) ran in
     let paged = none-before (turned-keeps (w .was-written .told) (page-checked w l .below)) e in
     let listed = none-before (page-checked w l) paged in
-    let answer = none-before (behind-checked w l) paged in
-    (
+    let answer = none-before (behind-checked w l) paged in (
       no-difference rs (none-before (row-keeps row h) e),
       right-check _ _ (none-before (read-row row h) between),
       right-check _ _ (none-before (translate-row row h) ran),
