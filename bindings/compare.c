@@ -317,7 +317,10 @@ static const char *wrong_again(size_t size)
 static void compare_page(unsigned long k)
 {
     size_t lent, due_place = 0, due_length = 0, place = 99999, length = 99999;
-    random_source(&text);
+    if (once_in(3))
+        random_source(&text);
+    else
+        random_likely(&text);
     unsigned due = deed_read(text.byte, text.length, table + MARGIN, TABLE, &due_place);
     lent = once_in(4) ? below(ROOM) : DEED_SOURCE + below(ROOM - DEED_SOURCE);
     if (due == 0) {

@@ -265,6 +265,13 @@ static void change(struct text *t, unsigned times)
     }
 }
 
+static void random_file(struct text *t)
+{
+    size_t k = below((uint32_t)files);
+    memcpy(t->byte, file[k].byte, file[k].length);
+    t->length = file[k].length;
+}
+
 static void random_source(struct text *t)
 {
     t->length = 0;
@@ -279,10 +286,24 @@ static void random_source(struct text *t)
         random_program(t);
         change(t, below(3));
     } else {
-        size_t k = below((uint32_t)files);
-        memcpy(t->byte, file[k].byte, file[k].length);
-        t->length = file[k].length;
+        random_file(t);
         change(t, below(6));
+    }
+}
+
+/* One that is likely to be accepted: blanks alone are put in. */
+static void random_likely(struct text *t)
+{
+    static struct text piece;
+    t->length = 0;
+    if (files == 0 || once_in(2))
+        random_program(t);
+    else
+        random_file(t);
+    for (unsigned i = below(6); i != 0; i--) {
+        piece.length = 0;
+        put_blanks(&piece);
+        insert_text(t, below((uint32_t)t->length + 1), &piece);
     }
 }
 
