@@ -22,10 +22,19 @@ pub plain-code : decided true (bytes "code" ∷ bytes "a" ∷ []) ≡ some nothi
 unfolding decided byJob shown oneFile jobOf jobIn equal
 plain-code = refl
 
+pub plain-write : decided true (bytes "write" ∷ bytes "a" ∷ []) ≡ none
+unfolding decided byJob shown oneFile jobOf jobIn equal
+plain-write = refl
+
 -- a second FILE passed over, and the first one refused
 pub not-passed-over : Keeps (decided false (of-read (bytes "a" ∷ bytes "b" ∷ []))) bad → ⊥
 unfolding decided byJob shown oneFile jobOf jobIn equal
 not-passed-over h = omega arith
+
+-- a page written to a second FILE
+pub not-to-a-file : Keeps (decided false (bytes "write" ∷ bytes "a" ∷ bytes "b" ∷ [])) good → ⊥
+unfolding decided byJob shown oneFile jobOf jobIn equal
+not-to-a-file h = omega arith
 
 -- a word that is no command, said good
 pub not-any-word : Keeps (decided false (bytes "reed" ∷ [])) good → ⊥

@@ -1,21 +1,25 @@
 -- A source has one status for each input and what is lent, and what the status 0 of a run says: the source is accepted, and its program ended as the
--- source rules say.
+-- source rules say; and that of a source that is written: it is accepted, and what is said is its page.
 use Prim.Native.Nat.{ℕ}
 use mathlib.Core.Path.{_≡_, refl, sym, ap, _∙_}
 use mathlib.Core.List.{List}
 use native.Mathlib.Omega.{arith}
 use lib.IntN.{ℤ}
+use lib.ListN.{replicate}
 use Rattle.answers.specs.Answers.{numberOf}
 use Rattle.answers.specs.declared.Verdict.{Verdict}
 use Rattle.answers.specs.declared.Verdict.the-variants.{Accepted, Refused}
 use Rattle.answers.specs.declared.Stop.{Stop}
 use Rattle.answers.specs.declared.Stop.the-variants.{Ended, Limit, Fault, Wrong}
+use Rattle.clean.specs.declared.Written.{Written}
+use Rattle.clean.specs.declared.Written.the-variants.{Text, Refused as Unwritten}
+use Rattle.clean.proofs.Promises.{Wrote, wrote, only as only-page}
 use Rattle.machine.specs.Machine.{Finish, onCode}
 use Rattle.reading.specs.Judging.{parsed}
 use Rattle.reading.specs.Reading.{placeIn, Parsed}
 use Rattle.translation.specs.Faithful.{AsRules}
 use Rattle.translating.proofs.Promised.{only, faith}
-use Rattle.deed.specs.Status.{good, ofStop, ofRun, RunStatus}
+use Rattle.deed.specs.Status.{good, ofWritten, ofStop, ofRun, WriteStatus, RunStatus}
 
 pub one-status : {text : List ℕ} {input : List ℤ} {limit cells space s s₂ : ℕ} → RunStatus text input limit cells space s
     → RunStatus text input limit cells space s₂ → s ≡ s₂
@@ -40,3 +44,17 @@ good-ended {input = input} {limit = limit} {cells = cells} {space = space} t p =
     let f = onCode (t .words) input limit cells space in
     let g = good-run (t .verdict) f (t .told) in
     (f, g .1, faith (t .translates) (ap numberOf (g .0)) p input cells space limit)
+
+-- ---- a source that is written
+
+pub one-write-status : {text : List ℕ} {s s₂ : ℕ} → WriteStatus text s → WriteStatus text s₂ → s ≡ s₂
+one-write-status a b = a .told ∙ ap ofWritten (only-page (a .writes) (b .writes) .0) ∙ sym (b .told)
+
+good-text : (w : Written) → good ≡ ofWritten w → (n : ℕ) × (w ≡ Text n)
+good-text (Text n) h = (n, refl)
+good-text (Unwritten r) h = absurd (omega arith)
+
+pub good-written : {text : List ℕ} (t : WriteStatus text good) → (n : ℕ) × Wrote text (replicate 16384 0) (t .page) n
+good-written t =
+    let g = good-text (t .written) (t .told) in
+    (g .0, wrote (t .writes) (g .0) (g .1))
