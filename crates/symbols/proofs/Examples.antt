@@ -12,7 +12,7 @@ use Rattle.symbols.specs.Text.{bytes}
 use Rattle.symbols.specs.Names.{blank, letter, digit, inName, these, reach, valueFrom, equal}
 use Rattle.symbols.specs.Scan.{before, closed, spelled, named, word, gap, followed, sign, sized, name, valued, number, lexeme, behind, endsRemark, note, counted, judged, turn, scanFrom, scan, Found, Scan}
 use Rattle.symbols.specs.declared.Symbol.{Symbol}
-use Rattle.symbols.specs.declared.Symbol.the-variants.{Name, Comment, Begin, End, Semicolon, LessEqual, Number, Equal, Colon, Becomes, Greater, Minus}
+use Rattle.symbols.specs.declared.Symbol.the-variants.{Name, Comment, Begin, End, Then, True, Semicolon, LessEqual, Number, Equal, Colon, Becomes, Greater, Minus}
 
 abbrev at : Symbol → ℕ → Found
 at s p = record { symbol = s; place = p }
@@ -42,6 +42,10 @@ rows =
     -- L6: a blank in a word spoils it; the next apostrophe closes it
     fails 2048 "'be gin'" [] 3 0 ∷
     fails 2048 "'begin'end'" (at Begin 0 ∷ at Name 7 ∷ []) 3 10 ∷
+    -- 3.a: length and first letter are not enough, and 'then' and 'true' share both
+    reads 2048 "'then' 'true'" (at Then 0 ∷ at True 7 ∷ []) ∷
+    fails 2048 "'true' 'thue'" (at True 0 ∷ []) 3 7 ∷
+    fails 2048 "'then' 'tren'" (at Then 0 ∷ []) 3 7 ∷
     -- L7: joined from the left; `=` first joins with nothing
     reads 2048 "<== ::= = >" (at LessEqual 0 ∷ at Equal 2 ∷ at Colon 4 ∷ at Becomes 5 ∷ at Equal 8 ∷ at Greater 10 ∷ []) ∷
     -- L8: one symbol too many; notes and remarks do not count
@@ -67,7 +71,7 @@ Right (r ∷ l) = (scan (r .limit) (bytes (r .source)) ≡ r .expected) × Right
 
 pub readings : Right rows
 unfolding scan scanFrom turn judged counted note lexeme number valued name sized sign followed gap word named spelled closed before behind endsRemark blank letter digit inName these reach valueFrom equal
-readings = (refl, (refl, (refl, (refl, (refl, (refl, (refl, (refl, (refl, (refl, (refl, (refl, (refl, (refl, (refl, tt)))))))))))))))
+readings = (refl, (refl, (refl, (refl, (refl, (refl, (refl, (refl, (refl, (refl, (refl, (refl, (refl, (refl, (refl, (refl, (refl, (refl, tt))))))))))))))))))
 
 -- a remark that ran on past 'else' would leave one symbol here; there are three
 pub not-past-else : length (scan 2048 (bytes "'end' a remark 'else' b") .found) ≡ 1 → ⊥

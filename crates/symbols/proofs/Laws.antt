@@ -1,7 +1,7 @@
 -- Laws of the definitions in Names and Scan at a place of the source: what is read from i on, by what is read from i + 1 on.
 use mathlib.Core.Path.{_≡_, refl, sym, ap, _∙_}
 use mathlib.Core.Bool.{Bool, true, false, cond, _&&_}
-use mathlib.Core.List.{List, [], _∷_, _++_}
+use mathlib.Core.List.{List, [], _∷_}
 use Prim.Native.Nat.{ℕ, zero, suc, _+_, _-_, _*_, _≤_, _<_, min}
 use native.Mathlib.Omega.{arith}
 use native.Mathlib.Numerals.{add-one}
@@ -10,17 +10,14 @@ use lib.ListN.{length, getD, take, drop, drop-of-length-le}
 use lib.Seq.{drop-cons}
 use borrow.Author.Tests.{ltb-true, ltb-false, leb-true, leb-false, lt-ltb, le-ltb, eq-eqb, ne-eqb}
 use Rattle.symbols.specs.Names.{blank, letter, digit, inName, these, reach, letters, valueFrom, equal}
-use Rattle.symbols.specs.Text.{bytes}
-use Rattle.symbols.specs.Symbols.{Delimiter}
 use Rattle.answers.specs.Numbers.{noSymbol, tooLarge}
 use Rattle.answers.specs.Answers.{answer}
 use Rattle.symbols.specs.declared.Turn.the-variants.{Keep, Refuse}
 use Rattle.symbols.specs.declared.Lexeme.the-variants.{Large, Nothing}
 use Rattle.symbols.specs.declared.Context.{Context}
 use Rattle.symbols.specs.declared.Context.the-variants.{Opens, Plain, Remark}
-use Rattle.symbols.specs.Scan.{before, gap, valued, spelled, behind, counted, lexeme, judged, turn}
+use Rattle.symbols.specs.Scan.{before, gap, valued, behind, counted, lexeme, judged, turn}
 use Rattle.symbols.specs.declared.Symbol.{Symbol}
-use Rattle.symbols.specs.declared.words.Spelled.the-variants.{Word, Unknown}
 use Rattle.symbols.specs.Steps.{capped, restAt, lexemeAt, turnAt}
 
 -- ---- lists
@@ -195,9 +192,6 @@ module _ (s : List ℕ) (i : ℕ) where
 
 -- ---- words
 
-unlike : (s : Symbol) → Unknown ≡ Word s → ⊥
-unlike s e = let z : _≡_ {A = ℕ} 0 1 = cc in omega arith
-
 pub before-most : (q : ℕ) (bs : List ℕ) → length (before q bs) ≤ length bs
 unfolding before
 before-most q [] = omega arith
@@ -215,24 +209,6 @@ before-take q (b ∷ bs) = go (eqb b q) (before-take q bs)
     go : (t : Bool) → take (length (before q bs)) bs ≡ before q bs → take (length (cond t [] (b ∷ before q bs))) (b ∷ bs) ≡ cond t [] (b ∷ before q bs)
     go true e = refl
     go false e = ap (λ (l : List ℕ). b ∷ l) e
-
-pub spelled-first : (l m : List Delimiter) (w : List ℕ) (s : Symbol) → spelled l w ≡ Word s → spelled (l ++ m) w ≡ Word s
-unfolding spelled
-spelled-first [] m w s e = absurd (unlike s e)
-spelled-first (x ∷ l) m w s e = go (equal w (bytes (x .spelling))) (spelled-first l m w s) e
-  where
-    go : (t : Bool) → (spelled l w ≡ Word s → spelled (l ++ m) w ≡ Word s) → cond t (Word (x .symbol)) (spelled l w) ≡ Word s → cond t (Word (x .symbol)) (spelled (l ++ m) w) ≡ Word s
-    go true f e' = e'
-    go false f e' = f e'
-
-pub spelled-rest : (l m : List Delimiter) (w : List ℕ) → spelled l w ≡ Unknown → spelled (l ++ m) w ≡ spelled m w
-unfolding spelled
-spelled-rest [] m w e = refl
-spelled-rest (x ∷ l) m w e = go (equal w (bytes (x .spelling))) (spelled-rest l m w) e
-  where
-    go : (t : Bool) → (spelled l w ≡ Unknown → spelled (l ++ m) w ≡ spelled m w) → cond t (Word (x .symbol)) (spelled l w) ≡ Unknown → cond t (Word (x .symbol)) (spelled (l ++ m) w) ≡ spelled m w
-    go true f e' = absurd (unlike (x .symbol) (sym e'))
-    go false f e' = f e'
 
 -- ---- two names
 

@@ -1,4 +1,5 @@
 pub mod Laws
+pub mod Keyed
 pub mod Stored
 pub mod Tags
 pub mod Within

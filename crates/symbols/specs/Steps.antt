@@ -6,12 +6,11 @@ use Prim.Native.Char.{code}
 use mathlib.Core.Bool.{cond}
 use mathlib.Core.List.{List, [], _∷_, _++_}
 use mathlib.Core.Option.{Option, none, some}
-use lib.ListN.{length, getD, take, drop}
+use lib.ListN.{length, getD, drop}
 use lib.Dec.{ltb}
 use Rattle.answers.specs.Numbers.{noSymbol}
 use Rattle.answers.specs.Answers.{answer, refusal}
 use Rattle.answers.specs.declared.Refusal.{Refusal}
-use Rattle.symbols.specs.Symbols.{Delimiter, words}
 use Rattle.symbols.specs.Names.{letters}
 use Rattle.symbols.specs.Scan.{gap, followed, lexeme, turn, Scan, scan}
 -- passed on: what the lent arrays hold is said by these
@@ -27,17 +26,6 @@ use Rattle.symbols.specs.declared.Step.{Step}
 use Rattle.symbols.specs.declared.Step.the-variants.{Read, Passed, Refused, End}
 use Rattle.symbols.specs.declared.Scanned.{Scanned}
 use Rattle.symbols.specs.declared.Scanned.the-variants.{Read as Symbols, Refused as Stops}
-
--- ---- the delimiter words, in three parts
-
-abbrev pub statementWords : List Delimiter
-statementWords = take 8 words
-
-abbrev pub loopWords : List Delimiter
-loopWords = take 7 (drop 8 words)
-
-abbrev pub logicWords : List Delimiter
-logicWords = drop 15 words
 
 -- ---- numbers, signs and names
 

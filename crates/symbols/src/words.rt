@@ -2,8 +2,9 @@
 use crate::Symbol;
 use crate::text::same_bytes;
 ghost use mathlib.Core.Path.{_≡_};
+ghost use mathlib.Core.Bool.{cond};
+ghost use Rattle.symbols.specs.Names.{equal};
 ghost use Rattle.symbols.specs.Scan.{spelled};
-ghost use Rattle.symbols.specs.Steps.{statementWords, loopWords, logicWords};
 ghost use Rattle.symbols.specs.Symbols.{words};
 
 // A delimiter word, or none.
@@ -12,102 +13,62 @@ pub enum Spelled {
     Unknown,
 }
 
-// The words that shape statements.
-fn statement_word(w: &[u8]) -> Spelled
-    ensures { λ r. ⌜ r ≡ spelled statementWords (now (w .entry)) ⌝ }
+// The one word that these bytes may be, or none. Bytes of another length are told before any is compared.
+fn only(w: &[u8], word: &[u8], s: Symbol) -> Spelled
+    ensures { λ r. ⌜ r ≡ cond (equal (now (w .entry)) (now (word .entry))) (Spelled.Word s) Spelled.Unknown ⌝ }
 {
-    if same_bytes(w, b"begin") {
-        return Spelled::Word(Symbol::Begin);
-    }
-    if same_bytes(w, b"end") {
-        return Spelled::Word(Symbol::End);
-    }
-    if same_bytes(w, b"if") {
-        return Spelled::Word(Symbol::If);
-    }
-    if same_bytes(w, b"then") {
-        return Spelled::Word(Symbol::Then);
-    }
-    if same_bytes(w, b"else") {
-        return Spelled::Word(Symbol::Else);
-    }
-    if same_bytes(w, b"for") {
-        return Spelled::Word(Symbol::For);
-    }
-    if same_bytes(w, b"do") {
-        return Spelled::Word(Symbol::Do);
-    }
-    if same_bytes(w, b"step") {
-        return Spelled::Word(Symbol::Step);
+    if same_bytes(w, word) {
+        return Spelled::Word(s);
     }
     Spelled::Unknown
 }
 
-// The words of loops, notes and declarations.
-fn loop_word(w: &[u8]) -> Spelled
-    ensures { λ r. ⌜ r ≡ spelled loopWords (now (w .entry)) ⌝ }
+// The first of two words that these bytes may be, or what is said of the other.
+fn either(w: &[u8], one: &[u8], s: Symbol, other: &[u8], t: Symbol) -> Spelled
+    ensures { λ r. ⌜ r ≡ cond (equal (now (w .entry)) (now (one .entry))) (Spelled.Word s) (cond (equal (now (w .entry)) (now (other .entry))) (Spelled.Word t) Spelled.Unknown) ⌝ }
 {
-    if same_bytes(w, b"until") {
-        return Spelled::Word(Symbol::Until);
+    if same_bytes(w, one) {
+        return Spelled::Word(s);
     }
-    if same_bytes(w, b"while") {
-        return Spelled::Word(Symbol::While);
-    }
-    if same_bytes(w, b"comment") {
-        return Spelled::Word(Symbol::Comment);
-    }
-    if same_bytes(w, b"integer") {
-        return Spelled::Word(Symbol::Integer);
-    }
-    if same_bytes(w, b"Boolean") {
-        return Spelled::Word(Symbol::Boolean);
-    }
-    if same_bytes(w, b"procedure") {
-        return Spelled::Word(Symbol::Procedure);
-    }
-    if same_bytes(w, b"value") {
-        return Spelled::Word(Symbol::Value);
-    }
-    Spelled::Unknown
+    only(w, other, t)
 }
 
-// The logical values and operators.
-fn logic_word(w: &[u8]) -> Spelled
-    ensures { λ r. ⌜ r ≡ spelled logicWords (now (w .entry)) ⌝ }
-{
-    if same_bytes(w, b"true") {
-        return Spelled::Word(Symbol::True);
-    }
-    if same_bytes(w, b"false") {
-        return Spelled::Word(Symbol::False);
-    }
-    if same_bytes(w, b"and") {
-        return Spelled::Word(Symbol::And);
-    }
-    if same_bytes(w, b"or") {
-        return Spelled::Word(Symbol::Or);
-    }
-    if same_bytes(w, b"not") {
-        return Spelled::Word(Symbol::Not);
-    }
-    if same_bytes(w, b"impl") {
-        return Spelled::Word(Symbol::Impl);
-    }
-    if same_bytes(w, b"equiv") {
-        return Spelled::Word(Symbol::Equiv);
-    }
-    Spelled::Unknown
-}
-
-// The delimiter word that these bytes spell, if they spell one.
+// The delimiter word that these bytes spell, if they spell one. Only 'then' and 'true' share length and first letter, so by these one word
+// is left to compare, or those two; where the letter leaves one, `only` looks at the length.
 pub fn spelled_word(w: &[u8]) -> Spelled
     ensures { λ r. ⌜ r ≡ spelled words (now (w .entry)) ⌝ }
 {
-    match statement_word(w) {
-        Spelled::Word(s) => Spelled::Word(s),
-        Spelled::Unknown => match loop_word(w) {
-            Spelled::Word(s) => Spelled::Word(s),
-            Spelled::Unknown => logic_word(w),
+    if w.len() == 0 {
+        return Spelled::Unknown;
+    }
+    match w[0] {
+        b'a' => only(w, b"and", Symbol::And),
+        b'b' => only(w, b"begin", Symbol::Begin),
+        b'B' => only(w, b"Boolean", Symbol::Boolean),
+        b'c' => only(w, b"comment", Symbol::Comment),
+        b'd' => only(w, b"do", Symbol::Do),
+        b'e' => match w.len() {
+            3 => only(w, b"end", Symbol::End),
+            4 => only(w, b"else", Symbol::Else),
+            _ => only(w, b"equiv", Symbol::Equiv),
         },
+        b'f' => match w.len() {
+            3 => only(w, b"for", Symbol::For),
+            _ => only(w, b"false", Symbol::False),
+        },
+        b'i' => match w.len() {
+            2 => only(w, b"if", Symbol::If),
+            4 => only(w, b"impl", Symbol::Impl),
+            _ => only(w, b"integer", Symbol::Integer),
+        },
+        b'n' => only(w, b"not", Symbol::Not),
+        b'o' => only(w, b"or", Symbol::Or),
+        b'p' => only(w, b"procedure", Symbol::Procedure),
+        b's' => only(w, b"step", Symbol::Step),
+        b't' => either(w, b"then", Symbol::Then, b"true", Symbol::True),
+        b'u' => only(w, b"until", Symbol::Until),
+        b'v' => only(w, b"value", Symbol::Value),
+        b'w' => only(w, b"while", Symbol::While),
+        _ => Spelled::Unknown,
     }
 }
