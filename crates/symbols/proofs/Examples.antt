@@ -1,5 +1,5 @@
--- Sources read by computation: the settled readings that a small source shows, as one table; and the reading "a remark runs on past 'else'"
--- refuted by one.
+-- Sources read by computation: the settled readings that a small source shows, as one table; and two wrong readings refuted by one each: a
+-- remark that runs on past 'else', and a word told by its length and first letter alone.
 use Prim.Native.Nat.{ℕ}
 use Prim.Native.String.{String}
 use mathlib.Core.Path.{_≡_, refl}
@@ -77,3 +77,8 @@ readings = (refl, (refl, (refl, (refl, (refl, (refl, (refl, (refl, (refl, (refl,
 pub not-past-else : length (scan 2048 (bytes "'end' a remark 'else' b") .found) ≡ 1 → ⊥
 unfolding scan scanFrom turn judged counted note lexeme number valued name sized sign followed gap word named spelled closed before behind endsRemark blank letter digit inName these reach valueFrom equal
 not-past-else e = omega arith
+
+-- a word told by its length and first letter alone would be read here, as 'then' or as 'true'; there is none
+pub not-by-key-alone : length (scan 2048 (bytes "'thue'") .found) ≡ 1 → ⊥
+unfolding scan scanFrom turn judged counted note lexeme number valued name sized sign followed gap word named spelled closed before behind endsRemark blank letter digit inName these reach valueFrom equal
+not-by-key-alone e = omega arith
