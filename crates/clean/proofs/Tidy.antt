@@ -21,6 +21,7 @@ use Rattle.symbols.specs.Spelling as S
 use Rattle.symbols.specs.Spelling.{Token, All, Proper, AllProper, Piece, Blanks, tokensOf, wordFor, signFor, spell, spelling, text, tokenAt, tokens, dress}
 use Rattle.symbols.proofs.SpelledSymbols.{yes-no, letter-named, digit-named, Starts, starts}
 use Rattle.symbols.proofs.OwnSymbols.{source-proper}
+use Rattle.symbols.proofs.WrittenAgain.{dress-tokens}
 use Rattle.clean.specs.House.{Mark, line, symbol, laid, spaces, tight, gaps, house, page}
 use Rattle.clean.specs.Tidy.{Tidy, has-no}
 use Rattle.clean.proofs.Clean.{spaces-blank, page-tokens}
@@ -196,12 +197,6 @@ unfolding dress
 dress-set gs [] h p = tt
 dress-set [] (t ∷ l) h p = (one-set [] t (space-gap true) (p .0), dress-set [] l tt (p .1))
 dress-set (g ∷ gs) (t ∷ l) h p = (one-set g t (h .0) (p .0), dress-set gs l (h .1) (p .1))
-
-dress-tokens : (gs : List (List ℕ)) (l : List Token) → tokensOf (dress gs l) ≡ l
-unfolding dress
-dress-tokens gs [] = refl
-dress-tokens [] (t ∷ l) = ap (λ (m : List Token). t ∷ m) (dress-tokens [] l)
-dress-tokens (g ∷ gs) (t ∷ l) = ap (λ (m : List Token). t ∷ m) (dress-tokens gs l)
 
 set-blanks : (l : List Piece) → AllSet l → Blanks l
 set-blanks [] h = tt

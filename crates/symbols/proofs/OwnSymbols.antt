@@ -1,8 +1,7 @@
 -- The symbols of any source, with their letters, can stand next to each other as they do: so they can be written with other blanks.
 use mathlib.Core.Path.{_≡_, refl, sym, ap, subst, _∙_}
 use mathlib.Core.Bool.{Bool, true, false, cond, not, _&&_, _||_}
-use mathlib.Core.List.{List, [], _∷_, _++_, map}
-use mathlib.Core.Option.{Option, none, some}
+use mathlib.Core.List.{List, [], _∷_, map}
 use Prim.Native.Nat.{ℕ, zero, suc, pred, _+_, _-_, _≤_, _<_}
 use native.Mathlib.Omega.{arith}
 use lib.Dec.{eqb, ltb}
@@ -10,7 +9,7 @@ use lib.ListN.{length, getD, drop}
 use lib.Seq.{drop-drop}
 use borrow.Author.Tests.{ltb-false, eqb-true, ne-eqb}
 use Rattle.symbols.proofs.Laws.{both, name-first, digit-first}
-use Rattle.symbols.specs.Names.{blank, letter, digit, inName, these, reach, letters, valueFrom, value}
+use Rattle.symbols.specs.Names.{blank, letter, digit, inName, reach, letters, valueFrom, value}
 use Rattle.symbols.specs.Symbols.{Delimiter, words, Sign, one, two, signs, kind, is}
 use Rattle.symbols.specs.Scan.{before, closed, spelled, named, word, gap, followed, sign, sized, name, valued, number, lexeme, behind, endsRemark, note, counted, judged, turn, Found, Scan, then, scanFrom, scan}
 use Rattle.symbols.specs.declared.Context.{Context}
@@ -24,7 +23,7 @@ use Rattle.symbols.specs.declared.Turn.the-variants.{Pass, Keep, Refuse}
 use Rattle.symbols.specs.declared.Symbol.{Symbol}
 use Rattle.symbols.specs.declared.Symbol.the-variants.{Begin, End, Comment, Plus, Minus, Times, Divide, Less, LessEqual, Equal, GreaterEqual, Greater, NotEqual, Comma, Colon, Becomes, Semicolon, Open, Close, Name, Number}
 use Rattle.symbols.specs.Spelling as S
-use Rattle.symbols.specs.Spelling.{Token, All, Proper, AllProper, joins, admitted, Fits, Linked, Sound, readOff, tokenAt, tokens}
+use Rattle.symbols.specs.Spelling.{Token, Proper, AllProper, joins, admitted, Linked, Sound, readOff, tokenAt, tokens}
 use Rattle.symbols.proofs.SpelledBytes.{ahead, ahead-here, ahead-past, followed-ahead, these-are, run-ends}
 use Rattle.symbols.proofs.SpelledSymbols.{yes-no, blocks, Begins, blocks-joins, letter-begins, digit-begins}
 

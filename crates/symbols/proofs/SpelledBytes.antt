@@ -1,19 +1,18 @@
 -- Bytes: blanks, the first byte that is no blank, runs of one sort, and words.
-use mathlib.Core.Path.{_≡_, refl, sym, ap, subst, _∙_}
-use mathlib.Core.Bool.{Bool, true, false, cond, not, _&&_, _||_}
-use mathlib.Core.List.{List, [], _∷_, _++_, append-assoc}
-use Prim.Native.Nat.{ℕ, zero, suc, pred, _+_, _-_, _≤_, _<_}
+use mathlib.Core.Path.{_≡_, refl, sym, ap, _∙_}
+use mathlib.Core.Bool.{Bool, true, false, cond, not, _||_}
+use mathlib.Core.List.{List, [], _∷_, _++_}
+use Prim.Native.Nat.{ℕ, suc, pred, _+_, _-_, _<_}
 use native.Mathlib.Omega.{arith}
-use lib.Dec.{eqb, ltb}
+use lib.Dec.{eqb}
 use lib.ListN.{length, getD, drop, length-append}
-use borrow.Author.Tests.{ltb-true, lt-ltb, le-ltb}
-use Rattle.symbols.proofs.Follows.{blank-no-name, blank-no-digit}
-use Rattle.symbols.specs.Names.{blank, letter, digit, inName, these, reach}
+use borrow.Author.Tests.{lt-ltb}
+use Rattle.symbols.specs.Names.{blank, these, reach}
 use Rattle.symbols.specs.Symbols.{words}
-use Rattle.symbols.specs.Scan.{before, closed, spelled, named, word, gap, followed, turn, Scan, then, scanFrom}
+use Rattle.symbols.specs.Scan.{before, closed, spelled, named, word, gap, followed, turn, then, scanFrom}
 use Rattle.symbols.specs.declared.Context.{Context}
 use Rattle.symbols.specs.declared.Turn.{Turn}
-use Rattle.symbols.specs.declared.Turn.the-variants.{Pass, Keep, Refuse}
+use Rattle.symbols.specs.declared.Turn.the-variants.{Pass}
 use Rattle.symbols.specs.declared.Symbol.{Symbol}
 use Rattle.symbols.specs.declared.words.Spelled.the-variants.{Word}
 use Rattle.symbols.specs.declared.Lexeme.the-variants.{Is}

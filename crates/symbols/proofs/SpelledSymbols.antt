@@ -1,27 +1,27 @@
 -- A symbol that is spelled out reads back as itself, whatever follows that would not go on with it.
-use mathlib.Core.Path.{_≡_, refl, sym, ap, subst, _∙_}
-use mathlib.Core.Bool.{Bool, true, false, cond, not, _&&_, _||_}
+use mathlib.Core.Path.{_≡_, refl, sym, ap, _∙_}
+use mathlib.Core.Bool.{Bool, true, false, not, _&&_, _||_}
 use mathlib.Core.List.{List, [], _∷_, _++_}
-use Prim.Native.Nat.{ℕ, zero, suc, pred, _+_, _-_, _*_, _≤_, _<_}
+use Prim.Native.Nat.{ℕ, suc, _+_, _-_, _≤_, _<_}
 use native.Mathlib.Omega.{arith}
-use lib.Dec.{eqb, ltb, leb}
-use lib.ListN.{length, getD, drop}
+use lib.Dec.{eqb, leb}
+use lib.ListN.{length, drop}
 use lib.Seq.{drop-append-add}
-use borrow.Author.Tests.{le-ltb, ltb-true, leb-true, leb-false, le-leb, lt-leb, eqb-true, ne-eqb}
+use borrow.Author.Tests.{le-ltb, leb-true, ne-eqb}
 use Rattle.symbols.proofs.Follows.{blank-no-name, blank-no-digit}
 use Rattle.symbols.proofs.Laws.{both, digit-range}
 use Rattle.symbols.proofs.Resume.{skip}
 use Rattle.symbols.specs.Text.{bytes}
-use Rattle.symbols.specs.Names.{blank, letter, digit, inName, these, reach, letters, valueFrom, value, equal}
-use Rattle.symbols.specs.Symbols.{Delimiter, words, Sign, one, two, signs, is}
-use Rattle.symbols.specs.Scan.{before, closed, spelled, named, word, gap, followed, sign, sized, name, valued, number, lexeme, scanFrom}
+use Rattle.symbols.specs.Names.{blank, letter, digit, inName, these, letters, valueFrom, value, equal}
+use Rattle.symbols.specs.Symbols.{is}
+use Rattle.symbols.specs.Scan.{spelled, named, gap, followed, sign, sized, name, valued, number, lexeme, scanFrom}
 use Rattle.symbols.specs.declared.Context.{Context}
-use Rattle.symbols.specs.declared.Lexeme.the-variants.{Is, Large, Nothing}
+use Rattle.symbols.specs.declared.Lexeme.the-variants.{Is}
 use Rattle.symbols.specs.declared.Symbol.{Symbol}
 use Rattle.symbols.specs.declared.Symbol.the-variants.{Begin, End, If, Then, Else, For, Do, Step, Until, While, Comment, Integer, Boolean, Procedure, Value, True, False, And, Or, Not, Impl, Equiv, Plus, Minus, Times, Divide, Less, LessEqual, Equal, GreaterEqual, Greater, NotEqual, Comma, Colon, Becomes, Semicolon, Open, Close, Name, Number}
-use Rattle.symbols.specs.Spelling.{Token, All, Proper, wordFor, signFor, spell, joins, readOff}
+use Rattle.symbols.specs.Spelling.{All, Proper, wordFor, signFor, spell, joins, readOff}
 use Rattle.symbols.specs.Spelling as S
-use Rattle.symbols.proofs.SpelledBytes.{ahead, ahead-here, followed-ahead, these-none, reach-gap, these-all, reach-all, word-closed, gap-passed}
+use Rattle.symbols.proofs.SpelledBytes.{ahead, followed-ahead, these-all, reach-all, word-closed, gap-passed}
 
 pub yes-no : true ≡ false → ⊥
 yes-no e = let z : _≡_ {A = ℕ} 0 1 = cc in omega arith

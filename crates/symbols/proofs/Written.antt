@@ -1,26 +1,26 @@
 -- Symbols spelled out behind separators of blanks scan back to themselves, at the running sum of the lengths, with their letters.
-use mathlib.Core.Path.{_≡_, refl, sym, ap, subst, _∙_}
-use mathlib.Core.Bool.{Bool, true, false, cond, not, _&&_, _||_}
-use mathlib.Core.List.{List, [], _∷_, _++_, map, append-nil, append-assoc}
-use mathlib.Core.Option.{Option, none, some}
-use Prim.Native.Nat.{ℕ, zero, suc, pred, _+_, _-_, _≤_, _<_}
+use mathlib.Core.Path.{_≡_, refl, sym, ap, _∙_}
+use mathlib.Core.Bool.{Bool, true, false, cond, not}
+use mathlib.Core.List.{List, [], _∷_, _++_, map, append-nil}
+use mathlib.Core.Option.{none}
+use Prim.Native.Nat.{ℕ, zero, suc, _+_, _-_, _≤_}
 use native.Mathlib.Omega.{arith}
-use lib.ListN.{length, drop, length-append, length-map}
-use lib.Seq.{drop-drop, drop-append-add}
+use lib.ListN.{length, drop}
+use lib.Seq.{drop-drop}
 use Rattle.symbols.specs.Names.{blank}
 use Rattle.symbols.specs.Symbols.{is}
-use Rattle.symbols.specs.Scan.{lexeme, behind, endsRemark, counted, judged, turn, Found, Scan, kept, then, scanFrom, scan}
+use Rattle.symbols.specs.Scan.{lexeme, behind, counted, judged, turn, Found, Scan, kept, scanFrom, scan}
 use Rattle.symbols.specs.declared.Context.{Context}
 use Rattle.symbols.specs.declared.Context.the-variants.{Opens, Plain, Remark}
 use Rattle.symbols.specs.declared.Lexeme.{Lexeme}
 use Rattle.symbols.specs.declared.Lexeme.the-variants.{Is}
 use Rattle.symbols.specs.declared.Turn.{Turn}
-use Rattle.symbols.specs.declared.Turn.the-variants.{Pass, Keep, Refuse}
+use Rattle.symbols.specs.declared.Turn.the-variants.{Keep}
 use Rattle.symbols.specs.declared.Symbol.{Symbol}
 use Rattle.symbols.specs.declared.Symbol.the-variants.{Comment, Comma}
-use Rattle.symbols.specs.Spelling.{Token, All, Proper, AllProper, spell, joins, admitted, Fits, Linked, Sound, Piece, tokensOf, Blanks, spelling, text, placed, readOff, tokenAt, tokens}
+use Rattle.symbols.specs.Spelling.{Token, All, AllProper, spell, joins, admitted, Linked, Sound, Piece, tokensOf, Blanks, spelling, text, placed, readOff, tokenAt, tokens}
 use Rattle.symbols.proofs.SpelledBytes.{ahead, ahead-here, ahead-end, ahead-behind, at-turn, blanks-passed}
-use Rattle.symbols.proofs.SpelledSymbols.{yes-no, blocks, Begins, blocks-joins, blocks-end, Starts, starts, Reads, reads, letters-back}
+use Rattle.symbols.proofs.SpelledSymbols.{yes-no, blocks, blocks-joins, blocks-end, starts, reads, letters-back}
 
 abbrev whole : List Found → Scan
 whole l = record { found = l; refused = none }

@@ -1,8 +1,8 @@
 -- The symbols of any source, written with any blanks between them, read back as the same symbols with the same letters.
-use mathlib.Core.Path.{_≡_, refl, sym, ap, subst, _∙_}
-use mathlib.Core.List.{List, [], _∷_, _++_, map}
-use mathlib.Core.Option.{Option, none, some}
-use Prim.Native.Nat.{ℕ, zero, suc, _+_, _≤_, _<_}
+use mathlib.Core.Path.{_≡_, refl, sym, ap, _∙_}
+use mathlib.Core.List.{List, [], _∷_, map}
+use mathlib.Core.Option.{none}
+use Prim.Native.Nat.{ℕ, _+_, _≤_}
 use native.Mathlib.Omega.{arith}
 use lib.ListN.{length, length-map}
 use Rattle.symbols.specs.Names.{blank}
@@ -10,11 +10,11 @@ use Rattle.symbols.specs.Symbols.{kind}
 use Rattle.symbols.specs.Symbols.{valueOf}
 use Rattle.symbols.specs.Scan.{Found, Scan, scan}
 use Rattle.symbols.specs.Steps.{kindsOf, valuesOf}
-use Rattle.symbols.specs.Spelling.{Token, All, Piece, tokensOf, Blanks, text, placed, tokenAt, tokens, dress, AllBlank}
+use Rattle.symbols.specs.Spelling.{Token, All, tokensOf, Blanks, text, placed, tokenAt, tokens, dress, AllBlank}
 use Rattle.symbols.proofs.Written.{scan-text, tokens-text}
 use Rattle.symbols.proofs.OwnSymbols.{source-proper, source-sound, source-few}
 
-dress-tokens : (gs : List (List ℕ)) (l : List Token) → tokensOf (dress gs l) ≡ l
+pub dress-tokens : (gs : List (List ℕ)) (l : List Token) → tokensOf (dress gs l) ≡ l
 unfolding dress
 dress-tokens gs [] = refl
 dress-tokens [] (t ∷ l) = ap (λ (m : List Token). t ∷ m) (dress-tokens [] l)
