@@ -1,6 +1,7 @@
 /* bench [INSTRUCTIONS [ROUNDS]]: instructions a second of four loops, through the library and in the machine of own.h, one after the other in each
  * round; then the time of reading (and translating) the largest sources. Times are of this process on this processor: under an emulator only the
- * ratio of the two machines means something.
+ * ratio of the two machines means something. With an earlier library (BEFORE, see `bindings/run`) each source is read by both, one after the other in
+ * each round.
  * bench INSTRUCTIONS library, bench INSTRUCTIONS own: the first loop once, in one of the two, and nothing else (`bindings/run count` counts what it
  * takes of the processor's instructions). */
 #define _POSIX_C_SOURCE 199309L
@@ -8,6 +9,12 @@
 #include <stdlib.h>
 #include <string.h>
 #include <time.h>
+#ifdef BEFORE
+#include <signal.h>
+#include <sys/ptrace.h>
+#include <sys/wait.h>
+#include <unistd.h>
+#endif
 
 #include "deed.h"
 #include "own.h"
@@ -242,6 +249,18 @@ static void deep(void)
     fill_up();
 }
 
+/* 2,048 delimiter words: each of the 22 in turn. No note opens, since 'comment' stands behind 'while'; and no remark runs, since 'else' stands
+ * behind 'end'. They are no program, so that little but the scan is timed. */
+static void delimiter_words(void)
+{
+    static const char *const each[] = {
+        "'begin'", "'end'", "'else'", "'if'", "'then'", "'for'", "'do'", "'step'", "'until'", "'while'", "'comment'", "'integer'", "'Boolean'",
+        "'procedure'", "'value'", "'true'", "'false'", "'and'", "'or'", "'not'", "'impl'", "'equiv'",
+    };
+    for (unsigned i = 0; i < 2048; i++)
+        say(each[i % 22]);
+}
+
 /* One note. */
 static void notes(void)
 {
@@ -252,20 +271,91 @@ static void notes(void)
     fill_up();
 }
 
+typedef uint16_t reader(const uint8_t *, size_t, uint16_t *, size_t, size_t *);
+
+/* What one reading of the source takes, in microseconds. */
+static double reading_time(reader *read, double least, unsigned *answer, size_t *place)
+{
+    unsigned times = 0;
+    double t0 = seconds(), t1 = t0;
+    for (; t1 - t0 < least; t1 = seconds(), times++)
+        *answer = read(source, length, table, DEED_TABLE, place);
+    return (t1 - t0) / times * 1e6;
+}
+
+#ifdef BEFORE
+uint16_t before_deed_read(const uint8_t *source, size_t source_length, uint16_t *table, size_t table_length, size_t *place);
+
+/* How many of the processor's instructions a reading takes: another process reads, one step at a time; -1 where that is not allowed. */
+static long steps(reader *read)
+{
+    long count = 0;
+    int status;
+    pid_t child = fork();
+    if (child == 0) {
+        size_t place;
+        if (ptrace(PTRACE_TRACEME, 0, NULL, NULL) != 0)
+            _exit(1);
+        read(source, length, table, DEED_TABLE, &place);
+        raise(SIGSTOP);
+        read(source, length, table, DEED_TABLE, &place);
+        raise(SIGSTOP);
+        _exit(0);
+    }
+    if (child < 0 || waitpid(child, &status, 0) != child || !WIFSTOPPED(status))
+        return -1;
+    do {
+        if (ptrace(PTRACE_SINGLESTEP, child, NULL, NULL) != 0)
+            return -1;
+        waitpid(child, &status, 0);
+        count++;
+    } while (WIFSTOPPED(status) && WSTOPSIG(status) == SIGTRAP);
+    kill(child, SIGKILL);
+    waitpid(child, &status, 0);
+    return count;
+}
+
+/* The source read by both libraries in each of nine rounds; the instructions of a short reading counted. */
+static void time_both(const char *name)
+{
+    enum { TIMES = 9 };
+    static uint16_t earlier_table[DEED_TABLE];
+    double now[TIMES], earlier[TIMES], ratio[TIMES];
+    for (int i = 0; i < TIMES; i++) {
+        unsigned answer = 0, earlier_answer = 0;
+        size_t place = 0, earlier_place = 0;
+        earlier[i] = reading_time(before_deed_read, 0.1, &earlier_answer, &earlier_place);
+        memcpy(earlier_table, table, sizeof table);
+        now[i] = reading_time(deed_read, 0.1, &answer, &place);
+        ratio[i] = now[i] / earlier[i];
+        if (answer != earlier_answer || place != earlier_place || memcmp(earlier_table, table, sizeof table) != 0)
+            printf("the two differ\n");
+    }
+    qsort(now, TIMES, sizeof now[0], by_size);
+    qsort(earlier, TIMES, sizeof earlier[0], by_size);
+    qsort(ratio, TIMES, sizeof ratio[0], by_size);
+    printf("both %-16s before %9.1f, now %9.1f microseconds, now by before %.2f (%.2f to %.2f)\n", name, earlier[TIMES / 2], now[TIMES / 2],
+           ratio[TIMES / 2], ratio[0], ratio[TIMES - 1]);
+    if (now[TIMES / 2] < 100)
+        printf("both %-16s before %ld, now %ld processor instructions\n", name, steps(before_deed_read), steps(deed_read));
+}
+#endif
+
 static void time_source(const char *name, void (*make)(void))
 {
     size_t place = 0;
-    unsigned answer = 0, times = 0;
+    unsigned answer = 0;
     length = 0;
     make();
-    double t0 = seconds(), t1 = t0;
-    for (; t1 - t0 < 0.5; t1 = seconds(), times++)
-        answer = deed_read(source, length, table, DEED_TABLE, &place);
-    printf("read %-16s %5zu bytes, answer %u at %zu, %5u uses: %9.1f microseconds\n", name, length, answer, place, table[0], (t1 - t0) / times * 1e6);
+    double took = reading_time(deed_read, 0.5, &answer, &place);
+    printf("read %-16s %5zu bytes, answer %u at %zu, %5u uses: %9.1f microseconds\n", name, length, answer, place, table[0], took);
+#ifdef BEFORE
+    time_both(name);
+#endif
 #ifdef DEED_TRANSLATE
     static uint32_t words[DEED_CODE];
-    times = 0;
-    t0 = t1 = seconds();
+    unsigned times = 0;
+    double t0 = seconds(), t1 = t0;
     for (; t1 - t0 < 0.5; t1 = seconds(), times++)
         answer = deed_translate(source, length, words, DEED_CODE, &place);
     printf("translate %-11s %5zu bytes, answer %u at %zu:              %9.1f microseconds\n", name, length, answer, place, (t1 - t0) / times * 1e6);
@@ -290,6 +380,7 @@ int main(int argc, char **argv)
 #ifdef DEED_TRANSLATE
     time_code("a series summed by name", series, limit, rounds);
 #endif
+    time_source("delimiter words", delimiter_words);
     time_source("plain", plain);
     time_source("short names", short_names);
     time_source("long names", long_names);
