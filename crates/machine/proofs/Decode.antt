@@ -10,7 +10,7 @@ use lib.IntN.{ℤ}
 use mir.Syntax.{w32}
 use mir.Val.{toZ}
 use Rattle.machine.specs.Values.{equiv, Unary, Binary}
-use Rattle.machine.specs.Data.{Act, push, load, store, assign, reserve, forget, receive, send, keep, bump, unary, binary, lend, channel, sum, actOn, condition, upto, kept, gone}
+use Rattle.machine.specs.Data.{Act, push, load, store, assign, reserve, forget, receive, send, keep, unary, binary, lend, channel, sum, actOn, condition, upto, kept, gone}
 use Rattle.machine.specs.Instructions.{binaryOf, unaryOf, actOf, decode, variable, high, mid, low, END, DO, IF, JUMP, ENTER, LEAVE, CALL, RETURN, GO, NEXT, NAME, WORK, SEEK, PASS, REFUSE}
 
 -- a number that is not m
@@ -79,7 +79,7 @@ module _ {X : Type 0} (k q : ℕ) (x : X) (v : ℕ) where
   unfolding actOf
   act-20 e = rw e
 
-  pub act-21 : k ≡ 21 → actOf k q x v ≡ bump q x
+  pub act-21 : k ≡ 21 → actOf k q x v ≡ sum q x
   unfolding actOf
   act-21 e = rw e
 
@@ -94,7 +94,7 @@ module _ {X : Type 0} (k q : ℕ) (x : X) (v : ℕ) where
 -- an operation's variable is what names it
 chosen : {X : Type 0} → (a b c d e f g h i j m : Bool) → ℕ → X → ℤ → Unary → Binary → Act X
 chosen a b c d e f g h i j m q x z u o =
-    cond a (push q z) (cond b (load q x) (cond c (store x) (cond d (assign x) (cond e (reserve q) (cond f forget (cond g (receive q x) (cond h (send q) (cond i keep (cond j (bump q x) (cond m (unary q u) (binary q o)))))))))))
+    cond a (push q z) (cond b (load q x) (cond c (store x) (cond d (assign x) (cond e (reserve q) (cond f forget (cond g (receive q x) (cond h (send q) (cond i keep (cond j (sum q x) (cond m (unary q u) (binary q o)))))))))))
 
 chosen-on : {X Y : Type 0} (w : X → Y) (a b c d e f g h i j m : Bool) (q : ℕ) (x : X) (z : ℤ) (u : Unary) (o : Binary) → actOn w (chosen a b c d e f g h i j m q x z u o) ≡ chosen a b c d e f g h i j m q (w x) z u o
 unfolding chosen
@@ -206,10 +206,6 @@ module _ (k q v : ℕ) where
   unfolding decode
   code-channel e = rw e
 
-  pub code-sum : k ≡ 46 → decode k q v ≡ some (DO (sum q (variable v)))
+  pub code-none : 46 ≤ k → decode k q v ≡ none
   unfolding decode
-  code-sum e = rw e
-
-  pub code-none : 47 ≤ k → decode k q v ≡ none
-  unfolding decode
-  code-none h = rw (apart k 0 (omega arith), apart k 1 (omega arith), apart k 2 (omega arith), apart k 3 (omega arith), apart k 4 (omega arith), apart k 5 (omega arith), apart k 6 (omega arith), apart k 7 (omega arith), apart k 8 (omega arith), apart k 9 (omega arith), apart k 10 (omega arith), apart k 11 (omega arith), le-ltb k 39 (omega arith), apart k 39 (omega arith), apart k 40 (omega arith), apart k 41 (omega arith), apart k 42 (omega arith), apart k 43 (omega arith), apart k 44 (omega arith), apart k 45 (omega arith), apart k 46 (omega arith))
+  code-none h = rw (apart k 0 (omega arith), apart k 1 (omega arith), apart k 2 (omega arith), apart k 3 (omega arith), apart k 4 (omega arith), apart k 5 (omega arith), apart k 6 (omega arith), apart k 7 (omega arith), apart k 8 (omega arith), apart k 9 (omega arith), apart k 10 (omega arith), apart k 11 (omega arith), le-ltb k 39 (omega arith), apart k 39 (omega arith), apart k 40 (omega arith), apart k 41 (omega arith), apart k 42 (omega arith), apart k 43 (omega arith), apart k 44 (omega arith), apart k 45 (omega arith))

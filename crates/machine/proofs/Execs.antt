@@ -24,7 +24,7 @@ use Rattle.answers.specs.declared.Answer.{Answer}
 use Rattle.machine.specs.declared.Outcome.{Outcome}
 use Rattle.machine.specs.declared.Outcome.the-variants.{Goes, Strays}
 use Rattle.machine.specs.Run.{Trace}
-use Rattle.machine.specs.Data.{Data, cells, Res, bad, wrong, good, lift, guard, check, foundIn, Act, load, store, sum, actOn, downs, work, Test, upto, testOn, downsT, test, either, openBlock, closeBlock, enter, leave, Fate, kept, gone}
+use Rattle.machine.specs.Data.{Data, cells, Res, bad, wrong, good, lift, guard, check, foundIn, Act, load, store, actOn, downs, work, Test, upto, testOn, downsT, test, either, openBlock, closeBlock, enter, leave, Fate, kept, gone}
 use Rattle.machine.specs.Instructions.{Loc, Instr, END, DO, IF, JUMP, ENTER, LEAVE, CALL, RETURN, GO, NEXT, variable, foundOffset, high, mid, actOf, decode, fetch}
 use Rattle.machine.specs.Machine.{Frame, fr, Mach, ms, base, floor, walk, cellIn, stray, exec, obey, step}
 use Rattle.machine.specs.Model.{After, told, goes, halted, stepped, lifted, dataOf, traceOf, seenD, seenT, seenO, machOf, wordOf, noteOf, begun, positionsOf, fateOf, framesOf, foundOf, ownOf, Lives, Sound, SoundD, SoundT, SoundO, SoundG}
@@ -306,7 +306,7 @@ module _ (t : Trace) (at : ℕ) (ps : List ℕ) (fs : List Frame) (d : Data) (q 
       ∙ ap (λ (x : Act ℕ). lifted (stray at) (ms (suc at) ps fs) (told t (work x d))) (ap (λ (y : ℕ). actOf k q y v) e ∙ sym (act-on (cellIn fs d) k q (variable v) v))
       ∙ do-lifted t at ps fs d (actOf k q (variable v) v) h
 
-  -- .. of LOAD, STORE and SUM
+  -- .. of LOAD and STORE
   pub load-done : leb (floor fs + 0) (cells d) ≡ true
       → lifted (stray at) (ms (at + 1) ps fs) (told t (work (load q c) d)) ≡ stepped t (exec (DO (load q (variable v))) at ps fs d)
   load-done h =
@@ -321,14 +321,7 @@ module _ (t : Trace) (at : ℕ) (ps : List ℕ) (fs : List Frame) (d : Data) (q 
       ∙ ap (λ (y : ℕ). lifted (stray at) (ms (suc at) ps fs) (told t (work (store y) d))) e
       ∙ do-lifted t at ps fs d (store (variable v)) h
 
-  pub sum-done : leb (floor fs + 0) (cells d) ≡ true
-      → lifted (stray at) (ms (at + 1) ps fs) (told t (work (sum q c) d)) ≡ stepped t (exec (DO (sum q (variable v))) at ps fs d)
-  sum-done h =
-      lifted-next (stray at) at ps fs _
-      ∙ ap (λ (y : ℕ). lifted (stray at) (ms (suc at) ps fs) (told t (work (sum q y) d))) e
-      ∙ do-lifted t at ps fs d (sum q (variable v)) h
-
-  pub upto-done : (l : ℕ) → leb (floor fs + 0) (cells d) ≡ true
+  pub upto-done : (l : ℕ) → leb (floor fs + 1) (cells d) ≡ true
       → lifted (stray at) (either (ms (suc at) ps fs) (ms l ps fs)) (told t (test (upto q c) d)) ≡ stepped t (exec (IF (upto q (variable v)) l) at ps fs d)
   upto-done l h =
       ap (λ (y : ℕ). lifted (stray at) (either (ms (suc at) ps fs) (ms l ps fs)) (told t (test (upto q y) d))) e ∙ if-lifted t at ps fs d (upto q (variable v)) l h

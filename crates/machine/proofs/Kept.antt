@@ -237,15 +237,6 @@ test-as n m StrayT s e h = tt
 pub written-as : (k : ℕ) (n m : Counts) → m ≡ fewer k n → m .written ≡ n .written
 written-as k n m e = ap (λ (l : Counts). l .written) e
 
--- a held cell holds a number
-pub held-number : (n : Counts) (s : List ℤ) (k : ℕ) → Sound n s → k < n .held → numberIn (cellAt s (roomOf s - suc k)) ≡ Not → ⊥
-held-number n s k g h e = not-held (cellAt s (roomOf s - suc k)) (g .holds k h) e
-  where
-    not-held : (x : Cell) {v : ℤ} → x ≡ Holds v → numberIn x ≡ Not → ⊥
-    not-held Unset {v} p e = let z : _≡_ {A = ℕ} 0 1 = cc in omega arith
-    not-held (Holds w) {v} p e = let z : _≡_ {A = ℕ} 0 1 = cc in omega arith
-    not-held (Named m) {v} p e = let z : _≡_ {A = ℕ} 0 1 = cc in omega arith
-
 pub trace-as : (k : ℕ) (n m : Counts) (o : List ℤ) → m ≡ fewer k n → traceOf m o ≡ traceOf n o
 trace-as k n m o e = ap (λ (l : Counts). traceOf l o) e
 

@@ -20,7 +20,7 @@ use Rattle.machine.specs.declared.Value.{Value}
 use Rattle.machine.specs.declared.Value.the-variants.{Is, Fault}
 use Rattle.machine.specs.Values.{whole, isZero, same, Unary, minus, negation, absolute, apply1, Binary, plus, less, times, over, below, atMost, equal, atLeast, above, unequal, and, or, impl, equiv, apply2, past}
 use Rattle.machine.specs.Run.{Event, quiet, Trace, Out, halt, next, after, run}
-use Rattle.machine.specs.Data.{Data, dat, cells, Res, bad, wrong, good, lift, guard, check, newCells, newest, onValue, one, two, back, look, plain, put, reading, valued, unhold, held, input, space, taking, writing, Act, push, load, store, assign, reserve, forget, receive, send, keep, bump, unary, binary, lend, channel as tested, sum as added, actOn, work, downs, Two, yea, nay, Test, condition, upto, testOn, test, downsT, openBlock, closeBlock, nameCell, enter, Fate, kept, gone, given, leave, Lent}
+use Rattle.machine.specs.Data.{Data, dat, cells, Res, bad, wrong, good, lift, guard, check, newCells, newest, onValue, one, two, back, look, plain, put, reading, valued, hold, unhold, held, input, space, taking, writing, Act, push, load, store, assign, reserve, forget, receive, send, keep, unary, binary, lend, channel as tested, sum as added, actOn, work, downs, Two, yea, nay, Test, condition, upto, testOn, test, downsT, openBlock, closeBlock, nameCell, enter, Fate, kept, gone, given, leave, Lent}
 use Rattle.machine.specs.Instructions.{Loc, Instr, END, DO, IF, JUMP, ENTER, LEAVE, CALL, RETURN, GO, NEXT, NAME, WORK, SEEK, PASS, REFUSE, fetch}
 use Rattle.machine.specs.Machine.{Frame, fr, Mach, ms, walk, base, floor, cellIn, cellAt, stray, workOut, began, exec, obey, step, finish}
 
@@ -30,13 +30,13 @@ pub data Demand : Type 0 where
   -- 20: one more instruction, of so many that are left
   left : ℕ → Demand
   -- 29: an instruction at the counter; so many cells of the running activation; numbers in the so many newest cells; with so many cells gone, this
-  -- cell in use and no name formal's; a step and a bound held; so many positions noted; an activation to return from, with its first cell, no name
+  -- cell in use and no name formal's; a step held; so many positions noted; an activation to return from, with its first cell, no name
   -- formal's, where that is needed; a name formal's cell; an activation that runs
   there : Demand
   own : ℕ → Demand
   numbers : ℕ → Demand
   used : ℕ → ℕ → Demand
-  pair : Demand
+  a-step : Demand
   noted : ℕ → Demand
   activation : Demand
   named : ℕ → Demand
@@ -46,13 +46,13 @@ pub data Demand : Type 0 where
   -- 24, 25: a number to take; room for one that is written
   a-number : Demand
   a-place : Demand
-  -- 21, 22: the operator's result, of one value and of two; the sum of a cell and the held step; a divisor
+  -- 21, 22: the operator's result, of one value and of two; the sum of a cell and the value taken; a divisor
   result1 : Unary → Demand
   result2 : Binary → Demand
   sum : ℕ → Demand
   divisor : Binary → Demand
-  -- 23: the cell that is read; the result that is needed
-  assigned : ℕ → Demand
+  -- 23: with so many cells gone, the cell that is read; the result that is needed
+  assigned : ℕ → ℕ → Demand
   given-back : Demand
   -- 26: so many new cells
   new : ℕ → Demand
@@ -69,7 +69,7 @@ answerTo there = noInstruction
 answerTo (own n) = noInstruction
 answerTo (numbers n) = noInstruction
 answerTo (used k c) = noInstruction
-answerTo pair = noInstruction
+answerTo a-step = noInstruction
 answerTo (noted m) = noInstruction
 answerTo activation = noInstruction
 answerTo (named c) = noInstruction
@@ -81,7 +81,7 @@ answerTo (result1 o) = range
 answerTo (result2 o) = range
 answerTo (sum c) = range
 answerTo (divisor o) = zeroDivisor
-answerTo (assigned c) = unassigned
+answerTo (assigned k c) = unassigned
 answerTo given-back = unassigned
 answerTo (new n) = noCell
 answerTo one-more = activations
@@ -119,17 +119,6 @@ such f Unset = false
 such f (Holds v) = f v
 such f (Named m) = false
 
--- fewer than two are held; the step that is held is so
-abbrev few : List ℤ → Bool
-few [] = true
-few (y ∷ []) = true
-few (y ∷ x ∷ h) = false
-
-abbrev stepped : (ℤ → Bool) → List ℤ → Bool
-stepped f [] = false
-stepped f (y ∷ []) = false
-stepped f (y ∷ x ∷ h) = f x
-
 abbrev none-of : List ℤ → Bool
 none-of [] = true
 none-of (v ∷ i) = false
@@ -162,7 +151,7 @@ fails ps fs d there = true
 fails ps fs d (own n) = not (leb (floor fs + n) (cells d))
 fails ps fs (dat w h a l) (numbers n) = lacks n w
 fails ps fs (dat w h a l) (used k c) = not (ltb c (length (drop k w)) && plain (getD (drop k w) (length (drop k w) - suc c) Unset))
-fails ps fs (dat w h a l) pair = few h
+fails ps fs (dat w h a l) a-step = none-of h
 fails ps fs d (noted m) = not (eqb m (length ps))
 fails ps fs (dat w h a l) activation = no-return fs w
 fails ps fs d (named c) = unnamed (cellAt c d)
@@ -172,9 +161,9 @@ fails ps fs d a-number = none-of (input d)
 fails ps fs d a-place = not (ltb 0 (space d))
 fails ps fs (dat w h a l) (result1 o) = such (λ x. fault range (apply1 o x)) (getD w 0 Unset)
 fails ps fs (dat w h a l) (result2 o) = such (λ y. such (λ x. fault range (apply2 o x y)) (getD w 1 Unset)) (getD w 0 Unset)
-fails ps fs (dat w h a l) (sum c) = stepped (λ x. such (λ v. fault range (whole (v +ℤ x))) (look c (dat w h a l))) h
+fails ps fs (dat w h a l) (sum c) = such (λ x. such (λ v. fault range (whole (v +ℤ x))) (look c (dat (drop 1 w) h a l))) (getD w 0 Unset)
 fails ps fs (dat w h a l) (divisor o) = such (λ y. such (λ x. fault zeroDivisor (apply2 o x y)) (getD w 1 Unset)) (getD w 0 Unset)
-fails ps fs d (assigned c) = unset (look c d)
+fails ps fs (dat w h a l) (assigned k c) = unset (look c (dat (drop k w) h a l))
 fails ps fs (dat w h a l) given-back = no-result fs w
 fails ps fs (dat w h a l) (new n) = not (leb (length w + length h + n) (l .room))
 fails ps fs (dat w h a l) one-more = not (ltb a 256)
@@ -185,24 +174,23 @@ fails ps fs d more = true
 
 abbrev pub asksAct : Act ℕ → List Demand
 asksAct (push q v) = own 0 ∷ new 1 ∷ []
-asksAct (load q c) = own 0 ∷ used 0 c ∷ assigned c ∷ new 1 ∷ []
+asksAct (load q c) = own 0 ∷ used 0 c ∷ assigned 0 c ∷ new 1 ∷ []
 asksAct (store c) = own 1 ∷ numbers 1 ∷ used 1 c ∷ []
 asksAct (assign c) = own 1 ∷ numbers 1 ∷ used 1 c ∷ []
 asksAct (reserve q) = own 0 ∷ new 1 ∷ []
 asksAct forget = own 1 ∷ numbers 1 ∷ []
 asksAct (receive q c) = own 1 ∷ numbers 1 ∷ used 1 c ∷ one-in 0 ∷ a-number ∷ []
 asksAct (send q) = own 2 ∷ numbers 2 ∷ one-in 1 ∷ a-place ∷ []
-asksAct keep = own 2 ∷ numbers 2 ∷ []
-asksAct (bump q c) = own 0 ∷ pair ∷ used 0 c ∷ assigned c ∷ sum c ∷ []
+asksAct keep = own 1 ∷ numbers 1 ∷ []
 asksAct (unary q o) = own 1 ∷ numbers 1 ∷ result1 o ∷ []
 asksAct (binary q o) = own 2 ∷ numbers 2 ∷ result2 o ∷ divisor o ∷ []
 asksAct (lend c) = own 0 ∷ used 0 c ∷ []
 asksAct (tested q) = own 1 ∷ numbers 1 ∷ one-in 0 ∷ []
-asksAct (added q c) = own 0 ∷ pair ∷ used 0 c ∷ assigned c ∷ sum c ∷ new 1 ∷ []
+asksAct (added q c) = own 1 ∷ numbers 1 ∷ a-step ∷ used 1 c ∷ assigned 1 c ∷ sum c ∷ []
 
 abbrev pub asksTest : Test ℕ → List Demand
 asksTest condition = own 1 ∷ numbers 1 ∷ []
-asksTest (upto q c) = own 0 ∷ pair ∷ used 0 c ∷ assigned c ∷ []
+asksTest (upto q c) = own 1 ∷ numbers 1 ∷ a-step ∷ used 1 c ∷ assigned 1 c ∷ []
 
 -- a name formal's cell, o behind the first of the activation u out; and an activation more
 abbrev pub working : List Frame → ℕ → ℕ → List Demand
@@ -278,6 +266,12 @@ unfolding guard given-out
 lost A true l e = rw e
 lost A false l e = rw e
 
+-- no step is held
+unheld : (A : Type 0) (g : Bool) (l : List (ℕ × Bool)) → is-due limit l ≡ false → told {A = A} (guard g wrong) ≡ given-out ((noInstruction, not g) ∷ (noInstruction, false) ∷ (noInstruction, true) ∷ l)
+unfolding guard given-out
+unheld A true l e = rw e
+unheld A false l e = rw e
+
 -- the channel, then input
 receives : (g u p s : Bool) (q : ℕ) (i : List ℤ) (c : ℕ) (d : Data)
     → told (guard g (guard u (guard p (check s channel q (taking q c d i)))))
@@ -331,7 +325,7 @@ module _ {A : Type 0} where
 
   read-test : (g u : Bool) (q : ℕ) (c : Cell) (k : ℤ → A)
       → told (guard g (guard u (guard (plain c) (reading q (λ v. good quiet (k v)) c))))
-      ≡ given-out ((noInstruction, not g) ∷ (noInstruction, false) ∷ (noInstruction, not (u && plain c)) ∷ (unassigned, unset c) ∷ [])
+      ≡ given-out ((noInstruction, not g) ∷ (noInstruction, false) ∷ (noInstruction, false) ∷ (noInstruction, not (u && plain c)) ∷ (unassigned, unset c) ∷ [])
   unfolding guard reading given-out
   read-test true true q (Holds v) k = refl
   read-test true true q Unset k = refl
@@ -471,30 +465,13 @@ module _ {A : Type 0} where
 
   read-sum : (g u : Bool) (q : ℕ) (c : Cell) (k : ℤ → A) (f : ℤ → Value) → ((v : ℤ) → Ranged (f v))
       → told (guard g (guard u (guard (plain c) (reading q (λ v. valued q (λ x. good quiet (k x)) (f v)) c))))
-      ≡ given-out ((noInstruction, not g) ∷ (noInstruction, false) ∷ (noInstruction, not (u && plain c)) ∷ (unassigned, unset c) ∷ (range, such (λ v. fault range (f v)) c) ∷ [])
+      ≡ given-out ((noInstruction, not g) ∷ (noInstruction, false) ∷ (noInstruction, false) ∷ (noInstruction, not (u && plain c)) ∷ (unassigned, unset c) ∷ (range, such (λ v. fault range (f v)) c) ∷ [])
   unfolding guard reading given-out
   read-sum true true q (Holds v) k f h = one-value true q k (f v) (h v)
   read-sum true true q Unset k f h = refl
   read-sum true true q (Named m) k f h = refl
   read-sum true false q c k f h = refl
   read-sum false u q c k f h = refl
-
-  -- a value in a new cell, and a cell's sum there
-  new-value : (r : Bool) (q : ℕ) (k : ℤ → A) (v : Value) → Ranged v → told (valued q (λ x. check r noCell q (good quiet (k x))) v) ≡ given-out ((range, fault range v) ∷ (noCell, not r) ∷ [])
-  unfolding valued check given-out
-  new-value true q k (Is x) h = refl
-  new-value false q k (Is x) h = refl
-  new-value r q k (Fault a) h = rw h
-
-  new-sum : (g u r : Bool) (q : ℕ) (c : Cell) (k : ℤ → A) (f : ℤ → Value) → ((v : ℤ) → Ranged (f v))
-      → told (guard g (guard u (guard (plain c) (reading q (λ v. valued q (λ x. check r noCell q (good quiet (k x))) (f v)) c))))
-      ≡ given-out ((noInstruction, not g) ∷ (noInstruction, false) ∷ (noInstruction, not (u && plain c)) ∷ (unassigned, unset c) ∷ (range, such (λ v. fault range (f v)) c) ∷ (noCell, not r) ∷ [])
-  unfolding guard reading given-out
-  new-sum true true r q (Holds v) k f h = new-value r q k (f v) (h v)
-  new-sum true true r q Unset k f h = refl
-  new-sum true true r q (Named m) k f h = refl
-  new-sum true false r q c k f h = refl
-  new-sum false u r q c k f h = refl
 
 -- ---- each instruction
 
@@ -544,11 +521,7 @@ module _ (ps : List ℕ) (fs : List Frame) where
   act-first f (send q) (dat w h a l) =
       takes-two (one-in 1 ∷ a-place ∷ []) (λ d. refl) _ w h a l
       λ k v w. sends (leb (floor fs + 2) (length (Holds v ∷ Holds k ∷ w))) (same k (pos 1)) (ltb 0 (l .space)) q _ _
-  act-first f keep (dat w h a l) = takes-two [] (λ d. refl) _ w h a l λ x y w. fine (leb (floor fs + 2) (length (Holds y ∷ Holds x ∷ w))) quiet _
-  act-first f (bump q c) (dat w [] a l) = lost Data (leb (floor fs + 0) (length w)) _ refl
-  act-first f (bump q c) (dat w (y ∷ []) a l) = lost Data (leb (floor fs + 0) (length w)) _ refl
-  act-first f (bump q c) (dat w (y ∷ x ∷ h) a l) =
-      read-sum (leb (floor fs + 0) (length w)) (ltb (f c) (length w)) q (look (f c) (dat w (y ∷ x ∷ h) a l)) (λ s. put (f c) s (dat w (y ∷ x ∷ h) a l)) (λ v. whole (v +ℤ x)) (λ v. whole-ranged (v +ℤ x))
+  act-first f keep (dat w h a l) = takes [] (λ d. refl) _ w h a l λ v w. fine (leb (floor fs + 1) (length (Holds v ∷ w))) quiet _
   act-first f (unary q o) (dat w h a l) =
       takes (result1 o ∷ []) (λ d. refl) _ w h a l
       λ x w. one-value (leb (floor fs + 1) (length (Holds x ∷ w))) q (λ v. back v (dat w h a l)) (apply1 o x) (unary-ranged o x)
@@ -558,18 +531,20 @@ module _ (ps : List ℕ) (fs : List Frame) where
   act-first f (lend c) (dat w h a l) = lends (leb (floor fs + 0) (length w)) (ltb (f c) (length w)) (plain (look (f c) (dat w h a l))) quiet _
   act-first f (tested q) (dat w h a l) =
       takes (one-in 0 ∷ []) (λ d. refl) _ w h a l λ k w. tests (leb (floor fs + 1) (length (Holds k ∷ w))) (same k (pos 1)) q quiet _
-  act-first f (added q c) (dat w [] a l) = lost Data (leb (floor fs + 0) (length w)) _ refl
-  act-first f (added q c) (dat w (y ∷ []) a l) = lost Data (leb (floor fs + 0) (length w)) _ refl
-  act-first f (added q c) (dat w (y ∷ x ∷ h) a l) =
-      new-sum (leb (floor fs + 0) (length w)) (ltb (f c) (length w)) (leb (length w + length (y ∷ x ∷ h) + 1) (l .room)) q (look (f c) (dat w (y ∷ x ∷ h) a l)) (λ s. dat (Holds s ∷ w) (y ∷ x ∷ h) a l) (λ v. whole (v +ℤ x)) (λ v. whole-ranged (v +ℤ x))
+  act-first f (added q c) (dat w [] a l) =
+      takes (a-step ∷ used 1 (f c) ∷ assigned 1 (f c) ∷ sum (f c) ∷ []) (λ d. refl) _ w [] a l λ x w. unheld Data (leb (floor fs + 1) (length (Holds x ∷ w))) _ refl
+  act-first f (added q c) (dat w (y ∷ h) a l) =
+      takes (a-step ∷ used 1 (f c) ∷ assigned 1 (f c) ∷ sum (f c) ∷ []) (λ d. refl) _ w (y ∷ h) a l
+      λ x w. read-sum (leb (floor fs + 1) (length (Holds x ∷ w))) (ltb (f c) (length w)) q (look (f c) (dat w (y ∷ h) a l)) (λ s. back s (hold x (unhold (dat w (y ∷ h) a l)))) (λ v. whole (v +ℤ x)) (λ v. whole-ranged (v +ℤ x))
 
   test-first : (f : Loc → ℕ) (a : Test Loc) (d : Data) → told (guard (leb (floor fs + downsT a) (cells d)) (test (testOn f a) d)) ≡ Due d (asksTest (testOn f a))
   unfolding test look held
   test-first f condition (dat w h a l) = takes [] (λ d. refl) _ w h a l λ v w. fine (leb (floor fs + 1) (length (Holds v ∷ w))) quiet _
-  test-first f (upto q c) (dat w [] a l) = lost Two (leb (floor fs + 0) (length w)) _ refl
-  test-first f (upto q c) (dat w (y ∷ []) a l) = lost Two (leb (floor fs + 0) (length w)) _ refl
-  test-first f (upto q c) (dat w (y ∷ x ∷ h) a l) =
-      read-test (leb (floor fs + 0) (length w)) (ltb (f c) (length w)) q (look (f c) (dat w (y ∷ x ∷ h) a l)) (λ v. cond (past v x y) (nay (unhold (dat w (y ∷ x ∷ h) a l))) (yea (dat w (y ∷ x ∷ h) a l)))
+  test-first f (upto q c) (dat w [] a l) =
+      takes (a-step ∷ used 1 (f c) ∷ assigned 1 (f c) ∷ []) (λ d. refl) _ w [] a l λ y w. unheld Two (leb (floor fs + 1) (length (Holds y ∷ w))) _ refl
+  test-first f (upto q c) (dat w (x ∷ h) a l) =
+      takes (a-step ∷ used 1 (f c) ∷ assigned 1 (f c) ∷ []) (λ d. refl) _ w (x ∷ h) a l
+      λ y w. read-test (leb (floor fs + 1) (length (Holds y ∷ w))) (ltb (f c) (length w)) q (look (f c) (dat w (x ∷ h) a l)) (λ v. cond (past v x y) (nay (unhold (dat w (x ∷ h) a l))) (yea (dat w (x ∷ h) a l)))
 
   open-first : (q n : ℕ) (d : Data) → told (openBlock q n d) ≡ Due d (new n ∷ [])
   unfolding openBlock newCells
@@ -696,9 +671,6 @@ module _ (ps : List ℕ) (fs : List Frame) (t : ℕ) where
   act-apart (receive q c) d = (and-no (is inputEnded (receive q c) d), refl, refl, refl)
   act-apart (send q) d = (refl, refl, refl, refl)
   act-apart keep d = (refl, refl, refl, refl)
-  act-apart (bump q c) (dat w [] a l) = (refl, refl, refl, refl)
-  act-apart (bump q c) (dat w (y ∷ []) a l) = (refl, refl, refl, refl)
-  act-apart (bump q c) (dat w (y ∷ x ∷ h) a l) = (refl, and-no (is range (bump q c) (dat w (y ∷ x ∷ h) a l)), unset-or-so (λ v. fault range (whole (v +ℤ x))) (look c (dat w (y ∷ x ∷ h) a l)), refl)
   act-apart (unary q o) d = (refl, and-no (is range (unary q o) d), and-no (is range (unary q o) d), refl)
   act-apart (binary q o) (dat [] h a l) = (refl, refl, refl, refl)
   act-apart (binary q o) (dat (Unset ∷ w) h a l) = (refl, refl, refl, refl)
@@ -711,9 +683,11 @@ module _ (ps : List ℕ) (fs : List Frame) (t : ℕ) where
       (refl, one-fault (apply2 o x y) (binary-faulty o x y), and-no (is range (binary q o) d), and-no (is zeroDivisor (binary q o) d))
   act-apart (lend c) d = (refl, refl, refl, refl)
   act-apart (tested q) d = (refl, refl, refl, refl)
-  act-apart (added q c) (dat w [] a l) = (refl, refl, refl, refl)
-  act-apart (added q c) (dat w (y ∷ []) a l) = (refl, refl, refl, refl)
-  act-apart (added q c) (dat w (y ∷ x ∷ h) a l) = (refl, and-no (is range (added q c) (dat w (y ∷ x ∷ h) a l)), unset-or-so (λ v. fault range (whole (v +ℤ x))) (look c (dat w (y ∷ x ∷ h) a l)), refl)
+  act-apart (added q c) (dat [] h a l) = (refl, refl, refl, refl)
+  act-apart (added q c) (dat (Unset ∷ w) h a l) = (refl, refl, refl, refl)
+  act-apart (added q c) (dat (Named m ∷ w) h a l) = (refl, refl, refl, refl)
+  act-apart (added q c) (dat (Holds x ∷ w) h a l) =
+      (refl, and-no (is range (added q c) (dat (Holds x ∷ w) h a l)), unset-or-so (λ v. fault range (whole (v +ℤ x))) (look c (dat w h a l)), refl)
 
   test-apart : (a : Test ℕ) (d : Data) → Apart (due ps fs d (left t ∷ asksTest a))
   test-apart condition d = (refl, refl, refl, refl)

@@ -184,15 +184,15 @@ answer-29-next : machine (9 ∷ 0 ∷ []) ([]) 1000 6 3 ≡ record { stop = Wron
 unfolding machine finish run step obey exec fetch decode actOf unaryOf binaryOf work test openBlock closeBlock enter leave given newCells newest onValue back look put reading valued hold unhold held input space rest spend taking writing lift guard check frameAt walk cellIn whole apply1 apply2 past
 answer-29-next = refl
 
--- 29 held: ENTER 1 1; CONST 1; STORE 0 0; TEST@3 0 0 4; END
-answer-29-held : machine (3 ∷ 8193 ∷ 12 ∷ 1 ∷ 14 ∷ 0 ∷ 203 ∷ 4 ∷ 1 ∷ 0 ∷ []) ([]) 1000 6 3 ≡ record { stop = Wrong (record { at = 3 }); done = 4; taken = 0; written = [] }
+-- 29 held: ENTER 1 1; CONST 1; STORE 0 0; CONST 2; TEST@3 0 0 5; END
+answer-29-held : machine (3 ∷ 8193 ∷ 12 ∷ 1 ∷ 14 ∷ 0 ∷ 12 ∷ 2 ∷ 203 ∷ 5 ∷ 1 ∷ 0 ∷ []) ([]) 1000 6 3 ≡ record { stop = Wrong (record { at = 4 }); done = 5; taken = 0; written = [] }
 unfolding machine finish run step obey exec fetch decode actOf unaryOf binaryOf work test openBlock closeBlock enter leave given newCells newest onValue back look put reading valued hold unhold held input space rest spend taking writing lift guard check frameAt walk cellIn whole apply1 apply2 past
 answer-29-held = refl
 
--- 29 add: ENTER 1 1; CONST 1; STORE 0 0; ADD@3 0 0; END
-answer-29-add : machine (3 ∷ 8193 ∷ 12 ∷ 1 ∷ 14 ∷ 0 ∷ 213 ∷ 0 ∷ 1 ∷ 0 ∷ []) ([]) 1000 6 3 ≡ record { stop = Wrong (record { at = 3 }); done = 4; taken = 0; written = [] }
+-- 29 sum: ENTER 1 1; CONST 1; STORE 0 0; CONST 2; SUM@3 0 0; END
+answer-29-sum : machine (3 ∷ 8193 ∷ 12 ∷ 1 ∷ 14 ∷ 0 ∷ 12 ∷ 2 ∷ 213 ∷ 0 ∷ 1 ∷ 0 ∷ []) ([]) 1000 6 3 ≡ record { stop = Wrong (record { at = 4 }); done = 5; taken = 0; written = [] }
 unfolding machine finish run step obey exec fetch decode actOf unaryOf binaryOf work test openBlock closeBlock enter leave given newCells newest onValue back look put reading valued hold unhold held input space rest spend taking writing lift guard check frameAt walk cellIn whole apply1 apply2 past
-answer-29-add = refl
+answer-29-sum = refl
 
 -- jumps: CONST 1; UNLESS 3; JUMP 4; END; CONST 0; UNLESS 7; END; CONST 1; CONST 70; OUT; END
 jumps : machine (12 ∷ 1 ∷ 10 ∷ 3 ∷ 2 ∷ 4 ∷ 1 ∷ 0 ∷ 12 ∷ 0 ∷ 10 ∷ 7 ∷ 1 ∷ 0 ∷ 12 ∷ 1 ∷ 12 ∷ 70 ∷ 19 ∷ 0 ∷ 1 ∷ 0 ∷ []) ([]) 1000 6 3 ≡ record { stop = Ended; done = 9; taken = 0; written = pos 70 ∷ [] }
@@ -209,30 +209,35 @@ drop : machine (204 ∷ 2147483647 ∷ 17 ∷ 0 ∷ 1 ∷ 0 ∷ []) ([]) 1000 1 
 unfolding machine finish run step obey exec fetch decode actOf unaryOf binaryOf work test openBlock closeBlock enter leave given newCells newest onValue back look put reading valued hold unhold held input space rest spend taking writing lift guard check frameAt walk cellIn whole apply1 apply2 past
 drop = refl
 
--- mixed for list: ENTER@0 1 1; CONST@5 1; STORE 0 0; GO 0 13 4; CONST@6 2; STORE 0 0; CONST@7 1; CONST@8 3; HOLD; TEST@4 0 0 21; GO 0 13 11; ADD@9 0 0; JUMP 9; ENTER@50 1 14; LOAD@87 0 0; STORE 0 1; CONST@1 1; LOAD@91 0 1; OUT@2; LEAVE 1; NEXT 0; LEAVE 1; END
-mixed-for-list : machine (3 ∷ 8193 ∷ 332 ∷ 1 ∷ 14 ∷ 0 ∷ 8 ∷ 32781 ∷ 396 ∷ 2 ∷ 14 ∷ 0 ∷ 460 ∷ 1 ∷ 524 ∷ 3 ∷ 20 ∷ 0 ∷ 267 ∷ 21 ∷ 8 ∷ 90125 ∷ 597 ∷ 0 ∷ 2 ∷ 9 ∷ 3203 ∷ 8206 ∷ 5581 ∷ 0 ∷ 14 ∷ 8192 ∷ 76 ∷ 1 ∷ 5837 ∷ 8192 ∷ 147 ∷ 0 ∷ 4 ∷ 8192 ∷ 9 ∷ 0 ∷ 4 ∷ 8192 ∷ 1 ∷ 0 ∷ []) ([]) 1000 6 3 ≡ record { stop = Ended; done = 44; taken = 0; written = pos 1 ∷ pos 2 ∷ pos 3 ∷ [] }
+-- mixed for list: ENTER@0 1 1; CONST@5 1; STORE 0 0; GO 0 17 4; CONST@6 2; STORE 0 0; GO 0 7 9; CONST@7 1; NEXT 0; HOLD; CONST@8 3; TEST@4 0 0 25; GO 0 17 13; GO 0 7 14; SUM@9 0 0; STORE 0 0; JUMP 10; ENTER@50 1 18; LOAD@87 0 0; STORE 0 1; CONST@1 1; LOAD@91 0 1; OUT@2; LEAVE 1; NEXT 0; LEAVE 1; END
+mixed-for-list : machine (3 ∷ 8193 ∷ 332 ∷ 1 ∷ 14 ∷ 0 ∷ 8 ∷ 32785 ∷ 396 ∷ 2 ∷ 14 ∷ 0 ∷ 8 ∷ 73735 ∷ 460 ∷ 1 ∷ 9 ∷ 0 ∷ 20 ∷ 0 ∷ 524 ∷ 3 ∷ 267 ∷ 25 ∷ 8 ∷ 106513 ∷ 8 ∷ 114695 ∷ 597 ∷ 0 ∷ 14 ∷ 0 ∷ 2 ∷ 10 ∷ 3203 ∷ 8210 ∷ 5581 ∷ 0 ∷ 14 ∷ 8192 ∷ 76 ∷ 1 ∷ 5837 ∷ 8192 ∷ 147 ∷ 0 ∷ 4 ∷ 8192 ∷ 9 ∷ 0 ∷ 4 ∷ 8192 ∷ 1 ∷ 0 ∷ []) ([]) 1000 6 3 ≡ record { stop = Ended; done = 56; taken = 0; written = pos 1 ∷ pos 2 ∷ pos 3 ∷ [] }
 unfolding machine finish run step obey exec fetch decode actOf unaryOf binaryOf work test openBlock closeBlock enter leave given newCells newest onValue back look put reading valued hold unhold held input space rest spend taking writing lift guard check frameAt walk cellIn whole apply1 apply2 past
 mixed-for-list = refl
 
--- mixed for list, 4 cells: ENTER@0 1 1; CONST@5 1; STORE 0 0; GO 0 13 4; CONST@6 2; STORE 0 0; CONST@7 1; CONST@8 3; HOLD; TEST@4 0 0 21; GO 0 13 11; ADD@9 0 0; JUMP 9; ENTER@50 1 14; LOAD@87 0 0; STORE 0 1; CONST@1 1; LOAD@91 0 1; OUT@2; LEAVE 1; NEXT 0; LEAVE 1; END
-mixed-for-list-4-cells : machine (3 ∷ 8193 ∷ 332 ∷ 1 ∷ 14 ∷ 0 ∷ 8 ∷ 32781 ∷ 396 ∷ 2 ∷ 14 ∷ 0 ∷ 460 ∷ 1 ∷ 524 ∷ 3 ∷ 20 ∷ 0 ∷ 267 ∷ 21 ∷ 8 ∷ 90125 ∷ 597 ∷ 0 ∷ 2 ∷ 9 ∷ 3203 ∷ 8206 ∷ 5581 ∷ 0 ∷ 14 ∷ 8192 ∷ 76 ∷ 1 ∷ 5837 ∷ 8192 ∷ 147 ∷ 0 ∷ 4 ∷ 8192 ∷ 9 ∷ 0 ∷ 4 ∷ 8192 ∷ 1 ∷ 0 ∷ []) ([]) 1000 4 3 ≡ record { stop = Fault (refusal 26 87); done = 21; taken = 0; written = pos 1 ∷ [] }
+-- mixed for list, 4 cells: ENTER@0 1 1; CONST@5 1; STORE 0 0; GO 0 17 4; CONST@6 2; STORE 0 0; GO 0 7 9; CONST@7 1; NEXT 0; HOLD; CONST@8 3; TEST@4 0 0 25; GO 0 17 13; GO 0 7 14; SUM@9 0 0; STORE 0 0; JUMP 10; ENTER@50 1 18; LOAD@87 0 0; STORE 0 1; CONST@1 1; LOAD@91 0 1; OUT@2; LEAVE 1; NEXT 0; LEAVE 1; END
+mixed-for-list-4-cells : machine (3 ∷ 8193 ∷ 332 ∷ 1 ∷ 14 ∷ 0 ∷ 8 ∷ 32785 ∷ 396 ∷ 2 ∷ 14 ∷ 0 ∷ 8 ∷ 73735 ∷ 460 ∷ 1 ∷ 9 ∷ 0 ∷ 20 ∷ 0 ∷ 524 ∷ 3 ∷ 267 ∷ 25 ∷ 8 ∷ 106513 ∷ 8 ∷ 114695 ∷ 597 ∷ 0 ∷ 14 ∷ 0 ∷ 2 ∷ 10 ∷ 3203 ∷ 8210 ∷ 5581 ∷ 0 ∷ 14 ∷ 8192 ∷ 76 ∷ 1 ∷ 5837 ∷ 8192 ∷ 147 ∷ 0 ∷ 4 ∷ 8192 ∷ 9 ∷ 0 ∷ 4 ∷ 8192 ∷ 1 ∷ 0 ∷ []) ([]) 1000 4 3 ≡ record { stop = Fault (refusal 26 91); done = 26; taken = 0; written = pos 1 ∷ [] }
 unfolding machine finish run step obey exec fetch decode actOf unaryOf binaryOf work test openBlock closeBlock enter leave given newCells newest onValue back look put reading valued hold unhold held input space rest spend taking writing lift guard check frameAt walk cellIn whole apply1 apply2 past
 mixed-for-list-4-cells = refl
 
--- step at the end of the range: ENTER 1 1; CONST 2147483646; STORE 0 0; CONST 1; CONST 2147483647; HOLD; TEST 0 0 13; GO 0 10 8; ADD@61 0 0; JUMP 6; CONST 1; LOAD 0 0; OUT; NEXT 0; END
-step-at-the-end-of-the-range : machine (3 ∷ 8193 ∷ 12 ∷ 2147483646 ∷ 14 ∷ 0 ∷ 12 ∷ 1 ∷ 12 ∷ 2147483647 ∷ 20 ∷ 0 ∷ 11 ∷ 13 ∷ 8 ∷ 65546 ∷ 3925 ∷ 0 ∷ 2 ∷ 6 ∷ 12 ∷ 1 ∷ 13 ∷ 0 ∷ 19 ∷ 0 ∷ 9 ∷ 0 ∷ 1 ∷ 0 ∷ []) ([]) 1000 6 3 ≡ record { stop = Fault (refusal 21 61); done = 21; taken = 0; written = pos 2147483646 ∷ pos 2147483647 ∷ [] }
+-- step at the end of the range: ENTER 1 1; CONST 2147483646; STORE 0 0; GO 0 4 6; CONST 1; NEXT 0; HOLD; CONST 2147483647; TEST 0 0 18; GO 0 14 10; GO 0 4 11; SUM@61 0 0; STORE 0 0; JUMP 7; CONST 1; LOAD 0 0; OUT; NEXT 0; END
+step-at-the-end-of-the-range : machine (3 ∷ 8193 ∷ 12 ∷ 2147483646 ∷ 14 ∷ 0 ∷ 8 ∷ 49156 ∷ 12 ∷ 1 ∷ 9 ∷ 0 ∷ 20 ∷ 0 ∷ 12 ∷ 2147483647 ∷ 11 ∷ 18 ∷ 8 ∷ 81934 ∷ 8 ∷ 90116 ∷ 3925 ∷ 0 ∷ 14 ∷ 0 ∷ 2 ∷ 7 ∷ 12 ∷ 1 ∷ 13 ∷ 0 ∷ 19 ∷ 0 ∷ 9 ∷ 0 ∷ 1 ∷ 0 ∷ []) ([]) 1000 6 3 ≡ record { stop = Fault (refusal 21 61); done = 31; taken = 0; written = pos 2147483646 ∷ pos 2147483647 ∷ [] }
 unfolding machine finish run step obey exec fetch decode actOf unaryOf binaryOf work test openBlock closeBlock enter leave given newCells newest onValue back look put reading valued hold unhold held input space rest spend taking writing lift guard check frameAt walk cellIn whole apply1 apply2 past
 step-at-the-end-of-the-range = refl
 
--- down: ENTER 1 1; CONST 3; STORE 0 0; CONST -1; CONST 1; HOLD; TEST 0 0 14; GO 0 10 8; ADD 0 0; JUMP 6; CONST 1; LOAD 0 0; OUT; NEXT 0; LEAVE 1; END
-down : machine (3 ∷ 8193 ∷ 12 ∷ 3 ∷ 14 ∷ 0 ∷ 12 ∷ 4294967295 ∷ 12 ∷ 1 ∷ 20 ∷ 0 ∷ 11 ∷ 14 ∷ 8 ∷ 65546 ∷ 21 ∷ 0 ∷ 2 ∷ 6 ∷ 12 ∷ 1 ∷ 13 ∷ 0 ∷ 19 ∷ 0 ∷ 9 ∷ 0 ∷ 4 ∷ 8192 ∷ 1 ∷ 0 ∷ []) ([]) 1000 6 3 ≡ record { stop = Ended; done = 33; taken = 0; written = pos 3 ∷ pos 2 ∷ pos 1 ∷ [] }
+-- down: ENTER 1 1; CONST 3; STORE 0 0; GO 0 4 6; CONST -1; NEXT 0; HOLD; CONST 1; TEST 0 0 18; GO 0 14 10; GO 0 4 11; SUM 0 0; STORE 0 0; JUMP 7; CONST 1; LOAD 0 0; OUT; NEXT 0; LEAVE 1; END
+down : machine (3 ∷ 8193 ∷ 12 ∷ 3 ∷ 14 ∷ 0 ∷ 8 ∷ 49156 ∷ 12 ∷ 4294967295 ∷ 9 ∷ 0 ∷ 20 ∷ 0 ∷ 12 ∷ 1 ∷ 11 ∷ 18 ∷ 8 ∷ 81934 ∷ 8 ∷ 90116 ∷ 21 ∷ 0 ∷ 14 ∷ 0 ∷ 2 ∷ 7 ∷ 12 ∷ 1 ∷ 13 ∷ 0 ∷ 19 ∷ 0 ∷ 9 ∷ 0 ∷ 4 ∷ 8192 ∷ 1 ∷ 0 ∷ []) ([]) 1000 6 3 ≡ record { stop = Ended; done = 50; taken = 0; written = pos 3 ∷ pos 2 ∷ pos 1 ∷ [] }
 unfolding machine finish run step obey exec fetch decode actOf unaryOf binaryOf work test openBlock closeBlock enter leave given newCells newest onValue back look put reading valued hold unhold held input space rest spend taking writing lift guard check frameAt walk cellIn whole apply1 apply2 past
 down = refl
 
--- step 0: ENTER 1 1; CONST 3; STORE 0 0; CONST 0; CONST 1; HOLD; TEST 0 0 11; GO 0 10 8; ADD 0 0; JUMP 6; NEXT 0; LEAVE 1; END
-step-0 : machine (3 ∷ 8193 ∷ 12 ∷ 3 ∷ 14 ∷ 0 ∷ 12 ∷ 0 ∷ 12 ∷ 1 ∷ 20 ∷ 0 ∷ 11 ∷ 11 ∷ 8 ∷ 65546 ∷ 21 ∷ 0 ∷ 2 ∷ 6 ∷ 9 ∷ 0 ∷ 4 ∷ 8192 ∷ 1 ∷ 0 ∷ []) ([]) 100 6 3 ≡ record { stop = Limit; done = 100; taken = 0; written = [] }
+-- step 0: ENTER 1 1; CONST 3; STORE 0 0; GO 0 4 6; CONST 0; NEXT 0; HOLD; CONST 1; TEST 0 0 15; GO 0 14 10; GO 0 4 11; SUM 0 0; STORE 0 0; JUMP 7; NEXT 0; LEAVE 1; END
+step-0 : machine (3 ∷ 8193 ∷ 12 ∷ 3 ∷ 14 ∷ 0 ∷ 8 ∷ 49156 ∷ 12 ∷ 0 ∷ 9 ∷ 0 ∷ 20 ∷ 0 ∷ 12 ∷ 1 ∷ 11 ∷ 15 ∷ 8 ∷ 81934 ∷ 8 ∷ 90116 ∷ 21 ∷ 0 ∷ 14 ∷ 0 ∷ 2 ∷ 7 ∷ 9 ∷ 0 ∷ 4 ∷ 8192 ∷ 1 ∷ 0 ∷ []) ([]) 100 6 3 ≡ record { stop = Limit; done = 100; taken = 0; written = [] }
 unfolding machine finish run step obey exec fetch decode actOf unaryOf binaryOf work test openBlock closeBlock enter leave given newCells newest onValue back look put reading valued hold unhold held input space rest spend taking writing lift guard check frameAt walk cellIn whole apply1 apply2 past
 step-0 = refl
+
+-- step that changes sign: ENTER 2 1; CONST 1; STORE 0 1; CONST 3; STORE 0 0; GO 0 6 8; LOAD 0 1; NEXT 0; HOLD; CONST 5; TEST 0 0 22; GO 0 16 12; GO 0 6 13; SUM 0 0; STORE 0 0; JUMP 9; CONST 1; LOAD 0 0; OUT; CONST -1; STORE 0 1; NEXT 0; LEAVE 2; END
+step-that-changes-sign : machine (3 ∷ 16385 ∷ 12 ∷ 1 ∷ 14 ∷ 8192 ∷ 12 ∷ 3 ∷ 14 ∷ 0 ∷ 8 ∷ 65542 ∷ 13 ∷ 8192 ∷ 9 ∷ 0 ∷ 20 ∷ 0 ∷ 12 ∷ 5 ∷ 11 ∷ 22 ∷ 8 ∷ 98320 ∷ 8 ∷ 106502 ∷ 21 ∷ 0 ∷ 14 ∷ 0 ∷ 2 ∷ 9 ∷ 12 ∷ 1 ∷ 13 ∷ 0 ∷ 19 ∷ 0 ∷ 12 ∷ 4294967295 ∷ 14 ∷ 8192 ∷ 9 ∷ 0 ∷ 4 ∷ 16384 ∷ 1 ∷ 0 ∷ []) ([]) 1000 6 3 ≡ record { stop = Ended; done = 28; taken = 0; written = pos 3 ∷ [] }
+unfolding machine finish run step obey exec fetch decode actOf unaryOf binaryOf work test openBlock closeBlock enter leave given newCells newest onValue back look put reading valued hold unhold held input space rest spend taking writing lift guard check frameAt walk cellIn whole apply1 apply2 past
+step-that-changes-sign = refl
 
 -- factorial of 5: ENTER@0 0 17; LOAD@40 0 1; CONST@42 0; EQ@41; UNLESS 7; CONST@50 1; JUMP 14; LOAD@60 0 1; RESULT@62; LOAD@63 0 1; CONST@65 1; LESS@64; CALLN@62 1 1 2; TIMES@61; STORE 0 0; RETURN; END; CONST@70 1; RESULT@72; CONST@73 5; CALLN@72 1 0 2; OUT@69; LEAVE 0; END
 factorial-of-5 : machine (3 ∷ 17 ∷ 2573 ∷ 8192 ∷ 2700 ∷ 0 ∷ 2655 ∷ 0 ∷ 10 ∷ 7 ∷ 3212 ∷ 1 ∷ 2 ∷ 14 ∷ 3853 ∷ 8192 ∷ 3984 ∷ 0 ∷ 4045 ∷ 8192 ∷ 4172 ∷ 1 ∷ 4122 ∷ 0 ∷ 3973 ∷ 67125249 ∷ 3931 ∷ 0 ∷ 14 ∷ 0 ∷ 7 ∷ 0 ∷ 1 ∷ 0 ∷ 4492 ∷ 1 ∷ 4624 ∷ 0 ∷ 4684 ∷ 5 ∷ 4613 ∷ 16385 ∷ 4435 ∷ 0 ∷ 4 ∷ 0 ∷ 1 ∷ 0 ∷ []) ([]) 1000 20 3 ≡ record { stop = Ended; done = 81; taken = 0; written = pos 120 ∷ [] }
@@ -316,18 +321,18 @@ ininteger-by-name : machine (3 ∷ 8198 ∷ 204 ∷ 1 ∷ 173 ∷ 0 ∷ 297 ∷ 
 unfolding machine finish run step obey exec workOut fetch decode actOf unaryOf binaryOf work test openBlock closeBlock nameCell enter leave given newCells newest onValue back look put reading valued hold unhold held foundIn find input space rest spend taking writing lift guard check frameAt walk cellIn whole apply1 apply2 past
 ininteger-by-name = refl
 
--- sum: ENTER 1 1; CONST 3; STORE 0 0; CONST 2; CONST 9; HOLD; LEND 0 0; SUM@6 found; STORE found; CONST 1; LOAD 0 0; OUT; END
-sum-found : machine (3 ∷ 8193 ∷ 12 ∷ 3 ∷ 14 ∷ 0 ∷ 12 ∷ 2 ∷ 12 ∷ 9 ∷ 20 ∷ 0 ∷ 43 ∷ 0 ∷ 430 ∷ 67100672 ∷ 14 ∷ 67100672 ∷ 12 ∷ 1 ∷ 13 ∷ 0 ∷ 19 ∷ 0 ∷ 1 ∷ 0 ∷ []) ([]) 1000 6 3 ≡ record { stop = Ended; done = 13; taken = 0; written = pos 5 ∷ [] }
+-- sum: ENTER 1 1; CONST 3; STORE 0 0; CONST 9; HOLD; CONST 2; LEND 0 0; SUM@6 found; STORE found; CONST 1; LOAD 0 0; OUT; END
+sum-found : machine (3 ∷ 8193 ∷ 12 ∷ 3 ∷ 14 ∷ 0 ∷ 12 ∷ 9 ∷ 20 ∷ 0 ∷ 12 ∷ 2 ∷ 43 ∷ 0 ∷ 405 ∷ 67100672 ∷ 14 ∷ 67100672 ∷ 12 ∷ 1 ∷ 13 ∷ 0 ∷ 19 ∷ 0 ∷ 1 ∷ 0 ∷ []) ([]) 1000 6 3 ≡ record { stop = Ended; done = 13; taken = 0; written = pos 5 ∷ [] }
 unfolding machine finish run step obey exec workOut fetch decode actOf unaryOf binaryOf work test openBlock closeBlock nameCell enter leave given newCells newest onValue back look put reading valued hold unhold held foundIn find input space rest spend taking writing lift guard check frameAt walk cellIn whole apply1 apply2 past
 sum-found = refl
 
--- sum, no cell: ENTER 1 1; CONST 3; STORE 0 0; CONST 2; CONST 9; HOLD; LEND 0 0; SUM@6 found; STORE found; CONST 1; LOAD 0 0; OUT; END
-sum-no-cell : machine (3 ∷ 8193 ∷ 12 ∷ 3 ∷ 14 ∷ 0 ∷ 12 ∷ 2 ∷ 12 ∷ 9 ∷ 20 ∷ 0 ∷ 43 ∷ 0 ∷ 430 ∷ 67100672 ∷ 14 ∷ 67100672 ∷ 12 ∷ 1 ∷ 13 ∷ 0 ∷ 19 ∷ 0 ∷ 1 ∷ 0 ∷ []) ([]) 1000 3 3 ≡ record { stop = Fault (refusal 26 6); done = 8; taken = 0; written = [] }
+-- sum, no cell to spare: ENTER 1 1; CONST 3; STORE 0 0; CONST 9; HOLD; CONST 2; LEND 0 0; SUM@6 found; STORE found; END
+sum-no-cell-to-spare : machine (3 ∷ 8193 ∷ 12 ∷ 3 ∷ 14 ∷ 0 ∷ 12 ∷ 9 ∷ 20 ∷ 0 ∷ 12 ∷ 2 ∷ 43 ∷ 0 ∷ 405 ∷ 67100672 ∷ 14 ∷ 67100672 ∷ 1 ∷ 0 ∷ []) ([]) 1000 3 3 ≡ record { stop = Ended; done = 10; taken = 0; written = [] }
 unfolding machine finish run step obey exec workOut fetch decode actOf unaryOf binaryOf work test openBlock closeBlock nameCell enter leave given newCells newest onValue back look put reading valued hold unhold held foundIn find input space rest spend taking writing lift guard check frameAt walk cellIn whole apply1 apply2 past
-sum-no-cell = refl
+sum-no-cell-to-spare = refl
 
--- sum out of range: ENTER 1 1; CONST 2147483647; STORE 0 0; CONST 1; CONST 9; HOLD; SUM@6 0 0; END
-sum-out-of-range : machine (3 ∷ 8193 ∷ 12 ∷ 2147483647 ∷ 14 ∷ 0 ∷ 12 ∷ 1 ∷ 12 ∷ 9 ∷ 20 ∷ 0 ∷ 430 ∷ 0 ∷ 1 ∷ 0 ∷ []) ([]) 1000 3 3 ≡ record { stop = Fault (refusal 21 6); done = 7; taken = 0; written = [] }
+-- sum out of range: ENTER 1 1; CONST 2147483647; STORE 0 0; CONST 9; HOLD; CONST 1; SUM@6 0 0; END
+sum-out-of-range : machine (3 ∷ 8193 ∷ 12 ∷ 2147483647 ∷ 14 ∷ 0 ∷ 12 ∷ 9 ∷ 20 ∷ 0 ∷ 12 ∷ 1 ∷ 405 ∷ 0 ∷ 1 ∷ 0 ∷ []) ([]) 1000 3 3 ≡ record { stop = Fault (refusal 21 6); done = 7; taken = 0; written = [] }
 unfolding machine finish run step obey exec workOut fetch decode actOf unaryOf binaryOf work test openBlock closeBlock nameCell enter leave given newCells newest onValue back look put reading valued hold unhold held foundIn find input space rest spend taking writing lift guard check frameAt walk cellIn whole apply1 apply2 past
 sum-out-of-range = refl
 

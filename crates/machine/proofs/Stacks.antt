@@ -225,15 +225,8 @@ unfolding heldOf
 held-cons zero s h = absurd (not-suc-le-zero h)
 held-cons (suc n) s h = let e : suc n - 1 ≡ n = omega arith in rw e
 
-pub held-cons2 : (n : ℕ) (s : List ℤ) → 2 ≤ n
-    → heldOf n s ≡ heldIn (cellAt s (roomOf s - n)) ∷ heldIn (cellAt s (roomOf s - (n - 1))) ∷ heldOf (n - 2) s
-held-cons2 n s h =
-    let e : n - 1 - 1 ≡ n - 2 = omega arith in
-    held-cons n s (omega arith)
-    ∙ ap (λ (l : List ℤ). heldIn (cellAt s (roomOf s - n)) ∷ l) (rw (← e) (held-cons (n - 1) s (omega arith)))
-
-pub held-drop : (n : ℕ) (s : List ℤ) → 2 ≤ n → drop 2 (heldOf n s) ≡ heldOf (n - 2) s
-held-drop n s h = rw (held-cons2 n s h)
+pub held-drop : (n : ℕ) (s : List ℤ) → 1 ≤ n → drop 1 (heldOf n s) ≡ heldOf (n - 1) s
+held-drop n s h = rw (held-cons n s h)
 
 -- ---- what the code relies on, kept
 

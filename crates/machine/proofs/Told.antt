@@ -1,5 +1,5 @@
 -- The data that the counts and the store hold, for input and output, held values, blocks and activations.
-use mathlib.Core.Path.{_≡_, refl, ap, ap₂, subst, _∙_}
+use mathlib.Core.Path.{_≡_, refl, sym, ap, ap₂, subst, _∙_}
 use mathlib.Core.Bool.{Bool, true, false, cond}
 use mathlib.Core.List.{List, [], _∷_}
 use Prim.Native.Nat.{ℕ, zero, suc, _+_, _-_, _≤_, _<_}
@@ -16,15 +16,14 @@ use Rattle.answers.specs.Numbers.{unassigned as notAssigned}
 use Rattle.machine.specs.declared.Cell.{Cell}
 use Rattle.machine.specs.declared.Cell.the-variants.{Unset, Holds, Named}
 use Rattle.machine.specs.declared.Counts.{Counts}
-use Rattle.machine.specs.declared.Pair.{Pair}
-use Rattle.machine.specs.declared.Pair.the-variants.{Values as Values2, Nothing as Nothing2}
-use Rattle.machine.specs.declared.Number.the-variants.{Not}
+use Rattle.machine.specs.declared.Number.{Number}
+use Rattle.machine.specs.declared.Number.the-variants.{Is, Not}
 use Rattle.machine.specs.Values.{past}
 use Rattle.machine.specs.Run.{say, wrote}
-use Rattle.machine.specs.Data.{Data, dat, Lent, Res, wrong, guard, input, space, rest, spend, hold, unhold, held, closeBlock, kept, gone, given, leave}
-use Rattle.machine.specs.Model.{Own, left, numberIn, cellAt, putAt, roomOf, cellsOf, heldOf, dataOf, traceOf, told, fine, ill, lost, holding, HeldIn, Sound}
-use Rattle.machine.proofs.Stacks.{cells-length, cells-cons, cells-drop, held-cons2, held-drop, room-put, sound-same}
-use Rattle.machine.proofs.Kept.{hold-data, sound-hold, held-number}
+use Rattle.machine.specs.Data.{Data, dat, Lent, Res, wrong, guard, input, space, rest, spend, back, hold, unhold, held, closeBlock, kept, gone, given, leave}
+use Rattle.machine.specs.Model.{Own, left, numberIn, heldIn, cellAt, putAt, roomOf, cellsOf, heldOf, dataOf, traceOf, told, fine, ill, lost, holding, HeldIn, Sound}
+use Rattle.machine.proofs.Stacks.{cells-length, cells-cons, cells-drop, held-cons, held-drop, room-put, sound-same}
+use Rattle.machine.proofs.Kept.{hold-data, sound-hold}
 
 -- ---- input and output
 
@@ -81,82 +80,79 @@ took-sound n s g = sound-same n (tookOne n) s g (omega arith) (g .room)
 pub hold-put : (s : List ℤ) {s' : List ℤ} (r h : ℕ) {v v' : ℤ} → s' ≡ putAt s (r - 1 - h) (Holds v') → r ≡ roomOf s → v' ≡ v → s' ≡ putAt s (roomOf s - 1 - h) (Holds v)
 hold-put s r h e p q = rw (← p, ← q) e
 
-module _ (m : Counts) (s : List ℤ) {s' : List ℤ} {l : Counts} (x' : ℤ) (e : s' ≡ putAt s (roomOf s - 1 - m .held) (Holds x')) (d : l ≡ holding m) (h : m .cells + m .held + 2 ≤ roomOf s) where
-  pub first-room : roomOf s' ≡ roomOf s
-  first-room = rw e (room-put s (roomOf s - 1 - m .held) (Holds x'))
+module _ (m : Counts) (s : List ℤ) {s' : List ℤ} {l : Counts} {x x' : ℤ} (e : s' ≡ putAt s (roomOf s - 1 - m .held) (Holds x')) (p : x' ≡ x) (f : SFits w32 x) (d : l ≡ holding m) (h : m .cells + m .held < roomOf s) where
+  pub hold-is : (a : Own) (i o : List ℤ) → dataOf l a s' i o ≡ hold x (dataOf m a s i o)
+  unfolding hold
+  hold-is a i o = rw (d, e, p) (hold-data m a s i o x f h)
 
-  pub first-less : l .cells + l .held < roomOf s'
-  first-less = rw (first-room, d) (omega arith)
+  pub hold-sound : Sound m s → Sound l s'
+  hold-sound g = rw (d, e, p) (sound-hold m s x f g h)
 
-pub held-trace : (m l k : Counts) (o : List ℤ) → l ≡ holding m → k ≡ holding l → traceOf k o ≡ traceOf m o
-held-trace m l k o d d' = ap (λ (c : Counts). traceOf c o) d' ∙ ap (λ (c : Counts). traceOf c o) d
+pub held-trace : (m l : Counts) (o : List ℤ) → l ≡ holding m → traceOf l o ≡ traceOf m o
+held-trace m l o d = ap (λ (c : Counts). traceOf c o) d
 
-pub held-written : (m l k : Counts) → l ≡ holding m → k ≡ holding l → k .written ≡ m .written
-held-written m l k d d' = ap (λ (c : Counts). c .written) d' ∙ ap (λ (c : Counts). c .written) d
+pub held-written : (m l : Counts) → l ≡ holding m → l .written ≡ m .written
+held-written m l d = ap (λ (c : Counts). c .written) d
 
-module _ (m : Counts) (a : Own) (s i o : List ℤ) {s' s'' : List ℤ} {l k : Counts} {x y x' y' : ℤ}
-    (e : s' ≡ putAt s (roomOf s - 1 - m .held) (Holds x')) (p : x' ≡ x) (f : SFits w32 x) (d : l ≡ holding m)
-    (e' : s'' ≡ putAt s' (roomOf s' - 1 - l .held) (Holds y')) (p' : y' ≡ y) (f' : SFits w32 y) (d' : k ≡ holding l)
-    (h : m .cells + m .held + 2 ≤ roomOf s)
-  where
-    pub two-held : dataOf k a s'' i o ≡ hold x y (dataOf m a s i o)
-    unfolding hold
-    two-held =
-        let u = hold-data l a s' i o y f' (first-less m s _ e d h) in
-        let w = hold-data m a s i o x f (omega arith) in
-        ap₂ (λ (c : Counts) (z : List ℤ). dataOf c a z i o) d' (e' ∙ ap (λ (z : ℤ). putAt s' (roomOf s' - 1 - l .held) (Holds z)) p')
-        ∙ u
-        ∙ ap (λ (z : Data). with-held y z) (ap₂ (λ (c : Counts) (z : List ℤ). dataOf c a z i o) d (e ∙ ap (λ (z : ℤ). putAt s (roomOf s - 1 - m .held) (Holds z)) p) ∙ w)
-      where
-        with-held : ℤ → Data → Data
-        with-held v (dat w h a l) = dat w (v ∷ h) a l
+-- the newest held cell holds a number
+pub held-in : (n : Counts) (s : List ℤ) {r : ℕ} {u : Number} → Sound n s → r ≡ roomOf s → 1 ≤ n .held → u ≡ numberIn (cellAt s (r - n .held)) → HeldIn n u s
+held-in n s {r} {u} g e h z =
+    let k : roomOf s - suc (n .held - 1) ≡ roomOf s - n .held = omega arith in
+    let y : cellAt s (roomOf s - n .held) ≡ Holds (heldIn (cellAt s (roomOf s - n .held))) = rw k at (g .holds (n .held - 1) (omega arith)) in
+    let w : u ≡ numberIn (cellAt s (roomOf s - n .held)) = z ∙ rw e in
+    subst (λ (v : Number). HeldIn n v s) (sym (w ∙ ap numberIn y)) (h, held-cons (n .held) s h)
 
-    pub two-held-sound : Sound m s → Sound k s''
-    two-held-sound g =
-        let u : Sound l s' = rw (d, e, p) (sound-hold m s x f g (omega arith)) in
-        rw (d', e', p') (sound-hold l s' y f' u (first-less m s _ e d h))
-
-module _ {n : Counts} {s : List ℤ} (g : Sound n s) {r : ℕ} (e : r ≡ roomOf s) (h : 2 ≤ n .held) where
-  pub step-number : numberIn (cellAt s (r - (n .held - 1))) ≡ Not → ⊥
-  step-number z =
-      let k : roomOf s - suc (n .held - 2) ≡ r - (n .held - 1) = omega arith in
-      held-number n s (n .held - 2) g (omega arith) (rw k z)
-
-  pub bound-number : numberIn (cellAt s (r - n .held)) ≡ Not → ⊥
-  bound-number z =
-      let k : roomOf s - suc (n .held - 1) ≡ r - n .held = omega arith in
-      held-number n s (n .held - 1) g (omega arith) (rw k z)
-
-  pub both-held : {x y x' y' : ℤ} → cellAt s (r - (n .held - 1)) ≡ Holds x → cellAt s (r - n .held) ≡ Holds y → x' ≡ x → y' ≡ y → heldOf (n .held) s ≡ y' ∷ x' ∷ heldOf (n .held - 2) s
-  both-held a b p q = held-cons2 (n .held) s h ∙ rw (← e, a, b, p, q)
-
-held-few : {A : Type 0} (f : ℤ → ℤ → Res A) (k : ℕ) (w : List Cell) (s : List ℤ) (a : ℕ) (l : Lent) → k < 2 → held f (dat w (heldOf k s) a l) ≡ wrong
+held-zero : {A : Type 0} (f : ℤ → Res A) (k : ℕ) (w : List Cell) (s : List ℤ) (a : ℕ) (l : Lent) → k ≡ 0 → held f (dat w (heldOf k s) a l) ≡ wrong
 unfolding held heldOf
-held-few f zero w s a l h = refl
-held-few f (suc zero) w s a l h = refl
-held-few f (suc (suc k)) w s a l h = absurd (omega arith)
+held-zero f zero w s a l h = refl
+held-zero f (suc k) w s a l h = absurd (omega arith)
 
-module _ {A : Type 0} (n : Counts) (a : Own) (s i o : List ℤ) {u : Pair} (f : ℤ → ℤ → Res A) where
-  pub held-none : u ≡ Nothing2 → HeldIn n u s → held f (dataOf n a s i o) ≡ wrong
-  held-none e h = held-few f (n .held) _ s (a .live) _ (subst (λ (w : Pair). HeldIn n w s) e h)
+module _ {A : Type 0} (n : Counts) (a : Own) (s i o : List ℤ) where
+  pub none-held : n .held ≡ 0 → (f : ℤ → Res A) → held f (dataOf n a s i o) ≡ wrong
+  none-held h f = held-zero f (n .held) _ s (a .live) _ h
 
-  pub held-some : {x y : ℤ} {m : Counts} → u ≡ Values2 x y m → HeldIn n u s → held f (dataOf n a s i o) ≡ f x y
+  -- whatever it is
+  pub some-held : 1 ≤ n .held → (r : Res A) → held (λ y. r) (dataOf n a s i o) ≡ r
   unfolding held
-  held-some e h = rw (subst (λ (w : Pair). HeldIn n w s) e h .2)
+  some-held h r = rw (held-cons (n .held) s h)
 
-pub held-least : (n : Counts) (s : List ℤ) {u : Pair} {x y : ℤ} {m : Counts} → u ≡ Values2 x y m → HeldIn n u s → 2 ≤ n .held
-held-least n s e h = subst (λ (w : Pair). HeldIn n w s) e h .0
+  module _ {u : Number} where
+    pub held-none : u ≡ Not → HeldIn n u s → (f : ℤ → Res A) → held f (dataOf n a s i o) ≡ wrong
+    held-none e h = none-held (subst (λ (w : Number). HeldIn n w s) e h)
 
--- the loop is left
+    pub held-some : {x : ℤ} → u ≡ Is x → HeldIn n u s → (f : ℤ → Res A) → held f (dataOf n a s i o) ≡ f x
+    unfolding held
+    held-some e h f = rw (subst (λ (w : Number). HeldIn n w s) e h .1)
+
+pub held-least : (n : Counts) (s : List ℤ) {u : Number} {x : ℤ} → u ≡ Is x → HeldIn n u s → 1 ≤ n .held
+held-least n s e h = subst (λ (w : Number). HeldIn n w s) e h .0
+
+-- a step goes
 abbrev pub released : Counts → Counts
-released n = record { cells = n .cells; held = n .held - 2; taken = n .taken; written = n .written }
+released n = record { cells = n .cells; held = n .held - 1; taken = n .taken; written = n .written }
 
-pub unhold-data : (n : Counts) (a : Own) (s i o : List ℤ) → 2 ≤ n .held → dataOf (released n) a s i o ≡ unhold (dataOf n a s i o)
+pub unhold-data : (n : Counts) (a : Own) (s i o : List ℤ) → 1 ≤ n .held → dataOf (released n) a s i o ≡ unhold (dataOf n a s i o)
 unfolding unhold
 unhold-data n a s i o h = rw (held-drop (n .held) s h)
 
 pub unhold-sound : (n : Counts) (s : List ℤ) → Sound n s → Sound (released n) s
 unhold-sound n s g = sound-same n (released n) s g (omega arith) (omega (arith, g .room))
+
+-- .. and a new one has its place
+module _ (n : Counts) (s : List ℤ) {s' : List ℤ} {l : Counts} {x x' : ℤ} (e : s' ≡ putAt s (roomOf s - 1 - (n .held - 1)) (Holds x')) (p : x' ≡ x) (f : SFits w32 x) (d : l ≡ holding (released n)) (h : n .cells + n .held < roomOf s) (k : 1 ≤ n .held) where
+  pub renew-data : (a : Own) (i o : List ℤ) → dataOf l a s' i o ≡ hold x (unhold (dataOf n a s i o))
+  renew-data a i o = hold-is (released n) s e p f d (omega arith) a i o ∙ ap (hold x) (unhold-data n a s i o k)
+
+  pub renew-sound : Sound n s → Sound l s'
+  renew-sound g = hold-sound (released n) s e p f d (omega arith) (unhold-sound n s g)
+
+  pub renew-room : l .cells + l .held < roomOf s'
+  renew-room =
+      let r : roomOf s' ≡ roomOf s = rw e (room-put s (roomOf s - 1 - (n .held - 1)) (Holds x')) in
+      rw (r, d) (omega arith)
+
+  pub renew-done : {z z' : ℤ} (a : Own) (i o : List ℤ) → z' ≡ z → fine (back z' (dataOf l a s' i o)) (traceOf l o) ≡ fine (back z (hold x (unhold (dataOf n a s i o)))) (traceOf n o)
+  renew-done {z} {z'} a i o r = ap₂ fine (ap₂ back r (renew-data a i o)) (held-trace (released n) l o d)
 
 pub past-is : {r b : Bool} (v : ℤ) {x y x' y' : ℤ} → r ≡ past v x' y' → x' ≡ x → y' ≡ y → r ≡ b → past v x y ≡ b
 past-is v e p q t = rw (← p, ← q, ← e) t

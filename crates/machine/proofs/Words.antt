@@ -10,7 +10,7 @@ use mir.Syntax.{w32}
 use mir.Facts.{toZ-ofZ}
 use Rattle.machine.specs.Operations.{o-end, o-jump, o-enter, o-leave, o-call-needed, o-call, o-return, o-go, o-next, o-unless, o-test, o-name, o-work, o-seek, o-pass, o-refuse}
 use Rattle.machine.specs.Values.{minus, negation, absolute, plus, less, times, over, below, atMost, equal, atLeast, above, unequal, and, or, impl, equiv}
-use Rattle.machine.specs.Data.{Act, push, load, store, assign, reserve, forget, receive, send, keep, bump, unary, binary, lend, channel, sum, condition, upto, kept, gone}
+use Rattle.machine.specs.Data.{Act, push, load, store, assign, reserve, forget, receive, send, keep, unary, binary, lend, channel, sum, condition, upto, kept, gone}
 use Rattle.machine.specs.Instructions.{Loc, lc, fnd, Instr, END, DO, IF, JUMP, ENTER, LEAVE, CALL, RETURN, GO, NEXT, NAME, WORK, SEEK, PASS, REFUSE, sixBits, thirteenBits, foundOffset, pack, high, mid, low, variable, unaryOf, binaryOf, actOf, decode, instruction}
 use Rattle.machine.specs.Words.{beside, partsOfAct, partsOf, firstWord, LocFits, ActFits, InstrFits}
 
@@ -70,7 +70,6 @@ back-act forget h = refl
 back-act (receive q x) h = ap (λ x. some (DO (receive q x))) (loc-back x 0 h (omega arith))
 back-act (send q) h = refl
 back-act keep h = refl
-back-act (bump q x) h = ap (λ x. some (DO (bump q x))) (loc-back x 0 h (omega arith))
 back-act (unary q minus) h = refl
 back-act (unary q negation) h = refl
 back-act (unary q absolute) h = refl
@@ -103,7 +102,6 @@ act-below forget = omega arith
 act-below (receive q x) = omega arith
 act-below (send q) = omega arith
 act-below keep = omega arith
-act-below (bump q x) = omega arith
 act-below (unary q minus) = omega arith
 act-below (unary q negation) = omega arith
 act-below (unary q absolute) = omega arith

@@ -15,7 +15,7 @@ use Rattle.machine.specs.declared.Value.{Value}
 use Rattle.machine.specs.declared.Value.the-variants.{Is, Fault}
 use Rattle.machine.specs.Values.{isZero, same, past, whole, Unary, apply1, Binary, apply2}
 use Rattle.machine.specs.Run.{Trace, say, quiet, wrote, took}
-use Rattle.machine.specs.Data.{Data, cells, Res, wrong, good, guard, check, value, nothing, newest, onValue, two, back, put, look, plain, newCells, reading, valued, within, nameCell, onChannel, taking, writing, input, space, rest, spend, hold, unhold, held, find, Act, push, load, store, assign, reserve, forget, receive, send, keep, bump, unary, binary, lend, channel, sum, work, Two, yea, nay, condition, upto, test}
+use Rattle.machine.specs.Data.{Data, cells, Res, wrong, good, guard, check, value, nothing, newest, onValue, two, back, put, look, plain, newCells, reading, valued, within, nameCell, onChannel, taking, writing, input, space, rest, spend, hold, unhold, held, find, Act, push, load, store, assign, reserve, forget, receive, send, keep, unary, binary, lend, channel, sum, work, Two, yea, nay, condition, upto, test}
 use Rattle.machine.specs.Model.{fine, ill, lost, told, numberIn}
 
 -- ---- values used
@@ -200,79 +200,61 @@ module _ (t : Trace) (d : Data) where
 
   -- ---- loops
 
-  pub keep-none : ((f : ℤ → ℤ → Data → Res Data) → two f d ≡ wrong) → lost ≡ told t (work keep d)
-  unfolding work told
-  keep-none e = sym (ap (told t) (e _))
+  pub keep-none : newest d ≡ nothing → lost ≡ told t (work keep d)
+  unfolding work told onValue
+  keep-none e = rw e
 
-  pub keep-some : {x y : ℤ} {m l : Data} {t' : Trace} → ((f : ℤ → ℤ → Data → Res Data) → two f d ≡ f x y m) → t' ≡ t → l ≡ hold x y m → fine l t' ≡ told t (work keep d)
-  unfolding work told
-  keep-some e r p = rw (r, p) (sym (ap (told t) (e _)))
+  pub keep-some : {x : ℤ} {m l : Data} {t' : Trace} → newest d ≡ value x m → t' ≡ t → l ≡ hold x m → fine l t' ≡ told t (work keep d)
+  unfolding work told onValue
+  keep-some e r p = rw (e, r, p)
 
   module _ (q c : ℕ) where
-    pub bump-none : ((f : ℤ → ℤ → Res Data) → held f d ≡ wrong) → lost ≡ told t (work (bump q c) d)
-    unfolding work told
-    bump-none e = sym (ap (told t) (e _))
+    pub sum-none : newest d ≡ nothing → lost ≡ told t (work (sum q c) d)
+    unfolding work told onValue
+    sum-none e = rw e
 
-    pub bump-some : {x y x' : ℤ} → ((f : ℤ → ℤ → Res Data) → held f d ≡ f x y) → x' ≡ x
-        → told t (within c d (reading q (λ v. valued q (λ z. good quiet (put c z d)) (whole (v +ℤ x'))) (look c d))) ≡ told t (work (bump q c) d)
-    unfolding work
-    bump-some e p = rw p (sym (ap (told t) (e _)))
+    pub upto-none : newest d ≡ nothing → lost ≡ told t (test (upto q c) d)
+    unfolding test told onValue
+    upto-none e = rw e
 
-    pub upto-none : ((f : ℤ → ℤ → Res Two) → held f d ≡ wrong) → lost ≡ told t (test (upto q c) d)
-    unfolding test told
-    upto-none e = sym (ap (told t) (e _))
+    module _ {z : ℤ} {m : Data} (e : newest d ≡ value z m) where
+      pub sum-few : ((f : ℤ → Res Data) → held f m ≡ wrong) → lost ≡ told t (work (sum q c) d)
+      unfolding work told onValue
+      sum-few g = rw e (sym (ap (told t) (g _)))
 
-    pub upto-some : {x y x' y' : ℤ} → ((f : ℤ → ℤ → Res Two) → held f d ≡ f x y) → x' ≡ x → y' ≡ y
-        → told t (within c d (reading q (λ v. good quiet (cond (past v x' y') (nay (unhold d)) (yea d))) (look c d))) ≡ told t (test (upto q c) d)
-    unfolding test
-    upto-some e p p' = rw (p, p') (sym (ap (told t) (e _)))
+      pub sum-some : {z' : ℤ} {t' : Trace} → ((r : Res Data) → held (λ y. r) m ≡ r) → t' ≡ t → z' ≡ z
+          → told t' (within c m (reading q (λ v. valued q (λ s. good quiet (back s (hold z' (unhold m)))) (whole (v +ℤ z'))) (look c m))) ≡ told t (work (sum q c) d)
+      unfolding work onValue
+      sum-some g r p = rw (e, r, p) (sym (ap (told t) (g _)))
 
+      pub upto-few : ((f : ℤ → Res Two) → held f m ≡ wrong) → lost ≡ told t (test (upto q c) d)
+      unfolding test told onValue
+      upto-few g = rw e (sym (ap (told t) (g _)))
+
+      pub upto-some : {x x' z' : ℤ} {t' : Trace} → ((f : ℤ → Res Two) → held f m ≡ f x) → t' ≡ t → x' ≡ x → z' ≡ z
+          → told t' (within c m (reading q (λ v. good quiet (cond (past v x' z') (nay (unhold m)) (yea m))) (look c m))) ≡ told t (test (upto q c) d)
+      unfolding test onValue
+      upto-some g r p p' = rw (e, r, p, p') (sym (ap (told t) (g _)))
+
+  -- the sum, in the cell that the step's value left
   module _ (q c : ℕ) (x : ℤ) where
-    pub add-out : ltb c (cells d) ≡ false → lost ≡ told t (within c d (reading q (λ v. valued q (λ z. good quiet (put c z d)) (whole (v +ℤ x))) (look c d)))
-    unfolding told guard
-    add-out e = rw e
-
-    pub add-not : {y : Cell} → ltb c (cells d) ≡ true → look c d ≡ y
-        → told t (guard (plain y) (reading q (λ v. valued q (λ z. good quiet (put c z d)) (whole (v +ℤ x))) y)) ≡ told t (within c d (reading q (λ v. valued q (λ z. good quiet (put c z d)) (whole (v +ℤ x))) (look c d)))
-    unfolding guard
-    add-not e g = rw (e, g)
-
-    pub add-fault : {v : ℤ} {a : Answer} → ltb c (cells d) ≡ true → look c d ≡ Holds v → Fault a ≡ whole (v +ℤ x) → ill (a .number) q ≡ told t (within c d (reading q (λ v. valued q (λ z. good quiet (put c z d)) (whole (v +ℤ x))) (look c d)))
-    unfolding told guard reading valued
-    add-fault e g h = rw (e, g, ← h)
-
-    pub add-some : {v z z' : ℤ} → ltb c (cells d) ≡ true → look c d ≡ Holds v → Is z ≡ whole (v +ℤ x) → z' ≡ z → fine (put c z' d) t ≡ told t (within c d (reading q (λ v. valued q (λ z. good quiet (put c z d)) (whole (v +ℤ x))) (look c d)))
-    unfolding told guard reading valued
-    add-some e g h p = rw (e, g, p, ← h)
-
-  -- the sum in a new cell
-  module _ (q c : ℕ) (x : ℤ) where
-    pub total-out : ltb c (cells d) ≡ false → lost ≡ told t (within c d (reading q (λ v. valued q (λ z. newCells q (Holds z ∷ []) d) (whole (v +ℤ x))) (look c d)))
+    pub total-out : ltb c (cells d) ≡ false → lost ≡ told t (within c d (reading q (λ v. valued q (λ z. good quiet (back z (hold x (unhold d)))) (whole (v +ℤ x))) (look c d)))
     unfolding told guard
     total-out e = rw e
 
     pub total-not : {y : Cell} → ltb c (cells d) ≡ true → look c d ≡ y
-        → told t (guard (plain y) (reading q (λ v. valued q (λ z. newCells q (Holds z ∷ []) d) (whole (v +ℤ x))) y)) ≡ told t (within c d (reading q (λ v. valued q (λ z. newCells q (Holds z ∷ []) d) (whole (v +ℤ x))) (look c d)))
+        → told t (guard (plain y) (reading q (λ v. valued q (λ z. good quiet (back z (hold x (unhold d)))) (whole (v +ℤ x))) y)) ≡ told t (within c d (reading q (λ v. valued q (λ z. good quiet (back z (hold x (unhold d)))) (whole (v +ℤ x))) (look c d)))
     unfolding guard
     total-not e g = rw (e, g)
 
-    pub total-fault : {v : ℤ} {a : Answer} → ltb c (cells d) ≡ true → look c d ≡ Holds v → Fault a ≡ whole (v +ℤ x) → ill (a .number) q ≡ told t (within c d (reading q (λ v. valued q (λ z. newCells q (Holds z ∷ []) d) (whole (v +ℤ x))) (look c d)))
+    pub total-fault : {v : ℤ} {a : Answer} → ltb c (cells d) ≡ true → look c d ≡ Holds v → Fault a ≡ whole (v +ℤ x) → ill (a .number) q ≡ told t (within c d (reading q (λ v. valued q (λ z. good quiet (back z (hold x (unhold d)))) (whole (v +ℤ x))) (look c d)))
     unfolding told guard reading valued
     total-fault e g h = rw (e, g, ← h)
 
-    pub total-some : {v z z' : ℤ} → ltb c (cells d) ≡ true → look c d ≡ Holds v → Is z ≡ whole (v +ℤ x) → z' ≡ z → told t (newCells q (Holds z' ∷ []) d) ≡ told t (within c d (reading q (λ v. valued q (λ z. newCells q (Holds z ∷ []) d) (whole (v +ℤ x))) (look c d)))
-    unfolding guard reading valued
-    total-some e g h p = rw (e, g, p, ← h)
-
-  module _ (q c : ℕ) where
-    pub sum-none : ((f : ℤ → ℤ → Res Data) → held f d ≡ wrong) → lost ≡ told t (work (sum q c) d)
-    unfolding work told
-    sum-none e = sym (ap (told t) (e _))
-
-    pub sum-some : {x y x' : ℤ} → ((f : ℤ → ℤ → Res Data) → held f d ≡ f x y) → x' ≡ x
-        → told t (within c d (reading q (λ v. valued q (λ z. newCells q (Holds z ∷ []) d) (whole (v +ℤ x'))) (look c d))) ≡ told t (work (sum q c) d)
-    unfolding work
-    sum-some e p = rw p (sym (ap (told t) (e _)))
+    pub total-some : {v x' z z' : ℤ} → ltb c (cells d) ≡ true → look c d ≡ Holds v → Is z ≡ whole (v +ℤ x) → x' ≡ x → z' ≡ z
+        → fine (back z' (hold x' (unhold d))) t ≡ told t (within c d (reading q (λ v. valued q (λ z. good quiet (back z (hold x (unhold d)))) (whole (v +ℤ x))) (look c d)))
+    unfolding told guard reading valued
+    total-some e g h p p' = rw (e, g, p, p', ← h)
 
   module _ (q c : ℕ) (x y : ℤ) where
     pub past-out : ltb c (cells d) ≡ false → lost ≡ told t (within c d (reading q (λ v. good quiet (cond (past v x y) (nay (unhold d)) (yea d))) (look c d)))

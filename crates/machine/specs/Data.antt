@@ -29,7 +29,7 @@ pub record Lent : Type 0 where
   pub found : ℕ
 
 -- The cells in use, the newest first (cell 0 is the oldest): "one per variable of an entered block; for a typed call one result cell first;
--- one per evaluated value until it is used; actuals become formals". Then the held steps and bounds, the newest first; then how many
+-- one per evaluated value until it is used; actuals become formals". Then the held steps, the newest first; then how many
 -- activations are live; then what was lent.
 pub data Data : Type 0 where
   dat : List Cell → List ℤ → ℕ → Lent → Data
@@ -120,19 +120,18 @@ unfoldable pub valued : {A : Type 0} → ℕ → (ℤ → Res A) → Value → R
 valued q f (Is v) = f v
 valued q f (Fault a) = bad (a .number) q
 
--- ---- held steps and bounds
+-- ---- held steps
 
-unfoldable pub hold : ℤ → ℤ → Data → Data
-hold x y (dat w h a l) = dat w (y ∷ x ∷ h) a l
+unfoldable pub hold : ℤ → Data → Data
+hold x (dat w h a l) = dat w (x ∷ h) a l
 
 unfoldable pub unhold : Data → Data
-unhold (dat w h a l) = dat w (drop 2 h) a l
+unhold (dat w h a l) = dat w (drop 1 h) a l
 
--- the newest step and bound
-unfoldable pub held : {A : Type 0} → (ℤ → ℤ → Res A) → Data → Res A
+-- the newest step
+unfoldable pub held : {A : Type 0} → (ℤ → Res A) → Data → Res A
 held f (dat w [] a l) = wrong
-held f (dat w (y ∷ []) a l) = wrong
-held f (dat w (y ∷ x ∷ h) a l) = f x y
+held f (dat w (x ∷ h) a l) = f x
 
 -- ---- the cell found
 
@@ -186,13 +185,12 @@ pub data Act (X : Type 0) : Type 0 where
   -- ininteger, outinteger
   receive : ℕ → X → Act X
   send : ℕ → Act X
-  -- step and bound are held; the step is added to the controlled variable
+  -- a step is held
   keep : Act X
-  bump : ℕ → X → Act X
   -- an operator applied
   unary : ℕ → Unary → Act X
   binary : ℕ → Binary → Act X
-  -- a variable is found for a store; a channel tested; the held step and a variable added
+  -- a variable is found for a store; a channel tested; a new step and a variable added, and the step held in the place of the old one
   lend : X → Act X
   channel : ℕ → Act X
   sum : ℕ → X → Act X
@@ -207,7 +205,6 @@ actOn f forget = forget
 actOn f (receive q x) = receive q (f x)
 actOn f (send q) = send q
 actOn f keep = keep
-actOn f (bump q x) = bump q (f x)
 actOn f (unary q o) = unary q o
 actOn f (binary q o) = binary q o
 actOn f (lend x) = lend (f x)
@@ -225,20 +222,17 @@ work forget d = one (λ v d. good quiet d) d
 -- "the channel is tested first"; "ininteger's second actual is neither read nor held"
 work (receive q c) d = one (λ k d. within c d (onChannel q k (taking q c d (input d)))) d
 work (send q) d = two (λ k v d. onChannel q k (writing q v d)) d
--- "step and bound are evaluated once and held"
-work keep d = two (λ x y d. good quiet (hold x y d)) d
--- "The addition of a step element, with its store, is one operator"
-work (bump q c) d =
-    held (λ x y. within c d (reading q (λ v. valued q (λ s. good quiet (put c s d)) (whole (v +ℤ x))) (look c d))) d
+-- the step is held: "θ := B"
+work keep d = one (λ x d. good quiet (hold x d)) d
 -- "its value replaces its actuals' cells" for iabs, and an operator's its operands'
 work (unary q o) d = one (λ x d. valued q (λ v. good quiet (back v d)) (apply1 o x)) d
 work (binary q o) d = two (λ x y d. valued q (λ v. good quiet (back v d)) (apply2 o x y)) d
 work (lend c) d = within c d (good quiet (find c d))
 -- "for ininteger between 28 and 24"
 work (channel q) d = one (λ k d. onChannel q k (good quiet (back k d))) d
--- "the addition to it takes one, at 'step'"
+-- the new step is held in the place of the old one, and the sum has the cell that its value leaves
 work (sum q c) d =
-    held (λ x y. within c d (reading q (λ v. valued q (λ s. newCells q (Holds s ∷ []) d) (whole (v +ℤ x))) (look c d))) d
+    one (λ x d. held (λ y. within c d (reading q (λ v. valued q (λ s. good quiet (back s (hold x (unhold d)))) (whole (v +ℤ x))) (look c d))) d) d
 
 -- how many values an operation uses
 abbrev pub downs : {X : Type 0} → Act X → ℕ
@@ -250,13 +244,12 @@ downs (reserve q) = 0
 downs forget = 1
 downs (receive q x) = 1
 downs (send q) = 2
-downs keep = 2
-downs (bump q x) = 0
+downs keep = 1
 downs (unary q o) = 1
 downs (binary q o) = 2
 downs (lend x) = 0
 downs (channel q) = 1
-downs (sum q x) = 0
+downs (sum q x) = 1
 
 -- ---- tests
 
@@ -276,15 +269,15 @@ abbrev pub testOn : {X Y : Type 0} → (X → Y) → Test X → Test Y
 testOn f condition = condition
 testOn f (upto q x) = upto q (f x)
 
--- step and bound are held until the loop is left
+-- the step is held until the loop is left; the bound is a value that the test uses
 unfoldable pub test : Test ℕ → Data → Res Two
 test condition d = one (λ v d. good quiet (cond (isZero v) (nay d) (yea d))) d
 test (upto q c) d =
-    held (λ x y. within c d (reading q (λ v. good quiet (cond (past v x y) (nay (unhold d)) (yea d))) (look c d))) d
+    one (λ y d. held (λ x. within c d (reading q (λ v. good quiet (cond (past v x y) (nay (unhold d)) (yea d))) (look c d))) d) d
 
 abbrev pub downsT : {X : Type 0} → Test X → ℕ
 downsT condition = 1
-downsT (upto q x) = 0
+downsT (upto q x) = 1
 
 -- ---- blocks and activations
 

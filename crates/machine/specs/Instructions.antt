@@ -7,9 +7,9 @@ use lib.Dec.{ltb, eqb}
 use lib.ListN.{length, getD}
 use mir.Syntax.{w32}
 use mir.Val.{toZ}
-use Rattle.machine.specs.Operations.{o-none, o-end, o-jump, o-enter, o-leave, o-call-needed, o-call, o-return, o-go, o-next, o-unless, o-test, o-const, o-load, o-store, o-assign, o-result, o-drop, o-in, o-out, o-hold, o-add, o-minus, o-not, o-plus, o-less, o-times, o-over, o-below, o-at-most, o-equal, o-at-least, o-above, o-unequal, o-and, o-or, o-impl, o-name, o-work, o-seek, o-pass, o-lend, o-refuse, o-channel, o-sum}
+use Rattle.machine.specs.Operations.{o-none, o-end, o-jump, o-enter, o-leave, o-call-needed, o-call, o-return, o-go, o-next, o-unless, o-test, o-const, o-load, o-store, o-assign, o-result, o-drop, o-in, o-out, o-hold, o-sum, o-minus, o-not, o-plus, o-less, o-times, o-over, o-below, o-at-most, o-equal, o-at-least, o-above, o-unequal, o-and, o-or, o-impl, o-name, o-work, o-seek, o-pass, o-lend, o-refuse, o-channel}
 use Rattle.machine.specs.Values.{Unary, minus, negation, absolute, Binary, plus, less, times, over, below, atMost, equal, atLeast, above, unequal, and, or, impl, equiv}
-use Rattle.machine.specs.Data.{Act, push, load, store, assign, reserve, forget, receive, send, keep, bump, unary, binary, lend, channel, sum, Test, condition, upto, Fate, kept, gone}
+use Rattle.machine.specs.Data.{Act, push, load, store, assign, reserve, forget, receive, send, keep, unary, binary, lend, channel, sum, Test, condition, upto, Fate, kept, gone}
 
 -- a variable: activations out, offset there; or the cell found
 pub data Loc : Type 0 where
@@ -110,7 +110,7 @@ actOf k q x v =
     (cond (eqb k o-in) (receive q x)
     (cond (eqb k o-out) (send q)
     (cond (eqb k o-hold) keep
-    (cond (eqb k o-add) (bump q x)
+    (cond (eqb k o-sum) (sum q x)
     (cond (ltb k o-plus) (unary q (unaryOf k))
     (binary q (binaryOf k))))))))))))
 
@@ -136,8 +136,7 @@ decode k q v =
     (cond (eqb k o-lend) (some (DO (lend (variable v))))
     (cond (eqb k o-refuse) (some REFUSE)
     (cond (eqb k o-channel) (some (DO (channel q)))
-    (cond (eqb k o-sum) (some (DO (sum q (variable v))))
-    none))))))))))))))))))))
+    none)))))))))))))))))))
 
 -- the instruction that two words hold
 abbrev pub instruction : ℕ → ℕ → Option Instr

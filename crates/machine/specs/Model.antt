@@ -243,10 +243,10 @@ abbrev pub PairIn : Counts → Pair → Type 0
 PairIn n (Values2 x y m) = (2 ≤ n .cells) × (m ≡ fewer 2 n)
 PairIn n Nothing2 = Unit {0}
 
--- the newest held values, the step first
-abbrev pub HeldIn : Counts → Pair → List ℤ → Type 0
-HeldIn n (Values2 x y m) s = (2 ≤ n .held) × (m ≡ n) × (heldOf (n .held) s ≡ y ∷ x ∷ heldOf (n .held - 2) s)
-HeldIn n Nothing2 s = n .held < 2
+-- the newest held step
+abbrev pub HeldIn : Counts → Number → List ℤ → Type 0
+HeldIn n (Number1 x) s = (1 ≤ n .held) × (heldOf (n .held) s ≡ x ∷ heldOf (n .held - 1) s)
+HeldIn n Not s = n .held ≡ 0
 
 -- the operation A was done on the data that n and s hold
 abbrev pub Does : Act ℕ → Counts → Did → List ℤ → List ℤ → Type 0

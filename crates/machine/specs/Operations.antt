@@ -67,12 +67,12 @@ o-in = 18
 abbrev pub o-out : ℕ
 o-out = 19
 
--- step and bound held; the step added
+-- a step held; a new one and a variable added
 abbrev pub o-hold : ℕ
 o-hold = 20
 
-abbrev pub o-add : ℕ
-o-add = 21
+abbrev pub o-sum : ℕ
+o-sum = 21
 
 -- the sign -, 'not' and iabs
 abbrev pub o-minus : ℕ
@@ -148,13 +148,10 @@ o-lend = 43
 abbrev pub o-refuse : ℕ
 o-refuse = 44
 
--- the channel of an ininteger tested; the held step and a variable added
+-- the channel of an ininteger tested
 abbrev pub o-channel : ℕ
 o-channel = 45
 
-abbrev pub o-sum : ℕ
-o-sum = 46
-
 -- no operation from here on
 abbrev pub o-behind : ℕ
-o-behind = 47
+o-behind = 46

@@ -4,9 +4,9 @@ use mathlib.Core.List.{List, [], _∷_}
 use lib.Signed.{mag}
 use mir.Syntax.{w32}
 use mir.Val.{ofZ}
-use Rattle.machine.specs.Operations.{o-end, o-jump, o-enter, o-leave, o-call-needed, o-call, o-return, o-go, o-next, o-unless, o-test, o-const, o-load, o-store, o-assign, o-result, o-drop, o-in, o-out, o-hold, o-add, o-minus, o-not, o-iabs, o-plus, o-less, o-times, o-over, o-below, o-at-most, o-equal, o-at-least, o-above, o-unequal, o-and, o-or, o-impl, o-equiv, o-name, o-work, o-seek, o-pass, o-lend, o-refuse, o-channel, o-sum}
+use Rattle.machine.specs.Operations.{o-end, o-jump, o-enter, o-leave, o-call-needed, o-call, o-return, o-go, o-next, o-unless, o-test, o-const, o-load, o-store, o-assign, o-result, o-drop, o-in, o-out, o-hold, o-sum, o-minus, o-not, o-iabs, o-plus, o-less, o-times, o-over, o-below, o-at-most, o-equal, o-at-least, o-above, o-unequal, o-and, o-or, o-impl, o-equiv, o-name, o-work, o-seek, o-pass, o-lend, o-refuse, o-channel}
 use Rattle.machine.specs.Values.{Unary, minus, negation, absolute, Binary, plus, less, times, over, below, atMost, equal, atLeast, above, unequal, and, or, impl, equiv}
-use Rattle.machine.specs.Data.{Act, push, load, store, assign, reserve, forget, receive, send, keep, bump, unary, binary, lend, channel, sum, Test, condition, upto, kept, gone}
+use Rattle.machine.specs.Data.{Act, push, load, store, assign, reserve, forget, receive, send, keep, unary, binary, lend, channel, sum, Test, condition, upto, kept, gone}
 use Rattle.machine.specs.Instructions.{Loc, lc, fnd, Instr, END, DO, IF, JUMP, ENTER, LEAVE, CALL, RETURN, GO, NEXT, NAME, WORK, SEEK, PASS, REFUSE, sixBits, thirteenBits, pack, foundOffset}
 
 -- ---- an instruction is its operation, its place and its operand
@@ -52,7 +52,6 @@ partsOfAct forget = record { operation = o-drop; place = 0; operand = 0 }
 partsOfAct (receive q x) = record { operation = o-in; place = q; operand = beside x 0 }
 partsOfAct (send q) = record { operation = o-out; place = q; operand = 0 }
 partsOfAct keep = record { operation = o-hold; place = 0; operand = 0 }
-partsOfAct (bump q x) = record { operation = o-add; place = q; operand = beside x 0 }
 partsOfAct (unary q o) = record { operation = unaryNumber o; place = q; operand = 0 }
 partsOfAct (binary q o) = record { operation = binaryNumber o; place = q; operand = 0 }
 partsOfAct (lend x) = record { operation = o-lend; place = 0; operand = beside x 0 }
@@ -103,7 +102,6 @@ ActFits forget = Unit {0}
 ActFits (receive q x) = LocFits x
 ActFits (send q) = Unit {0}
 ActFits keep = Unit {0}
-ActFits (bump q x) = LocFits x
 ActFits (unary q o) = Unit {0}
 ActFits (binary q o) = Unit {0}
 ActFits (lend x) = LocFits x

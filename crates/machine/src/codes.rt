@@ -49,10 +49,10 @@ pub const IN: u32 = 18;
 
 pub const OUT: u32 = 19;
 
-// Step and bound held; the step added.
+// A step held; a new one and a variable added.
 pub const HOLD: u32 = 20;
 
-pub const ADD: u32 = 21;
+pub const SUM: u32 = 21;
 
 // The sign -, 'not' and iabs.
 pub const MINUS: u32 = 22;
@@ -105,10 +105,8 @@ pub const LEND: u32 = 43;
 
 pub const REFUSE: u32 = 44;
 
-// The channel of an ininteger tested; the held step and a variable added.
+// The channel of an ininteger tested.
 pub const CHANNEL: u32 = 45;
 
-pub const SUM: u32 = 46;
-
 // No operation from here on.
-pub const BEHIND: u32 = 47;
+pub const BEHIND: u32 = 46;

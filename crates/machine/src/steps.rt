@@ -72,8 +72,8 @@ fn downs(k: u32) -> usize
         codes::DROP => 1,
         codes::IN => 1,
         codes::OUT => 2,
-        codes::HOLD => 2,
-        codes::ADD => 0,
+        codes::HOLD => 1,
+        codes::SUM => 1,
         _ => {
             if k < codes::PLUS {
                 return 1;
@@ -108,7 +108,7 @@ fn work(
         codes::IN => ports::receive(n, input, store, q, c),
         codes::OUT => ports::send(n, store, output, q),
         codes::HOLD => loops::keep(n, store),
-        codes::ADD => loops::bump(n, store, q, c),
+        codes::SUM => loops::sum(n, store, q, c),
         _ => {
             if k < codes::PLUS {
                 return operations::unary(n, store, q, k);
@@ -196,14 +196,14 @@ fn unless(at: u32, live: usize, n: Counts, v: u32, store: &[i64], own: &Memory) 
     )
 }
 
-// The test of a step element.
+// The test of a step element, which uses the bound.
 fn upto(at: u32, live: usize, n: Counts, q: usize, v: u32, store: &[i64], own: &Memory) -> Outcome
     requires { ⌜ Sound n (now store) × Lives (now own) live × (at < mostInstructions) ⌝ }
     ensures { λ r. ⌜ ((i o : List ℤ) → seenO r (now (store .entry)) (now (own .entry)) i o ≡ stepped (traceOf n o) (exec (Instr.IF (Test.upto q (variable v)) (low v)) at (positionsOf (now (own .entry)) live) (framesOf (now (own .entry)) live) (dataOf n (ownOf (now (own .entry)) live) (now (store .entry)) i o))) ⌝ }
     ensures { λ r. ⌜ ((o : List ℤ) → n .written ≤ length o → SoundG r (now (store .entry)) (now (own .entry)) o o) ⌝ }
 {
     let b = first_cell(own, live);
-    if b > n.cells {
+    if b + 1 > n.cells {
         return stray(at);
     }
     let c = cell_of(b, live, own, v);
@@ -248,28 +248,6 @@ fn channel(at: u32, live: usize, n: Counts, q: usize, store: &mut [i64], own: &M
     control::lift(at, at + 1, live, operations::channel(n, store, q))
 }
 
-// The held step and a variable, added.
-fn sum(
-    at: u32,
-    live: usize,
-    n: Counts,
-    q: usize,
-    v: u32,
-    store: &mut [i64],
-    own: &Memory,
-) -> Outcome
-    requires { ⌜ Sound n (now store) × Lives (now own) live × (at < mostInstructions) ⌝ }
-    ensures { λ r. ⌜ ((i o : List ℤ) → seenO r (now (store .exit)) (now (own .entry)) i o ≡ stepped (traceOf n o) (exec (Instr.DO (Act.sum q (variable v))) at (positionsOf (now (own .entry)) live) (framesOf (now (own .entry)) live) (dataOf n (ownOf (now (own .entry)) live) (now (store .entry)) i o))) ⌝ }
-    ensures { λ r. ⌜ ((o : List ℤ) → n .written ≤ length o → SoundG r (now (store .exit)) (now (own .entry)) o o) ⌝ }
-{
-    let b = first_cell(own, live);
-    if b > n.cells {
-        return stray(at);
-    }
-    let c = cell_of(b, live, own, v);
-    control::lift(at, at + 1, live, loops::sum(n, store, q, c))
-}
-
 // The instructions of formals called by name. They stand apart, so that the others are told as quickly as without them.
 fn by_name(
     at: u32,
@@ -300,7 +278,6 @@ fn by_name(
         codes::LEND => lend(at, live, n, v, store, own),
         codes::REFUSE => control::refuse(at, live, own),
         codes::CHANNEL => channel(at, live, n, q as usize, store, own),
-        codes::SUM => sum(at, live, n, q as usize, v, store, own),
         _ => stray(at),
     }
 }
@@ -342,7 +319,7 @@ fn obey(
         codes::TEST => upto(at, live, n, q as usize, v, store, own),
         codes::LOAD => load(at, live, n, q as usize, v, store, own),
         codes::STORE => save(at, live, n, v, store, own),
-        codes::NAME..=codes::SUM => by_name(at, live, n, k, q, v, store, own),
+        codes::NAME..=codes::CHANNEL => by_name(at, live, n, k, q, v, store, own),
         _ => {
             if k < codes::NAME {
                 return act(at, live, n, k, q as usize, v, input, store, output, own);

@@ -379,8 +379,8 @@ pub fn actuals() {
 // The addition of a step element whose variable is called by name, and what is no instruction there.
 pub fn sums() {
     let none_in: [i32; 1] = [0];
-    // The held step and a variable, in a new cell.
-    // ENTER 1 1; CONST 3; STORE 0 0; CONST 2; CONST 9; HOLD; LEND 0 0; SUM@6 found; STORE found; CONST 1; LOAD 0 0; OUT; END
+    // A variable and a new step, in the cell that the step leaves.
+    // ENTER 1 1; CONST 3; STORE 0 0; CONST 9; HOLD; CONST 2; LEND 0 0; SUM@6 found; STORE found; CONST 1; LOAD 0 0; OUT; END
     let sum: [u32; 26] = [
         3,
         8193,
@@ -389,14 +389,14 @@ pub fn sums() {
         14,
         0,
         12,
-        2,
-        12,
         9,
         20,
         0,
+        12,
+        2,
         43,
         0,
-        430,
+        405,
         67100672,
         14,
         67100672,
@@ -410,9 +410,9 @@ pub fn sums() {
         0,
     ];
     tried(b"sum", &sum, &none_in[..0], 1000, 6, 3);
-    // The same, where no cell is left for it.
-    // ENTER 1 1; CONST 3; STORE 0 0; CONST 2; CONST 9; HOLD; LEND 0 0; SUM@6 found; STORE found; CONST 1; LOAD 0 0; OUT; END
-    let sum_no_cell: [u32; 26] = [
+    // The same, with no other cell.
+    // ENTER 1 1; CONST 3; STORE 0 0; CONST 9; HOLD; CONST 2; LEND 0 0; SUM@6 found; STORE found; END
+    let sum_no_cell_to_spare: [u32; 20] = [
         3,
         8193,
         12,
@@ -420,29 +420,29 @@ pub fn sums() {
         14,
         0,
         12,
-        2,
-        12,
         9,
         20,
         0,
+        12,
+        2,
         43,
         0,
-        430,
+        405,
         67100672,
         14,
         67100672,
-        12,
-        1,
-        13,
-        0,
-        19,
-        0,
         1,
         0,
     ];
-    tried(b"sum, no cell", &sum_no_cell, &none_in[..0], 1000, 3, 3);
-    // 21 comes before 26.
-    // ENTER 1 1; CONST 2147483647; STORE 0 0; CONST 1; CONST 9; HOLD; SUM@6 0 0; END
+    tried(
+        b"sum, no cell to spare",
+        &sum_no_cell_to_spare,
+        &none_in[..0],
+        1000,
+        3,
+        3,
+    );
+    // ENTER 1 1; CONST 2147483647; STORE 0 0; CONST 9; HOLD; CONST 1; SUM@6 0 0; END
     let sum_out_of_range: [u32; 16] = [
         3,
         8193,
@@ -451,12 +451,12 @@ pub fn sums() {
         14,
         0,
         12,
-        1,
-        12,
         9,
         20,
         0,
-        430,
+        12,
+        1,
+        405,
         0,
         1,
         0,

@@ -562,17 +562,17 @@ fn part_7() {
     // NEXT 0
     let no_29_next: [u32; 2] = [9, 0];
     tried(b"29 next", &no_29_next, &none_in[..0], 1000, 6, 3);
-    // No step and bound are held.
-    // ENTER 1 1; CONST 1; STORE 0 0; TEST@3 0 0 4; END
-    let no_29_held: [u32; 10] = [3, 8193, 12, 1, 14, 0, 203, 4, 1, 0];
+    // No step is held.
+    // ENTER 1 1; CONST 1; STORE 0 0; CONST 2; TEST@3 0 0 5; END
+    let no_29_held: [u32; 12] = [3, 8193, 12, 1, 14, 0, 12, 2, 203, 5, 1, 0];
     tried(b"29 held", &no_29_held, &none_in[..0], 1000, 6, 3);
 }
 
 fn part_8() {
     let none_in: [i32; 1] = [0];
-    // ENTER 1 1; CONST 1; STORE 0 0; ADD@3 0 0; END
-    let no_29_add: [u32; 10] = [3, 8193, 12, 1, 14, 0, 213, 0, 1, 0];
-    tried(b"29 add", &no_29_add, &none_in[..0], 1000, 6, 3);
+    // ENTER 1 1; CONST 1; STORE 0 0; CONST 2; SUM@3 0 0; END
+    let no_29_sum: [u32; 12] = [3, 8193, 12, 1, 14, 0, 12, 2, 213, 0, 1, 0];
+    tried(b"29 sum", &no_29_sum, &none_in[..0], 1000, 6, 3);
     // A condition that holds and one that does not.
     // CONST 1; UNLESS 3; JUMP 4; END; CONST 0; UNLESS 7; END; CONST 1
     // CONST 70; OUT; END
@@ -634,10 +634,11 @@ fn part_8() {
     let drop: [u32; 6] = [204, 2147483647, 17, 0, 1, 0];
     tried(b"drop", &drop, &none_in[..0], 1000, 1, 3);
     // For i := 1, 2 step 1 until 3 do begin integer k; k := i; outinteger(1, k) end, with 6 cells.
-    // ENTER@0 1 1; CONST@5 1; STORE 0 0; GO 0 13 4; CONST@6 2; STORE 0 0; CONST@7 1; CONST@8 3
-    // HOLD; TEST@4 0 0 21; GO 0 13 11; ADD@9 0 0; JUMP 9; ENTER@50 1 14; LOAD@87 0 0; STORE 0 1
-    // CONST@1 1; LOAD@91 0 1; OUT@2; LEAVE 1; NEXT 0; LEAVE 1; END
-    let mixed_for_list: [u32; 46] = [
+    // ENTER@0 1 1; CONST@5 1; STORE 0 0; GO 0 17 4; CONST@6 2; STORE 0 0; GO 0 7 9; CONST@7 1
+    // NEXT 0; HOLD; CONST@8 3; TEST@4 0 0 25; GO 0 17 13; GO 0 7 14; SUM@9 0 0; STORE 0 0
+    // JUMP 10; ENTER@50 1 18; LOAD@87 0 0; STORE 0 1; CONST@1 1; LOAD@91 0 1; OUT@2; LEAVE 1
+    // NEXT 0; LEAVE 1; END
+    let mixed_for_list: [u32; 54] = [
         3,
         8193,
         332,
@@ -645,27 +646,35 @@ fn part_8() {
         14,
         0,
         8,
-        32781,
+        32785,
         396,
         2,
         14,
         0,
+        8,
+        73735,
         460,
         1,
-        524,
-        3,
+        9,
+        0,
         20,
         0,
+        524,
+        3,
         267,
-        21,
+        25,
         8,
-        90125,
+        106513,
+        8,
+        114695,
         597,
         0,
+        14,
+        0,
         2,
-        9,
+        10,
         3203,
-        8206,
+        8210,
         5581,
         0,
         14,
@@ -698,10 +707,11 @@ fn part_8() {
 fn part_9() {
     let none_in: [i32; 1] = [0];
     // The value element fits, the step element does not.
-    // ENTER@0 1 1; CONST@5 1; STORE 0 0; GO 0 13 4; CONST@6 2; STORE 0 0; CONST@7 1; CONST@8 3
-    // HOLD; TEST@4 0 0 21; GO 0 13 11; ADD@9 0 0; JUMP 9; ENTER@50 1 14; LOAD@87 0 0; STORE 0 1
-    // CONST@1 1; LOAD@91 0 1; OUT@2; LEAVE 1; NEXT 0; LEAVE 1; END
-    let mixed_for_list_4_cells: [u32; 46] = [
+    // ENTER@0 1 1; CONST@5 1; STORE 0 0; GO 0 17 4; CONST@6 2; STORE 0 0; GO 0 7 9; CONST@7 1
+    // NEXT 0; HOLD; CONST@8 3; TEST@4 0 0 25; GO 0 17 13; GO 0 7 14; SUM@9 0 0; STORE 0 0
+    // JUMP 10; ENTER@50 1 18; LOAD@87 0 0; STORE 0 1; CONST@1 1; LOAD@91 0 1; OUT@2; LEAVE 1
+    // NEXT 0; LEAVE 1; END
+    let mixed_for_list_4_cells: [u32; 54] = [
         3,
         8193,
         332,
@@ -709,27 +719,35 @@ fn part_9() {
         14,
         0,
         8,
-        32781,
+        32785,
         396,
         2,
         14,
         0,
+        8,
+        73735,
         460,
         1,
-        524,
-        3,
+        9,
+        0,
         20,
         0,
+        524,
+        3,
         267,
-        21,
+        25,
         8,
-        90125,
+        106513,
+        8,
+        114695,
         597,
         0,
+        14,
+        0,
         2,
-        9,
+        10,
         3203,
-        8206,
+        8210,
         5581,
         0,
         14,
@@ -758,29 +776,38 @@ fn part_9() {
         3,
     );
     // For i := maxint - 1 step 1 until maxint: 21 at step after two passes.
-    // ENTER 1 1; CONST 2147483646; STORE 0 0; CONST 1; CONST 2147483647; HOLD; TEST 0 0 13; GO 0 10 8
-    // ADD@61 0 0; JUMP 6; CONST 1; LOAD 0 0; OUT; NEXT 0; END
-    let step_at_the_end_of_the_range: [u32; 30] = [
+    // ENTER 1 1; CONST 2147483646; STORE 0 0; GO 0 4 6; CONST 1; NEXT 0; HOLD; CONST 2147483647
+    // TEST 0 0 18; GO 0 14 10; GO 0 4 11; SUM@61 0 0; STORE 0 0; JUMP 7; CONST 1; LOAD 0 0
+    // OUT; NEXT 0; END
+    let step_at_the_end_of_the_range: [u32; 38] = [
         3,
         8193,
         12,
         2147483646,
         14,
         0,
+        8,
+        49156,
         12,
         1,
-        12,
-        2147483647,
+        9,
+        0,
         20,
         0,
+        12,
+        2147483647,
         11,
-        13,
+        18,
         8,
-        65546,
+        81934,
+        8,
+        90116,
         3925,
         0,
+        14,
+        0,
         2,
-        6,
+        7,
         12,
         1,
         13,
@@ -801,29 +828,38 @@ fn part_9() {
         3,
     );
     // From 3, step -1, until 1.
-    // ENTER 1 1; CONST 3; STORE 0 0; CONST -1; CONST 1; HOLD; TEST 0 0 14; GO 0 10 8
-    // ADD 0 0; JUMP 6; CONST 1; LOAD 0 0; OUT; NEXT 0; LEAVE 1; END
-    let down: [u32; 32] = [
+    // ENTER 1 1; CONST 3; STORE 0 0; GO 0 4 6; CONST -1; NEXT 0; HOLD; CONST 1
+    // TEST 0 0 18; GO 0 14 10; GO 0 4 11; SUM 0 0; STORE 0 0; JUMP 7; CONST 1; LOAD 0 0
+    // OUT; NEXT 0; LEAVE 1; END
+    let down: [u32; 40] = [
         3,
         8193,
         12,
         3,
         14,
         0,
+        8,
+        49156,
         12,
         4294967295,
-        12,
-        1,
+        9,
+        0,
         20,
         0,
+        12,
+        1,
         11,
-        14,
+        18,
         8,
-        65546,
+        81934,
+        8,
+        90116,
         21,
         0,
+        14,
+        0,
         2,
-        6,
+        7,
         12,
         1,
         13,
@@ -839,29 +875,38 @@ fn part_9() {
     ];
     tried(b"down", &down, &none_in[..0], 1000, 6, 3);
     // Never left.
-    // ENTER 1 1; CONST 3; STORE 0 0; CONST 0; CONST 1; HOLD; TEST 0 0 11; GO 0 10 8
-    // ADD 0 0; JUMP 6; NEXT 0; LEAVE 1; END
-    let step_0: [u32; 26] = [
+    // ENTER 1 1; CONST 3; STORE 0 0; GO 0 4 6; CONST 0; NEXT 0; HOLD; CONST 1
+    // TEST 0 0 15; GO 0 14 10; GO 0 4 11; SUM 0 0; STORE 0 0; JUMP 7; NEXT 0; LEAVE 1
+    // END
+    let step_0: [u32; 34] = [
         3,
         8193,
         12,
         3,
         14,
         0,
+        8,
+        49156,
         12,
+        0,
+        9,
+        0,
+        20,
         0,
         12,
         1,
-        20,
-        0,
         11,
-        11,
+        15,
         8,
-        65546,
+        81934,
+        8,
+        90116,
         21,
         0,
+        14,
+        0,
         2,
-        6,
+        7,
         9,
         0,
         4,
@@ -870,6 +915,68 @@ fn part_9() {
         0,
     ];
     tried(b"step 0", &step_0, &none_in[..0], 100, 6, 3);
+    // The step is worked out again, and its new sign serves the next test.
+    // ENTER 2 1; CONST 1; STORE 0 1; CONST 3; STORE 0 0; GO 0 6 8; LOAD 0 1; NEXT 0
+    // HOLD; CONST 5; TEST 0 0 22; GO 0 16 12; GO 0 6 13; SUM 0 0; STORE 0 0; JUMP 9
+    // CONST 1; LOAD 0 0; OUT; CONST -1; STORE 0 1; NEXT 0; LEAVE 2; END
+    let step_that_changes_sign: [u32; 48] = [
+        3,
+        16385,
+        12,
+        1,
+        14,
+        8192,
+        12,
+        3,
+        14,
+        0,
+        8,
+        65542,
+        13,
+        8192,
+        9,
+        0,
+        20,
+        0,
+        12,
+        5,
+        11,
+        22,
+        8,
+        98320,
+        8,
+        106502,
+        21,
+        0,
+        14,
+        0,
+        2,
+        9,
+        12,
+        1,
+        13,
+        0,
+        19,
+        0,
+        12,
+        4294967295,
+        14,
+        8192,
+        9,
+        0,
+        4,
+        16384,
+        1,
+        0,
+    ];
+    tried(
+        b"step that changes sign",
+        &step_that_changes_sign,
+        &none_in[..0],
+        1000,
+        6,
+        3,
+    );
     // ENTER@0 0 17; LOAD@40 0 1; CONST@42 0; EQ@41; UNLESS 7; CONST@50 1; JUMP 14; LOAD@60 0 1
     // RESULT@62; LOAD@63 0 1; CONST@65 1; LESS@64; CALLN@62 1 1 2; TIMES@61; STORE 0 0; RETURN
     // END; CONST@70 1; RESULT@72; CONST@73 5; CALLN@72 1 0 2; OUT@69; LEAVE 0; END

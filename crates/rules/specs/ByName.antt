@@ -111,7 +111,7 @@ table =
     named (man-or-boy 2) Ended 95 (negsuc 1 ∷ []) 0 ∷
     named (man-or-boy 3) Ended 126 (pos 0 ∷ []) 0 ∷
     named (man-or-boy 4) Ended 259 (pos 1 ∷ []) 0 ∷
-    named jensen Ended 204 (pos 385 ∷ pos 11 ∷ []) 0 ∷
+    named jensen Ended 224 (pos 385 ∷ pos 11 ∷ []) 0 ∷
     named (stored (var 17 "x")) Ended 18 (pos 5 ∷ []) 0 ∷
     named (stored (number 17 3)) (fault 30 8) 10 [] 0 ∷
     named (stored (nested 17 (var 18 "x"))) (fault 30 8) 10 [] 0 ∷

@@ -16,7 +16,7 @@ use Rattle.answers.specs.declared.Stop.the-variants.{Ended, Wrong, Fault}
 use Rattle.machine.specs.Values
 use Rattle.machine.specs.Values.{Binary, truth}
 use Rattle.machine.specs.Run.{quiet, untold, Out, halt, next, End, run}
-use Rattle.machine.specs.Data.{Data, dat, cells, Res, lift, Act, push, load, store, assign, reserve, forget, receive, send, keep, bump, unary, binary, lend, channel, sum, foundIn, nameCell, actOn, work, Two, either as byTest, Test, condition, upto, testOn, test, openBlock, closeBlock, enter, Fate, kept, gone, leave}
+use Rattle.machine.specs.Data.{Data, dat, cells, Res, lift, Act, push, load, store, assign, reserve, forget, receive, send, keep, unary, binary, lend, channel, sum, foundIn, nameCell, actOn, work, Two, either as byTest, Test, condition, upto, testOn, test, openBlock, closeBlock, enter, Fate, kept, gone, leave}
 use Rattle.names.specs.Program
 use Rattle.names.specs.Program.{Name, Sort, Sign, positive, negative, negation, Operator, Expression, number, logical, name, call, signed, operated, chosen, nested, Expressions, done, then, firstSymbol, Element, value, while, step, Statement, dummy, assignment, procedure, when, either, repeat, compound, block, Statements, last, first}
 use Rattle.names.specs.Scopes.{Thing, variable, routine, formal, by-name, ofBlock, ofBody, sortOf, bodyOf, modesOf, Meaning, declared, given, nothing, meaning}
@@ -33,9 +33,9 @@ pub data Choice : Type 0 where
   only : Statement → Choice
   whiling : Name → ℕ → Expression → Expression → List Element → Statement → Choice
 
--- a step element under way: where 'step' stands, the controlled variable, the elements left, the body
+-- a step element under way: where 'step' stands, the controlled variable, the step, the bound, the elements left, the body
 pub data Stepping : Type 0 where
-  stepping : ℕ → Name → List Element → Statement → Stepping
+  stepping : ℕ → Name → Expression → Expression → List Element → Statement → Stepping
 
 -- what is stored to, read or tested: the variable of a name, or the cell found through a name formal
 pub data Spot : Type 0 where
@@ -61,14 +61,14 @@ pub data Task : Type 0 where
   drop : Task
   -- one way or the other
   pick : Choice → Task
-  -- hold step and bound; test the element; add the step
+  -- hold the first step; test the element against the bound's value; add the step worked out again
   hold : Stepping → Task
   tested : Stepping → Task
   add : Stepping → Task
-  -- the same where the controlled variable is a name formal, once its cell is found: the test; the sum; its store
+  -- the same where the controlled variable is a name formal, once its cell is found: the test; the sum. The store of the sum
   trying : Stepping → Task
   summing : Stepping → Task
-  settling : Stepping → Task
+  settling : Spot → Stepping → Task
   -- work out for a store that began at a place: a name formal; its actual. ininteger's second actual
   seek : Name → ℕ → Task
   find : Expression → ℕ → Task
@@ -153,23 +153,25 @@ counts (statements s t) = 0
 counts (only s) = 0
 counts (whiling x q e c l s) = 1
 
--- ---- step elements: "step-until, where start is assigned, then step and bound are evaluated once and held"
+-- ---- step elements, as in Report 4.6.4.2: "V := A; θ := B; L1: if (V − C) × sign(θ) > 0 then go to Element exhausted; Statement S; θ := B; V := V + θ;
+-- go to L1". The step is worked out before the first test and again after each pass, the bound before each test
 
-abbrev pub adds : Stepping → Act Spot
-adds (stepping q x l s) = bump q (here x)
-
-abbrev pub sums : Stepping → Act Spot
-sums (stepping q x l s) = sum q there
+abbrev pub sums : Spot → Stepping → Act Spot
+sums c (stepping q x f h l s) = sum q c
 
 abbrev pub controlled : Stepping → Name
-controlled (stepping q x l s) = x
+controlled (stepping q x f h l s) = x
 
--- the body, then the addition; or the elements that are left
+-- the bound, then the test
+abbrev pub bounded : Stepping → List Task → List Task
+bounded (stepping q x f h l s) k = ev h ∷ tested (stepping q x f h l s) ∷ k
+
+-- the body, the step, then the addition; or the elements that are left
 abbrev pub again : Stepping → List Task → List Task
-again (stepping q x l s) k = ex s ∷ add (stepping q x l s) ∷ k
+again (stepping q x f h l s) k = ex s ∷ ev f ∷ add (stepping q x f h l s) ∷ k
 
 abbrev pub through : Stepping → List Task → List Task
-through (stepping q x l s) k = loop x l s ∷ k
+through (stepping q x f h l s) k = loop x l s ∷ k
 
 module _ (place : ℕ → ℕ) where
   abbrev pub at : Name → ℕ
@@ -177,7 +179,7 @@ module _ (place : ℕ → ℕ) where
 
   -- "The loop is left when (variable − bound) × sign(step) > 0"
   abbrev pub tries : Spot → Stepping → Test Spot
-  tries c (stepping q x l s) = upto (at x) c
+  tries c (stepping q x f h l s) = upto (at x) c
 
   -- ---- signs
 
@@ -238,7 +240,7 @@ module _ (place : ℕ → ℕ) where
   passing sought s k v d = goOn (seek (controlled s) (at (controlled s)) ∷ trying s ∷ k) v d
 
   unfoldable pub adding : Way → Stepping → List Task → Env → Data → Out State
-  adding direct s k v d = lift noRule 1 (st (tested s ∷ k) v) (doing (adds s) v d)
+  adding direct s k v d = lift noRule 1 (st (settling (here (controlled s)) s ∷ k) v) (doing (sums (here (controlled s)) s) v d)
   adding sought s k v d = goOn (seek (controlled s) (at (controlled s)) ∷ summing s ∷ k) v d
 
   -- ---- names in expressions
@@ -325,19 +327,19 @@ module _ (place : ℕ → ℕ) where
   sstep (st (loop x (value e ∷ l) s ∷ k) v d) = goOn (ev e ∷ stores x [] ∷ ex s ∷ loop x l s ∷ k) v d
   sstep (st (loop x (while q e c ∷ l) s ∷ k) v d) = goOn (ev e ∷ stores x [] ∷ ev c ∷ pick (whiling x q e c l s) ∷ k) v d
   sstep (st (loop x (step q e f h ∷ l) s ∷ k) v d) =
-      goOn (ev e ∷ stores x [] ∷ ev f ∷ ev h ∷ hold (stepping (place q) x l s) ∷ k) v d
+      goOn (ev e ∷ stores x [] ∷ ev f ∷ hold (stepping (place q) x f h l s) ∷ k) v d
   sstep (st (act a ∷ k) v d) = acting a k v d
   sstep (st (unchanged ∷ k) v d) = next 1 quiet (st k v d)
   sstep (st (drop ∷ k) v d) = lift noRule 0 (st k v) (doing forget v d)
   sstep (st (pick c ∷ k) v d) = lift noRule (counts c) (byTest (st (yes c k) v) (st (no c k) v)) (testing condition v d)
-  sstep (st (hold s ∷ k) v d) = lift noRule 0 (st (tested s ∷ k) v) (doing keep v d)
+  sstep (st (hold s ∷ k) v d) = lift noRule 0 (st (bounded s k) v) (doing keep v d)
   -- "The test and addition of a step element take no cell of their own": they read the variable where it stands
   sstep (st (tested s ∷ k) v d) = passing (way (meaning (scopesOf v) (controlled s))) s k v d
   sstep (st (add s ∷ k) v d) = adding (way (meaning (scopesOf v) (controlled s))) s k v d
   sstep (st (trying s ∷ k) v d) = lift noRule 1 (byTest (st (again s k) v) (st (through s k) v)) (testing (tries there s) v d)
   -- "The addition of a step element, with its store, is one operator"
-  sstep (st (summing s ∷ k) v d) = lift noRule 1 (st (seek (controlled s) (at (controlled s)) ∷ settling s ∷ k) v) (doing (sums s) v d)
-  sstep (st (settling s ∷ k) v d) = lift noRule 0 (st (tested s ∷ k) v) (doing (store there) v d)
+  sstep (st (summing s ∷ k) v d) = lift noRule 1 (st (seek (controlled s) (at (controlled s)) ∷ settling there s ∷ k) v) (doing (sums there s) v d)
+  sstep (st (settling c s ∷ k) v d) = lift noRule 0 (st (bounded s k) v) (doing (store c) v d)
   sstep (st (seek x q ∷ k) v d) = seeks (standsFor v x) x q k v d
   sstep (st (find (number a n) q ∷ k) v d) = refused q
   sstep (st (find (logical a b) q ∷ k) v d) = refused q

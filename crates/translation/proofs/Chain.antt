@@ -10,7 +10,7 @@ use mathlib.Core.Option.{Option, none, some, Option·none-ne-some}
 use lib.ListN.{getD, length}
 use Rattle.symbols.specs.Names.{sameName}
 use Rattle.symbols.specs.Text.{bytes}
-use Rattle.machine.specs.Data.{Fate, gone, Act, push, load, store, assign, reserve, forget, receive, send, keep, bump, unary, binary, lend, channel, sum, Data, foundIn, actOn, Test, condition, upto, testOn}
+use Rattle.machine.specs.Data.{Fate, gone, Act, push, load, store, assign, reserve, forget, receive, send, keep, unary, binary, lend, channel, sum, Data, foundIn, actOn, Test, condition, upto, testOn}
 use Rattle.machine.specs.Instructions.{Instr, Loc, lc, fnd, RETURN}
 use Rattle.machine.specs.Machine.{Frame, fr, frameAt, linkOf, baseOf, base, walk, cellIn}
 use Rattle.names.specs.Program.{Name, Sort, Specification, Declarations, none as no-more, variables, declare, Procedure, Expression, Expressions, done, then}
@@ -266,7 +266,6 @@ Vars Q forget = Unit {0}
 Vars Q (receive q x) = Q x
 Vars Q (send q) = Unit {0}
 Vars Q keep = Unit {0}
-Vars Q (bump q x) = Q x
 Vars Q (unary q o) = Unit {0}
 Vars Q (binary q o) = Unit {0}
 Vars Q (lend x) = Q x
@@ -463,7 +462,6 @@ module _ (place : ℕ → ℕ) (P : List Instr) where
   same-act c d d' e (receive q x) o = ap (receive q) (same-spot c d d' e x o)
   same-act c d d' e (send q) o = refl
   same-act c d d' e keep o = refl
-  same-act c d d' e (bump q x) o = ap (bump q) (same-spot c d d' e x o)
   same-act c d d' e (unary q i) o = refl
   same-act c d d' e (binary q i) o = refl
   same-act c d d' e (lend x) o = ap lend (same-spot c d d' e x o)

@@ -14,15 +14,15 @@ use Rattle.machine.specs.declared.Cell.the-variants.{Unset, Named}
 use Rattle.machine.specs.Values
 use Rattle.machine.specs.Values.{truth}
 use Rattle.machine.specs.Run.{quiet, next}
-use Rattle.machine.specs.Data.{Data, cells, Res, bad, wrong, good, lift, guard, Act, push, load, store, assign, reserve, forget, receive, send, keep, bump, unary, binary, lend, channel, sum, foundIn, look, nameCell, actOn, work, downs, yea, nay, either as byTest, Test, condition, upto, testOn, test, downsT, openBlock, closeBlock, enter, Fate, kept, gone, leave, dat}
-use Rattle.machine.specs.Instructions.{Instr, DO, IF, NEXT, END}
+use Rattle.machine.specs.Data.{Data, cells, Res, bad, wrong, good, lift, guard, Act, push, load, store, assign, reserve, forget, receive, send, keep, unary, binary, lend, channel, sum, foundIn, look, nameCell, actOn, work, downs, yea, nay, either as byTest, Test, condition, upto, testOn, test, downsT, openBlock, closeBlock, enter, Fate, kept, gone, leave, dat}
+use Rattle.machine.specs.Instructions.{Instr, DO, IF, JUMP, GO, NEXT, END}
 use Rattle.machine.specs.Machine.{Frame, fr, Mach, ms, baseOf, base, walk, floor, cellIn, cellAt as cellHere, workOut, stray, exec, obey, start}
 use Rattle.names.specs.Program.{Name, Sort, positive, negative, negation, Expression, number, logical, name, call, signed, operated, chosen, nested, Expressions, done, then, count, Element, value, while, step, Statement, dummy, assignment, procedure, when, either, repeat, compound, block, Statements, last, first, Procedure, heading}
 use Rattle.names.specs.Scopes.{Thing, routine, ofBlock, ofBody, sortOf, bodyOf, modesOf, valuesOf, formalsOf, Meaning, declared, given, nothing, meaning}
 use Rattle.rules.specs.Entered.{Env, outside, entered, called, scopesOf, oneIf, cellsIn, cut, declaring, cellOf, standsFor}
 use Rattle.rules.specs.Calls.{Primary, held, worked, function, absolute, greatest, no-primary, primary, Command, routine-of, absolute-of, greatest-of, input-to, output-of, no-command, command, thingTold, into, givenTold, Way, direct, sought, way}
 use Rattle.rules.specs.Rules.{stepping, Spot, here, there, Task, ev, evs, ex, exs, stores, loop, act, unchanged, tested, add, trying, summing, settling, seek, find, receiving, return, State, st, noRule, binaryOf, maxint, cellAt, doing, testing, at, reads, seeks, finds, storing, taking-in, passing, adding, evaluate, calls, perform, entering, calling, sstep, beginning}
-use Rattle.translation.specs.Translate.{Mark, blk, own, acl, scopes, cutG, levels, amongG, spot, reach, target, endName, endE, endEs, endWay, endTest, endSum, onward, endStores, endCall, endTake, endCommand, endS, endSs, CALLS, WORKS, storeName, storePart, codeName, codeE, codeEs, codeWay, codeTest, codeSum, codeL, codeStores, codeCall, codeTake, codeCommand, codeS, codeSs, codeP, code}
+use Rattle.translation.specs.Translate.{Mark, blk, own, acl, scopes, cutG, levels, amongG, spot, reach, target, endName, endE, endEs, endWay, endTest, endSum, endStep, onward, endStores, endCall, endTake, endCommand, endS, endSs, CALLS, WORKS, storeName, storePart, codeName, codeE, codeEs, codeWay, codeTest, codeSum, codeL, codeStores, codeCall, codeTake, codeCommand, codeS, codeSs, codeP, code}
 use Rattle.translation.specs.Scoped.{OkV, OkWay, OkW, OkVs, OkE, OkEs, OkL, OkS, OkSs, OkP, OkCall, OkPrimary, OkCommand, MeansAs, Scoped}
 use Rattle.translation.specs.Listed.{instructionAt, stepIn}
 use Rattle.translation.specs.Faithful.{Ordinary}
@@ -33,7 +33,7 @@ use Rattle.translation.proofs.Fits.{FitsD, Fits2, All, takes, gives, ta
 use Rattle.translation.proofs.Blank.{blank, blank2, onRes, cells-blank, found-blank, work-blank, test-blank, name-blank, open-blank, close-blank, enter-blank, leave-blank}
 use Rattle.translation.proofs.Stands.{CodeAt, pastE, pastEs, past-way, pastL, pastS, pastSs, pastDs, whole}
 use Rattle.translation.proofs.Chain.{Vars, VarsT, Clear, OkSpot, NamedAs, worked-named, sought-named, Chain, root, inner, at-newest, body-cells, chain-outer, chain-cut, chain-more, chain-as, chain-scopes, found, found-under, same-act, same-test, Stood, stood, stands-for, chain-new, chain-work, callee}
-use Rattle.translation.proofs.Rel.{owes, owed, slack, owed-most, heldT, heldK, wantsX, wantsA, wantsV, wants, due, kindsOf, Level, StepAt, AtT, t-ev, t-evs, t-naming, t-ex, t-exs, t-stores, t-act, t-unchanged, t-drop, t-seek, t-receiving, t-invoke, t-expressions, t-statements, t-only, t-loop, t-whiling, t-hold, t-tested, t-add, t-trying, t-summing, t-settling, Here, Does, over-jump, at-go, at-next, at-end, at-task, at-close, at-ret, at-worked, at-sought, at-find, at-pass, Stand, stands, Rel, rel, sizeE, sizeEs, sizeS, sizeK, size}
+use Rattle.translation.proofs.Rel.{owes, owed, slack, owed-most, heldT, heldK, wantsX, wantsA, wantsV, wants, due, kindsOf, Level, StepAt, heldAt, testAt, sumAt, AtT, t-ev, t-evs, t-naming, t-ex, t-exs, t-stores, t-act, t-unchanged, t-drop, t-seek, t-receiving, t-invoke, t-expressions, t-statements, t-only, t-loop, t-whiling, t-hold, t-tested, t-add, t-trying, t-summing, t-setting, t-settling, Here, Does, over-jump, at-go, at-next, at-end, at-task, at-close, at-ret, at-worked, at-sought, at-find, at-pass, Stand, stands, Rel, rel, sizeE, sizeEs, sizeS, sizeK, size}
 use Rattle.translation.proofs.Laying.{kinds-length, one-kind, kind-more, kind-call, split-call, laid, laid-actuals}
 
 -- the expressions of a command are among its actuals
@@ -142,16 +142,15 @@ module _ (place : ℕ → ℕ) (P : List Instr) where
   seen-all ks kt d c (receive q s) o fd = seen ks kt d c s o (λ h. found-below val (ks ++ kt) d (fd h))
   seen-all ks kt d c (send q) o fd = tt
   seen-all ks kt d c keep o fd = tt
-  seen-all ks kt d c (bump q s) o fd = seen ks kt d c s o (λ h. found-level (ks ++ kt) d (fd h))
   seen-all ks kt d c (unary q i) o fd = tt
   seen-all ks kt d c (binary q i) o fd = tt
   seen-all ks kt d c (lend s) o fd = seen ks kt d c s o (λ h. found-level (ks ++ kt) d (fd h))
   seen-all ks kt d c (channel q) o fd = tt
-  seen-all ks kt d c (sum q s) o fd = seen ks kt d c s o (λ h. found-level (ks ++ kt) d (fd h))
+  seen-all ks kt d c (sum q s) o fd = seen ks kt d c s o (λ h. found-below val (ks ++ kt) d (fd h))
 
   seen-test : {fs : List Frame} {g : List Mark} {v : Env} (ks kt : List Kind) (d : Data) → Chain place P fs (kindAt kt) (length kt) (length fs) g v → (t : Test Spot) → VarsT (OkSpot (scopes g)) t → (1 ≤ wantsV t → Found (takesT t ks ++ kt) d) → VarsT (λ s. Usable (ks ++ kt) (cellAt (blank d) v s)) t
   seen-test ks kt d c condition o fd = tt
-  seen-test ks kt d c (upto q s) o fd = seen ks kt d c s o (λ h. found-level (ks ++ kt) d (fd h))
+  seen-test ks kt d c (upto q s) o fd = seen ks kt d c s o (λ h. found-below val (ks ++ kt) d (fd h))
 
   -- what comes of it
   comes : {fs : List Frame} {g : List Mark} {kt : List Kind} {v : Env} (n : ℕ) (ks : List Kind) (d : Data) (a : Act Spot) → Stand place P fs g (takes a ks) kt v (needs a n) d → Vars (OkSpot (scopes g)) a → (1 ≤ wantsA a → Found (takes a ks ++ kt) d) → All (FitsD (gives a ks ++ kt) (holds a n)) (work (actOn (cellAt (blank d) v) a) d)
@@ -378,38 +377,61 @@ module _ (place : ℕ → ℕ) (P : List Instr) where
   dL {g = g} p d x (step n e e' e'' ∷ l) y s b r r' h h' q o o' w u c le =
       let h₁ = pastE place P g e _ _ h in
       let h₂ = past-way place P _ g x _ _ _ h₁ in
-      let h₃ = pastE place P g e' _ _ h₂ in
-      let h₄ = pastE place P g e'' _ _ h₃ in
-      frees (on (t-ev e _ h (o .0)) (on (t-stores x [] _ h₁ (q, tt)) (on (t-ev e' _ h₂ (o .1)) (on (t-ev e'' _ h₃ (o .2)) (on (t-hold (way (meaning (scopes g) x)) n x l y s _ r r' (refl, h₄, h', q, o .3, o')) u w) (omega arith)) (omega arith)) (omega arith)) (omega arith)) c refl idle (omega arith) (omega arith) (omega arith)
+      let h₃ = pastE place P g e' _ _ (h₂ .1) in
+      frees (on (t-ev e _ h (o .0)) (on (t-stores x [] _ h₁ (q, tt)) (at-go (h₂ .0) (on (t-ev e' _ (h₂ .1) (o .1)) (at-next (h₃ .0) (on (t-hold (way (meaning (scopes g) x)) n x e' e'' l y s _ r r' (refl, h₂, h', q, o .3, o', o .1, o .2)) u w)) (omega arith))) (omega arith)) (omega arith)) c refl idle (omega arith) (omega arith) (omega arith)
+
+  -- the code of a step element, from the test on
+  step-test : (g : List Mark) (m : ℕ) (w : Way) (n : ℕ) (x : Name) (f h : Expression) (l : List Element) (y : Statement) (s a : ℕ) (r r' : List Instr) → StepAt place P w g m n x f h l y s a r r' → CodeAt place P (testAt place P g f h a) (codeTest place w g x (onward l (endStep w (scopes g) f h a) (suc (endS (scopes g) y s))) (GO m s (suc (endTest w (testAt place P g f h a))) ∷ GO m (suc a) (sumAt place P w g f h a) ∷ codeSum place w g n x (JUMP (suc (heldAt place P g f a)) ∷ codeL place g m x l s (suc (endS (scopes g) y s)) (endStep w (scopes g) f h a) r)))
+  step-test g m w n x f h l y s a r r' z = pastE place P g h _ _ ((pastE place P g f _ _ (z .1 .1)) .1 .1)
 
   -- the test of a step element
-  dTest : {j : ℕ} {g : List Mark} {kt : List Kind} {ps : List ℕ} {fs : List Frame} {k : List Task} {v : Env} (wy : Way) (p : ℕ) (d : Data) (n : ℕ) (x : Name) (l : List Element) (y : Statement) (s i : ℕ) (r r' : List Instr) → StepAt place P wy g (length ps) n x l y s i r r' → due k ≤ 2 → Does place P (suc (endS (scopes g) y s)) g [] kt ps fs k v j → Stand place P fs g [] kt v (suc (suc (heldK k))) d → j ≤ p → sstep place (st (tested (stepping (place n) x l y) ∷ k) v (blank d)) ≡ passing place wy (stepping (place n) x l y) k v (blank d) → D p (ms (suc i) ps fs d) (st (tested (stepping (place n) x l y) ∷ k) v (blank d))
+  dTest : {j : ℕ} {g : List Mark} {kt : List Kind} {ps : List ℕ} {fs : List Frame} {k : List Task} {v : Env} (wy : Way) (p : ℕ) (d : Data) (n : ℕ) (x : Name) (f h : Expression) (l : List Element) (y : Statement) (s a : ℕ) (r r' : List Instr) → StepAt place P wy g (length ps) n x f h l y s a r r' → due k ≤ 2 → Does place P (suc (endS (scopes g) y s)) g [] kt ps fs k v j → Stand place P fs g (val ∷ []) kt v (suc (heldK k)) d → j ≤ p → sstep place (st (tested (stepping (place n) x f h l y) ∷ k) v (blank d)) ≡ passing place wy (stepping (place n) x f h l y) k v (blank d) → D p (ms (testAt place P g f h a) ps fs d) (st (tested (stepping (place n) x f h l y) ∷ k) v (blank d))
   unfolding codeTest endTest codeSum endSum passing
-  dTest {g = g} {ps = ps} {k = k} direct p d n x l y s i r r' a w u c le se =
-      let o : OkV (scopes g) x = rw (a .0) at (a .3) in
-      tests (heldK k) [] d (upto (at place x) (here x)) 1 (ex y ∷ add (stepping (place n) x l y) ∷ k) (loop x l y ∷ k) (a .1 .1 .0) o (λ h. absurd (omega arith)) (at-go (a .1 .1 .1 .0) (on (t-ex y _ (a .2) (a .5)) (at-next ((pastS place P g (suc (length ps)) y _ _ (a .2)) .0) (on (t-add direct n x l y s i r r' a) u w)) (omega arith))) refl (omega arith) (on (t-loop x l y s _ r r' (a .1 .1 .1 .1 .1 .1) (a .2) (a .3) (a .4) (a .5)) u w) refl (omega arith) c (omega arith) (omega arith) (omega arith) se
-  dTest {g = g} sought p d n x l y s i r r' a w u c le se = frees (on (t-seek (a .1 .1 .0) (sought-named (meaning (scopes g) x) (a .0))) (on (t-trying n x l y s i r r' a) u w) (omega arith)) c se idle (omega arith) (omega arith) (omega arith)
+  dTest {g = g} {ps = ps} {k = k} direct p d n x f h l y s a r r' z w u c le se =
+      let o : OkV (scopes g) x = rw (z .0) at (z .3) in
+      let t = step-test g (length ps) direct n x f h l y s a r r' z in
+      tests (heldK k) [] d (upto (at place x) (here x)) 1 (ex y ∷ ev f ∷ add (stepping (place n) x f h l y) ∷ k) (loop x l y ∷ k) (t .0) o (λ h. absurd (omega arith)) (at-go (t .1 .0) (on (t-ex y _ (z .2) (z .5)) (at-next ((pastS place P g (suc (length ps)) y _ _ (z .2)) .0) (at-go (t .1 .1 .0) (on (t-ev f _ (z .1 .1) (z .6)) (at-next ((pastE place P g f _ _ (z .1 .1)) .0) (on (t-add direct n x f h l y s a r r' z) u w)) (omega arith)))) (omega arith))) refl (omega arith) (on (t-loop x l y s _ r r' (t .1 .1 .1 .1 .1 .1) (z .2) (z .3) (z .4) (z .5)) u w) refl (omega arith) c (omega arith) (omega arith) (omega arith) se
+  dTest {g = g} {ps = ps} sought p d n x f h l y s a r r' z w u c le se =
+      let t = step-test g (length ps) sought n x f h l y s a r r' z in
+      frees (on (t-seek (t .0) (sought-named (meaning (scopes g) x) (z .0))) (on (t-trying n x f h l y s a r r' z) u w) (omega arith)) c se idle (omega arith) (omega arith) (omega arith)
 
   -- the addition
-  dAdd : {j : ℕ} {g : List Mark} {kt : List Kind} {ps : List ℕ} {fs : List Frame} {k : List Task} {v : Env} (wy : Way) (p : ℕ) (d : Data) (n : ℕ) (x : Name) (l : List Element) (y : Statement) (s i : ℕ) (r r' : List Instr) → StepAt place P wy g (length ps) n x l y s i r r' → due k ≤ 2 → Does place P (suc (endS (scopes g) y s)) g [] kt ps fs k v j → Stand place P fs g [] kt v (suc (suc (heldK k))) d → j ≤ p → sstep place (st (add (stepping (place n) x l y) ∷ k) v (blank d)) ≡ adding place wy (stepping (place n) x l y) k v (blank d) → D p (ms (suc (endTest wy (suc i))) ps fs d) (st (add (stepping (place n) x l y) ∷ k) v (blank d))
+  dAdd : {j : ℕ} {g : List Mark} {kt : List Kind} {ps : List ℕ} {fs : List Frame} {k : List Task} {v : Env} (wy : Way) (p : ℕ) (d : Data) (n : ℕ) (x : Name) (f h : Expression) (l : List Element) (y : Statement) (s a : ℕ) (r r' : List Instr) → StepAt place P wy g (length ps) n x f h l y s a r r' → due k ≤ 2 → Does place P (suc (endS (scopes g) y s)) g [] kt ps fs k v j → Stand place P fs g (val ∷ []) kt v (suc (heldK k)) d → j ≤ p → sstep place (st (add (stepping (place n) x f h l y) ∷ k) v (blank d)) ≡ adding place wy (stepping (place n) x f h l y) k v (blank d) → D p (ms (sumAt place P wy g f h a) ps fs d) (st (add (stepping (place n) x f h l y) ∷ k) v (blank d))
   unfolding codeTest endTest codeSum endSum adding
-  dAdd {g = g} {k = k} direct p d n x l y s i r r' a w u c le se =
-      let o : OkV (scopes g) x = rw (a .0) at (a .3) in
-      counted 1 (heldK k) [] d (bump (place n) (here x)) (tested (stepping (place n) x l y) ∷ k) (a .1 .1 .1 .1 .0) o (over-jump (a .1 .1 .1 .1 .1 .0) (on (t-tested direct n x l y s i r r' a) u w)) (omega arith) refl c (λ h. absurd (omega arith)) (omega arith) (omega arith) se
-  dAdd {g = g} sought p d n x l y s i r r' a w u c le se = frees (on (t-seek (a .1 .1 .1 .1 .1 .0) (sought-named (meaning (scopes g) x) (a .0))) (on (t-summing n x l y s i r r' a) u w) (omega arith)) c se idle (omega arith) (omega arith) (omega arith)
+  dAdd {g = g} {ps = ps} {k = k} direct p d n x f h l y s a r r' z w u c le se =
+      let o : OkV (scopes g) x = rw (z .0) at (z .3) in
+      let t = step-test g (length ps) direct n x f h l y s a r r' z in
+      counted 1 (heldK k) [] d (sum (place n) (here x)) (settling (here x) (stepping (place n) x f h l y) ∷ k) (t .1 .1 .1 .0) o (on (t-setting n x f h l y s a r r' z) u w) (omega arith) refl c (λ h. absurd (omega arith)) (omega arith) (omega arith) se
+  dAdd {g = g} {ps = ps} sought p d n x f h l y s a r r' z w u c le se =
+      let t = step-test g (length ps) sought n x f h l y s a r r' z in
+      frees (on (t-seek (t .1 .1 .1 .1 .0) (sought-named (meaning (scopes g) x) (z .0))) (on (t-summing n x f h l y s a r r' z) u w) (omega arith)) c se idle (omega arith) (omega arith) (omega arith)
+
+  -- the store of the sum
+  dSetting : {j : ℕ} {g : List Mark} {kt : List Kind} {ps : List ℕ} {fs : List Frame} {k : List Task} {v : Env} (p : ℕ) (d : Data) (n : ℕ) (x : Name) (f h : Expression) (l : List Element) (y : Statement) (s a : ℕ) (r r' : List Instr) → StepAt place P direct g (length ps) n x f h l y s a r r' → due k ≤ 2 → Does place P (suc (endS (scopes g) y s)) g [] kt ps fs k v j → Stand place P fs g (val ∷ []) kt v (suc (heldK k)) d → j + 2 ≤ p → D p (ms (suc (sumAt place P direct g f h a)) ps fs d) (st (settling (here x) (stepping (place n) x f h l y) ∷ k) v (blank d))
+  unfolding sstep codeTest endTest codeSum endSum
+  dSetting {g = g} {ps = ps} {k = k} p d n x f h l y s a r r' z w u c le =
+      let o : OkV (scopes g) x = rw (z .0) at (z .3) in
+      let t = step-test g (length ps) direct n x f h l y s a r r' z in
+      counted 0 (suc (heldK k)) [] d (store (here x)) (ev h ∷ tested (stepping (place n) x f h l y) ∷ k) (t .1 .1 .1 .1 .0) o (over-jump (t .1 .1 .1 .1 .1 .0) (on (t-ev h _ ((pastE place P g f _ _ (z .1 .1)) .1 .1) (z .7)) (on (t-tested direct n x f h l y s a r r' z) u w) (omega arith))) (omega arith) refl c (λ h. absurd (omega arith)) (omega arith) (omega arith) refl
 
   -- where the controlled variable is a name formal, once its cell is found: the test, the sum, its store
-  dTrying : {j : ℕ} {g : List Mark} {kt : List Kind} {ps : List ℕ} {fs : List Frame} {k : List Task} {v : Env} (p : ℕ) (d : Data) (n : ℕ) (x : Name) (l : List Element) (y : Statement) (s i : ℕ) (r r' : List Instr) → StepAt place P sought g (length ps) n x l y s i r r' → due k ≤ 2 → Does place P (suc (endS (scopes g) y s)) g [] kt ps fs k v j → Stand place P fs g [] kt v (suc (suc (heldK k))) d → (1 ≤ 1 → Found kt d) → j ≤ p → D p (ms (suc (suc i)) ps fs d) (st (trying (stepping (place n) x l y) ∷ k) v (blank d))
+  dTrying : {j : ℕ} {g : List Mark} {kt : List Kind} {ps : List ℕ} {fs : List Frame} {k : List Task} {v : Env} (p : ℕ) (d : Data) (n : ℕ) (x : Name) (f h : Expression) (l : List Element) (y : Statement) (s a : ℕ) (r r' : List Instr) → StepAt place P sought g (length ps) n x f h l y s a r r' → due k ≤ 2 → Does place P (suc (endS (scopes g) y s)) g [] kt ps fs k v j → Stand place P fs g (val ∷ []) kt v (suc (heldK k)) d → (1 ≤ 1 → Found (val ∷ kt) d) → j ≤ p → D p (ms (suc (testAt place P g f h a)) ps fs d) (st (trying (stepping (place n) x f h l y) ∷ k) v (blank d))
   unfolding sstep codeTest endTest codeSum endSum
-  dTrying {g = g} {ps = ps} {k = k} p d n x l y s i r r' a w u c fd le = tests (heldK k) [] d (upto (at place x) there) 1 (ex y ∷ add (stepping (place n) x l y) ∷ k) (loop x l y ∷ k) (a .1 .1 .1 .0) tt fd (at-go (a .1 .1 .1 .1 .0) (on (t-ex y _ (a .2) (a .5)) (at-next ((pastS place P g (suc (length ps)) y _ _ (a .2)) .0) (on (t-add sought n x l y s i r r' a) u w)) (omega arith))) refl (omega arith) (on (t-loop x l y s _ r r' (a .1 .1 .1 .1 .1 .1 .1 .1 .1 .1) (a .2) (a .3) (a .4) (a .5)) u w) refl (omega arith) c (omega arith) (omega arith) (omega arith) refl
+  dTrying {g = g} {ps = ps} {k = k} p d n x f h l y s a r r' z w u c fd le =
+      let t = step-test g (length ps) sought n x f h l y s a r r' z in
+      tests (heldK k) [] d (upto (at place x) there) 1 (ex y ∷ ev f ∷ add (stepping (place n) x f h l y) ∷ k) (loop x l y ∷ k) (t .1 .0) tt fd (at-go (t .1 .1 .0) (on (t-ex y _ (z .2) (z .5)) (at-next ((pastS place P g (suc (length ps)) y _ _ (z .2)) .0) (at-go (t .1 .1 .1 .0) (on (t-ev f _ (z .1 .1) (z .6)) (at-next ((pastE place P g f _ _ (z .1 .1)) .0) (on (t-add sought n x f h l y s a r r' z) u w)) (omega arith)))) (omega arith))) refl (omega arith) (on (t-loop x l y s _ r r' (t .1 .1 .1 .1 .1 .1 .1 .1 .1) (z .2) (z .3) (z .4) (z .5)) u w) refl (omega arith) c (omega arith) (omega arith) (omega arith) refl
 
-  dSumming : {j : ℕ} {g : List Mark} {kt : List Kind} {ps : List ℕ} {fs : List Frame} {k : List Task} {v : Env} (p : ℕ) (d : Data) (n : ℕ) (x : Name) (l : List Element) (y : Statement) (s i : ℕ) (r r' : List Instr) → StepAt place P sought g (length ps) n x l y s i r r' → due k ≤ 2 → Does place P (suc (endS (scopes g) y s)) g [] kt ps fs k v j → Stand place P fs g [] kt v (suc (suc (heldK k))) d → (1 ≤ 1 → Found kt d) → j ≤ p → D p (ms (suc (suc (endTest sought (suc i)))) ps fs d) (st (summing (stepping (place n) x l y) ∷ k) v (blank d))
+  dSumming : {j : ℕ} {g : List Mark} {kt : List Kind} {ps : List ℕ} {fs : List Frame} {k : List Task} {v : Env} (p : ℕ) (d : Data) (n : ℕ) (x : Name) (f h : Expression) (l : List Element) (y : Statement) (s a : ℕ) (r r' : List Instr) → StepAt place P sought g (length ps) n x f h l y s a r r' → due k ≤ 2 → Does place P (suc (endS (scopes g) y s)) g [] kt ps fs k v j → Stand place P fs g (val ∷ []) kt v (suc (heldK k)) d → (1 ≤ 1 → Found (val ∷ kt) d) → j ≤ p → D p (ms (suc (sumAt place P sought g f h a)) ps fs d) (st (summing (stepping (place n) x f h l y) ∷ k) v (blank d))
   unfolding sstep codeTest endTest codeSum endSum
-  dSumming {g = g} {k = k} p d n x l y s i r r' a w u c fd le = counted 1 (heldK k) [] d (sum (place n) there) (seek x (at place x) ∷ settling (stepping (place n) x l y) ∷ k) (a .1 .1 .1 .1 .1 .1 .0) tt (on (t-seek (a .1 .1 .1 .1 .1 .1 .1 .0) (sought-named (meaning (scopes g) x) (a .0))) (on (t-settling n x l y s i r r' a) u w) (omega arith)) (omega arith) refl c fd (omega arith) (omega arith) refl
+  dSumming {g = g} {ps = ps} {k = k} p d n x f h l y s a r r' z w u c fd le =
+      let t = step-test g (length ps) sought n x f h l y s a r r' z in
+      counted 1 (heldK k) [] d (sum (place n) there) (seek x (at place x) ∷ settling there (stepping (place n) x f h l y) ∷ k) (t .1 .1 .1 .1 .1 .0) tt (on (t-seek (t .1 .1 .1 .1 .1 .1 .0) (sought-named (meaning (scopes g) x) (z .0))) (on (t-settling n x f h l y s a r r' z) u w) (omega arith)) (omega arith) refl c fd (omega arith) (omega arith) refl
 
-  dSettling : {j : ℕ} {g : List Mark} {kt : List Kind} {ps : List ℕ} {fs : List Frame} {k : List Task} {v : Env} (p : ℕ) (d : Data) (n : ℕ) (x : Name) (l : List Element) (y : Statement) (s i : ℕ) (r r' : List Instr) → StepAt place P sought g (length ps) n x l y s i r r' → due k ≤ 2 → Does place P (suc (endS (scopes g) y s)) g [] kt ps fs k v j → Stand place P fs g (val ∷ []) kt v (suc (suc (heldK k))) d → (1 ≤ 1 → Found (val ∷ kt) d) → j + 2 ≤ p → D p (ms (suc (suc (suc (suc (endTest sought (suc i)))))) ps fs d) (st (settling (stepping (place n) x l y) ∷ k) v (blank d))
+  dSettling : {j : ℕ} {g : List Mark} {kt : List Kind} {ps : List ℕ} {fs : List Frame} {k : List Task} {v : Env} (p : ℕ) (d : Data) (n : ℕ) (x : Name) (f h : Expression) (l : List Element) (y : Statement) (s a : ℕ) (r r' : List Instr) → StepAt place P sought g (length ps) n x f h l y s a r r' → due k ≤ 2 → Does place P (suc (endS (scopes g) y s)) g [] kt ps fs k v j → Stand place P fs g (val ∷ []) kt v (suc (heldK k)) d → (1 ≤ 1 → Found (val ∷ kt) d) → j + 2 ≤ p → D p (ms (suc (suc (suc (sumAt place P sought g f h a)))) ps fs d) (st (settling there (stepping (place n) x f h l y) ∷ k) v (blank d))
   unfolding sstep codeTest endTest codeSum endSum
-  dSettling {k = k} p d n x l y s i r r' a w u c fd le = counted 0 (suc (suc (heldK k))) [] d (store there) (tested (stepping (place n) x l y) ∷ k) (a .1 .1 .1 .1 .1 .1 .1 .1 .0) tt (over-jump (a .1 .1 .1 .1 .1 .1 .1 .1 .1 .0) (on (t-tested sought n x l y s i r r' a) u w)) (omega arith) refl c fd (omega arith) (omega arith) refl
+  dSettling {g = g} {ps = ps} {k = k} p d n x f h l y s a r r' z w u c fd le =
+      let t = step-test g (length ps) sought n x f h l y s a r r' z in
+      counted 0 (suc (heldK k)) [] d (store there) (ev h ∷ tested (stepping (place n) x f h l y) ∷ k) (t .1 .1 .1 .1 .1 .1 .1 .0) tt (over-jump (t .1 .1 .1 .1 .1 .1 .1 .1 .0) (on (t-ev h _ ((pastE place P g f _ _ (z .1 .1)) .1 .1) (z .7)) (on (t-tested sought n x f h l y s a r r' z) u w) (omega arith))) (omega arith) refl c fd (omega arith) (omega arith) refl
 
   -- ---- tasks
 
@@ -456,12 +478,15 @@ module _ (place : ℕ → ℕ) (P : List Instr) where
       tests (heldK k) [] d condition 0 (ex s ∷ k) k (h₁ .0) tt (λ h. absurd (omega arith)) (on (t-ex s _ (h₁ .1) (o .1)) y w) refl (omega arith) y refl (omega arith) c (omega arith) (omega arith) (omega arith) refl
   dT {g = g} {ps = ps} {k = k} p d (t-whiling x n e a l y s b i r r' r'' h h₁ h' q o o') w u c fd le =
       tests (heldK k) [] d condition 1 (ex y ∷ loop x (while n e a ∷ l) y ∷ k) (loop x l y ∷ k) (h₁ .0) tt (λ h. absurd (omega arith)) (at-go (h₁ .1 .0) (on (t-ex y _ h' o') (at-next ((pastS place P g (suc (length ps)) y _ _ h') .0) (on (t-loop x (while n e a ∷ l) y s b r r' h h' q o o') u w)) (omega arith))) refl (omega arith) (on (t-loop x l y s _ r'' r' (h₁ .1 .1) h' q (o .2) o') u w) refl (omega arith) c (omega arith) (omega arith) (omega arith) refl
-  dT {k = k} p d (t-hold wy n x l y s i r r' a) w u c fd le = counted 0 (heldK k) [] d keep (tested (stepping (place n) x l y) ∷ k) (a .1 .0) tt (on (t-tested wy n x l y s i r r' a) u w) (omega arith) refl c (λ h. absurd (omega arith)) (omega arith) (omega arith) refl
-  dT {g = g} {k = k} {v = v} p d (t-tested wy n x l y s i r r' a) w u c fd le = dTest wy p d n x l y s i r r' a w u c (omega arith) (ap (λ g. passing place (way (meaning g x)) (stepping (place n) x l y) k v (blank d)) (known c) ∙ ap (λ w. passing place w (stepping (place n) x l y) k v (blank d)) (a .0))
-  dT {g = g} {k = k} {v = v} p d (t-add wy n x l y s i r r' a) w u c fd le = dAdd wy p d n x l y s i r r' a w u c (omega arith) (ap (λ g. adding place (way (meaning g x)) (stepping (place n) x l y) k v (blank d)) (known c) ∙ ap (λ w. adding place w (stepping (place n) x l y) k v (blank d)) (a .0))
-  dT p d (t-trying n x l y s i r r' a) w u c fd le = dTrying p d n x l y s i r r' a w u c fd (omega arith)
-  dT p d (t-summing n x l y s i r r' a) w u c fd le = dSumming p d n x l y s i r r' a w u c fd (omega arith)
-  dT p d (t-settling n x l y s i r r' a) w u c fd le = dSettling p d n x l y s i r r' a w u c fd (omega arith)
+  dT {g = g} {k = k} p d (t-hold wy n x f h l y s a r r' z) w u c fd le =
+      let t = (pastE place P g f _ _ (z .1 .1)) .1 in
+      counted 0 (heldK k) [] d keep (ev h ∷ tested (stepping (place n) x f h l y) ∷ k) (t .0) tt (on (t-ev h _ (t .1) (z .7)) (on (t-tested wy n x f h l y s a r r' z) u w) (omega arith)) (omega arith) refl c (λ h. absurd (omega arith)) (omega arith) (omega arith) refl
+  dT {g = g} {k = k} {v = v} p d (t-tested wy n x f h l y s a r r' z) w u c fd le = dTest wy p d n x f h l y s a r r' z w u c (omega arith) (ap (λ g. passing place (way (meaning g x)) (stepping (place n) x f h l y) k v (blank d)) (known c) ∙ ap (λ w. passing place w (stepping (place n) x f h l y) k v (blank d)) (z .0))
+  dT {g = g} {k = k} {v = v} p d (t-add wy n x f h l y s a r r' z) w u c fd le = dAdd wy p d n x f h l y s a r r' z w u c (omega arith) (ap (λ g. adding place (way (meaning g x)) (stepping (place n) x f h l y) k v (blank d)) (known c) ∙ ap (λ w. adding place w (stepping (place n) x f h l y) k v (blank d)) (z .0))
+  dT p d (t-trying n x f h l y s a r r' z) w u c fd le = dTrying p d n x f h l y s a r r' z w u c fd (omega arith)
+  dT p d (t-summing n x f h l y s a r r' z) w u c fd le = dSumming p d n x f h l y s a r r' z w u c fd (omega arith)
+  dT p d (t-settling n x f h l y s a r r' z) w u c fd le = dSettling p d n x f h l y s a r r' z w u c fd (omega arith)
+  dT p d (t-setting n x f h l y s a r r' z) w u c fd le = dSetting p d n x f h l y s a r r' z w u c (omega arith)
   dT {pc = pc} {g = g} {kt = kt} {ps = ps} {fs = fs} {k = k} {v = v} p d (t-invoke {x = x} {es = es} {f = f} is ks t n u e₀ i' e₁ o l₁ l₂ la) w y (stands c z fit) fd le =
       let t' = callee place P fs x u c (o .0) in
       let kk : List Kind = ks ++ kt in

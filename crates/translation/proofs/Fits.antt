@@ -14,7 +14,7 @@ use Rattle.machine.specs.declared.Cell.the-variants.{Unset, Holds, Named}
 use Rattle.machine.specs.declared.Value.{Value}
 use Rattle.machine.specs.declared.Value.the-variants.{Is, Fault}
 use Rattle.machine.specs.Values.{whole, isZero, Unary, minus, negation, absolute, apply1, Binary, plus, less, times, over, below, atMost, equal, atLeast, above, unequal, and, or, impl, equiv, apply2, past}
-use Rattle.machine.specs.Data.{Lent, Data, dat, cells, Res, bad, wrong, good, guard, check, newCells, newest, onValue, back, look, put, plain, find, foundIn, nameCell, reading, valued, hold, unhold, held, input, rest, spend, taking, writing, Act, push, load, store, assign, reserve, forget, receive, send, keep, bump, unary, binary, lend, channel, sum, actOn, work, downs, Two, yea, nay, Test, condition, upto, testOn, test, downsT, openBlock, closeBlock, enter, Fate, kept, gone, stays, given, leave}
+use Rattle.machine.specs.Data.{Lent, Data, dat, cells, Res, bad, wrong, good, guard, check, newCells, newest, onValue, back, look, put, plain, find, foundIn, nameCell, reading, valued, hold, unhold, held, input, rest, spend, taking, writing, Act, push, load, store, assign, reserve, forget, receive, send, keep, unary, binary, lend, channel, sum, actOn, work, downs, Two, yea, nay, Test, condition, upto, testOn, test, downsT, openBlock, closeBlock, enter, Fate, kept, gone, stays, given, leave}
 use Rattle.translation.proofs.CellKinds.{Kind, val, any, nam, Plain, plain-eq, kindAt, kind-on}
 use Rattle.translation.proofs.Chain.{Vars, VarsT}
 
@@ -106,13 +106,12 @@ takes (reserve q) ks = ks
 takes forget ks = val ∷ ks
 takes (receive q x) ks = val ∷ ks
 takes (send q) ks = val ∷ val ∷ ks
-takes keep ks = val ∷ val ∷ ks
-takes (bump q x) ks = ks
+takes keep ks = val ∷ ks
 takes (unary q o) ks = val ∷ ks
 takes (binary q o) ks = val ∷ val ∷ ks
 takes (lend x) ks = ks
 takes (channel q) ks = val ∷ ks
-takes (sum q x) ks = ks
+takes (sum q x) ks = val ∷ ks
 
 abbrev pub gives : {X : Type 0} → Act X → List Kind → List Kind
 gives (push q v) ks = val ∷ ks
@@ -124,7 +123,6 @@ gives forget ks = ks
 gives (receive q x) ks = ks
 gives (send q) ks = ks
 gives keep ks = ks
-gives (bump q x) ks = ks
 gives (unary q o) ks = val ∷ ks
 gives (binary q o) ks = val ∷ ks
 gives (lend x) ks = ks
@@ -133,7 +131,7 @@ gives (sum q x) ks = val ∷ ks
 
 abbrev pub takesT : {X : Type 0} → Test X → List Kind → List Kind
 takesT condition ks = val ∷ ks
-takesT (upto q x) ks = ks
+takesT (upto q x) ks = val ∷ ks
 
 -- held values before and after
 abbrev pub needs : {X : Type 0} → Act X → ℕ → ℕ
@@ -146,12 +144,11 @@ needs forget n = n
 needs (receive q x) n = n
 needs (send q) n = n
 needs keep n = n
-needs (bump q x) n = suc (suc n)
 needs (unary q o) n = n
 needs (binary q o) n = n
 needs (lend x) n = n
 needs (channel q) n = n
-needs (sum q x) n = suc (suc n)
+needs (sum q x) n = suc n
 
 abbrev pub holds : {X : Type 0} → Act X → ℕ → ℕ
 holds (push q v) n = n
@@ -162,17 +159,16 @@ holds (reserve q) n = n
 holds forget n = n
 holds (receive q x) n = n
 holds (send q) n = n
-holds keep n = suc (suc n)
-holds (bump q x) n = suc (suc n)
+holds keep n = suc n
 holds (unary q o) n = n
 holds (binary q o) n = n
 holds (lend x) n = n
 holds (channel q) n = n
-holds (sum q x) n = suc (suc n)
+holds (sum q x) n = suc n
 
 abbrev pub needsT : {X : Type 0} → Test X → ℕ → ℕ
 needsT condition n = n
-needsT (upto q x) n = suc (suc n)
+needsT (upto q x) n = suc n
 
 pub vars : {X : Type 0} {Q R : X → Type 0} → ((x : X) → Q x → R x) → (a : Act X) → Vars Q a → Vars R a
 vars f (push q v) o = tt
@@ -184,7 +180,6 @@ vars f forget o = tt
 vars f (receive q x) o = f x o
 vars f (send q) o = tt
 vars f keep o = tt
-vars f (bump q x) o = f x o
 vars f (unary q i) o = tt
 vars f (binary q i) o = tt
 vars f (lend x) o = f x o
@@ -206,7 +201,6 @@ taken-length forget ks kt = omega arith
 taken-length (receive q x) ks kt = omega arith
 taken-length (send q) ks kt = omega arith
 taken-length keep ks kt = omega arith
-taken-length (bump q x) ks kt = omega arith
 taken-length (unary q i) ks kt = omega arith
 taken-length (binary q i) ks kt = omega arith
 taken-length (lend x) ks kt = omega arith
@@ -223,7 +217,6 @@ takes-on forget ks kt = refl
 takes-on (receive q x) ks kt = refl
 takes-on (send q) ks kt = refl
 takes-on keep ks kt = refl
-takes-on (bump q x) ks kt = refl
 takes-on (unary q i) ks kt = refl
 takes-on (binary q i) ks kt = refl
 takes-on (lend x) ks kt = refl
@@ -240,7 +233,6 @@ gives-on forget ks kt = refl
 gives-on (receive q x) ks kt = refl
 gives-on (send q) ks kt = refl
 gives-on keep ks kt = refl
-gives-on (bump q x) ks kt = refl
 gives-on (unary q i) ks kt = refl
 gives-on (binary q i) ks kt = refl
 gives-on (lend x) ks kt = refl
@@ -266,7 +258,6 @@ downs-on f forget = refl
 downs-on f (receive q x) = refl
 downs-on f (send q) = refl
 downs-on f keep = refl
-downs-on f (bump q x) = refl
 downs-on f (unary q i) = refl
 downs-on f (binary q i) = refl
 downs-on f (lend x) = refl
@@ -413,11 +404,10 @@ unfolding valued
 worked Q q f (Is x) w g = g x
 worked Q q f (Fault a) w g = w
 
-with-held : {A : Type 0} (Q : A → Type 0) (f : ℤ → ℤ → Res A) (ks : List Kind) (n : ℕ) (d : Data) → FitsD ks (suc (suc n)) d → ((x y : ℤ) → All Q (f x y)) → All Q (held f d)
+with-held : {A : Type 0} (Q : A → Type 0) (f : ℤ → Res A) (ks : List Kind) (n : ℕ) (d : Data) → FitsD ks (suc n) d → ((x : ℤ) → All Q (f x)) → All Q (held f d)
 unfolding held
 with-held Q f ks n (dat w [] a l) k g = absurd (omega arith)
-with-held Q f ks n (dat w (y ∷ []) a l) k g = absurd (omega arith)
-with-held Q f ks n (dat w (y ∷ x ∷ h) a l) k g = g x y
+with-held Q f ks n (dat w (x ∷ h) a l) k g = g x
 
 put-fits : (ks : List Kind) (n c : ℕ) (v : ℤ) (d : Data) → FitsD ks n d → Usable ks c → FitsD ks n (put c v d)
 unfolding put kindAt
@@ -435,15 +425,14 @@ spend-fits : (ks : List Kind) (n : ℕ) (d : Data) → FitsD ks n d → FitsD ks
 unfolding spend
 spend-fits ks n (dat w h a l) k = k
 
-hold-fits : (ks : List Kind) (n : ℕ) (x y : ℤ) (d : Data) → FitsD ks n d → FitsD ks (suc (suc n)) (hold x y d)
+hold-fits : (ks : List Kind) (n : ℕ) (x : ℤ) (d : Data) → FitsD ks n d → FitsD ks (suc n) (hold x d)
 unfolding hold
-hold-fits ks n x y (dat w h a l) k = (k .0, omega arith)
+hold-fits ks n x (dat w h a l) k = (k .0, omega arith)
 
-unhold-fits : (ks : List Kind) (n : ℕ) (d : Data) → FitsD ks (suc (suc n)) d → FitsD ks n (unhold d)
+unhold-fits : (ks : List Kind) (n : ℕ) (d : Data) → FitsD ks (suc n) d → FitsD ks n (unhold d)
 unfolding unhold
 unhold-fits ks n (dat w [] a l) k = (k .0, absurd (omega arith))
-unhold-fits ks n (dat w (y ∷ []) a l) k = (k .0, absurd (omega arith))
-unhold-fits ks n (dat w (y ∷ x ∷ h) a l) k = (k .0, omega arith)
+unhold-fits ks n (dat w (x ∷ h) a l) k = (k .0, omega arith)
 
 find-fits : (ks : List Kind) (n c : ℕ) (d : Data) → FitsD ks n d → FitsD ks n (find c d)
 unfolding find
@@ -477,18 +466,15 @@ works f (receive q x) ks n d k o =
     used _ _ ks n d k (λ v d k. in-use _ (f x) ks n d _ k o (checked _ _ _ q _ (omega arith, omega arith) (take-fits ks n q (f x) d (input d) k o)))
 works f (send q) ks n d k o =
     used _ _ (val ∷ ks) n d k (λ v d k. used _ _ ks n d k (λ c d k. checked _ _ _ q _ (omega arith, omega arith) (write-fits ks n q v d k)))
-works f keep ks n d k o = used _ _ (val ∷ ks) n d k (λ y d k. used _ _ ks n d k (λ x d k. hold-fits ks n x y d k))
-works f (bump q u) ks n d k o =
-    with-held _ _ ks n d k
-    (λ x y. in-use _ (f u) ks (suc (suc n)) d _ k o (read _ q _ _ (kindAt ks (f u)) (fits-look ks (suc (suc n)) (f u) d k) (o .1) (λ v. worked _ q _ _ (whole-proper _) (λ s. put-fits ks (suc (suc n)) (f u) s d k o))))
+works f keep ks n d k o = used _ _ ks n d k (λ x d k. hold-fits ks n x d k)
 works f (unary q i) ks n d k o = used _ _ ks n d k (λ x d k. worked _ q _ _ (proper1 i x) (λ v. back-fits ks n v d k))
 works f (binary q i) ks n d k o =
     used _ _ (val ∷ ks) n d k (λ y d k. used _ _ ks n d k (λ x d k. worked _ q _ _ (proper2 i x y) (λ v. back-fits ks n v d k)))
 works f (lend x) ks n d k o = in-use _ (f x) ks n d _ k o (find-fits ks n (f x) d k)
 works f (channel q) ks n d k o = used _ _ ks n d k (λ v d k. checked _ _ _ q _ (omega arith, omega arith) (back-fits ks n v d k))
 works f (sum q u) ks n d k o =
-    with-held _ _ ks n d k
-    (λ x y. in-use _ (f u) ks (suc (suc n)) d _ k o (read _ q _ _ (kindAt ks (f u)) (fits-look ks (suc (suc n)) (f u) d k) (o .1) (λ v. worked _ q _ _ (whole-proper _) (λ s. new-fits q (Holds s ∷ []) (val ∷ ks) ks (suc (suc n)) d k (λ w x. (tt, x))))))
+    used _ _ ks (suc n) d k
+    (λ x d k. with-held _ _ ks n d k (λ y. in-use _ (f u) ks (suc n) d _ k o (read _ q _ _ (kindAt ks (f u)) (fits-look ks (suc n) (f u) d k) (o .1) (λ v. worked _ q _ _ (whole-proper _) (λ s. back-fits ks (suc n) s (hold x (unhold d)) (hold-fits ks n x (unhold d) (unhold-fits ks n d k)))))))
 
 chosen-fits : (t : Bool) (ks : List Kind) (n m : ℕ) (x y : Data) → FitsD ks m x → FitsD ks n y → Fits2 ks n m (cond t (nay x) (yea y))
 chosen-fits true ks n m x y e e' = e
@@ -498,8 +484,8 @@ pub works-test : {X : Type 0} (f : X → ℕ) (a : Test X) (ks : List Kind) (n :
 unfolding test
 works-test f condition ks n d k o = used _ _ ks n d k (λ v d k. chosen-fits (isZero v) ks n n d d k k)
 works-test f (upto q u) ks n d k o =
-    with-held _ _ ks n d k
-    (λ x y. in-use _ (f u) ks (suc (suc n)) d _ k o (read _ q _ _ (kindAt ks (f u)) (fits-look ks (suc (suc n)) (f u) d k) (o .1) (λ v. chosen-fits (past v x y) ks (suc (suc n)) n (unhold d) d (unhold-fits ks n d k) k)))
+    used _ _ ks (suc n) d k
+    (λ y d k. with-held _ _ ks n d k (λ x. in-use _ (f u) ks (suc n) d _ k o (read _ q _ _ (kindAt ks (f u)) (fits-look ks (suc n) (f u) d k) (o .1) (λ v. chosen-fits (past v x y) ks (suc n) n (unhold d) d (unhold-fits ks n d k) k))))
 
 -- ---- blocks and activations
 

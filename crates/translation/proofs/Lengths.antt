@@ -12,7 +12,7 @@ use Rattle.names.specs.Program.{Name, Sort, Sign, positive, negative, negation,
 use Rattle.names.specs.Scopes.{sortOf, modesOf, meaning}
 use Rattle.rules.specs.Calls.{Primary, held, worked, function, absolute, greatest, no-primary, primary, Command, routine-of, absolute-of, greatest-of, input-to, output-of, no-command, command, Way, direct, sought, way}
 use Rattle.rules.specs.Rules.{Spot}
-use Rattle.translation.specs.Translate.{Mark, blk, own, acl, scopes, reach, endName, endActual, endThen, endSign, endE, endEs, endWay, endTest, endSum, endL, endStores, endCall, endTake, endCommand, endS, endSs, endDs, endP, codeName, codeActual, codeThen, codeSign, codeE, codeEs, codeWay, codeTest, codeSum, codeL, codeStores, codeCall, codeTake, codeCommand, codeS, codeSs, codeDs, codeP, code}
+use Rattle.translation.specs.Translate.{Mark, blk, own, acl, scopes, reach, endName, endActual, endThen, endSign, endE, endEs, endWay, endTest, endSum, endStep, endL, endStores, endCall, endTake, endCommand, endS, endSs, endDs, endP, codeName, codeActual, codeThen, codeSign, codeE, codeEs, codeWay, codeTest, codeSum, codeStep, codeL, codeStores, codeCall, codeTake, codeCommand, codeS, codeSs, codeDs, codeP, code}
 use Rattle.translation.specs.Sizes.{Limited}
 use Rattle.machine.specs.Words.{words}
 use Rattle.translation.proofs.Ranges.{ends}
@@ -76,7 +76,7 @@ module _ (place : ℕ → ℕ) where
 
   long-sum : (w : Way) (g : List Mark) (q : ℕ) (x : Name) (b : ℕ) (r : List Instr) (k : ℕ) → Ends r (endSum w b) k → Ends (codeSum place w g q x r) b k
   unfolding endSum codeSum
-  long-sum direct g q x b r k h = one h
+  long-sum direct g q x b r k h = one (one h)
   long-sum sought g q x b r k h = one (one (one (one h)))
 
   long-take : (w : Way) (g : List Mark) (q : ℕ) (y : Name) (b : ℕ) (r : List Instr) (k : ℕ) → Ends r (endTake w b) k → Ends (codeTake place w g q y r) b k
@@ -89,7 +89,7 @@ module _ (place : ℕ → ℕ) where
   longL g m x [] s n b r k h = h
   longL g m x (value e ∷ l) s n b r k h = longE g e b _ k (long-way (way (meaning (scopes g) x)) g x _ _ _ k (one (longL g m x l s n _ r k h)))
   longL g m x (while q e c ∷ l) s n b r k h = longE g e b _ k (long-way (way (meaning (scopes g) x)) g x _ _ _ k (longE g c _ _ k (one (one (longL g m x l s n _ r k h)))))
-  longL g m x (step q e f i ∷ l) s n b r k h = longE g e b _ k (long-way (way (meaning (scopes g) x)) g x _ _ _ k (longE g f _ _ k (longE g i _ _ k (one (long-test (way (meaning (scopes g) x)) g x _ _ _ k (one (long-sum (way (meaning (scopes g) x)) g q x _ _ k (one (longL g m x l s n _ r k h)))))))))
+  longL g m x (step q e f i ∷ l) s n b r k h = longE g e b _ k (long-way (way (meaning (scopes g) x)) g x _ _ _ k (one (longE g f _ _ k (one (one (longE g i _ _ k (long-test (way (meaning (scopes g) x)) g x _ _ _ k (one (one (long-sum (way (meaning (scopes g) x)) g q x _ _ k (one (longL g m x l s n _ r k h))))))))))))
 
   long-stores : (g : List Mark) (x : Name) (xs : List Name) (b : ℕ) (r : List Instr) (k : ℕ) → Ends r (endStores (scopes g) x xs b) k → Ends (codeStores place g x xs r) b k
   unfolding endStores codeStores

@@ -14,7 +14,7 @@ use Rattle.names.specs.Scopes.{Thing, variable, routine, formal, by-name, modes
 use Rattle.rules.specs.Entered.{cellsOf, total, oneIf, cellsIn, before, declaring, bodyOfThis}
 use Rattle.rules.specs.Calls.{Primary, held, worked, function, absolute, greatest, no-primary, primary, Command, routine-of, absolute-of, greatest-of, input-to, output-of, no-command, command, thingTold, into, givenTold, Way, direct, sought, way}
 use Rattle.rules.specs.Rules.{Spot, here, there}
-use Rattle.translation.specs.Translate.{Mark, blk, own, acl, scopes, spot, reach, cutG, levels, amongG, offsetOf, locFor, locAs, loc, endName, endActual, endThen, endSign, endE, endEs, endWay, endTest, endSum, endL, onward, endStores, endCall, endTake, endCommand, endS, endSs, endDs, endP, entry, target, storeName, storePart, codeName, codeActual, codeThen, codeSign, codeE, codeEs, codeWay, codeTest, codeSum, codeL, codeStores, codeCall, codeTake, codeCommand, codeS, codeSs, codeDs, codeP, code}
+use Rattle.translation.specs.Translate.{Mark, blk, own, acl, scopes, spot, reach, cutG, levels, amongG, offsetOf, locFor, locAs, loc, endName, endActual, endThen, endSign, endE, endEs, endWay, endTest, endSum, endStep, endL, onward, endStores, endCall, endTake, endCommand, endS, endSs, endDs, endP, entry, target, storeName, storePart, codeName, codeActual, codeThen, codeSign, codeE, codeEs, codeWay, codeTest, codeSum, codeStep, codeL, codeStores, codeCall, codeTake, codeCommand, codeS, codeSs, codeDs, codeP, code}
 use Rattle.translation.proofs.Chain.{body-cells as formals-cells}
 use Rattle.translation.proofs.Sizes.{symbolsC, few, actuals-most, sizeSs, sizeDs}
 use Rattle.translation.specs.Sizes.{symbolsE, symbolsEs, symbolsL, listed, symbolsS, symbolsSs, symbolsDs, symbolsP, deepE, deepEs, deepA, deepL, deepS, deepSs, deepDs, deepP, SmallE, SmallEs, SmallL, SmallS, SmallSs, SmallDs, SmallP, Whole, Limited}
@@ -93,9 +93,10 @@ growL g x (while q e c ∷ l) b =
 growL g x (step q e f h ∷ l) b =
     let w = way (meaning g x) in
     let a = endWay w (endE g e b) in
-    let i = endE g h (endE g f a) in
-    let t = endTest w (suc i) in
-    omega (arith, growE g e b, grow-way w (endE g e b), growE g f a, growE g h (endE g f a), grow-test w (suc i), grow-sum w (suc t), growL g x l (suc (endSum w (suc t))))
+    let i = suc (suc (endE g f (suc a))) in
+    let n = endE g h i in
+    let t = endTest w n in
+    omega (arith, growE g e b, grow-way w (endE g e b), growE g f (suc a), growE g h i, grow-test w n, grow-sum w (suc (suc t)), growL g x l (suc (endSum w (suc (suc t)))))
 
 pub grow-stores : (g : List Scope) (x : Name) (xs : List Name) (b : ℕ) → b ≤ endStores g x xs b
 unfolding endStores
@@ -475,7 +476,7 @@ module _ (place : ℕ → ℕ) where
 
   fits-sum : (wy : Way) (g : List Mark) (q : ℕ) (x : Name) (r : List Instr) → Reaches g → owns g < 64 → CodeFits r → CodeFits (codeSum place wy g q x r)
   unfolding codeSum
-  fits-sum direct g q x r h w z = (loc-fits g x h w, z)
+  fits-sum direct g q x r h w z = (loc-fits g x h w, (loc-fits g x h w, z))
   fits-sum sought g q x r h w z = (formal-fits g x h w, (tt, (formal-fits g x h w, (tt, z))))
 
   fits-take : (wy : Way) (g : List Mark) (q : ℕ) (y : Name) (r : List Instr) → Reaches g → owns g < 64 → CodeFits r → CodeFits (codeTake place wy g q y r)
@@ -504,16 +505,17 @@ module _ (place : ℕ → ℕ) where
   fitsL g m x (step q y y' y'' ∷ l) s n b r h w hm hs hn v i e z =
       let wy = way (meaning (scopes g) x) in
       let a = endWay wy (endE (scopes g) y b) in
-      let j = endE (scopes g) y'' (endE (scopes g) y' a) in
-      let t = endTest wy (suc j) in
-      let k = suc (endSum wy (suc t)) in
+      let i' = suc (endE (scopes g) y' (suc a)) in
+      let j = endE (scopes g) y'' (suc i') in
+      let t = endTest wy j in
+      let k = suc (endSum wy (suc (suc t))) in
       let u = growL (scopes g) x l k in
-      let u₁ = growE (scopes g) y' a in
-      let u₂ = growE (scopes g) y'' (endE (scopes g) y' a) in
+      let u₁ = growE (scopes g) y' (suc a) in
+      let u₂ = growE (scopes g) y'' (suc i') in
       let u₃ = grow-way wy (endE (scopes g) y b) in
-      let u₄ = grow-test wy (suc j) in
-      let u₅ = grow-sum wy (suc t) in
-      fitsE g y b _ h (omega arith) (v .0) (omega arith) (omega arith) (fits-way wy g x (λ c. Act.store (spot g c)) _ (λ c. spot-fits g c h (omega arith)) h (omega arith) (fitsE g y' a _ h (omega arith) (v .1) (omega arith) (omega arith) (fitsE g y'' (endE (scopes g) y' a) _ h (omega arith) (v .2) (omega arith) (omega arith) (tt, fits-test wy g x (onward l k n) _ h (omega arith) (onward-most l k n (omega arith) hn) ((hm, hs, omega arith), fits-sum wy g q x _ h (omega arith) (omega arith, fitsL g m x l s n k r h (omega arith) hm hs hn (v .3) (omega arith) e z))))))
+      let u₄ = grow-test wy j in
+      let u₅ = grow-sum wy (suc (suc t)) in
+      fitsE g y b _ h (omega arith) (v .0) (omega arith) (omega arith) (fits-way wy g x (λ c. Act.store (spot g c)) _ (λ c. spot-fits g c h (omega arith)) h (omega arith) ((hm, omega arith, omega arith), fitsE g y' (suc a) _ h (omega arith) (v .1) (omega arith) (omega arith) (hm, (tt, fitsE g y'' (suc i') _ h (omega arith) (v .2) (omega arith) (omega arith) (fits-test wy g x (onward l k n) _ h (omega arith) (onward-most l k n (omega arith) hn) ((hm, hs, omega arith), ((hm, omega arith, omega arith), fits-sum wy g q x _ h (omega arith) (omega arith, fitsL g m x l s n k r h (omega arith) hm hs hn (v .3) (omega arith) e z))))))))
 
   fits-stores : (g : List Mark) (x : Name) (xs : List Name) (r : List Instr) → Reaches g → owns g < 64 → CodeFits r → CodeFits (codeStores place g x xs r)
   unfolding codeStores

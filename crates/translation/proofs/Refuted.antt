@@ -88,10 +88,10 @@ scoped-chain : Scoped (handed-on (number 23 3))
 unfolding handed-on nameFaults typeFaults joined scopesS usesS usesE usesL each twiceIn allNames missing headingIn inExpression wants wantedBy isVariable isName sortE misfit misfits faultsE ownSort asLeft faultsLeft miscalled faultsL faultsS count firstSymbol meaning findIn findGiven inBlock inBody variablesIn specified has sameName equalBytes
 scoped-chain = accepted-scoped (handed-on (number 23 3)) refl refl
 
--- Jensen's device, by the source rules: 385 and 11 after 204 steps; so its translation writes them with a limit of 3,280
-device : source (λ q. q) jensen [] 100 9 5000 ≡ done Ended 204 (record { written = pos 385 ∷ pos 11 ∷ []; taken = 0 })
+-- Jensen's device, by the source rules: 385 and 11 after 224 steps; so its translation writes them with a limit of 3,600
+device : source (λ q. q) jensen [] 100 9 5000 ≡ done Ended 224 (record { written = pos 385 ∷ pos 11 ∷ []; taken = 0 })
 unfolding run sstep lift guard check newCells newest onValue back look put reading valued hold unhold held input space rest spend taking writing work test openBlock closeBlock enter given leave find foundIn nameCell whole apply1 apply2 past cut cellOf actualOf declaring bodyOfThis total before reads seeks finds storing taking-in passing adding evaluate perform calling primary command way meaning findIn findGiven inBlock inBody variablesIn specified has modes sameName equalBytes firstSymbol jensen
 device = refl
 
-pub series : translated (λ q. q) jensen [] 3280 100 9 .written ≡ pos 385 ∷ pos 11 ∷ []
-series = faithful (λ q. q) jensen scoped-jensen [] 100 9 3280 .enough 5000 204 Ended _ device (omega arith) .1 .0
+pub series : translated (λ q. q) jensen [] 3600 100 9 .written ≡ pos 385 ∷ pos 11 ∷ []
+series = faithful (λ q. q) jensen scoped-jensen [] 100 9 3600 .enough 5000 224 Ended _ device (omega arith) .1 .0

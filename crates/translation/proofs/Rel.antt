@@ -7,15 +7,15 @@ use mathlib.Core.Path.{_≡_}
 use mathlib.Core.List.{List, [], _∷_, _++_}
 use mathlib.Core.Option.{some}
 use lib.ListN.{length}
-use Rattle.machine.specs.Data.{Data, Act, push, load, store, assign, reserve, forget, receive, send, keep, bump, unary, binary, lend, channel, sum, Test, condition, upto, actOn, Fate, kept, gone, stays}
+use Rattle.machine.specs.Data.{Data, Act, push, load, store, assign, reserve, forget, receive, send, keep, unary, binary, lend, channel, sum, Test, condition, upto, actOn, Fate, kept, gone, stays}
 use Rattle.machine.specs.Instructions.{Instr, END, DO, IF, JUMP, LEAVE, RETURN, GO, NEXT, NAME}
 use Rattle.machine.specs.Machine.{Frame, fr, Mach, ms, base}
 use Rattle.names.specs.Program.{Name, Expression, number, logical, name, call, signed, operated, chosen, nested, Expressions, done, then, Element, value, while, step, Statement, dummy, assignment, procedure, when, either, repeat, compound, block, Statements, last, first, Declarations, Procedure}
 use Rattle.names.specs.Scopes.{has, Scope, ofBlock, valuesOf, formalsOf, meaning}
 use Rattle.rules.specs.Entered.{Env, entered, cellsIn}
-use Rattle.rules.specs.Calls.{Way, sought, way}
+use Rattle.rules.specs.Calls.{Way, direct, sought, way}
 use Rattle.rules.specs.Rules.{Choice, expressions, statements, only, whiling, stepping, Spot, here, there, Task, ev, evs, naming, ex, exs, stores, loop, act, unchanged, drop, pick, hold, tested, add, trying, summing, settling, seek, find, receiving, invoke, close, return, State, st, at}
-use Rattle.translation.specs.Translate.{Mark, blk, acl, scopes, spot, reach, endActual, endE, endEs, endTest, endSum, onward, endStores, endTake, endS, endSs, CALLS, SEEKS, PASSES, storePart, codeE, codeEs, codeTest, codeSum, codeL, codeStores, codeTake, codeS, codeSs}
+use Rattle.translation.specs.Translate.{Mark, blk, acl, scopes, spot, reach, endActual, endE, endEs, endTest, endSum, endStep, onward, endStores, endTake, endS, endSs, CALLS, SEEKS, PASSES, storePart, codeE, codeEs, codeTest, codeSum, codeStep, codeL, codeStores, codeTake, codeS, codeSs}
 use Rattle.translation.specs.Scoped.{OkW, OkVs, OkE, OkEs, OkL, OkS, OkSs, OkCall}
 use Rattle.translation.specs.Listed.{instructionAt}
 use Rattle.translation.proofs.Stands.{CodeAt}
@@ -50,7 +50,7 @@ owes (tested s) = 0
 owes (add s) = 0
 owes (trying s) = 0
 owes (summing s) = 0
-owes (settling s) = 2
+owes (settling c s) = 2
 owes (seek x q) = 0
 owes (find e q) = 1
 owes (receiving q y) = 1
@@ -86,7 +86,7 @@ slack (tested s) = 2
 slack (add s) = 2
 slack (trying s) = 2
 slack (summing s) = 2
-slack (settling s) = 2
+slack (settling c s) = 2
 slack (seek x q) = 7
 slack (find e q) = 0
 slack (receiving q y) = 2
@@ -117,7 +117,7 @@ owes-most (tested s) = omega arith
 owes-most (add s) = omega arith
 owes-most (trying s) = omega arith
 owes-most (summing s) = omega arith
-owes-most (settling s) = omega arith
+owes-most (settling c s) = omega arith
 owes-most (seek x q) = omega arith
 owes-most (find e q) = omega arith
 owes-most (receiving q y) = omega arith
@@ -145,7 +145,6 @@ wantsA forget = 0
 wantsA (receive q x) = wantsX x
 wantsA (send q) = 0
 wantsA keep = 0
-wantsA (bump q x) = wantsX x
 wantsA (unary q o) = 0
 wantsA (binary q o) = 0
 wantsA (lend x) = wantsX x
@@ -173,7 +172,7 @@ wantsT (tested s) n = 0
 wantsT (add s) n = 0
 wantsT (trying s) n = 1
 wantsT (summing s) n = 1
-wantsT (settling s) n = 1
+wantsT (settling c s) n = wantsX c
 wantsT (seek x q) n = 0
 wantsT (find e q) n = 0
 wantsT (receiving q y) n = 0
@@ -200,7 +199,7 @@ kindsOf g m done b = []
 kindsOf g [] (then e es) b = val ∷ kindsOf g [] es (endE g e b)
 kindsOf g (n ∷ m) (then e es) b = kindOf n b ∷ kindsOf g m es (endActual n (λ b. endE g e b) b)
 
--- ---- how many values an agenda has held: two for each step element under way
+-- ---- how many values an agenda has held: one for each step element under way
 
 abbrev pub heldT : Task → ℕ → ℕ
 heldT (ev e) n = n
@@ -215,11 +214,11 @@ heldT unchanged n = n
 heldT drop n = n
 heldT (pick c) n = n
 heldT (hold s) n = n
-heldT (tested s) n = suc (suc n)
-heldT (add s) n = suc (suc n)
-heldT (trying s) n = suc (suc n)
-heldT (summing s) n = suc (suc n)
-heldT (settling s) n = suc (suc n)
+heldT (tested s) n = suc n
+heldT (add s) n = suc n
+heldT (trying s) n = suc n
+heldT (summing s) n = suc n
+heldT (settling c s) n = suc n
 heldT (seek x q) n = n
 heldT (find e q) n = n
 heldT (receiving q y) n = n
@@ -249,18 +248,29 @@ module _ (place : ℕ → ℕ) (P : List Instr) where
   Laid g vs (x ∷ xs) (then e es) [] = ⊥
   Laid g vs (x ∷ xs) (then e es) (i ∷ is) = LaidOne g (has vs x) e i × Laid g vs xs es is
 
-  -- a step element under way, whose variable is stored to in a way w: its code from the instruction that holds step and bound on; s: where the body
-  -- begins
-  abbrev pub StepAt : Way → List Mark → ℕ → ℕ → Name → List Element → Statement → ℕ → ℕ → List Instr → List Instr → Type 0
-  StepAt w g m q x l y s i r r' =
-      let t = endTest w (suc i) in
-      let k = suc (endSum w (suc t)) in
+  -- a step element under way, whose variable is stored to in a way w: its code from the store of its start on; s: where the body begins
+  abbrev pub StepAt : Way → List Mark → ℕ → ℕ → Name → Expression → Expression → List Element → Statement → ℕ → ℕ → List Instr → List Instr → Type 0
+  StepAt w g m q x f h l y s a r r' =
+      let n = suc (endS (scopes g) y s) in
+      let k = endStep w (scopes g) f h a in
       (way (meaning (scopes g) x) ≡ w)
-      × CodeAt place P i (DO keep ∷ codeTest place w g x (onward l k (suc (endS (scopes g) y s))) (GO m s (suc t) ∷ codeSum place w g q x (JUMP (suc i) ∷ codeL place g m x l s (suc (endS (scopes g) y s)) k r)))
+      × CodeAt place P a (codeStep place w g m q x f h s (onward l k n) a (codeL place g m x l s n k r))
       × CodeAt place P s (codeS place g (suc m) y s (NEXT m ∷ r'))
       × OkW (scopes g) x
       × OkL (scopes g) l
       × OkS (scopes g) y
+      × OkE (scopes g) f
+      × OkE (scopes g) h
+
+  -- where its step is held; where the bound's value is tested; where the new step's value is added
+  abbrev pub heldAt : List Mark → Expression → ℕ → ℕ
+  heldAt g f a = suc (endE (scopes g) f (suc a))
+
+  abbrev pub testAt : List Mark → Expression → Expression → ℕ → ℕ
+  testAt g f h a = endE (scopes g) h (suc (heldAt g f a))
+
+  abbrev pub sumAt : Way → List Mark → Expression → Expression → ℕ → ℕ
+  sumAt w g f h a = suc (suc (endTest w (testAt g f h a)))
 
   -- in the scopes g, within m for statements, from the first address, with values of these kinds not used yet, to the second, with those, stands what
   -- the task needs
@@ -284,12 +294,13 @@ module _ (place : ℕ → ℕ) (P : List Instr) where
     -- s: where the body begins; b: where the elements that are left begin
     t-loop : (x : Name) (l : List Element) (y : Statement) (s b : ℕ) (r r' : List Instr) → CodeAt place P b (codeL place g m x l s (suc (endS (scopes g) y s)) b r) → CodeAt place P s (codeS place g (suc m) y s (NEXT m ∷ r')) → OkW (scopes g) x → OkL (scopes g) l → OkS (scopes g) y → AtT g m (onward l b (suc (endS (scopes g) y s))) [] (loop x l y) (suc (endS (scopes g) y s)) []
     t-whiling : (x : Name) (q : ℕ) (e c : Expression) (l : List Element) (y : Statement) (s b i : ℕ) (r r' r'' : List Instr) → CodeAt place P b (codeL place g m x (while q e c ∷ l) s (suc (endS (scopes g) y s)) b r) → CodeAt place P i (IF condition (onward l (suc (suc i)) (suc (endS (scopes g) y s))) ∷ GO m s b ∷ codeL place g m x l s (suc (endS (scopes g) y s)) (suc (suc i)) r'') → CodeAt place P s (codeS place g (suc m) y s (NEXT m ∷ r')) → OkW (scopes g) x → OkL (scopes g) (while q e c ∷ l) → OkS (scopes g) y → AtT g m i (val ∷ []) (pick (whiling x q e c l y)) (suc (endS (scopes g) y s)) []
-    t-hold : (w : Way) (q : ℕ) (x : Name) (l : List Element) (y : Statement) (s i : ℕ) (r r' : List Instr) → StepAt w g m q x l y s i r r' → AtT g m i (val ∷ val ∷ []) (hold (stepping (place q) x l y)) (suc (endS (scopes g) y s)) []
-    t-tested : (w : Way) (q : ℕ) (x : Name) (l : List Element) (y : Statement) (s i : ℕ) (r r' : List Instr) → StepAt w g m q x l y s i r r' → AtT g m (suc i) [] (tested (stepping (place q) x l y)) (suc (endS (scopes g) y s)) []
-    t-add : (w : Way) (q : ℕ) (x : Name) (l : List Element) (y : Statement) (s i : ℕ) (r r' : List Instr) → StepAt w g m q x l y s i r r' → AtT g m (suc (endTest w (suc i))) [] (add (stepping (place q) x l y)) (suc (endS (scopes g) y s)) []
-    t-trying : (q : ℕ) (x : Name) (l : List Element) (y : Statement) (s i : ℕ) (r r' : List Instr) → StepAt sought g m q x l y s i r r' → AtT g m (suc (suc i)) [] (trying (stepping (place q) x l y)) (suc (endS (scopes g) y s)) []
-    t-summing : (q : ℕ) (x : Name) (l : List Element) (y : Statement) (s i : ℕ) (r r' : List Instr) → StepAt sought g m q x l y s i r r' → AtT g m (suc (suc (endTest sought (suc i)))) [] (summing (stepping (place q) x l y)) (suc (endS (scopes g) y s)) []
-    t-settling : (q : ℕ) (x : Name) (l : List Element) (y : Statement) (s i : ℕ) (r r' : List Instr) → StepAt sought g m q x l y s i r r' → AtT g m (suc (suc (suc (suc (endTest sought (suc i)))))) (val ∷ []) (settling (stepping (place q) x l y)) (suc (endS (scopes g) y s)) []
+    t-hold : (w : Way) (q : ℕ) (x : Name) (f h : Expression) (l : List Element) (y : Statement) (s a : ℕ) (r r' : List Instr) → StepAt w g m q x f h l y s a r r' → AtT g m (heldAt g f a) (val ∷ []) (hold (stepping (place q) x f h l y)) (suc (endS (scopes g) y s)) []
+    t-tested : (w : Way) (q : ℕ) (x : Name) (f h : Expression) (l : List Element) (y : Statement) (s a : ℕ) (r r' : List Instr) → StepAt w g m q x f h l y s a r r' → AtT g m (testAt g f h a) (val ∷ []) (tested (stepping (place q) x f h l y)) (suc (endS (scopes g) y s)) []
+    t-add : (w : Way) (q : ℕ) (x : Name) (f h : Expression) (l : List Element) (y : Statement) (s a : ℕ) (r r' : List Instr) → StepAt w g m q x f h l y s a r r' → AtT g m (sumAt w g f h a) (val ∷ []) (add (stepping (place q) x f h l y)) (suc (endS (scopes g) y s)) []
+    t-trying : (q : ℕ) (x : Name) (f h : Expression) (l : List Element) (y : Statement) (s a : ℕ) (r r' : List Instr) → StepAt sought g m q x f h l y s a r r' → AtT g m (suc (testAt g f h a)) (val ∷ []) (trying (stepping (place q) x f h l y)) (suc (endS (scopes g) y s)) []
+    t-summing : (q : ℕ) (x : Name) (f h : Expression) (l : List Element) (y : Statement) (s a : ℕ) (r r' : List Instr) → StepAt sought g m q x f h l y s a r r' → AtT g m (suc (sumAt sought g f h a)) (val ∷ []) (summing (stepping (place q) x f h l y)) (suc (endS (scopes g) y s)) []
+    t-setting : (q : ℕ) (x : Name) (f h : Expression) (l : List Element) (y : Statement) (s a : ℕ) (r r' : List Instr) → StepAt direct g m q x f h l y s a r r' → AtT g m (suc (sumAt direct g f h a)) (val ∷ []) (settling (here x) (stepping (place q) x f h l y)) (suc (endS (scopes g) y s)) []
+    t-settling : (q : ℕ) (x : Name) (f h : Expression) (l : List Element) (y : Statement) (s a : ℕ) (r r' : List Instr) → StepAt sought g m q x f h l y s a r r' → AtT g m (suc (suc (suc (sumAt sought g f h a)))) (val ∷ []) (settling there (stepping (place q) x f h l y)) (suc (endS (scopes g) y s)) []
 
   -- the activation's own scopes around, below the cells kt
   abbrev pub Here : List Frame → List Mark → List Kind → Env → Type 0
@@ -380,7 +391,7 @@ sizeT (tested s) = 3
 sizeT (add s) = 3
 sizeT (trying s) = 1
 sizeT (summing s) = 1
-sizeT (settling s) = 1
+sizeT (settling c s) = 1
 sizeT (seek x q) = 1
 sizeT (find e q) = 2
 sizeT (receiving q y) = 1

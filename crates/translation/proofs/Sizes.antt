@@ -8,7 +8,7 @@ use lib.ListN.{length}
 use Rattle.names.specs.Program.{Name, Sort, Sign, positive, negative, negation, Expression, number, logical, name, call, signed, operated, chosen, nested, Expressions, done, then, Element, value, while, step, Statement, dummy, assignment, procedure, when, either, repeat, compound, block, Statements, last, first, Declarations, none as no-more, variables, declare, Procedure, heading}
 use Rattle.names.specs.Scopes.{Thing, variable, routine, formal, by-name, modesOf, Scope, ofBlock, ofBody, sortOf, Meaning, declared, given, nothing, meaning}
 use Rattle.rules.specs.Calls.{Primary, held, worked, function, absolute, greatest, no-primary, primary, Command, routine-of, absolute-of, greatest-of, input-to, output-of, no-command, command, thingTold, into, givenTold, Way, direct, sought, way}
-use Rattle.translation.specs.Translate.{endName, endActual, endThen, endSign, endE, endEs, endWay, endTest, endSum, endL, endStores, endCall, endTake, endCommand, endS, endSs, endDs, endP}
+use Rattle.translation.specs.Translate.{endName, endActual, endThen, endSign, endE, endEs, endWay, endTest, endSum, endStep, endL, endStores, endCall, endTake, endCommand, endS, endSs, endDs, endP}
 use Rattle.translation.specs.Sizes.{symbolsE, symbolsEs, actuals, symbolsL, symbolsS, symbolsSs, symbolsDs, symbolsP}
 
 -- a name with actuals of so many symbols
@@ -84,9 +84,10 @@ sizeL g x (while q e c ∷ l) b =
 sizeL g x (step q e f h ∷ l) b =
     let w = way (meaning g x) in
     let a = endWay w (endE g e b) in
-    let i = endE g h (endE g f a) in
-    let t = endTest w (suc i) in
-    omega (arith, sizeE g e b, way-size w (endE g e b), sizeE g f a, sizeE g h (endE g f a), test-size w (suc i), sum-size w (suc t), sizeL g x l (suc (endSum w (suc t))))
+    let i = suc (suc (endE g f (suc a))) in
+    let n = endE g h i in
+    let t = endTest w n in
+    omega (arith, sizeE g e b, way-size w (endE g e b), sizeE g f (suc a), sizeE g h i, test-size w n, sum-size w (suc (suc t)), sizeL g x l (suc (endSum w (suc (suc t)))))
 
 size-stores : (g : List Scope) (x : Name) (xs : List Name) (b : ℕ) → endStores g x xs b ≤ b + 2 * length xs + 2
 unfolding endStores

@@ -12,8 +12,8 @@ use Rattle.names.specs.Program.{Name, Sort, Sign, positive, negative, negation,
 use Rattle.names.specs.Scopes.{Thing, variable, routine, formal, by-name, Declared, nameOf, sortOf, modesOf, same, variablesIn, inBlock, findIn, meaning}
 use Rattle.rules.specs.Calls.{Primary, held, worked, function, absolute, greatest, no-primary, primary, Command, routine-of, absolute-of, greatest-of, input-to, output-of, no-command, command, Way, direct, sought}
 use Rattle.rules.specs.Rules.{Spot}
-use Rattle.translation.specs.Translate.{Mark, acl, scopes, endName, endActual, endThen, endE, endEs, endWay, endTest, endSum, endL, endStores, endCall, endTake, endCommand, endS, endSs, endDs, endP, entry, codeName, codeActual, codeThen, codeSign, codeE, codeEs, codeWay, codeTest, codeSum, codeL, codeStores, codeCall, codeTake, codeCommand, codeS, codeSs, codeDs, codeP}
-use Rattle.translation.specs.Translate.{endSign, Mark, acl, scopes, endName, endActual, endThen, endE, endEs, endWay, endTest, endSum, endL, endStores, endCall, endTake, endCommand, endS, endSs, endDs, endP, entry, codeName, codeActual, codeThen, codeSign, codeE, codeEs, codeWay, codeTest, codeSum, codeL, codeStores, codeCall, codeTake, codeCommand, codeS, codeSs, codeDs, codeP}
+use Rattle.translation.specs.Translate.{Mark, acl, scopes, endName, endActual, endThen, endE, endEs, endWay, endTest, endSum, endStep, endL, endStores, endCall, endTake, endCommand, endS, endSs, endDs, endP, entry, codeName, codeActual, codeThen, codeSign, codeE, codeEs, codeWay, codeTest, codeSum, codeStep, codeL, codeStores, codeCall, codeTake, codeCommand, codeS, codeSs, codeDs, codeP}
+use Rattle.translation.specs.Translate.{endSign, Mark, acl, scopes, endName, endActual, endThen, endE, endEs, endWay, endTest, endSum, endStep, endL, endStores, endCall, endTake, endCommand, endS, endSs, endDs, endP, entry, codeName, codeActual, codeThen, codeSign, codeE, codeEs, codeWay, codeTest, codeSum, codeStep, codeL, codeStores, codeCall, codeTake, codeCommand, codeS, codeSs, codeDs, codeP}
 use Rattle.translation.specs.Scoped.{OkDs, OkP}
 use Rattle.translation.specs.Listed.{instructionAt}
 
@@ -96,7 +96,7 @@ module _ (place : ℕ → ℕ) (P : List Instr) where
 
   pub past-sum : (w : Way) (g : List Mark) (q : ℕ) (x : Name) (b : ℕ) (r : List Instr) → CodeAt b (codeSum place w g q x r) → CodeAt (endSum w b) r
   unfolding endSum codeSum
-  past-sum direct g q x b r h = h .1
+  past-sum direct g q x b r h = h .1 .1
   past-sum sought g q x b r h = h .1 .1 .1 .1
 
   past-take : (w : Way) (g : List Mark) (q : ℕ) (x : Name) (b : ℕ) (r : List Instr) → CodeAt b (codeTake place w g q x r) → CodeAt (endTake w b) r
@@ -110,8 +110,9 @@ module _ (place : ℕ → ℕ) (P : List Instr) where
   pastL g m x (value e ∷ l) s n b r h = pastL g m x l s n _ _ ((past-way _ g x _ _ _ (pastE g e _ _ h)) .1)
   pastL g m x (while q e c ∷ l) s n b r h = pastL g m x l s n _ _ ((pastE g c _ _ (past-way _ g x _ _ _ (pastE g e _ _ h))) .1 .1)
   pastL g m x (step q e f i ∷ l) s n b r h =
-      let h₁ = pastE g i _ _ (pastE g f _ _ (past-way _ g x _ _ _ (pastE g e _ _ h))) in
-      pastL g m x l s n _ _ ((past-sum _ g q x _ _ ((past-test _ g x _ _ _ (h₁ .1)) .1)) .1)
+      let h₁ = pastE g f _ _ ((past-way _ g x _ _ _ (pastE g e _ _ h)) .1) in
+      let h₂ = past-test _ g x _ _ _ (pastE g i _ _ (h₁ .1 .1)) in
+      pastL g m x l s n _ _ ((past-sum _ g q x _ _ (h₂ .1 .1)) .1)
 
   pub past-stores : (g : List Mark) (x : Name) (xs : List Name) (b : ℕ) (r : List Instr) → CodeAt b (codeStores place g x xs r) → CodeAt (endStores (scopes g) x xs b) r
   unfolding endStores codeStores

@@ -7,7 +7,7 @@ use mathlib.Core.Option.{Option, none, some}
 use lib.IntN.{pos}
 use Rattle.machine.specs.Values
 use Rattle.machine.specs.Values.{truth}
-use Rattle.machine.specs.Data.{Act, push, load, store, assign, reserve, forget, receive, send, keep, bump, unary, binary, lend, channel, sum, condition, upto, Fate, kept, gone}
+use Rattle.machine.specs.Data.{Act, push, load, store, assign, reserve, forget, receive, send, keep, unary, binary, lend, channel, sum, condition, upto, Fate, kept, gone}
 use Rattle.machine.specs.Instructions.{Loc, lc, fnd, Instr, END, DO, IF, JUMP, ENTER, LEAVE, CALL, RETURN, GO, NEXT, NAME, WORK, SEEK, PASS, REFUSE}
 use Rattle.names.specs.Program.{Name, Sort, Sign, positive, negative, negation, Expression, number, logical, name, call, signed, operated, chosen, nested, Expressions, done, then, count, firstSymbol, Element, value, while, step, Statement, dummy, assignment, procedure, when, either, repeat, compound, block, Statements, last, first, Declarations, none as no-more, variables, declare, Procedure, heading}
 use Rattle.names.specs.Scopes.{Thing, variable, routine, formal, by-name, Scope, ofBlock, ofBody, nameOf, sortOf, modesOf, same, Meaning, declared, given, nothing, meaning}
@@ -131,20 +131,25 @@ endWay sought b = suc (suc b)
 abbrev pub endStore : List Scope → Name → ℕ → ℕ
 endStore g x b = endWay (way (meaning g x)) b
 
--- a step element from the instruction on that holds step and bound: the test; the jump to the body; the addition; the jump back to the test
+-- a step element behind the code of its bound: the test; the addition
 unfoldable pub endTest : Way → ℕ → ℕ
 endTest direct b = suc b
 endTest sought b = suc (suc b)
 
 unfoldable pub endSum : Way → ℕ → ℕ
-endSum direct b = suc b
+endSum direct b = suc (suc b)
 endSum sought b = suc (suc (suc (suc b)))
+
+-- from the store of the start on: to the step and back; the step; to where it goes on; it is held; the bound; the test; to the body and back; to
+-- the step and back; the addition; the jump back to the bound
+abbrev pub endStep : Way → List Scope → Expression → Expression → ℕ → ℕ
+endStep w g f h a = suc (endSum w (suc (suc (endTest w (endE g h (suc (suc (endE g f (suc a)))))))))
 
 unfoldable pub endL : List Scope → Name → List Element → ℕ → ℕ
 endL g x [] b = b
 endL g x (value e ∷ l) b = endL g x l (suc (endStore g x (endE g e b)))
 endL g x (while q e c ∷ l) b = endL g x l (suc (suc (endE g c (endStore g x (endE g e b)))))
-endL g x (step q e f h ∷ l) b = endL g x l (suc (endSum (way (meaning g x)) (suc (endTest (way (meaning g x)) (suc (endE g h (endE g f (endStore g x (endE g e b)))))))))
+endL g x (step q e f h ∷ l) b = endL g x l (endStep (way (meaning g x)) g f h (endStore g x (endE g e b)))
 
 -- where the elements go on: at b, or behind the loop
 abbrev pub onward : List Element → ℕ → ℕ → ℕ
@@ -300,8 +305,18 @@ module _ (place : ℕ → ℕ) where
   codeTest sought g x n r = SEEKS g x ∷ IF (upto (at place x) fnd) n ∷ r
 
   unfoldable pub codeSum : Way → List Mark → ℕ → Name → List Instr → List Instr
-  codeSum direct g q x r = DO (bump (place q) (loc g x)) ∷ r
+  codeSum direct g q x r = DO (sum (place q) (loc g x)) ∷ DO (store (loc g x)) ∷ r
   codeSum sought g q x r = SEEKS g x ∷ DO (sum (place q) fnd) ∷ SEEKS g x ∷ DO (store fnd) ∷ r
+
+  -- a step element from the store of its start on, its step's code once: s is where the body begins, n where it goes on once it is left
+  abbrev pub codeStep : Way → List Mark → ℕ → ℕ → Name → Expression → Expression → ℕ → ℕ → ℕ → List Instr → List Instr
+  codeStep w g m q x f h s n a r =
+      let i = suc (endE (scopes g) f (suc a)) in
+      let t = endTest w (endE (scopes g) h (suc i)) in
+      GO m (suc a) i
+      ∷ codeE g f (suc a)
+      (NEXT m ∷ DO keep
+      ∷ codeE g h (suc i) (codeTest w g x n (GO m s (suc t) ∷ GO m (suc a) (suc (suc t)) ∷ codeSum w g q x (JUMP (suc i) ∷ r))))
 
   -- the elements of a for statement, nested in m others of its activation: s is where its body begins, n where it ends
   unfoldable pub codeL : List Mark → ℕ → Name → List Element → ℕ → ℕ → ℕ → List Instr → List Instr
@@ -316,14 +331,8 @@ module _ (place : ℕ → ℕ) where
   codeL g m x (step q e f h ∷ l) s n b r =
       let a = endStore (scopes g) x (endE (scopes g) e b) in
       let w = way (meaning (scopes g) x) in
-      let i = endE (scopes g) h (endE (scopes g) f a) in
-      let t = endTest w (suc i) in
-      let k = suc (endSum w (suc t)) in
-      codeE g e b
-      (codeStore g x
-      (codeE g f a
-      (codeE g h (endE (scopes g) f a)
-      (DO keep ∷ codeTest w g x (onward l k n) (GO m s (suc t) ∷ codeSum w g q x (JUMP (suc i) ∷ codeL g m x l s n k r))))))
+      let k = endStep w (scopes g) f h a in
+      codeE g e b (codeStore g x (codeStep w g m q x f h s (onward l k n) a (codeL g m x l s n k r)))
 
   -- "A left part list takes one value, stored left to right"
   unfoldable pub codeStores : List Mark → Name → List Name → List Instr → List Instr

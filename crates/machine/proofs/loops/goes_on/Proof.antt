@@ -1,4 +1,4 @@
--- The exact test, and where the loop is left both values go.
+-- The exact test, and where the loop is left the step goes.
 use Rattle.machine.specs.Model.{dataOf}
 use mathlib.Core.Path.{refl, sym, _∙_}
 use mir.Syntax.{w32}

@@ -7,7 +7,7 @@ use Rattle.machine.specs.Model.{lifted, ownOf}
 use Rattle.machine.proofs.Works.{name-is}
 use Rattle.machine.proofs.Execs.{strayed, strayed-sound, did-quiet, obeyed, obeyed-none}
 use Rattle.machine.proofs.Named.{name-lifted}
-use Rattle.machine.proofs.Decode.{code-name, code-lend, code-refuse, code-channel, code-sum, code-none, next-up}
+use Rattle.machine.proofs.Decode.{code-name, code-lend, code-refuse, code-channel, code-none, next-up}
 use borrow.Author.Needs.{needs}
 use Rattle.machine.proofs.steps.by_name.Statement.{statement}
 use Rattle.machine.proofs.steps.by_name.Tie as tie
@@ -41,12 +41,9 @@ returns-5 : tie.Need-returns-5
 returns-5 c = (λ i o. c .before .channel .ensures .0 i o ∙ obeyed _ (c .before .before .before .before .before .before .before .args .at) _ _ _ (code-channel (c .before .before .before .before .before .before .before .args .k) (c .before .before .before .before .before .before .before .args .q) (c .before .before .before .before .before .before .before .args .v) (c .before .before .before .before .match .keys3)), c .before .channel .ensures .1)
 
 returns-6 : tie.Need-returns-6
-returns-6 c = (λ i o. c .before .sum .ensures .0 i o ∙ obeyed _ (c .before .before .before .before .before .before .before .args .at) _ _ _ (code-sum (c .before .before .before .before .before .before .before .args .k) (c .before .before .before .before .before .before .before .args .q) (c .before .before .before .before .before .before .before .args .v) (c .before .before .before .before .match .keys4)), c .before .sum .ensures .1)
-
-returns-7 : tie.Need-returns-7
-returns-7 c =
+returns-6 c =
     let r = c .before .match .rest in
-    (λ i o. strayed (c .stray .ensures) _ _ i o ∙ obeyed-none _ (c .before .before .before .before .args .at) _ _ _ (code-none (c .before .before .before .before .args .k) (c .before .before .before .before .args .q) (c .before .before .before .before .args .v) (next-up 46 _ (next-up 45 _ (next-up 44 _ (next-up 43 _ (c .before .before .if2 .left) (r .0 .0 .0 .1)) (r .0 .0 .1)) (r .0 .1)) (r .1))), λ o h. strayed-sound (c .stray .ensures) _ _ o o refl)
+    (λ i o. strayed (c .stray .ensures) _ _ i o ∙ obeyed-none _ (c .before .before .before .before .args .at) _ _ _ (code-none (c .before .before .before .before .args .k) (c .before .before .before .before .args .q) (c .before .before .before .before .args .v) (next-up 45 _ (next-up 44 _ (next-up 43 _ (c .before .before .if2 .left) (r .0 .0 .1)) (r .0 .1)) (r .1))), λ o h. strayed-sound (c .stray .ensures) _ _ o o refl)
 
 pub by-name-spec : {M : Type 1} → statement M
 by-name-spec =
@@ -66,12 +63,9 @@ by-name-spec =
     (λ c κs. search needs)
     (λ c κs. search needs)
     (λ c κs. search needs)
-    (λ c κs. search needs)
     (λ c. search needs)
     returns-3
     returns-4
     (λ c. search needs)
     returns-5
-    (λ c. search needs)
-    returns-6
-    returns-7)
+    returns-6)

@@ -1,4 +1,4 @@
--- No value is used.
+-- The bound is a value of the running activation.
 use mathlib.Core.Path.{refl, ap, _∙_}
 use native.Mathlib.Omega.{arith}
 use native.Mathlib.Nat.{le-refl}
@@ -12,7 +12,7 @@ use Rattle.machine.proofs.steps.upto.Tie as tie
 
 returns : tie.Need-returns
 returns c = (
-  λ i o. strayed (c .stray .ensures) _ _ i o ∙ if-stray _ (c .before .before .before .before .args .at) _ _ _ (upto (c .before .before .before .before .args .q) (variable (c .before .before .before .before .args .v))) (low (c .before .before .before .before .args .v)) (room-no (c .before .before .before .before .args .n) (c .before .before .before .before .args .live) (c .before .before .before .before .args .store .now) i o (c .before .before .before .before .args .own .now) (c .before .before .before .first-cell .ensures .0 (c .before .before .before .before .args .live) (le-refl _)) 0 (omega (arith, c .before .if1 .taken))),
+  λ i o. strayed (c .stray .ensures) _ _ i o ∙ if-stray _ (c .before .before .before .before .args .at) _ _ _ (upto (c .before .before .before .before .args .q) (variable (c .before .before .before .before .args .v))) (low (c .before .before .before .before .args .v)) (room-no (c .before .before .before .before .args .n) (c .before .before .before .before .args .live) (c .before .before .before .before .args .store .now) i o (c .before .before .before .before .args .own .now) (c .before .before .before .first-cell .ensures .0 (c .before .before .before .before .args .live) (le-refl _)) 1 (c .before .if1 .taken)),
   λ o h. strayed-sound (c .stray .ensures) _ _ o o refl,
 )
 
@@ -25,7 +25,7 @@ returns-2 c =
       λ i o.
           c .lift-test .ensures .0 (c .before .before .before .before .before .before .before .args .store .now) i o (c .before .before .before .before .before .before .before .args .own .now)
           ∙ ap (lifted _ _) (c .before .upto .ensures .0 (ownOf (c .before .before .before .before .before .before .before .args .own .now) (c .before .before .before .before .before .before .before .args .live)) i o)
-          ∙ upto-done _ (c .before .before .before .before .before .before .before .args .at) _ _ _ (c .before .before .before .before .before .before .before .args .q) (c .before .before .before .before .before .before .before .args .v) (c .before .before .before .cell-of .ensures (c .before .before .before .before .before .before .before .args .n) (c .before .before .before .before .before .before .before .args .store .now) i o) (c .before .before .low .result) (room-yes (c .before .before .before .before .before .before .before .args .n) (c .before .before .before .before .before .before .before .args .live) (c .before .before .before .before .before .before .before .args .store .now) i o (c .before .before .before .before .before .before .before .args .own .now) (c .before .before .before .before .before .before .first-cell .ensures .0 (c .before .before .before .before .before .before .before .args .live) (le-refl _)) 0 (omega (arith, c .before .before .before .before .if1 .left))),
+          ∙ upto-done _ (c .before .before .before .before .before .before .before .args .at) _ _ _ (c .before .before .before .before .before .before .before .args .q) (c .before .before .before .before .before .before .before .args .v) (c .before .before .before .cell-of .ensures (c .before .before .before .before .before .before .before .args .n) (c .before .before .before .before .before .before .before .args .store .now) i o) (c .before .before .low .result) (room-yes (c .before .before .before .before .before .before .before .args .n) (c .before .before .before .before .before .before .before .args .live) (c .before .before .before .before .before .before .before .args .store .now) i o (c .before .before .before .before .before .before .before .args .own .now) (c .before .before .before .before .before .before .first-cell .ensures .0 (c .before .before .before .before .before .before .before .args .live) (le-refl _)) 1 (c .before .before .before .before .if1 .left)),
       λ o h. c .lift-test .ensures .1 (c .before .before .before .before .before .before .before .args .n) (c .before .before .before .before .before .before .before .args .store .now) o (c .before .before .before .before .before .before .before .args .own .now) (c .before .upto .ensures .1) h (c .before .before .before .before .before .before .before .pre .1),
     )
 
@@ -34,6 +34,7 @@ upto-spec =
     tie.close
     (tie.spec
     (λ c κs. search needs)
+    (λ c. search needs)
     (λ c κs. search needs)
     returns
     cell-of-requires

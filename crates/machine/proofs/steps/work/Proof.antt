@@ -76,8 +76,8 @@ returns-10 c = (
 
 returns-11 : tie.Need-returns-11
 returns-11 c = (
-  λ a. c .before .bump .ensures .0 a (c .before .before .before .before .args .input .now) (c .before .before .before .before .args .output .now) ∙ same-work _ _ (act-21 (c .before .before .before .before .args .k) (c .before .before .before .before .args .q) (c .before .before .before .before .args .c) (c .before .before .before .before .args .v) (c .before .before .before .match .keys10)),
-  did-quiet (c .before .before .before .before .args .n) (c .before .bump .result) (c .before .bump .last .1 .0) (c .before .before .before .before .args .output .now) (c .before .bump .ensures .1) (c .before .before .before .before .pre .1),
+  λ a. c .before .sum .ensures .0 a (c .before .before .before .before .args .input .now) (c .before .before .before .before .args .output .now) ∙ same-work _ _ (act-21 (c .before .before .before .before .args .k) (c .before .before .before .before .args .q) (c .before .before .before .before .args .c) (c .before .before .before .before .args .v) (c .before .before .before .match .keys10)),
+  did-quiet (c .before .before .before .before .args .n) (c .before .sum .result) (c .before .sum .last .1 .0) (c .before .before .before .before .args .output .now) (c .before .sum .ensures .1) (c .before .before .before .before .pre .1),
 )
 
 returns-12 : tie.Need-returns-12
