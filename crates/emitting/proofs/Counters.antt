@@ -8,10 +8,10 @@ use native.Mathlib.Omega.{arith}
 use lib.Dec.{eqb, ltb}
 use lib.ListN.{getD}
 use Rattle.machine.specs.Instructions.{high, mid, low}
-use Rattle.grammar.specs.NodeKinds.{n-block, n-statements, n-variable, n-procedure, n-formal, n-procedure-end, n-then, n-else, n-start, n-once, n-while, n-do, n-for-end, n-left, n-assign, n-unary, n-binary, n-number, n-logical, n-use, n-call, n-call-end, n-actual}
+use Rattle.grammar.specs.NodeKinds.{n-block, n-statements, n-variable, n-procedure, n-formal, n-procedure-end, n-then, n-else, n-start, n-once, n-while, n-step, n-do, n-for-end, n-left, n-assign, n-unary, n-binary, n-number, n-logical, n-use, n-call, n-call-end, n-actual}
 use Rattle.names.specs.Rows.{isUse}
 use Rattle.emitting.specs.Layout.{packed}
-use Rattle.emitting.specs.Emission.{Used, State, Opened, put, withOpen, withSlot, noted, within, withLefts, withVariable, withUses, withCell, withEntry, top, pushed, popped, replaced, nameless, bare, onCell, formalAt, kindNext, meansNext, othersNext, signed, largest, aheadAt, cellOf, resultOf, calledWith, resultFor, dropped, named, wordOf, namedOr, lending, nameBegun, nameEnded, takenIn, callEnded, repeated, begun, calling, actualIn, useNode, element, bodied, tested, added, tests, stepping, elementNode, loopNode, choiceNode, blockNode, procedureNode, leftsOf, assigned, plainNode, isElement, isChoice, isBlock, codeNode}
+use Rattle.emitting.specs.Emission.{Used, State, Opened, put, withOpen, withSlot, noted, within, withLefts, withVariable, withUses, withCell, withEntry, top, below, pushed, popped, replaced, nameless, bare, onCell, formalAt, kindNext, meansNext, othersNext, signed, largest, aheadAt, cellOf, resultOf, calledWith, resultFor, dropped, named, wordOf, namedOr, lending, nameBegun, nameEnded, takenIn, callEnded, repeated, begun, calling, actualIn, useNode, element, bodied, tested, added, stepBegun, stepHeld, stepAgain, turning, stepping, amount, elementNode, loopNode, choiceNode, blockNode, procedureNode, leftsOf, assigned, plainNode, isElement, isChoice, isBlock, codeNode}
 use Rattle.emitting.specs.declared.Writing.{Writing}
 use Rattle.emitting.specs.Model.{thingsOf, see, Slim, AllSlim, Small, Fit}
 use Rattle.emitting.proofs.Stacked.{length-things}
@@ -450,25 +450,50 @@ module _ (vs ly ks es : List ℕ) {b n : ℕ} (st : State) (h : Small b n st) wh
 
   in-added : (q v p : ℕ) → Small (b + 1 + 1 + 1 + 1) n (added vs ly ks es q v p st)
   unfolding added
-  in-added q v p = either (eqb (low v) 2) (in-on _ (in-on st h 46 p q v) 14 0 q v) (small-up _ (in-put st h 21 p _) (omega arith) (omega arith))
+  in-added q v p = in-on _ (in-on st h 21 p q v) 14 0 q v
+
+  in-step-begun : (p : ℕ) → p ≤ b → Small (b + 10) (n + 1) (stepBegun vs ly ks es p st)
+  unfolding stepBegun
+  in-step-begun p q =
+      let a = h .at in
+      let x = h .slots in
+      small-up _ (in-slot _ (in-pushed _ (in-put st h 8 0 _) (st .slots) 0 p (st .at + 1) (omega arith) (omega arith) (omega arith) (omega arith))) (omega arith) (omega arith)
+
+  in-step-held : (c : Opened) → Slim b c → Small (b + 10) (n + 1) (stepHeld vs ly ks es c st)
+  unfolding stepHeld
+  in-step-held c s =
+      let a = h .at in
+      let x = s .third in
+      let y = s .fourth in
+      small-up _ (in-noted _ (in-replaced _ (in-put _ (in-put st h 9 0 _) 20 0 0) (st .at + 1 + 1) 1 (c .third) (c .fourth) (omega arith) (omega arith) (omega arith) (omega arith)) _ _) (omega arith) (omega arith)
+
+  in-turning : (f : Opened) → Small (b + 1 + 1 + 1) n (turning vs ly ks es f st)
+  unfolding turning
+  in-turning f = in-bodied vs ly ks es _ (in-tested (f .third) (f .second) _) f _
 
 module _ (vs ly ks es : List ℕ) {b n : ℕ} (st : State) (h : Small b n st) where
-  in-tests : (f : Opened) → Small (b + 1 + 1 + 1) n (tests vs ly ks es f st)
-  unfolding tests
-  in-tests f = in-tested vs ly ks es _ (in-put st h 20 0 0) (f .third) (f .second) _
+  in-stepping : (f c : Opened) → Small (b + 9) n (stepping vs ly ks es f c st)
+  unfolding stepping stepAgain
+  in-stepping f c = small-up _ (in-put _ (in-added vs ly ks es _ (in-put _ (in-turning vs ly ks es st h f) 8 0 _) (f .third) (f .second) (c .third)) 2 0 _) (omega arith) (omega arith)
 
-  in-stepping : (f : Opened) (p : ℕ) → Small (b + 9) n (stepping vs ly ks es f p st)
-  unfolding stepping
-  in-stepping f p = small-up _ (in-put _ (in-added vs ly ks es _ (in-bodied vs ly ks es _ (in-tests f) f _) (f .third) (f .second) p) 2 0 _) (omega arith) (omega arith)
+module _ (vs ly ks es : List ℕ) {b n : ℕ} (st : State) (h : Small b n st) where
+  in-amount : (c : Opened) → Slim b c → Small (b + 10) (n + 1) (amount vs ly ks es c st)
+  unfolding amount
+  in-amount c s =
+      let f = top (below (st .open-ones)) in
+      let g = slim-top b (below (st .open-ones)) (slim-below b (st .open-ones) (h .things)) in
+      either (eqb (c .second) 0) (in-step-held vs ly ks es st h c s)
+      (small-up _ (in-element vs ly ks es _ (in-stepping vs ly ks es (popped st) (in-popped st h) f c) f (slim-up f (omega arith) g)) (omega arith) (omega arith))
 
 module _ (vs ly ks es : List ℕ) {b n : ℕ} (st : State) (h : Small b n st) (f : Opened) (s : Slim b f) where
-  in-elements : (k p : ℕ) → Small (b + 10) (n + 1) (elementNode vs ly ks es k f p st)
+  in-elements : (k p : ℕ) → p ≤ b → Small (b + 10) (n + 1) (elementNode vs ly ks es k f p st)
   unfolding elementNode
-  in-elements k p =
+  in-elements k p q =
       either (eqb k n-start) (small-up _ (in-on st h 14 0 (f .third) (f .second)) (omega arith) (omega arith))
       (either (eqb k n-once) (small-up _ (in-element vs ly ks es _ (in-bodied vs ly ks es st h f _) f (slim-up f (omega arith) s)) (omega arith) (omega arith))
       (either (eqb k n-while) (small-up _ (in-element vs ly ks es _ (in-bodied vs ly ks es _ (in-put st h 10 0 _) f _) f (slim-up f (omega arith) s)) (omega arith) (omega arith))
-      (small-up _ (in-element vs ly ks es _ (in-stepping vs ly ks es st h f p) f (slim-up f (omega arith) s)) (omega arith) (omega arith))))
+      (either (eqb k n-step) (in-step-begun vs ly ks es st h p q)
+      (in-amount vs ly ks es st h f s))))
 
   in-loop : (k : ℕ) → Small (b + 10) (n + 1) (loopNode vs ly ks es k f st)
   unfolding loopNode
@@ -583,7 +608,7 @@ module _ (vs ly ks es : List ℕ) {b n : ℕ} (st : State) (h : Small b n st) wh
       either (isUse k) (in-use vs ly ks es rows _ (in-uses st h (othersNext (st .uses))) (omega arith) k _ _ c p a (omega arith) (omega arith) (omega arith) (omega arith))
       (either (eqb k n-actual) (in-actual vs ly ks es rows st h (omega arith) f s p (omega arith))
       (either (eqb k n-call-end) (in-call-ended vs ly ks es _ (in-popped st h) f p c)
-      (either (isElement vs ly ks es k) (in-elements vs ly ks es st h f s k p)
+      (either (isElement vs ly ks es k) (in-elements vs ly ks es st h f s k p (omega arith))
       (either (eqb k n-do || eqb k n-for-end) (in-loop vs ly ks es st h f s k)
       (either (isChoice vs ly ks es k) (in-choice vs ly ks es st h f s k)
       (either (isBlock vs ly ks es k) (in-block vs ly ks es st h f s k p)

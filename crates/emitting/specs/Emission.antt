@@ -7,7 +7,7 @@ use mathlib.Core.List.{List, [], _∷_}
 use lib.Dec.{eqb, ltb}
 use lib.ListN.{getD, set, replicate}
 use Rattle.machine.specs.Instructions.{high, mid, low}
-use Rattle.grammar.specs.NodeKinds.{n-block, n-statements, n-block-end, n-variable, n-procedure, n-formal, n-procedure-end, n-then, n-else, n-if-end, n-start, n-once, n-while, n-step, n-do, n-for-end, n-left, n-assign, n-condition-end, n-unary, n-binary, n-number, n-logical, n-use, n-call, n-call-end, n-actual}
+use Rattle.grammar.specs.NodeKinds.{n-block, n-statements, n-block-end, n-variable, n-procedure, n-formal, n-procedure-end, n-then, n-else, n-if-end, n-start, n-once, n-while, n-step, n-amount, n-do, n-for-end, n-left, n-assign, n-condition-end, n-unary, n-binary, n-number, n-logical, n-use, n-call, n-call-end, n-actual}
 use Rattle.names.specs.Rows.{foldNodes, isUse, meantOf}
 use Rattle.names.specs.declared.Meant.{Meant}
 use Rattle.names.specs.declared.Meant.the-variants.{Declared, Given, Nothing}
@@ -304,23 +304,42 @@ module _ (values layout ahead entries : List ℕ) where
   unfoldable pub tested : ℕ → ℕ → ℕ → State → State
   tested q v w st = cond (eqb (low v) 2) (put 11 q (packed 0 8191 w) (put 41 q (bare v) st)) (put 11 q (packed (high v) (mid v) w) st)
 
-  -- the addition; p: the place of 'step'
+  -- the addition and its store; p: the place of 'step'
   unfoldable pub added : ℕ → ℕ → ℕ → State → State
-  added q v p st = cond (eqb (low v) 2) (onCell 14 0 q v (onCell 46 p q v st)) (put 21 p (bare v) st)
+  added q v p st = onCell 14 0 q v (onCell 21 p q v st)
 
-  -- a step element: step and bound held, the test, the body, the addition, back to the test
-  unfoldable pub tests : Opened → State → State
-  tests f st = tested (f .third) (f .second) (aheadAt (st .slots)) (put 20 0 0 st)
+  -- a step element begins: to its step, and on where a slot tells. It is open with that slot, 0, the place of 'step' and the step's address; once the
+  -- bound's address is known, with that one and 1
+  unfoldable pub stepBegun : ℕ → State → State
+  stepBegun p st = withSlot (pushed (st .slots) 0 p (st .at + 1) (put 8 0 (packed (st .loops) (aheadAt (st .slots)) (st .at + 1)) st))
 
-  unfoldable pub stepping : Opened → ℕ → State → State
-  stepping f p st = put 2 0 (packed 0 0 (st .at + 1)) (added (f .third) (f .second) p (bodied f (tests f st .at + 1) (tests f st)))
+  -- behind the step: on to where it is wanted, the first time to the next instruction, which holds it
+  unfoldable pub stepHeld : Opened → State → State
+  stepHeld c st =
+      noted (c .first) (packed 0 0 (st .at + 1)) (replaced (st .at + 1 + 1) 1 (c .third) (c .fourth) (put 20 0 0 (put 9 0 (packed (st .loops) 0 0) st)))
+
+  -- to the step again, and then to what follows here
+  unfoldable pub stepAgain : Opened → State → State
+  stepAgain c st = put 8 0 (packed (st .loops) (st .at + 1) (c .fourth)) st
+
+  -- behind the bound, in the for statement f: the test, the body, the step again, the addition, back to the bound
+  unfoldable pub turning : Opened → State → State
+  turning f st = bodied f (tested (f .third) (f .second) (aheadAt (st .slots)) st .at + 1) (tested (f .third) (f .second) (aheadAt (st .slots)) st)
+
+  unfoldable pub stepping : Opened → Opened → State → State
+  stepping f c st = put 2 0 (packed 0 0 (c .first)) (added (f .third) (f .second) (c .third) (stepAgain c (turning f st)))
+
+  -- behind the step and behind the bound
+  unfoldable pub amount : Opened → State → State
+  amount c st = cond (eqb (c .second) 0) (stepHeld c st) (element (top (below (st .open-ones))) (stepping (top (below (st .open-ones))) c (popped st)))
 
   unfoldable pub elementNode : ℕ → Opened → ℕ → State → State
   elementNode k f p st =
       cond (eqb k n-start) (onCell 14 0 (f .third) (f .second) st)
       (cond (eqb k n-once) (element f (bodied f (aheadAt (st .slots)) st))
       (cond (eqb k n-while) (element f (bodied f (f .fourth) (put 10 0 (packed 0 0 (aheadAt (st .slots))) st)))
-      (element f (stepping f p st))))
+      (cond (eqb k n-step) (stepBegun p st)
+      (amount f st))))
 
   -- behind the last element: the slot of where it goes on, which is behind the loop
   unfoldable pub loopNode : ℕ → Opened → State → State
@@ -378,7 +397,7 @@ module _ (values layout ahead entries : List ℕ) where
       st))))))
 
   abbrev pub isElement : ℕ → Bool
-  isElement k = eqb k n-start || (eqb k n-once || (eqb k n-while || eqb k n-step))
+  isElement k = eqb k n-start || (eqb k n-once || (eqb k n-while || (eqb k n-step || eqb k n-amount)))
 
   abbrev pub isChoice : ℕ → Bool
   isChoice k = eqb k n-then || (eqb k n-else || (eqb k n-if-end || eqb k n-condition-end))

@@ -46,7 +46,7 @@ pub const OUT: usize = codes::OUT as usize;
 // Step and bound held; the step added.
 pub const HOLD: usize = codes::HOLD as usize;
 
-pub const ADD: usize = codes::ADD as usize;
+pub const SUM: usize = codes::SUM as usize;
 
 // The sign -, 'not' and iabs.
 pub const MINUS: usize = codes::MINUS as usize;
@@ -70,8 +70,6 @@ pub const REFUSE: usize = codes::REFUSE as usize;
 
 // Ininteger to a cell that is sought: its channel; the step added to one.
 pub const CHANNEL: usize = codes::CHANNEL as usize;
-
-pub const SUM: usize = codes::SUM as usize;
 
 // The place of an instruction that has none.
 pub const NOWHERE: Place = Place { at: 0 };

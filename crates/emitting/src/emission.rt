@@ -168,6 +168,7 @@ fn is_element(kind: u16) -> bool
         nodes::ONCE => true,
         nodes::WHILE => true,
         nodes::STEP => true,
+        nodes::AMOUNT => true,
         _ => false,
     }
 }

@@ -10,11 +10,11 @@ use answers::Place;
 use grammar::nodes;
 use machine::operands;
 ghost use mathlib.Core.Path.{_≡_};
-ghost use mathlib.Core.List.{List};
+ghost use mathlib.Core.List.{List, []};
 ghost use Prim.Native.Nat.{ℕ, _+_, _-_, _≤_, _<_};
 ghost use Rattle.emitting.specs.Layout.{packed};
-ghost use Rattle.emitting.specs.Emission.{Used, put, noted, within, popped, replaced, onCell, aheadAt, element, bodied, tested, added, tests, stepping, elementNode, loopNode};
-ghost use Rattle.emitting.specs.Model.{seen, see, Alike, Slim, Fit};
+ghost use Rattle.emitting.specs.Emission.{Used, put, noted, within, popped, replaced, onCell, aheadAt, element, bodied, tested, added, stepBegun, stepHeld, stepAgain, turning, stepping, amount, elementNode, loopNode};
+ghost use Rattle.emitting.specs.Model.{seen, see, Alike, Slim, Small, Fit};
 
 // Behind an element: it goes on there, if it is not the last.
 fn element(t: Writing, f: Thing, things: &mut [usize; 32768], next_ahead: &mut [u32]) -> Writing
@@ -25,7 +25,7 @@ fn element(t: Writing, f: Thing, things: &mut [usize; 32768], next_ahead: &mut [
     putting::slot(putting::replace(t, things, f.first, f.second, f.third, t.here.at as usize))
 }
 
-// The address of an element: it stands last in what a for statement keeps open.
+// The address that stands last in what is open: of an element, or of a step.
 fn element_at(f: Thing) -> Address
     requires { ⌜ f .fourth < 4294967296 ⌝ }
     ensures { λ r. ⌜ r .at ≡ f .fourth ⌝ }
@@ -66,55 +66,113 @@ fn tested(t: Writing, f: Thing, next: Address, code: &mut [u32]) -> Writing
     putting::put(t, code, codes::TEST, name, test)
 }
 
-// The addition; the place is that of 'step'.
+// The addition and its store; the place is that of 'step'.
 fn added(t: Writing, f: Thing, place: Place, code: &mut [u32]) -> Writing
-    requires { ⌜ (t .here .at < 1048000) × Slim 262143 (seen f) × (place .at < 65536) ⌝ }
+    requires { ⌜ (t .here .at < 1048000) × Slim 262143 (seen f) × (place .at < 262144) ⌝ }
     ensures { λ r. ⌜ ((vs ly ks es : List ℕ) (us : List Used) (op ah en : List ℕ) → see r us op (now (code .exit)) ah en ≡ added vs ly ks es (f .third) (f .second) (place .at) (see t us op (now (code .entry)) ah en)) ⌝ }
     ensures { λ r. ⌜ Alike t r × (r .here .at ≤ t .here .at + 4) × (r .open ≡ t .open) ⌝ }
 {
-    let v = f.second;
-    if operands::low(v) == 2 {
-        let name = Place { at: f.third };
-        let summed = cells::on_cell(t, code, codes::SUM, place, name, v);
-        return cells::on_cell(summed, code, codes::STORE, codes::NOWHERE, name, v);
-    }
-    putting::put(t, code, codes::ADD, place, cells::bare(v))
+    let name = Place { at: f.third };
+    let summed = cells::on_cell(t, code, codes::SUM, place, name, f.second);
+    cells::on_cell(summed, code, codes::STORE, codes::NOWHERE, name, f.second)
 }
 
-// Step and bound held, and the test.
-fn tests(t: Writing, f: Thing, ahead: &[u32], code: &mut [u32]) -> Writing
+// A step element begins: to its step, and on where a slot tells.
+fn step_begun(
+    t: Writing,
+    place: Place,
+    ahead: &[u32],
+    things: &mut [usize; 32768],
+    code: &mut [u32],
+) -> Writing
+    requires { ⌜ Fit t ⌝ }
+    ensures { λ r. ⌜ ((vs ly es : List ℕ) (us : List Used) (ah en : List ℕ) → see r us (now (things .exit)) (now (code .exit)) ah en ≡ stepBegun vs ly (now (ahead .entry)) es (place .at) (see t us (now (things .entry)) (now (code .entry)) ah en)) ⌝ }
+{
+    let step = Address { at: t.here.at + 1 };
+    let next = parts::address_at(ahead, t.slots);
+    let v = parts::operand(t.loops, next.at as usize, step);
+    let gone = putting::put(t, code, codes::GO, codes::NOWHERE, v);
+    putting::slot(putting::push(gone, things, t.slots, 0, place.at, step.at as usize))
+}
+
+// Behind the step: on to where it is wanted, the first time to the next instruction, which holds it.
+fn step_held(
+    t: Writing,
+    c: Thing,
+    things: &mut [usize; 32768],
+    next_ahead: &mut [u32],
+    code: &mut [u32],
+) -> Writing
+    requires { ⌜ Fit t ⌝ }
+    ensures { λ r. ⌜ ((vs ly ks es : List ℕ) (us : List Used) (en : List ℕ) → see r us (now (things .exit)) (now (code .exit)) (now («next_ahead» .exit)) en ≡ stepHeld vs ly ks es (seen c) (see t us (now (things .entry)) (now (code .entry)) (now («next_ahead» .entry)) en)) ⌝ }
+{
+    let back = operands::packed(t.loops, 0, 0);
+    let gone = putting::put(t, code, codes::NEXT, codes::NOWHERE, back);
+    let held = putting::put(gone, code, codes::HOLD, codes::NOWHERE, 0);
+    parts::set_word(next_ahead, c.first, parts::going_to(gone.here));
+    putting::replace(held, things, held.here.at as usize, 1, c.third, c.fourth)
+}
+
+// To the step again, and then to what follows here.
+fn step_again(t: Writing, c: Thing, code: &mut [u32]) -> Writing
+    requires { ⌜ (t .here .at < 1048000) × Slim 262143 (seen c) ⌝ }
+    ensures { λ r. ⌜ ((vs ly ks es : List ℕ) (us : List Used) (op ah en : List ℕ) → see r us op (now (code .exit)) ah en ≡ stepAgain vs ly ks es (seen c) (see t us op (now (code .entry)) ah en)) ⌝ }
+    ensures { λ r. ⌜ Alike t r × (r .here .at ≡ t .here .at + 1) × (r .open ≡ t .open) ⌝ }
+{
+    let v = parts::operand(t.loops, t.here.at as usize + 1, element_at(c));
+    putting::put(t, code, codes::GO, codes::NOWHERE, v)
+}
+
+// Behind the bound: the test, and to the body.
+fn turning(t: Writing, f: Thing, ahead: &[u32], code: &mut [u32]) -> Writing
     requires { ⌜ (t .here .at < 262144) × Slim 262143 (seen f) ⌝ }
-    ensures { λ r. ⌜ ((vs ly es : List ℕ) (us : List Used) (op ah en : List ℕ) → see r us op (now (code .exit)) ah en ≡ tests vs ly (now (ahead .entry)) es (seen f) (see t us op (now (code .entry)) ah en)) ⌝ }
+    ensures { λ r. ⌜ ((vs ly es : List ℕ) (us : List Used) (op ah en : List ℕ) → see r us op (now (code .exit)) ah en ≡ turning vs ly (now (ahead .entry)) es (seen f) (see t us op (now (code .entry)) ah en)) ⌝ }
     ensures { λ r. ⌜ Alike t r × (r .here .at ≤ t .here .at + 3) × (r .open ≡ t .open) ⌝ }
 {
-    let next = parts::address_at(ahead, t.slots);
-    tested(
-        putting::put(t, code, codes::HOLD, codes::NOWHERE, 0),
-        f,
-        next,
-        code,
-    )
+    let compared = tested(t, f, parts::address_at(ahead, t.slots), code);
+    let back = Address {
+        at: compared.here.at + 1,
+    };
+    bodied(compared, f, back, ahead, code)
 }
 
-// A step element: step and bound held, the test, the body, the addition, back to the test.
-fn stepping(t: Writing, f: Thing, place: Place, ahead: &[u32], code: &mut [u32]) -> Writing
-    requires { ⌜ (t .here .at < 262144) × Slim 262143 (seen f) × (place .at < 65536) ⌝ }
-    ensures { λ r. ⌜ ((vs ly es : List ℕ) (us : List Used) (op ah en : List ℕ) → see r us op (now (code .exit)) ah en ≡ stepping vs ly (now (ahead .entry)) es (seen f) (place .at) (see t us op (now (code .entry)) ah en)) ⌝ }
+// Then the step again, the addition, and back to the bound.
+fn stepping(t: Writing, f: Thing, c: Thing, ahead: &[u32], code: &mut [u32]) -> Writing
+    requires { ⌜ (t .here .at < 262144) × Slim 262143 (seen f) × Slim 262143 (seen c) ⌝ }
+    ensures { λ r. ⌜ ((vs ly es : List ℕ) (us : List Used) (op ah en : List ℕ) → see r us op (now (code .exit)) ah en ≡ stepping vs ly (now (ahead .entry)) es (seen f) (seen c) (see t us op (now (code .entry)) ah en)) ⌝ }
     ensures { λ r. ⌜ (r .slots ≡ t .slots) × (r .open ≡ t .open) ⌝ }
 {
-    let held = tests(t, f, ahead, code);
-    let back = Address {
-        at: held.here.at + 1,
-    };
-    let gone = bodied(held, f, back, ahead, code);
-    let bumped = added(gone, f, place, code);
+    let gone = turning(t, f, ahead, code);
+    let again = step_again(gone, c, code);
+    let stored = added(again, f, Place { at: c.third }, code);
+    let bound = Address { at: c.first as u32 };
     putting::put(
-        bumped,
+        stored,
         code,
         codes::JUMP,
         codes::NOWHERE,
-        parts::going_to(Address { at: t.here.at + 1 }),
+        parts::going_to(bound),
     )
+}
+
+// Behind the step, and behind the bound.
+fn amount(
+    t: Writing,
+    c: Thing,
+    ahead: &[u32],
+    things: &mut [usize; 32768],
+    next_ahead: &mut [u32],
+    code: &mut [u32],
+) -> Writing
+    requires { ⌜ Small 262143 8191 (see t [] (now things) [] [] []) × Slim 262143 (seen c) ⌝ }
+    ensures { λ r. ⌜ ((vs ly es : List ℕ) (us : List Used) (en : List ℕ) → see r us (now (things .exit)) (now (code .exit)) (now («next_ahead» .exit)) en ≡ amount vs ly (now (ahead .entry)) es (seen c) (see t us (now (things .entry)) (now (code .entry)) (now («next_ahead» .entry)) en)) ⌝ }
+{
+    if c.second == 0 {
+        return step_held(t, c, things, next_ahead, code);
+    }
+    let around = putting::pop(t);
+    let f = putting::top(around, things);
+    element(stepping(around, f, c, ahead, code), f, things, next_ahead)
 }
 
 // An element of one value.
@@ -181,14 +239,15 @@ pub fn element_node(
     next_ahead: &mut [u32],
     code: &mut [u32],
 ) -> Writing
-    requires { ⌜ Fit t × Slim 262143 (seen f) × (place .at < 65536) ⌝ }
+    requires { ⌜ Fit t × Slim 262143 (seen f) × Small 262143 8191 (see t [] (now things) [] [] []) ⌝ }
     ensures { λ r. ⌜ ((vs ly es : List ℕ) (us : List Used) (en : List ℕ) → see r us (now (things .exit)) (now (code .exit)) (now («next_ahead» .exit)) en ≡ elementNode vs ly (now (ahead .entry)) es kind (seen f) (place .at) (see t us (now (things .entry)) (now (code .entry)) (now («next_ahead» .entry)) en)) ⌝ }
 {
     match kind {
         nodes::START => started(t, f, code),
         nodes::ONCE => once(t, f, ahead, things, next_ahead, code),
         nodes::WHILE => whiled(t, f, ahead, things, next_ahead, code),
-        _ => element(stepping(t, f, place, ahead, code), f, things, next_ahead),
+        nodes::STEP => step_begun(t, place, ahead, things, code),
+        _ => amount(t, f, ahead, things, next_ahead, code),
     }
 }
 

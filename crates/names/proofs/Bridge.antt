@@ -278,7 +278,7 @@ module _ (worth : ℕ → ℕ) (letters : ℕ → List ℕ) where
 
   f-a-step : Fits a-step
   unfolding build nodesL
-  f-a-step d i v w m h v' w' m' k e = rw (h, k) (simp append-assoc)
+  f-a-step d i v w m h v' w' m' k e = rw (h, k)
 
   f-an-amount : Fits an-amount
   unfolding build

@@ -52,7 +52,7 @@ unfolding nodesL
 foursL d (value e) = fours-append (foursE d e) (a-node single)
 foursL d (while q e c) = fours-append (foursE d e) (a-node (fours-append (foursE d c) single))
 foursL d (step q e f h) =
-    fours-append (foursE d e) (a-node (fours-append (foursAmount d f) (fours-append (foursAmount d h) single)))
+    fours-append (foursE d e) (a-node (a-node (fours-append (foursAmount d f) (foursAmount d h))))
 
 pub foursLs : (d : ℕ) (ls : List Element) → Fours (nodesLs d ls)
 unfolding nodesLs

@@ -124,8 +124,8 @@ skipsL ids d (while q e c) =
 skipsL ids d (step q e f h) =
     skips (skipsE ids d e)
     (skips (still ids n-start (firstSymbol e) 0 0 (λ st. refl))
-    (skips (skips (skipsE ids d f) (still ids n-amount (firstSymbol f) 0 0 (λ st. refl)))
-    (skips (skips (skipsE ids d h) (still ids n-amount (firstSymbol h) 0 0 (λ st. refl))) (still ids n-step q 0 0 (λ st. refl)))))
+    (skips (still ids n-step q 0 0 (λ st. refl))
+    (skips (skips (skipsE ids d f) (still ids n-amount (firstSymbol f) 0 0 (λ st. refl))) (skips (skipsE ids d h) (still ids n-amount (firstSymbol h) 0 0 (λ st. refl))))))
 
 pub skipsLs : (ids : List ℕ) (d : ℕ) (ls : List Element) → Skips ids (nodesLs d ls)
 unfolding nodesLs

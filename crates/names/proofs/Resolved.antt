@@ -249,8 +249,9 @@ module _ (Q : Name → Type 0) (ids R : List ℕ) (agree : Agree Q ids) (room : 
     elementR d c (step q e f i) h =
         then-part ids R (expressionR d c e (h .0))
         (then-part ids R (skipped n-start (firstSymbol e) 0 0 c refl refl refl)
+        (then-part ids R (skipped n-step q 0 0 c refl refl refl)
         (then-part ids R (then-silent ids R (expressionR d c f (h .1)) (skipped n-amount (firstSymbol f) 0 0 c refl refl refl))
-        (then-silent ids R (then-silent ids R (expressionR d c i (h .2)) (skipped n-amount (firstSymbol i) 0 0 c refl refl refl)) (skipped n-step q 0 0 c refl refl refl))))
+        (then-silent ids R (expressionR d c i (h .2)) (skipped n-amount (firstSymbol i) 0 0 c refl refl refl)))))
 
     elementsR : (d c : ℕ) (ls : List Element) → AllLs Q ls → Resolves ids R (nodesLs d ls) (usesL g ls) qs c qs c
     unfolding nodesLs usesL

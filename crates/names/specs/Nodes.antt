@@ -75,7 +75,7 @@ amountNodes d e = nodesE d e ++ mark n-amount (firstSymbol e)
 unfoldable pub nodesL : ℕ → Element → List ℕ
 nodesL d (value e) = nodesE d e ++ (mark n-start (firstSymbol e) ++ mark n-once 0)
 nodesL d (while q e c) = nodesE d e ++ (mark n-start (firstSymbol e) ++ (nodesE d c ++ mark n-while q))
-nodesL d (step q e f h) = nodesE d e ++ (mark n-start (firstSymbol e) ++ (amountNodes d f ++ (amountNodes d h ++ mark n-step q)))
+nodesL d (step q e f h) = nodesE d e ++ (mark n-start (firstSymbol e) ++ (mark n-step q ++ (amountNodes d f ++ amountNodes d h)))
 
 unfoldable pub nodesLs : ℕ → List Element → List ℕ
 nodesLs d [] = []

@@ -17,7 +17,10 @@ returns-4 : tie.Need-returns-4
 returns-4 c = λ vs ly ks es. simp (c .match .keys4)
 
 returns-5 : tie.Need-returns-5
-returns-5 c = λ vs ly ks es. simp (ne-eqb _ _ (c .match .rest .1), ne-eqb _ _ (c .match .rest .0 .1), ne-eqb _ _ (c .match .rest .0 .0 .1), ne-eqb _ _ (c .match .rest .0 .0 .0 .1))
+returns-5 c = λ vs ly ks es. simp (c .match .keys5)
+
+returns-6 : tie.Need-returns-6
+returns-6 c = λ vs ly ks es. simp (ne-eqb _ _ (c .match .rest .1), ne-eqb _ _ (c .match .rest .0 .1), ne-eqb _ _ (c .match .rest .0 .0 .1), ne-eqb _ _ (c .match .rest .0 .0 .0 .1), ne-eqb _ _ (c .match .rest .0 .0 .0 .0 .1))
 
 pub is-element-spec : {M : Type 1} → statement M
-is-element-spec = tie.close (tie.spec returns returns-2 returns-3 returns-4 returns-5)
+is-element-spec = tie.close (tie.spec returns returns-2 returns-3 returns-4 returns-5 returns-6)

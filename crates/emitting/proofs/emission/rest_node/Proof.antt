@@ -17,7 +17,7 @@ is-element-requires : tie.Need-is-element-requires
 is-element-requires c κs = search needs
 
 element-node-requires : tie.Need-element-node-requires
-element-node-requires c κs = (fit (c .before .before .before .before .before .before .before .before .before .before .before .before .args .t) (c .before .before .before .before .before .before .before .before .before .before .before .before .args .things .now) (c .before .before .before .before .before .before .before .before .before .before .before .before .pre .0), subst (Slim 262143) (sym (c .before .before .before .before .before .top .ensures)) (slim-top 262143 (thingsOf (c .before .before .before .before .before .before .before .before .before .before .before .before .args .t .open) (c .before .before .before .before .before .before .before .before .before .before .before .before .args .things .now)) (c .before .before .before .before .before .before .before .before .before .before .before .before .pre .0 .things)), c .before .before .before .before .before .before .before .before .before .before .before .before .pre .1)
+element-node-requires c κs = (fit (c .before .before .before .before .before .before .before .before .before .before .before .before .args .t) (c .before .before .before .before .before .before .before .before .before .before .before .before .args .things .now) (c .before .before .before .before .before .before .before .before .before .before .before .before .pre .0), subst (Slim 262143) (sym (c .before .before .before .before .before .top .ensures)) (slim-top 262143 (thingsOf (c .before .before .before .before .before .before .before .before .before .before .before .before .args .t .open) (c .before .before .before .before .before .before .before .before .before .before .before .before .args .things .now)) (c .before .before .before .before .before .before .before .before .before .before .before .before .pre .0 .things)), c .before .before .before .before .before .before .before .before .before .before .before .before .pre .0)
 
 same-length : tie.Need-same-length
 same-length c = search needs

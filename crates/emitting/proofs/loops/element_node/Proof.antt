@@ -1,9 +1,7 @@
 -- `emitting::loops::element_node` meets its contract: each kind puts the tests of `elementNode` right.
 -- Assumes nothing.
-use mathlib.Core.Path.{ap, _∙_}
 use borrow.Author.Tests.{ne-eqb}
-use Rattle.emitting.specs.Emission.{element, elementNode}
-use Rattle.emitting.specs.Model.{seen}
+use Rattle.emitting.specs.Emission.{elementNode}
 use borrow.Author.Needs.{needs}
 use Rattle.emitting.proofs.loops.element_node.Statement.{statement}
 use Rattle.emitting.proofs.loops.element_node.Tie as tie
@@ -17,11 +15,11 @@ once-requires c κs = search needs
 whiled-requires : tie.Need-whiled-requires
 whiled-requires c κs = search needs
 
-stepping-requires : tie.Need-stepping-requires
-stepping-requires c κs = search needs
+step-begun-requires : tie.Need-step-begun-requires
+step-begun-requires c κs = search needs
 
-element-requires : tie.Need-element-requires
-element-requires c κs = search needs
+amount-requires : tie.Need-amount-requires
+amount-requires c κs = search needs
 
 same-length : tie.Need-same-length
 same-length c = search needs
@@ -53,12 +51,19 @@ returns-3 c = λ vs ly es us en. simp (c .before .before .before .before .before
 same-length-6 : tie.Need-same-length-6
 same-length-6 c = search needs
 
+returns-4 : tie.Need-returns-4
+unfolding elementNode
+returns-4 c = λ vs ly es us en. simp (c .before .before .before .before .before .match .keys4) (c .before .before .step-begun .ensures vs ly es us (c .before .before .before .before .before .before .before .before .before .args .next-ahead .now) en)
+
 same-length-7 : tie.Need-same-length-7
 same-length-7 c = search needs
 
-returns-4 : tie.Need-returns-4
+same-length-8 : tie.Need-same-length-8
+same-length-8 c = search needs
+
+returns-5 : tie.Need-returns-5
 unfolding elementNode
-returns-4 c = λ vs ly es us en. simp (ne-eqb _ _ (c .before .before .before .before .before .before .before .before .before .match .rest .1), ne-eqb _ _ (c .before .before .before .before .before .before .before .before .before .match .rest .0 .1), ne-eqb _ _ (c .before .before .before .before .before .before .before .before .before .match .rest .0 .0 .1)) (c .before .before .element .ensures vs ly (c .before .before .before .before .before .before .before .before .before .before .before .before .before .args .ahead .now) es us _ en ∙ ap (element vs ly (c .before .before .before .before .before .before .before .before .before .before .before .before .before .args .ahead .now) es (seen (c .before .before .before .before .before .before .before .before .before .before .before .before .before .args .f))) (c .before .before .before .before .before .before .before .stepping .ensures .0 vs ly es us (c .before .before .before .before .before .before .before .before .before .before .before .before .before .args .things .now) (c .before .before .before .before .before .before .before .before .before .before .before .before .before .args .next-ahead .now) en))
+returns-5 c = λ vs ly es us en. simp (ne-eqb _ _ (c .before .before .before .before .before .before .before .before .match .rest .1), ne-eqb _ _ (c .before .before .before .before .before .before .before .before .match .rest .0 .1), ne-eqb _ _ (c .before .before .before .before .before .before .before .before .match .rest .0 .0 .1), ne-eqb _ _ (c .before .before .before .before .before .before .before .before .match .rest .0 .0 .0 .1)) (c .before .before .before .before .amount .ensures vs ly es us en)
 
 pub element-node-spec : {M : Type 1} → statement M
 element-node-spec =
@@ -67,8 +72,8 @@ element-node-spec =
     started-requires
     once-requires
     whiled-requires
-    stepping-requires
-    element-requires
+    step-begun-requires
+    amount-requires
     same-length
     returns
     same-length-2
@@ -78,5 +83,7 @@ element-node-spec =
     same-length-5
     returns-3
     same-length-6
+    returns-4
     same-length-7
-    returns-4)
+    same-length-8
+    returns-5)
