@@ -196,20 +196,12 @@ fn stepping(kinds: &[u8], pos: usize, depth: u16, nodes: &mut [u16], free: usize
 {
     match peek(kinds, pos) {
         Symbol::Step => {
-            let one = amount(kinds, pos + 1, depth, nodes, free);
+            let begun = put(nodes, free, nodes::STEP, pos, 0, 0);
+            let one = amount(kinds, pos + 1, depth, nodes, begun);
             match one {
                 Parsed::Refused { answer, at } => Parsed::Refused { answer, at },
                 Parsed::Read { next, used } => match peek(kinds, next) {
-                    Symbol::Until => {
-                        let two = amount(kinds, next + 1, depth, nodes, used);
-                        match two {
-                            Parsed::Refused { answer, at } => Parsed::Refused { answer, at },
-                            Parsed::Read { next, used } => {
-                                let end = put(nodes, used, nodes::STEP, pos, 0, 0);
-                                Parsed::Read { next, used: end }
-                            }
-                        }
-                    }
+                    Symbol::Until => amount(kinds, next + 1, depth, nodes, used),
                     _ => Parsed::Refused {
                         answer: Answer::GRAMMAR,
                         at: next,

@@ -91,8 +91,8 @@ toldL g d (while q e c) =
 toldL g d (step q e f h) =
     told (toldE g d e)
     (told (still n-start (firstSymbol e) 0 0 refl refl)
-    (told (before (toldE g d f) (still n-amount (firstSymbol f) 0 0 refl refl))
-    (before (before (toldE g d h) (still n-amount (firstSymbol h) 0 0 refl refl)) (still n-step q 0 0 refl refl))))
+    (told (still n-step q 0 0 refl refl)
+    (told (before (toldE g d f) (still n-amount (firstSymbol f) 0 0 refl refl)) (before (toldE g d h) (still n-amount (firstSymbol h) 0 0 refl refl)))))
 
 toldLs : (g : List Scope) (d : ℕ) (ls : List Element) → Told [] (usesL g ls) (nodesLs d ls)
 unfolding nodesLs usesL

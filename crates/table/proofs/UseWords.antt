@@ -200,8 +200,9 @@ module _ (place : ℕ → ℕ) (R : List ℕ) where
   writes-one g d (step q e f h) =
       writesE g d e
       and-then passed n-start (firstSymbol e) 0 0 refl
+      and-then passed n-step q 0 0 refl
       and-then (writesE g d f and-last passed n-amount (firstSymbol f) 0 0 refl)
-      and-then ((writesE g d h and-last passed n-amount (firstSymbol h) 0 0 refl) and-last passed n-step q 0 0 refl)
+      and-then (writesE g d h and-last passed n-amount (firstSymbol h) 0 0 refl)
 
   pub writesLs : (g : List Scope) (d : ℕ) (ls : List Element) → Writes (nodesLs d ls) (usesL g ls)
   unfolding nodesLs usesL

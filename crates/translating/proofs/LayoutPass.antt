@@ -64,7 +64,7 @@ unfolding nodesL layNode
 quietL d (value e) = quiet-append (quietE d e) (a-node (λ p a b st. refl) (single (λ p a b st. refl)))
 quietL d (while q e c) = quiet-append (quietE d e) (a-node (λ p a b st. refl) (quiet-append (quietE d c) (single (λ p a b st. refl))))
 quietL d (step q e f h) =
-    quiet-append (quietE d e) (a-node (λ p a b st. refl) (quiet-append (quietAmount d f) (quiet-append (quietAmount d h) (single (λ p a b st. refl)))))
+    quiet-append (quietE d e) (a-node (λ p a b st. refl) (a-node (λ p a b st. refl) (quiet-append (quietAmount d f) (quietAmount d h))))
 
 quietLs : (d : ℕ) (ls : List Element) → Quiet (nodesLs d ls)
 unfolding nodesLs

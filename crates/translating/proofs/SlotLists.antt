@@ -13,7 +13,7 @@ use Rattle.names.specs.Program.{Name, Sort, firstSymbol, Expression, number, lo
 use Rattle.names.specs.Scopes.{Scope, ofBlock, sortOf, modesOf, meaning}
 use Rattle.rules.specs.Entered.{cellsIn}
 use Rattle.rules.specs.Calls.{Primary, held, worked, function, absolute, greatest, no-primary, primary, Command, routine-of, absolute-of, greatest-of, input-to, output-of, no-command, command, way}
-use Rattle.translation.specs.Translate.{Mark, blk, own, acl, scopes, reach, endName, endActual, endThen, endE, endEs, endStore, endTest, endSum, endL, endCall, endCommand, endS, endSs, endDs, endP}
+use Rattle.translation.specs.Translate.{Mark, blk, own, acl, scopes, reach, endName, endActual, endThen, endE, endEs, endStore, endTest, endSum, endStep, endL, endCall, endCommand, endS, endSs, endDs, endP}
 use Rattle.emitting.specs.Layout.{packed}
 use Rattle.translation.proofs.Ranges.{grow-name, grow-sign, grow-way, grow-test, grow-sum, grow-take, grow-stores}
 
@@ -80,7 +80,7 @@ there b = packed 0 0 b
 unfoldable pub endX : List Scope → Name → Element → ℕ → ℕ
 endX g x (value e) b = suc (endStore g x (endE g e b))
 endX g x (while q e c) b = suc (suc (endE g c (endStore g x (endE g e b))))
-endX g x (step q e f h) b = suc (endSum (way (meaning g x)) (suc (endTest (way (meaning g x)) (suc (endE g h (endE g f (endStore g x (endE g e b))))))))
+endX g x (step q e f h) b = endStep (way (meaning g x)) g f h (endStore g x (endE g e b))
 
 -- place: of a symbol; word: of an actual
 module _ (place : ℕ → ℕ) (word : List Mark → Expression → ℕ) where
@@ -126,7 +126,8 @@ module _ (place : ℕ → ℕ) (word : List Mark → Expression → ℕ) where
   aheadX g x (while q e c) b k = aheadE g e b (aheadE g c (endStore (scopes g) x (endE (scopes g) e b)) k)
   aheadX g x (step q e f h) b k =
       let a = endStore (scopes g) x (endE (scopes g) e b) in
-      aheadE g e b (aheadE g f a (aheadE g h (endE (scopes g) f a) k))
+      let i = suc (endE (scopes g) f (suc a)) in
+      aheadE g e b (there i ∷ aheadE g f (suc a) (aheadE g h (suc i) k))
 
   -- elements, up to the last one's own slot
   unfoldable pub aheadL : List Mark → Name → Element → List Element → ℕ → List ℕ → List ℕ
@@ -232,9 +233,11 @@ module _ (place : ℕ → ℕ) (word : List Mark → Expression → ℕ) where
   fewX g x (step q e f h) b k =
       let a = endStore (scopes g) x (endE (scopes g) e b) in
       let w = way (meaning (scopes g) x) in
-      let i = endE (scopes g) h (endE (scopes g) f a) in
+      let i = suc (endE (scopes g) f (suc a)) in
+      let n = endE (scopes g) h (suc i) in
+      let k₁ : List ℕ = aheadE g f (suc a) (aheadE g h (suc i) k) in
       omega
-      (arith, fewE g e b (aheadE g f a (aheadE g h (endE (scopes g) f a) k)), fewE g f a (aheadE g h (endE (scopes g) f a) k), fewE g h (endE (scopes g) f a) k, grow-way w (endE (scopes g) e b), grow-test w (suc i), grow-sum w (suc (endTest w (suc i))))
+      (arith, fewE g e b (there i ∷ k₁), fewE g f (suc a) (aheadE g h (suc i) k), fewE g h (suc i) k, grow-way w (endE (scopes g) e b), grow-test w n, grow-sum w (suc (suc (endTest w n))))
 
 -- the address behind an element is where the others begin
 pub end-element : (g : List Scope) (x : Name) (l : Element) (ls : List Element) (b : ℕ) → endL g x (l ∷ ls) b ≡ endL g x ls (endX g x l b)

@@ -3,28 +3,28 @@
 use Prim.Native.Nat.{ℕ, suc, _+_, _-_, _<_}
 use native.Mathlib.Omega.{arith}
 use native.Mathlib.Numerals.{add-one}
-use mathlib.Core.Path.{_≡_, refl, sym, ap, _∙_}
+use mathlib.Core.Path.{_≡_, refl, sym, ap, ap₂, _∙_}
 use mathlib.Core.List.{List, [], _∷_, _++_, append-assoc, append-nil}
 use lib.Dec.{eqb}
-use lib.ListN.{length, getD, drop, length-append}
+use lib.ListN.{length, getD, set, drop, length-append}
 use lib.Seq.{set-append-seam}
-use Rattle.machine.specs.Data.{store, keep, bump, sum, condition, upto}
-use Rattle.machine.specs.Instructions.{Loc, lc, fnd, Instr, DO, IF, JUMP, GO, pack, high, mid, low}
+use Rattle.machine.specs.Data.{store, keep, sum, condition, upto}
+use Rattle.machine.specs.Instructions.{Loc, lc, fnd, Instr, DO, IF, JUMP, GO, NEXT, pack, high, mid, low}
 use Rattle.grammar.specs.NodeKinds.{n-start, n-once, n-while, n-step, n-amount}
 use Rattle.names.specs.Program.{Name, Expression, firstSymbol, Element, value, while, step as by-step}
 use Rattle.names.specs.Scopes.{Scope, meaning}
-use Rattle.names.specs.Nodes.{mark, amountNodes, nodesE, nodesL, nodesLs}
+use Rattle.names.specs.Nodes.{mark, nodesE, nodesL, nodesLs}
 use Rattle.names.specs.Rows.{isUse}
 use Rattle.names.specs.Uses.{Use, usesE, usesL}
 use Rattle.rules.specs.Calls.{Way, direct, sought, way}
-use Rattle.translation.specs.Translate.{Mark, scopes, loc, endE, endStore, endTest, endSum, endL, onward, SEEKS, codeE, codeStore, codeTest, codeSum, codeL}
+use Rattle.translation.specs.Translate.{Mark, scopes, loc, endE, endStore, endTest, endSum, endL, onward, SEEKS, codeE, codeStore, codeTest, codeSum, codeStep, codeL}
 use Rattle.machine.specs.Words.{Parts, beside, CodeFits, words}
 use Rattle.emitting.specs.Layout.{packed}
 use Rattle.translation.specs.Scoped.{OkE, OkL}
-use Rattle.emitting.specs.Emission.{opened, State, put, withOpen, noted, replaced, top, below, bare, foundWord, onCell, aheadAt, element, bodied, tested, added, tests, stepping, elementNode, plainNode, codeNode}
+use Rattle.emitting.specs.Emission.{opened, State, put, withOpen, withSlot, noted, pushed, popped, replaced, top, below, bare, foundWord, onCell, aheadAt, element, bodied, tested, added, stepBegun, stepHeld, stepAgain, turning, stepping, amount, elementNode, codeNode}
 use Rattle.translating.proofs.ToldCalls.{ToldE, ToldL}
-use Rattle.translating.proofs.SlotLists.{Fills, a-slot, then-slots, slot-read, slot-past, slots-past, there, aheadE, aheadX, aheadL, endX, end-element}
-use Rattle.translating.proofs.Written.{Tables, Frame, Flow, withOpens, slotted, taken, slot-real, noted-real, putAll, wroteAll, puts-real, past, Same, wrote-all, fits-apart, step, state, Goes, Passed, Fits, goes-node, goes-then, _and-then_, passed-all, passed-as, passed-idle}
+use Rattle.translating.proofs.SlotLists.{Fills, a-slot, then-slots, longer, refill, slot-read, slot-past, slots-past, there, aheadE, aheadX, aheadL, endX, end-element}
+use Rattle.translating.proofs.Written.{Tables, Frame, Flow, withOpens, wrote, slotted, taken, put-real, slot-real, noted-real, putAll, wroteAll, puts-real, past, Same, wrote-all, fits-apart, step, state, Goes, Passed, Fits, goes-node, goes-then, wrote-right, _and-then_, passed-all, passed-as}
 use Rattle.translating.proofs.WrittenChoices.{address, fits-open}
 use Rattle.translating.proofs.WrittenNames.{parts, seeks, Worded, wayParts, on-cell, way-past, wayInstrs, way-code, way-same}
 use Rattle.translating.proofs.ActualWords.{wordIn}
@@ -34,6 +34,10 @@ use Rattle.translating.proofs.NameWords.{Known, Targets}
 -- a frame within a for statement: the slot of its body's address, its variable's word and place, the address of the element
 abbrev pub inLoop : ℕ → ℕ → ℕ → ℕ → Frame → Frame
 inLoop s v p a fr = withOpens (opened s v p a ∷ fr .opens) fr
+
+-- a frame within a step element: the slot of where its step is held, 0, the place of 'step', the step's address; then the bound's address and 1
+abbrev inStep : ℕ → ℕ → ℕ → ℕ → Frame → Frame
+inStep i n q f fr = withOpens (opened i n q f ∷ fr .opens) fr
 
 module _ (tb : Tables) where
   -- behind an element: it goes on there
@@ -63,9 +67,9 @@ module _ (tb : Tables) where
         → (next .code ++ words r ≡ fl .code ++ words (C i o r)) × CodeFits r
 
   -- the node behind an element
-  turn : {R : Type 0} {s v p a : ℕ} {fr : Frame} {ws : List ℕ} {us : List Use} {e : ℕ} {A : List ℕ → List ℕ} {C : List Instr → List Instr} {fl : Flow}
-      (x : Passed tb R (inLoop s v p a fr) (inLoop s v p a fr) ws us e A (λ t. t) C fl) (is : ℕ → ℕ → List Instr) (ps : List Parts) (n q : ℕ)
-      → step tb n q 0 0 (state tb (inLoop s v p a fr) (x .next)) ≡ element (tb .values) (tb .layout) (tb .ahead) (tb .entries) (opened s v p a) (putAll ps (state tb (inLoop s v p a fr) (x .next)))
+  turn : {R : Type 0} {s v p a : ℕ} {fr fr' : Frame} {ws : List ℕ} {us : List Use} {e : ℕ} {A : List ℕ → List ℕ} {C : List Instr → List Instr} {fl : Flow}
+      (x : Passed tb R (inLoop s v p a fr) fr' ws us e A (λ t. t) C fl) (is : ℕ → ℕ → List Instr) (ps : List Parts) (n q : ℕ)
+      → step tb n q 0 0 (state tb fr' (x .next)) ≡ element (tb .values) (tb .layout) (tb .ahead) (tb .entries) (opened s v p a) (putAll ps (state tb (inLoop s v p a fr) (x .next)))
       → (R → (i o : ℕ) → getD (tb .ahead) s 0 ≡ there i → getD (tb .ahead) (length (x .next .slots)) 0 ≡ there o → CodeFits (is i o) → Same ps (is i o))
       → Turned R s v p a fr (ws ++ mark n q) us (past ps e) A (λ i o r. C (is i o ++ r)) fl
   turn {s = s} {v = v} {p = p} {a = a} {fr = fr} {e = e} {A = A} {fl = fl} x is ps n q i h =
@@ -121,10 +125,6 @@ module _ (tb : Tables) where
   unfolding step codeNode isUse elementNode top
   start-step w n s v p a fr fl e = on-cell w 14 0 p v (state tb (inLoop s v p a fr) fl) e
 
-  amount-step : (n : ℕ) (fr : Frame) (fl : Flow) → step tb n-amount n 0 0 (state tb fr fl) ≡ state tb fr fl
-  unfolding step codeNode isUse plainNode
-  amount-step n fr fl = refl
-
   abbrev ahead-of : ℕ → ℕ
   ahead-of i = getD (tb .ahead) i 0
 
@@ -144,18 +144,50 @@ module _ (tb : Tables) where
   unfolding step codeNode isUse elementNode bodied aheadAt top put
   while-step q s v p a fr fl = refl
 
-  -- the test, the body, the addition, back to the test
-  abbrev stepParts : Way → ℕ → ℕ → ℕ → ℕ → Frame → Flow → List Parts
-  stepParts direct q s v p fr fl =
-      parts 20 0 0 ∷
+  -- 'step': to the step, and one address more lies ahead
+  abbrev stepFlow : ℕ → Frame → Flow → Flow
+  stepFlow a fr fl = slotted (fl .slots ++ (0 ∷ [])) (wrote 8 0 (packed (fr .loops) (ahead-of (length (fl .slots))) (suc a)) fl)
+
+  begun-step : (q a : ℕ) (fr : Frame) (fl : Flow) → fl .at ≡ a
+      → step tb n-step q 0 0 (state tb fr fl) ≡ state tb (inStep (length (fl .slots)) 0 (tb .place q) (suc a) fr) (stepFlow a fr fl)
+  unfolding step codeNode isUse elementNode stepBegun aheadAt pushed withOpen
+  begun-step q a fr fl e =
+      let S = fl .slots in
+      let j : fl .at + 1 ≡ suc a = add-one (fl .at) ∙ ap suc e in
+      let v = packed (fr .loops) (ahead-of (length S)) (suc a) in
+      ap (λ (u : ℕ). withSlot (pushed (length S) 0 (tb .place q) u (put 8 0 (packed (fr .loops) (ahead-of (length S)) u) (state tb fr fl)))) j
+      ∙ ap (λ (st : State). withSlot (pushed (length S) 0 (tb .place q) (suc a) st)) (put-real (tb .key) 8 0 v fr fl)
+      ∙ slot-real (tb .key) (inStep (length S) 0 (tb .place q) (suc a) fr) (wrote 8 0 v fl)
+
+  -- behind the step: where it is held is known
+  abbrev heldParts : Frame → List Parts
+  heldParts fr = parts 9 0 (packed (fr .loops) 0 0) ∷ parts 20 0 0 ∷ []
+
+  abbrev heldFlow : ℕ → ℕ → Frame → Flow → Flow
+  heldFlow i c fr fl = slotted (set (fl .slots) i (there (suc c))) (wroteAll (heldParts fr) fl)
+
+  held-step : (n i f q c : ℕ) (fr : Frame) (fl : Flow) → i < length (fl .slots) → fl .at ≡ c
+      → step tb n-amount n 0 0 (state tb (inStep i 0 q f fr) fl) ≡ state tb (inStep (suc (suc c)) 1 q f fr) (heldFlow i c fr fl)
+  unfolding step codeNode isUse elementNode amount stepHeld replaced top below withOpen
+  held-step n i f q c fr fl h e =
+      let j : fl .at + 1 ≡ suc c = add-one (fl .at) ∙ ap suc e in
+      let j' : fl .at + 1 + 1 ≡ suc (suc c) = add-one (fl .at + 1) ∙ ap suc j in
+      ap (λ (st : State). noted i (there (fl .at + 1)) (replaced (fl .at + 1 + 1) 1 q f st)) (puts-real (tb .key) (heldParts fr) (inStep i 0 q f fr) fl)
+      ∙ ap₂ (λ (u t : ℕ). noted i (there u) (state tb (inStep t 1 q f fr) (wroteAll (heldParts fr) fl))) j j'
+      ∙ noted-real (tb .key) i (there (suc c)) (inStep (suc (suc c)) 1 q f fr) (wroteAll (heldParts fr) fl) h
+
+  -- behind the bound: the test, the body, the step again, the addition, back to the bound; f: the step's address, t: the bound's
+  abbrev stepParts : Way → ℕ → ℕ → ℕ → ℕ → ℕ → ℕ → Frame → Flow → List Parts
+  stepParts direct q f t s v p fr fl =
       parts 11 p (packed (high v) (mid v) (ahead-of (length (fl .slots)))) ∷
-      parts 8 0 (packed (fr .loops) (fl .at + 1 + 1 + 1) (ahead-of s)) ∷ parts 21 (tb .place q) (bare v) ∷ parts 2 0 (there (fl .at + 1)) ∷ []
-  stepParts sought q s v p fr fl =
-      parts 20 0 0 ∷
+      parts 8 0 (packed (fr .loops) (fl .at + 1 + 1) (ahead-of s)) ∷
+      parts 8 0 (packed (fr .loops) (fl .at + 1 + 1 + 1) f) ∷ parts 21 q (bare v) ∷ parts 14 0 (bare v) ∷ parts 2 0 (there t) ∷ []
+  stepParts sought q f t s v p fr fl =
       parts 41 p (bare v) ∷
       parts 11 p (packed 0 8191 (ahead-of (length (fl .slots)))) ∷
-      parts 8 0 (packed (fr .loops) (fl .at + 1 + 1 + 1 + 1) (ahead-of s)) ∷
-      parts 41 p (bare v) ∷ parts 46 (tb .place q) foundWord ∷ parts 41 p (bare v) ∷ parts 14 0 foundWord ∷ parts 2 0 (there (fl .at + 1)) ∷ []
+      parts 8 0 (packed (fr .loops) (fl .at + 1 + 1 + 1) (ahead-of s)) ∷
+      parts 8 0 (packed (fr .loops) (fl .at + 1 + 1 + 1 + 1) f) ∷
+      parts 41 p (bare v) ∷ parts 21 q foundWord ∷ parts 41 p (bare v) ∷ parts 14 0 foundWord ∷ parts 2 0 (there t) ∷ []
 
   abbrev testParts : Way → ℕ → ℕ → ℕ → List Parts
   testParts direct p v o = parts 11 p (packed (high v) (mid v) o) ∷ []
@@ -166,34 +198,31 @@ module _ (tb : Tables) where
   tested-puts direct p v o st e = rw e
   tested-puts sought p v o st e = rw e
 
-  abbrev sumParts : Way → ℕ → ℕ → ℕ → List Parts
-  sumParts direct p v q = parts 21 q (bare v) ∷ []
-  sumParts sought p v q = parts 41 p (bare v) ∷ parts 46 q foundWord ∷ parts 41 p (bare v) ∷ parts 14 0 foundWord ∷ []
-
-  added-puts : (w : Way) (p v q : ℕ) (st : State) → eqb (low v) 2 ≡ seeks w → added (tb .values) (tb .layout) (tb .ahead) (tb .entries) p v q st ≡ putAll (sumParts w p v q) st
-  unfolding added onCell
-  added-puts direct p v q st e = rw e
-  added-puts sought p v q st e = rw e
+  added-puts : (w : Way) (p v q : ℕ) (st : State) → eqb (low v) 2 ≡ seeks w → added (tb .values) (tb .layout) (tb .ahead) (tb .entries) p v q st ≡ putAll (wayParts w 14 0 p v) (putAll (wayParts w 21 q p v) st)
+  unfolding added
+  added-puts w p v q st e = ap (onCell 14 0 p v) (on-cell w 21 q p v st e) ∙ on-cell w 14 0 p v (putAll (wayParts w 21 q p v) st) e
 
   -- both in their places
-  stepping-puts : (w : Way) (q s v p a : ℕ) (st : State) → eqb (low v) 2 ≡ seeks w
-      → let t = putAll (testParts w p v (getD (tb .ahead) (st .slots) 0)) (put 20 0 0 st) in
-      stepping (tb .values) (tb .layout) (tb .ahead) (tb .entries) (opened s v p a) q st
-      ≡ put 2 0 (there (st .at + 1)) (putAll (sumParts w p v q) (bodied (tb .values) (tb .layout) (tb .ahead) (tb .entries) (opened s v p a) (t .at + 1) t))
-  unfolding stepping tests aheadAt
-  stepping-puts w q s v p a st e =
-      let f = opened s v p a in
+  stepping-puts : (w : Way) (f q t s v p a : ℕ) (st : State) → eqb (low v) 2 ≡ seeks w
+      → let u = putAll (testParts w p v (getD (tb .ahead) (st .slots) 0)) st in
+      stepping (tb .values) (tb .layout) (tb .ahead) (tb .entries) (opened s v p a) (opened t 1 q f) st
+      ≡ put 2 0 (there t)
+      (putAll (wayParts w 14 0 p v) (putAll (wayParts w 21 q p v)
+      (stepAgain (tb .values) (tb .layout) (tb .ahead) (tb .entries) (opened t 1 q f) (bodied (tb .values) (tb .layout) (tb .ahead) (tb .entries) (opened s v p a) (u .at + 1) u))))
+  unfolding stepping turning aheadAt
+  stepping-puts w f q t s v p a st e =
       let o = getD (tb .ahead) (st .slots) 0 in
-      let st₀ = put 20 0 0 st in
-      let t = putAll (testParts w p v o) st₀ in
-      ap (λ (t : State). put 2 0 (there (st .at + 1)) (added (tb .values) (tb .layout) (tb .ahead) (tb .entries) p v q (bodied (tb .values) (tb .layout) (tb .ahead) (tb .entries) f (t .at + 1) t))) (tested-puts w p v o st₀ e)
-      ∙ ap (put 2 0 (there (st .at + 1))) (added-puts w p v q (bodied (tb .values) (tb .layout) (tb .ahead) (tb .entries) f (t .at + 1) t) e)
+      let u = putAll (testParts w p v o) st in
+      let on : State → State = λ (u : State). stepAgain (tb .values) (tb .layout) (tb .ahead) (tb .entries) (opened t 1 q f) (bodied (tb .values) (tb .layout) (tb .ahead) (tb .entries) (opened s v p a) (u .at + 1) u) in
+      ap (λ (u : State). put 2 0 (there t) (added (tb .values) (tb .layout) (tb .ahead) (tb .entries) p v q (on u))) (tested-puts w p v o st e)
+      ∙ ap (put 2 0 (there t)) (added-puts w p v q (on u) e)
 
-  step-step : (w : Way) (q s v p a : ℕ) (fr : Frame) (fl : Flow) → eqb (low v) 2 ≡ seeks w
-      → step tb n-step q 0 0 (state tb (inLoop s v p a fr) fl) ≡ element (tb .values) (tb .layout) (tb .ahead) (tb .entries) (opened s v p a) (putAll (stepParts w q s v p fr fl) (state tb (inLoop s v p a fr) fl))
-  unfolding step codeNode isUse elementNode bodied aheadAt top put
-  step-step direct q s v p a fr fl e = ap (element (tb .values) (tb .layout) (tb .ahead) (tb .entries) (opened s v p a)) (stepping-puts direct (tb .place q) s v p a (state tb (inLoop s v p a fr) fl) e)
-  step-step sought q s v p a fr fl e = ap (element (tb .values) (tb .layout) (tb .ahead) (tb .entries) (opened s v p a)) (stepping-puts sought (tb .place q) s v p a (state tb (inLoop s v p a fr) fl) e)
+  turned-step : (w : Way) (n f q t s v p a : ℕ) (fr : Frame) (fl : Flow) → eqb (low v) 2 ≡ seeks w
+      → step tb n-amount n 0 0 (state tb (inStep t 1 q f (inLoop s v p a fr)) fl)
+      ≡ element (tb .values) (tb .layout) (tb .ahead) (tb .entries) (opened s v p a) (putAll (stepParts w q f t s v p fr fl) (state tb (inLoop s v p a fr) fl))
+  unfolding step codeNode isUse elementNode amount popped withOpen bodied stepAgain aheadAt top below put
+  turned-step direct n f q t s v p a fr fl e = ap (element (tb .values) (tb .layout) (tb .ahead) (tb .entries) (opened s v p a)) (stepping-puts direct f q t s v p a (state tb (inLoop s v p a fr) fl) e)
+  turned-step sought n f q t s v p a fr fl e = ap (element (tb .values) (tb .layout) (tb .ahead) (tb .entries) (opened s v p a)) (stepping-puts sought f q t s v p a (state tb (inLoop s v p a fr) fl) e)
 
   -- ---- words
 
@@ -202,6 +231,15 @@ module _ (tb : Tables) where
 
   go-back : (n m o i u w : ℕ) → n ≡ m → u ≡ o → w ≡ there i → (m < 64) × (i < 8192) × (o < 8192) → packed n u w ≡ pack m o i
   go-back n m o i u w e f g h = omega arith
+
+  go-step : (n m o i u : ℕ) → n ≡ m → u ≡ o → (m < 64) × (i < 8192) × (o < 8192) → packed n u i ≡ pack m o i
+  go-step n m o i u e f h = omega arith
+
+  go-there : (n m o i : ℕ) → n ≡ m → (m < 64) × (i < 8192) × (o < 8192) → packed n (there o) i ≡ pack m o i
+  go-there n m o i e h = omega arith
+
+  next-word : (n m : ℕ) → n ≡ m → m < 64 → packed n 0 0 ≡ pack m 0 0
+  next-word n m e h = omega arith
 
   jump-word : (u n : ℕ) → u ≡ n → n < 8192 → there u ≡ pack 0 0 n
   jump-word u n e h = omega arith
@@ -255,13 +293,7 @@ codeX tb g m x (while q e c) b i o r =
     codeE (tb .place) g e b (codeStore (tb .place) g x (codeE (tb .place) g c a (IF condition o ∷ GO m i b ∷ r)))
 codeX tb g m x (by-step q e f h) b i o r =
     let a = endStore (scopes g) x (endE (scopes g) e b) in
-    let w = way (meaning (scopes g) x) in
-    let n = endE (scopes g) h (endE (scopes g) f a) in
-    codeE (tb .place) g e b
-    (codeStore (tb .place) g x
-    (codeE (tb .place) g f a
-    (codeE (tb .place) g h (endE (scopes g) f a)
-    (DO keep ∷ codeTest (tb .place) w g x o (GO m i (suc (endTest w (suc n))) ∷ codeSum (tb .place) w g q x (JUMP (suc n) ∷ r))))))
+    codeE (tb .place) g e b (codeStore (tb .place) g x (codeStep (tb .place) (way (meaning (scopes g) x)) g m q x f h i o a r))
 
 module _ {tb : Tables} where
   turned-words : {R : Type 0} {s v p a : ℕ} {fr : Frame} {ws : List ℕ} {us : List Use} {e : ℕ} {A : List ℕ → List ℕ} {C : ℕ → ℕ → List Instr → List Instr} {fl : Flow} (ws' : List ℕ) → ws ≡ ws'
@@ -312,13 +344,34 @@ module _ (tb : Tables) (R : Type 0) (g : List Mark) (right : R → Targets (tb .
       (start-step tb z (firstSymbol e) s v p b fr (y .next) tell ∙ ap (λ (us : List Use). putAll (wayParts z 14 0 p v) (state tb (F b fr) (taken us (y .next)))) (y .uses))
       (y .at) (λ t c. way-same tb z g x (λ l. store l) 14 0 v (λ l. refl) (λ l f. f) word c)))
 
-  -- an amount of a step: an expression
-  amount-passed : (e : Expression) (d b k : ℕ) → OkE (scopes g) e → ToldE (Numbered tb) (Moded tb) (scopes g) e → (us : List Use) (fr : Frame) (fl : Flow) → Fits tb g 0 m fr → fl .uses ≡ usesE (scopes g) e ++ us → fl .at ≡ b
-      → Passed tb R (F k fr) (F k fr) (amountNodes d e) us (endE (scopes g) e b) (ahead e b) (λ t. t) (codeE (tb .place) g e b) fl
-  amount-passed e d b k ok n us fr fl w u a =
-      let p = tb .place (x .symbol) in
-      let y = emitsE tb R 0 m g right known e d b ok n .pass us (F k fr) fl (fits-open (opened s v p k ∷ fr .opens) w) u a in
-      y and-then (passed-idle n-amount (firstSymbol e) 0 0 (amount-step tb (firstSymbol e) (F k fr) (y .next)) (y .uses) (y .at))
+  -- from 'step' to where the step is held: to its code, which ends at c, and on
+  held-passed : (q n a c : ℕ) {wf : List ℕ} {us : List Use} {Af : List ℕ → List ℕ} {Cf : List Instr → List Instr} {fr : Frame} {fl : Flow} → fr .loops ≡ m → fl .at ≡ a
+      → let i = length (fl .slots) in
+      Passed tb R (inStep i 0 (tb .place q) (suc a) fr) (inStep i 0 (tb .place q) (suc a) fr) wf us c Af (λ t. t) Cf (stepFlow tb a fr fl)
+      → Passed tb R fr (inStep (suc (suc c)) 1 (tb .place q) (suc a) fr) (mark n-step q ++ (wf ++ mark n-amount n)) us (suc (suc c)) (λ k. there (suc c) ∷ Af k) (λ t. t) (λ r. GO m (suc a) (suc c) ∷ Cf (NEXT m ∷ DO keep ∷ r)) fl
+  held-passed q n a c {Af = Af} {Cf = Cf} {fr = fr} {fl = fl} w e s =
+      let i = length (fl .slots) in
+      let j : i < length (s .next .slots) = omega (arith, longer (s .fills), length-append (fl .slots) (0 ∷ [])) in
+      let y = wrote-all (heldParts tb fr) c (s .next) (s .at) in
+      record {
+        next = heldFlow tb i c fr (s .next);
+        goes =
+            goes-then (goes-node n-step q 0 0 (begun-step tb q a fr fl e))
+            (goes-then (s .goes) (goes-node n-amount n 0 0 (held-step tb n i (suc a) (tb .place q) c fr (s .next) j (s .at))));
+        uses = y .uses ∙ s .uses;
+        at = y .at;
+        fills = refill 0 (there (suc c)) (s .fills);
+        enters = y .entries ∙ s .enters;
+        right = λ z k r d f.
+            let l = slot-read (tb .ahead) (fl .slots) (Af k) (there (suc c)) d in
+            let p = s .right z k (NEXT m ∷ DO keep ∷ r) (slot-past (tb .ahead) (fl .slots) (Af k) 0 (there (suc c)) d) (f .1) in
+            let b = fits-apart (NEXT m ∷ DO keep ∷ []) r (p .1) in (
+              y .code (NEXT m ∷ DO keep ∷ []) r (ap (parts 9 0) (next-word tb (fr .loops) m w (b .0 .0)), (refl, tt))
+                  ∙ p .0
+                  ∙ wrote-right (GO m (suc a) (suc c)) 8 0 _ (fl .code) (Cf (NEXT m ∷ DO keep ∷ r)) refl (ap (λ (u : ℕ). packed (fr .loops) u (suc a)) l ∙ go-there tb (fr .loops) m (suc c) (suc a) w (f .0)),
+              b .1,
+            );
+      }
 
   abbrev IsX : Element → ℕ → ℕ → Type 0
   IsX l d b =
@@ -348,42 +401,42 @@ module _ (tb : Tables) (R : Type 0) (g : List Mark) (right : R → Targets (tb .
       (turn tb t (λ i o. IF condition o ∷ GO m i b ∷ []) (whileParts tb s b fr (t .next)) n-while q (while-step tb q s v p b fr (t .next))
       (λ z i o h l c. (ap (parts 10 0) (address _ o l (c .0 .1)), (ap (parts 8 0) (go-back tb (fr .loops) m b i _ _ (w .loops) refl h (c .1 .0)), tt))))
 
-  -- behind the amounts, which end at n
-  step-end : (w : Way) (q n b : ℕ) {ws : List ℕ} {us : List Use} {A : List ℕ → List ℕ} {C : List Instr → List Instr} {fr : Frame} {fl : Flow} → eqb (low v) 2 ≡ seeks w → Worded w g x v → Fits tb g 0 m fr
-      → Passed tb R (F b fr) (F b fr) ws us n A (λ t. t) C fl
-      → Turned tb R s v (tb .place (x .symbol)) b fr (ws ++ mark n-step q) us (suc (endSum w (suc (endTest w (suc n))))) A (λ i o r. C (DO keep ∷ codeTest (tb .place) w g x o (GO m i (suc (endTest w (suc n))) ∷ codeSum (tb .place) w g q x (JUMP (suc n) ∷ r)))) fl
+  -- behind the bound, which ends at n; a: where the code of the step begins
+  bound-end : (w : Way) (q n a b t z : ℕ) {ws : List ℕ} {us : List Use} {A : List ℕ → List ℕ} {C : List Instr → List Instr} {fr : Frame} {fl : Flow} → eqb (low v) 2 ≡ seeks w → Worded w g x v → Fits tb g 0 m fr
+      → Passed tb R (F b fr) (inStep t 1 (tb .place q) (suc a) (F b fr)) ws us n A (λ t. t) C fl
+      → Turned tb R s v (tb .place (x .symbol)) b fr (ws ++ mark n-amount z) us (suc (endSum w (suc (suc (endTest w n))))) A (λ i o r. C (codeTest (tb .place) w g x o (GO m i (suc (endTest w n)) ∷ GO m (suc a) (suc (suc (endTest w n))) ∷ codeSum (tb .place) w g q x (JUMP t ∷ r)))) fl
   unfolding endTest endSum codeTest codeSum
-  step-end direct q n b {fr = fr} tell word w t =
+  bound-end direct q n a b t z {fr = fr} tell word w y =
       let p = tb .place (x .symbol) in
-      let at₁ : t .next .at + 1 ≡ suc n = add-one (t .next .at) ∙ ap suc (t .at) in
-      let at₃ : t .next .at + 1 + 1 + 1 ≡ suc (suc (suc n)) = omega (arith, t .at) in
-      turn tb t (λ i o. DO keep ∷ IF (upto p (loc g x)) o ∷ GO m i (suc (suc (suc n))) ∷ DO (bump (tb .place q) (loc g x)) ∷ JUMP (suc n) ∷ []) (stepParts tb direct q s v p fr (t .next)) n-step q (step-step tb direct q s v p b fr (t .next) tell)
+      let at₂ : y .next .at + 1 + 1 ≡ suc (suc n) = omega (arith, y .at) in
+      let at₃ : y .next .at + 1 + 1 + 1 ≡ suc (suc (suc n)) = omega (arith, y .at) in
+      turn tb y (λ i o. IF (upto p (loc g x)) o ∷ GO m i (suc (suc n)) ∷ GO m (suc a) (suc (suc (suc n))) ∷ DO (sum (tb .place q) (loc g x)) ∷ DO (store (loc g x)) ∷ JUMP t ∷ []) (stepParts tb direct (tb .place q) (suc a) t s v p fr (y .next)) n-amount z (turned-step tb direct z (suc a) (tb .place q) t s v p b fr (y .next) tell)
       (λ z i o h l c. (
-        refl,
+        ap (parts 11 p) (upto-word tb v o _ (loc g x) (word (c .0 .0) .bared) l (c .0 .1)),
         (
-          ap (parts 11 p) (upto-word tb v o _ (loc g x) (word (c .1 .0 .0) .bared) l (c .1 .0 .1)),
+          ap (parts 8 0) (go-back tb (fr .loops) m (suc (suc n)) i _ _ (w .loops) at₂ h (c .1 .0)),
           (
-            ap (parts 8 0) (go-back tb (fr .loops) m (suc (suc (suc n))) i _ _ (w .loops) at₃ h (c .1 .1 .0)),
-            (ap (parts 21 (tb .place q)) (word (c .1 .1 .1 .0) .bared), (ap (parts 2 0) (jump-word tb _ (suc n) at₁ (c .1 .1 .1 .1 .0)), tt)),
+            ap (parts 8 0) (go-step tb (fr .loops) m (suc (suc (suc n))) (suc a) _ (w .loops) at₃ (c .1 .1 .0)),
+            (ap (parts 21 (tb .place q)) (word (c .1 .1 .1 .0) .bared), (ap (parts 14 0) (word (c .1 .1 .1 .1 .0) .bared), (ap (parts 2 0) (jump-word tb _ t refl (c .1 .1 .1 .1 .1 .0)), tt))),
           ),
         ),
       ))
-  step-end sought q n b {fr = fr} tell word w t =
+  bound-end sought q n a b t z {fr = fr} tell word w y =
       let p = tb .place (x .symbol) in
-      let at₁ : t .next .at + 1 ≡ suc n = add-one (t .next .at) ∙ ap suc (t .at) in
-      let at₄ : t .next .at + 1 + 1 + 1 + 1 ≡ suc (suc (suc (suc n))) = omega (arith, t .at) in
+      let at₃ : y .next .at + 1 + 1 + 1 ≡ suc (suc (suc n)) = omega (arith, y .at) in
+      let at₄ : y .next .at + 1 + 1 + 1 + 1 ≡ suc (suc (suc (suc n))) = omega (arith, y .at) in
       let k = SEEKS (tb .place) g x in
-      turn tb t (λ i o. DO keep ∷ k ∷ IF (upto p fnd) o ∷ GO m i (suc (suc (suc (suc n)))) ∷ k ∷ DO (sum (tb .place q) fnd) ∷ k ∷ DO (store fnd) ∷ JUMP (suc n) ∷ []) (stepParts tb sought q s v p fr (t .next)) n-step q (step-step tb sought q s v p b fr (t .next) tell)
+      turn tb y (λ i o. k ∷ IF (upto p fnd) o ∷ GO m i (suc (suc (suc n))) ∷ GO m (suc a) (suc (suc (suc (suc n)))) ∷ k ∷ DO (sum (tb .place q) fnd) ∷ k ∷ DO (store fnd) ∷ JUMP t ∷ []) (stepParts tb sought (tb .place q) (suc a) t s v p fr (y .next)) n-amount z (turned-step tb sought z (suc a) (tb .place q) t s v p b fr (y .next) tell)
       (λ z i o h l c.
-      let e = ap (parts 41 p) (word (c .1 .0) .bared) in (
-        refl,
+      let e = ap (parts 41 p) (word (c .0) .bared) in (
+        e,
         (
-          e,
+          ap (parts 11 p) (upto-found tb o _ l (c .1 .0 .1)),
           (
-            ap (parts 11 p) (upto-found tb o _ l (c .1 .1 .0 .1)),
+            ap (parts 8 0) (go-back tb (fr .loops) m (suc (suc (suc n))) i _ _ (w .loops) at₃ h (c .1 .1 .0)),
             (
-              ap (parts 8 0) (go-back tb (fr .loops) m (suc (suc (suc (suc n)))) i _ _ (w .loops) at₄ h (c .1 .1 .1 .0)),
-              (e, (refl, (e, (refl, (ap (parts 2 0) (jump-word tb _ (suc n) at₁ (c .1 .1 .1 .1 .1 .1 .1 .1 .0)), tt))))),
+              ap (parts 8 0) (go-step tb (fr .loops) m (suc (suc (suc (suc n)))) (suc a) _ (w .loops) at₄ (c .1 .1 .1 .0)),
+              (e, (refl, (e, (refl, (ap (parts 2 0) (jump-word tb _ t refl (c .1 .1 .1 .1 .1 .1 .1 .1 .0)), tt))))),
             ),
           ),
         ),
@@ -392,15 +445,21 @@ module _ (tb : Tables) (R : Type 0) (g : List Mark) (right : R → Targets (tb .
   step-turned : (q : ℕ) (e f h : Expression) (d b : ℕ) → OkX (scopes g) (by-step q e f h) → ToldX tb (scopes g) (by-step q e f h) → IsX (by-step q e f h) d b
   unfolding nodesL endX aheadX
   step-turned q e f h d b ok n us fr fl w u a =
+      let p = tb .place (x .symbol) in
       let k = endStore (scopes g) x (endE (scopes g) e b) in
-      let k' = endE (scopes g) f k in
+      let c = endE (scopes g) f (suc k) in
       let ue = usesE (scopes g) e in
       let uf = usesE (scopes g) f in
       let uh = usesE (scopes g) h in
+      let L = F b fr in
       let y₁ = start-passed e d b (ok .0) (n .0) ((uf ++ uh) ++ us) fr fl w (u ∙ append-assoc ue (uf ++ uh) us) a in
-      let y₂ = amount-passed f d k b (ok .1) (n .1) (uh ++ us) fr (y₁ .next) w (y₁ .uses ∙ append-assoc uf uh us) (y₁ .at) in
-      let y₃ = amount-passed h d k' b (ok .2) (n .2) us fr (y₂ .next) w (y₂ .uses) (y₂ .at) in
-      turned-words (nodesL d (by-step q e f h)) (simp append-assoc) (step-end (way (meaning (scopes g) x)) q (endE (scopes g) h k') b tell word w (y₁ and-then y₂ and-then y₃))
+      let i = length (y₁ .next .slots) in
+      let j = tb .place q in
+      let w' = fits-open (opened s v p b ∷ fr .opens) w in
+      let y₂ = emitsE tb R 0 m g right known f d (suc k) (ok .1) (n .1) .pass (uh ++ us) (inStep i 0 j (suc k) L) (stepFlow tb k L (y₁ .next)) (fits-open (opened i 0 j (suc k) ∷ L .opens) w') (y₁ .uses ∙ append-assoc uf uh us) (ap suc (y₁ .at)) in
+      let y₃ = held-passed q (firstSymbol f) k c (w .loops) (y₁ .at) y₂ in
+      let y₄ = emitsE tb R 0 m g right known h d (suc (suc c)) (ok .2) (n .2) .pass us (inStep (suc (suc c)) 1 j (suc k) L) (y₃ .next) (fits-open (opened (suc (suc c)) 1 j (suc k) ∷ L .opens) w') (y₃ .uses) (y₃ .at) in
+      turned-words (nodesL d (by-step q e f h)) (simp append-assoc) (bound-end (way (meaning (scopes g) x)) q (endE (scopes g) h (suc (suc c))) k b (suc (suc c)) (firstSymbol h) tell word w (y₁ and-then y₃ and-then y₄))
 
   element-turned : (l : Element) (d b : ℕ) → OkX (scopes g) l → ToldX tb (scopes g) l → IsX l d b
   element-turned (value e) d b ok n = value-turned e d b ok n

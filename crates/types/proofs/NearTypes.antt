@@ -101,9 +101,8 @@ module _ (n : ℕ) where
   element-faults g d (step q e f i) ls h k =
       let a = split (foursE d e) h in
       let m = split-node (a .1) in
-      let b = split (foursAmount d f) (m .1) in
-      let z = split (foursAmount d i) (b .1) in
-      with-symbols (for-faults g d e (m .0) (a .0)) (with-symbols (amount-faults g d f (b .0)) (with-symbols (amount-faults g d i (z .0)) k))
+      let b = split (foursAmount d f) (split-node (m .1) .1) in
+      with-symbols (for-faults g d e (m .0) (a .0)) (with-symbols (amount-faults g d f (b .0)) (with-symbols (amount-faults g d i (b .1)) k))
 
   elements-faults : (g : List Scope) (d : ℕ) (ls : List Element) → SymbolsWithin n (nodesLs d ls) → Within n (faultsL g ls)
   unfolding faultsL nodesLs

@@ -489,7 +489,7 @@ module _ (R : List ℕ) where
       (started g e d p and-then taken g c d n-while q boolean while-node p and-then elements g ls d p)
   elements g (step q e f h ∷ ls) d p =
       as-same (simp append-assoc) refl refl refl
-      (started g e d p and-then an-amount g f d p and-then an-amount g h d p and-then idle n-step q 0 0 idle-step and-then elements g ls d p)
+      (started g e d p and-then idle n-step q 0 0 idle-step and-then an-amount g f d p and-then an-amount g h d p and-then elements g ls d p)
 
   -- ---- rows passed
 

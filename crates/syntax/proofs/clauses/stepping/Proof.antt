@@ -4,7 +4,7 @@ use mathlib.Core.List.{[], _∷_}
 use native.Mathlib.Omega.{arith}
 use Rattle.grammar.specs.Grammar.{put}
 use Rattle.grammar.proofs.Peeks.{inside, is-at, is-not, but}
-use Rattle.syntax.proofs.Lemmas.{space, s-end, s-sy, s-no, s-put, s-prod, s-part, s-bad}
+use Rattle.syntax.proofs.Lemmas.{space, s-sy, s-no, s-put, s-prod, s-part, s-bad, s-last}
 use Rattle.grammar.specs.Grammar as G
 use borrow.Author.Needs.{needs}
 use Rattle.syntax.proofs.clauses.stepping.Statement.{statement}
@@ -16,16 +16,23 @@ peek-requires c κs = search needs
 enum-told : tie.Need-enum-told
 enum-told c = search needs
 
+put-requires : tie.Need-put-requires
+put-requires c κs =
+    let r = (c .before .before .before .before .before .before .pre) in
+    let i1 = inside _ _ (is-at ((c .before .before .before .peek) .result) ((c .before .before .before .peek) .ensures) (c .before .before .match .keys1)) (λ h. omega arith) in
+    (omega arith, omega arith)
+
 add-amount : tie.Need-add-amount
 add-amount c =
-    let r = (c .before .before .before .before .before .pre) in
-    let i1 = inside _ _ (is-at ((c .before .before .peek) .result) ((c .before .before .peek) .ensures) (c .before .match .keys1)) (λ h. omega arith) in
+    let r = (c .before .before .before .before .before .before .before .before .before .pre) in
+    let i1 = inside _ _ (is-at ((c .before .before .before .before .before .before .peek) .result) ((c .before .before .before .before .before .before .peek) .ensures) (c .before .before .before .before .before .match .keys1)) (λ h. omega arith) in
     omega arith
 
 amount-requires : tie.Need-amount-requires
 amount-requires c κs =
-    let r = (c .before .before .before .before .before .before .pre) in
-    let i1 = inside _ _ (is-at ((c .before .before .before .peek) .result) ((c .before .before .before .peek) .ensures) (c .before .before .match .keys1)) (λ h. omega arith) in
+    let r = (c .before .before .before .before .before .before .before .before .before .before .pre) in
+    let i1 = inside _ _ (is-at ((c .before .before .before .before .before .before .before .peek) .result) ((c .before .before .before .before .before .before .before .peek) .ensures) (c .before .before .before .before .before .before .match .keys1)) (λ h. omega arith) in
+    let p1 = (c .before .before .before .put) .ensures in let k1 = (c .before .before .before .put) .kept .0 in
     record { inside = omega arith; short = omega arith; size = omega arith; room = omega arith }
 
 enum-known-one : tie.Need-enum-known-one
@@ -42,8 +49,9 @@ enum-told-2 c = search needs
 
 add-amount-2 : tie.Need-add-amount-2
 add-amount-2 c =
-    let r = (c .before .before .before .before .before .before .before .before .before .before .before .before .before .before .before .pre) in
-    let i1 = inside _ _ (is-at ((c .before .before .before .before .before .before .before .before .before .before .before .before .peek) .result) ((c .before .before .before .before .before .before .before .before .before .before .before .before .peek) .ensures) (c .before .before .before .before .before .before .before .before .before .before .before .match .keys1)) (λ h. omega arith) in
+    let r = (c .before .before .before .before .before .before .before .before .before .before .before .before .before .before .before .before .before .before .before .pre) in
+    let i1 = inside _ _ (is-at ((c .before .before .before .before .before .before .before .before .before .before .before .before .before .before .before .before .peek) .result) ((c .before .before .before .before .before .before .before .before .before .before .before .before .before .before .before .before .peek) .ensures) (c .before .before .before .before .before .before .before .before .before .before .before .before .before .before .before .match .keys1)) (λ h. omega arith) in
+    let p1 = (c .before .before .before .before .before .before .before .before .before .before .before .before .put) .ensures in let k1 = (c .before .before .before .before .before .before .before .before .before .before .before .before .put) .kept .0 in
     let l1 = (c .before .before .before .before .before .before .before .before .amount) .kept .1 .1 .1 .0 in
     let g1 = ((c .before .before .before .before .before .before .before .before .amount) .ensures []) .read _ _ ((c .before .before .before .before .one2) .given .1) in let s1 = space g1 in
     let i2 = inside _ _ (is-at ((c .before .before .peek2) .result) ((c .before .before .peek2) .ensures) (c .before .match3 .keys1)) (λ h. omega arith) in
@@ -51,90 +59,53 @@ add-amount-2 c =
 
 amount-requires-2 : tie.Need-amount-requires-2
 amount-requires-2 c κs =
-    let r = (c .before .before .before .before .before .before .before .before .before .before .before .before .before .before .before .before .pre) in
-    let i1 = inside _ _ (is-at ((c .before .before .before .before .before .before .before .before .before .before .before .before .before .peek) .result) ((c .before .before .before .before .before .before .before .before .before .before .before .before .before .peek) .ensures) (c .before .before .before .before .before .before .before .before .before .before .before .before .match .keys1)) (λ h. omega arith) in
+    let r = (c .before .before .before .before .before .before .before .before .before .before .before .before .before .before .before .before .before .before .before .before .pre) in
+    let i1 = inside _ _ (is-at ((c .before .before .before .before .before .before .before .before .before .before .before .before .before .before .before .before .before .peek) .result) ((c .before .before .before .before .before .before .before .before .before .before .before .before .before .before .before .before .before .peek) .ensures) (c .before .before .before .before .before .before .before .before .before .before .before .before .before .before .before .before .match .keys1)) (λ h. omega arith) in
+    let p1 = (c .before .before .before .before .before .before .before .before .before .before .before .before .before .put) .ensures in let k1 = (c .before .before .before .before .before .before .before .before .before .before .before .before .before .put) .kept .0 in
     let l1 = (c .before .before .before .before .before .before .before .before .before .amount) .kept .1 .1 .1 .0 in
     let g1 = ((c .before .before .before .before .before .before .before .before .before .amount) .ensures []) .read _ _ ((c .before .before .before .before .before .one2) .given .1) in let s1 = space g1 in
     let i2 = inside _ _ (is-at ((c .before .before .before .peek2) .result) ((c .before .before .before .peek2) .ensures) (c .before .before .match3 .keys1)) (λ h. omega arith) in
     record { inside = omega arith; short = omega arith; size = omega arith; room = omega arith }
 
-enum-known-two : tie.Need-enum-known-two
-enum-known-two c = search needs
-
-enum-known-two-2 : tie.Need-enum-known-two-2
-enum-known-two-2 c = search needs
-
-put-requires : tie.Need-put-requires
-put-requires c κs =
-    let r = (c .before .before .before .before .before .before .before .before .before .before .before .before .before .before .before .before .before .before .before .before .before .before .before .pre) in
-    let i1 = inside _ _ (is-at ((c .before .before .before .before .before .before .before .before .before .before .before .before .before .before .before .before .before .before .before .before .peek) .result) ((c .before .before .before .before .before .before .before .before .before .before .before .before .before .before .before .before .before .before .before .before .peek) .ensures) (c .before .before .before .before .before .before .before .before .before .before .before .before .before .before .before .before .before .before .before .match .keys1)) (λ h. omega arith) in
-    let l1 = (c .before .before .before .before .before .before .before .before .before .before .before .before .before .before .before .before .amount) .kept .1 .1 .1 .0 in
-    let g1 = ((c .before .before .before .before .before .before .before .before .before .before .before .before .before .before .before .before .amount) .ensures []) .read _ _ ((c .before .before .before .before .before .before .before .before .before .before .before .before .one2) .given .1) in let s1 = space g1 in
-    let i2 = inside _ _ (is-at ((c .before .before .before .before .before .before .before .before .before .before .peek2) .result) ((c .before .before .before .before .before .before .before .before .before .before .peek2) .ensures) (c .before .before .before .before .before .before .before .before .before .match3 .keys1)) (λ h. omega arith) in
-    let l2 = (c .before .before .before .before .before .before .amount2) .kept .1 .1 .1 .0 in
-    let g2 = ((c .before .before .before .before .before .before .amount2) .ensures []) .read _ _ ((c .before .before .two2) .given .1) in let s2 = space g2 in
-    (omega arith, omega arith)
-
 same-length : tie.Need-same-length
 same-length c =
-    let r = (c .before .before .before .before .before .before .before .before .before .before .before .before .pre) in
-    let i1 = inside _ _ (is-at ((c .before .before .before .before .before .before .before .before .before .peek) .result) ((c .before .before .before .before .before .before .before .before .before .peek) .ensures) (c .before .before .before .before .before .before .before .before .match .keys1)) (λ h. omega arith) in
+    let r = (c .before .before .before .before .before .before .before .before .before .before .before .before .before .before .before .before .pre) in
+    let i1 = inside _ _ (is-at ((c .before .before .before .before .before .before .before .before .before .before .before .before .before .peek) .result) ((c .before .before .before .before .before .before .before .before .before .before .before .before .before .peek) .ensures) (c .before .before .before .before .before .before .before .before .before .before .before .before .match .keys1)) (λ h. omega arith) in
+    let p1 = (c .before .before .before .before .before .before .before .before .before .put) .ensures in let k1 = (c .before .before .before .before .before .before .before .before .before .put) .kept .0 in
     let l1 = (c .before .before .before .before .before .amount) .kept .1 .1 .1 .0 in
     omega arith
 
 returns : tie.Need-returns
-returns c = λ F. s-prod G.a-step refl (s-sy (is-at ((c .before .before .before .before .before .before .before .before .before .peek) .result) ((c .before .before .before .before .before .before .before .before .before .peek) .ensures) (c .before .before .before .before .before .before .before .before .match .keys1)) (s-bad _ (((c .before .before .before .before .before .amount) .ensures _) .refused _ _ ((c .before .one) .given .1))))
+returns c = λ F. s-prod G.a-step refl (s-sy (is-at ((c .before .before .before .before .before .before .before .before .before .before .before .before .before .peek) .result) ((c .before .before .before .before .before .before .before .before .before .before .before .before .before .peek) .ensures) (c .before .before .before .before .before .before .before .before .before .before .before .before .match .keys1)) (s-put ((c .before .before .before .before .before .before .before .before .before .put) .ensures) (omega arith) (omega arith) (omega arith) (s-bad _ (((c .before .before .before .before .before .amount) .ensures _) .refused _ _ ((c .before .one) .given .1)))))
 
 same-length-2 : tie.Need-same-length-2
 same-length-2 c =
-    let r = (c .before .before .before .before .before .before .before .before .before .before .before .before .before .before .before .before .before .before .before .before .before .before .pre) in
-    let i1 = inside _ _ (is-at ((c .before .before .before .before .before .before .before .before .before .before .before .before .before .before .before .before .before .before .before .peek) .result) ((c .before .before .before .before .before .before .before .before .before .before .before .before .before .before .before .before .before .before .before .peek) .ensures) (c .before .before .before .before .before .before .before .before .before .before .before .before .before .before .before .before .before .before .match .keys1)) (λ h. omega arith) in
-    let l1 = (c .before .before .before .before .before .before .before .before .before .before .before .before .before .before .before .amount) .kept .1 .1 .1 .0 in
-    let g1 = ((c .before .before .before .before .before .before .before .before .before .before .before .before .before .before .before .amount) .ensures []) .read _ _ ((c .before .before .before .before .before .before .before .before .before .before .before .one2) .given .1) in let s1 = space g1 in
-    let i2 = inside _ _ (is-at ((c .before .before .before .before .before .before .before .before .before .peek2) .result) ((c .before .before .before .before .before .before .before .before .before .peek2) .ensures) (c .before .before .before .before .before .before .before .before .match3 .keys1)) (λ h. omega arith) in
-    let l2 = (c .before .before .before .before .before .amount2) .kept .1 .1 .1 .0 in
+    let r = (c .before .before .before .before .before .before .before .before .before .before .before .before .before .before .before .before .before .before .before .before .before .before .before .pre) in
+    let i1 = inside _ _ (is-at ((c .before .before .before .before .before .before .before .before .before .before .before .before .before .before .before .before .before .before .before .before .peek) .result) ((c .before .before .before .before .before .before .before .before .before .before .before .before .before .before .before .before .before .before .before .before .peek) .ensures) (c .before .before .before .before .before .before .before .before .before .before .before .before .before .before .before .before .before .before .before .match .keys1)) (λ h. omega arith) in
+    let p1 = (c .before .before .before .before .before .before .before .before .before .before .before .before .before .before .before .before .put) .ensures in let k1 = (c .before .before .before .before .before .before .before .before .before .before .before .before .before .before .before .before .put) .kept .0 in
+    let l1 = (c .before .before .before .before .before .before .before .before .before .before .before .before .amount) .kept .1 .1 .1 .0 in
+    let g1 = ((c .before .before .before .before .before .before .before .before .before .before .before .before .amount) .ensures []) .read _ _ ((c .before .before .before .before .before .before .before .before .one2) .given .1) in let s1 = space g1 in
+    let i2 = inside _ _ (is-at ((c .before .before .before .before .before .before .peek2) .result) ((c .before .before .before .before .before .before .peek2) .ensures) (c .before .before .before .before .before .match3 .keys1)) (λ h. omega arith) in
+    let l2 = (c .before .before .amount2) .kept .1 .1 .1 .0 in
     omega arith
 
 returns-2 : tie.Need-returns-2
-returns-2 c = λ F. s-prod G.a-step refl (s-sy (is-at ((c .before .before .before .before .before .before .before .before .before .before .before .before .before .before .before .before .before .before .before .peek) .result) ((c .before .before .before .before .before .before .before .before .before .before .before .before .before .before .before .before .before .before .before .peek) .ensures) (c .before .before .before .before .before .before .before .before .before .before .before .before .before .before .before .before .before .before .match .keys1)) (s-part _ (((c .before .before .before .before .before .before .before .before .before .before .before .before .before .before .before .amount) .ensures _) .read _ _ ((c .before .before .before .before .before .before .before .before .before .before .before .one2) .given .1)) (s-sy (is-at ((c .before .before .before .before .before .before .before .before .before .peek2) .result) ((c .before .before .before .before .before .before .before .before .before .peek2) .ensures) (c .before .before .before .before .before .before .before .before .match3 .keys1)) (s-bad _ (((c .before .before .before .before .before .amount2) .ensures _) .refused _ _ ((c .before .two) .given .1))))))
+returns-2 c = λ F. s-prod G.a-step refl (s-sy (is-at ((c .before .before .before .before .before .before .before .before .before .before .before .before .before .before .before .before .before .before .before .before .peek) .result) ((c .before .before .before .before .before .before .before .before .before .before .before .before .before .before .before .before .before .before .before .before .peek) .ensures) (c .before .before .before .before .before .before .before .before .before .before .before .before .before .before .before .before .before .before .before .match .keys1)) (s-put ((c .before .before .before .before .before .before .before .before .before .before .before .before .before .before .before .before .put) .ensures) (omega arith) (omega arith) (omega arith) (s-part _ (((c .before .before .before .before .before .before .before .before .before .before .before .before .amount) .ensures _) .read _ _ ((c .before .before .before .before .before .before .before .before .one2) .given .1)) (s-sy (is-at ((c .before .before .before .before .before .before .peek2) .result) ((c .before .before .before .before .before .before .peek2) .ensures) (c .before .before .before .before .before .match3 .keys1)) (s-last ((c .before .before .amount2) .ensures _))))))
 
 same-length-3 : tie.Need-same-length-3
 same-length-3 c =
-    let r = (c .before .before .before .before .before .before .before .before .before .before .before .before .before .before .before .before .before .before .before .before .before .before .before .before .before .before .pre) in
-    let i1 = inside _ _ (is-at ((c .before .before .before .before .before .before .before .before .before .before .before .before .before .before .before .before .before .before .before .before .before .before .before .peek) .result) ((c .before .before .before .before .before .before .before .before .before .before .before .before .before .before .before .before .before .before .before .before .before .before .before .peek) .ensures) (c .before .before .before .before .before .before .before .before .before .before .before .before .before .before .before .before .before .before .before .before .before .before .match .keys1)) (λ h. omega arith) in
-    let l1 = (c .before .before .before .before .before .before .before .before .before .before .before .before .before .before .before .before .before .before .before .amount) .kept .1 .1 .1 .0 in
-    let g1 = ((c .before .before .before .before .before .before .before .before .before .before .before .before .before .before .before .before .before .before .before .amount) .ensures []) .read _ _ ((c .before .before .before .before .before .before .before .before .before .before .before .before .before .before .before .one2) .given .1) in let s1 = space g1 in
-    let i2 = inside _ _ (is-at ((c .before .before .before .before .before .before .before .before .before .before .before .before .before .peek2) .result) ((c .before .before .before .before .before .before .before .before .before .before .before .before .before .peek2) .ensures) (c .before .before .before .before .before .before .before .before .before .before .before .before .match3 .keys1)) (λ h. omega arith) in
-    let l2 = (c .before .before .before .before .before .before .before .before .before .amount2) .kept .1 .1 .1 .0 in
-    let g2 = ((c .before .before .before .before .before .before .before .before .before .amount2) .ensures []) .read _ _ ((c .before .before .before .before .before .two2) .given .1) in let s2 = space g2 in
-    let p1 = (c .before .before .put) .ensures in let k1 = (c .before .before .put) .kept .0 in
-    omega arith
-
-returns-3 : tie.Need-returns-3
-returns-3 c =
-    let r = (c .before .before .before .before .before .before .before .before .before .before .before .before .before .before .before .before .before .before .before .before .before .before .before .before .before .before .pre) in
-    let i1 = inside _ _ (is-at ((c .before .before .before .before .before .before .before .before .before .before .before .before .before .before .before .before .before .before .before .before .before .before .before .peek) .result) ((c .before .before .before .before .before .before .before .before .before .before .before .before .before .before .before .before .before .before .before .before .before .before .before .peek) .ensures) (c .before .before .before .before .before .before .before .before .before .before .before .before .before .before .before .before .before .before .before .before .before .before .match .keys1)) (λ h. omega arith) in
-    let l1 = (c .before .before .before .before .before .before .before .before .before .before .before .before .before .before .before .before .before .before .before .amount) .kept .1 .1 .1 .0 in
-    let g1 = ((c .before .before .before .before .before .before .before .before .before .before .before .before .before .before .before .before .before .before .before .amount) .ensures []) .read _ _ ((c .before .before .before .before .before .before .before .before .before .before .before .before .before .before .before .one2) .given .1) in let s1 = space g1 in
-    let i2 = inside _ _ (is-at ((c .before .before .before .before .before .before .before .before .before .before .before .before .before .peek2) .result) ((c .before .before .before .before .before .before .before .before .before .before .before .before .before .peek2) .ensures) (c .before .before .before .before .before .before .before .before .before .before .before .before .match3 .keys1)) (λ h. omega arith) in
-    let l2 = (c .before .before .before .before .before .before .before .before .before .amount2) .kept .1 .1 .1 .0 in
-    let g2 = ((c .before .before .before .before .before .before .before .before .before .amount2) .ensures []) .read _ _ ((c .before .before .before .before .before .two2) .given .1) in let s2 = space g2 in
-    let p1 = (c .before .before .put) .ensures in let k1 = (c .before .before .put) .kept .0 in
-    λ F. s-prod G.a-step refl (s-sy (is-at ((c .before .before .before .before .before .before .before .before .before .before .before .before .before .before .before .before .before .before .before .before .before .before .before .peek) .result) ((c .before .before .before .before .before .before .before .before .before .before .before .before .before .before .before .before .before .before .before .before .before .before .before .peek) .ensures) (c .before .before .before .before .before .before .before .before .before .before .before .before .before .before .before .before .before .before .before .before .before .before .match .keys1)) (s-part _ (((c .before .before .before .before .before .before .before .before .before .before .before .before .before .before .before .before .before .before .before .amount) .ensures _) .read _ _ ((c .before .before .before .before .before .before .before .before .before .before .before .before .before .before .before .one2) .given .1)) (s-sy (is-at ((c .before .before .before .before .before .before .before .before .before .before .before .before .before .peek2) .result) ((c .before .before .before .before .before .before .before .before .before .before .before .before .before .peek2) .ensures) (c .before .before .before .before .before .before .before .before .before .before .before .before .match3 .keys1)) (s-part _ (((c .before .before .before .before .before .before .before .before .before .amount2) .ensures _) .read _ _ ((c .before .before .before .before .before .two2) .given .1)) (s-put ((c .before .before .put) .ensures) (omega arith) (omega arith) (omega arith) (s-end (omega arith)))))))
-
-same-length-4 : tie.Need-same-length-4
-same-length-4 c =
-    let r = (c .before .before .before .before .before .before .before .before .before .before .before .before .before .before .pre) in
-    let i1 = inside _ _ (is-at ((c .before .before .before .before .before .before .before .before .before .before .before .peek) .result) ((c .before .before .before .before .before .before .before .before .before .before .before .peek) .ensures) (c .before .before .before .before .before .before .before .before .before .before .match .keys1)) (λ h. omega arith) in
+    let r = (c .before .before .before .before .before .before .before .before .before .before .before .before .before .before .before .before .before .before .pre) in
+    let i1 = inside _ _ (is-at ((c .before .before .before .before .before .before .before .before .before .before .before .before .before .before .before .peek) .result) ((c .before .before .before .before .before .before .before .before .before .before .before .before .before .before .before .peek) .ensures) (c .before .before .before .before .before .before .before .before .before .before .before .before .before .before .match .keys1)) (λ h. omega arith) in
+    let p1 = (c .before .before .before .before .before .before .before .before .before .before .before .put) .ensures in let k1 = (c .before .before .before .before .before .before .before .before .before .before .before .put) .kept .0 in
     let l1 = (c .before .before .before .before .before .before .before .amount) .kept .1 .1 .1 .0 in
     let g1 = ((c .before .before .before .before .before .before .before .amount) .ensures []) .read _ _ ((c .before .before .before .one2) .given .1) in let s1 = space g1 in
     omega arith
 
-returns-4 : tie.Need-returns-4
-returns-4 c = λ F. s-prod G.a-step refl (s-sy (is-at ((c .before .before .before .before .before .before .before .before .before .before .before .peek) .result) ((c .before .before .before .before .before .before .before .before .before .before .before .peek) .ensures) (c .before .before .before .before .before .before .before .before .before .before .match .keys1)) (s-part _ (((c .before .before .before .before .before .before .before .amount) .ensures _) .read _ _ ((c .before .before .before .one2) .given .1)) (s-no (is-not ((c .before .peek2) .result) ((c .before .peek2) .ensures) (but (8 ∷ [])) 8 refl (c .match3 .keys2)))))
+returns-3 : tie.Need-returns-3
+returns-3 c = λ F. s-prod G.a-step refl (s-sy (is-at ((c .before .before .before .before .before .before .before .before .before .before .before .before .before .before .before .peek) .result) ((c .before .before .before .before .before .before .before .before .before .before .before .before .before .before .before .peek) .ensures) (c .before .before .before .before .before .before .before .before .before .before .before .before .before .before .match .keys1)) (s-put ((c .before .before .before .before .before .before .before .before .before .before .before .put) .ensures) (omega arith) (omega arith) (omega arith) (s-part _ (((c .before .before .before .before .before .before .before .amount) .ensures _) .read _ _ ((c .before .before .before .one2) .given .1)) (s-no (is-not ((c .before .peek2) .result) ((c .before .peek2) .ensures) (but (8 ∷ [])) 8 refl (c .match3 .keys2))))))
 
-returns-5 : tie.Need-returns-5
-returns-5 c = λ F. s-prod G.a-step refl (s-no (is-not ((c .before .peek) .result) ((c .before .peek) .ensures) (but (7 ∷ [])) 7 refl (c .match .keys2)))
+returns-4 : tie.Need-returns-4
+returns-4 c = λ F. s-prod G.a-step refl (s-no (is-not ((c .before .peek) .result) ((c .before .peek) .ensures) (but (7 ∷ [])) 7 refl (c .match .keys2)))
 
 pub stepping-spec : {M : Type 1} → statement M
 stepping-spec =
@@ -142,6 +113,7 @@ stepping-spec =
     (tie.spec
     peek-requires
     enum-told
+    put-requires
     add-amount
     amount-requires
     enum-known-one
@@ -150,15 +122,10 @@ stepping-spec =
     enum-told-2
     add-amount-2
     amount-requires-2
-    enum-known-two
-    enum-known-two-2
-    put-requires
     same-length
     returns
     same-length-2
     returns-2
     same-length-3
     returns-3
-    same-length-4
-    returns-4
-    returns-5)
+    returns-4)
