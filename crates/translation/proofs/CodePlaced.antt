@@ -13,7 +13,7 @@ use Rattle.names.specs.Scopes.{meaning, ofBlock, sortOf, modesOf}
 use Rattle.rules.specs.Entered.{cellsIn}
 use Rattle.rules.specs.Calls.{Primary, held, worked, function, absolute, greatest, no-primary, primary, Command, routine-of, absolute-of, greatest-of, input-to, output-of, no-command, command, Way, direct, sought, way}
 use Rattle.rules.specs.Rules.{binaryOf, Spot, here, there}
-use Rattle.translation.specs.Translate.{Mark, blk, own, acl, scopes, reach, spot, endActual, endE, endStore, endTest, endSum, endL, onward, endS, endDs, endP, CALLS, SEEKS, codeName, storeName, storePart, codeActual, codeThen, codeSign, codeE, codeEs, codeWay, codeStore, codeTest, codeSum, codeL, codeStores, codeCall, codeTake, codeCommand, codeS, codeSs, codeDs, codeP, code}
+use Rattle.translation.specs.Translate.{Mark, blk, own, acl, scopes, reach, spot, endActual, endE, endStore, endTest, endL, onward, endS, endDs, endP, CALLS, SEEKS, codeName, storeName, storePart, codeActual, codeThen, codeSign, codeE, codeEs, codeWay, codeStore, codeTest, codeSum, codeL, codeStores, codeCall, codeTake, codeCommand, codeS, codeSs, codeDs, codeP, code, endStep, codeStep}
 use Rattle.translation.specs.Places.{actP, instrP}
 
 module _ (place : ℕ → ℕ) where
@@ -120,6 +120,21 @@ module _ (place : ℕ → ℕ) where
   p-sum direct g q x r = refl
   p-sum sought g q x r = refl
 
+  p-step : (w : Way) (g : List Mark) (m q : ℕ) (x : Name) (f h : Expression) (s n a : ℕ) (r : List Instr) → codeStep place w g m q x f h s n a (P r) ≡ P (codeStep id w g m q x f h s n a r)
+  p-step w g m q x f h s n a r =
+      let i = suc (endE (scopes g) f (suc a)) in
+      let t = endTest w (endE (scopes g) h (suc i)) in
+      let to = GO m (suc a) i in
+      let G = GO m s (suc t) in
+      let B = GO m (suc a) (suc (suc t)) in
+      let R = JUMP (suc i) ∷ r in
+      let S = G ∷ B ∷ codeSum id w g q x R in
+      let T = codeTest id w g x n S in
+      ap (λ u. to ∷ codeE place g f (suc a) (NEXT m ∷ DO keep ∷ codeE place g h (suc i) (codeTest place w g x n (G ∷ B ∷ u)))) (p-sum w g q x R)
+      ∙ ap (λ u. to ∷ codeE place g f (suc a) (NEXT m ∷ DO keep ∷ codeE place g h (suc i) u)) (p-test w g x n S)
+      ∙ ap (λ u. to ∷ codeE place g f (suc a) (NEXT m ∷ DO keep ∷ u)) (p-e g h (suc i) T)
+      ∙ ap (λ u. to ∷ u) (p-e g f (suc a) (NEXT m ∷ DO keep ∷ codeE id g h (suc i) T))
+
   p-l : (g : List Mark) (m : ℕ) (x : Name) (l : List Element) (s n b : ℕ) (r : List Instr) → codeL place g m x l s n b (P r) ≡ P (codeL id g m x l s n b r)
   unfolding codeL
   p-l g m x [] s n b r = refl
@@ -143,22 +158,13 @@ module _ (place : ℕ → ℕ) where
   p-l g m x (step q e f h ∷ l) s n b r =
       let a = endStore (scopes g) x (endE (scopes g) e b) in
       let w = way (meaning (scopes g) x) in
-      let j = endE (scopes g) f a in
-      let i = endE (scopes g) h j in
-      let t = endTest w (suc i) in
-      let k = suc (endSum w (suc t)) in
-      let G = GO m s (suc t) in
-      let J = JUMP (suc i) in
-      let R = J ∷ codeL id g m x l s n k r in
-      let S = G ∷ codeSum id w g q x R in
-      let T = DO keep ∷ codeTest id w g x (onward l k n) S in
-      ap (λ u. codeE place g e b (codeStore place g x (codeE place g f a (codeE place g h j (DO keep ∷ codeTest place w g x (onward l k n) (G ∷ codeSum place w g q x (J ∷ u))))))) (p-l g m x l s n k r)
-      ∙ ap (λ u. codeE place g e b (codeStore place g x (codeE place g f a (codeE place g h j (DO keep ∷ codeTest place w g x (onward l k n) (G ∷ u)))))) (p-sum w g q x R)
-      ∙ ap (λ u. codeE place g e b (codeStore place g x (codeE place g f a (codeE place g h j (DO keep ∷ u))))) (p-test w g x (onward l k n) S)
-      ∙ ap (λ u. codeE place g e b (codeStore place g x (codeE place g f a u))) (p-e g h j T)
-      ∙ ap (λ u. codeE place g e b (codeStore place g x u)) (p-e g f a (codeE id g h j T))
-      ∙ ap (codeE place g e b) (p-store g x (codeE id g f a (codeE id g h j T)))
-      ∙ p-e g e b (codeStore id g x (codeE id g f a (codeE id g h j T)))
+      let k = endStep w (scopes g) f h a in
+      let R = codeL id g m x l s n k r in
+      let S = codeStep id w g m q x f h s (onward l k n) a R in
+      ap (λ u. codeE place g e b (codeStore place g x (codeStep place w g m q x f h s (onward l k n) a u))) (p-l g m x l s n k r)
+      ∙ ap (λ u. codeE place g e b (codeStore place g x u)) (p-step w g m q x f h s (onward l k n) a R)
+      ∙ ap (codeE place g e b) (p-store g x S)
+      ∙ p-e g e b (codeStore id g x S)
 
   p-stores : (g : List Mark) (x : Name) (xs : List Name) (r : List Instr) → codeStores place g x xs (P r) ≡ P (codeStores id g x xs r)
   unfolding codeStores

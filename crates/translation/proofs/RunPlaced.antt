@@ -17,7 +17,7 @@ use Rattle.machine.specs.declared.Cell.the-variants.{Unset, Holds, Named}
 use Rattle.machine.specs.declared.Value.{Value}
 use Rattle.machine.specs.declared.Value.the-variants.{Is, Fault as Faulted}
 use Rattle.machine.specs.Run.{Event, Trace, untold, say, after, Out, halt, next, End, done, over, run}
-use Rattle.machine.specs.Data.{Data, dat, Lent, cells, Res, bad, wrong, good, lift, guard, check, newCells, Took, value, nothing, newest, onValue, one, two, look, plain, within, reading, valued, held, input, taking, writing, Act, push, load, store, assign, reserve, forget, receive, send, keep, bump, unary, binary, lend, channel, sum, actOn, work, downs, Two, yea, nay, either, Test, condition, upto, testOn, downsT, test, openBlock, closeBlock, nameCell, enter, Fate, kept, gone, given, leave}
+use Rattle.machine.specs.Data.{Data, dat, Lent, cells, Res, bad, wrong, good, lift, guard, check, newCells, Took, value, nothing, newest, onValue, one, two, look, plain, within, reading, valued, held, input, taking, writing, Act, push, load, store, assign, reserve, forget, receive, send, keep, unary, binary, lend, channel, sum, actOn, work, downs, Two, yea, nay, either, Test, condition, upto, testOn, downsT, test, openBlock, closeBlock, nameCell, enter, Fate, kept, gone, given, leave}
 use Rattle.machine.specs.Instructions.{Loc, lc, fnd, Instr, END, DO, IF, JUMP, ENTER, LEAVE, CALL, RETURN, GO, NEXT, NAME, WORK, SEEK, PASS, REFUSE}
 use Rattle.machine.specs.Machine.{Frame, fr, Mach, ms, frameAt, linkOf, baseOf, walk, base, floor, cellIn, cellAt, stray, partAt, workOut, working, began, exec, obey, Finish, finish, start}
 use Rattle.names.specs.Program.{Statement}
@@ -74,11 +74,10 @@ module _ (place : ℕ → ℕ) where
   two-p : {A : Type 0} (f f' : ℤ → ℤ → Data → Res A) (d : Data) → ((x y : ℤ) (d : Data) → f x y d ≡ resP (f' x y d)) → two f d ≡ resP (two f' d)
   two-p f f' d e = one-p (λ y. one (λ x. f x y)) (λ y. one (λ x. f' x y)) d (λ y d. one-p (λ x. f x y) (λ x. f' x y) d (λ x d. e x y d))
 
-  held-p : {A : Type 0} (f f' : ℤ → ℤ → Res A) (d : Data) → ((x y : ℤ) → f x y ≡ resP (f' x y)) → held f d ≡ resP (held f' d)
+  held-p : {A : Type 0} (f f' : ℤ → Res A) (d : Data) → ((x : ℤ) → f x ≡ resP (f' x)) → held f d ≡ resP (held f' d)
   unfolding held
   held-p f f' (dat w [] a l) e = refl
-  held-p f f' (dat w (y ∷ []) a l) e = refl
-  held-p f f' (dat w (y ∷ x ∷ h) a l) e = e x y
+  held-p f f' (dat w (x ∷ h) a l) e = e x
 
   new-p : (q : ℕ) (x : List Cell) (d : Data) → newCells (place q) x d ≡ resP (newCells q x d)
   unfolding newCells
@@ -101,19 +100,18 @@ module _ (place : ℕ → ℕ) where
   work-p n f forget d = guard-p _ _ _ (one-p _ _ d (λ v d. refl))
   work-p n f (receive q x) d = guard-p _ _ _ (one-p _ _ d (λ k d. within-p (f x) d _ _ (check-p _ _ q _ _ (taking-p q (f x) d (input d)))))
   work-p n f (send q) d = guard-p _ _ _ (two-p _ _ d (λ k v d. check-p _ _ q _ _ (check-p _ _ q _ _ refl)))
-  work-p n f keep d = guard-p _ _ _ (two-p _ _ d (λ x y d. refl))
-  work-p n f (bump q x) d = guard-p _ _ _ (held-p _ _ d (λ s b. within-p (f x) d _ _ (reading-p q _ _ (look (f x) d) (λ v. valued-p q _ _ _ (λ s. refl)))))
+  work-p n f keep d = guard-p _ _ _ (one-p _ _ d (λ x d. refl))
   work-p n f (unary q o) d = guard-p _ _ _ (one-p _ _ d (λ x d. valued-p q _ _ _ (λ v. refl)))
   work-p n f (binary q o) d = guard-p _ _ _ (two-p _ _ d (λ x y d. valued-p q _ _ _ (λ v. refl)))
   work-p n f (lend x) d = guard-p _ _ _ (within-p (f x) d _ _ refl)
   work-p n f (channel q) d = guard-p _ _ _ (one-p _ _ d (λ k d. check-p _ _ q _ _ refl))
-  work-p n f (sum q x) d = guard-p _ _ _ (held-p _ _ d (λ s b. within-p (f x) d _ _ (reading-p q _ _ (look (f x) d) (λ v. valued-p q _ _ _ (λ s. new-p q _ d)))))
+  work-p n f (sum q x) d = guard-p _ _ _ (one-p _ _ d (λ t d. held-p _ _ d (λ y. within-p (f x) d _ _ (reading-p q _ _ (look (f x) d) (λ v. valued-p q _ _ _ (λ s. refl))))))
 
   test-p : {X : Type 0} (n : ℕ) (f : X → ℕ) (t : Test X) (d : Data)
       → guard (leb (n + downsT (testP place t)) (cells d)) (test (testOn f (testP place t)) d) ≡ resP (guard (leb (n + downsT t) (cells d)) (test (testOn f t) d))
   unfolding test
   test-p n f condition d = guard-p _ _ _ (one-p _ _ d (λ v d. refl))
-  test-p n f (upto q x) d = guard-p _ _ _ (held-p _ _ d (λ s b. within-p (f x) d _ _ (reading-p q _ _ (look (f x) d) (λ v. refl))))
+  test-p n f (upto q x) d = guard-p _ _ _ (one-p _ _ d (λ y d. held-p _ _ d (λ t. within-p (f x) d _ _ (reading-p q _ _ (look (f x) d) (λ v. refl)))))
 
   open-p : (q n : ℕ) (d : Data) → openBlock (place q) n d ≡ resP (openBlock q n d)
   unfolding openBlock

@@ -5,7 +5,7 @@ use mathlib.Core.Path.{_≡_}
 use Rattle.answers.specs.Answers.{refusal, stopNumber}
 use Rattle.answers.specs.declared.Stop.{Stop}
 use Rattle.answers.specs.declared.Stop.the-variants.{Ended, Limit, Fault, Wrong}
-use Rattle.machine.specs.Data.{Act, push, load, store, assign, reserve, forget, receive, send, keep, bump, unary, binary, lend, channel, sum, Test, condition, upto}
+use Rattle.machine.specs.Data.{Act, push, load, store, assign, reserve, forget, receive, send, keep, unary, binary, lend, channel, sum, Test, condition, upto}
 use Rattle.machine.specs.Instructions.{Instr, END, DO, IF, JUMP, ENTER, LEAVE, CALL, RETURN, GO, NEXT, NAME, WORK, SEEK, PASS, REFUSE}
 use Rattle.machine.specs.Machine.{Finish}
 
@@ -20,7 +20,6 @@ module _ (place : ℕ → ℕ) where
   actP (receive q x) = receive (place q) x
   actP (send q) = send (place q)
   actP keep = keep
-  actP (bump q x) = bump (place q) x
   actP (unary q o) = unary (place q) o
   actP (binary q o) = binary (place q) o
   actP (lend x) = lend x
