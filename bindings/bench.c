@@ -58,19 +58,23 @@ static void step_until(uint64_t limit)
     put(&code, STORE, parts(0, 1, 0));
     put(&code, CONST, 1);
     put(&code, STORE, parts(0, 0, 0));
-    put(&code, CONST, 1);
-    put(&code, CONST, (uint32_t)(limit / 9 + 1));
-    put(&code, HOLD, 0);
-    put(&code, TEST, parts(0, 0, 17)); /* 8 */
-    put(&code, GO, parts(0, 10, 12));
-    put(&code, ADD, parts(0, 0, 0));
-    put(&code, JUMP, 8);
-    put(&code, LOAD, parts(0, 0, 0)); /* 12 */
+    put(&code, GO, parts(0, 8, 6));
+    put(&code, CONST, 1); /* 6 */
+    put(&code, NEXT, 0);
+    put(&code, HOLD, 0); /* 8 */
+    put(&code, CONST, (uint32_t)(limit / 14 + 1)); /* 9 */
+    put(&code, TEST, parts(0, 0, 21));
+    put(&code, GO, parts(0, 12, 16));
+    put(&code, GO, parts(0, 13, 6)); /* 12 */
+    put(&code, SUM, parts(0, 0, 0)); /* 13 */
+    put(&code, STORE, parts(0, 0, 0));
+    put(&code, JUMP, 9);
+    put(&code, LOAD, parts(0, 0, 0)); /* 16 */
     put(&code, LOAD, parts(0, 1, 0));
     put(&code, LESS, 0);
     put(&code, STORE, parts(0, 1, 0));
     put(&code, NEXT, 0);
-    put(&code, LEAVE, parts(0, 2, 0)); /* 17 */
+    put(&code, LEAVE, parts(0, 2, 0)); /* 21 */
     put(&code, END, 0);
 }
 

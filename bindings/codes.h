@@ -72,14 +72,19 @@ static void by_hand_loops(struct code *c, uint32_t s, uint32_t b, uint32_t n)
     for (uint32_t i = 0; i < n; i++) {
         put(c, CONST, 0);
         put(c, STORE, parts(0, i, 0));
+        uint32_t step = here(c) + 1;
+        put(c, GO, parts(i, step + 2, step));
         put(c, CONST, s);
-        put(c, CONST, b);
+        put(c, NEXT, parts(i, 0, 0));
         put(c, HOLD, 0);
+        put(c, CONST, b);
         test[i] = here(c);
         put(c, TEST, parts(0, i, 0));
-        put(c, GO, parts(i, here(c) + 1, here(c) + 3));
-        put(c, ADD, parts(0, i, 0));
-        put(c, JUMP, test[i]);
+        put(c, GO, parts(i, here(c) + 1, here(c) + 5));
+        put(c, GO, parts(i, here(c) + 1, step));
+        put(c, SUM, parts(0, i, 0));
+        put(c, STORE, parts(0, i, 0));
+        put(c, JUMP, test[i] - 1);
     }
     uint32_t cells = below(6);
     put(c, ENTER, parts(0, cells, here(c) + 1));
@@ -302,26 +307,35 @@ static void lay_loop(struct laying *l, unsigned depth)
         stays[i] = sort != 0;
         lay_expression(l, 1);
         lay_on(l, v, STORE);
-        uint32_t test = 0;
+        uint32_t step = 0, bound = 0;
         if (sort == 1) {
             lay_expression(l, 1);
             leave[i] = here(l->code);
             put(l->code, UNLESS, 0);
         } else if (sort == 2) {
+            /* To the step and back; later to the step again. */
+            put(l->code, GO, 0);
+            step = here(l->code);
             put(l->code, CONST, once_in(5) ? 0xffffffffu : 1 + below(3));
-            lay_expression(l, 1);
+            if (once_in(3)) {
+                lay_expression(l, 1);
+                put(l->code, once_in(2) ? PLUS : TIMES, 0);
+            }
+            put(l->code, NEXT, parts(l->nesting, 0, 0));
+            l->code->word[2 * step - 1] = parts(l->nesting, here(l->code), step);
             put(l->code, HOLD, 0);
-            test = here(l->code);
+            bound = here(l->code);
+            lay_expression(l, 1);
             lay_on(l, v, TEST);
             leave[i] = here(l->code) - 1;
         }
         go[i] = here(l->code);
         put(l->code, GO, parts(l->nesting, sort == 1 ? begins[i] : go[i] + 1, 0));
         if (sort == 2) {
-            lay_on(l, v, v.named ? SUM : ADD);
-            if (v.named)
-                lay_on(l, v, STORE);
-            put(l->code, JUMP, test);
+            put(l->code, GO, parts(l->nesting, here(l->code) + 1, step));
+            lay_on(l, v, SUM);
+            lay_on(l, v, STORE);
+            put(l->code, JUMP, bound);
         }
     }
     uint32_t body = here(l->code);
@@ -425,7 +439,7 @@ static void random_instructions(struct code *c)
     uint32_t count = 1 + below(once_in(10) ? 200 : 24);
     put(c, ENTER, parts(0, below(5), 1));
     for (uint32_t i = 0; i < count; i++) {
-        uint32_t k = once_in(3) ? CONST : 1 + below(SUM);
+        uint32_t k = once_in(3) ? CONST : 1 + below(CHANNEL);
         put(c, k, k == CONST ? (once_in(6) ? random_word() : below(4)) : parts(once_in(6) ? below(64) : below(3), once_in(8) ? below(8192) : once_in(8) ? FOUND : below(6), below(count + 2)));
     }
 }
@@ -444,7 +458,7 @@ static void change_code(struct code *c, unsigned times)
         if (once_in(3))
             c->word[at] ^= 1u << below(32);
         else if (once_in(2))
-            c->word[at & ~1u] = (c->word[at & ~1u] & ~63u) | below(SUM + 2);
+            c->word[at & ~1u] = (c->word[at & ~1u] & ~63u) | below(CHANNEL + 2);
         else
             c->word[at | (c->length > (at | 1u))] = parts(below(3), below(4), below(here(c) + 1));
     }

@@ -179,7 +179,7 @@ static inline struct own_ran own_run(const uint32_t *code, size_t words, const i
     int64_t cell[8192], held[8192];
     const uint32_t most = lent < 8192 ? (uint32_t)lent : 8192;
     const uint32_t instructions = (uint32_t)((words < 16384 ? words : 16384) / 2);
-    /* The counter; the live activations, and the first cell of the running one; the cells in use, and the values held. */
+    /* The counter; the live activations, and the first cell of the running one; the cells in use, and the steps held. */
     uint32_t pc = 0, live = 0, floor = 0, cells = 0, holds = 0, w, v;
     /* The cell that the last store through a name formal came to. */
     uint32_t found = 0;
@@ -271,13 +271,14 @@ static inline struct own_ran own_run(const uint32_t *code, size_t words, const i
             break;
         case 11: {
             uint32_t c = VARIABLE;
-            STRAY_IF(holds < 2);
-            IN_USE(c, cells);
+            ONE_VALUE;
+            STRAY_IF(holds == 0);
+            IN_USE(c, cells - 1);
             if (cell[c] == OWN_UNSET)
                 STOP(23, PLACE);
-            int64_t step = held[holds - 2], bound = held[holds - 1];
+            int64_t step = held[holds - 1], bound = cell[--cells];
             if ((step > 0 && cell[c] > bound) || (step < 0 && cell[c] < bound)) {
-                holds -= 2;
+                holds--;
                 pc = LOW;
             } else
                 pc++;
@@ -348,21 +349,21 @@ static inline struct own_ran own_run(const uint32_t *code, size_t words, const i
             pc++;
             break;
         case 20:
-            TWO_VALUES;
-            held[holds++] = cell[cells - 2];
-            held[holds++] = cell[cells - 1];
-            cells -= 2;
+            ONE_VALUE;
+            held[holds++] = cell[--cells];
             pc++;
             break;
         case 21: {
             uint32_t c = VARIABLE;
-            STRAY_IF(holds < 2);
-            IN_USE(c, cells);
+            ONE_VALUE;
+            STRAY_IF(holds == 0);
+            IN_USE(c, cells - 1);
             if (cell[c] == OWN_UNSET)
                 STOP(23, PLACE);
-            int64_t z = cell[c] + held[holds - 2];
+            int64_t z = cell[c] + cell[cells - 1];
             WHOLE(z);
-            cell[c] = z;
+            held[holds - 1] = cell[cells - 1];
+            cell[cells - 1] = z;
             pc++;
             break;
         }
@@ -443,19 +444,6 @@ static inline struct own_ran own_run(const uint32_t *code, size_t words, const i
                 STOP(28, PLACE);
             pc++;
             break;
-        case 46: {
-            uint32_t c = VARIABLE;
-            STRAY_IF(holds < 2);
-            IN_USE(c, cells);
-            if (cell[c] == OWN_UNSET)
-                STOP(23, PLACE);
-            int64_t z = cell[c] + held[holds - 2];
-            WHOLE(z);
-            ROOM;
-            cell[cells++] = z;
-            pc++;
-            break;
-        }
         default:
             goto stray;
         }

@@ -37,7 +37,7 @@ DROP
 IN
 OUT
 HOLD
-ADD
+SUM
 MINUS
 NOT
 IABS
@@ -61,8 +61,7 @@ SEEK
 PASS
 LEND
 REFUSE
-CHANNEL
-SUM",
+CHANNEL",
             wide(operation),
         );
     } else {
@@ -131,8 +130,8 @@ fn say_operands(operation: u32, v: u32) {
             say_part(b", to ", low(wide(v)));
         }
         codes::CONST => say_constant(v),
-        codes::LOAD | codes::STORE | codes::ASSIGN | codes::IN | codes::ADD => say_variable(v),
-        codes::LEND | codes::SUM => say_variable(v),
+        codes::LOAD | codes::STORE | codes::ASSIGN | codes::IN | codes::SUM => say_variable(v),
+        codes::LEND => say_variable(v),
         _ => say_route(operation, v),
     }
 }
@@ -142,8 +141,8 @@ fn placed(operation: u32) -> bool {
     match operation {
         codes::ENTER | codes::CALL_NEEDED | codes::CALL | codes::TEST => true,
         codes::CONST | codes::LOAD | codes::RESULT | codes::IN | codes::OUT => true,
-        codes::ADD..=codes::PASS => true,
-        codes::CHANNEL | codes::SUM => true,
+        codes::SUM..=codes::PASS => true,
+        codes::CHANNEL => true,
         _ => false,
     }
 }
