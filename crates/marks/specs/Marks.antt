@@ -31,8 +31,8 @@ marks =
     run "'begin' outinteger(1, 'if' 'false' 'impl' 'false' 'impl' 'false' 'then' 1 'else' 0) 'end'" Ended 10 10 (pos 0 ∷ []) ∷
     run "'begin' outinteger(1, (-2147483647 - 1) % (-1)) 'end'" (Fault (refusal 21 40)) 9 8 [] ∷
     -- M6 and M7
-    run "'begin' 'integer' i; 'for' i := 1 'step' 2 'until' 6 'do' outinteger(1, i); outinteger(1, i) 'end'" Ended 30 36 (pos 1 ∷ pos 3 ∷ pos 5 ∷ pos 7 ∷ []) ∷
-    run "'begin' 'integer' i; 'for' i := 3 'step' -1 'until' 1 'do' outinteger(1, i) 'end'" Ended 27 34 (pos 3 ∷ pos 2 ∷ pos 1 ∷ []) ∷
+    run "'begin' 'integer' i; 'for' i := 1 'step' 2 'until' 6 'do' outinteger(1, i); outinteger(1, i) 'end'" Ended 36 53 (pos 1 ∷ pos 3 ∷ pos 5 ∷ pos 7 ∷ []) ∷
+    run "'begin' 'integer' i; 'for' i := 3 'step' -1 'until' 1 'do' outinteger(1, i) 'end'" Ended 36 54 (pos 3 ∷ pos 2 ∷ pos 1 ∷ []) ∷
     -- M8 and M9: S1 and S2
     reads (bytes "'begin' 'integer' a; a := 1 'end'") Accepted
     (1 ∷ 21 ∷ 1 ∷ 18 ∷
