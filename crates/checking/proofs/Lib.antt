@@ -1,0 +1,4 @@
+pub mod FromTables
+pub mod Promises
+pub mod Refuted
+pub mod RowLaws
