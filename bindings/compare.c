@@ -1,6 +1,7 @@
 /* compare COUNT [FILE..]: COUNT random sources, and COUNT random codes with their input, store and output, each handed to the library and to the
- * scanner and machine of own.h, and COUNT random sources to the writer of page.h; shows each difference, and how many were compared. The files are
- * sources that are changed at random. The seed is fixed. Ends with 1 where something differs. */
+ * scanner and machine of own.h; COUNT random sources to the writer of page.h; and COUNT lists for sources, against a comparison of its own. Shows
+ * each difference, and how many were compared. The files are sources that are changed at random. The seed is fixed. Ends with 1 where something
+ * differs. */
 #include <stdio.h>
 #include <stdlib.h>
 #include <string.h>
@@ -352,6 +353,79 @@ static void compare_page(unsigned long k)
     }
 }
 
+/* ---- lists: a source's uses, with words changed, missing or added, against a comparison word by word */
+
+enum { LIST = 3 * 4096 };
+
+static unsigned long lists_seen[ANSWERS];
+static int64_t list[LIST], list_before[LIST];
+
+/* The uses as `read` has them, and how many words. */
+static size_t honest_list(void)
+{
+    const uint16_t *words = table + MARGIN;
+    size_t length = 1 + 3 * (size_t)words[0];
+    for (size_t i = 0; i < length && i < LIST; i++)
+        list[i] = words[i];
+    return length < LIST ? length : LIST;
+}
+
+/* Changes a list at random, or leaves it; its length then. */
+static size_t changed_list(size_t length)
+{
+    static const int64_t edges[] = {0, 1, -1, 3, 65535, 65536, 65537, -65535, INT32_MAX, INT64_MAX, INT64_MIN};
+    switch (below(5)) {
+    case 0:
+        list[below(length)] = edges[below(11)];
+        return length;
+    case 1:
+        list[below(length)] += once_in(2) ? 65536 : 1;
+        return length;
+    case 2:
+        return below(length);
+    case 3:
+        list[length] = (int64_t)below(5);
+        return length + 1 + below(4);
+    default:
+        return length;
+    }
+}
+
+static size_t own_first_wrong(size_t length, const uint16_t *words, size_t due)
+{
+    size_t i = 0;
+    while (i < length && i < due && list[i] == (int64_t)words[i])
+        i++;
+    return i;
+}
+
+static void compare_list(unsigned long k)
+{
+    size_t read_place = 0, place = 99999, due = 0, length = below(20);
+    uint16_t number = 999;
+    random_source(&text);
+    unsigned read = deed_read(text.byte, text.length, table + MARGIN, TABLE, &read_place);
+    memset(list, 0, sizeof list);
+    if (read == 0) {
+        due = honest_list();
+        if (due + 8 >= LIST)
+            return;
+        length = changed_list(due);
+    }
+    memcpy(list_before, list, sizeof list);
+    unsigned kind = deed_check(text.byte, text.length, list, length, &number, &place);
+    size_t wrong = own_first_wrong(length, table + MARGIN, due);
+    unsigned own_kind = read != 0 ? DEED_REFUSED : wrong < length || wrong < due ? DEED_WRONG_WORD : DEED_IS_LIST;
+    size_t own_place = own_kind == DEED_REFUSED ? read_place : own_kind == DEED_WRONG_WORD ? wrong : 0;
+    if (kind < ANSWERS)
+        lists_seen[kind]++;
+    if (kind != own_kind || number != (own_kind == DEED_REFUSED ? read : 0) || place != own_place || memcmp(list, list_before, sizeof list) != 0) {
+        differs("list", k);
+        printf("library %u, %u at %zu, own %u, %u at %zu; %zu words", kind, number, place, own_kind, read, own_place, length);
+        show_text();
+    }
+}
+
 /* ---- the whole */
 
 static void show_seen(const char *what, const unsigned long *seen)
@@ -398,6 +472,9 @@ int main(int argc, char **argv)
     for (unsigned long k = 0; k < count; k++)
         compare_page(k);
     show_seen("pages compared", pages_seen);
+    for (unsigned long k = 0; k < count; k++)
+        compare_list(k);
+    show_seen("lists compared", lists_seen);
     printf("%lu differ\n", differences);
     return differences == 0 ? 0 : 1;
 }

@@ -3,7 +3,7 @@
  * A lent array is a pointer and how many elements it has. What is asked of a caller:
  *   - each pointer is not null and is aligned for its type, also where the length is 0;
  *   - what is lent for writing overlaps nothing else that is lent;
- *   - the stack has room: 1 MB (the most that was measured is 580,000 bytes, of deed_read).
+ *   - the stack has room: 1 MB (the most that was measured is 580,000 bytes, of deed_read; deed_check takes 65,568 more than that).
  * Nothing else: any bytes, any words, any lengths and any limit are answered. No memory is kept from one call to the next, so that any number
  * of threads may call.
  *
@@ -73,6 +73,20 @@ uint16_t deed_translate(const uint8_t *source, size_t source_length,
 uint16_t deed_write(const uint8_t *source, size_t source_length,
                     uint8_t *room, size_t room_length,
                     size_t *place, size_t *length);
+
+/* What deed_check says. */
+enum {
+    DEED_IS_LIST = 0,
+    DEED_REFUSED = 1,
+    DEED_WRONG_WORD = 2
+};
+
+/* A source, and a list of numbers that somebody sent as its uses: their count, then three words for each (docs/TABLE.md). DEED_IS_LIST where the
+ * list is that; DEED_REFUSED where the source is refused, with the answer's number (2 to 10) and place; DEED_WRONG_WORD with the index, from 0, of
+ * the first wrong word for the place: of a short list its length. Where there is no refusal the number is 0. */
+uint16_t deed_check(const uint8_t *source, size_t source_length,
+                    const int64_t *list, size_t list_length,
+                    uint16_t *number, size_t *place);
 
 /* Code to a run. 0 or 20 to 30. The first DEED_CELLS cells of the store, or fewer if lent fewer, are zero afterwards; the output holds what was
  * written, and behind it what it held. */

@@ -6,6 +6,9 @@ use mathlib.Core.List.{List}
 use lib.IntN.{ℤ}
 use Rattle.answers.specs.Answers.{numberOf, placeOf, stopNumber, stopPlace}
 use Rattle.answers.specs.declared.Verdict.{Verdict}
+use Rattle.checking.specs.Checking.{Checks}
+use Rattle.checking.specs.Numbers.{kindOf, numberOf as checkedNumber, placeOf as checkedPlace}
+use Rattle.checking.proofs.Promises.{one-answer as one-said}
 use Rattle.clean.specs.Numbers.{numberOf as pageNumber, placeOf as pagePlace, lengthOf}
 use Rattle.clean.specs.Job.{Writes}
 use Rattle.clean.proofs.Promises.{only as only-page}
@@ -15,7 +18,7 @@ use Rattle.reading.specs.Reading.{Parsed, Reads}
 use Rattle.reading.proofs.Only.{only}
 use Rattle.translating.specs.Job.{Translates, Deed}
 use Rattle.translating.proofs.Promised.{only as only-translation, deed}
-use Rattle.jobs.specs.Jobs.{Answers, Pages, Given, given, exitOf}
+use Rattle.jobs.specs.Jobs.{Answers, Pages, Says, Given, given, exitOf}
 
 pub given-exit : {n p : ℕ} (r : Ran) (s o : List ℤ) {e : Exit} → exit r s o ≡ e → n ≡ stopNumber (r .stop) → p ≡ stopPlace (r .stop)
     → given n p (r .done) (r .taken) (r .written) s o ≡ exitOf e
@@ -39,6 +42,7 @@ pub one-translation : {text old w w₂ : List ℕ} {n p n₂ p₂ : ℕ} → Ans
     → (n ≡ n₂) × (p ≡ p₂) × (w ≡ w₂)
 one-translation {text} {old} = one-answer {R = Translates text old} (λ v v₂ w w₂ a b. only-translation a b)
 
+-- so are the numbers of a page, and what the room holds
 pub one-page : {source room r r₂ : List ℕ} {n p l n₂ p₂ l₂ : ℕ} → Pages (λ w. Writes source room w r) n p l → Pages (λ w. Writes source room w r₂) n₂ p₂ l₂
     → (n ≡ n₂) × (p ≡ p₂) × (l ≡ l₂) × (r ≡ r₂)
 one-page a b =
@@ -48,6 +52,12 @@ one-page a b =
       a .sized ∙ ap lengthOf (e .0) ∙ sym (b .sized),
       e .1,
     )
+
+-- .. and those of what is said of a list
+pub one-check : {source : List ℕ} {list : List ℤ} {k n p k₂ n₂ p₂ : ℕ} → Says (Checks source list) k n p → Says (Checks source list) k₂ n₂ p₂ → (k ≡ k₂) × (n ≡ n₂) × (p ≡ p₂)
+one-check a b =
+    let e = one-said (a .holds) (b .holds) in
+    (a .of-kind ∙ ap kindOf e ∙ sym (b .of-kind), a .numbered ∙ ap checkedNumber e ∙ sym (b .numbered), a .placed ∙ ap checkedPlace e ∙ sym (b .placed))
 
 -- demand 3 of the two jobs one after the other: where the first answers 0, the second gives what a run leaves that did what the source rules say
 pub given-deed : {text old new : List ℕ} {n place : ℕ} → Answers (λ v. Translates text old v new) n place → n ≡ 0 → (p : Parsed text) (input : List ℤ) (limit : ℕ) (store output : List ℤ)

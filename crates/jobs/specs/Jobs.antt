@@ -7,6 +7,8 @@ use Rattle.answers.specs.Answers.{numberOf, placeOf, stopNumber, stopPlace}
 use Rattle.answers.specs.declared.Verdict.{Verdict}
 use Rattle.clean.specs.declared.Written.{Written}
 use Rattle.clean.specs.Numbers.{numberOf as pageNumber, placeOf as pagePlace, lengthOf}
+use Rattle.checking.specs.Numbers.{kindOf, numberOf as checkedNumber, placeOf as checkedPlace}
+use Rattle.checking.specs.declared.Checked.{Checked}
 use Rattle.machine.specs.Machine.{Exit}
 
 -- read and translate: the number and the place are those of a verdict of which P holds
@@ -23,6 +25,14 @@ pub record Pages (P : Written → Type 0) (number place length : ℕ) : Type 0 w
   pub numbered : number ≡ pageNumber written
   pub placed : place ≡ pagePlace written
   pub sized : length ≡ lengthOf written
+
+-- check: so are these, of what is said of a list
+pub record Says (P : Checked → Type 0) (kind number place : ℕ) : Type 0 where
+  pub checked : Checked
+  pub holds : P checked
+  pub of-kind : kind ≡ kindOf checked
+  pub numbered : number ≡ checkedNumber checked
+  pub placed : place ≡ checkedPlace checked
 
 -- run: the numbers, and what the store and the output hold afterwards
 pub record Given : Type 0 where

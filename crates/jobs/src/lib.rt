@@ -1,13 +1,15 @@
 // The jobs as C functions, for programs in other languages: `bindings/deed.h` declares them. A slice comes as a pointer and a length, and each
 // result behind the answer's number goes to where a reference points.
+use checking::checking::check_list;
 use clean::writing::write;
 use machine::run;
 use reading::reading::read;
 use translating::translating::translate;
 ghost use mathlib.Core.Path.{_≡_};
+ghost use Rattle.checking.specs.Checking.{Checks};
 ghost use Rattle.clean.specs.Job.{Writes};
 ghost use Rattle.machine.specs.Machine.{job};
-ghost use Rattle.jobs.specs.Jobs.{Answers, Pages, exitOf, given};
+ghost use Rattle.jobs.specs.Jobs.{Answers, Pages, Says, exitOf, given};
 ghost use Rattle.reading.specs.Reading.{Reads};
 ghost use Rattle.translating.specs.Job.{Translates};
 
@@ -69,4 +71,21 @@ pub extern "C" fn deed_run(
     *taken = ran.taken;
     *written = ran.written;
     stop.answer().number
+}
+
+// Source and list: 0 where the list is its uses; 1 where the source is refused, with the answer's number and its place; 2 where a word is wrong,
+// with its index for the place.
+#[no_mangle]
+pub extern "C" fn deed_check(
+    source: &[u8],
+    list: &[i64],
+    number: &mut u16,
+    place: &mut usize,
+) -> u16
+    ensures { λ r. ⌜ Says (Checks (now (source .entry)) (now (list .entry))) r (now (number .exit)) (now (place .exit)) ⌝ }
+{
+    let checked = check_list(source, list);
+    *number = checked.number();
+    *place = checked.place();
+    checked.kind()
 }
