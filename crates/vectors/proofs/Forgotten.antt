@@ -1,5 +1,6 @@
 -- No difference is forgotten: what the contracts say together. The count of differences never falls, and where it is 0 at the end each row was answered
--- as is listed, by read, by translate and by write, and each page was read back and written again as it should be. Assumes nothing.
+-- as is listed, by read, by translate and by write, each page was read back and written again as it should be, and each list was answered as is due.
+-- Assumes nothing.
 use mathlib.Core.Path.{_≡_, refl, ap}
 use mathlib.Core.Bool.{Bool, true, false, cond, _&&_, _||_, true≢false}
 use mathlib.Core.List.{List}
@@ -20,9 +21,11 @@ use Rattle.machine.specs.Machine.{Exit}
 use Rattle.machine.specs.declared.Ran.{Ran}
 use Rattle.vectors.specs.declared.texts.Numeral.{Numeral}
 use Rattle.vectors.specs.declared.tally.Tally.{Tally}
-use Rattle.vectors.specs.Listed.{digits, behind, digitsAt, numberAt, secondLine, runListed, nothing, oneRun, oneSource, onePage, oneBack, oneAgain, oneDifference, checked, mostOf, answeredBy, acceptedBy, sameUses, afterRead}
-use Rattle.vectors.specs.Pages.{all, samePage, sameMeanings, numbered, writtenBy, BackTold, AgainTold, afterPage, Turned, unwritten, turned, PageTold, afterLent, LentTold, roomListed, ListedTold, unlisted, listed, WriteTold}
-use Rattle.vectors.specs.Ended.{begins, numbers, after, allAre, allWords, stoppedBy, strays, afterSteps, afterWritten, afterTaken, afterPlace, afterStop, afterExit, afterSupplied, afterListed, afterRefused, afterAccepted, afterTranslate, RowTold, Rows, none, more}
+use Rattle.vectors.specs.Listed.{digits, behind, digitsAt, numberAt, secondLine, runListed, nothing, oneRun, oneSource, onePage, oneList, oneDifference, checked, mostOf, answeredBy, acceptedBy, sameUses, afterRead}
+use Rattle.vectors.specs.Pages.{all, samePage, sameMeanings, numbered, writtenBy, BackTold, AgainTold, afterPage, Turned, unwritten, turned, afterLent, roomListed, ListedTold, unlisted, listed, WriteTold}
+use Rattle.vectors.specs.Ended.{begins, numbers, after, allAre, allWords, stoppedBy, strays, afterSteps, afterWritten, afterTaken, afterPlace, afterStop, afterExit, afterSupplied, afterListed, afterRefused, afterAccepted, afterTranslate}
+use Rattle.vectors.specs.Sent.{saidBy, ListTold, FourTold, OwnTold, refused, accepted as own-accepted, ListsTold, own-alone, and-sent}
+use Rattle.vectors.specs.Counted.{RowTold, Rows, none, more}
 
 -- the count of 32 bits, and that it does not fall
 pub record Kept (t r : Tally) : Type 0 where
@@ -151,6 +154,30 @@ module _ {source text : List ℕ} {t r : Tally} (w : WriteTold source text t r) 
   write-keeps : Kept t r
   write-keeps = then listed-kept (then page-checked (turned-keeps (w .was-written .told) (page-checked .below)))
 
+-- ---- so do the lists of a source
+
+list-keeps : {source : List ℕ} {list : List ℤ} {kind number place : ℕ} {t r : Tally} → ListTold source list kind number place t r → t .differences ≤ 4294967295 → Kept t r
+list-keeps {t = t} l h =
+    let k = check-keeps (saidBy (l .answer) _ _ _) (oneList t) h in
+    rw (l .told) (record { below = k .below; no-less = k .no-less })
+
+four-keeps : {source table : List ℕ} {t r : Tally} → FourTold source table t r → t .differences ≤ 4294967295 → Kept t r
+four-keeps l h =
+    let a = list-keeps (l .whole) h in
+    let b = list-keeps (l .short) (a .below) in
+    let d = list-keeps (l .long) (b .below) in
+    then a (then b (then d (list-keeps (l .changed) (d .below))))
+
+own-keeps : {source : List ℕ} {t r : Tally} → OwnTold source t r → t .differences ≤ 4294967295 → Kept t r
+own-keeps {t = t} (refused q e) h = keep t h
+own-keeps (own-accepted q e l) h = four-keeps l h
+
+lists-keep : {source text : List ℕ} {t r : Tally} → ListsTold source text t r → t .differences ≤ 4294967295 → Kept t r
+lists-keep (own-alone l o) h = own-keeps o h
+lists-keep (and-sent l o s) h =
+    let a = own-keeps o h in
+    then a (list-keeps s (a .below))
+
 -- ---- the rows
 
 module _ {source text : List ℕ} {t r : Tally} (row : RowTold source text t r) (h : t .differences ≤ 4294967295) where
@@ -160,15 +187,18 @@ module _ {source text : List ℕ} {t r : Tally} (row : RowTold source text t r) 
   translate-row : Kept (checked (answeredBy (row .was-translated .verdict) text) (row .between)) (row .ran)
   translate-row = rw (row .was-translated .told) (translate-keeps (row .was-translated .verdict) text (row .between) (read-row .below) (row .was-translated .code))
 
-  write-row : Kept (row .ran) r
+  write-row : Kept (row .ran) (row .paged)
   write-row = write-keeps (row .was-written) (translate-row .below)
+
+  list-row : Kept (row .paged) r
+  list-row = lists-keep (row .was-listed) (write-row .below)
 
   -- a row keeps the count
   pub row-keeps : Kept t r
   row-keeps =
       let a = check-keeps (answeredBy (row .was-read .verdict) text) (oneSource t) h in
       let b = check-keeps (answeredBy (row .was-translated .verdict) text) (row .between) (read-row .below) in
-      let k = then a (then read-row (then b (then translate-row write-row))) in
+      let k = then a (then read-row (then b (then translate-row (then write-row list-row)))) in
       record { below = k .below; no-less = k .no-less }
 
 pub rows-small : {n : ℕ} {t : Tally} → Rows n t → t .differences ≤ 4294967295
@@ -228,12 +258,44 @@ turned-right {t = t} (turned e s r b a) h z =
     let y = none-before (again-keeps a (x .below)) z in
     (right-either _ _ (onePage t) (rw (b .told) at y), right-either _ _ s (rw (a .told) at z))
 
--- each row was answered as is listed, by read, by translate and by write, and its pages were right
+-- a list was answered as is due
+abbrev pub ListRight : {source : List ℕ} {list : List ℤ} {kind number place : ℕ} {t r : Tally} → ListTold source list kind number place t r → Type 0
+ListRight {kind = kind} {number = number} {place = place} l = saidBy (l .answer) kind number place ≡ true
+
+unfoldable pub OwnRight : {source : List ℕ} {t r : Tally} → OwnTold source t r → Type 0
+OwnRight (refused q e) = Unit {0}
+OwnRight (own-accepted q e l) = ListRight (l .whole) × ListRight (l .short) × ListRight (l .long) × ListRight (l .changed)
+
+unfoldable pub ListsRight : {source text : List ℕ} {t r : Tally} → ListsTold source text t r → Type 0
+ListsRight (own-alone h o) = OwnRight o
+ListsRight (and-sent h o s) = OwnRight o × ListRight s
+
+list-right : {source : List ℕ} {list : List ℤ} {kind number place : ℕ} {t r : Tally} (l : ListTold source list kind number place t r) → r .differences ≡ 0 → ListRight l
+list-right {t = t} l z = right-check _ (oneList t) (rw (l .told) at z)
+
+own-right : {source : List ℕ} {t r : Tally} (o : OwnTold source t r) → t .differences ≤ 4294967295 → r .differences ≡ 0 → OwnRight o
+unfolding OwnRight
+own-right (refused q e) h z = tt
+own-right (own-accepted q e l) h z =
+    let a = list-keeps (l .whole) h in
+    let b = list-keeps (l .short) (a .below) in
+    let d = list-keeps (l .long) (b .below) in
+    let third = none-before (list-keeps (l .changed) (d .below)) z in
+    let second = none-before d third in
+    (list-right (l .whole) (none-before b second), list-right (l .short) second, list-right (l .long) third, list-right (l .changed) z)
+
+lists-right : {source text : List ℕ} {t r : Tally} (l : ListsTold source text t r) → t .differences ≤ 4294967295 → r .differences ≡ 0 → ListsRight l
+unfolding ListsRight
+lists-right (own-alone l o) h z = own-right o h z
+lists-right (and-sent l o s) h z = (own-right o h (none-before (list-keeps s (own-keeps o h .below)) z), list-right s z)
+
+-- each row was answered as is listed, by read, by translate and by write, its pages were right, and its lists were answered as is due
 unfoldable pub Right : {n : ℕ} {t : Tally} → Rows n t → Type 0
 Right none = Unit {0}
 Right (more rs source text r row) =
     Right rs × (answeredBy (row .was-read .verdict) text ≡ true) × (answeredBy (row .was-translated .verdict) text ≡ true)
     × (writtenBy (row .was-written .was-written .answer) text ≡ true) × ListedRight (row .was-written .was-listed) × TurnedRight (row .was-written .was-written .told)
+    × ListsRight (row .was-listed)
 
 pub no-difference : {n : ℕ} {t : Tally} (rs : Rows n t) → t .differences ≡ 0 → Right rs
 unfolding Right
@@ -242,9 +304,10 @@ no-difference (more {t = t} rs source text r row) e =
     let h = rows-small rs in
     let w = row .was-written in
     let l = translate-row row h .below in
-    let ran = none-before (write-row row h) e in
+    let written = none-before (list-row row h) e in
+    let ran = none-before (write-row row h) written in
     let between = none-before (then (check-keeps (answeredBy (row .was-translated .verdict) text) (row .between) (read-row row h .below)) (translate-row row h)) ran in
-    let paged = none-before (turned-keeps (w .was-written .told) (page-checked w l .below)) e in
+    let paged = none-before (turned-keeps (w .was-written .told) (page-checked w l .below)) written in
     let listed = none-before (page-checked w l) paged in
     let answer = none-before (behind-checked w l) paged in (
       no-difference rs (none-before (row-keeps row h) e),
@@ -252,7 +315,8 @@ no-difference (more {t = t} rs source text r row) e =
       right-check _ _ (none-before (translate-row row h) ran),
       right-check _ _ answer,
       listed-right (w .was-listed) l listed,
-      turned-right (w .was-written .told) (page-checked w l .below) e,
+      turned-right (w .was-written .told) (page-checked w l .below) written,
+      lists-right (row .was-listed) (write-row row h .below) e,
     )
 
 -- ---- wrong programs

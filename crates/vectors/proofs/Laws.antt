@@ -1,13 +1,13 @@
 -- Laws of the definitions in Ended: what is compared from a place on, by what is compared from the next one on.
 use mathlib.Core.Path.{_≡_, refl, sym, ap, _∙_}
 use mathlib.Core.Bool.{Bool, true, false, cond, _&&_, _||_}
-use mathlib.Core.List.{List, [], _∷_}
+use mathlib.Core.List.{List, [], _∷_, _++_, append-assoc}
 use Prim.Native.Nat.{ℕ, zero, suc, _+_, _-_, _≤_, _<_}
 use native.Mathlib.Omega.{arith}
 use native.Mathlib.Numerals.{add-one}
 use lib.IntN.{ℤ, pos}
-use lib.ListN.{length, getD, drop, drop-of-length-le}
-use lib.Seq.{drop-cons, drop-drop}
+use lib.ListN.{length, getD, take, drop, set, drop-of-length-le}
+use lib.Seq.{drop-cons, drop-drop, take-suc-set}
 use lib.Dec.{eqb}
 use mir.Syntax.{Width}
 use mir.Val.{SFits, ofZ}
@@ -19,6 +19,7 @@ use Rattle.clean.specs.Job.{Writes}
 use Rattle.machine.specs.Values.{same}
 use Rattle.machine.proofs.Signed.{same-bits}
 use Rattle.vectors.specs.declared.tally.Tally.{Tally}
+use Rattle.vectors.specs.declared.texts.Numeral.{Numeral}
 use Rattle.vectors.specs.Listed.{numberAt, wholeOf}
 use Rattle.vectors.specs.Pages.{freshRoom}
 use Rattle.vectors.specs.Ended.{stoppedBy, numbers, after, begins, allAre}
@@ -132,3 +133,15 @@ module _ (text : List ℕ) (count i at : ℕ) where
   pub after-end : count ≤ i → after text (count - i) at ≡ at
   unfolding after
   after-end h = rw (none-left h)
+
+-- numbers one after the other
+module _ (text : List ℕ) (count i at : ℕ) (n : Numeral) (next : n ≡ numberAt text at) where
+  pub after-one : i < count → after text (count - i) at ≡ after text (count - (i + 1)) (n .next)
+  after-one h = after-on text count i at h ∙ ap (λ (m : Numeral). after text (count - (i + 1)) (m .next)) (sym next)
+
+  -- one number more is stored, and one fewer left
+  pub stored-one : (s : List ℤ) (x : ℤ) → i < count → i < length s → x ≡ wholeOf n → take i s ++ numbers text (count - i) at ≡ take (i + 1) (set s i x) ++ numbers text (count - (i + 1)) (n .next)
+  stored-one s x h k e =
+      let f : take (i + 1) (set s i x) ≡ take i s ++ (x ∷ []) = rw add-one (take-suc-set s i x k) in
+      let g : numbers text (count - i) at ≡ x ∷ numbers text (count - (i + 1)) (n .next) = numbers-on text count i at h ∙ rw (e, next) in
+      rw (f, g) (sym (append-assoc (take i s) (x ∷ []) (numbers text (count - (i + 1)) (n .next))))

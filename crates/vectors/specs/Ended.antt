@@ -18,8 +18,7 @@ use Rattle.machine.specs.declared.Ran.{Ran}
 use Rattle.translating.specs.Job.{Translates}
 use Rattle.vectors.specs.declared.texts.Numeral.{Numeral}
 use Rattle.vectors.specs.declared.tally.Tally.{Tally}
-use Rattle.vectors.specs.Listed.{numberAt, wholeOf, secondLine, runListed, oneRun, oneDifference, checked, mostOf, answeredBy, acceptedBy, ReadTold, nothing, oneSource}
-use Rattle.vectors.specs.Pages.{WriteTold}
+use Rattle.vectors.specs.Listed.{numberAt, wholeOf, secondLine, runListed, oneRun, oneDifference, checked, mostOf, answeredBy, acceptedBy}
 
 -- ---- numbers in a row
 
@@ -137,18 +136,3 @@ pub record TranslateTold (source text : List ℕ) (t r : Tally) : Type 0 where
   pub code : List ℕ
   pub translates : Translates source (replicate 16386 7) verdict code
   pub told : r ≡ afterTranslate verdict code text t
-
--- ---- the rows of the index
-
--- the tally of one row more, of which these are the bytes
-pub record RowTold (source text : List ℕ) (t r : Tally) : Type 0 where
-  pub between : Tally
-  pub was-read : ReadTold source text (oneSource t) between
-  pub ran : Tally
-  pub was-translated : TranslateTold source text between ran
-  pub was-written : WriteTold source text ran r
-
--- the tally of so many rows, whatever bytes their files have
-pub data Rows : ℕ → Tally → Type 0 where
-  none : Rows 0 nothing
-  more : {n : ℕ} {t : Tally} → Rows n t → (source text : List ℕ) (r : Tally) → RowTold source text t r → Rows (n + 1) r

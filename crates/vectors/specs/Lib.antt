@@ -1,3 +1,5 @@
 pub mod Listed
 pub mod Pages
 pub mod Ended
+pub mod Sent
+pub mod Counted

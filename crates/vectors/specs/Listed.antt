@@ -60,6 +60,10 @@ pageListed text = ltb (secondLine text) (length text) && pageAt text (secondLine
 unfoldable pub runListed : List ℕ → Bool
 runListed text = ltb (secondLine text) (length text) && not (pageAt text (secondLine text))
 
+-- where the third line begins; at the end where the second one is a page's
+unfoldable pub thirdLine : List ℕ → ℕ
+thirdLine text = cond (pageAt text (secondLine text)) (length text) (secondLine text + secondLine (drop (secondLine text) text))
+
 -- ---- the tally
 
 -- one more; the greatest number of 32 bits stays
@@ -68,31 +72,35 @@ more n = min (n + 1) 4294967295
 
 -- nothing is counted yet
 abbrev pub nothing : Tally
-nothing = record { sources = 0; runs = 0; pages = 0; back = 0; again = 0; differences = 0; done = 0; steps = 1 }
+nothing = record { sources = 0; runs = 0; pages = 0; back = 0; again = 0; lists = 0; differences = 0; done = 0; steps = 1 }
 
 -- one source more
 abbrev pub oneSource : Tally → Tally
-oneSource t = record { sources = more (t .sources); runs = t .runs; pages = t .pages; back = t .back; again = t .again; differences = t .differences; done = t .done; steps = t .steps }
+oneSource t = record { sources = more (t .sources); runs = t .runs; pages = t .pages; back = t .back; again = t .again; lists = t .lists; differences = t .differences; done = t .done; steps = t .steps }
 
 -- one run more
 abbrev pub oneRun : Tally → Tally
-oneRun t = record { sources = t .sources; runs = more (t .runs); pages = t .pages; back = t .back; again = t .again; differences = t .differences; done = t .done; steps = t .steps }
+oneRun t = record { sources = t .sources; runs = more (t .runs); pages = t .pages; back = t .back; again = t .again; lists = t .lists; differences = t .differences; done = t .done; steps = t .steps }
 
 -- one page more
 abbrev pub onePage : Tally → Tally
-onePage t = record { sources = t .sources; runs = t .runs; pages = more (t .pages); back = t .back; again = t .again; differences = t .differences; done = t .done; steps = t .steps }
+onePage t = record { sources = t .sources; runs = t .runs; pages = more (t .pages); back = t .back; again = t .again; lists = t .lists; differences = t .differences; done = t .done; steps = t .steps }
 
 -- one more that was read back as the same program
 abbrev pub oneBack : Tally → Tally
-oneBack t = record { sources = t .sources; runs = t .runs; pages = t .pages; back = more (t .back); again = t .again; differences = t .differences; done = t .done; steps = t .steps }
+oneBack t = record { sources = t .sources; runs = t .runs; pages = t .pages; back = more (t .back); again = t .again; lists = t .lists; differences = t .differences; done = t .done; steps = t .steps }
 
 -- one more that was written again as the same bytes
 abbrev pub oneAgain : Tally → Tally
-oneAgain t = record { sources = t .sources; runs = t .runs; pages = t .pages; back = t .back; again = more (t .again); differences = t .differences; done = t .done; steps = t .steps }
+oneAgain t = record { sources = t .sources; runs = t .runs; pages = t .pages; back = t .back; again = more (t .again); lists = t .lists; differences = t .differences; done = t .done; steps = t .steps }
+
+-- one list more
+abbrev pub oneList : Tally → Tally
+oneList t = record { sources = t .sources; runs = t .runs; pages = t .pages; back = t .back; again = t .again; lists = more (t .lists); differences = t .differences; done = t .done; steps = t .steps }
 
 -- one difference more
 abbrev pub oneDifference : Tally → Tally
-oneDifference t = record { sources = t .sources; runs = t .runs; pages = t .pages; back = t .back; again = t .again; differences = more (t .differences); done = t .done; steps = t .steps }
+oneDifference t = record { sources = t .sources; runs = t .runs; pages = t .pages; back = t .back; again = t .again; lists = t .lists; differences = more (t .differences); done = t .done; steps = t .steps }
 
 -- something that was found, and whether it is what is listed
 abbrev pub checked : Bool → Tally → Tally
@@ -103,7 +111,7 @@ checked false t = oneDifference t
 unfoldable pub mostOf : ℕ → ℕ → Tally → Tally
 mostOf done steps t =
     cond (ltb (t .done * steps) (done * t .steps))
-    (record { sources = t .sources; runs = t .runs; pages = t .pages; back = t .back; again = t .again; differences = t .differences; done = done; steps = steps })
+    (record { sources = t .sources; runs = t .runs; pages = t .pages; back = t .back; again = t .again; lists = t .lists; differences = t .differences; done = done; steps = steps })
     t
 
 -- ---- read, against the first line: the answer, its place, and how many words the uses have, with these words

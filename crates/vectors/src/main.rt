@@ -1,5 +1,6 @@
-// Reads, translates, runs and writes the sources that the file `index` lists, and compares with what is listed: a line for each difference, and at
-// the end how many sources, runs, differences and pages, and the most instructions that a run did for its steps.
+// Reads, translates, runs and writes the sources that the file `index` lists, checks lists for them, and compares with what is listed: a line for
+// each difference, and at the end how many sources, runs, lists, differences and pages, and the most instructions that a run did for its steps.
+mod lists; // the job check_list
 mod reads; // the job read
 mod rows; // the rows of the index
 mod runs; // the jobs translate and run

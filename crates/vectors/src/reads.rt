@@ -11,7 +11,7 @@ ghost use Rattle.vectors.specs.Listed.{sameWords, sameUses, answeredBy, 
 const UNLISTED: u64 = 99999;
 
 // A word; 0 where there is none.
-fn word_at(words: &[u16], i: usize) -> u16
+pub fn word_at(words: &[u16], i: usize) -> u16
     ensures { λ r. ⌜ r ≡ getD (now (words .entry)) i 0 ⌝ }
 {
     if i < words.len() {

@@ -1,4 +1,5 @@
 // The rows of `index`: each names a source and the text with what is to come of it.
+use crate::lists;
 use crate::reads;
 use crate::runs;
 use crate::tally::Tally;
@@ -7,7 +8,7 @@ use crate::writes;
 ghost use mathlib.Core.List.{List};
 ghost use Prim.Native.Nat.{ℕ, _+_, _/_, _≤_};
 ghost use lib.ListN.{length};
-ghost use Rattle.vectors.specs.Ended.{RowTold, Rows};
+ghost use Rattle.vectors.specs.Counted.{RowTold, Rows};
 
 // A row: the two names, 24 bytes each, and the line's end.
 const ROW: usize = 49;
@@ -42,13 +43,14 @@ pub fn load(name: &[u8], buf: &mut [u8; 65536]) -> usize
     n
 }
 
-// A source read, translated, run and written, and compared.
+// A source read, translated, run and written, lists for it checked, and all compared.
 fn compare(t: Tally, name: &[u8], source: &[u8], text: &[u8]) -> Tally
     ensures { λ r. ⌜ RowTold (now (source .entry)) (now (text .entry)) t r ⌝ }
 {
     let told = reads::compare(t.source(), name, source, text);
     let ran = runs::compare(told, name, source, text);
-    writes::compare(ran, name, source, text)
+    let paged = writes::compare(ran, name, source, text);
+    lists::compare(paged, name, source, text)
 }
 
 // The row at `from`.

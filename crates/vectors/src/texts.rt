@@ -2,7 +2,7 @@
 ghost use mathlib.Core.Path.{_≡_};
 ghost use Prim.Native.Nat.{_<_, min};
 ghost use Rattle.symbols.specs.Names.{digit};
-ghost use Rattle.vectors.specs.Listed.{digitsAt, numberAt, wholeOf, secondLine, pageAt};
+ghost use Rattle.vectors.specs.Listed.{digitsAt, numberAt, wholeOf, secondLine, pageAt, thirdLine};
 
 // A number, and where the next one begins.
 pub struct Numeral {
@@ -105,4 +105,15 @@ pub fn page_at(text: &[u8], from: usize) -> bool
         return text[from] == b'w';
     }
     false
+}
+
+// Where the text goes on behind its second line, unless that is a page's.
+pub fn third_line(text: &[u8]) -> usize
+    ensures { λ r. ⌜ r ≡ thirdLine (now (text .entry)) ⌝ }
+{
+    let second = second_line(text);
+    if page_at(text, second) {
+        return text.len();
+    }
+    second + second_line(&text[second..])
 }

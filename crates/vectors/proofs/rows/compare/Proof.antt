@@ -1,4 +1,4 @@
--- `vectors::rows::compare` meets its contract. The source is counted, read, translated, and written.
+-- `vectors::rows::compare` meets its contract. The source is counted, read, translated and written, and lists for it are checked.
 -- Assumes nothing.
 use mathlib.Core.Path.{_≡_}
 use mathlib.Core.List.{List}
@@ -14,19 +14,25 @@ read-then source text t s b e h = rw e at h
 
 returns : tie.Need-returns
 returns c =
-    let a = c .before .before .before .before .before .before .before .args in
+    let start = c .before .before .before .before .before .before .before .before in
+    let a = start .args in
+    let counted = c .before .before .before .before .source in
+    let read = c .before .before .before .compare in
     record {
-      between = c .before .before .compare .result;
-      was-read = read-then (a .source .now) (a .text .now) (a .t) (c .before .before .before .source .result) (c .before .before .compare .result) (c .before .before .before .source .ensures) (c .before .before .compare .ensures);
-      ran = c .before .compare2 .result;
-      was-translated = c .before .compare2 .ensures;
-      was-written = c .compare3 .ensures;
+      between = read .result;
+      ran = c .before .before .compare2 .result;
+      paged = c .before .compare3 .result;
+      was-read = read-then (a .source .now) (a .text .now) (a .t) (counted .result) (read .result) (counted .ensures) (read .ensures);
+      was-translated = c .before .before .compare2 .ensures;
+      was-written = c .before .compare3 .ensures;
+      was-listed = c .compare4 .ensures;
     }
 
 pub compare-spec : {M : Type 1} → statement M
 compare-spec =
     tie.close
     (tie.spec
+    (λ c κs. search needs)
     (λ c κs. search needs)
     (λ c κs. search needs)
     (λ c κs. search needs)

@@ -6,7 +6,7 @@ use native.Mathlib.Omega.{arith}
 use lib.ListN.{length}
 use Rattle.vectors.specs.declared.tally.Tally.{Tally}
 use Rattle.vectors.specs.Listed.{nothing}
-use Rattle.vectors.specs.Ended.{Rows, none, more}
+use Rattle.vectors.specs.Counted.{Rows, none, more}
 use borrow.Author.Needs.{needs}
 use Rattle.vectors.proofs.rows.rows.Statement.{statement}
 use Rattle.vectors.proofs.rows.rows.Tie as tie

@@ -1,35 +1,21 @@
 -- `vectors::runs::inputs_at` meets its contract. The numbers that are stored, and those that are left to read, are all of them.
 -- Assumes nothing.
-use mathlib.Core.Path.{_≡_, refl, sym, ap, _∙_}
-use mathlib.Core.List.{List, [], _∷_, _++_, append-assoc, append-nil}
-use Prim.Native.Nat.{ℕ, _+_, _-_, _≤_, _<_}
+use mathlib.Core.Path.{_≡_, refl, sym, _∙_}
+use mathlib.Core.List.{_++_, append-nil}
+use Prim.Native.Nat.{_-_, _≤_, _<_}
 use native.Mathlib.Omega.{arith}
 use native.Mathlib.Nat.{sub-zero}
-use native.Mathlib.Numerals.{add-one}
-use lib.IntN.{ℤ}
-use lib.ListN.{length, length-set, set, take}
-use lib.Seq.{take-suc-set, take-length}
+use lib.ListN.{length, length-set, take}
+use lib.Seq.{take-length}
 use mir.Syntax.{w32}
 use mir.Val.{toZ, ofZ}
 use mir.Facts.{toZ-ofZ}
-use Rattle.vectors.specs.declared.texts.Numeral.{Numeral}
-use Rattle.vectors.specs.Listed.{numberAt, wholeOf}
+use Rattle.vectors.specs.Listed.{wholeOf}
 use Rattle.vectors.specs.Ended.{numbers, after}
-use Rattle.vectors.proofs.Laws.{numbers-on, numbers-end, after-on, after-end}
+use Rattle.vectors.proofs.Laws.{numbers-end, after-end, after-one, stored-one}
 use borrow.Author.Needs.{needs}
 use Rattle.vectors.proofs.runs.inputs_at.Statement.{statement}
 use Rattle.vectors.proofs.runs.inputs_at.Tie as tie
-
-module _ (text : List ℕ) (count i at : ℕ) (n : Numeral) (next : n ≡ numberAt text at) where
-  after-one : i < count → after text (count - i) at ≡ after text (count - (i + 1)) (n .next)
-  after-one h = after-on text count i at h ∙ ap (λ (m : Numeral). after text (count - (i + 1)) (m .next)) (sym next)
-
-  -- one number more is stored, and one fewer left
-  stored-one : (s : List ℤ) (x : ℤ) → i < count → i < length s → x ≡ wholeOf n → take i s ++ numbers text (count - i) at ≡ take (i + 1) (set s i x) ++ numbers text (count - (i + 1)) (n .next)
-  stored-one s x h k e =
-      let f : take (i + 1) (set s i x) ≡ take i s ++ (x ∷ []) = rw add-one (take-suc-set s i x k) in
-      let g : numbers text (count - i) at ≡ x ∷ numbers text (count - (i + 1)) (n .next) = numbers-on text count i at h ∙ rw (e, next) in
-      rw (f, g) (sym (append-assoc (take i s) (x ∷ []) (numbers text (count - (i + 1)) (n .next))))
 
 abbrev Inv-loop : tie.InvT-loop
 Inv-loop text from input₀ at₀ i₀ input at i =
