@@ -12,7 +12,7 @@ use borrow.Author.Tests.{eqb-true}
 use Rattle.grammar.specs.Grammar.{statement, consequence, expression, primary, Prod, begin-end, a-block, a-compound, a-tail, no-statement, a-head, no-declaration, untyped, a-procedure, a-heading, no-formals, no-values, no-specification, conditional, repeated, plain, then-for, then-plain, an-else, no-else, a-for, a-clause, for-list, no-element, an-element, once, dummy, compound, with-name, assignment, call, value, a-condition, simple, an-otherwise, chain, no-more, no-not, a-relation, no-comparison, number, true-value, in-parentheses, with, an-actual, no-actual, rhs, program}
 use Rattle.grammar.specs.declared.Use.the-variants.{AsStatement}
 use Rattle.grammar.specs.declared.Level.the-variants.{Product, Sum, Conjunction, Disjunction, Implication, Equivalence}
-use Rattle.grammar.specs.Trees.{Syn, nil, tok, act, sub, yield}
+use Rattle.grammar.specs.Trees.{Syn, nil, tok, sub, yield}
 use Rattle.grammar.specs.Program.{levels, FirstDeep, Accepted}
 use Rattle.grammar.proofs.Sets.{both, true-false}
 use Rattle.grammar.proofs.Productions.{at, all-at}
@@ -45,10 +45,10 @@ whole t = sub (chain Equivalence) t nil
 
 -- 1; true; (..); begin end; for i := 1 do ..
 abbrev one : Syn (rhs (chain Equivalence))
-one = alone number (tok (act nil))
+one = alone number (tok nil)
 
 abbrev yes-value : Syn (rhs (chain Equivalence))
-yes-value = alone true-value (tok (act nil))
+yes-value = alone true-value (tok nil)
 
 abbrev inside : Syn (rhs (chain Equivalence)) → Syn (rhs (chain Equivalence))
 inside t = alone in-parentheses (tok (sub simple (whole t) (tok nil)))
@@ -60,17 +60,17 @@ abbrev pair-alone : Syn (rhs plain)
 pair-alone = sub compound (sub begin-end pair nil) nil
 
 abbrev for-do : Syn (rhs plain) → Syn (rhs a-for)
-for-do t = sub a-clause (tok (tok (act (sub for-list (tok (sub an-element (sub simple (whole one) (act (sub once (act nil) nil))) (sub no-element nil (tok (act nil))))) nil)))) (sub plain t (act nil))
+for-do t = sub a-clause (tok (tok (sub for-list (tok (sub an-element (sub simple (whole one) (sub once nil nil)) (sub no-element nil (tok nil)))) nil))) (sub plain t nil)
 
 -- if true then ..; x := ..; x := if .. then .. else ..
 abbrev if-true : (p : Prod consequence) → Syn (rhs p) → Syn (rhs conditional)
-if-true p t = tok (sub simple (whole yes-value) (tok (act (sub p t (act nil)))))
+if-true p t = tok (sub simple (whole yes-value) (tok (sub p t nil)))
 
 abbrev assign : (p : Prod expression) → Syn (rhs p) → Syn (rhs plain)
-assign p t = sub with-name (tok (sub assignment (act (tok (sub value (sub p t (act nil)) nil))) nil)) nil
+assign p t = sub with-name (tok (sub assignment (tok (sub value (sub p t nil) nil)) nil)) nil
 
 abbrev one-of : Syn (rhs (chain Equivalence)) → Syn (rhs (chain Equivalence)) → Syn (rhs (chain Equivalence)) → Syn (rhs a-condition)
-one-of a b c = tok (sub simple (whole a) (tok (act (sub (chain Equivalence) b (sub an-otherwise (tok (act (sub simple (whole c) (act nil)))) nil)))))
+one-of a b c = tok (sub simple (whole a) (tok (sub (chain Equivalence) b (sub an-otherwise (tok (sub simple (whole c) nil)) nil))))
 
 abbrev pub ways : List Way
 ways =
@@ -78,17 +78,17 @@ ways =
     record { prod = plain; tree = sub compound (sub begin-end (around 0 plain pair-alone) nil) nil; begins = 2 }
     ∷ record { prod = conditional; tree = if-true then-plain (sub compound (sub begin-end pair nil) (sub no-else nil nil)); begins = 4 }
     ∷ record { prod = conditional; tree = if-true then-for (sub a-for (for-do empty) nil); begins = 8 }
-    ∷ record { prod = conditional; tree = if-true then-plain (sub dummy nil (sub an-else (tok (act (sub plain pair-alone nil))) nil)); begins = 5 }
+    ∷ record { prod = conditional; tree = if-true then-plain (sub dummy nil (sub an-else (tok (sub plain pair-alone nil)) nil)); begins = 5 }
     ∷ record { prod = repeated; tree = sub a-for (for-do pair-alone) nil; begins = 6 }
     -- begin procedure p; begin end; end
     ∷ record {
       prod = plain;
-      tree = sub compound (sub begin-end (tok (sub a-block (act (sub a-head (sub untyped (act (tok (sub a-procedure (sub a-heading (tok (act (sub no-formals nil (tok (sub no-values nil (sub no-specification nil nil)))))) (act (sub plain pair-alone (act nil)))) nil))) (tok (sub no-declaration nil nil))) (act (sub a-tail (sub plain empty (sub no-statement nil nil)) (act nil))))) (tok nil))) nil) nil;
+      tree = sub compound (sub begin-end (tok (sub a-block (sub a-head (sub untyped (tok (sub a-procedure (sub a-heading (tok (sub no-formals nil (tok (sub no-values nil (sub no-specification nil nil))))) (sub plain pair-alone nil)) nil)) (tok (sub no-declaration nil nil))) (sub a-tail (sub plain empty (sub no-statement nil nil)) nil)) (tok nil))) nil) nil;
       begins = 5;
     }
     -- x := ((1)); p((1)); x := if (true) then 1 else 1; x := if true then (1) else 1; x := if true then 1 else (1)
     ∷ record { prod = plain; tree = assign simple (whole (inside (inside one))); begins = 4 }
-    ∷ record { prod = plain; tree = sub with-name (tok (sub call (sub (with AsStatement) (act (tok (sub an-actual (sub simple (whole (inside one)) (act nil)) (sub no-actual nil (tok (act nil)))))) nil) nil)) nil; begins = 3 }
+    ∷ record { prod = plain; tree = sub with-name (tok (sub call (sub (with AsStatement) (tok (sub an-actual (sub simple (whole (inside one)) nil) (sub no-actual nil (tok nil)))) nil) nil)) nil; begins = 3 }
     ∷ record { prod = plain; tree = assign a-condition (one-of (inside yes-value) one one); begins = 4 }
     ∷ record { prod = plain; tree = assign a-condition (one-of yes-value (inside one) one); begins = 6 }
     ∷ record { prod = plain; tree = assign a-condition (one-of yes-value one (inside one)); begins = 8 }

@@ -12,14 +12,14 @@ use borrow.Author.Tests.{ltb-true}
 use Rattle.symbols.specs.Symbols.{kind}
 use Rattle.symbols.specs.declared.Symbol.the-variants.{Comment}
 use Rattle.grammar.specs.Grammar.{Class, inner, head, tail, declarations, declaration, declared, procedure, specifications, statement, consequence, repetition, element, progress, amount, unconditional, named, right, expression, level, negation, relation, actual}
-use Rattle.grammar.specs.Grammar.{Prod, Item, sy, rd, put, rhs, program}
+use Rattle.grammar.specs.Grammar.{Prod, Item, sy, rd, rhs, program}
 use Rattle.grammar.specs.declared.Level.the-variants.{Product, Sum, Conjunction, Disjunction, Implication, Equivalence}
-use Rattle.grammar.specs.Trees.{Syn, nil, tok, act, sub, yield}
+use Rattle.grammar.specs.Trees.{Syn, nil, tok, sub, yield}
 use Rattle.grammar.specs.Program.{levels, Viable, Finding, accepted, wrong-at, deep-at, Finds}
 use Rattle.grammar.specs.Tables.{Choice, none, some, pick, choose, null}
 use Rattle.grammar.specs.Text.{kindAt}
 use Rattle.grammar.specs.Run.{Res, got, bad, In, now, later, after, Goes, level as at-level, deep}
-use Rattle.grammar.specs.Run.{Run, end, sy-no, sy-got, sy-bad, put-got, put-bad, rd-six, rd-five, rd-none, rd-bad, rd-more, rd-got}
+use Rattle.grammar.specs.Run.{Run, end, sy-no, sy-got, sy-bad, rd-six, rd-five, rd-none, rd-bad, rd-more, rd-got}
 use Rattle.grammar.proofs.Sets.{both, left-of, right-of, mem, mem-in, in-mem, in-left, true-false}
 use Rattle.grammar.proofs.Productions.{seat, tested-class, tested}
 use Rattle.grammar.proofs.Laws.{nul, empties, clean, never, any-class, never-has}
@@ -49,7 +49,6 @@ rank = rung ladder 1
 unfoldable lower : ℕ → List Item → Bool
 lower r [] = true
 lower r (sy k ∷ is) = true
-lower r (put w ∷ is) = lower r is
 lower r (rd b X ∷ is) = both (ltb (rank X) r) (pick (null X) (lower r is) true)
 
 descends : {X : Class} (p : Prod X) → lower (rank X) (rhs p) ≡ true
@@ -64,7 +63,6 @@ low-top : (is : List Item) → lower 40 is ≡ true
 unfolding lower
 low-top [] = refl
 low-top (sy k ∷ is) = refl
-low-top (put w ∷ is) = low-top is
 low-top (rd b X ∷ is) = go (ltb (rank X) 40) (top X) (null X) (low-top is)
   where
     go : (a : Bool) → a ≡ true → (c : Bool) → lower 40 is ≡ true → both a (pick c (lower 40 is) true) ≡ true
@@ -79,7 +77,6 @@ nonempty : {is : List Item} (s : Syn is) → nul is ≡ false → 0 < length (yi
 unfolding yield
 nonempty nil h = true-false (sym h)
 nonempty (tok s) h = omega arith
-nonempty (act s) h = nonempty s h
 nonempty (sub {X = X} {is = is} p t s) h = go (null X) refl (nul (rhs p)) refl h (λ q. nonempty t q) (λ z. nonempty s z)
   where
     go : (a : Bool) → null X ≡ a → (b : Bool) → nul (rhs p) ≡ b → pick a (nul is) false ≡ false → (nul (rhs p) ≡ false → 0 < length (yield t)) → (nul is ≡ false → 0 < length (yield s)) → 0 < length (yield t ++ yield s)
@@ -105,13 +102,6 @@ module _ (ks : List ℕ) where
       go : (r : Res (Syn is)) → Run (kindAt ks) d F is (i + 1) r → Ran ks d F (sy k ∷ is) i
       go (got s j) v = record { result = got (tok s) j; run = sy-got e v }
       go (bad n j) v = record { result = bad n j; run = sy-bad e v }
-
-  on-node : {d : ℕ} {F : List ℕ} {is : List Item} {w : _} {i : ℕ} → Ran ks d F is i → Ran ks d F (put w ∷ is) i
-  on-node {d} {F} {is} {w} {i} v = go (v .result) (v .run)
-    where
-      go : (r : Res (Syn is)) → Run (kindAt ks) d F is i r → Ran ks d F (put w ∷ is) i
-      go (got s j) v = record { result = got (act s) j; run = put-got v }
-      go (bad n j) v = record { result = bad n j; run = put-bad v }
 
   at-limit : {F : List ℕ} {is : List Item} {X : Class} (i : ℕ) → Ran ks 0 F (rd true X ∷ is) i
   at-limit {F} {is} {X} i = go (mem (kindAt ks i) (after (rd true X ∷ is) F)) refl
@@ -167,7 +157,6 @@ module _ (ks : List ℕ) where
       go : Dec (kindAt ks i ≡ k) → (i + 1 ≤ length ks → left (i + 1) 40 ≤ m → Ran ks d F is (i + 1)) → Ran ks d F (sy k ∷ is) i
       go (no q) u = record { result = bad 5 i; run = sy-no q }
       go (yes q) u = let n : i < length ks = inside ks i q (not-end k is c .0) in on-symbol q (u (omega arith) (omega arith))
-  items m h d F (put w ∷ is) i r c l b e = on-node (items m h d F is i r c l b e)
   items m h d F (rd false X ∷ is) i r c l b e =
       let n = ltb-true (rank X) r (left-of (ltb (rank X) r) (pick (null X) (lower r is) true) l) in
       let l₂ = right-of (ltb (rank X) r) (pick (null X) (lower r is) true) l in
