@@ -9,7 +9,8 @@ use lib.Seq.{take-all}
 use Rattle.answers.specs.Answers.{answer}
 use Rattle.answers.specs.declared.Answer.{Answer}
 use Rattle.grammar.specs.Grammar.{block, rd, begin-end, program}
-use Rattle.grammar.specs.Trees.{Syn, nodes, nodesOf}
+use Rattle.grammar.specs.Trees.{Syn}
+use Rattle.grammar.specs.model.Marked.{unmarked, nodes, nodesOf}
 use Rattle.grammar.specs.Program.{levels}
 use Rattle.grammar.specs.Verdict.{zeros, room, Verdict}
 use Rattle.grammar.specs.Text.{text, kindAt}
@@ -26,12 +27,12 @@ record Program (ks mid : List ℕ) (F : List ℕ) (j b : ℕ) : Type 0 where
   words : b ≡ length (nodesOf tree)
   wrote : take b mid ≡ nodesOf tree
 
-taken : {ks mid : List ℕ} {F : List ℕ} (B : ℕ) {e j b : ℕ} {s : Syn (rd false block ∷ [])} → Run (kindAt ks) e F (rd false block ∷ []) 0 (got s j) → e ≡ levels → b ≡ length (nodes s 1 B 0) → take b mid ≡ nodes s 1 B 0 → Program ks mid F j b
+taken : {ks mid : List ℕ} {F : List ℕ} (B : ℕ) {e j b : ℕ} {s : Syn (rd false block ∷ [])} → Run (kindAt ks) e F (rd false block ∷ []) 0 (got s j) → e ≡ levels → b ≡ length (nodes s (unmarked (rd false block ∷ [])) 1 B 0) → take b mid ≡ nodes s (unmarked (rd false block ∷ [])) 1 B 0 → Program ks mid F j b
 unfolding nodes nodesOf
 taken {ks} {F = F} B {j = j} (rd-got {p = begin-end} {t = t} level h v end) q n w =
     record { tree = t; run = subst (λ (x : ℕ). Run (kindAt ks) x F program 0 (got t j)) q v; words = simp append-nil at n; wrote = simp append-nil at w }
 
-the-program : {ks old mid : List ℕ} {B : ℕ} {F : List ℕ} {j b : ℕ} → Got ks old mid 1 B F (rd false block ∷ []) 0 0 j b → Program ks mid F j b
+the-program : {ks old mid : List ℕ} {B : ℕ} {F : List ℕ} {j b : ℕ} → Got ks old mid 1 B F (unmarked (rd false block ∷ [])) 0 0 j b → Program ks mid F j b
 the-program {B = B} g = taken B (g .run) refl (omega (arith, g .num)) (g .wrote)
 
 cleared : {mid new : List ℕ} → Clear mid new 0 → length mid ≡ room → new ≡ zeros room
@@ -40,7 +41,7 @@ cleared {mid} c size = c .words ∙ ap (λ (n : ℕ). zeros n) none
     none : length mid - 0 ≡ room
     none = omega arith
 
-module _ {ks old mid new : List ℕ} {B j b : ℕ} (g : Got ks old mid 1 B (33 ∷ []) (rd false block ∷ []) 0 0 j b) (size : length mid ≡ room) where
+module _ {ks old mid new : List ℕ} {B j b : ℕ} (g : Got ks old mid 1 B (33 ∷ []) (unmarked (rd false block ∷ [])) 0 0 j b) (size : length mid ≡ room) where
   pub all-read : j ≡ length ks → Clear mid new b → Verdict ks new (Read j b)
   all-read l w =
       let p = the-program g in

@@ -5,8 +5,9 @@ use mathlib.Core.Bool.{Bool, true, false}
 use mathlib.Core.List.{List, [], _∷_, _++_}
 use lib.ListN.{length, take}
 use Rattle.answers.specs.declared.Answer.{Answer}
-use Rattle.grammar.specs.Grammar.{Item}
-use Rattle.grammar.specs.Trees.{Syn, yield, nodes}
+use Rattle.grammar.specs.Grammar.{Class, Item, Prod}
+use Rattle.grammar.specs.Trees.{Syn, yield}
+use Rattle.grammar.specs.model.Marked.{Marks, unmarked, marks, nodes}
 use Rattle.grammar.specs.Verdict.{zeros}
 use Rattle.grammar.specs.Text.{kindAt}
 use Rattle.grammar.specs.Run.{Run, got, bad}
@@ -40,23 +41,33 @@ pub record Put (old new : List ℕ) (a b k s x y : ℕ) : Type 0 where
 pub record Clear (old new : List ℕ) (from : ℕ) : Type 0 where
   pub words : new ≡ take from old ++ zeros (length old - from)
 
--- items were read, from i to j, and their nodes written, from a to b: at depth d, in a production that began at B
-pub record Got (ks old new : List ℕ) (d B : ℕ) (F : List ℕ) (is : List Item) (i a j b : ℕ) : Type 0 where
+-- items were read, from i to j, and the nodes among them and in them written, from a to b: at depth d, in a production that began at B
+pub record Got (ks old new : List ℕ) (d B : ℕ) (F : List ℕ) {is : List Item} (ms : Marks is) (i a j b : ℕ) : Type 0 where
   pub tree : Syn is
   pub run : Run (kindAt ks) (left d) F is i (got tree j)
   pub within : j ≤ length ks
   pub far : j ≡ i + length (yield tree)
-  pub num : b ≡ a + length (nodes tree d B i)
-  pub wrote : take b new ≡ take a old ++ nodes tree d B i
+  pub num : b ≡ a + length (nodes tree ms d B i)
+  pub wrote : take b new ≡ take a old ++ nodes tree ms d B i
 
--- the answer to items read from i on; one of F may follow them
-pub record Says (ks old new : List ℕ) (d B : ℕ) (F : List ℕ) (is : List Item) (i a : ℕ) (r : Parsed) : Type 0 where
-  pub read : (j b : ℕ) → r ≡ Read j b → Got ks old new d B F is i a j b
+-- the answer to items with nodes among them, read from i on; one of F may follow them
+pub record SaysWith (ks old new : List ℕ) (d B : ℕ) (F : List ℕ) {is : List Item} (ms : Marks is) (i a : ℕ) (r : Parsed) : Type 0 where
+  pub read : (j b : ℕ) → r ≡ Read j b → Got ks old new d B F ms i a j b
   pub refused : (n : Answer) (k : ℕ) → r ≡ Refused n k → Run (kindAt ks) (left d) F is i (bad (n .number) k)
+
+-- to items with none; and to a production
+abbrev pub Says : List ℕ → List ℕ → List ℕ → ℕ → ℕ → List ℕ → List Item → ℕ → ℕ → Parsed → Type 0
+Says ks old new d B F is i a r = SaysWith ks old new d B F (unmarked is) i a r
+
+abbrev pub SaysOf : List ℕ → List ℕ → List ℕ → ℕ → ℕ → List ℕ → {X : Class} → Prod X → ℕ → ℕ → Parsed → Type 0
+SaysOf ks old new d B F p i a r = SaysWith ks old new d B F (marks p) i a r
 
 -- whatever may follow; and at any depth
 abbrev pub Tells : List ℕ → List ℕ → List ℕ → ℕ → List Item → ℕ → ℕ → Parsed → Type 0
 Tells ks old new d is i a r = (F : List ℕ) → Says ks old new d i F is i a r
+
+abbrev pub TellsOf : List ℕ → List ℕ → List ℕ → ℕ → {X : Class} → Prod X → ℕ → ℕ → Parsed → Type 0
+TellsOf ks old new d p i a r = (F : List ℕ) → SaysOf ks old new d i F p i a r
 
 abbrev pub TellsAll : List ℕ → List ℕ → List ℕ → List Item → ℕ → ℕ → Parsed → Type 0
 TellsAll ks old new is i a r = (d : ℕ) (F : List ℕ) → Says ks old new d i F is i a r

@@ -10,9 +10,9 @@ use grammar::nodes;
 use symbols::Symbol;
 ghost use mathlib.Core.List.{[], _∷_};
 ghost use Prim.Native.Nat.{_+_, _<_};
-ghost use Rattle.grammar.specs.Grammar.{part, rhs, named as a-named, right as a-right, value as a-value, for-clause as a-for-clause, elements as the-elements, further as the-further, element as an-element, progress as a-progress, stepping as a-stepping, amount as an-amount};
+ghost use Rattle.grammar.specs.Grammar.{part, named as a-named, right as a-right, value as a-value, for-clause as a-for-clause, elements as the-elements, further as the-further, element as an-element, progress as a-progress, stepping as a-stepping, amount as an-amount};
 ghost use Rattle.grammar.specs.Text.{text};
-ghost use Rattle.syntax.specs.Says.{Room, Behind, Tells};
+ghost use Rattle.syntax.specs.Says.{Room, Behind, Tells, TellsOf};
 
 // An assignment or a procedure statement, behind the name that begins it.
 pub fn named(kinds: &[u8], name: usize, depth: u16, nodes: &mut [u16], free: usize) -> Parsed
@@ -53,7 +53,7 @@ fn right(kinds: &[u8], becomes: usize, depth: u16, nodes: &mut [u16], free: usiz
 // The right side of an assignment.
 fn value(kinds: &[u8], becomes: usize, depth: u16, nodes: &mut [u16], free: usize) -> Parsed
     requires { ⌜ Behind (text (now kinds)) (now nodes) becomes free ⌝ }
-    ensures { λ r. ⌜ Tells (text (now (kinds .entry))) (now (nodes .entry)) (now (nodes .exit)) depth (rhs a-value) (becomes + 1) free r ⌝ }
+    ensures { λ r. ⌜ TellsOf (text (now (kinds .entry))) (now (nodes .entry)) (now (nodes .exit)) depth a-value (becomes + 1) free r ⌝ }
 {
     let one = expression(kinds, becomes + 1, depth, nodes, free);
     match one {

@@ -13,10 +13,11 @@ use symbols::Symbol;
 ghost use mathlib.Core.Path.{_≡_};
 ghost use mathlib.Core.List.{[], _∷_};
 ghost use Prim.Native.Nat.{_+_};
-ghost use Rattle.grammar.specs.Grammar.{part, deeper, rhs, useNumber, level as a-level, operand as an-operand, expression as an-expression, a-condition, otherwise as an-otherwise, chain as a-chain, more as the-more, negation as a-negation, relation as a-relation, comparison as a-comparison, primary as a-primary, actuals as the-actuals, actual as an-actual, further-actuals};
+ghost use Rattle.grammar.specs.Grammar.{part, deeper, level as a-level, operand as an-operand, expression as an-expression, a-condition, otherwise as an-otherwise, chain as a-chain, more as the-more, negation as a-negation, relation as a-relation, comparison as a-comparison, primary as a-primary, actuals as the-actuals, actual as an-actual, further-actuals};
+ghost use Rattle.grammar.specs.model.Marked.{useNumber};
 ghost use Rattle.grammar.specs.declared.Level.the-variants.{Sum, Equivalence};
 ghost use Rattle.grammar.specs.Text.{text, kindAt};
-ghost use Rattle.syntax.specs.Says.{Room, Behind, Tells};
+ghost use Rattle.syntax.specs.Says.{Room, Behind, Tells, TellsOf};
 
 pub fn expression(kinds: &[u8], pos: usize, depth: u16, nodes: &mut [u16], free: usize) -> Parsed
     requires { ⌜ Room (text (now kinds)) (now nodes) pos free ⌝ }
@@ -31,7 +32,7 @@ pub fn expression(kinds: &[u8], pos: usize, depth: u16, nodes: &mut [u16], free:
 // A conditional expression, from its 'if' on.
 fn condition(kinds: &[u8], pos: usize, depth: u16, nodes: &mut [u16], free: usize) -> Parsed
     requires { ⌜ (Room (text (now kinds)) (now nodes) pos free) × (kindAt (text (now kinds)) pos ≡ 2) ⌝ }
-    ensures { λ r. ⌜ Tells (text (now (kinds .entry))) (now (nodes .entry)) (now (nodes .exit)) depth (rhs a-condition) pos free r ⌝ }
+    ensures { λ r. ⌜ TellsOf (text (now (kinds .entry))) (now (nodes .entry)) (now (nodes .exit)) depth a-condition pos free r ⌝ }
 {
     let one = nested(kinds, pos + 1, depth, nodes, free);
     match one {
@@ -102,7 +103,7 @@ fn nested_simple(kinds: &[u8], pos: usize, depth: u16, nodes: &mut [u16], free: 
 // Operands of a level with its operators between them.
 fn chain(kinds: &[u8], pos: usize, depth: u16, nodes: &mut [u16], free: usize, l: Level) -> Parsed
     requires { ⌜ Room (text (now kinds)) (now nodes) pos free ⌝ }
-    ensures { λ r. ⌜ Tells (text (now (kinds .entry))) (now (nodes .entry)) (now (nodes .exit)) depth (rhs (a-chain l)) pos free r ⌝ }
+    ensures { λ r. ⌜ TellsOf (text (now (kinds .entry))) (now (nodes .entry)) (now (nodes .exit)) depth (a-chain l) pos free r ⌝ }
 {
     let one = operand(kinds, pos, depth, nodes, free, l);
     match one {

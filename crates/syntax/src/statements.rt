@@ -17,9 +17,9 @@ ghost use mathlib.Core.Path.{_≡_};
 ghost use mathlib.Core.List.{[], _∷_};
 ghost use mathlib.Core.Bool.{true, false};
 ghost use Prim.Native.Nat.{_+_};
-ghost use Rattle.grammar.specs.Grammar.{part, deeper, rhs, block as a-block, inner as an-inner, head as a-head, tail as a-tail, declarations as the-declarations, declaration as a-declaration, declared as a-declared, procedure as a-procedure, statements as the-statements, statement as a-statement, conditional as a-conditional, consequence as a-consequence, alternative as an-alternative, repetition as a-repetition, unconditional as an-unconditional};
+ghost use Rattle.grammar.specs.Grammar.{part, deeper, block as a-block, inner as an-inner, head as a-head, tail as a-tail, declarations as the-declarations, declaration as a-declaration, declared as a-declared, procedure as a-procedure, statements as the-statements, statement as a-statement, conditional as a-conditional, consequence as a-consequence, alternative as an-alternative, repetition as a-repetition, unconditional as an-unconditional};
 ghost use Rattle.grammar.specs.Text.{text, kindAt};
-ghost use Rattle.syntax.specs.Says.{behind, Room, Behind, Tells, Says};
+ghost use Rattle.syntax.specs.Says.{behind, Room, Behind, Tells, Says, SaysOf};
 
 // 'begin' .. 'end'.
 pub fn block(kinds: &[u8], pos: usize, depth: u16, nodes: &mut [u16], free: usize) -> Parsed
@@ -240,7 +240,7 @@ fn conditional(
     ends: bool,
 ) -> Parsed
     requires { ⌜ (Room (text (now kinds)) (now nodes) pos free) × (kindAt (text (now kinds)) pos ≡ 2) ⌝ }
-    ensures { λ r. ⌜ Says (text (now (kinds .entry))) (now (nodes .entry)) (now (nodes .exit)) depth pos (behind ends) (rhs a-conditional) pos free r ⌝ }
+    ensures { λ r. ⌜ SaysOf (text (now (kinds .entry))) (now (nodes .entry)) (now (nodes .exit)) depth pos (behind ends) a-conditional pos free r ⌝ }
 {
     let one = expression(kinds, pos + 1, depth, nodes, free);
     match one {

@@ -2,7 +2,6 @@
 use mathlib.Core.Path.{refl}
 use mathlib.Core.List.{[], _∷_}
 use native.Mathlib.Omega.{arith}
-use Rattle.grammar.specs.Grammar.{put}
 use Rattle.grammar.proofs.Peeks.{inside, is-at, is-not, but}
 use Rattle.syntax.proofs.Lemmas.{space, s-sy, s-no, s-put, s-prod, s-part, s-bad, s-last}
 use Rattle.grammar.specs.Grammar as G

@@ -1,7 +1,6 @@
 -- `syntax::clauses::value` meets its contract. Assumes nothing.
 use mathlib.Core.List.{[]}
 use native.Mathlib.Omega.{arith}
-use Rattle.grammar.specs.Grammar.{put}
 use Rattle.grammar.proofs.Peeks.{inside}
 use Rattle.syntax.proofs.Lemmas.{space, s-end, s-put, s-part, s-bad}
 use borrow.Author.Needs.{needs}

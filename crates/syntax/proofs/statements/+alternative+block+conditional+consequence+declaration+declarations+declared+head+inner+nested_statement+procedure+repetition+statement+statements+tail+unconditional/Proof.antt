@@ -5,7 +5,6 @@ use mathlib.Core.List.{[], _∷_}
 use Prim.Native.Nat.{ℕ, _+_, _-_, _*_, _<_}
 use native.Mathlib.Omega.{arith}
 use lib.ListN.{length}
-use Rattle.grammar.specs.Grammar.{put}
 use Rattle.grammar.specs.Tables.{choose, some}
 use Rattle.grammar.specs.Run.{now}
 use Rattle.grammar.specs.Text.{text}
