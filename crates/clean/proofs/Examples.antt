@@ -11,7 +11,7 @@ use Rattle.symbols.specs.Names.{blank, letter, digit, inName, these, reach, val
 use Rattle.symbols.specs.Scan.{before, closed, spelled, named, word, gap, followed, sign, sized, name, valued, number, lexeme, behind, endsRemark, note, counted, judged, turn, scanFrom, scan, kindsOf}
 use Rattle.grammar.specs.Grammar as G
 use Rattle.grammar.specs.Grammar.{Prod, rhs, program}
-use Rattle.grammar.specs.Trees.{Syn, nil, tok, act, sub, yield}
+use Rattle.grammar.specs.Trees.{Syn, nil, tok, sub, yield}
 use Rattle.grammar.specs.declared.Entry.the-variants.{Variable}
 use Rattle.grammar.specs.declared.Level.the-variants.{Product, Sum, Conjunction, Disjunction, Implication, Equivalence}
 use Rattle.symbols.specs.Spelling.{wordFor, signFor, spell, spelling, text, readOff, dress}
@@ -41,7 +41,7 @@ alone p t =
 
 -- 1
 abbrev one : Syn (rhs G.simple)
-one = alone G.number (tok (act nil))
+one = alone G.number (tok nil)
 
 -- (1)
 abbrev enclosed : Syn (rhs G.simple)
@@ -49,7 +49,7 @@ enclosed = alone G.in-parentheses (tok (sub G.simple one (tok nil)))
 
 -- a := ..
 abbrev assigned : Syn (rhs G.simple) → Syn (rhs G.plain)
-assigned e = sub G.with-name (tok (sub G.assignment (act (tok (sub G.value (sub G.simple e (act nil)) nil))) nil)) nil
+assigned e = sub G.with-name (tok (sub G.assignment (tok (sub G.value (sub G.simple e nil) nil)) nil)) nil
 
 abbrev dummy : Syn (rhs G.plain)
 dummy = sub G.dummy nil nil
@@ -66,10 +66,10 @@ abbrev compound : Syn (rhs G.a-tail) → Syn program
 compound s = tok (sub G.a-compound (sub G.a-tail s nil) (tok nil))
 
 abbrev declares : Syn (rhs G.typed)
-declares = sub G.integer (tok (act nil)) (sub G.variables (sub (G.a-list Variable) (tok (act (sub (G.no-other Variable) nil nil))) nil) nil)
+declares = sub G.integer (tok nil) (sub G.variables (sub (G.a-list Variable) (tok (sub (G.no-other Variable) nil nil)) nil) nil)
 
 abbrev block : Syn (rhs G.a-tail) → Syn program
-block s = tok (sub G.a-block (act (sub G.a-head (sub G.typed declares (tok (sub G.no-declaration nil nil))) (act (sub G.a-tail s (act nil))))) (tok nil))
+block s = tok (sub G.a-block (sub G.a-head (sub G.typed declares (tok (sub G.no-declaration nil nil))) (sub G.a-tail s nil)) (tok nil))
 
 abbrev pub empty : Syn program
 empty = compound (single dummy)

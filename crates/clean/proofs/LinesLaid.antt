@@ -6,9 +6,9 @@ use Prim.Native.Nat.{ℕ, suc, pred, _+_, _-_}
 use native.Mathlib.Omega.{arith}
 use lib.Dec.{eqb}
 use borrow.Author.Tests.{ne-eqb}
-use Rattle.grammar.specs.Grammar.{times, over, plus, minus, and, or, implies, equals, less, lessEqual, equal, greaterEqual, greater, notEqual, Class, block, inner, head, tail, declarations, declaration, declared, type, procedure, heading, formals, values, specifications, list, others, statements, statement, consequence, alternative, repetition, for-clause, elements, further, element, progress, stepping, amount, unconditional, named, right, expression, otherwise, level, more, negation, relation, comparison, primary, actuals, actual, further-actuals, Item, sy, rd, put, rhs, program}
+use Rattle.grammar.specs.Grammar.{times, over, plus, minus, and, or, implies, equals, less, lessEqual, equal, greaterEqual, greater, notEqual, Class, block, inner, head, tail, declarations, declaration, declared, type, procedure, heading, formals, values, specifications, list, others, statements, statement, consequence, alternative, repetition, for-clause, elements, further, element, progress, stepping, amount, unconditional, named, right, expression, otherwise, level, more, negation, relation, comparison, primary, actuals, actual, further-actuals, Item, sy, rd, rhs, program}
 use Rattle.grammar.specs.Grammar.{Prod, begin-end, a-block, a-compound, a-tail, a-head, some-declarations, no-declaration, typed, untyped, variables, function, integer, boolean, a-procedure, a-heading, some-formals, no-formals, some-values, no-values, a-specification, no-specification, a-list, another, no-other, a-statement, no-statement, conditional, repeated, plain, then-for, then-plain, an-else, no-else, a-for, a-clause, for-list, another-element, no-element, an-element, once, while, by-steps, a-step, an-amount, dummy, compound, with-name, assignment, call, left, value, a-condition, simple, an-otherwise, chain, signed, again, no-more, a-not, no-not, a-relation, compare, no-comparison, number, true-value, false-value, a-name, in-parentheses, with, bare, an-actual, another-actual, no-actual}
-use Rattle.grammar.specs.Trees.{Syn, nil, tok, act, sub, yield}
+use Rattle.grammar.specs.Trees.{Syn, nil, tok, sub, yield}
 use Rattle.grammar.specs.declared.Level.the-variants.{Product, Sum, Conjunction, Disjunction, Implication, Equivalence}
 use Rattle.clean.specs.House.{Placing, on, aside, placing, Mark, line, symbol, any, begun, levelIn, laid, gaps, house}
 use Rattle.clean.specs.Lines.{topLevel, base, peek, headed, lines}
@@ -133,7 +133,6 @@ abbrev Bal : List Item → ℕ → ℕ → Type 0
 Bal [] a b = a ≡ b
 Bal (sy k ∷ is) a b = (c : ℕ) × Tok k a c × Bal is c b
 Bal (rd d X ∷ is) a b = (placing d X ≡ on) × Calm (stance X) × ((c : ℕ) × (a ≡ from (stance X) c) × Bal is c b)
-Bal (put n ∷ is) a b = Bal is a b
 
 balanced : {X : Class} (p : Prod X) → Calm (stance X) → (c : ℕ) → Bal (rhs p) (from (stance X) c) c
 unfolding plainKind
@@ -236,7 +235,6 @@ calm-run (tok {k} s) a b (c, t, e) v st h rest =
     tok-lines t v st h (yield s ++ rest)
     ∙ ap (λ (l : List Mark). symbol k ∷ l) (calm-run s c b e v st h rest)
     ∙ ap (λ (l : List Mark). l ++ lines v st b h false rest) (sym (tok-laid t v (laid v s)))
-calm-run (act s) a b e v st h rest = calm-run s a b e v st h rest
 calm-run (sub {b = d} {X = X} p t s) a b (o, k, (c, f, e)) v st h rest =
     let R = lines v st b h false rest in
     ap (lines v st a h false) (append-assoc (yield t) (yield s) rest)
@@ -355,7 +353,6 @@ abbrev Made : List Item → (List ℕ → (ℕ → List Mark) → Type 0) → Ty
 Made [] Q = Q [] (λ v. [])
 Made (sy k ∷ is) Q = Made is (λ y m. Q (k ∷ y) (λ v. cond (eqb k 1) (line v ∷ symbol k ∷ m v) (symbol k ∷ m v)))
 Made (rd d X ∷ is) Q = (y : List ℕ) (m : ℕ → List Mark) → Spec X y m → Made is (λ z n. Q (y ++ z) (λ v. begun (placing d X) (any y) v (m (levelIn (placing d X) v)) ++ n v))
-Made (put n ∷ is) Q = Made is Q
 
 made-begin-end : Made (rhs begin-end) (Spec block)
 unfolding lines
@@ -733,7 +730,6 @@ whole : {is : List Item} (s : Syn is) (Q : List ℕ → (ℕ → List Mark) → 
 unfolding yield laid
 whole nil Q h = h
 whole (tok {k} s) Q h = whole s (λ y m. Q (k ∷ y) (λ v. cond (eqb k 1) (line v ∷ symbol k ∷ m v) (symbol k ∷ m v))) h
-whole (act s) Q h = whole s Q h
 whole (sub {b = d} {X = X} p t s) Q h =
     whole s (λ z n. Q (yield t ++ z) (λ v. begun (placing d X) (any (yield t)) v (laid (levelIn (placing d X) v) t) ++ n v))
     (h (yield t) (λ v. laid v t) (part (calm-or (stance X)) (λ k. whole t (Spec X) (built p k))))

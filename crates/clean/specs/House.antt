@@ -23,7 +23,7 @@ use lib.Dec.{eqb}
 use Rattle.symbols.specs.Symbols.{kind}
 use Rattle.symbols.specs.declared.Symbol.the-variants.{End, True, False, Plus, Minus, Comma, Semicolon, Open, Close, Name, Number}
 use Rattle.grammar.specs.Grammar.{Class, block, inner, head, tail, declarations, declaration, declared, type, procedure, heading, formals, values, specifications, list, others, statements, statement, consequence, alternative, repetition, for-clause, elements, further, element, progress, stepping, amount, unconditional, named, right, expression, otherwise, level, more, negation, relation, comparison, primary, actuals, actual, further-actuals, Item, program}
-use Rattle.grammar.specs.Trees.{Syn, nil, tok, act, sub, yield}
+use Rattle.grammar.specs.Trees.{Syn, nil, tok, sub, yield}
 use Rattle.symbols.specs.Spelling.{tokens, text, dress}
 
 -- ---- where a line begins
@@ -106,7 +106,6 @@ levelIn (aside d) v = v
 unfoldable pub laid : {is : List Item} → ℕ → Syn is → List Mark
 laid v nil = []
 laid v (tok {k} s) = cond (eqb k (kind End)) (line v ∷ symbol k ∷ laid v s) (symbol k ∷ laid v s)
-laid v (act s) = laid v s
 laid v (sub {b} {X} p t s) = begun (placing b X) (any (yield t)) v (laid (levelIn (placing b X) v) t) ++ laid v s
 
 -- ---- the blanks before each symbol

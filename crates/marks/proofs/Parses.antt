@@ -8,7 +8,7 @@ use mathlib.Core.Option.{Option, none, some}
 use native.Mathlib.Omega.{arith}
 use lib.Dec.{eqb}
 use borrow.Author.Tests.{eqb-true, eqb-false}
-use Rattle.grammar.specs.Grammar.{Class, Node, Item, sy, rd, put, Prod, rhs}
+use Rattle.grammar.specs.Grammar.{Class, Item, sy, rd, Prod, rhs}
 use Rattle.grammar.specs.Trees.{Syn}
 use Rattle.grammar.specs.Tables.{Choice, none as no-choice, some as takes, choose}
 use Rattle.grammar.specs.Run.{Res, got, bad, In, now, later, after, Goes, level, deep, Run, end, sy-no, sy-got, sy-bad, put-got, put-bad, rd-six, rd-five, rd-none, rd-bad, rd-more, rd-got}
@@ -56,11 +56,6 @@ module _ (f : ℕ → ℕ) where
     on-test k true e o h = on-symbol k (eqb-true (f i) k e) o h
     on-test k false e o h = sy-no (eqb-false (f i) k e)
 
-    on-node : (w : Node) (o : Option (Res (Syn is))) → Right d F is i o → Right d F (put w ∷ is) i (onNode o)
-    on-node w none h = tt
-    on-node w (some (got s j)) h = put-got h
-    on-node w (some (bad n j)) h = put-bad h
-
     on-limit : (X : Class) (t : Bool) → among (f i) (after (rd true X ∷ is) F) ≡ t → Right 0 F (rd true X ∷ is) i (elim t [ true ↦ some (bad 6 i) | false ↦ some (bad 5 i) ])
     on-limit X true e = rd-six (is-among (f i) (after (rd true X ∷ is) F) e)
     on-limit X false e = rd-five (not-among (f i) (after (rd true X ∷ is) F) e)
@@ -90,7 +85,6 @@ module _ (f : ℕ → ℕ) where
   runs zero d F is i = tt
   runs (suc n) d F [] i = end
   runs (suc n) d F (sy k ∷ is) i = on-test d F is i k (eqb (f i) k) refl (parse f n d F is (i + 1)) (runs n d F is (i + 1))
-  runs (suc n) d F (put w ∷ is) i = on-node d F is i w (parse f n d F is i) (runs n d F is i)
   runs (suc n) d F (rd false X ∷ is) i =
       on-choice d F is i false d X level (choose X (f i) (f (i + 1))) refl (λ p. parse f n d (after is F) (rhs p) i) (λ p. runs n d (after is F) (rhs p) i) (λ j. parse f n d F is j) (λ j. runs n d F is j)
   runs (suc n) zero F (rd true X ∷ is) i = on-limit 0 F is i X (among (f i) (after (rd true X ∷ is) F)) refl

@@ -5,8 +5,8 @@ use mathlib.Core.Bool.{Bool, true, false, _||_}
 use mathlib.Core.List.{List, [], _∷_}
 use mathlib.Core.Option.{Option, none, some}
 use lib.Dec.{eqb}
-use Rattle.grammar.specs.Grammar.{Class, Node, Item, sy, rd, put, Prod, rhs}
-use Rattle.grammar.specs.Trees.{Syn, nil, tok, act, sub}
+use Rattle.grammar.specs.Grammar.{Class, Item, sy, rd, Prod, rhs}
+use Rattle.grammar.specs.Trees.{Syn, nil, tok, sub}
 use Rattle.grammar.specs.Tables.{Choice, none as no-choice, some as takes, choose}
 use Rattle.grammar.specs.Run.{Res, got, bad, after}
 
@@ -19,11 +19,6 @@ abbrev pub onSymbol : {k : ℕ} {is : List Item} → Option (Res (Syn is)) → O
 onSymbol none = none
 onSymbol (some (got s j)) = some (got (tok s) j)
 onSymbol (some (bad n k)) = some (bad n k)
-
-abbrev pub onNode : {w : Node} {is : List Item} → Option (Res (Syn is)) → Option (Res (Syn (put w ∷ is)))
-onNode none = none
-onNode (some (got s j)) = some (got (act s) j)
-onNode (some (bad n k)) = some (bad n k)
 
 abbrev pub onRest : {b : Bool} {X : Class} {is : List Item} (p : Prod X) → Syn (rhs p) → Option (Res (Syn is)) → Option (Res (Syn (rd b X ∷ is)))
 onRest p t none = none
@@ -46,7 +41,6 @@ module _ (f : ℕ → ℕ) where
   parse zero d F is i = none
   parse (suc n) d F [] i = some (got nil i)
   parse (suc n) d F (sy k ∷ is) i = elim (eqb (f i) k) [ true ↦ onSymbol (parse n d F is (i + 1)) | false ↦ some (bad 5 i) ]
-  parse (suc n) d F (put w ∷ is) i = onNode (parse n d F is i)
   parse (suc n) d F (rd false X ∷ is) i = onChoice i (choose X (f i) (f (i + 1))) (λ p. parse n d (after is F) (rhs p) i) (λ j. parse n d F is j)
   parse (suc n) zero F (rd true X ∷ is) i = elim (among (f i) (after (rd true X ∷ is) F)) [ true ↦ some (bad 6 i) | false ↦ some (bad 5 i) ]
   parse (suc n) (suc d) F (rd true X ∷ is) i = onChoice i (choose X (f i) (f (i + 1))) (λ p. parse n d (after is F) (rhs p) i) (λ j. parse n (suc d) F is j)

@@ -6,9 +6,10 @@ use mathlib.Core.List.{List, [], _∷_, _++_, append-nil, append-assoc}
 use mathlib.Core.Option.{Option, none, some}
 use native.Mathlib.Omega.{arith}
 use lib.ListN.{length}
-use Rattle.grammar.specs.Grammar.{Op, times, over, plus, minus, and, or, implies, equals, Relation, less, lessEqual, equal, greaterEqual, greater, notEqual, Class, block, inner, head, tail, declarations, declaration, declared, type, procedure, heading, formals, values, specifications, list, others, statements, statement, consequence, alternative, repetition, for-clause, elements, further, element, progress, stepping, amount, unconditional, named, right, expression, otherwise, level, more, negation, relation, comparison, primary, actuals, actual, further-actuals, operand, Item, sy, rd, put, rhs, program, entryNode, useNumber, opSymbol, relationSymbol}
+use Rattle.grammar.specs.Grammar.{Op, times, over, plus, minus, and, or, implies, equals, Relation, less, lessEqual, equal, greaterEqual, greater, notEqual, Class, block, inner, head, tail, declarations, declaration, declared, type, procedure, heading, formals, values, specifications, list, others, statements, statement, consequence, alternative, repetition, for-clause, elements, further, element, progress, stepping, amount, unconditional, named, right, expression, otherwise, level, more, negation, relation, comparison, primary, actuals, actual, further-actuals, operand, Item, sy, rd, rhs, program, opSymbol, relationSymbol}
 use Rattle.grammar.specs.Grammar.{Prod, begin-end, a-block, a-compound, a-tail, a-head, some-declarations, no-declaration, typed, untyped, variables, function, integer, boolean, a-procedure, a-heading, some-formals, no-formals, some-values, no-values, a-specification, no-specification, a-list, another, no-other, a-statement, no-statement, conditional, repeated, plain, then-for, then-plain, an-else, no-else, a-for, a-clause, for-list, another-element, no-element, an-element, once, while, by-steps, a-step, an-amount, dummy, compound, with-name, assignment, call, left, value, a-condition, simple, an-otherwise, chain, signed, again, no-more, a-not, no-not, a-relation, compare, no-comparison, number, true-value, false-value, a-name, in-parentheses, with, bare, an-actual, another-actual, no-actual}
-use Rattle.grammar.specs.Trees.{Syn, nil, tok, act, sub, yield, nodes, nodeWords, below, nodesOf}
+use Rattle.grammar.specs.Trees.{Syn, nil, tok, sub, yield}
+use Rattle.grammar.specs.model.Marked.{entryNode, useNumber, Marks, end, on, put, unmarked, marks, nodeWords, below, before-item, behind-item, allWords, nodes, nodesOf}
 use Rattle.grammar.specs.NodeKinds.{n-block, n-statements, n-block-end, n-type, n-procedure, n-formal, n-value, n-body, n-procedure-end, n-then, n-if-end, n-for, n-start, n-for-end, n-left, n-call, n-call-end, n-actual}
 use Rattle.grammar.specs.declared.Level.{Level}
 use Rattle.grammar.specs.declared.Level.the-variants.{Product, Sum, Conjunction, Disjunction, Implication, Equivalence}
@@ -84,24 +85,38 @@ Is further-actuals d i es w = w ≡ nodesEs (d + 1) es
 
 module _ (worth : ℕ → ℕ) (letters : ℕ → List ℕ) where
   -- f makes of the items what P wants, where each part is as its class has it. acc: the words so far
-  abbrev Good : (is : List Item) (d b i : ℕ) (R : Type 0) → Makes is R → List ℕ → (R → List ℕ → Type 0) → Type 0
-  Good [] d b i R f acc Q = Q f acc
-  Good (sy k ∷ is) d b i R f acc Q = Good is d b (i + 1) R (f i) acc Q
-  Good (put n ∷ is) d b i R f acc Q = Good is d b i R f (acc ++ nodeWords n d b i) Q
-  Good (rd c X ∷ is) d b i R f acc Q = (v : Sem X) (w : List ℕ) (m : ℕ) → Is X (below c d) i v w → Good is d b (i + m) R (f v) (acc ++ w) Q
+  abbrev Good : {is : List Item} (ms : Marks is) (d b i : ℕ) (R : Type 0) → Makes is R → List ℕ → (R → List ℕ → Type 0) → Type 0
+  Good end d b i R f acc Q = Q f acc
+  Good (on {x = sy k} ms) d b i R f acc Q = Good ms d b (i + 1) R (f i) acc Q
+  Good (on {x = rd c X} ms) d b i R f acc Q = (v : Sem X) (w : List ℕ) (m : ℕ) → Is X (below c d) i v w → Good ms d b (i + m) R (f v) (acc ++ w) Q
+  Good (put n ms) d b i R f acc Q = Good ms d b i R f (acc ++ nodeWords n d b i) Q
 
-  module _ (fits : (X : Class) (p : Prod X) (d i : ℕ) → Good (rhs p) d i i (Sem X) (build worth letters p) [] (Is X d i)) where
-    runs : {is : List Item} (t : Syn is) (d b i : ℕ) (R : Type 0) (f : Makes is R) (acc : List ℕ) (Q : R → List ℕ → Type 0)
-        → Good is d b i R f acc Q → Q (read worth letters R t i f) (acc ++ nodes t d b i)
+  -- the nodes behind the last item, or before the next one, are among the words so far
+  at-end : (ms : Marks []) (d b i : ℕ) (R : Type 0) (f : R) (acc : List ℕ) (Q : R → List ℕ → Type 0) → Good ms d b i R f acc Q → Q f (acc ++ allWords (before-item ms) d b i)
+  at-end end d b i R f acc Q g = rw (append-nil acc) g
+  at-end (put n ms) d b i R f acc Q g = rw (← append-assoc acc (nodeWords n d b i) (allWords (before-item ms) d b i)) (at-end ms d b i R f (acc ++ nodeWords n d b i) Q g)
+
+  to-item : {x : Item} {is : List Item} (ms : Marks (x ∷ is)) (d b i : ℕ) (R : Type 0) (f : Makes (x ∷ is) R) (acc : List ℕ) (Q : R → List ℕ → Type 0)
+      → Good ms d b i R f acc Q → Good (on {x = x} (behind-item ms)) d b i R f (acc ++ allWords (before-item ms) d b i) Q
+  to-item (on ms) d b i R f acc Q g = rw (append-nil acc) g
+  to-item (put n ms) d b i R f acc Q g = rw (← append-assoc acc (nodeWords n d b i) (allWords (before-item ms) d b i)) (to-item ms d b i R f (acc ++ nodeWords n d b i) Q g)
+
+  module _ (fits : (X : Class) (p : Prod X) (d i : ℕ) → Good (marks p) d i i (Sem X) (build worth letters p) [] (Is X d i)) where
+    runs : {is : List Item} (t : Syn is) (ms : Marks is) (d b i : ℕ) (R : Type 0) (f : Makes is R) (acc : List ℕ) (Q : R → List ℕ → Type 0)
+        → Good ms d b i R f acc Q → Q (read worth letters R t i f) (acc ++ nodes t ms d b i)
     unfolding read nodes
-    runs nil d b i R f acc Q g = rw (append-nil acc) g
-    runs (tok s) d b i R f acc Q g = runs s d b (i + 1) R (f i) acc Q g
-    runs (act {n} s) d b i R f acc Q g = rw (← append-assoc acc (nodeWords n d b i) (nodes s d b i)) (runs s d b i R f (acc ++ nodeWords n d b i) Q g)
-    runs (sub {b = c} {X = X} p t s) d b i R f acc Q g =
+    runs nil ms d b i R f acc Q g = at-end ms d b i R f acc Q g
+    runs (tok s) ms d b i R f acc Q g =
+        let a = allWords (before-item ms) d b i in
+        rw (← append-assoc acc a (nodes s (behind-item ms) d b (i + 1))) (runs s (behind-item ms) d b (i + 1) R (f i) (acc ++ a) Q (to-item ms d b i R f acc Q g))
+    runs (sub {b = c} {X = X} p t s) ms d b i R f acc Q g =
+        let a = allWords (before-item ms) d b i in
         let v = read worth letters (Sem X) t i (build worth letters p) in
-        let w = nodes t (below c d) i i in
-        let h : Is X (below c d) i v w = runs t (below c d) i i (Sem X) (build worth letters p) [] (Is X (below c d) i) (fits X p (below c d) i) in
-        rw (← append-assoc acc w (nodes s d b (i + length (yield t)))) (runs s d b (i + length (yield t)) R (f v) (acc ++ w) Q (g v w (length (yield t)) h))
+        let w = nodes t (marks p) (below c d) i i in
+        let rest = nodes s (behind-item ms) d b (i + length (yield t)) in
+        let h : Is X (below c d) i v w = runs t (marks p) (below c d) i i (Sem X) (build worth letters p) [] (Is X (below c d) i) (fits X p (below c d) i) in
+        rw (← append-assoc acc a (w ++ rest), ← append-assoc (acc ++ a) w rest)
+        (runs s (behind-item ms) d b (i + length (yield t)) R (f v) ((acc ++ a) ++ w) Q (to-item ms d b i R f acc Q g v w (length (yield t)) h))
 
   -- ---- expressions
 
@@ -136,7 +151,7 @@ module _ (worth : ℕ → ℕ) (letters : ℕ → List ℕ) where
   relation-kind notEqual = refl
 
   abbrev Fits : {X : Class} → Prod X → Type 0
-  Fits {X} p = (d i : ℕ) → Good (rhs p) d i i (Sem X) (build worth letters p) [] (Is X d i)
+  Fits {X} p = (d i : ℕ) → Good (marks p) d i i (Sem X) (build worth letters p) [] (Is X d i)
 
   f-chain : (l : Level) → Fits (chain l)
   unfolding build
@@ -578,4 +593,4 @@ module _ (worth : ℕ → ℕ) (letters : ℕ → List ℕ) where
   -- the nodes of a tree are those of the program that it is
   pub bridge : (t : Syn program) → nodesOf t ≡ nodesS 1 (programOf worth letters t)
   unfolding nodesOf programOf
-  bridge t = runs (λ X p. fits p) t 1 0 0 Statement (build worth letters begin-end) [] (λ s w. w ≡ nodesS 1 s) (f-begin-end 1 0)
+  bridge t = runs (λ X p. fits p) t (unmarked program) 1 0 0 Statement (build worth letters begin-end) [] (λ s w. w ≡ nodesS 1 s) (f-begin-end 1 0)

@@ -6,9 +6,9 @@ use mathlib.Core.List.{List, [], _∷_, _++_}
 use mathlib.Core.Option.{Option, none, some}
 use native.Mathlib.Omega.{arith}
 use lib.ListN.{length, length-append}
-use Rattle.grammar.specs.Grammar.{Class, block, inner, head, tail, declarations, declaration, declared, type, procedure, heading, formals, values, specifications, list, others, statements, statement, consequence, alternative, repetition, for-clause, elements, further, element, progress, stepping, amount, unconditional, named as behind-name, right, expression, otherwise, level, more, negation, relation, comparison, primary, actuals, actual, further-actuals, operand, Item, sy, rd, put, rhs, program}
+use Rattle.grammar.specs.Grammar.{Class, block, inner, head, tail, declarations, declaration, declared, type, procedure, heading, formals, values, specifications, list, others, statements, statement, consequence, alternative, repetition, for-clause, elements, further, element, progress, stepping, amount, unconditional, named as behind-name, right, expression, otherwise, level, more, negation, relation, comparison, primary, actuals, actual, further-actuals, operand, Item, sy, rd, rhs, program}
 use Rattle.grammar.specs.Grammar.{Prod, begin-end, a-block, a-compound, a-tail, a-head, some-declarations, no-declaration, typed, untyped, variables, function, integer, boolean, a-procedure, a-heading, some-formals, no-formals, some-values, no-values, a-specification, no-specification, a-list, another, no-other, a-statement, no-statement, conditional, repeated, plain, then-for, then-plain, an-else, no-else, a-for, a-clause, for-list, another-element, no-element, an-element, once, while, by-steps, a-step, an-amount, dummy, compound, with-name, assignment, call, left, value, a-condition, simple, an-otherwise, chain, signed, again, no-more, a-not, no-not, a-relation, compare, no-comparison, number, true-value, false-value, a-name, in-parentheses, with, bare, an-actual, another-actual, no-actual}
-use Rattle.grammar.specs.Trees.{Syn, nil, tok, act, sub, yield}
+use Rattle.grammar.specs.Trees.{Syn, nil, tok, sub, yield}
 use Rattle.grammar.specs.declared.Level.{Level}
 use Rattle.grammar.specs.declared.Level.the-variants.{Product, Sum, Conjunction, Disjunction, Implication, Equivalence}
 use Rattle.names.specs.Program as P
@@ -68,7 +68,6 @@ module _ (worth : ℕ → ℕ) (letters : ℕ → List ℕ) (Q : Name → Type 0
   abbrev Good : (is : List Item) (i : ℕ) (R : Type 0) → Makes is R → (R → Type 0) → Type 0
   Good [] i R f K = K f
   Good (sy k ∷ is) i R f K = Q (nameAt worth letters i) → Good is (i + 1) R (f i) K
-  Good (put n ∷ is) i R f K = Good is i R f K
   Good (rd c X ∷ is) i R f K = (v : Sem X) (m : ℕ) → All Q X v → Good is (i + m) R (f v) K
 
   abbrev Keeps : {X : Class} → Prod X → Type 0
@@ -80,7 +79,6 @@ module _ (worth : ℕ → ℕ) (letters : ℕ → List ℕ) (Q : Name → Type 0
     unfolding read yield
     runs nil i R f K h g = g
     runs (tok s) i R f K h g = runs s (i + 1) R (f i) K (omega arith) (g (within i (omega arith)))
-    runs (act s) i R f K h g = runs s i R f K h g
     runs (sub {X = X} p t s) i R f K h g =
         let l = length-append (yield t) (yield s) in
         let v = read worth letters (Sem X) t i (build worth letters p) in

@@ -5,9 +5,10 @@ use mathlib.Core.Path.{_≡_}
 use native.Mathlib.Omega.{arith}
 use mathlib.Core.List.{List, [], _∷_, _++_}
 use lib.ListN.{length, length-append}
-use Rattle.grammar.specs.Grammar.{Class, Word, lit, last, first, before, depth, Item, sy, rd, put, rhs, program}
+use Rattle.grammar.specs.Grammar.{Class, Item, program}
 use Rattle.grammar.specs.Grammar.{Prod, begin-end, a-block, a-compound, a-tail, a-head, some-declarations, no-declaration, typed, untyped, variables, function, integer, boolean, a-procedure, a-heading, some-formals, no-formals, some-values, no-values, a-specification, no-specification, a-list, another, no-other, a-statement, no-statement, conditional, repeated, plain, then-for, then-plain, an-else, no-else, a-for, a-clause, for-list, another-element, no-element, an-element, once, while, by-steps, a-step, an-amount, dummy, compound, with-name, assignment, call, left, value, a-condition, simple, an-otherwise, chain, signed, again, no-more, a-not, no-not, a-relation, compare, no-comparison, number, true-value, false-value, a-name, in-parentheses, with, bare, an-actual, another-actual, no-actual}
-use Rattle.grammar.specs.Trees.{Syn, nil, tok, act, sub, yield, word, nodes, below, nodesOf}
+use Rattle.grammar.specs.Trees.{Syn, nil, tok, sub, yield}
+use Rattle.grammar.specs.model.Marked.{Word, lit, last, first, before, depth, Marks, end, on, put, unmarked, marks, word, below, before-item, behind-item, allWords, nodes, nodesOf}
 
 -- the words are those of nodes, four each, and the symbol of each node, the second of its words, is at most n
 pub data SymbolsWithin (n : ℕ) : List ℕ → Type 0 where
@@ -28,13 +29,12 @@ Numbered first = Unit {0}
 Numbered before = Unit {0}
 Numbered depth = ⊥
 
-abbrev AllNumbered : List Item → Type 0
-AllNumbered [] = Unit {0}
-AllNumbered (sy k ∷ is) = AllNumbered is
-AllNumbered (rd b X ∷ is) = AllNumbered is
-AllNumbered (put n ∷ is) = Numbered (n .symbol) × AllNumbered is
+abbrev AllNumbered : {is : List Item} → Marks is → Type 0
+AllNumbered end = Unit {0}
+AllNumbered (on ms) = AllNumbered ms
+AllNumbered (put n ms) = Numbered (n .symbol) × AllNumbered ms
 
-numbered : {X : Class} (p : Prod X) → AllNumbered (rhs p)
+numbered : {X : Class} (p : Prod X) → AllNumbered (marks p)
 numbered begin-end = tt
 numbered a-block = (tt, (tt, (tt, tt)))
 numbered a-compound = tt
@@ -119,21 +119,30 @@ word-within n d b i first h l m = l
 word-within n d b i before h l m = omega arith
 word-within n d b i depth h l m = absurd h
 
-tree-within : {is : List Item} (t : Syn is) (n d b i : ℕ) → AllNumbered is → b ≤ n → i + length (yield t) ≤ n → SymbolsWithin n (nodes t d b i)
+gap-within : {is : List Item} (ms : Marks is) (n d b i : ℕ) → AllNumbered ms → b ≤ n → i ≤ n → SymbolsWithin n (allWords (before-item ms) d b i)
+gap-within end n d b i h l m = none
+gap-within (on ms) n d b i h l m = none
+gap-within (put w ms) n d b i h l m = one (word-within n d b i (w .symbol) (h .0) l m) (gap-within ms n d b i (h .1) l m)
+
+behind-numbered : {x : Item} {is : List Item} (ms : Marks (x ∷ is)) → AllNumbered ms → AllNumbered (behind-item ms)
+behind-numbered (on ms) h = h
+behind-numbered (put n ms) h = behind-numbered ms (h .1)
+
+tree-within : {is : List Item} (t : Syn is) (ms : Marks is) (n d b i : ℕ) → AllNumbered ms → b ≤ n → i + length (yield t) ≤ n → SymbolsWithin n (nodes t ms d b i)
 unfolding nodes yield
-tree-within nil n d b i h l m = none
-tree-within (tok s) n d b i h l m = tree-within s n d b (i + 1) h l (omega arith)
-tree-within (act {n = w} s) n d b i h l m = one (word-within n d b i (w .symbol) (h .0) l (omega arith)) (tree-within s n d b i (h .1) l m)
-tree-within (sub {b = c} p t s) n d b i h l m =
+tree-within nil ms n d b i h l m = gap-within ms n d b i h l (omega arith)
+tree-within (tok s) ms n d b i h l m = within-append (gap-within ms n d b i h l (omega arith)) (tree-within s (behind-item ms) n d b (i + 1) (behind-numbered ms h) l (omega arith))
+tree-within (sub {b = c} p t s) ms n d b i h l m =
     let e = length-append (yield t) (yield s) in
-    within-append (tree-within t n (below c d) i i (numbered p) (omega arith) (omega arith)) (tree-within s n d b (i + length (yield t)) h l (omega arith))
+    within-append (gap-within ms n d b i h l (omega arith))
+    (within-append (tree-within t (marks p) n (below c d) i i (numbered p) (omega arith) (omega arith)) (tree-within s (behind-item ms) n d b (i + length (yield t)) (behind-numbered ms h) l (omega arith)))
 
 pub nodes-near : (t : Syn program) → SymbolsWithin (length (yield t)) (nodesOf t)
 unfolding nodesOf
-nodes-near t = tree-within t (length (yield t)) 1 0 0 tt (omega arith) (omega arith)
+nodes-near t = tree-within t (unmarked program) (length (yield t)) 1 0 0 tt (omega arith) (omega arith)
 
 -- and not the last symbol, which is the 'end' of the program
 pub nodes-before-end : (t : Syn program) (n : ℕ) → length (yield t) ≡ suc n → SymbolsWithin n (nodesOf t)
 unfolding nodesOf nodes yield
 nodes-before-end (tok (sub p t (tok nil))) n e =
-    within-append (tree-within t n 1 1 1 (numbered p) (omega (arith, e, length-append (yield t) (1 ∷ []))) (omega (arith, e, length-append (yield t) (1 ∷ [])))) none
+    within-append (tree-within t (marks p) n 1 1 1 (numbered p) (omega (arith, e, length-append (yield t) (1 ∷ []))) (omega (arith, e, length-append (yield t) (1 ∷ [])))) none

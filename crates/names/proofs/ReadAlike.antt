@@ -6,7 +6,7 @@ use Prim.Native.Nat.{ℕ, _+_}
 use lib.ListN.{length}
 use Rattle.grammar.specs.Grammar.{and, Class, head, heading, values, Item, rhs, program}
 use Rattle.grammar.specs.Grammar.{Prod, begin-end, a-block, a-compound, a-tail, a-head, some-declarations, no-declaration, typed, untyped, variables, function, integer, boolean, a-procedure, a-heading, some-formals, no-formals, some-values, no-values, a-specification, no-specification, a-list, another, no-other, a-statement, no-statement, conditional, repeated, plain, then-for, then-plain, an-else, no-else, a-for, a-clause, for-list, another-element, no-element, an-element, once, while, by-steps, a-step, an-amount, dummy, compound, with-name, assignment, call, left, value, a-condition, simple, an-otherwise, chain, signed, again, no-more, a-not, no-not, a-relation, compare, no-comparison, number, true-value, false-value, a-name, in-parentheses, with, bare, an-actual, another-actual, no-actual}
-use Rattle.grammar.specs.Trees.{Syn, nil, tok, act, sub, yield}
+use Rattle.grammar.specs.Trees.{Syn, nil, tok, sub, yield}
 use Rattle.grammar.proofs.Sets.{Spells, head as spells-head, rest as spells-rest, spells-left, spells-right}
 use Rattle.names.specs.Program as P
 use Rattle.names.specs.ReadOff.{Sem, Makes, nameAt, build, read, programOf, applied}
@@ -16,13 +16,11 @@ use Rattle.names.specs.ReadOff.{Sem, Makes, nameAt, build, read, program
 abbrev Agree : {is : List Item} (R : Type 0) → Syn is → ℕ → Makes is R → Makes is R → Type 0
 Agree R nil i f f' = f ≡ f'
 Agree R (tok s) i f f' = Agree R s (i + 1) (f i) (f' i)
-Agree R (act s) i f f' = Agree R s i f f'
 Agree R (sub {X = X} p t s) i f f' = (x : Sem X) → Agree R s (i + length (yield t)) (f x) (f' x)
 
 agree-refl : {is : List Item} (R : Type 0) (s : Syn is) (i : ℕ) (f : Makes is R) → Agree R s i f f
 agree-refl R nil i f = refl
 agree-refl R (tok s) i f = agree-refl R s (i + 1) (f i)
-agree-refl R (act s) i f = agree-refl R s i f
 agree-refl R (sub p t s) i f = λ x. agree-refl R s (i + length (yield t)) (f x)
 
 agree-path : {is : List Item} (R : Type 0) (s : Syn is) (i : ℕ) (f f' : Makes is R) → f ≡ f' → Agree R s i f f'
@@ -112,7 +110,6 @@ module _ (w w' : ℕ → ℕ) (l l' : ℕ → List ℕ) (g : ℕ → ℕ) (hw : 
   unfolding read yield
   read-agree R nil i f f' sp e = e
   read-agree R (tok s) i f f' sp e = read-agree R s (i + 1) (f i) (f' i) (spells-rest sp) e
-  read-agree R (act s) i f f' sp e = read-agree R s i f f' sp e
   read-agree R (sub {X = X} p t s) i f f' sp e =
       let j = i + length (yield t) in
       let x = read w l (Sem X) t i (build w l p) in

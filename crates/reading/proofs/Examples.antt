@@ -14,7 +14,7 @@ use Rattle.symbols.specs.Scan.{before, closed, spelled, named, word, gap, follo
 use Rattle.grammar.specs.declared.Level.the-variants.{Product, Sum, Conjunction, Disjunction, Implication, Equivalence}
 use Rattle.grammar.specs.declared.Entry.the-variants.{Variable}
 use Rattle.grammar.specs.Grammar.{program, rhs, begin-end, a-block, a-tail, a-head, no-declaration, typed, variables, integer, a-list, no-other, a-statement, no-statement, plain, compound, with-name, assignment, value, simple, chain, no-more, no-not, a-relation, no-comparison, number}
-use Rattle.grammar.specs.Trees.{Syn, nil, tok, act, sub, yield}
+use Rattle.grammar.specs.Trees.{Syn, nil, tok, sub, yield}
 use Rattle.grammar.proofs.Meet.{trip}
 use Rattle.grammar.proofs.Unique.{clear-keeps}
 use Rattle.names.specs.ReadOff.{build, read, programOf}
@@ -33,7 +33,7 @@ use Rattle.reading.proofs.Only.{only}
 -- a number as an expression
 abbrev one : Syn (rhs simple)
 one =
-    let product : Syn (rhs (chain Product)) = sub number (tok (act nil)) (sub (no-more Product) nil nil) in
+    let product : Syn (rhs (chain Product)) = sub number (tok nil) (sub (no-more Product) nil nil) in
     let sum : Syn (rhs (chain Sum)) = sub (chain Product) product (sub (no-more Sum) nil nil) in
     let relation : Syn (rhs a-relation) = sub (chain Sum) sum (sub no-comparison nil nil) in
     let conjunction : Syn (rhs (chain Conjunction)) = sub no-not (sub a-relation relation nil) (sub (no-more Conjunction) nil nil) in
@@ -43,16 +43,16 @@ one =
 
 -- a := 1, as a statement
 abbrev assigned : Syn (rhs plain)
-assigned = sub with-name (tok (sub assignment (act (tok (sub value (sub simple one (act nil)) nil))) nil)) nil
+assigned = sub with-name (tok (sub assignment (tok (sub value (sub simple one nil) nil)) nil)) nil
 
 -- 'integer' a;
 abbrev declared : Syn (rhs a-head)
 declared =
-    sub typed (sub integer (tok (act nil)) (sub variables (sub (a-list Variable) (tok (act (sub (no-other Variable) nil nil))) nil) nil))
+    sub typed (sub integer (tok nil) (sub variables (sub (a-list Variable) (tok (sub (no-other Variable) nil nil)) nil) nil))
     (tok (sub no-declaration nil nil))
 
 abbrev blockOf : Syn (rhs a-tail) → Syn program
-blockOf t = tok (sub a-block (act (sub a-head declared (act (sub a-tail t (act nil))))) (tok nil))
+blockOf t = tok (sub a-block (sub a-head declared (sub a-tail t nil)) (tok nil))
 
 abbrev S1t : Syn program
 S1t = blockOf (sub plain assigned (sub no-statement nil nil))

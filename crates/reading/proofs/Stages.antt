@@ -22,7 +22,7 @@ use Rattle.symbols.specs.declared.Symbol.the-variants.{Begin, End, If, Then, El
 use Rattle.symbols.specs.declared.Scanned.{Scanned as Told}
 use Rattle.symbols.specs.declared.Scanned.the-variants.{Read as Symbols-read, Refused as Symbols-refused}
 use Rattle.grammar.specs.Text.{text}
-use Rattle.grammar.specs.Trees.{nodesOf}
+use Rattle.grammar.specs.model.Marked.{nodesOf}
 use Rattle.grammar.specs.Program.{Wrong, FirstDeep}
 use Rattle.grammar.specs.Verdict.{zeros, Verdict, Whole}
 use Rattle.grammar.specs.declared.Parsed.{Parsed as Outcome}

@@ -4,7 +4,7 @@ use mathlib.Core.Path.{_≡_}
 use mathlib.Core.List.{List}
 use mathlib.Core.Option.{none}
 use lib.ListN.{length, getD, take}
-use Rattle.grammar.specs.Trees.{nodesOf}
+use Rattle.grammar.specs.model.Marked.{nodesOf}
 use Rattle.names.specs.Identity.{Identified}
 use Rattle.names.specs.Program.{Statement}
 use Rattle.types.specs.Types.{typeFault}

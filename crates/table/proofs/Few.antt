@@ -9,7 +9,8 @@ use lib.Dec.{eqb}
 use Rattle.grammar.specs.NodeKinds.{n-variable, n-procedure, n-formal}
 use Rattle.grammar.specs.Grammar.{named as behind-name, actuals, program}
 use Rattle.grammar.specs.declared.Use.the-variants.{AsPrimary}
-use Rattle.grammar.specs.Trees.{Syn, yield, nodesOf}
+use Rattle.grammar.specs.Trees.{Syn, yield}
+use Rattle.grammar.specs.model.Marked.{unmarked, nodesOf}
 use Rattle.grammar.specs.Tables.{pick}
 use Rattle.grammar.proofs.Productions.{Passes}
 use Rattle.grammar.proofs.Weights.{rows, Weights, Fits, written}
@@ -43,4 +44,4 @@ fits = refl
 -- each is behind a name of its own
 pub few : (t : Syn program) → named (nodesOf t) ≤ names (yield t)
 unfolding nodesOf named among
-few t = omega (arith, written ones fits named (λ n d b i ws. omega arith) t 1 0 0)
+few t = omega (arith, written ones fits named (λ n d b i ws. omega arith) t (unmarked program) 1 0 0)

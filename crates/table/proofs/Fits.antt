@@ -9,7 +9,8 @@ use native.Mathlib.Omega.{arith}
 use lib.ListN.{length, length-append}
 use Rattle.grammar.specs.NodeKinds.{n-block, n-statements, n-block-end, n-type, n-variable, n-procedure, n-formal, n-value, n-specified, n-body, n-procedure-end, n-then, n-else, n-if-end, n-for, n-start, n-once, n-while, n-step, n-amount, n-do, n-for-end, n-left, n-assign, n-condition-end, n-unary, n-binary, n-number, n-logical, n-use, n-call, n-call-end, n-actual}
 use Rattle.grammar.specs.Grammar.{program}
-use Rattle.grammar.specs.Trees.{Syn, yield, nodesOf}
+use Rattle.grammar.specs.Trees.{Syn, yield}
+use Rattle.grammar.specs.model.Marked.{unmarked, nodesOf}
 use Rattle.grammar.proofs.Room.{count, table-fits}
 use Rattle.names.specs.Program.{Name, Expression, number, logical, name, call, signed, operated, chosen, nested, Expressions, done, then, Element, value, while, step, Specification, Statement, dummy, assignment, procedure, when, either, repeat, compound, block, Statements, last, first, Declarations, none as no-more, variables, declare, Procedure, heading, firstSymbol}
 use Rattle.names.specs.ReadOff.{programOf}
@@ -260,4 +261,4 @@ module _ (worth : ℕ → ℕ) (letters : ℕ → List ℕ) (t : Syn program) wh
 
   pub nodes-room : length (yield t) ≤ 2048 → length (nodesS 1 (programOf worth letters t)) ≤ 32760
   unfolding nodesOf
-  nodes-room h = omega (arith, count t 1 0 0, ap length (bridge worth letters t))
+  nodes-room h = omega (arith, count t (unmarked program) 1 0 0, ap length (bridge worth letters t))

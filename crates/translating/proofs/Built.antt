@@ -5,8 +5,8 @@ use mathlib.Core.Path.{_≡_, subst}
 use mathlib.Core.List.{List, [], _∷_}
 use native.Mathlib.Omega.{arith}
 use lib.ListN.{length, length-append}
-use Rattle.grammar.specs.Grammar.{Class, block, Item, sy, rd, put, Prod, begin-end, rhs, program}
-use Rattle.grammar.specs.Trees.{Syn, nil, tok, act, sub, yield}
+use Rattle.grammar.specs.Grammar.{Class, block, Item, sy, rd, Prod, begin-end, rhs, program}
+use Rattle.grammar.specs.Trees.{Syn, nil, tok, sub, yield}
 use Rattle.names.specs.ReadOff.{Sem, Makes, build, read, programOf}
 
 module _ (worth : ℕ → ℕ) (letters : ℕ → List ℕ) (At : ℕ → Type 0) (Is : (X : Class) → ℕ → ℕ → Sem X → Type 0) where
@@ -14,7 +14,6 @@ module _ (worth : ℕ → ℕ) (letters : ℕ → List ℕ) (At : ℕ → Type 0
   abbrev pub Good : (is : List Item) (i : ℕ) (R : Type 0) → Makes is R → (ℕ → R → Type 0) → Type 0
   Good [] i R f K = K i f
   Good (sy k ∷ is) i R f K = At i → Good is (i + 1) R (f i) K
-  Good (put n ∷ is) i R f K = Good is i R f K
   Good (rd c X ∷ is) i R f K = (v : Sem X) (j : ℕ) → i ≤ j → Is X i j v → Good is j R (f v) K
 
   abbrev pub Fits : {X : Class} → Prod X → Type 0
@@ -26,7 +25,6 @@ module _ (worth : ℕ → ℕ) (letters : ℕ → List ℕ) (At : ℕ → Type 0
     unfolding read yield
     runs n at nil i j R f K e l g = let z : i ≡ j = omega arith in subst (λ (x : ℕ). K x f) z g
     runs n at (tok s) i j R f K e l g = runs n at s (i + 1) j R (f i) K (omega arith) l (g (at i (omega arith)))
-    runs n at (act s) i j R f K e l g = runs n at s i j R f K e l g
     runs n at (sub {X = X} p t s) i j R f K e l g =
         let z = length-append (yield t) (yield s) in
         let m = i + length (yield t) in

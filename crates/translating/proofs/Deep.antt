@@ -7,12 +7,12 @@ use mathlib.Core.List.{List, [], _∷_, _++_}
 use mathlib.Core.Option.{Option, none, some}
 use native.Mathlib.Omega.{arith}
 use lib.ListN.{length}
-use Rattle.grammar.specs.Grammar.{Class, block, inner, head, tail, declarations, declaration, declared, type, procedure, heading, formals, values, specifications, list, others, statements, statement, consequence, alternative, repetition, for-clause, elements, further, element, progress, stepping, amount, unconditional, named, right, expression, otherwise, level, more, negation, relation, comparison, primary, actuals, actual, further-actuals, Item, sy, rd, put, rhs, program}
+use Rattle.grammar.specs.Grammar.{Class, block, inner, head, tail, declarations, declaration, declared, type, procedure, heading, formals, values, specifications, list, others, statements, statement, consequence, alternative, repetition, for-clause, elements, further, element, progress, stepping, amount, unconditional, named, right, expression, otherwise, level, more, negation, relation, comparison, primary, actuals, actual, further-actuals, Item, sy, rd, rhs, program}
 use Rattle.grammar.specs.Grammar.{Prod, begin-end, a-block, a-compound, a-tail, a-head, some-declarations, no-declaration, typed, untyped, variables, function, integer, boolean, a-procedure, a-heading, some-formals, no-formals, some-values, no-values, a-specification, no-specification, a-list, another, no-other, a-statement, no-statement, conditional, repeated, plain, then-for, then-plain, an-else, no-else, a-for, a-clause, for-list, another-element, no-element, an-element, once, while, by-steps, a-step, an-amount, dummy, compound, with-name, assignment, call, left, value, a-condition, simple, an-otherwise, chain, signed, again, no-more, a-not, no-not, a-relation, compare, no-comparison, number, true-value, false-value, a-name, in-parentheses, with, bare, an-actual, another-actual, no-actual}
 use Rattle.grammar.specs.Grammar.{operand}
 use Rattle.grammar.specs.declared.Level.{Level}
 use Rattle.grammar.specs.declared.Level.the-variants.{Product, Sum, Conjunction, Disjunction, Implication, Equivalence}
-use Rattle.grammar.specs.Trees.{Syn, nil, tok, act, sub, yield, Begins, here, down, flat, over, past, skip}
+use Rattle.grammar.specs.Trees.{Syn, nil, tok, sub, yield, Begins, here, down, flat, over, past}
 use Rattle.grammar.specs.Program.{levels, Keeps}
 use Rattle.grammar.proofs.Unique.{shallow-tree}
 use Rattle.names.specs.Program as P
@@ -102,7 +102,6 @@ module _ (worth : ℕ → ℕ) (letters : ℕ → List ℕ) where
   abbrev Good : (is : List Item) (d : ℕ) (R : Type 0) → Makes is R → (R → Type 0) → Type 0
   Good [] d R f K = K f
   Good (sy k ∷ is) d R f K = (i : ℕ) → Good is d R (f i) K
-  Good (put n ∷ is) d R f K = Good is d R f K
   Good (rd false X ∷ is) d R f K = (v : Sem X) → Deep X d v → Good is d R (f v) K
   Good (rd true X ∷ is) d R f K = (v : Sem X) (e : ℕ) → d ≡ suc e → Deep X e v → Good is d R (f v) K
 
@@ -115,7 +114,6 @@ module _ (worth : ℕ → ℕ) (letters : ℕ → List ℕ) where
     unfolding read
     runs nil d i R f K n g = g
     runs (tok s) d i R f K n g = runs s d (i + 1) R (f i) K (λ m b. n (suc m) (past b refl)) (g i)
-    runs (act s) d i R f K n g = runs s d i R f K (λ m b. n m (skip b)) g
     runs (sub {b = false} {X = X} p t s) d i R f K n g =
         let v = read worth letters (Sem X) t i (build worth letters p) in
         let h : Deep X d v = runs t d i (Sem X) (build worth letters p) (Deep X d) (λ m b. n m (flat b)) (fits X p d) in

@@ -5,7 +5,7 @@ use mathlib.Core.List.{List}
 use native.Mathlib.Omega.{arith}
 use lib.ListN.{length}
 use Rattle.grammar.specs.Grammar.{a-block, a-compound, program}
-use Rattle.grammar.specs.Trees.{Syn, nil, tok, act, sub, yield}
+use Rattle.grammar.specs.Trees.{Syn, nil, tok, sub, yield}
 use Rattle.grammar.specs.Program.{Keeps}
 use Rattle.names.specs.ReadOff.{build, read, programOf}
 use Rattle.translation.specs.Sizes.{Whole, Limited}
@@ -16,7 +16,7 @@ use Rattle.translating.proofs.Numbers.{small}
 module _ (worth : ℕ → ℕ) (letters : ℕ → List ℕ) where
   pub whole : (t : Syn program) → Whole (programOf worth letters t)
   unfolding programOf read build
-  whole (tok (sub a-block (act (sub d h (act (sub s r (act nil))))) (tok nil))) = tt
+  whole (tok (sub a-block (sub d h (sub s r nil)) (tok nil))) = tt
   whole (tok (sub a-compound (sub s r nil) (tok nil))) = tt
 
   -- of a text of at most 2,048 symbols that keeps the grammar and the depth, and whose numbers are of 32 bits
