@@ -9,11 +9,12 @@ use mathlib.Core.Option.{some as found}
 use Prim.Native.Nat.{ℕ, zero, suc, _+_}
 use lib.Dec.{eqb}
 use borrow.Author.Tests.{eqb-true}
+use Rattle.grammar.specs.Run.{levels}
 use Rattle.grammar.specs.Grammar.{statement, consequence, expression, primary, Prod, begin-end, a-block, a-compound, a-tail, no-statement, a-head, no-declaration, untyped, a-procedure, a-heading, no-formals, no-values, no-specification, conditional, repeated, plain, then-for, then-plain, an-else, no-else, a-for, a-clause, for-list, no-element, an-element, once, dummy, compound, with-name, assignment, call, value, a-condition, simple, an-otherwise, chain, no-more, no-not, a-relation, no-comparison, number, true-value, in-parentheses, with, an-actual, no-actual, rhs, program}
 use Rattle.grammar.specs.declared.Use.the-variants.{AsStatement}
 use Rattle.grammar.specs.declared.Level.the-variants.{Product, Sum, Conjunction, Disjunction, Implication, Equivalence}
 use Rattle.grammar.specs.Trees.{Syn, nil, tok, sub, yield}
-use Rattle.grammar.specs.Program.{levels, FirstDeep, Accepted}
+use Rattle.grammar.specs.Program.{FirstDeep, Accepted}
 use Rattle.grammar.proofs.Sets.{both, true-false}
 use Rattle.grammar.proofs.Productions.{at, all-at}
 use Rattle.grammar.proofs.Meet.{Trip, clear, trips, trip}

@@ -17,10 +17,9 @@ use Rattle.answers.specs.declared.Verdict.the-variants.{Refused}
 use Rattle.symbols.specs.Scan.{scan}
 use Rattle.grammar.specs.Grammar.{program}
 use Rattle.grammar.specs.Trees.{Syn}
-use Rattle.grammar.specs.Program.{levels}
 use Rattle.grammar.specs.Verdict.{zeros, Verdict}
 use Rattle.grammar.specs.Text.{kindAt}
-use Rattle.grammar.specs.Run.{Res, got, bad, Run, rd-bad, level}
+use Rattle.grammar.specs.Run.{levels, Res, got, bad, Run, rd-bad, level}
 use Rattle.grammar.specs.declared.Parsed.the-variants.{Refused as No}
 use Rattle.grammar.proofs.Final.{read-keeps, over-verdict, bad-verdict}
 use Rattle.names.specs.Program.{Statement}

@@ -13,9 +13,8 @@ use Rattle.answers.specs.declared.Verdict.the-variants.{Accepted, Refused}
 use Rattle.symbols.specs.Scan.{scan}
 use Rattle.grammar.specs.Grammar.{program}
 use Rattle.grammar.specs.Trees.{Syn}
-use Rattle.grammar.specs.Program.{levels}
 use Rattle.grammar.specs.Text.{kindAt}
-use Rattle.grammar.specs.Run.{Res, got, bad}
+use Rattle.grammar.specs.Run.{levels, Res, got, bad}
 use Rattle.machine.specs.Run.{untold, End, done, over, run as go}
 use Rattle.machine.specs.Machine.{Mach, step, Finish, finish, start}
 use Rattle.names.specs.Program.{Statement}

@@ -11,10 +11,9 @@ use Rattle.answers.specs.declared.Answer.{Answer}
 use Rattle.grammar.specs.Grammar.{block, rd, begin-end, program}
 use Rattle.grammar.specs.Trees.{Syn}
 use Rattle.grammar.specs.model.Marked.{unmarked, nodes, nodesOf}
-use Rattle.grammar.specs.Program.{levels}
 use Rattle.grammar.specs.Verdict.{zeros, room, Verdict}
 use Rattle.grammar.specs.Text.{text, kindAt}
-use Rattle.grammar.specs.Run.{Run, got, bad, end, rd-got, level}
+use Rattle.grammar.specs.Run.{levels, Run, got, bad, end, rd-got, level}
 use Rattle.syntax.specs.Says.{left, Clear, Got}
 use Rattle.grammar.specs.declared.Parsed.{Parsed}
 use Rattle.grammar.specs.declared.Parsed.the-variants.{Read, Refused}
