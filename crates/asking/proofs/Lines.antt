@@ -12,52 +12,52 @@ use borrow.Author.Tests.{eq-eqb, ne-eqb, le-leb, lt-leb, leb-true, leb-false}
 use Rattle.symbols.specs.Names.{equal}
 use Rattle.symbols.specs.Scan.{before}
 use Rattle.symbols.proofs.Laws.{peel, before-take, equal-length}
-use Rattle.asking.specs.Words.{ended, cut, wordsOf, has, plain, asked, askedFrom, part, isPart, zeros, unblanked, WordFrom}
+use Rattle.asking.specs.Words.{ended, cut, wordsOf, has, plain, asked, askedFrom, part, isPart, leadingZeros, unblanked, WordFrom}
 use Rattle.asking.specs.declared.words.Word.{Word}
 
 -- ---- zeros from a place on
 
 module _ (s : List ℕ) (i : ℕ) where
-  pub zeros-on : i < length s → getD s i 0 ≡ 0 → zeros (drop i s) ≡ suc (zeros (drop (i + 1) s))
-  unfolding zeros
+  pub zeros-on : i < length s → getD s i 0 ≡ 0 → leadingZeros (drop i s) ≡ suc (leadingZeros (drop (i + 1) s))
+  unfolding leadingZeros
   zeros-on h e = rw (peel s i h, eq-eqb (getD s i 0) 0 e)
 
-  pub zeros-stop : i < length s → (getD s i 0 ≡ 0 → ⊥) → zeros (drop i s) ≡ 0
-  unfolding zeros
+  pub zeros-stop : i < length s → (getD s i 0 ≡ 0 → ⊥) → leadingZeros (drop i s) ≡ 0
+  unfolding leadingZeros
   zeros-stop h e = rw (peel s i h, ne-eqb (getD s i 0) 0 e)
 
-  pub zeros-end : length s ≤ i → zeros (drop i s) ≡ 0
-  unfolding zeros
+  pub zeros-end : length s ≤ i → leadingZeros (drop i s) ≡ 0
+  unfolding leadingZeros
   zeros-end h = rw (drop-of-length-le s h)
 
-pub zeros-most : (bs : List ℕ) → zeros bs ≤ length bs
-unfolding zeros
+pub zeros-most : (bs : List ℕ) → leadingZeros bs ≤ length bs
+unfolding leadingZeros
 zeros-most [] = omega arith
 zeros-most (b ∷ bs) = go (eqb b 0) (zeros-most bs)
   where
-    go : (t : Bool) → zeros bs ≤ length bs → cond t (suc (zeros bs)) 0 ≤ suc (length bs)
+    go : (t : Bool) → leadingZeros bs ≤ length bs → cond t (suc (leadingZeros bs)) 0 ≤ suc (length bs)
     go true h = omega arith
     go false h = omega arith
 
 -- behind the zeros there is none
-zeros-gone : (bs : List ℕ) → zeros (drop (zeros bs) bs) ≡ 0
-unfolding zeros
+zeros-gone : (bs : List ℕ) → leadingZeros (drop (leadingZeros bs) bs) ≡ 0
+unfolding leadingZeros
 zeros-gone [] = refl
 zeros-gone (b ∷ bs) = go (eqb b 0) refl (zeros-gone bs)
   where
-    go : (t : Bool) → eqb b 0 ≡ t → zeros (drop (zeros bs) bs) ≡ 0 → zeros (drop (cond t (suc (zeros bs)) 0) (b ∷ bs)) ≡ 0
+    go : (t : Bool) → eqb b 0 ≡ t → leadingZeros (drop (leadingZeros bs) bs) ≡ 0 → leadingZeros (drop (cond t (suc (leadingZeros bs)) 0) (b ∷ bs)) ≡ 0
     go true e h = h
     go false e h = rw e
 
 -- ---- the words of a line, by its zeros and by its first run of other bytes
 
-words-zeros : (bs : List ℕ) → wordsOf bs ≡ wordsOf (drop (zeros bs) bs)
-unfolding zeros cut ended
+words-zeros : (bs : List ℕ) → wordsOf bs ≡ wordsOf (drop (leadingZeros bs) bs)
+unfolding leadingZeros cut ended
 words-zeros [] = refl
 words-zeros (b ∷ bs) = go (eqb b 0) refl (words-zeros bs)
   where
-    go : (t : Bool) → eqb b 0 ≡ t → cut [] bs ≡ cut [] (drop (zeros bs) bs)
-        → cond t (cut [] bs) (cut (b ∷ []) bs) ≡ cut [] (drop (cond t (suc (zeros bs)) 0) (b ∷ bs))
+    go : (t : Bool) → eqb b 0 ≡ t → cut [] bs ≡ cut [] (drop (leadingZeros bs) bs)
+        → cond t (cut [] bs) (cut (b ∷ []) bs) ≡ cut [] (drop (cond t (suc (leadingZeros bs)) 0) (b ∷ bs))
     go true e h = h
     go false e h = rw e
 
@@ -72,12 +72,12 @@ cut-run w (b ∷ bs) = go (eqb b 0) refl (cut-run (w ++ (b ∷ [])) bs)
     go false e h = h ∙ rw (append-assoc w (b ∷ []) (before 0 bs))
 
 -- where no zero stands first and nothing before a zero, nothing is left
-run-none : (bs : List ℕ) → zeros bs ≡ 0 → length (before 0 bs) ≡ 0 → bs ≡ []
-unfolding zeros before
+run-none : (bs : List ℕ) → leadingZeros bs ≡ 0 → length (before 0 bs) ≡ 0 → bs ≡ []
+unfolding leadingZeros before
 run-none [] z n = refl
 run-none (b ∷ bs) z n = go (eqb b 0) z n
   where
-    go : (t : Bool) → cond t (suc (zeros bs)) 0 ≡ 0 → length (cond t [] (b ∷ before 0 bs)) ≡ 0 → b ∷ bs ≡ []
+    go : (t : Bool) → cond t (suc (leadingZeros bs)) 0 ≡ 0 → length (cond t [] (b ∷ before 0 bs)) ≡ 0 → b ∷ bs ≡ []
     go true z n = absurd (omega arith)
     go false z n = absurd (omega arith)
 
@@ -89,18 +89,18 @@ ended-some (b ∷ w) ws h = refl
 -- ---- the next word
 
 module _ (line : List ℕ) (at : ℕ) (w : Word) (h : WordFrom line at w) where
-  behind-zeros : drop (w .from) line ≡ drop (zeros (drop at line)) (drop at line)
+  behind-zeros : drop (w .from) line ≡ drop (leadingZeros (drop at line)) (drop at line)
   behind-zeros = go (leb at (length line)) refl
     where
-      go : (t : Bool) → leb at (length line) ≡ t → drop (w .from) line ≡ drop (zeros (drop at line)) (drop at line)
+      go : (t : Bool) → leb at (length line) ≡ t → drop (w .from) line ≡ drop (leadingZeros (drop at line)) (drop at line)
       go true e =
-          let f : w .from ≡ at + zeros (drop at line) = omega (arith, h .starts, leb-true at (length line) e) in
-          rw f (sym (drop-drop (zeros (drop at line)) at line))
+          let f : w .from ≡ at + leadingZeros (drop at line) = omega (arith, h .starts, leb-true at (length line) e) in
+          rw f (sym (drop-drop (leadingZeros (drop at line)) at line))
       go false e =
           let l = leb-false at (length line) e in
           let k : length line ≤ w .from = omega (arith, h .starts) in
           let m : length line ≤ at = omega arith in
-          rw (drop-of-length-le line k, drop-of-length-le line m) (sym (drop-nil (zeros [])))
+          rw (drop-of-length-le line k, drop-of-length-le line m) (sym (drop-nil (leadingZeros [])))
 
   run-is : part line (w .from) (w .to) ≡ before 0 (drop (w .from) line)
   run-is = let e : w .to - w .from ≡ length (before 0 (drop (w .from) line)) = omega (arith, h .ends) in rw e (before-take 0 (drop (w .from) line))
@@ -119,7 +119,7 @@ module _ (line : List ℕ) (at : ℕ) (w : Word) (h : WordFrom line at w) where
   nothing-left e =
       let bs = drop (w .from) line in
       let n : length (before 0 bs) ≡ 0 = omega (arith, h .ends) in
-      let z : zeros bs ≡ 0 = rw behind-zeros (zeros-gone (drop at line)) in
+      let z : leadingZeros bs ≡ 0 = rw behind-zeros (zeros-gone (drop at line)) in
       run-none bs z n
 
   pub word-end : w .from ≡ w .to → w .to ≡ length line

@@ -54,14 +54,14 @@ unfoldable pub isPart : List ℕ → ℕ → ℕ → List ℕ → Bool
 isPart line from to text = leb from to && leb to (length line) && equal (part line from to) text
 
 -- how many zeros stand first
-unfoldable pub zeros : List ℕ → ℕ
-zeros [] = 0
-zeros (b ∷ bs) = cond (eqb b 0) (suc (zeros bs)) 0
+unfoldable pub leadingZeros : List ℕ → ℕ
+leadingZeros [] = 0
+leadingZeros (b ∷ bs) = cond (eqb b 0) (suc (leadingZeros bs)) 0
 
 -- w begins behind the zeros from `at` on, or at the line's end where `at` is behind it, and reaches to the next zero. What the last three say
 -- follows from the first two; it is here for callers
 pub record WordFrom (line : List ℕ) (at : ℕ) (w : Word) : Type 0 where
-  pub starts : w .from ≡ min at (length line) + zeros (drop at line)
+  pub starts : w .from ≡ min at (length line) + leadingZeros (drop at line)
   pub ends : w .to ≡ w .from + length (before 0 (drop (w .from) line))
   pub onward : min at (length line) ≤ w .from
   pub ordered : w .from ≤ w .to

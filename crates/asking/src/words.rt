@@ -5,7 +5,7 @@ use symbols::text::same_bytes;
 ghost use mathlib.Core.Path.{_≡_};
 ghost use Prim.Native.Nat.{_+_};
 ghost use lib.ListN.{drop};
-ghost use Rattle.asking.specs.Words.{wordsOf, zeros, has, plain, askedFrom, isPart, unblanked, WordFrom, First, LineOf};
+ghost use Rattle.asking.specs.Words.{wordsOf, leadingZeros, has, plain, askedFrom, isPart, unblanked, WordFrom, First, LineOf};
 
 // A word of a line: its first byte, and the byte behind it. Where there is none, both are the line's end.
 pub struct Word {
@@ -15,7 +15,7 @@ pub struct Word {
 
 // The first place from `at` on that has no zero.
 fn zeros_end(line: &[u8], at: usize) -> usize
-    ensures { λ r. ⌜ r ≡ at + zeros (drop at (now (line .entry))) ⌝ }
+    ensures { λ r. ⌜ r ≡ at + leadingZeros (drop at (now (line .entry))) ⌝ }
 {
     let mut i = at;
     while i < line.len() {

@@ -7,7 +7,7 @@ use mathlib.Core.List.{List, [], _∷_, _++_}
 use lib.ListN.{length, getD, replicate}
 use lib.Dec.{eqb}
 use Rattle.symbols.specs.Symbols.{kind}
-use Rattle.symbols.specs.declared.Symbol.the-variants.{Open}
+use Rattle.symbols.specs.declared.Symbol.the-variants.{Begin, End, If, Then, Else, Do, Procedure, Semicolon, Open}
 use Rattle.clean.specs.House.{tight}
 use Rattle.clean.specs.Lines.{below, base, headed, peek}
 use Rattle.clean.specs.Model.{spellingAt}
@@ -80,7 +80,7 @@ pub record Pushed (old new : List ℕ) (n thing : ℕ) : Type 0 where
 
 -- before it
 abbrev pub earlyOf : State → List ℕ → ℕ → State
-earlyOf s st k = cond (eqb k 1) (lineOf s (topOf st - 1)) (cond (eqb k 4) (cond (eqb (s .waiting) 0) (lineOf s (s .level - 1)) s) s)
+earlyOf s st k = cond (eqb k (kind End)) (lineOf s (topOf st - 1)) (cond (eqb k (kind Else)) (cond (eqb (s .waiting) 0) (lineOf s (s .level - 1)) s) s)
 
 -- behind a `;`: of a heading; elsewhere
 abbrev pub headingOf : State → ℕ → State
@@ -115,26 +115,26 @@ waitsOf s b = cond b s (waitOf s (s .waiting + 1))
 -- behind 'then' and 'else'
 abbrev pub partedOf : State → ℕ → State
 partedOf s k =
-    cond (eqb (s .waiting) 0) (cond (eqb k 3) (inwardOf s) (beginOf s (s .level)))
-    (cond (eqb k 4) (waitOf s (s .waiting - 1)) s)
+    cond (eqb (s .waiting) 0) (cond (eqb k (kind Then)) (inwardOf s) (beginOf s (s .level)))
+    (cond (eqb k (kind Else)) (waitOf s (s .waiting - 1)) s)
 
 -- behind any symbol k, of which the next one is n; p is where it stands with the symbol written, b whether the symbol began a statement
 abbrev pub lateFrom : State → Bool → List ℕ → ℕ → ℕ → State
 lateFrom p b st k n =
-    cond (eqb k 0) (openedOf p)
-    (cond (eqb k 1) (closedOf p (topOf st - 1))
-    (cond (eqb k 35) (separatedOf p st n)
-    (cond (eqb k 2) (waitsOf p b)
-    (cond (eqb k 3) (partedOf p k)
-    (cond (eqb k 4) (partedOf p k)
-    (cond (eqb k 6) (inwardOf p)
-    (cond (eqb k 13) (headOf p true) p)))))))
+    cond (eqb k (kind Begin)) (openedOf p)
+    (cond (eqb k (kind End)) (closedOf p (topOf st - 1))
+    (cond (eqb k (kind Semicolon)) (separatedOf p st n)
+    (cond (eqb k (kind If)) (waitsOf p b)
+    (cond (eqb k (kind Then)) (partedOf p k)
+    (cond (eqb k (kind Else)) (partedOf p k)
+    (cond (eqb k (kind Do)) (inwardOf p)
+    (cond (eqb k (kind Procedure)) (headOf p true) p)))))))
 
 abbrev pub lateOf : State → List ℕ → ℕ → ℕ → State
 lateOf s st k n = lateFrom (passedOf s k) (s .begins) st k n
 
 abbrev pub stackAfter : State → List ℕ → ℕ → ℕ → List ℕ
-stackAfter s st k n = cond (eqb k 0) ((s .level + 1) ∷ st) (cond (eqb k 1) (below st) (cond (eqb k 35) (separatedStack s st n) st))
+stackAfter s st k n = cond (eqb k (kind Begin)) ((s .level + 1) ∷ st) (cond (eqb k (kind End)) (below st) (cond (eqb k (kind Semicolon)) (separatedStack s st n) st))
 
 pub record Late (old new : List ℕ) (s : State) (k n : ℕ) (r : State) : Type 0 where
   pub state : r ≡ lateOf s (stackOf (s .around) old) k n

@@ -19,10 +19,7 @@ use Rattle.marks.specs.Models.{ended}
 
 -- ---- zero words behind
 
-abbrev zeros : ℕ → List ℕ
-zeros n = replicate n 0
-
-same-word : (ws : List ℕ) (n k : ℕ) → getD (ws ++ zeros n) k 0 ≡ getD ws k 0
+same-word : (ws : List ℕ) (n k : ℕ) → getD (ws ++ replicate n 0) k 0 ≡ getD ws k 0
 same-word [] zero k = refl
 same-word [] (suc n) zero = refl
 same-word [] (suc n) (suc k) = same-word [] n k
@@ -46,29 +43,29 @@ wider true b x y h k = ap (λ (t : Bool). cond t x y) (h refl)
 wider false true x y h k = k refl
 wider false false x y h k = refl
 
-fetch-behind : (p : List Instr) (n c : ℕ) → fetch (words p ++ zeros n) c ≡ fetch (words p) c
+fetch-behind : (p : List Instr) (n c : ℕ) → fetch (words p ++ replicate n 0) c ≡ fetch (words p) c
 unfolding fetch
 fetch-behind p n c =
     let ws = words p in
-    let b = ltb (2 * c + 1) (length (ws ++ zeros n)) in
-    ap (λ (w : ℕ). cond b (instruction w (getD (ws ++ zeros n) (2 * c + 1) 0)) none) (same-word ws n (2 * c))
+    let b = ltb (2 * c + 1) (length (ws ++ replicate n 0)) in
+    ap (λ (w : ℕ). cond b (instruction w (getD (ws ++ replicate n 0) (2 * c + 1) 0)) none) (same-word ws n (2 * c))
     ∙ ap (λ (v : ℕ). cond b (instruction (getD ws (2 * c) 0) v) none) (same-word ws n (2 * c + 1))
     ∙ wider (ltb (2 * c + 1) (length ws)) b (instruction (getD ws (2 * c) 0) (getD ws (2 * c + 1) 0)) none
-    (λ h. lt-ltb (2 * c + 1) (length (ws ++ zeros n)) (omega (arith, length-append ws (zeros n), ltb-true (2 * c + 1) (length ws) h)))
+    (λ h. lt-ltb (2 * c + 1) (length (ws ++ replicate n 0)) (omega (arith, length-append ws (replicate n 0), ltb-true (2 * c + 1) (length ws) h)))
     (λ h. past-end ws c (omega (arith, even p, ltb-false (2 * c + 1) (length ws) h)))
 
-step-behind : (p : List Instr) (n : ℕ) (m : Mach) → step (words p ++ zeros n) m ≡ step (words p) m
+step-behind : (p : List Instr) (n : ℕ) (m : Mach) → step (words p ++ replicate n 0) m ≡ step (words p) m
 unfolding step
 step-behind p n (ms pc ps fs d) = ap (λ i. obey i pc ps fs d) (fetch-behind p n pc)
 
 -- ---- the machine
 
-machine-behind : (p : List Instr) (n : ℕ) (input : List ℤ) (limit room space : ℕ) → machine (words p ++ zeros n) input limit room space ≡ machine (words p) input limit room space
+machine-behind : (p : List Instr) (n : ℕ) (input : List ℤ) (limit room space : ℕ) → machine (words p ++ replicate n 0) input limit room space ≡ machine (words p) input limit room space
 unfolding machine
 machine-behind p n input limit room space = ap (λ x. finish (run x limit (start input room space) 0 untold)) (fun-ext (step-behind p n))
 
 pub with-more : (p : List Instr) (input : List ℤ) (L room space : ℕ) (f : Finish) → ended (run (step (words p)) L (start input room space) 0 untold) ≡ some f
-    → (behind limit : ℕ) → f .done ≤ limit → machine (words p ++ zeros behind) input limit room space ≡ f
+    → (behind limit : ℕ) → f .done ≤ limit → machine (words p ++ replicate behind 0) input limit room space ≡ f
 unfolding finish
 with-more p input L room space f h behind limit l = machine-behind p behind input limit room space ∙ go (run (step (words p)) L (start input room space) 0 untold) refl h
   where

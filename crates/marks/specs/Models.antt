@@ -10,7 +10,9 @@ use Rattle.answers.specs.Answers.{refusal}
 use Rattle.answers.specs.declared.Refusal.{Refusal}
 use Rattle.answers.specs.declared.Verdict.{Verdict}
 use Rattle.answers.specs.declared.Verdict.the-variants.{Accepted, Refused}
+use Rattle.symbols.specs.Symbols.{kind}
 use Rattle.symbols.specs.Scan.{scan}
+use Rattle.symbols.specs.declared.Symbol.the-variants.{Colon}
 use Rattle.grammar.specs.Grammar.{program}
 use Rattle.grammar.specs.Trees.{Syn}
 use Rattle.grammar.specs.Text.{kindAt}
@@ -57,7 +59,7 @@ module _ (text : List ℕ) where
   byTree (some (bad n k)) = some (refused (Refused (refusal n (placeIn text k))))
 
   abbrev pub bySymbols : ℕ → Option Refusal → Option Read
-  bySymbols fuel none = byTree (parse (kindAt (kindsIn text)) fuel levels (33 ∷ []) program 0)
+  bySymbols fuel none = byTree (parse (kindAt (kindsIn text)) fuel levels (kind Colon ∷ []) program 0)
   bySymbols fuel (some r) = some (refused (Refused r))
 
   abbrev pub byLength : ℕ → Bool → Option Read

@@ -70,93 +70,56 @@ signs =
     one ")" Close ∷
     []
 
--- ---- kinds: a number for each symbol, which tells symbols apart but for a number's value
+-- ---- kinds: a number for each symbol, which tells symbols apart but for a number's value; and that value, which no other symbol has
+
+abbrev numbered : Symbol → ℕ × ℕ
+numbered Begin = (0, 0)
+numbered End = (1, 0)
+numbered If = (2, 0)
+numbered Then = (3, 0)
+numbered Else = (4, 0)
+numbered For = (5, 0)
+numbered Do = (6, 0)
+numbered Step = (7, 0)
+numbered Until = (8, 0)
+numbered While = (9, 0)
+numbered Comment = (10, 0)
+numbered Integer = (11, 0)
+numbered Boolean = (12, 0)
+numbered Procedure = (13, 0)
+numbered Value = (14, 0)
+numbered True = (15, 0)
+numbered False = (16, 0)
+numbered And = (17, 0)
+numbered Or = (18, 0)
+numbered Not = (19, 0)
+numbered Impl = (20, 0)
+numbered Equiv = (21, 0)
+numbered Plus = (22, 0)
+numbered Minus = (23, 0)
+numbered Times = (24, 0)
+numbered Divide = (25, 0)
+numbered Less = (26, 0)
+numbered LessEqual = (27, 0)
+numbered Equal = (28, 0)
+numbered GreaterEqual = (29, 0)
+numbered Greater = (30, 0)
+numbered NotEqual = (31, 0)
+numbered Comma = (32, 0)
+numbered Colon = (33, 0)
+numbered Becomes = (34, 0)
+numbered Semicolon = (35, 0)
+numbered Open = (36, 0)
+numbered Close = (37, 0)
+numbered Name = (38, 0)
+numbered (Number v) = (39, v)
 
 abbrev pub kind : Symbol → ℕ
-kind Begin = 0
-kind End = 1
-kind If = 2
-kind Then = 3
-kind Else = 4
-kind For = 5
-kind Do = 6
-kind Step = 7
-kind Until = 8
-kind While = 9
-kind Comment = 10
-kind Integer = 11
-kind Boolean = 12
-kind Procedure = 13
-kind Value = 14
-kind True = 15
-kind False = 16
-kind And = 17
-kind Or = 18
-kind Not = 19
-kind Impl = 20
-kind Equiv = 21
-kind Plus = 22
-kind Minus = 23
-kind Times = 24
-kind Divide = 25
-kind Less = 26
-kind LessEqual = 27
-kind Equal = 28
-kind GreaterEqual = 29
-kind Greater = 30
-kind NotEqual = 31
-kind Comma = 32
-kind Colon = 33
-kind Becomes = 34
-kind Semicolon = 35
-kind Open = 36
-kind Close = 37
-kind Name = 38
-kind (Number v) = 39
+kind s = numbered s .0
+
+abbrev pub valueOf : Symbol → ℕ
+valueOf s = numbered s .1
 
 -- the same symbol, a number's value aside
 abbrev pub is : Symbol → Symbol → Bool
 is a b = eqb (kind a) (kind b)
-
--- the value of a number; any other symbol has none
-abbrev pub valueOf : Symbol → ℕ
-valueOf Begin = 0
-valueOf End = 0
-valueOf If = 0
-valueOf Then = 0
-valueOf Else = 0
-valueOf For = 0
-valueOf Do = 0
-valueOf Step = 0
-valueOf Until = 0
-valueOf While = 0
-valueOf Comment = 0
-valueOf Integer = 0
-valueOf Boolean = 0
-valueOf Procedure = 0
-valueOf Value = 0
-valueOf True = 0
-valueOf False = 0
-valueOf And = 0
-valueOf Or = 0
-valueOf Not = 0
-valueOf Impl = 0
-valueOf Equiv = 0
-valueOf Plus = 0
-valueOf Minus = 0
-valueOf Times = 0
-valueOf Divide = 0
-valueOf Less = 0
-valueOf LessEqual = 0
-valueOf Equal = 0
-valueOf GreaterEqual = 0
-valueOf Greater = 0
-valueOf NotEqual = 0
-valueOf Comma = 0
-valueOf Colon = 0
-valueOf Becomes = 0
-valueOf Semicolon = 0
-valueOf Open = 0
-valueOf Close = 0
-valueOf Name = 0
-valueOf (Number v) = v

@@ -11,7 +11,7 @@ use Rattle.answers.specs.declared.Answer.{Answer}
 use Rattle.grammar.specs.Grammar.{block, rd, begin-end, program}
 use Rattle.grammar.specs.Trees.{Syn}
 use Rattle.grammar.specs.model.Marked.{unmarked, nodes, nodesOf}
-use Rattle.grammar.specs.Verdict.{zeros, room, Verdict}
+use Rattle.grammar.specs.Verdict.{zeros, node-words, Verdict}
 use Rattle.grammar.specs.Text.{text, kindAt}
 use Rattle.grammar.specs.Run.{levels, Run, got, bad, end, rd-got, level}
 use Rattle.syntax.specs.Says.{left, Clear, Got}
@@ -34,13 +34,13 @@ taken {ks} {F = F} B {j = j} (rd-got {p = begin-end} {t = t} level h v end) q n 
 the-program : {ks old mid : List ℕ} {B : ℕ} {F : List ℕ} {j b : ℕ} → Got ks old mid 1 B F (unmarked (rd false block ∷ [])) 0 0 j b → Program ks mid F j b
 the-program {B = B} g = taken B (g .run) refl (omega (arith, g .num)) (g .wrote)
 
-cleared : {mid new : List ℕ} → Clear mid new 0 → length mid ≡ room → new ≡ zeros room
+cleared : {mid new : List ℕ} → Clear mid new 0 → length mid ≡ node-words → new ≡ zeros node-words
 cleared {mid} c size = c .words ∙ ap (λ (n : ℕ). zeros n) none
   where
-    none : length mid - 0 ≡ room
+    none : length mid - 0 ≡ node-words
     none = omega arith
 
-module _ {ks old mid new : List ℕ} {B j b : ℕ} (g : Got ks old mid 1 B (33 ∷ []) (unmarked (rd false block ∷ [])) 0 0 j b) (size : length mid ≡ room) where
+module _ {ks old mid new : List ℕ} {B j b : ℕ} (g : Got ks old mid 1 B (33 ∷ []) (unmarked (rd false block ∷ [])) 0 0 j b) (size : length mid ≡ node-words) where
   pub all-read : j ≡ length ks → Clear mid new b → Verdict ks new (Read j b)
   all-read l w =
       let p = the-program g in
@@ -49,7 +49,7 @@ module _ {ks old mid new : List ℕ} {B j b : ℕ} (g : Got ks old mid 1 B (33 �
   pub more-left : (j ≡ length ks → ⊥) → Clear mid new 0 → Verdict ks new (Refused (answer 5) j)
   more-left l w = over-verdict ks (cleared w size) (the-program g .run) l
 
-pub refused : {ks mid new : List ℕ} {a : Answer} {k : ℕ} → Clear mid new 0 → length mid ≡ room → Run (kindAt ks) (left 1) (33 ∷ []) (rd false block ∷ []) 0 (bad (a .number) k) → Verdict ks new (Refused a k)
+pub refused : {ks mid new : List ℕ} {a : Answer} {k : ℕ} → Clear mid new 0 → length mid ≡ node-words → Run (kindAt ks) (left 1) (33 ∷ []) (rd false block ∷ []) 0 (bad (a .number) k) → Verdict ks new (Refused a k)
 refused {ks} {a = a} {k = k} w size v = bad-verdict ks a k (cleared w size) v
 
 -- what lies behind the symbols that are there changes nothing

@@ -5,6 +5,8 @@ use mathlib.Core.Bool.{Bool, true, false}
 use mathlib.Core.List.{List, [], _∷_, _++_}
 use lib.ListN.{length, take}
 use Rattle.answers.specs.declared.Answer.{Answer}
+use Rattle.symbols.specs.Symbols.{kind}
+use Rattle.symbols.specs.declared.Symbol.the-variants.{End, Semicolon}
 use Rattle.grammar.specs.Grammar.{Class, Item, Prod}
 use Rattle.grammar.specs.Trees.{Syn, yield}
 use Rattle.grammar.specs.model.Marked.{Marks, unmarked, marks, nodes}
@@ -82,5 +84,5 @@ LimitsAll ks is i r = (F : List ℕ) → Limits ks F is i r
 
 -- what may follow a statement: `;`, and 'end' if it does not stand directly as a procedure's body
 abbrev pub behind : Bool → List ℕ
-behind true = 35 ∷ 1 ∷ []
-behind false = 35 ∷ []
+behind true = kind Semicolon ∷ kind End ∷ []
+behind false = kind Semicolon ∷ []

@@ -17,6 +17,8 @@ ghost use mathlib.Core.Path.{_≡_};
 ghost use mathlib.Core.List.{[], _∷_};
 ghost use mathlib.Core.Bool.{true, false};
 ghost use Prim.Native.Nat.{_+_};
+ghost use Rattle.symbols.specs.Symbols.{kind};
+ghost use Rattle.symbols.specs.declared.Symbol.the-variants.{End, Semicolon};
 ghost use Rattle.grammar.specs.Grammar.{part, deeper, block as a-block, inner as an-inner, head as a-head, tail as a-tail, declarations as the-declarations, declaration as a-declaration, declared as a-declared, procedure as a-procedure, statements as the-statements, statement as a-statement, conditional as a-conditional, consequence as a-consequence, alternative as an-alternative, repetition as a-repetition, unconditional as an-unconditional};
 ghost use Rattle.grammar.specs.Text.{text, kindAt};
 ghost use Rattle.syntax.specs.Says.{behind, Room, Behind, Tells, Says, SaysOf};
@@ -53,7 +55,7 @@ pub fn block(kinds: &[u8], pos: usize, depth: u16, nodes: &mut [u16], free: usiz
 // What stands between 'begin' and 'end': a block if there are declarations.
 fn inner(kinds: &[u8], begin: usize, depth: u16, nodes: &mut [u16], free: usize) -> Parsed
     requires { ⌜ Behind (text (now kinds)) (now nodes) begin free ⌝ }
-    ensures { λ r. ⌜ Says (text (now (kinds .entry))) (now (nodes .entry)) (now (nodes .exit)) depth (begin + 1) (1 ∷ []) (part an-inner ∷ []) (begin + 1) free r ⌝ }
+    ensures { λ r. ⌜ Says (text (now (kinds .entry))) (now (nodes .entry)) (now (nodes .exit)) depth (begin + 1) (kind End ∷ []) (part an-inner ∷ []) (begin + 1) free r ⌝ }
 {
     match peek(kinds, begin + 1) {
         Symbol::Integer | Symbol::Boolean | Symbol::Procedure => {
@@ -118,7 +120,7 @@ fn declarations(kinds: &[u8], pos: usize, depth: u16, nodes: &mut [u16], free: u
 // A declaration of what is at the depth given: a procedure's body is one deeper.
 pub fn declaration(kinds: &[u8], pos: usize, depth: u16, nodes: &mut [u16], free: usize) -> Parsed
     requires { ⌜ Room (text (now kinds)) (now nodes) pos free ⌝ }
-    ensures { λ r. ⌜ Says (text (now (kinds .entry))) (now (nodes .entry)) (now (nodes .exit)) depth pos (35 ∷ []) (part a-declaration ∷ []) pos free r ⌝ }
+    ensures { λ r. ⌜ Says (text (now (kinds .entry))) (now (nodes .entry)) (now (nodes .exit)) depth pos (kind Semicolon ∷ []) (part a-declaration ∷ []) pos free r ⌝ }
 {
     match peek(kinds, pos) {
         Symbol::Procedure => {
@@ -138,7 +140,7 @@ pub fn declaration(kinds: &[u8], pos: usize, depth: u16, nodes: &mut [u16], free
 // What is declared with a type.
 fn declared(kinds: &[u8], pos: usize, depth: u16, nodes: &mut [u16], free: usize) -> Parsed
     requires { ⌜ Room (text (now kinds)) (now nodes) pos free ⌝ }
-    ensures { λ r. ⌜ Says (text (now (kinds .entry))) (now (nodes .entry)) (now (nodes .exit)) depth pos (35 ∷ []) (part a-declared ∷ []) pos free r ⌝ }
+    ensures { λ r. ⌜ Says (text (now (kinds .entry))) (now (nodes .entry)) (now (nodes .exit)) depth pos (kind Semicolon ∷ []) (part a-declared ∷ []) pos free r ⌝ }
 {
     match peek(kinds, pos) {
         Symbol::Procedure => procedure(kinds, pos + 1, depth, nodes, free),
@@ -149,7 +151,7 @@ fn declared(kinds: &[u8], pos: usize, depth: u16, nodes: &mut [u16], free: usize
 // A procedure's heading and body.
 fn procedure(kinds: &[u8], pos: usize, depth: u16, nodes: &mut [u16], free: usize) -> Parsed
     requires { ⌜ Room (text (now kinds)) (now nodes) pos free ⌝ }
-    ensures { λ r. ⌜ Says (text (now (kinds .entry))) (now (nodes .entry)) (now (nodes .exit)) depth pos (35 ∷ []) (part a-procedure ∷ []) pos free r ⌝ }
+    ensures { λ r. ⌜ Says (text (now (kinds .entry))) (now (nodes .entry)) (now (nodes .exit)) depth pos (kind Semicolon ∷ []) (part a-procedure ∷ []) pos free r ⌝ }
 {
     let one = heading(kinds, pos, nodes, free);
     match one {
@@ -171,7 +173,7 @@ fn procedure(kinds: &[u8], pos: usize, depth: u16, nodes: &mut [u16], free: usiz
 // The statements of a block or compound.
 fn tail(kinds: &[u8], pos: usize, depth: u16, nodes: &mut [u16], free: usize) -> Parsed
     requires { ⌜ Room (text (now kinds)) (now nodes) pos free ⌝ }
-    ensures { λ r. ⌜ Says (text (now (kinds .entry))) (now (nodes .entry)) (now (nodes .exit)) depth pos (1 ∷ []) (part a-tail ∷ []) pos free r ⌝ }
+    ensures { λ r. ⌜ Says (text (now (kinds .entry))) (now (nodes .entry)) (now (nodes .exit)) depth pos (kind End ∷ []) (part a-tail ∷ []) pos free r ⌝ }
 {
     let one = nested_statement(kinds, pos, depth, nodes, free, true);
     match one {
@@ -183,7 +185,7 @@ fn tail(kinds: &[u8], pos: usize, depth: u16, nodes: &mut [u16], free: usize) ->
 // Further statements, each behind a `;`.
 fn statements(kinds: &[u8], pos: usize, depth: u16, nodes: &mut [u16], free: usize) -> Parsed
     requires { ⌜ Room (text (now kinds)) (now nodes) pos free ⌝ }
-    ensures { λ r. ⌜ Says (text (now (kinds .entry))) (now (nodes .entry)) (now (nodes .exit)) depth pos (1 ∷ []) (part the-statements ∷ []) pos free r ⌝ }
+    ensures { λ r. ⌜ Says (text (now (kinds .entry))) (now (nodes .entry)) (now (nodes .exit)) depth pos (kind End ∷ []) (part the-statements ∷ []) pos free r ⌝ }
 {
     match peek(kinds, pos) {
         Symbol::Semicolon => tail(kinds, pos + 1, depth, nodes, free),

@@ -24,10 +24,7 @@ cond-same : {A : Type 0} (b : Bool) (x : A) → cond b x x ≡ x
 cond-same true x = refl
 cond-same false x = refl
 
-abbrev zeros : ℕ → List ℕ
-zeros n = replicate n 0
-
-zero-at : (n k : ℕ) → _≡_ {A = ℕ} (getD (zeros n) k 0) 0
+zero-at : (n k : ℕ) → _≡_ {A = ℕ} (getD (replicate n 0) k 0) 0
 zero-at zero k = refl
 zero-at (suc n) zero = refl
 zero-at (suc n) (suc k) = zero-at n k
@@ -41,19 +38,19 @@ shift w v ws c =
     let e'' : ltb (suc (suc (2 * c + 1))) (suc (suc (length ws))) ≡ ltb (2 * c + 1) (length ws) = leb·suc-suc (suc (suc (2 * c + 1))) (suc (length ws)) ∙ leb·suc-suc (suc (2 * c + 1)) (length ws) in
     rw (e, e', e'') refl
 
-fetched : (p : List Instr) (n c : ℕ) → CodeFits p → fetch (words p ++ zeros n) c ≡ instructionAt p c
+fetched : (p : List Instr) (n c : ℕ) → CodeFits p → fetch (words p ++ replicate n 0) c ≡ instructionAt p c
 unfolding words instructionAt fetch decode
-fetched [] n c h = ap (λ w. cond (ltb (2 * c + 1) (length (zeros n))) (instruction w (getD (zeros n) (2 * c + 1) 0)) none) (zero-at n (2 * c)) ∙ ap (λ v. cond (ltb (2 * c + 1) (length (zeros n))) (instruction 0 v) none) (zero-at n (2 * c + 1)) ∙ cond-same (ltb (2 * c + 1) (length (zeros n))) none
+fetched [] n c h = ap (λ w. cond (ltb (2 * c + 1) (length (replicate n 0))) (instruction w (getD (replicate n 0) (2 * c + 1) 0)) none) (zero-at n (2 * c)) ∙ ap (λ v. cond (ltb (2 * c + 1) (length (replicate n 0))) (instruction 0 v) none) (zero-at n (2 * c + 1)) ∙ cond-same (ltb (2 * c + 1) (length (replicate n 0))) none
 fetched (i ∷ p) n zero h =
-    let k : ℕ = length (words p ++ zeros n) in
+    let k : ℕ = length (words p ++ replicate n 0) in
     cond-yes (ltb 1 (suc (suc k))) _ _ (lt→ltb 1 (suc (suc k)) (omega arith)) ∙ back i (h .0)
-fetched (i ∷ p) n (suc c) h = shift (firstWord (partsOf i)) (partsOf i .operand) (words p ++ zeros n) c ∙ fetched p n c (h .1)
+fetched (i ∷ p) n (suc c) h = shift (firstWord (partsOf i)) (partsOf i .operand) (words p ++ replicate n 0) c ∙ fetched p n c (h .1)
 
 -- the machine on the words of a program is the machine on its instructions
-pub same-step : (p : List Instr) (n : ℕ) → CodeFits p → (m : Mach) → step (words p ++ zeros n) m ≡ stepIn p m
+pub same-step : (p : List Instr) (n : ℕ) → CodeFits p → (m : Mach) → step (words p ++ replicate n 0) m ≡ stepIn p m
 unfolding step stepIn
 same-step p n h (ms pc ps fs d) = ap (λ i. obey i pc ps fs d) (fetched p n pc h)
 
-pub same-machine : (p : List Instr) (n : ℕ) → CodeFits p → (input : List ℤ) (limit room space : ℕ) → machine (words p ++ zeros n) input limit room space ≡ machineIn p input limit room space
+pub same-machine : (p : List Instr) (n : ℕ) → CodeFits p → (input : List ℤ) (limit room space : ℕ) → machine (words p ++ replicate n 0) input limit room space ≡ machineIn p input limit room space
 unfolding machine machineIn
 same-machine p n h input limit room space = ap (λ f. finish (run f limit (start input room space) 0 untold)) (fun-ext (same-step p n h))

@@ -5,13 +5,13 @@ use Prim.Native.Nat.{_+_, _-_}
 use native.Mathlib.Omega.{arith}
 use borrow.Author.Needs.{needs}
 use lib.ListN.{length, drop}
-use Rattle.asking.specs.Words.{zeros}
+use Rattle.asking.specs.Words.{leadingZeros}
 use Rattle.asking.proofs.Lines.{zeros-on, zeros-stop, zeros-end}
 use Rattle.asking.proofs.words.zeros_end.Statement.{statement}
 use Rattle.asking.proofs.words.zeros_end.Tie as tie
 
 abbrev Inv-loop : tie.InvT-loop
-Inv-loop line at i₀ i = at + zeros (drop at line) ≡ i + zeros (drop i line)
+Inv-loop line at i₀ i = at + leadingZeros (drop at line) ≡ i + leadingZeros (drop i line)
 
 abbrev μ-loop : tie.MeasureT-loop
 μ-loop line at i₀ i = length line - i
