@@ -145,11 +145,20 @@ s-part is g s = record { read = λ j b q. g-part is g (s .read j b q); refused =
 pub s-bad : {ks old new : List ℕ} {d B : ℕ} {F : List ℕ} {c : Bool} {X : Class} (is : List Item) {ms : Marks (rd c X ∷ is)} {i a k : ℕ} {n : Answer} → Run (kindAt ks) (left d) (after is F) (rd c X ∷ []) i (bad (n .number) k) → SaysWith ks old new d B F ms i a (Refused n k)
 s-bad is v = says-bad (b-part is v)
 
-pub s-last : {ks old new : List ℕ} {d A B : ℕ} {F : List ℕ} {c : Bool} {X : Class} {i a : ℕ} {r : Parsed} → Says ks old new d A F (rd c X ∷ []) i a r → Says ks old new d B F (rd c X ∷ []) i a r
-s-last {c = c} s = record { read = λ j b q. again (s .read j b q); refused = s .refused }
+-- items with no node among them are read alike wherever their production began
+any-start : {is : List Item} (s : Syn is) (d A B i : ℕ) → nodes s (unmarked is) d A i ≡ nodes s (unmarked is) d B i
+unfolding nodes
+any-start nil d A B i = refl
+any-start (tok s) d A B i = any-start s d A B (i + 1)
+any-start (sub {b = c} p t s) d A B i = ap (λ (w : List ℕ). nodes t (marks p) (below c d) i i ++ w) (any-start s d A B (i + length (yield t)))
+
+pub s-last : {ks old new : List ℕ} {d A B : ℕ} {F : List ℕ} {is : List Item} {i a : ℕ} {r : Parsed} → Says ks old new d A F is i a r → Says ks old new d B F is i a r
+s-last {ks} {old} {new} {d} {A} {B} {F} {is} {i} {a} s = record { read = λ j b q. again (s .read j b q); refused = s .refused }
   where
-    again : {ks old new : List ℕ} {d A B : ℕ} {F : List ℕ} {c : Bool} {X : Class} {i a j b : ℕ} → Got ks old new d A F (unmarked (rd c X ∷ [])) i a j b → Got ks old new d B F (unmarked (rd c X ∷ [])) i a j b
-    again g = g-part [] g (g-end (g .within))
+    again : {j b : ℕ} → Got ks old new d A F (unmarked is) i a j b → Got ks old new d B F (unmarked is) i a j b
+    again g =
+        let e = any-start (g .tree) d A B i in
+        record { tree = g .tree; run = g .run; within = g .within; far = g .far; num = omega (arith, g .num, ap length e); wrote = g .wrote ∙ ap (λ (w : List ℕ). take a old ++ w) e }
 
 pub s-operand : {ks old new : List ℕ} {d B : ℕ} {F : List ℕ} {l m : Level} {i a : ℕ} {r : Parsed} → l ≡ m → Says ks old new d B F (rd false (operand m) ∷ []) i a r → Says ks old new d B F (rd false (operand l) ∷ []) i a r
 s-operand {ks} {old} {new} {d} {B} {F} {i = i} {a = a} {r = r} e s = subst (λ (z : Level). Says ks old new d B F (rd false (operand z) ∷ []) i a r) (sym e) s

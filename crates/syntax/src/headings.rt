@@ -6,9 +6,12 @@ use grammar::Entry;
 use grammar::Parsed;
 use grammar::nodes;
 use symbols::Symbol;
+use symbols::kinds::store;
 ghost use mathlib.Core.List.{[], _∷_};
-ghost use Rattle.grammar.specs.Grammar.{part, type, list as a-list, formals as the-formals, values as the-values, specifications as the-specifications, heading as a-heading};
+ghost use Rattle.grammar.specs.Grammar.{part, sy, type, list as a-list, formals as the-formals, values as the-values, specifications as the-specifications, heading as a-heading};
 ghost use Rattle.grammar.specs.model.Marked.{entryNode};
+ghost use Rattle.symbols.specs.Symbols.{kind};
+ghost use Rattle.symbols.specs.declared.Symbol.the-variants.{Colon};
 ghost use mathlib.Core.Path.{_≡_};
 ghost use Rattle.grammar.specs.Text.{text};
 ghost use Rattle.syntax.specs.Says.{Room, TellsAll};
@@ -72,27 +75,45 @@ pub fn list(kinds: &[u8], pos: usize, nodes: &mut [u16], free: usize, e: Entry) 
     }
 }
 
+// A list of names, and the symbol of a kind that ends it.
+fn list_to(kinds: &[u8], pos: usize, nodes: &mut [u16], free: usize, e: Entry, last: u8) -> Parsed
+    requires { ⌜ Room (text (now kinds)) (now nodes) pos free × (last ≡ kind Colon → ⊥) ⌝ }
+    ensures { λ r. ⌜ TellsAll (text (now (kinds .entry))) (now (nodes .entry)) (now (nodes .exit)) (part (a-list e) ∷ sy last ∷ []) pos free r ⌝ }
+{
+    let one = list(kinds, pos, nodes, free, e);
+    match one {
+        Parsed::Refused { answer, at } => Parsed::Refused { answer, at },
+        Parsed::Read { next, used } => {
+            let found = store(peek(kinds, next));
+            if found.kind == last {
+                Parsed::Read {
+                    next: next + 1,
+                    used,
+                }
+            } else {
+                Parsed::Refused {
+                    answer: Answer::GRAMMAR,
+                    at: next,
+                }
+            }
+        }
+    }
+}
+
+// The formal parameter part.
 fn formals(kinds: &[u8], pos: usize, nodes: &mut [u16], free: usize) -> Parsed
     requires { ⌜ Room (text (now kinds)) (now nodes) pos free ⌝ }
     ensures { λ r. ⌜ TellsAll (text (now (kinds .entry))) (now (nodes .entry)) (now (nodes .exit)) (part the-formals ∷ []) pos free r ⌝ }
 {
     match peek(kinds, pos) {
-        Symbol::Open => {
-            let one = list(kinds, pos + 1, nodes, free, Entry::Formal);
-            match one {
-                Parsed::Refused { answer, at } => Parsed::Refused { answer, at },
-                Parsed::Read { next, used } => match peek(kinds, next) {
-                    Symbol::Close => Parsed::Read {
-                        next: next + 1,
-                        used,
-                    },
-                    _ => Parsed::Refused {
-                        answer: Answer::GRAMMAR,
-                        at: next,
-                    },
-                },
-            }
-        }
+        Symbol::Open => list_to(
+            kinds,
+            pos + 1,
+            nodes,
+            free,
+            Entry::Formal,
+            symbols::kinds::CLOSE,
+        ),
         _ => Parsed::Read {
             next: pos,
             used: free,
@@ -106,22 +127,14 @@ fn values(kinds: &[u8], pos: usize, nodes: &mut [u16], free: usize) -> Parsed
     ensures { λ r. ⌜ TellsAll (text (now (kinds .entry))) (now (nodes .entry)) (now (nodes .exit)) (part the-values ∷ []) pos free r ⌝ }
 {
     match peek(kinds, pos) {
-        Symbol::Value => {
-            let one = list(kinds, pos + 1, nodes, free, Entry::Valued);
-            match one {
-                Parsed::Refused { answer, at } => Parsed::Refused { answer, at },
-                Parsed::Read { next, used } => match peek(kinds, next) {
-                    Symbol::Semicolon => Parsed::Read {
-                        next: next + 1,
-                        used,
-                    },
-                    _ => Parsed::Refused {
-                        answer: Answer::GRAMMAR,
-                        at: next,
-                    },
-                },
-            }
-        }
+        Symbol::Value => list_to(
+            kinds,
+            pos + 1,
+            nodes,
+            free,
+            Entry::Valued,
+            symbols::kinds::SEMICOLON,
+        ),
         _ => Parsed::Read {
             next: pos,
             used: free,

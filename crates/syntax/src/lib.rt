@@ -5,7 +5,7 @@ ghost use mathlib.Core.Path.{_≡_};
 ghost use lib.ListN.{length, take};
 ghost use Prim.Native.Nat.{_≤_};
 ghost use Rattle.grammar.specs.Text.{text};
-ghost use Rattle.grammar.specs.Verdict.{room, Verdict};
+ghost use Rattle.grammar.specs.Verdict.{node-words, Verdict};
 
 mod clauses; // what begins with a name, and for clauses
 mod expressions; // expressions
@@ -26,7 +26,7 @@ pub fn parse(kinds: &[u8; 2048], count: usize, nodes: &mut [u16; 32768]) -> Pars
 
 // The first symbols of those that are lent.
 fn front(kinds: &[u8], count: usize, nodes: &mut [u16]) -> Parsed
-    requires { ⌜ (length (now kinds) ≡ 2048) × (length (now nodes) ≡ room) ⌝ }
+    requires { ⌜ (length (now kinds) ≡ 2048) × (length (now nodes) ≡ node-words) ⌝ }
     ensures { λ r. ⌜ Verdict (text (take count (now (kinds .entry)))) (now (nodes .exit)) r ⌝ }
 {
     if count < kinds.len() {
@@ -37,7 +37,7 @@ fn front(kinds: &[u8], count: usize, nodes: &mut [u16]) -> Parsed
 
 // All symbols as a program.
 fn program(kinds: &[u8], nodes: &mut [u16]) -> Parsed
-    requires { ⌜ (length (now kinds) ≤ 2048) × (length (now nodes) ≡ room) ⌝ }
+    requires { ⌜ (length (now kinds) ≤ 2048) × (length (now nodes) ≡ node-words) ⌝ }
     ensures { λ r. ⌜ Verdict (text (now (kinds .entry))) (now (nodes .exit)) r ⌝ }
 {
     let one = statements::block(kinds, 0, 1, nodes, 0);
