@@ -7,9 +7,9 @@ use lib.ListN.{length, take}
 use Rattle.answers.specs.declared.Answer.{Answer}
 use Rattle.symbols.specs.Symbols.{kind}
 use Rattle.symbols.specs.declared.Symbol.the-variants.{End, Semicolon}
-use Rattle.grammar.specs.Grammar.{Class, Item, Prod}
+use Rattle.grammar.specs.Grammar.{Class, Item, rd, Prod}
 use Rattle.grammar.specs.Trees.{Syn, yield}
-use Rattle.grammar.specs.model.Marked.{Marks, unmarked, marks, nodes}
+use Rattle.grammar.specs.model.Marked.{Word, mark, Marks, end, on, put, unmarked, marks, word, nodes}
 use Rattle.grammar.specs.Verdict.{zeros}
 use Rattle.grammar.specs.Text.{kindAt}
 use Rattle.grammar.specs.Run.{Run, got, bad}
@@ -70,6 +70,10 @@ Tells ks old new d is i a r = (F : List ℕ) → Says ks old new d i F is i a r
 
 abbrev pub TellsOf : List ℕ → List ℕ → List ℕ → ℕ → {X : Class} → Prod X → ℕ → ℕ → Parsed → Type 0
 TellsOf ks old new d p i a r = (F : List ℕ) → SaysOf ks old new d i F p i a r
+
+-- a part, and behind it a node with the symbol s, in whichever way the production says that
+abbrev pub TellsMarked : List ℕ → List ℕ → List ℕ → ℕ → Class → ℕ → ℕ → ℕ → ℕ → Parsed → Type 0
+TellsMarked ks old new d X k s i a r = (w : Word) → ((j : ℕ) → word w d i j ≡ s) → (F : List ℕ) → SaysWith ks old new d i F (on {x = rd false X} (put (mark k w) end)) i a r
 
 abbrev pub TellsAll : List ℕ → List ℕ → List ℕ → List Item → ℕ → ℕ → Parsed → Type 0
 TellsAll ks old new is i a r = (d : ℕ) (F : List ℕ) → Says ks old new d i F is i a r

@@ -9,10 +9,10 @@ use grammar::Use;
 use grammar::nodes;
 use symbols::Symbol;
 ghost use mathlib.Core.List.{[], _∷_};
-ghost use Prim.Native.Nat.{_+_, _<_};
-ghost use Rattle.grammar.specs.Grammar.{part, named as a-named, right as a-right, value as a-value, for-clause as a-for-clause, elements as the-elements, further as the-further, element as an-element, progress as a-progress, stepping as a-stepping, amount as an-amount};
+ghost use Prim.Native.Nat.{_+_, _<_, _≤_};
+ghost use Rattle.grammar.specs.Grammar.{part, named as a-named, right as a-right, value as a-value, for-clause as a-for-clause, elements as the-elements, further as the-further, element as an-element, progress as a-progress, stepping as a-stepping, amount as an-amount, expression as an-expression};
 ghost use Rattle.grammar.specs.Text.{text};
-ghost use Rattle.syntax.specs.Says.{Room, Behind, Tells, TellsOf};
+ghost use Rattle.syntax.specs.Says.{Room, Behind, Tells, TellsOf, TellsMarked};
 
 // An assignment or a procedure statement, behind the name that begins it.
 pub fn named(kinds: &[u8], name: usize, depth: u16, nodes: &mut [u16], free: usize) -> Parsed
@@ -50,19 +50,43 @@ fn right(kinds: &[u8], becomes: usize, depth: u16, nodes: &mut [u16], free: usiz
     }
 }
 
+// An expression, and behind it a node of a kind with a symbol.
+fn expression_and(
+    kinds: &[u8],
+    pos: usize,
+    depth: u16,
+    nodes: &mut [u16],
+    free: usize,
+    kind: u16,
+    symbol: usize,
+) -> Parsed
+    requires { ⌜ Room (text (now kinds)) (now nodes) pos free × (symbol ≤ pos) ⌝ }
+    ensures { λ r. ⌜ TellsMarked (text (now (kinds .entry))) (now (nodes .entry)) (now (nodes .exit)) depth an-expression kind symbol pos free r ⌝ }
+{
+    let one = expression(kinds, pos, depth, nodes, free);
+    match one {
+        Parsed::Refused { answer, at } => Parsed::Refused { answer, at },
+        Parsed::Read { next, used } => {
+            let end = put(nodes, used, kind, symbol, 0, 0);
+            Parsed::Read { next, used: end }
+        }
+    }
+}
+
 // The right side of an assignment.
 fn value(kinds: &[u8], becomes: usize, depth: u16, nodes: &mut [u16], free: usize) -> Parsed
     requires { ⌜ Behind (text (now kinds)) (now nodes) becomes free ⌝ }
     ensures { λ r. ⌜ TellsOf (text (now (kinds .entry))) (now (nodes .entry)) (now (nodes .exit)) depth a-value (becomes + 1) free r ⌝ }
 {
-    let one = expression(kinds, becomes + 1, depth, nodes, free);
-    match one {
-        Parsed::Refused { answer, at } => Parsed::Refused { answer, at },
-        Parsed::Read { next, used } => {
-            let end = put(nodes, used, nodes::ASSIGN, becomes, 0, 0);
-            Parsed::Read { next, used: end }
-        }
-    }
+    expression_and(
+        kinds,
+        becomes + 1,
+        depth,
+        nodes,
+        free,
+        nodes::ASSIGN,
+        becomes,
+    )
 }
 
 // 'for', the controlled variable, the elements and 'do'.
@@ -221,12 +245,5 @@ fn amount(kinds: &[u8], pos: usize, depth: u16, nodes: &mut [u16], free: usize) 
     requires { ⌜ Room (text (now kinds)) (now nodes) pos free ⌝ }
     ensures { λ r. ⌜ Tells (text (now (kinds .entry))) (now (nodes .entry)) (now (nodes .exit)) depth (part an-amount ∷ []) pos free r ⌝ }
 {
-    let one = expression(kinds, pos, depth, nodes, free);
-    match one {
-        Parsed::Refused { answer, at } => Parsed::Refused { answer, at },
-        Parsed::Read { next, used } => {
-            let end = put(nodes, used, nodes::AMOUNT, pos, 0, 0);
-            Parsed::Read { next, used: end }
-        }
-    }
+    expression_and(kinds, pos, depth, nodes, free, nodes::AMOUNT, pos)
 }
