@@ -1,5 +1,5 @@
 -- Rows of four words in a list of words: what is left from row i on, one row further and at the end; rows looked for, and told of;
--- a row written; the open scopes as they stand in an array.
+-- the open scopes as they stand in an array.
 use mathlib.Core.Path.{_≡_, refl, sym, ap, _∙_}
 use mathlib.Core.Logic.{_≢_}
 use mathlib.Core.Bool.{Bool, true, false, cond, not, _&&_, _||_}
@@ -10,7 +10,7 @@ use native.Mathlib.Numerals.{add-one}
 use lib.Dec.{eqb, ltb, leb·suc-suc}
 use borrow.Author.Tests.{lt-ltb, le-ltb}
 use lib.ListN.{length, getD, take, drop, set, length-set, length-drop, drop-of-length-le}
-use lib.Seq.{drop-cons, take-add, take-suc-set, take-all, take-set-le, take-set-lt, drop-set-lt, drop-set-add, getD-set-same, getD-set-other, getD-take, length-take-le}
+use lib.Seq.{drop-cons, take-add, take-all, take-set-le, take-set-lt, drop-set-lt, drop-set-add, getD-set-same, getD-set-other, getD-take, length-take-le}
 use Rattle.names.specs.Rows.{foldNodes, rowOf, rowIn, sought, soughtRow, findRow, hasRow, saidIn, saying, lacking, missingIn, opensOf, hereIn, outward}
 use Rattle.names.specs.declared.Row.{Row}
 use Rattle.names.specs.declared.Sought.{Sought}
@@ -260,26 +260,6 @@ module _ (q : ℕ) where
 
   pub missing-end : (rows : List ℕ) (j : ℕ) → length rows ≤ 4 * j + 3 → missingIn q (drop (4 * j) rows) ≡ false
   missing-end rows j h = missing-few (drop (4 * j) rows) (row-end rows j h)
-
--- ---- a row written
-
-front : (old : List ℕ) (a b x : ℕ) → b ≡ a + 1 → a < length old → take b (set old a x) ≡ take a old ++ (x ∷ [])
-front old a b x e l = rw (e, add-one) (take-suc-set old a x l)
-
-pub written : (old : List ℕ) (a k s q t : ℕ) → a + 4 ≤ length old
-    → take (a + 4) (set (set (set (set old a k) (a + 1) s) (a + 2) q) (a + 3) t) ≡ take a old ++ (k ∷ s ∷ q ∷ t ∷ [])
-written old a k s q t l =
-    let o₁ = set old a k in
-    let o₂ = set o₁ (a + 1) s in
-    let o₃ = set o₂ (a + 2) q in
-    let l₁ : length o₁ ≡ length old = length-set old a k in
-    let l₂ : length o₂ ≡ length o₁ = length-set o₁ (a + 1) s in
-    let l₃ : length o₃ ≡ length o₂ = length-set o₂ (a + 2) q in
-    front o₃ (a + 3) (a + 4) t (omega arith) (omega arith)
-    ∙ ap (λ (z : List ℕ). z ++ (t ∷ [])) (front o₂ (a + 2) (a + 3) q (omega arith) (omega arith)
-    ∙ ap (λ (z : List ℕ). z ++ (q ∷ [])) (front o₁ (a + 1) (a + 2) s (omega arith) (omega arith)
-    ∙ ap (λ (z : List ℕ). z ++ (s ∷ [])) (front old a (a + 1) k (omega arith) (omega arith))))
-    ∙ simp append-assoc
 
 -- ---- open scopes
 

@@ -4,32 +4,14 @@ use mathlib.Core.List.{List, [], _∷_, _++_, append-nil, append-assoc}
 use Prim.Native.Nat.{ℕ, zero, suc, _+_, _-_, _<_, _≤_}
 use native.Mathlib.Omega.{arith}
 use native.Mathlib.Decide.{decLe}
-use native.Mathlib.Numerals.{add-one}
 use lib.ListN.{length, take, set, length-set}
-use lib.Seq.{take-suc-set, take-all}
+use lib.Seq.{take-all}
 use Rattle.grammar.specs.Verdict.{zeros}
+use Rattle.grammar.proofs.FourWords.{front, written}
 use Rattle.syntax.specs.Says.{Put}
 
-front : (old : List ℕ) (a b x : ℕ) → b ≡ a + 1 → a < length old → take b (set old a x) ≡ take a old ++ (x ∷ [])
-front old a b x e l = rw (e, add-one) (take-suc-set old a x l)
-
 pub put-is : (old : List ℕ) (a k s x y : ℕ) → a + 4 ≤ length old → Put old (set (set (set (set old a k) (a + 1) s) (a + 2) x) (a + 3) y) a (a + 4) k s x y
-put-is old a k s x y l =
-    let o₁ = set old a k in
-    let o₂ = set o₁ (a + 1) s in
-    let o₃ = set o₂ (a + 2) x in
-    let l₁ : length o₁ ≡ length old = length-set old a k in
-    let l₂ : length o₂ ≡ length o₁ = length-set o₁ (a + 1) s in
-    let l₃ : length o₃ ≡ length o₂ = length-set o₂ (a + 2) x in
-    record {
-      next = refl;
-      wrote =
-          front o₃ (a + 3) (a + 4) y (omega arith) (omega arith)
-          ∙ ap (λ (z : List ℕ). z ++ (y ∷ [])) (front o₂ (a + 2) (a + 3) x (omega arith) (omega arith)
-          ∙ ap (λ (z : List ℕ). z ++ (x ∷ [])) (front o₁ (a + 1) (a + 2) s (omega arith) (omega arith)
-          ∙ ap (λ (z : List ℕ). z ++ (s ∷ [])) (front old a (a + 1) k (omega arith) (omega arith))))
-          ∙ simp append-assoc;
-    }
+put-is old a k s x y l = record { next = refl; wrote = written old a k s x y l }
 
 -- from `from` to i all is zero
 pub record Cleared (old new : List ℕ) (from i : ℕ) : Type 0 where

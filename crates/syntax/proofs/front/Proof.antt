@@ -15,17 +15,8 @@ slice-aggregate-program c = sym (length-take-le ((c .before .before .before .bef
 program-requires : tie.Need-program-requires
 program-requires c κs = (omega (arith, length-take-le ((c .before .before .before .before .before .args) .count) ((c .before .before .before .before .before .args) .kinds .now) (omega arith)), (c .before .before .before .before .before .pre) .1)
 
-same-length : tie.Need-same-length
-same-length c = search needs
-
-returns : tie.Need-returns
-returns c = search needs
-
 program-requires-2 : tie.Need-program-requires-2
 program-requires-2 c κs = (omega arith, (c .before .before .before .before .pre) .1)
-
-same-length-2 : tie.Need-same-length-2
-same-length-2 c = search needs
 
 returns-2 : tie.Need-returns-2
 returns-2 c = cut ((c .before .before .before .before .before .before .before .args) .kinds .now) ((c .before .before .before .before .before .before .before .args) .count) ((c .before .before .before .before .if1) .left) ((c .before .before .program2) .ensures)
@@ -36,8 +27,8 @@ front-spec =
     (tie.spec
     slice-aggregate-program
     program-requires
-    same-length
-    returns
+    (λ c. search needs)
+    (λ c. search needs)
     program-requires-2
-    same-length-2
+    (λ c. search needs)
     returns-2)

@@ -13,35 +13,11 @@ use Rattle.syntax.proofs.program.Tie as tie
 block-requires : tie.Need-block-requires
 block-requires c κs = record { inside = omega arith; short = omega (arith, text-length ((c .before .before .before .args) .kinds .now), (c .before .before .before .pre) .0); size = (c .before .before .before .pre) .1; room = omega arith }
 
-enum-known-one : tie.Need-enum-known-one
-enum-known-one c = search needs
-
-clear-requires : tie.Need-clear-requires
-clear-requires c κs = search needs
-
-enum-known-one-2 : tie.Need-enum-known-one-2
-enum-known-one-2 c = search needs
-
-clear-requires-2 : tie.Need-clear-requires-2
-clear-requires-2 c κs = search needs
-
-same-length : tie.Need-same-length
-same-length c = search needs
-
 returns : tie.Need-returns
 returns c = all-read (((c .before .before .before .before .before .before .before .before .before .before .block) .ensures (33 ∷ [])) .read _ _ ((c .before .before .before .before .before .before .one2) .given .1)) ((c .before .before .before .before .before .before .before .before .before .before .block) .kept .1 .1 .1 .0 ∙ (c .before .before .before .before .before .before .before .before .before .before .before .before .before .before .pre) .1) ((c .before .before .before .before .if1) .taken ∙ sym (text-length ((c .before .before .before .before .before .before .before .before .before .before .before .before .before .before .args) .kinds .now))) ((c .before .before .clear2) .ensures)
 
-clear-requires-3 : tie.Need-clear-requires-3
-clear-requires-3 c κs = search needs
-
-same-length-2 : tie.Need-same-length-2
-same-length-2 c = search needs
-
 returns-2 : tie.Need-returns-2
 returns-2 c = refused ((c .before .before .clear) .ensures) ((c .before .before .before .before .before .before .before .before .before .block) .kept .1 .1 .1 .0 ∙ (c .before .before .before .before .before .before .before .before .before .before .before .before .before .pre) .1) (((c .before .before .before .before .before .before .before .before .before .block) .ensures (33 ∷ [])) .refused _ _ ((c .before .before .before .before .before .one) .given .1))
-
-same-length-3 : tie.Need-same-length-3
-same-length-3 c = search needs
 
 returns-3 : tie.Need-returns-3
 returns-3 c = more-left (((c .before .before .before .before .before .before .before .before .before .before .block) .ensures (33 ∷ [])) .read _ _ ((c .before .before .before .before .before .before .one2) .given .1)) ((c .before .before .before .before .before .before .before .before .before .before .block) .kept .1 .1 .1 .0 ∙ (c .before .before .before .before .before .before .before .before .before .before .before .before .before .before .pre) .1) (λ e. (c .before .before .before .before .if1) .left (e ∙ text-length ((c .before .before .before .before .before .before .before .before .before .before .before .before .before .before .args) .kinds .now))) ((c .before .before .clear3) .ensures)
@@ -51,14 +27,14 @@ program-spec =
     tie.close
     (tie.spec
     block-requires
-    enum-known-one
-    clear-requires
-    enum-known-one-2
-    clear-requires-2
-    same-length
+    (λ c. search needs)
+    (λ c κs. search needs)
+    (λ c. search needs)
+    (λ c κs. search needs)
+    (λ c. search needs)
     returns
-    clear-requires-3
-    same-length-2
+    (λ c κs. search needs)
+    (λ c. search needs)
     returns-2
-    same-length-3
+    (λ c. search needs)
     returns-3)

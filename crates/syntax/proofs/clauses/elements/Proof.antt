@@ -9,12 +9,6 @@ use borrow.Author.Needs.{needs}
 use Rattle.syntax.proofs.clauses.elements.Statement.{statement}
 use Rattle.syntax.proofs.clauses.elements.Tie as tie
 
-peek-requires : tie.Need-peek-requires
-peek-requires c κs = search needs
-
-enum-told : tie.Need-enum-told
-enum-told c = search needs
-
 add-element : tie.Need-add-element
 add-element c =
     let r = (c .before .before .before .before .before .pre) in
@@ -27,12 +21,6 @@ element-requires c κs =
     let i1 = inside _ _ (is-at ((c .before .before .before .peek) .result) ((c .before .before .before .peek) .ensures) (c .before .before .match .keys1)) (λ h. omega arith) in
     record { inside = omega arith; short = omega arith; size = omega arith; room = omega arith }
 
-enum-known-one : tie.Need-enum-known-one
-enum-known-one c = search needs
-
-enum-known-one-2 : tie.Need-enum-known-one-2
-enum-known-one-2 c = search needs
-
 further-requires : tie.Need-further-requires
 further-requires c κs =
     let r = (c .before .before .before .before .before .before .before .before .before .before .before .before .before .pre) in
@@ -40,18 +28,6 @@ further-requires c κs =
     let l1 = (c .before .before .before .before .before .before .element) .kept .1 .1 .1 .0 in
     let g1 = ((c .before .before .before .before .before .before .element) .ensures []) .read _ _ ((c .before .before .one2) .given .1) in let s1 = space g1 in
     record { inside = omega arith; short = omega arith; size = omega arith; room = omega arith }
-
-enum-known-two : tie.Need-enum-known-two
-enum-known-two c = search needs
-
-enum-known-two-2 : tie.Need-enum-known-two-2
-enum-known-two-2 c = search needs
-
-peek-requires-2 : tie.Need-peek-requires-2
-peek-requires-2 c κs = search needs
-
-enum-told-2 : tie.Need-enum-told-2
-enum-told-2 c = search needs
 
 put-requires : tie.Need-put-requires
 put-requires c κs =
@@ -142,17 +118,17 @@ pub elements-spec : {M : Type 1} → statement M
 elements-spec =
     tie.close
     (tie.spec
-    peek-requires
-    enum-told
+    (λ c κs. search needs)
+    (λ c. search needs)
     add-element
     element-requires
-    enum-known-one
-    enum-known-one-2
+    (λ c. search needs)
+    (λ c. search needs)
     further-requires
-    enum-known-two
-    enum-known-two-2
-    peek-requires-2
-    enum-told-2
+    (λ c. search needs)
+    (λ c. search needs)
+    (λ c κs. search needs)
+    (λ c. search needs)
     put-requires
     add-t30
     same-length

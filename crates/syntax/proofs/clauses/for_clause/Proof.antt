@@ -9,23 +9,11 @@ use borrow.Author.Needs.{needs}
 use Rattle.syntax.proofs.clauses.for_clause.Statement.{statement}
 use Rattle.syntax.proofs.clauses.for_clause.Tie as tie
 
-peek-requires : tie.Need-peek-requires
-peek-requires c κs = search needs
-
-enum-told : tie.Need-enum-told
-enum-told c = search needs
-
 add-name : tie.Need-add-name
 add-name c =
     let r = (c .before .before .before .before .before .pre) in
     let i1 = inside _ _ (is-at ((c .before .before .peek) .result) ((c .before .before .peek) .ensures) (c .before .match .keys1)) (λ h. omega arith) in
     omega arith
-
-peek-requires-2 : tie.Need-peek-requires-2
-peek-requires-2 c κs = search needs
-
-enum-told-2 : tie.Need-enum-told-2
-enum-told-2 c = search needs
 
 put-requires : tie.Need-put-requires
 put-requires c κs =
@@ -72,11 +60,11 @@ pub for-clause-spec : {M : Type 1} → statement M
 for-clause-spec =
     tie.close
     (tie.spec
-    peek-requires
-    enum-told
+    (λ c κs. search needs)
+    (λ c. search needs)
     add-name
-    peek-requires-2
-    enum-told-2
+    (λ c κs. search needs)
+    (λ c. search needs)
     put-requires
     add-elements
     elements-requires

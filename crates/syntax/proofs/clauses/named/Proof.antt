@@ -17,12 +17,6 @@ add-next c =
     let r = (c .before .before .pre) in
     omega arith
 
-peek-requires : tie.Need-peek-requires
-peek-requires c κs = search needs
-
-enum-told : tie.Need-enum-told
-enum-told c = search needs
-
 put-requires : tie.Need-put-requires
 put-requires c κs =
     let r = (c .before .before .before .before .before .before .pre) in
@@ -66,8 +60,8 @@ named-spec =
     tie.close
     (tie.spec
     add-next
-    peek-requires
-    enum-told
+    (λ c κs. search needs)
+    (λ c. search needs)
     put-requires
     right-requires
     actuals-requires

@@ -12,21 +12,12 @@ use borrow.Author.Needs.{needs}
 use Rattle.syntax.proofs.clauses.progress.Statement.{statement}
 use Rattle.syntax.proofs.clauses.progress.Tie as tie
 
-peek-requires : tie.Need-peek-requires
-peek-requires c κs = search needs
-
-enum-told : tie.Need-enum-told
-enum-told c = search needs
-
 stepping-requires : tie.Need-stepping-requires
 stepping-requires c κs =
     let z = (c .before .before .before .before .before .before .pre) .1 in
     let r = (c .before .before .before .before .before .before .pre) .0 in
     let i1 = inside _ _ (is-at ((c .before .before .before .peek) .result) ((c .before .before .before .peek) .ensures) (c .before .before .match .keys1)) (λ h. omega arith) in
     record { inside = omega arith; short = omega arith; size = omega arith; room = omega arith }
-
-enum-told-2 : tie.Need-enum-told-2
-enum-told-2 c = search needs
 
 add-expression : tie.Need-add-expression
 add-expression c =
@@ -41,12 +32,6 @@ expression-requires c κs =
     let r = (c .before .before .before .before .before .before .pre) .0 in
     let i1 = inside _ _ (is-at ((c .before .before .before .peek) .result) ((c .before .before .before .peek) .ensures) (c .before .before .match .keys2)) (λ h. omega arith) in
     record { inside = omega arith; short = omega arith; size = omega arith; room = omega arith }
-
-enum-known-one : tie.Need-enum-known-one
-enum-known-one c = search needs
-
-enum-known-one-2 : tie.Need-enum-known-one-2
-enum-known-one-2 c = search needs
 
 put-requires : tie.Need-put-requires
 put-requires c κs =
@@ -123,14 +108,14 @@ pub progress-spec : {M : Type 1} → statement M
 progress-spec =
     tie.close
     (tie.spec
-    peek-requires
-    enum-told
+    (λ c κs. search needs)
+    (λ c. search needs)
     stepping-requires
-    enum-told-2
+    (λ c. search needs)
     add-expression
     expression-requires
-    enum-known-one
-    enum-known-one-2
+    (λ c. search needs)
+    (λ c. search needs)
     put-requires
     put-requires-2
     same-length

@@ -9,12 +9,6 @@ use borrow.Author.Needs.{needs}
 use Rattle.syntax.proofs.clauses.stepping.Statement.{statement}
 use Rattle.syntax.proofs.clauses.stepping.Tie as tie
 
-peek-requires : tie.Need-peek-requires
-peek-requires c κs = search needs
-
-enum-told : tie.Need-enum-told
-enum-told c = search needs
-
 put-requires : tie.Need-put-requires
 put-requires c κs =
     let r = (c .before .before .before .before .before .before .pre) in
@@ -33,18 +27,6 @@ amount-requires c κs =
     let i1 = inside _ _ (is-at ((c .before .before .before .before .before .before .before .peek) .result) ((c .before .before .before .before .before .before .before .peek) .ensures) (c .before .before .before .before .before .before .match .keys1)) (λ h. omega arith) in
     let p1 = (c .before .before .before .put) .ensures in let k1 = (c .before .before .before .put) .kept .0 in
     record { inside = omega arith; short = omega arith; size = omega arith; room = omega arith }
-
-enum-known-one : tie.Need-enum-known-one
-enum-known-one c = search needs
-
-enum-known-one-2 : tie.Need-enum-known-one-2
-enum-known-one-2 c = search needs
-
-peek-requires-2 : tie.Need-peek-requires-2
-peek-requires-2 c κs = search needs
-
-enum-told-2 : tie.Need-enum-told-2
-enum-told-2 c = search needs
 
 add-amount-2 : tie.Need-add-amount-2
 add-amount-2 c =
@@ -110,15 +92,15 @@ pub stepping-spec : {M : Type 1} → statement M
 stepping-spec =
     tie.close
     (tie.spec
-    peek-requires
-    enum-told
+    (λ c κs. search needs)
+    (λ c. search needs)
     put-requires
     add-amount
     amount-requires
-    enum-known-one
-    enum-known-one-2
-    peek-requires-2
-    enum-told-2
+    (λ c. search needs)
+    (λ c. search needs)
+    (λ c κs. search needs)
+    (λ c. search needs)
     add-amount-2
     amount-requires-2
     same-length

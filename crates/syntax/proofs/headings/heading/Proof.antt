@@ -9,12 +9,6 @@ use borrow.Author.Needs.{needs}
 use Rattle.syntax.proofs.headings.heading.Statement.{statement}
 use Rattle.syntax.proofs.headings.heading.Tie as tie
 
-peek-requires : tie.Need-peek-requires
-peek-requires c κs = search needs
-
-enum-told : tie.Need-enum-told
-enum-told c = search needs
-
 put-requires : tie.Need-put-requires
 put-requires c κs =
     let r = (c .before .before .before .before .before .before .pre) in
@@ -35,18 +29,6 @@ formals-requires c κs =
     let p1 = (c .before .before .before .put) .ensures in let k1 = (c .before .before .before .put) .kept .0 in
     record { inside = omega arith; short = omega arith; size = omega arith; room = omega arith }
 
-enum-known-one : tie.Need-enum-known-one
-enum-known-one c = search needs
-
-enum-known-one-2 : tie.Need-enum-known-one-2
-enum-known-one-2 c = search needs
-
-peek-requires-2 : tie.Need-peek-requires-2
-peek-requires-2 c κs = search needs
-
-enum-told-2 : tie.Need-enum-told-2
-enum-told-2 c = search needs
-
 add-values : tie.Need-add-values
 add-values c =
     let r = (c .before .before .before .before .before .before .before .before .before .before .before .before .before .before .before .before .before .before .before .pre) in
@@ -66,12 +48,6 @@ values-requires c κs =
     let g1 = ((c .before .before .before .before .before .before .before .before .before .formals) .ensures 0 []) .read _ _ ((c .before .before .before .before .before .one2) .given .1) in let s1 = space g1 in
     let i2 = inside _ _ (is-at ((c .before .before .before .peek2) .result) ((c .before .before .before .peek2) .ensures) (c .before .before .match3 .keys1)) (λ h. omega arith) in
     record { inside = omega arith; short = omega arith; size = omega arith; room = omega arith }
-
-enum-known-two : tie.Need-enum-known-two
-enum-known-two c = search needs
-
-enum-known-two-2 : tie.Need-enum-known-two-2
-enum-known-two-2 c = search needs
 
 specifications-requires : tie.Need-specifications-requires
 specifications-requires c κs =
@@ -145,19 +121,19 @@ pub heading-spec : {M : Type 1} → statement M
 heading-spec =
     tie.close
     (tie.spec
-    peek-requires
-    enum-told
+    (λ c κs. search needs)
+    (λ c. search needs)
     put-requires
     add-formals
     formals-requires
-    enum-known-one
-    enum-known-one-2
-    peek-requires-2
-    enum-told-2
+    (λ c. search needs)
+    (λ c. search needs)
+    (λ c κs. search needs)
+    (λ c. search needs)
     add-values
     values-requires
-    enum-known-two
-    enum-known-two-2
+    (λ c. search needs)
+    (λ c. search needs)
     specifications-requires
     same-length
     returns

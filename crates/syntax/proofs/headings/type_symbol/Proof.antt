@@ -12,12 +12,6 @@ use borrow.Author.Needs.{needs}
 use Rattle.syntax.proofs.headings.type_symbol.Statement.{statement}
 use Rattle.syntax.proofs.headings.type_symbol.Tie as tie
 
-peek-requires : tie.Need-peek-requires
-peek-requires c κs = search needs
-
-enum-told : tie.Need-enum-told
-enum-told c = search needs
-
 put-requires : tie.Need-put-requires
 put-requires c κs =
     let r = (c .before .before .before .before .before .before .pre) in
@@ -30,9 +24,6 @@ add-t11 c =
     let i1 = inside _ _ (is-at ((c .before .before .before .before .before .before .peek) .result) ((c .before .before .before .before .before .before .peek) .ensures) (c .before .before .before .before .before .match .keys1)) (λ h. omega arith) in
     let p1 = (c .before .before .put) .ensures in let k1 = (c .before .before .put) .kept .0 in
     omega arith
-
-enum-told-2 : tie.Need-enum-told-2
-enum-told-2 c = search needs
 
 put-requires-2 : tie.Need-put-requires-2
 put-requires-2 c κs =
@@ -82,11 +73,11 @@ pub type-symbol-spec : {M : Type 1} → statement M
 type-symbol-spec =
     tie.close
     (tie.spec
-    peek-requires
-    enum-told
+    (λ c κs. search needs)
+    (λ c. search needs)
     put-requires
     add-t11
-    enum-told-2
+    (λ c. search needs)
     put-requires-2
     add-t14
     same-length

@@ -14,15 +14,6 @@ use borrow.Author.Needs.{needs}
 use Rattle.syntax.proofs.limits.consequence.Statement.{statement}
 use Rattle.syntax.proofs.limits.consequence.Tie as tie
 
-peek-requires : tie.Need-peek-requires
-peek-requires c κs = search needs
-
-enum-told : tie.Need-enum-told
-enum-told c = search needs
-
-enum-told-2 : tie.Need-enum-told-2
-enum-told-2 c = search needs
-
 returns : tie.Need-returns
 returns c = limits (rd-bad level (C.else-consequence (in-not (1 ∷ []) (now (is-at ((c .before .before .before .peek) .result) ((c .before .before .before .peek) .ensures) ((c .before .before .match) .keys3))) refl)) (rd-six (may-end (0 ∷ 38 ∷ 4 ∷ []) ((c .if1) .taken) refl (is-at ((c .before .before .before .peek) .result) ((c .before .before .before .peek) .ensures) ((c .before .before .match) .keys3)))))
 
@@ -41,4 +32,4 @@ returns-5 c = limits (rd-bad level (C.else-consequence (is-not ((c .before .peek
 pub consequence-spec : {M : Type 1} → statement M
 consequence-spec =
     tie.close
-    (tie.spec peek-requires enum-told enum-told-2 returns returns-2 returns-3 returns-4 returns-5)
+    (tie.spec (λ c κs. search needs) (λ c. search needs) (λ c. search needs) returns returns-2 returns-3 returns-4 returns-5)

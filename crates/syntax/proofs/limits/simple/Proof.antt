@@ -8,9 +8,6 @@ use borrow.Author.Needs.{needs}
 use Rattle.syntax.proofs.limits.simple.Statement.{statement}
 use Rattle.syntax.proofs.limits.simple.Tie as tie
 
-peek-requires : tie.Need-peek-requires
-peek-requires c κs = search needs
-
 returns : tie.Need-returns
 returns c = λ F. limits (rd-six (is-in ((c .before .peek) .result) ((c .before .peek) .ensures) (15 ∷ 16 ∷ 19 ∷ 22 ∷ 23 ∷ 36 ∷ 38 ∷ 39 ∷ []) ((c .match) .keys1)))
 
@@ -18,4 +15,4 @@ returns-2 : tie.Need-returns-2
 returns-2 c = λ F. limits (rd-five (is-none ((c .before .peek) .result) ((c .before .peek) .ensures) (but (15 ∷ 16 ∷ 19 ∷ 22 ∷ 23 ∷ 36 ∷ 38 ∷ 39 ∷ [])) (15 ∷ 16 ∷ 19 ∷ 22 ∷ 23 ∷ 36 ∷ 38 ∷ 39 ∷ []) refl ((c .match) .keys2)))
 
 pub simple-spec : {M : Type 1} → statement M
-simple-spec = tie.close (tie.spec peek-requires returns returns-2)
+simple-spec = tie.close (tie.spec (λ c κs. search needs) returns returns-2)

@@ -9,12 +9,6 @@ use borrow.Author.Needs.{needs}
 use Rattle.syntax.proofs.limits.statement.Statement.{statement}
 use Rattle.syntax.proofs.limits.statement.Tie as tie
 
-peek-requires : tie.Need-peek-requires
-peek-requires c κs = search needs
-
-enum-told : tie.Need-enum-told
-enum-told c = search needs
-
 returns : tie.Need-returns
 returns c = limits (rd-six (may-end (0 ∷ 2 ∷ 5 ∷ 38 ∷ []) ((c .if1) .taken) refl (is-at ((c .before .before .before .peek) .result) ((c .before .before .before .peek) .ensures) ((c .before .before .match) .keys2))))
 
@@ -28,4 +22,4 @@ returns-4 : tie.Need-returns-4
 returns-4 c = limits (rd-five (may-not (0 ∷ 2 ∷ 5 ∷ 38 ∷ []) ((c .before .before .before .args) .ends) (but (0 ∷ 1 ∷ 2 ∷ 5 ∷ 35 ∷ 38 ∷ [])) refl refl (is-in ((c .before .peek) .result) ((c .before .peek) .ensures) (but (0 ∷ 1 ∷ 2 ∷ 5 ∷ 35 ∷ 38 ∷ [])) ((c .match) .keys3))))
 
 pub statement-spec : {M : Type 1} → statement M
-statement-spec = tie.close (tie.spec peek-requires enum-told returns returns-2 returns-3 returns-4)
+statement-spec = tie.close (tie.spec (λ c κs. search needs) (λ c. search needs) returns returns-2 returns-3 returns-4)

@@ -8,12 +8,6 @@ use borrow.Author.Needs.{needs}
 use Rattle.syntax.proofs.text.peek.Statement.{statement}
 use Rattle.syntax.proofs.text.peek.Tie as tie
 
-shared-slice-read-decode : tie.Need-shared-slice-read-decode
-shared-slice-read-decode c = search needs
-
-decode-requires : tie.Need-decode-requires
-decode-requires c κs = search needs
-
 returns : tie.Need-returns
 returns c = ap kind ((c .decode) .ensures) ∙ sym (text-at ((c .before .before .before .before .args) .kinds .now) ((c .before .before .before .before .args) .i) 0 ((c .before .before .if1) .taken))
 
@@ -21,4 +15,4 @@ returns-2 : tie.Need-returns-2
 returns-2 c = sym (text-past ((c .before .before .args) .kinds .now) ((c .before .before .args) .i) ((c .if1) .left))
 
 pub peek-spec : {M : Type 1} → statement M
-peek-spec = tie.close (tie.spec shared-slice-read-decode decode-requires returns returns-2)
+peek-spec = tie.close (tie.spec (λ c. search needs) (λ c κs. search needs) returns returns-2)
