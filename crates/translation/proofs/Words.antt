@@ -40,7 +40,7 @@ shift w v ws c =
 
 fetched : (p : List Instr) (n c : ℕ) → CodeFits p → fetch (words p ++ replicate n 0) c ≡ instructionAt p c
 unfolding words instructionAt fetch decode
-fetched [] n c h = ap (λ w. cond (ltb (2 * c + 1) (length (replicate n 0))) (instruction w (getD (replicate n 0) (2 * c + 1) 0)) none) (zero-at n (2 * c)) ∙ ap (λ v. cond (ltb (2 * c + 1) (length (replicate n 0))) (instruction 0 v) none) (zero-at n (2 * c + 1)) ∙ cond-same (ltb (2 * c + 1) (length (replicate n 0))) none
+fetched [] n c h = ap (λ w. cond (ltb (2 * c + 1) (length {A = ℕ} (replicate n 0))) (instruction w (getD (replicate n 0) (2 * c + 1) 0)) none) (zero-at n (2 * c)) ∙ ap (λ v. cond (ltb (2 * c + 1) (length {A = ℕ} (replicate n 0))) (instruction 0 v) none) (zero-at n (2 * c + 1)) ∙ cond-same (ltb (2 * c + 1) (length {A = ℕ} (replicate n 0))) none
 fetched (i ∷ p) n zero h =
     let k : ℕ = length (words p ++ replicate n 0) in
     cond-yes (ltb 1 (suc (suc k))) _ _ (lt→ltb 1 (suc (suc k)) (omega arith)) ∙ back i (h .0)
