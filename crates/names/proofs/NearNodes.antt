@@ -1,7 +1,7 @@
 -- The symbol of each node of a tree is one of the program's symbols, or 0: no literal but 0 is written as a node's symbol, and the numbers of
 -- symbols grow as far as the tree spells.
 use Prim.Native.Nat.{ℕ, zero, suc, _+_, _≤_}
-use mathlib.Core.Path.{_≡_}
+use mathlib.Core.Path.{_≡_, refl}
 use native.Mathlib.Omega.{arith}
 use mathlib.Core.List.{List, [], _∷_, _++_}
 use lib.ListN.{length, length-append}
@@ -9,15 +9,11 @@ use Rattle.grammar.specs.Grammar.{Class, Item, program}
 use Rattle.grammar.specs.Grammar.{Prod, begin-end, a-block, a-compound, a-tail, a-head, some-declarations, no-declaration, typed, untyped, variables, function, integer, boolean, a-procedure, a-heading, some-formals, no-formals, some-values, no-values, a-specification, no-specification, a-list, another, no-other, a-statement, no-statement, conditional, repeated, plain, then-for, then-plain, an-else, no-else, a-for, a-clause, for-list, another-element, no-element, an-element, once, while, by-steps, a-step, an-amount, dummy, compound, with-name, assignment, call, left, value, a-condition, simple, an-otherwise, chain, signed, again, no-more, a-not, no-not, a-relation, compare, no-comparison, number, true-value, false-value, a-name, in-parentheses, with, bare, an-actual, another-actual, no-actual}
 use Rattle.grammar.specs.Trees.{Syn, nil, tok, sub, yield}
 use Rattle.grammar.specs.model.Marked.{Word, lit, last, first, before, depth, Marks, end, on, put, unmarked, marks, word, below, before-item, behind-item, allWords, nodes, nodesOf}
+use Rattle.names.proofs.Fours.{Fours, none, one, fours-append}
 
--- the words are those of nodes, four each, and the symbol of each node, the second of its words, is at most n
-pub data SymbolsWithin (n : ℕ) : List ℕ → Type 0 where
-  none : SymbolsWithin n []
-  one : {k s a b : ℕ} {ws : List ℕ} → s ≤ n → SymbolsWithin n ws → SymbolsWithin n (k ∷ s ∷ a ∷ b ∷ ws)
-
-pub within-append : {n : ℕ} {u v : List ℕ} → SymbolsWithin n u → SymbolsWithin n v → SymbolsWithin n (u ++ v)
-within-append none k = k
-within-append (one h hs) k = one h (within-append hs k)
+-- the symbol of each node is at most n
+abbrev pub SymbolsWithin : ℕ → List ℕ → Type 0
+SymbolsWithin n ws = Fours (λ s. s ≤ n) ws
 
 -- ---- a node's symbol is the number of a symbol, or 0
 
@@ -131,18 +127,23 @@ behind-numbered (put n ms) h = behind-numbered ms (h .1)
 tree-within : {is : List Item} (t : Syn is) (ms : Marks is) (n d b i : ℕ) → AllNumbered ms → b ≤ n → i + length (yield t) ≤ n → SymbolsWithin n (nodes t ms d b i)
 unfolding nodes yield
 tree-within nil ms n d b i h l m = gap-within ms n d b i h l (omega arith)
-tree-within (tok s) ms n d b i h l m = within-append (gap-within ms n d b i h l (omega arith)) (tree-within s (behind-item ms) n d b (i + 1) (behind-numbered ms h) l (omega arith))
+tree-within (tok s) ms n d b i h l m = fours-append (gap-within ms n d b i h l (omega arith)) (tree-within s (behind-item ms) n d b (i + 1) (behind-numbered ms h) l (omega arith))
 tree-within (sub {b = c} p t s) ms n d b i h l m =
     let e = length-append (yield t) (yield s) in
-    within-append (gap-within ms n d b i h l (omega arith))
-    (within-append (tree-within t (marks p) n (below c d) i i (numbered p) (omega arith) (omega arith)) (tree-within s (behind-item ms) n d b (i + length (yield t)) (behind-numbered ms h) l (omega arith)))
+    fours-append (gap-within ms n d b i h l (omega arith))
+    (fours-append (tree-within t (marks p) n (below c d) i i (numbered p) (omega arith) (omega arith)) (tree-within s (behind-item ms) n d b (i + length (yield t)) (behind-numbered ms h) l (omega arith)))
 
 pub nodes-near : (t : Syn program) → SymbolsWithin (length (yield t)) (nodesOf t)
 unfolding nodesOf
 nodes-near t = tree-within t (unmarked program) (length (yield t)) 1 0 0 tt (omega arith) (omega arith)
 
--- and not the last symbol, which is the 'end' of the program
+-- a program has a last symbol
+pub some-symbols : (t : Syn program) → (m : ℕ) × (length (yield t) ≡ suc m)
+unfolding yield
+some-symbols (tok (sub p t (tok nil))) = (length (yield t ++ (1 ∷ [])), refl)
+
+-- and no node's symbol is that one, which is the 'end' of the program
 pub nodes-before-end : (t : Syn program) (n : ℕ) → length (yield t) ≡ suc n → SymbolsWithin n (nodesOf t)
 unfolding nodesOf nodes yield
 nodes-before-end (tok (sub p t (tok nil))) n e =
-    within-append (tree-within t (marks p) n 1 1 1 (numbered p) (omega (arith, e, length-append (yield t) (1 ∷ []))) (omega (arith, e, length-append (yield t) (1 ∷ [])))) none
+    fours-append (tree-within t (marks p) n 1 1 1 (numbered p) (omega (arith, e, length-append (yield t) (1 ∷ []))) (omega (arith, e, length-append (yield t) (1 ∷ [])))) none

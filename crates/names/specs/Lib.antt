@@ -1,4 +1,5 @@
 pub mod Program
+pub mod Every
 pub mod Scopes
 pub mod ReadOff
 pub mod Nodes

@@ -11,8 +11,7 @@ use Rattle.answers.specs.Answers.{refusal}
 use Rattle.answers.specs.declared.Refusal.{Refusal}
 use Rattle.answers.specs.declared.Verdict.{Verdict}
 use Rattle.answers.specs.declared.Verdict.the-variants.{Accepted, Refused}
-use Rattle.grammar.specs.Grammar.{program as Grammar-program}
-use Rattle.grammar.specs.Trees.{Syn, nil, tok, sub, yield}
+use Rattle.grammar.specs.Trees.{yield}
 use Rattle.grammar.specs.Verdict.{zeros}
 use Rattle.names.specs.Program.{Statement}
 use Rattle.names.specs.Uses.{Fault, nameFaults, sooner, least, joined, innermost, unmeant, scopesS, usesS}
@@ -22,7 +21,8 @@ use Rattle.names.specs.Rows.{faultOf, noFault, outlineOf, usesOf}
 use Rattle.names.proofs.AllNames.{AllS}
 use Rattle.names.proofs.Weaken.{mapAll}
 use Rattle.names.proofs.NearNames.{near-names, small-names}
-use Rattle.names.proofs.NearNodes.{SymbolsWithin, none as no-node, one, nodes-before-end}
+use Rattle.names.proofs.Fours.{fours-weaken}
+use Rattle.names.proofs.NearNodes.{SymbolsWithin, some-symbols, nodes-before-end}
 use Rattle.types.specs.Types.{typeFault}
 use Rattle.types.specs.Passes.{typedOf}
 use Rattle.symbols.specs.Scan.{scan, valuesOf}
@@ -36,7 +36,7 @@ use Rattle.reading.specs.declared.Found.the-variants.{Program, Refused a
 use Rattle.reading.proofs.Places.{place-inside}
 use Rattle.table.specs.Model.{placeOf, Wrote, tableModel}
 use Rattle.reading.specs.Model.{Known, Outlined, Named, programOf, Typed, right, wrong, Tells, program as told, refused, Declared, Holds}
-use Rattle.table.proofs.SamePlaces.{SymbolsBelow}
+use Rattle.table.proofs.SamePlaces.{SymbolsBelow, fours-below}
 use Rattle.table.proofs.TableWords.{table-words}
 use Rattle.table.proofs.Fits.{table-room, rows-room, nodes-room}
 use Rattle.reading.proofs.Whole.{letters, worth, program, all-good, nodes-are, rows-are, uses-match, worst, at-fault, no-name-fault, mistake, mistaken, no-type-fault}
@@ -80,15 +80,6 @@ wrote-filled new words w =
     ∙ ap (λ x. x ++ drop (0 + length words) new) (w .put)
     ∙ ap (λ x. words ++ x) (w .kept ∙ drop-zeros (0 + length words) 32768 ∙ ap (λ k. zeros (32768 - k)) (zero-add (length words)))
 
--- every node's symbol comes before the end
-strictly : {n : ℕ} {ws : List ℕ} → SymbolsWithin n ws → SymbolsBelow (suc n) ws
-strictly no-node = tt
-strictly (one h hs) = (omega arith, strictly hs)
-
-loosely : {n : ℕ} {ws : List ℕ} → SymbolsWithin n ws → (m : ℕ) → n ≤ m → SymbolsWithin m ws
-loosely no-node m l = no-node
-loosely {n} (one {s = s} h hs) m l = let k : s ≤ m = omega arith in one k (loosely hs m l)
-
 module _ {source places nodes ids : List ℕ} {n : ℕ} (known : Known source places nodes ids n) where
   few : length (yield (known .ready .program .tree)) ≤ 2048
   few = omega (arith, ap length (known .ready .program .keeps .spelled), known .ready .places-in .count, known .ready .places-in .few)
@@ -113,10 +104,6 @@ module _ {source places nodes ids : List ℕ} {n : ℕ} (known : Known source pl
   names-right l = no-name-fault known rows-fit (near-names n (program known) (omega (arith, known .ready .places-in .few)) below) (small-names (program known)) l
 
   -- the symbols of the nodes
-  some-symbols : (t : Syn Grammar-program) → (m : ℕ) × (length (yield t) ≡ suc m)
-  unfolding yield
-  some-symbols (tok (sub p t (tok nil))) = (length (yield t ++ (1 ∷ [])), refl)
-
   within : (m : ℕ) → length (yield (known .ready .program .tree)) ≡ suc m → SymbolsWithin m (nodesS 1 (program known))
   within m e = subst (SymbolsWithin m) (sym (known .ready .words) ∙ nodes-are known) (nodes-before-end (known .ready .program .tree) m e)
 
@@ -126,12 +113,13 @@ module _ {source places nodes ids : List ℕ} {n : ℕ} (known : Known source pl
   below-nodes : SymbolsBelow n (nodesS 1 (program known))
   below-nodes =
       let m = some-symbols (known .ready .program .tree) in
-      subst (λ k. SymbolsBelow k (nodesS 1 (program known))) (sym (m .1) ∙ count-is) (strictly (within (m .0) (m .1)))
+      subst (λ k. SymbolsBelow k (nodesS 1 (program known))) (sym (m .1) ∙ count-is) (fours-below (fours-weaken (λ s h. omega arith) (within (m .0) (m .1))))
 
   within-nodes : SymbolsWithin n (nodesS 1 (program known))
   within-nodes =
       let m = some-symbols (known .ready .program .tree) in
-      loosely (within (m .0) (m .1)) n (omega (arith, m .1, count-is))
+      let l : m .0 ≤ n = omega (arith, m .1, count-is) in
+      fours-weaken (λ s h. omega arith) (within (m .0) (m .1))
 
   -- a symbol's place has 16 bits
   places-agree : (k : ℕ) → k < n → placeOf places k ≡ placeIn source k

@@ -13,6 +13,7 @@ use Rattle.names.specs.Scopes.{same, has, Thing, variable, formalAs, Declared, 
 use Rattle.names.specs.Uses.{Use, used, usesE, usesEs, usesL, usesS, usesSs, usesD, usesP, joined, rowIn, rowOf, rows}
 use Rattle.names.specs.Nodes.{sortNumber}
 use Rattle.names.specs.Outline.{sizeS, sizeD, sizeP, formalIn, rowsN, rowsS, rowsSs, rowsD, rowsP}
+use Rattle.names.proofs.Fours.{Fours, none as no-four, one, fours-append}
 use Rattle.names.proofs.AllNames.{AllE, AllEs, AllLs, AllN, AllS, AllSs, AllD, AllP}
 use Rattle.names.proofs.TreeLaws.{joined-append}
 use Rattle.table.specs.Table.{useWords, declarationWords, hasNone, nodeWords}
@@ -30,29 +31,20 @@ SymbolsBelow n (k ∷ s ∷ []) = Unit {0}
 SymbolsBelow n (k ∷ s ∷ a ∷ []) = Unit {0}
 SymbolsBelow n (k ∷ s ∷ a ∷ b ∷ ws) = (s < n) × SymbolsBelow n ws
 
--- whole fours, which may stand before others
-data Fours (n : ℕ) : List ℕ → Type 0 where
-  no-four : Fours n []
-  a-four : {k s a b : ℕ} {ws : List ℕ} → s < n → Fours n ws → Fours n (k ∷ s ∷ a ∷ b ∷ ws)
-
-fours-append : {n : ℕ} {v w : List ℕ} → Fours n v → Fours n w → Fours n (v ++ w)
-fours-append no-four h = h
-fours-append (a-four l i) h = a-four l (fours-append i h)
-
-fours-below : {n : ℕ} {w : List ℕ} → Fours n w → SymbolsBelow n w
+pub fours-below : {n : ℕ} {w : List ℕ} → Fours (λ s. s < n) w → SymbolsBelow n w
 fours-below no-four = tt
-fours-below (a-four l i) = (l, fours-below i)
+fours-below (one l i) = (l, fours-below i)
 
 module _ (n : ℕ) where
-  foursN : (k q : ℕ) (t : Name → ℕ) (xs : List Name) → AllN (Below n) xs → Fours n (rowsN k q t xs)
+  foursN : (k q : ℕ) (t : Name → ℕ) (xs : List Name) → AllN (Below n) xs → Fours (λ s. s < n) (rowsN k q t xs)
   unfolding rowsN
   foursN k q t [] h = no-four
-  foursN k q t (x ∷ xs) h = a-four (h .0) (foursN k q t xs (h .1))
+  foursN k q t (x ∷ xs) h = one (h .0) (foursN k q t xs (h .1))
 
   mutual
     unfolding rowsS
 
-    foursS : (c q : ℕ) (s : Statement) → AllS (Below n) s → Fours n (rowsS c q s)
+    foursS : (c q : ℕ) (s : Statement) → AllS (Below n) s → Fours (λ s. s < n) (rowsS c q s)
     foursS c q dummy h = no-four
     foursS c q (assignment x xs p e) h = no-four
     foursS c q (procedure x es) h = no-four
@@ -62,17 +54,17 @@ module _ (n : ℕ) where
     foursS c q (compound ss) h = foursSs c q ss h
     foursS c q (block p ds ss) h = fours-append (foursD (c + 1) (c + 1) ds (h .0)) (foursSs (c + 1 + sizeD ds) (c + 1) ss (h .1))
 
-    foursSs : (c q : ℕ) (ss : Statements) → AllSs (Below n) ss → Fours n (rowsSs c q ss)
+    foursSs : (c q : ℕ) (ss : Statements) → AllSs (Below n) ss → Fours (λ s. s < n) (rowsSs c q ss)
     foursSs c q (last s) h = foursS c q s h
     foursSs c q (first s ss) h = fours-append (foursS c q s (h .0)) (foursSs (c + sizeS s) q ss (h .1))
 
-    foursD : (c q : ℕ) (ds : Declarations) → AllD (Below n) ds → Fours n (rowsD c q ds)
+    foursD : (c q : ℕ) (ds : Declarations) → AllD (Below n) ds → Fours (λ s. s < n) (rowsD c q ds)
     foursD c q no-more h = no-four
     foursD c q (variables t xs ds) h = fours-append (foursN n-variable q (λ x. sortNumber (some t)) xs (h .0)) (foursD c q ds (h .1))
     foursD c q (declare p ds) h = fours-append (foursP c q p (h .0)) (foursD (c + sizeP p) q ds (h .1))
 
-    foursP : (c q : ℕ) (p : Procedure) → AllP (Below n) p → Fours n (rowsP c q p)
-    foursP c q (heading t f xs vs ss s) h = a-four (h .0) (fours-append (foursN n-formal (c + 1) (formalIn vs ss) xs (h .1)) (foursS (c + 1) (c + 1) s (h .4)))
+    foursP : (c q : ℕ) (p : Procedure) → AllP (Below n) p → Fours (λ s. s < n) (rowsP c q p)
+    foursP c q (heading t f xs vs ss s) h = one (h .0) (fours-append (foursN n-formal (c + 1) (formalIn vs ss) xs (h .1)) (foursS (c + 1) (c + 1) s (h .4)))
 
   pub rows-below : (c q : ℕ) (s : Statement) → AllS (Below n) s → SymbolsBelow n (rowsS c q s)
   rows-below c q s h = fours-below (foursS c q s h)

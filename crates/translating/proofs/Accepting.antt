@@ -1,35 +1,37 @@
 -- What acceptance says of a source's program, as the translator's laws want it: well scoped, within the limits, its places of 14 bits, its declaring
 -- names in order, its nodes' symbols and numbers those of the scan. From names and types, and from the grammar's tree.
-use Prim.Native.Nat.{ℕ, zero, suc, _+_, _≤_, _<_}
+use Prim.Native.Nat.{ℕ, suc, _≤_, _<_}
 use native.Mathlib.Omega.{arith}
 use mathlib.Core.Path.{_≡_, refl, sym, ap, subst, _∙_}
-use mathlib.Core.List.{List, [], _∷_, _++_, map}
+use mathlib.Core.List.{List, [], _∷_, map}
 use mathlib.Core.Option.{none}
 use lib.ListN.{length, getD, length-map}
 use Rattle.answers.specs.Numbers.{types}
 use Rattle.symbols.specs.Symbols.{kind}
 use Rattle.symbols.specs.Names.{lettersAt}
-use Rattle.symbols.specs.Scan.{Found, scan, placesOf, valuesOf}
+use Rattle.symbols.specs.Scan.{Found, scan, valuesOf}
 use Rattle.grammar.specs.Grammar.{program}
-use Rattle.grammar.specs.Trees.{Syn, nil, tok, sub, yield}
+use Rattle.grammar.specs.Trees.{yield}
 use Rattle.names.specs.Uses.{Fault, nameFaults, least, joined, unmeant, usesS}
 use Rattle.names.specs.Nodes.{nodesS}
 use Rattle.names.specs.Outline.{rowsS}
 use Rattle.names.proofs.Bridge.{bridge}
-use Rattle.names.proofs.NearNodes.{SymbolsWithin, none as no-node, one, nodes-before-end}
+use Rattle.names.proofs.Fours.{fours-weaken}
+use Rattle.names.proofs.NearNodes.{SymbolsWithin, some-symbols, nodes-before-end}
 use Rattle.types.specs.Types.{typeFaults, typeFault}
 use Rattle.reading.specs.Judging.{parsed}
 use Rattle.reading.specs.Reading.{symbols, placeIn, Parsed}
 use Rattle.reading.proofs.Answers.{none-empty, unmeant-none}
-use Rattle.reading.proofs.Places.{few-symbols, Rising as PlacesRise, places-rise}
-use Rattle.table.proofs.SamePlaces.{SymbolsBelow}
+use Rattle.reading.proofs.Places.{few-symbols, place-inside as place-by-end, place-within}
+use Rattle.table.proofs.SamePlaces.{SymbolsBelow, fours-below}
 use Rattle.translation.specs.Scoped.{Scoped}
 use Rattle.translation.specs.Sizes.{Limited}
 use Rattle.translation.proofs.Accepted.{accepted-scoped}
 use Rattle.translating.proofs.Limits.{limited}
-use Rattle.translating.proofs.NumbersOf.{NumbersS}
-use Rattle.translating.proofs.Numbers.{Worth, numbers, numbers-so}
-use Rattle.translating.proofs.Rising.{Rising, rising}
+use Rattle.names.specs.Every.{AnyName, EveryS}
+use Rattle.names.proofs.Weaken.{weaken}
+use Rattle.translating.proofs.Numbers.{Worth, numbers}
+use Rattle.translating.proofs.Rising.{RowsRise, rising}
 use Rattle.translating.proofs.SmallValues.{small-values}
 
 -- ---- lists
@@ -43,25 +45,6 @@ unmapped (q ∷ l) e = absurd (cons-nil e)
   where
     cons-nil : {y : Fault} {m : List Fault} → (y ∷ m) ≡ [] → ⊥
     cons-nil {y} {m} e = let z : suc (length m) ≡ 0 = ap length e in omega arith
-
-strict : (lo hi k : ℕ) (l : List Found) (d : ℕ) → PlacesRise lo hi l → k < length l → getD (placesOf l) k d < hi
-strict lo hi k [] d r h = absurd (omega arith)
-strict lo hi zero (f ∷ l) d r h = r .1
-strict lo hi (suc k) (f ∷ l) d r h = strict (f .place + 1) hi k l d (r .2) (omega arith)
-
-inside : (lo hi k : ℕ) (l : List Found) → PlacesRise lo hi l → getD (placesOf l) k hi ≤ hi
-inside lo hi k [] r = omega arith
-inside lo hi zero (f ∷ l) r = omega (arith, r .1)
-inside lo hi (suc k) (f ∷ l) r = inside (f .place + 1) hi k l (r .2)
-
--- every node's symbol comes before the end
-strictly : {n : ℕ} {ws : List ℕ} → SymbolsWithin n ws → SymbolsBelow (suc n) ws
-strictly no-node = tt
-strictly (one h hs) = (omega arith, strictly hs)
-
-some-symbols : (t : Syn program) → (m : ℕ) × (length (yield t) ≡ suc m)
-unfolding yield
-some-symbols (tok (sub p t (tok nil))) = (length (yield t ++ (1 ∷ [])), refl)
 
 module _ {source : List ℕ} (p : Parsed source) where
   -- its symbols
@@ -81,11 +64,11 @@ module _ {source : List ℕ} (p : Parsed source) where
 
   -- a symbol's place is one of the source's
   pub place-inside : (k : ℕ) → k < length found → placeIn source k < 16384
-  place-inside k h = omega (arith, strict 0 (length source) k found (length source) (places-rise symbols source) h, p .scanned .short)
+  place-inside k h = omega (arith, place-within symbols source k h, p .scanned .short)
 
   -- every place has 16 bits
   pub place-small : (k : ℕ) → placeIn source k < 65536
-  place-small k = omega (arith, inside 0 (length source) k found (places-rise symbols source), p .scanned .short)
+  place-small k = omega (arith, place-by-end symbols source k, p .scanned .short)
 
   -- the nodes' symbols are the source's
   pub below-nodes : SymbolsBelow (length found) (nodesS 1 (parsed p))
@@ -93,17 +76,17 @@ module _ {source : List ℕ} (p : Parsed source) where
       let m = some-symbols (p .tree) in
       let w : SymbolsWithin (m .0) (nodesS 1 (parsed p)) =
       subst (SymbolsWithin (m .0)) (bridge (λ k. getD (valuesOf found) k 0) (λ k. lettersAt source (placeIn source k)) (p .tree)) (nodes-before-end (p .tree) (m .0) (m .1)) in
-      subst (λ (k : ℕ). SymbolsBelow k (nodesS 1 (parsed p))) (sym (m .1) ∙ as-many) (strictly w)
+      subst (λ (k : ℕ). SymbolsBelow k (nodesS 1 (parsed p))) (sym (m .1) ∙ as-many) (fours-below (fours-weaken (λ s h. omega arith) w))
 
-  pub in-order : Rising 0 (length found) (rowsS 0 0 (parsed p))
+  pub in-order : RowsRise 0 (length found) (rowsS 0 0 (parsed p))
   in-order =
-      subst (λ (n : ℕ). Rising 0 n (rowsS 0 0 (parsed p))) as-many (rising (λ k. getD (valuesOf found) k 0) (λ k. lettersAt source (placeIn source k)) (p .tree))
+      subst (λ (n : ℕ). RowsRise 0 n (rowsS 0 0 (parsed p))) as-many (rising (λ k. getD (valuesOf found) k 0) (λ k. lettersAt source (placeIn source k)) (p .tree))
 
   -- the values of numbers, by symbol
-  pub numbered : (values : List ℕ) → ((k : ℕ) → k < length found → getD values k 0 ≡ getD (valuesOf found) k 0) → NumbersS (λ q v. getD values q 0 ≡ v) (parsed p)
+  pub numbered : (values : List ℕ) → ((k : ℕ) → k < length found → getD values k 0 ≡ getD (valuesOf found) k 0) → EveryS AnyName (λ q v. getD values q 0 ≡ v) (parsed p)
   numbered values e =
       let worth : ℕ → ℕ = λ k. getD (valuesOf found) k 0 in
-      numbers-so (Worth worth (length (yield (p .tree)))) (λ q v. getD values q 0 ≡ v) (parsed p)
+      weaken {A = AnyName} {B = AnyName} {Q = Worth worth (length (yield (p .tree)))} {R = λ q v. getD values q 0 ≡ v} (parsed p) (λ x h. h)
       (λ q v h. e q (omega (arith, h .1, as-many)) ∙ sym (h .0))
       (numbers worth (λ k. lettersAt source (placeIn source k)) (p .tree))
 

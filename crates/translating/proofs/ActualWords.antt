@@ -15,7 +15,7 @@ use Rattle.names.specs.Scopes.{meaning}
 use Rattle.names.specs.Nodes.{node, mark, signKind, operatorKind, nodesE, nodesEs}
 use Rattle.names.specs.Rows.{foldNodes, isUse}
 use Rattle.names.specs.Uses.{Use, used, usesE}
-use Rattle.names.proofs.Fours.{Fours, no-words, a-node, foursE, foursEs}
+use Rattle.names.proofs.Fours.{Whole, none as no-words, one, fours-append, a-node, foursE, foursEs}
 use Rattle.translation.specs.Translate.{Mark, scopes}
 use Rattle.translation.proofs.Ranges.{owns}
 use Rattle.emitting.specs.Layout.{packed}
@@ -54,21 +54,17 @@ given-word layout level m = refl
 
 -- ---- what is kept behind some nodes
 
-fours-append : {u v : List ℕ} → Fours u → Fours v → Fours (u ++ v)
-fours-append no-words k = k
-fours-append (a-node h) k = a-node (fours-append h k)
-
 module _ (tb : Tables) where
-  run-append : {ws : List ℕ} (rest : List ℕ) (st : State) → Fours ws → run tb (ws ++ rest) st ≡ run tb rest (run tb ws st)
+  run-append : {ws : List ℕ} (rest : List ℕ) (st : State) → Whole ws → run tb (ws ++ rest) st ≡ run tb rest (run tb ws st)
   unfolding foldNodes
   run-append rest st no-words = refl
-  run-append rest st (a-node {k} {s} {a} {b} f) = run-append rest (step tb k s a b st) f
+  run-append rest st (one {k} {s} {a} {b} w f) = run-append rest (step tb k s a b st) f
 
   -- nothing
   abbrev Clears : List ℕ → Type 0
   Clears ws = (st : State) → run tb ws st .variable ≡ 0
 
-  after : {ws : List ℕ} (rest : List ℕ) → Fours ws → Clears rest → Clears (ws ++ rest)
+  after : {ws : List ℕ} (rest : List ℕ) → Whole ws → Clears rest → Clears (ws ++ rest)
   after {ws} rest f c st = ap (λ (s : State). s .variable) (run-append rest st f) ∙ c (run tb ws st)
 
   after-node : (k s a b : ℕ) (rest : List ℕ) → Clears rest → Clears (node k s a b ++ rest)

@@ -17,10 +17,10 @@ use Rattle.machine.specs.Words.{words}
 use Rattle.translation.specs.Scoped.{Scoped}
 use Rattle.translation.specs.Sizes.{Limited}
 use Rattle.emitting.specs.Emission.{Used, State, put, fresh, emitted, codeOf}
-use Rattle.translating.proofs.NumbersOf.{NumbersS}
+use Rattle.names.specs.Every.{AnyName, EveryS}
 use Rattle.translating.proofs.ToldCalls.{Asked, ToldS, toldS}
 use Rattle.translating.proofs.ActualWords.{wordIn}
-use Rattle.translating.proofs.Rising.{Rising}
+use Rattle.translating.proofs.Rising.{RowsRise}
 use Rattle.translating.proofs.Sites.{numberOf, LaidS}
 use Rattle.translation.proofs.Ranges.{ends, in-range}
 use Rattle.translation.proofs.Lengths.{fits-words}
@@ -106,8 +106,8 @@ module _ (place key : ℕ → ℕ) (small : (q : ℕ) → place q < 65536) (valu
   written l right = second right .right tt (replicate (8192 - length slots) 0) (END ∷ []) (ahead-right l) (in-range place s l) .0
 
 -- the words of the pass are the words of the translation, and zeros behind them
-pub emitted-code : (place : ℕ → ℕ) → ((q : ℕ) → place q < 65536) → (n : ℕ) (values layout : List ℕ) (s : Statement) → n ≤ 2048 → Rising 0 n (rowsS 0 0 s) → Scoped s → Limited s
-    → NumbersS (λ q v. getD values q 0 ≡ v) s → LaidS (numberOf (rowsS 0 0 s)) layout 0 0 s → (words-of : List ℕ) → Matches (rowsS 0 0 s) words-of (usesS [] s)
+pub emitted-code : (place : ℕ → ℕ) → ((q : ℕ) → place q < 65536) → (n : ℕ) (values layout : List ℕ) (s : Statement) → n ≤ 2048 → RowsRise 0 n (rowsS 0 0 s) → Scoped s → Limited s
+    → EveryS AnyName (λ q v. getD values q 0 ≡ v) s → LaidS (numberOf (rowsS 0 0 s)) layout 0 0 s → (words-of : List ℕ) → Matches (rowsS 0 0 s) words-of (usesS [] s)
     → codeOf 16384 place values layout (rowsS 0 0 s) (nodesS 1 s) (usesAs (numberOf (rowsS 0 0 s)) (usesS [] s)) ≡ words (code place s) ++ replicate (16384 - length (words (code place s))) 0
 emitted-code place small n values layout s few rising ok limited numbers laid ws used =
     let rows = rowsS 0 0 s in

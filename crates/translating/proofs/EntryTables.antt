@@ -14,7 +14,7 @@ use Rattle.names.specs.Outline.{sizeS, sizeD, sizeP, formalIn, rowsN, rowsS, ro
 use Rattle.translation.specs.Translate.{endE, endL, endS, endDs, endP, entry}
 use Rattle.translation.proofs.Stands.{behind}
 use Rattle.translating.proofs.Shown.{shown}
-use Rattle.translating.proofs.Rising.{Rising}
+use Rattle.translating.proofs.Rising.{RowsRise}
 use Rattle.translating.proofs.Sites.{numberOf}
 use Rattle.translating.proofs.LaidWords.{Written, written, Alike, no-word, a-word, alike-append, writes, writes-append, wordsOf, writes-are, Found, found-split, found-in}
 
@@ -242,7 +242,7 @@ module _ (key : ℕ → ℕ) (T : List ℕ) where
         (h .0, rightS g' s b (found-split key T (entriesN xs) (entriesS g' s b) (h .1) .1))
 
 -- the table that a pass over a program leaves
-pub right-entries : (n : ℕ) → n ≤ 2048 → (s : Statement) → Rising 0 n (rowsS 0 0 s) → RightS (numberOf (rowsS 0 0 s)) (shown 2048 (enteredS [] s 0 [])) [] s 0
+pub right-entries : (n : ℕ) → n ≤ 2048 → (s : Statement) → RowsRise 0 n (rowsS 0 0 s) → RightS (numberOf (rowsS 0 0 s)) (shown 2048 (enteredS [] s 0 [])) [] s 0
 right-entries n h s r =
     let e : enteredS [] s 0 [] ≡ wordsOf (entriesS [] s 0) = enteredS-are [] s 0 [] ∙ writes-are [] (entriesS [] s 0) in
     rw e (rightS (numberOf (rowsS 0 0 s)) (shown 2048 (wordsOf (entriesS [] s 0))) [] s 0 (found-in n 2048 h (alikeS 0 0 [] s 0) r))

@@ -17,7 +17,7 @@ use Rattle.rules.specs.Entered.{cellsOf, total, oneIf, cellsIn, before}
 use Rattle.emitting.specs.Layout.{packed, layoutOf}
 use Rattle.translation.specs.Sizes.{symbolsS, symbolsSs, symbolsDs, symbolsP, deepS, deepSs, deepDs, deepP, Limited}
 use Rattle.translation.proofs.Ranges.{one-most, listed-most, total-variables, block-cells, body-cells}
-use Rattle.translating.proofs.Rising.{Rising}
+use Rattle.translating.proofs.Rising.{RowsRise}
 use Rattle.translating.proofs.Sites.{numberOf, Lying, LaidS, LaidSs, LaidDs, LaidP}
 use Rattle.translating.proofs.LaidWords.{writtenN, writtenS, writtenSs, writtenD, writtenP, Found, found-split, found}
 use Rattle.translating.proofs.LayoutPass.{layout-writes}
@@ -152,6 +152,6 @@ module _ (key : ℕ → ℕ) (L : List ℕ) where
         )
 
 -- of a whole program
-pub laid : (n : ℕ) → n ≤ 2048 → (s : Statement) → Rising 0 n (rowsS 0 0 s) → Limited s → LaidS (numberOf (rowsS 0 0 s)) (layoutOf (nodesS 1 s)) 0 0 s
+pub laid : (n : ℕ) → n ≤ 2048 → (s : Statement) → RowsRise 0 n (rowsS 0 0 s) → Limited s → LaidS (numberOf (rowsS 0 0 s)) (layoutOf (nodesS 1 s)) 0 0 s
 laid n h s r l =
     rw (layout-writes s) (laidS (numberOf (rowsS 0 0 s)) _ 0 0 s (found n h s r) (omega (arith, l .depth)) (omega (arith, l .symbols)))

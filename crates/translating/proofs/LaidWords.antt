@@ -15,7 +15,8 @@ use Rattle.names.specs.Outline.{sizeS, sizeD, sizeP, formalIn, rowsN, rowsS, ro
 use Rattle.rules.specs.Entered.{cellsIn, oneIf}
 use Rattle.emitting.specs.Layout.{packed}
 use Rattle.translating.proofs.Shown.{shown, shown-get}
-use Rattle.translating.proofs.Rising.{Rising, no-row, row}
+use Rattle.names.proofs.Rising.{Rising, no-more, next}
+use Rattle.translating.proofs.Rising.{seconds, RowsRise}
 use Rattle.translating.proofs.Sites.{numberOf}
 
 -- a word, and the symbol of the declaring name that it tells of
@@ -135,28 +136,28 @@ found-as key L L' e [] h = tt
 found-as key L L' e (w ∷ ws) h = (e (key (w .symbol)) ∙ h .0, found-as key L L' e ws (h .1))
 
 -- behind one row more, of another symbol
-later : (k x q t v : ℕ) (rs L : List ℕ) {rs' : List ℕ} {ws : List Written} {a b : ℕ} → Alike rs' ws → Rising a b rs' → x < a → Found (numberOf rs) L ws
+later : (k x q t v : ℕ) (rs L : List ℕ) {rs' : List ℕ} {ws : List Written} {a b : ℕ} → Alike rs' ws → Rising a b (seconds rs') → x < a → Found (numberOf rs) L ws
     → Found (numberOf (k ∷ x ∷ q ∷ t ∷ rs)) (v ∷ L) ws
 unfolding numberOf
-later k x q t v rs L no-word (no-row l) h f = tt
-later k x q t v rs L (a-word {s = s} a) (row l r) h f = (rw (ne-eqb x s (λ e. omega arith)) (f .0), later k x q t v rs L a r (omega arith) (f .1))
+later k x q t v rs L no-word (no-more l) h f = tt
+later k x q t v rs L (a-word {s = s} a) (next l r) h f = (rw (ne-eqb x s (λ e. omega arith)) (f .0), later k x q t v rs L a r (omega arith) (f .1))
 
-all-found : {rs : List ℕ} {ws : List Written} {a b : ℕ} → Alike rs ws → Rising a b rs → Found (numberOf rs) (wordsOf ws) ws
+all-found : {rs : List ℕ} {ws : List Written} {a b : ℕ} → Alike rs ws → Rising a b (seconds rs) → Found (numberOf rs) (wordsOf ws) ws
 unfolding numberOf
-all-found no-word (no-row l) = tt
-all-found (a-word {k = k} {s = s} {q = q} {t = t} {w = w} {rs = rs} {ws = ws} a) (row l r) =
+all-found no-word (no-more l) = tt
+all-found (a-word {k = k} {s = s} {q = q} {t = t} {w = w} {rs = rs} {ws = ws} a) (next l r) =
     (rw (eq-eqb s s refl) refl, later k s q t w rs (wordsOf ws) a r (omega arith) (all-found a r))
 
-few : {rs : List ℕ} {ws : List Written} {a b : ℕ} → Alike rs ws → Rising a b rs → a + length (wordsOf ws) ≤ b
-few no-word (no-row l) = omega arith
-few (a-word a) (row l r) = let z = few a r in omega arith
+few : {rs : List ℕ} {ws : List Written} {a b : ℕ} → Alike rs ws → Rising a b (seconds rs) → a + length (wordsOf ws) ≤ b
+few no-word (no-more l) = omega arith
+few (a-word a) (next l r) = let z = few a r in omega arith
 
 -- in an array with room for all
-pub found-in : (n N : ℕ) → n ≤ N → {rs : List ℕ} {ws : List Written} → Alike rs ws → Rising 0 n rs → Found (numberOf rs) (shown N (wordsOf ws)) ws
+pub found-in : (n N : ℕ) → n ≤ N → {rs : List ℕ} {ws : List Written} → Alike rs ws → RowsRise 0 n rs → Found (numberOf rs) (shown N (wordsOf ws)) ws
 found-in n N h {rs} {ws} a r =
-    let z = few a r in
-    found-as (numberOf rs) (wordsOf ws) (shown N (wordsOf ws)) (λ i. shown-get N (wordsOf ws) i (omega arith)) ws (all-found a r)
+    let z = few a (r .1) in
+    found-as (numberOf rs) (wordsOf ws) (shown N (wordsOf ws)) (λ i. shown-get N (wordsOf ws) i (omega arith)) ws (all-found a (r .1))
 
 -- of a program
-pub found : (n : ℕ) → n ≤ 2048 → (s : Statement) → Rising 0 n (rowsS 0 0 s) → Found (numberOf (rowsS 0 0 s)) (shown 2048 (wordsOf (writtenS 0 0 s))) (writtenS 0 0 s)
+pub found : (n : ℕ) → n ≤ 2048 → (s : Statement) → RowsRise 0 n (rowsS 0 0 s) → Found (numberOf (rowsS 0 0 s)) (shown 2048 (wordsOf (writtenS 0 0 s))) (writtenS 0 0 s)
 found n h s r = found-in n 2048 h (alikeS 0 0 0 0 s) r

@@ -12,7 +12,6 @@ pub mod LayoutPass
 pub mod LaidOut
 pub mod Promised
 pub mod Shown
-pub mod NumbersOf
 pub mod SlotLists
 pub mod Written
 pub mod NameWords

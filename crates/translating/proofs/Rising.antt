@@ -1,6 +1,7 @@
 -- The declarations of the program that a tree is come in source order: the symbols of their rows rise, and are the text's. For each class: that the
 -- rows of a part lie within its symbols, with what a production around it adds before or behind; for each production: that they follow. Then Built.
-use Prim.Native.Nat.{ℕ, suc, _+_, _≤_}
+use Prim.Native.Nat.{ℕ, _+_, _≤_}
+use mathlib.Core.Path.{_≡_, refl, sym, ap, subst}
 use mathlib.Core.List.{List, [], _∷_, _++_}
 use mathlib.Core.Option.{Option, none, some}
 use native.Mathlib.Omega.{arith}
@@ -13,46 +14,56 @@ use Rattle.names.specs.Program.{Name, Sort, Expression, Statement, Statements, 
 use Rattle.names.specs.ReadOff.{Sem, nameAt, build, programOf}
 use Rattle.names.specs.Nodes.{sortNumber}
 use Rattle.names.specs.Outline.{sizeS, sizeD, sizeP, formalIn, rowsN, rowsS, rowsSs, rowsD, rowsP}
+use Rattle.names.proofs.Fours.{Whole, none as no-rows, one, fours-append, a-node}
+use Rattle.names.proofs.Rising.{Rising, no-more, next, widen, follow}
 use Rattle.translating.proofs.Built.{Fits, built}
 
 -- ---- rows of four words: their symbols, the second words, rise from a on, and all are before b
 
-pub data Rising : ℕ → ℕ → List ℕ → Type 0 where
-  no-row : {a b : ℕ} → a ≤ b → Rising a b []
-  row : {a b k x q t : ℕ} {ws : List ℕ} → a ≤ x → Rising (suc x) b ws → Rising a b (k ∷ x ∷ q ∷ t ∷ ws)
+abbrev pub seconds : List ℕ → List ℕ
+seconds [] = []
+seconds (k ∷ []) = []
+seconds (k ∷ x ∷ []) = []
+seconds (k ∷ x ∷ q ∷ []) = []
+seconds (k ∷ x ∷ q ∷ t ∷ ws) = x ∷ seconds ws
+
+abbrev pub RowsRise : ℕ → ℕ → List ℕ → Type 0
+RowsRise a b ws = Whole ws × Rising a b (seconds ws)
+
+seconds-append : {u : List ℕ} (v : List ℕ) → Whole u → seconds (u ++ v) ≡ seconds u ++ seconds v
+seconds-append v no-rows = refl
+seconds-append v (one {s = x} w f) = ap (λ l. x ∷ l) (seconds-append v f)
 
 -- within more symbols
-pub widen : {a b c d : ℕ} {ws : List ℕ} → c ≤ a → b ≤ d → Rising a b ws → Rising c d ws
-widen {c = c} {d = d} h l (no-row m) = let z : c ≤ d = omega arith in no-row z
-widen {c = c} h l (row {x = x} m r) = let z : c ≤ x = omega arith in row z (widen (omega arith) l r)
+wider : {a b c d : ℕ} {ws : List ℕ} → c ≤ a → b ≤ d → RowsRise a b ws → RowsRise c d ws
+wider h l r = (r .0, widen h l (r .1))
 
-pub follow : {a b c : ℕ} {u v : List ℕ} → Rising a b u → Rising b c v → Rising a c (u ++ v)
-follow (no-row h) r = widen h (omega arith) r
-follow (row h s) r = row h (follow s r)
+behind : {a b c : ℕ} {u v : List ℕ} → RowsRise a b u → RowsRise b c v → RowsRise a c (u ++ v)
+behind {a} {b} {c} {u} {v} r s = (fours-append (r .0) (s .0), subst (Rising a c) (sym (seconds-append v (r .0))) (follow (r .1) (s .1)))
 
 -- none, and one for the symbol that comes first
-nowhere : (i : ℕ) → Rising i i []
-nowhere i = let z : i ≤ i = omega arith in no-row z
+nowhere : {i j : ℕ} → i ≤ j → RowsRise i j []
+nowhere h = (no-rows, no-more h)
 
-at : {b k q t : ℕ} {ws : List ℕ} (i : ℕ) → Rising (i + 1) b ws → Rising i b (k ∷ i ∷ q ∷ t ∷ ws)
-at {b} i r = let z : i ≤ i = omega arith in row {b = b} z (widen (omega arith) (omega arith) r)
+at : {b k q t : ℕ} {ws : List ℕ} (i : ℕ) → RowsRise (i + 1) b ws → RowsRise i b (k ∷ i ∷ q ∷ t ∷ ws)
+at {b} i r = let z : i ≤ i = omega arith in (a-node (r .0), next {b = b} z (widen (omega arith) (omega arith) (r .1)))
 
 -- ---- what a part gives that has the symbols from i on, before j; whatever the scopes' numbers
 
 abbrev InNames : ℕ → ℕ → List Name → Type 0
-InNames i j xs = (k q : ℕ) (t : Name → ℕ) → Rising i j (rowsN k q t xs)
+InNames i j xs = (k q : ℕ) (t : Name → ℕ) → RowsRise i j (rowsN k q t xs)
 
 abbrev InS : ℕ → ℕ → Statement → Type 0
-InS i j s = (c q : ℕ) → Rising i j (rowsS c q s)
+InS i j s = (c q : ℕ) → RowsRise i j (rowsS c q s)
 
 abbrev InSs : ℕ → ℕ → Statements → Type 0
-InSs i j ss = (c q : ℕ) → Rising i j (rowsSs c q ss)
+InSs i j ss = (c q : ℕ) → RowsRise i j (rowsSs c q ss)
 
 abbrev InD : ℕ → ℕ → Declarations → Type 0
-InD i j ds = (c q : ℕ) → Rising i j (rowsD c q ds)
+InD i j ds = (c q : ℕ) → RowsRise i j (rowsD c q ds)
 
 abbrev InP : ℕ → ℕ → Procedure → Type 0
-InP i j p = (c q : ℕ) → Rising i j (rowsP c q p)
+InP i j p = (c q : ℕ) → RowsRise i j (rowsP c q p)
 
 abbrev Rise : (X : Class) → ℕ → ℕ → Sem X → Type 0
 Rise block i j s = InS i j s
@@ -102,42 +113,42 @@ Rise further-actuals i j es = Unit {0}
 module _ (worth : ℕ → ℕ) (letters : ℕ → List ℕ) where
   fits : {X : Class} (p : Prod X) → Fits worth letters (λ i. Unit {0}) Rise p
   unfolding build rowsN rowsS
-  fits begin-end = λ i b f j l h e c q. widen (omega arith) (omega arith) (h i c q)
-  fits a-block = λ i ds j l h ss j' l' k p c q. follow (h (c + 1) (c + 1)) (k (c + 1 + sizeD ds) (c + 1))
+  fits begin-end = λ i b f j l h e c q. wider (omega arith) (omega arith) (h i c q)
+  fits a-block = λ i ds j l h ss j' l' k p c q. behind (h (c + 1) (c + 1)) (k (c + 1 + sizeD ds) (c + 1))
   fits a-compound = λ i ss j l h p. h
   fits a-tail = λ i s j l h f j' l' k. k s i h
-  fits a-head = λ i f j l h p ds j' l' k. h ds j' (λ c q. widen (omega arith) (omega arith) (k c q))
+  fits a-head = λ i f j l h p ds j' l' k. h ds j' (λ c q. wider (omega arith) (omega arith) (k c q))
   fits some-declarations = λ i ds j l h. h
-  fits no-declaration = λ i c q. nowhere i
-  fits typed = λ i t j l h f j' l' k ds n m c q. widen l (omega arith) (k t ds n m c q)
-  fits untyped = λ i p f j l h ds n m c q. follow (widen (omega arith) (omega arith) (h none c q)) (m (c + sizeP (f none)) q)
-  fits variables = λ i xs j l h t ds n m c q. follow (h n-variable q (λ x. sortNumber (some t))) (m c q)
-  fits function = λ i p f j l h t ds n m c q. follow (widen (omega arith) (omega arith) (h (some t) c q)) (m (c + sizeP (f (some t))) q)
+  fits no-declaration = λ i c q. nowhere (omega arith)
+  fits typed = λ i t j l h f j' l' k ds n m c q. wider l (omega arith) (k t ds n m c q)
+  fits untyped = λ i p f j l h ds n m c q. behind (wider (omega arith) (omega arith) (h none c q)) (m (c + sizeP (f none)) q)
+  fits variables = λ i xs j l h t ds n m c q. behind (h n-variable q (λ x. sortNumber (some t))) (m c q)
+  fits function = λ i p f j l h t ds n m c q. behind (wider (omega arith) (omega arith) (h (some t) c q)) (m (c + sizeP (f (some t))) q)
   fits integer = λ i q. tt
   fits boolean = λ i q. tt
   fits a-procedure = λ i f j l h s j' l' k t. h t s j' k
-  fits a-heading = λ i x xs j l h p vs j' l' k ss j'' l'' m t s n r c q. at i (follow (widen (omega arith) (omega arith) (h n-formal (c + 1) (formalIn vs ss))) (r (c + 1) (c + 1)))
-  fits some-formals = λ i p xs j l h r k q t. widen (omega arith) (omega arith) (h k q t)
-  fits no-formals = λ i k q t. nowhere i
+  fits a-heading = λ i x xs j l h p vs j' l' k ss j'' l'' m t s n r c q. at i (behind (wider (omega arith) (omega arith) (h n-formal (c + 1) (formalIn vs ss))) (r (c + 1) (c + 1)))
+  fits some-formals = λ i p xs j l h r k q t. wider (omega arith) (omega arith) (h k q t)
+  fits no-formals = λ i k q t. nowhere (omega arith)
   fits some-values = λ i q xs j l h r. tt
   fits no-values = λ i. tt
   fits a-specification = λ i t j l h xs j' l' k q ss j'' l'' m. tt
   fits no-specification = λ i. tt
   fits (a-list e) = λ i x xs j l h k q t. at i (h k q t)
-  fits (another e) = λ i p xs j l h k q t. widen (omega arith) (omega arith) (h k q t)
-  fits (no-other e) = λ i k q t. nowhere i
-  fits a-statement = λ i p ss j l h s a k c q. follow (k c q) (widen (omega arith) (omega arith) (h (c + sizeS s) q))
+  fits (another e) = λ i p xs j l h k q t. wider (omega arith) (omega arith) (h k q t)
+  fits (no-other e) = λ i k q t. nowhere (omega arith)
+  fits a-statement = λ i p ss j l h s a k c q. behind (k c q) (wider (omega arith) (omega arith) (h (c + sizeS s) q))
   fits no-statement = λ i s a h. h
-  fits conditional = λ i p e j l h r f j' l' k c q. widen (omega arith) (omega arith) (k i e c q)
+  fits conditional = λ i p e j l h r f j' l' k c q. wider (omega arith) (omega arith) (k i e c q)
   fits repeated = λ i s j l h. h
   fits plain = λ i s j l h. h
   fits then-for = λ i s j l h p e. h
   fits then-plain = λ i s j l h f j' l' k p e. k p e s i h
-  fits an-else = λ i r t j l h p e s a k c q. follow (k c q) (widen (omega arith) (omega arith) (h (c + sizeS s) q))
+  fits an-else = λ i r t j l h p e s a k c q. behind (k c q) (wider (omega arith) (omega arith) (h (c + sizeS s) q))
   fits no-else = λ i p e s a h. h
   fits a-for = λ i f j l h s j' l' k. h s j' k
-  fits a-clause = λ i p x f j l h s n k c q. widen (omega arith) (omega arith) (h (nameAt worth letters (i + 1)) s n k c q)
-  fits for-list = λ i p d j l h ds j' l' k r x s n m c q. widen (omega arith) (omega arith) (m c q)
+  fits a-clause = λ i p x f j l h s n k c q. wider (omega arith) (omega arith) (h (nameAt worth letters (i + 1)) s n k c q)
+  fits for-list = λ i p d j l h ds j' l' k r x s n m c q. wider (omega arith) (omega arith) (m c q)
   fits another-element = λ i q d j l h ds j' l' k. tt
   fits no-element = λ i. tt
   fits an-element = λ i e j l h f j' l' k. tt
@@ -146,13 +157,13 @@ module _ (worth : ℕ → ℕ) (letters : ℕ → List ℕ) where
   fits by-steps = λ i f j l h. tt
   fits a-step = λ i q f j l h r g j' l' k. tt
   fits an-amount = λ i e j l h. tt
-  fits dummy = λ i c q. nowhere i
+  fits dummy = λ i c q. nowhere (omega arith)
   fits compound = λ i s j l h. h
-  fits with-name = λ i x f j l h c q. widen (omega arith) (omega arith) (h (nameAt worth letters i) c q)
-  fits assignment = λ i p f j l h x c q. widen (omega arith) (omega arith) (h x [] i c q)
-  fits call = λ i es j l h x c q. no-row l
-  fits left = λ i y p f j l h x xs r c q. widen (omega arith) (omega arith) (h x (xs ++ (nameAt worth letters i ∷ [])) (i + 1) c q)
-  fits value = λ i e j l h x xs p c q. no-row l
+  fits with-name = λ i x f j l h c q. wider (omega arith) (omega arith) (h (nameAt worth letters i) c q)
+  fits assignment = λ i p f j l h x c q. wider (omega arith) (omega arith) (h x [] i c q)
+  fits call = λ i es j l h x c q. nowhere l
+  fits left = λ i y p f j l h x xs r c q. wider (omega arith) (omega arith) (h x (xs ++ (nameAt worth letters i ∷ [])) (i + 1) c q)
+  fits value = λ i e j l h x xs p c q. nowhere l
   fits a-condition = λ i q c j l h r e j' l' k f j'' l'' m. tt
   fits simple = λ i e j l h. tt
   fits an-otherwise = λ i r f j l h. tt
@@ -177,5 +188,5 @@ module _ (worth : ℕ → ℕ) (letters : ℕ → List ℕ) where
   fits no-actual = λ i. tt
 
   -- "in source order"
-  pub rising : (t : Syn program) → Rising 0 (length (yield t)) (rowsS 0 0 (programOf worth letters t))
+  pub rising : (t : Syn program) → RowsRise 0 (length (yield t)) (rowsS 0 0 (programOf worth letters t))
   rising t = built worth letters (λ i. Unit {0}) Rise (λ X p. fits p) t (λ i h. tt) 0 0

@@ -13,9 +13,9 @@ use Rattle.names.specs.Program.{Name, Sort, firstSymbol, Expression, number, lo
 use Rattle.names.specs.Scopes.{Scope, ofBlock, sortOf, modesOf, meaning}
 use Rattle.rules.specs.Entered.{cellsIn}
 use Rattle.rules.specs.Calls.{Primary, held, worked, function, absolute, greatest, no-primary, primary, Command, routine-of, absolute-of, greatest-of, input-to, output-of, no-command, command, way}
-use Rattle.translation.specs.Translate.{Mark, blk, own, acl, scopes, reach, endName, endActual, endThen, endE, endEs, endStore, endTest, endSum, endStep, endL, endCall, endCommand, endS, endSs, endDs, endP}
+use Rattle.translation.specs.Translate.{Mark, blk, own, acl, scopes, reach, endName, endActual, endThen, endE, endEs, endStore, endWay, endStep, endL, endCall, endCommand, endS, endSs, endDs, endP}
 use Rattle.emitting.specs.Layout.{packed}
-use Rattle.translation.proofs.Ranges.{grow-name, grow-sign, grow-way, grow-test, grow-sum, grow-take, grow-stores}
+use Rattle.translation.proofs.Ranges.{grow-name, grow-sign, grow-way, grow-sum, grow-take, grow-stores}
 
 -- ---- slots taken and filled
 
@@ -237,7 +237,7 @@ module _ (place : ℕ → ℕ) (word : List Mark → Expression → ℕ) where
       let n = endE (scopes g) h (suc i) in
       let k₁ : List ℕ = aheadE g f (suc a) (aheadE g h (suc i) k) in
       omega
-      (arith, fewE g e b (there i ∷ k₁), fewE g f (suc a) (aheadE g h (suc i) k), fewE g h (suc i) k, grow-way w (endE (scopes g) e b), grow-test w n, grow-sum w (suc (suc (endTest w n))))
+      (arith, fewE g e b (there i ∷ k₁), fewE g f (suc a) (aheadE g h (suc i) k), fewE g h (suc i) k, grow-way w (endE (scopes g) e b), grow-way w n, grow-sum w (suc (suc (endWay w n))))
 
 -- the address behind an element is where the others begin
 pub end-element : (g : List Scope) (x : Name) (l : Element) (ls : List Element) (b : ℕ) → endL g x (l ∷ ls) b ≡ endL g x ls (endX g x l b)

@@ -9,6 +9,7 @@ use mathlib.Core.Option.{Option, none, some}
 use lib.Dec.{eqb, ltb}
 use lib.ListN.{length, take, drop}
 use Rattle.names.specs.Program.{Name, Sort, integer, boolean, Specification, Expression, number, logical, name, call, signed, operated, chosen, nested, Expressions, done, then, Element, value, while, step, Statement, dummy, assignment, procedure, when, either, repeat, compound, block, Statements, last, first, Declarations, none as no-more, variables, declare, Procedure, heading}
+use Rattle.names.specs.Every.{AnyName, EveryE, EveryEs, EveryLs, EveryS, EverySs, EveryD, EveryP}
 use Rattle.names.specs.Scopes.{has, routine, modes, modesOf, formalsOf, valuesOf, specificationsOf, specified, Declared, Scope, ofBlock, ofBody, declared, meaning}
 use Rattle.names.specs.Modes.{formalNumber}
 use Rattle.names.specs.Uses.{Use, used, usesE, usesEs, usesL, usesS, usesSs, usesD, usesP}
@@ -18,8 +19,7 @@ use Rattle.names.specs.declared.Meant.the-variants.{Declared as at-row, Given a
 use Rattle.names.proofs.Around.{sortAt, Formals, ToldThing, Means}
 use Rattle.names.proofs.Resolved.{Matches, matches-split}
 use Rattle.emitting.specs.Emission.{formalAt}
-use Rattle.translating.proofs.NumbersOf.{NumbersE, NumbersEs, NumbersL, NumbersS, NumbersSs, NumbersDs, NumbersP}
-use Rattle.translating.proofs.Rising.{Rising}
+use Rattle.translating.proofs.Rising.{RowsRise}
 use Rattle.translating.proofs.Sites.{numberOf}
 use Rattle.translating.proofs.ToldUses.{number-is}
 
@@ -56,7 +56,7 @@ formals-modes R m j (x ∷ xs) vs ss f = go (has vs x) (f .1) (formals-modes R m
     go false e h = (rw (f .0 .kind, e, not-value (specified ss x)) refl, h)
 
 -- a use's word tells of its procedure
-asked : (n : ℕ) (R : List ℕ) → Rising 0 n R → (w : Meant) (g : List Scope) (x : Name) → Means R w (meaning g x) → Asked (numberOf R) R g x
+asked : (n : ℕ) (R : List ℕ) → RowsRise 0 n R → (w : Meant) (g : List Scope) (x : Name) → Means R w (meaning g x) → Asked (numberOf R) R g x
 asked n R rising w g x h d h' p e i = go w (subst (Means R w) e h)
   where
     as-routine : (j : ℕ) → ToldThing R j (d .thing) → ToldThing R j (routine p)
@@ -121,7 +121,7 @@ module _ (Q : ℕ → ℕ → Type 0) (P : List Scope → Name → Type 0) where
 
 -- ---- numbers and uses tell it
 
-module _ (Q : ℕ → ℕ → Type 0) (n : ℕ) (R : List ℕ) (rising : Rising 0 n R) where
+module _ (Q : ℕ → ℕ → Type 0) (n : ℕ) (R : List ℕ) (rising : RowsRise 0 n R) where
   abbrev P : List Scope → Name → Type 0
   P g x = Asked (numberOf R) R g x
 
@@ -139,14 +139,14 @@ module _ (Q : ℕ → ℕ → Type 0) (n : ℕ) (R : List ℕ) (rising : Rising 
   mutual
     unfolding usesE
 
-    toldE : (g : List Scope) (e : Expression) → NumbersE Q e → Of (usesE g e) → ToldE Q P g e
+    toldE : (g : List Scope) (e : Expression) → EveryE AnyName Q e → Of (usesE g e) → ToldE Q P g e
     toldE g (number q v) t w = t
     toldE g (logical q b) t w = tt
     toldE g (name x) t w = tt
     toldE g (call x e es) t w =
         let o = one g x (usesE g e ++ usesEs g es) w in
         let h = apart (usesE g e) (usesEs g es) (o .1) in
-        (o .0, toldE g e (t .0) (h .0), toldEs g es (t .1) (h .1))
+        (o .0, toldE g e (t .1) (h .0), toldEs g es (t .2) (h .1))
     toldE g (signed q o e) t w = toldE g e t w
     toldE g (operated q o e f) t w = let h = apart (usesE g e) (usesE g f) w in (toldE g e (t .0) (h .0), toldE g f (t .1) (h .1))
     toldE g (chosen q r c e f) t w =
@@ -155,23 +155,23 @@ module _ (Q : ℕ → ℕ → Type 0) (n : ℕ) (R : List ℕ) (rising : Rising 
         (toldE g c (t .0) (h .0), toldE g e (t .1) (h' .0), toldE g f (t .2) (h' .1))
     toldE g (nested q e) t w = toldE g e t w
 
-    toldEs : (g : List Scope) (es : Expressions) → NumbersEs Q es → Of (usesEs g es) → ToldEs Q P g es
+    toldEs : (g : List Scope) (es : Expressions) → EveryEs AnyName Q es → Of (usesEs g es) → ToldEs Q P g es
     toldEs g done t w = tt
     toldEs g (then e es) t w = let h = apart (usesE g e) (usesEs g es) w in (toldE g e (t .0) (h .0), toldEs g es (t .1) (h .1))
 
-  toldL : (g : List Scope) (l : List Element) → NumbersL Q l → Of (usesL g l) → ToldL Q P g l
+  toldL : (g : List Scope) (l : List Element) → EveryLs AnyName Q l → Of (usesL g l) → ToldL Q P g l
   unfolding usesL
   toldL g [] t w = tt
   toldL g (value e ∷ l) t w = let h = apart (usesE g e) (usesL g l) w in (toldE g e (t .0) (h .0), toldL g l (t .1) (h .1))
   toldL g (while q e c ∷ l) t w =
       let h = apart (usesE g e) (usesE g c ++ usesL g l) w in
       let h' = apart (usesE g c) (usesL g l) (h .1) in
-      (toldE g e (t .0) (h .0), toldE g c (t .1) (h' .0), toldL g l (t .2) (h' .1))
+      (toldE g e (t .0 .0) (h .0), toldE g c (t .0 .1) (h' .0), toldL g l (t .1) (h' .1))
   toldL g (step q e f i ∷ l) t w =
       let h = apart (usesE g e) (usesE g f ++ (usesE g i ++ usesL g l)) w in
       let h' = apart (usesE g f) (usesE g i ++ usesL g l) (h .1) in
       let h'' = apart (usesE g i) (usesL g l) (h' .1) in
-      (toldE g e (t .0) (h .0), toldE g f (t .1) (h' .0), toldE g i (t .2) (h'' .0), toldL g l (t .3) (h'' .1))
+      (toldE g e (t .0 .0) (h .0), toldE g f (t .0 .1) (h' .0), toldE g i (t .0 .2) (h'' .0), toldL g l (t .1) (h'' .1))
 
   -- behind left parts
   lefts : (g : List Scope) (xs : List Name) (us : List Use) → Of (map (used g) xs ++ us) → Of us
@@ -180,10 +180,10 @@ module _ (Q : ℕ → ℕ → Type 0) (n : ℕ) (R : List ℕ) (rising : Rising 
   mutual
     unfolding usesS
 
-    pub toldS : (g : List Scope) (s : Statement) → NumbersS Q s → Of (usesS g s) → ToldS Q P g s
+    pub toldS : (g : List Scope) (s : Statement) → EveryS AnyName Q s → Of (usesS g s) → ToldS Q P g s
     toldS g dummy t w = tt
-    toldS g (assignment x xs q e) t w = toldE g e t (lefts g (x ∷ xs) (usesE g e) w)
-    toldS g (procedure x es) t w = let o = one g x (usesEs g es) w in (o .0, toldEs g es t (o .1))
+    toldS g (assignment x xs q e) t w = toldE g e (t .2) (lefts g (x ∷ xs) (usesE g e) w)
+    toldS g (procedure x es) t w = let o = one g x (usesEs g es) w in (o .0, toldEs g es (t .1) (o .1))
     toldS g (when q c s) t w = let h = apart (usesE g c) (usesS g s) w in (toldE g c (t .0) (h .0), toldS g s (t .1) (h .1))
     toldS g (either q c s s') t w =
         let h = apart (usesE g c) (usesS g s ++ usesS g s') w in
@@ -192,20 +192,20 @@ module _ (Q : ℕ → ℕ → Type 0) (n : ℕ) (R : List ℕ) (rising : Rising 
     toldS g (repeat x l ls s) t w =
         let o = one g x (usesL g (l ∷ ls) ++ usesS g s) w in
         let h = apart (usesL g (l ∷ ls)) (usesS g s) (o .1) in
-        (toldL g (l ∷ ls) (t .0) (h .0), toldS g s (t .1) (h .1))
+        (toldL g (l ∷ ls) (t .1, t .2) (h .0), toldS g s (t .3) (h .1))
     toldS g (compound ss) t w = toldSs g ss t w
     toldS g (block q ds ss) t w =
         let h = apart (usesD (ofBlock ds ∷ g) ds) (usesSs (ofBlock ds ∷ g) ss) w in
         (toldDs (ofBlock ds ∷ g) ds (t .0) (h .0), toldSs (ofBlock ds ∷ g) ss (t .1) (h .1))
 
-    toldSs : (g : List Scope) (ss : Statements) → NumbersSs Q ss → Of (usesSs g ss) → ToldSs Q P g ss
+    toldSs : (g : List Scope) (ss : Statements) → EverySs AnyName Q ss → Of (usesSs g ss) → ToldSs Q P g ss
     toldSs g (last s) t w = toldS g s t w
     toldSs g (first s ss) t w = let h = apart (usesS g s) (usesSs g ss) w in (toldS g s (t .0) (h .0), toldSs g ss (t .1) (h .1))
 
-    toldDs : (g : List Scope) (ds : Declarations) → NumbersDs Q ds → Of (usesD g ds) → ToldDs Q P g ds
+    toldDs : (g : List Scope) (ds : Declarations) → EveryD AnyName Q ds → Of (usesD g ds) → ToldDs Q P g ds
     toldDs g no-more t w = tt
-    toldDs g (variables y xs ds) t w = toldDs g ds t w
+    toldDs g (variables y xs ds) t w = toldDs g ds (t .1) w
     toldDs g (declare p ds) t w = let h = apart (usesP g p) (usesD g ds) w in (toldP g p (t .0) (h .0), toldDs g ds (t .1) (h .1))
 
-    toldP : (g : List Scope) (p : Procedure) → NumbersP Q p → Of (usesP g p) → ToldP Q P g p
-    toldP g (heading y f xs vs ss s) t w = toldS (ofBody (heading y f xs vs ss s) ∷ g) s t w
+    toldP : (g : List Scope) (p : Procedure) → EveryP AnyName Q p → Of (usesP g p) → ToldP Q P g p
+    toldP g (heading y f xs vs ss s) t w = toldS (ofBody (heading y f xs vs ss s) ∷ g) s (t .4) w

@@ -18,27 +18,35 @@ use Rattle.names.specs.declared.Meant.the-variants.{Declared as at-row, Given a
 use Rattle.names.proofs.Around.{kindAt, ToldThing, Means}
 use Rattle.names.proofs.Resolved.{Matches}
 use Rattle.emitting.specs.Emission.{Used, formalAt, usedAs, usesIn}
-use Rattle.translating.proofs.Rising.{Rising, no-row, row}
+use Rattle.names.proofs.Fours.{Whole, none as no-rows, one}
+use Rattle.names.proofs.Rising.{Rising, next, from-first}
+use Rattle.translating.proofs.Rising.{seconds, RowsRise}
 use Rattle.translating.proofs.Sites.{numberOf}
 use Rattle.translating.proofs.Written.{useKind, usedFor, usesAs}
 
 -- ---- the number of a row
 
--- a symbol further up is none of these
-higher : {a b : ℕ} {R : List ℕ} (j : ℕ) → Rising a b R → 4 * j + 1 < length R → (x : ℕ) → x < a → (x ≡ getD R (4 * j + 1) 0 → ⊥)
-higher j (no-row m) h x l = absurd (omega arith)
-higher zero (row m r) h x l = λ e. omega arith
-higher (suc j) (row m r) h x l =
+-- the symbol of a row
+second-at : {R : List ℕ} (j : ℕ) → Whole R → getD R (4 * j + 1) 0 ≡ getD (seconds R) j 0
+second-at j no-rows = refl
+second-at zero (one w f) = refl
+second-at (suc j) (one w f) =
     let e : 4 * suc j + 1 ≡ suc (suc (suc (suc (4 * j + 1)))) = omega arith in
-    rw e (higher j r (omega arith) x (omega arith))
+    rw e (second-at j f)
 
-pub number-is : {a b : ℕ} {R : List ℕ} (j : ℕ) → Rising a b R → 4 * j + 1 < length R → numberOf R (getD R (4 * j + 1) 0) ≡ j
+as-many : {R : List ℕ} → Whole R → 4 * length (seconds R) ≡ length R
+as-many no-rows = refl
+as-many (one w f) = omega (arith, as-many f)
+
+number-in : {a b : ℕ} {R : List ℕ} (j : ℕ) → Whole R → Rising a b (seconds R) → j < length (seconds R) → numberOf R (getD (seconds R) j 0) ≡ j
 unfolding numberOf
-number-is j (no-row m) h = absurd (omega arith)
-number-is zero (row {x = s} m r) h = rw (eq-eqb s s refl)
-number-is (suc j) (row {x = s} {ws = ws} m r) h =
-    let e : 4 * suc j + 1 ≡ suc (suc (suc (suc (4 * j + 1)))) = omega arith in
-    rw (e, ne-eqb s (getD ws (4 * j + 1) 0) (higher j r (omega arith) s (omega arith))) (ap suc (number-is j r (omega arith)))
+number-in j no-rows r h = absurd (omega arith)
+number-in zero (one {s = s} w f) (next m r) h = rw (eq-eqb s s refl)
+number-in (suc j) (one {s = s} {ws = ws} w f) (next m r) h =
+    rw (ne-eqb s (getD (seconds ws) j 0) (λ e. omega (arith, from-first j 0 r (omega arith)))) (ap suc (number-in j f r (omega arith)))
+
+pub number-is : {a b : ℕ} {R : List ℕ} (j : ℕ) → RowsRise a b R → 4 * j + 1 < length R → numberOf R (getD R (4 * j + 1) 0) ≡ j
+number-is {R = R} j r h = ap (numberOf R) (second-at j (r .0)) ∙ number-in j (r .0) (r .1) (omega (arith, as-many (r .0)))
 
 -- ---- a use, and all
 
@@ -57,7 +65,7 @@ kind-of R j (by-name (some boolean)) e h = rw (e, h)
 used-is : {k m k' m' : ℕ} → k ≡ k' → m ≡ m' → _≡_ {A = Used} (record { kind = k; means = m }) (record { kind = k'; means = m' })
 used-is e f = rw (e, f)
 
-module _ (n : ℕ) (R : List ℕ) (rising : Rising 0 n R) where
+module _ (n : ℕ) (R : List ℕ) (rising : RowsRise 0 n R) where
   used : (m : Meant) (w : Meaning) → Means R m w → usedAs R m ≡ usedFor (numberOf R) w
   unfolding usedAs
   used (at-row j) (declared d g) h =

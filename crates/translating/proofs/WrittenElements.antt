@@ -17,7 +17,7 @@ use Rattle.names.specs.Nodes.{mark, nodesE, nodesL, nodesLs}
 use Rattle.names.specs.Rows.{isUse}
 use Rattle.names.specs.Uses.{Use, usesE, usesL}
 use Rattle.rules.specs.Calls.{Way, direct, sought, way}
-use Rattle.translation.specs.Translate.{Mark, scopes, loc, endE, endStore, endTest, endSum, endL, onward, SEEKS, codeE, codeStore, codeTest, codeSum, codeStep, codeL}
+use Rattle.translation.specs.Translate.{Mark, scopes, loc, endE, endStore, endWay, endSum, endL, onward, SEEKS, codeE, codeStore, codeTest, codeSum, codeStep, codeL}
 use Rattle.machine.specs.Words.{Parts, beside, CodeFits, words}
 use Rattle.emitting.specs.Layout.{packed}
 use Rattle.translation.specs.Scoped.{OkE, OkL}
@@ -404,8 +404,8 @@ module _ (tb : Tables) (R : Type 0) (g : List Mark) (right : R → Targets (tb .
   -- behind the bound, which ends at n; a: where the code of the step begins
   bound-end : (w : Way) (q n a b t z : ℕ) {ws : List ℕ} {us : List Use} {A : List ℕ → List ℕ} {C : List Instr → List Instr} {fr : Frame} {fl : Flow} → eqb (low v) 2 ≡ seeks w → Worded w g x v → Fits tb g 0 m fr
       → Passed tb R (F b fr) (inStep t 1 (tb .place q) (suc a) (F b fr)) ws us n A (λ t. t) C fl
-      → Turned tb R s v (tb .place (x .symbol)) b fr (ws ++ mark n-amount z) us (suc (endSum w (suc (suc (endTest w n))))) A (λ i o r. C (codeTest (tb .place) w g x o (GO m i (suc (endTest w n)) ∷ GO m (suc a) (suc (suc (endTest w n))) ∷ codeSum (tb .place) w g q x (JUMP t ∷ r)))) fl
-  unfolding endTest endSum codeTest codeSum
+      → Turned tb R s v (tb .place (x .symbol)) b fr (ws ++ mark n-amount z) us (suc (endSum w (suc (suc (endWay w n))))) A (λ i o r. C (codeTest (tb .place) w g x o (GO m i (suc (endWay w n)) ∷ GO m (suc a) (suc (suc (endWay w n))) ∷ codeSum (tb .place) w g q x (JUMP t ∷ r)))) fl
+  unfolding endWay endSum codeTest codeSum
   bound-end direct q n a b t z {fr = fr} tell word w y =
       let p = tb .place (x .symbol) in
       let at₂ : y .next .at + 1 + 1 ≡ suc (suc n) = omega (arith, y .at) in

@@ -13,7 +13,7 @@ use Rattle.names.specs.Scopes.{meaning, ofBlock, sortOf, modesOf}
 use Rattle.rules.specs.Entered.{cellsIn}
 use Rattle.rules.specs.Calls.{Primary, held, worked, function, absolute, greatest, no-primary, primary, Command, routine-of, absolute-of, greatest-of, input-to, output-of, no-command, command, Way, direct, sought, way}
 use Rattle.rules.specs.Rules.{binaryOf, Spot, here, there}
-use Rattle.translation.specs.Translate.{Mark, blk, own, acl, scopes, reach, spot, endActual, endE, endStore, endTest, endL, onward, endS, endDs, endP, CALLS, SEEKS, codeName, storeName, storePart, codeActual, codeThen, codeSign, codeE, codeEs, codeWay, codeStore, codeTest, codeSum, codeL, codeStores, codeCall, codeTake, codeCommand, codeS, codeSs, codeDs, codeP, code, endStep, codeStep}
+use Rattle.translation.specs.Translate.{Mark, blk, own, acl, scopes, reach, spot, endActual, endE, endStore, endWay, endL, onward, endS, endDs, endP, CALLS, SEEKS, codeName, storeName, storePart, codeActual, codeThen, codeSign, codeE, codeEs, codeWay, codeStore, codeTest, codeSum, codeL, codeStores, codeCall, codeTake, codeCommand, codeS, codeSs, codeDs, codeP, code, endStep, codeStep}
 use Rattle.translation.specs.Places.{actP, instrP}
 
 module _ (place : ℕ → ℕ) where
@@ -123,7 +123,7 @@ module _ (place : ℕ → ℕ) where
   p-step : (w : Way) (g : List Mark) (m q : ℕ) (x : Name) (f h : Expression) (s n a : ℕ) (r : List Instr) → codeStep place w g m q x f h s n a (P r) ≡ P (codeStep id w g m q x f h s n a r)
   p-step w g m q x f h s n a r =
       let i = suc (endE (scopes g) f (suc a)) in
-      let t = endTest w (endE (scopes g) h (suc i)) in
+      let t = endWay w (endE (scopes g) h (suc i)) in
       let to = GO m (suc a) i in
       let G = GO m s (suc t) in
       let B = GO m (suc a) (suc (suc t)) in

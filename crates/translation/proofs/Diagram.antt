@@ -22,7 +22,7 @@ use Rattle.names.specs.Scopes.{Thing, routine, ofBlock, ofBody, sortOf, bodyOf,
 use Rattle.rules.specs.Entered.{Env, outside, entered, called, scopesOf, oneIf, cellsIn, cut, declaring, cellOf, standsFor}
 use Rattle.rules.specs.Calls.{Primary, held, worked, function, absolute, greatest, no-primary, primary, Command, routine-of, absolute-of, greatest-of, input-to, output-of, no-command, command, thingTold, into, givenTold, Way, direct, sought, way}
 use Rattle.rules.specs.Rules.{stepping, Spot, here, there, Task, ev, evs, ex, exs, stores, loop, act, unchanged, tested, add, trying, summing, settling, seek, find, receiving, return, State, st, noRule, binaryOf, maxint, cellAt, doing, testing, at, reads, seeks, finds, storing, taking-in, passing, adding, evaluate, calls, perform, entering, calling, sstep, beginning}
-use Rattle.translation.specs.Translate.{Mark, blk, own, acl, scopes, cutG, levels, amongG, spot, reach, target, endName, endE, endEs, endWay, endTest, endSum, endStep, onward, endStores, endCall, endTake, endCommand, endS, endSs, CALLS, WORKS, storeName, storePart, codeName, codeE, codeEs, codeWay, codeTest, codeSum, codeL, codeStores, codeCall, codeTake, codeCommand, codeS, codeSs, codeP, code}
+use Rattle.translation.specs.Translate.{Mark, blk, own, acl, scopes, cutG, levels, amongG, spot, reach, target, endName, endE, endEs, endWay, endSum, endStep, onward, endStores, endCall, endTake, endCommand, endS, endSs, CALLS, WORKS, storeName, storePart, codeName, codeE, codeEs, codeWay, codeTest, codeSum, codeL, codeStores, codeCall, codeTake, codeCommand, codeS, codeSs, codeP, code}
 use Rattle.translation.specs.Scoped.{OkV, OkWay, OkW, OkVs, OkE, OkEs, OkL, OkS, OkSs, OkP, OkCall, OkPrimary, OkCommand, MeansAs, Scoped}
 use Rattle.translation.specs.Listed.{instructionAt, stepIn}
 use Rattle.translation.specs.Faithful.{Ordinary}
@@ -381,12 +381,12 @@ module _ (place : ℕ → ℕ) (P : List Instr) where
       frees (on (t-ev e _ h (o .0)) (on (t-stores x [] _ h₁ (q, tt)) (at-go (h₂ .0) (on (t-ev e' _ (h₂ .1) (o .1)) (at-next (h₃ .0) (on (t-hold (way (meaning (scopes g) x)) n x e' e'' l y s _ r r' (refl, h₂, h', q, o .3, o', o .1, o .2)) u w)) (omega arith))) (omega arith)) (omega arith)) c refl idle (omega arith) (omega arith) (omega arith)
 
   -- the code of a step element, from the test on
-  step-test : (g : List Mark) (m : ℕ) (w : Way) (n : ℕ) (x : Name) (f h : Expression) (l : List Element) (y : Statement) (s a : ℕ) (r r' : List Instr) → StepAt place P w g m n x f h l y s a r r' → CodeAt place P (testAt place P g f h a) (codeTest place w g x (onward l (endStep w (scopes g) f h a) (suc (endS (scopes g) y s))) (GO m s (suc (endTest w (testAt place P g f h a))) ∷ GO m (suc a) (sumAt place P w g f h a) ∷ codeSum place w g n x (JUMP (suc (heldAt place P g f a)) ∷ codeL place g m x l s (suc (endS (scopes g) y s)) (endStep w (scopes g) f h a) r)))
+  step-test : (g : List Mark) (m : ℕ) (w : Way) (n : ℕ) (x : Name) (f h : Expression) (l : List Element) (y : Statement) (s a : ℕ) (r r' : List Instr) → StepAt place P w g m n x f h l y s a r r' → CodeAt place P (testAt place P g f h a) (codeTest place w g x (onward l (endStep w (scopes g) f h a) (suc (endS (scopes g) y s))) (GO m s (suc (endWay w (testAt place P g f h a))) ∷ GO m (suc a) (sumAt place P w g f h a) ∷ codeSum place w g n x (JUMP (suc (heldAt place P g f a)) ∷ codeL place g m x l s (suc (endS (scopes g) y s)) (endStep w (scopes g) f h a) r)))
   step-test g m w n x f h l y s a r r' z = pastE place P g h _ _ ((pastE place P g f _ _ (z .1 .1)) .1 .1)
 
   -- the test of a step element
   dTest : {j : ℕ} {g : List Mark} {kt : List Kind} {ps : List ℕ} {fs : List Frame} {k : List Task} {v : Env} (wy : Way) (p : ℕ) (d : Data) (n : ℕ) (x : Name) (f h : Expression) (l : List Element) (y : Statement) (s a : ℕ) (r r' : List Instr) → StepAt place P wy g (length ps) n x f h l y s a r r' → due k ≤ 2 → Does place P (suc (endS (scopes g) y s)) g [] kt ps fs k v j → Stand place P fs g (val ∷ []) kt v (suc (heldK k)) d → j ≤ p → sstep place (st (tested (stepping (place n) x f h l y) ∷ k) v (blank d)) ≡ passing place wy (stepping (place n) x f h l y) k v (blank d) → D p (ms (testAt place P g f h a) ps fs d) (st (tested (stepping (place n) x f h l y) ∷ k) v (blank d))
-  unfolding codeTest endTest codeSum endSum passing
+  unfolding codeTest endWay codeSum endSum passing
   dTest {g = g} {ps = ps} {k = k} direct p d n x f h l y s a r r' z w u c le se =
       let o : OkV (scopes g) x = rw (z .0) at (z .3) in
       let t = step-test g (length ps) direct n x f h l y s a r r' z in
@@ -397,7 +397,7 @@ module _ (place : ℕ → ℕ) (P : List Instr) where
 
   -- the addition
   dAdd : {j : ℕ} {g : List Mark} {kt : List Kind} {ps : List ℕ} {fs : List Frame} {k : List Task} {v : Env} (wy : Way) (p : ℕ) (d : Data) (n : ℕ) (x : Name) (f h : Expression) (l : List Element) (y : Statement) (s a : ℕ) (r r' : List Instr) → StepAt place P wy g (length ps) n x f h l y s a r r' → due k ≤ 2 → Does place P (suc (endS (scopes g) y s)) g [] kt ps fs k v j → Stand place P fs g (val ∷ []) kt v (suc (heldK k)) d → j ≤ p → sstep place (st (add (stepping (place n) x f h l y) ∷ k) v (blank d)) ≡ adding place wy (stepping (place n) x f h l y) k v (blank d) → D p (ms (sumAt place P wy g f h a) ps fs d) (st (add (stepping (place n) x f h l y) ∷ k) v (blank d))
-  unfolding codeTest endTest codeSum endSum adding
+  unfolding codeTest endWay codeSum endSum adding
   dAdd {g = g} {ps = ps} {k = k} direct p d n x f h l y s a r r' z w u c le se =
       let o : OkV (scopes g) x = rw (z .0) at (z .3) in
       let t = step-test g (length ps) direct n x f h l y s a r r' z in
@@ -408,7 +408,7 @@ module _ (place : ℕ → ℕ) (P : List Instr) where
 
   -- the store of the sum
   dSetting : {j : ℕ} {g : List Mark} {kt : List Kind} {ps : List ℕ} {fs : List Frame} {k : List Task} {v : Env} (p : ℕ) (d : Data) (n : ℕ) (x : Name) (f h : Expression) (l : List Element) (y : Statement) (s a : ℕ) (r r' : List Instr) → StepAt place P direct g (length ps) n x f h l y s a r r' → due k ≤ 2 → Does place P (suc (endS (scopes g) y s)) g [] kt ps fs k v j → Stand place P fs g (val ∷ []) kt v (suc (heldK k)) d → j + 2 ≤ p → D p (ms (suc (sumAt place P direct g f h a)) ps fs d) (st (settling (here x) (stepping (place n) x f h l y) ∷ k) v (blank d))
-  unfolding sstep codeTest endTest codeSum endSum
+  unfolding sstep codeTest endWay codeSum endSum
   dSetting {g = g} {ps = ps} {k = k} p d n x f h l y s a r r' z w u c le =
       let o : OkV (scopes g) x = rw (z .0) at (z .3) in
       let t = step-test g (length ps) direct n x f h l y s a r r' z in
@@ -416,19 +416,19 @@ module _ (place : ℕ → ℕ) (P : List Instr) where
 
   -- where the controlled variable is a name formal, once its cell is found: the test, the sum, its store
   dTrying : {j : ℕ} {g : List Mark} {kt : List Kind} {ps : List ℕ} {fs : List Frame} {k : List Task} {v : Env} (p : ℕ) (d : Data) (n : ℕ) (x : Name) (f h : Expression) (l : List Element) (y : Statement) (s a : ℕ) (r r' : List Instr) → StepAt place P sought g (length ps) n x f h l y s a r r' → due k ≤ 2 → Does place P (suc (endS (scopes g) y s)) g [] kt ps fs k v j → Stand place P fs g (val ∷ []) kt v (suc (heldK k)) d → (1 ≤ 1 → Found (val ∷ kt) d) → j ≤ p → D p (ms (suc (testAt place P g f h a)) ps fs d) (st (trying (stepping (place n) x f h l y) ∷ k) v (blank d))
-  unfolding sstep codeTest endTest codeSum endSum
+  unfolding sstep codeTest endWay codeSum endSum
   dTrying {g = g} {ps = ps} {k = k} p d n x f h l y s a r r' z w u c fd le =
       let t = step-test g (length ps) sought n x f h l y s a r r' z in
       tests (heldK k) [] d (upto (at place x) there) 1 (ex y ∷ ev f ∷ add (stepping (place n) x f h l y) ∷ k) (loop x l y ∷ k) (t .1 .0) tt fd (at-go (t .1 .1 .0) (on (t-ex y _ (z .2) (z .5)) (at-next ((pastS place P g (suc (length ps)) y _ _ (z .2)) .0) (at-go (t .1 .1 .1 .0) (on (t-ev f _ (z .1 .1) (z .6)) (at-next ((pastE place P g f _ _ (z .1 .1)) .0) (on (t-add sought n x f h l y s a r r' z) u w)) (omega arith)))) (omega arith))) refl (omega arith) (on (t-loop x l y s _ r r' (t .1 .1 .1 .1 .1 .1 .1 .1 .1) (z .2) (z .3) (z .4) (z .5)) u w) refl (omega arith) c (omega arith) (omega arith) (omega arith) refl
 
   dSumming : {j : ℕ} {g : List Mark} {kt : List Kind} {ps : List ℕ} {fs : List Frame} {k : List Task} {v : Env} (p : ℕ) (d : Data) (n : ℕ) (x : Name) (f h : Expression) (l : List Element) (y : Statement) (s a : ℕ) (r r' : List Instr) → StepAt place P sought g (length ps) n x f h l y s a r r' → due k ≤ 2 → Does place P (suc (endS (scopes g) y s)) g [] kt ps fs k v j → Stand place P fs g (val ∷ []) kt v (suc (heldK k)) d → (1 ≤ 1 → Found (val ∷ kt) d) → j ≤ p → D p (ms (suc (sumAt place P sought g f h a)) ps fs d) (st (summing (stepping (place n) x f h l y) ∷ k) v (blank d))
-  unfolding sstep codeTest endTest codeSum endSum
+  unfolding sstep codeTest endWay codeSum endSum
   dSumming {g = g} {ps = ps} {k = k} p d n x f h l y s a r r' z w u c fd le =
       let t = step-test g (length ps) sought n x f h l y s a r r' z in
       counted 1 (heldK k) [] d (sum (place n) there) (seek x (at place x) ∷ settling there (stepping (place n) x f h l y) ∷ k) (t .1 .1 .1 .1 .1 .0) tt (on (t-seek (t .1 .1 .1 .1 .1 .1 .0) (sought-named (meaning (scopes g) x) (z .0))) (on (t-settling n x f h l y s a r r' z) u w) (omega arith)) (omega arith) refl c fd (omega arith) (omega arith) refl
 
   dSettling : {j : ℕ} {g : List Mark} {kt : List Kind} {ps : List ℕ} {fs : List Frame} {k : List Task} {v : Env} (p : ℕ) (d : Data) (n : ℕ) (x : Name) (f h : Expression) (l : List Element) (y : Statement) (s a : ℕ) (r r' : List Instr) → StepAt place P sought g (length ps) n x f h l y s a r r' → due k ≤ 2 → Does place P (suc (endS (scopes g) y s)) g [] kt ps fs k v j → Stand place P fs g (val ∷ []) kt v (suc (heldK k)) d → (1 ≤ 1 → Found (val ∷ kt) d) → j + 2 ≤ p → D p (ms (suc (suc (suc (sumAt place P sought g f h a)))) ps fs d) (st (settling there (stepping (place n) x f h l y) ∷ k) v (blank d))
-  unfolding sstep codeTest endTest codeSum endSum
+  unfolding sstep codeTest endWay codeSum endSum
   dSettling {g = g} {ps = ps} {k = k} p d n x f h l y s a r r' z w u c fd le =
       let t = step-test g (length ps) sought n x f h l y s a r r' z in
       counted 0 (suc (heldK k)) [] d (store there) (ev h ∷ tested (stepping (place n) x f h l y) ∷ k) (t .1 .1 .1 .1 .1 .1 .1 .0) tt (over-jump (t .1 .1 .1 .1 .1 .1 .1 .1 .0) (on (t-ev h _ ((pastE place P g f _ _ (z .1 .1)) .1 .1) (z .7)) (on (t-tested sought n x f h l y s a r r' z) u w) (omega arith))) (omega arith) refl c fd (omega arith) (omega arith) refl

@@ -207,37 +207,27 @@ taken-length (lend x) ks kt = omega arith
 taken-length (channel q) ks kt = omega arith
 taken-length (sum q x) ks kt = omega arith
 
+both-on : {X : Type 0} (a : Act X) (ks kt : List Kind) → (takes a ks ++ kt ≡ takes a (ks ++ kt)) × (gives a ks ++ kt ≡ gives a (ks ++ kt))
+both-on (push q v) ks kt = (refl, refl)
+both-on (load q x) ks kt = (refl, refl)
+both-on (store x) ks kt = (refl, refl)
+both-on (assign x) ks kt = (refl, refl)
+both-on (reserve q) ks kt = (refl, refl)
+both-on forget ks kt = (refl, refl)
+both-on (receive q x) ks kt = (refl, refl)
+both-on (send q) ks kt = (refl, refl)
+both-on keep ks kt = (refl, refl)
+both-on (unary q i) ks kt = (refl, refl)
+both-on (binary q i) ks kt = (refl, refl)
+both-on (lend x) ks kt = (refl, refl)
+both-on (channel q) ks kt = (refl, refl)
+both-on (sum q x) ks kt = (refl, refl)
+
 pub takes-on : {X : Type 0} (a : Act X) (ks kt : List Kind) → takes a ks ++ kt ≡ takes a (ks ++ kt)
-takes-on (push q v) ks kt = refl
-takes-on (load q x) ks kt = refl
-takes-on (store x) ks kt = refl
-takes-on (assign x) ks kt = refl
-takes-on (reserve q) ks kt = refl
-takes-on forget ks kt = refl
-takes-on (receive q x) ks kt = refl
-takes-on (send q) ks kt = refl
-takes-on keep ks kt = refl
-takes-on (unary q i) ks kt = refl
-takes-on (binary q i) ks kt = refl
-takes-on (lend x) ks kt = refl
-takes-on (channel q) ks kt = refl
-takes-on (sum q x) ks kt = refl
+takes-on a ks kt = both-on a ks kt .0
 
 pub gives-on : {X : Type 0} (a : Act X) (ks kt : List Kind) → gives a ks ++ kt ≡ gives a (ks ++ kt)
-gives-on (push q v) ks kt = refl
-gives-on (load q x) ks kt = refl
-gives-on (store x) ks kt = refl
-gives-on (assign x) ks kt = refl
-gives-on (reserve q) ks kt = refl
-gives-on forget ks kt = refl
-gives-on (receive q x) ks kt = refl
-gives-on (send q) ks kt = refl
-gives-on keep ks kt = refl
-gives-on (unary q i) ks kt = refl
-gives-on (binary q i) ks kt = refl
-gives-on (lend x) ks kt = refl
-gives-on (channel q) ks kt = refl
-gives-on (sum q x) ks kt = refl
+gives-on a ks kt = both-on a ks kt .1
 
 pub takesT-length : {X : Type 0} (a : Test X) (ks kt : List Kind) → length (takesT a ks ++ kt) ≡ downsT a + length (ks ++ kt)
 takesT-length condition ks kt = omega arith

@@ -12,7 +12,7 @@ use Rattle.names.specs.Program.{Name, Sort, Sign, positive, negative, negation,
 use Rattle.names.specs.Scopes.{sortOf, modesOf, meaning}
 use Rattle.rules.specs.Calls.{Primary, held, worked, function, absolute, greatest, no-primary, primary, Command, routine-of, absolute-of, greatest-of, input-to, output-of, no-command, command, Way, direct, sought, way}
 use Rattle.rules.specs.Rules.{Spot}
-use Rattle.translation.specs.Translate.{Mark, blk, own, acl, scopes, reach, endName, endActual, endThen, endSign, endE, endEs, endWay, endTest, endSum, endStep, endL, endStores, endCall, endTake, endCommand, endS, endSs, endDs, endP, codeName, codeActual, codeThen, codeSign, codeE, codeEs, codeWay, codeTest, codeSum, codeStep, codeL, codeStores, codeCall, codeTake, codeCommand, codeS, codeSs, codeDs, codeP, code}
+use Rattle.translation.specs.Translate.{Mark, blk, own, acl, scopes, reach, endName, endActual, endThen, endSign, endE, endEs, endWay, endSum, endL, endStores, endCall, endTake, endCommand, endS, endSs, endDs, endP, codeName, codeActual, codeThen, codeSign, codeE, codeEs, codeWay, codeTest, codeSum, codeL, codeStores, codeCall, codeTake, codeCommand, codeS, codeSs, codeDs, codeP, code}
 use Rattle.translation.specs.Sizes.{Limited}
 use Rattle.machine.specs.Words.{words}
 use Rattle.translation.proofs.Ranges.{ends}
@@ -69,8 +69,8 @@ module _ (place : ℕ → ℕ) where
   long-way direct g x i b r k h = one h
   long-way sought g x i b r k h = one (one h)
 
-  long-test : (w : Way) (g : List Mark) (x : Name) (n b : ℕ) (r : List Instr) (k : ℕ) → Ends r (endTest w b) k → Ends (codeTest place w g x n r) b k
-  unfolding endTest codeTest
+  long-test : (w : Way) (g : List Mark) (x : Name) (n b : ℕ) (r : List Instr) (k : ℕ) → Ends r (endWay w b) k → Ends (codeTest place w g x n r) b k
+  unfolding endWay codeTest
   long-test direct g x n b r k h = one h
   long-test sought g x n b r k h = one (one h)
 

@@ -1,5 +1,5 @@
 -- Every operand of a translated program is in its range: levels and nesting below 64, offsets, counts and addresses below 8,192. Assumes nothing.
-use Prim.Native.Nat.{ℕ, zero, suc, _+_, _≤_, _<_, max}
+use Prim.Native.Nat.{ℕ, suc, _+_, _≤_, _<_}
 use native.Mathlib.Omega.{arith}
 use mathlib.Core.Bool.{Bool, true, false, cond}
 use mathlib.Core.Path.{_≡_}
@@ -10,14 +10,15 @@ use Rattle.machine.specs.Values.{truth}
 use Rattle.machine.specs.Data.{Act}
 use Rattle.machine.specs.Instructions.{Loc, Instr, END}
 use Rattle.names.specs.Program.{Name, Sort, Sign, positive, negative, negation, Expression, number, logical, name, call, signed, operated, chosen, nested, Expressions, done, then, count, Element, value, while, step, Statement, dummy, assignment, procedure, when, either, repeat, compound, block, Statements, last, first, Declarations, none as no-more, variables, declare, Procedure, heading}
+use Rattle.names.specs.Every.{AnyName, EveryE, EveryEs, EveryLs, EveryS, EverySs, EveryD, EveryP}
 use Rattle.names.specs.Scopes.{Thing, variable, routine, formal, by-name, modesOf, Declared, Scope, ofBlock, ofBody, inBlock, inBody, variablesIn, formalsOf, nameOf, sortOf, same, Meaning, declared, given, nothing, meaning}
 use Rattle.rules.specs.Entered.{cellsOf, total, oneIf, cellsIn, before, declaring, bodyOfThis}
-use Rattle.rules.specs.Calls.{Primary, held, worked, function, absolute, greatest, no-primary, primary, Command, routine-of, absolute-of, greatest-of, input-to, output-of, no-command, command, thingTold, into, givenTold, Way, direct, sought, way}
+use Rattle.rules.specs.Calls.{Primary, held, worked, function, absolute, greatest, no-primary, primary, Command, routine-of, absolute-of, greatest-of, input-to, output-of, no-command, command, Way, direct, sought, way}
 use Rattle.rules.specs.Rules.{Spot, here, there}
-use Rattle.translation.specs.Translate.{Mark, blk, own, acl, scopes, spot, reach, cutG, levels, amongG, offsetOf, locFor, locAs, loc, endName, endActual, endThen, endSign, endE, endEs, endWay, endTest, endSum, endStep, endL, onward, endStores, endCall, endTake, endCommand, endS, endSs, endDs, endP, entry, target, storeName, storePart, codeName, codeActual, codeThen, codeSign, codeE, codeEs, codeWay, codeTest, codeSum, codeStep, codeL, codeStores, codeCall, codeTake, codeCommand, codeS, codeSs, codeDs, codeP, code}
+use Rattle.translation.specs.Translate.{Mark, blk, own, acl, scopes, spot, reach, cutG, levels, amongG, offsetOf, locFor, locAs, loc, endName, endActual, endThen, endSign, endE, endEs, endWay, endSum, endL, onward, endStores, endCall, endTake, endCommand, endS, endSs, endDs, endP, entry, target, storeName, storePart, codeName, codeActual, codeThen, codeSign, codeE, codeEs, codeWay, codeTest, codeSum, codeL, codeStores, codeCall, codeTake, codeCommand, codeS, codeSs, codeDs, codeP, code}
 use Rattle.translation.proofs.Chain.{body-cells as formals-cells}
-use Rattle.translation.proofs.Sizes.{symbolsC, few, actuals-most, sizeSs, sizeDs}
-use Rattle.translation.specs.Sizes.{symbolsE, symbolsEs, symbolsL, listed, symbolsS, symbolsSs, symbolsDs, symbolsP, deepE, deepEs, deepA, deepL, deepS, deepSs, deepDs, deepP, SmallE, SmallEs, SmallL, SmallS, SmallSs, SmallDs, SmallP, Whole, Limited}
+use Rattle.translation.proofs.Sizes.{parts, First, none-first, one-first, of-command, few, actuals-most, sizeSs, sizeDs}
+use Rattle.translation.specs.Sizes.{symbolsE, symbolsEs, symbolsL, listed, symbolsS, symbolsSs, symbolsDs, symbolsP, deepE, deepEs, deepA, deepL, deepS, deepSs, deepDs, deepP, Bits32, Whole, Limited}
 use Rattle.machine.specs.Words.{LocFits, ActFits, InstrFits, CodeFits}
 
 -- ---- code does not end before it begins
@@ -65,11 +66,6 @@ unfolding endWay
 grow-way direct b = omega arith
 grow-way sought b = omega arith
 
-pub grow-test : (w : Way) (b : ℕ) → b < endTest w b
-unfolding endTest
-grow-test direct b = omega arith
-grow-test sought b = omega arith
-
 pub grow-sum : (w : Way) (b : ℕ) → b < endSum w b
 unfolding endSum
 grow-sum direct b = omega arith
@@ -95,8 +91,8 @@ growL g x (step q e f h ∷ l) b =
     let a = endWay w (endE g e b) in
     let i = suc (suc (endE g f (suc a))) in
     let n = endE g h i in
-    let t = endTest w n in
-    omega (arith, growE g e b, grow-way w (endE g e b), growE g f (suc a), growE g h i, grow-test w n, grow-sum w (suc (suc t)), growL g x l (suc (endSum w (suc (suc t)))))
+    let t = endWay w n in
+    omega (arith, growE g e b, grow-way w (endE g e b), growE g f (suc a), growE g h i, grow-way w n, grow-sum w (suc (suc t)), growL g x l (suc (endSum w (suc (suc t)))))
 
 pub grow-stores : (g : List Scope) (x : Name) (xs : List Name) (b : ℕ) → b ≤ endStores g x xs b
 unfolding endStores
@@ -287,97 +283,19 @@ truth-small : (t : Bool) → CodeFits (Instr.DO (Act.push 0 (truth t)) ∷ [])
 truth-small true = (omega arith, tt)
 truth-small false = (omega arith, tt)
 
-abbrev SmallC : Command → Type 0
-SmallC (routine-of p) = Unit {0}
-SmallC (absolute-of e) = SmallE e
-SmallC greatest-of = Unit {0}
-SmallC (input-to e y) = SmallE e
-SmallC (output-of e f) = SmallE e × SmallE f
-SmallC no-command = Unit {0}
+-- the expressions of a command are no deeper than its actuals, and have no other numbers
+first-numbers : {es fs : Expressions} → First es fs → EveryEs AnyName Bits32 fs → EveryEs AnyName Bits32 es
+first-numbers none-first s = tt
+first-numbers (one-first f) s = (s .0, first-numbers f (s .1))
 
-small-told : (t : Thing) → SmallC (thingTold t)
-small-told (variable t) = tt
-small-told (formal t) = tt
-small-told (by-name t) = tt
-small-told (routine p) = tt
-
-small-into : (e f : Expression) → SmallE e → SmallC (into e f)
-small-into e (number q n) s = tt
-small-into e (logical q b) s = tt
-small-into e (name x) s = s
-small-into e (call x f fs) s = tt
-small-into e (signed q o f) s = tt
-small-into e (operated q o f f') s = tt
-small-into e (chosen q r c f f') s = tt
-small-into e (nested q f) s = tt
-
-small-given : (n : ℕ) (es : Expressions) → SmallEs es → SmallC (givenTold n es)
-small-given zero done s = tt
-small-given zero (then e done) s = s .0
-small-given zero (then e (then f es)) s = tt
-small-given (suc zero) done s = tt
-small-given (suc zero) (then e es) s = tt
-small-given (suc (suc zero)) done s = tt
-small-given (suc (suc zero)) (then e done) s = tt
-small-given (suc (suc zero)) (then e (then f done)) s = small-into e f (s .0)
-small-given (suc (suc zero)) (then e (then f (then f' es))) s = tt
-small-given (suc (suc (suc zero))) done s = tt
-small-given (suc (suc (suc zero))) (then e done) s = tt
-small-given (suc (suc (suc zero))) (then e (then f done)) s = (s .0, s .1 .0)
-small-given (suc (suc (suc zero))) (then e (then f (then f' es))) s = tt
-small-given (suc (suc (suc (suc n)))) es s = tt
-
-small-command : (m : Meaning) (es : Expressions) → SmallEs es → SmallC (command m es)
-unfolding command
-small-command (declared d g) es s = small-told (d .thing)
-small-command (given n e) es s = small-given n es s
-small-command nothing es s = tt
+first-deep : {es fs : Expressions} → First es fs → deepEs es ≤ deepEs fs
+unfolding deepE
+first-deep none-first = omega arith
+first-deep (one-first f) = omega (arith, first-deep f)
 
 onward-most : (l : List Element) (a n : ℕ) → a < 8192 → n < 8192 → onward l a n < 8192
 onward-most [] a n h h' = h'
 onward-most (x ∷ l) a n h h' = h
-
--- the expressions of a command are no deeper than its actuals
-abbrev deepC : Command → ℕ
-deepC (routine-of p) = 0
-deepC (absolute-of e) = deepE e
-deepC greatest-of = 0
-deepC (input-to e y) = deepE e
-deepC (output-of e f) = max (deepE e) (deepE f)
-deepC no-command = 0
-
-deep-told : (t : Thing) → deepC (thingTold t) ≤ 0
-deep-told (variable t) = omega arith
-deep-told (formal t) = omega arith
-deep-told (by-name t) = omega arith
-deep-told (routine p) = omega arith
-
-deep-into : (e f : Expression) → deepC (into e f) ≤ deepE e
-deep-into e (number q n) = omega arith
-deep-into e (logical q b) = omega arith
-deep-into e (name x) = omega arith
-deep-into e (call x f fs) = omega arith
-deep-into e (signed q o f) = omega arith
-deep-into e (operated q o f f') = omega arith
-deep-into e (chosen q r c f f') = omega arith
-deep-into e (nested q f) = omega arith
-
-deep-given : (n : ℕ) (es : Expressions) → deepC (givenTold n es) ≤ deepEs es
-unfolding deepE
-deep-given zero done = omega arith
-deep-given zero (then e done) = omega arith
-deep-given zero (then e (then f es)) = omega arith
-deep-given (suc zero) done = omega arith
-deep-given (suc zero) (then e es) = omega arith
-deep-given (suc (suc zero)) done = omega arith
-deep-given (suc (suc zero)) (then e done) = omega arith
-deep-given (suc (suc zero)) (then e (then f done)) = omega (arith, deep-into e f)
-deep-given (suc (suc zero)) (then e (then f (then f' es))) = omega arith
-deep-given (suc (suc (suc zero))) done = omega arith
-deep-given (suc (suc (suc zero))) (then e done) = omega arith
-deep-given (suc (suc (suc zero))) (then e (then f done)) = omega arith
-deep-given (suc (suc (suc zero))) (then e (then f (then f' es))) = omega arith
-deep-given (suc (suc (suc (suc n)))) es = omega arith
 
 -- actuals are one deeper than what holds them, where there are any
 deep-most : (es : Expressions) → deepA es ≤ suc (deepEs es)
@@ -389,12 +307,6 @@ deep-least : (es : Expressions) → deepEs es ≤ deepA es
 unfolding deepA deepE
 deep-least done = omega arith
 deep-least (then e es) = omega arith
-
-deep-command : (m : Meaning) (es : Expressions) → deepC (command m es) ≤ deepEs es
-unfolding command
-deep-command (declared d g) es = omega (arith, deep-told (d .thing))
-deep-command (given n e) es = deep-given n es
-deep-command nothing es = omega arith
 
 module _ (place : ℕ → ℕ) where
   fits-name : (pr : Primary) (g : List Mark) (x : Name) (n : ℕ) (f : List Bool → ℕ → ℕ) (c : List Bool → ℕ → List Instr → List Instr) → ((m : List Bool) (b : ℕ) (r : List Instr) → f m b < 8192 → CodeFits r → CodeFits (c m b r)) → (b : ℕ) (r : List Instr) → Reaches g → owns g < 64 → suc n < 8192 → endName pr f b < 8192 → CodeFits r → CodeFits (codeName place pr g x n c b r)
@@ -441,11 +353,11 @@ module _ (place : ℕ → ℕ) where
   mutual
     unfolding endE codeE symbolsE deepE deepA count
 
-    fitsE : (g : List Mark) (e : Expression) (b : ℕ) (r : List Instr) → Reaches g → owns g + deepE e < 64 → SmallE e → symbolsE e < 8192 → endE (scopes g) e b < 8192 → CodeFits r → CodeFits (codeE place g e b r)
+    fitsE : (g : List Mark) (e : Expression) (b : ℕ) (r : List Instr) → Reaches g → owns g + deepE e < 64 → EveryE AnyName Bits32 e → symbolsE e < 8192 → endE (scopes g) e b < 8192 → CodeFits r → CodeFits (codeE place g e b r)
     fitsE g (number q n) b r h w s i e z = (s, z)
     fitsE g (logical q t) b r h w s i e z = (truth-small t .0, z)
     fitsE g (name x) b r h w s i e z = fits-name (primary (meaning (scopes g) x) done) g x 0 (λ m b. b) (λ m b r. r) (λ m b r e z. z) b r h (omega arith) (omega arith) e z
-    fitsE g (call x y ys) b r h w s i e z = fits-name (primary (meaning (scopes g) x) (then y ys)) g x (suc (count ys)) (λ m b. endThen m (λ b. endE (scopes g) y b) (λ m b. endEs (scopes g) m ys b) b) (λ m b r. codeThen place m g y (λ b. endE (scopes g) y b) (λ g b r. codeE place g y b r) (λ m b r. codeEs place g m ys b r) b r) (λ m b r e z. fits-then m g y (λ b. endE (scopes g) y b) (λ m b. endEs (scopes g) m ys b) (λ g b r. codeE place g y b r) (λ m b r. codeEs place g m ys b r) (λ m b. growEs (scopes g) m ys b) (λ b r e z. fitsE g y b r h (omega arith) (s .0) (omega arith) e z) (λ b r e z. fitsE (acl ∷ g) y b r h (omega arith) (s .0) (omega arith) e z) (λ m b r e z. fitsEs g m ys b r h (omega (arith, deep-most ys)) (s .1) (omega arith) e z) b r h (omega arith) e z) b r h (omega arith) (omega (arith, count-most ys)) e z
+    fitsE g (call x y ys) b r h w s i e z = fits-name (primary (meaning (scopes g) x) (then y ys)) g x (suc (count ys)) (λ m b. endThen m (λ b. endE (scopes g) y b) (λ m b. endEs (scopes g) m ys b) b) (λ m b r. codeThen place m g y (λ b. endE (scopes g) y b) (λ g b r. codeE place g y b r) (λ m b r. codeEs place g m ys b r) b r) (λ m b r e z. fits-then m g y (λ b. endE (scopes g) y b) (λ m b. endEs (scopes g) m ys b) (λ g b r. codeE place g y b r) (λ m b r. codeEs place g m ys b r) (λ m b. growEs (scopes g) m ys b) (λ b r e z. fitsE g y b r h (omega arith) (s .1) (omega arith) e z) (λ b r e z. fitsE (acl ∷ g) y b r h (omega arith) (s .1) (omega arith) e z) (λ m b r e z. fitsEs g m ys b r h (omega (arith, deep-most ys)) (s .2) (omega arith) e z) b r h (omega arith) e z) b r h (omega arith) (omega (arith, count-most ys)) e z
     fitsE g (signed q o y) b r h w s i e z = fitsE g y b _ h w s (omega arith) (omega (arith, grow-sign o (endE (scopes g) y b))) (fits-sign q o r z)
     fitsE g (operated q o y y') b r h w s i e z = fitsE g y b _ h (omega arith) (s .0) (omega arith) (omega (arith, growE (scopes g) y' (endE (scopes g) y b))) (fitsE g y' (endE (scopes g) y b) _ h (omega arith) (s .1) (omega arith) (omega arith) (tt, z))
     fitsE g (chosen q q' c y y') b r h w s i e z =
@@ -456,7 +368,7 @@ module _ (place : ℕ → ℕ) where
         fitsE g c b _ h (omega arith) (s .0) (omega arith) (omega arith) ((tt, omega arith), fitsE g y (suc m) _ h (omega arith) (s .1) (omega arith) (omega arith) (e, fitsE g y' (suc n) r h (omega arith) (s .2) (omega arith) e z))
     fitsE g (nested q y) b r h w s i e z = fitsE g y b r h w s (omega arith) e z
 
-    fitsEs : (g : List Mark) (m : List Bool) (es : Expressions) (b : ℕ) (r : List Instr) → Reaches g → owns g + deepA es < 64 → SmallEs es → symbolsEs es < 8192 → endEs (scopes g) m es b < 8192 → CodeFits r → CodeFits (codeEs place g m es b r)
+    fitsEs : (g : List Mark) (m : List Bool) (es : Expressions) (b : ℕ) (r : List Instr) → Reaches g → owns g + deepA es < 64 → EveryEs AnyName Bits32 es → symbolsEs es < 8192 → endEs (scopes g) m es b < 8192 → CodeFits r → CodeFits (codeEs place g m es b r)
     fitsEs g m done b r h w s i e z = z
     fitsEs g m (then y ys) b r h w s i e z = fits-then m g y (λ b. endE (scopes g) y b) (λ m b. endEs (scopes g) m ys b) (λ g b r. codeE place g y b r) (λ m b r. codeEs place g m ys b r) (λ m b. growEs (scopes g) m ys b) (λ b r e z. fitsE g y b r h (omega arith) (s .0) (omega arith) e z) (λ b r e z. fitsE (acl ∷ g) y b r h (omega arith) (s .0) (omega arith) e z) (λ m b r e z. fitsEs g m ys b r h (omega (arith, deep-most ys)) (s .1) (omega arith) e z) b r h (omega arith) e z
 
@@ -484,7 +396,7 @@ module _ (place : ℕ → ℕ) where
   fits-take direct g q y r h w z = (loc-fits g y h w, z)
   fits-take sought g q y r h w z = (tt, (formal-fits g y h w, (tt, z)))
 
-  fitsL : (g : List Mark) (m : ℕ) (x : Name) (l : List Element) (s n b : ℕ) (r : List Instr) → Reaches g → owns g + deepL l < 64 → m < 64 → s < 8192 → n < 8192 → SmallL l → symbolsL l < 8192 → endL (scopes g) x l b < 8192 → CodeFits r → CodeFits (codeL place g m x l s n b r)
+  fitsL : (g : List Mark) (m : ℕ) (x : Name) (l : List Element) (s n b : ℕ) (r : List Instr) → Reaches g → owns g + deepL l < 64 → m < 64 → s < 8192 → n < 8192 → EveryLs AnyName Bits32 l → symbolsL l < 8192 → endL (scopes g) x l b < 8192 → CodeFits r → CodeFits (codeL place g m x l s n b r)
   unfolding endL codeL symbolsL deepL
   fitsL g m x [] s n b r h w hm hs hn v i e z = z
   fitsL g m x (value y ∷ l) s n b r h w hm hs hn v i e z =
@@ -501,46 +413,47 @@ module _ (place : ℕ → ℕ) where
       let u₁ = growE (scopes g) c a in
       let u₂ = growE (scopes g) y b in
       let u₃ = grow-way wy (endE (scopes g) y b) in
-      fitsE g y b _ h (omega arith) (v .0) (omega arith) (omega arith) (fits-way wy g x (λ c. Act.store (spot g c)) _ (λ c. spot-fits g c h (omega arith)) h (omega arith) (fitsE g c a _ h (omega arith) (v .1) (omega arith) (omega arith) ((tt, onward-most l k n (omega arith) hn), ((hm, hs, omega arith), fitsL g m x l s n k r h (omega arith) hm hs hn (v .2) (omega arith) e z))))
+      fitsE g y b _ h (omega arith) (v .0 .0) (omega arith) (omega arith) (fits-way wy g x (λ c. Act.store (spot g c)) _ (λ c. spot-fits g c h (omega arith)) h (omega arith) (fitsE g c a _ h (omega arith) (v .0 .1) (omega arith) (omega arith) ((tt, onward-most l k n (omega arith) hn), ((hm, hs, omega arith), fitsL g m x l s n k r h (omega arith) hm hs hn (v .1) (omega arith) e z))))
   fitsL g m x (step q y y' y'' ∷ l) s n b r h w hm hs hn v i e z =
       let wy = way (meaning (scopes g) x) in
       let a = endWay wy (endE (scopes g) y b) in
       let i' = suc (endE (scopes g) y' (suc a)) in
       let j = endE (scopes g) y'' (suc i') in
-      let t = endTest wy j in
+      let t = endWay wy j in
       let k = suc (endSum wy (suc (suc t))) in
       let u = growL (scopes g) x l k in
       let u₁ = growE (scopes g) y' (suc a) in
       let u₂ = growE (scopes g) y'' (suc i') in
       let u₃ = grow-way wy (endE (scopes g) y b) in
-      let u₄ = grow-test wy j in
+      let u₄ = grow-way wy j in
       let u₅ = grow-sum wy (suc (suc t)) in
-      fitsE g y b _ h (omega arith) (v .0) (omega arith) (omega arith) (fits-way wy g x (λ c. Act.store (spot g c)) _ (λ c. spot-fits g c h (omega arith)) h (omega arith) ((hm, omega arith, omega arith), fitsE g y' (suc a) _ h (omega arith) (v .1) (omega arith) (omega arith) (hm, (tt, fitsE g y'' (suc i') _ h (omega arith) (v .2) (omega arith) (omega arith) (fits-test wy g x (onward l k n) _ h (omega arith) (onward-most l k n (omega arith) hn) ((hm, hs, omega arith), ((hm, omega arith, omega arith), fits-sum wy g q x _ h (omega arith) (omega arith, fitsL g m x l s n k r h (omega arith) hm hs hn (v .3) (omega arith) e z))))))))
+      fitsE g y b _ h (omega arith) (v .0 .0) (omega arith) (omega arith) (fits-way wy g x (λ c. Act.store (spot g c)) _ (λ c. spot-fits g c h (omega arith)) h (omega arith) ((hm, omega arith, omega arith), fitsE g y' (suc a) _ h (omega arith) (v .0 .1) (omega arith) (omega arith) (hm, (tt, fitsE g y'' (suc i') _ h (omega arith) (v .0 .2) (omega arith) (omega arith) (fits-test wy g x (onward l k n) _ h (omega arith) (onward-most l k n (omega arith) hn) ((hm, hs, omega arith), ((hm, omega arith, omega arith), fits-sum wy g q x _ h (omega arith) (omega arith, fitsL g m x l s n k r h (omega arith) hm hs hn (v .1) (omega arith) e z))))))))
 
   fits-stores : (g : List Mark) (x : Name) (xs : List Name) (r : List Instr) → Reaches g → owns g < 64 → CodeFits r → CodeFits (codeStores place g x xs r)
   unfolding codeStores
   fits-stores g x [] r h w z = fits-way (way (meaning (scopes g) x)) g x (λ c. Act.store (spot g c)) r (λ c. spot-fits g c h w) h w z
   fits-stores g x (y ∷ ys) r h w z = fits-way (way (meaning (scopes g) x)) g x (λ c. Act.assign (spot g c)) _ (λ c. spot-fits g c h w) h w (fits-stores g y ys r h w z)
 
-  fits-call : (g : List Mark) (t : Option Sort) (m : List Bool) (x : Name) (es : Expressions) (b : ℕ) (r : List Instr) → Reaches g → owns g + deepA es < 64 → SmallEs es → symbolsEs es + 1 < 8192 → endCall (scopes g) t m es b < 8192 → CodeFits r → CodeFits (codeCall place g t m x es b r)
+  fits-call : (g : List Mark) (t : Option Sort) (m : List Bool) (x : Name) (es : Expressions) (b : ℕ) (r : List Instr) → Reaches g → owns g + deepA es < 64 → EveryEs AnyName Bits32 es → symbolsEs es + 1 < 8192 → endCall (scopes g) t m es b < 8192 → CodeFits r → CodeFits (codeCall place g t m x es b r)
   fits-call g none m x es b r h w s i e z = fitsEs g m es b _ h w s (omega arith) (omega arith) ((target-most (declaring x) x g h, omega (arith, levels-most (declaring x) g), omega (arith, count-most es)), z)
   fits-call g (some t) m x es b r h w s i e z = (tt, fitsEs g m es (suc b) _ h w s (omega arith) (omega arith) ((target-most (declaring x) x g h, omega (arith, levels-most (declaring x) g), omega (arith, count-most es)), z))
 
-  fits-command : (c : Command) (g : List Mark) (x : Name) (es : Expressions) (b : ℕ) (r : List Instr) → Reaches g → owns g + deepA es < 64 → SmallEs es → SmallC c → symbolsC c ≤ symbolsEs es → deepC c ≤ deepEs es → symbolsEs es + 1 < 8192 → endCommand (scopes g) c es b < 8192 → CodeFits r → CodeFits (codeCommand place c g x es b r)
+  fits-command : (c : Command) (g : List Mark) (x : Name) (es : Expressions) (b : ℕ) (r : List Instr) → Reaches g → owns g + deepA es < 64 → EveryEs AnyName Bits32 es → EveryEs AnyName Bits32 (parts c) → symbolsEs (parts c) ≤ symbolsEs es → deepEs (parts c) ≤ deepEs es → symbolsEs es + 1 < 8192 → endCommand (scopes g) c es b < 8192 → CodeFits r → CodeFits (codeCommand place c g x es b r)
+  unfolding symbolsE deepE
   fits-command (routine-of p) g x es b r h w s v j dp i e z = fits-call g (sortOf p) (modesOf p) x es b r h w s i e z
-  fits-command (absolute-of y) g x es b r h w s v j dp i e z = fitsE g y b _ h (omega (arith, deep-least es)) v (omega arith) (omega arith) (tt, (tt, z))
+  fits-command (absolute-of y) g x es b r h w s v j dp i e z = fitsE g y b _ h (omega (arith, deep-least es)) (v .0) (omega arith) (omega arith) (tt, (tt, z))
   fits-command greatest-of g x es b r h w s v j dp i e z = (omega arith, (tt, z))
-  fits-command (input-to y u) g x es b r h w s v j dp i e z = fitsE g y b _ h (omega (arith, deep-least es)) v (omega arith) (omega (arith, grow-take (way (meaning (scopes g) u)) (endE (scopes g) y b))) (fits-take (way (meaning (scopes g) u)) g _ u r h (omega arith) z)
-  fits-command (output-of y y') g x es b r h w s v j dp i e z = fitsE g y b _ h (omega (arith, deep-least es)) (v .0) (omega arith) (omega (arith, growE (scopes g) y' (endE (scopes g) y b))) (fitsE g y' (endE (scopes g) y b) _ h (omega (arith, deep-least es)) (v .1) (omega arith) (omega arith) (tt, z))
+  fits-command (input-to y u) g x es b r h w s v j dp i e z = fitsE g y b _ h (omega (arith, deep-least es)) (v .0) (omega arith) (omega (arith, grow-take (way (meaning (scopes g) u)) (endE (scopes g) y b))) (fits-take (way (meaning (scopes g) u)) g _ u r h (omega arith) z)
+  fits-command (output-of y y') g x es b r h w s v j dp i e z = fitsE g y b _ h (omega (arith, deep-least es)) (v .0) (omega arith) (omega (arith, growE (scopes g) y' (endE (scopes g) y b))) (fitsE g y' (endE (scopes g) y b) _ h (omega (arith, deep-least es)) (v .1 .0) (omega arith) (omega arith) (tt, z))
   fits-command no-command g x es b r h w s v j dp i e z = z
 
   mutual
     unfolding endS codeS symbolsS deepS
 
-    fitsS : (g : List Mark) (m : ℕ) (s : Statement) (b : ℕ) (r : List Instr) → Reaches g → owns g + deepS s < 64 → m + deepS s < 64 → reach g + symbolsS s < 8191 → SmallS s → endS (scopes g) s b < 8191 → CodeFits r → CodeFits (codeS place g m s b r)
+    fitsS : (g : List Mark) (m : ℕ) (s : Statement) (b : ℕ) (r : List Instr) → Reaches g → owns g + deepS s < 64 → m + deepS s < 64 → reach g + symbolsS s < 8191 → EveryS AnyName Bits32 s → endS (scopes g) s b < 8191 → CodeFits r → CodeFits (codeS place g m s b r)
     fitsS g m dummy b r h w n i v e z = z
-    fitsS g m (assignment x xs q y) b r h w n i v e z = fitsE g y b _ h (omega arith) v (omega arith) (omega (arith, grow-stores (scopes g) x xs (endE (scopes g) y b))) (fits-stores g x xs r h (omega arith) z)
-    fitsS g m (procedure x es) b r h w n i v e z = fits-command (command (meaning (scopes g) x) es) g x es b r h (omega arith) v (small-command (meaning (scopes g) x) es v) (few (meaning (scopes g) x) es) (deep-command (meaning (scopes g) x) es) (omega (arith, actuals-most es)) (omega arith) z
+    fitsS g m (assignment x xs q y) b r h w n i v e z = fitsE g y b _ h (omega arith) (v .2) (omega arith) (omega (arith, grow-stores (scopes g) x xs (endE (scopes g) y b))) (fits-stores g x xs r h (omega arith) z)
+    fitsS g m (procedure x es) b r h w n i v e z = fits-command (command (meaning (scopes g) x) es) g x es b r h (omega arith) (v .1) (first-numbers (of-command (meaning (scopes g) x) es) (v .1)) (few (of-command (meaning (scopes g) x) es)) (first-deep (of-command (meaning (scopes g) x) es)) (omega (arith, actuals-most es)) (omega arith) z
     fitsS g m (when q c s) b r h w n i v e z =
         let a = suc (endE (scopes g) c b) in
         let u = growS (scopes g) s a in
@@ -554,7 +467,7 @@ module _ (place : ℕ → ℕ) where
     fitsS g m (repeat x l ls s) b r h w n i v e z =
         let a = endL (scopes g) x (l ∷ ls) b in
         let u = growS (scopes g) s a in
-        fitsL g m x (l ∷ ls) a (suc (endS (scopes g) s a)) b _ h (omega arith) (omega arith) (omega arith) (omega arith) (v .0) (omega arith) (omega arith) (fitsS g (suc m) s a _ h (omega arith) (omega arith) (omega arith) (v .1) (omega arith) (omega arith, z))
+        fitsL g m x (l ∷ ls) a (suc (endS (scopes g) s a)) b _ h (omega arith) (omega arith) (omega arith) (omega arith) (v .1, v .2) (omega arith) (omega arith) (fitsS g (suc m) s a _ h (omega arith) (omega arith) (omega arith) (v .3) (omega arith) (omega arith, z))
     fitsS g m (compound ss) b r h w n i v e z = fitsSs g m ss b r h (omega arith) (omega arith) (omega arith) v e z
     fitsS g m (block q ds ss) b r h w n i v e z =
         let g' : List Mark = blk (reach g) ds (suc b) ∷ g in
@@ -564,20 +477,20 @@ module _ (place : ℕ → ℕ) where
         let h' : Reaches g' = (omega arith, omega arith, h) in
         ((omega arith, omega arith), fitsDs g' ds (suc b) _ h' (omega arith) (omega arith) (v .0) (omega arith) (fitsSs g' m ss a _ h' (omega arith) (omega arith) (omega arith) (v .1) (omega arith) (omega arith, z)))
 
-    fitsSs : (g : List Mark) (m : ℕ) (ss : Statements) (b : ℕ) (r : List Instr) → Reaches g → owns g + deepSs ss < 64 → m + deepSs ss < 64 → reach g + symbolsSs ss < 8191 → SmallSs ss → endSs (scopes g) ss b < 8191 → CodeFits r → CodeFits (codeSs place g m ss b r)
+    fitsSs : (g : List Mark) (m : ℕ) (ss : Statements) (b : ℕ) (r : List Instr) → Reaches g → owns g + deepSs ss < 64 → m + deepSs ss < 64 → reach g + symbolsSs ss < 8191 → EverySs AnyName Bits32 ss → endSs (scopes g) ss b < 8191 → CodeFits r → CodeFits (codeSs place g m ss b r)
     fitsSs g m (last s) b r h w n i v e z = fitsS g m s b r h w n (omega arith) v e z
     fitsSs g m (first s ss) b r h w n i v e z = fitsS g m s b _ h (omega arith) (omega arith) (omega arith) (v .0) (omega (arith, growSs (scopes g) ss (endS (scopes g) s b))) (fitsSs g m ss (endS (scopes g) s b) r h (omega arith) (omega arith) (omega arith) (v .1) e z)
 
-    fitsDs : (g : List Mark) (ds : Declarations) (b : ℕ) (r : List Instr) → Reaches g → owns g + deepDs ds < 63 → symbolsDs ds < 8191 → SmallDs ds → endDs (scopes g) ds b < 8191 → CodeFits r → CodeFits (codeDs place g ds b r)
+    fitsDs : (g : List Mark) (ds : Declarations) (b : ℕ) (r : List Instr) → Reaches g → owns g + deepDs ds < 63 → symbolsDs ds < 8191 → EveryD AnyName Bits32 ds → endDs (scopes g) ds b < 8191 → CodeFits r → CodeFits (codeDs place g ds b r)
     fitsDs g no-more b r h w i v e z = z
-    fitsDs g (variables t xs ds) b r h w i v e z = fitsDs g ds b r h w (omega arith) v e z
+    fitsDs g (variables t xs ds) b r h w i v e z = fitsDs g ds b r h w (omega arith) (v .1) e z
     fitsDs g (declare p ds) b r h w i v e z = fitsP g p b _ h (omega arith) (omega arith) (v .0) (omega (arith, growDs (scopes g) ds (endP (scopes g) p b))) (fitsDs g ds (endP (scopes g) p b) r h (omega arith) (omega arith) (v .1) e z)
 
-    fitsP : (g : List Mark) (p : Procedure) (b : ℕ) (r : List Instr) → Reaches g → owns g + deepP p < 63 → symbolsP p < 8191 → SmallP p → endP (scopes g) p b < 8191 → CodeFits r → CodeFits (codeP place g p b r)
+    fitsP : (g : List Mark) (p : Procedure) (b : ℕ) (r : List Instr) → Reaches g → owns g + deepP p < 63 → symbolsP p < 8191 → EveryP AnyName Bits32 p → endP (scopes g) p b < 8191 → CodeFits r → CodeFits (codeP place g p b r)
     fitsP g (heading t f xs vs ss s) b r h w i v e z =
         let k = body-cells (heading t f xs vs ss s) in
         let k' = listed-most xs in
-        fitsS (own (heading t f xs vs ss s) ∷ g) 0 s b _ (omega arith, h) (omega arith) (omega arith) (omega arith) v (omega arith) (tt, z)
+        fitsS (own (heading t f xs vs ss s) ∷ g) 0 s b _ (omega arith, h) (omega arith) (omega arith) (omega arith) (v .4) (omega arith) (tt, z)
 
   -- ---- whole programs
 

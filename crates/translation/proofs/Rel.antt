@@ -15,7 +15,7 @@ use Rattle.names.specs.Scopes.{has, Scope, ofBlock, valuesOf, formalsOf, meanin
 use Rattle.rules.specs.Entered.{Env, entered, cellsIn}
 use Rattle.rules.specs.Calls.{Way, direct, sought, way}
 use Rattle.rules.specs.Rules.{Choice, expressions, statements, only, whiling, stepping, Spot, here, there, Task, ev, evs, naming, ex, exs, stores, loop, act, unchanged, drop, pick, hold, tested, add, trying, summing, settling, seek, find, receiving, invoke, close, return, State, st, at}
-use Rattle.translation.specs.Translate.{Mark, blk, acl, scopes, spot, reach, endActual, endE, endEs, endTest, endSum, endStep, onward, endStores, endTake, endS, endSs, CALLS, SEEKS, PASSES, storePart, codeE, codeEs, codeTest, codeSum, codeStep, codeL, codeStores, codeTake, codeS, codeSs}
+use Rattle.translation.specs.Translate.{Mark, blk, acl, scopes, spot, reach, endActual, endE, endEs, endWay, endStep, onward, endStores, endTake, endS, endSs, CALLS, SEEKS, PASSES, storePart, codeE, codeEs, codeStep, codeL, codeStores, codeTake, codeS, codeSs}
 use Rattle.translation.specs.Scoped.{OkW, OkVs, OkE, OkEs, OkL, OkS, OkSs, OkCall}
 use Rattle.translation.specs.Listed.{instructionAt}
 use Rattle.translation.proofs.Stands.{CodeAt}
@@ -26,75 +26,50 @@ use Rattle.translation.proofs.Fits.{FitsD, takes, gives, needs, holds, 
 
 -- ---- what is owed: instructions that no step has paid for yet
 
--- a choice that is no step: its test, and the jump at the end of the part chosen
-abbrev pub owesC : Choice → ℕ
-owesC (expressions e f) = 3
-owesC (statements s t) = 3
-owesC (only s) = 3
-owesC (whiling x q e c l s) = 0
+-- of each task: what is owed before it, and what may be owed right after it. A choice that is no step owes its test, and the jump at the end of the
+-- part chosen
+abbrev pub debtC : Choice → ℕ × ℕ
+debtC (expressions e f) = (3, 3)
+debtC (statements s t) = (3, 2)
+debtC (only s) = (3, 2)
+debtC (whiling x q e c l s) = (0, 2)
+
+abbrev pub debt : Task → ℕ × ℕ
+debt (ev e) = (0, 3)
+debt (evs m es) = (0, 0)
+debt (naming q) = (0, 3)
+debt (ex s) = (0, 2)
+debt (exs ss) = (0, 2)
+debt (stores x xs) = (0, 3)
+debt (loop x l s) = (2, 2)
+debt (act a) = (0, 3)
+debt unchanged = (0, 3)
+debt drop = (3, 2)
+debt (pick c) = debtC c
+debt (hold s) = (1, 2)
+debt (tested s) = (0, 2)
+debt (add s) = (0, 2)
+debt (trying s) = (0, 2)
+debt (summing s) = (0, 2)
+debt (settling c s) = (2, 2)
+debt (seek x q) = (0, 7)
+debt (find e q) = (1, 0)
+debt (receiving q y) = (1, 2)
+debt (invoke x es f) = (0, 3)
+debt (close n) = (0, 3)
+debt (return f q b v) = (0, 3)
 
 abbrev pub owes : Task → ℕ
-owes (ev e) = 0
-owes (evs m es) = 0
-owes (naming q) = 0
-owes (ex s) = 0
-owes (exs ss) = 0
-owes (stores x xs) = 0
-owes (loop x l s) = 2
-owes (act a) = 0
-owes unchanged = 0
-owes drop = 3
-owes (pick c) = owesC c
-owes (hold s) = 1
-owes (tested s) = 0
-owes (add s) = 0
-owes (trying s) = 0
-owes (summing s) = 0
-owes (settling c s) = 2
-owes (seek x q) = 0
-owes (find e q) = 1
-owes (receiving q y) = 1
-owes (invoke x es f) = 0
-owes (close n) = 0
-owes (return f q b v) = 0
+owes t = debt t .0
+
+abbrev pub slack : Task → ℕ
+slack t = debt t .1
 
 abbrev pub owed : List Task → ℕ
 owed [] = 0
 owed (t ∷ k) = owes t
 
--- what may be owed right after a task
-abbrev pub slackC : Choice → ℕ
-slackC (expressions e f) = 3
-slackC (statements s t) = 2
-slackC (only s) = 2
-slackC (whiling x q e c l s) = 2
-
-abbrev pub slack : Task → ℕ
-slack (ev e) = 3
-slack (evs m es) = 0
-slack (naming q) = 3
-slack (ex s) = 2
-slack (exs ss) = 2
-slack (stores x xs) = 3
-slack (loop x l s) = 2
-slack (act a) = 3
-slack unchanged = 3
-slack drop = 2
-slack (pick c) = slackC c
-slack (hold s) = 2
-slack (tested s) = 2
-slack (add s) = 2
-slack (trying s) = 2
-slack (summing s) = 2
-slack (settling c s) = 2
-slack (seek x q) = 7
-slack (find e q) = 0
-slack (receiving q y) = 2
-slack (invoke x es f) = 3
-slack (close n) = 3
-slack (return f q b v) = 3
-
-owesC-most : (c : Choice) → owesC c ≤ 3
+owesC-most : (c : Choice) → debtC c .0 ≤ 3
 owesC-most (expressions e f) = omega arith
 owesC-most (statements s t) = omega arith
 owesC-most (only s) = omega arith
@@ -270,7 +245,7 @@ module _ (place : ℕ → ℕ) (P : List Instr) where
   testAt g f h a = endE (scopes g) h (suc (heldAt g f a))
 
   abbrev pub sumAt : Way → List Mark → Expression → Expression → ℕ → ℕ
-  sumAt w g f h a = suc (suc (endTest w (testAt g f h a)))
+  sumAt w g f h a = suc (suc (endWay w (testAt g f h a)))
 
   -- in the scopes g, within m for statements, from the first address, with values of these kinds not used yet, to the second, with those, stands what
   -- the task needs

@@ -8,7 +8,7 @@ use lib.ListN.{length}
 use Rattle.names.specs.Program.{Name, Sort, Sign, positive, negative, negation, Expression, number, logical, name, call, signed, operated, chosen, nested, Expressions, done, then, Element, value, while, step, Statement, dummy, assignment, procedure, when, either, repeat, compound, block, Statements, last, first, Declarations, none as no-more, variables, declare, Procedure, heading}
 use Rattle.names.specs.Scopes.{Thing, variable, routine, formal, by-name, modesOf, Scope, ofBlock, ofBody, sortOf, Meaning, declared, given, nothing, meaning}
 use Rattle.rules.specs.Calls.{Primary, held, worked, function, absolute, greatest, no-primary, primary, Command, routine-of, absolute-of, greatest-of, input-to, output-of, no-command, command, thingTold, into, givenTold, Way, direct, sought, way}
-use Rattle.translation.specs.Translate.{endName, endActual, endThen, endSign, endE, endEs, endWay, endTest, endSum, endStep, endL, endStores, endCall, endTake, endCommand, endS, endSs, endDs, endP}
+use Rattle.translation.specs.Translate.{endName, endActual, endThen, endSign, endE, endEs, endWay, endSum, endL, endStores, endCall, endTake, endCommand, endS, endSs, endDs, endP}
 use Rattle.translation.specs.Sizes.{symbolsE, symbolsEs, actuals, symbolsL, symbolsS, symbolsSs, symbolsDs, symbolsP}
 
 -- a name with actuals of so many symbols
@@ -56,11 +56,6 @@ unfolding endWay
 way-size direct b = omega arith
 way-size sought b = omega arith
 
-test-size : (w : Way) (b : ℕ) → endTest w b ≤ b + 2
-unfolding endTest
-test-size direct b = omega arith
-test-size sought b = omega arith
-
 sum-size : (w : Way) (b : ℕ) → endSum w b ≤ b + 4
 unfolding endSum
 sum-size direct b = omega arith
@@ -86,62 +81,70 @@ sizeL g x (step q e f h ∷ l) b =
     let a = endWay w (endE g e b) in
     let i = suc (suc (endE g f (suc a))) in
     let n = endE g h i in
-    let t = endTest w n in
-    omega (arith, sizeE g e b, way-size w (endE g e b), sizeE g f (suc a), sizeE g h i, test-size w n, sum-size w (suc (suc t)), sizeL g x l (suc (endSum w (suc (suc t)))))
+    let t = endWay w n in
+    omega (arith, sizeE g e b, way-size w (endE g e b), sizeE g f (suc a), sizeE g h i, way-size w n, sum-size w (suc (suc t)), sizeL g x l (suc (endSum w (suc (suc t)))))
 
 size-stores : (g : List Scope) (x : Name) (xs : List Name) (b : ℕ) → endStores g x xs b ≤ b + 2 * length xs + 2
 unfolding endStores
 size-stores g x [] b = omega (arith, way-size (way (meaning g x)) b)
 size-stores g x (y ∷ ys) b = omega (arith, way-size (way (meaning g x)) b, size-stores g y ys (endWay (way (meaning g x)) b))
 
--- ---- commands: their expressions are among the actuals
+-- ---- commands: their expressions are the first of the actuals
 
-abbrev pub symbolsC : Command → ℕ
-symbolsC (routine-of p) = 0
-symbolsC (absolute-of e) = symbolsE e
-symbolsC greatest-of = 0
-symbolsC (input-to e y) = symbolsE e
-symbolsC (output-of e f) = symbolsE e + symbolsE f
-symbolsC no-command = 0
+abbrev pub parts : Command → Expressions
+parts (routine-of p) = done
+parts (absolute-of e) = then e done
+parts greatest-of = done
+parts (input-to e y) = then e done
+parts (output-of e f) = then e (then f done)
+parts no-command = done
 
-told-few : (t : Thing) → symbolsC (thingTold t) ≤ 0
-told-few (variable t) = omega arith
-told-few (formal t) = omega arith
-told-few (by-name t) = omega arith
-told-few (routine p) = omega arith
+pub data First : Expressions → Expressions → Type 0 where
+  none-first : {fs : Expressions} → First done fs
+  one-first : {e : Expression} {es fs : Expressions} → First es fs → First (then e es) (then e fs)
 
-into-few : (e f : Expression) → symbolsC (into e f) ≤ symbolsE e
-into-few e (number q n) = omega arith
-into-few e (logical q b) = omega arith
-into-few e (name x) = omega arith
-into-few e (call x f fs) = omega arith
-into-few e (signed q o f) = omega arith
-into-few e (operated q o f f') = omega arith
-into-few e (chosen q r c f f') = omega arith
-into-few e (nested q f) = omega arith
+of-thing : (t : Thing) (es : Expressions) → First (parts (thingTold t)) es
+of-thing (variable t) es = none-first
+of-thing (formal t) es = none-first
+of-thing (by-name t) es = none-first
+of-thing (routine p) es = none-first
 
-given-few : (n : ℕ) (es : Expressions) → symbolsC (givenTold n es) ≤ symbolsEs es
-unfolding symbolsE
-given-few zero done = omega arith
-given-few zero (then e done) = omega arith
-given-few zero (then e (then f es)) = omega arith
-given-few (suc zero) done = omega arith
-given-few (suc zero) (then e es) = omega arith
-given-few (suc (suc zero)) done = omega arith
-given-few (suc (suc zero)) (then e done) = omega arith
-given-few (suc (suc zero)) (then e (then f done)) = omega (arith, into-few e f)
-given-few (suc (suc zero)) (then e (then f (then f' es))) = omega arith
-given-few (suc (suc (suc zero))) done = omega arith
-given-few (suc (suc (suc zero))) (then e done) = omega arith
-given-few (suc (suc (suc zero))) (then e (then f done)) = omega arith
-given-few (suc (suc (suc zero))) (then e (then f (then f' es))) = omega arith
-given-few (suc (suc (suc (suc n)))) es = omega arith
+of-input : (e f : Expression) (es : Expressions) → First (parts (into e f)) (then e es)
+of-input e (number q n) es = none-first
+of-input e (logical q b) es = none-first
+of-input e (name x) es = one-first none-first
+of-input e (call x f fs) es = none-first
+of-input e (signed q o f) es = none-first
+of-input e (operated q o f f') es = none-first
+of-input e (chosen q r c f f') es = none-first
+of-input e (nested q f) es = none-first
 
-pub few : (m : Meaning) (es : Expressions) → symbolsC (command m es) ≤ symbolsEs es
+of-given : (n : ℕ) (es : Expressions) → First (parts (givenTold n es)) es
+of-given zero done = none-first
+of-given zero (then e done) = one-first none-first
+of-given zero (then e (then f es)) = none-first
+of-given (suc zero) done = none-first
+of-given (suc zero) (then e es) = none-first
+of-given (suc (suc zero)) done = none-first
+of-given (suc (suc zero)) (then e done) = none-first
+of-given (suc (suc zero)) (then e (then f done)) = of-input e f (then f done)
+of-given (suc (suc zero)) (then e (then f (then f' es))) = none-first
+of-given (suc (suc (suc zero))) done = none-first
+of-given (suc (suc (suc zero))) (then e done) = none-first
+of-given (suc (suc (suc zero))) (then e (then f done)) = one-first (one-first none-first)
+of-given (suc (suc (suc zero))) (then e (then f (then f' es))) = none-first
+of-given (suc (suc (suc (suc n)))) es = none-first
+
+pub of-command : (m : Meaning) (es : Expressions) → First (parts (command m es)) es
 unfolding command
-few (declared d g) es = omega (arith, told-few (d .thing))
-few (given n e) es = given-few n es
-few nothing es = omega arith
+of-command (declared d g) es = of-thing (d .thing) es
+of-command (given n e) es = of-given n es
+of-command nothing es = none-first
+
+pub few : {es fs : Expressions} → First es fs → symbolsEs es ≤ symbolsEs fs
+unfolding symbolsE
+few none-first = omega arith
+few (one-first f) = omega (arith, few f)
 
 pub actuals-most : (es : Expressions) → symbolsEs es ≤ actuals es
 unfolding actuals symbolsE
@@ -152,7 +155,8 @@ call-size : (g : List Scope) (t : Option Sort) (m : List Bool) (es : Expressions
 call-size g none m es b = omega (arith, sizeEs g m es b)
 call-size g (some t) m es b = omega (arith, sizeEs g m es (suc b))
 
-size-command : (g : List Scope) (c : Command) (es : Expressions) (b : ℕ) → symbolsC c ≤ symbolsEs es → endCommand g c es b ≤ b + 4 * symbolsEs es + 2
+size-command : (g : List Scope) (c : Command) (es : Expressions) (b : ℕ) → symbolsEs (parts c) ≤ symbolsEs es → endCommand g c es b ≤ b + 4 * symbolsEs es + 2
+unfolding symbolsE
 size-command g (routine-of p) es b h = call-size g (sortOf p) (modesOf p) es b
 size-command g (absolute-of e) es b h = omega (arith, sizeE g e b)
 size-command g greatest-of es b h = omega arith
@@ -168,7 +172,7 @@ mutual
   pub sizeS : (g : List Scope) (s : Statement) (b : ℕ) → endS g s b ≤ b + 4 * symbolsS s
   sizeS g dummy b = omega arith
   sizeS g (assignment x xs q e) b = omega (arith, sizeE g e b, size-stores g x xs (endE g e b))
-  sizeS g (procedure x es) b = omega (arith, size-command g (command (meaning g x) es) es b (few (meaning g x) es), actuals-most es)
+  sizeS g (procedure x es) b = omega (arith, size-command g (command (meaning g x) es) es b (few (of-command (meaning g x) es)), actuals-most es)
   sizeS g (when q c s) b = omega (arith, sizeE g c b, sizeS g s (suc (endE g c b)))
   sizeS g (either q c s t) b = omega (arith, sizeE g c b, sizeS g s (suc (endE g c b)), sizeS g t (suc (endS g s (suc (endE g c b)))))
   sizeS g (repeat x l ls s) b = omega (arith, sizeL g x (l ∷ ls) b, sizeS g s (endL g x (l ∷ ls) b))

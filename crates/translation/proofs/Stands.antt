@@ -12,8 +12,7 @@ use Rattle.names.specs.Program.{Name, Sort, Sign, positive, negative, negation,
 use Rattle.names.specs.Scopes.{Thing, variable, routine, formal, by-name, Declared, nameOf, sortOf, modesOf, same, variablesIn, inBlock, findIn, meaning}
 use Rattle.rules.specs.Calls.{Primary, held, worked, function, absolute, greatest, no-primary, primary, Command, routine-of, absolute-of, greatest-of, input-to, output-of, no-command, command, Way, direct, sought}
 use Rattle.rules.specs.Rules.{Spot}
-use Rattle.translation.specs.Translate.{Mark, acl, scopes, endName, endActual, endThen, endE, endEs, endWay, endTest, endSum, endStep, endL, endStores, endCall, endTake, endCommand, endS, endSs, endDs, endP, entry, codeName, codeActual, codeThen, codeSign, codeE, codeEs, codeWay, codeTest, codeSum, codeStep, codeL, codeStores, codeCall, codeTake, codeCommand, codeS, codeSs, codeDs, codeP}
-use Rattle.translation.specs.Translate.{endSign, Mark, acl, scopes, endName, endActual, endThen, endE, endEs, endWay, endTest, endSum, endStep, endL, endStores, endCall, endTake, endCommand, endS, endSs, endDs, endP, entry, codeName, codeActual, codeThen, codeSign, codeE, codeEs, codeWay, codeTest, codeSum, codeStep, codeL, codeStores, codeCall, codeTake, codeCommand, codeS, codeSs, codeDs, codeP}
+use Rattle.translation.specs.Translate.{endSign, Mark, acl, scopes, endName, endActual, endThen, endE, endEs, endWay, endSum, endL, endStores, endCall, endTake, endCommand, endS, endSs, endDs, endP, entry, codeName, codeActual, codeThen, codeSign, codeE, codeEs, codeWay, codeTest, codeSum, codeL, codeStores, codeCall, codeTake, codeCommand, codeS, codeSs, codeDs, codeP}
 use Rattle.translation.specs.Scoped.{OkDs, OkP}
 use Rattle.translation.specs.Listed.{instructionAt}
 
@@ -89,8 +88,8 @@ module _ (place : ℕ → ℕ) (P : List Instr) where
   past-way direct g x i b r h = h .1
   past-way sought g x i b r h = h .1 .1
 
-  pub past-test : (w : Way) (g : List Mark) (x : Name) (n b : ℕ) (r : List Instr) → CodeAt b (codeTest place w g x n r) → CodeAt (endTest w b) r
-  unfolding endTest codeTest
+  pub past-test : (w : Way) (g : List Mark) (x : Name) (n b : ℕ) (r : List Instr) → CodeAt b (codeTest place w g x n r) → CodeAt (endWay w b) r
+  unfolding endWay codeTest
   past-test direct g x n b r h = h .1
   past-test sought g x n b r h = h .1 .1
 

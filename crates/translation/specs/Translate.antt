@@ -123,7 +123,7 @@ unfoldable mutual
   endEs g m done b = b
   endEs g m (then e es) b = endThen m (λ b. endE g e b) (λ m b. endEs g m es b) b
 
--- a store: a name formal's is worked out before
+-- a store, and the test of a step element behind the code of its bound: a name formal's is worked out before
 unfoldable pub endWay : Way → ℕ → ℕ
 endWay direct b = suc b
 endWay sought b = suc (suc b)
@@ -131,11 +131,7 @@ endWay sought b = suc (suc b)
 abbrev pub endStore : List Scope → Name → ℕ → ℕ
 endStore g x b = endWay (way (meaning g x)) b
 
--- a step element behind the code of its bound: the test; the addition
-unfoldable pub endTest : Way → ℕ → ℕ
-endTest direct b = suc b
-endTest sought b = suc (suc b)
-
+-- the addition of a step element
 unfoldable pub endSum : Way → ℕ → ℕ
 endSum direct b = suc (suc b)
 endSum sought b = suc (suc (suc (suc b)))
@@ -143,7 +139,7 @@ endSum sought b = suc (suc (suc (suc b)))
 -- from the store of the start on: to the step and back; the step; to where it goes on; it is held; the bound; the test; to the body and back; to
 -- the step and back; the addition; the jump back to the bound
 abbrev pub endStep : Way → List Scope → Expression → Expression → ℕ → ℕ
-endStep w g f h a = suc (endSum w (suc (suc (endTest w (endE g h (suc (suc (endE g f (suc a)))))))))
+endStep w g f h a = suc (endSum w (suc (suc (endWay w (endE g h (suc (suc (endE g f (suc a)))))))))
 
 unfoldable pub endL : List Scope → Name → List Element → ℕ → ℕ
 endL g x [] b = b
@@ -312,7 +308,7 @@ module _ (place : ℕ → ℕ) where
   abbrev pub codeStep : Way → List Mark → ℕ → ℕ → Name → Expression → Expression → ℕ → ℕ → ℕ → List Instr → List Instr
   codeStep w g m q x f h s n a r =
       let i = suc (endE (scopes g) f (suc a)) in
-      let t = endTest w (endE (scopes g) h (suc i)) in
+      let t = endWay w (endE (scopes g) h (suc i)) in
       GO m (suc a) i
       ∷ codeE g f (suc a)
       (NEXT m ∷ DO keep

@@ -10,8 +10,8 @@ use Rattle.names.specs.Program.{Name, Sort, integer, boolean, Expression, numbe
 use Rattle.names.specs.Scopes.{Scope, ofBlock, ofBody, Wanted, meaning}
 use Rattle.names.specs.Nodes.{nodesE, nodesEs, amountNodes, nodesL, nodesLs, nodesLeft, nodesCall, nodesS, nodesSs, nodesD, nodesP}
 use Rattle.names.proofs.Least.{Small, Near}
-use Rattle.names.proofs.NearNodes.{SymbolsWithin, none}
-use Rattle.names.proofs.Fours.{split, split-node, foursE, foursEs, foursAmount, foursL, foursLs, foursN, foursSp, foursLeft, foursS, foursSs, foursD, foursP}
+use Rattle.names.proofs.NearNodes.{SymbolsWithin}
+use Rattle.names.proofs.Fours.{none, split, split-node, foursE, foursEs, foursAmount, foursL, foursLs, foursN, foursSp, foursLeft, foursS, foursSs, foursD, foursP}
 use Rattle.types.specs.Types.{unlike, apart, when-so, inExpression, wantedBy, isVariable, signTakes, takes, sortE, misfit, misfits, faultsE, faultsEs, leftOf, faultsLeft, miscalled, faultsFor, faultsL, faultsS, faultsSs, faultsD, faultsP, typeFaults}
 
 -- symbols that are all at most n
