@@ -164,8 +164,8 @@ unfoldable pub least : List Fault → Option Fault
 least [] = none
 least (x ∷ l) = sooner x (least l)
 
--- ---- "A use is three words, in source order: place; kind (0 environment, 1 variable, 2 procedure, 3 formal); place of the declaring name, or the
--- environment number." Here a symbol's number stands for its place
+-- ---- what the uses of a program mean, in source order: the use's symbol; its kind, "0 environment, 1 variable, 2 procedure, 3 formal"; the symbol of
+-- the declaring name, or the environment number. The table has a use's words of it
 
 pub record Row : Type 0 where
   pub symbol : ℕ

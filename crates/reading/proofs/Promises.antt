@@ -243,14 +243,9 @@ types-smallest source table q l = (
 
 -- ---- 4. the uses of an accepted source: the table begins with their count and their words, in source order, each with what `meaning` finds
 
--- "place; kind (0 environment, 1 variable, 2 procedure, 3 formal); place of the declaring name, or the environment number"
-abbrev pub meantAs : (ℕ → ℕ) → Meaning → Name → List ℕ
-meantAs place (declared d g) x = place (x .symbol) ∷ thingKind (d .thing) ∷ place (d .name .symbol) ∷ []
-meantAs place (given n e) x = place (x .symbol) ∷ 0 ∷ n ∷ []
-meantAs place nothing x = []
-
+-- of one use; none where it means nothing
 abbrev pub threeWords : (ℕ → ℕ) → Use → List ℕ
-threeWords place u = meantAs place (meaning (u .around) (u .name)) (u .name)
+threeWords place u = joined (useWords place) (rowOf u)
 
 pub rows-first : {source table new : List ℕ} {v : Verdict} → Reads source table v new → numberOf v ≡ 0 → (p : Parsed source)
     → (rest : List ℕ) × (new ≡ (length (rows (parsed p)) ∷ joined (useWords (placeIn source)) (rows (parsed p))) ++ rest)
@@ -266,20 +261,21 @@ rows-first {source} {table} r o p =
     ((d ++ z) ++ drop room table, i .whole ∙ ap (λ w. w ++ drop room table) (e ∙ append-assoc u d z) ∙ append-assoc u (d ++ z) (drop room table))
 
 module _ (place : ℕ → ℕ) where
-  row-words : (m : Meaning) (x : Name) → joined (useWords place) (rowIn m x) ≡ meantAs place m x
+  declared-row : (d : Declared) (g : List Scope) (x : Name) → joined (useWords place) (rowIn (declared d g) x) ≡ place (x .symbol) ∷ thingKind (d .thing) ∷ place (d .name .symbol) ∷ []
   unfolding joined useWords
-  row-words (declared d g) x = rw (kind-some (d .thing))
-  row-words (given n e) x = refl
-  row-words nothing x = refl
+  declared-row d g x = rw (kind-some (d .thing))
+
+  given-row : (n : ℕ) (e : Given) (x : Name) → joined (useWords place) (rowIn (given n e) x) ≡ place (x .symbol) ∷ 0 ∷ n ∷ []
+  unfolding joined useWords
+  given-row n e x = refl
 
   use-words : (us : List Use) → joined (useWords place) (joined rowOf us) ≡ joined (threeWords place) us
   unfolding joined
   use-words [] = refl
-  use-words (u ∷ us) =
-      joined-append (useWords place) (rowOf u) (joined rowOf us) ∙ ap (λ w. w ++ joined (useWords place) (joined rowOf us)) (row-words (meaning (u .around) (u .name)) (u .name))
-      ∙ ap (λ w. threeWords place u ++ w) (use-words us)
+  use-words (u ∷ us) = joined-append (useWords place) (rowOf u) (joined rowOf us) ∙ ap (λ w. threeWords place u ++ w) (use-words us)
 
-  three-long : (m : Meaning) (x : Name) → meantOrNot m x ≡ [] → length (meantAs place m x) ≡ 3
+  three-long : (m : Meaning) (x : Name) → meantOrNot m x ≡ [] → length (joined (useWords place) (rowIn m x)) ≡ 3
+  unfolding joined useWords
   three-long (declared d g) x h = refl
   three-long (given n e) x h = refl
   three-long nothing x h = absurd (let z : _≡_ {A = ℕ} 1 0 = ap length h in omega arith)
@@ -353,10 +349,12 @@ Outside source u words =
 module _ {source table new : List ℕ} {v : Verdict} (r : Reads source table v new) (o : numberOf v ≡ 0) (p : Parsed source) (us : List Use) (u : Use) (vs : List Use) (e : usesS [] (parsed p) ≡ us ++ (u ∷ vs)) where
   pub declared-words : (d : Declared) (g : List Scope) → meaning (u .around) (u .name) ≡ declared d g
       → take 3 (drop (1 + 3 * length us) new) ≡ placeIn source (u .name .symbol) ∷ thingKind (d .thing) ∷ placeIn source (d .name .symbol) ∷ []
-  declared-words d g m = use-stands r o p us u vs e ∙ ap (λ x. meantAs (placeIn source) x (u .name)) m
+  declared-words d g m =
+      use-stands r o p us u vs e ∙ ap (λ x. joined (useWords (placeIn source)) (rowIn x (u .name))) m ∙ declared-row (placeIn source) d g (u .name)
 
   pub given-words : (n : ℕ) (g : Given) → meaning (u .around) (u .name) ≡ given n g → take 3 (drop (1 + 3 * length us) new) ≡ placeIn source (u .name .symbol) ∷ 0 ∷ n ∷ []
-  given-words n g m = use-stands r o p us u vs e ∙ ap (λ x. meantAs (placeIn source) x (u .name)) m
+  given-words n g m =
+      use-stands r o p us u vs e ∙ ap (λ x. joined (useWords (placeIn source)) (rowIn x (u .name))) m ∙ given-row (placeIn source) n g (u .name)
 
   pub use-means : Inside source u (take 3 (drop (1 + 3 * length us) new)) ⊎ Outside source u (take 3 (drop (1 + 3 * length us) new))
   use-means = go (meaning (u .around) (u .name)) refl
