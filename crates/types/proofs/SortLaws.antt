@@ -43,36 +43,25 @@ sign-sort positive = refl
 sign-sort negative = refl
 sign-sort negation = refl
 
+both-sorts : (o : Operator) → (takesSort (operatorKind o) ≡ sortNumber (some (takes o))) × (givesSort (operatorKind o) ≡ sortNumber (some (gives o)))
+unfolding takesSort givesSort
+both-sorts times = (refl, refl)
+both-sorts over = (refl, refl)
+both-sorts plus = (refl, refl)
+both-sorts minus = (refl, refl)
+both-sorts less = (refl, refl)
+both-sorts atMost = (refl, refl)
+both-sorts equal = (refl, refl)
+both-sorts atLeast = (refl, refl)
+both-sorts greater = (refl, refl)
+both-sorts unequal = (refl, refl)
+both-sorts and = (refl, refl)
+both-sorts or = (refl, refl)
+both-sorts impl = (refl, refl)
+both-sorts equiv = (refl, refl)
+
 pub takes-sort : (o : Operator) → takesSort (operatorKind o) ≡ sortNumber (some (takes o))
-unfolding takesSort
-takes-sort times = refl
-takes-sort over = refl
-takes-sort plus = refl
-takes-sort minus = refl
-takes-sort less = refl
-takes-sort atMost = refl
-takes-sort equal = refl
-takes-sort atLeast = refl
-takes-sort greater = refl
-takes-sort unequal = refl
-takes-sort and = refl
-takes-sort or = refl
-takes-sort impl = refl
-takes-sort equiv = refl
+takes-sort o = both-sorts o .0
 
 pub gives-sort : (o : Operator) → givesSort (operatorKind o) ≡ sortNumber (some (gives o))
-unfolding givesSort
-gives-sort times = refl
-gives-sort over = refl
-gives-sort plus = refl
-gives-sort minus = refl
-gives-sort less = refl
-gives-sort atMost = refl
-gives-sort equal = refl
-gives-sort atLeast = refl
-gives-sort greater = refl
-gives-sort unequal = refl
-gives-sort and = refl
-gives-sort or = refl
-gives-sort impl = refl
-gives-sort equiv = refl
+gives-sort o = both-sorts o .1

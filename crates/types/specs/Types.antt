@@ -116,38 +116,28 @@ signTakes positive = integer
 signTakes negative = integer
 signTakes negation = boolean
 
--- arithmetic takes and gives integers, a relation takes integers and gives a Boolean, the logical operators take and give Booleans
+-- what an operator takes and gives: arithmetic integers, a relation takes integers and gives a Boolean, the logical operators take and give Booleans
+abbrev pub sortsOf : Operator → Sort × Sort
+sortsOf times = (integer, integer)
+sortsOf over = (integer, integer)
+sortsOf plus = (integer, integer)
+sortsOf minus = (integer, integer)
+sortsOf less = (integer, boolean)
+sortsOf atMost = (integer, boolean)
+sortsOf equal = (integer, boolean)
+sortsOf atLeast = (integer, boolean)
+sortsOf greater = (integer, boolean)
+sortsOf unequal = (integer, boolean)
+sortsOf and = (boolean, boolean)
+sortsOf or = (boolean, boolean)
+sortsOf impl = (boolean, boolean)
+sortsOf equiv = (boolean, boolean)
+
 abbrev pub takes : Operator → Sort
-takes times = integer
-takes over = integer
-takes plus = integer
-takes minus = integer
-takes less = integer
-takes atMost = integer
-takes equal = integer
-takes atLeast = integer
-takes greater = integer
-takes unequal = integer
-takes and = boolean
-takes or = boolean
-takes impl = boolean
-takes equiv = boolean
+takes o = sortsOf o .0
 
 abbrev pub gives : Operator → Sort
-gives times = integer
-gives over = integer
-gives plus = integer
-gives minus = integer
-gives less = boolean
-gives atMost = boolean
-gives equal = boolean
-gives atLeast = boolean
-gives greater = boolean
-gives unequal = boolean
-gives and = boolean
-gives or = boolean
-gives impl = boolean
-gives equiv = boolean
+gives o = sortsOf o .1
 
 -- ---- expressions
 
