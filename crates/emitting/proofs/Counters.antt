@@ -1,12 +1,12 @@
 -- The counts stay small: no node adds more than ten to one, nor opens more than one thing. So behind i nodes the counts are at most 65,536, which a
 -- place or a kind may be, and ten a node; the second number of each thing that is open is a word of 32 bits, or what a use means.
-use mathlib.Core.Path.{subst}
+use mathlib.Core.Path.{_≡_, refl, sym, ap, subst}
 use mathlib.Core.Bool.{Bool, true, false, cond, _||_}
 use mathlib.Core.List.{List, [], _∷_}
-use Prim.Native.Nat.{ℕ, _+_, _-_, _%_, _≤_, _<_}
+use Prim.Native.Nat.{ℕ, _+_, _*_, _-_, _%_, _≤_, _<_}
 use native.Mathlib.Omega.{arith}
 use lib.Dec.{eqb, ltb}
-use lib.ListN.{getD}
+use lib.ListN.{length, getD}
 use Rattle.machine.specs.Instructions.{high, mid, low}
 use Rattle.grammar.specs.NodeKinds.{n-block, n-statements, n-variable, n-procedure, n-formal, n-procedure-end, n-then, n-else, n-start, n-once, n-while, n-step, n-do, n-for-end, n-left, n-assign, n-unary, n-binary, n-number, n-logical, n-use, n-call, n-call-end, n-actual}
 use Rattle.names.specs.Rows.{isUse}
@@ -65,29 +65,27 @@ module _ {b n : ℕ} (st : State) (h : Small b n st) where
         things = all-up (st .open-ones) q (h .things);
       }
 
-  one-more : b ≤ b + 1
-  one-more = omega arith
+  -- no count grows by more than d, and nothing is opened
+  grown : (d : ℕ) (su : State) → su .at + 2 * su .lefts ≤ st .at + 2 * st .lefts + d → su .slots ≤ st .slots + d → su .level ≤ st .level + d
+      → su .loops ≤ st .loops + d → su .cells ≤ st .cells + d → su .declared ≤ st .declared + d
+      → su .variable ≡ st .variable → su .open-ones ≡ st .open-ones → Small (b + d) n su
+  grown d su p q r s t u e o =
+      record {
+        at = omega (arith, h .at);
+        slots = omega (arith, h .slots);
+        level = omega (arith, h .level);
+        loops = omega (arith, h .loops);
+        cells = omega (arith, h .cells);
+        declared = omega (arith, h .declared);
+        variable = omega (arith, h .variable);
+        many = omega (arith, h .many, ap length o);
+        things = subst (AllSlim (b + d)) (sym o) (all-up (st .open-ones) (omega arith) (h .things));
+      }
 
   in-put : (o p v : ℕ) → Small (b + 1) n (put o p v st)
   unfolding put
   in-put o p v =
-      let a = h .at in
-      let c = h .slots in
-      let e = h .level in
-      let f = h .loops in
-      let g = h .cells in
-      let y = h .declared in
-      record {
-        at = omega arith;
-        slots = omega arith;
-        level = omega arith;
-        loops = omega arith;
-        cells = omega arith;
-        declared = omega arith;
-        variable = h .variable;
-        many = h .many;
-        things = all-up (st .open-ones) one-more (h .things);
-      }
+      grown 1 (put o p v st) (omega arith) (omega arith) (omega arith) (omega arith) (omega arith) (omega arith) refl refl
 
   in-pushed : (v w x y : ℕ) → v ≤ b → w < 4294967296 → x ≤ b → y ≤ b → Small b (n + 1) (pushed v w x y st)
   unfolding pushed withOpen AllSlim
@@ -156,23 +154,7 @@ module _ {b n : ℕ} (st : State) (h : Small b n st) where
   in-slot : Small (b + 1) n (withSlot st)
   unfolding withSlot
   in-slot =
-      let a = h .at in
-      let c = h .slots in
-      let e = h .level in
-      let f = h .loops in
-      let g = h .cells in
-      let y = h .declared in
-      record {
-        at = omega arith;
-        slots = omega arith;
-        level = omega arith;
-        loops = omega arith;
-        cells = omega arith;
-        declared = omega arith;
-        variable = h .variable;
-        many = h .many;
-        things = all-up (st .open-ones) one-more (h .things);
-      }
+      grown 1 (withSlot st) (omega arith) (omega arith) (omega arith) (omega arith) (omega arith) (omega arith) refl refl
 
   in-noted : (i v : ℕ) → Small b n (noted i v st)
   unfolding noted
@@ -207,23 +189,7 @@ module _ {b n : ℕ} (st : State) (h : Small b n st) where
   in-lefts : Small (b + 2) n (withLefts (st .lefts + 1) st)
   unfolding withLefts
   in-lefts =
-      let a = h .at in
-      let c = h .slots in
-      let e = h .level in
-      let f = h .loops in
-      let g = h .cells in
-      let y = h .declared in
-      record {
-        at = omega arith;
-        slots = omega arith;
-        level = omega arith;
-        loops = omega arith;
-        cells = omega arith;
-        declared = omega arith;
-        variable = h .variable;
-        many = h .many;
-        things = all-up (st .open-ones) (omega arith) (h .things);
-      }
+      grown 2 (withLefts (st .lefts + 1) st) (omega arith) (omega arith) (omega arith) (omega arith) (omega arith) (omega arith) refl refl
 
   in-variable : (v w : ℕ) → w < 4294967296 → Small b n (withVariable v w st)
   unfolding withVariable
@@ -262,44 +228,12 @@ module _ {b n : ℕ} (st : State) (h : Small b n st) where
   in-cell : Small (b + 1) n (withCell st)
   unfolding withCell
   in-cell =
-      let a = h .at in
-      let c = h .slots in
-      let e = h .level in
-      let f = h .loops in
-      let g = h .cells in
-      let y = h .declared in
-      record {
-        at = omega arith;
-        slots = omega arith;
-        level = omega arith;
-        loops = omega arith;
-        cells = omega arith;
-        declared = omega arith;
-        variable = h .variable;
-        many = h .many;
-        things = all-up (st .open-ones) one-more (h .things);
-      }
+      grown 1 (withCell st) (omega arith) (omega arith) (omega arith) (omega arith) (omega arith) (omega arith) refl refl
 
   in-entry : Small (b + 1) n (withEntry st)
   unfolding withEntry
   in-entry =
-      let a = h .at in
-      let c = h .slots in
-      let e = h .level in
-      let f = h .loops in
-      let g = h .cells in
-      let y = h .declared in
-      record {
-        at = omega arith;
-        slots = omega arith;
-        level = omega arith;
-        loops = omega arith;
-        cells = omega arith;
-        declared = omega arith;
-        variable = h .variable;
-        many = h .many;
-        things = all-up (st .open-ones) one-more (h .things);
-      }
+      grown 1 (withEntry st) (omega arith) (omega arith) (omega arith) (omega arith) (omega arith) (omega arith) refl refl
 
 -- on a cell: at most two instructions
 in-on : {b n : ℕ} (st : State) → Small b n st → (o q p v : ℕ) → Small (b + 1 + 1) n (onCell o q p v st)
