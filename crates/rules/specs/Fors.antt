@@ -1,12 +1,11 @@
 -- Step elements as the Report has them, as trees, each with what its run comes to: a bound raised in the loop, a step that changes its sign, what is
 -- read before what, cells, name formals. A symbol's number is its place here. The source rules and the machine are both held to this one table.
-use Prim.Native.Nat.{ℕ}
 use mathlib.Core.List.{List, [], _∷_}
 use mathlib.Core.Option.{none, some}
-use lib.IntN.{ℤ, pos}
+use lib.IntN.{pos}
 use Rattle.answers.specs.declared.Stop.{Stop}
 use Rattle.answers.specs.declared.Stop.the-variants.{Ended}
-use Rattle.names.specs.Program.{Name, integer, negative, times, plus, minus, less, Expression, number, call, signed, operated, done, then, Element, step, Statement, dummy, assignment, procedure, when, repeat, compound, block, last, first, none as no-more, variables, declare, Procedure, heading}
+use Rattle.names.specs.Program.{integer, negative, times, plus, minus, less, Expression, number, signed, operated, done, then, step, Statement, dummy, assignment, procedure, when, repeat, compound, block, last, first, none as no-more, variables, declare, Procedure, heading}
 use Rattle.rules.specs.Samples.{nm, var, print, with-integers, Row, in-room, row, fault}
 
 -- ---- bounds and steps that change
