@@ -1,14 +1,14 @@
 -- S1, `'begin' 'integer' a; a := 1 'end'`, whose uses are 1, 21, 1, 18: what is answered to lists for it, computed, and checkers that this rules out.
-use Prim.Native.Nat.{ℕ, _≤_}
-use mathlib.Core.Path.{_≡_, refl, sym, ap, subst, _∙_}
+use Prim.Native.Nat.{ℕ}
+use mathlib.Core.Path.{_≡_, refl, sym, subst, _∙_}
 use mathlib.Core.List.{List, [], _∷_, _++_, map}
 use native.Mathlib.Omega.{arith}
 use lib.IntN.{ℤ, pos, negsuc}
-use lib.ListN.{length, drop, replicate, length-replicate}
+use lib.ListN.{drop, replicate, length-replicate}
 use Rattle.answers.specs.declared.Verdict.the-variants.{Accepted}
 use Rattle.symbols.specs.Text.{bytes}
 use Rattle.reading.specs.Judging.{parsed}
-use Rattle.reading.specs.Reading.{placeIn, room, Judged, Reads, enough}
+use Rattle.reading.specs.Reading.{placeIn, room, Reads, enough}
 use Rattle.reading.proofs.Examples.{s1}
 use Rattle.checking.specs.Checking.{three, useList, isWord, next, firstWrong, answerOf, Checks}
 use Rattle.checking.specs.Model.{narrow, section}
