@@ -18,7 +18,7 @@ use Rattle.symbols.proofs.Laws.{both}
 use Rattle.grammar.specs.Grammar.{program}
 use Rattle.grammar.specs.Trees.{Syn, tok, yield}
 use Rattle.symbols.specs.Spelling as S
-use Rattle.symbols.specs.Spelling.{Token, All, Proper, AllProper, Piece, Blanks, tokensOf, wordFor, signFor, spell, spelling, text, tokenAt, tokens, dress}
+use Rattle.symbols.specs.Spelling.{Token, All, Proper, AllProper, Piece, Blanks, wordFor, signFor, spell, spelling, text, tokenAt, tokens, dress}
 use Rattle.symbols.proofs.SpelledSymbols.{yes-no, letter-named, digit-named, Starts, starts}
 use Rattle.symbols.proofs.OwnSymbols.{source-proper}
 use Rattle.symbols.proofs.WrittenAgain.{dress-tokens}

@@ -2,8 +2,7 @@
 // procedure body, kept as 0.
 use symbols::kinds;
 ghost use mathlib.Core.Path.{_≡_};
-ghost use Prim.Native.Nat.{ℕ, _+_, _-_, _<_, _≤_};
-ghost use mathlib.Core.List.{_∷_};
+ghost use Prim.Native.Nat.{_+_, _-_, _<_, _≤_};
 ghost use lib.ListN.{length};
 ghost use Rattle.clean.specs.Lines.{headed as headedOf};
 ghost use Rattle.clean.specs.Pen.{Small, Low, firstOf, partedOf, lineOf, inwardOf, passedOf, openedOf, closedOf, waitsOf, topOf, stackOf, earlyOf, outOf, outsideOf, Pushed, Headed, Separated, Late};

@@ -3,7 +3,7 @@ use crate::bytes::letters;
 use crate::bytes::word;
 use answers::Place;
 use symbols::kinds;
-ghost use Prim.Native.Nat.{ℕ, _+_, _<_, _≤_};
+ghost use Prim.Native.Nat.{_+_, _<_, _≤_};
 ghost use lib.ListN.{length};
 ghost use Rattle.clean.specs.Model.{Puts, most, spellingAt, wordAt};
 
