@@ -59,10 +59,10 @@ into-fresh source w lent after e h = rw e at h
 -- ---- a number is another one where its bits are
 
 module _ (w : Width) (x y : ℤ) (f : SFits w x) (g : SFits w y) where
-  pub same-yes : ofZ w x ≡ ofZ w y → same x y ≡ true
+  same-yes : ofZ w x ≡ ofZ w y → same x y ≡ true
   same-yes e = sym (same-bits w {x = x} {y = y} f g) ∙ eq-eqb (ofZ w x) (ofZ w y) e
 
-  pub same-no : (ofZ w x ≡ ofZ w y → ⊥) → same x y ≡ false
+  same-no : (ofZ w x ≡ ofZ w y → ⊥) → same x y ≡ false
   same-no e = sym (same-bits w {x = x} {y = y} f g) ∙ ne-eqb (ofZ w x) (ofZ w y) e
 
 -- ---- an answer, then its place
@@ -85,15 +85,26 @@ module _ (x : ℤ) (s : List ℤ) (i : ℕ) where
   unfolding allAre
   all-peel h = rw (drop-cons s i (pos 0) h, add-one i)
 
-  pub all-on : i < length s → same (getD s i (pos 0)) x ≡ true → allAre x (drop i s) ≡ allAre x (drop (i + 1) s)
+  all-on : i < length s → same (getD s i (pos 0)) x ≡ true → allAre x (drop i s) ≡ allAre x (drop (i + 1) s)
   all-on h e = all-peel h ∙ rw e
 
-  pub all-off : i < length s → same (getD s i (pos 0)) x ≡ false → allAre x (drop i s) ≡ false
+  all-off : i < length s → same (getD s i (pos 0)) x ≡ false → allAre x (drop i s) ≡ false
   all-off h e = all-peel h ∙ rw e
 
-  pub all-end : length s ≤ i → allAre x (drop i s) ≡ true
+  all-end : length s ≤ i → allAre x (drop i s) ≡ true
   unfolding allAre
   all-end h = rw (drop-of-length-le s h)
+
+-- so a walk over numbers of any width that compares each with x: it stops at another number, goes on behind x, and comes to the end
+module _ (w : Width) (x : ℤ) (f : SFits w x) (s : List ℤ) (i : ℕ) (all : Bool) (left : all ≡ allAre x (drop i s)) where
+  pub stops : i < length s → SFits w (getD s i (pos 0)) → (ofZ w (getD s i (pos 0)) ≡ ofZ w x → ⊥) → false ≡ all
+  stops h g e = sym (left ∙ all-off x s i h (same-no w (getD s i (pos 0)) x g f e))
+
+  pub goes-on : i < length s → SFits w (getD s i (pos 0)) → ofZ w (getD s i (pos 0)) ≡ ofZ w x → all ≡ allAre x (drop (i + 1) s)
+  goes-on h g e = left ∙ all-on x s i h (same-yes w (getD s i (pos 0)) x g f e)
+
+  pub comes-to-end : length s ≤ i → true ≡ all
+  comes-to-end h = sym (left ∙ all-end x s i h)
 
 -- ---- numbers begin with these
 

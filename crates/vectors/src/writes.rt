@@ -14,7 +14,7 @@ use symbols::text::same_bytes;
 use table::sections::sections_of;
 use table::sections::word;
 ghost use mathlib.Core.Path.{_≡_};
-ghost use Prim.Native.Nat.{_<_, _≤_, _+_, _*_};
+ghost use Prim.Native.Nat.{_<_, _+_, _*_};
 ghost use lib.ListN.{length, drop};
 ghost use Rattle.vectors.specs.Pages.{all, samePage, declarationAt, alikeAt, sameMeanings, numbered, writtenBy, freshRoom, AgainTold, BackTold, PageTold, LentTold, ListedTold, WriteTold};
 

@@ -1,5 +1,5 @@
 -- `vectors::lists::is_said` meets its contract. Each test is one of its tests. Assumes nothing.
-use mathlib.Core.Path.{_≡_, refl, _∙_}
+use mathlib.Core.Path.{_≡_, _∙_}
 use Prim.Native.Nat.{ℕ}
 use lib.Dec.{eqb}
 use mathlib.Core.Bool.{false}

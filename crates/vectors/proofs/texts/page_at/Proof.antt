@@ -1,6 +1,6 @@
 -- `vectors::texts::page_at` meets its contract. Behind the last byte there is none.
 -- Assumes nothing.
-use mathlib.Core.Path.{_≡_, refl, ap, sym, _∙_}
+use mathlib.Core.Path.{ap, sym}
 use Prim.Native.Nat.{ℕ}
 use lib.Dec.{eqb}
 use lib.ListN.{List·getD-eq-default}

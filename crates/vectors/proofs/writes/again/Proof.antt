@@ -9,7 +9,6 @@ use lib.Dec.{eqb}
 use borrow.Author.Tests.{eq-eqb, ne-eqb}
 use Rattle.clean.specs.declared.Written.{Written}
 use Rattle.clean.specs.Numbers.{numberOf, lengthOf}
-use Rattle.vectors.specs.declared.tally.Tally.{Tally}
 use Rattle.vectors.specs.Listed.{oneAgain, oneDifference}
 use Rattle.vectors.specs.Pages.{samePage}
 use Rattle.vectors.proofs.Laws.{both-yes, first-no, second-no, into-fresh}

@@ -1,6 +1,6 @@
 -- `vectors::writes::answered` meets its contract. 2 of an accepted source is told apart first; any other answer is the listed one.
 -- Assumes nothing.
-use mathlib.Core.Path.{_≡_, sym, ap, _∙_}
+use mathlib.Core.Path.{_≡_, ap}
 use mathlib.Core.Bool.{Bool, true, false}
 use mathlib.Core.List.{List}
 use mathlib.Core.Logic.{⊎-elim}

@@ -1,6 +1,6 @@
 -- `vectors::writes::back` meets its contract. Both are read, and the second answer and the two tables are compared.
 -- Assumes nothing.
-use mathlib.Core.Path.{_≡_, sym, _∙_}
+use mathlib.Core.Path.{sym, _∙_}
 use mathlib.Core.Logic.{⊎-elim}
 use Rattle.vectors.specs.Listed.{acceptedBy, oneBack, oneDifference}
 use Rattle.vectors.specs.Pages.{sameMeanings}

@@ -2,7 +2,6 @@
 -- Assumes nothing.
 use mathlib.Core.Path.{refl}
 use Rattle.vectors.specs.Pages.{freshRoom}
-use borrow.Author.Needs.{needs}
 use Rattle.vectors.proofs.writes.fresh_room.Statement.{statement}
 use Rattle.vectors.proofs.writes.fresh_room.Tie as tie
 
