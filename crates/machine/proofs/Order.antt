@@ -20,7 +20,7 @@ use Rattle.machine.specs.declared.Value.{Value}
 use Rattle.machine.specs.declared.Value.the-variants.{Is, Fault}
 use Rattle.machine.specs.Values.{whole, isZero, same, Unary, minus, negation, absolute, apply1, Binary, plus, less, times, over, below, atMost, equal, atLeast, above, unequal, and, or, impl, equiv, apply2, past}
 use Rattle.machine.specs.Run.{Event, quiet, Trace, Out, halt, next, after, run}
-use Rattle.machine.specs.Data.{Data, dat, cells, Res, bad, wrong, good, lift, guard, check, newCells, newest, onValue, one, two, back, look, plain, put, reading, valued, hold, unhold, held, input, space, taking, writing, Act, push, load, store, assign, reserve, forget, receive, send, keep, unary, binary, lend, channel as tested, sum as added, actOn, work, downs, Two, yea, nay, Test, condition, upto, testOn, test, downsT, openBlock, closeBlock, nameCell, enter, Fate, kept, gone, given, leave, Lent}
+use Rattle.machine.specs.Data.{Data, dat, cells, Res, bad, wrong, good, lift, guard, check, newCells, newest, onValue, one, two, back, look, plain, reading, valued, hold, unhold, held, input, space, taking, writing, Act, push, load, store, assign, reserve, forget, receive, send, keep, unary, binary, lend, channel as tested, sum as added, actOn, work, downs, Two, yea, nay, Test, condition, upto, testOn, test, downsT, openBlock, closeBlock, nameCell, enter, Fate, kept, gone, given, leave, Lent}
 use Rattle.machine.specs.Instructions.{Loc, Instr, END, DO, IF, JUMP, ENTER, LEAVE, CALL, RETURN, GO, NEXT, NAME, WORK, SEEK, PASS, REFUSE, fetch}
 use Rattle.machine.specs.Machine.{Frame, fr, Mach, ms, walk, base, floor, cellIn, cellAt, stray, workOut, began, exec, obey, step, finish}
 

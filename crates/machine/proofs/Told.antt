@@ -20,7 +20,7 @@ use Rattle.machine.specs.declared.Number.{Number}
 use Rattle.machine.specs.declared.Number.the-variants.{Is, Not}
 use Rattle.machine.specs.Values.{past}
 use Rattle.machine.specs.Run.{say, wrote}
-use Rattle.machine.specs.Data.{Data, dat, Lent, Res, wrong, guard, input, space, rest, spend, back, hold, unhold, held, closeBlock, kept, gone, given, leave}
+use Rattle.machine.specs.Data.{dat, Lent, Res, wrong, guard, input, space, rest, spend, back, hold, unhold, held, closeBlock, kept, gone, given, leave}
 use Rattle.machine.specs.Model.{Own, left, numberIn, heldIn, cellAt, putAt, roomOf, cellsOf, heldOf, dataOf, traceOf, told, fine, ill, lost, holding, HeldIn, Sound}
 use Rattle.machine.proofs.Stacks.{cells-length, cells-cons, cells-drop, held-cons, held-drop, room-put, sound-same}
 use Rattle.machine.proofs.Kept.{hold-data, sound-hold}

@@ -1,5 +1,4 @@
 -- A held cell holds a number.
-use native.Mathlib.Omega.{arith}
 use Rattle.machine.proofs.Told.{held-in}
 use Rattle.machine.proofs.Signed.{bits-pos}
 use borrow.Author.Needs.{needs}

@@ -1,6 +1,5 @@
 -- The bound is a value of the running activation.
 use mathlib.Core.Path.{refl, ap, _∙_}
-use native.Mathlib.Omega.{arith}
 use native.Mathlib.Nat.{le-refl}
 use Rattle.machine.specs.Data.{upto}
 use Rattle.machine.specs.Instructions.{low, variable}
