@@ -15,15 +15,15 @@ use Rattle.answers.specs.declared.Refusal.{Refusal}
 use Rattle.answers.specs.declared.Verdict.{Verdict}
 use Rattle.answers.specs.declared.Verdict.the-variants.{Accepted, Refused as Refuses}
 use Rattle.names.specs.Program.{Statement}
-use Rattle.names.specs.Uses.{Row, nameFaults, least, joined, rows}
+use Rattle.names.specs.Uses.{Row, nameFaults, least, joined, useRows}
 use Rattle.types.specs.Types.{typeFault}
 use Rattle.table.specs.Table.{useWords}
 use Rattle.table.proofs.Fits.{three-words}
-use Rattle.reading.specs.Judging.{parsed, too-long, unreadable, ungrammatical, too-deep, misnamed, mistyped, accepted}
-use Rattle.reading.specs.Reading.{placeIn, room, cleared, Parsed, Judged, Reads, too-short, enough}
+use Rattle.reading.specs.Judging.{itsProgram, too-long, unreadable, ungrammatical, too-deep, misnamed, mistyped, accepted}
+use Rattle.reading.specs.Reading.{placeIn, tableWords, cleared, Grammatical, Judged, Reads, too-short, enough}
 use Rattle.reading.proofs.Promises.{rows-first}
 use Rattle.checking.specs.Checking.{three, useList, firstWrong, answerOf, ChecksRows, accepted as judged-list}
-use Rattle.checking.specs.Model.{narrow, section}
+use Rattle.checking.specs.model.Comparing.{narrow, section}
 use Rattle.checking.specs.declared.Checked.{Checked}
 
 -- ---- the two answers of `read` to a table that is long enough
@@ -38,15 +38,15 @@ refuses {source} r (misnamed p f q) e = subst (λ v. Judged source v cleared) e 
 refuses {source} r (mistyped p f q t) e = subst (λ v. Judged source v cleared) e (mistyped p f q t)
 refuses {source} r (accepted p q t) e = absurd (let z : _≡_ {A = ℕ} 0 1 = cc in omega arith)
 
-pub read-refuses : {source table new : List ℕ} {v : Verdict} (r : Refusal) → room ≤ length table → Reads source table v new → v ≡ Refuses r → Judged source (Refuses r) cleared
+pub read-refuses : {source table new : List ℕ} {v : Verdict} (r : Refusal) → tableWords ≤ length table → Reads source table v new → v ≡ Refuses r → Judged source (Refuses r) cleared
 read-refuses r l (too-short h) e = absurd (omega arith)
 read-refuses r l (enough h v w j) e = refuses r j e
 
 -- an accepted source has its program
 pub record Accepts (source : List ℕ) : Type 0 where
-  pub program : Parsed source
-  pub named : least (nameFaults (parsed program)) ≡ none
-  pub typed : typeFault (parsed program) ≡ none
+  pub program : Grammatical source
+  pub named : least (nameFaults (itsProgram program)) ≡ none
+  pub typed : typeFault (itsProgram program) ≡ none
 
 accepts : {source words : List ℕ} {v : Verdict} → Judged source v words → v ≡ Accepted → Accepts source
 accepts (too-long h) e = absurd (let z : _≡_ {A = ℕ} 0 1 = cc in omega arith)
@@ -100,31 +100,31 @@ module _ (place : ℕ → ℕ) where
 
   -- the first words of a table
   pub section-is : (width : ℕ) (s : Statement) (rest : List ℕ)
-      → section (min width three) three ((length (rows s) ∷ joined (useWords place) (rows s)) ++ rest) ≡ useList width place s
+      → section (min width three) three ((length (useRows s) ∷ joined (useWords place) (useRows s)) ++ rest) ≡ useList width place s
   unfolding section useList
   section-is width s rest =
-      ap (λ ws. length (rows s) ∷ ws) (narrowed (useWords place) three (min width three) use-long (omega arith) (rows s) rest ∙ at-most width (rows s))
+      ap (λ ws. length (useRows s) ∷ ws) (narrowed (useWords place) three (min width three) use-long (omega arith) (useRows s) rest ∙ at-most width (useRows s))
 
   pub section-long : (s : Statement) (rest : List ℕ)
-      → 1 + getD ((length (rows s) ∷ joined (useWords place) (rows s)) ++ rest) 0 0 * three ≤ length ((length (rows s) ∷ joined (useWords place) (rows s)) ++ rest)
-  section-long s rest = omega (arith, length-append (joined (useWords place) (rows s)) rest, three-words place (rows s))
+      → 1 + getD ((length (useRows s) ∷ joined (useWords place) (useRows s)) ++ rest) 0 0 * three ≤ length ((length (useRows s) ∷ joined (useWords place) (useRows s)) ++ rest)
+  section-long s rest = omega (arith, length-append (joined (useWords place) (useRows s)) rest, three-words place (useRows s))
 
 -- ---- of what `read` leaves
 
 module _ {source table new : List ℕ} {v : Verdict} (r : Reads source table v new) (e : v ≡ Accepted) where
   -- the program of the source, and the list of its uses in front
-  pub begins : (a : Accepts source) → (rest : List ℕ) × (new ≡ (length (rows (parsed (a .program))) ∷ joined (useWords (placeIn source)) (rows (parsed (a .program)))) ++ rest)
+  pub begins : (a : Accepts source) → (rest : List ℕ) × (new ≡ (length (useRows (itsProgram (a .program))) ∷ joined (useWords (placeIn source)) (useRows (itsProgram (a .program)))) ++ rest)
   begins a = rows-first r (ap numberOf e) (a .program)
 
   pub table-long : 1 + getD new 0 0 * three ≤ length new
   table-long =
       let b = begins (read-accepts r e) in
-      subst (λ (t : List ℕ). 1 + getD t 0 0 * three ≤ length t) (sym (b .1)) (section-long (placeIn source) (parsed (read-accepts r e .program)) (b .0))
+      subst (λ (t : List ℕ). 1 + getD t 0 0 * three ≤ length t) (sym (b .1)) (section-long (placeIn source) (itsProgram (read-accepts r e .program)) (b .0))
 
-  pub table-section : (width : ℕ) (a : Accepts source) → section (min width three) three new ≡ useList width (placeIn source) (parsed (a .program))
+  pub table-section : (width : ℕ) (a : Accepts source) → section (min width three) three new ≡ useList width (placeIn source) (itsProgram (a .program))
   table-section width a =
       let b = begins a in
-      ap (section (min width three) three) (b .1) ∙ section-is (placeIn source) width (parsed (a .program)) (b .0)
+      ap (section (min width three) three) (b .1) ∙ section-is (placeIn source) width (itsProgram (a .program)) (b .0)
 
   -- so the answer to the list is that of the comparison
   pub answers : (width : ℕ) (list : List ℤ) {c : Checked} → c ≡ answerOf (firstWrong list (section (min width three) three new)) → ChecksRows width source list c

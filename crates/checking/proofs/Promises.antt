@@ -15,11 +15,11 @@ use Rattle.answers.specs.declared.Refusal.{Refusal}
 use Rattle.answers.specs.declared.Verdict.{Verdict}
 use Rattle.answers.specs.declared.Verdict.the-variants.{Accepted, Refused as Refuses}
 use Rattle.names.specs.Program.{Statement}
-use Rattle.names.specs.Uses.{Row, joined, rows}
+use Rattle.names.specs.Uses.{Row, joined, useRows}
 use Rattle.table.specs.Table.{useWords}
 use Rattle.table.proofs.Fits.{three-words}
-use Rattle.reading.specs.Judging.{parsed, accepted as judged-accepted}
-use Rattle.reading.specs.Reading.{placeIn, room, cleared, Judged, Reads, enough}
+use Rattle.reading.specs.Judging.{itsProgram, accepted as judged-accepted}
+use Rattle.reading.specs.Reading.{placeIn, tableWords, cleared, Judged, Reads, enough}
 use Rattle.reading.proofs.Only.{one-program, one-judgement, only}
 use Rattle.checking.specs.Checking.{three, useList, isWord, next, firstWrong, answerOf, ChecksRows, Checks, refused, accepted}
 use Rattle.checking.specs.declared.Checked.{Checked}
@@ -149,7 +149,7 @@ extra (w ∷ ws) x xs = goes-on w (map pos ws ++ (x ∷ xs)) ws ∙ ap next (ext
 -- ---- 2. one answer for each source and list, exactly these three
 
 abbrev pub usesIn : ℕ → {source : List ℕ} → Accepts source → List ℕ
-usesIn width {source} a = useList width (placeIn source) (parsed (a .program))
+usesIn width {source} a = useList width (placeIn source) (itsProgram (a .program))
 
 -- the uses of a source are one list
 pub one-list : (width : ℕ) {source : List ℕ} (a a₂ : Accepts source) → usesIn width a ≡ usesIn width a₂
@@ -200,7 +200,7 @@ module _ {width : ℕ} {source : List ℕ} {list : List ℤ} where
 
       go : {c : Checked} → ChecksRows width source list c → c ≡ Refused r → Judged source (Refuses r) cleared
       go (refused s j) e = let q : s ≡ r = cc in subst (λ x. Judged source (Refuses x) cleared) q j
-      go (accepted p n t) e = absurd (not-refused (firstWrong list (useList width (placeIn source) (parsed p))) e)
+      go (accepted p n t) e = absurd (not-refused (firstWrong list (useList width (placeIn source) (itsProgram p))) e)
 
   -- "or the index, from 0, of the first wrong word"
   pub wrong-exactly : (i : ℕ) → ChecksRows width source list (Wrong i) ↔ ((a : Accepts source) × WrongAt list (usesIn width a) i)
@@ -261,34 +261,34 @@ all-words place [] = refl
 all-words place (r ∷ l) = ap (λ ws. useWords place r ++ ws) (all-words place l)
 
 -- in the use section's form: 1 + 3 n words
-pub section-words : (place : ℕ → ℕ) (s : Statement) → useList three place s ≡ length (rows s) ∷ joined (useWords place) (rows s)
+pub section-words : (place : ℕ → ℕ) (s : Statement) → useList three place s ≡ length (useRows s) ∷ joined (useWords place) (useRows s)
 unfolding useList
-section-words place s = ap (λ ws. length (rows s) ∷ ws) (all-words place (rows s))
+section-words place s = ap (λ ws. length (useRows s) ∷ ws) (all-words place (useRows s))
 
-pub section-length : (place : ℕ → ℕ) (s : Statement) → length (useList three place s) ≡ 1 + 3 * length (rows s)
-section-length place s = ap length (section-words place s) ∙ omega (arith, three-words place (rows s))
+pub section-length : (place : ℕ → ℕ) (s : Statement) → length (useList three place s) ≡ 1 + 3 * length (useRows s)
+section-length place s = ap length (section-words place s) ∙ omega (arith, three-words place (useRows s))
 
 -- so an index is at most 1 + 3 n
-pub index-bound : {source : List ℕ} {list : List ℤ} {i : ℕ} → Checks source list (Wrong i) → (a : Accepts source) → i ≤ 1 + 3 * length (rows (parsed (a .program)))
+pub index-bound : {source : List ℕ} {list : List ℤ} {i : ℕ} → Checks source list (Wrong i) → (a : Accepts source) → i ≤ 1 + 3 * length (useRows (itsProgram (a .program)))
 index-bound {source} {list} {i} c a =
     let h = wrong-exactly i .0 c in
     let e = inside list (usesIn three (h .0)) i (at-wrong list (usesIn three (h .0)) i (h .1)) .1 in
-    omega (arith, ap length (one-list three (h .0) a), section-length (placeIn source) (parsed (a .program)))
+    omega (arith, ap length (one-list three (h .0) a), section-length (placeIn source) (itsProgram (a .program)))
 
 -- "An honest list must always pass": the count that `read` leaves, and its rows
 pub honest : {source table new : List ℕ} → Reads source table Accepted new → Checks source (map pos (take (1 + 3 * getD new 0 0) new)) Yes
 honest {source} {table} {new} r =
     let a = read-accepts r refl in
-    let s = parsed (a .program) in
+    let s = itsProgram (a .program) in
     let b = begins r refl a in
-    let u : List ℕ = length (rows s) ∷ joined (useWords (placeIn source)) (rows s) in
-    let n : getD new 0 0 ≡ length (rows s) = ap (λ t. getD t 0 0) (b .1) in
-    let l : length u ≡ 1 + 3 * getD new 0 0 = omega (arith, n, three-words (placeIn source) (rows s)) in
+    let u : List ℕ = length (useRows s) ∷ joined (useWords (placeIn source)) (useRows s) in
+    let n : getD new 0 0 ≡ length (useRows s) = ap (λ t. getD t 0 0) (b .1) in
+    let l : length u ≡ 1 + 3 * getD new 0 0 = omega (arith, n, three-words (placeIn source) (useRows s)) in
     let t : take (1 + 3 * getD new 0 0) new ≡ u = ap (take (1 + 3 * getD new 0 0)) (b .1) ∙ take-at u (b .0) (1 + 3 * getD new 0 0) l in
     yes-exactly .1 (a, ap (map pos) (t ∙ sym (section-words (placeIn source) s)))
 
 -- and that is so of every accepted source, whatever the table held that was lent
-pub always-honest : {source table new : List ℕ} {v : Verdict} → Accepts source → room ≤ length table → Reads source table v new
+pub always-honest : {source table new : List ℕ} {v : Verdict} → Accepts source → tableWords ≤ length table → Reads source table v new
     → Checks source (map pos (take (1 + 3 * getD new 0 0) new)) Yes
 always-honest {source} {table} {new} a l r =
     honest (subst (λ v. Reads source table v new) (only r (enough l Accepted _ (judged-accepted (a .program) (a .named) (a .typed))) .0) r)

@@ -7,11 +7,11 @@ use lib.IntN.{ℤ, pos, negsuc}
 use lib.ListN.{drop, replicate, length-replicate}
 use Rattle.answers.specs.declared.Verdict.the-variants.{Accepted}
 use Rattle.symbols.specs.Text.{bytes}
-use Rattle.reading.specs.Judging.{parsed}
-use Rattle.reading.specs.Reading.{placeIn, room, Reads, enough}
+use Rattle.reading.specs.Judging.{itsProgram}
+use Rattle.reading.specs.Reading.{placeIn, tableWords, Reads, enough}
 use Rattle.reading.proofs.Examples.{s1}
 use Rattle.checking.specs.Checking.{three, useList, isWord, next, firstWrong, answerOf, Checks}
-use Rattle.checking.specs.Model.{narrow, section}
+use Rattle.checking.specs.model.Comparing.{narrow, section}
 use Rattle.checking.specs.declared.Checked.{Checked}
 use Rattle.checking.specs.declared.Checked.the-variants.{Yes, Wrong}
 use Rattle.checking.proofs.FromTables.{Accepts, read-accepts, table-section}
@@ -24,13 +24,13 @@ abbrev pub uses : List ℕ
 uses = 1 ∷ 21 ∷ 1 ∷ 18 ∷ []
 
 -- what `read` leaves of it, over zeros
-abbrev reads : (new : List ℕ) × Reads S1 (replicate room 0) Accepted new
-reads = (_, enough (omega (arith, length-replicate {A = ℕ} room 0)) Accepted _ s1)
+abbrev reads : (new : List ℕ) × Reads S1 (replicate tableWords 0) Accepted new
+reads = (_, enough (omega (arith, length-replicate {A = ℕ} tableWords 0)) Accepted _ s1)
 
 abbrev taken : Accepts S1
 taken = read-accepts (reads .1) refl
 
-words : useList three (placeIn S1) (parsed (taken .program)) ≡ uses
+words : useList three (placeIn S1) (itsProgram (taken .program)) ≡ uses
 unfolding section narrow
 words = sym (table-section (reads .1) refl three taken)
 

@@ -15,7 +15,7 @@ use borrow.Author.Tests.{ltb-true}
 use lib.ListN.{length, getD, take, drop, length-drop, drop-of-length-le}
 use lib.Seq.{take-all, drop-cons, drop-drop, length-take-le}
 use Rattle.checking.specs.Checking.{isWord, next, firstWrong, answerOf}
-use Rattle.checking.specs.Model.{agreed, narrow, section}
+use Rattle.checking.specs.model.Comparing.{agreed, narrow, section}
 use Rattle.checking.specs.declared.Checked.{Checked}
 use Rattle.checking.specs.declared.Checked.the-variants.{Yes, Wrong}
 

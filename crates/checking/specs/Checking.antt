@@ -11,11 +11,11 @@ use lib.ListN.{length, take}
 use Rattle.answers.specs.declared.Refusal.{Refusal}
 use Rattle.answers.specs.declared.Verdict.the-variants.{Refused as Refuses}
 use Rattle.names.specs.Program.{Statement}
-use Rattle.names.specs.Uses.{nameFaults, least, joined, rows}
+use Rattle.names.specs.Uses.{nameFaults, least, joined, useRows}
 use Rattle.types.specs.Types.{typeFault}
 use Rattle.table.specs.Table.{useWords}
-use Rattle.reading.specs.Judging.{parsed}
-use Rattle.reading.specs.Reading.{placeIn, cleared, Parsed, Judged}
+use Rattle.reading.specs.Judging.{itsProgram}
+use Rattle.reading.specs.Reading.{placeIn, cleared, Grammatical, Judged}
 use Rattle.checking.specs.declared.Checked.{Checked}
 use Rattle.checking.specs.declared.Checked.the-variants.{Yes, Refused, Wrong}
 
@@ -23,7 +23,7 @@ use Rattle.checking.specs.declared.Checked.the-variants.{Yes, Refused, W
 
 -- "in the use section's form": the count of the uses, then a row for each, in source order. A row is the first `width` words of the use's
 unfoldable pub useList : ℕ → (ℕ → ℕ) → Statement → List ℕ
-useList width place s = length (rows s) ∷ joined (λ r. take width (useWords place r)) (rows s)
+useList width place s = length (useRows s) ∷ joined (λ r. take width (useWords place r)) (useRows s)
 
 -- "A use is three words"
 abbrev pub three : ℕ
@@ -57,8 +57,8 @@ pub data ChecksRows (width : ℕ) (source : List ℕ) (list : List ℤ) : Checke
   -- "the source's refusal": paper 01's, with its number and place, whatever the list is
   refused : (r : Refusal) → Judged source (Refuses r) cleared → ChecksRows width source list (Refused r)
   -- "yes exactly if the source is accepted and the list is its uses", or else the first wrong word
-  accepted : (p : Parsed source) → least (nameFaults (parsed p)) ≡ none → typeFault (parsed p) ≡ none
-      → ChecksRows width source list (answerOf (firstWrong list (useList width (placeIn source) (parsed p))))
+  accepted : (p : Grammatical source) → least (nameFaults (itsProgram p)) ≡ none → typeFault (itsProgram p) ≡ none
+      → ChecksRows width source list (answerOf (firstWrong list (useList width (placeIn source) (itsProgram p))))
 
 abbrev pub Checks : List ℕ → List ℤ → Checked → Type 0
 Checks = ChecksRows three

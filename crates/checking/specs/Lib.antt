@@ -1,3 +1,3 @@
 pub mod Checking
 pub mod Numbers
-pub mod Model
+pub mod model

@@ -7,7 +7,7 @@ ghost use mathlib.Core.Path.{_≡_};
 ghost use Prim.Native.Nat.{_+_, _*_, _≤_, min};
 ghost use lib.ListN.{length, getD};
 ghost use Rattle.checking.specs.Checking.{isWord, firstWrong, answerOf, ChecksRows, Checks};
-ghost use Rattle.checking.specs.Model.{agreed, section};
+ghost use Rattle.checking.specs.model.Comparing.{agreed, section};
 
 // How many words a use has in the table.
 const WIDE: usize = 3;

@@ -7,9 +7,9 @@ use native.Mathlib.Omega.{arith}
 use lib.Dec.{eqb}
 use lib.ListN.{length, getD, drop, replicate, length-append, length-replicate, length-drop}
 use Rattle.clean.specs.House.{tight}
-use Rattle.clean.specs.Lines.{peek, below, base, headed}
-use Rattle.clean.specs.Model.{Puts, spellingAt}
-use Rattle.clean.specs.Pen.{firstOf, Small, Low, lineOf, beginOf, inwardOf, openOf, levelOf, waitOf, headOf, openedOf, passedOf, stackOf, topOf, earlyOf, waitsOf, partedOf, lateOf, stackAfter, Late, gapOf, writtenFrom, writtenOf}
+use Rattle.clean.specs.model.Lines.{peek, below, base, headed}
+use Rattle.clean.specs.model.Bytes.{Puts, spellingAt}
+use Rattle.clean.specs.model.Pen.{firstOf, Small, Low, lineOf, beginOf, inwardOf, openOf, levelOf, waitOf, headOf, openedOf, passedOf, stackOf, topOf, earlyOf, waitsOf, partedOf, lateOf, stackAfter, Late, gapOf, writtenFrom, writtenOf}
 use Rattle.clean.specs.declared.lines.State.{State}
 use Rattle.clean.proofs.Putting.{Putting, none-put, more-put, all-put, puts-on, word-next, word-none}
 use Rattle.clean.proofs.Penned.{Told, is-begin, is-end, is-semicolon, is-if, is-then, is-else, is-do, is-procedure, is-other, told}

@@ -11,7 +11,7 @@ use Rattle.grammar.specs.Grammar.{Prod, begin-end, a-block, a-compound, a-tail,
 use Rattle.grammar.specs.Trees.{Syn, nil, tok, sub, yield}
 use Rattle.grammar.specs.declared.Level.the-variants.{Product, Sum, Conjunction, Disjunction, Implication, Equivalence}
 use Rattle.clean.specs.House.{Placing, on, aside, placing, Mark, line, symbol, any, begun, levelIn, laid, gaps, house}
-use Rattle.clean.specs.Lines.{topLevel, base, peek, headed, lines}
+use Rattle.clean.specs.model.Lines.{topLevel, base, peek, headed, lines}
 
 yes-no : true ≡ false → ⊥
 yes-no e = let z : _≡_ {A = ℕ} 0 1 = cc in omega arith

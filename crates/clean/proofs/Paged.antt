@@ -13,14 +13,14 @@ use Rattle.symbols.specs.Scan.{scan, kindsOf, placesOf}
 use Rattle.grammar.specs.Grammar.{program}
 use Rattle.grammar.specs.Trees.{Syn, yield}
 use Rattle.table.proofs.Written.{inside}
-use Rattle.reading.specs.Reading.{symbols, Parsed}
-use Rattle.reading.specs.Model.{Holds}
+use Rattle.reading.specs.Reading.{symbols, Grammatical}
+use Rattle.reading.specs.model.Stages.{Holds}
 use Rattle.reading.specs.declared.Sizes.{Sizes}
 use Rattle.symbols.specs.Spelling.{text, dress, tokens}
 use Rattle.clean.specs.House.{page, gaps}
-use Rattle.clean.specs.Lines.{lines}
-use Rattle.clean.specs.Model.{Puts, Lendable}
-use Rattle.clean.specs.Pen.{firstOf, writtenFrom, writtenOf}
+use Rattle.clean.specs.model.Lines.{lines}
+use Rattle.clean.specs.model.Bytes.{Puts, Lendable}
+use Rattle.clean.specs.model.Pen.{firstOf, writtenFrom, writtenOf}
 use Rattle.clean.specs.Job.{pageOf, Fits, too-long, too-short, written, Writes, accepted}
 use Rattle.clean.specs.declared.Written.{Written}
 use Rattle.clean.specs.declared.Written.the-variants.{Text, Refused}
@@ -39,7 +39,7 @@ page-passed n source t e place h =
     ∙ penned source F firstOf [] 0 place (λ j l. ap place (omega arith) ∙ h j l)
 
 module _ {source kinds places values nodes rows uses : List ℕ} {s : Sizes} (h : Holds source kinds places values nodes rows uses s) where
-  abbrev pub programOf : Parsed source
+  abbrev pub programOf : Grammatical source
   programOf = h .declared .resolved .named .outlined .known .ready .program
 
   count : length (scan symbols source .found) ≡ s .symbols
@@ -68,7 +68,7 @@ module _ {source kinds places values nodes rows uses : List ℕ} {s : Sizes} (h 
   lendable = record {
     short = programOf .scanned .short;
     few = omega (arith, ap length (h .kinded), length-map (scan symbols source .found) (λ f. kind (f .symbol)), count, h .declared .resolved .named .outlined .known .ready .places-in .few);
-    all-kinds = subst Rattle.clean.specs.Model.AllKinds (sym (h .kinded)) (all-kinds (scan symbols source .found));
+    all-kinds = subst Rattle.clean.specs.model.Bytes.AllKinds (sym (h .kinded)) (all-kinds (scan symbols source .found));
   }
 
   pub writes : {room room' : List ℕ} {w : Written} → Fits (writtenOf source places (take (s .symbols) kinds)) room w room' → Writes source room w room'

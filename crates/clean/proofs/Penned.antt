@@ -9,13 +9,13 @@ use lib.Dec.{eqb}
 use lib.ListN.{length, getD, replicate}
 use borrow.Author.Tests.{eqb-true, ne-eqb}
 use Rattle.symbols.specs.Symbols.{kind}
-use Rattle.symbols.specs.Kinds.{symbolOf}
+use Rattle.symbols.specs.model.Kinds.{symbolOf}
 use Rattle.symbols.specs.Scan.{Found, kindsOf, placesOf}
 use Rattle.symbols.specs.Spelling.{text, dress, spelling, spell, wordFor, signFor, readOff, tokenAt}
 use Rattle.clean.specs.House.{Mark, line, symbol, spaces, tight, gaps, page}
-use Rattle.clean.specs.Lines.{topLevel, below, base, peek, headed, lines}
-use Rattle.clean.specs.Model.{spellingAt}
-use Rattle.clean.specs.Pen.{lineOf, inwardOf, openOf, levelOf, headOf, openedOf, passedOf, topOf, earlyOf, lateOf, stackAfter, gapOf, writtenFrom}
+use Rattle.clean.specs.model.Lines.{topLevel, below, base, peek, headed, lines}
+use Rattle.clean.specs.model.Bytes.{spellingAt}
+use Rattle.clean.specs.model.Pen.{lineOf, inwardOf, openOf, levelOf, headOf, openedOf, passedOf, topOf, earlyOf, lateOf, stackAfter, gapOf, writtenFrom}
 use Rattle.clean.specs.declared.lines.State.{State}
 use Rattle.reading.proofs.Stages.{same-kind}
 

@@ -15,7 +15,7 @@ use Rattle.answers.specs.declared.Verdict.the-variants.{Accepted, Refused as Wr
 use Rattle.grammar.proofs.Unique.{unique}
 use Rattle.names.specs.Program.{Statement}
 use Rattle.names.specs.Outline.{declarations}
-use Rattle.names.specs.Uses.{nameFaults, least, rows}
+use Rattle.names.specs.Uses.{nameFaults, least, useRows}
 use Rattle.types.specs.Types.{typeFault}
 use Rattle.table.specs.Table.{tableOf}
 use Rattle.machine.specs.Machine.{Finish, onCode}
@@ -23,8 +23,8 @@ use Rattle.translation.specs.Places.{Alike, finishP}
 use Rattle.translation.proofs.Correct.{translated}
 use Rattle.translation.proofs.RunPlaced.{alike-placed}
 use Rattle.reading.specs.Judging as J
-use Rattle.reading.specs.Judging.{parsed}
-use Rattle.reading.specs.Reading.{symbols, kindsIn, placeIn, Parsed, Judged, filled}
+use Rattle.reading.specs.Judging.{itsProgram}
+use Rattle.reading.specs.Reading.{symbols, kindsIn, placeIn, Grammatical, Judged, filled}
 use Rattle.reading.proofs.Only.{one-program, one-judgement}
 use Rattle.translating.specs.Job.{Translates}
 use Rattle.translating.proofs.Promised.{by-numbers}
@@ -37,7 +37,7 @@ use Rattle.clean.proofs.Same.{page-program}
 
 -- ---- of the page of an accepted source that is at most 16,384 bytes long
 
-module _ {source : List ℕ} (p : Parsed source) (short : length (pageOf p) ≤ 16384) where
+module _ {source : List ℕ} (p : Grammatical source) (short : length (pageOf p) ≤ 16384) where
   abbrev pub clean : List ℕ
   clean = pageOf p
 
@@ -45,22 +45,22 @@ module _ {source : List ℕ} (p : Parsed source) (short : length (pageOf p) ≤ 
   pub same-symbols : kindsIn clean ≡ kindsIn source
   same-symbols = page-kinds symbols source (p .tree)
 
-  abbrev pub clean-parsed : Parsed clean
+  abbrev pub clean-parsed : Grammatical clean
   clean-parsed = record {
     scanned = record { short = short; whole = page-refused symbols source (p .tree) };
     tree = p .tree;
     keeps = page-keeps symbols source (p .tree) (p .keeps);
   }
 
-  pub same-tree : (p' : Parsed clean) → p' .tree ≡ p .tree
+  pub same-tree : (p' : Grammatical clean) → p' .tree ≡ p .tree
   same-tree p' = unique (p' .tree) (p .tree) (p' .keeps .spelled ∙ same-symbols ∙ sym (p .keeps .spelled))
 
   -- "Reading that text back must give the same program"
-  pub same-program : (p' : Parsed clean) → parsed p' ≡ parsed p
+  pub same-program : (p' : Grammatical clean) → itsProgram p' ≡ itsProgram p
   same-program p' = one-program p' clean-parsed ∙ page-program symbols source (p .tree) (p .keeps .spelled)
 
   -- it is accepted, and its table is made of the same program: only places move
-  pub read-back : least (nameFaults (parsed p)) ≡ none → typeFault (parsed p) ≡ none → Judged clean Accepted (filled (tableOf (placeIn clean) (parsed p)))
+  pub read-back : least (nameFaults (itsProgram p)) ≡ none → typeFault (itsProgram p) ≡ none → Judged clean Accepted (filled (tableOf (placeIn clean) (itsProgram p)))
   read-back n t =
       let e = same-program clean-parsed in
       subst (λ (s : Statement). Judged clean Accepted (filled (tableOf (placeIn clean) s))) e
@@ -68,14 +68,14 @@ module _ {source : List ℕ} (p : Parsed source) (short : length (pageOf p) ≤ 
 
   -- "with uses and declarations paired alike though places move": use k has the same symbol, kind and declaring symbol or environment number, and the
   -- declarations are the same
-  pub same-uses : (p' : Parsed clean) → rows (parsed p') ≡ rows (parsed p)
-  same-uses p' = ap rows (same-program p')
+  pub same-uses : (p' : Grammatical clean) → useRows (itsProgram p') ≡ useRows (itsProgram p)
+  same-uses p' = ap useRows (same-program p')
 
-  pub same-declarations : (p' : Parsed clean) → declarations (parsed p') ≡ declarations (parsed p)
+  pub same-declarations : (p' : Grammatical clean) → declarations (itsProgram p') ≡ declarations (itsProgram p)
   same-declarations p' = ap declarations (same-program p')
 
   -- "Writing what was written gives the same bytes."
-  pub same-bytes : (p' : Parsed clean) → pageOf p' ≡ clean
+  pub same-bytes : (p' : Grammatical clean) → pageOf p' ≡ clean
   same-bytes p' = page-again symbols source (p .tree) (p' .tree) (p .keeps .spelled) (p' .keeps .spelled)
 
   -- so every run of it is the same: answer, outputs, numbers taken and instructions; a fault is at the place where the same symbol stands
@@ -83,7 +83,7 @@ module _ {source : List ℕ} (p : Parsed source) (short : length (pageOf p) ≤ 
       (input : List ℤ) (limit cells space : ℕ) where
     pub one-run : (f : Finish) × (onCode code input limit cells space ≡ finishP (placeIn source) f) × (onCode code' input limit cells space ≡ finishP (placeIn clean) f)
     one-run = (
-      translated (λ q. q) (parsed p) input limit cells space,
+      translated (λ q. q) (itsProgram p) input limit cells space,
       by-numbers t z p input limit cells space,
       by-numbers t' z' clean-parsed input limit cells space
           ∙ ap (λ (s : Statement). finishP (placeIn clean) (translated (λ q. q) s input limit cells space)) (same-program clean-parsed),
@@ -99,9 +99,9 @@ module _ {source : List ℕ} (p : Parsed source) (short : length (pageOf p) ≤ 
 
 -- where it says how many bytes there are, the source is accepted, and these bytes of the room are its page
 pub record Wrote (source room room' : List ℕ) (n : ℕ) : Type 0 where
-  pub program : Parsed source
-  pub names-right : least (nameFaults (parsed program)) ≡ none
-  pub types-right : typeFault (parsed program) ≡ none
+  pub program : Grammatical source
+  pub names-right : least (nameFaults (itsProgram program)) ≡ none
+  pub types-right : typeFault (itsProgram program) ≡ none
   pub count : n ≡ length (pageOf program)
   pub short : length (pageOf program) ≤ 16384
   pub text : take n room' ≡ pageOf program
@@ -151,7 +151,7 @@ refused-accepted e = let z : _≡_ {A = ℕ} 0 1 = cc in omega arith
 same-refusal : {r r₂ : Refusal} → Wrong r ≡ Wrong r₂ → r ≡ r₂
 same-refusal e = cc
 
-one-page : {source : List ℕ} (p p₂ : Parsed source) → pageOf p ≡ pageOf p₂
+one-page : {source : List ℕ} (p p₂ : Grammatical source) → pageOf p ≡ pageOf p₂
 one-page {source} p p₂ = ap (page symbols source) (unique (p .tree) (p₂ .tree) (p .keeps .spelled ∙ sym (p₂ .keeps .spelled)))
 
 pub only : {source room r r₂ : List ℕ} {w w₂ : Written} → Writes source room w r → Writes source room w₂ r₂ → (w ≡ w₂) × (r ≡ r₂)

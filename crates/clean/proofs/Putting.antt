@@ -8,9 +8,9 @@ use native.Mathlib.Numerals.{add-one}
 use lib.ListN.{length, set, getD, drop, replicate, length-append, length-set}
 use lib.Seq.{drop-cons}
 use Rattle.symbols.specs.Names.{blank, these}
-use Rattle.table.specs.Model.{Wrote}
+use Rattle.table.specs.model.Writing.{Wrote}
 use Rattle.table.proofs.Written.{wrote-none, wrote-one, wrote-on}
-use Rattle.clean.specs.Model.{Puts}
+use Rattle.clean.specs.model.Bytes.{Puts}
 
 pub puts-none : (old : List ℕ) (at : ℕ) → Puts old old at at []
 puts-none old at = record { behind = omega arith; size = refl; wrote = λ h. wrote-none old at }

@@ -11,7 +11,7 @@ use Rattle.symbols.specs.Spelling.{Token, readOff, tokenAt, tokens}
 use Rattle.symbols.proofs.WrittenAgain.{tokens-kinds, tokens-values}
 use Rattle.grammar.specs.Grammar.{program}
 use Rattle.grammar.specs.Trees.{Syn, yield}
-use Rattle.grammar.specs.Text.{kindAt}
+use Rattle.grammar.specs.model.Text.{kindAt}
 use Rattle.grammar.proofs.Final.{own}
 use Rattle.names.proofs.ReadAlike.{program-agree}
 use Rattle.reading.specs.Judging.{programIn}

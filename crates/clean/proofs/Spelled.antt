@@ -9,14 +9,14 @@ use native.Mathlib.Decide.{decLt}
 use lib.ListN.{length, getD, drop}
 use borrow.Author.Tests.{ne-eqb, ltb-true}
 use Rattle.symbols.specs.Symbols.{kind, is}
-use Rattle.symbols.specs.Kinds.{ordered, symbolOf}
+use Rattle.symbols.specs.model.Kinds.{ordered, symbolOf}
 use Rattle.symbols.specs.Names.{these}
 use Rattle.symbols.specs.Scan.{Found, kindsOf}
 use Rattle.symbols.specs.declared.Symbol.{Symbol}
 use Rattle.symbols.specs.declared.Symbol.the-variants.{Colon}
 use Rattle.symbols.specs.Spelling.{wordFor, signFor, spell, readOff}
 use Rattle.reading.proofs.Stages.{same-kind}
-use Rattle.clean.specs.Model.{sortOf, spellingAt, wordAt, AllKinds}
+use Rattle.clean.specs.model.Bytes.{sortOf, spellingAt, wordAt, AllKinds}
 use Rattle.clean.proofs.Putting.{run-short}
 
 -- a number from b on that is none of n numbers from b on is at least b + n

@@ -6,8 +6,8 @@ use native.Mathlib.Omega.{arith}
 use native.Mathlib.Numerals.{add-one}
 use lib.ListN.{length, getD, set, length-set}
 use lib.Seq.{getD-set-same, getD-set-other}
-use Rattle.clean.specs.Lines.{below, base}
-use Rattle.clean.specs.Pen.{Low, stackOf, topOf, Pushed}
+use Rattle.clean.specs.model.Lines.{below, base}
+use Rattle.clean.specs.model.Pen.{Low, stackOf, topOf, Pushed}
 
 stack-set : (held : List ℕ) (n i v : ℕ) → n ≤ i → stackOf n (set held i v) ≡ stackOf n held
 stack-set held zero i v h = refl

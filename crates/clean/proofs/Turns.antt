@@ -6,8 +6,8 @@ use mathlib.Core.List.{List, _∷_}
 use native.Mathlib.Omega.{arith}
 use lib.Dec.{eqb}
 use borrow.Author.Tests.{ne-eqb, eqb-true}
-use Rattle.clean.specs.Lines.{base, headed}
-use Rattle.clean.specs.Pen.{Small, lineOf, beginOf, inwardOf, openOf, waitOf, headOf, openedOf, closedOf, passedOf, stackOf, topOf, Pushed, Headed, outOf, outsideOf, separatedOf, separatedStack, Separated, waitsOf, partedOf, lateOf, stackAfter, Late}
+use Rattle.clean.specs.model.Lines.{base, headed}
+use Rattle.clean.specs.model.Pen.{Small, lineOf, beginOf, inwardOf, openOf, waitOf, headOf, openedOf, closedOf, passedOf, stackOf, topOf, Pushed, Headed, outOf, outsideOf, separatedOf, separatedStack, Separated, waitsOf, partedOf, lateOf, stackAfter, Late}
 use Rattle.clean.specs.declared.lines.State.{State}
 use Rattle.clean.proofs.Stacks.{below-is, base-body, base-block}
 

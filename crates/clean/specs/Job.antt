@@ -10,14 +10,14 @@ use Rattle.answers.specs.declared.Refusal.{Refusal}
 use Rattle.answers.specs.declared.Verdict.the-variants.{Refused as Wrong}
 use Rattle.names.specs.Uses.{nameFaults, least}
 use Rattle.types.specs.Types.{typeFault}
-use Rattle.reading.specs.Judging.{parsed}
-use Rattle.reading.specs.Reading.{symbols, cleared, Parsed, Judged}
+use Rattle.reading.specs.Judging.{itsProgram}
+use Rattle.reading.specs.Reading.{symbols, cleared, Grammatical, Judged}
 use Rattle.clean.specs.House.{page}
 use Rattle.clean.specs.declared.Written.{Written}
 use Rattle.clean.specs.declared.Written.the-variants.{Text, Refused}
 
 -- "an accepted source gives a source text in one house layout": that of its one tree
-abbrev pub pageOf : {source : List ℕ} → Parsed source → List ℕ
+abbrev pub pageOf : {source : List ℕ} → Grammatical source → List ℕ
 pageOf {source} p = page symbols source (p .tree)
 
 -- "then a text over 16,384 bytes is 2; then room shorter than the text is 1. Each leaves the room unchanged, and room past a written text is untouched."
@@ -29,5 +29,5 @@ pub data Fits (text room : List ℕ) : Written → List ℕ → Type 0 where
 -- "A source not accepted gives its refusal"
 pub data Writes (source room : List ℕ) : Written → List ℕ → Type 0 where
   refused : (r : Refusal) → Judged source (Wrong r) cleared → Writes source room (Refused r) room
-  accepted : (p : Parsed source) → least (nameFaults (parsed p)) ≡ none → typeFault (parsed p) ≡ none → (w : Written) (room' : List ℕ)
+  accepted : (p : Grammatical source) → least (nameFaults (itsProgram p)) ≡ none → typeFault (itsProgram p) ≡ none → (w : Written) (room' : List ℕ)
       → Fits (pageOf p) room w room' → Writes source room w room'

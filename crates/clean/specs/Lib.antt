@@ -2,6 +2,4 @@ pub mod House
 pub mod Job
 pub mod Numbers
 pub mod Tidy
-pub mod Lines
-pub mod Model
-pub mod Pen
+pub mod model

@@ -8,7 +8,7 @@ ghost use mathlib.Core.List.{[], _∷_};
 ghost use Prim.Native.Nat.{_+_, _<_, _≤_};
 ghost use lib.ListN.{length, drop, replicate};
 ghost use Rattle.symbols.specs.Names.{these, blank};
-ghost use Rattle.clean.specs.Model.{Puts, sortOf, most};
+ghost use Rattle.clean.specs.model.Bytes.{Puts, sortOf, most};
 
 // One byte.
 pub fn put(page: &mut [u8], at: usize, b: u8) -> usize

@@ -12,8 +12,8 @@ ghost use mathlib.Core.Path.{_≡_};
 ghost use Prim.Native.Nat.{_+_, _<_, _≤_};
 ghost use lib.ListN.{length, getD};
 ghost use Rattle.clean.specs.House.{tight as tightOf, endsOperand, closes as closesOf, opensCall, beginsSum};
-ghost use Rattle.clean.specs.Model.{Puts, most, AllKinds};
-ghost use Rattle.clean.specs.Pen.{gapOf, writtenOf, Small};
+ghost use Rattle.clean.specs.model.Bytes.{Puts, most, AllKinds};
+ghost use Rattle.clean.specs.model.Pen.{gapOf, writtenOf, Small};
 
 // A name, a number, `)` or a logical value: a sign that follows it does not begin a sum.
 fn ends_operand(kind: u8) -> bool

@@ -4,8 +4,8 @@ use symbols::kinds;
 ghost use mathlib.Core.Path.{_≡_};
 ghost use Prim.Native.Nat.{_+_, _-_, _<_, _≤_};
 ghost use lib.ListN.{length};
-ghost use Rattle.clean.specs.Lines.{headed as headedOf};
-ghost use Rattle.clean.specs.Pen.{Small, Low, firstOf, partedOf, lineOf, inwardOf, passedOf, openedOf, closedOf, waitsOf, topOf, stackOf, earlyOf, outOf, outsideOf, Pushed, Headed, Separated, Late};
+ghost use Rattle.clean.specs.model.Lines.{headed as headedOf};
+ghost use Rattle.clean.specs.model.Pen.{Small, Low, firstOf, partedOf, lineOf, inwardOf, passedOf, openedOf, closedOf, waitsOf, topOf, stackOf, earlyOf, outOf, outsideOf, Pushed, Headed, Separated, Late};
 
 pub struct State {
     pub level: usize, // of the statement or declaration that is written

@@ -5,7 +5,7 @@ use answers::Place;
 use symbols::kinds;
 ghost use Prim.Native.Nat.{_+_, _<_, _≤_};
 ghost use lib.ListN.{length};
-ghost use Rattle.clean.specs.Model.{Puts, most, spellingAt, wordAt};
+ghost use Rattle.clean.specs.model.Bytes.{Puts, most, spellingAt, wordAt};
 
 // The words of statements and declarations.
 fn statement_word(page: &mut [u8], at: usize, kind: u8) -> usize

@@ -6,8 +6,8 @@ use answers::Refusal;
 use reading::Found;
 use reading::finding::find;
 ghost use Rattle.clean.specs.Job.{Fits, Writes};
-ghost use Rattle.clean.specs.Model.{Lendable};
-ghost use Rattle.clean.specs.Pen.{writtenOf};
+ghost use Rattle.clean.specs.model.Bytes.{Lendable};
+ghost use Rattle.clean.specs.model.Pen.{writtenOf};
 
 // An accepted source, of which the symbols are lent. The length is found first, with no room, so that a refusal leaves the room as it was.
 fn written(source: &[u8], kinds: &[u8], places: &[usize; 2048], room: &mut [u8]) -> Written

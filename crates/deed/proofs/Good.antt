@@ -15,8 +15,8 @@ use Rattle.clean.specs.declared.Written.{Written}
 use Rattle.clean.specs.declared.Written.the-variants.{Text, Refused as Unwritten}
 use Rattle.clean.proofs.Promises.{Wrote, wrote, only as only-page}
 use Rattle.machine.specs.Machine.{Finish, onCode}
-use Rattle.reading.specs.Judging.{parsed}
-use Rattle.reading.specs.Reading.{placeIn, Parsed}
+use Rattle.reading.specs.Judging.{itsProgram}
+use Rattle.reading.specs.Reading.{placeIn, Grammatical}
 use Rattle.translation.specs.Faithful.{AsRules}
 use Rattle.translating.proofs.Promised.{only, faith}
 use Rattle.deed.specs.Status.{good, ofWritten, ofStop, ofRun, WriteStatus, RunStatus}
@@ -38,8 +38,8 @@ good-run : (v : Verdict) (f : Finish) → good ≡ ofRun v f → (v ≡ Accepted
 good-run Accepted f h = (refl, good-stop (f .stop) h)
 good-run (Refused r) f h = absurd (omega arith)
 
-pub good-ended : {text : List ℕ} {input : List ℤ} {limit cells space : ℕ} → RunStatus text input limit cells space good → (p : Parsed text)
-    → (f : Finish) × (f .stop ≡ Ended) × AsRules (placeIn text) (parsed p) input cells space limit f
+pub good-ended : {text : List ℕ} {input : List ℤ} {limit cells space : ℕ} → RunStatus text input limit cells space good → (p : Grammatical text)
+    → (f : Finish) × (f .stop ≡ Ended) × AsRules (placeIn text) (itsProgram p) input cells space limit f
 good-ended {input = input} {limit = limit} {cells = cells} {space = space} t p =
     let f = onCode (t .words) input limit cells space in
     let g = good-run (t .verdict) f (t .told) in

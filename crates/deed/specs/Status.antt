@@ -14,7 +14,7 @@ use Rattle.clean.specs.declared.Written.the-variants.{Text, Refused as Unwritte
 use Rattle.clean.specs.Job.{Writes}
 use Rattle.machine.specs.Machine.{Finish, onCode}
 use Rattle.reading.specs.Reading.{Reads}
-use Rattle.translating.specs.Job.{room, Translates}
+use Rattle.translating.specs.Job.{codeWords, Translates}
 
 abbrev pub good : ℕ
 good = 0
@@ -58,7 +58,7 @@ abbrev pub ReadStatus : List ℕ → ℕ → Type 0
 ReadStatus text s = Told (λ v. (table : List ℕ) × Reads text (replicate 32768 0) v table) s
 
 abbrev pub CodeStatus : List ℕ → ℕ → Type 0
-CodeStatus text s = Told (λ v. (words : List ℕ) × Translates text (replicate room 0) v words) s
+CodeStatus text s = Told (λ v. (words : List ℕ) × Translates text (replicate codeWords 0) v words) s
 
 -- s is the status of what `write` answers to a source, lent room for the longest text
 pub record WriteStatus (text : List ℕ) (s : ℕ) : Type 0 where
@@ -72,5 +72,5 @@ pub record WriteStatus (text : List ℕ) (s : ℕ) : Type 0 where
 pub record RunStatus (text : List ℕ) (input : List ℤ) (limit cells space s : ℕ) : Type 0 where
   pub verdict : Verdict
   pub words : List ℕ
-  pub translates : Translates text (replicate room 0) verdict words
+  pub translates : Translates text (replicate codeWords 0) verdict words
   pub told : s ≡ ofRun verdict (onCode words input limit cells space)

@@ -1,7 +1,7 @@
 -- The counts that two steps of the code leave alone, one after the other.
 use mathlib.Core.Path.{refl, _∙_}
 use Rattle.emitting.specs.declared.Writing.{Writing}
-use Rattle.emitting.specs.Model.{Alike}
+use Rattle.emitting.specs.model.Arrays.{Alike}
 
 pub alike-same : (t : Writing) → Alike t t
 alike-same t = record { slots = refl; level = refl; loops = refl; cells = refl; lefts = refl; declared = refl }

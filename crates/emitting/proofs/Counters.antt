@@ -9,11 +9,11 @@ use lib.Dec.{eqb, ltb}
 use lib.ListN.{length, getD}
 use Rattle.machine.specs.Instructions.{high, mid, low}
 use Rattle.grammar.specs.NodeKinds.{n-block, n-statements, n-variable, n-procedure, n-formal, n-procedure-end, n-then, n-else, n-start, n-once, n-while, n-step, n-do, n-for-end, n-left, n-assign, n-unary, n-binary, n-number, n-logical, n-use, n-call, n-call-end, n-actual}
-use Rattle.names.specs.Rows.{isUse}
-use Rattle.emitting.specs.Layout.{packed}
-use Rattle.emitting.specs.Emission.{Used, State, Opened, put, withOpen, withSlot, noted, within, withLefts, withVariable, withUses, withCell, withEntry, top, below, pushed, popped, replaced, nameless, bare, onCell, formalAt, kindNext, meansNext, othersNext, signed, largest, aheadAt, cellOf, resultOf, calledWith, resultFor, dropped, named, wordOf, namedOr, lending, nameBegun, nameEnded, takenIn, callEnded, repeated, begun, calling, actualIn, useNode, element, bodied, tested, added, stepBegun, stepHeld, stepAgain, turning, stepping, amount, elementNode, loopNode, choiceNode, blockNode, procedureNode, leftsOf, assigned, plainNode, isElement, isChoice, isBlock, codeNode}
+use Rattle.names.specs.model.Rows.{isUse}
+use Rattle.emitting.specs.model.Layout.{packed}
+use Rattle.emitting.specs.model.Emission.{Used, State, Opened, put, withOpen, withSlot, noted, within, withLefts, withVariable, withUses, withCell, withEntry, top, below, pushed, popped, replaced, nameless, bare, onCell, formalAt, kindNext, meansNext, othersNext, signed, largest, aheadAt, cellOf, resultOf, calledWith, resultFor, dropped, named, wordOf, namedOr, lending, nameBegun, nameEnded, takenIn, callEnded, repeated, begun, calling, actualIn, useNode, element, bodied, tested, added, stepBegun, stepHeld, stepAgain, turning, stepping, amount, elementNode, loopNode, choiceNode, blockNode, procedureNode, leftsOf, assigned, plainNode, isElement, isChoice, isBlock, codeNode}
 use Rattle.emitting.specs.declared.Writing.{Writing}
-use Rattle.emitting.specs.Model.{thingsOf, see, Slim, AllSlim, Small, Fit}
+use Rattle.emitting.specs.model.Arrays.{thingsOf, see, Slim, AllSlim, Small, Fit}
 use Rattle.emitting.proofs.Stacked.{length-things}
 use Rattle.emitting.proofs.LeftParts.{slim-below, fewer-below, one-below, slim-behind, fewer-behind, behind-things, length-lefts, storing}
 

@@ -5,8 +5,8 @@ use mathlib.Core.List.{List}
 use Prim.Native.Nat.{ℕ}
 use lib.Dec.{eqb}
 use Rattle.grammar.specs.NodeKinds.{n-do, n-for-end, n-procedure, n-procedure-end}
-use Rattle.emitting.specs.Emission.{State, top, elementNode, loopNode, choiceNode, blockNode, procedureNode, plainNode, isElement, isChoice, isBlock}
-use Rattle.emitting.specs.Model.{restNode}
+use Rattle.emitting.specs.model.Emission.{State, top, elementNode, loopNode, choiceNode, blockNode, procedureNode, plainNode, isElement, isChoice, isBlock}
+use Rattle.emitting.specs.model.Arrays.{restNode}
 
 holds : {b : Bool} (x y : State) → b ≡ true → x ≡ cond b x y
 holds x y e = sym (ap (λ (z : Bool). cond z x y) e)

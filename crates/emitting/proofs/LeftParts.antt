@@ -8,9 +8,9 @@ use native.Mathlib.Numerals.{add-one}
 use lib.Dec.{eqb}
 use borrow.Author.Tests.{ne-eqb}
 use lib.ListN.{length}
-use Rattle.emitting.specs.Emission.{State, Opened, put, onCell, top, below, stored, leftsOf, behindLefts}
+use Rattle.emitting.specs.model.Emission.{State, Opened, put, onCell, top, below, stored, leftsOf, behindLefts}
 use Rattle.machine.specs.Instructions.{low}
-use Rattle.emitting.specs.Model.{thingsOf, AllSlim}
+use Rattle.emitting.specs.model.Arrays.{thingsOf, AllSlim}
 use Rattle.emitting.proofs.Stacked.{things-below}
 
 -- what stored leaves alone: all but the address, which grows by no more than k, and the words

@@ -7,11 +7,11 @@ use native.Mathlib.Omega.{arith}
 use lib.Dec.{eqb, ltb}
 use lib.ListN.{length, getD, drop}
 use borrow.Author.Tests.{ltb-true, ltb-false}
-use Rattle.names.specs.Rows.{meantOf}
+use Rattle.names.specs.model.Rows.{meantOf}
 use Rattle.names.specs.declared.Meant.the-variants.{Declared, Given, Nothing}
 use Rattle.answers.specs.declared.Declaration.{Declaration}
 use Rattle.answers.specs.declared.Environment.{Environment}
-use Rattle.emitting.specs.Emission.{formalAt, usedAs, usesIn, kindNext, meansNext, othersNext}
+use Rattle.emitting.specs.model.Emission.{formalAt, usedAs, usesIn, kindNext, meansNext, othersNext}
 
 module _ (rows : List ℕ) where
   -- there is one

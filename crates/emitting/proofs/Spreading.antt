@@ -9,9 +9,9 @@ use native.Mathlib.Omega.{arith}
 use lib.Dec.{eqb}
 use lib.ListN.{length, getD}
 use Rattle.grammar.specs.NodeKinds.{n-block, n-block-end, n-type, n-variable, n-procedure, n-formal, n-procedure-end}
-use Rattle.names.specs.Rows.{opensOf}
-use Rattle.emitting.specs.Layout.{Laying, oneOf, outermost, further, celled, procedured, blocked, closed, typed, layNode}
-use Rattle.emitting.specs.Model.{AllWithin, Spread}
+use Rattle.names.specs.model.Rows.{opensOf}
+use Rattle.emitting.specs.model.Layout.{Laying, oneOf, outermost, further, celled, procedured, blocked, closed, typed, layNode}
+use Rattle.emitting.specs.model.Arrays.{AllWithin, Spread}
 
 -- ---- the newest scope
 

@@ -7,8 +7,8 @@ use native.Mathlib.Omega.{arith}
 use native.Mathlib.Numerals.{add-one}
 use lib.ListN.{length, getD, set, length-set}
 use lib.Seq.{getD-set-same, getD-set-other}
-use Rattle.emitting.specs.Emission.{opened, top, below}
-use Rattle.emitting.specs.Model.{thingAt, thingsOf}
+use Rattle.emitting.specs.model.Emission.{opened, top, below}
+use Rattle.emitting.specs.model.Arrays.{thingAt, thingsOf}
 
 pub things-top : (n : ℕ) (s : List ℕ) → (n ≡ 0 → ⊥) → thingAt s (n - 1) ≡ top (thingsOf n s)
 unfolding thingsOf top

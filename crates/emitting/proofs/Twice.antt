@@ -2,7 +2,7 @@
 use Prim.Native.Nat.{ℕ}
 use mathlib.Core.Path.{_≡_, ap, _∙_}
 use mathlib.Core.List.{List, []}
-use Rattle.emitting.specs.Emission.{Used, emitted, codeOf}
+use Rattle.emitting.specs.model.Emission.{Used, emitted, codeOf}
 
 pub second-run : (r : ℕ) (p : ℕ → ℕ) (v l rows n : List ℕ) (u : List Used) {m : ℕ} {a e ws : List ℕ} → ws ≡ emitted v l a e rows m p n u .code → m ≡ r → a ≡ emitted v l [] [] rows r p n u .ahead → e ≡ emitted v l [] [] rows r p n u .entries
     → ws ≡ codeOf r p v l rows n u

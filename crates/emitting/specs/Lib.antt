@@ -1,3 +1,1 @@
-pub mod Layout
-pub mod Emission
-pub mod Model
+pub mod model

@@ -13,8 +13,8 @@ ghost use mathlib.Core.Bool.{cond, _&&_};
 ghost use mathlib.Core.List.{List};
 ghost use Prim.Native.Nat.{ℕ, _+_, _%_, _≤_, _<_};
 ghost use lib.Dec.{eqb, ltb};
-ghost use Rattle.emitting.specs.Emission.{Used, put, withVariable, replaced, aheadAt, lending, nameBegun, nameEnded, begun, actualIn};
-ghost use Rattle.emitting.specs.Model.{seen, see, Alike, Slim, Fit};
+ghost use Rattle.emitting.specs.model.Emission.{Used, put, withVariable, replaced, aheadAt, lending, nameBegun, nameEnded, begun, actualIn};
+ghost use Rattle.emitting.specs.model.Arrays.{seen, see, Alike, Slim, Fit};
 
 // The place in a slot, of 16 bits.
 fn place_ahead(ahead: &[u32], slot: usize) -> Place

@@ -17,8 +17,8 @@ ghost use mathlib.Core.List.{List};
 ghost use Prim.Native.Nat.{ℕ, _+_, _≤_, _<_};
 ghost use lib.Dec.{eqb};
 ghost use lib.ListN.{drop};
-ghost use Rattle.emitting.specs.Emission.{Used, usesIn, kindNext, meansNext, othersNext, withUses, withLefts, put, pushed, cellOf, resultOf, calledWith, resultFor, dropped, named, wordOf, namedOr, calling, takenIn, callEnded, repeated, useNode};
-ghost use Rattle.emitting.specs.Model.{seen, see, Alike, Slim, Fit};
+ghost use Rattle.emitting.specs.model.Emission.{Used, usesIn, kindNext, meansNext, othersNext, withUses, withLefts, put, pushed, cellOf, resultOf, calledWith, resultFor, dropped, named, wordOf, namedOr, calling, takenIn, callEnded, repeated, useNode};
+ghost use Rattle.emitting.specs.model.Arrays.{seen, see, Alike, Slim, Fit};
 
 // The low part of the word of a name of kind k: 1 for one that has its cell, 2 for a formal called by name.
 fn sought(k: usize) -> usize

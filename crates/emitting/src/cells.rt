@@ -7,8 +7,8 @@ use machine::operands;
 ghost use mathlib.Core.Path.{_≡_};
 ghost use mathlib.Core.List.{List};
 ghost use Prim.Native.Nat.{ℕ, _+_, _≤_, _<_};
-ghost use Rattle.emitting.specs.Emission.{Used, bare, onCell, lending};
-ghost use Rattle.emitting.specs.Model.{see, Alike};
+ghost use Rattle.emitting.specs.model.Emission.{Used, bare, onCell, lending};
+ghost use Rattle.emitting.specs.model.Arrays.{see, Alike};
 
 // The operand of the cell found.
 const FOUND: usize = 67100672;

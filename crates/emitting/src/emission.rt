@@ -20,9 +20,9 @@ ghost use Prim.Native.Nat.{ℕ, _+_, _*_, _-_, _≤_, _<_};
 ghost use lib.Dec.{eqb};
 ghost use lib.ListN.{length};
 ghost use Rattle.grammar.specs.NodeKinds.{n-do, n-for-end, n-procedure, n-procedure-end};
-ghost use Rattle.names.specs.Rows.{isUse};
-ghost use Rattle.emitting.specs.Emission.{Used, usesIn, placeAt, top, operationOf, signed, stored, leftsOf, assigned, plainNode, isElement, isChoice, isBlock, codeNode, emitted};
-ghost use Rattle.emitting.specs.Model.{thingsOf, seen, see, AllSlim, Small, Fit, restNode, freshIn, emittedFrom};
+ghost use Rattle.names.specs.model.Rows.{isUse};
+ghost use Rattle.emitting.specs.model.Emission.{Used, usesIn, placeAt, top, operationOf, signed, stored, leftsOf, assigned, plainNode, isElement, isChoice, isBlock, codeNode, emitted};
+ghost use Rattle.emitting.specs.model.Arrays.{thingsOf, seen, see, AllSlim, Small, Fit, restNode, freshIn, emittedFrom};
 
 // The operation of an operator, by its symbol's kind.
 fn operation_of(k: usize) -> usize

@@ -12,9 +12,9 @@ use machine::operands;
 ghost use mathlib.Core.Path.{_≡_};
 ghost use mathlib.Core.List.{List};
 ghost use Prim.Native.Nat.{ℕ, _+_, _-_, _<_};
-ghost use Rattle.emitting.specs.Layout.{packed};
-ghost use Rattle.emitting.specs.Emission.{Used, put, noted, within, withSlot, withEntry, pushed, popped, replaced, nameless, aheadAt, choiceNode, blockNode, procedureNode};
-ghost use Rattle.emitting.specs.Model.{seen, see, Fit};
+ghost use Rattle.emitting.specs.model.Layout.{packed};
+ghost use Rattle.emitting.specs.model.Emission.{Used, put, noted, within, withSlot, withEntry, pushed, popped, replaced, nameless, aheadAt, choiceNode, blockNode, procedureNode};
+ghost use Rattle.emitting.specs.model.Arrays.{seen, see, Fit};
 
 // Behind a condition: the slot of where it goes on.
 fn conditioned(t: Writing, ahead: &[u32], things: &mut [usize; 32768], code: &mut [u32]) -> Writing

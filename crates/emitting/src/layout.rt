@@ -7,9 +7,9 @@ ghost use mathlib.Core.Path.{_≡_};
 ghost use mathlib.Core.List.{List, _∷_};
 ghost use Prim.Native.Nat.{ℕ, _+_, _≤_, _<_};
 ghost use lib.ListN.{length};
-ghost use Rattle.names.specs.Rows.{opensOf, foldNodes};
-ghost use Rattle.emitting.specs.Layout.{oneOf, celled, blocked, procedured, closed, layNode, layoutOf};
-ghost use Rattle.emitting.specs.Model.{lain, unlaidIn, Spread};
+ghost use Rattle.names.specs.model.Rows.{opensOf, foldNodes};
+ghost use Rattle.emitting.specs.model.Layout.{oneOf, celled, blocked, procedured, closed, layNode, layoutOf};
+ghost use Rattle.emitting.specs.model.Arrays.{lain, unlaidIn, Spread};
 
 // 1 where there is a type.
 fn one_of(sort: usize) -> usize

@@ -17,8 +17,8 @@ use answers::Address;
 ghost use mathlib.Core.Path.{_≡_};
 ghost use Prim.Native.Nat.{_*_};
 ghost use lib.ListN.{length, take, replicate};
-ghost use Rattle.emitting.specs.Layout.{layoutOf};
-ghost use Rattle.emitting.specs.Emission.{usesIn, placeAt, codeOf};
+ghost use Rattle.emitting.specs.model.Layout.{layoutOf};
+ghost use Rattle.emitting.specs.model.Emission.{usesIn, placeAt, codeOf};
 
 // What a use means: its kind (0 environment, 1 variable, 2 procedure, 3 formal called by value, 4 formal called by name), and
 // the declaration's number or the environment's.

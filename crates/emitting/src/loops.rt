@@ -12,9 +12,9 @@ use machine::operands;
 ghost use mathlib.Core.Path.{_≡_};
 ghost use mathlib.Core.List.{List, []};
 ghost use Prim.Native.Nat.{ℕ, _+_, _-_, _≤_, _<_};
-ghost use Rattle.emitting.specs.Layout.{packed};
-ghost use Rattle.emitting.specs.Emission.{Used, put, noted, within, popped, replaced, onCell, aheadAt, element, bodied, tested, added, stepBegun, stepHeld, stepAgain, turning, stepping, amount, elementNode, loopNode};
-ghost use Rattle.emitting.specs.Model.{seen, see, Alike, Slim, Small, Fit};
+ghost use Rattle.emitting.specs.model.Layout.{packed};
+ghost use Rattle.emitting.specs.model.Emission.{Used, put, noted, within, popped, replaced, onCell, aheadAt, element, bodied, tested, added, stepBegun, stepHeld, stepAgain, turning, stepping, amount, elementNode, loopNode};
+ghost use Rattle.emitting.specs.model.Arrays.{seen, see, Alike, Slim, Small, Fit};
 
 // Behind an element: it goes on there, if it is not the last.
 fn element(t: Writing, f: Thing, things: &mut [usize; 32768], next_ahead: &mut [u32]) -> Writing

@@ -9,8 +9,8 @@ ghost use mathlib.Core.Bool.{cond};
 ghost use Prim.Native.Nat.{_*_, _-_, _<_};
 ghost use lib.Dec.{ltb};
 ghost use lib.ListN.{length, getD, set, replicate, take};
-ghost use Rattle.emitting.specs.Layout.{packed};
-ghost use Rattle.emitting.specs.Emission.{placeAt};
+ghost use Rattle.emitting.specs.model.Layout.{packed};
+ghost use Rattle.emitting.specs.model.Emission.{placeAt};
 
 // A number less another, 0 where that is greater.
 pub fn less(a: usize, b: usize) -> usize

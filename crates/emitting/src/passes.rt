@@ -4,8 +4,8 @@ use crate::layout::layout;
 ghost use mathlib.Core.Path.{_≡_};
 ghost use Prim.Native.Nat.{_≤_};
 ghost use lib.ListN.{length};
-ghost use Rattle.emitting.specs.Layout.{layoutOf};
-ghost use Rattle.emitting.specs.Emission.{usesIn, placeAt, emitted, codeOf};
+ghost use Rattle.emitting.specs.model.Layout.{layoutOf};
+ghost use Rattle.emitting.specs.model.Emission.{usesIn, placeAt, emitted, codeOf};
 
 // The code, where what lies ahead is known.
 fn again(

@@ -8,8 +8,8 @@ ghost use mathlib.Core.Path.{_≡_};
 ghost use mathlib.Core.List.{List, _∷_};
 ghost use Prim.Native.Nat.{ℕ, _+_, _*_, _≤_, _<_};
 ghost use lib.ListN.{length};
-ghost use Rattle.emitting.specs.Emission.{Used, opened, put, withSlot, top, pushed, popped, replaced};
-ghost use Rattle.emitting.specs.Model.{thingAt, thingsOf, seen, see, Alike};
+ghost use Rattle.emitting.specs.model.Emission.{Used, opened, put, withSlot, top, pushed, popped, replaced};
+ghost use Rattle.emitting.specs.model.Arrays.{thingAt, thingsOf, seen, see, Alike};
 
 // An instruction: operation, place, operand.
 pub fn put(mut t: Writing, code: &mut [u32], o: usize, place: Place, v: usize) -> Writing

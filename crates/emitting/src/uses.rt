@@ -12,9 +12,9 @@ ghost use mathlib.Core.List.{List};
 ghost use Prim.Native.Nat.{ℕ, _*_, _-_, _%_, _<_};
 ghost use lib.Dec.{eqb};
 ghost use lib.ListN.{getD, drop};
-ghost use Rattle.names.specs.Rows.{meantOf};
-ghost use Rattle.emitting.specs.Emission.{formalAt, usedAs, usesIn, kindNext, meansNext, othersNext, withUses};
-ghost use Rattle.emitting.specs.Model.{see, Alike};
+ghost use Rattle.names.specs.model.Rows.{meantOf};
+ghost use Rattle.emitting.specs.model.Emission.{formalAt, usedAs, usesIn, kindNext, meansNext, othersNext, withUses};
+ghost use Rattle.emitting.specs.model.Arrays.{see, Alike};
 
 // A word of a row, 0 behind the last one.
 fn row_word(rows: &[u16], at: usize) -> usize

@@ -16,10 +16,10 @@ use Rattle.grammar.specs.Grammar.{Prod, Item, sy, rd, rhs, program}
 use Rattle.grammar.specs.declared.Level.the-variants.{Product, Sum, Conjunction, Disjunction, Implication, Equivalence}
 use Rattle.grammar.specs.Trees.{Syn, nil, tok, sub, yield}
 use Rattle.grammar.specs.Program.{Viable, Finding, accepted, wrong-at, deep-at, Finds}
-use Rattle.grammar.specs.Tables.{Choice, none, some, pick, choose, null}
-use Rattle.grammar.specs.Text.{kindAt}
-use Rattle.grammar.specs.Run.{levels, Res, got, bad, In, now, later, after, Goes, level as at-level, deep}
-use Rattle.grammar.specs.Run.{Run, end, sy-no, sy-got, sy-bad, rd-six, rd-five, rd-none, rd-bad, rd-more, rd-got}
+use Rattle.grammar.specs.model.Tables.{Choice, none, some, pick, choose, null}
+use Rattle.grammar.specs.model.Text.{kindAt}
+use Rattle.grammar.specs.model.Run.{levels, Res, got, bad, In, now, later, after, Goes, level as at-level, deep}
+use Rattle.grammar.specs.model.Run.{Run, end, sy-no, sy-got, sy-bad, rd-six, rd-five, rd-none, rd-bad, rd-more, rd-got}
 use Rattle.grammar.proofs.Sets.{both, left-of, right-of, mem, mem-in, in-mem, in-left, true-false}
 use Rattle.grammar.proofs.Productions.{seat, tested-class, tested}
 use Rattle.grammar.proofs.Laws.{nul, empties, clean, never, any-class, never-has}

@@ -14,7 +14,7 @@ use Rattle.clean.specs.Job.{Writes}
 use Rattle.clean.proofs.Promises.{only as only-page}
 use Rattle.machine.specs.Machine.{Exit, exit, job}
 use Rattle.machine.specs.declared.Ran.{Ran}
-use Rattle.reading.specs.Reading.{Parsed, Reads}
+use Rattle.reading.specs.Reading.{Grammatical, Reads}
 use Rattle.reading.proofs.Only.{only}
 use Rattle.translating.specs.Job.{Translates, Deed}
 use Rattle.translating.proofs.Promised.{only as only-translation, deed}
@@ -60,7 +60,7 @@ one-check a b =
     (a .of-kind ∙ ap kindOf e ∙ sym (b .of-kind), a .numbered ∙ ap checkedNumber e ∙ sym (b .numbered), a .placed ∙ ap checkedPlace e ∙ sym (b .placed))
 
 -- demand 3 of the two jobs one after the other: where the first answers 0, the second gives what a run leaves that did what the source rules say
-pub given-deed : {text old new : List ℕ} {n place : ℕ} → Answers (λ v. Translates text old v new) n place → n ≡ 0 → (p : Parsed text) (input : List ℤ) (limit : ℕ) (store output : List ℤ)
+pub given-deed : {text old new : List ℕ} {n place : ℕ} → Answers (λ v. Translates text old v new) n place → n ≡ 0 → (p : Grammatical text) (input : List ℤ) (limit : ℕ) (store output : List ℤ)
     {g : Given} → g ≡ exitOf (job new input limit store output) → (e : Exit) × (g ≡ exitOf e) × Deed p input limit store output e
 given-deed {new = new} a z p input limit store output h =
     (job new input limit store output, h, deed (a .holds) (sym (a .numbered) ∙ z) p input limit store output refl)

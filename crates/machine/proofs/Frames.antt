@@ -8,8 +8,8 @@ use native.Mathlib.Nat.{not-suc-le-zero, le-of-suc-le-suc, eq-or-lt-of-le}
 use lib.ListN.{length, getD, set, length-set}
 use native.Mathlib.Numerals.{add-one}
 use lib.Seq.{getD-set-same, getD-set-other}
-use Rattle.machine.specs.Machine.{Frame, fr, frameAt, baseOf, walk, base}
-use Rattle.machine.specs.Model.{wordOf, noteOf, stacked, positionsOf, fateOf, framesOf, foundOf, begun, Lives}
+use Rattle.machine.specs.Machine.{Activation, activation, activationAt, baseOf, walk, base}
+use Rattle.machine.specs.model.Holding.{wordOf, noteOf, stacked, positionsOf, fateOf, framesOf, foundOf, begun, Lives}
 
 pub frames-length : (l : List ℕ) (n : ℕ) → length (framesOf l n) ≡ n
 unfolding framesOf
@@ -17,10 +17,10 @@ frames-length l zero = refl
 frames-length l (suc n) = ap suc (frames-length l n)
 
 -- activation f + 1
-abbrev pub frameOf : List ℕ → ℕ → Frame
-frameOf l f = fr (wordOf l (suc f) 0) (wordOf l (suc f) 1) (wordOf l (suc f) 2) (fateOf (wordOf l (suc f) 3)) (wordOf l (suc f) 4) (positionsOf l f)
+abbrev pub frameOf : List ℕ → ℕ → Activation
+frameOf l f = activation (wordOf l (suc f) 0) (wordOf l (suc f) 1) (wordOf l (suc f) 2) (fateOf (wordOf l (suc f) 3)) (wordOf l (suc f) 4) (positionsOf l f)
 
-frame-get : (l : List ℕ) (a f : ℕ) (d : Frame) → f < a → getD (framesOf l a) (a - suc f) d ≡ frameOf l f
+frame-get : (l : List ℕ) (a f : ℕ) (d : Activation) → f < a → getD (framesOf l a) (a - suc f) d ≡ frameOf l f
 unfolding framesOf
 frame-get l zero f d h = absurd (not-suc-le-zero h)
 frame-get l (suc n) f d h =
@@ -29,15 +29,15 @@ frame-get l (suc n) f d h =
     (λ b. let z : suc n - suc f ≡ suc (n - suc f) = omega arith in rw z (frame-get l n f d b))
     (eq-or-lt-of-le (le-of-suc-le-suc h))
 
-pub frame-at : (l : List ℕ) (a f : ℕ) → f < a → frameAt (framesOf l a) f ≡ frameOf l f
-unfolding frameAt
+pub frame-at : (l : List ℕ) (a f : ℕ) → f < a → activationAt (framesOf l a) f ≡ frameOf l f
+unfolding activationAt
 frame-at l a f h = rw (frames-length l a) (frame-get l a f _ h)
 
 pub base-at : (l : List ℕ) (a i : ℕ) → 1 ≤ i → i ≤ a → base (framesOf l a) i ≡ wordOf l i 1
 base-at l a zero h k = absurd (not-suc-le-zero h)
 base-at l a (suc f) h k = ap baseOf (frame-at l a f k)
 
-walk-none : (fs : List Frame) (u : ℕ) → walk fs 0 u ≡ 0
+walk-none : (fs : List Activation) (u : ℕ) → walk fs 0 u ≡ 0
 unfolding walk
 walk-none fs zero = refl
 walk-none fs (suc u) = refl
@@ -53,7 +53,7 @@ walk-out l a (suc f) (suc u) g h k =
     let e : suc u - 1 ≡ u = omega arith in
     rw (e, frame-at l a f h)
 
-pub walk-end : (fs : List Frame) (f u : ℕ) → u ≤ 0 → f ≡ walk fs f u
+pub walk-end : (fs : List Activation) (f u : ℕ) → u ≤ 0 → f ≡ walk fs f u
 unfolding walk
 walk-end fs f zero h = refl
 walk-end fs f (suc u) h = absurd (not-suc-le-zero h)
@@ -268,7 +268,7 @@ module _ (l : List ℕ) (a r f u e q : ℕ) (g : Lives l a) (h : a < 256) where
       ∙ positions-below l3 a (suc a) 3 e (n3 a (omega arith)) (omega arith) ∙ positions-below l2 a (suc a) 2 u (n2 a (omega arith)) (omega arith)
       ∙ positions-below l1 a (suc a) 1 f (n1 a (omega arith)) (omega arith) ∙ positions-below l a (suc a) 0 r (g .notes a (omega arith)) (omega arith)
 
-  pub begun-frames : framesOf (begun l (suc a) r f u e q) (suc a) ≡ fr r f u (fateOf e) q (positionsOf l a) ∷ framesOf l a
+  pub begun-frames : framesOf (begun l (suc a) r f u e q) (suc a) ≡ activation r f u (fateOf e) q (positionsOf l a) ∷ framesOf l a
   unfolding framesOf
   begun-frames = rw (begun-return, begun-first, begun-around, begun-needed, begun-place, same-positions, same-frames)
 

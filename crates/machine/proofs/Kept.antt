@@ -31,8 +31,8 @@ use Rattle.machine.specs.declared.Value.the-variants.{Is, Fault}
 use Rattle.answers.specs.declared.Answer.{Answer}
 use Rattle.answers.specs.Numbers.{cells as noCell}
 use Rattle.machine.specs.Run.{Trace, quiet}
-use Rattle.machine.specs.Data.{Data, dat, Lent, cells, Res, bad, wrong, good, check, value, nothing, newest, two, back, put, look, plain, newCells, openBlock, valued}
-use Rattle.machine.specs.Model.{Own, Fitting, numberIn, cellAt, putAt, roomOf, unassigned, cellsOf, heldOf, dataOf, traceOf, seenU, onPair, told, fine, ill, fewer, holding, UsedIn, PairIn, Sound, SoundD, SoundT}
+use Rattle.machine.specs.Data.{Data, contents, Lent, cells, Result, bad, wrong, good, check, value, nothing, newest, two, back, put, look, plain, newCells, openBlock, valued}
+use Rattle.machine.specs.model.Holding.{Own, Fitting, numberIn, cellAt, putAt, roomOf, unassigned, cellsOf, heldOf, dataOf, traceOf, seenU, onPair, told, fine, ill, fewer, holding, UsedIn, PairIn, Sound, SoundD, SoundT}
 use Rattle.machine.proofs.Stacks.{sound-unassigned, put-same, put-other, sound-put, sound-same, cells-unassigned, held-unassigned, room-unassigned, room-put, cells-length, cells-put, cells-new, cells-cons, cells-get, cells-set, held-length, held-put, held-new}
 
 -- one cell more
@@ -45,7 +45,7 @@ number-holds Unset {v} e = absurd (let z : _≡_ {A = ℕ} 0 1 = cc in omega ari
 number-holds (Holds w) {v} e = let z : w ≡ v = cc in ap Holds z
 number-holds (Named m) {v} e = absurd (let z : _≡_ {A = ℕ} 0 1 = cc in omega arith)
 
-newest-no : (x : Cell) (w : List Cell) (h : List ℤ) (a : ℕ) (l : Lent) → numberIn x ≡ Not → newest (dat (x ∷ w) h a l) ≡ nothing
+newest-no : (x : Cell) (w : List Cell) (h : List ℤ) (a : ℕ) (l : Lent) → numberIn x ≡ Not → newest (contents (x ∷ w) h a l) ≡ nothing
 unfolding newest
 newest-no Unset w h a l e = refl
 newest-no (Holds v) w h a l e = absurd (let z : _≡_ {A = ℕ} 0 1 = cc in omega arith)
@@ -77,7 +77,7 @@ module _ (n : Counts) (a : Own) (s i o : List ℤ) where
   -- a new cell
   pub new-data : (x : Cell) → Fitting x → n .cells + n .held < roomOf s
       → dataOf (more 1 n) a (putAt s (n .cells) x) i o
-      ≡ dat (x ∷ cellsOf (n .cells) s) (heldOf (n .held) s) (a .live) (record { room = roomOf s; input = drop (n .taken) i; space = length o - n .written; found = a .found })
+      ≡ contents (x ∷ cellsOf (n .cells) s) (heldOf (n .held) s) (a .live) (record { cellsLent = roomOf s; input = drop (n .taken) i; space = length o - n .written; found = a .found })
   new-data x f h =
       let l : n .cells < roomOf s = omega arith in
       rw (cells-new (n .cells) s x f l, held-put (n .held) s (n .cells) x h, room-put s (n .cells) x)
@@ -143,12 +143,12 @@ module _ (n : Counts) (a : Own) (s i o : List ℤ) where
   saw-none e p = p ∙ ap (λ (w : Used). seenU w a s i o) e
 
   -- two values used, or not
-  pub saw-two : {u : Pair} {x y : ℤ} {m : Counts} → u ≡ Values2 x y m → ((f : ℤ → ℤ → Data → Res Data) → two f (dataOf n a s i o) ≡ onPair f u a s i o)
-      → (f : ℤ → ℤ → Data → Res Data) → two f (dataOf n a s i o) ≡ f x y (dataOf m a s i o)
+  pub saw-two : {u : Pair} {x y : ℤ} {m : Counts} → u ≡ Values2 x y m → ((f : ℤ → ℤ → Data → Result Data) → two f (dataOf n a s i o) ≡ onPair f u a s i o)
+      → (f : ℤ → ℤ → Data → Result Data) → two f (dataOf n a s i o) ≡ f x y (dataOf m a s i o)
   saw-two e p f = p f ∙ ap (λ (w : Pair). onPair f w a s i o) e
 
-  pub saw-no-two : {u : Pair} → u ≡ Nothing2 → ((f : ℤ → ℤ → Data → Res Data) → two f (dataOf n a s i o) ≡ onPair f u a s i o)
-      → (f : ℤ → ℤ → Data → Res Data) → two f (dataOf n a s i o) ≡ wrong
+  pub saw-no-two : {u : Pair} → u ≡ Nothing2 → ((f : ℤ → ℤ → Data → Result Data) → two f (dataOf n a s i o) ≡ onPair f u a s i o)
+      → (f : ℤ → ℤ → Data → Result Data) → two f (dataOf n a s i o) ≡ wrong
   saw-no-two e p f = p f ∙ ap (λ (w : Pair). onPair f w a s i o) e
 
   -- the store after a cell was put
@@ -182,7 +182,7 @@ module _ (n : Counts) (a : Own) (s i o : List ℤ) where
   -- one more is held
   pub hold-data : (v : ℤ) → SFits w32 v → n .cells + n .held < roomOf s
       → dataOf (holding n) a (putAt s (roomOf s - 1 - n .held) (Holds v)) i o
-      ≡ dat (cellsOf (n .cells) s) (v ∷ heldOf (n .held) s) (a .live) (record { room = roomOf s; input = drop (n .taken) i; space = length o - n .written; found = a .found })
+      ≡ contents (cellsOf (n .cells) s) (v ∷ heldOf (n .held) s) (a .live) (record { cellsLent = roomOf s; input = drop (n .taken) i; space = length o - n .written; found = a .found })
   hold-data v f h =
       let c = roomOf s - 1 - n .held in
       let l : n .cells ≤ c = omega arith in

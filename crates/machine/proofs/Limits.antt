@@ -22,34 +22,34 @@ use Rattle.machine.specs.declared.Ran.{Ran}
 use Rattle.machine.specs.declared.Outcome.{Outcome}
 use Rattle.machine.specs.declared.Outcome.the-variants.{Goes}
 use Rattle.machine.specs.Run.{Trace, untold, say, quiet, wrote, took, Out, halt, next, End, done, over, after, run}
-use Rattle.machine.specs.Data.{Data, Res, bad, wrong, good, lift, Fate}
-use Rattle.machine.specs.Instructions.{Instr, END, DO, IF, JUMP, ENTER, LEAVE, CALL, RETURN, GO, NEXT, NAME, WORK, SEEK, PASS, REFUSE, fetch, decode}
-use Rattle.machine.specs.Machine.{Frame, fr, Mach, ms, workOut, exec, obey, step, finish, start, machine, used, exit, afterwards, job}
-use Rattle.machine.specs.Model.{goes, halted, stepped, traceOf, machOf, roomOf, cellsOf, heldOf, stacked, positionsOf, framesOf, foundOf, wordOf, Sound, Lives, SoundG, seenO, Drove}
+use Rattle.machine.specs.Data.{Data, Result, bad, wrong, good, lift, Fate}
+use Rattle.machine.specs.Instructions.{Instruction, END, DO, IF, JUMP, ENTER, LEAVE, CALL, RETURN, GO, NEXT, NAME, WORK, SEEK, PASS, REFUSE, fetch, decode}
+use Rattle.machine.specs.Machine.{Activation, activation, Running, running, workOut, exec, obey, step, finish, start, machine, used, exit, afterwards, job}
+use Rattle.machine.specs.model.Holding.{goes, halted, stepped, traceOf, machOf, roomOf, cellsOf, heldOf, stacked, positionsOf, framesOf, foundOf, wordOf, Sound, Lives, SoundG, seenO, Drove}
 
 -- ---- every instruction counts one
 
-abbrev Counted : Out Mach → Type 0
+abbrev Counted : Out Running → Type 0
 Counted (halt q) = Unit {0}
 Counted (next k e m) = k ≡ 1
 
-lift-counted : {A : Type 0} (w : Stop) (f : A → Mach) (r : Res A) → Counted (lift w 1 f r)
+lift-counted : {A : Type 0} (w : Stop) (f : A → Running) (r : Result A) → Counted (lift w 1 f r)
 unfolding lift
 lift-counted w f (bad a q) = tt
 lift-counted w f wrong = tt
 lift-counted w f (good e x) = refl
 
-cond-counted : (b : Bool) (x y : Out Mach) → Counted x → Counted y → Counted (cond b x y)
+cond-counted : (b : Bool) (x y : Out Running) → Counted x → Counted y → Counted (cond b x y)
 cond-counted true x y g h = g
 cond-counted false x y g h = h
 
-workout-counted : (x : Cell) (f : ℕ) (t : Fate) (q q' pc : ℕ) (ps : List ℕ) (fs : List Frame) (d : Data) → Counted (workOut x f t q q' pc ps fs d)
+workout-counted : (x : Cell) (f : ℕ) (t : Fate) (q q' pc : ℕ) (ps : List ℕ) (fs : List Activation) (d : Data) → Counted (workOut x f t q q' pc ps fs d)
 unfolding workOut
 workout-counted Unset f t q q' pc ps fs d = tt
 workout-counted (Holds v) f t q q' pc ps fs d = tt
 workout-counted (Named n) f t q q' pc ps fs d = lift-counted _ _ _
 
-exec-counted : (i : Instr) (pc : ℕ) (ps : List ℕ) (fs : List Frame) (d : Data) → Counted (exec i pc ps fs d)
+exec-counted : (i : Instruction) (pc : ℕ) (ps : List ℕ) (fs : List Activation) (d : Data) → Counted (exec i pc ps fs d)
 unfolding exec
 exec-counted END pc ps fs d = tt
 exec-counted (DO a) pc ps fs d = lift-counted _ _ _
@@ -59,7 +59,7 @@ exec-counted (ENTER q n l) pc ps fs d = lift-counted _ _ _
 exec-counted (LEAVE n) pc ps fs d = lift-counted _ _ _
 exec-counted (CALL q l u n f) pc ps fs d = lift-counted _ _ _
 exec-counted RETURN pc ps [] d = tt
-exec-counted RETURN pc ps (fr r b l f q ps' ∷ fs) d = lift-counted _ _ _
+exec-counted RETURN pc ps (activation r b l f q ps' ∷ fs) d = lift-counted _ _ _
 exec-counted (GO m l r) pc ps fs d = cond-counted (eqb m (length ps)) _ _ refl tt
 exec-counted (NEXT m) pc [] fs d = tt
 exec-counted (NEXT m) pc (r ∷ ps) fs d = cond-counted (eqb m (length ps)) _ _ refl tt
@@ -71,23 +71,23 @@ exec-counted (PASS q u o) pc ps (x ∷ fs) d = workout-counted _ _ _ _ _ _ _ _ _
 exec-counted REFUSE pc ps [] d = tt
 exec-counted REFUSE pc ps (x ∷ fs) d = tt
 
-obey-counted : (x : Option Instr) (pc : ℕ) (ps : List ℕ) (fs : List Frame) (d : Data) → Counted (obey x pc ps fs d)
+obey-counted : (x : Option Instruction) (pc : ℕ) (ps : List ℕ) (fs : List Activation) (d : Data) → Counted (obey x pc ps fs d)
 unfolding obey
 obey-counted none pc ps fs d = tt
 obey-counted (some i) pc ps fs d = exec-counted i pc ps fs d
 
-step-counted : (words : List ℕ) (m : Mach) → Counted (step words m)
+step-counted : (words : List ℕ) (m : Running) → Counted (step words m)
 unfolding step
-step-counted words (ms pc ps fs d) = obey-counted (fetch words pc) pc ps fs d
+step-counted words (running pc ps fs d) = obey-counted (fetch words pc) pc ps fs d
 
 -- ---- one instruction of a run
 
-went-halted : (x : Out Mach) (n : ℕ) (o : Trace) {q : Stop} (f : Mach → ℕ → Trace → End Mach) → stepped o x ≡ halted q → after x n o f ≡ done q n o
+went-halted : (x : Out Running) (n : ℕ) (o : Trace) {q : Stop} (f : Running → ℕ → Trace → End Running) → stepped o x ≡ halted q → after x n o f ≡ done q n o
 unfolding stepped
 went-halted (halt q') n o {q} f e = let z : q' ≡ q = cc in ap (λ (y : Stop). done y n o) z
 went-halted (next k v m) n o {q} f e = absurd (let z : _≡_ {A = ℕ} 0 1 = cc in omega arith)
 
-went-goes : (x : Out Mach) (n : ℕ) (o : Trace) {m : Mach} {o' : Trace} (f : Mach → ℕ → Trace → End Mach) → Counted x → stepped o x ≡ goes m o' → after x n o f ≡ f m (n + 1) o'
+went-goes : (x : Out Running) (n : ℕ) (o : Trace) {m : Running} {o' : Trace} (f : Running → ℕ → Trace → End Running) → Counted x → stepped o x ≡ goes m o' → after x n o f ≡ f m (n + 1) o'
 unfolding stepped
 went-goes (halt q') n o f c e = absurd (let z : _≡_ {A = ℕ} 0 1 = cc in omega arith)
 went-goes (next k v m') n o {m} {o'} f c e =
@@ -95,7 +95,7 @@ went-goes (next k v m') n o {m} {o'} f c e =
     let z : say o v ≡ o' = cc in
     rw (c, y, z)
 
-module _ (words : List ℕ) (m : Mach) (l d n : ℕ) (o : Trace) where
+module _ (words : List ℕ) (m : Running) (l d n : ℕ) (o : Trace) where
   pub run-end : l ≤ d → run (step words) (l - d) m n o ≡ over n o m
   unfolding run
   run-end h = let e : l - d ≡ 0 = omega arith in rw e
@@ -106,7 +106,7 @@ module _ (words : List ℕ) (m : Mach) (l d n : ℕ) (o : Trace) where
       let e : l - d ≡ suc (l - (d + 1)) = omega arith in
       rw e (went-halted (step words m) n o (run (step words) (l - (d + 1))) t)
 
-  pub run-on : {m' : Mach} {o' : Trace} → d < l → stepped o (step words m) ≡ goes m' o' → run (step words) (l - d) m n o ≡ run (step words) (l - (d + 1)) m' (n + 1) o'
+  pub run-on : {m' : Running} {o' : Trace} → d < l → stepped o (step words m) ≡ goes m' o' → run (step words) (l - d) m n o ≡ run (step words) (l - (d + 1)) m' (n + 1) o'
   unfolding run
   run-on h t =
       let e : l - d ≡ suc (l - (d + 1)) = omega arith in
@@ -122,18 +122,18 @@ module _ (n : Counts) (o o₀ : List ℤ) (k : ℕ) (h : n .written ≤ length o
   out-is : o ≡ take (n .written) o ++ drop (length (take (n .written) o)) o₀
   out-is = sym (take-append-drop (n .written) o) ∙ ap (λ (w : List ℤ). take (n .written) o ++ w) (e ∙ ap (λ (w : ℕ). drop w o₀) (sym (length-take-le (n .written) o h)))
 
-  pub drove-over : {x : End Mach} {m : Mach} → x ≡ over k (traceOf n o) m → Drove (record { stop = Limit; done = k; taken = n .taken; written = n .written }) o₀ o (finish x)
+  pub drove-over : {x : End Running} {m : Running} → x ≡ over k (traceOf n o) m → Drove (record { stop = Limit; done = k; taken = n .taken; written = n .written }) o₀ o (finish x)
   unfolding finish
   drove-over z = rw z (record { stop = refl; done = refl; taken = refl; written = sym (length-take-le (n .written) o h); output = out-is })
 
-  pub drove-done : {x : End Mach} {q : Stop} → x ≡ done q k (traceOf n o) → Drove (record { stop = q; done = k + 1; taken = n .taken; written = n .written }) o₀ o (finish x)
+  pub drove-done : {x : End Running} {q : Stop} → x ≡ done q k (traceOf n o) → Drove (record { stop = q; done = k + 1; taken = n .taken; written = n .written }) o₀ o (finish x)
   unfolding finish
   drove-done z = rw z (record { stop = refl; done = refl; taken = refl; written = sym (length-take-le (n .written) o h); output = out-is })
 
 -- ---- the loop of instructions
 
 -- nothing that was written goes
-wrote-more : (t : Trace) (x : Out Mach) {m : Mach} {t' : Trace} → stepped t x ≡ goes m t' → length (t .written) ≤ length (t' .written)
+wrote-more : (t : Trace) (x : Out Running) {m : Running} {t' : Trace} → stepped t x ≡ goes m t' → length (t .written) ≤ length (t' .written)
 unfolding stepped
 wrote-more t (halt q) e = absurd (let z : _≡_ {A = ℕ} 0 1 = cc in omega arith)
 wrote-more t (next k quiet m') {m} {t'} e = let z : t ≡ t' = cc in omega (arith, ap (λ (y : Trace). length (y .written)) z)
@@ -283,39 +283,39 @@ run-exit {r} {s'} {o'} code input limit store output {k} {c} a b d e =
 -- ---- what a limit changes
 
 -- a run that stops counts on from where it began
-count-least : (words : List ℕ) (l : ℕ) (m : Mach) (n : ℕ) (o : Trace) {q : Stop} {k : ℕ} {t : Trace} → run (step words) l m n o ≡ done q k t → n ≤ k
+count-least : (words : List ℕ) (l : ℕ) (m : Running) (n : ℕ) (o : Trace) {q : Stop} {k : ℕ} {t : Trace} → run (step words) l m n o ≡ done q k t → n ≤ k
 unfolding run
 count-least words zero m n o e = absurd (let z : _≡_ {A = ℕ} 0 1 = cc in omega arith)
 count-least words (suc l) m n o {q} {k} {t} e = go (step words m) (step-counted words m) e (λ m' n' o' f. count-least words l m' n' o' f)
   where
-    go : (x : Out Mach) → Counted x → after x n o (run (step words) l) ≡ done q k t → ((m' : Mach) (n' : ℕ) (o' : Trace) → run (step words) l m' n' o' ≡ done q k t → n' ≤ k) → n ≤ k
+    go : (x : Out Running) → Counted x → after x n o (run (step words) l) ≡ done q k t → ((m' : Running) (n' : ℕ) (o' : Trace) → run (step words) l m' n' o' ≡ done q k t → n' ≤ k) → n ≤ k
     go (halt q') c f r = let z : n ≡ k = cc in omega arith
     go (next j v m') c f r = omega (arith, r m' (n + j) (say o v) f)
 
 -- it stops so under every limit that reaches so far
-stops-same : (words : List ℕ) (l l' : ℕ) (m : Mach) (n : ℕ) (o : Trace) {q : Stop} {k : ℕ} {t : Trace} → run (step words) l m n o ≡ done q k t → k < n + l' → run (step words) l' m n o ≡ done q k t
+stops-same : (words : List ℕ) (l l' : ℕ) (m : Running) (n : ℕ) (o : Trace) {q : Stop} {k : ℕ} {t : Trace} → run (step words) l m n o ≡ done q k t → k < n + l' → run (step words) l' m n o ≡ done q k t
 unfolding run
 stops-same words zero l' m n o e h = absurd (let z : _≡_ {A = ℕ} 0 1 = cc in omega arith)
 stops-same words (suc l) zero m n o e h = absurd (omega (arith, count-least words (suc l) m n o e))
 stops-same words (suc l) (suc l') m n o {q} {k} {t} e h = go (step words m) (step-counted words m) e (λ m' n' o' f b. stops-same words l l' m' n' o' f b)
   where
-    go : (x : Out Mach) → Counted x → after x n o (run (step words) l) ≡ done q k t
-        → ((m' : Mach) (n' : ℕ) (o' : Trace) → run (step words) l m' n' o' ≡ done q k t → k < n' + l' → run (step words) l' m' n' o' ≡ done q k t)
+    go : (x : Out Running) → Counted x → after x n o (run (step words) l) ≡ done q k t
+        → ((m' : Running) (n' : ℕ) (o' : Trace) → run (step words) l m' n' o' ≡ done q k t → k < n' + l' → run (step words) l' m' n' o' ≡ done q k t)
         → after x n o (run (step words) l') ≡ done q k t
     go (halt q') c f r = f
     go (next j v m') c f r = r m' (n + j) (say o v) f (omega (arith, c))
 
 -- and is cut where the limit is shorter
-cut-short : (words : List ℕ) (l l' : ℕ) (m : Mach) (n : ℕ) (o : Trace) {q : Stop} {k : ℕ} {t : Trace} → run (step words) l m n o ≡ done q k t → n + l' ≤ k
-    → (t' : Trace) × (m' : Mach) × (run (step words) l' m n o ≡ over (n + l') t' m')
+cut-short : (words : List ℕ) (l l' : ℕ) (m : Running) (n : ℕ) (o : Trace) {q : Stop} {k : ℕ} {t : Trace} → run (step words) l m n o ≡ done q k t → n + l' ≤ k
+    → (t' : Trace) × (m' : Running) × (run (step words) l' m n o ≡ over (n + l') t' m')
 unfolding run
 cut-short words l zero m n o e h = let z : n + 0 ≡ n = omega arith in (o, m, rw z)
 cut-short words zero (suc l') m n o e h = absurd (let z : _≡_ {A = ℕ} 0 1 = cc in omega arith)
 cut-short words (suc l) (suc l') m n o {q} {k} {t} e h = go (step words m) (step-counted words m) e (λ m' n' o' f b. cut-short words l l' m' n' o' f b)
   where
-    go : (x : Out Mach) → Counted x → after x n o (run (step words) l) ≡ done q k t
-        → ((m' : Mach) (n' : ℕ) (o' : Trace) → run (step words) l m' n' o' ≡ done q k t → n' + l' ≤ k → (t' : Trace) × (m'' : Mach) × (run (step words) l' m' n' o' ≡ over (n' + l') t' m''))
-        → (t' : Trace) × (m'' : Mach) × (after x n o (run (step words) l') ≡ over (n + suc l') t' m'')
+    go : (x : Out Running) → Counted x → after x n o (run (step words) l) ≡ done q k t
+        → ((m' : Running) (n' : ℕ) (o' : Trace) → run (step words) l m' n' o' ≡ done q k t → n' + l' ≤ k → (t' : Trace) × (m'' : Running) × (run (step words) l' m' n' o' ≡ over (n' + l') t' m''))
+        → (t' : Trace) × (m'' : Running) × (after x n o (run (step words) l') ≡ over (n + suc l') t' m'')
     go (halt q') c f r = absurd (let z : n ≡ k = cc in omega arith)
     go (next j v m') c f r =
         let u = r m' (n + j) (say o v) f (omega (arith, c)) in
@@ -323,12 +323,12 @@ cut-short words (suc l) (suc l') m n o {q} {k} {t} e h = go (step words m) (step
         (u .0, u .1, rw (← z) (u .2))
 
 -- a run that is cut counted its limit
-cut-count : (words : List ℕ) (l : ℕ) (m : Mach) (n : ℕ) (o : Trace) {k : ℕ} {t : Trace} {m' : Mach} → run (step words) l m n o ≡ over k t m' → k ≡ n + l
+cut-count : (words : List ℕ) (l : ℕ) (m : Running) (n : ℕ) (o : Trace) {k : ℕ} {t : Trace} {m' : Running} → run (step words) l m n o ≡ over k t m' → k ≡ n + l
 unfolding run
 cut-count words zero m n o {k} e = let z : n ≡ k = cc in omega arith
 cut-count words (suc l) m n o {k} {t} {m'} e = go (step words m) (step-counted words m) e (λ m'' n' o' f. cut-count words l m'' n' o' f)
   where
-    go : (x : Out Mach) → Counted x → after x n o (run (step words) l) ≡ over k t m' → ((m'' : Mach) (n' : ℕ) (o' : Trace) → run (step words) l m'' n' o' ≡ over k t m' → k ≡ n' + l) → k ≡ n + suc l
+    go : (x : Out Running) → Counted x → after x n o (run (step words) l) ≡ over k t m' → ((m'' : Running) (n' : ℕ) (o' : Trace) → run (step words) l m'' n' o' ≡ over k t m' → k ≡ n' + l) → k ≡ n + suc l
     go (halt q') c f r = absurd (let z : _≡_ {A = ℕ} 0 1 = cc in omega arith)
     go (next j v m'') c f r = omega (arith, c, r m'' (n + j) (say o v) f)
 
@@ -345,10 +345,10 @@ module _ (words : List ℕ) (input : List ℤ) (room space l : ℕ) {q : Stop} {
   under-shorter l' h =
       let u = cut-short words l l' (start input room space) 0 untold e (omega arith) in
       let z : 0 + l' ≡ l' = omega arith in
-      (ap (λ (x : End Mach). finish x .stop) (u .2), ap (λ (x : End Mach). finish x .done) (u .2) ∙ z)
+      (ap (λ (x : End Running). finish x .stop) (u .2), ap (λ (x : End Running). finish x .done) (u .2) ∙ z)
 
 -- a run is cut at its limit, or it stopped by itself
-pub cut-at : (words : List ℕ) (input : List ℤ) (room space l : ℕ) {k : ℕ} {t : Trace} {m : Mach} → run (step words) l (start input room space) 0 untold ≡ over k t m → machine words input l room space ≡ record { stop = Limit; done = l; taken = t .taken; written = t .written }
+pub cut-at : (words : List ℕ) (input : List ℤ) (room space l : ℕ) {k : ℕ} {t : Trace} {m : Running} → run (step words) l (start input room space) 0 untold ≡ over k t m → machine words input l room space ≡ record { stop = Limit; done = l; taken = t .taken; written = t .written }
 unfolding machine finish
 cut-at words input room space l {k} {t} e =
     let z : k ≡ l = omega (arith, cut-count words l (start input room space) 0 untold e) in

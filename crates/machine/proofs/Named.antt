@@ -23,8 +23,8 @@ use Rattle.machine.specs.Operations.{o-work, o-seek, o-pass}
 use Rattle.machine.specs.Run.{Trace}
 use Rattle.machine.specs.Data.{Data, cells, lift, check, enter, look, plain, find, nameCell, lend, channel, work, Fate, kept, gone}
 use Rattle.machine.specs.Instructions.{DO, NAME, PASS, REFUSE, variable, high, mid, decode}
-use Rattle.machine.specs.Machine.{Frame, fr, ms, base, floor, walk, cellIn, partAt, workOut, working, stray, exec, obey}
-use Rattle.machine.specs.Model.{told, goes, halted, stepped, lifted, dataOf, traceOf, machOf, wordOf, noteOf, begun, positionsOf, fateOf, framesOf, foundOf, ownOf, cellAt, numbers, firstName, names, otherOf, cellOf, Lives, Sound, SoundG}
+use Rattle.machine.specs.Machine.{Activation, activation, running, base, floor, walk, cellIn, partAt, workOut, working, stray, exec, obey}
+use Rattle.machine.specs.model.Holding.{told, goes, halted, stepped, lifted, dataOf, traceOf, machOf, wordOf, noteOf, begun, positionsOf, fateOf, framesOf, foundOf, ownOf, cellAt, numbers, firstName, names, otherOf, cellOf, Lives, Sound, SoundG}
 use Rattle.machine.proofs.Decode.{code-work, code-seek, code-pass}
 use Rattle.machine.proofs.Stacks.{cells-length}
 use Rattle.machine.proofs.Kept.{cell-in, cell-out, look-data}
@@ -53,10 +53,10 @@ named-less s c e = named-cond (ltb (mag (getD s (numbers * c) (pos 0))) 21474836
 
 -- ---- the cell
 
-pub name-lifted : (t : Trace) (pc : ℕ) (ps : List ℕ) (fs : List Frame) (d : Data) (q l : ℕ) {x : ℕ} → x ≡ suc pc
-    → lifted (stray pc) (ms l ps fs) (told t (nameCell q x d)) ≡ stepped t (exec (NAME q l) pc ps fs d)
+pub name-lifted : (t : Trace) (pc : ℕ) (ps : List ℕ) (fs : List Activation) (d : Data) (q l : ℕ) {x : ℕ} → x ≡ suc pc
+    → lifted (stray pc) (running l ps fs) (told t (nameCell q x d)) ≡ stepped t (exec (NAME q l) pc ps fs d)
 unfolding exec
-name-lifted t pc ps fs d q l e = rw e (sym (lift-stepped (stray pc) (ms l ps fs) t (nameCell q (suc pc) d)))
+name-lifted t pc ps fs d q l e = rw e (sym (lift-stepped (stray pc) (running l ps fs) t (nameCell q (suc pc) d)))
 
 -- ---- an actual worked out
 
@@ -80,8 +80,8 @@ module _ (n : Counts) (a : ℕ) (s i o : List ℤ) (l : List ℕ) (pc q q' u k :
       working-full g = rw (frames-length l a, ← e, ← z, cell-in n (ownOf l a) s i o b h, look-data n (ownOf l a) s i o b h, x, le-ltb a 256 g)
 
       pub working-goes : {p y : ℕ} (l' : List ℕ) → a < 256 → p ≡ partAt t m → y ≡ f - 1
-          → framesOf l' (suc a) ≡ fr (suc pc) (n .cells) y t q' (positionsOf l a) ∷ framesOf l a → positionsOf l' (suc a) ≡ [] → foundOf l' ≡ foundOf l
-          → goes (ms p (positionsOf l' (suc a)) (framesOf l' (suc a)) (dataOf n (ownOf l' (suc a)) s i o)) (traceOf n o)
+          → framesOf l' (suc a) ≡ activation (suc pc) (n .cells) y t q' (positionsOf l a) ∷ framesOf l a → positionsOf l' (suc a) ≡ [] → foundOf l' ≡ foundOf l
+          → goes (running p (positionsOf l' (suc a)) (framesOf l' (suc a)) (dataOf n (ownOf l' (suc a)) s i o)) (traceOf n o)
           ≡ stepped (traceOf n o) (working t q q' u k pc (positionsOf l a) (framesOf l a) (dataOf n (ownOf l a) s i o))
       unfolding workOut enter check lift stepped
       working-goes l' g j y c d w =
@@ -164,29 +164,29 @@ refuse-none t pc ps l a d e = rw e
 
 -- ---- a channel tested; a variable found
 
-pub channel-done : (t : Trace) (at : ℕ) (ps : List ℕ) (fs : List Frame) (d : Data) (q : ℕ) → leb (floor fs + 1) (cells d) ≡ true
-    → lifted (stray at) (ms (at + 1) ps fs) (told t (work (channel q) d)) ≡ stepped t (exec (DO (channel q)) at ps fs d)
+pub channel-done : (t : Trace) (at : ℕ) (ps : List ℕ) (fs : List Activation) (d : Data) (q : ℕ) → leb (floor fs + 1) (cells d) ≡ true
+    → lifted (stray at) (running (at + 1) ps fs) (told t (work (channel q) d)) ≡ stepped t (exec (DO (channel q)) at ps fs d)
 channel-done t at ps fs d q h = lifted-next (stray at) at ps fs _ ∙ do-lifted t at ps fs d (channel q) h
 
-module _ (t : Trace) (at : ℕ) (ps : List ℕ) (fs : List Frame) (d : Data) (v : ℕ) {c : ℕ} (e : c ≡ cellIn fs d (variable v)) (h : leb (floor fs + 0) (cells d) ≡ true) where
-  lend-is : lifted (stray at) (ms (suc at) ps fs) (told t (work (lend c) d)) ≡ stepped t (exec (DO (lend (variable v))) at ps fs d)
-  lend-is = ap (λ (y : ℕ). lifted (stray at) (ms (suc at) ps fs) (told t (work (lend y) d))) e ∙ do-lifted t at ps fs d (lend (variable v)) h
+module _ (t : Trace) (at : ℕ) (ps : List ℕ) (fs : List Activation) (d : Data) (v : ℕ) {c : ℕ} (e : c ≡ cellIn fs d (variable v)) (h : leb (floor fs + 0) (cells d) ≡ true) where
+  lend-is : lifted (stray at) (running (suc at) ps fs) (told t (work (lend c) d)) ≡ stepped t (exec (DO (lend (variable v))) at ps fs d)
+  lend-is = ap (λ (y : ℕ). lifted (stray at) (running (suc at) ps fs) (told t (work (lend y) d))) e ∙ do-lifted t at ps fs d (lend (variable v)) h
 
   pub lend-stray : ltb c (cells d) ≡ false → halted (stray at) ≡ stepped t (exec (DO (lend (variable v))) at ps fs d)
   unfolding lifted
-  lend-stray g = ap (lifted (stray at) (ms (suc at) ps fs)) (lend-out t d c g) ∙ lend-is
+  lend-stray g = ap (lifted (stray at) (running (suc at) ps fs)) (lend-out t d c g) ∙ lend-is
 
   module _ (g : ltb c (cells d) ≡ true) where
     pub lend-refused : plain (look c d) ≡ false → halted (stray at) ≡ stepped t (exec (DO (lend (variable v))) at ps fs d)
     unfolding lifted
-    lend-refused p = ap (lifted (stray at) (ms (suc at) ps fs)) (lend-named t d c g p) ∙ lend-is
+    lend-refused p = ap (lifted (stray at) (running (suc at) ps fs)) (lend-named t d c g p) ∙ lend-is
 
-    pub lend-goes : plain (look c d) ≡ true → goes (ms (suc at) ps fs (find c d)) t ≡ stepped t (exec (DO (lend (variable v))) at ps fs d)
+    pub lend-goes : plain (look c d) ≡ true → goes (running (suc at) ps fs (find c d)) t ≡ stepped t (exec (DO (lend (variable v))) at ps fs d)
     unfolding lifted
-    lend-goes p = ap (lifted (stray at) (ms (suc at) ps fs)) (lend-in t d c g p) ∙ lend-is
+    lend-goes p = ap (lifted (stray at) (running (suc at) ps fs)) (lend-in t d c g p) ∙ lend-is
 
 -- the machine with the cell noted
 pub found-mach : (n : Counts) (a : ℕ) (s i o : List ℤ) (l : List ℕ) (at c : ℕ) {l' : List ℕ} → Lives l a → l' ≡ noteOf l 0 4 c
-    → machOf (at + 1) a n s l' i o ≡ ms (suc at) (positionsOf l a) (framesOf l a) (find c (dataOf n (ownOf l a) s i o))
+    → machOf (at + 1) a n s l' i o ≡ running (suc at) (positionsOf l a) (framesOf l a) (find c (dataOf n (ownOf l a) s i o))
 unfolding find
 found-mach n a s i o l at c g e = rw (e, add-one at, positions-found l a c, frames-found l a c, found-same l a c g)

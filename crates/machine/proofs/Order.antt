@@ -20,9 +20,9 @@ use Rattle.machine.specs.declared.Value.{Value}
 use Rattle.machine.specs.declared.Value.the-variants.{Is, Fault}
 use Rattle.machine.specs.Values.{whole, isZero, same, Unary, minus, negation, absolute, apply1, Binary, plus, less, times, over, below, atMost, equal, atLeast, above, unequal, and, or, impl, equiv, apply2, past}
 use Rattle.machine.specs.Run.{Event, quiet, Trace, Out, halt, next, after, run}
-use Rattle.machine.specs.Data.{Data, dat, cells, Res, bad, wrong, good, lift, guard, check, newCells, newest, onValue, one, two, back, look, plain, reading, valued, hold, unhold, held, input, space, taking, writing, Act, push, load, store, assign, reserve, forget, receive, send, keep, unary, binary, lend, channel as tested, sum as added, actOn, work, downs, Two, yea, nay, Test, condition, upto, testOn, test, downsT, openBlock, closeBlock, nameCell, enter, Fate, kept, gone, given, leave, Lent}
-use Rattle.machine.specs.Instructions.{Loc, Instr, END, DO, IF, JUMP, ENTER, LEAVE, CALL, RETURN, GO, NEXT, NAME, WORK, SEEK, PASS, REFUSE, fetch}
-use Rattle.machine.specs.Machine.{Frame, fr, Mach, ms, walk, base, floor, cellIn, cellAt, stray, workOut, began, exec, obey, step, finish}
+use Rattle.machine.specs.Data.{Data, contents, cells, Result, bad, wrong, good, lift, guard, check, newCells, newest, onValue, one, two, back, look, plain, reading, valued, hold, unhold, held, input, space, taking, writing, Act, push, load, store, assign, reserve, forget, receive, send, keep, unary, binary, lend, channel as tested, sum as added, actOn, work, downs, Two, yea, nay, Test, condition, upto, testOn, test, downsT, openBlock, closeBlock, nameCell, enter, Fate, kept, gone, given, leave, Lent}
+use Rattle.machine.specs.Instructions.{Location, Instruction, END, DO, IF, JUMP, ENTER, LEAVE, CALL, RETURN, GO, NEXT, NAME, WORK, SEEK, PASS, REFUSE, fetch}
+use Rattle.machine.specs.Machine.{Activation, activation, Running, running, walk, base, floor, cellIn, cellAt, stray, workOut, began, exec, obey, step, finish}
 
 -- ---- what is asked for. Cells are numbered from the oldest, values taken from the newest
 
@@ -38,9 +38,9 @@ pub data Demand : Type 0 where
   used : ℕ → ℕ → Demand
   a-step : Demand
   noted : ℕ → Demand
-  activation : Demand
+  someActivation : Demand
   named : ℕ → Demand
-  running : Demand
+  notTheProgram : Demand
   -- 28: the channel, among the values taken
   one-in : ℕ → Demand
   -- 24, 25: a number to take; room for one that is written
@@ -71,9 +71,9 @@ answerTo (numbers n) = noInstruction
 answerTo (used k c) = noInstruction
 answerTo a-step = noInstruction
 answerTo (noted m) = noInstruction
-answerTo activation = noInstruction
+answerTo someActivation = noInstruction
 answerTo (named c) = noInstruction
-answerTo running = noInstruction
+answerTo notTheProgram = noInstruction
 answerTo (one-in k) = channel
 answerTo a-number = inputEnded
 answerTo a-place = outputFull
@@ -129,44 +129,44 @@ fault n (Is v) = false
 fault n (Fault a) = eqb (a .number) n
 
 -- the program runs, which is no activation
-abbrev no-activation : List Frame → Bool
+abbrev no-activation : List Activation → Bool
 no-activation [] = true
 no-activation (x ∷ fs) = false
 
 -- no activation, or its first cell (a needed result, and no name formal's) or those below it are not there
-abbrev no-return : List Frame → List Cell → Bool
+abbrev no-return : List Activation → List Cell → Bool
 no-return [] w = true
-no-return (fr r b l kept q ps ∷ fs) w = not (ltb b (length w) && plain (getD w (length w - suc b) Unset))
-no-return (fr r b l gone q ps ∷ fs) w = not (leb b (length w))
+no-return (activation r b l kept q ps ∷ fs) w = not (ltb b (length w) && plain (getD w (length w - suc b) Unset))
+no-return (activation r b l gone q ps ∷ fs) w = not (leb b (length w))
 
 -- a needed result is unassigned
-abbrev no-result : List Frame → List Cell → Bool
+abbrev no-result : List Activation → List Cell → Bool
 no-result [] w = false
-no-result (fr r b l kept q ps ∷ fs) w = unset (getD w (length w - suc b) Unset)
-no-result (fr r b l gone q ps ∷ fs) w = false
+no-result (activation r b l kept q ps ∷ fs) w = unset (getD w (length w - suc b) Unset)
+no-result (activation r b l gone q ps ∷ fs) w = false
 
-abbrev pub fails : List ℕ → List Frame → Data → Demand → Bool
+abbrev pub fails : List ℕ → List Activation → Data → Demand → Bool
 fails ps fs d (left t) = none-left t
 fails ps fs d there = true
 fails ps fs d (own n) = not (leb (floor fs + n) (cells d))
-fails ps fs (dat w h a l) (numbers n) = lacks n w
-fails ps fs (dat w h a l) (used k c) = not (ltb c (length (drop k w)) && plain (getD (drop k w) (length (drop k w) - suc c) Unset))
-fails ps fs (dat w h a l) a-step = none-of h
+fails ps fs (contents w h a l) (numbers n) = lacks n w
+fails ps fs (contents w h a l) (used k c) = not (ltb c (length (drop k w)) && plain (getD (drop k w) (length (drop k w) - suc c) Unset))
+fails ps fs (contents w h a l) a-step = none-of h
 fails ps fs d (noted m) = not (eqb m (length ps))
-fails ps fs (dat w h a l) activation = no-return fs w
+fails ps fs (contents w h a l) someActivation = no-return fs w
 fails ps fs d (named c) = unnamed (cellAt c d)
-fails ps fs d running = no-activation fs
-fails ps fs (dat w h a l) (one-in k) = such (λ v. not (same v (pos 1))) (getD w k Unset)
+fails ps fs d notTheProgram = no-activation fs
+fails ps fs (contents w h a l) (one-in k) = such (λ v. not (same v (pos 1))) (getD w k Unset)
 fails ps fs d a-number = none-of (input d)
 fails ps fs d a-place = not (ltb 0 (space d))
-fails ps fs (dat w h a l) (result1 o) = such (λ x. fault range (apply1 o x)) (getD w 0 Unset)
-fails ps fs (dat w h a l) (result2 o) = such (λ y. such (λ x. fault range (apply2 o x y)) (getD w 1 Unset)) (getD w 0 Unset)
-fails ps fs (dat w h a l) (sum c) = such (λ x. such (λ v. fault range (whole (v +ℤ x))) (look c (dat (drop 1 w) h a l))) (getD w 0 Unset)
-fails ps fs (dat w h a l) (divisor o) = such (λ y. such (λ x. fault zeroDivisor (apply2 o x y)) (getD w 1 Unset)) (getD w 0 Unset)
-fails ps fs (dat w h a l) (assigned k c) = unset (look c (dat (drop k w) h a l))
-fails ps fs (dat w h a l) given-back = no-result fs w
-fails ps fs (dat w h a l) (new n) = not (leb (length w + length h + n) (l .room))
-fails ps fs (dat w h a l) one-more = not (ltb a 256)
+fails ps fs (contents w h a l) (result1 o) = such (λ x. fault range (apply1 o x)) (getD w 0 Unset)
+fails ps fs (contents w h a l) (result2 o) = such (λ y. such (λ x. fault range (apply2 o x y)) (getD w 1 Unset)) (getD w 0 Unset)
+fails ps fs (contents w h a l) (sum c) = such (λ x. such (λ v. fault range (whole (v +ℤ x))) (look c (contents (drop 1 w) h a l))) (getD w 0 Unset)
+fails ps fs (contents w h a l) (divisor o) = such (λ y. such (λ x. fault zeroDivisor (apply2 o x y)) (getD w 1 Unset)) (getD w 0 Unset)
+fails ps fs (contents w h a l) (assigned k c) = unset (look c (contents (drop k w) h a l))
+fails ps fs (contents w h a l) given-back = no-result fs w
+fails ps fs (contents w h a l) (new n) = not (leb (length w + length h + n) (l .cellsLent))
+fails ps fs (contents w h a l) one-more = not (ltb a 256)
 fails ps fs d a-variable = true
 fails ps fs d more = true
 
@@ -193,10 +193,10 @@ asksTest condition = own 1 ∷ numbers 1 ∷ []
 asksTest (upto q c) = own 1 ∷ numbers 1 ∷ a-step ∷ used 1 c ∷ assigned 1 c ∷ []
 
 -- a name formal's cell, o behind the first of the activation u out; and an activation more
-abbrev pub working : List Frame → ℕ → ℕ → List Demand
+abbrev pub working : List Activation → ℕ → ℕ → List Demand
 working fs u o = named (base fs (walk fs (length fs) u) + o) ∷ one-more ∷ []
 
-abbrev pub asks : List Frame → Data → Instr → List Demand
+abbrev pub asks : List Activation → Data → Instruction → List Demand
 asks fs d END = more ∷ []
 asks fs d (DO a) = asksAct (actOn (cellIn fs d) a)
 asks fs d (IF t l) = asksTest (testOn (cellIn fs d) t)
@@ -204,17 +204,17 @@ asks fs d (JUMP l) = []
 asks fs d (ENTER q n l) = new n ∷ []
 asks fs d (LEAVE n) = own n ∷ []
 asks fs d (CALL q l u n f) = own n ∷ one-more ∷ []
-asks fs d RETURN = activation ∷ given-back ∷ []
+asks fs d RETURN = someActivation ∷ given-back ∷ []
 asks fs d (GO m l r) = noted m ∷ []
 asks fs d (NEXT m) = noted (suc m) ∷ []
 asks fs d (NAME q l) = new 1 ∷ []
 asks fs d (WORK q u o) = working fs u o
 asks fs d (SEEK q u o) = working fs u o
-asks fs d (PASS q u o) = running ∷ working fs u o
-asks fs d REFUSE = running ∷ a-variable ∷ []
+asks fs d (PASS q u o) = notTheProgram ∷ working fs u o
+asks fs d REFUSE = notTheProgram ∷ a-variable ∷ []
 
 -- .. and what stands at the counter: an instruction, or none
-abbrev pub asked : List Frame → Data → Option Instr → List Demand
+abbrev pub asked : List Activation → Data → Option Instruction → List Demand
 asked fs d none = there ∷ []
 asked fs d (some i) = asks fs d i
 
@@ -224,7 +224,7 @@ abbrev pub order : List ℕ
 order = limit ∷ noInstruction ∷ channel ∷ inputEnded ∷ outputFull ∷ range ∷ zeroDivisor ∷ unassigned ∷ noCell ∷ activations ∷ noVariable ∷ ended ∷ []
 
 -- demands by their answers, each with whether it fails
-abbrev pub due : List ℕ → List Frame → Data → List Demand → List (ℕ × Bool)
+abbrev pub due : List ℕ → List Activation → Data → List Demand → List (ℕ × Bool)
 due ps fs d [] = []
 due ps fs d (x ∷ l) = (answerTo x, fails ps fs d x) ∷ due ps fs d l
 
@@ -238,19 +238,19 @@ first [] l = none
 first (n ∷ ns) l = cond (is-due n l) (some n) (first ns l)
 
 -- what is answered at an instruction before which t may still be done
-abbrev pub answered : ℕ → Out Mach → Option ℕ
+abbrev pub answered : ℕ → Out Running → Option ℕ
 answered zero r = some limit
 answered (suc t) (halt q) = some (stopNumber q)
 answered (suc t) (next k e m) = none
 
 -- ---- the shapes of an instruction's tests
 
-abbrev told : {A : Type 0} → Res A → Option ℕ
+abbrev told : {A : Type 0} → Result A → Option ℕ
 told (bad a q) = some a
 told wrong = some noInstruction
 told (good e x) = none
 
-lift-told : {A : Type 0} (t pc : ℕ) (f : A → Mach) (r : Res A) → answered (suc t) (lift (stray pc) 1 f r) ≡ told r
+lift-told : {A : Type 0} (t pc : ℕ) (f : A → Running) (r : Result A) → answered (suc t) (lift (stray pc) 1 f r) ≡ told r
 unfolding lift
 lift-told t pc f (bad a q) = refl
 lift-told t pc f wrong = refl
@@ -374,7 +374,7 @@ module _ {A : Type 0} where
   enters false q e x = refl
 
   -- a return, with the result that is needed and without
-  returns : (g p b : Bool) (x : Res A) → (T g → told x ≡ given-out ((noInstruction, not p) ∷ (unassigned, b) ∷ [])) → told (guard g x) ≡ given-out ((noInstruction, not (g && p)) ∷ (unassigned, b) ∷ [])
+  returns : (g p b : Bool) (x : Result A) → (T g → told x ≡ given-out ((noInstruction, not p) ∷ (unassigned, b) ∷ [])) → told (guard g x) ≡ given-out ((noInstruction, not (g && p)) ∷ (unassigned, b) ∷ [])
   unfolding guard given-out
   returns true p b x e = e tt
   returns false p b x e = refl
@@ -391,7 +391,7 @@ results q (Holds v) w h a l = refl
 results q (Named m) w h a l = refl
 
 -- a return position
-positions : (t pc : ℕ) (b : Bool) (m : Mach) → answered (suc t) (cond b (next 1 quiet m) (halt (stray pc))) ≡ given-out ((noInstruction, not b) ∷ [])
+positions : (t pc : ℕ) (b : Bool) (m : Running) → answered (suc t) (cond b (next 1 quiet m) (halt (stray pc))) ≡ given-out ((noInstruction, not b) ∷ [])
 unfolding given-out
 positions t pc true m = refl
 positions t pc false m = refl
@@ -475,25 +475,25 @@ module _ {A : Type 0} where
 
 -- ---- each instruction
 
-module _ (ps : List ℕ) (fs : List Frame) where
+module _ (ps : List ℕ) (fs : List Activation) where
   -- the demands of what is to be done, with the limit not reached
   abbrev Due : Data → List Demand → Option ℕ
   Due d l = given-out (due ps fs d l)
 
   -- a value is taken: the newest cell holds a number; and two
   module _ {A : Type 0} (x : List Demand) (z : (d : Data) → is-due limit (due ps fs d x) ≡ false) where
-    takes : (f : ℤ → Data → Res A) (w : List Cell) (h : List ℤ) (a : ℕ) (l : Lent)
-        → ((v : ℤ) (w : List Cell) → told (guard (leb (floor fs + 1) (length (Holds v ∷ w))) (f v (dat w h a l))) ≡ Due (dat (Holds v ∷ w) h a l) (own 1 ∷ numbers 1 ∷ x))
-        → told (guard (leb (floor fs + 1) (length w)) (one f (dat w h a l))) ≡ Due (dat w h a l) (own 1 ∷ numbers 1 ∷ x)
+    takes : (f : ℤ → Data → Result A) (w : List Cell) (h : List ℤ) (a : ℕ) (l : Lent)
+        → ((v : ℤ) (w : List Cell) → told (guard (leb (floor fs + 1) (length (Holds v ∷ w))) (f v (contents w h a l))) ≡ Due (contents (Holds v ∷ w) h a l) (own 1 ∷ numbers 1 ∷ x))
+        → told (guard (leb (floor fs + 1) (length w)) (one f (contents w h a l))) ≡ Due (contents w h a l) (own 1 ∷ numbers 1 ∷ x)
     unfolding newest onValue
     takes f [] h a l e = lost A (leb (floor fs + 1) 0) _ (z _)
     takes f (Unset ∷ w) h a l e = lost A (leb (floor fs + 1) (length (Unset ∷ w))) _ (z _)
     takes f (Holds v ∷ w) h a l e = e v w
     takes f (Named m ∷ w) h a l e = lost A (leb (floor fs + 1) (length (Named m ∷ w))) _ (z _)
 
-    takes-two : (f : ℤ → ℤ → Data → Res A) (w : List Cell) (h : List ℤ) (a : ℕ) (l : Lent)
-        → ((v y : ℤ) (w : List Cell) → told (guard (leb (floor fs + 2) (length (Holds y ∷ Holds v ∷ w))) (f v y (dat w h a l))) ≡ Due (dat (Holds y ∷ Holds v ∷ w) h a l) (own 2 ∷ numbers 2 ∷ x))
-        → told (guard (leb (floor fs + 2) (length w)) (two f (dat w h a l))) ≡ Due (dat w h a l) (own 2 ∷ numbers 2 ∷ x)
+    takes-two : (f : ℤ → ℤ → Data → Result A) (w : List Cell) (h : List ℤ) (a : ℕ) (l : Lent)
+        → ((v y : ℤ) (w : List Cell) → told (guard (leb (floor fs + 2) (length (Holds y ∷ Holds v ∷ w))) (f v y (contents w h a l))) ≡ Due (contents (Holds y ∷ Holds v ∷ w) h a l) (own 2 ∷ numbers 2 ∷ x))
+        → told (guard (leb (floor fs + 2) (length w)) (two f (contents w h a l))) ≡ Due (contents w h a l) (own 2 ∷ numbers 2 ∷ x)
     unfolding newest onValue
     takes-two f [] h a l e = lost A (leb (floor fs + 2) 0) _ (z _)
     takes-two f (Unset ∷ w) h a l e = lost A (leb (floor fs + 2) (length (Unset ∷ w))) _ (z _)
@@ -504,88 +504,88 @@ module _ (ps : List ℕ) (fs : List Frame) where
     takes-two f (Holds y ∷ Named m ∷ w) h a l e = lost A (leb (floor fs + 2) (length (Holds y ∷ Named m ∷ w))) _ (z _)
 
   -- f: which cell an operand means
-  act-first : (f : Loc → ℕ) (a : Act Loc) (d : Data) → told (guard (leb (floor fs + downs a) (cells d)) (work (actOn f a) d)) ≡ Due d (asksAct (actOn f a))
+  act-first : (f : Location → ℕ) (a : Act Location) (d : Data) → told (guard (leb (floor fs + downs a) (cells d)) (work (actOn f a) d)) ≡ Due d (asksAct (actOn f a))
   unfolding work newCells look input space writing held
-  act-first f (push q v) (dat w h a l) = roomy (leb (floor fs + 0) (length w)) (leb (length w + length h + 1) (l .room)) q quiet _
-  act-first f (load q c) (dat w h a l) =
-      read-new (leb (floor fs + 0) (length w)) (ltb (f c) (length w)) (leb (length w + length h + 1) (l .room)) q (look (f c) (dat w h a l)) (λ v. dat (Holds v ∷ w) h a l)
-  act-first f (store c) (dat w h a l) =
-      takes (used 1 (f c) ∷ []) (λ d. refl) _ w h a l λ v w. in-use (leb (floor fs + 1) (length (Holds v ∷ w))) (ltb (f c) (length w)) (plain (look (f c) (dat w h a l))) quiet _
-  act-first f (assign c) (dat w h a l) =
-      takes (used 1 (f c) ∷ []) (λ d. refl) _ w h a l λ v w. in-use (leb (floor fs + 1) (length (Holds v ∷ w))) (ltb (f c) (length w)) (plain (look (f c) (dat w h a l))) quiet _
-  act-first f (reserve q) (dat w h a l) = roomy (leb (floor fs + 0) (length w)) (leb (length w + length h + 1) (l .room)) q quiet _
-  act-first f forget (dat w h a l) = takes [] (λ d. refl) _ w h a l λ v w. fine (leb (floor fs + 1) (length (Holds v ∷ w))) quiet _
-  act-first f (receive q c) (dat w h a l) =
+  act-first f (push q v) (contents w h a l) = roomy (leb (floor fs + 0) (length w)) (leb (length w + length h + 1) (l .cellsLent)) q quiet _
+  act-first f (load q c) (contents w h a l) =
+      read-new (leb (floor fs + 0) (length w)) (ltb (f c) (length w)) (leb (length w + length h + 1) (l .cellsLent)) q (look (f c) (contents w h a l)) (λ v. contents (Holds v ∷ w) h a l)
+  act-first f (store c) (contents w h a l) =
+      takes (used 1 (f c) ∷ []) (λ d. refl) _ w h a l λ v w. in-use (leb (floor fs + 1) (length (Holds v ∷ w))) (ltb (f c) (length w)) (plain (look (f c) (contents w h a l))) quiet _
+  act-first f (assign c) (contents w h a l) =
+      takes (used 1 (f c) ∷ []) (λ d. refl) _ w h a l λ v w. in-use (leb (floor fs + 1) (length (Holds v ∷ w))) (ltb (f c) (length w)) (plain (look (f c) (contents w h a l))) quiet _
+  act-first f (reserve q) (contents w h a l) = roomy (leb (floor fs + 0) (length w)) (leb (length w + length h + 1) (l .cellsLent)) q quiet _
+  act-first f forget (contents w h a l) = takes [] (λ d. refl) _ w h a l λ v w. fine (leb (floor fs + 1) (length (Holds v ∷ w))) quiet _
+  act-first f (receive q c) (contents w h a l) =
       takes (used 1 (f c) ∷ one-in 0 ∷ a-number ∷ []) (λ d. refl) _ w h a l
-      λ v w. receives (leb (floor fs + 1) (length (Holds v ∷ w))) (ltb (f c) (length w)) (plain (look (f c) (dat w h a l))) (same v (pos 1)) q (l .input) (f c) (dat w h a l)
-  act-first f (send q) (dat w h a l) =
+      λ v w. receives (leb (floor fs + 1) (length (Holds v ∷ w))) (ltb (f c) (length w)) (plain (look (f c) (contents w h a l))) (same v (pos 1)) q (l .input) (f c) (contents w h a l)
+  act-first f (send q) (contents w h a l) =
       takes-two (one-in 1 ∷ a-place ∷ []) (λ d. refl) _ w h a l
       λ k v w. sends (leb (floor fs + 2) (length (Holds v ∷ Holds k ∷ w))) (same k (pos 1)) (ltb 0 (l .space)) q _ _
-  act-first f keep (dat w h a l) = takes [] (λ d. refl) _ w h a l λ v w. fine (leb (floor fs + 1) (length (Holds v ∷ w))) quiet _
-  act-first f (unary q o) (dat w h a l) =
+  act-first f keep (contents w h a l) = takes [] (λ d. refl) _ w h a l λ v w. fine (leb (floor fs + 1) (length (Holds v ∷ w))) quiet _
+  act-first f (unary q o) (contents w h a l) =
       takes (result1 o ∷ []) (λ d. refl) _ w h a l
-      λ x w. one-value (leb (floor fs + 1) (length (Holds x ∷ w))) q (λ v. back v (dat w h a l)) (apply1 o x) (unary-ranged o x)
-  act-first f (binary q o) (dat w h a l) =
+      λ x w. one-value (leb (floor fs + 1) (length (Holds x ∷ w))) q (λ v. back v (contents w h a l)) (apply1 o x) (unary-ranged o x)
+  act-first f (binary q o) (contents w h a l) =
       takes-two (result2 o ∷ divisor o ∷ []) (λ d. refl) _ w h a l
-      λ x y w. two-values (leb (floor fs + 2) (length (Holds y ∷ Holds x ∷ w))) q (λ v. back v (dat w h a l)) (apply2 o x y) (binary-faulty o x y)
-  act-first f (lend c) (dat w h a l) = lends (leb (floor fs + 0) (length w)) (ltb (f c) (length w)) (plain (look (f c) (dat w h a l))) quiet _
-  act-first f (tested q) (dat w h a l) =
+      λ x y w. two-values (leb (floor fs + 2) (length (Holds y ∷ Holds x ∷ w))) q (λ v. back v (contents w h a l)) (apply2 o x y) (binary-faulty o x y)
+  act-first f (lend c) (contents w h a l) = lends (leb (floor fs + 0) (length w)) (ltb (f c) (length w)) (plain (look (f c) (contents w h a l))) quiet _
+  act-first f (tested q) (contents w h a l) =
       takes (one-in 0 ∷ []) (λ d. refl) _ w h a l λ k w. tests (leb (floor fs + 1) (length (Holds k ∷ w))) (same k (pos 1)) q quiet _
-  act-first f (added q c) (dat w [] a l) =
+  act-first f (added q c) (contents w [] a l) =
       takes (a-step ∷ used 1 (f c) ∷ assigned 1 (f c) ∷ sum (f c) ∷ []) (λ d. refl) _ w [] a l λ x w. unheld Data (leb (floor fs + 1) (length (Holds x ∷ w))) _ refl
-  act-first f (added q c) (dat w (y ∷ h) a l) =
+  act-first f (added q c) (contents w (y ∷ h) a l) =
       takes (a-step ∷ used 1 (f c) ∷ assigned 1 (f c) ∷ sum (f c) ∷ []) (λ d. refl) _ w (y ∷ h) a l
-      λ x w. read-sum (leb (floor fs + 1) (length (Holds x ∷ w))) (ltb (f c) (length w)) q (look (f c) (dat w (y ∷ h) a l)) (λ s. back s (hold x (unhold (dat w (y ∷ h) a l)))) (λ v. whole (v +ℤ x)) (λ v. whole-ranged (v +ℤ x))
+      λ x w. read-sum (leb (floor fs + 1) (length (Holds x ∷ w))) (ltb (f c) (length w)) q (look (f c) (contents w (y ∷ h) a l)) (λ s. back s (hold x (unhold (contents w (y ∷ h) a l)))) (λ v. whole (v +ℤ x)) (λ v. whole-ranged (v +ℤ x))
 
-  test-first : (f : Loc → ℕ) (a : Test Loc) (d : Data) → told (guard (leb (floor fs + downsT a) (cells d)) (test (testOn f a) d)) ≡ Due d (asksTest (testOn f a))
+  test-first : (f : Location → ℕ) (a : Test Location) (d : Data) → told (guard (leb (floor fs + downsT a) (cells d)) (test (testOn f a) d)) ≡ Due d (asksTest (testOn f a))
   unfolding test look held
-  test-first f condition (dat w h a l) = takes [] (λ d. refl) _ w h a l λ v w. fine (leb (floor fs + 1) (length (Holds v ∷ w))) quiet _
-  test-first f (upto q c) (dat w [] a l) =
+  test-first f condition (contents w h a l) = takes [] (λ d. refl) _ w h a l λ v w. fine (leb (floor fs + 1) (length (Holds v ∷ w))) quiet _
+  test-first f (upto q c) (contents w [] a l) =
       takes (a-step ∷ used 1 (f c) ∷ assigned 1 (f c) ∷ []) (λ d. refl) _ w [] a l λ y w. unheld Two (leb (floor fs + 1) (length (Holds y ∷ w))) _ refl
-  test-first f (upto q c) (dat w (x ∷ h) a l) =
+  test-first f (upto q c) (contents w (x ∷ h) a l) =
       takes (a-step ∷ used 1 (f c) ∷ assigned 1 (f c) ∷ []) (λ d. refl) _ w (x ∷ h) a l
-      λ y w. read-test (leb (floor fs + 1) (length (Holds y ∷ w))) (ltb (f c) (length w)) q (look (f c) (dat w (x ∷ h) a l)) (λ v. cond (past v x y) (nay (unhold (dat w (x ∷ h) a l))) (yea (dat w (x ∷ h) a l)))
+      λ y w. read-test (leb (floor fs + 1) (length (Holds y ∷ w))) (ltb (f c) (length w)) q (look (f c) (contents w (x ∷ h) a l)) (λ v. cond (past v x y) (nay (unhold (contents w (x ∷ h) a l))) (yea (contents w (x ∷ h) a l)))
 
   open-first : (q n : ℕ) (d : Data) → told (openBlock q n d) ≡ Due d (new n ∷ [])
   unfolding openBlock newCells
-  open-first q n (dat w h a l) = rw length-replicate (opens (leb (length w + length h + n) (l .room)) q quiet _)
+  open-first q n (contents w h a l) = rw length-replicate (opens (leb (length w + length h + n) (l .cellsLent)) q quiet _)
 
   name-first : (q n : ℕ) (d : Data) → told (nameCell q n d) ≡ Due d (new 1 ∷ [])
   unfolding nameCell newCells
-  name-first q n (dat w h a l) = opens (leb (length w + length h + 1) (l .room)) q quiet _
+  name-first q n (contents w h a l) = opens (leb (length w + length h + 1) (l .cellsLent)) q quiet _
 
   -- the cells above the activation's first are among those in use
   close-first : (n : ℕ) (d : Data) → told (guard (leb (floor fs + n) (cells d)) (closeBlock n d)) ≡ Due d (own n ∷ [])
   unfolding closeBlock
-  close-first n (dat w h a l) =
+  close-first n (contents w h a l) =
       closes (leb (floor fs + n) (length w)) (leb n (length w)) quiet _ (λ e. le→leb n (length w) (omega (arith, leb→le (floor fs + n) (length w) e)))
 
   call-first : (q n : ℕ) (d : Data) → told (guard (leb (floor fs + n) (cells d)) (enter q d)) ≡ Due d (own n ∷ one-more ∷ [])
   unfolding enter
-  call-first q n (dat w h a l) = calls (leb (floor fs + n) (length w)) (ltb a 256) q quiet _
+  call-first q n (contents w h a l) = calls (leb (floor fs + n) (length w)) (ltb a 256) q quiet _
 
   enter-first : (q : ℕ) (d : Data) → told (enter q d) ≡ Due d (one-more ∷ [])
   unfolding enter
-  enter-first q (dat w h a l) = enters (ltb a 256) q quiet _
+  enter-first q (contents w h a l) = enters (ltb a 256) q quiet _
 
 -- the result's cell is the first of those that stay
-return-first : (ps : List ℕ) (r b k : ℕ) (f : Fate) (q : ℕ) (ps' : List ℕ) (fs : List Frame) (d : Data) → told (leave f q b d) ≡ Due ps (fr r b k f q ps' ∷ fs) d (activation ∷ given-back ∷ [])
+return-first : (ps : List ℕ) (r b k : ℕ) (f : Fate) (q : ℕ) (ps' : List ℕ) (fs : List Activation) (d : Data) → told (leave f q b d) ≡ Due ps (activation r b k f q ps' ∷ fs) d (someActivation ∷ given-back ∷ [])
 unfolding leave
-return-first ps r b k kept q ps' fs (dat w h a l) =
+return-first ps r b k kept q ps' fs (contents w h a l) =
     returns (ltb b (length w)) (plain (getD w (length w - suc b) Unset)) (unset (getD w (length w - suc b) Unset)) (given q (drop (length w - suc b) w) h (a - 1) l) λ e.
     let n : length w - suc b < length w = omega (arith, leb→le (suc b) (length w) e) in
     rw (drop-cons w (length w - suc b) Unset n) (results q (getD w (length w - suc b) Unset) (drop (suc (length w - suc b)) w) h (a - 1) l)
-return-first ps r b k gone q ps' fs (dat w h a l) = goes-back (leb b (length w)) quiet _
+return-first ps r b k gone q ps' fs (contents w h a l) = goes-back (leb b (length w)) quiet _
 
 -- a name formal's actual is worked out where the cell is a name formal's
-work-first : (t : ℕ) (c : Cell) (f : ℕ) (e : Fate) (q q' pc : ℕ) (ps : List ℕ) (fs : List Frame) (d : Data)
+work-first : (t : ℕ) (c : Cell) (f : ℕ) (e : Fate) (q q' pc : ℕ) (ps : List ℕ) (fs : List Activation) (d : Data)
     → answered (suc t) (workOut c f e q q' pc ps fs d) ≡ given-out ((noInstruction, unnamed c) ∷ (activations, fails ps fs d one-more) ∷ [])
 unfolding workOut given-out
 work-first t Unset f e q q' pc ps fs d = refl
 work-first t (Holds v) f e q q' pc ps fs d = refl
 work-first t (Named m) f e q q' pc ps fs d = lift-told t pc _ _ ∙ enter-first ps fs q d
 
-exec-first : (t : ℕ) (i : Instr) (pc : ℕ) (ps : List ℕ) (fs : List Frame) (d : Data) → answered (suc t) (exec i pc ps fs d) ≡ Due ps fs d (asks fs d i)
+exec-first : (t : ℕ) (i : Instruction) (pc : ℕ) (ps : List ℕ) (fs : List Activation) (d : Data) → answered (suc t) (exec i pc ps fs d) ≡ Due ps fs d (asks fs d i)
 unfolding exec given-out
 exec-first t END pc ps fs d = refl
 exec-first t (DO a) pc ps fs d = lift-told t pc _ _ ∙ act-first ps fs (cellIn fs d) a d
@@ -594,8 +594,8 @@ exec-first t (JUMP l) pc ps fs d = refl
 exec-first t (ENTER q n l) pc ps fs d = lift-told t pc _ _ ∙ open-first ps fs q n d
 exec-first t (LEAVE n) pc ps fs d = lift-told t pc _ _ ∙ close-first ps fs n d
 exec-first t (CALL q l u n f) pc ps fs d = lift-told t pc _ _ ∙ call-first ps fs q n d
-exec-first t RETURN pc ps [] (dat w h a l) = refl
-exec-first t RETURN pc ps (fr r b l f q ps' ∷ fs) d = lift-told t pc _ _ ∙ return-first ps r b l f q ps' fs d
+exec-first t RETURN pc ps [] (contents w h a l) = refl
+exec-first t RETURN pc ps (activation r b l f q ps' ∷ fs) d = lift-told t pc _ _ ∙ return-first ps r b l f q ps' fs d
 exec-first t (GO m l r) pc ps fs d = positions t pc (eqb m (length ps)) _
 exec-first t (NEXT m) pc [] fs d = rw (eqb·suc-zero m)
 exec-first t (NEXT m) pc (r ∷ ps) fs d = rw (eqb·suc-suc m (length ps)) (positions t pc (eqb m (length ps)) _)
@@ -609,7 +609,7 @@ exec-first t (PASS q u o) pc ps (x ∷ fs) d =
 exec-first t REFUSE pc ps [] d = refl
 exec-first t REFUSE pc ps (x ∷ fs) d = refl
 
-obey-first : (t : ℕ) (i : Option Instr) (pc : ℕ) (ps : List ℕ) (fs : List Frame) (d : Data) → answered t (obey i pc ps fs d) ≡ first order (due ps fs d (left t ∷ asked fs d i))
+obey-first : (t : ℕ) (i : Option Instruction) (pc : ℕ) (ps : List ℕ) (fs : List Activation) (d : Data) → answered t (obey i pc ps fs d) ≡ first order (due ps fs d (left t ∷ asked fs d i))
 unfolding obey given-out
 obey-first zero i pc ps fs d = refl
 obey-first (suc t) none pc ps fs d = refl
@@ -618,20 +618,20 @@ obey-first (suc t) (some i) pc ps fs d = exec-first t i pc ps fs d
 -- ---- the law, for any words and any state
 
 -- what stands at the counter asks for this, with t instructions left
-abbrev pub demands : List ℕ → ℕ → Mach → List (ℕ × Bool)
-demands words t (ms pc ps fs d) = due ps fs d (left t ∷ asked fs d (fetch words pc))
+abbrev pub demands : List ℕ → ℕ → Running → List (ℕ × Bool)
+demands words t (running pc ps fs d) = due ps fs d (left t ∷ asked fs d (fetch words pc))
 
-pub in-order : (words : List ℕ) (t : ℕ) (m : Mach) → answered t (step words m) ≡ first order (demands words t m)
+pub in-order : (words : List ℕ) (t : ℕ) (m : Running) → answered t (step words m) ≡ first order (demands words t m)
 unfolding step
-in-order words t (ms pc ps fs d) = obey-first t (fetch words pc) pc ps fs d
+in-order words t (running pc ps fs d) = obey-first t (fetch words pc) pc ps fs d
 
 -- .. and it is what the run answers
-pub run-answers : (words : List ℕ) (t n : ℕ) (m : Mach) (o : Trace) (a : ℕ) → first order (demands words t m) ≡ some a → stopNumber (finish (run (step words) t m n o) .stop) ≡ a
+pub run-answers : (words : List ℕ) (t n : ℕ) (m : Running) (o : Trace) (a : ℕ) → first order (demands words t m) ≡ some a → stopNumber (finish (run (step words) t m n o) .stop) ≡ a
 unfolding run finish
 run-answers words zero n m o a e = let z : answered 0 (step words m) ≡ some a = in-order words 0 m ∙ e in cc
 run-answers words (suc t) n m o a e = go (step words m) (in-order words (suc t) m ∙ e)
   where
-    go : (x : Out Mach) → answered (suc t) x ≡ some a → stopNumber (finish (after x n o (run (step words) t)) .stop) ≡ a
+    go : (x : Out Running) → answered (suc t) x ≡ some a → stopNumber (finish (after x n o (run (step words) t)) .stop) ≡ a
     go (halt q) e = cc
     go (next k y m') e = absurd (let z : _≡_ {A = ℕ} 0 1 = cc in omega arith)
 
@@ -657,7 +657,7 @@ unset-or-so f Unset = refl
 unset-or-so f (Holds v) = and-no (f v || false)
 unset-or-so f (Named m) = refl
 
-module _ (ps : List ℕ) (fs : List Frame) (t : ℕ) where
+module _ (ps : List ℕ) (fs : List Activation) (t : ℕ) where
   abbrev is : ℕ → Act ℕ → Data → Bool
   is n a d = is-due n (due ps fs d (left t ∷ asksAct a))
 
@@ -672,28 +672,28 @@ module _ (ps : List ℕ) (fs : List Frame) (t : ℕ) where
   act-apart (send q) d = (refl, refl, refl, refl)
   act-apart keep d = (refl, refl, refl, refl)
   act-apart (unary q o) d = (refl, and-no (is range (unary q o) d), and-no (is range (unary q o) d), refl)
-  act-apart (binary q o) (dat [] h a l) = (refl, refl, refl, refl)
-  act-apart (binary q o) (dat (Unset ∷ w) h a l) = (refl, refl, refl, refl)
-  act-apart (binary q o) (dat (Named m ∷ w) h a l) = (refl, refl, refl, refl)
-  act-apart (binary q o) (dat (Holds y ∷ []) h a l) = (refl, refl, refl, refl)
-  act-apart (binary q o) (dat (Holds y ∷ Named m ∷ w) h a l) = (refl, refl, refl, refl)
-  act-apart (binary q o) (dat (Holds y ∷ Unset ∷ w) h a l) = (refl, refl, refl, refl)
-  act-apart (binary q o) (dat (Holds y ∷ Holds x ∷ w) h a l) =
-      let d : Data = dat (Holds y ∷ Holds x ∷ w) h a l in
+  act-apart (binary q o) (contents [] h a l) = (refl, refl, refl, refl)
+  act-apart (binary q o) (contents (Unset ∷ w) h a l) = (refl, refl, refl, refl)
+  act-apart (binary q o) (contents (Named m ∷ w) h a l) = (refl, refl, refl, refl)
+  act-apart (binary q o) (contents (Holds y ∷ []) h a l) = (refl, refl, refl, refl)
+  act-apart (binary q o) (contents (Holds y ∷ Named m ∷ w) h a l) = (refl, refl, refl, refl)
+  act-apart (binary q o) (contents (Holds y ∷ Unset ∷ w) h a l) = (refl, refl, refl, refl)
+  act-apart (binary q o) (contents (Holds y ∷ Holds x ∷ w) h a l) =
+      let d : Data = contents (Holds y ∷ Holds x ∷ w) h a l in
       (refl, one-fault (apply2 o x y) (binary-faulty o x y), and-no (is range (binary q o) d), and-no (is zeroDivisor (binary q o) d))
   act-apart (lend c) d = (refl, refl, refl, refl)
   act-apart (tested q) d = (refl, refl, refl, refl)
-  act-apart (added q c) (dat [] h a l) = (refl, refl, refl, refl)
-  act-apart (added q c) (dat (Unset ∷ w) h a l) = (refl, refl, refl, refl)
-  act-apart (added q c) (dat (Named m ∷ w) h a l) = (refl, refl, refl, refl)
-  act-apart (added q c) (dat (Holds x ∷ w) h a l) =
-      (refl, and-no (is range (added q c) (dat (Holds x ∷ w) h a l)), unset-or-so (λ v. fault range (whole (v +ℤ x))) (look c (dat w h a l)), refl)
+  act-apart (added q c) (contents [] h a l) = (refl, refl, refl, refl)
+  act-apart (added q c) (contents (Unset ∷ w) h a l) = (refl, refl, refl, refl)
+  act-apart (added q c) (contents (Named m ∷ w) h a l) = (refl, refl, refl, refl)
+  act-apart (added q c) (contents (Holds x ∷ w) h a l) =
+      (refl, and-no (is range (added q c) (contents (Holds x ∷ w) h a l)), unset-or-so (λ v. fault range (whole (v +ℤ x))) (look c (contents w h a l)), refl)
 
   test-apart : (a : Test ℕ) (d : Data) → Apart (due ps fs d (left t ∷ asksTest a))
   test-apart condition d = (refl, refl, refl, refl)
   test-apart (upto q c) d = (refl, refl, refl, refl)
 
-  asked-apart : (i : Option Instr) (d : Data) → Apart (due ps fs d (left t ∷ asked fs d i))
+  asked-apart : (i : Option Instruction) (d : Data) → Apart (due ps fs d (left t ∷ asked fs d i))
   asked-apart none d = (refl, refl, refl, refl)
   asked-apart (some END) d = (refl, refl, refl, refl)
   asked-apart (some (DO a)) d = act-apart (actOn (cellIn fs d) a) d
@@ -711,5 +711,5 @@ module _ (ps : List ℕ) (fs : List Frame) (t : ℕ) where
   asked-apart (some (PASS q u o)) d = (refl, refl, refl, refl)
   asked-apart (some REFUSE) d = (refl, refl, refl, refl)
 
-pub apart : (words : List ℕ) (t : ℕ) (m : Mach) → Apart (demands words t m)
-apart words t (ms pc ps fs d) = asked-apart ps fs t (fetch words pc) d
+pub apart : (words : List ℕ) (t : ℕ) (m : Running) → Apart (demands words t m)
+apart words t (running pc ps fs d) = asked-apart ps fs t (fetch words pc) d

@@ -14,7 +14,7 @@ use Rattle.machine.specs.declared.Value.the-variants.{Is, Fault as Refus
 use Rattle.machine.specs.Run.{run}
 use Rattle.machine.specs.Data.{work, test, openBlock, closeBlock, enter, leave, given, newCells, newest, onValue, back, look, put, reading, valued, hold, unhold, held, foundIn, find, nameCell, input, space, rest, spend, taking, writing, lift, guard, check}
 use Rattle.machine.specs.Instructions.{fetch, decode, actOf, unaryOf, binaryOf}
-use Rattle.machine.specs.Machine.{Finish, machine, finish, stray, step, obey, exec, workOut, frameAt, walk, cellIn, afterwards}
+use Rattle.machine.specs.Machine.{Finish, machine, finish, stray, step, obey, exec, workOut, activationAt, walk, cellIn, afterwards}
 
 -- a run: the words of its code, the input, the limit, the cells and the room lent; then how it stops, and what it has done, taken and written
 data Row : Type 0 where
@@ -182,7 +182,7 @@ each [] e = tt
 each (r ∷ l) e = (cc, each l (cc))
 
 computed : map comes rows ≡ map expected rows
-unfolding rows machine finish run step obey exec fetch decode actOf unaryOf binaryOf work test openBlock closeBlock enter leave given newCells newest onValue back look put reading valued hold unhold held input space rest spend taking writing lift guard check frameAt walk cellIn whole apply1 apply2 past workOut nameCell foundIn find
+unfolding rows machine finish run step obey exec fetch decode actOf unaryOf binaryOf work test openBlock closeBlock enter leave given newCells newest onValue back look put reading valued hold unhold held input space rest spend taking writing lift guard check activationAt walk cellIn whole apply1 apply2 past workOut nameCell foundIn find
 computed = refl
 
 all-hold : All rows
@@ -206,5 +206,5 @@ second (x ∷ pos n ∷ l) = n
 second (x ∷ negsuc n ∷ l) = 0
 
 touched : ¬ (afterwards (machine (12 ∷ 1 ∷ 12 ∷ 8 ∷ 19 ∷ 0 ∷ 1 ∷ 0 ∷ []) [] 1000 6 3) [] (pos 9 ∷ pos 9 ∷ pos 9 ∷ []) .output ≡ pos 8 ∷ pos 0 ∷ pos 9 ∷ [])
-unfolding machine run step fetch decode actOf unaryOf binaryOf obey exec finish frameAt walk cellIn work test openBlock closeBlock enter leave given newCells newest onValue back look put reading valued hold unhold held input space rest spend taking writing lift guard check whole apply1 apply2 past afterwards
+unfolding machine run step fetch decode actOf unaryOf binaryOf obey exec finish activationAt walk cellIn work test openBlock closeBlock enter leave given newCells newest onValue back look put reading valued hold unhold held input space rest spend taking writing lift guard check whole apply1 apply2 past afterwards
 touched h = let z : _≡_ {A = ℕ} 9 0 = ap second h in omega arith

@@ -18,7 +18,7 @@ use Rattle.answers.specs.Answers.{answer}
 use Rattle.machine.specs.Values.{isZero, same, truth, isTrue, sign, whole, Unary, minus, negation, absolute, apply1, Binary, plus, less, times, over, below, atMost, equal, atLeast, above, unequal, and, or, impl, equiv, apply2}
 use Rattle.machine.specs.declared.Value.{Value}
 use Rattle.machine.specs.declared.Value.the-variants.{Is, Fault}
-use Rattle.machine.specs.Model.{FittingV}
+use Rattle.machine.specs.model.Holding.{FittingV}
 
 -- ---- how large a result is. `mag` is what a width bounds; `natAbs`, one more below 0, is the same for a number and its negative
 

@@ -22,7 +22,7 @@ use Rattle.machine.specs.declared.Cell.the-variants.{Unset, Holds, Named
 use Rattle.machine.specs.declared.Number.the-variants.{Not}
 use Rattle.machine.specs.declared.Counts.{Counts}
 use Rattle.machine.specs.Data.{plain}
-use Rattle.machine.specs.Model.{Fitting, numberIn, numbers, firstName, names, otherOf, cellOf, numberOf, cellAt, putAt, roomOf, unassigned, cellsOf, heldIn, heldOf, Sound}
+use Rattle.machine.specs.model.Holding.{Fitting, numberIn, numbers, firstName, names, otherOf, cellOf, numberOf, cellAt, putAt, roomOf, unassigned, cellsOf, heldIn, heldOf, Sound}
 
 cell-back : (x : Cell) → Fitting x → cellOf (numberOf x) ≡ x
 unfolding cellOf otherOf numberOf

@@ -20,8 +20,8 @@ use Rattle.machine.specs.declared.Number.{Number}
 use Rattle.machine.specs.declared.Number.the-variants.{Is, Not}
 use Rattle.machine.specs.Values.{past}
 use Rattle.machine.specs.Run.{say, wrote}
-use Rattle.machine.specs.Data.{dat, Lent, Res, wrong, guard, input, space, rest, spend, back, hold, unhold, held, closeBlock, kept, gone, given, leave}
-use Rattle.machine.specs.Model.{Own, left, numberIn, heldIn, cellAt, putAt, roomOf, cellsOf, heldOf, dataOf, traceOf, told, fine, ill, lost, holding, HeldIn, Sound}
+use Rattle.machine.specs.Data.{contents, Lent, Result, wrong, guard, input, space, rest, spend, back, hold, unhold, held, closeBlock, kept, gone, given, leave}
+use Rattle.machine.specs.model.Holding.{Own, left, numberIn, heldIn, cellAt, putAt, roomOf, cellsOf, heldOf, dataOf, traceOf, told, fine, ill, lost, holding, HeldIn, Sound}
 use Rattle.machine.proofs.Stacks.{cells-length, cells-cons, cells-drop, held-cons, held-drop, room-put, sound-same}
 use Rattle.machine.proofs.Kept.{hold-data, sound-hold}
 
@@ -102,25 +102,25 @@ held-in n s {r} {u} g e h z =
     let w : u ≡ numberIn (cellAt s (roomOf s - n .held)) = z ∙ rw e in
     subst (λ (v : Number). HeldIn n v s) (sym (w ∙ ap numberIn y)) (h, held-cons (n .held) s h)
 
-held-zero : {A : Type 0} (f : ℤ → Res A) (k : ℕ) (w : List Cell) (s : List ℤ) (a : ℕ) (l : Lent) → k ≡ 0 → held f (dat w (heldOf k s) a l) ≡ wrong
+held-zero : {A : Type 0} (f : ℤ → Result A) (k : ℕ) (w : List Cell) (s : List ℤ) (a : ℕ) (l : Lent) → k ≡ 0 → held f (contents w (heldOf k s) a l) ≡ wrong
 unfolding held heldOf
 held-zero f zero w s a l h = refl
 held-zero f (suc k) w s a l h = absurd (omega arith)
 
 module _ {A : Type 0} (n : Counts) (a : Own) (s i o : List ℤ) where
-  pub none-held : n .held ≡ 0 → (f : ℤ → Res A) → held f (dataOf n a s i o) ≡ wrong
+  pub none-held : n .held ≡ 0 → (f : ℤ → Result A) → held f (dataOf n a s i o) ≡ wrong
   none-held h f = held-zero f (n .held) _ s (a .live) _ h
 
   -- whatever it is
-  pub some-held : 1 ≤ n .held → (r : Res A) → held (λ y. r) (dataOf n a s i o) ≡ r
+  pub some-held : 1 ≤ n .held → (r : Result A) → held (λ y. r) (dataOf n a s i o) ≡ r
   unfolding held
   some-held h r = rw (held-cons (n .held) s h)
 
   module _ {u : Number} where
-    pub held-none : u ≡ Not → HeldIn n u s → (f : ℤ → Res A) → held f (dataOf n a s i o) ≡ wrong
+    pub held-none : u ≡ Not → HeldIn n u s → (f : ℤ → Result A) → held f (dataOf n a s i o) ≡ wrong
     held-none e h = none-held (subst (λ (w : Number). HeldIn n w s) e h)
 
-    pub held-some : {x : ℤ} → u ≡ Is x → HeldIn n u s → (f : ℤ → Res A) → held f (dataOf n a s i o) ≡ f x
+    pub held-some : {x : ℤ} → u ≡ Is x → HeldIn n u s → (f : ℤ → Result A) → held f (dataOf n a s i o) ≡ f x
     unfolding held
     held-some e h f = rw (subst (λ (w : Number). HeldIn n w s) e h .1)
 

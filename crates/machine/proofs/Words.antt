@@ -11,8 +11,8 @@ use mir.Facts.{toZ-ofZ}
 use Rattle.machine.specs.Operations.{o-end, o-jump, o-enter, o-leave, o-call-needed, o-call, o-return, o-go, o-next, o-unless, o-test, o-name, o-work, o-seek, o-pass, o-refuse}
 use Rattle.machine.specs.Values.{minus, negation, absolute, plus, less, times, over, below, atMost, equal, atLeast, above, unequal, and, or, impl, equiv}
 use Rattle.machine.specs.Data.{Act, push, load, store, assign, reserve, forget, receive, send, keep, unary, binary, lend, channel, sum, condition, upto, kept, gone}
-use Rattle.machine.specs.Instructions.{Loc, lc, fnd, Instr, END, DO, IF, JUMP, ENTER, LEAVE, CALL, RETURN, GO, NEXT, NAME, WORK, SEEK, PASS, REFUSE, sixBits, thirteenBits, foundOffset, pack, high, mid, low, variable, unaryOf, binaryOf, actOf, decode, instruction}
-use Rattle.machine.specs.Words.{beside, partsOfAct, partsOf, firstWord, LocFits, ActFits, InstrFits}
+use Rattle.machine.specs.Instructions.{Location, located, cellFound, Instruction, END, DO, IF, JUMP, ENTER, LEAVE, CALL, RETURN, GO, NEXT, NAME, WORK, SEEK, PASS, REFUSE, sixBits, thirteenBits, foundOffset, pack, high, mid, low, variable, unaryOf, binaryOf, actOf, decode, instruction}
+use Rattle.machine.specs.model.Words.{beside, partsOfAct, partsOf, firstWord, LocFits, ActFits, InstrFits}
 
 -- ---- one packing, read back
 
@@ -42,24 +42,24 @@ not-found o x y h = go (eqb o foundOffset) refl
     go false e = refl
 
 -- a variable; and the cell found, whose offset no variable has
-variable-back : (u o l : ℕ) → o < foundOffset → l < thirteenBits → variable (pack u o l) ≡ lc u o
+variable-back : (u o l : ℕ) → o < foundOffset → l < thirteenBits → variable (pack u o l) ≡ located u o
 variable-back u o l h h' =
     let h'' : o < thirteenBits = omega arith in
-    ap (λ m. cond (eqb m foundOffset) fnd (lc (high (pack u o l)) m)) (mid-pack u o l h'' h') ∙ not-found o fnd (lc (high (pack u o l)) o) h ∙ ap (λ a. lc a o) (high-pack u o l h'' h')
+    ap (λ m. cond (eqb m foundOffset) cellFound (located (high (pack u o l)) m)) (mid-pack u o l h'' h') ∙ not-found o cellFound (located (high (pack u o l)) o) h ∙ ap (λ a. located a o) (high-pack u o l h'' h')
 
-found-back : (l : ℕ) → l < thirteenBits → variable (pack 0 foundOffset l) ≡ fnd
-found-back l h = ap (λ m. cond (eqb m foundOffset) fnd (lc (high (pack 0 foundOffset l)) m)) (mid-pack 0 foundOffset l (omega arith) h)
+found-back : (l : ℕ) → l < thirteenBits → variable (pack 0 foundOffset l) ≡ cellFound
+found-back l h = ap (λ m. cond (eqb m foundOffset) cellFound (located (high (pack 0 foundOffset l)) m)) (mid-pack 0 foundOffset l (omega arith) h)
 
-loc-back : (x : Loc) (l : ℕ) → LocFits x → l < thirteenBits → variable (beside x l) ≡ x
-loc-back (lc u o) l h h' = variable-back u o l (h .1) h'
-loc-back fnd l h h' = found-back l h'
+loc-back : (x : Location) (l : ℕ) → LocFits x → l < thirteenBits → variable (beside x l) ≡ x
+loc-back (located u o) l h h' = variable-back u o l (h .1) h'
+loc-back cellFound l h h' = found-back l h'
 
-low-beside : (x : Loc) (l : ℕ) → LocFits x → l < thirteenBits → low (beside x l) ≡ l
-low-beside (lc u o) l h h' = low-pack u o l (omega (arith, h .1)) h'
-low-beside fnd l h h' = low-pack 0 foundOffset l (omega arith) h'
+low-beside : (x : Location) (l : ℕ) → LocFits x → l < thirteenBits → low (beside x l) ≡ l
+low-beside (located u o) l h h' = low-pack u o l (omega (arith, h .1)) h'
+low-beside cellFound l h h' = low-pack 0 foundOffset l (omega arith) h'
 
 -- an operation on the data
-back-act : (a : Act Loc) → ActFits a → decode (partsOfAct a .operation) (partsOfAct a .place) (partsOfAct a .operand) ≡ some (DO a)
+back-act : (a : Act Location) → ActFits a → decode (partsOfAct a .operation) (partsOfAct a .place) (partsOfAct a .operand) ≡ some (DO a)
 unfolding decode actOf unaryOf binaryOf
 back-act (push q v) h = ap (λ v. some (DO (push q v))) (toZ-ofZ {w = w32} (record { sfits = h }))
 back-act (load q x) h = ap (λ x. some (DO (load q x))) (loc-back x 0 h (omega arith))
@@ -92,7 +92,7 @@ back-act (channel q) h = refl
 back-act (sum q x) h = ap (λ x. some (DO (sum q x))) (loc-back x 0 h (omega arith))
 
 -- the operation of an operation on the data is below 64
-pub act-below : (a : Act Loc) → partsOfAct a .operation < sixBits
+pub act-below : (a : Act Location) → partsOfAct a .operation < sixBits
 act-below (push q v) = omega arith
 act-below (load q x) = omega arith
 act-below (store x) = omega arith
@@ -124,7 +124,7 @@ act-below (channel q) = omega arith
 act-below (sum q x) = omega arith
 
 -- the read-back law
-pub back : (i : Instr) → InstrFits i → instruction (firstWord (partsOf i)) (partsOf i .operand) ≡ some i
+pub back : (i : Instruction) → InstrFits i → instruction (firstWord (partsOf i)) (partsOf i .operand) ≡ some i
 unfolding decode
 back END h = read-first o-end 0 0 (omega arith)
 back (JUMP l) h = read-first o-jump 0 _ (omega arith) ∙ ap (λ l. some (JUMP l)) (low-pack 0 0 l (omega arith) h)

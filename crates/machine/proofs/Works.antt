@@ -15,12 +15,12 @@ use Rattle.machine.specs.declared.Value.{Value}
 use Rattle.machine.specs.declared.Value.the-variants.{Is, Fault}
 use Rattle.machine.specs.Values.{isZero, same, past, whole, Unary, apply1, Binary, apply2}
 use Rattle.machine.specs.Run.{Trace, say, quiet, wrote, took}
-use Rattle.machine.specs.Data.{Data, cells, Res, wrong, good, guard, check, value, nothing, newest, onValue, two, back, put, look, plain, newCells, reading, valued, within, nameCell, onChannel, taking, writing, input, space, rest, spend, hold, unhold, held, find, Act, push, load, store, assign, reserve, forget, receive, send, keep, unary, binary, lend, channel, sum, work, Two, yea, nay, condition, upto, test}
-use Rattle.machine.specs.Model.{fine, ill, lost, told, numberIn}
+use Rattle.machine.specs.Data.{Data, cells, Result, wrong, good, guard, check, value, nothing, newest, onValue, two, back, put, look, plain, newCells, reading, valued, within, nameCell, onChannel, taking, writing, input, space, rest, spend, hold, unhold, held, find, Act, push, load, store, assign, reserve, forget, receive, send, keep, unary, binary, lend, channel, sum, work, Two, yea, nay, condition, upto, test}
+use Rattle.machine.specs.model.Holding.{fine, ill, lost, told, numberIn}
 
 -- ---- values used
 
-module _ (f : ℤ → ℤ → Data → Res Data) (d : Data) where
+module _ (f : ℤ → ℤ → Data → Result Data) (d : Data) where
   pub two-none : newest d ≡ nothing → two f d ≡ wrong
   unfolding onValue
   two-none e = rw e
@@ -49,7 +49,7 @@ pub not-plain : {r b : Bool} → r ≡ b → not r ≡ true → b ≡ false
 not-plain {r = true} e h = absurd (false≢true h)
 not-plain {r = false} e h = sym e
 
-module _ (t : Trace) (q : ℕ) (f : ℤ → Res Data) (x : Cell) where
+module _ (t : Trace) (q : ℕ) (f : ℤ → Result Data) (x : Cell) where
   pub unread-unset : numberIn x ≡ Not → plain x ≡ true → ill unassigned q ≡ told t (guard (plain x) (reading q f x))
   unfolding told guard reading
   unread-unset e p = rw (unset-is x e p)
@@ -130,11 +130,11 @@ module _ (t : Trace) (d : Data) where
     unary-some e r k p = rw (e, r, k, p)
 
   module _ (q : ℕ) (o : Binary) where
-    pub binary-none : ((f : ℤ → ℤ → Data → Res Data) → two f d ≡ wrong) → lost ≡ told t (work (binary q o) d)
+    pub binary-none : ((f : ℤ → ℤ → Data → Result Data) → two f d ≡ wrong) → lost ≡ told t (work (binary q o) d)
     unfolding work told
     binary-none e = sym (ap (told t) (e _))
 
-    pub binary-some : {x y x' y' : ℤ} {m : Data} {t' : Trace} {w : Value} → ((f : ℤ → ℤ → Data → Res Data) → two f d ≡ f x y m) → t' ≡ t → w ≡ apply2 o x' y' → x' ≡ x → y' ≡ y
+    pub binary-some : {x y x' y' : ℤ} {m : Data} {t' : Trace} {w : Value} → ((f : ℤ → ℤ → Data → Result Data) → two f d ≡ f x y m) → t' ≡ t → w ≡ apply2 o x' y' → x' ≡ x → y' ≡ y
         → told t' (valued q (λ v. good quiet (back v m)) w) ≡ told t (work (binary q o) d)
     unfolding work
     binary-some e r k p q' = rw (r, k, p, q') (sym (ap (told t) (e _)))
@@ -175,11 +175,11 @@ module _ (t : Trace) (d : Data) where
       taking-some g h p r z = rw (e, u, g, h, p, r, z)
 
   module _ (q : ℕ) where
-    pub send-none : ((f : ℤ → ℤ → Data → Res Data) → two f d ≡ wrong) → lost ≡ told t (work (send q) d)
+    pub send-none : ((f : ℤ → ℤ → Data → Result Data) → two f d ≡ wrong) → lost ≡ told t (work (send q) d)
     unfolding work told
     send-none e = sym (ap (told t) (e _))
 
-    pub send-some : {k v k' v' : ℤ} {m : Data} {t' : Trace} → ((f : ℤ → ℤ → Data → Res Data) → two f d ≡ f k v m) → t' ≡ t → k' ≡ k → v' ≡ v
+    pub send-some : {k v k' v' : ℤ} {m : Data} {t' : Trace} → ((f : ℤ → ℤ → Data → Result Data) → two f d ≡ f k v m) → t' ≡ t → k' ≡ k → v' ≡ v
         → told t' (onChannel q k' (writing q v' m)) ≡ told t (work (send q) d)
     unfolding work
     send-some e r p p' = rw (r, p, p') (sym (ap (told t) (e _)))
@@ -218,20 +218,20 @@ module _ (t : Trace) (d : Data) where
     upto-none e = rw e
 
     module _ {z : ℤ} {m : Data} (e : newest d ≡ value z m) where
-      pub sum-few : ((f : ℤ → Res Data) → held f m ≡ wrong) → lost ≡ told t (work (sum q c) d)
+      pub sum-few : ((f : ℤ → Result Data) → held f m ≡ wrong) → lost ≡ told t (work (sum q c) d)
       unfolding work told onValue
       sum-few g = rw e (sym (ap (told t) (g _)))
 
-      pub sum-some : {z' : ℤ} {t' : Trace} → ((r : Res Data) → held (λ y. r) m ≡ r) → t' ≡ t → z' ≡ z
+      pub sum-some : {z' : ℤ} {t' : Trace} → ((r : Result Data) → held (λ y. r) m ≡ r) → t' ≡ t → z' ≡ z
           → told t' (within c m (reading q (λ v. valued q (λ s. good quiet (back s (hold z' (unhold m)))) (whole (v +ℤ z'))) (look c m))) ≡ told t (work (sum q c) d)
       unfolding work onValue
       sum-some g r p = rw (e, r, p) (sym (ap (told t) (g _)))
 
-      pub upto-few : ((f : ℤ → Res Two) → held f m ≡ wrong) → lost ≡ told t (test (upto q c) d)
+      pub upto-few : ((f : ℤ → Result Two) → held f m ≡ wrong) → lost ≡ told t (test (upto q c) d)
       unfolding test told onValue
       upto-few g = rw e (sym (ap (told t) (g _)))
 
-      pub upto-some : {x x' z' : ℤ} {t' : Trace} → ((f : ℤ → Res Two) → held f m ≡ f x) → t' ≡ t → x' ≡ x → z' ≡ z
+      pub upto-some : {x x' z' : ℤ} {t' : Trace} → ((f : ℤ → Result Two) → held f m ≡ f x) → t' ≡ t → x' ≡ x → z' ≡ z
           → told t' (within c m (reading q (λ v. good quiet (cond (past v x' z') (nay (unhold m)) (yea m))) (look c m))) ≡ told t (test (upto q c) d)
       unfolding test onValue
       upto-some g r p p' = rw (e, r, p, p') (sym (ap (told t) (g _)))

@@ -23,7 +23,7 @@ use Rattle.machine.specs.Run.{Event, quiet, wrote, took, Out, halt, next
 -- what the run was lent: the cells that it may use, the input numbers not yet taken, and how many more may be written; and the cell that the
 -- last store through a name formal came to
 pub record Lent : Type 0 where
-  pub room : ℕ
+  pub cellsLent : ℕ
   pub input : List ℤ
   pub space : ℕ
   pub found : ℕ
@@ -32,40 +32,40 @@ pub record Lent : Type 0 where
 -- one per evaluated value until it is used; actuals become formals". Then the held steps, the newest first; then how many
 -- activations are live; then what was lent.
 pub data Data : Type 0 where
-  dat : List Cell → List ℤ → ℕ → Lent → Data
+  contents : List Cell → List ℤ → ℕ → Lent → Data
 
 abbrev pub cells : Data → ℕ
-cells (dat w h a x) = length w
+cells (contents w h a x) = length w
 
 -- ---- what an operation gives
 
 -- a fault (answer, place); what no translated program comes to; or what it tells and its result
-pub data Res (A : Type 0) : Type 0 where
-  bad : ℕ → ℕ → Res A
-  wrong : Res A
-  good : Event → A → Res A
+pub data Result (A : Type 0) : Type 0 where
+  bad : ℕ → ℕ → Result A
+  wrong : Result A
+  good : Event → A → Result A
 
 -- as a step that counts k: `w` is what is answered to `wrong`
-unfoldable pub lift : {A S : Type 0} → Stop → ℕ → (A → S) → Res A → Out S
+unfoldable pub lift : {A S : Type 0} → Stop → ℕ → (A → S) → Result A → Out S
 lift w k f (bad a q) = halt (Faulty (refusal a q))
 lift w k f wrong = halt w
 lift w k f (good e x) = next k e (f x)
 
-unfoldable pub guard : {A : Type 0} → Bool → Res A → Res A
+unfoldable pub guard : {A : Type 0} → Bool → Result A → Result A
 guard true r = r
 guard false r = wrong
 
 -- the fault a at q, where the test fails
-unfoldable pub check : {A : Type 0} → Bool → ℕ → ℕ → Res A → Res A
+unfoldable pub check : {A : Type 0} → Bool → ℕ → ℕ → Result A → Result A
 check true a q r = r
 check false a q r = bad a q
 
 -- ---- cells
 
 -- 26: "one more cell than the run may use". New cells with the contents x, for what stands at q; held values count
-unfoldable pub newCells : ℕ → List Cell → Data → Res Data
-newCells q x (dat w h a l) =
-    check (leb (length w + length h + length x) (l .room)) noCell q (good quiet (dat (x ++ w) h a l))
+unfoldable pub newCells : ℕ → List Cell → Data → Result Data
+newCells q x (contents w h a l) =
+    check (leb (length w + length h + length x) (l .cellsLent)) noCell q (good quiet (contents (x ++ w) h a l))
 
 -- the value in the newest cell, which goes
 pub data Took : Type 0 where
@@ -73,28 +73,28 @@ pub data Took : Type 0 where
   nothing : Took
 
 unfoldable pub newest : Data → Took
-newest (dat [] h a l) = nothing
-newest (dat (Unset ∷ w) h a l) = nothing
-newest (dat (Holds v ∷ w) h a l) = value v (dat w h a l)
-newest (dat (Named n ∷ w) h a l) = nothing
+newest (contents [] h a l) = nothing
+newest (contents (Unset ∷ w) h a l) = nothing
+newest (contents (Holds v ∷ w) h a l) = value v (contents w h a l)
+newest (contents (Named n ∷ w) h a l) = nothing
 
-unfoldable pub onValue : {A : Type 0} → (ℤ → Data → Res A) → Took → Res A
+unfoldable pub onValue : {A : Type 0} → (ℤ → Data → Result A) → Took → Result A
 onValue f (value v d) = f v d
 onValue f nothing = wrong
 
 -- a value is used; two are, the newer one last
-abbrev pub one : {A : Type 0} → (ℤ → Data → Res A) → Data → Res A
+abbrev pub one : {A : Type 0} → (ℤ → Data → Result A) → Data → Result A
 one f d = onValue f (newest d)
 
-abbrev pub two : {A : Type 0} → (ℤ → ℤ → Data → Res A) → Data → Res A
+abbrev pub two : {A : Type 0} → (ℤ → ℤ → Data → Result A) → Data → Result A
 two f d = one (λ y. one (λ x. f x y)) d
 
 -- a value in the place of those that were used: no new cell
 unfoldable pub back : ℤ → Data → Data
-back v (dat w h a l) = dat (Holds v ∷ w) h a l
+back v (contents w h a l) = contents (Holds v ∷ w) h a l
 
 unfoldable pub look : ℕ → Data → Cell
-look c (dat w h a l) = getD w (length w - suc c) Unset
+look c (contents w h a l) = getD w (length w - suc c) Unset
 
 -- no name formal's cell
 abbrev pub plain : Cell → Bool
@@ -103,69 +103,69 @@ plain (Holds v) = true
 plain (Named n) = false
 
 -- cell c is in use, and no name formal's
-abbrev pub within : {A : Type 0} → ℕ → Data → Res A → Res A
+abbrev pub within : {A : Type 0} → ℕ → Data → Result A → Result A
 within c d r = guard (ltb c (cells d)) (guard (plain (look c d)) r)
 
 unfoldable pub put : ℕ → ℤ → Data → Data
-put c v (dat w h a l) = dat (set w (length w - suc c) (Holds v)) h a l
+put c v (contents w h a l) = contents (set w (length w - suc c) (Holds v)) h a l
 
 -- what stands in a cell, or 23: "unassigned variable, formal or needed result read"
-unfoldable pub reading : {A : Type 0} → ℕ → (ℤ → Res A) → Cell → Res A
+unfoldable pub reading : {A : Type 0} → ℕ → (ℤ → Result A) → Cell → Result A
 reading q f Unset = bad unassigned q
 reading q f (Holds v) = f v
 reading q f (Named n) = wrong
 
 -- what an operator gives, or its fault
-unfoldable pub valued : {A : Type 0} → ℕ → (ℤ → Res A) → Value → Res A
+unfoldable pub valued : {A : Type 0} → ℕ → (ℤ → Result A) → Value → Result A
 valued q f (Is v) = f v
 valued q f (Fault a) = bad (a .number) q
 
 -- ---- held steps
 
 unfoldable pub hold : ℤ → Data → Data
-hold x (dat w h a l) = dat w (x ∷ h) a l
+hold x (contents w h a l) = contents w (x ∷ h) a l
 
 unfoldable pub unhold : Data → Data
-unhold (dat w h a l) = dat w (drop 1 h) a l
+unhold (contents w h a l) = contents w (drop 1 h) a l
 
 -- the newest step
-unfoldable pub held : {A : Type 0} → (ℤ → Res A) → Data → Res A
-held f (dat w [] a l) = wrong
-held f (dat w (x ∷ h) a l) = f x
+unfoldable pub held : {A : Type 0} → (ℤ → Result A) → Data → Result A
+held f (contents w [] a l) = wrong
+held f (contents w (x ∷ h) a l) = f x
 
 -- ---- the cell found
 
 unfoldable pub foundIn : Data → ℕ
-foundIn (dat w h a l) = l .found
+foundIn (contents w h a l) = l .found
 
 unfoldable pub find : ℕ → Data → Data
-find c (dat w h a l) = dat w h a (record { room = l .room; input = l .input; space = l .space; found = c })
+find c (contents w h a l) = contents w h a (record { cellsLent = l .cellsLent; input = l .input; space = l .space; found = c })
 
 -- ---- input and output
 
 unfoldable pub input : Data → List ℤ
-input (dat w h a l) = l .input
+input (contents w h a l) = l .input
 
 unfoldable pub space : Data → ℕ
-space (dat w h a l) = l .space
+space (contents w h a l) = l .space
 
 unfoldable pub rest : List ℤ → Data → Data
-rest i (dat w h a l) = dat w h a (record { room = l .room; input = i; space = l .space; found = l .found })
+rest i (contents w h a l) = contents w h a (record { cellsLent = l .cellsLent; input = i; space = l .space; found = l .found })
 
 unfoldable pub spend : Data → Data
-spend (dat w h a l) = dat w h a (record { room = l .room; input = l .input; space = l .space - 1; found = l .found })
+spend (contents w h a l) = contents w h a (record { cellsLent = l .cellsLent; input = l .input; space = l .space - 1; found = l .found })
 
 -- 24: "input ended". The next number goes to cell c
-unfoldable pub taking : ℕ → ℕ → Data → List ℤ → Res Data
+unfoldable pub taking : ℕ → ℕ → Data → List ℤ → Result Data
 taking q c d [] = bad inputEnded q
 taking q c d (v ∷ i) = good took (put c v (rest i d))
 
 -- 25: "output full"
-unfoldable pub writing : ℕ → ℤ → Data → Res Data
+unfoldable pub writing : ℕ → ℤ → Data → Result Data
 writing q v d = check (ltb 0 (space d)) outputFull q (good (wrote v) (spend d))
 
 -- 28: "channel not 1"
-abbrev pub onChannel : {A : Type 0} → ℕ → ℤ → Res A → Res A
+abbrev pub onChannel : {A : Type 0} → ℕ → ℤ → Result A → Result A
 onChannel q k r = check (same k (pos 1)) noChannel q r
 
 -- ---- the operations, over what names a variable
@@ -211,7 +211,7 @@ actOn f (lend x) = lend (f x)
 actOn f (channel q) = channel q
 actOn f (sum q x) = sum q (f x)
 
-unfoldable pub work : Act ℕ → Data → Res Data
+unfoldable pub work : Act ℕ → Data → Result Data
 work (push q v) d = newCells q (Holds v ∷ []) d
 work (load q c) d = within c d (reading q (λ v. newCells q (Holds v ∷ []) d) (look c d))
 -- "A left part list takes one value, stored left to right"
@@ -270,7 +270,7 @@ testOn f condition = condition
 testOn f (upto q x) = upto q (f x)
 
 -- the step is held until the loop is left; the bound is a value that the test uses
-unfoldable pub test : Test ℕ → Data → Res Two
+unfoldable pub test : Test ℕ → Data → Result Two
 test condition d = one (λ v d. good quiet (cond (isZero v) (nay d) (yea d))) d
 test (upto q c) d =
     one (λ y d. held (λ x. within c d (reading q (λ v. good quiet (cond (past v x y) (nay (unhold d)) (yea d))) (look c d))) d) d
@@ -282,19 +282,19 @@ downsT (upto q x) = 1
 -- ---- blocks and activations
 
 -- a block's n cells, taken all at once and unassigned; and dropped
-unfoldable pub openBlock : ℕ → ℕ → Data → Res Data
+unfoldable pub openBlock : ℕ → ℕ → Data → Result Data
 openBlock q n d = newCells q (replicate n Unset) d
 
-unfoldable pub closeBlock : ℕ → Data → Res Data
-closeBlock n (dat w h a l) = guard (leb n (length w)) (good quiet (dat (drop n w) h a l))
+unfoldable pub closeBlock : ℕ → Data → Result Data
+closeBlock n (contents w h a l) = guard (leb n (length w)) (good quiet (contents (drop n w) h a l))
 
 -- a name formal's cell: "needed at its actual's first symbol, and giving it that cell is one step". n: where the actual's code is
-unfoldable pub nameCell : ℕ → ℕ → Data → Res Data
+unfoldable pub nameCell : ℕ → ℕ → Data → Result Data
 nameCell q n d = newCells q (Named n ∷ []) d
 
 -- 27: "a 257th activation live". A call of a declared procedure enters one; "The program and environment calls are no activations"
-unfoldable pub enter : ℕ → Data → Res Data
-enter q (dat w h a l) = check (ltb a mostLive) activations q (good quiet (dat w h (suc a) l))
+unfoldable pub enter : ℕ → Data → Result Data
+enter q (contents w h a l) = check (ltb a mostLive) activations q (good quiet (contents w h (suc a) l))
 
 -- an activation ends: its cells begin at b; the first is its result, and stays where it is needed
 pub data Fate : Type 0 where
@@ -306,12 +306,12 @@ stays kept = 1
 stays gone = 0
 
 -- the result: 23 where it is unassigned
-unfoldable pub given : ℕ → List Cell → List ℤ → ℕ → Lent → Res Data
+unfoldable pub given : ℕ → List Cell → List ℤ → ℕ → Lent → Result Data
 given q [] h a l = wrong
 given q (Unset ∷ w) h a l = bad unassigned q
-given q (Holds v ∷ w) h a l = good quiet (dat (Holds v ∷ w) h a l)
+given q (Holds v ∷ w) h a l = good quiet (contents (Holds v ∷ w) h a l)
 given q (Named n ∷ w) h a l = wrong
 
-unfoldable pub leave : Fate → ℕ → ℕ → Data → Res Data
-leave kept q b (dat w h a l) = guard (ltb b (length w)) (given q (drop (length w - suc b) w) h (a - 1) l)
-leave gone q b (dat w h a l) = guard (leb b (length w)) (good quiet (dat (drop (length w - b) w) h (a - 1) l))
+unfoldable pub leave : Fate → ℕ → ℕ → Data → Result Data
+leave kept q b (contents w h a l) = guard (ltb b (length w)) (given q (drop (length w - suc b) w) h (a - 1) l)
+leave gone q b (contents w h a l) = guard (leb b (length w)) (good quiet (contents (drop (length w - b) w) h (a - 1) l))

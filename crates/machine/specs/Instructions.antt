@@ -12,34 +12,34 @@ use Rattle.machine.specs.Values.{Unary, minus, negation, absolute, Binar
 use Rattle.machine.specs.Data.{Act, push, load, store, assign, reserve, forget, receive, send, keep, unary, binary, lend, channel, sum, Test, condition, upto, Fate, kept, gone}
 
 -- a variable: activations out, offset there; or the cell found
-pub data Loc : Type 0 where
-  lc : ℕ → ℕ → Loc
-  fnd : Loc
+pub data Location : Type 0 where
+  located : ℕ → ℕ → Location
+  cellFound : Location
 
-pub data Instr : Type 0 where
+pub data Instruction : Type 0 where
   -- the run ends
-  END : Instr
+  END : Instruction
   -- an operation on the data; a test, which goes on at the address where it says no
-  DO : Act Loc → Instr
-  IF : Test Loc → ℕ → Instr
-  JUMP : ℕ → Instr
+  DO : Act Location → Instruction
+  IF : Test Location → ℕ → Instruction
+  JUMP : ℕ → Instruction
   -- a block: place, cells, address of its first statement; and its end
-  ENTER : ℕ → ℕ → ℕ → Instr
-  LEAVE : ℕ → Instr
+  ENTER : ℕ → ℕ → ℕ → Instruction
+  LEAVE : ℕ → Instruction
   -- a call: place, entry, activations out to the one around, cells that become the activation's, fate of the first of them
-  CALL : ℕ → ℕ → ℕ → ℕ → Fate → Instr
-  RETURN : Instr
+  CALL : ℕ → ℕ → ℕ → ℕ → Fate → Instruction
+  RETURN : Instruction
   -- to a loop's body, noting a position (nesting, body, position); and from it to the position noted
-  GO : ℕ → ℕ → ℕ → Instr
-  NEXT : ℕ → Instr
+  GO : ℕ → ℕ → ℕ → Instruction
+  NEXT : ℕ → Instruction
   -- a name formal's cell, which holds where its actual's code is (place, where it goes on): the next instruction
-  NAME : ℕ → ℕ → Instr
+  NAME : ℕ → ℕ → Instruction
   -- an actual worked out, of the formal at an offset some activations out: for a read; for a store; for a store that passes on
-  WORK : ℕ → ℕ → ℕ → Instr
-  SEEK : ℕ → ℕ → ℕ → Instr
-  PASS : ℕ → ℕ → ℕ → Instr
+  WORK : ℕ → ℕ → ℕ → Instruction
+  SEEK : ℕ → ℕ → ℕ → Instruction
+  PASS : ℕ → ℕ → ℕ → Instruction
   -- the actual is no variable
-  REFUSE : Instr
+  REFUSE : Instruction
 
 -- ---- the second word: three parts, of 6, 13 and 13 bits, or one number of 32 bits in two's complement
 
@@ -73,8 +73,8 @@ abbrev pub foundOffset : ℕ
 foundOffset = 8191
 
 -- levels and offset
-abbrev pub variable : ℕ → Loc
-variable v = cond (eqb (mid v) foundOffset) fnd (lc (high v) (mid v))
+abbrev pub variable : ℕ → Location
+variable v = cond (eqb (mid v) foundOffset) cellFound (located (high v) (mid v))
 
 -- ---- the first word: operation + 64 · place
 
@@ -114,7 +114,7 @@ actOf k q x v =
     (cond (ltb k o-plus) (unary q (unaryOf k))
     (binary q (binaryOf k))))))))))))
 
-unfoldable pub decode : ℕ → ℕ → ℕ → Option Instr
+unfoldable pub decode : ℕ → ℕ → ℕ → Option Instruction
 decode k q v =
     cond (eqb k o-none) none
     (cond (eqb k o-end) (some END)
@@ -139,9 +139,9 @@ decode k q v =
     none)))))))))))))))))))
 
 -- the instruction that two words hold
-abbrev pub instruction : ℕ → ℕ → Option Instr
+abbrev pub instruction : ℕ → ℕ → Option Instruction
 instruction w v = decode (w % sixBits) (w / sixBits) v
 
 -- 29: "no instruction at the counter": there is one where both of its words are there and its operation is known
-unfoldable pub fetch : List ℕ → ℕ → Option Instr
+unfoldable pub fetch : List ℕ → ℕ → Option Instruction
 fetch words c = cond (ltb (2 * c + 1) (length words)) (instruction (getD words (2 * c) 0) (getD words (2 * c + 1) 0)) none

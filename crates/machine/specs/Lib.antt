@@ -4,6 +4,5 @@ pub mod Values
 pub mod Run
 pub mod Data
 pub mod Instructions
-pub mod Words
 pub mod Machine
-pub mod Model
+pub mod model

@@ -16,43 +16,43 @@ use Rattle.machine.specs.declared.Cell.{Cell}
 use Rattle.machine.specs.declared.Cell.the-variants.{Unset, Holds, Named}
 use Rattle.machine.specs.Limits.{mostWords, mostCells}
 use Rattle.machine.specs.Run.{untold, Out, halt, next, End, done, over, run, quiet}
-use Rattle.machine.specs.Data.{Data, dat, cells, actOn, testOn, Fate, kept, gone, lift, guard, look, foundIn, nameCell, downs, downsT, work, test, either, openBlock, closeBlock, enter, leave}
-use Rattle.machine.specs.Instructions.{Loc, lc, fnd, Instr, END, DO, IF, JUMP, ENTER, LEAVE, CALL, RETURN, GO, NEXT, NAME, WORK, SEEK, PASS, REFUSE, fetch}
+use Rattle.machine.specs.Data.{Data, contents, cells, actOn, testOn, Fate, kept, gone, lift, guard, look, foundIn, nameCell, downs, downsT, work, test, either, openBlock, closeBlock, enter, leave}
+use Rattle.machine.specs.Instructions.{Location, located, cellFound, Instruction, END, DO, IF, JUMP, ENTER, LEAVE, CALL, RETURN, GO, NEXT, NAME, WORK, SEEK, PASS, REFUSE, fetch}
 
 -- an activation: where to return to, its first cell, the activation around it, the fate of its first cell, the call's place, and the return
 -- positions of its caller. Activations are numbered from 1, the oldest; 0 is the program
-pub data Frame : Type 0 where
-  fr : ℕ → ℕ → ℕ → Fate → ℕ → List ℕ → Frame
+pub data Activation : Type 0 where
+  activation : ℕ → ℕ → ℕ → Fate → ℕ → List ℕ → Activation
 
-pub data Mach : Type 0 where
-  ms : ℕ → List ℕ → List Frame → Data → Mach
+pub data Running : Type 0 where
+  running : ℕ → List ℕ → List Activation → Data → Running
 
-unfoldable pub frameAt : List Frame → ℕ → Frame
-frameAt fs f = getD fs (length fs - suc f) (fr 0 0 0 gone 0 [])
+unfoldable pub activationAt : List Activation → ℕ → Activation
+activationAt fs f = getD fs (length fs - suc f) (activation 0 0 0 gone 0 [])
 
-abbrev pub linkOf : Frame → ℕ
-linkOf (fr r b l f q ps) = l
+abbrev pub linkOf : Activation → ℕ
+linkOf (activation r b l f q ps) = l
 
-abbrev pub baseOf : Frame → ℕ
-baseOf (fr r b l f q ps) = b
+abbrev pub baseOf : Activation → ℕ
+baseOf (activation r b l f q ps) = b
 
 -- u activations out from f; the program has none around it
-unfoldable pub walk : List Frame → ℕ → ℕ → ℕ
+unfoldable pub walk : List Activation → ℕ → ℕ → ℕ
 walk fs f zero = f
 walk fs zero (suc u) = 0
-walk fs (suc f) (suc u) = walk fs (linkOf (frameAt fs f)) u
+walk fs (suc f) (suc u) = walk fs (linkOf (activationAt fs f)) u
 
-abbrev pub base : List Frame → ℕ → ℕ
+abbrev pub base : List Activation → ℕ → ℕ
 base fs zero = 0
-base fs (suc f) = baseOf (frameAt fs f)
+base fs (suc f) = baseOf (activationAt fs f)
 
 -- where the running activation begins
-abbrev pub floor : List Frame → ℕ
+abbrev pub floor : List Activation → ℕ
 floor fs = base fs (length fs)
 
-unfoldable pub cellIn : List Frame → Data → Loc → ℕ
-cellIn fs d (lc u o) = base fs (walk fs (length fs) u) + o
-cellIn fs d fnd = foundIn d
+unfoldable pub cellIn : List Activation → Data → Location → ℕ
+cellIn fs d (located u o) = base fs (walk fs (length fs) u) + o
+cellIn fs d cellFound = foundIn d
 
 -- what a name formal's cell holds
 abbrev pub cellAt : ℕ → Data → Cell
@@ -68,39 +68,39 @@ abbrev pub partAt : Fate → ℕ → ℕ
 partAt kept n = suc (suc n)
 partAt gone n = n
 
-unfoldable pub workOut : Cell → ℕ → Fate → ℕ → ℕ → ℕ → List ℕ → List Frame → Data → Out Mach
-workOut (Named n) f t q q' pc ps fs d = lift (stray pc) 1 (ms (partAt t n) [] (fr (suc pc) (cells d) (f - 1) t q' ps ∷ fs)) (enter q d)
+unfoldable pub workOut : Cell → ℕ → Fate → ℕ → ℕ → ℕ → List ℕ → List Activation → Data → Out Running
+workOut (Named n) f t q q' pc ps fs d = lift (stray pc) 1 (running (partAt t n) [] (activation (suc pc) (cells d) (f - 1) t q' ps ∷ fs)) (enter q d)
 workOut Unset f t q q' pc ps fs d = halt (stray pc)
 workOut (Holds v) f t q q' pc ps fs d = halt (stray pc)
 
-abbrev pub working : Fate → ℕ → ℕ → ℕ → ℕ → ℕ → List ℕ → List Frame → Data → Out Mach
+abbrev pub working : Fate → ℕ → ℕ → ℕ → ℕ → ℕ → List ℕ → List Activation → Data → Out Running
 working t q q' u o pc ps fs d =
     let f = walk fs (length fs) u in
     workOut (cellAt (base fs f + o) d) f t q q' pc ps fs d
 
 -- where the store began that the running activation works out
-abbrev pub began : Frame → ℕ
-began (fr r b l f q ps) = q
+abbrev pub began : Activation → ℕ
+began (activation r b l f q ps) = q
 
 -- one instruction. The values that it uses lie above the first cell of the running activation
-unfoldable pub exec : Instr → ℕ → List ℕ → List Frame → Data → Out Mach
+unfoldable pub exec : Instruction → ℕ → List ℕ → List Activation → Data → Out Running
 exec END pc ps fs d = halt Ended
 exec (DO a) pc ps fs d =
-    lift (stray pc) 1 (ms (suc pc) ps fs) (guard (leb (floor fs + downs a) (cells d)) (work (actOn (cellIn fs d) a) d))
+    lift (stray pc) 1 (running (suc pc) ps fs) (guard (leb (floor fs + downs a) (cells d)) (work (actOn (cellIn fs d) a) d))
 exec (IF t l) pc ps fs d =
-    lift (stray pc) 1 (either (ms (suc pc) ps fs) (ms l ps fs)) (guard (leb (floor fs + downsT t) (cells d)) (test (testOn (cellIn fs d) t) d))
-exec (JUMP l) pc ps fs d = next 1 quiet (ms l ps fs d)
-exec (ENTER q n l) pc ps fs d = lift (stray pc) 1 (ms l ps fs) (openBlock q n d)
-exec (LEAVE n) pc ps fs d = lift (stray pc) 1 (ms (suc pc) ps fs) (guard (leb (floor fs + n) (cells d)) (closeBlock n d))
+    lift (stray pc) 1 (either (running (suc pc) ps fs) (running l ps fs)) (guard (leb (floor fs + downsT t) (cells d)) (test (testOn (cellIn fs d) t) d))
+exec (JUMP l) pc ps fs d = next 1 quiet (running l ps fs d)
+exec (ENTER q n l) pc ps fs d = lift (stray pc) 1 (running l ps fs) (openBlock q n d)
+exec (LEAVE n) pc ps fs d = lift (stray pc) 1 (running (suc pc) ps fs) (guard (leb (floor fs + n) (cells d)) (closeBlock n d))
 exec (CALL q l u n f) pc ps fs d =
-    lift (stray pc) 1 (ms l [] (fr (suc pc) (cells d - n) (walk fs (length fs) u) f q ps ∷ fs))
+    lift (stray pc) 1 (running l [] (activation (suc pc) (cells d - n) (walk fs (length fs) u) f q ps ∷ fs))
     (guard (leb (floor fs + n) (cells d)) (enter q d))
 exec RETURN pc ps [] d = halt (stray pc)
-exec RETURN pc ps (fr r b l f q ps' ∷ fs) d = lift (stray pc) 1 (ms r ps' fs) (leave f q b d)
-exec (GO m l r) pc ps fs d = cond (eqb m (length ps)) (next 1 quiet (ms l (r ∷ ps) fs d)) (halt (stray pc))
+exec RETURN pc ps (activation r b l f q ps' ∷ fs) d = lift (stray pc) 1 (running r ps' fs) (leave f q b d)
+exec (GO m l r) pc ps fs d = cond (eqb m (length ps)) (next 1 quiet (running l (r ∷ ps) fs d)) (halt (stray pc))
 exec (NEXT m) pc [] fs d = halt (stray pc)
-exec (NEXT m) pc (r ∷ ps) fs d = cond (eqb m (length ps)) (next 1 quiet (ms r ps fs d)) (halt (stray pc))
-exec (NAME q l) pc ps fs d = lift (stray pc) 1 (ms l ps fs) (nameCell q (suc pc) d)
+exec (NEXT m) pc (r ∷ ps) fs d = cond (eqb m (length ps)) (next 1 quiet (running r ps fs d)) (halt (stray pc))
+exec (NAME q l) pc ps fs d = lift (stray pc) 1 (running l ps fs) (nameCell q (suc pc) d)
 exec (WORK q u o) pc ps fs d = working kept q q u o pc ps fs d
 exec (SEEK q u o) pc ps fs d = working gone q q u o pc ps fs d
 exec (PASS q u o) pc ps [] d = halt (stray pc)
@@ -108,12 +108,12 @@ exec (PASS q u o) pc ps (x ∷ fs) d = working gone q (began x) u o pc ps (x ∷
 exec REFUSE pc ps [] d = halt (stray pc)
 exec REFUSE pc ps (x ∷ fs) d = halt (Fault (refusal noVariable (began x)))
 
-unfoldable pub obey : Option Instr → ℕ → List ℕ → List Frame → Data → Out Mach
+unfoldable pub obey : Option Instruction → ℕ → List ℕ → List Activation → Data → Out Running
 obey none pc ps fs d = halt (stray pc)
 obey (some i) pc ps fs d = exec i pc ps fs d
 
-unfoldable pub step : List ℕ → Mach → Out Mach
-step words (ms pc ps fs d) = obey (fetch words pc) pc ps fs d
+unfoldable pub step : List ℕ → Running → Out Running
+step words (running pc ps fs d) = obey (fetch words pc) pc ps fs d
 
 -- ---- the run
 
@@ -125,23 +125,23 @@ pub record Finish : Type 0 where
   pub written : List ℤ
 
 -- Instructions done are the limit tests passed, the instruction that stops included. 20: "instruction limit reached"
-unfoldable pub finish : End Mach → Finish
+unfoldable pub finish : End Running → Finish
 finish (done q n o) = record { stop = q; done = n + 1; taken = o .taken; written = o .written }
 finish (over n o m) = record { stop = Limit; done = n; taken = o .taken; written = o .written }
 
 -- no cell in use, no activation, no number taken
-abbrev pub start : List ℤ → ℕ → ℕ → Mach
-start input room space = ms 0 [] [] (dat [] [] 0 (record { room = room; input = input; space = space; found = 0 }))
+abbrev pub start : List ℤ → ℕ → ℕ → Running
+start input cellsLent space = running 0 [] [] (contents [] [] 0 (record { cellsLent = cellsLent; input = input; space = space; found = 0 }))
 
 -- It takes how many cells there are and how many numbers may be written, and never what stands there.
 unfoldable pub machine : List ℕ → List ℤ → ℕ → ℕ → ℕ → Finish
-machine words input limit room space = finish (run (step words) limit (start input room space) 0 untold)
+machine words input limit cellsLent space = finish (run (step words) limit (start input cellsLent space) 0 untold)
 
 -- ---- the job `run`: what is lent, and what it holds afterwards
 
 -- "A run reads at most the first 16,384 code words."
 abbrev pub onCode : List ℕ → List ℤ → ℕ → ℕ → ℕ → Finish
-onCode code input limit room space = machine (take mostWords code) input limit room space
+onCode code input limit cellsLent space = machine (take mostWords code) input limit cellsLent space
 
 -- "It uses the first 8,192 cells of the store, or fewer if lent fewer"
 abbrev pub used : List ℤ → ℕ

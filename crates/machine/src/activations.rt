@@ -3,7 +3,7 @@
 ghost use mathlib.Core.Path.{_≡_};
 ghost use Prim.Native.Nat.{ℕ, _≤_, _<_};
 ghost use Rattle.machine.specs.Limits.{mostLive, activationWords};
-ghost use Rattle.machine.specs.Model.{wordOf, noteOf, framesOf, Lives};
+ghost use Rattle.machine.specs.model.Holding.{wordOf, noteOf, framesOf, Lives};
 ghost use Rattle.machine.specs.Machine.{walk, base};
 
 // An activation's words, and those of all of them with the program's.

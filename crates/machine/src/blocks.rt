@@ -13,7 +13,7 @@ ghost use Prim.Native.Nat.{_<_, _+_, _-_, _≤_};
 ghost use lib.IntN.{ℤ};
 ghost use Rattle.machine.specs.Data.{Fate, openBlock, closeBlock, leave as leaveOf};
 ghost use Rattle.machine.specs.Instructions.{thirteenBits};
-ghost use Rattle.machine.specs.Model.{Own, left, Sound, SoundD, dataOf, traceOf, seenD, told, roomOf, unassigned};
+ghost use Rattle.machine.specs.model.Holding.{Own, left, Sound, SoundD, dataOf, traceOf, seenD, told, roomOf, unassigned};
 
 // The k cells from cell c on become unassigned.
 fn unassign(store: &mut [i64], c: usize, k: usize)

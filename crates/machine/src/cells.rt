@@ -4,7 +4,7 @@ use crate::Number;
 ghost use mathlib.Core.Path.{_≡_};
 ghost use Prim.Native.Nat.{_<_};
 ghost use Rattle.machine.specs.Data.{plain};
-ghost use Rattle.machine.specs.Model.{cellAt, putAt, roomOf, otherOf, numberIn};
+ghost use Rattle.machine.specs.model.Holding.{cellAt, putAt, roomOf, otherOf, numberIn};
 
 // How many numbers of the store a cell takes.
 pub const NUMBERS: usize = 1;

@@ -28,9 +28,9 @@ ghost use lib.ListN.{length};
 ghost use Rattle.machine.specs.Limits.{mostInstructions, mostCells, mostLive};
 ghost use Rattle.machine.specs.Operations.{o-work, o-pass};
 ghost use Rattle.machine.specs.Data.{either};
-ghost use Rattle.machine.specs.Instructions.{Instr, thirteenBits, high, mid, low, decode};
-ghost use Rattle.machine.specs.Machine.{Mach, stray as strayOf, exec, obey, partAt, working};
-ghost use Rattle.machine.specs.Model.{Sound, SoundT, SoundO, SoundG, Lives, dataOf, traceOf, seenD, seenT, seenO, lifted, stepped, positionsOf, framesOf, ownOf, wordOf, fateOf, begun, names};
+ghost use Rattle.machine.specs.Instructions.{Instruction, thirteenBits, high, mid, low, decode};
+ghost use Rattle.machine.specs.Machine.{Running, stray as strayOf, exec, obey, partAt, working};
+ghost use Rattle.machine.specs.model.Holding.{Sound, SoundT, SoundO, SoundG, Lives, dataOf, traceOf, seenD, seenT, seenO, lifted, stepped, positionsOf, framesOf, ownOf, wordOf, fateOf, begun, names};
 
 // 29 at the counter.
 pub fn stray(at: u32) -> Outcome
@@ -41,7 +41,7 @@ pub fn stray(at: u32) -> Outcome
 
 // On to `next`, or the stop that the operation came to.
 pub fn lift(at: u32, next: u32, live: usize, did: Did) -> Outcome
-    ensures { λ r. ⌜ ((s i o : List ℤ) (l : List ℕ) → seenO r s l i o ≡ lifted (strayOf at) (Mach.ms next (positionsOf l live) (framesOf l live)) (seenD did (ownOf l live) s i o)) ⌝ }
+    ensures { λ r. ⌜ ((s i o : List ℤ) (l : List ℕ) → seenO r s l i o ≡ lifted (strayOf at) (Running.running next (positionsOf l live) (framesOf l live)) (seenD did (ownOf l live) s i o)) ⌝ }
     ensures { λ r. ⌜ ((s o o' : List ℤ) (l : List ℕ) → SoundO did s o o' → Lives l live → SoundG r s l o o') ⌝ }
 {
     match did {
@@ -54,7 +54,7 @@ pub fn lift(at: u32, next: u32, live: usize, did: Did) -> Outcome
 // On to the next instruction, or to `other` where the test says no.
 pub fn lift_test(at: u32, other: u32, live: usize, chosen: Chosen) -> Outcome
     requires { ⌜ at < mostInstructions ⌝ }
-    ensures { λ r. ⌜ ((s i o : List ℤ) (l : List ℕ) → seenO r s l i o ≡ lifted (strayOf at) (either (Mach.ms (suc at) (positionsOf l live) (framesOf l live)) (Mach.ms other (positionsOf l live) (framesOf l live))) (seenT chosen (ownOf l live) s i o)) ⌝ }
+    ensures { λ r. ⌜ ((s i o : List ℤ) (l : List ℕ) → seenO r s l i o ≡ lifted (strayOf at) (either (Running.running (suc at) (positionsOf l live) (framesOf l live)) (Running.running other (positionsOf l live) (framesOf l live))) (seenT chosen (ownOf l live) s i o)) ⌝ }
     ensures { λ r. ⌜ ((n : Counts) (s o : List ℤ) (l : List ℕ) → SoundT n chosen s → n .written ≤ length o → Lives l live → SoundG r s l o o) ⌝ }
 {
     match chosen {
@@ -68,7 +68,7 @@ pub fn lift_test(at: u32, other: u32, live: usize, chosen: Chosen) -> Outcome
 // A block is left: k cells.
 pub fn close(at: u32, live: usize, n: Counts, own: &Memory, k: usize) -> Outcome
     requires { ⌜ Lives (now own) live × (at < mostInstructions) × (k < thirteenBits) ⌝ }
-    ensures { λ r. ⌜ ((s i o : List ℤ) → seenO r s (now (own .entry)) i o ≡ stepped (traceOf n o) (exec (Instr.LEAVE k) at (positionsOf (now (own .entry)) live) (framesOf (now (own .entry)) live) (dataOf n (ownOf (now (own .entry)) live) s i o))) ⌝ }
+    ensures { λ r. ⌜ ((s i o : List ℤ) → seenO r s (now (own .entry)) i o ≡ stepped (traceOf n o) (exec (Instruction.LEAVE k) at (positionsOf (now (own .entry)) live) (framesOf (now (own .entry)) live) (dataOf n (ownOf (now (own .entry)) live) s i o))) ⌝ }
     ensures { λ r. ⌜ ((s o : List ℤ) → Sound n s → n .written ≤ length o → SoundG r s (now (own .entry)) o o) ⌝ }
 {
     if first_cell(own, live) + k > n.cells {
@@ -101,7 +101,7 @@ pub fn call(
     needed: u32,
 ) -> Outcome
     requires { ⌜ Lives (now own) live × (at < mostInstructions) × (n .cells ≤ mostCells) ⌝ }
-    ensures { λ r. ⌜ ((s i o : List ℤ) → seenO r s (now (own .exit)) i o ≡ stepped (traceOf n o) (exec (Instr.CALL q (low v) (high v) (mid v) (fateOf needed)) at (positionsOf (now (own .entry)) live) (framesOf (now (own .entry)) live) (dataOf n (ownOf (now (own .entry)) live) s i o))) ⌝ }
+    ensures { λ r. ⌜ ((s i o : List ℤ) → seenO r s (now (own .exit)) i o ≡ stepped (traceOf n o) (exec (Instruction.CALL q (low v) (high v) (mid v) (fateOf needed)) at (positionsOf (now (own .entry)) live) (framesOf (now (own .entry)) live) (dataOf n (ownOf (now (own .entry)) live) s i o))) ⌝ }
     ensures { λ r. ⌜ ((s o : List ℤ) → Sound n s → n .written ≤ length o → SoundG r s (now (own .exit)) o o) ⌝ }
 {
     let k = mid(v as usize);
@@ -120,7 +120,7 @@ pub fn call(
 // A call returns.
 pub fn leave(at: u32, live: usize, n: Counts, own: &Memory, store: &[i64]) -> Outcome
     requires { ⌜ Sound n (now store) × Lives (now own) live ⌝ }
-    ensures { λ r. ⌜ ((i o : List ℤ) → seenO r (now (store .entry)) (now (own .entry)) i o ≡ stepped (traceOf n o) (exec Instr.RETURN at (positionsOf (now (own .entry)) live) (framesOf (now (own .entry)) live) (dataOf n (ownOf (now (own .entry)) live) (now (store .entry)) i o))) ⌝ }
+    ensures { λ r. ⌜ ((i o : List ℤ) → seenO r (now (store .entry)) (now (own .entry)) i o ≡ stepped (traceOf n o) (exec Instruction.RETURN at (positionsOf (now (own .entry)) live) (framesOf (now (own .entry)) live) (dataOf n (ownOf (now (own .entry)) live) (now (store .entry)) i o))) ⌝ }
     ensures { λ r. ⌜ ((o : List ℤ) → n .written ≤ length o → SoundG r (now (store .entry)) (now (own .entry)) o o) ⌝ }
 {
     if live == 0 {
@@ -136,7 +136,7 @@ pub fn leave(at: u32, live: usize, n: Counts, own: &Memory, store: &[i64]) -> Ou
 // To a loop's body, noting where to go after it.
 pub fn go(at: u32, live: usize, n: Counts, own: &mut Memory, v: u32) -> Outcome
     requires { ⌜ Lives (now own) live ⌝ }
-    ensures { λ r. ⌜ ((s i o : List ℤ) → seenO r s (now (own .exit)) i o ≡ stepped (traceOf n o) (exec (Instr.GO (high v) (low v) (mid v)) at (positionsOf (now (own .entry)) live) (framesOf (now (own .entry)) live) (dataOf n (ownOf (now (own .entry)) live) s i o))) ⌝ }
+    ensures { λ r. ⌜ ((s i o : List ℤ) → seenO r s (now (own .exit)) i o ≡ stepped (traceOf n o) (exec (Instruction.GO (high v) (low v) (mid v)) at (positionsOf (now (own .entry)) live) (framesOf (now (own .entry)) live) (dataOf n (ownOf (now (own .entry)) live) s i o))) ⌝ }
     ensures { λ r. ⌜ ((s o : List ℤ) → Sound n s → n .written ≤ length o → SoundG r s (now (own .exit)) o o) ⌝ }
 {
     let nest = high(v as usize);
@@ -156,7 +156,7 @@ pub fn go(at: u32, live: usize, n: Counts, own: &mut Memory, v: u32) -> Outcome
 // From a loop's body to the position noted.
 pub fn next(at: u32, live: usize, n: Counts, own: &mut Memory, v: u32) -> Outcome
     requires { ⌜ Lives (now own) live ⌝ }
-    ensures { λ r. ⌜ ((s i o : List ℤ) → seenO r s (now (own .exit)) i o ≡ stepped (traceOf n o) (exec (Instr.NEXT (high v)) at (positionsOf (now (own .entry)) live) (framesOf (now (own .entry)) live) (dataOf n (ownOf (now (own .entry)) live) s i o))) ⌝ }
+    ensures { λ r. ⌜ ((s i o : List ℤ) → seenO r s (now (own .exit)) i o ≡ stepped (traceOf n o) (exec (Instruction.NEXT (high v)) at (positionsOf (now (own .entry)) live) (framesOf (now (own .entry)) live) (dataOf n (ownOf (now (own .entry)) live) s i o))) ⌝ }
     ensures { λ r. ⌜ ((s o : List ℤ) → Sound n s → n .written ≤ length o → SoundG r s (now (own .exit)) o o) ⌝ }
 {
     let nest = high(v as usize);
@@ -270,7 +270,7 @@ pub fn seek(
 // A store whose actual is no variable.
 pub fn refuse(at: u32, live: usize, own: &Memory) -> Outcome
     requires { ⌜ Lives (now own) live ⌝ }
-    ensures { λ r. ⌜ ((n : Counts) (s i o : List ℤ) → seenO r s (now (own .entry)) i o ≡ stepped (traceOf n o) (exec Instr.REFUSE at (positionsOf (now (own .entry)) live) (framesOf (now (own .entry)) live) (dataOf n (ownOf (now (own .entry)) live) s i o))) ⌝ }
+    ensures { λ r. ⌜ ((n : Counts) (s i o : List ℤ) → seenO r s (now (own .entry)) i o ≡ stepped (traceOf n o) (exec Instruction.REFUSE at (positionsOf (now (own .entry)) live) (framesOf (now (own .entry)) live) (dataOf n (ownOf (now (own .entry)) live) s i o))) ⌝ }
     ensures { λ r. ⌜ ((s o : List ℤ) → SoundG r s (now (own .entry)) o o) ⌝ }
 {
     if live == 0 {

@@ -22,8 +22,8 @@ ghost use Prim.Native.Nat.{_+_, _-_, _≤_, _<_};
 ghost use lib.IntN.{ℤ, _+ℤ_};
 ghost use Rattle.machine.specs.Values.{whole as wholeOf, past as pastOf};
 ghost use Rattle.machine.specs.Run.{Event};
-ghost use Rattle.machine.specs.Data.{Res, Act, Test, Two, back as backOf, hold as holdOf, unhold, within, reading, look, valued};
-ghost use Rattle.machine.specs.Model.{Own, Sound, SoundD, SoundT, Does, Tests, HeldIn, holding, dataOf, traceOf, seenD, seenT, told, fine, roomOf, putAt};
+ghost use Rattle.machine.specs.Data.{Result, Act, Test, Two, back as backOf, hold as holdOf, unhold, within, reading, look, valued};
+ghost use Rattle.machine.specs.model.Holding.{Own, Sound, SoundD, SoundT, Does, Tests, HeldIn, holding, dataOf, traceOf, seenD, seenT, told, fine, roomOf, putAt};
 
 // One more held value, at the store's end.
 fn hold(mut n: Counts, store: &mut [i64], v: i32) -> Counts
@@ -77,7 +77,7 @@ fn renew(mut n: Counts, store: &mut [i64], x: i32, s: i32) -> Did
 // Cell c and the new step x added.
 fn total(n: Counts, store: &mut [i64], q: usize, c: usize, x: i32) -> Did
     requires { ⌜ Sound n (now store) × (n .cells + n .held < roomOf (now store)) × (1 ≤ n .held) ⌝ }
-    ensures { λ r. ⌜ ((a : Own) (i o : List ℤ) → seenD r a (now (store .exit)) i o ≡ told (traceOf n o) (within c (dataOf n a (now (store .entry)) i o) (reading q (λ v. valued q (λ z. Res.good Event.quiet (backOf z (holdOf x (unhold (dataOf n a (now (store .entry)) i o))))) (wholeOf (v +ℤ x))) (look c (dataOf n a (now (store .entry)) i o))))) ⌝ }
+    ensures { λ r. ⌜ ((a : Own) (i o : List ℤ) → seenD r a (now (store .exit)) i o ≡ told (traceOf n o) (within c (dataOf n a (now (store .entry)) i o) (reading q (λ v. valued q (λ z. Result.good Event.quiet (backOf z (holdOf x (unhold (dataOf n a (now (store .entry)) i o))))) (wholeOf (v +ℤ x))) (look c (dataOf n a (now (store .entry)) i o))))) ⌝ }
     ensures { λ r. ⌜ SoundD n r (now (store .exit)) ⌝ }
 {
     if c >= n.cells {
@@ -112,7 +112,7 @@ pub fn sum(n: Counts, store: &mut [i64], q: usize, c: usize) -> Did
 // Whether the loop over cell c goes on, with the step x and the bound y; where it is left the step goes.
 fn goes_on(mut n: Counts, store: &[i64], q: usize, c: usize, x: i32, y: i32) -> Chosen
     requires { ⌜ Sound n (now store) × (1 ≤ n .held) ⌝ }
-    ensures { λ r. ⌜ ((a : Own) (i o : List ℤ) → seenT r a (now (store .entry)) i o ≡ told (traceOf n o) (within c (dataOf n a (now (store .entry)) i o) (reading q (λ v. Res.good Event.quiet (cond (pastOf v x y) (Two.nay (unhold (dataOf n a (now (store .entry)) i o))) (Two.yea (dataOf n a (now (store .entry)) i o)))) (look c (dataOf n a (now (store .entry)) i o))))) ⌝ }
+    ensures { λ r. ⌜ ((a : Own) (i o : List ℤ) → seenT r a (now (store .entry)) i o ≡ told (traceOf n o) (within c (dataOf n a (now (store .entry)) i o) (reading q (λ v. Result.good Event.quiet (cond (pastOf v x y) (Two.nay (unhold (dataOf n a (now (store .entry)) i o))) (Two.yea (dataOf n a (now (store .entry)) i o)))) (look c (dataOf n a (now (store .entry)) i o))))) ⌝ }
     ensures { λ r. ⌜ SoundT n r (now (store .entry)) ⌝ }
 {
     let h = n.held;

@@ -19,9 +19,9 @@ ghost use Prim.Native.Nat.{_+_, _≤_, _<_};
 ghost use lib.IntN.{ℤ};
 ghost use Rattle.machine.specs.Operations.{o-minus, o-plus};
 ghost use Rattle.machine.specs.Run.{Event, Trace};
-ghost use Rattle.machine.specs.Data.{Data, Res, Act, Test, newest as newestOf, two, back as backOf, put as putOf, newCells, guard, plain, reading, valued};
+ghost use Rattle.machine.specs.Data.{Data, Result, Act, Test, newest as newestOf, two, back as backOf, put as putOf, newCells, guard, plain, reading, valued};
 ghost use Rattle.machine.specs.Instructions.{unaryOf, binaryOf};
-ghost use Rattle.machine.specs.Model.{Own, Fitting, FittingV, Sound, SoundD, SoundT, Does, Tests, UsedIn, PairIn, dataOf, traceOf, seenU, seenD, onPair, told, fine, roomOf, cellAt, numberIn};
+ghost use Rattle.machine.specs.model.Holding.{Own, Fitting, FittingV, Sound, SoundD, SoundT, Does, Tests, UsedIn, PairIn, dataOf, traceOf, seenU, seenD, onPair, told, fine, roomOf, cellAt, numberIn};
 
 // The value in the newest cell, which goes.
 pub fn newest(mut n: Counts, store: &[i64]) -> Used
@@ -45,7 +45,7 @@ pub fn newest(mut n: Counts, store: &[i64]) -> Used
 // The values in the two newest cells, which go.
 pub fn newest_two(n: Counts, store: &[i64]) -> Pair
     requires { ⌜ Sound n (now store) ⌝ }
-    ensures { λ r. ⌜ ((a : Own) (i o : List ℤ) (f : ℤ → ℤ → Data → Res Data) → two f (dataOf n a (now (store .entry)) i o) ≡ onPair f r a (now (store .entry)) i o) ⌝ }
+    ensures { λ r. ⌜ ((a : Own) (i o : List ℤ) (f : ℤ → ℤ → Data → Result Data) → two f (dataOf n a (now (store .entry)) i o) ≡ onPair f r a (now (store .entry)) i o) ⌝ }
     ensures { λ r. ⌜ PairIn n r ⌝ }
 {
     match newest(n, store) {
@@ -98,7 +98,7 @@ pub fn new_cell(mut n: Counts, store: &mut [i64], q: usize, x: Cell) -> Did
 // What a read at q of cell c comes to, which holds no number.
 pub fn unread(store: &[i64], q: usize, c: usize) -> Did
     requires { ⌜ (c < roomOf (now store)) × (numberIn (cellAt (now store) c) ≡ Number.Not) ⌝ }
-    ensures { λ r. ⌜ ((t : Trace) (f : ℤ → Res Data) (a : Own) (s i o : List ℤ) → seenD r a s i o ≡ told t (guard (plain (cellAt (now (store .entry)) c)) (reading q f (cellAt (now (store .entry)) c)))) ⌝ }
+    ensures { λ r. ⌜ ((t : Trace) (f : ℤ → Result Data) (a : Own) (s i o : List ℤ) → seenD r a s i o ≡ told t (guard (plain (cellAt (now (store .entry)) c)) (reading q f (cellAt (now (store .entry)) c)))) ⌝ }
     ensures { λ r. ⌜ ((n : Counts) (s : List ℤ) → SoundD n r s) ⌝ }
 {
     if is_plain(store, c) {
@@ -178,7 +178,7 @@ pub fn forget(n: Counts, store: &[i64]) -> Did
 // A value in the place of those that were used, or an operator's fault.
 fn give(n: Counts, store: &mut [i64], q: usize, v: Value) -> Did
     requires { ⌜ Sound n (now store) × (n .cells + n .held < roomOf (now store)) × FittingV v ⌝ }
-    ensures { λ r. ⌜ ((a : Own) (i o : List ℤ) → seenD r a (now (store .exit)) i o ≡ told (traceOf n o) (valued q (λ w. Res.good Event.quiet (backOf w (dataOf n a (now (store .entry)) i o))) v)) ⌝ }
+    ensures { λ r. ⌜ ((a : Own) (i o : List ℤ) → seenD r a (now (store .exit)) i o ≡ told (traceOf n o) (valued q (λ w. Result.good Event.quiet (backOf w (dataOf n a (now (store .entry)) i o))) v)) ⌝ }
     ensures { λ r. ⌜ SoundD n r (now (store .exit)) ⌝ }
 {
     match v {

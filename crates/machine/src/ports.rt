@@ -15,7 +15,7 @@ ghost use Prim.Native.Nat.{_≤_};
 ghost use lib.IntN.{ℤ};
 ghost use lib.ListN.{length};
 ghost use Rattle.machine.specs.Data.{Act, work, onChannel, taking, input as inputOf, writing, within};
-ghost use Rattle.machine.specs.Model.{Own, Sound, SoundD, SoundO, dataOf, traceOf, seenD, told};
+ghost use Rattle.machine.specs.model.Holding.{Own, Sound, SoundD, SoundO, dataOf, traceOf, seenD, told};
 
 // The next input number to cell c, on the channel k.
 fn take_in(mut n: Counts, input: &[i32], store: &mut [i64], q: usize, c: usize, k: i32) -> Did

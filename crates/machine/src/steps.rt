@@ -36,9 +36,9 @@ ghost use lib.ListN.{length, replicate};
 ghost use Rattle.machine.specs.Limits.{mostWords, mostInstructions, mostCells};
 ghost use Rattle.machine.specs.Operations.{o-const, o-name};
 ghost use Rattle.machine.specs.Data.{Act, Test, work as workOf, downs as downsOf};
-ghost use Rattle.machine.specs.Instructions.{Loc, Instr, variable, low, actOf, decode};
+ghost use Rattle.machine.specs.Instructions.{Location, Instruction, variable, low, actOf, decode};
 ghost use Rattle.machine.specs.Machine.{base, cellIn, exec, obey as obeyOf, step as stepOf, machine as machineOf, exit, job};
-ghost use Rattle.machine.specs.Model.{Sound, SoundO, SoundG, Lives, Drove, dataOf, traceOf, machOf, seenD, seenO, told, stepped, positionsOf, framesOf, ownOf, foundOf, Own, wordOf, roomOf};
+ghost use Rattle.machine.specs.model.Holding.{Sound, SoundO, SoundG, Lives, Drove, dataOf, traceOf, machOf, seenD, seenO, told, stepped, positionsOf, framesOf, ownOf, foundOf, Own, wordOf, roomOf};
 
 // The cell of a variable: activations out and offset in the operand v, or the cell found. b is the first cell of the running activation: most
 // variables are its own.
@@ -60,7 +60,7 @@ fn cell_of(b: usize, live: usize, own: &Memory, v: u32) -> usize
 // How many values operation k uses.
 fn downs(k: u32) -> usize
     requires { ⌜ (o-const ≤ k) × (k < o-name) ⌝ }
-    ensures { λ r. ⌜ ((q v : ℕ) (x : Loc) → r ≡ downsOf (actOf k q x v)) ⌝ }
+    ensures { λ r. ⌜ ((q v : ℕ) (x : Location) → r ≡ downsOf (actOf k q x v)) ⌝ }
     ensures { λ r. ⌜ r ≤ 2 ⌝ }
 {
     match k {
@@ -132,7 +132,7 @@ fn act(
     own: &Memory,
 ) -> Outcome
     requires { ⌜ Sound n (now store) × Lives (now own) live × (n .written ≤ length (now output)) × (at < mostInstructions) × (o-const ≤ k) × (k < o-name) ⌝ }
-    ensures { λ r. ⌜ seenO r (now (store .exit)) (now (own .entry)) (now (input .entry)) (now (output .exit)) ≡ stepped (traceOf n (now (output .entry))) (exec (Instr.DO (actOf k q (variable v) v)) at (positionsOf (now (own .entry)) live) (framesOf (now (own .entry)) live) (dataOf n (ownOf (now (own .entry)) live) (now (store .entry)) (now (input .entry)) (now (output .entry)))) ⌝ }
+    ensures { λ r. ⌜ seenO r (now (store .exit)) (now (own .entry)) (now (input .entry)) (now (output .exit)) ≡ stepped (traceOf n (now (output .entry))) (exec (Instruction.DO (actOf k q (variable v) v)) at (positionsOf (now (own .entry)) live) (framesOf (now (own .entry)) live) (dataOf n (ownOf (now (own .entry)) live) (now (store .entry)) (now (input .entry)) (now (output .entry)))) ⌝ }
     ensures { λ r. ⌜ SoundG r (now (store .exit)) (now (own .entry)) (now (output .entry)) (now (output .exit)) ⌝ }
 {
     let b = first_cell(own, live);
@@ -154,7 +154,7 @@ fn load(
     own: &Memory,
 ) -> Outcome
     requires { ⌜ Sound n (now store) × Lives (now own) live × (at < mostInstructions) ⌝ }
-    ensures { λ r. ⌜ ((i o : List ℤ) → seenO r (now (store .exit)) (now (own .entry)) i o ≡ stepped (traceOf n o) (exec (Instr.DO (Act.load q (variable v))) at (positionsOf (now (own .entry)) live) (framesOf (now (own .entry)) live) (dataOf n (ownOf (now (own .entry)) live) (now (store .entry)) i o))) ⌝ }
+    ensures { λ r. ⌜ ((i o : List ℤ) → seenO r (now (store .exit)) (now (own .entry)) i o ≡ stepped (traceOf n o) (exec (Instruction.DO (Act.load q (variable v))) at (positionsOf (now (own .entry)) live) (framesOf (now (own .entry)) live) (dataOf n (ownOf (now (own .entry)) live) (now (store .entry)) i o))) ⌝ }
     ensures { λ r. ⌜ ((o : List ℤ) → n .written ≤ length o → SoundG r (now (store .exit)) (now (own .entry)) o o) ⌝ }
 {
     let b = first_cell(own, live);
@@ -168,7 +168,7 @@ fn load(
 // The newest value to a variable.
 fn save(at: u32, live: usize, n: Counts, v: u32, store: &mut [i64], own: &Memory) -> Outcome
     requires { ⌜ Sound n (now store) × Lives (now own) live × (at < mostInstructions) ⌝ }
-    ensures { λ r. ⌜ ((i o : List ℤ) → seenO r (now (store .exit)) (now (own .entry)) i o ≡ stepped (traceOf n o) (exec (Instr.DO (Act.store (variable v))) at (positionsOf (now (own .entry)) live) (framesOf (now (own .entry)) live) (dataOf n (ownOf (now (own .entry)) live) (now (store .entry)) i o))) ⌝ }
+    ensures { λ r. ⌜ ((i o : List ℤ) → seenO r (now (store .exit)) (now (own .entry)) i o ≡ stepped (traceOf n o) (exec (Instruction.DO (Act.store (variable v))) at (positionsOf (now (own .entry)) live) (framesOf (now (own .entry)) live) (dataOf n (ownOf (now (own .entry)) live) (now (store .entry)) i o))) ⌝ }
     ensures { λ r. ⌜ ((o : List ℤ) → n .written ≤ length o → SoundG r (now (store .exit)) (now (own .entry)) o o) ⌝ }
 {
     let b = first_cell(own, live);
@@ -182,7 +182,7 @@ fn save(at: u32, live: usize, n: Counts, v: u32, store: &mut [i64], own: &Memory
 // A condition.
 fn unless(at: u32, live: usize, n: Counts, v: u32, store: &[i64], own: &Memory) -> Outcome
     requires { ⌜ Sound n (now store) × Lives (now own) live × (at < mostInstructions) ⌝ }
-    ensures { λ r. ⌜ ((i o : List ℤ) → seenO r (now (store .entry)) (now (own .entry)) i o ≡ stepped (traceOf n o) (exec (Instr.IF Test.condition (low v)) at (positionsOf (now (own .entry)) live) (framesOf (now (own .entry)) live) (dataOf n (ownOf (now (own .entry)) live) (now (store .entry)) i o))) ⌝ }
+    ensures { λ r. ⌜ ((i o : List ℤ) → seenO r (now (store .entry)) (now (own .entry)) i o ≡ stepped (traceOf n o) (exec (Instruction.IF Test.condition (low v)) at (positionsOf (now (own .entry)) live) (framesOf (now (own .entry)) live) (dataOf n (ownOf (now (own .entry)) live) (now (store .entry)) i o))) ⌝ }
     ensures { λ r. ⌜ ((o : List ℤ) → n .written ≤ length o → SoundG r (now (store .entry)) (now (own .entry)) o o) ⌝ }
 {
     if first_cell(own, live) + 1 > n.cells {
@@ -199,7 +199,7 @@ fn unless(at: u32, live: usize, n: Counts, v: u32, store: &[i64], own: &Memory) 
 // The test of a step element, which uses the bound.
 fn upto(at: u32, live: usize, n: Counts, q: usize, v: u32, store: &[i64], own: &Memory) -> Outcome
     requires { ⌜ Sound n (now store) × Lives (now own) live × (at < mostInstructions) ⌝ }
-    ensures { λ r. ⌜ ((i o : List ℤ) → seenO r (now (store .entry)) (now (own .entry)) i o ≡ stepped (traceOf n o) (exec (Instr.IF (Test.upto q (variable v)) (low v)) at (positionsOf (now (own .entry)) live) (framesOf (now (own .entry)) live) (dataOf n (ownOf (now (own .entry)) live) (now (store .entry)) i o))) ⌝ }
+    ensures { λ r. ⌜ ((i o : List ℤ) → seenO r (now (store .entry)) (now (own .entry)) i o ≡ stepped (traceOf n o) (exec (Instruction.IF (Test.upto q (variable v)) (low v)) at (positionsOf (now (own .entry)) live) (framesOf (now (own .entry)) live) (dataOf n (ownOf (now (own .entry)) live) (now (store .entry)) i o))) ⌝ }
     ensures { λ r. ⌜ ((o : List ℤ) → n .written ≤ length o → SoundG r (now (store .entry)) (now (own .entry)) o o) ⌝ }
 {
     let b = first_cell(own, live);
@@ -218,7 +218,7 @@ fn upto(at: u32, live: usize, n: Counts, q: usize, v: u32, store: &[i64], own: &
 // A variable is found for a store.
 fn lend(at: u32, live: usize, n: Counts, v: u32, store: &[i64], own: &mut Memory) -> Outcome
     requires { ⌜ Sound n (now store) × Lives (now own) live × (at < mostInstructions) ⌝ }
-    ensures { λ r. ⌜ ((i o : List ℤ) → seenO r (now (store .entry)) (now (own .exit)) i o ≡ stepped (traceOf n o) (exec (Instr.DO (Act.lend (variable v))) at (positionsOf (now (own .entry)) live) (framesOf (now (own .entry)) live) (dataOf n (ownOf (now (own .entry)) live) (now (store .entry)) i o))) ⌝ }
+    ensures { λ r. ⌜ ((i o : List ℤ) → seenO r (now (store .entry)) (now (own .exit)) i o ≡ stepped (traceOf n o) (exec (Instruction.DO (Act.lend (variable v))) at (positionsOf (now (own .entry)) live) (framesOf (now (own .entry)) live) (dataOf n (ownOf (now (own .entry)) live) (now (store .entry)) i o))) ⌝ }
     ensures { λ r. ⌜ ((o : List ℤ) → n .written ≤ length o → SoundG r (now (store .entry)) (now (own .exit)) o o) ⌝ }
 {
     let b = first_cell(own, live);
@@ -239,7 +239,7 @@ fn lend(at: u32, live: usize, n: Counts, v: u32, store: &[i64], own: &mut Memory
 // The channel of an ininteger is tested.
 fn channel(at: u32, live: usize, n: Counts, q: usize, store: &mut [i64], own: &Memory) -> Outcome
     requires { ⌜ Sound n (now store) × Lives (now own) live × (at < mostInstructions) ⌝ }
-    ensures { λ r. ⌜ ((i o : List ℤ) → seenO r (now (store .exit)) (now (own .entry)) i o ≡ stepped (traceOf n o) (exec (Instr.DO (Act.channel q)) at (positionsOf (now (own .entry)) live) (framesOf (now (own .entry)) live) (dataOf n (ownOf (now (own .entry)) live) (now (store .entry)) i o))) ⌝ }
+    ensures { λ r. ⌜ ((i o : List ℤ) → seenO r (now (store .exit)) (now (own .entry)) i o ≡ stepped (traceOf n o) (exec (Instruction.DO (Act.channel q)) at (positionsOf (now (own .entry)) live) (framesOf (now (own .entry)) live) (dataOf n (ownOf (now (own .entry)) live) (now (store .entry)) i o))) ⌝ }
     ensures { λ r. ⌜ ((o : List ℤ) → n .written ≤ length o → SoundG r (now (store .exit)) (now (own .entry)) o o) ⌝ }
 {
     if first_cell(own, live) + 1 > n.cells {

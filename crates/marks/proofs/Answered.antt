@@ -17,26 +17,26 @@ use Rattle.answers.specs.declared.Verdict.the-variants.{Refused}
 use Rattle.symbols.specs.Scan.{scan}
 use Rattle.grammar.specs.Grammar.{program}
 use Rattle.grammar.specs.Trees.{Syn}
-use Rattle.grammar.specs.Verdict.{zeros, Verdict}
-use Rattle.grammar.specs.Text.{kindAt}
-use Rattle.grammar.specs.Run.{levels, Res, got, bad, Run, rd-bad, level}
+use Rattle.grammar.specs.model.Parsing.{zeros, ParseSays}
+use Rattle.grammar.specs.model.Text.{kindAt}
+use Rattle.grammar.specs.model.Run.{levels, Res, got, bad, Run, rd-bad, level}
 use Rattle.grammar.specs.declared.Parsed.the-variants.{Refused as No}
 use Rattle.grammar.proofs.Final.{read-keeps, over-verdict, bad-verdict}
 use Rattle.names.specs.Program.{Statement}
 use Rattle.names.specs.Uses.{Fault, nameFaults, least}
 use Rattle.types.specs.Types.{typeFault}
-use Rattle.reading.specs.Judging.{parsed, too-long, unreadable, ungrammatical, too-deep, misnamed, mistyped}
-use Rattle.reading.specs.Reading.{symbols, kindsIn, placeIn, filled, Scanned, Parsed, Judged}
-use Rattle.marks.specs.Parsing.{parse}
-use Rattle.marks.specs.Models.{Read, refused, accepted, byTypes, byNames, byEnd, byTree, bySymbols, byLength, readOf}
+use Rattle.reading.specs.Judging.{itsProgram, too-long, unreadable, ungrammatical, too-deep, misnamed, mistyped}
+use Rattle.reading.specs.Reading.{symbols, kindsIn, placeIn, filled, Scanned, Grammatical, Judged}
+use Rattle.marks.specs.model.Parsing.{parse}
+use Rattle.marks.specs.model.Computed.{Read, refused, accepted, byTypes, byNames, byEnd, byTree, bySymbols, byLength, readOf}
 use Rattle.marks.proofs.Parses.{Right, runs}
 
 -- a source whose program is s, without a fault
 pub record Clean (text : List ℕ) (s : Statement) : Type 0 where
-  pub program : Parsed text
-  pub same : parsed program ≡ s
-  pub named : least (nameFaults (parsed program)) ≡ none
-  pub typed : typeFault (parsed program) ≡ none
+  pub program : Grammatical text
+  pub same : itsProgram program ≡ s
+  pub named : least (nameFaults (itsProgram program)) ≡ none
+  pub typed : typeFault (itsProgram program) ≡ none
 
 module _ (text : List ℕ) where
   -- what an answer says; one that was not reached says nothing
@@ -50,12 +50,12 @@ module _ (text : List ℕ) where
 
   -- ---- 7 to 10
 
-  by-types : (p : Parsed text) → least (nameFaults (parsed p)) ≡ none → (o : Option Fault) → typeFault (parsed p) ≡ o → Said (byTypes text (parsed p) o)
+  by-types : (p : Grammatical text) → least (nameFaults (itsProgram p)) ≡ none → (o : Option Fault) → typeFault (itsProgram p) ≡ o → Said (byTypes text (itsProgram p) o)
   by-types p n none e = record { program = p; same = refl; named = n; typed = e }
   by-types p n (some f) e = mistyped p f n e
 
-  by-names : (p : Parsed text) (o : Option Fault) → least (nameFaults (parsed p)) ≡ o → Said (byNames text (parsed p) o)
-  by-names p none e = by-types p e (typeFault (parsed p)) refl
+  by-names : (p : Grammatical text) (o : Option Fault) → least (nameFaults (itsProgram p)) ≡ o → Said (byNames text (itsProgram p) o)
+  by-names p none e = by-types p e (typeFault (itsProgram p)) refl
   by-names p (some f) e = misnamed p f e
 
   -- ---- 5 and 6
@@ -66,11 +66,11 @@ module _ (text : List ℕ) where
 
     by-end : (t : Syn program) (j : ℕ) → Run (kindAt ks) levels (33 ∷ []) program 0 (got t j) → (b : Bool) → eqb j (length ks) ≡ b → Said (byEnd text t j b)
     by-end t j v true e =
-        let p : Parsed text = record { scanned = s; tree = t; keeps = read-keeps ks t j v (eqb-true j (length ks) e) } in
-        by-names p (least (nameFaults (parsed p))) refl
+        let p : Grammatical text = record { scanned = s; tree = t; keeps = read-keeps ks t j v (eqb-true j (length ks) e) } in
+        by-names p (least (nameFaults (itsProgram p))) refl
     by-end t j v false e = ungrammatical s j (over-verdict ks {new = zeros 32768} refl v (eqb-false j (length ks) e) .wrong j refl)
 
-    by-refusal : (n k : ℕ) → Verdict ks (zeros 32768) (No (answer n) k) → Said (refused (Refused (refusal n (placeIn text k))))
+    by-refusal : (n k : ℕ) → ParseSays ks (zeros 32768) (No (answer n) k) → Said (refused (Refused (refusal n (placeIn text k))))
     by-refusal n k v = go (ℕ-discrete n 5)
       where
         go : Dec (n ≡ 5) → Said (refused (Refused (refusal n (placeIn text k))))

@@ -10,9 +10,9 @@ use lib.Dec.{eqb}
 use borrow.Author.Tests.{eqb-true, eqb-false}
 use Rattle.grammar.specs.Grammar.{Class, Item, sy, rd, Prod, rhs}
 use Rattle.grammar.specs.Trees.{Syn}
-use Rattle.grammar.specs.Tables.{Choice, none as no-choice, some as takes, choose}
-use Rattle.grammar.specs.Run.{Res, got, bad, In, now, later, after, Goes, level, deep, Run, end, sy-no, sy-got, sy-bad, rd-six, rd-five, rd-none, rd-bad, rd-more, rd-got}
-use Rattle.marks.specs.Parsing.{among, onSymbol, onRest, onPart, onChoice, parse}
+use Rattle.grammar.specs.model.Tables.{Choice, none as no-choice, some as takes, choose}
+use Rattle.grammar.specs.model.Run.{Res, got, bad, In, now, later, after, Goes, level, deep, Run, end, sy-no, sy-got, sy-bad, rd-six, rd-five, rd-none, rd-bad, rd-more, rd-got}
+use Rattle.marks.specs.model.Parsing.{among, onSymbol, onRest, onPart, onChoice, parse}
 
 -- ---- a list of symbols
 

@@ -10,12 +10,12 @@ use lib.Dec.{ltb}
 use lib.IntN.{ℤ}
 use lib.ListN.{length, length-append, getD, replicate, List·getD-eq-default}
 use borrow.Author.Tests.{ltb-true, ltb-false, lt-ltb}
-use Rattle.machine.specs.Instructions.{Instr, decode, instruction, fetch}
+use Rattle.machine.specs.Instructions.{Instruction, decode, instruction, fetch}
 use Rattle.machine.specs.Run.{untold, End, done, over, run}
-use Rattle.machine.specs.Machine.{Mach, ms, obey, step, Finish, finish, start, machine}
+use Rattle.machine.specs.Machine.{Running, running, obey, step, Finish, finish, start, machine}
 use Rattle.machine.proofs.Limits.{under-longer}
-use Rattle.machine.specs.Words.{words}
-use Rattle.marks.specs.Models.{ended}
+use Rattle.machine.specs.model.Words.{words}
+use Rattle.marks.specs.model.Computed.{ended}
 
 -- ---- zero words behind
 
@@ -26,7 +26,7 @@ same-word [] (suc n) (suc k) = same-word [] n k
 same-word (w ∷ ws) n zero = refl
 same-word (w ∷ ws) n (suc k) = same-word ws n k
 
-even : (p : List Instr) → length (words p) ≡ 2 * length p
+even : (p : List Instruction) → length (words p) ≡ 2 * length p
 unfolding words
 even [] = refl
 even (i ∷ p) = let h = even p in omega arith
@@ -43,7 +43,7 @@ wider true b x y h k = ap (λ (t : Bool). cond t x y) (h refl)
 wider false true x y h k = k refl
 wider false false x y h k = refl
 
-fetch-behind : (p : List Instr) (n c : ℕ) → fetch (words p ++ replicate n 0) c ≡ fetch (words p) c
+fetch-behind : (p : List Instruction) (n c : ℕ) → fetch (words p ++ replicate n 0) c ≡ fetch (words p) c
 unfolding fetch
 fetch-behind p n c =
     let ws = words p in
@@ -54,22 +54,22 @@ fetch-behind p n c =
     (λ h. lt-ltb (2 * c + 1) (length (ws ++ replicate n 0)) (omega (arith, length-append ws (replicate n 0), ltb-true (2 * c + 1) (length ws) h)))
     (λ h. past-end ws c (omega (arith, even p, ltb-false (2 * c + 1) (length ws) h)))
 
-step-behind : (p : List Instr) (n : ℕ) (m : Mach) → step (words p ++ replicate n 0) m ≡ step (words p) m
+step-behind : (p : List Instruction) (n : ℕ) (m : Running) → step (words p ++ replicate n 0) m ≡ step (words p) m
 unfolding step
-step-behind p n (ms pc ps fs d) = ap (λ i. obey i pc ps fs d) (fetch-behind p n pc)
+step-behind p n (running pc ps fs d) = ap (λ i. obey i pc ps fs d) (fetch-behind p n pc)
 
 -- ---- the machine
 
-machine-behind : (p : List Instr) (n : ℕ) (input : List ℤ) (limit room space : ℕ) → machine (words p ++ replicate n 0) input limit room space ≡ machine (words p) input limit room space
+machine-behind : (p : List Instruction) (n : ℕ) (input : List ℤ) (limit room space : ℕ) → machine (words p ++ replicate n 0) input limit room space ≡ machine (words p) input limit room space
 unfolding machine
 machine-behind p n input limit room space = ap (λ x. finish (run x limit (start input room space) 0 untold)) (fun-ext (step-behind p n))
 
-pub with-more : (p : List Instr) (input : List ℤ) (L room space : ℕ) (f : Finish) → ended (run (step (words p)) L (start input room space) 0 untold) ≡ some f
+pub with-more : (p : List Instruction) (input : List ℤ) (L room space : ℕ) (f : Finish) → ended (run (step (words p)) L (start input room space) 0 untold) ≡ some f
     → (behind limit : ℕ) → f .done ≤ limit → machine (words p ++ replicate behind 0) input limit room space ≡ f
 unfolding finish
 with-more p input L room space f h behind limit l = machine-behind p behind input limit room space ∙ go (run (step (words p)) L (start input room space) 0 untold) refl h
   where
-    go : (e : End Mach) → run (step (words p)) L (start input room space) 0 untold ≡ e → ended e ≡ some f → machine (words p) input limit room space ≡ f
+    go : (e : End Running) → run (step (words p)) L (start input room space) 0 untold ≡ e → ended e ≡ some f → machine (words p) input limit room space ≡ f
     go (done q k t) e g =
         let z : record { stop = q; done = k + 1; taken = t .taken; written = t .written } ≡ f = cc in
         under-longer (words p) input room space L e limit (omega (arith, ap (λ (x : Finish). x .done) z)) ∙ z

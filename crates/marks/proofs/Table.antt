@@ -16,10 +16,10 @@ use Rattle.table.specs.Table.{tableOf}
 use Rattle.reading.specs.Judging.{accepted as judged-accepted}
 use Rattle.reading.specs.Reading.{placeIn, filled, Judged}
 use Rattle.rules.specs.Rules.{source}
-use Rattle.translation.specs.Translate.{code}
-use Rattle.machine.specs.Words.{words}
+use Rattle.translation.specs.model.Translate.{code}
+use Rattle.machine.specs.model.Words.{words}
 use Rattle.marks.specs.Rows.{Run, Row, reads, runs, Runs, Holds, All, told, finished}
-use Rattle.marks.specs.Models.{Read, refused, accepted, readOf, answered, ran, fuel, answer, run, comes, says}
+use Rattle.marks.specs.model.Computed.{Read, refused, accepted, readOf, answered, ran, fuel, answer, run, comes, says}
 use Rattle.marks.specs.Marks.{marks}
 use Rattle.marks.proofs.Answered.{Told, read-right}
 use Rattle.marks.proofs.Ran.{with-more}
@@ -49,10 +49,10 @@ run-holds text r (some (accepted s)) h e = record {
   named = h .named;
   typed = h .typed;
   rules = fuel;
-  by-rules = subst (λ (x : Statement). source (placeIn text) x (r .input) (r .cells) (r .room) fuel ≡ done (r .stop) (r .steps) (told r)) (sym (h .same)) (cc);
+  by-rules = subst (λ (x : Statement). source (placeIn text) x (r .input) (r .cells) (r .space) fuel ≡ done (r .stop) (r .steps) (told r)) (sym (h .same)) (cc);
   by-machine = λ behind limit l.
-      subst (λ (x : Statement). machine (words (code (placeIn text) x) ++ replicate behind 0) (r .input) limit (r .cells) (r .room) ≡ finished r) (sym (h .same))
-      (with-more (code (placeIn text) s) (r .input) (16 * r .steps + 16) (r .cells) (r .room) (finished r) (cc) behind limit l);
+      subst (λ (x : Statement). machine (words (code (placeIn text) x) ++ replicate behind 0) (r .input) limit (r .cells) (r .space) ≡ finished r) (sym (h .same))
+      (with-more (code (placeIn text) s) (r .input) (16 * r .steps + 16) (r .cells) (r .space) (finished r) (cc) behind limit l);
   few = leb-true (r .done) (16 * r .steps + 16) (cc);
 }
 

@@ -1,4 +1,3 @@
-pub mod Parsing
 pub mod Rows
-pub mod Models
 pub mod Marks
+pub mod model

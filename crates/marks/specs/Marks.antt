@@ -12,7 +12,7 @@ use Rattle.marks.specs.Rows.{Row, reads, runs}
 
 -- a run with no input, all cells and room for 64 numbers
 abbrev run : String → Stop → ℕ → ℕ → List ℤ → Row
-run s q n d o = runs (bytes s) (record { input = []; cells = 8192; room = 64; stop = q; steps = n; done = d; written = o; taken = 0 })
+run s q n d o = runs (bytes s) (record { input = []; cells = 8192; space = 64; stop = q; steps = n; done = d; written = o; taken = 0 })
 
 -- so many levels of 'begin' and 'end', and nothing in them
 unfoldable pub copies : ℕ → String → List ℕ

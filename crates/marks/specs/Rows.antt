@@ -11,18 +11,18 @@ use Rattle.machine.specs.Run.{Trace, done}
 use Rattle.machine.specs.Machine.{Finish, machine}
 use Rattle.names.specs.Uses.{nameFaults, least}
 use Rattle.types.specs.Types.{typeFault}
-use Rattle.reading.specs.Judging.{parsed}
-use Rattle.reading.specs.Reading.{placeIn, filled, Parsed, Judged}
+use Rattle.reading.specs.Judging.{itsProgram}
+use Rattle.reading.specs.Reading.{placeIn, filled, Grammatical, Judged}
 use Rattle.rules.specs.Rules.{source}
-use Rattle.translation.specs.Translate.{code}
-use Rattle.machine.specs.Words.{words}
+use Rattle.translation.specs.model.Translate.{code}
+use Rattle.machine.specs.model.Words.{words}
 
 -- a run: what it is lent (input, cells, room for output), and what it comes to: how it stops, the steps by the source rules, the instructions done,
 -- what is written and how many numbers are taken
 pub record Run : Type 0 where
   pub input : List ℤ
   pub cells : ℕ
-  pub room : ℕ
+  pub space : ℕ
   pub stop : Stop
   pub steps : ℕ
   pub done : ℕ
@@ -43,16 +43,16 @@ finished r = record { stop = r .stop; done = r .done; taken = r .taken; written 
 -- the program of a source runs so
 pub record Runs (text : List ℕ) (r : Run) : Type 0 where
   -- it is a program without a fault
-  pub program : Parsed text
-  pub named : least (nameFaults (parsed program)) ≡ none
-  pub typed : typeFault (parsed program) ≡ none
+  pub program : Grammatical text
+  pub named : least (nameFaults (itsProgram program)) ≡ none
+  pub typed : typeFault (itsProgram program) ≡ none
   -- by the source rules
   pub rules : ℕ
-  pub by-rules : source (placeIn text) (parsed program) (r .input) (r .cells) (r .room) rules ≡ done (r .stop) (r .steps) (told r)
+  pub by-rules : source (placeIn text) (itsProgram program) (r .input) (r .cells) (r .space) rules ≡ done (r .stop) (r .steps) (told r)
   -- by the machine on the words of its code, whatever zero words come behind, with every limit that lets it do as many instructions; and these are
   -- at most 16 n + 16 for n steps
   pub by-machine : (behind limit : ℕ) → r .done ≤ limit
-      → machine (words (code (placeIn text) (parsed program)) ++ replicate behind 0) (r .input) limit (r .cells) (r .room) ≡ finished r
+      → machine (words (code (placeIn text) (itsProgram program)) ++ replicate behind 0) (r .input) limit (r .cells) (r .space) ≡ finished r
   pub few : r .done ≤ 16 * r .steps + 16
 
 -- what a row says

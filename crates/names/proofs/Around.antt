@@ -13,12 +13,12 @@ use lib.Seq.{getD-append-add}
 use borrow.Author.Tests.{eqb-true, eqb-false, eq-eqb, ne-eqb, lt-ltb}
 use Rattle.grammar.specs.NodeKinds.{n-variable, n-procedure, n-formal}
 use Rattle.names.specs.Program.{Name, Sort, integer, Expression, Specification, Statement, dummy, assignment, procedure, when, either, repeat, compound, block, Statements, last, first, Declarations, none as no-more, variables, declare, Procedure, heading}
-use Rattle.names.specs.Scopes.{same, has, Thing, variable, routine, formal, by-name, formalAs, Declared, sortOf, formalsOf, valuesOf, specificationsOf, specified, variablesIn, Scope, ofBlock, ofBody, inBlock, inBody, declares, an, variable-of, Given, environment, Meaning, declared, given, nothing, findIn, findGiven, innermost, meaning}
+use Rattle.names.specs.Scopes.{same, has, Thing, variable, routine, formal, by-name, formalAs, Declared, sortOf, formalsOf, valuesOf, specificationsOf, specified, variablesIn, Scope, ofBlock, ofBody, inBlock, inBody, declares, an, variable-of, Given, environment, Meaning, declared, given, nothing, findIn, findGiven, foundElse, meaning}
 use Rattle.names.specs.Uses.{thingKind}
 use Rattle.names.specs.Nodes.{node, sortNumber}
 use Rattle.names.specs.Modes.{formalNumber}
-use Rattle.names.specs.Rows.{identityIn, sought, findRow, hasRow, declaredIn, outside, outsideOf, meantIn}
-use Rattle.names.specs.Identity.{GivenAs}
+use Rattle.names.specs.model.Rows.{identityIn, sought, findRow, hasRow, declaredIn, outside, outsideOf, meantIn}
+use Rattle.names.specs.model.Identity.{GivenAs}
 use Rattle.names.specs.declared.Sought.{Sought}
 use Rattle.names.specs.declared.Meant.{Meant}
 use Rattle.names.specs.declared.Meant.the-variants.{Declared as at-row, Given as at-given, Nothing as nowhere}
@@ -134,7 +134,7 @@ outside-means R x i h small =
 
 found-means : (ids R : List ℕ) (q i : ℕ) (o : Option Declared) (g : List Scope) (m : Meant) (n : Meaning)
     → FoundAs ids R q i o → Means R m n
-    → Means R (cond (hasRow ids (declaredIn q i) R) (at-row (record { number = findRow ids (declaredIn q i) R })) m) (innermost o g n)
+    → Means R (cond (hasRow ids (declaredIn q i) R) (at-row (record { number = findRow ids (declaredIn q i) R })) m) (foundElse o g n)
 found-means ids R q i none g m n f h = rw f h
 found-means ids R q i (some d) g m n f h = rw (f .0) (f .1)
 

@@ -8,7 +8,7 @@ use Rattle.symbols.specs.Text.{bytes}
 use Rattle.symbols.specs.Names.{sameName, equal}
 use Rattle.names.specs.Program.{Name, integer, Statement, number, assignment, block, last, first, variables, none as no-more}
 use Rattle.names.specs.Scopes.{has, variablesIn, inBlock, findIn, findGiven, meaning}
-use Rattle.names.specs.Uses.{usesE, usesS, usesSs, usesD, scopesS, scopesSs, scopesD, each, twiceIn, headingIn, joined, nameFaults, least, Row, rows}
+use Rattle.names.specs.Uses.{usesE, usesS, usesSs, usesD, scopesS, scopesSs, scopesD, each, twiceIn, headingIn, joined, nameFaults, least, Row, useRows}
 
 abbrev n : ℕ → String → Name
 n i s = record { symbol = i; letters = bytes s }
@@ -32,15 +32,15 @@ abbrev hiding : Statement
 hiding = block 0 (variables integer (n 2 "maxint" ∷ []) no-more) (last (assignment (n 4 "maxint") [] 5 (number 6 1)))
 
 -- each name means the innermost declaration around it: two variables of one name stay two
-pub s1 : (rows S1 ≡ row 4 1 2 ∷ []) × (least (nameFaults S1) ≡ none)
-unfolding sameName equal has variablesIn inBlock findIn findGiven meaning usesE usesS usesSs usesD scopesS scopesSs scopesD each twiceIn headingIn joined nameFaults least rows
+pub s1 : (useRows S1 ≡ row 4 1 2 ∷ []) × (least (nameFaults S1) ≡ none)
+unfolding sameName equal has variablesIn inBlock findIn findGiven meaning usesE usesS usesSs usesD scopesS scopesSs scopesD each twiceIn headingIn joined nameFaults least useRows
 s1 = (refl, refl)
 
-pub s2 : (rows S2 ≡ row 8 1 6 ∷ row 13 1 2 ∷ []) × (least (nameFaults S2) ≡ none)
-unfolding sameName equal has variablesIn inBlock findIn findGiven meaning usesE usesS usesSs usesD scopesS scopesSs scopesD each twiceIn headingIn joined nameFaults least rows
+pub s2 : (useRows S2 ≡ row 8 1 6 ∷ row 13 1 2 ∷ []) × (least (nameFaults S2) ≡ none)
+unfolding sameName equal has variablesIn inBlock findIn findGiven meaning usesE usesS usesSs usesD scopesS scopesSs scopesD each twiceIn headingIn joined nameFaults least useRows
 s2 = (refl, refl)
 
 -- the environment is outermost: a declaration hides its name
-pub hidden : (rows hiding ≡ row 4 1 2 ∷ []) × (least (nameFaults hiding) ≡ none)
-unfolding sameName equal has variablesIn inBlock findIn findGiven meaning usesE usesS usesSs usesD scopesS scopesSs scopesD each twiceIn headingIn joined nameFaults least rows
+pub hidden : (useRows hiding ≡ row 4 1 2 ∷ []) × (least (nameFaults hiding) ≡ none)
+unfolding sameName equal has variablesIn inBlock findIn findGiven meaning usesE usesS usesSs usesD scopesS scopesSs scopesD each twiceIn headingIn joined nameFaults least useRows
 hidden = (refl, refl)

@@ -12,8 +12,8 @@ use lib.Seq.{getD-set-same, getD-set-other}
 use Rattle.symbols.specs.Text.{bytes}
 use Rattle.symbols.specs.Names.{equal, sameName}
 use Rattle.names.specs.Scopes.{environment}
-use Rattle.names.specs.Rows.{identityIn, outside}
-use Rattle.names.specs.Identity.{lettersOf, GivenAs, Identified, numberGiven, givenOf, StandsFor, Standing}
+use Rattle.names.specs.model.Rows.{identityIn, outside}
+use Rattle.names.specs.model.Identity.{lettersOf, GivenAs, Identified, numberGiven, givenOf, StandsFor, Standing}
 
 -- ---- equal lists
 

@@ -11,7 +11,7 @@ use lib.ListN.{length}
 use Rattle.symbols.specs.Text.{bytes}
 use Rattle.symbols.specs.Names.{sameName, equal}
 use Rattle.names.specs.Program.{Name}
-use Rattle.names.specs.Scopes.{same, Declared, Scope, declares, Given, environment, Meaning, declared, given, nothing, findIn, findGiven, innermost, meaning}
+use Rattle.names.specs.Scopes.{same, Declared, Scope, declares, Given, environment, Meaning, declared, given, nothing, findIn, findGiven, foundElse, meaning}
 use Rattle.names.proofs.Identities.{same-letters}
 
 -- ---- the words of the law
@@ -232,7 +232,7 @@ declared-so (s ∷ g) x d h q = go (findIn (declares s) x) refl q (λ r. declare
     scopes-of : {a b : Declared} {f k : List Scope} → declared a f ≡ declared b k → f ≡ k
     scopes-of r = cc
 
-    go : (o : Option Declared) → findIn (declares s) x ≡ o → innermost o (s ∷ g) (meaning g x) ≡ declared d h → (meaning g x ≡ declared d h → Innermost g x d h)
+    go : (o : Option Declared) → findIn (declares s) x ≡ o → foundElse o (s ∷ g) (meaning g x) ≡ declared d h → (meaning g x ≡ declared d h → Innermost g x d h)
         → Innermost (s ∷ g) x d h
     go none e r k =
         let w = k r in
@@ -276,7 +276,7 @@ unfolding meaning
 undeclared-so [] x m z q = λ t n. absurd (List·Memᴰ·not-nil n)
 undeclared-so (s ∷ g) x m z q = go (findIn (declares s) x) refl q (λ r. undeclared-so g x m z r)
   where
-    go : (o : Option Declared) → findIn (declares s) x ≡ o → innermost o (s ∷ g) (meaning g x) ≡ m → (meaning g x ≡ m → Undeclared g x) → Undeclared (s ∷ g) x
+    go : (o : Option Declared) → findIn (declares s) x ≡ o → foundElse o (s ∷ g) (meaning g x) ≡ m → (meaning g x ≡ m → Undeclared g x) → Undeclared (s ∷ g) x
     go none e r k = undeclared-in s g x (find-none (declares s) x e) (k r)
     go (some c) e r k = absurd (z c (s ∷ g) r)
 

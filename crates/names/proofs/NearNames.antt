@@ -7,7 +7,7 @@ use mathlib.Core.List.{List, [], _∷_, _++_, map}
 use Rattle.answers.specs.Numbers.{twice, heading as badHeading}
 use Rattle.names.specs.Program.{Name, Sort, Expression, number, logical, name, call, signed, operated, chosen, nested, Expressions, done, then, Element, value, while, step, Specification, Statement, dummy, assignment, procedure, when, either, repeat, compound, block, Statements, last, first, Declarations, none as no-more, variables, declare, Procedure, heading}
 use Rattle.names.specs.Scopes.{Scope, ofBlock, ofBody, has, nameOf, formalsOf, valuesOf, specificationsOf, Declared, variablesIn, inBlock, Meaning, declared, given, nothing, meaning}
-use Rattle.names.specs.Uses.{Use, used, usesE, usesEs, usesL, usesS, usesSs, usesD, usesP, scopesS, scopesSs, scopesD, scopesP, Fault, at, each, namesIn, twiceIn, allNames, stray, missing, headingIn, innermost, meantOrNot, unmeant, joined, nameFaults}
+use Rattle.names.specs.Uses.{Use, used, usesE, usesEs, usesL, usesS, usesSs, usesD, usesP, scopesS, scopesSs, scopesD, scopesP, Fault, at, each, namesIn, twiceIn, allNames, stray, missing, headingIn, faultsHere, meantOrNot, unmeant, joined, nameFaults}
 use Rattle.names.proofs.AllNames.{AllE, AllEs, AllLs, AllN, AllSp, AllS, AllSs, AllD, AllP}
 use Rattle.names.proofs.Least.{Small, Below, Near}
 use Rattle.names.proofs.Weaken.{mapAll}
@@ -59,12 +59,12 @@ own-heading (ofBody p) =
     own-append a (b ++ c) (own-each badHeading (stray (formalsOf p)) [] (valuesOf p) (omega arith) (omega arith))
     (own-append b c (own-each badHeading (stray (formalsOf p)) [] l (omega arith) (omega arith)) (own-if lacks (at (nameOf p) badHeading) [] (omega arith) (omega arith) tt))
 
-own-scopes : (gs : List (List Scope)) → Own (joined innermost gs)
+own-scopes : (gs : List (List Scope)) → Own (joined faultsHere gs)
 unfolding joined
 own-scopes [] = tt
 own-scopes ([] ∷ gs) = own-scopes gs
 own-scopes ((s ∷ g) ∷ gs) =
-    own-append (innermost (s ∷ g)) (joined innermost gs) (own-append (twiceIn s) (headingIn s) (own-twice s) (own-heading s)) (own-scopes gs)
+    own-append (faultsHere (s ∷ g)) (joined faultsHere gs) (own-append (twiceIn s) (headingIn s) (own-twice s) (own-heading s)) (own-scopes gs)
 
 own-meant : (m : Meaning) (x : Name) → Own (meantOrNot m x)
 own-meant (declared d g) x = tt
@@ -78,7 +78,7 @@ own-uses (u ∷ us) = own-append (unmeant u) (joined unmeant us) (own-meant (mea
 
 pub own-names : (s : Statement) → Own (nameFaults s)
 unfolding nameFaults
-own-names s = own-append (joined innermost (scopesS [] s)) (joined unmeant (usesS [] s)) (own-scopes (scopesS [] s)) (own-uses (usesS [] s))
+own-names s = own-append (joined faultsHere (scopesS [] s)) (joined unmeant (usesS [] s)) (own-scopes (scopesS [] s)) (own-uses (usesS [] s))
 
 own-small : (l : List Fault) → Own l → Small l
 own-small [] h = tt
@@ -239,10 +239,10 @@ module _ (n : ℕ) where
       (below-append n a (b ++ c) (below-each badHeading (stray xs) [] vs (h .2))
       (below-append n b c (below-each badHeading (stray xs) [] l (names-specified Close ss (h .3))) (below-if n lacks (at f badHeading) [] (h .0) tt)))
 
-  below-scopes : (gs : List (List Scope)) → AllScopes Close gs → Below n (joined innermost gs)
+  below-scopes : (gs : List (List Scope)) → AllScopes Close gs → Below n (joined faultsHere gs)
   unfolding joined
   below-scopes [] no-scope = tt
-  below-scopes ((s ∷ g) ∷ gs) (a-scope h k) = below-append n (innermost (s ∷ g)) (joined innermost gs) (below-scope s h) (below-scopes gs k)
+  below-scopes ((s ∷ g) ∷ gs) (a-scope h k) = below-append n (faultsHere (s ∷ g)) (joined faultsHere gs) (below-scope s h) (below-scopes gs k)
 
   below-meant : (m : Meaning) (x : Name) → Close x → Below n (meantOrNot m x)
   below-meant (declared d g) x h = tt
@@ -257,7 +257,7 @@ module _ (n : ℕ) where
   pub below-names : (s : Statement) → AllS Close s → Below n (nameFaults s)
   unfolding nameFaults
   below-names s h =
-      below-append n (joined innermost (scopesS [] s)) (joined unmeant (usesS [] s)) (below-scopes (scopesS [] s) (scopes-statement Close [] s h))
+      below-append n (joined faultsHere (scopesS [] s)) (joined unmeant (usesS [] s)) (below-scopes (scopesS [] s) (scopes-statement Close [] s h))
       (below-uses (usesS [] s) (uses-statement Close [] s h))
 
 pub near-names : (n : ℕ) (s : Statement) → n ≤ 65536 → AllS (λ x. x .symbol < n) s → Near (nameFaults s)

@@ -9,7 +9,7 @@ use native.Mathlib.Omega.{arith}
 use Rattle.answers.specs.Numbers.{twice}
 use Rattle.names.specs.Program.{Name, Expression, number, logical, name, call, signed, operated, chosen, nested, Expressions, done, then, Element, value, while, step, Statement, dummy, assignment, procedure, when, either, repeat, compound, block, Statements, last, first, Declarations, none as no-more, variables, declare, Procedure, heading}
 use Rattle.names.specs.Scopes.{same, has, nameOf, formalsOf, valuesOf, specificationsOf, specified, formalAs, Declared, Scope, ofBlock, ofBody, inBody, declares}
-use Rattle.names.specs.Uses.{Use, used, usesE, usesEs, usesL, usesS, usesSs, usesD, usesP, scopesS, scopesSs, scopesD, scopesP, at, each, twiceIn, headingIn, innermost, unmeant, joined, nameFaults}
+use Rattle.names.specs.Uses.{Use, used, usesE, usesEs, usesL, usesS, usesSs, usesD, usesP, scopesS, scopesSs, scopesD, scopesP, at, each, twiceIn, headingIn, faultsHere, unmeant, joined, nameFaults}
 use Rattle.names.proofs.Identities.{same-letters, other-letters}
 use Rattle.names.proofs.Innermost.{FirstIn, Innermost}
 use Rattle.names.proofs.TreeLaws.{joined-append}
@@ -100,13 +100,13 @@ no-use and k = k
 a-use h hs and k = a-use h (hs and k)
 
 -- no scope is at fault
-right-both : (a b : List (List Scope)) → joined innermost (a ++ b) ≡ [] → (joined innermost a ≡ []) × (joined innermost b ≡ [])
-right-both a b e = nil-both (joined innermost a) (joined innermost b) (sym (joined-append innermost a b) ∙ e)
+right-both : (a b : List (List Scope)) → joined faultsHere (a ++ b) ≡ [] → (joined faultsHere a ≡ []) × (joined faultsHere b ≡ [])
+right-both a b e = nil-both (joined faultsHere a) (joined faultsHere b) (sym (joined-append faultsHere a b) ∙ e)
 
-right-inner : (s : Scope) (g : List Scope) (gs : List (List Scope)) → Sound g → joined innermost ((s ∷ g) ∷ gs) ≡ [] → Sound (s ∷ g) × (joined innermost gs ≡ [])
+right-inner : (s : Scope) (g : List Scope) (gs : List (List Scope)) → Sound g → joined faultsHere ((s ∷ g) ∷ gs) ≡ [] → Sound (s ∷ g) × (joined faultsHere gs ≡ [])
 unfolding joined
 right-inner s g gs h e =
-    let k = nil-both (innermost (s ∷ g)) (joined innermost gs) e in
+    let k = nil-both (faultsHere (s ∷ g)) (joined faultsHere gs) e in
     (inner (nil-both (twiceIn s) (headingIn s) (k .0) .0), k .1)
   where
     inner : twiceIn s ≡ [] → Sound (s ∷ g)
@@ -144,7 +144,7 @@ sound-left g (x ∷ xs) h = a-use h (sound-left g xs h)
 mutual
   unfolding usesS scopesS
 
-  sound-statement : (g : List Scope) (s : Statement) → Sound g → joined innermost (scopesS g s) ≡ [] → Sounds (usesS g s)
+  sound-statement : (g : List Scope) (s : Statement) → Sound g → joined faultsHere (scopesS g s) ≡ [] → Sounds (usesS g s)
   sound-statement g dummy h k = no-use
   sound-statement g (assignment x xs q e) h k = a-use h (sound-left g xs h and sound-expression g e h)
   sound-statement g (procedure x es) h k = a-use h (sound-expressions g es h)
@@ -159,20 +159,20 @@ mutual
       let b = right-both (scopesD (ofBlock d ∷ g) d) (scopesSs (ofBlock d ∷ g) ss) (i .1) in
       sound-declarations (ofBlock d ∷ g) d (i .0) (b .0) and sound-statements (ofBlock d ∷ g) ss (i .0) (b .1)
 
-  sound-statements : (g : List Scope) (ss : Statements) → Sound g → joined innermost (scopesSs g ss) ≡ [] → Sounds (usesSs g ss)
+  sound-statements : (g : List Scope) (ss : Statements) → Sound g → joined faultsHere (scopesSs g ss) ≡ [] → Sounds (usesSs g ss)
   sound-statements g (last s) h k = sound-statement g s h k
   sound-statements g (first s ss) h k =
       let b = right-both (scopesS g s) (scopesSs g ss) k in
       sound-statement g s h (b .0) and sound-statements g ss h (b .1)
 
-  sound-declarations : (g : List Scope) (d : Declarations) → Sound g → joined innermost (scopesD g d) ≡ [] → Sounds (usesD g d)
+  sound-declarations : (g : List Scope) (d : Declarations) → Sound g → joined faultsHere (scopesD g d) ≡ [] → Sounds (usesD g d)
   sound-declarations g no-more h k = no-use
   sound-declarations g (variables t xs d) h k = sound-declarations g d h k
   sound-declarations g (declare p d) h k =
       let b = right-both (scopesP g p) (scopesD g d) k in
       sound-procedure g p h (b .0) and sound-declarations g d h (b .1)
 
-  sound-procedure : (g : List Scope) (p : Procedure) → Sound g → joined innermost (scopesP g p) ≡ [] → Sounds (usesP g p)
+  sound-procedure : (g : List Scope) (p : Procedure) → Sound g → joined faultsHere (scopesP g p) ≡ [] → Sounds (usesP g p)
   sound-procedure g (heading t f xs vs ss b) h k =
       let p = heading t f xs vs ss b in
       let i = right-inner (ofBody p) g (scopesS (ofBody p ∷ g) b) h k in
@@ -196,6 +196,6 @@ pub only-one : (s : Statement) → nameFaults s ≡ [] → (u : Use) → List·M
     → (c : Declared) → List·Memᴰ c (declares (w .scope)) → same (c .name) (u .name) ≡ true → c ≡ d
 unfolding nameFaults
 only-one s e u m d h w =
-    let k = nil-both (joined innermost (scopesS [] s)) (joined unmeant (usesS [] s)) e .0 in
+    let k = nil-both (joined faultsHere (scopesS [] s)) (joined unmeant (usesS [] s)) e .0 in
     let a = sound-statement [] s (λ t n. absurd (List·Memᴰ·not-nil n)) k in
     alone (w .scope) (u .name) d (sound-use a u m (w .scope) (in-scopes (w .inside) (w .scope) (w .outside) (u .around) h (w .around) (w .from))) (w .first-in)

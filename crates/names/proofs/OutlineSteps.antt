@@ -8,7 +8,7 @@ use native.Mathlib.Omega.{arith}
 use Rattle.grammar.specs.NodeKinds.{n-block, n-block-end, n-type, n-procedure, n-procedure-end, n-then, n-else, n-start, n-once, n-while, n-step, n-amount, n-left, n-condition-end, n-unary, n-binary, n-number, n-logical, n-use, n-call, n-call-end, n-actual}
 use Rattle.names.specs.Program.{Name, Expression, number, logical, name, call, signed, operated, chosen, nested, Expressions, done, then, Element, value, while, step, firstSymbol}
 use Rattle.names.specs.Nodes.{node, mark, signKind, operatorKind, truth, nodesE, nodesEs, nodesL, nodesLs, nodesLeft, nodesCall}
-use Rattle.names.specs.Rows.{foldNodes, noFault, hereIn, outward, Known, entered, left, typed, headed, procedured, outlineNode}
+use Rattle.names.specs.model.Rows.{foldNodes, noFault, hereIn, outward, Known, entered, left, typed, headed, procedured, outlineNode}
 use Rattle.names.proofs.TreeLaws.{Rows, empty, row, rows-append, rows-so, min-assoc, min-none-last}
 
 -- ---- what words add: rows r and a least fault k; with c scopes then, the type t and the heading h

@@ -13,10 +13,10 @@ use Rattle.answers.specs.Numbers.{twice, heading as badHeading}
 use Rattle.grammar.specs.NodeKinds.{n-block, n-statements, n-block-end, n-type, n-variable, n-procedure, n-formal, n-value, n-specified, n-body, n-procedure-end, n-then, n-else, n-if-end, n-for, n-do, n-for-end, n-assign}
 use Rattle.names.specs.Program.{Name, Sort, integer, boolean, Expression, Expressions, Element, Specification, Statement, dummy, assignment, procedure, when, either, repeat, compound, block, Statements, last, first, Declarations, none as no-more, variables, declare, Procedure, heading}
 use Rattle.names.specs.Scopes.{same, has, Declared, specified, Scope, ofBlock, ofBody, inBlock, variablesIn, nameOf}
-use Rattle.names.specs.Uses.{Fault, each, namesIn, twiceIn, headingIn, allNames, stray, missing, innermost, joined, scopesS, scopesSs, scopesD, scopesP}
+use Rattle.names.specs.Uses.{Fault, each, namesIn, twiceIn, headingIn, allNames, stray, missing, faultsHere, joined, scopesS, scopesSs, scopesD, scopesP}
 use Rattle.names.specs.Nodes.{node, mark, sortNumber, nodesN, nodesSp, nodesS, nodesSs, nodesD, nodesP}
 use Rattle.names.specs.Modes.{packed, typeIn, modeIn, formalNumber}
-use Rattle.names.specs.Rows.{foldNodes, noFault, leastKey, notedIf, identityIn, hasRow, declaredIn, saidIn, saying, hereIn, Known, unknown, entered, typed, headed, noted, withRow, withRows, declared, procedured, formalled, marked, valued, specifiedAs, missingIn, bodied, outlineNode, outlineOf}
+use Rattle.names.specs.model.Rows.{foldNodes, noFault, leastKey, notedIf, identityIn, hasRow, declaredIn, saidIn, saying, hereIn, Known, unknown, entered, typed, headed, noted, withRow, withRows, declared, procedured, formalled, marked, valued, specifiedAs, missingIn, bodied, outlineNode, outlineOf}
 use Rattle.names.proofs.AllNames.{AllN, AllSp, AllS, AllSs, AllD, AllP}
 use Rattle.names.specs.Outline.{sizeS, sizeSs, sizeD, sizeP, formalIn, rowsN, rowsS, rowsSs, rowsD, rowsP}
 use Rattle.names.proofs.Identities.{same-letters}
@@ -450,22 +450,22 @@ module _ (ids : List ℕ) (Q : Name → Type 0) (agree : (x y : Name) → Q x �
   abbrev ForS : List Scope → Statement → Type 0
   ForS g s =
       (d : ℕ) (st : Known) → Fresh st
-      → Steps ids (nodesS d s) (rowsS (st .scopes) (hereIn (st .around)) s) (st .scopes + sizeS s) (leastKey (joined innermost (scopesS g s))) st
+      → Steps ids (nodesS d s) (rowsS (st .scopes) (hereIn (st .around)) s) (st .scopes + sizeS s) (leastKey (joined faultsHere (scopesS g s))) st
 
   abbrev ForSs : List Scope → Statements → Type 0
   ForSs g ss =
       (d : ℕ) (st : Known) → Fresh st
-      → Steps ids (nodesSs d ss) (rowsSs (st .scopes) (hereIn (st .around)) ss) (st .scopes + sizeSs ss) (leastKey (joined innermost (scopesSs g ss))) st
+      → Steps ids (nodesSs d ss) (rowsSs (st .scopes) (hereIn (st .around)) ss) (st .scopes + sizeSs ss) (leastKey (joined faultsHere (scopesSs g ss))) st
 
   abbrev ForD : List Scope → Declarations → Type 0
   ForD g ds =
       (d : ℕ) (seen : List Name) (st : Known) → Fresh st → Seen seen st
-      → Steps ids (nodesD d ds) (rowsD (st .scopes) (hereIn (st .around)) ds) (st .scopes + sizeD ds) (min (leastKey (each twice has seen (namesD ds))) (leastKey (joined innermost (scopesD g ds)))) st
+      → Steps ids (nodesD d ds) (rowsD (st .scopes) (hereIn (st .around)) ds) (st .scopes + sizeD ds) (min (leastKey (each twice has seen (namesD ds))) (leastKey (joined faultsHere (scopesD g ds)))) st
 
   abbrev ForP : List Scope → Procedure → Type 0
   ForP g p =
       (d : ℕ) (seen : List Name) (st : Known) → Fresh st → Seen seen st
-      → Steps ids (nodesP d p) (rowsP (st .scopes) (hereIn (st .around)) p) (st .scopes + sizeP p) (min (leastKey (only (has seen (nameOf p)) (nameOf p) twice)) (leastKey (joined innermost (scopesP g p)))) st
+      → Steps ids (nodesP d p) (rowsP (st .scopes) (hereIn (st .around)) p) (st .scopes + sizeP p) (min (leastKey (only (has seen (nameOf p)) (nameOf p) twice)) (leastKey (joined faultsHere (scopesP g p)))) st
 
   -- ---- procedures
 
@@ -482,12 +482,12 @@ module _ (ids : List ℕ) (Q : Name → Type 0) (agree : (x y : Name) → Q x �
       ∙ sym (min-assoc (leastKey a) (min (leastKey v) (leastKey l)) (leastKey o))
 
   procedure-key : (g : List Scope) (t : Option Sort) (f : Name) (xs vs : List Name) (ss : List Specification) (s : Statement) (i : ℕ)
-      → min i (min (headKey f xs vs ss) (min (leastKey (only (missing xs (allNames ss)) f badHeading)) (leastKey (joined innermost (scopesS (ofBody (heading t f xs vs ss s) ∷ g) s)))))
-      ≡ min i (leastKey (joined innermost (scopesP g (heading t f xs vs ss s))))
+      → min i (min (headKey f xs vs ss) (min (leastKey (only (missing xs (allNames ss)) f badHeading)) (leastKey (joined faultsHere (scopesS (ofBody (heading t f xs vs ss s) ∷ g) s)))))
+      ≡ min i (leastKey (joined faultsHere (scopesP g (heading t f xs vs ss s))))
   unfolding scopesP joined
   procedure-key g t f xs vs ss s i =
       let p = heading t f xs vs ss s in
-      let b = joined innermost (scopesS (ofBody p ∷ g) s) in
+      let b = joined faultsHere (scopesS (ofBody p ∷ g) s) in
       ap (min i) (sym (least-append (twiceIn (ofBody p) ++ headingIn (ofBody p)) b
       ∙ ap (λ (n : ℕ). min n (leastKey b)) (heading-key t f xs vs ss s)
       ∙ min-assoc (headKey f xs vs ss) (leastKey (only (missing xs (allNames ss)) f badHeading)) (leastKey b)))
@@ -549,7 +549,7 @@ module _ (ids : List ℕ) (Q : Name → Type 0) (agree : (x y : Name) → Q x �
       let q = hereIn (st .around) in
       let i = leastKey (each twice has seen xs) in
       let j = leastKey (each twice has (onto seen xs) (namesD ds)) in
-      let k = leastKey (joined innermost (scopesD g ds)) in
+      let k = leastKey (joined faultsHere (scopesD g ds)) in
       let fresh' = fresh-typed n st fresh in
       let r = rowsN n-variable q (λ x. n) xs in
       steps-as refl refl (sym (min-assoc i j k) ∙ ap (λ (x : ℕ). min x k) (sym (each-append twice has seen xs (namesD ds))))
@@ -568,10 +568,10 @@ module _ (ids : List ℕ) (Q : Name → Type 0) (agree : (x y : Name) → Q x �
       let q = hereIn (st .around) in
       let c = st .scopes in
       let a = leastKey (only (has seen (nameOf p)) (nameOf p) twice) in
-      let b = leastKey (joined innermost (scopesP g p)) in
+      let b = leastKey (joined faultsHere (scopesP g p)) in
       let e = leastKey (each twice has (nameOf p ∷ seen) (namesD ds)) in
-      let k = leastKey (joined innermost (scopesD g ds)) in
-      steps-as refl (omega arith) (min-pairs a b e k ∙ rw (← each-first twice has seen (nameOf p) (namesD ds), ← least-joined innermost (scopesP g p) (scopesD g ds)) refl)
+      let k = leastKey (joined faultsHere (scopesD g ds)) in
+      steps-as refl (omega arith) (min-pairs a b e k ∙ rw (← each-first twice has seen (nameOf p) (namesD ds), ← least-joined faultsHere (scopesP g p) (scopesD g ds)) refl)
       (steps-append {r' = rowsD (c + sizeP p) q ds} (one d seen st fresh seeing)
       (λ t h. more d (nameOf p ∷ seen) (plus (rowsP c q p) (c + sizeP p) t h (min a b) st)
       (fresh-plus t h (min a b) st fresh (rows-below c q p (fresh .here)) (omega arith))
@@ -610,8 +610,8 @@ module _ (ids : List ℕ) (Q : Name → Type 0) (agree : (x y : Name) → Q x �
   for-either : (g : List Scope) (q : ℕ) (c : Expression) (s t : Statement) → ForS g s → ForS g t → ForS g (either q c s t)
   unfolding nodesS rowsS sizeS scopesS outlineNode
   for-either g q c s t one other d st fresh =
-      let k = leastKey (joined innermost (scopesS g s)) in
-      steps-as refl (omega arith) (sym (least-joined innermost (scopesS g s) (scopesS g t)))
+      let k = leastKey (joined faultsHere (scopesS g s)) in
+      steps-as refl (omega arith) (sym (least-joined faultsHere (scopesS g s) (scopesS g t)))
       (steps-after (skipsE ids d c)
       (steps-after (still ids n-then q 0 0 (λ st'. refl))
       (steps-append {r' = rowsS (st .scopes + sizeS s) (hereIn (st .around)) t} (one (d + 1) st fresh)
@@ -631,31 +631,31 @@ module _ (ids : List ℕ) (Q : Name → Type 0) (agree : (x y : Name) → Q x �
   for-first : (g : List Scope) (s : Statement) (ss : Statements) → ForS g s → ForSs g ss → ForSs g (first s ss)
   unfolding nodesSs rowsSs sizeSs scopesSs
   for-first g s ss one more d st fresh =
-      let k = leastKey (joined innermost (scopesS g s)) in
-      steps-as refl (omega arith) (sym (least-joined innermost (scopesS g s) (scopesSs g ss)))
+      let k = leastKey (joined faultsHere (scopesS g s)) in
+      steps-as refl (omega arith) (sym (least-joined faultsHere (scopesS g s) (scopesSs g ss)))
       (steps-append {r' = rowsSs (st .scopes + sizeS s) (hereIn (st .around)) ss} (one d st fresh)
       (λ t h. more d (plus (rowsS (st .scopes) (hereIn (st .around)) s) (st .scopes + sizeS s) t h k st) (fresh-after s t h k st fresh)))
 
   block-key : (g : List Scope) (ds : Declarations) (ss : Statements)
-      → min (min (leastKey (each twice has [] (namesD ds))) (leastKey (joined innermost (scopesD (ofBlock ds ∷ g) ds)))) (leastKey (joined innermost (scopesSs (ofBlock ds ∷ g) ss)))
-      ≡ leastKey (joined innermost ((ofBlock ds ∷ g) ∷ (scopesD (ofBlock ds ∷ g) ds ++ scopesSs (ofBlock ds ∷ g) ss)))
+      → min (min (leastKey (each twice has [] (namesD ds))) (leastKey (joined faultsHere (scopesD (ofBlock ds ∷ g) ds)))) (leastKey (joined faultsHere (scopesSs (ofBlock ds ∷ g) ss)))
+      ≡ leastKey (joined faultsHere ((ofBlock ds ∷ g) ∷ (scopesD (ofBlock ds ∷ g) ds ++ scopesSs (ofBlock ds ∷ g) ss)))
   unfolding joined twiceIn headingIn
   block-key g ds ss =
       let a = each twice has [] (namesIn (ofBlock ds)) in
       let u = scopesD (ofBlock ds ∷ g) ds in
       let v = scopesSs (ofBlock ds ∷ g) ss in
-      sym (ap leastKey (ap (λ (l : List Fault). l ++ joined innermost (u ++ v)) (append-nil a))
-      ∙ least-append a (joined innermost (u ++ v))
-      ∙ ap (min (leastKey a)) (least-joined innermost u v)
-      ∙ sym (min-assoc (leastKey a) (leastKey (joined innermost u)) (leastKey (joined innermost v)))
-      ∙ ap (λ (l : List Name). min (min (leastKey (each twice has [] l)) (leastKey (joined innermost u))) (leastKey (joined innermost v))) (names-of ds))
+      sym (ap leastKey (ap (λ (l : List Fault). l ++ joined faultsHere (u ++ v)) (append-nil a))
+      ∙ least-append a (joined faultsHere (u ++ v))
+      ∙ ap (min (leastKey a)) (least-joined faultsHere u v)
+      ∙ sym (min-assoc (leastKey a) (leastKey (joined faultsHere u)) (leastKey (joined faultsHere v)))
+      ∙ ap (λ (l : List Name). min (min (leastKey (each twice has [] l)) (leastKey (joined faultsHere u))) (leastKey (joined faultsHere v))) (names-of ds))
 
   for-block : (g : List Scope) (p : ℕ) (ds : Declarations) (ss : Statements) → ForD (ofBlock ds ∷ g) ds → ForSs (ofBlock ds ∷ g) ss → ForS g (block p ds ss)
   unfolding nodesS rowsS sizeS scopesS outlineNode entered hereIn has
   for-block g p ds ss one more d st fresh =
       let c = st .scopes + 1 in
       let fresh' = fresh-entered st fresh in
-      let i = min (leastKey (each twice has [] (namesD ds))) (leastKey (joined innermost (scopesD (ofBlock ds ∷ g) ds))) in
+      let i = min (leastKey (each twice has [] (namesD ds))) (leastKey (joined faultsHere (scopesD (ofBlock ds ∷ g) ds))) in
       let e = c + sizeD ds in
       steps-words (ap (λ (w : List ℕ). mark n-block p ++ w) (append-assoc (nodesD d ds) (mark n-statements p ++ nodesSs (d + 1) ss) (mark n-block-end p)))
       (steps-as refl (omega arith) (block-key g ds ss)
@@ -704,11 +704,11 @@ module _ (ids : List ℕ) (Q : Name → Type 0) (agree : (x y : Name) → Q x �
   fresh-unknown = record { rows = empty; here = le-refl 0; least = le-refl noFault }
 
   pub outlined : (s : Statement) → AllS Q s
-      → (outlineOf ids (nodesS 1 s) .least ≡ leastKey (joined innermost (scopesS [] s)))
+      → (outlineOf ids (nodesS 1 s) .least ≡ leastKey (joined faultsHere (scopesS [] s)))
       × (outlineOf ids (nodesS 1 s) .rows ≡ rowsS 0 0 s)
   unfolding outlineOf foldNodes hereIn
   outlined s all =
       let g = treeS [] s all 1 unknown fresh-unknown in
       let e = ap (λ (ws : List ℕ). fold ids ws unknown) (sym (append-nil (nodesS 1 s))) ∙ g .goes .on [] in
-      let k = leastKey (joined innermost (scopesS [] s)) in
-      (ap (λ (st : Known). st .least) e ∙ min-none k noFault (least-bound (joined innermost (scopesS [] s))), ap (λ (st : Known). st .rows) e)
+      let k = leastKey (joined faultsHere (scopesS [] s)) in
+      (ap (λ (st : Known). st .least) e ∙ min-none k noFault (least-bound (joined faultsHere (scopesS [] s))), ap (λ (st : Known). st .rows) e)

@@ -14,7 +14,7 @@ use Rattle.names.specs.Program.{Name, Expression, number, logical, name,
 use Rattle.names.specs.Scopes.{Scope, ofBlock, ofBody, Given, environment, Meaning, declared, given, nothing, meaning}
 use Rattle.names.specs.Uses.{Use, used, usesE, usesEs, usesL, usesS, usesSs, usesD, usesP, Fault, meantOrNot, unmeant, joined}
 use Rattle.names.specs.Nodes.{node, mark, signKind, operatorKind, truth, sortNumber, nodesE, nodesEs, nodesL, nodesLs, nodesN, nodesSp, nodesLeft, nodesCall, nodesS, nodesSs, nodesD, nodesP}
-use Rattle.names.specs.Rows.{foldNodes, noFault, leastKey, notedIf, identityIn, meantIn, meantNumber, meantOf, isNothing, outward, Found, usedAt, used as usedIn, opened, closed, isUse, useNode, usesOf}
+use Rattle.names.specs.model.Rows.{foldNodes, noFault, leastKey, notedIf, identityIn, meantIn, meantNumber, meantOf, isNothing, outward, Found, usedAt, used as usedIn, opened, closed, isUse, useNode, usesOf}
 use Rattle.names.specs.declared.Meant.{Meant}
 use Rattle.names.specs.declared.Meant.the-variants.{Declared as at-row, Given as at-given, Nothing as nowhere}
 use Rattle.names.proofs.UseLaws.{Kept, read-back}

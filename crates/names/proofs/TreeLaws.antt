@@ -14,7 +14,7 @@ use Rattle.names.specs.Scopes.{same, has}
 use Rattle.names.specs.Uses.{Fault, at, each, missing, joined}
 use Rattle.names.specs.Modes.{formalNumber}
 use Rattle.names.proofs.ModeLaws.{formal-type}
-use Rattle.names.specs.Rows.{faultKey, noFault, leastKey, notedIf, identityIn, sought, hasRow, saidIn, saying, lacking, missingIn}
+use Rattle.names.specs.model.Rows.{faultKey, noFault, leastKey, notedIf, identityIn, sought, hasRow, saidIn, saying, lacking, missingIn}
 use Rattle.names.specs.declared.Sought.{Sought}
 use Rattle.grammar.specs.NodeKinds.{n-formal}
 use Rattle.names.proofs.Identities.{same-letters, other-letters}

@@ -11,8 +11,8 @@ use native.Mathlib.Numerals.{add-one}
 use borrow.Author.Tests.{lt-ltb, le-ltb, ne-eqb}
 use lib.ListN.{length, getD, take, drop, set}
 use lib.Seq.{take-suc-set}
-use Rattle.names.specs.Rows.{foldNodes, identityIn, findRow, hasRow, declaredIn, opensOf, outsideOf, meantIn, givenFrom, noMeaning, meantNumber, meantOf, isNothing, notedIf, Found, used, usedAt, opened, closed, outward, isUse, useNode}
-use Rattle.names.specs.Model.{seeOpen, seeUses}
+use Rattle.names.specs.model.Rows.{foldNodes, identityIn, findRow, hasRow, declaredIn, opensOf, outsideOf, meantIn, givenFrom, noMeaning, meantNumber, meantOf, isNothing, notedIf, Found, used, usedAt, opened, closed, outward, isUse, useNode}
+use Rattle.names.specs.model.Arrays.{seeOpen, seeUses}
 use Rattle.names.specs.declared.Open.{Open}
 use Rattle.names.specs.declared.Using.{Using}
 use Rattle.answers.specs.Numbers.{undeclared}

@@ -6,6 +6,4 @@ pub mod Nodes
 pub mod Modes
 pub mod Outline
 pub mod Uses
-pub mod Rows
-pub mod Model
-pub mod Identity
+pub mod model

@@ -127,11 +127,11 @@ findGiven n [] x = nothing
 findGiven n (g ∷ l) x = cond (sameName (bytes (g .spelling)) (x .letters)) (given n g) (findGiven (n + 1) l x)
 
 -- found in the scope s, or else what it means outside
-abbrev pub innermost : Option Declared → List Scope → Meaning → Meaning
-innermost none g outside = outside
-innermost (some d) g outside = declared d g
+abbrev pub foundElse : Option Declared → List Scope → Meaning → Meaning
+foundElse none g outside = outside
+foundElse (some d) g outside = declared d g
 
 -- g: the scopes around, innermost first
 unfoldable pub meaning : List Scope → Name → Meaning
 meaning [] x = findGiven 0 environment x
-meaning (s ∷ g) x = innermost (findIn (declares s) x) (s ∷ g) (meaning g x)
+meaning (s ∷ g) x = foundElse (findIn (declares s) x) (s ∷ g) (meaning g x)

@@ -131,9 +131,9 @@ headingIn (ofBody p) =
     ++ (each badHeading (stray (formalsOf p)) [] l
     ++ cond (missing (formalsOf p) l) (at (nameOf p) badHeading ∷ []) [])
 
-abbrev pub innermost : List Scope → List Fault
-innermost [] = []
-innermost (s ∷ g) = twiceIn s ++ headingIn s
+abbrev pub faultsHere : List Scope → List Fault
+faultsHere [] = []
+faultsHere (s ∷ g) = twiceIn s ++ headingIn s
 
 -- 8: "no declaration, formal or environment entry": "the use"
 abbrev pub meantOrNot : Meaning → Name → List Fault
@@ -150,7 +150,7 @@ joined f (x ∷ l) = f x ++ joined f l
 
 -- the faults of a program that names have
 unfoldable pub nameFaults : Statement → List Fault
-nameFaults s = joined innermost (scopesS [] s) ++ joined unmeant (usesS [] s)
+nameFaults s = joined faultsHere (scopesS [] s) ++ joined unmeant (usesS [] s)
 
 -- "in a group the smallest place wins, and at one place the lower number"
 abbrev pub before : Fault → Fault → Bool
@@ -186,5 +186,5 @@ rowIn nothing x = []
 abbrev pub rowOf : Use → List Row
 rowOf u = rowIn (meaning (u .around) (u .name)) (u .name)
 
-unfoldable pub rows : Statement → List Row
-rows s = joined rowOf (usesS [] s)
+unfoldable pub useRows : Statement → List Row
+useRows s = joined rowOf (usesS [] s)

@@ -3,7 +3,7 @@ use answers::Answer;
 use answers::Ordinal;
 ghost use mathlib.Core.Path.{_≡_};
 ghost use Prim.Native.Nat.{min};
-ghost use Rattle.names.specs.Rows.{faultKey, notedIf};
+ghost use Rattle.names.specs.model.Rows.{faultKey, notedIf};
 
 // No fault.
 pub const NONE: usize = 1048576;

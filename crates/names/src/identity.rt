@@ -9,7 +9,7 @@ ghost use mathlib.Core.Path.{_≡_};
 ghost use Prim.Native.Nat.{_<_, min};
 ghost use lib.ListN.{length};
 ghost use Rattle.symbols.specs.Names.{lettersAt};
-ghost use Rattle.names.specs.Identity.{givenOf, StandsFor, Standing, Identified};
+ghost use Rattle.names.specs.model.Identity.{givenOf, StandsFor, Standing, Identified};
 
 // The environment's number of the name at a place, or 4.
 fn given(source: &[u8], place: Place) -> u16

@@ -3,7 +3,7 @@ use crate::Meant;
 use answers::Declaration;
 use answers::Environment;
 ghost use mathlib.Core.Path.{_≡_};
-ghost use Rattle.names.specs.Rows.{meantNumber, meantOf};
+ghost use Rattle.names.specs.model.Rows.{meantNumber, meantOf};
 ghost use Rattle.names.specs.declared.Meant.the-variants.{Declared, Given};
 
 pub const GIVEN: u16 = 8192;

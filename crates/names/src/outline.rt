@@ -24,8 +24,8 @@ ghost use mathlib.Core.List.{List};
 ghost use Prim.Native.Nat.{ℕ, _+_, _*_, _≤_, _<_};
 ghost use lib.Dec.{eqb};
 ghost use lib.ListN.{length, take};
-ghost use Rattle.names.specs.Rows.{rowIn, identityIn, declaredIn, hereIn, declared, procedured, formalled, marked, valued, specifiedAs, lacking, missingIn, bodied, outlineNode, outlineOf};
-ghost use Rattle.names.specs.Model.{seeOpen, seeOutline, OutlineWithin};
+ghost use Rattle.names.specs.model.Rows.{rowIn, identityIn, declaredIn, hereIn, declared, procedured, formalled, marked, valued, specifiedAs, lacking, missingIn, bodied, outlineNode, outlineOf};
+ghost use Rattle.names.specs.model.Arrays.{seeOpen, seeOutline, OutlineWithin};
 
 // The rows of a name in the innermost scope.
 fn rows_here(o: Declaring, symbol: Ordinal, ids: &[u16; 2048], stack: &[u16; 8192]) -> Sought

@@ -6,8 +6,8 @@ use crate::uses as using;
 ghost use mathlib.Core.Path.{_≡_};
 ghost use Prim.Native.Nat.{_*_, _≤_, min};
 ghost use lib.ListN.{length, take};
-ghost use Rattle.names.specs.Identity.{Identified};
-ghost use Rattle.names.specs.Model.{OutlineLeft, UsesLeft};
+ghost use Rattle.names.specs.model.Identity.{Identified};
+ghost use Rattle.names.specs.model.Arrays.{OutlineLeft, UsesLeft};
 
 // The first words of those that are lent; all of them where there are no more.
 pub fn front(words: &[u16], end: usize) -> &[u16]

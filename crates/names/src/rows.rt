@@ -8,8 +8,8 @@ ghost use mathlib.Core.Bool.{cond};
 ghost use mathlib.Core.List.{List, [], _∷_, _++_};
 ghost use Prim.Native.Nat.{ℕ, _+_, _*_, _<_, _≤_};
 ghost use lib.ListN.{length, take, set};
-ghost use Rattle.names.specs.Rows.{rowIn, identityIn, soughtRow, findRow, hasRow, saidIn};
-ghost use Rattle.names.specs.Model.{PutRow, SaidRows};
+ghost use Rattle.names.specs.model.Rows.{rowIn, identityIn, soughtRow, findRow, hasRow, saidIn};
+ghost use Rattle.names.specs.model.Arrays.{PutRow, SaidRows};
 
 // The identities of the environment's names come behind all symbols.
 pub const OUTSIDE: u16 = 2048;

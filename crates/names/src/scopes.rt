@@ -4,8 +4,8 @@ ghost use mathlib.Core.Path.{_≡_};
 ghost use mathlib.Core.List.{List, _∷_};
 ghost use Prim.Native.Nat.{ℕ, _+_, _<_, _≤_};
 ghost use lib.ListN.{length};
-ghost use Rattle.names.specs.Rows.{opensOf, hereIn, outward};
-ghost use Rattle.names.specs.Model.{seeOpen};
+ghost use Rattle.names.specs.model.Rows.{opensOf, hereIn, outward};
+ghost use Rattle.names.specs.model.Arrays.{seeOpen};
 
 // The innermost one; 0 where none is open.
 pub fn here(o: Open, stack: &[u16; 8192]) -> u16

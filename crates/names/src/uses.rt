@@ -18,8 +18,8 @@ ghost use mathlib.Core.Path.{_≡_};
 ghost use mathlib.Core.List.{[], _∷_, _++_};
 ghost use Prim.Native.Nat.{ℕ, _+_, _≤_, _<_};
 ghost use lib.ListN.{length, take};
-ghost use Rattle.names.specs.Rows.{opensOf, outsideOf, meantIn, used as usedIn, useNode, usesOf};
-ghost use Rattle.names.specs.Model.{seeUses, UsesWithin};
+ghost use Rattle.names.specs.model.Rows.{opensOf, outsideOf, meantIn, used as usedIn, useNode, usesOf};
+ghost use Rattle.names.specs.model.Arrays.{seeUses, UsesWithin};
 
 // What a name means that no scope around it declares.
 fn outside(id: u16) -> Meant

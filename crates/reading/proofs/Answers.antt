@@ -12,30 +12,30 @@ use Rattle.answers.specs.declared.Refusal.{Refusal}
 use Rattle.answers.specs.declared.Verdict.{Verdict}
 use Rattle.answers.specs.declared.Verdict.the-variants.{Accepted, Refused}
 use Rattle.grammar.specs.Trees.{yield}
-use Rattle.grammar.specs.Verdict.{zeros}
+use Rattle.grammar.specs.model.Parsing.{zeros}
 use Rattle.names.specs.Program.{Statement}
-use Rattle.names.specs.Uses.{Fault, nameFaults, sooner, least, joined, innermost, unmeant, scopesS, usesS}
+use Rattle.names.specs.Uses.{Fault, nameFaults, sooner, least, joined, faultsHere, unmeant, scopesS, usesS}
 use Rattle.names.specs.Nodes.{nodesS}
 use Rattle.names.specs.Outline.{rowsS}
-use Rattle.names.specs.Rows.{faultOf, noFault, outlineOf, usesOf}
+use Rattle.names.specs.model.Rows.{faultOf, noFault, outlineOf, usesOf}
 use Rattle.names.proofs.AllNames.{AllS}
 use Rattle.names.proofs.Weaken.{mapAll}
 use Rattle.names.proofs.NearNames.{near-names, small-names}
 use Rattle.names.proofs.Fours.{fours-weaken}
 use Rattle.names.proofs.NearNodes.{SymbolsWithin, some-symbols, nodes-before-end}
 use Rattle.types.specs.Types.{typeFault}
-use Rattle.types.specs.Passes.{typedOf}
+use Rattle.types.specs.model.Passes.{typedOf}
 use Rattle.symbols.specs.Scan.{scan, valuesOf}
 use Rattle.types.proofs.NearTypes.{near-types, small-types}
 use Rattle.table.specs.Table.{tableOf}
 use Rattle.reading.specs.Judging.{accepted}
-use Rattle.reading.specs.Reading.{symbols, kindsIn, placeIn, refusedAt, room, cleared, filled, Judged, Reads, too-short}
+use Rattle.reading.specs.Reading.{symbols, kindsIn, placeIn, refusedAt, tableWords, cleared, filled, Judged, Reads, too-short}
 use Rattle.reading.specs.declared.Sizes.{Sizes}
 use Rattle.reading.specs.declared.Found.{Found}
 use Rattle.reading.specs.declared.Found.the-variants.{Program, Refused as Wrong}
 use Rattle.reading.proofs.Places.{place-inside}
-use Rattle.table.specs.Model.{placeOf, Wrote, tableModel}
-use Rattle.reading.specs.Model.{Known, Outlined, Named, programOf, Typed, right, wrong, Tells, program as told, refused, Declared, Holds}
+use Rattle.table.specs.model.Writing.{placeOf, Wrote, tableModel}
+use Rattle.reading.specs.model.Stages.{Known, Outlined, Named, programOf, Typed, right, wrong, Tells, program as told, refused, Declared, Holds}
 use Rattle.table.proofs.SamePlaces.{SymbolsBelow, fours-below}
 use Rattle.table.proofs.TableWords.{table-words}
 use Rattle.table.proofs.Fits.{table-room, rows-room, nodes-room}
@@ -64,7 +64,7 @@ right-empty (x ∷ a) b q = absurd (cons-nil q)
 
 pub unmeant-none : (s : Statement) → least (nameFaults s) ≡ none → joined unmeant (usesS [] s) ≡ []
 unfolding nameFaults
-unmeant-none s q = right-empty (joined innermost (scopesS [] s)) (joined unmeant (usesS [] s)) (none-empty (nameFaults s) q)
+unmeant-none s q = right-empty (joined faultsHere (scopesS [] s)) (joined unmeant (usesS [] s)) (none-empty (nameFaults s) q)
 
 -- ---- the whole table is written over zeros
 
@@ -154,7 +154,7 @@ pub as-judged : {source : List ℕ} {v v₂ : Verdict} {w w₂ : List ℕ} → v
 as-judged {source} {v} {v₂} {w} {w₂} e q j = subst (λ x. Judged source x w) (sym e) (subst (Judged source v₂) (sym q) j)
 
 -- 1
-pub as-short : {source table : List ℕ} {r : Refusal} → length table < room → r ≡ refusal short 0 → Reads source table (Refused r) table
+pub as-short : {source table : List ℕ} {r : Refusal} → length table < tableWords → r ≡ refusal short 0 → Reads source table (Refused r) table
 as-short {source} {table} l e = subst (λ x. Reads source table (Refused x) table) (sym e) (too-short l)
 
 -- the first words are no more than was asked for
@@ -213,7 +213,7 @@ module _ {source places nodes ids rows uses : List ℕ} {n : ℕ} (m : Named sou
   table-short = subst (λ w. length w ≤ 32768) (sym table-here) (table-fits all-known (m .faultless))
 
   pub table-enters : (w : List ℕ) → w ≡ cleared → length (tableModel (placeOf places) rows nodes uses) ≤ length w
-  table-enters w q = subst (λ k. length (tableModel (placeOf places) rows nodes uses) ≤ k) (sym (ap length q ∙ length-zeros room)) table-short
+  table-enters w q = subst (λ k. length (tableModel (placeOf places) rows nodes uses) ≤ k) (sym (ap length q ∙ length-zeros tableWords)) table-short
 
   -- 10
   pub last-refused : (fault : ℕ) → fault ≡ typedOf rows uses nodes → fault < noFault → (v : Verdict) (w : List ℕ)

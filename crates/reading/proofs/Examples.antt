@@ -19,13 +19,13 @@ use Rattle.grammar.proofs.Meet.{trip}
 use Rattle.grammar.proofs.Unique.{clear-keeps}
 use Rattle.names.specs.ReadOff.{build, read, programOf}
 use Rattle.names.specs.Scopes.{has, variablesIn, inBlock, findIn, findGiven, meaning}
-use Rattle.names.specs.Uses.{usesE, usesS, usesSs, usesD, scopesS, scopesSs, scopesD, each, twiceIn, headingIn, joined, nameFaults, least, rows}
+use Rattle.names.specs.Uses.{usesE, usesS, usesSs, usesD, scopesS, scopesSs, scopesD, each, twiceIn, headingIn, joined, nameFaults, least, useRows}
 use Rattle.names.specs.Nodes.{nodesE, nodesN, nodesLeft, nodesS, nodesSs, nodesD}
 use Rattle.names.specs.Outline.{sizeS, sizeSs, sizeD, rowsN, rowsS, rowsSs, rowsD, declarations}
 use Rattle.types.specs.Types.{asLeft, faultsE, faultsLeft, sortE, faultsS, faultsSs, faultsD, typeFaults, typeFault}
 use Rattle.table.specs.Table.{fours, useWords, declarationWords, hasNone, nodeWords, tableOf}
-use Rattle.reading.specs.Judging.{parsed, accepted}
-use Rattle.reading.specs.Reading.{placeIn, room, filled, Parsed, Judged, Reads, enough}
+use Rattle.reading.specs.Judging.{itsProgram, accepted}
+use Rattle.reading.specs.Reading.{placeIn, tableWords, filled, Grammatical, Judged, Reads, enough}
 use Rattle.reading.proofs.Only.{only}
 
 -- ---- the trees
@@ -71,11 +71,11 @@ S2 = bytes "'begin' 'integer' a; 'begin' 'integer' a; a := 2 'end'; a := 1 'end'
 
 -- ---- that they are read
 
-unfoldable p1 : Parsed S1
+unfoldable p1 : Grammatical S1
 unfolding blank letter digit inName these reach valueFrom equal before closed spelled named word gap followed sign sized name valued numberLexeme lexeme behind endsRemark note counted judged turn scanFrom scan yield trip
 p1 = record { scanned = record { short = leb-true (length S1) 16384 refl; whole = refl }; tree = S1t; keeps = clear-keeps S1t 8 refl refl }
 
-unfoldable p2 : Parsed S2
+unfoldable p2 : Grammatical S2
 unfolding blank letter digit inName these reach valueFrom equal before closed spelled named word gap followed sign sized name valued numberLexeme lexeme behind endsRemark note counted judged turn scanFrom scan yield trip
 p2 = record { scanned = record { short = leb-true (length S2) 16384 refl; whole = refl }; tree = S2t; keeps = clear-keeps S2t 17 refl refl }
 
@@ -95,12 +95,12 @@ table2 =
     1 ∷ 21 ∷ 0 ∷ 0 ∷ 4 ∷ 0 ∷ 1 ∷ 0 ∷ 5 ∷ 39 ∷ 0 ∷ 0 ∷ 2 ∷ 21 ∷ 0 ∷ 0 ∷ 23 ∷ 42 ∷ 3 ∷ 0 ∷ 28 ∷ 47 ∷ 0 ∷ 0 ∷ 24 ∷ 44 ∷ 0 ∷ 0 ∷ 3 ∷ 21 ∷ 0 ∷ 0 ∷
     23 ∷ 56 ∷ 2 ∷ 0 ∷ 28 ∷ 61 ∷ 0 ∷ 0 ∷ 24 ∷ 58 ∷ 0 ∷ 0 ∷ 3 ∷ 0 ∷ 0 ∷ 0 ∷ []
 
-is1 : (least (nameFaults (parsed p1)) ≡ none) × (typeFault (parsed p1) ≡ none) × (tableOf (placeIn S1) (parsed p1) ≡ table1)
-unfolding blank letter digit inName these reach valueFrom equal before closed spelled named word gap followed sign sized name valued numberLexeme lexeme behind endsRemark note counted judged turn scanFrom scan sameName read build programOf has variablesIn inBlock findIn findGiven meaning usesE usesS usesSs usesD scopesS scopesSs scopesD each twiceIn headingIn joined nameFaults least rows yield asLeft faultsE faultsLeft sortE faultsS faultsSs faultsD typeFaults typeFault nodesE nodesN nodesLeft nodesS nodesSs nodesD sizeS sizeSs sizeD rowsN rowsS rowsSs rowsD declarations fours useWords declarationWords hasNone nodeWords tableOf p1
+is1 : (least (nameFaults (itsProgram p1)) ≡ none) × (typeFault (itsProgram p1) ≡ none) × (tableOf (placeIn S1) (itsProgram p1) ≡ table1)
+unfolding blank letter digit inName these reach valueFrom equal before closed spelled named word gap followed sign sized name valued numberLexeme lexeme behind endsRemark note counted judged turn scanFrom scan sameName read build programOf has variablesIn inBlock findIn findGiven meaning usesE usesS usesSs usesD scopesS scopesSs scopesD each twiceIn headingIn joined nameFaults least useRows yield asLeft faultsE faultsLeft sortE faultsS faultsSs faultsD typeFaults typeFault nodesE nodesN nodesLeft nodesS nodesSs nodesD sizeS sizeSs sizeD rowsN rowsS rowsSs rowsD declarations fours useWords declarationWords hasNone nodeWords tableOf p1
 is1 = (refl, refl, refl)
 
-is2 : (least (nameFaults (parsed p2)) ≡ none) × (typeFault (parsed p2) ≡ none) × (tableOf (placeIn S2) (parsed p2) ≡ table2)
-unfolding blank letter digit inName these reach valueFrom equal before closed spelled named word gap followed sign sized name valued numberLexeme lexeme behind endsRemark note counted judged turn scanFrom scan sameName read build programOf has variablesIn inBlock findIn findGiven meaning usesE usesS usesSs usesD scopesS scopesSs scopesD each twiceIn headingIn joined nameFaults least rows yield asLeft faultsE faultsLeft sortE faultsS faultsSs faultsD typeFaults typeFault nodesE nodesN nodesLeft nodesS nodesSs nodesD sizeS sizeSs sizeD rowsN rowsS rowsSs rowsD declarations fours useWords declarationWords hasNone nodeWords tableOf p2
+is2 : (least (nameFaults (itsProgram p2)) ≡ none) × (typeFault (itsProgram p2) ≡ none) × (tableOf (placeIn S2) (itsProgram p2) ≡ table2)
+unfolding blank letter digit inName these reach valueFrom equal before closed spelled named word gap followed sign sized name valued numberLexeme lexeme behind endsRemark note counted judged turn scanFrom scan sameName read build programOf has variablesIn inBlock findIn findGiven meaning usesE usesS usesSs usesD scopesS scopesSs scopesD each twiceIn headingIn joined nameFaults least useRows yield asLeft faultsE faultsLeft sortE faultsS faultsSs faultsD typeFaults typeFault nodesE nodesN nodesLeft nodesS nodesSs nodesD sizeS sizeSs sizeD rowsN rowsS rowsSs rowsD declarations fours useWords declarationWords hasNone nodeWords tableOf p2
 is2 = (refl, refl, refl)
 
 pub s1 : Judged S1 Accepted (filled table1)
@@ -112,19 +112,19 @@ s2 = subst (λ w. Judged S2 Accepted (filled w)) (is2 .2) (accepted p2 (is2 .0) 
 -- ---- so: what a reader may not do
 
 -- one that refuses S1
-pub refusing : {table words : List ℕ} {v : Verdict} → room ≤ length table → Reads S1 table v words → v ≡ Accepted
+pub refusing : {table words : List ℕ} {v : Verdict} → tableWords ≤ length table → Reads S1 table v words → v ≡ Accepted
 refusing l r = only r (enough l Accepted (filled table1) s1) .0
 
 -- one with the same table for S1 and S2
 first-word : (a b : ℕ) (u v w x : List ℕ) → (a ∷ u) ++ w ≡ (b ∷ v) ++ x → a ≡ b
 first-word a b u v w x q = cc
 
-pub fixed : {table words : List ℕ} {v v₂ : Verdict} → room ≤ length table → Reads S1 table v words → Reads S2 table v₂ words → ⊥
+pub fixed : {table words : List ℕ} {v v₂ : Verdict} → tableWords ≤ length table → Reads S1 table v words → Reads S2 table v₂ words → ⊥
 fixed {table} l r r₂ =
     let e = sym (only r (enough l Accepted (filled table1) s1) .1) ∙ only r₂ (enough l Accepted (filled table2) s2) .1 in
     let z : _≡_ {A = ℕ} 1 2 = ap (λ w. getD w 0 0) e in
     omega arith
 
 -- one that leaves a table, whatever it holds, untouched for both
-pub untouched : {table words words₂ : List ℕ} {v v₂ : Verdict} → room ≤ length table → Reads S1 table v words → Reads S2 table v₂ words₂ → words ≡ table → words₂ ≡ table → ⊥
+pub untouched : {table words words₂ : List ℕ} {v v₂ : Verdict} → tableWords ≤ length table → Reads S1 table v words → Reads S2 table v₂ words₂ → words ≡ table → words₂ ≡ table → ⊥
 untouched {table} {v = v} {v₂} l r r₂ e e₂ = fixed l (subst (Reads S1 table v) e r) (subst (Reads S2 table v₂) e₂ r₂)

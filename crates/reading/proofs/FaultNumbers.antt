@@ -13,7 +13,7 @@ use Rattle.symbols.specs.Scan.{scan}
 use Rattle.symbols.proofs.FirstFault.{three-or-four}
 use Rattle.names.specs.Program.{Name, Statement}
 use Rattle.names.specs.Scopes.{Scope, ofBlock, ofBody, has, nameOf, formalsOf, valuesOf, specificationsOf, Meaning, declared, given, nothing, meaning}
-use Rattle.names.specs.Uses.{Use, usesS, scopesS, Fault, at, each, namesIn, twiceIn, allNames, stray, missing, headingIn, innermost, meantOrNot, unmeant, joined, nameFaults, before, sooner, least}
+use Rattle.names.specs.Uses.{Use, usesS, scopesS, Fault, at, each, namesIn, twiceIn, allNames, stray, missing, headingIn, faultsHere, meantOrNot, unmeant, joined, nameFaults, before, sooner, least}
 use Rattle.types.specs.Types.{typeFaults, typeFault}
 
 -- ---- 3 and 4
@@ -101,15 +101,15 @@ module _ (P : ℕ → Type 0) (seven : P twice) (nine : P badHeading) where
       each-append P a (b ++ c) (each-name P badHeading (stray (formalsOf p)) [] (valuesOf p) nine)
       (each-append P b c (each-name P badHeading (stray (formalsOf p)) [] l nine) (each-if P lacks (at (nameOf p) badHeading) [] nine tt))
 
-  each-scope : (gs : List (List Scope)) → Each P (joined innermost gs)
+  each-scope : (gs : List (List Scope)) → Each P (joined faultsHere gs)
   unfolding joined
   each-scope [] = tt
   each-scope ([] ∷ gs) = each-scope gs
   each-scope ((s ∷ g) ∷ gs) =
-      each-append P (innermost (s ∷ g)) (joined innermost gs) (each-append P (twiceIn s) (headingIn s) (each-twice s) (each-heading s)) (each-scope gs)
+      each-append P (faultsHere (s ∷ g)) (joined faultsHere gs) (each-append P (twiceIn s) (headingIn s) (each-twice s) (each-heading s)) (each-scope gs)
 
 -- they are no 8
-no-eight : (gs : List (List Scope)) → Each (λ m. m ≡ undeclared → ⊥) (joined innermost gs)
+no-eight : (gs : List (List Scope)) → Each (λ m. m ≡ undeclared → ⊥) (joined faultsHere gs)
 no-eight = each-scope (λ m. m ≡ undeclared → ⊥) (λ e. omega arith) (λ e. omega arith)
 
 -- ---- 8: a use that means nothing
@@ -142,10 +142,10 @@ unmeant-among (u ∷ us) f m = go (List·Memᴰ·append-cases (unmeant u) m) (λ
 -- among the faults of names an 8 is a use that means nothing
 pub eight-among : (s : Statement) (f : Fault) → List·Memᴰ f (nameFaults s) → f .answer ≡ undeclared → Unmeant (usesS [] s) f
 unfolding nameFaults
-eight-among s f m e = go (List·Memᴰ·append-cases (joined innermost (scopesS [] s)) m)
+eight-among s f m e = go (List·Memᴰ·append-cases (joined faultsHere (scopesS [] s)) m)
   where
-    go : List·Memᴰ f (joined innermost (scopesS [] s)) ⊎ List·Memᴰ f (joined unmeant (usesS [] s)) → Unmeant (usesS [] s) f
-    go (inl h) = absurd (each-among (λ m. m ≡ undeclared → ⊥) (joined innermost (scopesS [] s)) f (no-eight (scopesS [] s)) h e)
+    go : List·Memᴰ f (joined faultsHere (scopesS [] s)) ⊎ List·Memᴰ f (joined unmeant (usesS [] s)) → Unmeant (usesS [] s) f
+    go (inl h) = absurd (each-among (λ m. m ≡ undeclared → ⊥) (joined faultsHere (scopesS [] s)) f (no-eight (scopesS [] s)) h e)
     go (inr h) = unmeant-among (usesS [] s) f h
 
 -- and each such use has its 8
@@ -164,7 +164,7 @@ among-unmeant (v ∷ us) u (List·Memᴰ·tail m) e = Memᴰ·append-right (unme
 
 pub has-eight : (s : Statement) (u : Use) → List·Memᴰ u (usesS [] s) → meaning (u .around) (u .name) ≡ nothing → List·Memᴰ (at (u .name) undeclared) (nameFaults s)
 unfolding nameFaults
-has-eight s u m e = Memᴰ·append-right (joined innermost (scopesS [] s)) (among-unmeant (usesS [] s) u m e)
+has-eight s u m e = Memᴰ·append-right (joined faultsHere (scopesS [] s)) (among-unmeant (usesS [] s) u m e)
 
 -- so the faults of names are 7, 8 and 9
 abbrev pub SevenToNine : ℕ → Type 0
@@ -172,10 +172,10 @@ SevenToNine m = (m ≡ twice) ⊎ ((m ≡ undeclared) ⊎ (m ≡ badHeading))
 
 pub seven-to-nine : (s : Statement) (f : Fault) → List·Memᴰ f (nameFaults s) → SevenToNine (f .answer)
 unfolding nameFaults
-seven-to-nine s f m = go (List·Memᴰ·append-cases (joined innermost (scopesS [] s)) m)
+seven-to-nine s f m = go (List·Memᴰ·append-cases (joined faultsHere (scopesS [] s)) m)
   where
-    go : List·Memᴰ f (joined innermost (scopesS [] s)) ⊎ List·Memᴰ f (joined unmeant (usesS [] s)) → SevenToNine (f .answer)
-    go (inl h) = each-among SevenToNine (joined innermost (scopesS [] s)) f (each-scope SevenToNine (inl refl) (inr (inr refl)) (scopesS [] s)) h
+    go : List·Memᴰ f (joined faultsHere (scopesS [] s)) ⊎ List·Memᴰ f (joined unmeant (usesS [] s)) → SevenToNine (f .answer)
+    go (inl h) = each-among SevenToNine (joined faultsHere (scopesS [] s)) f (each-scope SevenToNine (inl refl) (inr (inr refl)) (scopesS [] s)) h
     go (inr h) = inr (inl (ap (λ x. x .answer) (unmeant-among (usesS [] s) f h .fault)))
 
 pub own-only : (s : Statement) (f : Fault) → least (nameFaults s) ≡ some f → (twice ≤ f .answer) × (f .answer ≤ badHeading)

@@ -15,12 +15,12 @@ use Rattle.answers.specs.declared.Verdict.the-variants.{Accepted, Refused}
 use Rattle.symbols.specs.Scan.{lexeme, Scan, scan}
 use Rattle.symbols.specs.declared.Lexeme.the-variants.{Large}
 use Rattle.symbols.proofs.FirstFault.{Why, no-symbol, open-note, over, one-too-many, FirstFault, first-fault, three-or-four}
-use Rattle.grammar.specs.Program.{Wrong, FirstDeep}
+use Rattle.grammar.specs.Program.{GrammarFault, DepthFault}
 use Rattle.names.specs.Uses.{Fault, nameFaults, least}
 use Rattle.types.specs.Types.{typeFault}
 use Rattle.table.specs.Table.{tableOf}
-use Rattle.reading.specs.Judging.{parsed, too-long, unreadable, ungrammatical, too-deep, misnamed, mistyped, accepted}
-use Rattle.reading.specs.Reading.{symbols, kindsIn, placeIn, room, filled, cleared, Scanned, Parsed, Judged, Reads, too-short, enough, Answered}
+use Rattle.reading.specs.Judging.{itsProgram, too-long, unreadable, ungrammatical, too-deep, misnamed, mistyped, accepted}
+use Rattle.reading.specs.Reading.{symbols, kindsIn, placeIn, tableWords, filled, cleared, Scanned, Grammatical, Judged, Reads, too-short, enough, Answered}
 use Rattle.reading.proofs.Only.{only}
 use Rattle.reading.proofs.Places.{few-symbols}
 use Rattle.reading.proofs.FaultNumbers.{SevenToNine, seven-to-nine, least-among, ten-only}
@@ -30,44 +30,44 @@ module _ (source table : List ℕ) where
 
   -- 0: "accepted"; 0
   abbrev pub Taken : ℕ → Type 0
-  Taken q = (room ≤ length table) × (p : Parsed source) × (least (nameFaults (parsed p)) ≡ none) × (typeFault (parsed p) ≡ none) × (q ≡ 0)
+  Taken q = (tableWords ≤ length table) × (p : Grammatical source) × (least (nameFaults (itsProgram p)) ≡ none) × (typeFault (itsProgram p) ≡ none) × (q ≡ 0)
 
   -- 1: "read's table under 32,768 words"; 0
   abbrev pub Short : ℕ → Type 0
-  Short q = (length table < room) × (q ≡ 0)
+  Short q = (length table < tableWords) × (q ≡ 0)
 
   -- 2: "source over 16,384 bytes"; 16,384
   abbrev pub Long : ℕ → Type 0
-  Long q = (room ≤ length table) × (16384 < length source) × (q ≡ 16384)
+  Long q = (tableWords ≤ length table) × (16384 < length source) × (q ≡ 16384)
 
   -- 3 and 4; "its first byte"
   abbrev pub Unread : ℕ → ℕ → Type 0
-  Unread n q = (room ≤ length table) × (length source ≤ 16384) × (scan symbols source .refused ≡ some (refusal n q))
+  Unread n q = (tableWords ≤ length table) × (length source ≤ 16384) × (scan symbols source .refused ≡ some (refusal n q))
 
   -- 5: "grammar: the first symbol that no program can have there, or the source's end where none can end"; "there; for the end, the source's length"
   abbrev pub Ungrammatical : ℕ → Type 0
-  Ungrammatical q = (room ≤ length table) × Scanned source × (k : ℕ) × Wrong (kindsIn source) k × (q ≡ placeIn source k)
+  Ungrammatical q = (tableWords ≤ length table) × Scanned source × (k : ℕ) × GrammarFault (kindsIn source) k × (q ≡ placeIn source k)
 
   -- 6: "depth 65"; "where it would begin; for a dummy statement, the next symbol"
   abbrev pub Deep : ℕ → Type 0
-  Deep q = (room ≤ length table) × Scanned source × (k : ℕ) × FirstDeep (kindsIn source) k × (q ≡ placeIn source k)
+  Deep q = (tableWords ≤ length table) × Scanned source × (k : ℕ) × DepthFault (kindsIn source) k × (q ≡ placeIn source k)
 
   -- 7, 8 and 9: the least fault of names; at its name
   abbrev pub Misnamed : ℕ → ℕ → Type 0
   Misnamed n q =
-      (room ≤ length table)
-      × (p : Parsed source) × (k : ℕ) × (least (nameFaults (parsed p)) ≡ some (record { symbol = k; answer = n })) × (q ≡ placeIn source k)
+      (tableWords ≤ length table)
+      × (p : Grammatical source) × (k : ℕ) × (least (nameFaults (itsProgram p)) ≡ some (record { symbol = k; answer = n })) × (q ≡ placeIn source k)
 
   -- 10: "type fault above"; "as above"
   abbrev pub Mistyped : ℕ → Type 0
   Mistyped q =
-      (room ≤ length table)
-      × (p : Parsed source) × (k : ℕ)
-      × (least (nameFaults (parsed p)) ≡ none) × (typeFault (parsed p) ≡ some (record { symbol = k; answer = types })) × (q ≡ placeIn source k)
+      (tableWords ≤ length table)
+      × (p : Grammatical source) × (k : ℕ)
+      × (least (nameFaults (itsProgram p)) ≡ none) × (typeFault (itsProgram p) ≡ some (record { symbol = k; answer = types })) × (q ≡ placeIn source k)
 
   -- the rows 0 to 10
-  abbrev pub rows : List (ℕ → Type 0)
-  rows =
+  abbrev pub answerTable : List (ℕ → Type 0)
+  answerTable =
       Taken ∷
       Short ∷
       Long ∷
@@ -83,11 +83,11 @@ module _ (source table : List ℕ) where
 
   -- the row of n; no other number is given
   abbrev pub Given : ℕ → ℕ → Type 0
-  Given n q = getD rows n (λ i. ⊥) q
+  Given n q = getD answerTable n (λ i. ⊥) q
 
   -- ---- an answer is in its row
 
-  unread : (r : Refusal) → room ≤ length table → length source ≤ 16384 → scan symbols source .refused ≡ some r → Given (r .answer .number) (r .place .at)
+  unread : (r : Refusal) → tableWords ≤ length table → length source ≤ 16384 → scan symbols source .refused ≡ some r → Given (r .answer .number) (r .place .at)
   unread r l h e = go (three-or-four symbols source r e)
     where
       here : (n : ℕ) → r .answer .number ≡ n → Unread n (r .place .at)
@@ -97,8 +97,8 @@ module _ (source table : List ℕ) where
       go (inl q) = subst (λ n. Given n (r .place .at)) (sym q) (here noSymbol q)
       go (inr q) = subst (λ n. Given n (r .place .at)) (sym q) (here tooLarge q)
 
-  named : (p : Parsed source) (f : Fault) → room ≤ length table → least (nameFaults (parsed p)) ≡ some f → Given (f .answer) (placeIn source (f .symbol))
-  named p f l e = go (seven-to-nine (parsed p) f (least-among (nameFaults (parsed p)) f e))
+  named : (p : Grammatical source) (f : Fault) → tableWords ≤ length table → least (nameFaults (itsProgram p)) ≡ some f → Given (f .answer) (placeIn source (f .symbol))
+  named p f l e = go (seven-to-nine (itsProgram p) f (least-among (nameFaults (itsProgram p)) f e))
     where
       here : (n : ℕ) → f .answer ≡ n → Misnamed n (placeIn source (f .symbol))
       here n q = (l, p, f .symbol, e ∙ ap (λ k. some (record { symbol = f .symbol; answer = k })) q, refl)
@@ -108,13 +108,13 @@ module _ (source table : List ℕ) where
       go (inr (inl q)) = subst (λ n. Given n (placeIn source (f .symbol))) (sym q) (here undeclared q)
       go (inr (inr q)) = subst (λ n. Given n (placeIn source (f .symbol))) (sym q) (here heading q)
 
-  typed : (p : Parsed source) (f : Fault) → room ≤ length table → least (nameFaults (parsed p)) ≡ none → typeFault (parsed p) ≡ some f
+  typed : (p : Grammatical source) (f : Fault) → tableWords ≤ length table → least (nameFaults (itsProgram p)) ≡ none → typeFault (itsProgram p) ≡ some f
       → Given (f .answer) (placeIn source (f .symbol))
   typed p f l e t =
-      let q = ten-only (parsed p) f t in
+      let q = ten-only (itsProgram p) f t in
       subst (λ n. Given n (placeIn source (f .symbol))) (sym q) (l, p, f .symbol, e, t ∙ ap (λ k. some (record { symbol = f .symbol; answer = k })) q, refl)
 
-  judged : {v : Verdict} {words : List ℕ} → room ≤ length table → Judged source v words → Given (numberOf v) (placeOf v)
+  judged : {v : Verdict} {words : List ℕ} → tableWords ≤ length table → Judged source v words → Given (numberOf v) (placeOf v)
   judged l (too-long h) = (l, h, refl)
   judged l (unreadable h r e) = unread r l h e
   judged l (ungrammatical s k w) = (l, s, k, w, refl)
@@ -134,11 +134,11 @@ module _ (source table : List ℕ) where
     that-is-all : {i : ℕ} → Rows i []
     _also_ : {i : ℕ} {C : ℕ → Type 0} {l : List (ℕ → Type 0)} → ((q : ℕ) → C q → Answered source table i q) → Rows (i + 1) l → Rows i (C ∷ l)
 
-  answered : (v : Verdict) (words : List ℕ) → room ≤ length table → Judged source v words → (q : ℕ) → q ≡ placeOf v → Answered source table (numberOf v) q
-  answered v words l j q e = (v, words ++ drop room table, enough l v words j, refl, sym e)
+  answered : (v : Verdict) (words : List ℕ) → tableWords ≤ length table → Judged source v words → (q : ℕ) → q ≡ placeOf v → Answered source table (numberOf v) q
+  answered v words l j q e = (v, words ++ drop tableWords table, enough l v words j, refl, sym e)
 
   taken : (q : ℕ) → Taken q → Answered source table zeroth q
-  taken q h = answered Accepted (filled (tableOf (placeIn source) (parsed (h .1)))) (h .0) (accepted (h .1) (h .2) (h .3)) q (h .4)
+  taken q h = answered Accepted (filled (tableOf (placeIn source) (itsProgram (h .1)))) (h .0) (accepted (h .1) (h .2) (h .3)) q (h .4)
 
   not-enough : (q : ℕ) → Short q → Answered source table short q
   not-enough q h = (Refused (refusal short 0), table, too-short (h .0), refl, sym (h .1))
@@ -163,7 +163,7 @@ module _ (source table : List ℕ) where
   not-typed q h =
       answered (Refused (refusal types (placeIn source (h .2)))) cleared (h .0) (mistyped (h .1) (record { symbol = h .2; answer = types }) (h .3) (h .4)) q (h .5)
 
-  all-rows : Rows 0 rows
+  all-rows : Rows 0 answerTable
   all-rows =
       taken
       also not-enough
@@ -187,7 +187,7 @@ module _ (source table : List ℕ) where
   pub numbered : (n q : ℕ) → Answered source table n q ↔ Given n q
   numbered n q = (
     λ a. subst (λ k. Given k q) (a .3) (subst (Given (numberOf (a .0))) (a .4) (in-row (a .2))),
-    λ g. let e : 0 + n ≡ n = omega arith in subst (λ k. Answered source table k q) e (look-up 0 n rows all-rows q g),
+    λ g. let e : 0 + n ≡ n = omega arith in subst (λ k. Answered source table k q) e (look-up 0 n answerTable all-rows q g),
   )
 
   -- and there is no other number
@@ -197,7 +197,7 @@ module _ (source table : List ℕ) where
   in-list (C ∷ l) (suc n) q h = omega (arith, in-list l n q h)
 
   pub to-ten : {v : Verdict} {new : List ℕ} → Reads source table v new → numberOf v ≤ 10
-  to-ten {v} r = omega (arith, in-list rows (numberOf v) (placeOf v) (in-row r))
+  to-ten {v} r = omega (arith, in-list answerTable (numberOf v) (placeOf v) (in-row r))
 
   -- 0 is acceptance
   pub zero-is-accepted : {v : Verdict} {new : List ℕ} → Reads source table v new → (numberOf v ≡ zeroth) ↔ (v ≡ Accepted)

@@ -22,8 +22,8 @@ use Rattle.names.proofs.Named.{named}
 use Rattle.names.proofs.NearNames.{below-names}
 use Rattle.names.proofs.Weaken.{mapAll}
 use Rattle.types.specs.Types.{typeFaults, typeFault}
-use Rattle.reading.specs.Judging.{parsed}
-use Rattle.reading.specs.Reading.{symbols, placeIn, Parsed}
+use Rattle.reading.specs.Judging.{itsProgram}
+use Rattle.reading.specs.Reading.{symbols, placeIn, Grammatical}
 use Rattle.reading.proofs.Answers.{none-empty}
 use Rattle.reading.proofs.FaultNumbers.{least-among, none-among}
 use Rattle.reading.proofs.LeastFault.{Late, least-late}
@@ -87,11 +87,11 @@ module _ (source : List ℕ) where
 
   -- ---- the faults of names are at symbols of the source
 
-  pub names-inside : (p : Parsed source) → Below many (nameFaults (parsed p))
+  pub names-inside : (p : Grammatical source) → Below many (nameFaults (itsProgram p))
   names-inside p =
       let e : length (yield (p .tree)) ≡ many = ap length (p .keeps .spelled) ∙ length-map (scan symbols source .found) (λ f. kind (f .symbol)) in
       let k = named (λ k. getD (valuesOf (scan symbols source .found)) k 0) (λ k. lettersAt source (placeIn source k)) (p .tree) in
-      below-names many (parsed p) (subst (λ m. AllS (λ x. x .symbol < m) (parsed p)) e (mapAll (parsed p) (λ x g. g .1) k))
+      below-names many (itsProgram p) (subst (λ m. AllS (λ x. x .symbol < m) (itsProgram p)) e (mapAll (itsProgram p) (λ x g. g .1) k))
 
 -- ---- types: all numbers are 10
 

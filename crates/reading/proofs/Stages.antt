@@ -14,23 +14,23 @@ use Rattle.answers.specs.declared.Answer.{Answer}
 use Rattle.answers.specs.declared.Refusal.{Refusal}
 use Rattle.answers.specs.declared.Verdict.the-variants.{Refused}
 use Rattle.symbols.specs.Symbols.{kind, valueOf}
-use Rattle.symbols.specs.Kinds.{symbolOf}
+use Rattle.symbols.specs.model.Kinds.{symbolOf}
 use Rattle.symbols.specs.Scan.{Found, Scan, scan, kindsOf, placesOf, valuesOf}
-use Rattle.symbols.specs.Steps.{answerOf, over, Filled}
+use Rattle.symbols.specs.model.Steps.{answerOf, over, Filled}
 use Rattle.symbols.specs.declared.Symbol.{Symbol}
 use Rattle.symbols.specs.declared.Symbol.the-variants.{Begin, End, If, Then, Else, For, Do, Step, Until, While, Comment, Integer, Boolean, Procedure, Value, True, False, And, Or, Not, Impl, Equiv, Plus, Minus, Times, Divide, Less, LessEqual, Equal, GreaterEqual, Greater, NotEqual, Comma, Colon, Becomes, Semicolon, Open, Close, Name, Number}
 use Rattle.symbols.specs.declared.Scanned.{Scanned as Told}
 use Rattle.symbols.specs.declared.Scanned.the-variants.{Read as Symbols-read, Refused as Symbols-refused}
-use Rattle.grammar.specs.Text.{text}
+use Rattle.grammar.specs.model.Text.{text}
 use Rattle.grammar.specs.model.Marked.{nodesOf}
-use Rattle.grammar.specs.Program.{Wrong, FirstDeep}
-use Rattle.grammar.specs.Verdict.{zeros, Verdict, Whole}
+use Rattle.grammar.specs.Program.{GrammarFault, DepthFault}
+use Rattle.grammar.specs.model.Parsing.{zeros, ParseSays, Whole}
 use Rattle.grammar.specs.declared.Parsed.{Parsed as Outcome}
 use Rattle.grammar.specs.declared.Parsed.the-variants.{Read as Program-read, Refused as Program-refused}
 use Rattle.reading.specs.Judging.{unreadable, ungrammatical, too-deep}
 use Rattle.reading.specs.Reading.{symbols, kindsIn, placeIn, cleared, Judged}
-use Rattle.names.specs.Identity.{Identified}
-use Rattle.reading.specs.Model.{Placed, Symbols, Ready, Known}
+use Rattle.names.specs.model.Identity.{Identified}
+use Rattle.reading.specs.model.Stages.{Placed, Symbols, Ready, Known}
 use Rattle.reading.proofs.Places.{few-symbols}
 
 -- ---- a stored kind gives itself
@@ -161,7 +161,7 @@ place-behind {source} p k l =
 -- ---- what parsing answered
 
 -- the nodes are some of the words
-pub nodes-inside : {ks new : List ℕ} {r : Outcome} → Verdict ks new r → (j b : ℕ) → r ≡ Program-read j b → b ≤ length new
+pub nodes-inside : {ks new : List ℕ} {r : Outcome} → ParseSays ks new r → (j b : ℕ) → r ≡ Program-read j b → b ≤ length new
 nodes-inside {ks} {new} v j b q =
     let w = v .accepted j b q in
     omega (arith, w .words, ap length (w .wrote), length-append (nodesOf (w .tree)) (zeros (32768 - b)))
@@ -171,7 +171,7 @@ module _ {source kinds places : List ℕ} {n : ℕ} (s : Symbols source kinds pl
   kinds-are = ap text (s .kinded) ∙ text-is (scan symbols source .found)
 
   -- the program stands
-  pub ready : {new : List ℕ} {r : Outcome} → Verdict (text (take n kinds)) new r → (j b : ℕ) → r ≡ Program-read j b → Ready source places (take b new) n
+  pub ready : {new : List ℕ} {r : Outcome} → ParseSays (text (take n kinds)) new r → (j b : ℕ) → r ≡ Program-read j b → Ready source places (take b new) n
   ready {new} v j b q =
       let w : Whole (kindsIn source) new j b = subst (λ ks. Whole ks new j b) kinds-are (v .accepted j b q) in
       record {
@@ -181,20 +181,20 @@ module _ {source kinds places : List ℕ} {n : ℕ} (s : Symbols source kinds pl
       }
 
   -- 5 or 6
-  five-or-six : {new : List ℕ} {r : Outcome} → Verdict (text (take n kinds)) new r → (a : Answer) (k : ℕ) → r ≡ Program-refused a k
-      → ((a .number ≡ grammar) × Wrong (kindsIn source) k) ⊎ ((a .number ≡ depth) × FirstDeep (kindsIn source) k)
+  five-or-six : {new : List ℕ} {r : Outcome} → ParseSays (text (take n kinds)) new r → (a : Answer) (k : ℕ) → r ≡ Program-refused a k
+      → ((a .number ≡ grammar) × GrammarFault (kindsIn source) k) ⊎ ((a .number ≡ depth) × DepthFault (kindsIn source) k)
   five-or-six {new} {r} v a k q = go (ℕ-discrete (a .number) grammar)
     where
       said : (m : ℕ) → a .number ≡ m → r ≡ Program-refused (answer m) k
       said m e = q ∙ ap (λ i. Program-refused (answer i) k) e
 
-      go : Dec (a .number ≡ grammar) → ((a .number ≡ grammar) × Wrong (kindsIn source) k) ⊎ ((a .number ≡ depth) × FirstDeep (kindsIn source) k)
-      go (yes e) = inl (e, subst (λ ks. Wrong ks k) kinds-are (v .wrong k (said grammar e)))
+      go : Dec (a .number ≡ grammar) → ((a .number ≡ grammar) × GrammarFault (kindsIn source) k) ⊎ ((a .number ≡ depth) × DepthFault (kindsIn source) k)
+      go (yes e) = inl (e, subst (λ ks. GrammarFault ks k) kinds-are (v .wrong k (said grammar e)))
       go (no e) =
           let d : a .number ≡ depth = ap (λ x. x .number) (v .numbers a k q (λ x. e (ap (λ y. y .number) x))) in
-          inr (d, subst (λ ks. FirstDeep ks k) kinds-are (v .deep k (said depth d)))
+          inr (d, subst (λ ks. DepthFault ks k) kinds-are (v .deep k (said depth d)))
 
-  pub refusals : {new : List ℕ} {r : Outcome} → Verdict (text (take n kinds)) new r → (a : Answer) (k : ℕ) → r ≡ Program-refused a k
+  pub refusals : {new : List ℕ} {r : Outcome} → ParseSays (text (take n kinds)) new r → (a : Answer) (k : ℕ) → r ≡ Program-refused a k
       → Judged source (Refused (refusal (a .number) (placeIn source k))) cleared
   refusals v a k q =
       ⊎-elim
@@ -203,7 +203,7 @@ module _ {source kinds places : List ℕ} {n : ℕ} (s : Symbols source kinds pl
       (five-or-six v a k q)
 
   -- at a symbol, or behind the last one
-  pub refused-at : {new : List ℕ} {r : Outcome} → Verdict (text (take n kinds)) new r → (a : Answer) (k : ℕ) → r ≡ Program-refused a k → k ≤ 2048
+  pub refused-at : {new : List ℕ} {r : Outcome} → ParseSays (text (take n kinds)) new r → (a : Answer) (k : ℕ) → r ≡ Program-refused a k → k ≤ 2048
   refused-at v a k q =
       ⊎-elim
       (λ w. omega (arith, w .1 .inside, s .places-in .count, s .places-in .few))

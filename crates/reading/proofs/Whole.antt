@@ -9,11 +9,11 @@ use Rattle.symbols.specs.Scan.{scan, valuesOf}
 use Rattle.grammar.specs.Trees.{yield}
 use Rattle.names.specs.Program.{Name, Statement}
 use Rattle.names.specs.Scopes.{environment, same}
-use Rattle.names.specs.Uses.{Fault, nameFaults, least, joined, innermost, unmeant, scopesS, usesS}
+use Rattle.names.specs.Uses.{Fault, nameFaults, least, joined, faultsHere, unmeant, scopesS, usesS}
 use Rattle.names.specs.Nodes.{nodesS}
 use Rattle.names.specs.Outline.{rowsS}
-use Rattle.names.specs.Identity.{lettersOf, GivenAs}
-use Rattle.names.specs.Rows.{identityIn, faultOf, leastKey, noFault, outlineOf, usesOf}
+use Rattle.names.specs.model.Identity.{lettersOf, GivenAs}
+use Rattle.names.specs.model.Rows.{identityIn, faultOf, leastKey, noFault, outlineOf, usesOf}
 use Rattle.names.proofs.AllNames.{AllS}
 use Rattle.names.proofs.Named.{named}
 use Rattle.names.proofs.Bridge.{bridge}
@@ -24,11 +24,11 @@ use Rattle.names.proofs.Outlined.{outlined}
 use Rattle.names.proofs.Resolved.{Matches, resolved-least, resolved-uses}
 use Rattle.answers.specs.Numbers.{types}
 use Rattle.types.specs.Types.{typeFaults, typeFault}
-use Rattle.types.specs.Passes.{typedOf}
+use Rattle.types.specs.model.Passes.{typedOf}
 use Rattle.types.proofs.OfPrograms.{typed-program}
-use Rattle.reading.specs.Judging.{parsed, misnamed, mistyped}
+use Rattle.reading.specs.Judging.{itsProgram, misnamed, mistyped}
 use Rattle.reading.specs.Reading.{symbols, placeIn, refusedAt, cleared, Judged}
-use Rattle.reading.specs.Model.{Known}
+use Rattle.reading.specs.model.Stages.{Known}
 
 module _ {source places nodes ids : List ℕ} {n : ℕ} (known : Known source places nodes ids n) where
   abbrev pub letters : ℕ → List ℕ
@@ -38,7 +38,7 @@ module _ {source places nodes ids : List ℕ} {n : ℕ} (known : Known source pl
   worth k = getD (valuesOf (scan symbols source .found)) k 0
 
   abbrev pub program : Statement
-  program = parsed (known .ready .program)
+  program = itsProgram (known .ready .program)
 
   -- every name has its symbol's letters and a symbol of the source
   abbrev pub Good : Name → Type 0
@@ -70,7 +70,7 @@ module _ {source places nodes ids : List ℕ} {n : ℕ} (known : Known source pl
   pub rows-are : outlineOf ids nodes .rows ≡ rowsS 0 0 program
   rows-are = ap (λ ws. outlineOf ids ws .rows) nodes-are ∙ outlined ids Good (agree .one) program all-good .1
 
-  outline-least : outlineOf ids nodes .least ≡ leastKey (joined innermost (scopesS [] program))
+  outline-least : outlineOf ids nodes .least ≡ leastKey (joined faultsHere (scopesS [] program))
   outline-least = ap (λ ws. outlineOf ids ws .least) nodes-are ∙ outlined ids Good (agree .one) program all-good .0
 
   -- ---- uses, where the rows have room
@@ -92,8 +92,8 @@ module _ {source places nodes ids : List ℕ} {n : ℕ} (known : Known source pl
     worst-is : worst ≡ leastKey (nameFaults program)
     unfolding nameFaults
     worst-is =
-        ap (λ k. min k (usesOf ids (outlineOf ids nodes .rows) nodes .least)) outline-least ∙ ap (min (leastKey (joined innermost (scopesS [] program)))) uses-least
-        ∙ sym (least-append (joined innermost (scopesS [] program)) (joined unmeant (usesS [] program)))
+        ap (λ k. min k (usesOf ids (outlineOf ids nodes .rows) nodes .least)) outline-least ∙ ap (min (leastKey (joined faultsHere (scopesS [] program)))) uses-least
+        ∙ sym (least-append (joined faultsHere (scopesS [] program)) (joined unmeant (usesS [] program)))
 
     -- 7 to 9
     pub at-fault : Small (nameFaults program) → worst < noFault → Judged source (refusedAt source (faultOf worst)) cleared

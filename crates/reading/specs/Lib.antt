@@ -1,3 +1,3 @@
 pub mod Judging
 pub mod Reading
-pub mod Model
+pub mod model

@@ -21,9 +21,9 @@ ghost use mathlib.Core.List.{List};
 ghost use Prim.Native.Nat.{ℕ, _*_, _<_, min};
 ghost use lib.ListN.{take};
 ghost use Rattle.answers.specs.Answers.{refusal};
-ghost use Rattle.names.specs.Rows.{faultOf, noFault, outlineOf};
+ghost use Rattle.names.specs.model.Rows.{faultOf, noFault, outlineOf};
 ghost use Rattle.reading.specs.Reading.{placeIn};
-ghost use Rattle.reading.specs.Model.{Placed, Symbols, Ready, Known, Outlined, Named, Typed, Tells, Resolved, Declared, Finds};
+ghost use Rattle.reading.specs.model.Stages.{Placed, Symbols, Ready, Known, Outlined, Named, Typed, Tells, Resolved, Declared, Finds};
 
 // The least of two.
 fn lesser(a: usize, b: usize) -> usize

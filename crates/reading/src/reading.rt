@@ -13,9 +13,9 @@ ghost use mathlib.Core.List.{List};
 ghost use Prim.Native.Nat.{ℕ};
 ghost use lib.ListN.{length};
 ghost use Rattle.answers.specs.declared.Verdict.the-variants.{Accepted};
-ghost use Rattle.grammar.specs.Verdict.{zeros};
+ghost use Rattle.grammar.specs.model.Parsing.{zeros};
 ghost use Rattle.reading.specs.Reading.{cleared, Judged, Reads};
-ghost use Rattle.reading.specs.Model.{Holds};
+ghost use Rattle.reading.specs.model.Stages.{Holds};
 
 // Sets every word to zero.
 fn clear(words: &mut [u16])

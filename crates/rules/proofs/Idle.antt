@@ -16,24 +16,24 @@ use Rattle.machine.specs.declared.Cell.the-variants.{Unset, Holds, Named}
 use Rattle.machine.specs.declared.Value.the-variants.{Is, Fault}
 use Rattle.machine.specs.Values.{whole}
 use Rattle.machine.specs.Run.{quiet, Out, halt, next}
-use Rattle.machine.specs.Data.{Data, dat, Res, bad, wrong, good, lift, guard, newest, onValue, back, look, plain, reading, valued, hold, unhold, held, sum, work}
+use Rattle.machine.specs.Data.{Data, contents, Result, bad, wrong, good, lift, guard, newest, onValue, back, look, plain, reading, valued, hold, unhold, held, sum, work}
 use Rattle.rules.specs.Entered.{Env}
 use Rattle.rules.specs.Calls.{Way, direct, sought}
-use Rattle.rules.specs.Rules.{Stepping, stepping, there, Task, summing, State, st, noRule, doing, sums, adding, sstep}
+use Rattle.rules.specs.Rules.{Stepping, stepping, there, Task, summing, State, state, noRule, doing, sums, adding, rule}
 
 -- ---- an operation that does not answer 26
 
-abbrev Not26 : Res Data → Type 0
+abbrev Not26 : Result Data → Type 0
 Not26 (bad a q) = a ≡ noCell → ⊥
 Not26 wrong = Unit {0}
 Not26 (good e d) = Unit {0}
 
-guarded : (b : Bool) (r : Res Data) → Not26 r → Not26 (guard b r)
+guarded : (b : Bool) (r : Result Data) → Not26 r → Not26 (guard b r)
 unfolding guard
 guarded true r h = h
 guarded false r h = tt
 
-read-so : (q : ℕ) (f : ℤ → Res Data) (c : Cell) → ((v : ℤ) → Not26 (f v)) → Not26 (reading q f c)
+read-so : (q : ℕ) (f : ℤ → Result Data) (c : Cell) → ((v : ℤ) → Not26 (f v)) → Not26 (reading q f c)
 unfolding reading
 read-so q f Unset h = λ e. omega arith
 read-so q f (Holds v) h = h v
@@ -49,12 +49,12 @@ in-range q k x = go (ltb (mag x) 2147483648)
 
 pub sum-fits : (q c : ℕ) (d : Data) → Not26 (work (sum q c) d)
 unfolding work newest onValue held
-sum-fits q c (dat [] h a l) = tt
-sum-fits q c (dat (Unset ∷ w) h a l) = tt
-sum-fits q c (dat (Named n ∷ w) h a l) = tt
-sum-fits q c (dat (Holds x ∷ w) [] a l) = tt
-sum-fits q c (dat (Holds x ∷ w) (y ∷ h) a l) =
-    let d : Data = dat w (y ∷ h) a l in
+sum-fits q c (contents [] h a l) = tt
+sum-fits q c (contents (Unset ∷ w) h a l) = tt
+sum-fits q c (contents (Named n ∷ w) h a l) = tt
+sum-fits q c (contents (Holds x ∷ w) [] a l) = tt
+sum-fits q c (contents (Holds x ∷ w) (y ∷ h) a l) =
+    let d : Data = contents w (y ∷ h) a l in
     guarded (ltb c (length w)) _ (guarded (plain (look c d)) _ (read-so q _ (look c d) (λ v. in-range q (λ s. back s (hold x (unhold d))) (v +ℤ x))))
 
 -- ---- so the addition does not
@@ -66,15 +66,15 @@ number (halt (Faulty r)) = r .answer .number
 number (halt (Wrong a)) = 0
 number (next k e s) = 0
 
-lifted : (k : ℕ) (f : Data → State) (r : Res Data) → Not26 r → number (lift noRule k f r) ≡ noCell → ⊥
+lifted : (k : ℕ) (f : Data → State) (r : Result Data) → Not26 r → number (lift noRule k f r) ≡ noCell → ⊥
 unfolding lift
 lifted k f (bad a q) h e = h e
 lifted k f wrong h e = omega arith
 lifted k f (good x d) h e = omega arith
 
 -- of a name formal, once its cell is found
-pub summing-fits : (place : ℕ → ℕ) (s : Stepping) (k : List Task) (v : Env) (d : Data) → number (sstep place (st (summing s ∷ k) v d)) ≡ noCell → ⊥
-unfolding sstep
+pub summing-fits : (place : ℕ → ℕ) (s : Stepping) (k : List Task) (v : Env) (d : Data) → number (rule place (state (summing s ∷ k) v d)) ≡ noCell → ⊥
+unfolding rule
 summing-fits place s k v d e = lifted 1 _ _ (sums-fit s) e
   where
     sums-fit : (s : Stepping) → Not26 (doing (sums there s) v d)

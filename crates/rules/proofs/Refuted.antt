@@ -16,8 +16,8 @@ use Rattle.names.specs.Program.{Name, integer, firstSymbol, negative, plus, atM
 use Rattle.names.specs.Scopes.{has, modes, specified, variablesIn, inBlock, inBody, findIn, findGiven, meaning}
 use Rattle.rules.specs.Entered.{total, before, cut, declaring, bodyOfThis, cellOf, actualOf}
 use Rattle.rules.specs.Calls.{primary, command, way}
-use Rattle.rules.specs.Rules.{State, reads, seeks, finds, storing, passing, adding, evaluate, perform, calling, sstep, source}
-use Rattle.rules.specs.Samples.{nm, var, print, with-integers}
+use Rattle.rules.specs.Rules.{State, reads, seeks, finds, storing, passing, adding, evaluates, perform, calling, rule, source}
+use Rattle.rules.specs.samples.Samples.{nm, var, print, with-integers}
 
 -- 'begin' 'integer' x; 'procedure' q(a); vs 'integer' a; s; x := 2; q(x); outinteger(1, x) 'end'
 abbrev calling-q : List Name → Statement → Statement
@@ -58,17 +58,17 @@ first-of (negsuc n ∷ l) = 0
 
 -- "worked out afresh at each use": the variable is 3 when the formal is read; worked out once, at the call, it would be 2
 pub not-once : outputs (calling-q [] changed) ≡ outputs (calling-q in-value changed) → ⊥
-unfolding run sstep lift guard check newCells newest onValue back look put reading valued hold held space rest spend writing work openBlock closeBlock enter given leave find foundIn nameCell whole past cut cellOf actualOf declaring bodyOfThis total before reads seeks finds storing evaluate perform calling primary command way meaning findIn findGiven inBlock inBody variablesIn specified has modes sameName equalBytes firstSymbol
+unfolding run rule lift guard check newCells newest onValue back look put reading valued hold held space rest spend writing work openBlock closeBlock enter given leave find foundIn nameCell whole past cut cellOf actualOf declaring bodyOfThis total before reads seeks finds storing evaluates perform calling primary command way meaning findIn findGiven inBlock inBody variablesIn specified has modes sameName equalBytes firstSymbol
 not-once e = let z : _≡_ {A = ℕ} 3 2 = ap first-of e in omega arith
 
 -- "with the environment at the call": the caller's x is 2; the text put into the body, where another x is declared, would give that one's 7
 pub not-where-used : outputs (calling-q [] (hiding (nm 22 "a"))) ≡ outputs (calling-q [] (hiding (nm 22 "x"))) → ⊥
-unfolding run sstep lift guard check newCells newest onValue back look put reading valued hold held space rest spend writing work openBlock closeBlock enter given leave find foundIn nameCell whole past cut cellOf actualOf declaring bodyOfThis total before reads seeks finds storing evaluate perform calling primary command way meaning findIn findGiven inBlock inBody variablesIn specified has modes sameName equalBytes firstSymbol
+unfolding run rule lift guard check newCells newest onValue back look put reading valued hold held space rest spend writing work openBlock closeBlock enter given leave find foundIn nameCell whole past cut cellOf actualOf declaring bodyOfThis total before reads seeks finds storing evaluates perform calling primary command way meaning findIn findGiven inBlock inBody variablesIn specified has modes sameName equalBytes firstSymbol
 not-where-used e = let z : _≡_ {A = ℕ} 2 7 = ap first-of e in omega arith
 
 -- a store through a name formal changes the caller's variable; one to a copy would leave it 2
 pub not-to-a-copy : outputs (calling-q [] storing-five) ≡ outputs (calling-q in-value storing-five) → ⊥
-unfolding run sstep lift guard check newCells newest onValue back look put reading valued hold held space rest spend writing work openBlock closeBlock enter given leave find foundIn nameCell whole past cut cellOf actualOf declaring bodyOfThis total before reads seeks finds storing evaluate perform calling primary command way meaning findIn findGiven inBlock inBody variablesIn specified has modes sameName equalBytes firstSymbol
+unfolding run rule lift guard check newCells newest onValue back look put reading valued hold held space rest spend writing work openBlock closeBlock enter given leave find foundIn nameCell whole past cut cellOf actualOf declaring bodyOfThis total before reads seeks finds storing evaluates perform calling primary command way meaning findIn findGiven inBlock inBody variablesIn specified has modes sameName equalBytes firstSymbol
 not-to-a-copy e = let z : _≡_ {A = ℕ} 5 2 = ap first-of e in omega arith
 
 -- ---- step elements: paper 01's rule, and two slips
@@ -93,12 +93,12 @@ widening = assignment (nm 47 "s") [] 48 (number 49 2)
 
 -- "the bound is evaluated before each test": a scheme that raises its own bound is paid for 1, 2 and 3; with the bound worked out once for 1 and 2
 pub not-bound-once : outputs (looping (number 33 1) (var 35 "n") raising) ≡ outputs (looping (number 33 1) (var 35 "m") raising) → ⊥
-unfolding run sstep lift guard check newCells newest onValue back look put reading valued hold unhold held space rest spend writing work test openBlock closeBlock enter given leave find foundIn nameCell whole apply1 apply2 past cut cellOf actualOf declaring bodyOfThis total before reads seeks finds storing passing adding evaluate perform calling primary command way meaning findIn findGiven inBlock inBody variablesIn specified has modes sameName equalBytes firstSymbol
+unfolding run rule lift guard check newCells newest onValue back look put reading valued hold unhold held space rest spend writing work test openBlock closeBlock enter given leave find foundIn nameCell whole apply1 apply2 past cut cellOf actualOf declaring bodyOfThis total before reads seeks finds storing passing adding evaluates perform calling primary command way meaning findIn findGiven inBlock inBody variablesIn specified has modes sameName equalBytes firstSymbol
 not-bound-once e = let z : _≡_ {A = ℕ} 3 2 = ap length e in omega arith
 
 -- "the step at the start and again after each pass": 1 and 3; with the step worked out once 1, 2 and 3
 pub not-step-once : outputs (looping (var 33 "s") (number 35 3) widening) ≡ outputs (looping (var 33 "t") (number 35 3) widening) → ⊥
-unfolding run sstep lift guard check newCells newest onValue back look put reading valued hold unhold held space rest spend writing work test openBlock closeBlock enter given leave find foundIn nameCell whole apply1 apply2 past cut cellOf actualOf declaring bodyOfThis total before reads seeks finds storing passing adding evaluate perform calling primary command way meaning findIn findGiven inBlock inBody variablesIn specified has modes sameName equalBytes firstSymbol
+unfolding run rule lift guard check newCells newest onValue back look put reading valued hold unhold held space rest spend writing work test openBlock closeBlock enter given leave find foundIn nameCell whole apply1 apply2 past cut cellOf actualOf declaring bodyOfThis total before reads seeks finds storing passing adding evaluates perform calling primary command way meaning findIn findGiven inBlock inBody variablesIn specified has modes sameName equalBytes firstSymbol
 not-step-once e = let z : _≡_ {A = ℕ} 2 3 = ap length e in omega arith
 
 -- 'begin' 'integer' i; 'integer' 'procedure' b; 'begin' i := i + 1; b := 3 'end'; i := 0; 'for' i := e 'do' outinteger(1, i) 'end'
@@ -111,12 +111,12 @@ moving e =
 
 -- "the variable is read after it": 2; i + 1 'while' i <= b reads it before, and writes 2 and 4
 pub not-read-before : outputs (moving (step 28 (number 27 1) (number 29 1) (var 31 "b"))) ≡ outputs (moving (while 30 (operated 28 plus (var 27 "i") (number 29 1)) (operated 32 atMost (var 31 "i") (var 33 "b")))) → ⊥
-unfolding run sstep lift guard check newCells newest onValue back look put reading valued hold unhold held space rest spend writing work test openBlock closeBlock enter given leave find foundIn nameCell whole apply1 apply2 past cut cellOf actualOf declaring bodyOfThis total before reads seeks finds storing passing adding evaluate perform calling primary command way meaning findIn findGiven inBlock inBody variablesIn specified has modes sameName equalBytes firstSymbol
+unfolding run rule lift guard check newCells newest onValue back look put reading valued hold unhold held space rest spend writing work test openBlock closeBlock enter given leave find foundIn nameCell whole apply1 apply2 past cut cellOf actualOf declaring bodyOfThis total before reads seeks finds storing passing adding evaluates perform calling primary command way meaning findIn findGiven inBlock inBody variablesIn specified has modes sameName equalBytes firstSymbol
 not-read-before e = let z : _≡_ {A = ℕ} 1 2 = ap length e in omega arith
 
 -- .. and b >= i, which reads it after the bound, writes as the step element does
 pub read-after : outputs (moving (step 28 (number 27 1) (number 29 1) (var 31 "b"))) ≡ outputs (moving (while 30 (operated 28 plus (var 27 "i") (number 29 1)) (operated 32 atLeast (var 31 "b") (var 33 "i"))))
-unfolding run sstep lift guard check newCells newest onValue back look put reading valued hold unhold held space rest spend writing work test openBlock closeBlock enter given leave find foundIn nameCell whole apply1 apply2 past cut cellOf actualOf declaring bodyOfThis total before reads seeks finds storing passing adding evaluate perform calling primary command way meaning findIn findGiven inBlock inBody variablesIn specified has modes sameName equalBytes firstSymbol
+unfolding run rule lift guard check newCells newest onValue back look put reading valued hold unhold held space rest spend writing work test openBlock closeBlock enter given leave find foundIn nameCell whole apply1 apply2 past cut cellOf actualOf declaring bodyOfThis total before reads seeks finds storing passing adding evaluates perform calling primary command way meaning findIn findGiven inBlock inBody variablesIn specified has modes sameName equalBytes firstSymbol
 read-after = refl
 
 -- 'begin' 'integer' i, s; s := 1; 'for' i := es 'do' 'begin' outinteger(1, i); s := -1 'end' 'end'
@@ -127,5 +127,5 @@ turning e es =
 
 -- "that value serving the next addition and test": 3 alone; with the first step's sign, i <= 5, it goes on
 pub not-old-sign : outputs (turning (step 14 (number 13 3) (var 15 "s") (number 17 5)) []) ≡ outputs (turning (value (number 13 3)) (while 18 (operated 16 plus (var 15 "i") (var 17 "s")) (operated 20 atMost (var 19 "i") (number 21 5)) ∷ [])) → ⊥
-unfolding run sstep lift guard check newCells newest onValue back look put reading valued hold unhold held space rest spend writing work test openBlock closeBlock enter given leave find foundIn nameCell whole apply1 apply2 past cut cellOf actualOf declaring bodyOfThis total before reads seeks finds storing passing adding evaluate perform calling primary command way meaning findIn findGiven inBlock inBody variablesIn specified has modes sameName equalBytes firstSymbol
+unfolding run rule lift guard check newCells newest onValue back look put reading valued hold unhold held space rest spend writing work test openBlock closeBlock enter given leave find foundIn nameCell whole apply1 apply2 past cut cellOf actualOf declaring bodyOfThis total before reads seeks finds storing passing adding evaluates perform calling primary command way meaning findIn findGiven inBlock inBody variablesIn specified has modes sameName equalBytes firstSymbol
 not-old-sign e = let z : _≡_ {A = ℕ} 1 9 = ap length e in omega arith

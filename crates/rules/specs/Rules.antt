@@ -16,7 +16,7 @@ use Rattle.answers.specs.declared.Stop.the-variants.{Ended, Wrong, Fault}
 use Rattle.machine.specs.Values
 use Rattle.machine.specs.Values.{Binary, truth}
 use Rattle.machine.specs.Run.{quiet, untold, Out, halt, next, End, run}
-use Rattle.machine.specs.Data.{Data, dat, cells, Res, lift, Act, push, load, store, assign, reserve, forget, receive, send, keep, unary, binary, lend, channel, sum, foundIn, nameCell, actOn, work, Two, either as byTest, Test, condition, upto, testOn, test, openBlock, closeBlock, enter, Fate, kept, gone, leave}
+use Rattle.machine.specs.Data.{Data, contents, cells, Result, lift, Act, push, load, store, assign, reserve, forget, receive, send, keep, unary, binary, lend, channel, sum, foundIn, nameCell, actOn, work, Two, either as byTest, Test, condition, upto, testOn, test, openBlock, closeBlock, enter, Fate, kept, gone, leave}
 use Rattle.names.specs.Program
 use Rattle.names.specs.Program.{Name, Sort, Sign, positive, negative, negation, Operator, Expression, number, logical, name, call, signed, operated, chosen, nested, Expressions, done, then, firstSymbol, Element, value, while, step, Statement, dummy, assignment, procedure, when, either, repeat, compound, block, Statements, last, first}
 use Rattle.names.specs.Scopes.{Thing, variable, routine, formal, by-name, ofBlock, ofBody, sortOf, bodyOf, modesOf, Meaning, declared, given, nothing, meaning}
@@ -44,12 +44,12 @@ pub data Spot : Type 0 where
 
 pub data Task : Type 0 where
   -- evaluate an expression, actuals; begin a statement, go on with the statements of a list
-  ev : Expression → Task
-  evs : List Bool → Expressions → Task
+  evaluate : Expression → Task
+  giveAll : List Bool → Expressions → Task
   -- give a name formal its cell, for the actual whose first symbol it is
   naming : ℕ → Task
-  ex : Statement → Task
-  exs : Statements → Task
+  begin : Statement → Task
+  goThrough : Statements → Task
   -- store a value in a left part and the others
   stores : Name → List Name → Task
   -- the elements left of a for statement, and its body
@@ -80,7 +80,7 @@ pub data Task : Type 0 where
   return : Fate → ℕ → ℕ → Env → Task
 
 pub data State : Type 0 where
-  st : List Task → Env → Data → State
+  state : List Task → Env → Data → State
 
 -- what no accepted program comes to
 abbrev pub noRule : Stop
@@ -115,34 +115,34 @@ abbrev pub cellAt : Data → Env → Spot → ℕ
 cellAt d v (here x) = cellOf (cells d) v x
 cellAt d v there = foundIn d
 
-abbrev pub doing : Act Spot → Env → Data → Res Data
+abbrev pub doing : Act Spot → Env → Data → Result Data
 doing a v d = work (actOn (cellAt d v) a) d
 
-abbrev pub testing : Test Spot → Env → Data → Res Two
+abbrev pub testing : Test Spot → Env → Data → Result Two
 testing t v d = test (testOn (cellAt d v) t) d
 
 -- an operation that is a step
 abbrev pub acting : Act Spot → List Task → Env → Data → Out State
-acting a k v d = lift noRule 1 (st k v) (doing a v d)
+acting a k v d = lift noRule 1 (state k v) (doing a v d)
 
 abbrev pub goOn : List Task → Env → Data → Out State
-goOn k v d = next 0 quiet (st k v d)
+goOn k v d = next 0 quiet (state k v d)
 
 -- a statement begun
 abbrev pub begun : List Task → Env → Data → Out State
-begun k v d = next 1 quiet (st k v d)
+begun k v d = next 1 quiet (state k v d)
 
 -- ---- choices
 
 abbrev pub yes : Choice → List Task → List Task
-yes (expressions e f) k = ev e ∷ k
-yes (statements s t) k = ex s ∷ k
-yes (only s) k = ex s ∷ k
-yes (whiling x q e c l s) k = ex s ∷ loop x (while q e c ∷ l) s ∷ k
+yes (expressions e f) k = evaluate e ∷ k
+yes (statements s t) k = begin s ∷ k
+yes (only s) k = begin s ∷ k
+yes (whiling x q e c l s) k = begin s ∷ loop x (while q e c ∷ l) s ∷ k
 
 abbrev pub no : Choice → List Task → List Task
-no (expressions e f) k = ev f ∷ k
-no (statements s t) k = ex t ∷ k
+no (expressions e f) k = evaluate f ∷ k
+no (statements s t) k = begin t ∷ k
 no (only s) k = k
 no (whiling x q e c l s) k = loop x l s ∷ k
 
@@ -164,11 +164,11 @@ controlled (stepping q x f h l s) = x
 
 -- the bound, then the test
 abbrev pub bounded : Stepping → List Task → List Task
-bounded (stepping q x f h l s) k = ev h ∷ tested (stepping q x f h l s) ∷ k
+bounded (stepping q x f h l s) k = evaluate h ∷ tested (stepping q x f h l s) ∷ k
 
 -- the body, the step, then the addition; or the elements that are left
 abbrev pub again : Stepping → List Task → List Task
-again (stepping q x f h l s) k = ex s ∷ ev f ∷ add (stepping q x f h l s) ∷ k
+again (stepping q x f h l s) k = begin s ∷ evaluate f ∷ add (stepping q x f h l s) ∷ k
 
 abbrev pub through : Stepping → List Task → List Task
 through (stepping q x f h l s) k = loop x l s ∷ k
@@ -193,11 +193,11 @@ module _ (place : ℕ → ℕ) where
 
   -- "each working out, for a read or a store, is an activation under 27, placed at the formal's use, and two more steps"
   unfoldable pub reads : Actual → Name → List Task → Env → Data → Out State
-  reads (actual e v') x k v d = lift noRule 1 (st (ev e ∷ return kept (at x) (cells d) v ∷ k) v') (enter (at x) d)
+  reads (actual e v') x k v d = lift noRule 1 (state (evaluate e ∷ return kept (at x) (cells d) v ∷ k) v') (enter (at x) d)
   reads no-actual x k v d = halt noRule
 
   unfoldable pub seeks : Actual → Name → ℕ → List Task → Env → Data → Out State
-  seeks (actual e v') x q k v d = lift noRule 1 (st (find e q ∷ return gone q (cells d) v ∷ k) v') (enter (at x) d)
+  seeks (actual e v') x q k v d = lift noRule 1 (state (find e q ∷ return gone q (cells d) v ∷ k) v') (enter (at x) d)
   seeks no-actual x q k v d = halt noRule
 
   -- 30: "A store to one whose actual is no variable", "at the name where the store began"; "a value formal is a variable here, a name formal passes
@@ -206,7 +206,7 @@ module _ (place : ℕ → ℕ) where
   refused q = halt (Fault (refusal noVariable q))
 
   unfoldable pub finds : Primary → Name → ℕ → List Task → Env → Data → Out State
-  finds held y q k v d = lift noRule 0 (st k v) (doing (lend (here y)) v d)
+  finds held y q k v d = lift noRule 0 (state k v) (doing (lend (here y)) v d)
   finds worked y q k v d = goOn (seek y q ∷ k) v d
   finds (function p) y q k v d = refused q
   finds absolute y q k v d = refused q
@@ -215,12 +215,12 @@ module _ (place : ℕ → ℕ) where
 
   -- an actual: a value; or a name formal's cell: "one cell, needed at its actual's first symbol". An environment's actuals have no modes
   abbrev pub giving : Bool → Expression → Task
-  giving true e = ev e
+  giving true e = evaluate e
   giving false e = naming (firstSymbol e)
 
   abbrev pub laying : List Bool → Expression → Expressions → List Task → List Task
-  laying [] e es k = ev e ∷ evs [] es ∷ k
-  laying (b ∷ m) e es k = giving b e ∷ evs m es ∷ k
+  laying [] e es k = evaluate e ∷ giveAll [] es ∷ k
+  laying (b ∷ m) e es k = giving b e ∷ giveAll m es ∷ k
 
   -- ---- stores: "the formal is worked out after the value to be stored, 27 coming before 30, and for ininteger between 28 and 24"
 
@@ -232,45 +232,45 @@ module _ (place : ℕ → ℕ) where
 
   unfoldable pub taking-in : Way → ℕ → Name → List Task → Env → Data → Out State
   taking-in direct q y k v d = acting (receive q (here y)) k v d
-  taking-in sought q y k v d = lift noRule 0 (st (seek y (at y) ∷ act (receive q there) ∷ k) v) (doing (channel q) v d)
+  taking-in sought q y k v d = lift noRule 0 (state (seek y (at y) ∷ act (receive q there) ∷ k) v) (doing (channel q) v d)
 
   -- "Read for a step element's test or addition, a controlled one takes no cell for its value; the addition to it takes one, at 'step'"
   unfoldable pub passing : Way → Stepping → List Task → Env → Data → Out State
-  passing direct s k v d = lift noRule 1 (byTest (st (again s k) v) (st (through s k) v)) (testing (tries (here (controlled s)) s) v d)
+  passing direct s k v d = lift noRule 1 (byTest (state (again s k) v) (state (through s k) v)) (testing (tries (here (controlled s)) s) v d)
   passing sought s k v d = goOn (seek (controlled s) (at (controlled s)) ∷ trying s ∷ k) v d
 
   unfoldable pub adding : Way → Stepping → List Task → Env → Data → Out State
-  adding direct s k v d = lift noRule 1 (st (settling (here (controlled s)) s ∷ k) v) (doing (sums (here (controlled s)) s) v d)
+  adding direct s k v d = lift noRule 1 (state (settling (here (controlled s)) s ∷ k) v) (doing (sums (here (controlled s)) s) v d)
   adding sought s k v d = goOn (seek (controlled s) (at (controlled s)) ∷ summing s ∷ k) v d
 
   -- ---- names in expressions
 
-  unfoldable pub evaluate : Primary → Name → Expressions → List Task → Env → Data → Out State
+  unfoldable pub evaluates : Primary → Name → Expressions → List Task → Env → Data → Out State
   -- a variable or formal evaluated
-  evaluate held x es k v d = acting (load (at x) (here x)) k v d
+  evaluates held x es k v d = acting (load (at x) (here x)) k v d
   -- a name formal: its actual is worked out
-  evaluate worked x es k v d = reads (standsFor v x) x k v d
+  evaluates worked x es k v d = reads (standsFor v x) x k v d
   -- "for a typed call one result cell first"; "Operands and actuals go left to right"
-  evaluate (function p) x es k v d = goOn (act (reserve (at x)) ∷ evs (modesOf p) es ∷ invoke x es kept ∷ k) v d
+  evaluates (function p) x es k v d = goOn (act (reserve (at x)) ∷ giveAll (modesOf p) es ∷ invoke x es kept ∷ k) v d
   -- "An environment call takes no result cell: its value replaces its actuals' cells"
-  evaluate absolute x es k v d = goOn (evs [] es ∷ act (unary (at x) Values.absolute) ∷ k) v d
-  evaluate greatest x es k v d = acting (push (at x) maxint) k v d
-  evaluate no-primary x es k v d = halt noRule
+  evaluates absolute x es k v d = goOn (giveAll [] es ∷ act (unary (at x) Values.absolute) ∷ k) v d
+  evaluates greatest x es k v d = acting (push (at x) maxint) k v d
+  evaluates no-primary x es k v d = halt noRule
 
   -- ---- procedures called as statements
 
   -- "A typed procedure may be called as a statement": its result cell is taken all the same
   abbrev pub calls : Option Sort → List Bool → Name → Expressions → List Task → List Task
-  calls none m x es k = evs m es ∷ invoke x es gone ∷ k
-  calls (some t) m x es k = act (reserve (at x)) ∷ evs m es ∷ invoke x es gone ∷ k
+  calls none m x es k = giveAll m es ∷ invoke x es gone ∷ k
+  calls (some t) m x es k = act (reserve (at x)) ∷ giveAll m es ∷ invoke x es gone ∷ k
 
   unfoldable pub perform : Command → Name → Expressions → List Task → Env → Data → Out State
   perform (routine-of p) x es k v d = begun (calls (sortOf p) (modesOf p) x es k) v d
-  perform (absolute-of e) x es k v d = begun (ev e ∷ act (unary (at x) Values.absolute) ∷ drop ∷ k) v d
+  perform (absolute-of e) x es k v d = begun (evaluate e ∷ act (unary (at x) Values.absolute) ∷ drop ∷ k) v d
   perform greatest-of x es k v d = begun (act (push (at x) maxint) ∷ drop ∷ k) v d
   -- "ininteger's second actual is neither read nor held"
-  perform (input-to e y) x es k v d = begun (ev e ∷ receiving (at x) y ∷ k) v d
-  perform (output-of e f) x es k v d = begun (ev e ∷ ev f ∷ act (send (at x)) ∷ k) v d
+  perform (input-to e y) x es k v d = begun (evaluate e ∷ receiving (at x) y ∷ k) v d
+  perform (output-of e f) x es k v d = begun (evaluate e ∷ evaluate f ∷ act (send (at x)) ∷ k) v d
   perform no-command x es k v d = halt noRule
 
   -- ---- calls: "An activation is counted after the actuals." The actuals' cells become the formals'; the body runs in the environment that the
@@ -282,7 +282,7 @@ module _ (place : ℕ → ℕ) where
   entering (by-name t) x es f k v d = halt noRule
   entering (routine p) x es f k v d =
       let b = cells d - cellsIn (ofBody p) in
-      lift noRule 1 (st (ex (bodyOf p) ∷ return f (at x) b v ∷ k) (called p b es v (cut (declaring x) v))) (enter (at x) d)
+      lift noRule 1 (state (begin (bodyOf p) ∷ return f (at x) b v ∷ k) (called p b es v (cut (declaring x) v))) (enter (at x) d)
 
   unfoldable pub calling : Meaning → Name → Expressions → Fate → List Task → Env → Data → Out State
   calling (declared m g) x es f k v d = entering (m .thing) x es f k v d
@@ -291,75 +291,75 @@ module _ (place : ℕ → ℕ) where
 
   -- ---- the rules
 
-  unfoldable pub sstep : State → Out State
-  sstep (st [] v d) = halt Ended
+  unfoldable pub rule : State → Out State
+  rule (state [] v d) = halt Ended
   -- expressions: "primary evaluated, operator applied". Parentheses are no step
-  sstep (st (ev (number q n) ∷ k) v d) = acting (push (place q) (pos n)) k v d
-  sstep (st (ev (logical q b) ∷ k) v d) = acting (push (place q) (truth b)) k v d
-  sstep (st (ev (name x) ∷ k) v d) = evaluate (primary (meaning (scopesOf v) x) done) x done k v d
-  sstep (st (ev (call x e es) ∷ k) v d) = evaluate (primary (meaning (scopesOf v) x) (then e es)) x (then e es) k v d
-  sstep (st (ev (signed q o e) ∷ k) v d) = goOn (ev e ∷ applied q o ∷ k) v d
+  rule (state (evaluate (number q n) ∷ k) v d) = acting (push (place q) (pos n)) k v d
+  rule (state (evaluate (logical q b) ∷ k) v d) = acting (push (place q) (truth b)) k v d
+  rule (state (evaluate (name x) ∷ k) v d) = evaluates (primary (meaning (scopesOf v) x) done) x done k v d
+  rule (state (evaluate (call x e es) ∷ k) v d) = evaluates (primary (meaning (scopesOf v) x) (then e es)) x (then e es) k v d
+  rule (state (evaluate (signed q o e) ∷ k) v d) = goOn (evaluate e ∷ applied q o ∷ k) v d
   -- "both sides of 'and' and 'or' are evaluated"
-  sstep (st (ev (operated q o e f) ∷ k) v d) = goOn (ev e ∷ ev f ∷ act (binary (place q) (binaryOf o)) ∷ k) v d
-  sstep (st (ev (chosen q r c e f) ∷ k) v d) = goOn (ev c ∷ pick (expressions e f) ∷ k) v d
-  sstep (st (ev (nested q e) ∷ k) v d) = goOn (ev e ∷ k) v d
-  sstep (st (evs m done ∷ k) v d) = goOn k v d
-  sstep (st (evs m (then e es) ∷ k) v d) = goOn (laying m e es k) v d
-  sstep (st (naming q ∷ k) v d) = lift noRule 1 (st k v) (nameCell (place q) 0 d)
+  rule (state (evaluate (operated q o e f) ∷ k) v d) = goOn (evaluate e ∷ evaluate f ∷ act (binary (place q) (binaryOf o)) ∷ k) v d
+  rule (state (evaluate (chosen q r c e f) ∷ k) v d) = goOn (evaluate c ∷ pick (expressions e f) ∷ k) v d
+  rule (state (evaluate (nested q e) ∷ k) v d) = goOn (evaluate e ∷ k) v d
+  rule (state (giveAll m done ∷ k) v d) = goOn k v d
+  rule (state (giveAll m (then e es) ∷ k) v d) = goOn (laying m e es k) v d
+  rule (state (naming q ∷ k) v d) = lift noRule 1 (state k v) (nameCell (place q) 0 d)
   -- statements: "each statement begun"
-  sstep (st (ex dummy ∷ k) v d) = begun k v d
-  sstep (st (ex (assignment x xs q e) ∷ k) v d) = begun (ev e ∷ stores x xs ∷ k) v d
-  sstep (st (ex (procedure x es) ∷ k) v d) = perform (command (meaning (scopesOf v) x) es) x es k v d
-  sstep (st (ex (when q c s) ∷ k) v d) = begun (ev c ∷ pick (only s) ∷ k) v d
-  sstep (st (ex (either q c s t) ∷ k) v d) = begun (ev c ∷ pick (statements s t) ∷ k) v d
-  sstep (st (ex (repeat x l ls s) ∷ k) v d) = begun (loop x (l ∷ ls) s ∷ k) v d
-  sstep (st (ex (compound ss) ∷ k) v d) = begun (exs ss ∷ k) v d
+  rule (state (begin dummy ∷ k) v d) = begun k v d
+  rule (state (begin (assignment x xs q e) ∷ k) v d) = begun (evaluate e ∷ stores x xs ∷ k) v d
+  rule (state (begin (procedure x es) ∷ k) v d) = perform (command (meaning (scopesOf v) x) es) x es k v d
+  rule (state (begin (when q c s) ∷ k) v d) = begun (evaluate c ∷ pick (only s) ∷ k) v d
+  rule (state (begin (either q c s t) ∷ k) v d) = begun (evaluate c ∷ pick (statements s t) ∷ k) v d
+  rule (state (begin (repeat x l ls s) ∷ k) v d) = begun (loop x (l ∷ ls) s ∷ k) v d
+  rule (state (begin (compound ss) ∷ k) v d) = begun (goThrough ss ∷ k) v d
   -- a block: its cells all at once, 26 at its 'begin'
-  sstep (st (ex (block q ds ss) ∷ k) v d) =
+  rule (state (begin (block q ds ss) ∷ k) v d) =
       let n = cellsIn (ofBlock ds) in
-      lift noRule 1 (st (exs ss ∷ close n ∷ k) (entered ds (cells d) v)) (openBlock (place q) n d)
-  sstep (st (exs (last s) ∷ k) v d) = goOn (ex s ∷ k) v d
-  sstep (st (exs (first s ss) ∷ k) v d) = goOn (ex s ∷ exs ss ∷ k) v d
+      lift noRule 1 (state (goThrough ss ∷ close n ∷ k) (entered ds (cells d) v)) (openBlock (place q) n d)
+  rule (state (goThrough (last s) ∷ k) v d) = goOn (begin s ∷ k) v d
+  rule (state (goThrough (first s ss) ∷ k) v d) = goOn (begin s ∷ goThrough ss ∷ k) v d
   -- "A left part list takes one value, stored left to right"
-  sstep (st (stores x ys ∷ k) v d) = storing (way (meaning (scopesOf v) x)) x ys k v d
+  rule (state (stores x ys ∷ k) v d) = storing (way (meaning (scopesOf v) x)) x ys k v d
   -- "For elements: a value; a value with 'while'; step-until"
-  sstep (st (loop x [] s ∷ k) v d) = goOn k v d
-  sstep (st (loop x (value e ∷ l) s ∷ k) v d) = goOn (ev e ∷ stores x [] ∷ ex s ∷ loop x l s ∷ k) v d
-  sstep (st (loop x (while q e c ∷ l) s ∷ k) v d) = goOn (ev e ∷ stores x [] ∷ ev c ∷ pick (whiling x q e c l s) ∷ k) v d
-  sstep (st (loop x (step q e f h ∷ l) s ∷ k) v d) =
-      goOn (ev e ∷ stores x [] ∷ ev f ∷ hold (stepping (place q) x f h l s) ∷ k) v d
-  sstep (st (act a ∷ k) v d) = acting a k v d
-  sstep (st (unchanged ∷ k) v d) = next 1 quiet (st k v d)
-  sstep (st (drop ∷ k) v d) = lift noRule 0 (st k v) (doing forget v d)
-  sstep (st (pick c ∷ k) v d) = lift noRule (counts c) (byTest (st (yes c k) v) (st (no c k) v)) (testing condition v d)
-  sstep (st (hold s ∷ k) v d) = lift noRule 0 (st (bounded s k) v) (doing keep v d)
+  rule (state (loop x [] s ∷ k) v d) = goOn k v d
+  rule (state (loop x (value e ∷ l) s ∷ k) v d) = goOn (evaluate e ∷ stores x [] ∷ begin s ∷ loop x l s ∷ k) v d
+  rule (state (loop x (while q e c ∷ l) s ∷ k) v d) = goOn (evaluate e ∷ stores x [] ∷ evaluate c ∷ pick (whiling x q e c l s) ∷ k) v d
+  rule (state (loop x (step q e f h ∷ l) s ∷ k) v d) =
+      goOn (evaluate e ∷ stores x [] ∷ evaluate f ∷ hold (stepping (place q) x f h l s) ∷ k) v d
+  rule (state (act a ∷ k) v d) = acting a k v d
+  rule (state (unchanged ∷ k) v d) = next 1 quiet (state k v d)
+  rule (state (drop ∷ k) v d) = lift noRule 0 (state k v) (doing forget v d)
+  rule (state (pick c ∷ k) v d) = lift noRule (counts c) (byTest (state (yes c k) v) (state (no c k) v)) (testing condition v d)
+  rule (state (hold s ∷ k) v d) = lift noRule 0 (state (bounded s k) v) (doing keep v d)
   -- "The test and addition of a step element take no cell of their own": they read the variable where it stands
-  sstep (st (tested s ∷ k) v d) = passing (way (meaning (scopesOf v) (controlled s))) s k v d
-  sstep (st (add s ∷ k) v d) = adding (way (meaning (scopesOf v) (controlled s))) s k v d
-  sstep (st (trying s ∷ k) v d) = lift noRule 1 (byTest (st (again s k) v) (st (through s k) v)) (testing (tries there s) v d)
+  rule (state (tested s ∷ k) v d) = passing (way (meaning (scopesOf v) (controlled s))) s k v d
+  rule (state (add s ∷ k) v d) = adding (way (meaning (scopesOf v) (controlled s))) s k v d
+  rule (state (trying s ∷ k) v d) = lift noRule 1 (byTest (state (again s k) v) (state (through s k) v)) (testing (tries there s) v d)
   -- "The addition of a step element, with its store, is one operator"
-  sstep (st (summing s ∷ k) v d) = lift noRule 1 (st (seek (controlled s) (at (controlled s)) ∷ settling there s ∷ k) v) (doing (sums there s) v d)
-  sstep (st (settling c s ∷ k) v d) = lift noRule 0 (st (bounded s k) v) (doing (store c) v d)
-  sstep (st (seek x q ∷ k) v d) = seeks (standsFor v x) x q k v d
-  sstep (st (find (number a n) q ∷ k) v d) = refused q
-  sstep (st (find (logical a b) q ∷ k) v d) = refused q
-  sstep (st (find (name y) q ∷ k) v d) = finds (primary (meaning (scopesOf v) y) done) y q k v d
-  sstep (st (find (call y e es) q ∷ k) v d) = refused q
-  sstep (st (find (signed a o e) q ∷ k) v d) = refused q
-  sstep (st (find (operated a o e f) q ∷ k) v d) = refused q
-  sstep (st (find (chosen a r c e f) q ∷ k) v d) = refused q
-  sstep (st (find (nested a e) q ∷ k) v d) = refused q
-  sstep (st (receiving q y ∷ k) v d) = taking-in (way (meaning (scopesOf v) y)) q y k v d
-  sstep (st (invoke x es f ∷ k) v d) = calling (meaning (scopesOf v) x) x es f k v d
-  sstep (st (close n ∷ k) (entered ds c v) d) = lift noRule 1 (st k v) (closeBlock n d)
-  sstep (st (close n ∷ k) (called p c es v' v) d) = halt noRule
-  sstep (st (close n ∷ k) outside d) = halt noRule
-  sstep (st (return f q b v' ∷ k) v d) = lift noRule 1 (st k v') (leave f q b d)
+  rule (state (summing s ∷ k) v d) = lift noRule 1 (state (seek (controlled s) (at (controlled s)) ∷ settling there s ∷ k) v) (doing (sums there s) v d)
+  rule (state (settling c s ∷ k) v d) = lift noRule 0 (state (bounded s k) v) (doing (store c) v d)
+  rule (state (seek x q ∷ k) v d) = seeks (standsFor v x) x q k v d
+  rule (state (find (number a n) q ∷ k) v d) = refused q
+  rule (state (find (logical a b) q ∷ k) v d) = refused q
+  rule (state (find (name y) q ∷ k) v d) = finds (primary (meaning (scopesOf v) y) done) y q k v d
+  rule (state (find (call y e es) q ∷ k) v d) = refused q
+  rule (state (find (signed a o e) q ∷ k) v d) = refused q
+  rule (state (find (operated a o e f) q ∷ k) v d) = refused q
+  rule (state (find (chosen a r c e f) q ∷ k) v d) = refused q
+  rule (state (find (nested a e) q ∷ k) v d) = refused q
+  rule (state (receiving q y ∷ k) v d) = taking-in (way (meaning (scopesOf v) y)) q y k v d
+  rule (state (invoke x es f ∷ k) v d) = calling (meaning (scopesOf v) x) x es f k v d
+  rule (state (close n ∷ k) (entered ds c v) d) = lift noRule 1 (state k v) (closeBlock n d)
+  rule (state (close n ∷ k) (called p c es v' v) d) = halt noRule
+  rule (state (close n ∷ k) outside d) = halt noRule
+  rule (state (return f q b v' ∷ k) v d) = lift noRule 1 (state k v') (leave f q b d)
 
   -- ---- the run of a program: so many rules, from no cell in use, no activation and no number taken
 
   abbrev pub beginning : Statement → List ℤ → ℕ → ℕ → State
-  beginning s input room space = st (ex s ∷ []) outside (dat [] [] 0 (record { room = room; input = input; space = space; found = 0 }))
+  beginning s input cellsLent space = state (begin s ∷ []) outside (contents [] [] 0 (record { cellsLent = cellsLent; input = input; space = space; found = 0 }))
 
   abbrev pub source : Statement → List ℤ → ℕ → ℕ → ℕ → End State
-  source s input room space t = run sstep t (beginning s input room space) 0 untold
+  source s input cellsLent space t = run rule t (beginning s input cellsLent space) 0 untold

@@ -10,7 +10,7 @@ use Rattle.answers.specs.declared.Refusal.{Refusal}
 use Rattle.symbols.proofs.Resume.{from, said, resume, Onward, onward, joined, one-more, over-more, over-length, map-more}
 use Rattle.symbols.specs.Symbols.{kind, valueOf}
 use Rattle.symbols.specs.Scan.{Found, Scan, scan, whole, kindsOf, placesOf, valuesOf}
-use Rattle.symbols.specs.Steps.{stepAt, answerOf, over, Filled}
+use Rattle.symbols.specs.model.Steps.{stepAt, answerOf, over, Filled}
 use Rattle.symbols.specs.declared.Symbol.{Symbol}
 use Rattle.symbols.specs.declared.Context.the-variants.{Plain}
 use Rattle.symbols.specs.declared.Cursor.{Cursor}

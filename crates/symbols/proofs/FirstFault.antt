@@ -18,7 +18,7 @@ use Rattle.answers.specs.declared.Refusal.{Refusal}
 use Rattle.symbols.specs.Names.{blank, letter, digit, inName, these, reach, valueFrom}
 use Rattle.symbols.specs.Symbols.{signs, words, is}
 use Rattle.symbols.specs.Scan.{before, closed, spelled, named, word, gap, followed, sign, sized, name, valued, number, lexeme, behind, endsRemark, note, counted, judged, turn, Scan, kept, then, scanFrom, scan}
-use Rattle.symbols.specs.Steps.{joinedOf}
+use Rattle.symbols.specs.model.Steps.{joinedOf}
 use Rattle.symbols.specs.declared.words.Spelled.{Spelled}
 use Rattle.symbols.specs.declared.words.Spelled.the-variants.{Word, Unknown}
 use Rattle.symbols.specs.declared.Symbol.{Symbol}

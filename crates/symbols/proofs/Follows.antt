@@ -13,7 +13,7 @@ use Rattle.symbols.proofs.Within.{Fits, fits-word, fits-sign, reach-wit
 use Rattle.symbols.specs.Names.{blank, letter, digit, inName, these, reach, valueFrom}
 use Rattle.symbols.specs.Symbols.{signs, is}
 use Rattle.symbols.specs.Scan.{before, closed, word, gap, followed, sign, sized, name, valued, number, lexeme, behind, endsRemark}
-use Rattle.symbols.specs.Steps.{joinedOf}
+use Rattle.symbols.specs.model.Steps.{joinedOf}
 use Rattle.symbols.specs.declared.Symbol.{Symbol}
 use Rattle.symbols.specs.declared.Symbol.the-variants.{Comment, Name, Number, Less, LessEqual, Greater, GreaterEqual, Colon, Becomes}
 use Rattle.symbols.specs.declared.Context.the-variants.{Plain}

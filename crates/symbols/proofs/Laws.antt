@@ -18,7 +18,7 @@ use Rattle.symbols.specs.declared.Context.{Context}
 use Rattle.symbols.specs.declared.Context.the-variants.{Opens, Plain, Remark}
 use Rattle.symbols.specs.Scan.{before, gap, valued, behind, counted, lexeme, judged, turn}
 use Rattle.symbols.specs.declared.Symbol.{Symbol}
-use Rattle.symbols.specs.Steps.{capped, restAt, lexemeAt, turnAt}
+use Rattle.symbols.specs.model.Steps.{capped, restAt, lexemeAt, turnAt}
 
 -- ---- lists
 

@@ -25,12 +25,12 @@ use Rattle.symbols.specs.declared.Symbol.the-variants.{Begin, End, Comme
 use Rattle.symbols.specs.Spelling as S
 use Rattle.symbols.specs.Spelling.{Token, Proper, AllProper, joins, admitted, Linked, Sound, readOff, tokenAt, tokens}
 use Rattle.symbols.proofs.SpelledBytes.{ahead, ahead-here, ahead-past, followed-ahead, these-are, run-ends}
-use Rattle.symbols.proofs.SpelledSymbols.{yes-no, blocks, Begins, blocks-joins, letter-begins, digit-begins}
+use Rattle.symbols.proofs.SpelledSymbols.{yes-no, blocks, FirstByte, blocks-joins, letter-begins, digit-begins}
 
 -- ---- what is read at a byte: what it begins with, its letters, and what stands behind it
 
 pub record Lexed (b : ℕ) (bs : List ℕ) (t : Symbol) (k : ℕ) : Type 0 where
-  pub begins : Begins b t
+  pub begins : FirstByte b t
   pub proper : Proper t (readOff t (b ∷ bs))
   pub ends : blocks t (ahead (drop k bs)) ≡ false
 
@@ -139,7 +139,7 @@ unfolding sign
 sign-simple b bs p q r s = rw (p, q, r, s)
 
 -- a sign of one byte, which is b, where nothing joins it
-lone : (b : ℕ) (bs : List ℕ) (t : Symbol) → Begins b t → is t Name ≡ false → is t (Number 0) ≡ false → blocks t (ahead bs) ≡ false → Lexed b bs t 0
+lone : (b : ℕ) (bs : List ℕ) (t : Symbol) → FirstByte b t → is t Name ≡ false → is t (Number 0) ≡ false → blocks t (ahead bs) ≡ false → Lexed b bs t 0
 unfolding readOff
 lone b bs t g n m e = record { begins = g; proper = rw (n, m) (S.other n m); ends = e }
 
@@ -155,7 +155,7 @@ sign-as b bs d l m = go (eqb b 60) (eqb b 62) (eqb b 58) (eqb b 61) refl refl re
         pick true e = x
         pick false e = y e
 
-    start : (c : ℕ) (t : Symbol) → blank c ≡ false → inName c ≡ (is t Name || is t (Number 0)) → digit c ≡ is t (Number 0) → eqb c 61 ≡ is t Equal → Begins c t
+    start : (c : ℕ) (t : Symbol) → blank c ≡ false → inName c ≡ (is t Name || is t (Number 0)) → digit c ≡ is t (Number 0) → eqb c 61 ≡ is t Equal → FirstByte c t
     start c t a e f g = record { dark = a; named = e; numbered = f; equals = g }
 
     go : (t u v w : Bool) → eqb b 60 ≡ t → eqb b 62 ≡ u → eqb b 58 ≡ v → eqb b 61 ≡ w → LexedAs b bs (sign signs b bs)
@@ -298,7 +298,7 @@ calm s x h = go (is s Semicolon) (is s Begin) (is s End) refl refl refl
 -- each symbol begins with the byte at its place
 abbrev pub Started : List ℕ → List Found → Type 0
 Started S [] = Unit {0}
-Started S (f ∷ l) = Begins (getD S (f .place) 0) (f .symbol) × Started S l
+Started S (f ∷ l) = FirstByte (getD S (f .place) 0) (f .symbol) × Started S l
 
 pub byte-at : (S : List ℕ) (p b : ℕ) (bs : List ℕ) → drop p S ≡ b ∷ bs → getD S p 0 ≡ b
 byte-at [] zero b bs d = let z : _≡_ {A = ℕ} 0 1 = cc in absurd (omega arith)
@@ -331,7 +331,7 @@ module _ (S : List ℕ) where
         proper = (subst (λ (l : List ℕ). Proper t (readOff t l)) (sym d) (x .proper), r .proper);
         linked = (record { apart = sym (blocks-joins s t b (x .begins)) ∙ z; counts = ap (λ (y : Context). admitted y t) (sym q) ∙ a }, r .linked);
         few = omega (arith, r .few);
-        starts = (subst (λ (v : ℕ). Begins v t) (sym (byte-at S p b bs d)) (x .begins), r .starts);
+        starts = (subst (λ (v : ℕ). FirstByte v t) (sym (byte-at S p b bs d)) (x .begins), r .starts);
       }
   at-turn b bs rec n c s p q d h (Refuse a) y = none-own n s
 

@@ -13,7 +13,7 @@ use borrow.Author.Tests.{ltb-true, ltb-false}
 use Rattle.symbols.proofs.Laws.{peel, turn-here}
 use Rattle.symbols.proofs.Within.{Stays, stays}
 use Rattle.symbols.specs.Scan.{turn, Found, Scan, whole, kept, then, scanFrom}
-use Rattle.symbols.specs.Steps.{turnAt, stepOf, stepAt, over}
+use Rattle.symbols.specs.model.Steps.{turnAt, stepOf, stepAt, over}
 use Rattle.symbols.specs.declared.Context.{Context}
 use Rattle.symbols.specs.declared.Turn.{Turn}
 use Rattle.symbols.specs.declared.Turn.the-variants.{Pass, Keep, Refuse}

@@ -226,10 +226,10 @@ front [] = []
 front (x ∷ []) = []
 front (x ∷ y ∷ l) = x ∷ front (y ∷ l)
 
-abbrev pub Begins : List Found → List Found → Type 0
-Begins l m = (r : List Found) × (m ≡ l ++ r)
+abbrev pub FoundFirst : List Found → List Found → Type 0
+FoundFirst l m = (r : List Found) × (m ≡ l ++ r)
 
-front-more : (f : Found) (l m : List Found) → Begins (front l) m → Begins (front (f ∷ l)) (f ∷ m)
+front-more : (f : Found) (l m : List Found) → FoundFirst (front l) m → FoundFirst (front (f ∷ l)) (f ∷ m)
 unfolding front
 front-more f [] m h = (f ∷ m, refl)
 front-more f (y ∷ l) m h = (h .0, ap (λ (x : List Found). f ∷ x) (h .1))
@@ -242,20 +242,20 @@ bare-none n c p (suc k) [] h = refl
 bare-none n c p (suc k) (x ∷ xs) h = bare-none n c (p + 1) k xs h
 bare-none n c p zero (x ∷ xs) h = rw (h .0) (bare-none n c (p + 1) 0 xs (h .1))
 
-none-begins : (l m : List Found) → l ≡ [] → Begins (front l) m
+none-begins : (l m : List Found) → l ≡ [] → FoundFirst (front l) m
 unfolding front
 none-begins l m e = rw e (m, refl)
 
-one-begins : (f : Found) (l m : List Found) → l ≡ [] → Begins (front (f ∷ l)) m
+one-begins : (f : Found) (l m : List Found) → l ≡ [] → FoundFirst (front (f ∷ l)) m
 unfolding front
 one-begins f l m e = rw e (m, refl)
 
 module _ (ys : List ℕ) where
   abbrev Same' : List ℕ → Type 0
-  Same' xs = (n : ℕ) (c : Context) (p k : ℕ) → k ≤ length xs → Begins (front (scanFrom n c p k xs .found)) (scanFrom n c p k (xs ++ ys) .found)
+  Same' xs = (n : ℕ) (c : Context) (p k : ℕ) → k ≤ length xs → FoundFirst (front (scanFrom n c p k xs .found)) (scanFrom n c p k (xs ++ ys) .found)
 
   begins-turn : (xs : List ℕ) → Same' xs → (n p : ℕ) (t u v : Turn) → Turns xs t u v
-      → Begins (front (then p t (λ c k. scanFrom n c (p + 1) k xs) (λ c k. scanFrom (pred n) c (p + 1) k xs) .found))
+      → FoundFirst (front (then p t (λ c k. scanFrom n c (p + 1) k xs) (λ c k. scanFrom (pred n) c (p + 1) k xs) .found))
       (then p v (λ c k. scanFrom n c (p + 1) k (xs ++ ys)) (λ c k. scanFrom (pred n) c (p + 1) k (xs ++ ys)) .found)
   unfolding front
   begins-turn xs rec n p (Pass c k) u v (as-is h) = rec n c (p + 1) k h
@@ -273,7 +273,7 @@ module _ (ys : List ℕ) where
   begins (x ∷ xs) n c p zero h = begins-turn xs (begins xs) n p (turn n c x xs) _ (turn n c x (xs ++ ys)) (turns n c 32 blank-space x xs ys)
 
 -- what follows does not change the symbols before it, nor their places, the last one aside
-pub what-follows : (n : ℕ) (xs ys : List ℕ) → Begins (front (scan n xs .found)) (scan n (xs ++ ys) .found)
+pub what-follows : (n : ℕ) (xs ys : List ℕ) → FoundFirst (front (scan n xs .found)) (scan n (xs ++ ys) .found)
 unfolding scan
 what-follows n xs ys = begins ys xs n Plain 0 0 (omega arith)
 

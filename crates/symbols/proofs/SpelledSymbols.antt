@@ -33,13 +33,13 @@ unfoldable pub blocks : Symbol → ℕ → Bool
 blocks s b = (is s Name && inName b) || (is s (Number 0) && digit b) || ((is s Less || is s Greater || is s Colon) && eqb b 61)
 
 -- the byte b can begin the symbol t
-pub record Begins (b : ℕ) (t : Symbol) : Type 0 where
+pub record FirstByte (b : ℕ) (t : Symbol) : Type 0 where
   pub dark : blank b ≡ false
   pub named : inName b ≡ (is t Name || is t (Number 0))
   pub numbered : digit b ≡ is t (Number 0)
   pub equals : eqb b 61 ≡ is t Equal
 
-pub blocks-joins : (s t : Symbol) (b : ℕ) → Begins b t → blocks s b ≡ joins s t
+pub blocks-joins : (s t : Symbol) (b : ℕ) → FirstByte b t → blocks s b ≡ joins s t
 unfolding blocks joins
 blocks-joins s t b h = rw (h .named, h .numbered, h .equals)
 
@@ -83,7 +83,7 @@ pub digit-named : (b : ℕ) → digit b ≡ true → inName b ≡ true
 unfolding inName
 digit-named b h = rw h (or-yes (letter b))
 
-pub letter-begins : (b : ℕ) → letter b ≡ true → Begins b Name
+pub letter-begins : (b : ℕ) → letter b ≡ true → FirstByte b Name
 letter-begins b h =
     let l = letter-low b h in
     record {
@@ -93,7 +93,7 @@ letter-begins b h =
       equals = ne-eqb b 61 (λ e. omega arith);
     }
 
-pub digit-begins : (v b : ℕ) → digit b ≡ true → Begins b (Number v)
+pub digit-begins : (v b : ℕ) → digit b ≡ true → FirstByte b (Number v)
 digit-begins v b h =
     let l = digit-range b h in
     record {
@@ -112,7 +112,7 @@ pub record Starts (w : List ℕ) (s : Symbol) : Type 0 where
   pub first : ℕ
   pub rest : List ℕ
   pub same : w ≡ first ∷ rest
-  pub begins : Begins first s
+  pub begins : FirstByte first s
 
 abbrev so : {w : List ℕ} {s : Symbol} (b : ℕ) (bs : List ℕ) → w ≡ b ∷ bs → blank b ≡ false → inName b ≡ (is s Name || is s (Number 0)) → digit b ≡ is s (Number 0) → eqb b 61 ≡ is s Equal → Starts w s
 so b bs e d n m q = record { first = b; rest = bs; same = e; begins = record { dark = d; named = n; numbered = m; equals = q } }

@@ -9,7 +9,7 @@ use Rattle.symbols.specs.Names.{blank}
 use Rattle.symbols.specs.Symbols.{kind}
 use Rattle.symbols.specs.Symbols.{valueOf}
 use Rattle.symbols.specs.Scan.{Found, Scan, scan}
-use Rattle.symbols.specs.Steps.{kindsOf, valuesOf}
+use Rattle.symbols.specs.model.Steps.{kindsOf, valuesOf}
 use Rattle.symbols.specs.Spelling.{Token, All, tokensOf, Blanks, text, placed, tokenAt, tokens, dress, AllBlank}
 use Rattle.symbols.proofs.Written.{scan-text, tokens-text}
 use Rattle.symbols.proofs.OwnSymbols.{source-proper, source-sound, source-few}

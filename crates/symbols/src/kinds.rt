@@ -1,7 +1,7 @@
 // A symbol is stored as its kind and its value: a slice of enums is not to be had.
 use crate::Symbol;
 ghost use mathlib.Core.Path.{_≡_};
-ghost use Rattle.symbols.specs.Kinds.{storedOf, symbolOf};
+ghost use Rattle.symbols.specs.model.Kinds.{storedOf, symbolOf};
 
 // The kinds, by name.
 pub const BEGIN: u8 = 0;

@@ -14,7 +14,7 @@ ghost use Prim.Native.Nat.{_+_, _-_, _*_, _<_, _≤_};
 ghost use lib.ListN.{length, getD, drop};
 ghost use Rattle.symbols.specs.Symbols.{signs};
 ghost use Rattle.symbols.specs.Names.{letter, digit};
-ghost use Rattle.symbols.specs.Steps.{capped, joinedOf, lexemeAt};
+ghost use Rattle.symbols.specs.model.Steps.{capped, joinedOf, lexemeAt};
 ghost use mathlib.Core.Bool.{true};
 ghost use Rattle.symbols.specs.Scan.{name as nameOf, number as numberOf, word as wordOf, sign as signOf, sized as sizedOf, valued as valuedOf};
 

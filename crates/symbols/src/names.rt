@@ -4,7 +4,7 @@ use crate::text::is_name_byte;
 use answers::Place;
 ghost use mathlib.Core.Path.{_≡_};
 ghost use Rattle.symbols.specs.Names.{lettersAt, sameName};
-ghost use Rattle.symbols.specs.Steps.{NextLetter};
+ghost use Rattle.symbols.specs.model.Steps.{NextLetter};
 
 // The place of the next letter or digit of a name from `from` on; the source's length where the name has ended.
 fn next_letter(source: &[u8], from: usize) -> usize

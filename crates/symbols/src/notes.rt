@@ -13,7 +13,7 @@ ghost use mathlib.Core.List.{[]};
 ghost use lib.ListN.{length, drop};
 ghost use Rattle.symbols.specs.Scan.{behind as behindOf, endsRemark, note as noteOf, counted as countedOf, judged as judgedOf};
 ghost use Rattle.symbols.specs.Symbols.{is};
-ghost use Rattle.symbols.specs.Steps.{turnAt};
+ghost use Rattle.symbols.specs.model.Steps.{turnAt};
 ghost use Rattle.symbols.specs.declared.Symbol.the-variants.{Comment};
 ghost use Rattle.symbols.specs.declared.Lexeme.the-variants.{Is, Large};
 

@@ -10,7 +10,7 @@ use answers::Refusal;
 ghost use mathlib.Core.Path.{_≡_};
 ghost use Prim.Native.Nat.{_≤_, min};
 ghost use lib.ListN.{length};
-ghost use Rattle.symbols.specs.Steps.{stepAt, Filled};
+ghost use Rattle.symbols.specs.model.Steps.{stepAt, Filled};
 
 // What stands at a cursor, where `room` more symbols may come.
 pub fn next(source: &[u8], cursor: Cursor, room: usize) -> Step

@@ -16,9 +16,9 @@ use Rattle.grammar.specs.declared.Entry.{Entry}
 use Rattle.grammar.specs.declared.Use.{Use}
 use Rattle.grammar.specs.declared.Level.{Level}
 use Rattle.grammar.specs.declared.Level.the-variants.{Product, Sum, Conjunction, Disjunction, Implication, Equivalence}
-use Rattle.grammar.specs.Tables.{none, some, pick, choose}
-use Rattle.grammar.specs.Run.{In, now}
-use Rattle.syntax.specs.Operators.{operatorOf, relationOf}
+use Rattle.grammar.specs.model.Tables.{none, some, pick, choose}
+use Rattle.grammar.specs.model.Run.{In, now}
+use Rattle.syntax.specs.model.Operators.{operatorOf, relationOf}
 use Rattle.grammar.proofs.Sets.{disjoint, apart}
 use Rattle.grammar.proofs.Room.{slack, spare}
 

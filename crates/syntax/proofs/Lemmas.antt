@@ -10,11 +10,11 @@ use Rattle.answers.specs.declared.Answer.{Answer}
 use Rattle.grammar.specs.Grammar.{Class, operand, Item, sy, rd, Prod, rhs}
 use Rattle.grammar.specs.Trees.{Syn, nil, tok, sub, yield}
 use Rattle.grammar.specs.model.Marked.{Node, Marks, end as no-more, on as past, put, unmarked, marks, word, nodeWords, below, nodes}
-use Rattle.grammar.specs.Tables.{some, none, choose}
-use Rattle.grammar.specs.Run.{got, bad, In, now, after, level, deep}
-use Rattle.grammar.specs.Run.{Run, end, sy-no, sy-got, sy-bad, rd-six, rd-five, rd-none, rd-bad, rd-more, rd-got}
-use Rattle.grammar.specs.Text.{kindAt}
-use Rattle.syntax.specs.Says.{left, behind, Put, Got, SaysWith, Says, Limits}
+use Rattle.grammar.specs.model.Tables.{some, none, choose}
+use Rattle.grammar.specs.model.Run.{got, bad, In, now, after, level, deep}
+use Rattle.grammar.specs.model.Run.{Run, end, sy-no, sy-got, sy-bad, rd-six, rd-five, rd-none, rd-bad, rd-more, rd-got}
+use Rattle.grammar.specs.model.Text.{kindAt}
+use Rattle.syntax.specs.model.Says.{left, behind, Put, Got, SaysWith, Says, Limits}
 use Rattle.grammar.specs.declared.Level.{Level}
 use Rattle.grammar.specs.declared.Parsed.{Parsed}
 use Rattle.grammar.specs.declared.Parsed.the-variants.{Read, Refused}

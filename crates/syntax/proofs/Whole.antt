@@ -11,10 +11,10 @@ use Rattle.answers.specs.declared.Answer.{Answer}
 use Rattle.grammar.specs.Grammar.{block, rd, begin-end, program}
 use Rattle.grammar.specs.Trees.{Syn}
 use Rattle.grammar.specs.model.Marked.{unmarked, nodes, nodesOf}
-use Rattle.grammar.specs.Verdict.{zeros, node-words, Verdict}
-use Rattle.grammar.specs.Text.{text, kindAt}
-use Rattle.grammar.specs.Run.{levels, Run, got, bad, end, rd-got, level}
-use Rattle.syntax.specs.Says.{left, Clear, Got}
+use Rattle.grammar.specs.model.Parsing.{zeros, node-words, ParseSays}
+use Rattle.grammar.specs.model.Text.{text, kindAt}
+use Rattle.grammar.specs.model.Run.{levels, Run, got, bad, end, rd-got, level}
+use Rattle.syntax.specs.model.Says.{left, Clear, Got}
 use Rattle.grammar.specs.declared.Parsed.{Parsed}
 use Rattle.grammar.specs.declared.Parsed.the-variants.{Read, Refused}
 use Rattle.grammar.proofs.Final.{read-keeps, read-verdict, over-verdict, bad-verdict}
@@ -41,17 +41,17 @@ cleared {mid} c size = c .words ∙ ap (λ (n : ℕ). zeros n) none
     none = omega arith
 
 module _ {ks old mid new : List ℕ} {B j b : ℕ} (g : Got ks old mid 1 B (33 ∷ []) (unmarked (rd false block ∷ [])) 0 0 j b) (size : length mid ≡ node-words) where
-  pub all-read : j ≡ length ks → Clear mid new b → Verdict ks new (Read j b)
+  pub all-read : j ≡ length ks → Clear mid new b → ParseSays ks new (Read j b)
   all-read l w =
       let p = the-program g in
       read-verdict ks (record { tree = p .tree; keeps = read-keeps ks (p .tree) j (p .run) l; all = l; words = p .words; wrote = w .words ∙ ap (λ (x : List ℕ). x ++ zeros (length mid - b)) (p .wrote) ∙ ap (λ (n : ℕ). nodesOf (p .tree) ++ zeros (n - b)) size })
 
-  pub more-left : (j ≡ length ks → ⊥) → Clear mid new 0 → Verdict ks new (Refused (answer 5) j)
+  pub more-left : (j ≡ length ks → ⊥) → Clear mid new 0 → ParseSays ks new (Refused (answer 5) j)
   more-left l w = over-verdict ks (cleared w size) (the-program g .run) l
 
-pub refused : {ks mid new : List ℕ} {a : Answer} {k : ℕ} → Clear mid new 0 → length mid ≡ node-words → Run (kindAt ks) (left 1) (33 ∷ []) (rd false block ∷ []) 0 (bad (a .number) k) → Verdict ks new (Refused a k)
+pub refused : {ks mid new : List ℕ} {a : Answer} {k : ℕ} → Clear mid new 0 → length mid ≡ node-words → Run (kindAt ks) (left 1) (33 ∷ []) (rd false block ∷ []) 0 (bad (a .number) k) → ParseSays ks new (Refused a k)
 refused {ks} {a = a} {k = k} w size v = bad-verdict ks a k (cleared w size) v
 
 -- what lies behind the symbols that are there changes nothing
-pub cut : (ks : List ℕ) (n : ℕ) {new : List ℕ} {r : Parsed} → length ks ≤ n → Verdict (text ks) new r → Verdict (text (take n ks)) new r
-cut ks n {new} {r} l v = subst (λ (x : List ℕ). Verdict (text x) new r) (sym (take-all n ks l)) v
+pub cut : (ks : List ℕ) (n : ℕ) {new : List ℕ} {r : Parsed} → length ks ≤ n → ParseSays (text ks) new r → ParseSays (text (take n ks)) new r
+cut ks n {new} {r} l v = subst (λ (x : List ℕ). ParseSays (text x) new r) (sym (take-all n ks l)) v

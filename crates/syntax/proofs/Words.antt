@@ -6,9 +6,9 @@ use native.Mathlib.Omega.{arith}
 use native.Mathlib.Decide.{decLe}
 use lib.ListN.{length, take, set, length-set}
 use lib.Seq.{take-all}
-use Rattle.grammar.specs.Verdict.{zeros}
+use Rattle.grammar.specs.model.Parsing.{zeros}
 use Rattle.grammar.proofs.FourWords.{front, written}
-use Rattle.syntax.specs.Says.{Put}
+use Rattle.syntax.specs.model.Says.{Put}
 
 pub put-is : (old : List ℕ) (a k s x y : ℕ) → a + 4 ≤ length old → Put old (set (set (set (set old a k) (a + 1) s) (a + 2) x) (a + 3) y) a (a + 4) k s x y
 put-is old a k s x y l = record { next = refl; wrote = written old a k s x y l }

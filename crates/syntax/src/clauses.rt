@@ -11,8 +11,8 @@ use symbols::Symbol;
 ghost use mathlib.Core.List.{[], _∷_};
 ghost use Prim.Native.Nat.{_+_, _<_, _≤_};
 ghost use Rattle.grammar.specs.Grammar.{part, named as a-named, right as a-right, value as a-value, for-clause as a-for-clause, elements as the-elements, further as the-further, element as an-element, progress as a-progress, stepping as a-stepping, amount as an-amount, expression as an-expression};
-ghost use Rattle.grammar.specs.Text.{text};
-ghost use Rattle.syntax.specs.Says.{Room, Behind, Tells, TellsOf, TellsMarked};
+ghost use Rattle.grammar.specs.model.Text.{text};
+ghost use Rattle.syntax.specs.model.Says.{Room, Behind, Tells, TellsOf, TellsMarked};
 
 // An assignment or a procedure statement, behind the name that begins it.
 pub fn named(kinds: &[u8], name: usize, depth: u16, nodes: &mut [u16], free: usize) -> Parsed

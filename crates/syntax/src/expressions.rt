@@ -16,8 +16,8 @@ ghost use Prim.Native.Nat.{_+_};
 ghost use Rattle.grammar.specs.Grammar.{part, deeper, level as a-level, operand as an-operand, expression as an-expression, a-condition, otherwise as an-otherwise, chain as a-chain, more as the-more, negation as a-negation, relation as a-relation, comparison as a-comparison, primary as a-primary, actuals as the-actuals, actual as an-actual, further-actuals};
 ghost use Rattle.grammar.specs.model.Marked.{useNumber};
 ghost use Rattle.grammar.specs.declared.Level.the-variants.{Sum, Equivalence};
-ghost use Rattle.grammar.specs.Text.{text, kindAt};
-ghost use Rattle.syntax.specs.Says.{Room, Behind, Tells, TellsOf};
+ghost use Rattle.grammar.specs.model.Text.{text, kindAt};
+ghost use Rattle.syntax.specs.model.Says.{Room, Behind, Tells, TellsOf};
 
 pub fn expression(kinds: &[u8], pos: usize, depth: u16, nodes: &mut [u16], free: usize) -> Parsed
     requires { ⌜ Room (text (now kinds)) (now nodes) pos free ⌝ }

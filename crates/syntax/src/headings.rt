@@ -13,8 +13,8 @@ ghost use Rattle.grammar.specs.model.Marked.{entryNode};
 ghost use Rattle.symbols.specs.Symbols.{kind};
 ghost use Rattle.symbols.specs.declared.Symbol.the-variants.{Colon};
 ghost use mathlib.Core.Path.{_≡_};
-ghost use Rattle.grammar.specs.Text.{text};
-ghost use Rattle.syntax.specs.Says.{Room, TellsAll};
+ghost use Rattle.grammar.specs.model.Text.{text};
+ghost use Rattle.syntax.specs.model.Says.{Room, TellsAll};
 
 // 'integer' or 'Boolean'.
 pub fn type_symbol(kinds: &[u8], pos: usize, nodes: &mut [u16], free: usize) -> Parsed

@@ -4,8 +4,8 @@ use grammar::Parsed;
 ghost use mathlib.Core.Path.{_≡_};
 ghost use lib.ListN.{length, take};
 ghost use Prim.Native.Nat.{_≤_};
-ghost use Rattle.grammar.specs.Text.{text};
-ghost use Rattle.grammar.specs.Verdict.{node-words, Verdict};
+ghost use Rattle.grammar.specs.model.Text.{text};
+ghost use Rattle.grammar.specs.model.Parsing.{node-words, ParseSays};
 
 mod clauses; // what begins with a name, and for clauses
 mod expressions; // expressions
@@ -19,7 +19,7 @@ mod writing; // the words of the nodes
 // Reads the first count symbols, of which the kinds are lent, as a program; there are at most 2,048. The nodes of a program that is
 // accepted stand in the first words, and all other words are zero.
 pub fn parse(kinds: &[u8; 2048], count: usize, nodes: &mut [u16; 32768]) -> Parsed
-    ensures { λ r. ⌜ Verdict (text (take count (now (kinds .entry)))) (now (nodes .exit)) r ⌝ }
+    ensures { λ r. ⌜ ParseSays (text (take count (now (kinds .entry)))) (now (nodes .exit)) r ⌝ }
 {
     front(kinds, count, nodes)
 }
@@ -27,7 +27,7 @@ pub fn parse(kinds: &[u8; 2048], count: usize, nodes: &mut [u16; 32768]) -> Pars
 // The first symbols of those that are lent.
 fn front(kinds: &[u8], count: usize, nodes: &mut [u16]) -> Parsed
     requires { ⌜ (length (now kinds) ≡ 2048) × (length (now nodes) ≡ node-words) ⌝ }
-    ensures { λ r. ⌜ Verdict (text (take count (now (kinds .entry)))) (now (nodes .exit)) r ⌝ }
+    ensures { λ r. ⌜ ParseSays (text (take count (now (kinds .entry)))) (now (nodes .exit)) r ⌝ }
 {
     if count < kinds.len() {
         return program(&kinds[..count], nodes);
@@ -38,7 +38,7 @@ fn front(kinds: &[u8], count: usize, nodes: &mut [u16]) -> Parsed
 // All symbols as a program.
 fn program(kinds: &[u8], nodes: &mut [u16]) -> Parsed
     requires { ⌜ (length (now kinds) ≤ 2048) × (length (now nodes) ≡ node-words) ⌝ }
-    ensures { λ r. ⌜ Verdict (text (now (kinds .entry))) (now (nodes .exit)) r ⌝ }
+    ensures { λ r. ⌜ ParseSays (text (now (kinds .entry))) (now (nodes .exit)) r ⌝ }
 {
     let one = statements::block(kinds, 0, 1, nodes, 0);
     match one {

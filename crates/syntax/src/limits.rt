@@ -6,8 +6,8 @@ use symbols::Symbol;
 ghost use mathlib.Core.List.{[], _∷_};
 ghost use Rattle.grammar.specs.Grammar.{part, deeper, expression as an-expression, level, statement as a-statement, consequence as a-consequence};
 ghost use Rattle.grammar.specs.declared.Level.the-variants.{Equivalence};
-ghost use Rattle.grammar.specs.Text.{text};
-ghost use Rattle.syntax.specs.Says.{Limits, LimitsAll, behind};
+ghost use Rattle.grammar.specs.model.Text.{text};
+ghost use Rattle.syntax.specs.model.Says.{Limits, LimitsAll, behind};
 
 // An expression.
 pub fn expression(kinds: &[u8], pos: usize) -> Parsed

@@ -3,7 +3,7 @@ use grammar::Level;
 use symbols::Symbol;
 ghost use mathlib.Core.Path.{_≡_};
 ghost use Rattle.symbols.specs.Symbols.{kind};
-ghost use Rattle.syntax.specs.Operators.{operatorOf, relationOf};
+ghost use Rattle.syntax.specs.model.Operators.{operatorOf, relationOf};
 
 // The operator of a level.
 pub fn operator(l: Level, s: Symbol) -> u16

@@ -20,8 +20,8 @@ ghost use Prim.Native.Nat.{_+_};
 ghost use Rattle.symbols.specs.Symbols.{kind};
 ghost use Rattle.symbols.specs.declared.Symbol.the-variants.{End, Semicolon};
 ghost use Rattle.grammar.specs.Grammar.{part, deeper, block as a-block, inner as an-inner, head as a-head, tail as a-tail, declarations as the-declarations, declaration as a-declaration, declared as a-declared, procedure as a-procedure, statements as the-statements, statement as a-statement, conditional as a-conditional, consequence as a-consequence, alternative as an-alternative, repetition as a-repetition, unconditional as an-unconditional};
-ghost use Rattle.grammar.specs.Text.{text, kindAt};
-ghost use Rattle.syntax.specs.Says.{behind, Room, Behind, Tells, Says, SaysOf};
+ghost use Rattle.grammar.specs.model.Text.{text, kindAt};
+ghost use Rattle.syntax.specs.model.Says.{behind, Room, Behind, Tells, Says, SaysOf};
 
 // 'begin' .. 'end'.
 pub fn block(kinds: &[u8], pos: usize, depth: u16, nodes: &mut [u16], free: usize) -> Parsed

@@ -2,7 +2,7 @@
 use symbols::Symbol;
 ghost use mathlib.Core.Path.{_≡_};
 ghost use Rattle.symbols.specs.Symbols.{kind};
-ghost use Rattle.grammar.specs.Text.{text, kindAt};
+ghost use Rattle.grammar.specs.model.Text.{text, kindAt};
 
 // The symbol at i, a number's value aside; past the end `:`, which no program has.
 pub fn peek(kinds: &[u8], i: usize) -> Symbol

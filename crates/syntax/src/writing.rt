@@ -1,7 +1,7 @@
 // The words of the nodes are written here, and set to zero.
 ghost use lib.ListN.{length};
 ghost use Prim.Native.Nat.{_+_, _≤_, _<_};
-ghost use Rattle.syntax.specs.Says.{Put, Clear};
+ghost use Rattle.syntax.specs.model.Says.{Put, Clear};
 
 // Writes a node behind the words used, and gives the words used then.
 pub fn put(nodes: &mut [u16], used: usize, kind: u16, symbol: usize, one: u16, two: u16) -> usize

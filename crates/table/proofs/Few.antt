@@ -11,12 +11,12 @@ use Rattle.grammar.specs.Grammar.{named as behind-name, actuals, program}
 use Rattle.grammar.specs.declared.Use.the-variants.{AsPrimary}
 use Rattle.grammar.specs.Trees.{Syn, yield}
 use Rattle.grammar.specs.model.Marked.{unmarked, nodesOf}
-use Rattle.grammar.specs.Tables.{pick}
+use Rattle.grammar.specs.model.Tables.{pick}
 use Rattle.grammar.proofs.Productions.{Passes}
-use Rattle.grammar.proofs.Weights.{rows, Weights, Fits, written}
+use Rattle.grammar.proofs.Weights.{weightIn, Weights, Fits, written}
 use Rattle.grammar.proofs.Room.{names}
-use Rattle.names.specs.Rows.{isUse}
-use Rattle.table.specs.Model.{among}
+use Rattle.names.specs.model.Rows.{isUse}
+use Rattle.table.specs.model.Writing.{among}
 
 -- ---- how many nodes are of some kinds
 
@@ -33,8 +33,8 @@ abbrev ones : Weights
 ones = record {
   node = λ n. pick (isUse (n .kind)) 1 0 + pick (isDeclared (n .kind)) 1 0;
   symbol = λ k. pick (eqb k 38) 1 0;
-  owes = rows ((1, behind-name ∷ actuals AsPrimary ∷ []) ∷ []);
-  leaves = rows [];
+  owes = weightIn ((1, behind-name ∷ actuals AsPrimary ∷ []) ∷ []);
+  leaves = weightIn [];
 }
 
 fits : Passes (Fits ones)

@@ -15,13 +15,13 @@ use Rattle.grammar.proofs.Room.{count, table-fits}
 use Rattle.names.specs.Program.{Name, Expression, number, logical, name, call, signed, operated, chosen, nested, Expressions, done, then, Element, value, while, step, Specification, Statement, dummy, assignment, procedure, when, either, repeat, compound, block, Statements, last, first, Declarations, none as no-more, variables, declare, Procedure, heading, firstSymbol}
 use Rattle.names.specs.ReadOff.{programOf}
 use Rattle.names.specs.Scopes.{Scope, ofBlock, ofBody, Meaning, declared, given, nothing, meaning}
-use Rattle.names.specs.Uses.{Use, used, usesE, usesEs, usesL, usesS, usesSs, usesD, usesP, joined, Row, rowIn, rowOf, rows}
+use Rattle.names.specs.Uses.{Use, used, usesE, usesEs, usesL, usesS, usesSs, usesD, usesP, joined, Row, rowIn, rowOf, useRows}
 use Rattle.names.specs.Nodes.{node, signKind, operatorKind, truth, sortNumber, nodesE, nodesEs, nodesL, nodesLs, nodesN, nodesSp, nodesLeft, nodesCall, nodesS, nodesSs, nodesD, nodesP}
 use Rattle.names.specs.Outline.{sizeS, sizeD, sizeP, formalIn, rowsN, rowsS, rowsSs, rowsD, rowsP, declarations}
-use Rattle.names.specs.Rows.{isUse}
+use Rattle.names.specs.model.Rows.{isUse}
 use Rattle.names.proofs.Bridge.{bridge}
 use Rattle.table.specs.Table.{fours, useWords, declarationWords, nodeWords, tableOf}
-use Rattle.table.specs.Model.{among}
+use Rattle.table.specs.model.Writing.{among}
 use Rattle.table.proofs.Few.{isDeclared, named, few}
 use Rattle.table.proofs.UseWords.{usesOne, uses-more}
 
@@ -227,7 +227,7 @@ nodes-length place (k ∷ s ∷ a ∷ b ∷ ws) = omega (arith, nodes-length pla
 
 -- the whole table
 table-length : (place : ℕ → ℕ) (s : Statement) → length (tableOf place s) ≤ 3 + 4 * named (nodesS 1 s) + length (nodesS 1 s)
-unfolding tableOf rows declarations named
+unfolding tableOf useRows declarations named
 table-length place s =
     let R = rowsS 0 0 s in
     let U : List ℕ = length (joined rowOf (usesS [] s)) ∷ joined (useWords place) (joined rowOf (usesS [] s)) in

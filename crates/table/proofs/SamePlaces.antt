@@ -9,8 +9,8 @@ use Rattle.symbols.specs.Names.{sameName}
 use Rattle.symbols.specs.Text.{bytes}
 use Rattle.grammar.specs.NodeKinds.{n-variable, n-formal}
 use Rattle.names.specs.Program.{Name, Expression, number, logical, name, call, signed, operated, chosen, nested, Expressions, done, then, Element, value, while, step, Statement, dummy, assignment, procedure, when, either, repeat, compound, block, Statements, last, first, Declarations, none as no-more, variables, declare, Procedure, heading}
-use Rattle.names.specs.Scopes.{same, has, Thing, variable, formalAs, Declared, nameOf, specified, variablesIn, Scope, ofBlock, ofBody, inBlock, inBody, declares, Given, environment, Meaning, declared, given, nothing, findIn, findGiven, innermost, meaning}
-use Rattle.names.specs.Uses.{Use, used, usesE, usesEs, usesL, usesS, usesSs, usesD, usesP, joined, rowIn, rowOf, rows}
+use Rattle.names.specs.Scopes.{same, has, Thing, variable, formalAs, Declared, nameOf, specified, variablesIn, Scope, ofBlock, ofBody, inBlock, inBody, declares, Given, environment, Meaning, declared, given, nothing, findIn, findGiven, foundElse, meaning}
+use Rattle.names.specs.Uses.{Use, used, usesE, usesEs, usesL, usesS, usesSs, usesD, usesP, joined, rowIn, rowOf, useRows}
 use Rattle.names.specs.Nodes.{sortNumber}
 use Rattle.names.specs.Outline.{sizeS, sizeD, sizeP, formalIn, rowsN, rowsS, rowsSs, rowsD, rowsP}
 use Rattle.names.proofs.Fours.{Fours, none as no-four, one, fours-append}
@@ -201,7 +201,7 @@ module _ (Q : Name → Type 0) where
   given-in n [] x = tt
   given-in n (e ∷ l) x = given-if (sameName (bytes (e .spelling)) (x .letters)) n e (findGiven (n + 1) l x) (given-in (n + 1) l x)
 
-  inner : (o : Option Declared) (g : List Scope) (m : Meaning) → Found o → Meant m → Meant (innermost o g m)
+  inner : (o : Option Declared) (g : List Scope) (m : Meaning) → Found o → Meant m → Meant (foundElse o g m)
   inner none g m h k = k
   inner (some d) g m h k = h
 
@@ -247,6 +247,6 @@ module _ (n : ℕ) (f g : ℕ → ℕ) (agree : (k : ℕ) → k < n → f k ≡ 
       ∙ (λ i. same-row m (u .name) (h .0) (meant (Below n) (u .around) (u .name) (h .1)) i ++ same-uses us (h .2) i)
       ∙ sym (joined-append (useWords g) (rowOf u) (joined rowOf us))
 
-  pub same-rows : (s : Statement) → AllS (Below n) s → joined (useWords f) (rows s) ≡ joined (useWords g) (rows s)
-  unfolding rows
+  pub same-rows : (s : Statement) → AllS (Below n) s → joined (useWords f) (useRows s) ≡ joined (useWords g) (useRows s)
+  unfolding useRows
   same-rows s h = same-uses (usesS [] s) (usesS-all (Below n) [] s tt h)

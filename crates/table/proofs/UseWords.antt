@@ -13,14 +13,14 @@ use Rattle.names.specs.Program.{Name, Expression, number, logical, name, call, 
 use Rattle.names.specs.Scopes.{Thing, variable, routine, formal, by-name, Scope, ofBlock, ofBody, Meaning, declared, given, nothing, meaning}
 use Rattle.names.specs.Uses.{Use, used, usesE, usesEs, usesL, usesS, usesSs, usesD, usesP, meantOrNot, unmeant, joined, thingKind, rowIn, rowOf}
 use Rattle.names.specs.Nodes.{node, signKind, operatorKind, truth, sortNumber, nodesE, nodesEs, nodesL, nodesLs, nodesN, nodesSp, nodesLeft, nodesCall, nodesS, nodesSs, nodesD, nodesP}
-use Rattle.names.specs.Rows.{isUse, meantOf}
+use Rattle.names.specs.model.Rows.{isUse, meantOf}
 use Rattle.names.specs.declared.Meant.{Meant}
 use Rattle.names.specs.declared.Meant.the-variants.{Declared as at-row, Given as at-given, Nothing as nowhere}
 use Rattle.names.proofs.TreeLaws.{joined-append}
 use Rattle.names.proofs.Around.{Means}
 use Rattle.names.proofs.Resolved.{Matches, matches-length, matches-split}
 use Rattle.table.specs.Table.{useWords}
-use Rattle.table.specs.Model.{meantWords, nextWord, otherWords, useModel}
+use Rattle.table.specs.model.Writing.{meantWords, nextWord, otherWords, useModel}
 
 -- ---- uses that all mean something
 

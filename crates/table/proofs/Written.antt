@@ -10,15 +10,15 @@ use native.Mathlib.Numerals.{add-one}
 use lib.ListN.{length, getD, take, drop, set, length-set, length-append}
 use lib.Seq.{take-suc-set, drop-set-lt, drop-drop}
 use borrow.Author.Tests.{lt-ltb, le-ltb}
-use Rattle.grammar.specs.Tables.{pick}
+use Rattle.grammar.specs.model.Tables.{pick}
 use Rattle.answers.specs.declared.Declaration.{Declaration}
 use Rattle.answers.specs.declared.Environment.{Environment}
-use Rattle.names.specs.Rows.{isUse, meantOf}
+use Rattle.names.specs.model.Rows.{isUse, meantOf}
 use Rattle.names.specs.declared.Meant.{Meant}
 use Rattle.names.specs.declared.Meant.the-variants.{Declared, Given, Nothing}
 use Rattle.names.proofs.RowLaws.{row-on, row-end}
 use Rattle.table.specs.Table.{fours, hasNone, declarationWords, nodeWords}
-use Rattle.table.specs.Model.{Wrote, Writes, all, nothing, among, meantWords, nextWord, otherWords, useModel, useSection, declarationSection, nodeSection, tableModel}
+use Rattle.table.specs.model.Writing.{Wrote, Writes, all, nothing, among, meantWords, nextWord, otherWords, useModel, useSection, declarationSection, nodeSection, tableModel}
 
 -- ---- words written
 

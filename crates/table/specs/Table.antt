@@ -8,7 +8,7 @@ use Rattle.grammar.specs.NodeKinds.{n-type, n-else, n-once, n-do}
 use Rattle.names.specs.Program.{Statement}
 use Rattle.names.specs.Nodes.{nodesS}
 use Rattle.names.specs.Outline.{declarations}
-use Rattle.names.specs.Uses.{Row, rows, joined}
+use Rattle.names.specs.Uses.{Row, useRows, joined}
 
 -- words of four words each: how many
 unfoldable pub fours : List ℕ → ℕ
@@ -46,6 +46,6 @@ module _ (place : ℕ → ℕ) where
   -- the table of a program
   unfoldable pub tableOf : Statement → List ℕ
   tableOf s =
-      (length (rows s) ∷ joined useWords (rows s))
+      (length (useRows s) ∷ joined useWords (useRows s))
       ++ ((fours (declarations s) ∷ declarationWords (declarations s))
       ++ (fours (nodesS 1 s) ∷ nodeWords (nodesS 1 s)))

@@ -7,10 +7,10 @@ ghost use mathlib.Core.Path.{_≡_};
 ghost use mathlib.Core.List.{List, [], _∷_};
 ghost use Prim.Native.Nat.{ℕ, _+_, _-_, _≤_, _<_};
 ghost use lib.ListN.{length, getD};
-ghost use Rattle.names.specs.Rows.{isUse, meantOf};
+ghost use Rattle.names.specs.model.Rows.{isUse, meantOf};
 ghost use mathlib.Core.Bool.{cond};
 ghost use Rattle.table.specs.Table.{hasNone, declarationWords, nodeWords};
-ghost use Rattle.table.specs.Model.{Wrote, Enters, Writes, among, placeOf, meantWords, useModel, tableModel};
+ghost use Rattle.table.specs.model.Writing.{Wrote, Enters, Writes, among, placeOf, meantWords, useModel, tableModel};
 
 // The place of a symbol, as the table holds it.
 fn place_word(places: &[usize; 2048], symbol: Ordinal) -> u16

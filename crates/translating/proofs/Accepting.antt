@@ -19,13 +19,13 @@ use Rattle.names.proofs.Bridge.{bridge}
 use Rattle.names.proofs.Fours.{fours-weaken}
 use Rattle.names.proofs.NearNodes.{SymbolsWithin, some-symbols, nodes-before-end}
 use Rattle.types.specs.Types.{typeFaults, typeFault}
-use Rattle.reading.specs.Judging.{parsed}
-use Rattle.reading.specs.Reading.{symbols, placeIn, Parsed}
+use Rattle.reading.specs.Judging.{itsProgram}
+use Rattle.reading.specs.Reading.{symbols, placeIn, Grammatical}
 use Rattle.reading.proofs.Answers.{none-empty, unmeant-none}
 use Rattle.reading.proofs.Places.{few-symbols, place-inside as place-by-end, place-within}
 use Rattle.table.proofs.SamePlaces.{SymbolsBelow, fours-below}
-use Rattle.translation.specs.Scoped.{Scoped}
-use Rattle.translation.specs.Sizes.{Limited}
+use Rattle.translation.specs.model.Scoped.{Scoped}
+use Rattle.translation.specs.model.Sizes.{Limited}
 use Rattle.translation.proofs.Accepted.{accepted-scoped}
 use Rattle.translating.proofs.Limits.{limited}
 use Rattle.names.specs.Every.{AnyName, EveryS}
@@ -46,7 +46,7 @@ unmapped (q ∷ l) e = absurd (cons-nil e)
     cons-nil : {y : Fault} {m : List Fault} → (y ∷ m) ≡ [] → ⊥
     cons-nil {y} {m} e = let z : suc (length m) ≡ 0 = ap length e in omega arith
 
-module _ {source : List ℕ} (p : Parsed source) where
+module _ {source : List ℕ} (p : Grammatical source) where
   -- its symbols
   abbrev pub found : List Found
   found = scan symbols source .found
@@ -54,7 +54,7 @@ module _ {source : List ℕ} (p : Parsed source) where
   as-many : length (yield (p .tree)) ≡ length found
   as-many = ap length (p .keeps .spelled) ∙ length-map found (λ f. kind (f .symbol))
 
-  pub within-limits : Limited (parsed p)
+  pub within-limits : Limited (itsProgram p)
   within-limits =
       limited (λ k. getD (valuesOf found) k 0) (λ k. lettersAt source (placeIn source k)) (p .tree) (small-values symbols source)
       (omega (arith, as-many, few-symbols symbols source)) (p .keeps)
@@ -71,31 +71,31 @@ module _ {source : List ℕ} (p : Parsed source) where
   place-small k = omega (arith, place-by-end symbols source k, p .scanned .short)
 
   -- the nodes' symbols are the source's
-  pub below-nodes : SymbolsBelow (length found) (nodesS 1 (parsed p))
+  pub below-nodes : SymbolsBelow (length found) (nodesS 1 (itsProgram p))
   below-nodes =
       let m = some-symbols (p .tree) in
-      let w : SymbolsWithin (m .0) (nodesS 1 (parsed p)) =
+      let w : SymbolsWithin (m .0) (nodesS 1 (itsProgram p)) =
       subst (SymbolsWithin (m .0)) (bridge (λ k. getD (valuesOf found) k 0) (λ k. lettersAt source (placeIn source k)) (p .tree)) (nodes-before-end (p .tree) (m .0) (m .1)) in
-      subst (λ (k : ℕ). SymbolsBelow k (nodesS 1 (parsed p))) (sym (m .1) ∙ as-many) (fours-below (fours-weaken (λ s h. omega arith) w))
+      subst (λ (k : ℕ). SymbolsBelow k (nodesS 1 (itsProgram p))) (sym (m .1) ∙ as-many) (fours-below (fours-weaken (λ s h. omega arith) w))
 
-  pub in-order : RowsRise 0 (length found) (rowsS 0 0 (parsed p))
+  pub in-order : RowsRise 0 (length found) (rowsS 0 0 (itsProgram p))
   in-order =
-      subst (λ (n : ℕ). RowsRise 0 n (rowsS 0 0 (parsed p))) as-many (rising (λ k. getD (valuesOf found) k 0) (λ k. lettersAt source (placeIn source k)) (p .tree))
+      subst (λ (n : ℕ). RowsRise 0 n (rowsS 0 0 (itsProgram p))) as-many (rising (λ k. getD (valuesOf found) k 0) (λ k. lettersAt source (placeIn source k)) (p .tree))
 
   -- the values of numbers, by symbol
-  pub numbered : (values : List ℕ) → ((k : ℕ) → k < length found → getD values k 0 ≡ getD (valuesOf found) k 0) → EveryS AnyName (λ q v. getD values q 0 ≡ v) (parsed p)
+  pub numbered : (values : List ℕ) → ((k : ℕ) → k < length found → getD values k 0 ≡ getD (valuesOf found) k 0) → EveryS AnyName (λ q v. getD values q 0 ≡ v) (itsProgram p)
   numbered values e =
       let worth : ℕ → ℕ = λ k. getD (valuesOf found) k 0 in
-      weaken {A = AnyName} {B = AnyName} {Q = Worth worth (length (yield (p .tree)))} {R = λ q v. getD values q 0 ≡ v} (parsed p) (λ x h. h)
+      weaken {A = AnyName} {B = AnyName} {Q = Worth worth (length (yield (p .tree)))} {R = λ q v. getD values q 0 ≡ v} (itsProgram p) (λ x h. h)
       (λ q v h. e q (omega (arith, h .1, as-many)) ∙ sym (h .0))
       (numbers worth (λ k. lettersAt source (placeIn source k)) (p .tree))
 
-  module _ (named : least (nameFaults (parsed p)) ≡ none) where
-    pub all-mean : joined unmeant (usesS [] (parsed p)) ≡ []
-    all-mean = unmeant-none (parsed p) named
+  module _ (named : least (nameFaults (itsProgram p)) ≡ none) where
+    pub all-mean : joined unmeant (usesS [] (itsProgram p)) ≡ []
+    all-mean = unmeant-none (itsProgram p) named
 
-    pub well-scoped : typeFault (parsed p) ≡ none → Scoped (parsed p)
+    pub well-scoped : typeFault (itsProgram p) ≡ none → Scoped (itsProgram p)
     unfolding typeFault
     well-scoped typed =
-        accepted-scoped (parsed p) (none-empty (nameFaults (parsed p)) named)
-        (unmapped (typeFaults (parsed p)) (none-empty (map mistake (typeFaults (parsed p))) typed))
+        accepted-scoped (itsProgram p) (none-empty (nameFaults (itsProgram p)) named)
+        (unmapped (typeFaults (itsProgram p)) (none-empty (map mistake (typeFaults (itsProgram p))) typed))

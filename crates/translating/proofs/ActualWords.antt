@@ -13,13 +13,13 @@ use Rattle.grammar.specs.NodeKinds.{n-unary, n-binary, n-number, n-logical, n-u
 use Rattle.names.specs.Program.{Name, Sign, Expression, number, logical, name, call, signed, operated, chosen, nested, Expressions, firstSymbol}
 use Rattle.names.specs.Scopes.{meaning}
 use Rattle.names.specs.Nodes.{node, mark, signKind, operatorKind, nodesE, nodesEs}
-use Rattle.names.specs.Rows.{foldNodes, isUse}
+use Rattle.names.specs.model.Rows.{foldNodes, isUse}
 use Rattle.names.specs.Uses.{Use, used, usesE}
 use Rattle.names.proofs.Fours.{Whole, none as no-words, one, fours-append, a-node, foursE, foursEs}
-use Rattle.translation.specs.Translate.{Mark, scopes}
+use Rattle.translation.specs.model.Translate.{Around, scopes}
 use Rattle.translation.proofs.Ranges.{owns}
-use Rattle.emitting.specs.Layout.{packed}
-use Rattle.emitting.specs.Emission.{State, kindNext, top, withUses, withVariable, nameless, cellOf, wordOf, namedOr, callEnded, useNode, choiceNode, plainNode, codeNode}
+use Rattle.emitting.specs.model.Layout.{packed}
+use Rattle.emitting.specs.model.Emission.{State, kindNext, top, withUses, withVariable, nameless, cellOf, wordOf, namedOr, callEnded, useNode, choiceNode, plainNode, codeNode}
 use Rattle.translating.proofs.Written.{Tables, Frame, Flow, kindOf, meansOf, taken, step, run, state, use-step}
 
 -- ---- the word
@@ -29,7 +29,7 @@ nameWord layout level k m =
     cond (eqb k 0 || eqb k 2) 0 (packed (level - high (getD layout m 0)) (mid (getD layout m 0)) (cond (eqb k 4) 2 1))
 
 -- of an actual; g: the scopes around, the actual's own mark among them
-abbrev pub wordIn : (ℕ → ℕ) → List ℕ → List Mark → Expression → ℕ
+abbrev pub wordIn : (ℕ → ℕ) → List ℕ → List Around → Expression → ℕ
 wordIn key layout g (number q v) = 0
 wordIn key layout g (logical q t) = 0
 wordIn key layout g (name x) = nameWord layout (owns g) (kindOf (meaning (scopes g) x)) (meansOf key (meaning (scopes g) x))
@@ -144,7 +144,7 @@ module _ (tb : Tables) where
   unfolding namedOr withVariable
   kept-name k m u p d st j = rw j
 
-  alone-word : (x : Name) (D : ℕ) (g : List Mark) (us : List Use) (fr : Frame) (fl : Flow) → fl .uses ≡ used (scopes g) x ∷ us → top (fr .opens) .fourth ≡ D → fr .awaits ≡ 0 → fr .level ≡ owns g
+  alone-word : (x : Name) (D : ℕ) (g : List Around) (us : List Use) (fr : Frame) (fl : Flow) → fl .uses ≡ used (scopes g) x ∷ us → top (fr .opens) .fourth ≡ D → fr .awaits ≡ 0 → fr .level ≡ owns g
       → run tb (node n-use (x .symbol) D 0) (state tb fr fl) .variable ≡ wordIn (tb .key) (tb .layout) g (name x)
   unfolding foldNodes useNode isUse
   alone-word x D g us fr fl u i j l =
@@ -155,7 +155,7 @@ module _ (tb : Tables) where
       ∙ ap (λ (n : ℕ). nameWord (tb .layout) n (kindOf M) (meansOf (tb .key) M)) l
 
   -- behind an actual, D deep as the open call says
-  pub last-word : (e : Expression) (D : ℕ) (g : List Mark) (us : List Use) (fr : Frame) (fl : Flow) → fl .uses ≡ usesE (scopes g) e ++ us → top (fr .opens) .fourth ≡ D → fr .awaits ≡ 0 → fr .level ≡ owns g
+  pub last-word : (e : Expression) (D : ℕ) (g : List Around) (us : List Use) (fr : Frame) (fl : Flow) → fl .uses ≡ usesE (scopes g) e ++ us → top (fr .opens) .fourth ≡ D → fr .awaits ≡ 0 → fr .level ≡ owns g
       → run tb (nodesE D e) (state tb fr fl) .variable ≡ wordIn (tb .key) (tb .layout) g e
   unfolding nodesE usesE
   last-word (number q v) D g us fr fl u i j l = number-clears q (state tb fr fl)

@@ -9,15 +9,15 @@ use lib.ListN.{length, getD}
 use Rattle.symbols.specs.Scan.{valuesOf}
 use Rattle.names.specs.Nodes.{nodesS}
 use Rattle.names.specs.Outline.{rowsS}
-use Rattle.names.specs.Rows.{foldNodes}
+use Rattle.names.specs.model.Rows.{foldNodes}
 use Rattle.names.specs.Uses.{usesS, nameFaults, least}
 use Rattle.names.proofs.Resolved.{Matches}
 use Rattle.types.specs.Types.{typeFault}
-use Rattle.reading.specs.Judging.{parsed}
-use Rattle.reading.specs.Reading.{placeIn, Parsed}
+use Rattle.reading.specs.Judging.{itsProgram}
+use Rattle.reading.specs.Reading.{placeIn, Grammatical}
 use Rattle.table.proofs.SamePlaces.{SymbolsBelow}
-use Rattle.emitting.specs.Layout.{layoutOf}
-use Rattle.emitting.specs.Emission.{Used, State, usesIn, placeAt, fresh, put, placedNode, emitted, codeOf}
+use Rattle.emitting.specs.model.Layout.{layoutOf}
+use Rattle.emitting.specs.model.Emission.{Used, State, usesIn, placeAt, fresh, put, placedNode, emitted, codeOf}
 use Rattle.translating.specs.Job.{filled, codeIn}
 use Rattle.translating.proofs.Sites.{numberOf}
 use Rattle.translating.proofs.Accepting.{found, few, place-inside, place-small, below-nodes, within-limits, in-order, numbered, well-scoped}
@@ -50,21 +50,21 @@ module _ (n : ℕ) (f g : ℕ → ℕ) (agree : (k : ℕ) → k < n → f k ≡ 
 -- ---- what the front end fills for a source's one program
 
 -- the nodes; the rows; the uses, each with the number of what it means; places and values, by symbol
-pub record Lent {text : List ℕ} (p : Parsed text) (nodes uses rows places values : List ℕ) : Type 0 where
-  pub noded : nodes ≡ nodesS 1 (parsed p)
-  pub rowed : rows ≡ rowsS 0 0 (parsed p)
-  pub used : Matches (rowsS 0 0 (parsed p)) uses (usesS [] (parsed p))
+pub record Lent {text : List ℕ} (p : Grammatical text) (nodes uses rows places values : List ℕ) : Type 0 where
+  pub noded : nodes ≡ nodesS 1 (itsProgram p)
+  pub rowed : rows ≡ rowsS 0 0 (itsProgram p)
+  pub used : Matches (rowsS 0 0 (itsProgram p)) uses (usesS [] (itsProgram p))
   pub placed : (k : ℕ) → k < length (found p) → getD places k 0 ≡ placeIn text k
   pub valued : (k : ℕ) → k < length (found p) → getD values k 0 ≡ getD (valuesOf (found p)) k 0
 
-module _ {text nodes uses rows places values : List ℕ} {p : Parsed text} (t : Lent p nodes uses rows places values) where
+module _ {text nodes uses rows places values : List ℕ} {p : Grammatical text} (t : Lent p nodes uses rows places values) where
   place-is : (k : ℕ) → k < length (found p) → placeAt places k ≡ placeIn text k
   place-is k h = let i = place-inside p k h in let e = t .placed k h in omega arith
 
-  pub coded : least (nameFaults (parsed p)) ≡ none → typeFault (parsed p) ≡ none
+  pub coded : least (nameFaults (itsProgram p)) ≡ none → typeFault (itsProgram p) ≡ none
       → codeOf 16384 (placeAt places) values (layoutOf nodes) rows nodes (usesIn rows uses) ≡ filled (codeIn p)
   coded named typed =
-      let s = parsed p in
+      let s = itsProgram p in
       let n = length (found p) in
       let place : ℕ → ℕ = placeIn text in
       let rs = rowsS 0 0 s in

@@ -15,7 +15,7 @@ use Rattle.names.specs.Program as P
 use Rattle.names.specs.Program.{Name, Sort, Expression, Expressions, Element, Statement, Declarations}
 use Rattle.names.specs.ReadOff.{Sem, operandOf, operatorOf, signOf, applied, nameAt, build, programOf}
 use Rattle.rules.specs.Entered.{oneIf}
-use Rattle.translation.specs.Sizes.{symbolsE, symbolsEs, actuals as actualSymbols, symbolsL, listed, specifications as specificationSymbols, symbolsS, symbolsSs, symbolsDs, symbolsP}
+use Rattle.translation.specs.model.Sizes.{symbolsE, symbolsEs, actuals as actualSymbols, symbolsL, listed, specifications as specificationSymbols, symbolsS, symbolsSs, symbolsDs, symbolsP}
 use Rattle.translating.proofs.Built.{Fits, built}
 
 -- ---- what a part gives that has the symbols from i on, before j

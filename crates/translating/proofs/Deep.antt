@@ -7,19 +7,19 @@ use mathlib.Core.List.{List, [], _∷_, _++_}
 use mathlib.Core.Option.{Option, none, some}
 use native.Mathlib.Omega.{arith}
 use lib.ListN.{length}
-use Rattle.grammar.specs.Run.{levels}
+use Rattle.grammar.specs.model.Run.{levels}
 use Rattle.grammar.specs.Grammar.{Class, block, inner, head, tail, declarations, declaration, declared, type, procedure, heading, formals, values, specifications, list, others, statements, statement, consequence, alternative, repetition, for-clause, elements, further, element, progress, stepping, amount, unconditional, named, right, expression, otherwise, level, more, negation, relation, comparison, primary, actuals, actual, further-actuals, Item, sy, rd, rhs, program}
 use Rattle.grammar.specs.Grammar.{Prod, begin-end, a-block, a-compound, a-tail, a-head, some-declarations, no-declaration, typed, untyped, variables, function, integer, boolean, a-procedure, a-heading, some-formals, no-formals, some-values, no-values, a-specification, no-specification, a-list, another, no-other, a-statement, no-statement, conditional, repeated, plain, then-for, then-plain, an-else, no-else, a-for, a-clause, for-list, another-element, no-element, an-element, once, while, by-steps, a-step, an-amount, dummy, compound, with-name, assignment, call, left, value, a-condition, simple, an-otherwise, chain, signed, again, no-more, a-not, no-not, a-relation, compare, no-comparison, number, true-value, false-value, a-name, in-parentheses, with, bare, an-actual, another-actual, no-actual}
 use Rattle.grammar.specs.Grammar.{operand}
 use Rattle.grammar.specs.declared.Level.{Level}
 use Rattle.grammar.specs.declared.Level.the-variants.{Product, Sum, Conjunction, Disjunction, Implication, Equivalence}
-use Rattle.grammar.specs.Trees.{Syn, nil, tok, sub, yield, Begins, here, down, flat, over, past}
+use Rattle.grammar.specs.Trees.{Syn, nil, tok, sub, yield, BeginsBelow, here, down, flat, over, past}
 use Rattle.grammar.specs.Program.{Keeps}
 use Rattle.grammar.proofs.Unique.{shallow-tree}
 use Rattle.names.specs.Program as P
 use Rattle.names.specs.Program.{Name, Sort, Expression, Expressions, Element, Statement, Declarations}
 use Rattle.names.specs.ReadOff.{Sem, Makes, operandOf, applied, nameAt, build, read, programOf}
-use Rattle.translation.specs.Sizes.{deepE, deepA, deepL, deepS, deepSs, deepDs, deepP}
+use Rattle.translation.specs.model.Sizes.{deepE, deepA, deepL, deepS, deepSs, deepDs, deepP}
 
 -- ---- what a part gives that opens at most d levels. A body is one level below its declarations, as the statements of their block are
 
@@ -111,7 +111,7 @@ module _ (worth : ℕ → ℕ) (letters : ℕ → List ℕ) where
 
   module _ (fits : (X : Class) (p : Prod X) → Fits p) where
     runs : {is : List Item} (t : Syn is) (d i : ℕ) (R : Type 0) (f : Makes is R) (K : R → Type 0)
-        → ((m : ℕ) → Begins d m is t → ⊥) → Good is d R f K → K (read worth letters R t i f)
+        → ((m : ℕ) → BeginsBelow d m is t → ⊥) → Good is d R f K → K (read worth letters R t i f)
     unfolding read
     runs nil d i R f K n g = g
     runs (tok s) d i R f K n g = runs s d (i + 1) R (f i) K (λ m b. n (suc m) (past b refl)) (g i)
@@ -204,7 +204,7 @@ module _ (worth : ℕ → ℕ) (letters : ℕ → List ℕ) where
   fits no-actual = λ d. none-deep d
 
   -- "The greatest depth is 64"
-  pub deep : (t : Syn program) → ((m : ℕ) → Begins levels m program t → ⊥) → deepS (programOf worth letters t) ≤ 63
+  pub deep : (t : Syn program) → ((m : ℕ) → BeginsBelow levels m program t → ⊥) → deepS (programOf worth letters t) ≤ 63
   unfolding programOf
   deep t n = runs (λ X p. fits p) t levels 0 Statement (build worth letters begin-end) (λ s. deepS s ≤ 63) n (fits begin-end levels)
 

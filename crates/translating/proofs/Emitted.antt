@@ -8,15 +8,15 @@ use lib.ListN.{length, getD, replicate}
 use Rattle.machine.specs.Instructions.{END}
 use Rattle.names.specs.Program.{Statement}
 use Rattle.names.specs.Nodes.{nodesS}
-use Rattle.names.specs.Rows.{foldNodes}
+use Rattle.names.specs.model.Rows.{foldNodes}
 use Rattle.names.specs.Uses.{usesS}
 use Rattle.names.specs.Outline.{rowsS}
 use Rattle.names.proofs.Resolved.{Matches}
-use Rattle.translation.specs.Translate.{Mark, codeS, code, endS}
-use Rattle.machine.specs.Words.{words}
-use Rattle.translation.specs.Scoped.{Scoped}
-use Rattle.translation.specs.Sizes.{Limited}
-use Rattle.emitting.specs.Emission.{Used, State, put, fresh, emitted, codeOf}
+use Rattle.translation.specs.model.Translate.{Around, codeS, code, endS}
+use Rattle.machine.specs.model.Words.{words}
+use Rattle.translation.specs.model.Scoped.{Scoped}
+use Rattle.translation.specs.model.Sizes.{Limited}
+use Rattle.emitting.specs.model.Emission.{Used, State, put, fresh, emitted, codeOf}
 use Rattle.names.specs.Every.{AnyName, EveryS}
 use Rattle.translating.proofs.ToldCalls.{Asked, ToldS, toldS}
 use Rattle.translating.proofs.ActualWords.{wordIn}
@@ -45,7 +45,7 @@ module _ (place key : ℕ → ℕ) (small : (q : ℕ) → place q < 65536) (valu
   told ahead entries = record { place = place; key = key; values = values; layout = layout; ahead = ahead; entries = entries; rows = rows; small = small }
 
   -- what lies ahead
-  abbrev before : List Mark → Statement → ℕ → List ℕ → List ℕ
+  abbrev before : List Around → Statement → ℕ → List ℕ → List ℕ
   before g s b = aheadS place (wordIn key layout) g s b
 
   abbrev uses : List Used

@@ -11,7 +11,7 @@ use Rattle.names.specs.Program.{Name, Statement, dummy, assignment, procedure, 
 use Rattle.names.specs.Scopes.{routine, Declared, Scope, ofBlock, ofBody, nameOf, same, inBlock, findIn}
 use Rattle.names.specs.Nodes.{sortNumber}
 use Rattle.names.specs.Outline.{sizeS, sizeD, sizeP, formalIn, rowsN, rowsS, rowsSs, rowsD, rowsP}
-use Rattle.translation.specs.Translate.{endE, endL, endS, endDs, endP, entry}
+use Rattle.translation.specs.model.Translate.{endE, endL, endS, endDs, endP, entry}
 use Rattle.translation.proofs.Stands.{behind}
 use Rattle.translating.proofs.Shown.{shown}
 use Rattle.translating.proofs.Rising.{RowsRise}

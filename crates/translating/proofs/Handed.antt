@@ -10,23 +10,23 @@ use Rattle.answers.specs.declared.Refusal.{Refusal}
 use Rattle.answers.specs.declared.Verdict.the-variants.{Accepted, Refused}
 use Rattle.names.specs.Uses.{nameFaults, least}
 use Rattle.types.specs.Types.{typeFault}
-use Rattle.reading.specs.Judging.{parsed}
-use Rattle.reading.specs.Reading.{Parsed, cleared, Judged}
-use Rattle.emitting.specs.Layout.{layoutOf}
-use Rattle.emitting.specs.Emission.{usesIn, placeAt, codeOf}
-use Rattle.translating.specs.Job.{room, Translated, refused, accepted, Translates, too-short}
+use Rattle.reading.specs.Judging.{itsProgram}
+use Rattle.reading.specs.Reading.{Grammatical, cleared, Judged}
+use Rattle.emitting.specs.model.Layout.{layoutOf}
+use Rattle.emitting.specs.model.Emission.{usesIn, placeAt, codeOf}
+use Rattle.translating.specs.Job.{codeWords, Translated, refused, accepted, Translates, too-short}
 use Rattle.translating.proofs.Coded.{Lent, coded}
 
 -- 1
-pub as-short : {text old : List ℕ} {r : Refusal} → length old < room → r ≡ refusal short 0 → Translates text old (Refused r) old
+pub as-short : {text old : List ℕ} {r : Refusal} → length old < codeWords → r ≡ refusal short 0 → Translates text old (Refused r) old
 as-short {text} {old} h e = subst (λ (x : Refusal). Translates text old (Refused x) old) (sym e) (too-short h)
 
 -- 2 to 10
-pub as-refused : {text ws : List ℕ} (r : Refusal) (n : ℕ) → Judged text (Refused r) cleared → ws ≡ replicate n 0 → n ≡ room → Translated text (Refused r) ws
+pub as-refused : {text ws : List ℕ} (r : Refusal) (n : ℕ) → Judged text (Refused r) cleared → ws ≡ replicate n 0 → n ≡ codeWords → Translated text (Refused r) ws
 as-refused {text} r n j e k = subst (Translated text (Refused r)) (sym (e ∙ ap (λ i. replicate i 0) k)) (refused r j)
 
 -- 0
-pub as-accepted : {text nodes uses rows places values ws : List ℕ} {n : ℕ} (p : Parsed text) → Lent p nodes uses rows places values → least (nameFaults (parsed p)) ≡ none → typeFault (parsed p) ≡ none
-    → n ≡ room → ws ≡ codeOf n (placeAt places) values (layoutOf nodes) rows nodes (usesIn rows uses) → Translated text Accepted ws
+pub as-accepted : {text nodes uses rows places values ws : List ℕ} {n : ℕ} (p : Grammatical text) → Lent p nodes uses rows places values → least (nameFaults (itsProgram p)) ≡ none → typeFault (itsProgram p) ≡ none
+    → n ≡ codeWords → ws ≡ codeOf n (placeAt places) values (layoutOf nodes) rows nodes (usesIn rows uses) → Translated text Accepted ws
 as-accepted {text} {nodes} {uses} {rows} {places} {values} p t named typed k e =
     subst (Translated text Accepted) (sym (e ∙ ap (λ i. codeOf i (placeAt places) values (layoutOf nodes) rows nodes (usesIn rows uses)) k ∙ coded t named typed)) (accepted p named typed)

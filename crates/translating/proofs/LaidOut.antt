@@ -14,8 +14,8 @@ use Rattle.names.specs.Scopes.{same, has, Thing, formalAs, Declared, specified,
 use Rattle.names.specs.Nodes.{nodesS}
 use Rattle.names.specs.Outline.{rowsS}
 use Rattle.rules.specs.Entered.{cellsOf, total, oneIf, cellsIn, before}
-use Rattle.emitting.specs.Layout.{packed, layoutOf}
-use Rattle.translation.specs.Sizes.{symbolsS, symbolsSs, symbolsDs, symbolsP, deepS, deepSs, deepDs, deepP, Limited}
+use Rattle.emitting.specs.model.Layout.{packed, layoutOf}
+use Rattle.translation.specs.model.Sizes.{symbolsS, symbolsSs, symbolsDs, symbolsP, deepS, deepSs, deepDs, deepP, Limited}
 use Rattle.translation.proofs.Ranges.{one-most, listed-most, total-variables, block-cells, body-cells}
 use Rattle.translating.proofs.Rising.{RowsRise}
 use Rattle.translating.proofs.Sites.{numberOf, Lying, LaidS, LaidSs, LaidDs, LaidP}

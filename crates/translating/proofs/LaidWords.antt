@@ -13,7 +13,7 @@ use Rattle.names.specs.Scopes.{ofBlock, ofBody}
 use Rattle.names.specs.Nodes.{sortNumber}
 use Rattle.names.specs.Outline.{sizeS, sizeD, sizeP, formalIn, rowsN, rowsS, rowsSs, rowsD, rowsP}
 use Rattle.rules.specs.Entered.{cellsIn, oneIf}
-use Rattle.emitting.specs.Layout.{packed}
+use Rattle.emitting.specs.model.Layout.{packed}
 use Rattle.translating.proofs.Shown.{shown, shown-get}
 use Rattle.names.proofs.Rising.{Rising, no-more, next}
 use Rattle.translating.proofs.Rising.{seconds, RowsRise}

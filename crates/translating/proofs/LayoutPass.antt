@@ -10,9 +10,9 @@ use Rattle.grammar.specs.NodeKinds.{n-block, n-block-end, n-type, n-variable, n
 use Rattle.names.specs.Program.{Name, Sort, integer, boolean, Expression, number, logical, name, call, signed, operated, chosen, nested, Expressions, done, then, Element, value, while, step, Specification, Statement, dummy, assignment, procedure, when, either, repeat, compound, block, Statements, last, first, Declarations, none as no-more, variables, declare, Procedure, heading}
 use Rattle.names.specs.Scopes.{ofBlock, ofBody, inBlock}
 use Rattle.names.specs.Nodes.{node, mark, sortNumber, nodesE, nodesEs, amountNodes, nodesL, nodesLs, nodesN, nodesSp, nodesLeft, nodesCall, nodesS, nodesSs, nodesD, nodesP}
-use Rattle.names.specs.Rows.{foldNodes}
+use Rattle.names.specs.model.Rows.{foldNodes}
 use Rattle.rules.specs.Entered.{total, cellsIn, oneIf}
-use Rattle.emitting.specs.Layout.{packed, Laying, oneOf, outermost, further, celled, procedured, blocked, closed, typed, layNode, layoutOf}
+use Rattle.emitting.specs.model.Layout.{packed, Laying, oneOf, outermost, further, celled, procedured, blocked, closed, typed, layNode, layoutOf}
 use Rattle.translation.proofs.Ranges.{total-variables, body-cells}
 use Rattle.translating.proofs.Shown.{shown, shown-none, shown-next}
 use Rattle.translating.proofs.LaidWords.{Written, written, writtenN, writtenS, writtenSs, writtenD, writtenP, writes, writes-append, wordsOf, writes-are}

@@ -9,13 +9,13 @@ use lib.Seq.{getD-take}
 use Rattle.symbols.specs.Symbols.{kind, valueOf}
 use Rattle.symbols.specs.Scan.{valuesOf}
 use Rattle.names.specs.Outline.{rowsS}
-use Rattle.names.specs.Rows.{usesOf}
+use Rattle.names.specs.model.Rows.{usesOf}
 use Rattle.names.specs.Uses.{usesS}
 use Rattle.names.proofs.Resolved.{Matches}
-use Rattle.reading.specs.Judging.{parsed}
-use Rattle.reading.specs.Reading.{Parsed}
+use Rattle.reading.specs.Judging.{itsProgram}
+use Rattle.reading.specs.Reading.{Grammatical}
 use Rattle.reading.specs.declared.Sizes.{Sizes}
-use Rattle.reading.specs.Model.{Known, Named, Holds}
+use Rattle.reading.specs.model.Stages.{Known, Named, Holds}
 use Rattle.reading.proofs.Whole.{nodes-are, rows-are, uses-match}
 use Rattle.reading.proofs.Answers.{rows-fit}
 use Rattle.translating.proofs.Accepting.{found}
@@ -32,16 +32,16 @@ module _ {text kinds places values nodes rows uses : List ℕ} {s : Sizes} (h : 
   abbrev known : Known text places (take (s .nodes) nodes) (h .declared .ids) (s .symbols)
   known = named .outlined .known
 
-  abbrev pub program : Parsed text
+  abbrev pub program : Grammatical text
   program = known .ready .program
 
-  rows-here : take (4 * s .rows) rows ≡ rowsS 0 0 (parsed program)
+  rows-here : take (4 * s .rows) rows ≡ rowsS 0 0 (itsProgram program)
   rows-here = named .outlined .rowed ∙ rows-are known
 
-  uses-here : Matches (rowsS 0 0 (parsed program)) (take (s .uses) uses) (usesS [] (parsed program))
+  uses-here : Matches (rowsS 0 0 (itsProgram program)) (take (s .uses) uses) (usesS [] (itsProgram program))
   uses-here =
       let e = named .used ∙ ap (λ r. usesOf (h .declared .ids) r (take (s .nodes) nodes) .uses) (named .outlined .rowed) in
-      subst (λ w. Matches (rowsS 0 0 (parsed program)) w (usesS [] (parsed program))) (sym e) (uses-match known (rows-fit known))
+      subst (λ w. Matches (rowsS 0 0 (itsProgram program)) w (usesS [] (itsProgram program))) (sym e) (uses-match known (rows-fit known))
 
   count-here : length (found program) ≡ s .symbols
   count-here = sym (known .ready .places-in .count ∙ length-map (found program) (λ f. kind (f .symbol)))

@@ -8,7 +8,7 @@ use Rattle.grammar.specs.Grammar.{a-block, a-compound, program}
 use Rattle.grammar.specs.Trees.{Syn, nil, tok, sub, yield}
 use Rattle.grammar.specs.Program.{Keeps}
 use Rattle.names.specs.ReadOff.{build, read, programOf}
-use Rattle.translation.specs.Sizes.{Whole, Limited}
+use Rattle.translation.specs.model.Sizes.{Whole, Limited}
 use Rattle.translating.proofs.Counted.{counted}
 use Rattle.translating.proofs.Deep.{deep-kept}
 use Rattle.translating.proofs.Numbers.{small}

@@ -12,15 +12,15 @@ use lib.ListN.{getD}
 use borrow.Author.Tests.{eqb-true}
 use Rattle.symbols.specs.Text.{bytes}
 use Rattle.symbols.specs.Names.{sameName}
-use Rattle.machine.specs.Instructions.{Loc, lc, pack, high, mid, low}
+use Rattle.machine.specs.Instructions.{Location, located, pack, high, mid, low}
 use Rattle.names.specs.Program.{Name, Sort, Specification, Declarations, none as no-more, variables, declare, Procedure}
-use Rattle.names.specs.Scopes.{has, Thing, variable, routine, formal, by-name, formalAs, valuesOf, Declared, Scope, ofBlock, ofBody, declares, variablesIn, inBlock, inBody, specified, specificationsOf, formalsOf, nameOf, sortOf, same, findIn, Given, environment, findGiven, innermost, Meaning, declared, given, nothing, meaning}
+use Rattle.names.specs.Scopes.{has, Thing, variable, routine, formal, by-name, formalAs, valuesOf, Declared, Scope, ofBlock, ofBody, declares, variablesIn, inBlock, inBody, specified, specificationsOf, formalsOf, nameOf, sortOf, same, findIn, Given, environment, findGiven, foundElse, Meaning, declared, given, nothing, meaning}
 use Rattle.rules.specs.Entered.{placeIn, oneIf, isSome, declaring, bodyOfThis}
-use Rattle.translation.specs.Translate.{Mark, blk, own, acl, scopes, cutG, levels, amongG, offsetOf, locFor, locAs, loc, entry, target}
-use Rattle.translation.specs.Scoped.{nearest, HasCell, CellAs, OkV}
-use Rattle.machine.specs.Words.{beside, LocFits}
-use Rattle.emitting.specs.Layout.{packed}
-use Rattle.emitting.specs.Emission.{bare, cellOf, resultOf}
+use Rattle.translation.specs.model.Translate.{Around, aBlock, aBody, anActual, scopes, cutG, levels, amongG, offsetOf, locFor, locAs, loc, entry, target}
+use Rattle.translation.specs.model.Scoped.{nearest, HasCell, CellAs, OkV}
+use Rattle.machine.specs.model.Words.{beside, LocFits}
+use Rattle.emitting.specs.model.Layout.{packed}
+use Rattle.emitting.specs.model.Emission.{bare, cellOf, resultOf}
 use Rattle.translating.proofs.Sites.{Lying, Lies}
 use Rattle.translation.proofs.Ranges.{owns}
 use Rattle.translating.proofs.Written.{useKind, kindOf, meansOf}
@@ -91,14 +91,14 @@ unfolding meaning
 meant-name [] x d h p e e' = absurd (no-given 0 environment x d h e)
 meant-name (s ∷ g) x d h p e e' = go (findIn (declares s) x) refl (λ e. meant-name g x d h p e e') e
   where
-    go : (f : Option Declared) → findIn (declares s) x ≡ f → (meaning g x ≡ declared d h → d .name ≡ nameOf p) → innermost f (s ∷ g) (meaning g x) ≡ declared d h → d .name ≡ nameOf p
+    go : (f : Option Declared) → findIn (declares s) x ≡ f → (meaning g x ≡ declared d h → d .name ≡ nameOf p) → foundElse f (s ∷ g) (meaning g x) ≡ declared d h → d .name ≡ nameOf p
     go none i f e = f e
     go (some d') i f e =
         let i' : findIn (declares s) x ≡ some d = cc in
         routine-name s x d p i' e'
 
 -- the word of a name that has its cell at l; of a formal called by name, whose cell is sought
-pub record Celled (w : ℕ) (l : Loc) : Type 0 where
+pub record Celled (w : ℕ) (l : Location) : Type 0 where
   pub bared : bare w ≡ beside l 0
   pub plain : low w ≡ 1
 
@@ -108,35 +108,35 @@ pub record Sought (w u o : ℕ) : Type 0 where
 
 module _ (key : ℕ → ℕ) (L : List ℕ) where
   -- the layout is right for the scopes around
-  abbrev pub Known : List Mark → Type 0
+  abbrev pub Known : List Around → Type 0
   Known [] = Unit {0}
-  Known (blk o ds b ∷ g) = Lies key L (owns g) o (ofBlock ds) × Known g
-  Known (own p ∷ g) = Lies key L (suc (owns g)) 0 (ofBody p) × (getD L (key (nameOf p .symbol)) 0 ≡ pack (owns g) (oneIf (sortOf p)) 0) × Known g
-  Known (acl ∷ g) = Known g
+  Known (aBlock o ds b ∷ g) = Lies key L (owns g) o (ofBlock ds) × Known g
+  Known (aBody p ∷ g) = Lies key L (suc (owns g)) 0 (ofBody p) × (getD L (key (nameOf p .symbol)) 0 ≡ pack (owns g) (oneIf (sortOf p)) 0) × Known g
+  Known (anActual ∷ g) = Known g
 
   -- the scope that declares a name: its level, and what the layout has
-  pub record Stands (g : List Mark) (x : Name) (d : Declared) : Type 0 where
+  pub record Stands (g : List Around) (x : Name) (d : Declared) : Type 0 where
     pub level : ℕ
     pub out : level + levels (declaring x) g ≡ owns g
     pub lies : Lying key L level (amongG (cutG (declaring x) g) x) (d .thing) (d .name .symbol)
 
-  pub stands : (g : List Mark) (x : Name) (d : Declared) (h : List Scope) → Known g → meaning (scopes g) x ≡ declared d h → Stands g x d
+  pub stands : (g : List Around) (x : Name) (d : Declared) (h : List Scope) → Known g → meaning (scopes g) x ≡ declared d h → Stands g x d
   unfolding meaning levels cutG declaring
   stands [] x d h k e = absurd (no-given 0 environment x d h e)
-  stands (blk o ds b ∷ g) x d h k e = go (findIn (inBlock ds) x) refl (stands g x d h (k .1)) e
+  stands (aBlock o ds b ∷ g) x d h k e = go (findIn (inBlock ds) x) refl (stands g x d h (k .1)) e
     where
       go : (f : Option Declared) → findIn (inBlock ds) x ≡ f → (meaning (scopes g) x ≡ declared d h → Stands g x d)
-          → innermost f (ofBlock ds ∷ scopes g) (meaning (scopes g) x) ≡ declared d h → Stands (blk o ds b ∷ g) x d
+          → foundElse f (ofBlock ds ∷ scopes g) (meaning (scopes g) x) ≡ declared d h → Stands (aBlock o ds b ∷ g) x d
       go none i f e =
           let w = f e in
           record { level = w .level; out = rw i (w .out); lies = rw i (w .lies) }
       go (some d') i f e =
           let i' : findIn (inBlock ds) x ≡ some d = cc in
           record { level = owns g; out = rw i (omega arith); lies = rw i (k .0 x d i') }
-  stands (own p ∷ g) x d h k e = go (findIn (inBody p) x) refl (stands g x d h (k .2)) e
+  stands (aBody p ∷ g) x d h k e = go (findIn (inBody p) x) refl (stands g x d h (k .2)) e
     where
       go : (f : Option Declared) → findIn (inBody p) x ≡ f → (meaning (scopes g) x ≡ declared d h → Stands g x d)
-          → innermost f (ofBody p ∷ scopes g) (meaning (scopes g) x) ≡ declared d h → Stands (own p ∷ g) x d
+          → foundElse f (ofBody p ∷ scopes g) (meaning (scopes g) x) ≡ declared d h → Stands (aBody p ∷ g) x d
       go none i f e =
           let w = f e in
           record { level = w .level; out = rw i (omega (arith, w .out)); lies = rw i (w .lies) }
@@ -144,12 +144,12 @@ module _ (key : ℕ → ℕ) (L : List ℕ) where
           let i' : findIn (inBody p) x ≡ some d = cc in
           let y = subst (λ (n : ℕ). Lying key L (suc (owns g)) n (d .thing) (d .name .symbol)) (zero-add (placeIn (ofBody p) x)) (k .0 x d i') in
           record { level = suc (owns g); out = rw i (omega arith); lies = rw i y }
-  stands (acl ∷ g) x d h k e =
+  stands (anActual ∷ g) x d h k e =
       let w = stands g x d h k e in
       record { level = w .level; out = omega (arith, w .out); lies = w .lies }
 
   -- the nearest body of a procedure with a result: the level of its declaration, which the layout has
-  pub record Returns (g : List Mark) (p : Procedure) : Type 0 where
+  pub record Returns (g : List Around) (p : Procedure) : Type 0 where
     pub level : ℕ
     pub out : suc level + levels (bodyOfThis p) g ≡ owns g
     pub first : offsetOf (cutG (bodyOfThis p) g) ≡ 0
@@ -159,19 +159,19 @@ module _ (key : ℕ → ℕ) (L : List ℕ) where
   few-results none = omega arith
   few-results (some t) = omega arith
 
-  pub returns : (g : List Mark) (p : Procedure) → Known g → nearest (scopes g) p ≡ 1 → Returns g p
+  pub returns : (g : List Around) (p : Procedure) → Known g → nearest (scopes g) p ≡ 1 → Returns g p
   unfolding nearest levels cutG bodyOfThis
   returns [] p k e = absurd (never e)
     where
       never : _≡_ {A = ℕ} 0 1 → ⊥
       never z = omega arith
-  returns (blk o ds b ∷ g) p k e =
+  returns (aBlock o ds b ∷ g) p k e =
       let w = returns g p (k .1) e in
       record { level = w .level; out = w .out; first = w .first; word = w .word }
-  returns (own q ∷ g) p k e = go (eqb (nameOf q .symbol) (nameOf p .symbol)) refl (returns g p (k .2)) e
+  returns (aBody q ∷ g) p k e = go (eqb (nameOf q .symbol) (nameOf p .symbol)) refl (returns g p (k .2)) e
     where
       go : (t : Bool) → eqb (nameOf q .symbol) (nameOf p .symbol) ≡ t → (nearest (scopes g) p ≡ 1 → Returns g p)
-          → cond t (oneIf (sortOf q)) (nearest (scopes g) p) ≡ 1 → Returns (own q ∷ g) p
+          → cond t (oneIf (sortOf q)) (nearest (scopes g) p) ≡ 1 → Returns (aBody q ∷ g) p
       go true i f e =
           let j : nameOf q .symbol ≡ nameOf p .symbol = eqb-true (nameOf q .symbol) (nameOf p .symbol) i in
           record {
@@ -183,11 +183,11 @@ module _ (key : ℕ → ℕ) (L : List ℕ) where
       go false i f e =
           let w = f e in
           record { level = w .level; out = rw i (omega (arith, w .out)); first = rw i (w .first); word = w .word }
-  returns (acl ∷ g) p k e =
+  returns (anActual ∷ g) p k e =
       let w = returns g p k e in
       record { level = w .level; out = omega (arith, w .out); first = w .first; word = w .word }
 
-  as-thing : (g : List Mark) (x : Name) (d : Declared) (t : Thing) → d .thing ≡ t → (w : Stands g x d)
+  as-thing : (g : List Around) (x : Name) (d : Declared) (t : Thing) → d .thing ≡ t → (w : Stands g x d)
       → Lying key L (w .level) (amongG (cutG (declaring x) g) x) t (d .name .symbol)
   as-thing g x d t i w = subst (λ (t : Thing). Lying key L (w .level) (amongG (cutG (declaring x) g) x) t (d .name .symbol)) i (w .lies)
 
@@ -223,7 +223,7 @@ module _ (key : ℕ → ℕ) (L : List ℕ) where
         let z : n - (level + 1) ≡ u = omega arith in
         rw (e, z)
 
-    celled : (w u o : ℕ) → w ≡ packed u o 1 → (u < 64) × (o < 8191) → Celled w (lc u o)
+    celled : (w u o : ℕ) → w ≡ packed u o 1 → (u < 64) × (o < 8191) → Celled w (located u o)
     celled w u o e h = record { bared = ap bare e ∙ bare-is u o 1 (h .0) (omega (arith, h .1)) (omega arith); plain = ap low e ∙ low-is u o 1 (omega arith) }
 
     -- its kind tells which of the two it is
@@ -238,7 +238,7 @@ module _ (key : ℕ → ℕ) (L : List ℕ) where
         go false false h = low-is (n - high (getD L m 0)) (mid (getD L m 0)) 1 (omega arith)
 
     -- a name that has a cell
-    pub cell-is : (g : List Mark) (x : Name) → Known g → OkV (scopes g) x → LocFits (loc g x)
+    pub cell-is : (g : List Around) (x : Name) → Known g → OkV (scopes g) x → LocFits (loc g x)
         → Celled (cellOf values L ahead entries (owns g) (kindOf (meaning (scopes g) x)) (meansOf key (meaning (scopes g) x))) (loc g x)
     unfolding loc
     cell-is g x k ok fits = go (meaning (scopes g) x) refl ok fits
@@ -266,7 +266,7 @@ module _ (key : ℕ → ℕ) (L : List ℕ) where
         go nothing e ok fits = absurd ok
 
     -- a formal called by name
-    pub sought-is : (g : List Mark) (x : Name) (d : Declared) (h : List Scope) (t : Option Sort) → Known g → meaning (scopes g) x ≡ declared d h → d .thing ≡ by-name t
+    pub sought-is : (g : List Around) (x : Name) (d : Declared) (h : List Scope) (t : Option Sort) → Known g → meaning (scopes g) x ≡ declared d h → d .thing ≡ by-name t
         → (levels (declaring x) g < 64) × (amongG (cutG (declaring x) g) x < 8191)
         → Sought (cellOf values L ahead entries (owns g) 4 (key (d .name .symbol))) (levels (declaring x) g) (amongG (cutG (declaring x) g) x)
     sought-is g x d h t k e i fits =
@@ -278,7 +278,7 @@ module _ (key : ℕ → ℕ) (L : List ℕ) where
         record { bared = ap bare z ∙ bare-is u o 2 (fits .0) (omega (arith, fits .1)) (omega arith); found = ap low z ∙ low-is u o 2 (omega arith) }
 
     -- whether a procedure has a result
-    pub result-is : (g : List Mark) (x : Name) (d : Declared) (h : List Scope) (p : Procedure) → Known g → meaning (scopes g) x ≡ declared d h → d .thing ≡ routine p
+    pub result-is : (g : List Around) (x : Name) (d : Declared) (h : List Scope) (p : Procedure) → Known g → meaning (scopes g) x ≡ declared d h → d .thing ≡ routine p
         → resultOf values L ahead entries 2 (key (d .name .symbol)) ≡ oneIf (sortOf p)
     unfolding resultOf
     result-is g x d h p k e i =
@@ -287,7 +287,7 @@ module _ (key : ℕ → ℕ) (L : List ℕ) where
         rw y (mid-pack (w .level) (oneIf (sortOf p)) 0 (few-results (sortOf p)) (omega arith))
 
   -- the levels out to a procedure's declaration
-  pub levels-is : (g : List Mark) (x : Name) (d : Declared) (h : List Scope) (p : Procedure) → Known g → meaning (scopes g) x ≡ declared d h → d .thing ≡ routine p
+  pub levels-is : (g : List Around) (x : Name) (d : Declared) (h : List Scope) (p : Procedure) → Known g → meaning (scopes g) x ≡ declared d h → d .thing ≡ routine p
       → owns g - high (getD L (key (d .name .symbol)) 0) ≡ levels (declaring x) g
   levels-is g x d h p k e i =
       let w = stands g x d h k e in
@@ -298,34 +298,34 @@ module _ (key : ℕ → ℕ) (L : List ℕ) where
 
 module _ (key : ℕ → ℕ) (T : List ℕ) where
   -- the table has where the procedures of the scopes around begin
-  abbrev pub Targets : List Mark → Type 0
+  abbrev pub Targets : List Around → Type 0
   Targets [] = Unit {0}
-  Targets (blk o ds b ∷ g) =
+  Targets (aBlock o ds b ∷ g) =
       ((x : Name) (d : Declared) (p : Procedure) → findIn (inBlock ds) x ≡ some d → d .thing ≡ routine p → getD T (key (d .name .symbol)) 0 ≡ entry (ofBlock ds ∷ scopes g) ds b x)
       × Targets g
-  Targets (own p ∷ g) = Targets g
-  Targets (acl ∷ g) = Targets g
+  Targets (aBody p ∷ g) = Targets g
+  Targets (anActual ∷ g) = Targets g
 
-  pub target-is : (g : List Mark) (x : Name) (d : Declared) (h : List Scope) (p : Procedure) → Targets g → meaning (scopes g) x ≡ declared d h → d .thing ≡ routine p
+  pub target-is : (g : List Around) (x : Name) (d : Declared) (h : List Scope) (p : Procedure) → Targets g → meaning (scopes g) x ≡ declared d h → d .thing ≡ routine p
       → getD T (key (d .name .symbol)) 0 ≡ target (cutG (declaring x) g) x
   unfolding meaning cutG declaring
   target-is [] x d h p k e i = absurd (no-given 0 environment x d h e)
-  target-is (blk o ds b ∷ g) x d h p k e i = go (findIn (inBlock ds) x) refl (λ e. target-is g x d h p (k .1) e i) e
+  target-is (aBlock o ds b ∷ g) x d h p k e i = go (findIn (inBlock ds) x) refl (λ e. target-is g x d h p (k .1) e i) e
     where
       go : (f : Option Declared) → findIn (inBlock ds) x ≡ f → (meaning (scopes g) x ≡ declared d h → getD T (key (d .name .symbol)) 0 ≡ target (cutG (declaring x) g) x)
-          → innermost f (ofBlock ds ∷ scopes g) (meaning (scopes g) x) ≡ declared d h
-          → getD T (key (d .name .symbol)) 0 ≡ target (cond (isSome (findIn (inBlock ds) x)) (blk o ds b ∷ g) (cutG (declaring x) g)) x
+          → foundElse f (ofBlock ds ∷ scopes g) (meaning (scopes g) x) ≡ declared d h
+          → getD T (key (d .name .symbol)) 0 ≡ target (cond (isSome (findIn (inBlock ds) x)) (aBlock o ds b ∷ g) (cutG (declaring x) g)) x
       go none j f e = rw j (f e)
       go (some d') j f e =
           let j' : findIn (inBlock ds) x ≡ some d = cc in
           rw j (k .0 x d p j' i)
-  target-is (own q ∷ g) x d h p k e i = go (findIn (inBody q) x) refl (λ e. target-is g x d h p k e i) e
+  target-is (aBody q ∷ g) x d h p k e i = go (findIn (inBody q) x) refl (λ e. target-is g x d h p k e i) e
     where
       go : (f : Option Declared) → findIn (inBody q) x ≡ f → (meaning (scopes g) x ≡ declared d h → getD T (key (d .name .symbol)) 0 ≡ target (cutG (declaring x) g) x)
-          → innermost f (ofBody q ∷ scopes g) (meaning (scopes g) x) ≡ declared d h
-          → getD T (key (d .name .symbol)) 0 ≡ target (cond (isSome (findIn (inBody q) x)) (own q ∷ g) (cutG (declaring x) g)) x
+          → foundElse f (ofBody q ∷ scopes g) (meaning (scopes g) x) ≡ declared d h
+          → getD T (key (d .name .symbol)) 0 ≡ target (cond (isSome (findIn (inBody q) x)) (aBody q ∷ g) (cutG (declaring x) g)) x
       go none j f e = rw j (f e)
       go (some d') j f e =
           let j' : findIn (inBody q) x ≡ some d = cc in
           absurd (body-none q x d p j' i)
-  target-is (acl ∷ g) x d h p k e i = target-is g x d h p k e i
+  target-is (anActual ∷ g) x d h p k e i = target-is g x d h p k e i

@@ -15,7 +15,7 @@ use Rattle.names.specs.Program.{Name, Sort, Expression, Expressions, Statement,
 use Rattle.names.specs.ReadOff.{Sem, operandOf, operatorOf, signOf, applied, nameAt, build, programOf}
 use Rattle.names.specs.Every.{AnyName, EveryE, EveryEs, EveryL, EveryLs, EveryS, EverySs, EveryD, EveryP}
 use Rattle.names.proofs.Weaken.{weaken, any-names, any-specified}
-use Rattle.translation.specs.Sizes.{Bits32}
+use Rattle.translation.specs.model.Sizes.{Bits32}
 use Rattle.translating.proofs.Built.{Fits, built}
 
 -- ---- that all numbers are so, of what a part of a class gives

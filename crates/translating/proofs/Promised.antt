@@ -22,13 +22,13 @@ use Rattle.machine.specs.Run.{Trace, done}
 use Rattle.machine.specs.Machine.{Finish, machine, onCode, used, Exit, afterwards, job}
 use Rattle.machine.proofs.Limits.{zero-words}
 use Rattle.rules.specs.Rules.{source}
-use Rattle.reading.specs.Judging.{parsed, accepted as judged-right}
-use Rattle.reading.specs.Reading.{placeIn, Parsed}
+use Rattle.reading.specs.Judging.{itsProgram, accepted as judged-right}
+use Rattle.reading.specs.Reading.{placeIn, Grammatical}
 use Rattle.reading.proofs.Only.{one-program, one-judgement}
-use Rattle.translation.specs.Translate.{code}
-use Rattle.machine.specs.Words.{words}
+use Rattle.translation.specs.model.Translate.{code}
+use Rattle.machine.specs.model.Words.{words}
 use Rattle.translation.specs.Faithful.{Ordinary, Follows}
-use Rattle.translation.specs.Listed.{machineIn}
+use Rattle.translation.specs.model.Listed.{machineIn}
 use Rattle.translation.proofs.Lengths.{fits-words}
 use Rattle.translation.proofs.Ranges.{in-range}
 use Rattle.translation.proofs.Words.{same-machine}
@@ -36,41 +36,41 @@ use Rattle.translation.specs.Places.{finishP}
 use Rattle.translation.proofs.Correct.{machine-answers, source-answers, translated}
 use Rattle.translation.proofs.RunPlaced.{placed-words}
 use Rattle.translation.proofs.OnWords.{follows-as, onWords, faithful-words}
-use Rattle.translating.specs.Job.{room, filled, codeIn, Translated, refused, accepted, Translates, too-short, enough, RunsAs, Deed}
+use Rattle.translating.specs.Job.{codeWords, filled, codeIn, Translated, refused, accepted, Translates, too-short, enough, RunsAs, Deed}
 use Rattle.translating.proofs.Accepting.{within-limits, well-scoped}
 use Rattle.reading.proofs.Promises.{zero-judged}
 
 -- ---- the words that are left
 
-filled-length : (ws : List ℕ) → length ws ≤ room → length (filled ws) ≡ room
-filled-length ws h = omega (arith, length-append ws (replicate (room - length ws) 0), length-replicate {A = ℕ} (room - length ws) 0)
+filled-length : (ws : List ℕ) → length ws ≤ codeWords → length (filled ws) ≡ codeWords
+filled-length ws h = omega (arith, length-append ws (replicate (codeWords - length ws) 0), length-replicate {A = ℕ} (codeWords - length ws) 0)
 
-take-filled : (ws rest : List ℕ) → length ws ≤ room → take room (filled ws ++ rest) ≡ filled ws
+take-filled : (ws rest : List ℕ) → length ws ≤ codeWords → take codeWords (filled ws ++ rest) ≡ filled ws
 take-filled ws rest h = ap (λ k. take k (filled ws ++ rest)) (sym (filled-length ws h)) ∙ take-append-seam (filled ws) rest
 
 refused-accepted : {r : Refusal} → Refused r ≡ Accepted → ⊥
 refused-accepted e = let z : _≡_ {A = ℕ} 0 1 = cc in omega arith
 
 -- "An accepted program always fits"
-pub code-fits : {text : List ℕ} (p : Parsed text) → length (codeIn p) ≤ room
-code-fits {text} p = fits-words (placeIn text) (parsed p) (within-limits p)
+pub code-fits : {text : List ℕ} (p : Grammatical text) → length (codeIn p) ≤ codeWords
+code-fits {text} p = fits-words (placeIn text) (itsProgram p) (within-limits p)
 
-module _ {text : List ℕ} (p : Parsed text) (named : least (nameFaults (parsed p)) ≡ none) (typed : typeFault (parsed p) ≡ none) (rest : List ℕ) where
-  faithful-left : Follows (onCode (filled (codeIn p) ++ rest)) (placeIn text) (parsed p)
+module _ {text : List ℕ} (p : Grammatical text) (named : least (nameFaults (itsProgram p)) ≡ none) (typed : typeFault (itsProgram p) ≡ none) (rest : List ℕ) where
+  faithful-left : Follows (onCode (filled (codeIn p) ++ rest)) (placeIn text) (itsProgram p)
   faithful-left =
-      follows-as (onCode (filled (codeIn p) ++ rest)) (onWords (room - length (codeIn p)) (placeIn text) (parsed p)) (placeIn text) (parsed p)
+      follows-as (onCode (filled (codeIn p) ++ rest)) (onWords (codeWords - length (codeIn p)) (placeIn text) (itsProgram p)) (placeIn text) (itsProgram p)
       (λ input limit cells space. ap (λ ws. machine ws input limit cells space) (take-filled (codeIn p) rest (code-fits p)))
-      (faithful-words (room - length (codeIn p)) (placeIn text) (parsed p) (well-scoped p named typed) (within-limits p))
+      (faithful-words (codeWords - length (codeIn p)) (placeIn text) (itsProgram p) (well-scoped p named typed) (within-limits p))
 
 -- demand 3 of what translate leaves
 pub faith : {text old new : List ℕ} {v : Verdict} → Translates text old v new → RunsAs text v new
 faith (too-short h) = λ z. absurd (omega (arith, z))
 faith (enough h v ws (refused r j)) = λ z. absurd (refused-accepted (zero-judged j z))
 faith {text} {old} (enough h v ws (accepted p n t)) = λ z p'.
-    subst (λ (s : Statement). Follows (onCode (filled (codeIn p) ++ drop room old)) (placeIn text) s) (one-program p p') (faithful-left p n t (drop room old))
+    subst (λ (s : Statement). Follows (onCode (filled (codeIn p) ++ drop codeWords old)) (placeIn text) s) (one-program p p') (faithful-left p n t (drop codeWords old))
 
 -- what a run of translated code hands back and leaves is what a run leaves that did what the source rules say
-pub deed : {text old new : List ℕ} {v : Verdict} → Translates text old v new → numberOf v ≡ 0 → (p : Parsed text) (input : List ℤ) (limit : ℕ) (store output : List ℤ) {e : Exit}
+pub deed : {text old new : List ℕ} {v : Verdict} → Translates text old v new → numberOf v ≡ 0 → (p : Grammatical text) (input : List ℤ) (limit : ℕ) (store output : List ℤ) {e : Exit}
     → e ≡ job new input limit store output → Deed p input limit store output e
 deed {new = new} w z p input limit store output h =
     (onCode new input limit (used store) (length output), h, faith w z p input (used store) (length output) limit)
@@ -86,7 +86,7 @@ one-finish f f' store output h =
 
 -- ---- what is left to say of every source
 
-few-enough : {n : ℕ} → n < room → room ≤ n → ⊥
+few-enough : {n : ℕ} → n < codeWords → codeWords ≤ n → ⊥
 few-enough l m = omega arith
 
 one-translation : {text ws ws' : List ℕ} {v v' : Verdict} → Translated text v ws → Translated text v' ws' → (v ≡ v') × (ws ≡ ws')
@@ -102,17 +102,17 @@ only (too-short l) (enough m v ws j) = absurd (few-enough l m)
 only (enough l v ws j) (too-short m) = absurd (few-enough m l)
 only {text} {old} (enough l v ws j) (enough m v' ws' j') =
     let e = one-translation j j' in
-    (e .0, ap (λ w. w ++ drop room old) (e .1))
+    (e .0, ap (λ w. w ++ drop codeWords old) (e .1))
 
 -- running the code of a refused source answers 29 at 0, where there was room for it
-pub refused-runs : {text old new : List ℕ} {v : Verdict} → room ≤ length old → Translates text old v new → (¬ (numberOf v ≡ 0)) → (input : List ℤ) (limit cells space : ℕ)
+pub refused-runs : {text old new : List ℕ} {v : Verdict} → codeWords ≤ length old → Translates text old v new → (¬ (numberOf v ≡ 0)) → (input : List ℤ) (limit cells space : ℕ)
     → onCode new input (suc limit) cells space ≡ record { stop = Wrong (record { at = 0 }); done = 1; taken = 0; written = [] }
 refused-runs h (too-short l) z input limit cells space = absurd (few-enough l h)
 refused-runs {text} {old} h (enough l v ws (refused r j)) z input limit cells space =
-    let e : length (replicate {A = ℕ} room 0) ≡ room = length-replicate {A = ℕ} room 0 in
-    ap (λ k. machine (take k (replicate room 0 ++ drop room old)) input (suc limit) cells space) (sym e)
-    ∙ ap (λ ws. machine ws input (suc limit) cells space) (take-append-seam (replicate {A = ℕ} room 0) (drop room old))
-    ∙ zero-words room input limit cells space
+    let e : length (replicate {A = ℕ} codeWords 0) ≡ codeWords = length-replicate {A = ℕ} codeWords 0 in
+    ap (λ k. machine (take k (replicate codeWords 0 ++ drop codeWords old)) input (suc limit) cells space) (sym e)
+    ∙ ap (λ ws. machine ws input (suc limit) cells space) (take-append-seam (replicate {A = ℕ} codeWords 0) (drop codeWords old))
+    ∙ zero-words codeWords input limit cells space
 refused-runs h (enough l v ws (accepted p n t)) z input limit cells space = absurd (z refl)
 
 -- a translated program never stops with 29: it ends, or stops with 21 to 28 or 30, or at its limit
@@ -121,24 +121,24 @@ pub never-wrong : {text old new : List ℕ} {v : Verdict} → Translates text ol
 never-wrong (too-short l) z input limit cells space = absurd (omega (arith, z))
 never-wrong (enough h v ws (refused r j)) z input limit cells space = absurd (refused-accepted (zero-judged j z))
 never-wrong {text} {old} (enough h v ws (accepted p n t)) z input limit cells space =
-    let e : machine (take room (filled (codeIn p) ++ drop room old)) input limit cells space ≡ machineIn (code (placeIn text) (parsed p)) input limit cells space =
-    ap (λ ws. machine ws input limit cells space) (take-filled (codeIn p) (drop room old) (code-fits p))
-    ∙ same-machine (code (placeIn text) (parsed p)) (room - length (codeIn p)) (in-range (placeIn text) (parsed p) (within-limits p)) input limit cells space in
-    subst (λ (f : Finish). Ordinary (f .stop) ⊎ (f .stop ≡ Limit)) (sym e) (machine-answers (placeIn text) (parsed p) (well-scoped p n t) input cells space limit)
+    let e : machine (take codeWords (filled (codeIn p) ++ drop codeWords old)) input limit cells space ≡ machineIn (code (placeIn text) (itsProgram p)) input limit cells space =
+    ap (λ ws. machine ws input limit cells space) (take-filled (codeIn p) (drop codeWords old) (code-fits p))
+    ∙ same-machine (code (placeIn text) (itsProgram p)) (codeWords - length (codeIn p)) (in-range (placeIn text) (itsProgram p) (within-limits p)) input limit cells space in
+    subst (λ (f : Finish). Ordinary (f .stop) ⊎ (f .stop ≡ Limit)) (sym e) (machine-answers (placeIn text) (itsProgram p) (well-scoped p n t) input cells space limit)
 
 -- of an accepted source the source rules answer nothing but 0, 21 to 28 and 30
-pub rules-answers : {text : List ℕ} (p : Parsed text) → least (nameFaults (parsed p)) ≡ none → typeFault (parsed p) ≡ none → (input : List ℤ) (cells space t n : ℕ) (q : Stop) (o : Trace)
-    → source (placeIn text) (parsed p) input cells space t ≡ done q n o → Ordinary q
-rules-answers {text} p named typed input cells space t n q o e = source-answers (placeIn text) (parsed p) (well-scoped p named typed) input cells space t n q o e
+pub rules-answers : {text : List ℕ} (p : Grammatical text) → least (nameFaults (itsProgram p)) ≡ none → typeFault (itsProgram p) ≡ none → (input : List ℤ) (cells space t n : ℕ) (q : Stop) (o : Trace)
+    → source (placeIn text) (itsProgram p) input cells space t ≡ done q n o → Ordinary q
+rules-answers {text} p named typed input cells space t n q o e = source-answers (placeIn text) (itsProgram p) (well-scoped p named typed) input cells space t n q o e
 
 -- ---- places aside
 
 -- a run of translated code is the run by symbols' numbers, with their places put in
-pub by-numbers : {text old new : List ℕ} {v : Verdict} → Translates text old v new → numberOf v ≡ 0 → (p : Parsed text) (input : List ℤ) (limit cells space : ℕ)
-    → onCode new input limit cells space ≡ finishP (placeIn text) (translated (λ q. q) (parsed p) input limit cells space)
+pub by-numbers : {text old new : List ℕ} {v : Verdict} → Translates text old v new → numberOf v ≡ 0 → (p : Grammatical text) (input : List ℤ) (limit cells space : ℕ)
+    → onCode new input limit cells space ≡ finishP (placeIn text) (translated (λ q. q) (itsProgram p) input limit cells space)
 by-numbers (too-short l) z p input limit cells space = absurd (omega (arith, z))
 by-numbers (enough h v ws (refused r j)) z p input limit cells space = absurd (refused-accepted (zero-judged j z))
 by-numbers {text} {old} (enough h v ws (accepted p₀ n t)) z p input limit cells space =
-    ap (λ ws. machine ws input limit cells space) (take-filled (codeIn p₀) (drop room old) (code-fits p₀))
-    ∙ placed-words (room - length (codeIn p₀)) (placeIn text) (parsed p₀) (within-limits p₀) input limit cells space
+    ap (λ ws. machine ws input limit cells space) (take-filled (codeIn p₀) (drop codeWords old) (code-fits p₀))
+    ∙ placed-words (codeWords - length (codeIn p₀)) (placeIn text) (itsProgram p₀) (within-limits p₀) input limit cells space
     ∙ ap (λ (s : Statement). finishP (placeIn text) (translated (λ q. q) s input limit cells space)) (one-program p₀ p)

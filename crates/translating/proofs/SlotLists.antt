@@ -13,8 +13,8 @@ use Rattle.names.specs.Program.{Name, Sort, firstSymbol, Expression, number, lo
 use Rattle.names.specs.Scopes.{Scope, ofBlock, sortOf, modesOf, meaning}
 use Rattle.rules.specs.Entered.{cellsIn}
 use Rattle.rules.specs.Calls.{Primary, held, worked, function, absolute, greatest, no-primary, primary, Command, routine-of, absolute-of, greatest-of, input-to, output-of, no-command, command, way}
-use Rattle.translation.specs.Translate.{Mark, blk, own, acl, scopes, reach, endName, endActual, endThen, endE, endEs, endStore, endWay, endStep, endL, endCall, endCommand, endS, endSs, endDs, endP}
-use Rattle.emitting.specs.Layout.{packed}
+use Rattle.translation.specs.model.Translate.{Around, aBlock, aBody, anActual, scopes, reach, endName, endActual, endThen, endE, endEs, endStore, endWay, endStep, endL, endCall, endCommand, endS, endSs, endDs, endP}
+use Rattle.emitting.specs.model.Layout.{packed}
 use Rattle.translation.proofs.Ranges.{grow-name, grow-sign, grow-way, grow-sum, grow-take, grow-stores}
 
 -- ---- slots taken and filled
@@ -83,7 +83,7 @@ endX g x (while q e c) b = suc (suc (endE g c (endStore g x (endE g e b))))
 endX g x (step q e f h) b = endStep (way (meaning g x)) g f h (endStore g x (endE g e b))
 
 -- place: of a symbol; word: of an actual
-module _ (place : ℕ → ℕ) (word : List Mark → Expression → ℕ) where
+module _ (place : ℕ → ℕ) (word : List Around → Expression → ℕ) where
   abbrev pub aheadName : Primary → (List Bool → ℕ → List ℕ → List ℕ) → ℕ → List ℕ → List ℕ
   aheadName held f b k = k
   aheadName worked f b k = k
@@ -93,16 +93,16 @@ module _ (place : ℕ → ℕ) (word : List Mark → Expression → ℕ) where
   aheadName no-primary f b k = k
 
   -- an actual; of a name formal: where it ends, its first symbol's place, its word. f: where its expression ends; a: what lies ahead in that
-  abbrev pub aheadActual : Bool → List Mark → Expression → (ℕ → ℕ) → (List Mark → ℕ → List ℕ → List ℕ) → ℕ → List ℕ → List ℕ
+  abbrev pub aheadActual : Bool → List Around → Expression → (ℕ → ℕ) → (List Around → ℕ → List ℕ → List ℕ) → ℕ → List ℕ → List ℕ
   aheadActual true g e f a b k = a g b k
-  aheadActual false g e f a b k = there (endActual false f b) ∷ place (firstSymbol e) ∷ word (acl ∷ g) e ∷ a (acl ∷ g) (suc (suc (suc b))) k
+  aheadActual false g e f a b k = there (endActual false f b) ∷ place (firstSymbol e) ∷ word (anActual ∷ g) e ∷ a (anActual ∷ g) (suc (suc (suc b))) k
 
-  abbrev pub aheadThen : List Bool → List Mark → Expression → (ℕ → ℕ) → (List Mark → ℕ → List ℕ → List ℕ) → (List Bool → ℕ → List ℕ → List ℕ) → ℕ → List ℕ → List ℕ
+  abbrev pub aheadThen : List Bool → List Around → Expression → (ℕ → ℕ) → (List Around → ℕ → List ℕ → List ℕ) → (List Bool → ℕ → List ℕ → List ℕ) → ℕ → List ℕ → List ℕ
   aheadThen [] g e f a more b k = a g b (more [] (f b) k)
   aheadThen (m ∷ ms) g e f a more b k = aheadActual m g e f a b (more ms (endActual m f b) k)
 
   unfoldable mutual
-    pub aheadE : List Mark → Expression → ℕ → List ℕ → List ℕ
+    pub aheadE : List Around → Expression → ℕ → List ℕ → List ℕ
     aheadE g (number q n) b k = k
     aheadE g (logical q t) b k = k
     aheadE g (name x) b k = k
@@ -116,12 +116,12 @@ module _ (place : ℕ → ℕ) (word : List Mark → Expression → ℕ) where
         aheadE g c b (there (suc n) ∷ aheadE g e (suc m) (there (endE (scopes g) f (suc n)) ∷ aheadE g f (suc n) k))
     aheadE g (nested q e) b k = aheadE g e b k
 
-    pub aheadEs : List Mark → List Bool → Expressions → ℕ → List ℕ → List ℕ
+    pub aheadEs : List Around → List Bool → Expressions → ℕ → List ℕ → List ℕ
     aheadEs g m done b k = k
     aheadEs g m (then e es) b k = aheadThen m g e (λ b. endE (scopes g) e b) (λ g b k. aheadE g e b k) (λ m b k. aheadEs g m es b k) b k
 
   -- the expressions of an element
-  unfoldable pub aheadX : List Mark → Name → Element → ℕ → List ℕ → List ℕ
+  unfoldable pub aheadX : List Around → Name → Element → ℕ → List ℕ → List ℕ
   aheadX g x (value e) b k = aheadE g e b k
   aheadX g x (while q e c) b k = aheadE g e b (aheadE g c (endStore (scopes g) x (endE (scopes g) e b)) k)
   aheadX g x (step q e f h) b k =
@@ -130,15 +130,15 @@ module _ (place : ℕ → ℕ) (word : List Mark → Expression → ℕ) where
       aheadE g e b (there i ∷ aheadE g f (suc a) (aheadE g h (suc i) k))
 
   -- elements, up to the last one's own slot
-  unfoldable pub aheadL : List Mark → Name → Element → List Element → ℕ → List ℕ → List ℕ
+  unfoldable pub aheadL : List Around → Name → Element → List Element → ℕ → List ℕ → List ℕ
   aheadL g x l [] b k = aheadX g x l b k
   aheadL g x l (y ∷ ls) b k = aheadX g x l b (there (endX (scopes g) x l b) ∷ aheadL g x y ls (endX (scopes g) x l b) k)
 
-  abbrev pub aheadCall : List Mark → Option Sort → List Bool → Expressions → ℕ → List ℕ → List ℕ
+  abbrev pub aheadCall : List Around → Option Sort → List Bool → Expressions → ℕ → List ℕ → List ℕ
   aheadCall g none m es b k = aheadEs g m es b k
   aheadCall g (some t) m es b k = aheadEs g m es (suc b) k
 
-  abbrev pub aheadCommand : List Mark → Command → Expressions → ℕ → List ℕ → List ℕ
+  abbrev pub aheadCommand : List Around → Command → Expressions → ℕ → List ℕ → List ℕ
   aheadCommand g (routine-of p) es b k = aheadCall g (sortOf p) (modesOf p) es b k
   aheadCommand g (absolute-of e) es b k = aheadE g e b k
   aheadCommand g greatest-of es b k = k
@@ -147,7 +147,7 @@ module _ (place : ℕ → ℕ) (word : List Mark → Expression → ℕ) where
   aheadCommand g no-command es b k = k
 
   unfoldable mutual
-    pub aheadS : List Mark → Statement → ℕ → List ℕ → List ℕ
+    pub aheadS : List Around → Statement → ℕ → List ℕ → List ℕ
     aheadS g dummy b k = k
     aheadS g (assignment x xs q e) b k = aheadE g e b k
     aheadS g (procedure x es) b k = aheadCommand g (command (meaning (scopes g) x) es) es b k
@@ -163,21 +163,21 @@ module _ (place : ℕ → ℕ) (word : List Mark → Expression → ℕ) where
         there i ∷ aheadL g x l ls b (there (suc (endS (scopes g) s i)) ∷ aheadS g s i k)
     aheadS g (compound ss) b k = aheadSs g ss b k
     aheadS g (block q ds ss) b k =
-        let h = blk (reach g) ds (suc b) ∷ g in
+        let h = aBlock (reach g) ds (suc b) ∷ g in
         let i = endDs (scopes h) ds (suc b) in
         packed 0 (cellsIn (ofBlock ds)) i ∷ aheadDs h ds (suc b) (aheadSs h ss i k)
 
-    pub aheadSs : List Mark → Statements → ℕ → List ℕ → List ℕ
+    pub aheadSs : List Around → Statements → ℕ → List ℕ → List ℕ
     aheadSs g (last s) b k = aheadS g s b k
     aheadSs g (first s ss) b k = aheadS g s b (aheadSs g ss (endS (scopes g) s b) k)
 
-    pub aheadDs : List Mark → Declarations → ℕ → List ℕ → List ℕ
+    pub aheadDs : List Around → Declarations → ℕ → List ℕ → List ℕ
     aheadDs g no-more b k = k
     aheadDs g (variables t xs ds) b k = aheadDs g ds b k
     aheadDs g (declare p ds) b k = aheadP g p b (aheadDs g ds (endP (scopes g) p b) k)
 
-    pub aheadP : List Mark → Procedure → ℕ → List ℕ → List ℕ
-    aheadP g (heading t f xs vs ss s) b k = aheadS (own (heading t f xs vs ss s) ∷ g) s b k
+    pub aheadP : List Around → Procedure → ℕ → List ℕ → List ℕ
+    aheadP g (heading t f xs vs ss s) b k = aheadS (aBody (heading t f xs vs ss s) ∷ g) s b k
 
   -- ---- no more slots than instructions
 
@@ -192,8 +192,8 @@ module _ (place : ℕ → ℕ) (word : List Mark → Expression → ℕ) where
   few-name greatest f a h b k = omega arith
   few-name no-primary f a h b k = omega arith
 
-  few-then : (m : List Bool) (g : List Mark) (e : Expression) (f : ℕ → ℕ) (a : List Mark → ℕ → List ℕ → List ℕ) (fs : List Bool → ℕ → ℕ) (more : List Bool → ℕ → List ℕ → List ℕ)
-      → Few f (a g) → Few f (a (acl ∷ g)) → ((m : List Bool) → Few (fs m) (more m)) → Few (endThen m f fs) (aheadThen m g e f a more)
+  few-then : (m : List Bool) (g : List Around) (e : Expression) (f : ℕ → ℕ) (a : List Around → ℕ → List ℕ → List ℕ) (fs : List Bool → ℕ → ℕ) (more : List Bool → ℕ → List ℕ → List ℕ)
+      → Few f (a g) → Few f (a (anActual ∷ g)) → ((m : List Bool) → Few (fs m) (more m)) → Few (endThen m f fs) (aheadThen m g e f a more)
   few-then [] g e f a fs more h h' hs b k = omega (arith, h b (more [] (f b) k), hs [] (f b) k)
   few-then (true ∷ ms) g e f a fs more h h' hs b k = omega (arith, h b (more ms (f b) k), hs ms (f b) k)
   few-then (false ∷ ms) g e f a fs more h h' hs b k =
@@ -203,13 +203,13 @@ module _ (place : ℕ → ℕ) (word : List Mark → Expression → ℕ) where
   mutual
     unfolding endE aheadE
 
-    fewE : (g : List Mark) (e : Expression) → Few (endE (scopes g) e) (aheadE g e)
+    fewE : (g : List Around) (e : Expression) → Few (endE (scopes g) e) (aheadE g e)
     fewE g (number q n) b k = omega arith
     fewE g (logical q t) b k = omega arith
     fewE g (name x) b k = omega (arith, grow-name (primary (meaning (scopes g) x) done) (λ m b. b) (λ m b. omega arith) b)
     fewE g (call x e es) b k =
         few-name (primary (meaning (scopes g) x) (then e es)) (λ m b. endThen m (λ b. endE (scopes g) e b) (λ m b. endEs (scopes g) m es b) b) (λ m b k. aheadThen m g e (λ b. endE (scopes g) e b) (λ g b k. aheadE g e b k) (λ m b k. aheadEs g m es b k) b k)
-        (λ m b k. few-then m g e (λ b. endE (scopes g) e b) (λ g b k. aheadE g e b k) (λ m b. endEs (scopes g) m es b) (λ m b k. aheadEs g m es b k) (λ b k. fewE g e b k) (λ b k. fewE (acl ∷ g) e b k) (λ m b k. fewEs g m es b k) b k) b k
+        (λ m b k. few-then m g e (λ b. endE (scopes g) e b) (λ g b k. aheadE g e b k) (λ m b. endEs (scopes g) m es b) (λ m b k. aheadEs g m es b k) (λ b k. fewE g e b k) (λ b k. fewE (anActual ∷ g) e b k) (λ m b k. fewEs g m es b k) b k) b k
     fewE g (signed q o e) b k = omega (arith, fewE g e b k, grow-sign o (endE (scopes g) e b))
     fewE g (operated q o e f) b k = omega (arith, fewE g e b (aheadE g f (endE (scopes g) e b) k), fewE g f (endE (scopes g) e b) k)
     fewE g (chosen q r c e f) b k =
@@ -219,12 +219,12 @@ module _ (place : ℕ → ℕ) (word : List Mark → Expression → ℕ) where
         omega (arith, fewE g c b (there (suc n) ∷ aheadE g e (suc m) k₁), fewE g e (suc m) k₁, fewE g f (suc n) k)
     fewE g (nested q e) b k = fewE g e b k
 
-    fewEs : (g : List Mark) (m : List Bool) (es : Expressions) → Few (endEs (scopes g) m es) (aheadEs g m es)
+    fewEs : (g : List Around) (m : List Bool) (es : Expressions) → Few (endEs (scopes g) m es) (aheadEs g m es)
     fewEs g m done b k = omega arith
     fewEs g m (then e es) b k =
-        few-then m g e (λ b. endE (scopes g) e b) (λ g b k. aheadE g e b k) (λ m b. endEs (scopes g) m es b) (λ m b k. aheadEs g m es b k) (λ b k. fewE g e b k) (λ b k. fewE (acl ∷ g) e b k) (λ m b k. fewEs g m es b k) b k
+        few-then m g e (λ b. endE (scopes g) e b) (λ g b k. aheadE g e b k) (λ m b. endEs (scopes g) m es b) (λ m b k. aheadEs g m es b k) (λ b k. fewE g e b k) (λ b k. fewE (anActual ∷ g) e b k) (λ m b k. fewEs g m es b k) b k
 
-  fewX : (g : List Mark) (x : Name) (l : Element) (b : ℕ) (k : List ℕ) → length (aheadX g x l b k) + b + 1 ≤ length k + endX (scopes g) x l b
+  fewX : (g : List Around) (x : Name) (l : Element) (b : ℕ) (k : List ℕ) → length (aheadX g x l b k) + b + 1 ≤ length k + endX (scopes g) x l b
   unfolding aheadX endX
   fewX g x (value e) b k = omega (arith, fewE g e b k, grow-way (way (meaning (scopes g) x)) (endE (scopes g) e b))
   fewX g x (while q e c) b k =
@@ -246,19 +246,19 @@ end-element g x (value e) ls b = refl
 end-element g x (while q e c) ls b = refl
 end-element g x (step q e f h) ls b = refl
 
-module _ (place : ℕ → ℕ) (word : List Mark → Expression → ℕ) where
-  fewL : (g : List Mark) (x : Name) (l : Element) (ls : List Element) (b : ℕ) (k : List ℕ) → length (aheadL place word g x l ls b k) + b + 1 ≤ length k + endL (scopes g) x (l ∷ ls) b
+module _ (place : ℕ → ℕ) (word : List Around → Expression → ℕ) where
+  fewL : (g : List Around) (x : Name) (l : Element) (ls : List Element) (b : ℕ) (k : List ℕ) → length (aheadL place word g x l ls b k) + b + 1 ≤ length k + endL (scopes g) x (l ∷ ls) b
   unfolding aheadL endL
   fewL g x l [] b k = omega (arith, fewX place word g x l b k, end-element (scopes g) x l [] b)
   fewL g x l (y ∷ ls) b k =
       let i = endX (scopes g) x l b in
       omega (arith, fewX place word g x l b (there i ∷ aheadL place word g x y ls i k), fewL g x y ls i k, end-element (scopes g) x l (y ∷ ls) b)
 
-  few-call : (g : List Mark) (t : Option Sort) (m : List Bool) (es : Expressions) (b : ℕ) (k : List ℕ) → length (aheadCall place word g t m es b k) + b ≤ length k + endCall (scopes g) t m es b
+  few-call : (g : List Around) (t : Option Sort) (m : List Bool) (es : Expressions) (b : ℕ) (k : List ℕ) → length (aheadCall place word g t m es b k) + b ≤ length k + endCall (scopes g) t m es b
   few-call g none m es b k = omega (arith, fewEs place word g m es b k)
   few-call g (some t) m es b k = omega (arith, fewEs place word g m es (suc b) k)
 
-  few-command : (g : List Mark) (c : Command) (es : Expressions) (b : ℕ) (k : List ℕ) → length (aheadCommand place word g c es b k) + b ≤ length k + endCommand (scopes g) c es b
+  few-command : (g : List Around) (c : Command) (es : Expressions) (b : ℕ) (k : List ℕ) → length (aheadCommand place word g c es b k) + b ≤ length k + endCommand (scopes g) c es b
   few-command g (routine-of p) es b k = few-call g (sortOf p) (modesOf p) es b k
   few-command g (absolute-of e) es b k = omega (arith, fewE place word g e b k)
   few-command g greatest-of es b k = omega arith
@@ -270,7 +270,7 @@ module _ (place : ℕ → ℕ) (word : List Mark → Expression → ℕ) where
   mutual
     unfolding endS aheadS
 
-    pub fewS : (g : List Mark) (s : Statement) (b : ℕ) (k : List ℕ) → length (aheadS place word g s b k) + b ≤ length k + endS (scopes g) s b
+    pub fewS : (g : List Around) (s : Statement) (b : ℕ) (k : List ℕ) → length (aheadS place word g s b k) + b ≤ length k + endS (scopes g) s b
     fewS g dummy b k = omega arith
     fewS g (assignment x xs q e) b k = omega (arith, fewE place word g e b k, grow-stores (scopes g) x xs (endE (scopes g) e b))
     fewS g (procedure x es) b k = few-command g (command (meaning (scopes g) x) es) es b k
@@ -287,18 +287,18 @@ module _ (place : ℕ → ℕ) (word : List Mark → Expression → ℕ) where
         omega (arith, fewL g x l ls b (there (suc (endS (scopes g) s i)) ∷ aheadS place word g s i k), fewS g s i k)
     fewS g (compound ss) b k = fewSs g ss b k
     fewS g (block q ds ss) b k =
-        let h : List Mark = blk (reach g) ds (suc b) ∷ g in
+        let h : List Around = aBlock (reach g) ds (suc b) ∷ g in
         let i = endDs (scopes h) ds (suc b) in
         omega (arith, fewDs h ds (suc b) (aheadSs place word h ss i k), fewSs h ss i k)
 
-    fewSs : (g : List Mark) (ss : Statements) (b : ℕ) (k : List ℕ) → length (aheadSs place word g ss b k) + b ≤ length k + endSs (scopes g) ss b
+    fewSs : (g : List Around) (ss : Statements) (b : ℕ) (k : List ℕ) → length (aheadSs place word g ss b k) + b ≤ length k + endSs (scopes g) ss b
     fewSs g (last s) b k = fewS g s b k
     fewSs g (first s ss) b k = omega (arith, fewS g s b (aheadSs place word g ss (endS (scopes g) s b) k), fewSs g ss (endS (scopes g) s b) k)
 
-    fewDs : (g : List Mark) (ds : Declarations) (b : ℕ) (k : List ℕ) → length (aheadDs place word g ds b k) + b ≤ length k + endDs (scopes g) ds b
+    fewDs : (g : List Around) (ds : Declarations) (b : ℕ) (k : List ℕ) → length (aheadDs place word g ds b k) + b ≤ length k + endDs (scopes g) ds b
     fewDs g no-more b k = omega arith
     fewDs g (variables t xs ds) b k = fewDs g ds b k
     fewDs g (declare p ds) b k = omega (arith, fewP g p b (aheadDs place word g ds (endP (scopes g) p b) k), fewDs g ds (endP (scopes g) p b) k)
 
-    fewP : (g : List Mark) (p : Procedure) (b : ℕ) (k : List ℕ) → length (aheadP place word g p b k) + b ≤ length k + endP (scopes g) p b
-    fewP g (heading t f xs vs ss s) b k = omega (arith, fewS (own (heading t f xs vs ss s) ∷ g) s b k)
+    fewP : (g : List Around) (p : Procedure) (b : ℕ) (k : List ℕ) → length (aheadP place word g p b k) + b ≤ length k + endP (scopes g) p b
+    fewP g (heading t f xs vs ss s) b k = omega (arith, fewS (aBody (heading t f xs vs ss s) ∷ g) s b k)

@@ -13,12 +13,12 @@ use Rattle.names.specs.Every.{AnyName, EveryE, EveryEs, EveryLs, EveryS, EveryS
 use Rattle.names.specs.Scopes.{has, routine, modes, modesOf, formalsOf, valuesOf, specificationsOf, specified, Declared, Scope, ofBlock, ofBody, declared, meaning}
 use Rattle.names.specs.Modes.{formalNumber}
 use Rattle.names.specs.Uses.{Use, used, usesE, usesEs, usesL, usesS, usesSs, usesD, usesP}
-use Rattle.names.specs.Rows.{meantOf}
+use Rattle.names.specs.model.Rows.{meantOf}
 use Rattle.names.specs.declared.Meant.{Meant}
 use Rattle.names.specs.declared.Meant.the-variants.{Declared as at-row, Given as at-given, Nothing as nowhere}
 use Rattle.names.proofs.Around.{sortAt, Formals, ToldThing, Means}
 use Rattle.names.proofs.Resolved.{Matches, matches-split}
-use Rattle.emitting.specs.Emission.{formalAt}
+use Rattle.emitting.specs.model.Emission.{formalAt}
 use Rattle.translating.proofs.Rising.{RowsRise}
 use Rattle.translating.proofs.Sites.{numberOf}
 use Rattle.translating.proofs.ToldUses.{number-is}

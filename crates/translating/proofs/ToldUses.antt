@@ -12,12 +12,12 @@ use borrow.Author.Tests.{eq-eqb, ne-eqb}
 use Rattle.names.specs.Program.{integer, boolean}
 use Rattle.names.specs.Scopes.{Thing, variable, routine, formal, by-name, Meaning, declared, given, nothing, meaning}
 use Rattle.names.specs.Uses.{Use, thingKind}
-use Rattle.names.specs.Rows.{meantOf}
+use Rattle.names.specs.model.Rows.{meantOf}
 use Rattle.names.specs.declared.Meant.{Meant}
 use Rattle.names.specs.declared.Meant.the-variants.{Declared as at-row, Given as at-given, Nothing as nowhere}
 use Rattle.names.proofs.Around.{kindAt, ToldThing, Means}
 use Rattle.names.proofs.Resolved.{Matches}
-use Rattle.emitting.specs.Emission.{Used, formalAt, usedAs, usesIn}
+use Rattle.emitting.specs.model.Emission.{Used, formalAt, usedAs, usesIn}
 use Rattle.names.proofs.Fours.{Whole, none as no-rows, one}
 use Rattle.names.proofs.Rising.{Rising, next, from-first}
 use Rattle.translating.proofs.Rising.{seconds, RowsRise}

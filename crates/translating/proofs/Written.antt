@@ -7,15 +7,15 @@ use mathlib.Core.Path.{_≡_, refl, sym, ap, _∙_}
 use mathlib.Core.Bool.{true}
 use mathlib.Core.List.{List, [], _∷_, _++_, append-assoc}
 use lib.ListN.{length, drop, set, length-append, length-set}
-use Rattle.machine.specs.Instructions.{Instr}
+use Rattle.machine.specs.Instructions.{Instruction}
 use Rattle.names.specs.Nodes.{node}
-use Rattle.names.specs.Rows.{foldNodes, isUse}
+use Rattle.names.specs.model.Rows.{foldNodes, isUse}
 use Rattle.names.specs.Scopes.{Thing, variable, routine, formal, by-name, Scope, Meaning, declared, given, nothing, meaning}
 use Rattle.names.specs.Uses.{Use, used}
 use Rattle.names.specs.Program.{Name}
-use Rattle.translation.specs.Translate.{Mark}
-use Rattle.machine.specs.Words.{Parts, partsOf, firstWord, words, CodeFits}
-use Rattle.emitting.specs.Emission.{Used, Opened, State, put, withSlot, noted, withUses, withCell, withEntry, kindNext, meansNext, othersNext, useNode, codeNode}
+use Rattle.translation.specs.model.Translate.{Around}
+use Rattle.machine.specs.model.Words.{Parts, partsOf, firstWord, words, CodeFits}
+use Rattle.emitting.specs.model.Emission.{Used, Opened, State, put, withSlot, noted, withUses, withCell, withEntry, kindNext, meansNext, othersNext, useNode, codeNode}
 use Rattle.translating.proofs.Shown.{shown, shown-next, shown-set, shown-zero, shown-two}
 use Rattle.translating.proofs.SlotLists.{Fills, no-slot, then-slots, slots-past}
 use Rattle.translation.proofs.Ranges.{owns}
@@ -149,28 +149,28 @@ module _ (tb : Tables) where
   -- ---- what some nodes do: in the frame fr, which becomes fr'; us: the uses behind; e: the address behind; A: what lies ahead in front of what lies
   -- ahead behind; E: the entries; C: their code in front of what follows; R: what must be right of the tables
 
-  pub record Passed (R : Type 0) (fr fr' : Frame) (ws : List ℕ) (us : List Use) (e : ℕ) (A E : List ℕ → List ℕ) (C : List Instr → List Instr) (fl : Flow) : Type 0 where
+  pub record Passed (R : Type 0) (fr fr' : Frame) (ws : List ℕ) (us : List Use) (e : ℕ) (A E : List ℕ → List ℕ) (C : List Instruction → List Instruction) (fl : Flow) : Type 0 where
     pub next : Flow
     pub goes : Goes ws (state fr fl) (state fr' next)
     pub uses : next .uses ≡ us
     pub at : next .at ≡ e
     pub fills : Fills (fl .slots) (next .slots) A
     pub enters : next .entries ≡ E (fl .entries)
-    pub right : R → (k : List ℕ) (r : List Instr) → drop (length (fl .slots)) (tb .ahead) ≡ A k → CodeFits (C r) → (next .code ++ words r ≡ fl .code ++ words (C r)) × CodeFits r
+    pub right : R → (k : List ℕ) (r : List Instruction) → drop (length (fl .slots)) (tb .ahead) ≡ A k → CodeFits (C r) → (next .code ++ words r ≡ fl .code ++ words (C r)) × CodeFits r
 
   -- a frame in the scopes g, with h left parts before and m for statements around
-  pub record Fits (g : List Mark) (h m : ℕ) (fr : Frame) : Type 0 where
+  pub record Fits (g : List Around) (h m : ℕ) (fr : Frame) : Type 0 where
     pub level : fr .level ≡ owns g
     pub loops : fr .loops ≡ m
     pub lefts : fr .lefts ≡ h
     pub awaits : fr .awaits ≡ 0
 
   -- a part with its uses, from the address b to e, wherever it stands
-  pub record Emits (R : Type 0) (g : List Mark) (h m : ℕ) (ws : List ℕ) (vs : List Use) (b e : ℕ) (A E : List ℕ → List ℕ) (C : List Instr → List Instr) : Type 0 where
+  pub record Emits (R : Type 0) (g : List Around) (h m : ℕ) (ws : List ℕ) (vs : List Use) (b e : ℕ) (A E : List ℕ → List ℕ) (C : List Instruction → List Instruction) : Type 0 where
     pub pass : (us : List Use) (fr : Frame) (fl : Flow) → Fits g h m fr → fl .uses ≡ vs ++ us → fl .at ≡ b → Passed R fr fr ws us e A E C fl
 
 -- the words of an instruction, behind others
-pub wrote-right : (i : Instr) (o p v : ℕ) (c : List ℕ) (r : List Instr) → o + 64 * p ≡ firstWord (partsOf i) → v ≡ partsOf i .operand
+pub wrote-right : (i : Instruction) (o p v : ℕ) (c : List ℕ) (r : List Instruction) → o + 64 * p ≡ firstWord (partsOf i) → v ≡ partsOf i .operand
     → (c ++ ((o + 64 * p) ∷ v ∷ [])) ++ words r ≡ c ++ words (i ∷ r)
 unfolding words
 wrote-right i o p v c r e e' = rw (e, e') (append-assoc c (firstWord (partsOf i) ∷ partsOf i .operand ∷ []) (words r))
@@ -191,7 +191,7 @@ module _ {tb : Tables} where
   -- ---- one after the other
 
   infixr 20 _and-then_
-  pub _and-then_ : {R : Type 0} {fr fr₁ fr₂ : Frame} {ws ws' : List ℕ} {us us' : List Use} {e e' : ℕ} {A A' E E' : List ℕ → List ℕ} {C C' : List Instr → List Instr} {fl : Flow}
+  pub _and-then_ : {R : Type 0} {fr fr₁ fr₂ : Frame} {ws ws' : List ℕ} {us us' : List Use} {e e' : ℕ} {A A' E E' : List ℕ → List ℕ} {C C' : List Instruction → List Instruction} {fl : Flow}
       (x : Passed tb R fr fr₁ ws us e A E C fl) → Passed tb R fr₁ fr₂ ws' us' e' A' E' C' (x .next)
       → Passed tb R fr fr₂ (ws ++ ws') us' e' (λ k. A (A' k)) (λ t. E' (E t)) (λ r. C (C' r)) fl
   _and-then_ {A' = A'} {E' = E'} {C' = C'} x y =
@@ -209,7 +209,7 @@ module _ {tb : Tables} where
       }
 
   infixr 20 _followed-by_
-  pub _followed-by_ : {R : Type 0} {g : List Mark} {h m : ℕ} {ws ws' : List ℕ} {vs vs' : List Use} {b c e : ℕ} {A A' E E' : List ℕ → List ℕ} {C C' : List Instr → List Instr}
+  pub _followed-by_ : {R : Type 0} {g : List Around} {h m : ℕ} {ws ws' : List ℕ} {vs vs' : List Use} {b c e : ℕ} {A A' E E' : List ℕ → List ℕ} {C C' : List Instruction → List Instruction}
       → Emits tb R g h m ws vs b c A E C → Emits tb R g h m ws' vs' c e A' E' C'
       → Emits tb R g h m (ws ++ ws') (vs ++ vs') b e (λ k. A (A' k)) (λ t. E' (E t)) (λ r. C (C' r))
   _followed-by_ {vs = vs} {vs' = vs'} x y =
@@ -221,7 +221,7 @@ module _ {tb : Tables} where
 
   -- a last part with no use
   infixr 20 _closed-by_
-  pub _closed-by_ : {R : Type 0} {g : List Mark} {h m : ℕ} {ws ws' : List ℕ} {vs : List Use} {b c e : ℕ} {A A' E E' : List ℕ → List ℕ} {C C' : List Instr → List Instr}
+  pub _closed-by_ : {R : Type 0} {g : List Around} {h m : ℕ} {ws ws' : List ℕ} {vs : List Use} {b c e : ℕ} {A A' E E' : List ℕ → List ℕ} {C C' : List Instruction → List Instruction}
       → Emits tb R g h m ws vs b c A E C → Emits tb R g h m ws' [] c e A' E' C'
       → Emits tb R g h m (ws ++ ws') vs b e (λ k. A (A' k)) (λ t. E' (E t)) (λ r. C (C' r))
   _closed-by_ x y =
@@ -256,7 +256,7 @@ past [] e = e
 past (p ∷ ps) e = past ps (suc e)
 
 -- these are the instructions' parts
-abbrev pub Same : List Parts → List Instr → Type 0
+abbrev pub Same : List Parts → List Instruction → Type 0
 Same [] [] = Unit {0}
 Same [] (i ∷ is) = ⊥
 Same (p ∷ ps) [] = ⊥
@@ -268,24 +268,24 @@ pub record Kept (ps : List Parts) (e : ℕ) (fl fl' : Flow) : Type 0 where
   pub at : fl' .at ≡ past ps e
   pub slots : fl' .slots ≡ fl .slots
   pub entries : fl' .entries ≡ fl .entries
-  pub code : (is : List Instr) (r : List Instr) → Same ps is → fl' .code ++ words r ≡ fl .code ++ words (is ++ r)
+  pub code : (is : List Instruction) (r : List Instruction) → Same ps is → fl' .code ++ words r ≡ fl .code ++ words (is ++ r)
 
 pub wrote-all : (ps : List Parts) (e : ℕ) (fl : Flow) → fl .at ≡ e → Kept ps e fl (wroteAll ps fl)
 wrote-all [] e fl i = record { uses = refl; at = i; slots = refl; entries = refl; code = none }
   where
-    none : (is : List Instr) (r : List Instr) → Same [] is → fl .code ++ words r ≡ fl .code ++ words (is ++ r)
+    none : (is : List Instruction) (r : List Instruction) → Same [] is → fl .code ++ words r ≡ fl .code ++ words (is ++ r)
     none [] r s = refl
     none (i ∷ is) r s = absurd s
 wrote-all (p ∷ ps) e fl i =
     let w = wrote-all ps (suc e) (wrote (p .operation) (p .place) (p .operand) fl) (ap suc i) in
     record { uses = w .uses; at = w .at; slots = w .slots; entries = w .entries; code = more (w .code) }
   where
-    more : ((is : List Instr) (r : List Instr) → Same ps is → wroteAll ps (wrote (p .operation) (p .place) (p .operand) fl) .code ++ words r ≡ (fl .code ++ (firstWord p ∷ p .operand ∷ [])) ++ words (is ++ r))
-        → (is : List Instr) (r : List Instr) → Same (p ∷ ps) is → wroteAll ps (wrote (p .operation) (p .place) (p .operand) fl) .code ++ words r ≡ fl .code ++ words (is ++ r)
+    more : ((is : List Instruction) (r : List Instruction) → Same ps is → wroteAll ps (wrote (p .operation) (p .place) (p .operand) fl) .code ++ words r ≡ (fl .code ++ (firstWord p ∷ p .operand ∷ [])) ++ words (is ++ r))
+        → (is : List Instruction) (r : List Instruction) → Same (p ∷ ps) is → wroteAll ps (wrote (p .operation) (p .place) (p .operand) fl) .code ++ words r ≡ fl .code ++ words (is ++ r)
     more f [] r s = absurd s
     more f (i ∷ is) r s = f is r (s .1) ∙ wrote-right i (p .operation) (p .place) (p .operand) (fl .code) (is ++ r) (ap firstWord (s .0)) (ap (λ (p : Parts). p .operand) (s .0))
 
-pub fits-apart : (is r : List Instr) → CodeFits (is ++ r) → CodeFits is × CodeFits r
+pub fits-apart : (is r : List Instruction) → CodeFits (is ++ r) → CodeFits is × CodeFits r
 fits-apart [] r h = (tt, h)
 fits-apart (i ∷ is) r h =
     let w = fits-apart is r (h .1) in
@@ -293,7 +293,7 @@ fits-apart (i ∷ is) r h =
 
 module _ {tb : Tables} where
   -- v: the word of the last node behind it
-  pub passed-all : {R : Type 0} {fr fr' : Frame} {us : List Use} {e : ℕ} (v : ℕ) (is : List Instr) (ps : List Parts) (k s a b : ℕ) {fl : Flow}
+  pub passed-all : {R : Type 0} {fr fr' : Frame} {us : List Use} {e : ℕ} (v : ℕ) (is : List Instruction) (ps : List Parts) (k s a b : ℕ) {fl : Flow}
       → step tb k s a b (state tb fr fl) ≡ putAll ps (state tb fr' (varied v (taken us fl))) → fl .at ≡ e → (R → CodeFits is → Same ps is)
       → Passed tb R fr fr' (node k s a b) us (past ps e) (λ k. k) (λ t. t) (λ r. is ++ r) fl
   passed-all {fr' = fr'} {us = us} {e = e} v is ps k s a b {fl} i j h =
@@ -312,8 +312,8 @@ module _ {tb : Tables} where
       }
 
   -- the same address, the same code
-  pub passed-as : {R : Type 0} {fr fr' : Frame} {ws : List ℕ} {us : List Use} {e : ℕ} {A E : List ℕ → List ℕ} {C : List Instr → List Instr} {fl : Flow} (e' : ℕ) (C' : List Instr → List Instr)
-      → e ≡ e' → ((r : List Instr) → C r ≡ C' r) → Passed tb R fr fr' ws us e A E C fl → Passed tb R fr fr' ws us e' A E C' fl
+  pub passed-as : {R : Type 0} {fr fr' : Frame} {ws : List ℕ} {us : List Use} {e : ℕ} {A E : List ℕ → List ℕ} {C : List Instruction → List Instruction} {fl : Flow} (e' : ℕ) (C' : List Instruction → List Instruction)
+      → e ≡ e' → ((r : List Instruction) → C r ≡ C' r) → Passed tb R fr fr' ws us e A E C fl → Passed tb R fr fr' ws us e' A E C' fl
   passed-as {fl = fl} e' C' i f x =
       record {
         next = x .next;
@@ -324,11 +324,11 @@ module _ {tb : Tables} where
         enters = x .enters;
         right = λ z k r d c.
             let q = x .right z k r d (rw (f r) c) in
-            (q .0 ∙ ap (λ (l : List Instr). fl .code ++ words l) (f r), q .1);
+            (q .0 ∙ ap (λ (l : List Instruction). fl .code ++ words l) (f r), q .1);
       }
 
   -- the same nodes
-  pub passed-words : {R : Type 0} {fr fr' : Frame} {ws : List ℕ} {us : List Use} {e : ℕ} {A E : List ℕ → List ℕ} {C : List Instr → List Instr} {fl : Flow} (ws' : List ℕ)
+  pub passed-words : {R : Type 0} {fr fr' : Frame} {ws : List ℕ} {us : List Use} {e : ℕ} {A E : List ℕ → List ℕ} {C : List Instruction → List Instruction} {fl : Flow} (ws' : List ℕ)
       → ws ≡ ws' → Passed tb R fr fr' ws us e A E C fl → Passed tb R fr fr' ws' us e A E C fl
   passed-words {fr = fr} {fl = fl} ws' i x =
       record {
@@ -348,7 +348,7 @@ module _ {tb : Tables} where
       record { next = fl; goes = goes-node k s a b e; uses = u; at = i; fills = no-slot; enters = refl; right = λ w k r d c. (refl, c) }
 
   -- as a part
-  pub emits-all : {R : Type 0} {g : List Mark} {h m : ℕ} {b : ℕ} (word : Flow → ℕ) (is : List Instr) (ps : List Parts) (k s a b' : ℕ)
+  pub emits-all : {R : Type 0} {g : List Around} {h m : ℕ} {b : ℕ} (word : Flow → ℕ) (is : List Instruction) (ps : List Parts) (k s a b' : ℕ)
       → ((fr : Frame) (fl : Flow) → step tb k s a b' (state tb fr fl) ≡ putAll ps (state tb fr (varied (word fl) fl))) → (R → CodeFits is → Same ps is)
       → Emits tb R g h m (node k s a b') [] b (past ps b) (λ k. k) (λ t. t) (λ r. is ++ r)
   emits-all word is ps k s a b' i h =

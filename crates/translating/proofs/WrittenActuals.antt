@@ -11,18 +11,18 @@ use mathlib.Core.Option.{Option, none, some}
 use lib.Dec.{eqb, ltb}
 use lib.ListN.{length, getD, drop, set, length-append, length-set}
 use borrow.Author.Tests.{ne-eqb, le-ltb}
-use Rattle.machine.specs.Instructions.{Instr, RETURN, NAME, low, pack}
+use Rattle.machine.specs.Instructions.{Instruction, RETURN, NAME, low, pack}
 use Rattle.grammar.specs.NodeKinds.{n-actual}
 use Rattle.names.specs.Program.{Name, Sort, Expression, number, logical, name, call, signed, operated, chosen, nested, done, firstSymbol, Procedure}
 use Rattle.names.specs.Scopes.{Thing, variable, routine, formal, by-name, Declared, Scope, sortOf, Meaning, declared, given, nothing, meaning}
 use Rattle.names.specs.Nodes.{node, mark, nodesE}
-use Rattle.names.specs.Rows.{foldNodes, isUse}
+use Rattle.names.specs.model.Rows.{foldNodes, isUse}
 use Rattle.names.specs.Uses.{Use, usesE}
 use Rattle.rules.specs.Calls.{withType, thingAs, givenAs, primary}
-use Rattle.translation.specs.Translate.{Mark, acl, scopes, storeName, storePart}
-use Rattle.translation.specs.Scoped.{OkPrimary, OkE}
-use Rattle.machine.specs.Words.{Parts, partsOf, InstrFits, CodeFits, words}
-use Rattle.emitting.specs.Emission.{opened, State, put, withOpen, withSlot, within, noted, replaced, top, below, bare, lending, aheadAt, nameBegun, nameEnded, formalAt, begun, actualIn, codeNode}
+use Rattle.translation.specs.model.Translate.{Around, anActual, scopes, storeName, storePart}
+use Rattle.translation.specs.model.Scoped.{OkPrimary, OkE}
+use Rattle.machine.specs.model.Words.{Parts, partsOf, InstrFits, CodeFits, words}
+use Rattle.emitting.specs.model.Emission.{opened, State, put, withOpen, withSlot, within, noted, replaced, top, below, bare, lending, aheadAt, nameBegun, nameEnded, formalAt, begun, actualIn, codeNode}
 use Rattle.translating.proofs.SlotLists.{Fills, longer, then-slots, refill, slot-read, slot-past, slots-past, there}
 use Rattle.translating.proofs.Written.{Tables, Frame, Flow, useKind, kindOf, meansOf, withOpens, wrote, slotted, taken, put-real, slot-real, noted-real, putAll, wroteAll, puts-real, Same, wrote-all, wrote-right, fits-apart, step, run, state, Goes, Passed, goes-node, goes-then}
 use Rattle.translating.proofs.NameWords.{Known}
@@ -62,7 +62,7 @@ module _ (tb : Tables) where
   found-lend : (w p v : ℕ) → low w ≡ 2 → bare w ≡ v → lendPart w p ≡ parts 42 p v
   found-lend w p v e f = rw (e, f)
 
-  module _ (g : List Mark) (known : Known (tb .key) (tb .layout) g) where
+  module _ (g : List Around) (known : Known (tb .key) (tb .layout) g) where
     abbrev Lends : Name → Meaning → Type 0
     Lends y M =
         InstrFits (storeName (tb .place) (primary M done) g y)
@@ -195,27 +195,27 @@ module _ (tb : Tables) where
 -- ---- actuals, from the j-th on: what Passed says, but from their start
 
 module _ (tb : Tables) where
-  pub record Acted (R : Type 0) (n j D : ℕ) (fr : Frame) (j' : ℕ) (ws : List ℕ) (us : List Use) (e : ℕ) (A : List ℕ → List ℕ) (C : List Instr → List Instr) (fl : Flow) : Type 0 where
+  pub record Acted (R : Type 0) (n j D : ℕ) (fr : Frame) (j' : ℕ) (ws : List ℕ) (us : List Use) (e : ℕ) (A : List ℕ → List ℕ) (C : List Instruction → List Instruction) (fl : Flow) : Type 0 where
     pub next : Flow
     pub goes : Goes tb ws (start tb n j D fr fl) (state tb (inCall n j' D fr) next)
     pub uses : next .uses ≡ us
     pub at : next .at ≡ e
     pub fills : Fills (fl .slots) (next .slots) A
     pub enters : next .entries ≡ fl .entries
-    pub right : R → (k : List ℕ) (r : List Instr) → drop (length (fl .slots)) (tb .ahead) ≡ A k → CodeFits (C r) → (next .code ++ words r ≡ fl .code ++ words (C r)) × CodeFits r
+    pub right : R → (k : List ℕ) (r : List Instruction) → drop (length (fl .slots)) (tb .ahead) ≡ A k → CodeFits (C r) → (next .code ++ words r ≡ fl .code ++ words (C r)) × CodeFits r
 
 module _ {tb : Tables} where
   goes-from : {ws : List ℕ} {s s' t : State} → s ≡ s' → Goes tb ws s' t → Goes tb ws s t
   goes-from {ws} e x = record { so = λ rest. ap (run tb (ws ++ rest)) e ∙ x .so rest }
 
   -- where nothing begins
-  pub acted-passed : {R : Type 0} {n j D : ℕ} {fr : Frame} {j' : ℕ} {ws : List ℕ} {us : List Use} {e : ℕ} {A : List ℕ → List ℕ} {C : List Instr → List Instr} {fl : Flow}
+  pub acted-passed : {R : Type 0} {n j D : ℕ} {fr : Frame} {j' : ℕ} {ws : List ℕ} {us : List Use} {e : ℕ} {A : List ℕ → List ℕ} {C : List Instruction → List Instruction} {fl : Flow}
       → eqb (formalAt (tb .rows) (n + 1 + j)) 2 ≡ false → Passed tb R (inCall n j D fr) (inCall n j' D fr) ws us e A (λ t. t) C fl → Acted tb R n j D fr j' ws us e A C fl
   acted-passed {n = n} {j = j} {D = D} {fr = fr} {fl = fl} h x =
       record { next = x .next; goes = goes-from (start-none tb n j D fr fl h) (x .goes); uses = x .uses; at = x .at; fills = x .fills; enters = x .enters; right = x .right }
 
   -- behind a node that writes some instructions, and with which the actuals begin
-  pub passed-acted : {R : Type 0} {fr₀ fr : Frame} {n j D j' : ℕ} {ws : List ℕ} {us : List Use} {e e₀ : ℕ} {A : List ℕ → List ℕ} {C : List Instr → List Instr} (us₀ : List Use) (is : List Instr) (ps : List Parts) (k s a b : ℕ) {fl : Flow}
+  pub passed-acted : {R : Type 0} {fr₀ fr : Frame} {n j D j' : ℕ} {ws : List ℕ} {us : List Use} {e e₀ : ℕ} {A : List ℕ → List ℕ} {C : List Instruction → List Instruction} (us₀ : List Use) (is : List Instruction) (ps : List Parts) (k s a b : ℕ) {fl : Flow}
       → step tb k s a b (state tb fr₀ fl) ≡ begun (tb .values) (tb .layout) (tb .ahead) (tb .entries) (tb .rows) n j D (putAll ps (state tb (inCall n j D fr) (taken us₀ fl))) → fl .at ≡ e₀ → (R → CodeFits is → Same ps is)
       → Acted tb R n j D fr j' ws us e A C (wroteAll ps (taken us₀ fl)) → Passed tb R fr₀ (inCall n j' D fr) (node k s a b ++ ws) us e A (λ t. t) (λ r. is ++ C r) fl
   passed-acted {fr = fr} {n = n} {j = j} {D = D} {e₀ = e₀} {C = C} us₀ is ps k s a b {fl} i i₀ h x =
@@ -239,10 +239,10 @@ module _ {tb : Tables} where
 name-word-is : (v e : ℕ) → v ≡ there e → e < 8192 → v ≡ pack 0 0 e
 name-word-is v e i h = omega arith
 
-module _ (tb : Tables) (g : List Mark) (known : Known (tb .key) (tb .layout) g) (x : Expression) where
+module _ (tb : Tables) (g : List Around) (known : Known (tb .key) (tb .layout) g) (x : Expression) where
   -- its word and its first symbol's place
   abbrev W : ℕ
-  W = wordIn (tb .key) (tb .layout) (acl ∷ g) x
+  W = wordIn (tb .key) (tb .layout) (anActual ∷ g) x
 
   abbrev Q : ℕ
   Q = tb .place (firstSymbol x)
@@ -252,19 +252,19 @@ module _ (tb : Tables) (g : List Mark) (known : Known (tb .key) (tb .layout) g) 
   endFlow S e fl = slotted (endSlots tb (length S) (length (S ++ (0 ∷ []))) (length ((S ++ (0 ∷ [])) ++ (0 ∷ []))) (suc e) Q W (fl .slots)) (wrote 7 0 0 fl)
 
   name-same : (s i₁ i₂ e : ℕ) → OkE (scopes g) x → s + 1 ≡ i₁ → s + 2 ≡ i₂ → getD (tb .ahead) s 0 ≡ there (suc e) → getD (tb .ahead) i₁ 0 ≡ Q → getD (tb .ahead) i₂ 0 ≡ W
-      → CodeFits (NAME Q (suc e) ∷ storePart (tb .place) (acl ∷ g) x ∷ RETURN ∷ []) → Same (nameParts tb s) (NAME Q (suc e) ∷ storePart (tb .place) (acl ∷ g) x ∷ RETURN ∷ [])
+      → CodeFits (NAME Q (suc e) ∷ storePart (tb .place) (anActual ∷ g) x ∷ RETURN ∷ []) → Same (nameParts tb s) (NAME Q (suc e) ∷ storePart (tb .place) (anActual ∷ g) x ∷ RETURN ∷ [])
   name-same s i₁ i₂ e ok e₁ e₂ r₀ r₁ r₂ c =
       let q : getD (tb .ahead) (s + 1) 0 % 65536 ≡ Q = rw (e₁, r₁) (mod-eq-of-lt (tb .small (firstSymbol x))) in
       let w : getD (tb .ahead) (s + 2) 0 ≡ W = rw e₂ r₂ in (
         ap (λ (p : ℕ). parts 39 p (getD (tb .ahead) s 0)) q ∙ ap (parts 39 Q) (name-word-is _ (suc e) r₀ (c .0)),
-        (ap (λ (p : ℕ). lendPart (getD (tb .ahead) (s + 2) 0) p) q ∙ ap (λ (v : ℕ). lendPart v Q) w ∙ lends tb (acl ∷ g) known x ok (c .1 .0), (refl, tt)),
+        (ap (λ (p : ℕ). lendPart (getD (tb .ahead) (s + 2) 0) p) q ∙ ap (λ (v : ℕ). lendPart v Q) w ∙ lends tb (anActual ∷ g) known x ok (c .1 .0), (refl, tt)),
       )
 
-  pub named-acted : {R : Type 0} {n j D j' : ℕ} {fr : Frame} {fl : Flow} {us us' : List Use} {e e' : ℕ} {ws : List ℕ} {A A' : List ℕ → List ℕ} {C C' : List Instr → List Instr}
+  pub named-acted : {R : Type 0} {n j D j' : ℕ} {fr : Frame} {fl : Flow} {us us' : List Use} {e e' : ℕ} {ws : List ℕ} {A A' : List ℕ → List ℕ} {C C' : List Instruction → List Instruction}
       → eqb (formalAt (tb .rows) (n + 1 + j)) 2 ≡ true → OkE (scopes g) x → fl .uses ≡ usesE (scopes g) x ++ us → fr .awaits ≡ 0 → fr .level ≡ owns g
       → (y : Passed tb R (inName (length (fl .slots)) n j D fr) (inName (length (fl .slots)) n j D fr) (nodesE D x) us e A (λ t. t) C (nameFlow tb fl))
       → Acted tb R n (j + 1) D fr j' ws us' e' A' C' (endFlow (fl .slots) e (y .next))
-      → Acted tb R n j D fr j' (nodesE D x ++ (mark n-actual (firstSymbol x) ++ ws)) us' e' (λ k. there (suc e) ∷ Q ∷ W ∷ A (A' k)) (λ r. NAME Q (suc e) ∷ storePart (tb .place) (acl ∷ g) x ∷ RETURN ∷ C (RETURN ∷ C' r)) fl
+      → Acted tb R n j D fr j' (nodesE D x ++ (mark n-actual (firstSymbol x) ++ ws)) us' e' (λ k. there (suc e) ∷ Q ∷ W ∷ A (A' k)) (λ r. NAME Q (suc e) ∷ storePart (tb .place) (anActual ∷ g) x ∷ RETURN ∷ C (RETURN ∷ C' r)) fl
   unfolding foldNodes top
   named-acted {n = n} {j = j} {D = D} {fr = fr} {fl = fl} {us = us} {e = e} {A = A} {A' = A'} {C = C} {C' = C'} h ok u aw lv y z =
       let S = fl .slots in
@@ -278,7 +278,7 @@ module _ (tb : Tables) (g : List Mark) (known : Known (tb .key) (tb .layout) g) 
       let v : y .next .variable ≡ W =
       sym (ap (λ (st : State). st .variable) (y .goes .so []))
       ∙ ap (λ (l : List ℕ). run tb l (state tb fr' (nameFlow tb fl)) .variable) (append-nil (nodesE D x))
-      ∙ last-word tb x D (acl ∷ g) us fr' (nameFlow tb fl) u refl aw (ap suc lv) in
+      ∙ last-word tb x D (anActual ∷ g) us fr' (nameFlow tb fl) u refl aw (ap suc lv) in
       let filled : Fills S (endFlow S e (y .next) .slots) (λ k. there (suc e) ∷ Q ∷ W ∷ A k) = refill 0 (there (suc e)) (refill 0 Q (refill 0 W (y .fills))) in
       let w = wrote-all (nameParts tb s) (fl .at) fl refl in
       record {
@@ -291,7 +291,7 @@ module _ (tb : Tables) (g : List Mark) (known : Known (tb .key) (tb .layout) g) 
         fills = then-slots filled (z .fills);
         enters = z .enters ∙ y .enters ∙ w .entries;
         right = λ t k r d c.
-            let is : List Instr = NAME Q (suc e) ∷ storePart (tb .place) (acl ∷ g) x ∷ RETURN ∷ [] in
+            let is : List Instruction = NAME Q (suc e) ∷ storePart (tb .place) (anActual ∷ g) x ∷ RETURN ∷ [] in
             let k₀ : List ℕ = A (A' k) in
             let k₁ : List ℕ = W ∷ k₀ in
             let k₂ : List ℕ = Q ∷ k₁ in

@@ -6,18 +6,18 @@ use mathlib.Core.Path.{_≡_, refl, sym, ap, _∙_}
 use mathlib.Core.List.{List, [], _∷_, _++_, map, append-assoc, append-nil}
 use Rattle.machine.specs.Data.{store, assign}
 use lib.Dec.{eqb}
-use Rattle.machine.specs.Instructions.{Instr, low}
+use Rattle.machine.specs.Instructions.{Instruction, low}
 use Rattle.grammar.specs.NodeKinds.{n-left, n-assign}
 use Rattle.names.specs.Program.{Name, Expression, assignment}
 use Rattle.names.specs.Scopes.{meaning}
 use Rattle.names.specs.Nodes.{node, nodesLeft, nodesS}
-use Rattle.names.specs.Rows.{isUse}
+use Rattle.names.specs.model.Rows.{isUse}
 use Rattle.names.specs.Uses.{Use, used, usesE, usesS}
 use Rattle.rules.specs.Calls.{Way, way}
-use Rattle.translation.specs.Translate.{Mark, scopes, endE, endStores, endS, codeStores, codeS}
-use Rattle.machine.specs.Words.{Parts, CodeFits}
-use Rattle.translation.specs.Scoped.{OkW, OkVs, OkE}
-use Rattle.emitting.specs.Emission.{Opened, opened, State, put, withOpen, withLefts, pushed, top, below, useNode, stored, leftsOf, behindLefts, assigned, plainNode, codeNode}
+use Rattle.translation.specs.model.Translate.{Around, scopes, endE, endStores, endS, codeStores, codeS}
+use Rattle.machine.specs.model.Words.{Parts, CodeFits}
+use Rattle.translation.specs.model.Scoped.{OkW, OkVs, OkE}
+use Rattle.emitting.specs.model.Emission.{Opened, opened, State, put, withOpen, withLefts, pushed, top, below, useNode, stored, leftsOf, behindLefts, assigned, plainNode, codeNode}
 use Rattle.translating.proofs.ToldCalls.{ToldE}
 use Rattle.translating.proofs.SlotLists.{aheadS}
 use Rattle.translating.proofs.Written.{Tables, Frame, Flow, kindOf, meansOf, taken, putAll, past, Same, fits-apart, step, state, Passed, Emits, _and-then_, passed-nothing, passed-all, passed-as, use-step}
@@ -66,7 +66,7 @@ past-append : (ps qs : List Parts) (e : ℕ) → past (ps ++ qs) e ≡ past qs (
 past-append [] qs e = refl
 past-append (p ∷ ps) qs e = past-append ps qs (suc e)
 
-same-append : (ps qs : List Parts) (is js : List Instr) → Same ps is → Same qs js → Same (ps ++ qs) (is ++ js)
+same-append : (ps qs : List Parts) (is js : List Instruction) → Same ps is → Same qs js → Same (ps ++ qs) (is ++ js)
 same-append [] qs [] js h k = k
 same-append [] qs (i ∷ is) js h k = absurd h
 same-append (p ∷ ps) qs [] js h k = absurd h
@@ -118,7 +118,7 @@ module _ (tb : Tables) where
 
 -- ---- the parts
 
-module _ (tb : Tables) (R : Type 0) (g : List Mark) (right : R → Targets (tb .key) (tb .entries) g) (known : Known (tb .key) (tb .layout) g) (m : ℕ) where
+module _ (tb : Tables) (R : Type 0) (g : List Around) (right : R → Targets (tb .key) (tb .entries) g) (known : Known (tb .key) (tb .layout) g) (m : ℕ) where
   -- a left part, n activations in
   abbrev leftOf : ℕ → Name → Left
   leftOf n x = record { word = wordAt tb g n x; goes = way (meaning (scopes g) x); place = tb .place (x .symbol) }
@@ -144,17 +144,17 @@ module _ (tb : Tables) (R : Type 0) (g : List Mark) (right : R → Targets (tb .
   lefts-tell n x (y ∷ ys) = (seeks-is tb g n x, lefts-tell n y ys)
 
   -- the instructions of the stores
-  abbrev storesOf : Name → List Name → List Instr
+  abbrev storesOf : Name → List Name → List Instruction
   storesOf x [] = wayInstrs tb (way (meaning (scopes g) x)) g x (λ l. store l)
   storesOf x (y ∷ ys) = wayInstrs tb (way (meaning (scopes g) x)) g x (λ l. assign l) ++ storesOf y ys
 
-  stores-code : (x : Name) (xs : List Name) (r : List Instr) → storesOf x xs ++ r ≡ codeStores (tb .place) g x xs r
+  stores-code : (x : Name) (xs : List Name) (r : List Instruction) → storesOf x xs ++ r ≡ codeStores (tb .place) g x xs r
   unfolding codeStores
   stores-code x [] r = way-code tb (way (meaning (scopes g) x)) g x (λ l. store l) r
   stores-code x (y ∷ ys) r =
       let w = way (meaning (scopes g) x) in
       append-assoc (wayInstrs tb w g x (λ l. assign l)) (storesOf y ys) r
-      ∙ ap (λ (l : List Instr). wayInstrs tb w g x (λ l. assign l) ++ l) (stores-code y ys r)
+      ∙ ap (λ (l : List Instruction). wayInstrs tb w g x (λ l. assign l) ++ l) (stores-code y ys r)
       ∙ way-code tb w g x (λ l. assign l) (codeStores (tb .place) g y ys r)
 
   stores-end : (n : ℕ) (x : Name) (xs : List Name) (e : ℕ) → past (storeParts (leftOf n x) (map (leftOf n) xs)) e ≡ endStores (scopes g) x xs e

@@ -7,15 +7,15 @@ use mathlib.Core.Path.{_≡_, refl, ap, _∙_}
 use mathlib.Core.List.{List, [], _∷_, _++_}
 use mathlib.Core.Option.{some}
 use lib.ListN.{length, getD, set, length-append}
-use Rattle.machine.specs.Instructions.{Instr, ENTER, LEAVE, RETURN, pack}
+use Rattle.machine.specs.Instructions.{Instruction, ENTER, LEAVE, RETURN, pack}
 use Rattle.grammar.specs.NodeKinds.{n-block, n-statements, n-block-end, n-type, n-variable, n-procedure, n-formal, n-value, n-specified, n-body, n-procedure-end}
 use Rattle.names.specs.Program.{Name, Specification}
 use Rattle.names.specs.Nodes.{node, mark, sortNumber, nodesN, nodesSp}
-use Rattle.names.specs.Rows.{isUse}
+use Rattle.names.specs.model.Rows.{isUse}
 use Rattle.names.specs.Uses.{Use}
-use Rattle.translation.specs.Translate.{Mark}
-use Rattle.emitting.specs.Layout.{packed}
-use Rattle.emitting.specs.Emission.{opened, State, withOpen, withSlot, within, withCell, noted, pushed, popped, replaced, top, below, aheadAt, blockNode, procedureNode, plainNode, codeNode}
+use Rattle.translation.specs.model.Translate.{Around}
+use Rattle.emitting.specs.model.Layout.{packed}
+use Rattle.emitting.specs.model.Emission.{opened, State, withOpen, withSlot, within, withCell, noted, pushed, popped, replaced, top, below, aheadAt, blockNode, procedureNode, plainNode, codeNode}
 use Rattle.translating.proofs.SlotLists.{Fills, no-slot, longer, then-slots, refill, slot-read, slot-past, slots-past}
 use Rattle.translating.proofs.EntryTables.{blanks}
 use Rattle.translating.proofs.Written.{Tables, Frame, Flow, withOpens, wrote, slotted, withEntries, put-real, slot-real, noted-real, cell-real, entry-real, step, state, Passed, Emits, wrote-right, goes-node, goes-then, _and-then_, _followed-by_, passed-nothing, passed-idle, emits-all}
@@ -139,7 +139,7 @@ module _ {tb : Tables} {R : Type 0} where
       let p = type-passed a fr fl u i in
       p and-then (variables-passed xs fr (p .next) (p .uses) (p .at))
 
-  module _ {g : List Mark} {h m b : ℕ} where
+  module _ {g : List Around} {h m b : ℕ} where
     idle-part : (k s a : ℕ) → Idle tb k → Emits tb R g h m (node k s a 0) [] b b (λ k. k) (λ t. t) (λ r. r)
     idle-part k s a f = emits-all (λ fl. fl .variable) [] [] k s a 0 (f s a) (λ z c. tt)
 
@@ -161,14 +161,14 @@ module _ {tb : Tables} {R : Type 0} where
     formals-part : (xs : List Name) → Emits tb R g h m (nodesN n-formal xs) [] b b (λ k. k) (λ t. blanks xs t) (λ r. r)
     formals-part xs = record { pass = λ us fr fl w u i. formals-passed xs fr fl u i }
 
-    pub heading-part : (f : ℕ) (xs vs : List Name) (ss : List Specification) {ws : List ℕ} {us : List Use} {e : ℕ} {A E : List ℕ → List ℕ} {C : List Instr → List Instr}
+    pub heading-part : (f : ℕ) (xs vs : List Name) (ss : List Specification) {ws : List ℕ} {us : List Use} {e : ℕ} {A E : List ℕ → List ℕ} {C : List Instruction → List Instruction}
         → Emits tb R g h m ws us b e A E C → Emits tb R g h m (nodesN n-formal xs ++ (nodesN n-value vs ++ (nodesSp ss ++ (mark n-body f ++ ws)))) us b e A (λ t. E (blanks xs t)) C
     heading-part f xs vs ss y =
         formals-part xs followed-by (names-part n-value vs (value-idle tb) followed-by (specifications-part ss followed-by (idle-part n-body f 0 (body-idle tb) followed-by y)))
 
 -- ---- a procedure
 
-module _ {tb : Tables} {R : Type 0} {ws : List ℕ} {us : List Use} {e : ℕ} {A E : List ℕ → List ℕ} {C : List Instr → List Instr} where
+module _ {tb : Tables} {R : Type 0} {ws : List ℕ} {us : List Use} {e : ℕ} {A E : List ℕ → List ℕ} {C : List Instruction → List Instruction} where
   pub procedure-passed : (a f b : ℕ) {fr : Frame} {fl : Flow} → fl .at ≡ b
       → (y : Passed tb R (inProcedure fr) (inProcedure fr) ws us e A E C (withEntries (fl .entries ++ (b ∷ [])) fl))
       → Passed tb R fr fr (node n-type 0 a 0 ++ (mark n-procedure f ++ (ws ++ mark n-procedure-end f))) us (suc e) A (λ l. E (l ++ (b ∷ []))) (λ r. C (RETURN ∷ r)) fl
@@ -198,7 +198,7 @@ leave-word c n e h = omega arith
 first-as : {S T : List ℕ} {A : List ℕ → List ℕ} {v w : ℕ} → v ≡ w → Fills S T (λ k. v ∷ A k) → Fills S T (λ k. w ∷ A k)
 first-as {S} {A = A} e x = record { so = λ k. x .so k ∙ ap (λ (n : ℕ). S ++ (n ∷ A k)) e }
 
-module _ {tb : Tables} {R : Type 0} {wd ws : List ℕ} {us us' : List Use} {c i e : ℕ} {A B E E' : List ℕ → List ℕ} {C D : List Instr → List Instr} where
+module _ {tb : Tables} {R : Type 0} {wd ws : List ℕ} {us us' : List Use} {c i e : ℕ} {A B E E' : List ℕ → List ℕ} {C D : List Instruction → List Instruction} where
   -- declarations with c cells, which is n; statements
   pub block-passed : (q n : ℕ) {fr : Frame} {fl : Flow} → c ≡ n
       → (y : Passed tb R (inBlock (length (fl .slots)) 0 0 fr) (inBlock (length (fl .slots)) 0 c fr) wd us i A E C (blockFlow tb q fl))

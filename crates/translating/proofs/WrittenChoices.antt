@@ -9,13 +9,13 @@ use mathlib.Core.List.{List, [], _∷_, _++_, append-assoc}
 use lib.ListN.{length, getD, set, length-append, length-set}
 use lib.Seq.{set-append-left}
 use Rattle.machine.specs.Data.{condition}
-use Rattle.machine.specs.Instructions.{Instr, IF, JUMP, pack}
+use Rattle.machine.specs.Instructions.{Instruction, IF, JUMP, pack}
 use Rattle.grammar.specs.NodeKinds.{n-then, n-else, n-if-end, n-condition-end}
 use Rattle.names.specs.Nodes.{mark}
-use Rattle.names.specs.Rows.{isUse}
+use Rattle.names.specs.model.Rows.{isUse}
 use Rattle.names.specs.Uses.{Use}
-use Rattle.translation.specs.Translate.{Mark}
-use Rattle.emitting.specs.Emission.{Opened, opened, State, withOpen, withSlot, noted, pushed, popped, replaced, top, below, nameless, withVariable, aheadAt, choiceNode, codeNode}
+use Rattle.translation.specs.model.Translate.{Around}
+use Rattle.emitting.specs.model.Emission.{Opened, opened, State, withOpen, withSlot, noted, pushed, popped, replaced, top, below, nameless, withVariable, aheadAt, choiceNode, codeNode}
 use Rattle.translating.proofs.SlotLists.{Fills, longer, then-slots, refill, slot-read, slot-past, slots-past, there}
 use Rattle.translating.proofs.Written.{Tables, Frame, Flow, withOpens, wrote, slotted, varied, put-real, slot-real, noted-real, step, state, Passed, Fits, Emits, wrote-right, goes-node, goes-then}
 
@@ -24,7 +24,7 @@ pub address : (v n : ℕ) → v ≡ there n → n < 8192 → there v ≡ pack 0 
 address v n e h = omega arith
 
 -- a frame with something opened is a frame of the same scopes
-pub fits-open : {tb : Tables} {g : List Mark} {h m : ℕ} {fr : Frame} (l : List Opened) → Fits tb g h m fr → Fits tb g h m (withOpens l fr)
+pub fits-open : {tb : Tables} {g : List Around} {h m : ℕ} {fr : Frame} (l : List Opened) → Fits tb g h m fr → Fits tb g h m (withOpens l fr)
 fits-open l w = record { level = w .level; loops = w .loops; lefts = w .lefts; awaits = w .awaits }
 
 module _ (tb : Tables) where
@@ -80,7 +80,7 @@ module _ (tb : Tables) where
 abbrev heldOpen : ℕ → Frame → Frame
 heldOpen i fr = withOpens (opened i 0 0 0 ∷ fr .opens) fr
 
-module _ {tb : Tables} {R : Type 0} {wc we : List ℕ} {us us' : List Use} {c e : ℕ} {Ac Ae Ec Ee : List ℕ → List ℕ} {Cc Ce : List Instr → List Instr} where
+module _ {tb : Tables} {R : Type 0} {wc we : List ℕ} {us us' : List Use} {c e : ℕ} {Ac Ae Ec Ee : List ℕ → List ℕ} {Cc Ce : List Instruction → List Instruction} where
   one-way-passed : (t : Bool) (q r : ℕ) {fr : Frame} {fl : Flow} (p : Passed tb R fr fr wc us c Ac Ec Cc fl)
       (s : Passed tb R (heldOpen (length (p .next .slots)) fr) (heldOpen (length (p .next .slots)) fr) we us' e Ae Ee Ce (thenFlow tb (p .next)))
       → Passed tb R fr fr (wc ++ (mark n-then q ++ (we ++ mark (closing tb t) r))) us' e (λ k. Ac (there e ∷ Ae k)) (λ l. Ee (Ec l)) (λ r. Cc (IF condition e ∷ Ce r)) fl
@@ -105,8 +105,8 @@ module _ {tb : Tables} {R : Type 0} {wc we : List ℕ} {us us' : List Use} {c e 
             (p₂ .0 ∙ wrote-right (IF condition e) 10 0 _ (p .next .code) (Ce r) refl (address _ e l (p₁ .1 .0 .1)) ∙ p₁ .0, p₂ .1);
       }
 
-module _ {tb : Tables} {R : Type 0} {g : List Mark} {h m : ℕ} where
-  pub one-way : (t : Bool) (q r : ℕ) {wc we : List ℕ} {vc ve : List Use} {b c e : ℕ} {Ac Ae Ec Ee : List ℕ → List ℕ} {Cc Ce : List Instr → List Instr}
+module _ {tb : Tables} {R : Type 0} {g : List Around} {h m : ℕ} where
+  pub one-way : (t : Bool) (q r : ℕ) {wc we : List ℕ} {vc ve : List Use} {b c e : ℕ} {Ac Ae Ec Ee : List ℕ → List ℕ} {Cc Ce : List Instruction → List Instruction}
       → Emits tb R g h m wc vc b c Ac Ec Cc → Emits tb R g h m we ve (suc c) e Ae Ee Ce
       → Emits tb R g h m (wc ++ (mark n-then q ++ (we ++ mark (closing tb t) r))) (vc ++ ve) b e (λ k. Ac (there e ∷ Ae k)) (λ l. Ee (Ec l)) (λ r. Cc (IF condition e ∷ Ce r))
   one-way t q r {vc = vc} {ve = ve} x y =
@@ -118,7 +118,7 @@ module _ {tb : Tables} {R : Type 0} {g : List Mark} {h m : ℕ} where
 
 -- ---- a choice with both parts
 
-module _ {tb : Tables} {R : Type 0} {wc we wf : List ℕ} {us us' us'' : List Use} {c n e : ℕ} {Ac Ae Af Ec Ee Ef : List ℕ → List ℕ} {Cc Ce Cf : List Instr → List Instr} where
+module _ {tb : Tables} {R : Type 0} {wc we wf : List ℕ} {us us' us'' : List Use} {c n e : ℕ} {Ac Ae Af Ec Ee Ef : List ℕ → List ℕ} {Cc Ce Cf : List Instruction → List Instruction} where
   two-way-passed : (t : Bool) (q r : ℕ) {fr : Frame} {fl : Flow} (p : Passed tb R fr fr wc us c Ac Ec Cc fl)
       (s : Passed tb R (heldOpen (length (p .next .slots)) fr) (heldOpen (length (p .next .slots)) fr) we us' n Ae Ee Ce (thenFlow tb (p .next)))
       → let l = elseSlots tb (length (p .next .slots)) n (s .next) in
@@ -160,8 +160,8 @@ module _ {tb : Tables} {R : Type 0} {wc we wf : List ℕ} {us us' us'' : List Us
             );
       }
 
-module _ {tb : Tables} {R : Type 0} {g : List Mark} {h m : ℕ} where
-  pub two-way : (t : Bool) (q r : ℕ) {wc we wf : List ℕ} {vc ve vf : List Use} {b c n e : ℕ} {Ac Ae Af Ec Ee Ef : List ℕ → List ℕ} {Cc Ce Cf : List Instr → List Instr}
+module _ {tb : Tables} {R : Type 0} {g : List Around} {h m : ℕ} where
+  pub two-way : (t : Bool) (q r : ℕ) {wc we wf : List ℕ} {vc ve vf : List Use} {b c n e : ℕ} {Ac Ae Af Ec Ee Ef : List ℕ → List ℕ} {Cc Ce Cf : List Instruction → List Instruction}
       → Emits tb R g h m wc vc b c Ac Ec Cc → Emits tb R g h m we ve (suc c) n Ae Ee Ce → Emits tb R g h m wf vf (suc n) e Af Ef Cf
       → Emits tb R g h m (wc ++ (mark n-then q ++ (we ++ (mark n-else 0 ++ (wf ++ mark (closing tb t) r))))) (vc ++ (ve ++ vf)) b e (λ k. Ac (there (suc n) ∷ Ae (there e ∷ Af k))) (λ l. Ef (Ee (Ec l))) (λ r. Cc (IF condition (suc n) ∷ Ce (JUMP e ∷ Cf r)))
   two-way t q r {vc = vc} {ve = ve} {vf = vf} {n = n} x y z =

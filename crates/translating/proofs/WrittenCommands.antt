@@ -10,21 +10,21 @@ use lib.Dec.{eqb}
 use lib.ListN.{length, getD}
 use Rattle.machine.specs.Values
 use Rattle.machine.specs.Data.{push, reserve, unary, forget, receive, send, channel, gone}
-use Rattle.machine.specs.Instructions.{fnd, Instr, DO, high, low}
+use Rattle.machine.specs.Instructions.{cellFound, Instruction, DO, high, low}
 use Rattle.grammar.specs.NodeKinds.{n-use, n-call, n-call-end, n-actual}
 use Rattle.names.specs.Program.{Name, Sort, Expression, number, logical, name, call, signed, operated, chosen, nested, Expressions, done, then, count, firstSymbol, Procedure}
 use Rattle.names.specs.Scopes.{Thing, variable, routine, formal, by-name, formalsOf, modesOf, Declared, Scope, sortOf, Given, Meaning, declared, given, nothing, meaning}
 use Rattle.names.specs.Nodes.{node, mark, nodesE, nodesEs, nodesCall}
-use Rattle.names.specs.Rows.{isUse}
+use Rattle.names.specs.model.Rows.{isUse}
 use Rattle.names.specs.Uses.{Use, used, usesE, usesEs}
 use Rattle.rules.specs.Entered.{oneIf}
 use Rattle.rules.specs.Calls.{Command, greatest-of, input-to, thingTold, into, givenTold, command, Way, direct, sought, way}
 use Rattle.rules.specs.Rules.{maxint}
-use Rattle.translation.specs.Translate.{Mark, scopes, loc, endE, endEs, endCall, endTake, endCommand, CALLS, SEEKS, codeEs, codeCall, codeTake, codeCommand}
-use Rattle.machine.specs.Words.{Parts, CodeFits}
-use Rattle.translation.specs.Scoped.{OkW, OkEs, OkCommand}
-use Rattle.emitting.specs.Layout.{packed}
-use Rattle.emitting.specs.Emission.{opened, put, withOpen, withVariable, nameless, replaced, top, below, bare, foundWord, onCell, largest, cellOf, resultOf, calledWith, resultFor, dropped, named, namedOr, takenIn, actualIn, callEnded, useNode, codeNode}
+use Rattle.translation.specs.model.Translate.{Around, scopes, loc, endE, endEs, endCall, endTake, endCommand, CALLS, SEEKS, codeEs, codeCall, codeTake, codeCommand}
+use Rattle.machine.specs.model.Words.{Parts, CodeFits}
+use Rattle.translation.specs.model.Scoped.{OkW, OkEs, OkCommand}
+use Rattle.emitting.specs.model.Layout.{packed}
+use Rattle.emitting.specs.model.Emission.{opened, put, withOpen, withVariable, nameless, replaced, top, below, bare, foundWord, onCell, largest, cellOf, resultOf, calledWith, resultFor, dropped, named, namedOr, takenIn, actualIn, callEnded, useNode, codeNode}
 use Rattle.translating.proofs.ToldCalls.{ToldE, ToldEs}
 use Rattle.translating.proofs.SlotLists.{no-slot, aheadEs, aheadCall, aheadCommand}
 use Rattle.translating.proofs.Written.{Tables, Frame, Flow, useKind, kindOf, meansOf, taken, varied, putAll, wroteAll, puts-real, past, Same, wrote-all, fits-apart, step, state, Passed, Fits, Emits, goes-node, goes-then, _and-then_, passed-all, passed-as, passed-idle, passed-words, use-step}
@@ -81,11 +81,11 @@ module _ (tb : Tables) where
   unfolding callEnded
   receive-step w s j q fr fl e = ended-step tb s 1 2 j q fr fl ∙ taken-puts w (tb .place s) q fr fl e
 
-  abbrev takeInstrs : Way → List Mark → ℕ → Name → List Instr
+  abbrev takeInstrs : Way → List Around → ℕ → Name → List Instruction
   takeInstrs direct g p y = DO (receive p (loc g y)) ∷ []
-  takeInstrs sought g p y = DO (channel p) ∷ SEEKS (tb .place) g y ∷ DO (receive p fnd) ∷ []
+  takeInstrs sought g p y = DO (channel p) ∷ SEEKS (tb .place) g y ∷ DO (receive p cellFound) ∷ []
 
-  take-code : (w : Way) (g : List Mark) (p : ℕ) (y : Name) (r : List Instr) → takeInstrs w g p y ++ r ≡ codeTake (tb .place) w g p y r
+  take-code : (w : Way) (g : List Around) (p : ℕ) (y : Name) (r : List Instruction) → takeInstrs w g p y ++ r ≡ codeTake (tb .place) w g p y r
   unfolding codeTake
   take-code direct g p y r = refl
   take-code sought g p y r = refl
@@ -95,7 +95,7 @@ module _ (tb : Tables) where
   take-past direct p q v e = refl
   take-past sought p q v e = refl
 
-  take-same : (w : Way) (g : List Mark) (p : ℕ) (y : Name) (v : ℕ) → Worded w g y v → CodeFits (takeInstrs w g p y) → Same (takeParts w p (tb .place (y .symbol)) v) (takeInstrs w g p y)
+  take-same : (w : Way) (g : List Around) (p : ℕ) (y : Name) (v : ℕ) → Worded w g y v → CodeFits (takeInstrs w g p y) → Same (takeParts w p (tb .place (y .symbol)) v) (takeInstrs w g p y)
   take-same direct g p y v h c = (ap (parts 18 p) (h (c .0) .bared), tt)
   take-same sought g p y v h c = (refl, (ap (parts 41 (tb .place (y .symbol))) (h (c .1 .0) .bared), (refl, tt)))
 
@@ -118,7 +118,7 @@ module _ (tb : Tables) where
   unfolding useNode namedOr withVariable isUse
   awaited-step s d fr fl gs x us u = use-step tb n-use s d 0 (awaiting 1 fr) fl gs x us (kindOf (meaning gs x)) (meansOf (tb .key) (meaning gs x)) refl u refl refl
 
-module _ (tb : Tables) (R : Type 0) (g : List Mark) (right : R → Targets (tb .key) (tb .entries) g) (known : Known (tb .key) (tb .layout) g) (m : ℕ) where
+module _ (tb : Tables) (R : Type 0) (g : List Around) (right : R → Targets (tb .key) (tb .entries) g) (known : Known (tb .key) (tb .layout) g) (m : ℕ) where
   abbrev pub Told : Name → Expressions → ℕ → ℕ → Command → Type 0
   Told x es d b c =
       Emits tb R g 0 m (nodesCall d x es) (used (scopes g) x ∷ usesEs (scopes g) es) b (endCommand (scopes g) c es b) (aheadCommand (tb .place) (wordIn (tb .key) (tb .layout)) g c es b) (λ t. t) (codeCommand (tb .place) c g x es b)
@@ -201,7 +201,7 @@ module _ (tb : Tables) (R : Type 0) (g : List Mark) (right : R → Targets (tb .
         }
 
     -- of the environment, with no result to be stored to
-    given-part : (x : Name) (n b : ℕ) (y : Given) (is : List Instr) (ps : List Parts) → GivenEs tb R 0 m g (then e es) (d + 1) b → Quiet n → meaning (scopes g) x ≡ given n y
+    given-part : (x : Name) (n b : ℕ) (y : Given) (is : List Instruction) (ps : List Parts) → GivenEs tb R 0 m g (then e es) (d + 1) b → Quiet n → meaning (scopes g) x ≡ given n y
         → ((j p : ℕ) (fr : Frame) (fl : Flow) → step tb n-call-end (x .symbol) 0 1 (state tb (inGiven n j p fr) fl) ≡ putAll ps (state tb fr (varied 0 fl))) → (R → CodeFits is → Same ps is)
         → Emits tb R g 0 m (nodesCall d x (then e es)) (used (scopes g) x ∷ usesEs (scopes g) (then e es)) b (past ps (endEs (scopes g) [] (then e es) b)) (aheadEs (tb .place) (wordIn (tb .key) (tb .layout)) g [] (then e es) b) (λ t. t) (λ r. codeEs (tb .place) g [] (then e es) b (is ++ r))
     unfolding nodesCall nodesEs

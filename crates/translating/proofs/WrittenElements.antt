@@ -9,19 +9,19 @@ use lib.Dec.{eqb}
 use lib.ListN.{length, getD, set, drop, length-append}
 use lib.Seq.{set-append-seam}
 use Rattle.machine.specs.Data.{store, keep, sum, condition, upto}
-use Rattle.machine.specs.Instructions.{Loc, lc, fnd, Instr, DO, IF, JUMP, GO, NEXT, pack, high, mid, low}
+use Rattle.machine.specs.Instructions.{Location, located, cellFound, Instruction, DO, IF, JUMP, GO, NEXT, pack, high, mid, low}
 use Rattle.grammar.specs.NodeKinds.{n-start, n-once, n-while, n-step, n-amount}
 use Rattle.names.specs.Program.{Name, Expression, firstSymbol, Element, value, while, step as by-step}
 use Rattle.names.specs.Scopes.{Scope, meaning}
 use Rattle.names.specs.Nodes.{mark, nodesE, nodesL, nodesLs}
-use Rattle.names.specs.Rows.{isUse}
+use Rattle.names.specs.model.Rows.{isUse}
 use Rattle.names.specs.Uses.{Use, usesE, usesL}
 use Rattle.rules.specs.Calls.{Way, direct, sought, way}
-use Rattle.translation.specs.Translate.{Mark, scopes, loc, endE, endStore, endWay, endSum, endL, onward, SEEKS, codeE, codeStore, codeTest, codeSum, codeStep, codeL}
-use Rattle.machine.specs.Words.{Parts, beside, CodeFits, words}
-use Rattle.emitting.specs.Layout.{packed}
-use Rattle.translation.specs.Scoped.{OkE, OkL}
-use Rattle.emitting.specs.Emission.{opened, State, put, withOpen, withSlot, noted, pushed, popped, replaced, top, below, bare, foundWord, onCell, aheadAt, element, bodied, tested, added, stepBegun, stepHeld, stepAgain, turning, stepping, amount, elementNode, codeNode}
+use Rattle.translation.specs.model.Translate.{Around, scopes, loc, endE, endStore, endWay, endSum, endL, onward, SEEKS, codeE, codeStore, codeTest, codeSum, codeStep, codeL}
+use Rattle.machine.specs.model.Words.{Parts, beside, CodeFits, words}
+use Rattle.emitting.specs.model.Layout.{packed}
+use Rattle.translation.specs.model.Scoped.{OkE, OkL}
+use Rattle.emitting.specs.model.Emission.{opened, State, put, withOpen, withSlot, noted, pushed, popped, replaced, top, below, bare, foundWord, onCell, aheadAt, element, bodied, tested, added, stepBegun, stepHeld, stepAgain, turning, stepping, amount, elementNode, codeNode}
 use Rattle.translating.proofs.ToldCalls.{ToldE, ToldL}
 use Rattle.translating.proofs.SlotLists.{Fills, a-slot, then-slots, longer, refill, slot-read, slot-past, slots-past, there, aheadE, aheadX, aheadL, endX, end-element}
 use Rattle.translating.proofs.Written.{Tables, Frame, Flow, withOpens, wrote, slotted, taken, put-real, slot-real, noted-real, putAll, wroteAll, puts-real, past, Same, wrote-all, fits-apart, step, state, Goes, Passed, Fits, goes-node, goes-then, wrote-right, _and-then_, passed-all, passed-as}
@@ -54,7 +54,7 @@ module _ (tb : Tables) where
 
   -- ---- an element, or some: A: what lies ahead in their expressions; C: their code, with the address of the body and the one where they go on
 
-  pub record Turned (R : Type 0) (s v p a : ℕ) (fr : Frame) (ws : List ℕ) (us : List Use) (e : ℕ) (A : List ℕ → List ℕ) (C : ℕ → ℕ → List Instr → List Instr) (fl : Flow) : Type 0 where
+  pub record Turned (R : Type 0) (s v p a : ℕ) (fr : Frame) (ws : List ℕ) (us : List Use) (e : ℕ) (A : List ℕ → List ℕ) (C : ℕ → ℕ → List Instruction → List Instruction) (fl : Flow) : Type 0 where
     pub next : Flow
     pub front : List ℕ
     pub goes : Goes tb ws (state tb (inLoop s v p a fr) fl) (state tb (inLoop s v p e fr) next)
@@ -63,12 +63,12 @@ module _ (tb : Tables) where
     pub slots : next .slots ≡ front ++ (there e ∷ [])
     pub fills : Fills (fl .slots) front A
     pub enters : next .entries ≡ fl .entries
-    pub right : R → (i o : ℕ) (k : List ℕ) (r : List Instr) → getD (tb .ahead) s 0 ≡ there i → drop (length (fl .slots)) (tb .ahead) ≡ A (there o ∷ k) → CodeFits (C i o r)
+    pub right : R → (i o : ℕ) (k : List ℕ) (r : List Instruction) → getD (tb .ahead) s 0 ≡ there i → drop (length (fl .slots)) (tb .ahead) ≡ A (there o ∷ k) → CodeFits (C i o r)
         → (next .code ++ words r ≡ fl .code ++ words (C i o r)) × CodeFits r
 
   -- the node behind an element
-  turn : {R : Type 0} {s v p a : ℕ} {fr fr' : Frame} {ws : List ℕ} {us : List Use} {e : ℕ} {A : List ℕ → List ℕ} {C : List Instr → List Instr} {fl : Flow}
-      (x : Passed tb R (inLoop s v p a fr) fr' ws us e A (λ t. t) C fl) (is : ℕ → ℕ → List Instr) (ps : List Parts) (n q : ℕ)
+  turn : {R : Type 0} {s v p a : ℕ} {fr fr' : Frame} {ws : List ℕ} {us : List Use} {e : ℕ} {A : List ℕ → List ℕ} {C : List Instruction → List Instruction} {fl : Flow}
+      (x : Passed tb R (inLoop s v p a fr) fr' ws us e A (λ t. t) C fl) (is : ℕ → ℕ → List Instruction) (ps : List Parts) (n q : ℕ)
       → step tb n q 0 0 (state tb fr' (x .next)) ≡ element (tb .values) (tb .layout) (tb .ahead) (tb .entries) (opened s v p a) (putAll ps (state tb (inLoop s v p a fr) (x .next)))
       → (R → (i o : ℕ) → getD (tb .ahead) s 0 ≡ there i → getD (tb .ahead) (length (x .next .slots)) 0 ≡ there o → CodeFits (is i o) → Same ps (is i o))
       → Turned R s v p a fr (ws ++ mark n q) us (past ps e) A (λ i o r. C (is i o ++ r)) fl
@@ -98,7 +98,7 @@ module _ (tb : Tables) where
       }
 
   -- one after the other
-  turn-then : {R : Type 0} {s v p a : ℕ} {fr : Frame} {ws ws' : List ℕ} {us us' : List Use} {e e' : ℕ} {A A' : List ℕ → List ℕ} {C C' : ℕ → ℕ → List Instr → List Instr} {fl : Flow}
+  turn-then : {R : Type 0} {s v p a : ℕ} {fr : Frame} {ws ws' : List ℕ} {us us' : List Use} {e e' : ℕ} {A A' : List ℕ → List ℕ} {C C' : ℕ → ℕ → List Instruction → List Instruction} {fl : Flow}
       (x : Turned R s v p a fr ws us e A C fl) → Turned R s v p e fr ws' us' e' A' C' (x .next)
       → Turned R s v p a fr (ws ++ ws') us' e' (λ k. A (there e ∷ A' k)) (λ i n r. C i e (C' i n r)) fl
   turn-then {e = e} {A' = A'} {C' = C'} x y =
@@ -244,12 +244,12 @@ module _ (tb : Tables) where
   jump-word : (u n : ℕ) → u ≡ n → n < 8192 → there u ≡ pack 0 0 n
   jump-word u n e h = omega arith
 
-  upto-word : (v o u : ℕ) (l : Loc) → bare v ≡ beside l 0 → u ≡ there o → o < 8192 → packed (high v) (mid v) u ≡ beside l o
+  upto-word : (v o u : ℕ) (l : Location) → bare v ≡ beside l 0 → u ≡ there o → o < 8192 → packed (high v) (mid v) u ≡ beside l o
   unfolding bare
-  upto-word v o u (lc a b) e f h = omega arith
-  upto-word v o u fnd e f h = omega arith
+  upto-word v o u (located a b) e f h = omega arith
+  upto-word v o u cellFound e f h = omega arith
 
-  upto-found : (o u : ℕ) → u ≡ there o → o < 8192 → packed 0 8191 u ≡ beside fnd o
+  upto-found : (o u : ℕ) → u ≡ there o → o < 8192 → packed 0 8191 u ≡ beside cellFound o
   upto-found o u e h = omega arith
 
 -- ---- the elements
@@ -286,7 +286,7 @@ told-more tb g (while q e c) ls ok = ((ok .0, ok .1), ok .2)
 told-more tb g (by-step q e f h) ls ok = ((ok .0, ok .1, ok .2), ok .3)
 
 -- one element's code: in the scopes g and m for statements, over x; i: the body, o: where it goes on
-abbrev codeX : Tables → List Mark → ℕ → Name → Element → ℕ → ℕ → ℕ → List Instr → List Instr
+abbrev codeX : Tables → List Around → ℕ → Name → Element → ℕ → ℕ → ℕ → List Instruction → List Instruction
 codeX tb g m x (value e) b i o r = codeE (tb .place) g e b (codeStore (tb .place) g x (GO m i o ∷ r))
 codeX tb g m x (while q e c) b i o r =
     let a = endStore (scopes g) x (endE (scopes g) e b) in
@@ -296,16 +296,16 @@ codeX tb g m x (by-step q e f h) b i o r =
     codeE (tb .place) g e b (codeStore (tb .place) g x (codeStep (tb .place) (way (meaning (scopes g) x)) g m q x f h i o a r))
 
 module _ {tb : Tables} where
-  turned-words : {R : Type 0} {s v p a : ℕ} {fr : Frame} {ws : List ℕ} {us : List Use} {e : ℕ} {A : List ℕ → List ℕ} {C : ℕ → ℕ → List Instr → List Instr} {fl : Flow} (ws' : List ℕ) → ws ≡ ws'
+  turned-words : {R : Type 0} {s v p a : ℕ} {fr : Frame} {ws : List ℕ} {us : List Use} {e : ℕ} {A : List ℕ → List ℕ} {C : ℕ → ℕ → List Instruction → List Instruction} {fl : Flow} (ws' : List ℕ) → ws ≡ ws'
       → Turned tb R s v p a fr ws us e A C fl → Turned tb R s v p a fr ws' us e A C fl
   turned-words ws' i x = rw i at x
 
-  turned-end : {R : Type 0} {s v p a : ℕ} {fr : Frame} {ws : List ℕ} {us : List Use} {e : ℕ} {A : List ℕ → List ℕ} {C : ℕ → ℕ → List Instr → List Instr} {fl : Flow} (e' : ℕ) → e ≡ e'
+  turned-end : {R : Type 0} {s v p a : ℕ} {fr : Frame} {ws : List ℕ} {us : List Use} {e : ℕ} {A : List ℕ → List ℕ} {C : ℕ → ℕ → List Instruction → List Instruction} {fl : Flow} (e' : ℕ) → e ≡ e'
       → Turned tb R s v p a fr ws us e A C fl → Turned tb R s v p a fr ws us e' A C fl
   turned-end e' i x = rw i at x
 
-  turned-code : {R : Type 0} {s v p a : ℕ} {fr : Frame} {ws : List ℕ} {us : List Use} {e : ℕ} {A : List ℕ → List ℕ} {C : ℕ → ℕ → List Instr → List Instr} {fl : Flow} (C' : ℕ → ℕ → List Instr → List Instr)
-      → ((i o : ℕ) (r : List Instr) → C i o r ≡ C' i o r) → Turned tb R s v p a fr ws us e A C fl → Turned tb R s v p a fr ws us e A C' fl
+  turned-code : {R : Type 0} {s v p a : ℕ} {fr : Frame} {ws : List ℕ} {us : List Use} {e : ℕ} {A : List ℕ → List ℕ} {C : ℕ → ℕ → List Instruction → List Instruction} {fl : Flow} (C' : ℕ → ℕ → List Instruction → List Instruction)
+      → ((i o : ℕ) (r : List Instruction) → C i o r ≡ C' i o r) → Turned tb R s v p a fr ws us e A C fl → Turned tb R s v p a fr ws us e A C' fl
   turned-code {fl = fl} C' f x =
       record {
         next = x .next;
@@ -318,10 +318,10 @@ module _ {tb : Tables} where
         enters = x .enters;
         right = λ z i o k r b d c.
             let q = x .right z i o k r b d (rw (f i o r) c) in
-            (q .0 ∙ ap (λ (l : List Instr). fl .code ++ words l) (f i o r), q .1);
+            (q .0 ∙ ap (λ (l : List Instruction). fl .code ++ words l) (f i o r), q .1);
       }
 
-module _ (tb : Tables) (R : Type 0) (g : List Mark) (right : R → Targets (tb .key) (tb .entries) g) (known : Known (tb .key) (tb .layout) g) (m : ℕ) (x : Name) (s v : ℕ) (tell : eqb (low v) 2 ≡ seeks (way (meaning (scopes g) x))) (word : Worded (way (meaning (scopes g) x)) g x v) where
+module _ (tb : Tables) (R : Type 0) (g : List Around) (right : R → Targets (tb .key) (tb .entries) g) (known : Known (tb .key) (tb .layout) g) (m : ℕ) (x : Name) (s v : ℕ) (tell : eqb (low v) 2 ≡ seeks (way (meaning (scopes g) x))) (word : Worded (way (meaning (scopes g) x)) g x v) where
   abbrev F : ℕ → Frame → Frame
   F a fr = inLoop s v (tb .place (x .symbol)) a fr
 
@@ -345,7 +345,7 @@ module _ (tb : Tables) (R : Type 0) (g : List Mark) (right : R → Targets (tb .
       (y .at) (λ t c. way-same tb z g x (λ l. store l) 14 0 v (λ l. refl) (λ l f. f) word c)))
 
   -- from 'step' to where the step is held: to its code, which ends at c, and on
-  held-passed : (q n a c : ℕ) {wf : List ℕ} {us : List Use} {Af : List ℕ → List ℕ} {Cf : List Instr → List Instr} {fr : Frame} {fl : Flow} → fr .loops ≡ m → fl .at ≡ a
+  held-passed : (q n a c : ℕ) {wf : List ℕ} {us : List Use} {Af : List ℕ → List ℕ} {Cf : List Instruction → List Instruction} {fr : Frame} {fl : Flow} → fr .loops ≡ m → fl .at ≡ a
       → let i = length (fl .slots) in
       Passed tb R (inStep i 0 (tb .place q) (suc a) fr) (inStep i 0 (tb .place q) (suc a) fr) wf us c Af (λ t. t) Cf (stepFlow tb a fr fl)
       → Passed tb R fr (inStep (suc (suc c)) 1 (tb .place q) (suc a) fr) (mark n-step q ++ (wf ++ mark n-amount n)) us (suc (suc c)) (λ k. there (suc c) ∷ Af k) (λ t. t) (λ r. GO m (suc a) (suc c) ∷ Cf (NEXT m ∷ DO keep ∷ r)) fl
@@ -402,7 +402,7 @@ module _ (tb : Tables) (R : Type 0) (g : List Mark) (right : R → Targets (tb .
       (λ z i o h l c. (ap (parts 10 0) (address _ o l (c .0 .1)), (ap (parts 8 0) (go-back tb (fr .loops) m b i _ _ (w .loops) refl h (c .1 .0)), tt))))
 
   -- behind the bound, which ends at n; a: where the code of the step begins
-  bound-end : (w : Way) (q n a b t z : ℕ) {ws : List ℕ} {us : List Use} {A : List ℕ → List ℕ} {C : List Instr → List Instr} {fr : Frame} {fl : Flow} → eqb (low v) 2 ≡ seeks w → Worded w g x v → Fits tb g 0 m fr
+  bound-end : (w : Way) (q n a b t z : ℕ) {ws : List ℕ} {us : List Use} {A : List ℕ → List ℕ} {C : List Instruction → List Instruction} {fr : Frame} {fl : Flow} → eqb (low v) 2 ≡ seeks w → Worded w g x v → Fits tb g 0 m fr
       → Passed tb R (F b fr) (inStep t 1 (tb .place q) (suc a) (F b fr)) ws us n A (λ t. t) C fl
       → Turned tb R s v (tb .place (x .symbol)) b fr (ws ++ mark n-amount z) us (suc (endSum w (suc (suc (endWay w n))))) A (λ i o r. C (codeTest (tb .place) w g x o (GO m i (suc (endWay w n)) ∷ GO m (suc a) (suc (suc (endWay w n))) ∷ codeSum (tb .place) w g q x (JUMP t ∷ r)))) fl
   unfolding endWay endSum codeTest codeSum
@@ -426,7 +426,7 @@ module _ (tb : Tables) (R : Type 0) (g : List Mark) (right : R → Targets (tb .
       let at₃ : y .next .at + 1 + 1 + 1 ≡ suc (suc (suc n)) = omega (arith, y .at) in
       let at₄ : y .next .at + 1 + 1 + 1 + 1 ≡ suc (suc (suc (suc n))) = omega (arith, y .at) in
       let k = SEEKS (tb .place) g x in
-      turn tb y (λ i o. k ∷ IF (upto p fnd) o ∷ GO m i (suc (suc (suc n))) ∷ GO m (suc a) (suc (suc (suc (suc n)))) ∷ k ∷ DO (sum (tb .place q) fnd) ∷ k ∷ DO (store fnd) ∷ JUMP t ∷ []) (stepParts tb sought (tb .place q) (suc a) t s v p fr (y .next)) n-amount z (turned-step tb sought z (suc a) (tb .place q) t s v p b fr (y .next) tell)
+      turn tb y (λ i o. k ∷ IF (upto p cellFound) o ∷ GO m i (suc (suc (suc n))) ∷ GO m (suc a) (suc (suc (suc (suc n)))) ∷ k ∷ DO (sum (tb .place q) cellFound) ∷ k ∷ DO (store cellFound) ∷ JUMP t ∷ []) (stepParts tb sought (tb .place q) (suc a) t s v p fr (y .next)) n-amount z (turned-step tb sought z (suc a) (tb .place q) t s v p b fr (y .next) tell)
       (λ z i o h l c.
       let e = ap (parts 41 p) (word (c .0) .bared) in (
         e,
@@ -467,7 +467,7 @@ module _ (tb : Tables) (R : Type 0) (g : List Mark) (right : R → Targets (tb .
   element-turned (by-step q e f h) d b ok n = step-turned q e f h d b ok n
 
   -- the code of elements is that of the first in front of the others'
-  code-more : (l : Element) (ls : List Element) (b i n : ℕ) (r : List Instr)
+  code-more : (l : Element) (ls : List Element) (b i n : ℕ) (r : List Instruction)
       → codeX tb g m x l b i (onward ls (endX (scopes g) x l b) n) (codeL (tb .place) g m x ls i n (endX (scopes g) x l b) r) ≡ codeL (tb .place) g m x (l ∷ ls) i n b r
   unfolding codeL endX
   code-more (value e) ls b i n r = refl

@@ -15,15 +15,15 @@ use Rattle.grammar.specs.NodeKinds.{n-call, n-call-end, n-actual}
 use Rattle.names.specs.Program.{Name, Sort, Expression, number, logical, name, call, signed, operated, chosen, nested, Expressions, done, then, count, firstSymbol, Procedure}
 use Rattle.names.specs.Scopes.{Thing, variable, routine, formal, by-name, valuesOf, formalsOf, modes, modesOf, Declared, Scope, sortOf, Given, Meaning, declared, given, nothing, meaning}
 use Rattle.names.specs.Nodes.{node, mark, callNodes, nodesE, nodesEs}
-use Rattle.names.specs.Rows.{isUse}
+use Rattle.names.specs.model.Rows.{isUse}
 use Rattle.names.specs.Uses.{Use, used, usesE, usesEs}
 use Rattle.rules.specs.Entered.{oneIf, declaring}
 use Rattle.rules.specs.Calls.{Primary, function, absolute, withType, thingAs, givenAs, primary}
-use Rattle.translation.specs.Translate.{Mark, acl, scopes, cutG, levels, target, endName, endE, endEs, CALLS, codeName, codeE, codeEs}
-use Rattle.machine.specs.Words.{Parts, partsOf}
-use Rattle.translation.specs.Scoped.{OkPrimary, OkE, OkEs}
-use Rattle.emitting.specs.Layout.{packed}
-use Rattle.emitting.specs.Emission.{opened, put, withOpen, withVariable, nameless, pushed, popped, replaced, top, below, resultOf, calledWith, resultFor, dropped, begun, calling, actualIn, callEnded, useNode, codeNode}
+use Rattle.translation.specs.model.Translate.{Around, anActual, scopes, cutG, levels, target, endName, endE, endEs, CALLS, codeName, codeE, codeEs}
+use Rattle.machine.specs.model.Words.{Parts, partsOf}
+use Rattle.translation.specs.model.Scoped.{OkPrimary, OkE, OkEs}
+use Rattle.emitting.specs.model.Layout.{packed}
+use Rattle.emitting.specs.model.Emission.{opened, put, withOpen, withVariable, nameless, pushed, popped, replaced, top, below, resultOf, calledWith, resultFor, dropped, begun, calling, actualIn, callEnded, useNode, codeNode}
 use Rattle.translating.proofs.SlotLists.{aheadName, aheadE, aheadEs}
 use Rattle.translating.proofs.Written.{Tables, Frame, Flow, useKind, kindOf, meansOf, withOpens, taken, varied, putAll, wroteAll, step, state, Passed, Fits, Emits, _and-then_, _followed-by_, _closed-by_, passed-nothing, passed-all, passed-idle, use-step}
 use Rattle.translating.proofs.WrittenChoices.{fits-open, two-way}
@@ -113,27 +113,27 @@ module _ (tb : Tables) where
 
 module _ (tb : Tables) (R : Type 0) (h m : ℕ) where
   -- what lies ahead of it
-  abbrev pub aheadOf : List Mark → Expression → ℕ → List ℕ → List ℕ
+  abbrev pub aheadOf : List Around → Expression → ℕ → List ℕ → List ℕ
   aheadOf g e b = aheadE (tb .place) (wordIn (tb .key) (tb .layout)) g e b
 
-  abbrev pub aheadsOf : List Mark → List Bool → Expressions → ℕ → List ℕ → List ℕ
+  abbrev pub aheadsOf : List Around → List Bool → Expressions → ℕ → List ℕ → List ℕ
   aheadsOf g ms es b = aheadEs (tb .place) (wordIn (tb .key) (tb .layout)) g ms es b
 
-  abbrev pub IsE : List Mark → Expression → ℕ → ℕ → Type 0
+  abbrev pub IsE : List Around → Expression → ℕ → ℕ → Type 0
   IsE g e d b = Emits tb R g h m (nodesE d e) (usesE (scopes g) e) b (endE (scopes g) e b) (aheadOf g e b) (λ t. t) (codeE (tb .place) g e b)
 
   -- actuals of a call of the procedure n, behind j others; of what the environment gives
-  abbrev pub IsEs : List Mark → List Bool → Expressions → ℕ → ℕ → Type 0
+  abbrev pub IsEs : List Around → List Bool → Expressions → ℕ → ℕ → Type 0
   IsEs g ms es d b =
       (n j : ℕ) → ModesAt (tb .rows) n j ms → (us : List Use) (fr : Frame) (fl : Flow) → Fits tb g h m fr → fl .uses ≡ usesEs (scopes g) es ++ us → fl .at ≡ b
       → Acted tb R n j d fr (counted j es) (nodesEs d es) us (endEs (scopes g) ms es b) (aheadsOf g ms es b) (codeEs (tb .place) g ms es b) fl
 
-  abbrev pub GivenEs : List Mark → Expressions → ℕ → ℕ → Type 0
+  abbrev pub GivenEs : List Around → Expressions → ℕ → ℕ → Type 0
   GivenEs g es d b =
       (n j p : ℕ) → Quiet n → (us : List Use) (fr : Frame) (fl : Flow) → Fits tb g h m fr → fl .uses ≡ usesEs (scopes g) es ++ us → fl .at ≡ b
       → Passed tb R (inGiven n j p fr) (inGiven n (counted j es) (lastPlace tb p es) fr) (nodesEs d es) us (endEs (scopes g) [] es b) (aheadsOf g [] es b) (λ t. t) (codeEs (tb .place) g [] es b) fl
 
-  module _ (g : List Mark) where
+  module _ (g : List Around) where
     given-then : (e : Expression) (es : Expressions) (d b : ℕ) → IsE g e d b → GivenEs g es d (endE (scopes g) e b) → GivenEs g (then e es) d b
     unfolding nodesE usesE endE aheadE codeE
     given-then e es d b x y n j p q us fr fl w u a =
@@ -152,7 +152,7 @@ module _ (tb : Tables) (R : Type 0) (h m : ℕ) where
         (t
         and-then (passed-acted us' [] [] n-actual (firstSymbol e) 0 0 (value-step tb (firstSymbol e) n j d fr (t .next) ∙ ap (λ (us : List Use). start tb n (j + 1) d fr (taken us (t .next))) (t .uses)) (t .at) (λ z c. tt) z))
 
-    name-then : (e : Expression) (ms : List Bool) (es : Expressions) (d b : ℕ) → Known (tb .key) (tb .layout) g → OkE (scopes g) e → IsE (acl ∷ g) e d (suc (suc (suc b)))
+    name-then : (e : Expression) (ms : List Bool) (es : Expressions) (d b : ℕ) → Known (tb .key) (tb .layout) g → OkE (scopes g) e → IsE (anActual ∷ g) e d (suc (suc (suc b)))
         → IsEs g ms es d (suc (endE (scopes g) e (suc (suc (suc b))))) → IsEs g (false ∷ ms) (then e es) d b
     unfolding nodesE usesE endE aheadE codeE
     name-then e ms es d b known ok x y n j q us fr fl w u a =
@@ -162,7 +162,7 @@ module _ (tb : Tables) (R : Type 0) (h m : ℕ) where
         named-acted tb g known e (q .0) ok u' (w .awaits) (w .level) t
         (y n (j + 1) (q .1) us fr (endFlow tb g known e (fl .slots) (endE (scopes g) e (suc (suc (suc b)))) (t .next)) w (t .uses) (ap suc (t .at)))
 
-  module _ (g : List Mark) (right : R → Targets (tb .key) (tb .entries) g) (known : Known (tb .key) (tb .layout) g) where
+  module _ (g : List Around) (right : R → Targets (tb .key) (tb .entries) g) (known : Known (tb .key) (tb .layout) g) where
     abbrev Called : Name → Expressions → ℕ → ℕ → Primary → Type 0
     Called x es d b pr =
         Emits tb R g h m (callNodes d 0 x (nodesEs (d + 1) es)) (used (scopes g) x ∷ usesEs (scopes g) es) b (endName pr (λ m b. endEs (scopes g) m es b) b) (aheadName (tb .place) (wordIn (tb .key) (tb .layout)) pr (λ m b k. aheadsOf g m es b k) b) (λ t. t) (codeName (tb .place) pr g x (count es) (λ m b r. codeEs (tb .place) g m es b r) b)
@@ -257,7 +257,7 @@ module _ (tb : Tables) (R : Type 0) (h m : ℕ) where
         go nothing i ok = absurd ok
 
   -- actuals one after the other, of which the first is handed over as it is called
-  acts-then : (g : List Mark) (e : Expression) (es : Expressions) (d : ℕ) → Known (tb .key) (tb .layout) g → OkE (scopes g) e → ((b : ℕ) → IsE g e d b) → ((b : ℕ) → IsE (acl ∷ g) e d b)
+  acts-then : (g : List Around) (e : Expression) (es : Expressions) (d : ℕ) → Known (tb .key) (tb .layout) g → OkE (scopes g) e → ((b : ℕ) → IsE g e d b) → ((b : ℕ) → IsE (anActual ∷ g) e d b)
       → ((ms : List Bool) (b : ℕ) → length ms ≡ count es → IsEs g ms es d b) → (ms : List Bool) (b : ℕ) → length ms ≡ suc (count es) → IsEs g ms (then e es) d b
   acts-then g e es d known ok x x' y [] b l = absurd (omega (arith, l))
   acts-then g e es d known ok x x' y (true ∷ ms) b l = value-then g e ms es d b (x b) (y ms (endE (scopes g) e b) (omega (arith, l)))
@@ -265,7 +265,7 @@ module _ (tb : Tables) (R : Type 0) (h m : ℕ) where
       let i = suc (suc (suc b)) in
       name-then g e ms es d b known ok (x' i) (y ms (suc (endE (scopes g) e i)) (omega (arith, l)))
 
-  acts-none : (g : List Mark) (d : ℕ) (ms : List Bool) (b : ℕ) → length ms ≡ 0 → IsEs g ms done d b
+  acts-none : (g : List Around) (d : ℕ) (ms : List Bool) (b : ℕ) → length ms ≡ 0 → IsEs g ms done d b
   unfolding nodesE usesE endE aheadE codeE
   acts-none g d [] b l n j q us fr fl w u a = acted-passed q (passed-nothing u a)
   acts-none g d (t ∷ ms) b l n j q us fr fl w u a = absurd (omega (arith, l))
@@ -275,13 +275,13 @@ module _ (tb : Tables) (R : Type 0) (h m : ℕ) where
   mutual
     unfolding nodesE usesE endE aheadE codeE count
 
-    pub emitsE : (g : List Mark) → (R → Targets (tb .key) (tb .entries) g) → Known (tb .key) (tb .layout) g → (e : Expression) (d b : ℕ) → OkE (scopes g) e → ToldE (Numbered tb) (Moded tb) (scopes g) e → IsE g e d b
+    pub emitsE : (g : List Around) → (R → Targets (tb .key) (tb .entries) g) → Known (tb .key) (tb .layout) g → (e : Expression) (d b : ℕ) → OkE (scopes g) e → ToldE (Numbered tb) (Moded tb) (scopes g) e → IsE g e d b
     emitsE g right known (number q v) d b ok n = number-part tb q v b n
     emitsE g right known (logical q t) d b ok n = logical-part tb q t b
     emitsE g right known (name x) d b ok n = name-part tb R g right known h m x d b ok
     emitsE g right known (call x e es) d b ok n =
         call-part g right known x e es d b
-        (λ ms b l. acts-then g e es (d + 1) known (ok .1) (λ b. emitsE g right known e (d + 1) b (ok .1) (n .1)) (λ b. emitsE (acl ∷ g) right known e (d + 1) b (ok .1) (n .1)) (λ ms b l. actsEs g right known es (d + 1) (ok .2) (n .2) ms b l) ms b l)
+        (λ ms b l. acts-then g e es (d + 1) known (ok .1) (λ b. emitsE g right known e (d + 1) b (ok .1) (n .1)) (λ b. emitsE (anActual ∷ g) right known e (d + 1) b (ok .1) (n .1)) (λ ms b l. actsEs g right known es (d + 1) (ok .2) (n .2) ms b l) ms b l)
         (λ b. given-then g e es (d + 1) b (emitsE g right known e (d + 1) b (ok .1) (n .1)) (givenEs g right known es (d + 1) (endE (scopes g) e b) (ok .2) (n .2))) (n .0) (ok .0)
     emitsE g right known (signed q o e) d b ok n = emitsE g right known e d b ok n closed-by sign-part tb q o (endE (scopes g) e b)
     emitsE g right known (operated q o e f) d b ok n =
@@ -292,12 +292,12 @@ module _ (tb : Tables) (R : Type 0) (h m : ℕ) where
         two-way true q r (emitsE g right known c (d + 1) b (ok .0) (n .0)) (emitsE g right known e (d + 1) (suc i) (ok .1) (n .1)) (emitsE g right known f (d + 1) (suc j) (ok .2) (n .2))
     emitsE g right known (nested q e) d b ok n = emitsE g right known e (d + 1) b ok n
 
-    pub actsEs : (g : List Mark) → (R → Targets (tb .key) (tb .entries) g) → Known (tb .key) (tb .layout) g → (es : Expressions) (d : ℕ) → OkEs (scopes g) es → ToldEs (Numbered tb) (Moded tb) (scopes g) es
+    pub actsEs : (g : List Around) → (R → Targets (tb .key) (tb .entries) g) → Known (tb .key) (tb .layout) g → (es : Expressions) (d : ℕ) → OkEs (scopes g) es → ToldEs (Numbered tb) (Moded tb) (scopes g) es
         → (ms : List Bool) (b : ℕ) → length ms ≡ count es → IsEs g ms es d b
     actsEs g right known done d ok n ms b l = acts-none g d ms b l
     actsEs g right known (then e es) d ok n ms b l =
-        acts-then g e es d known (ok .0) (λ b. emitsE g right known e d b (ok .0) (n .0)) (λ b. emitsE (acl ∷ g) right known e d b (ok .0) (n .0)) (λ ms b l. actsEs g right known es d (ok .1) (n .1) ms b l) ms b l
+        acts-then g e es d known (ok .0) (λ b. emitsE g right known e d b (ok .0) (n .0)) (λ b. emitsE (anActual ∷ g) right known e d b (ok .0) (n .0)) (λ ms b l. actsEs g right known es d (ok .1) (n .1) ms b l) ms b l
 
-    pub givenEs : (g : List Mark) → (R → Targets (tb .key) (tb .entries) g) → Known (tb .key) (tb .layout) g → (es : Expressions) (d b : ℕ) → OkEs (scopes g) es → ToldEs (Numbered tb) (Moded tb) (scopes g) es → GivenEs g es d b
+    pub givenEs : (g : List Around) → (R → Targets (tb .key) (tb .entries) g) → Known (tb .key) (tb .layout) g → (es : Expressions) (d b : ℕ) → OkEs (scopes g) es → ToldEs (Numbered tb) (Moded tb) (scopes g) es → GivenEs g es d b
     givenEs g right known done d b ok n = λ k j p q us fr fl w u a. passed-nothing u a
     givenEs g right known (then e es) d b ok n = given-then g e es d b (emitsE g right known e d b (ok .0) (n .0)) (givenEs g right known es d (endE (scopes g) e b) (ok .1) (n .1))

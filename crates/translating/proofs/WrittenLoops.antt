@@ -7,17 +7,17 @@ use mathlib.Core.Path.{_≡_, refl, ap, _∙_}
 use mathlib.Core.List.{List, [], _∷_, _++_, append-assoc}
 use lib.ListN.{length, set, length-append, length-set}
 use lib.Seq.{set-append-left}
-use Rattle.machine.specs.Instructions.{Instr, NEXT, pack}
+use Rattle.machine.specs.Instructions.{Instruction, NEXT, pack}
 use Rattle.grammar.specs.NodeKinds.{n-for, n-do, n-for-end}
 use Rattle.names.specs.Program.{Name, Element, Statement, repeat}
 use Rattle.names.specs.Scopes.{Scope, meaning}
 use Rattle.names.specs.Nodes.{node, mark, nodesL, nodesLs, nodesS}
-use Rattle.names.specs.Rows.{isUse}
+use Rattle.names.specs.model.Rows.{isUse}
 use Rattle.names.specs.Uses.{Use, used, usesL, usesS}
-use Rattle.translation.specs.Translate.{Mark, scopes, endL, endS, codeS}
-use Rattle.emitting.specs.Layout.{packed}
-use Rattle.translation.specs.Scoped.{OkW, OkL}
-use Rattle.emitting.specs.Emission.{opened, State, put, withOpen, withSlot, within, noted, pushed, popped, replaced, top, below, cellOf, repeated, useNode, loopNode, codeNode}
+use Rattle.translation.specs.model.Translate.{Around, scopes, endL, endS, codeS}
+use Rattle.emitting.specs.model.Layout.{packed}
+use Rattle.translation.specs.model.Scoped.{OkW, OkL}
+use Rattle.emitting.specs.model.Emission.{opened, State, put, withOpen, withSlot, within, noted, pushed, popped, replaced, top, below, cellOf, repeated, useNode, loopNode, codeNode}
 use Rattle.translating.proofs.ToldCalls.{ToldL}
 use Rattle.translating.proofs.SlotLists.{Fills, longer, then-slots, refill, slot-read, slot-past, slots-past, there, aheadS}
 use Rattle.translating.proofs.Written.{Tables, Frame, Flow, kindOf, meansOf, wrote, slotted, taken, put-real, slot-real, noted-real, step, state, Passed, Emits, wrote-right, goes-node, goes-then, passed-words, use-step}
@@ -81,7 +81,7 @@ module _ (tb : Tables) where
 next-word : (n m : ℕ) → n ≡ m → m < 64 → packed n 0 0 ≡ pack m 0 0
 next-word n m e h = omega arith
 
-module _ {tb : Tables} {R : Type 0} {wl wb : List ℕ} {us us' : List Use} {b i e v : ℕ} {A B E : List ℕ → List ℕ} {C : ℕ → ℕ → List Instr → List Instr} {D : List Instr → List Instr} where
+module _ {tb : Tables} {R : Type 0} {wl wb : List ℕ} {us us' : List Use} {b i e v : ℕ} {A B E : List ℕ → List ℕ} {C : ℕ → ℕ → List Instruction → List Instruction} {D : List Instruction → List Instruction} where
   -- the elements, which end at i, and the body
   loop-passed : (gs : List Scope) (x : Name) (d q m : ℕ) (us₀ : List Use) {fr : Frame} {fl : Flow} → fr .loops ≡ m → fl .uses ≡ used gs x ∷ us₀ → fl .at ≡ b
       → cellOf (tb .values) (tb .layout) (tb .ahead) (tb .entries) (fr .level) (kindOf (meaning gs x)) (meansOf (tb .key) (meaning gs x)) ≡ v
@@ -115,7 +115,7 @@ module _ {tb : Tables} {R : Type 0} {wl wb : List ℕ} {us us' : List Use} {b i 
             (wrote-right (NEXT m) 9 0 (packed (fr .loops) 0 0) (y .next .code) r refl (next-word (fr .loops) m ml (p₂ .1 .0)) ∙ p₂ .0 ∙ p₁ .0, p₂ .1 .1);
       }
 
-module _ (tb : Tables) (R : Type 0) (g : List Mark) (right : R → Targets (tb .key) (tb .entries) g) (known : Known (tb .key) (tb .layout) g) (m : ℕ) where
+module _ (tb : Tables) (R : Type 0) (g : List Around) (right : R → Targets (tb .key) (tb .entries) g) (known : Known (tb .key) (tb .layout) g) (m : ℕ) where
   pub loop-part : (x : Name) (l : Element) (ls : List Element) (s : Statement) (d b : ℕ) → OkW (scopes g) x → OkL (scopes g) (l ∷ ls) → ToldL (Numbered tb) (Moded tb) (scopes g) (l ∷ ls)
       → let i = endL (scopes g) x (l ∷ ls) b in
       Emits tb R g 0 (suc m) (nodesS (d + 1) s) (usesS (scopes g) s) i (endS (scopes g) s i) (aheadS (tb .place) (wordIn (tb .key) (tb .layout)) g s i) (enteredS (scopes g) s i) (codeS (tb .place) g (suc m) s i)

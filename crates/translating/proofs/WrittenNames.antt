@@ -11,21 +11,21 @@ use lib.IntN.{pos}
 use lib.ListN.{getD}
 use Rattle.machine.specs.Values
 use Rattle.machine.specs.Data.{Act, push, load, reserve, unary, binary, kept}
-use Rattle.machine.specs.Instructions.{Loc, fnd, Instr, DO, pack, high, low}
+use Rattle.machine.specs.Instructions.{Location, cellFound, Instruction, DO, pack, high, low}
 use Rattle.grammar.specs.NodeKinds.{n-unary, n-binary, n-number, n-logical, n-use}
 use Rattle.names.specs.Program.{Name, Sort, Sign, positive, negative, negation, Operator, times, over, plus, minus, less, atMost, equal, atLeast, greater, unequal, and, or, impl, equiv, done, Procedure}
 use Rattle.names.specs.Scopes.{Thing, variable, routine, formal, by-name, Declared, Scope, sortOf, Given, Meaning, declared, given, nothing, meaning}
 use Rattle.names.specs.Nodes.{node, mark, truth, signKind, operatorKind}
-use Rattle.names.specs.Rows.{isUse}
+use Rattle.names.specs.model.Rows.{isUse}
 use Rattle.names.specs.Uses.{Use, used}
 use Rattle.rules.specs.Entered.{oneIf, declaring}
 use Rattle.rules.specs.Calls.{Primary, held, worked, function, greatest, withType, thingAs, givenAs, primary, Way, direct, sought, thingWay, way}
 use Rattle.rules.specs.Rules.{binaryOf, maxint}
-use Rattle.translation.specs.Translate.{Mark, scopes, loc, spot, cutG, levels, amongG, target, endName, endSign, endWay, CALLS, WORKS, SEEKS, codeName, codeSign, codeWay}
-use Rattle.machine.specs.Words.{Parts, beside, partsOf, LocFits, ActFits, CodeFits, binaryNumber}
-use Rattle.translation.specs.Scoped.{CellAs, OkV, OkWay, OkW, OkPrimary}
-use Rattle.emitting.specs.Layout.{packed}
-use Rattle.emitting.specs.Emission.{State, put, withVariable, nameless, bare, foundWord, onCell, signed as signedAs, operationOf, largest, cellOf, resultOf, calledWith, resultFor, dropped, named, wordOf, namedOr, useNode, plainNode, codeNode}
+use Rattle.translation.specs.model.Translate.{Around, scopes, loc, spot, cutG, levels, amongG, target, endName, endSign, endWay, CALLS, WORKS, SEEKS, codeName, codeSign, codeWay}
+use Rattle.machine.specs.model.Words.{Parts, beside, partsOf, LocFits, ActFits, CodeFits, binaryNumber}
+use Rattle.translation.specs.model.Scoped.{CellAs, OkV, OkWay, OkW, OkPrimary}
+use Rattle.emitting.specs.model.Layout.{packed}
+use Rattle.emitting.specs.model.Emission.{State, put, withVariable, nameless, bare, foundWord, onCell, signed as signedAs, operationOf, largest, cellOf, resultOf, calledWith, resultFor, dropped, named, wordOf, namedOr, useNode, plainNode, codeNode}
 use Rattle.translating.proofs.Written.{Tables, Frame, Flow, useKind, kindOf, meansOf, taken, varied, putAll, past, Same, step, state, Emits, passed-all, emits-all, use-step}
 use Rattle.translating.proofs.NameWords.{Known, Targets, Celled, Sought, low-word, cell-is, sought-is, result-is, levels-is, target-is}
 use Rattle.translation.proofs.Ranges.{owns}
@@ -69,7 +69,7 @@ module _ (tb : Tables) where
   operation-is impl = refl
   operation-is equiv = refl
 
-  module _ {R : Type 0} {g : List Mark} {h m : ℕ} where
+  module _ {R : Type 0} {g : List Around} {h m : ℕ} where
     pub number-part : (q v b : ℕ) → getD (tb .values) q 0 ≡ v → Emits tb R g h m (mark n-number q) [] b (suc b) (λ k. k) (λ t. t) (λ r. DO (push (tb .place q) (pos v)) ∷ r)
     number-part q v b e = emits-all (λ fl. 0) (DO (push (tb .place q) (pos v)) ∷ []) (parts 12 (tb .place q) (getD (tb .values) q 0) ∷ []) n-number q 0 0 (number-step q) (λ z c. (ap (parts 12 (tb .place q)) e, tt))
 
@@ -94,15 +94,15 @@ packed-is : (u o l u' o' l' : ℕ) → u ≡ u' → o ≡ o' → l ≡ l' → u'
 packed-is u o l u' o' l' e f i h h' h'' = omega arith
 
 -- the word of a name, n activations in
-abbrev pub wordAt : Tables → List Mark → ℕ → Name → ℕ
+abbrev pub wordAt : Tables → List Around → ℕ → Name → ℕ
 wordAt tb g n x = cellOf (tb .values) (tb .layout) (tb .ahead) (tb .entries) n (kindOf (meaning (scopes g) x)) (meansOf (tb .key) (meaning (scopes g) x))
 
 -- a formal called by name: which it is of its activation, and how far out that is
-abbrev pub SoughtFits : List Mark → Name → Type 0
+abbrev pub SoughtFits : List Around → Name → Type 0
 SoughtFits g x = (levels (declaring x) g < 64) × (amongG (cutG (declaring x) g) x < 8191)
 
 -- the word is right, in range
-abbrev pub Worded : Way → List Mark → Name → ℕ → Type 0
+abbrev pub Worded : Way → List Around → Name → ℕ → Type 0
 Worded direct g x v = LocFits (loc g x) → Celled v (loc g x)
 Worded sought g x v = SoughtFits g x → Sought v (levels (declaring x) g) (amongG (cutG (declaring x) g) x)
 
@@ -122,7 +122,7 @@ module _ (tb : Tables) where
   unfolding useNode namedOr isUse
   name-step s d u fr fl gs x us k m w i e e' = use-step tb n-use s d u fr fl gs x us k m refl i e e' ∙ rw w
 
-  module _ (g : List Mark) (known : Known (tb .key) (tb .layout) g) where
+  module _ (g : List Around) (known : Known (tb .key) (tb .layout) g) where
     -- the word of a name that has a cell
     pub cell-word : (x : Name) (n k m : ℕ) → OkV (scopes g) x → n ≡ owns g → kindOf (meaning (scopes g) x) ≡ k → meansOf (tb .key) (meaning (scopes g) x) ≡ m
         → LocFits (loc g x) → Celled (cellOf (tb .values) (tb .layout) (tb .ahead) (tb .entries) n k m) (loc g x)
@@ -165,7 +165,7 @@ module _ (tb : Tables) where
         (packed-is _ c _ (levels (declaring x) g) n (target (cutG (declaring x) g) x) (levels-is (tb .key) (tb .layout) g x d h p known e j) f (target-is (tb .key) (tb .entries) g x d h p w e j) (fits .1) (fits .2) (fits .0))
 
   -- whether a name's cell is sought
-  pub seeks-is : (g : List Mark) (n : ℕ) (x : Name) → eqb (low (wordAt tb g n x)) 2 ≡ seeks (way (meaning (scopes g) x))
+  pub seeks-is : (g : List Around) (n : ℕ) (x : Name) → eqb (low (wordAt tb g n x)) 2 ≡ seeks (way (meaning (scopes g) x))
   unfolding way
   seeks-is g n x = go (meaning (scopes g) x)
     where
@@ -197,19 +197,19 @@ way-past direct o q p v e = refl
 way-past sought o q p v e = refl
 
 module _ (tb : Tables) where
-  abbrev pub wayInstrs : Way → List Mark → Name → (Loc → Act Loc) → List Instr
+  abbrev pub wayInstrs : Way → List Around → Name → (Location → Act Location) → List Instruction
   wayInstrs direct g x i = DO (i (loc g x)) ∷ []
-  wayInstrs sought g x i = SEEKS (tb .place) g x ∷ DO (i fnd) ∷ []
+  wayInstrs sought g x i = SEEKS (tb .place) g x ∷ DO (i cellFound) ∷ []
 
-  pub way-code : (w : Way) (g : List Mark) (x : Name) (i : Loc → Act Loc) (r : List Instr) → wayInstrs w g x i ++ r ≡ codeWay (tb .place) w g x (λ c. i (spot g c)) r
+  pub way-code : (w : Way) (g : List Around) (x : Name) (i : Location → Act Location) (r : List Instruction) → wayInstrs w g x i ++ r ≡ codeWay (tb .place) w g x (λ c. i (spot g c)) r
   unfolding codeWay
   way-code direct g x i r = refl
   way-code sought g x i r = refl
 
-  pub way-same : (w : Way) (g : List Mark) (x : Name) (i : Loc → Act Loc) (o q v : ℕ) → ((l : Loc) → partsOf (DO (i l)) ≡ parts o q (beside l 0)) → ((l : Loc) → ActFits (i l) → LocFits l)
+  pub way-same : (w : Way) (g : List Around) (x : Name) (i : Location → Act Location) (o q v : ℕ) → ((l : Location) → partsOf (DO (i l)) ≡ parts o q (beside l 0)) → ((l : Location) → ActFits (i l) → LocFits l)
       → Worded w g x v → CodeFits (wayInstrs w g x i) → Same (wayParts w o q (tb .place (x .symbol)) v) (wayInstrs w g x i)
   way-same direct g x i o q v e f h c = (ap (parts o q) (h (f (loc g x) (c .0)) .bared) ∙ sym (e (loc g x)), tt)
-  way-same sought g x i o q v e f h c = (ap (parts 41 (tb .place (x .symbol))) (h (c .0) .bared), (sym (e fnd), tt))
+  way-same sought g x i o q v e f h c = (ap (parts 41 (tb .place (x .symbol))) (h (c .0) .bared), (sym (e cellFound), tt))
 
 -- ---- names in expressions
 
@@ -234,7 +234,7 @@ module _ (tb : Tables) where
   unfolding named dropped put withVariable
   greatest-named m p a w st = refl
 
-module _ (tb : Tables) (R : Type 0) (g : List Mark) (right : R → Targets (tb .key) (tb .entries) g) (known : Known (tb .key) (tb .layout) g) (h m : ℕ) where
+module _ (tb : Tables) (R : Type 0) (g : List Around) (right : R → Targets (tb .key) (tb .entries) g) (known : Known (tb .key) (tb .layout) g) (h m : ℕ) where
   abbrev Named : Name → ℕ → ℕ → Primary → Type 0
   Named x d b pr =
       Emits tb R g h m (node n-use (x .symbol) d 0) (used (scopes g) x ∷ []) b (endName pr (λ m b. b) b) (λ k. k) (λ t. t) (codeName (tb .place) pr g x 0 (λ m b r. r) b)

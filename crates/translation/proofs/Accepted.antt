@@ -12,12 +12,12 @@ use borrow.Author.Tests.{eqb-true}
 use Rattle.symbols.specs.Text.{bytes}
 use Rattle.symbols.specs.Names.{sameName}
 use Rattle.names.specs.Program.{Name, Sort, integer, boolean, Expression, number, logical, name, call, signed, operated, chosen, nested, Expressions, done, then, count, Element, value, while, step, Statement, dummy, assignment, procedure, when, either, repeat, compound, block, Statements, last, first, Declarations, none as no-more, variables, declare, Procedure, heading, firstSymbol}
-use Rattle.names.specs.Scopes.{Thing, variable, routine, formal, by-name, Declared, Scope, ofBlock, ofBody, nameOf, sortOf, formalsOf, Wanted, an, variable-of, Given, environment, findIn, findGiven, innermost, Meaning, declared, given, nothing, meaning}
+use Rattle.names.specs.Scopes.{Thing, variable, routine, formal, by-name, Declared, Scope, ofBlock, ofBody, nameOf, sortOf, formalsOf, Wanted, an, variable-of, Given, environment, findIn, findGiven, foundElse, Meaning, declared, given, nothing, meaning}
 use Rattle.names.specs.Uses.{Use, used, usesE, usesEs, usesL, usesS, usesSs, usesD, usesP, scopesS, unmeant, meantOrNot, joined, nameFaults}
 use Rattle.types.specs.Types.{unlike, apart, when-so, applied, thingIn, inExpression, wantedBy, isVariable, thingOf, isName, sortE, misfit, misfits, faultsE, faultsEs, ownSort, ownResult, thingLeft, asLeft, leftOf, faultsLeft, thingCalled, miscalled, faultsFor, faultsL, faultsS, faultsSs, faultsD, faultsP, typeFaults}
 use Rattle.rules.specs.Entered.{oneIf, bodyOfThis}
 use Rattle.rules.specs.Calls.{primary, command, into, thingTold, givenTold, Way, direct, way, thingWay}
-use Rattle.translation.specs.Scoped.{nearest, HasCell, CellAs, OkV, OkWay, OkW, OkVs, MeansAs, OkPrimary, OkE, OkEs, OkL, OkCommand, OkS, OkSs, OkDs, OkP, Scoped}
+use Rattle.translation.specs.model.Scoped.{nearest, HasCell, CellAs, OkV, OkWay, OkW, OkVs, MeansAs, OkPrimary, OkE, OkEs, OkL, OkCommand, OkS, OkSs, OkDs, OkP, Scoped}
 
 -- ---- empty lists
 
@@ -98,7 +98,7 @@ unfolding meaning
 in-order [] x = in-order-given x
 in-order (s ∷ g) x = go (findIn (Rattle.names.specs.Scopes.declares s) x) (in-order g x)
   where
-    go : (o : Option Declared) → InOrder (meaning g x) → InOrder (innermost o (s ∷ g) (meaning g x))
+    go : (o : Option Declared) → InOrder (meaning g x) → InOrder (foundElse o (s ∷ g) (meaning g x))
     go none h = h
     go (some d) h = tt
 
@@ -566,4 +566,4 @@ mutual
 
 pub accepted-scoped : (s : Statement) → nameFaults s ≡ [] → typeFaults s ≡ [] → Scoped s
 unfolding nameFaults typeFaults
-accepted-scoped s n t = okS [] s (empty-right (joined Rattle.names.specs.Uses.innermost (scopesS [] s)) (joined unmeant (usesS [] s)) n, t)
+accepted-scoped s n t = okS [] s (empty-right (joined Rattle.names.specs.Uses.faultsHere (scopesS [] s)) (joined unmeant (usesS [] s)) n, t)

@@ -11,15 +11,15 @@ use lib.ListN.{getD, length}
 use Rattle.symbols.specs.Names.{sameName}
 use Rattle.symbols.specs.Text.{bytes}
 use Rattle.machine.specs.Data.{Fate, gone, Act, push, load, store, assign, reserve, forget, receive, send, keep, unary, binary, lend, channel, sum, Data, foundIn, actOn, Test, condition, upto, testOn}
-use Rattle.machine.specs.Instructions.{Instr, Loc, lc, fnd, RETURN}
-use Rattle.machine.specs.Machine.{Frame, fr, frameAt, linkOf, baseOf, base, walk, cellIn}
+use Rattle.machine.specs.Instructions.{Instruction, Location, located, cellFound, RETURN}
+use Rattle.machine.specs.Machine.{Activation, activation, activationAt, linkOf, baseOf, base, walk, cellIn}
 use Rattle.names.specs.Program.{Name, Sort, Specification, Declarations, none as no-more, variables, declare, Procedure, Expression, Expressions, done, then}
-use Rattle.names.specs.Scopes.{Thing, variable, routine, formal, by-name, formalAs, has, sortOf, valuesOf, nameOf, variablesIn, Declared, Scope, ofBlock, ofBody, inBlock, inBody, specified, specificationsOf, formalsOf, same, findIn, findGiven, Given, Meaning, declared, given, nothing, innermost, meaning}
+use Rattle.names.specs.Scopes.{Thing, variable, routine, formal, by-name, formalAs, has, sortOf, valuesOf, nameOf, variablesIn, Declared, Scope, ofBlock, ofBody, inBlock, inBody, specified, specificationsOf, formalsOf, same, findIn, findGiven, Given, Meaning, declared, given, nothing, foundElse, meaning}
 use Rattle.rules.specs.Entered.{Env, outside, entered, called, scopesOf, cellsOf, total, oneIf, cellsIn, before, placeIn, cut, isSome, declaring, bodyOfThis, among, firstOr, cellFor, cellAs, cellOf, actual, actualOf, standsIn}
 use Rattle.rules.specs.Calls.{Primary, held, worked, function, absolute, greatest, no-primary, primary, givenAs, withType, alone, thingAs, thingWay, Way, direct, sought, way}
 use Rattle.rules.specs.Rules.{Spot, here, there, cellAt}
-use Rattle.translation.specs.Translate.{Mark, blk, own, acl, scopes, cutG, levels, amongG, offsetOf, locFor, locAs, loc, spot, target, codeDs, storePart, codeE}
-use Rattle.translation.specs.Scoped.{nearest, HasCell, CellAs, OkV, MeansAs, OkDs, OkE}
+use Rattle.translation.specs.model.Translate.{Around, aBlock, aBody, anActual, scopes, cutG, levels, amongG, offsetOf, locFor, locAs, loc, spot, target, codeDs, storePart, codeE}
+use Rattle.translation.specs.model.Scoped.{nearest, HasCell, CellAs, OkV, MeansAs, OkDs, OkE}
 use Rattle.translation.proofs.Stands.{procedureOf, CodeAt, Ready, ready}
 use Rattle.translation.proofs.CellKinds.{Kind, nam, Plain, plain-eq}
 
@@ -194,66 +194,66 @@ given-only n (y ∷ l) x = go (sameName (bytes (y .spelling)) (x .letters)) (fin
     go false m e = e
 
 -- the innermost of these scopes declares d under the name
-abbrev Finds : List Mark → Name → Declared → Type 0
+abbrev Finds : List Around → Name → Declared → Type 0
 Finds [] x d = ⊥
-Finds (blk o ds b ∷ g) x d = findIn (inBlock ds) x ≡ some d
-Finds (own p ∷ g) x d = findIn (inBody p) x ≡ some d
-Finds (acl ∷ g) x d = ⊥
+Finds (aBlock o ds b ∷ g) x d = findIn (inBlock ds) x ≡ some d
+Finds (aBody p ∷ g) x d = findIn (inBody p) x ≡ some d
+Finds (anActual ∷ g) x d = ⊥
 
-found-in : (g : List Mark) (x : Name) (d : Declared) (h : List Scope) → meaning (scopes g) x ≡ declared d h → Finds (cutG (declaring x) g) x d
+found-in : (g : List Around) (x : Name) (d : Declared) (h : List Scope) → meaning (scopes g) x ≡ declared d h → Finds (cutG (declaring x) g) x d
 unfolding meaning cutG declaring
 found-in [] x d h e = absurd (Option·none-ne-some d (sym (given-only 0 _ x) ∙ ap isDeclared e))
-found-in (blk o ds b ∷ g) x d h e = go (findIn (inBlock ds) x) refl (found-in g x d h) e
+found-in (aBlock o ds b ∷ g) x d h e = go (findIn (inBlock ds) x) refl (found-in g x d h) e
   where
-    go : (i : Option Declared) → findIn (inBlock ds) x ≡ i → (meaning (scopes g) x ≡ declared d h → Finds (cutG (declaring x) g) x d) → innermost i (ofBlock ds ∷ scopes g) (meaning (scopes g) x) ≡ declared d h → Finds (cond (isSome i) (blk o ds b ∷ g) (cutG (declaring x) g)) x d
+    go : (i : Option Declared) → findIn (inBlock ds) x ≡ i → (meaning (scopes g) x ≡ declared d h → Finds (cutG (declaring x) g) x d) → foundElse i (ofBlock ds ∷ scopes g) (meaning (scopes g) x) ≡ declared d h → Finds (cond (isSome i) (aBlock o ds b ∷ g) (cutG (declaring x) g)) x d
     go none e' f e = f e
     go (some c) e' f e =
         let e₁ : c ≡ d = cc in
         e' ∙ ap some e₁
-found-in (own p ∷ g) x d h e = go (findIn (inBody p) x) refl (found-in g x d h) e
+found-in (aBody p ∷ g) x d h e = go (findIn (inBody p) x) refl (found-in g x d h) e
   where
-    go : (i : Option Declared) → findIn (inBody p) x ≡ i → (meaning (scopes g) x ≡ declared d h → Finds (cutG (declaring x) g) x d) → innermost i (ofBody p ∷ scopes g) (meaning (scopes g) x) ≡ declared d h → Finds (cond (isSome i) (own p ∷ g) (cutG (declaring x) g)) x d
+    go : (i : Option Declared) → findIn (inBody p) x ≡ i → (meaning (scopes g) x ≡ declared d h → Finds (cutG (declaring x) g) x d) → foundElse i (ofBody p ∷ scopes g) (meaning (scopes g) x) ≡ declared d h → Finds (cond (isSome i) (aBody p ∷ g) (cutG (declaring x) g)) x d
     go none e' f e = f e
     go (some c) e' f e =
         let e₁ : c ≡ d = cc in
         e' ∙ ap some e₁
-found-in (acl ∷ g) x d h e = found-in g x d h e
+found-in (anActual ∷ g) x d h e = found-in g x d h e
 
 -- how many result cells the innermost scope has
-abbrev resultsG : List Mark → ℕ
+abbrev resultsG : List Around → ℕ
 resultsG [] = 0
-resultsG (blk o ds b ∷ g) = 0
-resultsG (own p ∷ g) = oneIf (sortOf p)
-resultsG (acl ∷ g) = 0
+resultsG (aBlock o ds b ∷ g) = 0
+resultsG (aBody p ∷ g) = oneIf (sortOf p)
+resultsG (anActual ∷ g) = 0
 
-nearest-cut : (g : List Mark) (p : Procedure) → nearest (scopes g) p ≡ resultsG (cutG (bodyOfThis p) g)
+nearest-cut : (g : List Around) (p : Procedure) → nearest (scopes g) p ≡ resultsG (cutG (bodyOfThis p) g)
 unfolding nearest cutG
 nearest-cut [] p = refl
-nearest-cut (blk o ds b ∷ g) p = go (bodyOfThis p (ofBlock ds)) (nearest-cut g p)
+nearest-cut (aBlock o ds b ∷ g) p = go (bodyOfThis p (ofBlock ds)) (nearest-cut g p)
   where
-    go : (t : Bool) → nearest (scopes g) p ≡ resultsG (cutG (bodyOfThis p) g) → cond t 0 (nearest (scopes g) p) ≡ resultsG (cond t (blk o ds b ∷ g) (cutG (bodyOfThis p) g))
+    go : (t : Bool) → nearest (scopes g) p ≡ resultsG (cutG (bodyOfThis p) g) → cond t 0 (nearest (scopes g) p) ≡ resultsG (cond t (aBlock o ds b ∷ g) (cutG (bodyOfThis p) g))
     go true e = refl
     go false e = e
-nearest-cut (own p' ∷ g) p = go (bodyOfThis p (ofBody p')) (nearest-cut g p)
+nearest-cut (aBody p' ∷ g) p = go (bodyOfThis p (ofBody p')) (nearest-cut g p)
   where
-    go : (t : Bool) → nearest (scopes g) p ≡ resultsG (cutG (bodyOfThis p) g) → cond t (oneIf (sortOf p')) (nearest (scopes g) p) ≡ resultsG (cond t (own p' ∷ g) (cutG (bodyOfThis p) g))
+    go : (t : Bool) → nearest (scopes g) p ≡ resultsG (cutG (bodyOfThis p) g) → cond t (oneIf (sortOf p')) (nearest (scopes g) p) ≡ resultsG (cond t (aBody p' ∷ g) (cutG (bodyOfThis p) g))
     go true e = refl
     go false e = e
-nearest-cut (acl ∷ g) p = nearest-cut g p
+nearest-cut (anActual ∷ g) p = nearest-cut g p
 
 -- ---- a frame more
 
-at-older : (x : Frame) (fs : List Frame) (f : ℕ) → f < length fs → frameAt (x ∷ fs) f ≡ frameAt fs f
-unfolding frameAt
+at-older : (x : Activation) (fs : List Activation) (f : ℕ) → f < length fs → activationAt (x ∷ fs) f ≡ activationAt fs f
+unfolding activationAt
 at-older x fs f h =
     let e : suc (length fs) - suc f ≡ suc (length fs - suc f) = omega arith in
-    ap (λ n. getD (x ∷ fs) n (fr 0 0 0 gone 0 [])) e
+    ap (λ n. getD (x ∷ fs) n (activation 0 0 0 gone 0 [])) e
 
-pub at-newest : (x : Frame) (fs : List Frame) → frameAt (x ∷ fs) (length fs) ≡ x
-unfolding frameAt
+pub at-newest : (x : Activation) (fs : List Activation) → activationAt (x ∷ fs) (length fs) ≡ x
+unfolding activationAt
 at-newest x fs =
     let e : suc (length fs) - suc (length fs) ≡ 0 = omega arith in
-    ap (λ n. getD (x ∷ fs) n (fr 0 0 0 gone 0 [])) e
+    ap (λ n. getD (x ∷ fs) n (activation 0 0 0 gone 0 [])) e
 
 -- what is asked of the variables of an operation
 abbrev pub Vars : {X : Type 0} → (X → Type 0) → Act X → Type 0
@@ -285,17 +285,17 @@ abbrev pub OkSpot : List Scope → Spot → Type 0
 OkSpot g (here x) = OkV g x
 OkSpot g there = Unit {0}
 
-module _ (place : ℕ → ℕ) (P : List Instr) where
+module _ (place : ℕ → ℕ) (P : List Instruction) where
   -- the code of a name formal's actual stands at a: its store part, its read part two further; g: the scopes of the call
-  abbrev pub ActualAt : List Mark → Expression → ℕ → Type 0
-  ActualAt g e a = (r : List Instr) × CodeAt place P a (storePart place (acl ∷ g) e ∷ RETURN ∷ codeE place (acl ∷ g) e (suc (suc a)) (RETURN ∷ r)) × OkE (scopes g) e
+  abbrev pub ActualAt : List Around → Expression → ℕ → Type 0
+  ActualAt g e a = (r : List Instruction) × CodeAt place P a (storePart place (anActual ∷ g) e ∷ RETURN ∷ codeE place (anActual ∷ g) e (suc (suc a)) (RETURN ∷ r)) × OkE (scopes g) e
 
   -- the cells of the formals, from c on
-  abbrev pub ActualOne : (ℕ → Kind) → List Mark → Bool → Expression → ℕ → Type 0
+  abbrev pub ActualOne : (ℕ → Kind) → List Around → Bool → Expression → ℕ → Type 0
   ActualOne K g true e c = Plain (K c)
   ActualOne K g false e c = (a : ℕ) × (K c ≡ nam a) × ActualAt g e a
 
-  abbrev pub Actuals : (ℕ → Kind) → List Mark → List Name → List Name → Expressions → ℕ → Type 0
+  abbrev pub Actuals : (ℕ → Kind) → List Around → List Name → List Name → Expressions → ℕ → Type 0
   Actuals K g vs [] done c = Unit {0}
   Actuals K g vs [] (then e es) c = ⊥
   Actuals K g vs (x ∷ xs) done c = ⊥
@@ -304,77 +304,77 @@ module _ (place : ℕ → ℕ) (P : List Instr) where
   -- the entries of activation f begin at its base and their offset, those around belong to the activation around, and all cells are below z; the
   -- procedures of each block are well-scoped, and their code stands where the translator says; K: the kinds of the cells. A body's call was made by
   -- the activation before it, whose environment is such a chain too, and a name formal's cell says where its actual's code stands
-  pub data Chain (fs : List Frame) (K : ℕ → Kind) : ℕ → ℕ → List Mark → Env → Type 0 where
+  pub data Chain (fs : List Activation) (K : ℕ → Kind) : ℕ → ℕ → List Around → Env → Type 0 where
     root : {z : ℕ} → Chain fs K z 0 [] outside
-    inner : {z f o b : ℕ} {ds : Declarations} {g : List Mark} {v : Env} (r : List Instr) → CodeAt place P b (codeDs place (blk o ds b ∷ g) ds b r) → OkDs (ofBlock ds ∷ scopes g) ds → base fs f + o + cellsIn (ofBlock ds) ≤ z → Clear K (base fs f + o) (cellsIn (ofBlock ds)) → Chain fs K (base fs f + o) f g v → Chain fs K z f (blk o ds b ∷ g) (entered ds (base fs f + o) v)
-    link : {z f : ℕ} {p : Procedure} {es : Expressions} {g g' : List Mark} {v v' : Env} → f < length fs → baseOf (frameAt fs f) + cellsIn (ofBody p) ≤ z → (oneIf (sortOf p) ≡ 1 → Plain (K (baseOf (frameAt fs f)))) → Actuals K g' (valuesOf p) (formalsOf p) es (baseOf (frameAt fs f) + oneIf (sortOf p)) → Chain fs K (baseOf (frameAt fs f)) f g' v' → Chain fs K (baseOf (frameAt fs f)) (linkOf (frameAt fs f)) g v → Chain fs K z (suc f) (own p ∷ g) (called p (baseOf (frameAt fs f)) es v' v)
-    working : {z y f : ℕ} {g : List Mark} {v : Env} → f < length fs → suc y ≤ z → Chain fs K y (linkOf (frameAt fs f)) g v → Chain fs K z (suc f) (acl ∷ g) v
+    inner : {z f o b : ℕ} {ds : Declarations} {g : List Around} {v : Env} (r : List Instruction) → CodeAt place P b (codeDs place (aBlock o ds b ∷ g) ds b r) → OkDs (ofBlock ds ∷ scopes g) ds → base fs f + o + cellsIn (ofBlock ds) ≤ z → Clear K (base fs f + o) (cellsIn (ofBlock ds)) → Chain fs K (base fs f + o) f g v → Chain fs K z f (aBlock o ds b ∷ g) (entered ds (base fs f + o) v)
+    link : {z f : ℕ} {p : Procedure} {es : Expressions} {g g' : List Around} {v v' : Env} → f < length fs → baseOf (activationAt fs f) + cellsIn (ofBody p) ≤ z → (oneIf (sortOf p) ≡ 1 → Plain (K (baseOf (activationAt fs f)))) → Actuals K g' (valuesOf p) (formalsOf p) es (baseOf (activationAt fs f) + oneIf (sortOf p)) → Chain fs K (baseOf (activationAt fs f)) f g' v' → Chain fs K (baseOf (activationAt fs f)) (linkOf (activationAt fs f)) g v → Chain fs K z (suc f) (aBody p ∷ g) (called p (baseOf (activationAt fs f)) es v' v)
+    working : {z y f : ℕ} {g : List Around} {v : Env} → f < length fs → suc y ≤ z → Chain fs K y (linkOf (activationAt fs f)) g v → Chain fs K z (suc f) (anActual ∷ g) v
 
-  pub chain-more : (fs : List Frame) {K : ℕ → Kind} {z z' f : ℕ} {g : List Mark} {v : Env} → Chain fs K z f g v → z ≤ z' → Chain fs K z' f g v
+  pub chain-more : (fs : List Activation) {K : ℕ → Kind} {z z' f : ℕ} {g : List Around} {v : Env} → Chain fs K z f g v → z ≤ z' → Chain fs K z' f g v
   chain-more fs root le = root
   chain-more fs {z' = z'} (inner {f = f} {o = o} {ds = ds} r h k w u c) le =
       let w' : base fs f + o + cellsIn (ofBlock ds) ≤ z' = omega arith in
       inner r h k w' u c
   chain-more fs {z' = z'} (link {f = f} {p = p} h w u a c' c) le =
-      let w' : baseOf (frameAt fs f) + cellsIn (ofBody p) ≤ z' = omega arith in
+      let w' : baseOf (activationAt fs f) + cellsIn (ofBody p) ≤ z' = omega arith in
       link h w' u a c' c
   chain-more fs {z' = z'} (working {y = y} h w c) le =
       let w' : suc y ≤ z' = omega arith in
       working h w' c
 
   -- kinds of cells above do not matter
-  one-as : (K K' : ℕ → Kind) (g : List Mark) (m : Bool) (e : Expression) (c : ℕ) → K c ≡ K' c → ActualOne K g m e c → ActualOne K' g m e c
+  one-as : (K K' : ℕ → Kind) (g : List Around) (m : Bool) (e : Expression) (c : ℕ) → K c ≡ K' c → ActualOne K g m e c → ActualOne K' g m e c
   one-as K K' g true e c i h = plain-eq (K c) (K' c) i h
   one-as K K' g false e c i h = (h .0, sym i ∙ h .1, h .2)
 
-  actuals-as : (K K' : ℕ → Kind) (g : List Mark) (vs xs : List Name) (es : Expressions) (c z : ℕ) → c + length xs ≤ z → ((c : ℕ) → c < z → K c ≡ K' c) → Actuals K g vs xs es c → Actuals K' g vs xs es c
+  actuals-as : (K K' : ℕ → Kind) (g : List Around) (vs xs : List Name) (es : Expressions) (c z : ℕ) → c + length xs ≤ z → ((c : ℕ) → c < z → K c ≡ K' c) → Actuals K g vs xs es c → Actuals K' g vs xs es c
   actuals-as K K' g vs [] done c z le i h = tt
   actuals-as K K' g vs [] (then e es) c z le i h = absurd h
   actuals-as K K' g vs (x ∷ xs) done c z le i h = absurd h
   actuals-as K K' g vs (x ∷ xs) (then e es) c z le i h = (one-as K K' g (has vs x) e c (i c (omega arith)) (h .0), actuals-as K K' g vs xs es (suc c) z (omega arith) i (h .1))
 
-  pub chain-as : (fs : List Frame) {K : ℕ → Kind} (K' : ℕ → Kind) {z f : ℕ} {g : List Mark} {v : Env} → Chain fs K z f g v → ((c : ℕ) → c < z → K c ≡ K' c) → Chain fs K' z f g v
+  pub chain-as : (fs : List Activation) {K : ℕ → Kind} (K' : ℕ → Kind) {z f : ℕ} {g : List Around} {v : Env} → Chain fs K z f g v → ((c : ℕ) → c < z → K c ≡ K' c) → Chain fs K' z f g v
   chain-as fs K' root i = root
   chain-as fs {K} K' {z = z} (inner {f = f} {o = o} {ds = ds} r h k w u c) i =
       let u' : Clear K' (base fs f + o) (cellsIn (ofBlock ds)) = (λ n l. plain-eq (K (base fs f + o + n)) (K' (base fs f + o + n)) (i (base fs f + o + n) (omega arith)) (u n l)) in
       inner r h k w u' (chain-as fs K' c (λ n l. i n (omega arith)))
   chain-as fs {K} K' {z = z} (link {f = f} {p = p} {es = es} {g' = g'} h w u a c' c) i =
       let e = body-cells p in
-      let b = baseOf (frameAt fs f) in
+      let b = baseOf (activationAt fs f) in
       let u' : oneIf (sortOf p) ≡ 1 → Plain (K' b) = (λ l. plain-eq (K b) (K' b) (i b (omega arith)) (u l)) in
       link h w u' (actuals-as K K' g' (valuesOf p) (formalsOf p) es (b + oneIf (sortOf p)) z (omega arith) i a) (chain-as fs K' c' (λ n l. i n (omega arith))) (chain-as fs K' c (λ n l. i n (omega arith)))
   chain-as fs K' (working h w c) i = working h w (chain-as fs K' c (λ n l. i n (omega arith)))
 
   -- the environment and the translator know the same scopes
-  pub chain-scopes : (fs : List Frame) {K : ℕ → Kind} {z f : ℕ} {g : List Mark} {v : Env} → Chain fs K z f g v → scopesOf v ≡ scopes g
+  pub chain-scopes : (fs : List Activation) {K : ℕ → Kind} {z f : ℕ} {g : List Around} {v : Env} → Chain fs K z f g v → scopesOf v ≡ scopes g
   chain-scopes fs root = refl
   chain-scopes fs (inner {ds = ds} r h k w u c) = ap (λ g. ofBlock ds ∷ g) (chain-scopes fs c)
   chain-scopes fs (link {p = p} h w u a c' c) = ap (λ g. ofBody p ∷ g) (chain-scopes fs c)
   chain-scopes fs (working h w c) = chain-scopes fs c
 
   -- a block left
-  pub chain-outer : (fs : List Frame) {K : ℕ → Kind} {z f o b n : ℕ} {ds ds' : Declarations} {g : List Mark} {v : Env} → Chain fs K z f (blk o ds b ∷ g) (entered ds' n v) → Chain fs K (base fs f + o) f g v
+  pub chain-outer : (fs : List Activation) {K : ℕ → Kind} {z f o b n : ℕ} {ds ds' : Declarations} {g : List Around} {v : Env} → Chain fs K z f (aBlock o ds b ∷ g) (entered ds' n v) → Chain fs K (base fs f + o) f g v
   chain-outer fs (inner r h k w u c) = c
 
   -- out to a scope
-  pub chain-cut : (fs : List Frame) (t : Scope → Bool) {K : ℕ → Kind} {z f : ℕ} {g : List Mark} {v : Env} → Chain fs K z f g v → Chain fs K z (walk fs f (levels t g)) (cutG t g) (cut t v)
+  pub chain-cut : (fs : List Activation) (t : Scope → Bool) {K : ℕ → Kind} {z f : ℕ} {g : List Around} {v : Env} → Chain fs K z f g v → Chain fs K z (walk fs f (levels t g)) (cutG t g) (cut t v)
   unfolding cut cutG levels walk
   chain-cut fs t root = root
   chain-cut fs t {K} (inner {z = z} {f = f} {o = o} {b = b} {ds = ds} {g = g} {v = v} r h k w u c) = go (t (ofBlock ds)) (chain-more fs (chain-cut fs t c) (omega arith))
     where
-      go : (y : Bool) → Chain fs K z (walk fs f (levels t g)) (cutG t g) (cut t v) → Chain fs K z (walk fs f (cond y 0 (levels t g))) (cond y (blk o ds b ∷ g) (cutG t g)) (cond y (entered ds (base fs f + o) v) (cut t v))
+      go : (y : Bool) → Chain fs K z (walk fs f (levels t g)) (cutG t g) (cut t v) → Chain fs K z (walk fs f (cond y 0 (levels t g))) (cond y (aBlock o ds b ∷ g) (cutG t g)) (cond y (entered ds (base fs f + o) v) (cut t v))
       go true x = inner r h k w u c
       go false x = x
   chain-cut fs t {K} (link {z = z} {f = f} {p = p} {es = es} {g = g} {v = v} {v' = v'} h w u a c' c) = go (t (ofBody p)) (chain-more fs (chain-cut fs t c) (omega arith))
     where
-      go : (y : Bool) → Chain fs K z (walk fs (linkOf (frameAt fs f)) (levels t g)) (cutG t g) (cut t v) → Chain fs K z (walk fs (suc f) (cond y 0 (suc (levels t g)))) (cond y (own p ∷ g) (cutG t g)) (cond y (called p (baseOf (frameAt fs f)) es v' v) (cut t v))
+      go : (y : Bool) → Chain fs K z (walk fs (linkOf (activationAt fs f)) (levels t g)) (cutG t g) (cut t v) → Chain fs K z (walk fs (suc f) (cond y 0 (suc (levels t g)))) (cond y (aBody p ∷ g) (cutG t g)) (cond y (called p (baseOf (activationAt fs f)) es v' v) (cut t v))
       go true x = link h w u a c' c
       go false x = x
   chain-cut fs t (working h w c) = chain-more fs (chain-cut fs t c) (omega arith)
 
   -- ---- the machine finds the cell that the source means, it is below z, and no name formal's
 
-  value-plain : (K : ℕ → Kind) (g : List Mark) (ss : List Specification) (vs xs : List Name) (es : Expressions) (c : ℕ) (x : Name) (d : Declared) → Actuals K g vs xs es c → findIn (map (formalIn ss vs) xs) x ≡ some d → Valued (d .thing) → Plain (K (c + before (map (formalIn ss vs) xs) x))
+  value-plain : (K : ℕ → Kind) (g : List Around) (ss : List Specification) (vs xs : List Name) (es : Expressions) (c : ℕ) (x : Name) (d : Declared) → Actuals K g vs xs es c → findIn (map (formalIn ss vs) xs) x ≡ some d → Valued (d .thing) → Plain (K (c + before (map (formalIn ss vs) xs) x))
   unfolding findIn before
   value-plain K g ss vs [] es c x d h e n = absurd (Option·none-ne-some d e)
   value-plain K g ss vs (y ∷ ys) done c x d h e n = absurd h
@@ -395,7 +395,7 @@ module _ (place : ℕ → ℕ) (P : List Instr) where
           let e' : suc c + before (map (formalIn ss vs) ys) x ≡ c + (1 + before (map (formalIn ss vs) ys) x) = omega arith in
           plain-eq _ _ (ap K e') (f e)
 
-  chain-cell : (fs : List Frame) (n : ℕ) (x : Name) (d : Declared) {K : ℕ → Kind} {z f : ℕ} {g : List Mark} {v : Env} → Chain fs K z f g v → Finds g x d → Valued (d .thing) → (base fs f + amongG g x ≡ among n v x) × (among n v x < z) × Plain (K (among n v x))
+  chain-cell : (fs : List Activation) (n : ℕ) (x : Name) (d : Declared) {K : ℕ → Kind} {z f : ℕ} {g : List Around} {v : Env} → Chain fs K z f g v → Finds g x d → Valued (d .thing) → (base fs f + amongG g x ≡ among n v x) × (among n v x < z) × Plain (K (among n v x))
   unfolding inBody
   chain-cell fs n x d root e h = absurd e
   chain-cell fs n x d {K} (inner {f = f} {o = o} {ds = ds} r k i w p c) e h =
@@ -403,24 +403,24 @@ module _ (place : ℕ → ℕ) (P : List Instr) where
       (omega arith, omega arith, p (placeIn (ofBlock ds) x) (omega arith))
   chain-cell fs n x d {K} (link {f = f} {p = p} {es = es} {g' = g'} k w y a c' c) e h =
       let u = bound (inBody p) x d e (valued-one (d .thing) h) in
-      let b = baseOf (frameAt fs f) in
+      let b = baseOf (activationAt fs f) in
       let q = value-plain K g' (specificationsOf p) (valuesOf p) (formalsOf p) es (b + oneIf (sortOf p)) x d a e h in
       let i : b + oneIf (sortOf p) + before (inBody p) x ≡ b + (oneIf (sortOf p) + before (inBody p) x) = omega arith in
       (omega arith, omega arith, plain-eq _ _ (ap K i) q)
   chain-cell fs n x d (working k w c) e h = absurd e
 
-  chain-result : (fs : List Frame) (n : ℕ) {K : ℕ → Kind} {z f : ℕ} {g : List Mark} {v : Env} → Chain fs K z f g v → resultsG g ≡ 1 → (base fs f + offsetOf g ≡ firstOr n v) × (firstOr n v < z) × Plain (K (firstOr n v))
+  chain-result : (fs : List Activation) (n : ℕ) {K : ℕ → Kind} {z f : ℕ} {g : List Around} {v : Env} → Chain fs K z f g v → resultsG g ≡ 1 → (base fs f + offsetOf g ≡ firstOr n v) × (firstOr n v < z) × Plain (K (firstOr n v))
   chain-result fs n root h = absurd (omega arith)
   chain-result fs n (inner r k o w u c) h = absurd (omega arith)
   chain-result fs n (link k w u a c' c) h = (omega arith, omega arith, u h)
   chain-result fs n (working k w c) h = absurd (omega arith)
 
   -- seen from activation f, the place is the cell
-  abbrev pub At : List Frame → ℕ → Loc → ℕ → Type 0
-  At fs f (lc u o) c = base fs (walk fs f u) + o ≡ c
-  At fs f fnd c = ⊥
+  abbrev pub At : List Activation → ℕ → Location → ℕ → Type 0
+  At fs f (located u o) c = base fs (walk fs f u) + o ≡ c
+  At fs f cellFound c = ⊥
 
-  pub found : {K : ℕ → Kind} {z f : ℕ} {fs : List Frame} {g : List Mark} {v : Env} → Chain fs K z f g v → (n : ℕ) (x : Name) → OkV (scopes g) x → At fs f (loc g x) (cellOf n v x) × (cellOf n v x < z) × Plain (K (cellOf n v x))
+  pub found : {K : ℕ → Kind} {z f : ℕ} {fs : List Activation} {g : List Around} {v : Env} → Chain fs K z f g v → (n : ℕ) (x : Name) → OkV (scopes g) x → At fs f (loc g x) (cellOf n v x) × (cellOf n v x < z) × Plain (K (cellOf n v x))
   unfolding loc cellOf
   found {K = K} {z = z} {f = f} {fs = fs} {g = g} {v = v} c n x o = rw (chain-scopes fs c) (go (meaning (scopes g) x) refl o)
     where
@@ -436,23 +436,23 @@ module _ (place : ℕ → ℕ) (P : List Instr) where
       go nothing e o = absurd o
 
   -- in a working out a variable's cell is further below
-  pub found-under : {K : ℕ → Kind} {z f : ℕ} {fs : List Frame} {g : List Mark} {v : Env} → Chain fs K z f (acl ∷ g) v → (n : ℕ) (x : Name) → OkV (scopes g) x → suc (cellOf n v x) < z
+  pub found-under : {K : ℕ → Kind} {z f : ℕ} {fs : List Activation} {g : List Around} {v : Env} → Chain fs K z f (anActual ∷ g) v → (n : ℕ) (x : Name) → OkV (scopes g) x → suc (cellOf n v x) < z
   found-under {fs = fs} (working h w c) n x o =
       let u = found c n x o in
       omega arith
 
-  at-cell : (fs : List Frame) (d : Data) (l : Loc) (c : ℕ) → At fs (length fs) l c → cellIn fs d l ≡ c
+  at-cell : (fs : List Activation) (d : Data) (l : Location) (c : ℕ) → At fs (length fs) l c → cellIn fs d l ≡ c
   unfolding cellIn
-  at-cell fs d (lc u o) c e = e
-  at-cell fs d fnd c e = absurd e
+  at-cell fs d (located u o) c e = e
+  at-cell fs d cellFound c e = absurd e
 
   -- so an operation on variables is the same operation on cells
-  same-spot : {K : ℕ → Kind} {z : ℕ} {fs : List Frame} {g : List Mark} {v : Env} → Chain fs K z (length fs) g v → (d d' : Data) → foundIn d ≡ foundIn d' → (s : Spot) → OkSpot (scopes g) s → cellIn fs d (spot g s) ≡ cellAt d' v s
+  same-spot : {K : ℕ → Kind} {z : ℕ} {fs : List Activation} {g : List Around} {v : Env} → Chain fs K z (length fs) g v → (d d' : Data) → foundIn d ≡ foundIn d' → (s : Spot) → OkSpot (scopes g) s → cellIn fs d (spot g s) ≡ cellAt d' v s
   unfolding cellIn
   same-spot {fs = fs} {g = g} c d d' e (here x) o = at-cell fs d (loc g x) _ (found c _ x o .0)
   same-spot c d d' e there o = e
 
-  pub same-act : {K : ℕ → Kind} {z : ℕ} {fs : List Frame} {g : List Mark} {v : Env} → Chain fs K z (length fs) g v → (d d' : Data) → foundIn d ≡ foundIn d' → (a : Act Spot) → Vars (OkSpot (scopes g)) a → actOn (cellIn fs d) (actOn (spot g) a) ≡ actOn (cellAt d' v) a
+  pub same-act : {K : ℕ → Kind} {z : ℕ} {fs : List Activation} {g : List Around} {v : Env} → Chain fs K z (length fs) g v → (d d' : Data) → foundIn d ≡ foundIn d' → (a : Act Spot) → Vars (OkSpot (scopes g)) a → actOn (cellIn fs d) (actOn (spot g) a) ≡ actOn (cellAt d' v) a
   same-act c d d' e (push q i) o = refl
   same-act c d d' e (load q x) o = ap (load q) (same-spot c d d' e x o)
   same-act c d d' e (store x) o = ap store (same-spot c d d' e x o)
@@ -468,17 +468,17 @@ module _ (place : ℕ → ℕ) (P : List Instr) where
   same-act c d d' e (channel q) o = refl
   same-act c d d' e (sum q x) o = ap (sum q) (same-spot c d d' e x o)
 
-  pub same-test : {K : ℕ → Kind} {z : ℕ} {fs : List Frame} {g : List Mark} {v : Env} → Chain fs K z (length fs) g v → (d d' : Data) → foundIn d ≡ foundIn d' → (a : Test Spot) → VarsT (OkSpot (scopes g)) a → testOn (cellIn fs d) (testOn (spot g) a) ≡ testOn (cellAt d' v) a
+  pub same-test : {K : ℕ → Kind} {z : ℕ} {fs : List Activation} {g : List Around} {v : Env} → Chain fs K z (length fs) g v → (d d' : Data) → foundIn d ≡ foundIn d' → (a : Test Spot) → VarsT (OkSpot (scopes g)) a → testOn (cellIn fs d) (testOn (spot g) a) ≡ testOn (cellAt d' v) a
   same-test c d d' e condition o = refl
   same-test c d d' e (upto q x) o = ap (upto q) (same-spot c d d' e x o)
 
   -- ---- what a name formal stands for
 
   -- x is a name formal of activation f, with actual e: its cell says where that one's code stands; the activation before made the call
-  pub data Stood (fs : List Frame) (K : ℕ → Kind) (z f : ℕ) (g : List Mark) (v : Env) (x : Name) : Type 0 where
-    stood : {y a : ℕ} {g' : List Mark} {v' : Env} (e : Expression) → standsIn v x ≡ actual e v' → K (base fs f + amongG g x) ≡ nam a → base fs f + amongG g x < z → suc y ≤ z → Chain fs K y (f - 1) g' v' → ActualAt g' e a → Stood fs K z f g v x
+  pub data Stood (fs : List Activation) (K : ℕ → Kind) (z f : ℕ) (g : List Around) (v : Env) (x : Name) : Type 0 where
+    stood : {y a : ℕ} {g' : List Around} {v' : Env} (e : Expression) → standsIn v x ≡ actual e v' → K (base fs f + amongG g x) ≡ nam a → base fs f + amongG g x < z → suc y ≤ z → Chain fs K y (f - 1) g' v' → ActualAt g' e a → Stood fs K z f g v x
 
-  name-actual : (K : ℕ → Kind) (g : List Mark) (v : Env) (ss : List Specification) (vs xs : List Name) (es : Expressions) (c : ℕ) (x : Name) (d : Declared) → Actuals K g vs xs es c → findIn (map (formalIn ss vs) xs) x ≡ some d → ByName (d .thing) → (e : Expression) × (a : ℕ) × (actualOf v xs es x ≡ actual e v) × (K (c + before (map (formalIn ss vs) xs) x) ≡ nam a) × ActualAt g e a
+  name-actual : (K : ℕ → Kind) (g : List Around) (v : Env) (ss : List Specification) (vs xs : List Name) (es : Expressions) (c : ℕ) (x : Name) (d : Declared) → Actuals K g vs xs es c → findIn (map (formalIn ss vs) xs) x ≡ some d → ByName (d .thing) → (e : Expression) × (a : ℕ) × (actualOf v xs es x ≡ actual e v) × (K (c + before (map (formalIn ss vs) xs) x) ≡ nam a) × ActualAt g e a
   unfolding findIn before actualOf
   name-actual K g v ss vs [] es c x d h e n = absurd (Option·none-ne-some d e)
   name-actual K g v ss vs (y ∷ ys) done c x d h e n = absurd h
@@ -507,13 +507,13 @@ module _ (place : ℕ → ℕ) (P : List Instr) where
   by-name-one (by-name t) h = refl
   by-name-one (routine p) h = absurd h
 
-  chain-stood : (fs : List Frame) (x : Name) (d : Declared) {K : ℕ → Kind} {z f : ℕ} {g : List Mark} {v : Env} → Chain fs K z f g v → Finds g x d → ByName (d .thing) → Stood fs K z f g v x
+  chain-stood : (fs : List Activation) (x : Name) (d : Declared) {K : ℕ → Kind} {z f : ℕ} {g : List Around} {v : Env} → Chain fs K z f g v → Finds g x d → ByName (d .thing) → Stood fs K z f g v x
   unfolding inBody
   chain-stood fs x d root e n = absurd e
   chain-stood fs x d (inner {ds = ds} r h k w u c) e n = absurd (none-by-name ds x d e n)
   chain-stood fs x d {K} (link {z = z} {f = f} {p = p} {es = es} {g' = g'} {v' = v'} h w u a c' c) e n =
       let i = bound (inBody p) x d e (by-name-one (d .thing) n) in
-      let b = baseOf (frameAt fs f) in
+      let b = baseOf (activationAt fs f) in
       let q = name-actual K g' v' (specificationsOf p) (valuesOf p) (formalsOf p) es (b + oneIf (sortOf p)) x d a e n in
       let j : b + (oneIf (sortOf p) + before (inBody p) x) ≡ b + oneIf (sortOf p) + before (inBody p) x = omega arith in
       let l : b + (oneIf (sortOf p) + before (inBody p) x) < z = omega arith in
@@ -523,7 +523,7 @@ module _ (place : ℕ → ℕ) (P : List Instr) where
       stood (q .0) (q .2) (ap K j ∙ q .3) l l' c'' (q .4)
   chain-stood fs x d (working h w c) e n = absurd e
 
-  pub stands-for : {K : ℕ → Kind} {z f : ℕ} (fs : List Frame) (x : Name) {g : List Mark} {v : Env} → Chain fs K z f g v → NamedAs (meaning (scopes g) x) → Stood fs K z (walk fs f (levels (declaring x) g)) (cutG (declaring x) g) (cut (declaring x) v) x
+  pub stands-for : {K : ℕ → Kind} {z f : ℕ} (fs : List Activation) (x : Name) {g : List Around} {v : Env} → Chain fs K z f g v → NamedAs (meaning (scopes g) x) → Stood fs K z (walk fs f (levels (declaring x) g)) (cutG (declaring x) g) (cut (declaring x) v) x
   stands-for {K} {z} {f} fs x {g} {v} c o = go (meaning (scopes g) x) refl o
     where
       go : (m : Meaning) → meaning (scopes g) x ≡ m → NamedAs m → Stood fs K z (walk fs f (levels (declaring x) g)) (cutG (declaring x) g) (cut (declaring x) v) x
@@ -533,17 +533,17 @@ module _ (place : ℕ → ℕ) (P : List Instr) where
 
   -- ---- an activation more
 
-  chain-in : (fs : List Frame) {K : ℕ → Kind} {z f : ℕ} {g : List Mark} {v : Env} → Chain fs K z f g v → f ≤ length fs
+  chain-in : (fs : List Activation) {K : ℕ → Kind} {z f : ℕ} {g : List Around} {v : Env} → Chain fs K z f g v → f ≤ length fs
   chain-in fs root = omega arith
   chain-in fs (inner r h k w u c) = chain-in fs c
   chain-in fs (link h w u a c' c) = h
   chain-in fs (working h w c) = h
 
-  base-older : (x : Frame) (fs : List Frame) (f : ℕ) → f ≤ length fs → base (x ∷ fs) f ≡ base fs f
+  base-older : (x : Activation) (fs : List Activation) (f : ℕ) → f ≤ length fs → base (x ∷ fs) f ≡ base fs f
   base-older x fs zero h = refl
   base-older x fs (suc f) h = ap baseOf (at-older x fs f h)
 
-  pub chain-older : (x : Frame) (fs : List Frame) {K : ℕ → Kind} {z f : ℕ} {g : List Mark} {v : Env} → Chain fs K z f g v → Chain (x ∷ fs) K z f g v
+  pub chain-older : (x : Activation) (fs : List Activation) {K : ℕ → Kind} {z f : ℕ} {g : List Around} {v : Env} → Chain fs K z f g v → Chain (x ∷ fs) K z f g v
   chain-older x fs root = root
   chain-older x fs {K} (inner {z = z} {f = f} {o = o} {ds = ds} r h k w u c) =
       let e = base-older x fs f (chain-in fs c) in
@@ -552,47 +552,47 @@ module _ (place : ℕ → ℕ) (P : List Instr) where
       rw (← e) (inner r h k w' u' (chain-more (x ∷ fs) (chain-older x fs c) (omega (arith, e))))
   chain-older x fs {K} (link {z = z} {f = f} {p = p} {es = es} {g = g} {g' = g'} {v = v} {v' = v'} h w u a c' c) =
       let e = at-older x fs f h in
-      let y' : Chain (x ∷ fs) K (baseOf (frameAt (x ∷ fs) f)) f g' v' = rw e (chain-older x fs c') in
-      let y : Chain (x ∷ fs) K (baseOf (frameAt (x ∷ fs) f)) (linkOf (frameAt (x ∷ fs) f)) g v = rw e (chain-older x fs c) in
-      let w' : baseOf (frameAt (x ∷ fs) f) + cellsIn (ofBody p) ≤ z = rw e w in
-      let u' : oneIf (sortOf p) ≡ 1 → Plain (K (baseOf (frameAt (x ∷ fs) f))) = rw e u in
-      let a' : Actuals K g' (valuesOf p) (formalsOf p) es (baseOf (frameAt (x ∷ fs) f) + oneIf (sortOf p)) = rw e a in
+      let y' : Chain (x ∷ fs) K (baseOf (activationAt (x ∷ fs) f)) f g' v' = rw e (chain-older x fs c') in
+      let y : Chain (x ∷ fs) K (baseOf (activationAt (x ∷ fs) f)) (linkOf (activationAt (x ∷ fs) f)) g v = rw e (chain-older x fs c) in
+      let w' : baseOf (activationAt (x ∷ fs) f) + cellsIn (ofBody p) ≤ z = rw e w in
+      let u' : oneIf (sortOf p) ≡ 1 → Plain (K (baseOf (activationAt (x ∷ fs) f))) = rw e u in
+      let a' : Actuals K g' (valuesOf p) (formalsOf p) es (baseOf (activationAt (x ∷ fs) f) + oneIf (sortOf p)) = rw e a in
       rw (← e) (link {f = f} {p = p} (omega arith) w' u' a' y' y)
   chain-older x fs {K} (working {z = z} {y = y} {f = f} {g = g} {v = v} h w c) =
       let e = at-older x fs f h in
-      let c' : Chain (x ∷ fs) K y (linkOf (frameAt (x ∷ fs) f)) g v = rw e (chain-older x fs c) in
+      let c' : Chain (x ∷ fs) K y (linkOf (activationAt (x ∷ fs) f)) g v = rw e (chain-older x fs c) in
       working {f = f} (omega arith) w c'
 
-  pub chain-new : (r b l z : ℕ) (p : Procedure) (es : Expressions) (t : Fate) (q : ℕ) (ps : List ℕ) (fs : List Frame) {K : ℕ → Kind} {g g' : List Mark} {v v' : Env} → b + cellsIn (ofBody p) ≤ z → (oneIf (sortOf p) ≡ 1 → Plain (K b)) → Actuals K g' (valuesOf p) (formalsOf p) es (b + oneIf (sortOf p)) → Chain fs K b (length fs) g' v' → Chain fs K b l g v → Chain (fr r b l t q ps ∷ fs) K z (suc (length fs)) (own p ∷ g) (called p b es v' v)
+  pub chain-new : (r b l z : ℕ) (p : Procedure) (es : Expressions) (t : Fate) (q : ℕ) (ps : List ℕ) (fs : List Activation) {K : ℕ → Kind} {g g' : List Around} {v v' : Env} → b + cellsIn (ofBody p) ≤ z → (oneIf (sortOf p) ≡ 1 → Plain (K b)) → Actuals K g' (valuesOf p) (formalsOf p) es (b + oneIf (sortOf p)) → Chain fs K b (length fs) g' v' → Chain fs K b l g v → Chain (activation r b l t q ps ∷ fs) K z (suc (length fs)) (aBody p ∷ g) (called p b es v' v)
   chain-new r b l z p es t q ps fs {K} {g} {g'} {v} {v'} le u a c' c =
-      let x : Frame = fr r b l t q ps in
+      let x : Activation = activation r b l t q ps in
       let e = at-newest x fs in
-      let y' : Chain (x ∷ fs) K (baseOf (frameAt (x ∷ fs) (length fs))) (length fs) g' v' = rw e (chain-older x fs c') in
-      let y : Chain (x ∷ fs) K (baseOf (frameAt (x ∷ fs) (length fs))) (linkOf (frameAt (x ∷ fs) (length fs))) g v = rw e (chain-older x fs c) in
-      let le' : baseOf (frameAt (x ∷ fs) (length fs)) + cellsIn (ofBody p) ≤ z = rw e le in
-      let u' : oneIf (sortOf p) ≡ 1 → Plain (K (baseOf (frameAt (x ∷ fs) (length fs)))) = rw e u in
-      let a' : Actuals K g' (valuesOf p) (formalsOf p) es (baseOf (frameAt (x ∷ fs) (length fs)) + oneIf (sortOf p)) = rw e a in
-      let w : Chain (x ∷ fs) K z (suc (length fs)) (own p ∷ g) (called p (baseOf (frameAt (x ∷ fs) (length fs))) es v' v) = link {f = length fs} {p = p} (omega arith) le' u' a' y' y in
+      let y' : Chain (x ∷ fs) K (baseOf (activationAt (x ∷ fs) (length fs))) (length fs) g' v' = rw e (chain-older x fs c') in
+      let y : Chain (x ∷ fs) K (baseOf (activationAt (x ∷ fs) (length fs))) (linkOf (activationAt (x ∷ fs) (length fs))) g v = rw e (chain-older x fs c) in
+      let le' : baseOf (activationAt (x ∷ fs) (length fs)) + cellsIn (ofBody p) ≤ z = rw e le in
+      let u' : oneIf (sortOf p) ≡ 1 → Plain (K (baseOf (activationAt (x ∷ fs) (length fs)))) = rw e u in
+      let a' : Actuals K g' (valuesOf p) (formalsOf p) es (baseOf (activationAt (x ∷ fs) (length fs)) + oneIf (sortOf p)) = rw e a in
+      let w : Chain (x ∷ fs) K z (suc (length fs)) (aBody p ∷ g) (called p (baseOf (activationAt (x ∷ fs) (length fs))) es v' v) = link {f = length fs} {p = p} (omega arith) le' u' a' y' y in
       rw e at w
 
   -- a working out
-  pub chain-work : (r b l y z : ℕ) (t : Fate) (q : ℕ) (ps : List ℕ) (fs : List Frame) {K : ℕ → Kind} {g : List Mark} {v : Env} → suc y ≤ z → Chain fs K y l g v → Chain (fr r b l t q ps ∷ fs) K z (suc (length fs)) (acl ∷ g) v
+  pub chain-work : (r b l y z : ℕ) (t : Fate) (q : ℕ) (ps : List ℕ) (fs : List Activation) {K : ℕ → Kind} {g : List Around} {v : Env} → suc y ≤ z → Chain fs K y l g v → Chain (activation r b l t q ps ∷ fs) K z (suc (length fs)) (anActual ∷ g) v
   chain-work r b l y z t q ps fs {K} {g} {v} le c =
-      let x : Frame = fr r b l t q ps in
+      let x : Activation = activation r b l t q ps in
       let e = at-newest x fs in
-      let c' : Chain (x ∷ fs) K y (linkOf (frameAt (x ∷ fs) (length fs))) g v = rw e (chain-older x fs c) in
+      let c' : Chain (x ∷ fs) K y (linkOf (activationAt (x ∷ fs) (length fs))) g v = rw e (chain-older x fs c) in
       working {f = length fs} (omega arith) le c'
 
   -- ---- the procedure that is called: where its code stands
 
-  ready-at : (fs : List Frame) (x : Name) (d : Declared) (p : Procedure) {K : ℕ → Kind} {z f : ℕ} {g : List Mark} {v : Env} → Chain fs K z f g v → Finds g x d → d .thing ≡ routine p → Ready place P g p (target g x)
+  ready-at : (fs : List Activation) (x : Name) (d : Declared) (p : Procedure) {K : ℕ → Kind} {z f : ℕ} {g : List Around} {v : Env} → Chain fs K z f g v → Finds g x d → d .thing ≡ routine p → Ready place P g p (target g x)
   unfolding inBody
   ready-at fs x d p root e e' = absurd e
   ready-at fs x d p (inner {b = b} {ds = ds} r h k w u c) e e' = ready place P _ ds b r x d p h k e e'
   ready-at fs x d p (link {p = p'} h w u a c' c) e e' = absurd (no-routine (specificationsOf p') (valuesOf p') (formalsOf p') x d p e e')
   ready-at fs x d p (working h w c) e e' = absurd e
 
-  pub callee : (fs : List Frame) (x : Name) (p : Procedure) {K : ℕ → Kind} {z f : ℕ} {g : List Mark} {v : Env} → Chain fs K z f g v → MeansAs (meaning (scopes g) x) p → Ready place P (cutG (declaring x) g) p (target (cutG (declaring x) g) x)
+  pub callee : (fs : List Activation) (x : Name) (p : Procedure) {K : ℕ → Kind} {z f : ℕ} {g : List Around} {v : Env} → Chain fs K z f g v → MeansAs (meaning (scopes g) x) p → Ready place P (cutG (declaring x) g) p (target (cutG (declaring x) g) x)
   callee fs x p {g = g} c o = go (meaning (scopes g) x) refl o
     where
       go : (m : Meaning) → meaning (scopes g) x ≡ m → MeansAs m p → Ready place P (cutG (declaring x) g) p (target (cutG (declaring x) g) x)

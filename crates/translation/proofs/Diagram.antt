@@ -14,17 +14,17 @@ use Rattle.machine.specs.declared.Cell.the-variants.{Unset, Named}
 use Rattle.machine.specs.Values
 use Rattle.machine.specs.Values.{truth}
 use Rattle.machine.specs.Run.{quiet, next}
-use Rattle.machine.specs.Data.{Data, cells, Res, bad, wrong, good, lift, guard, Act, push, load, store, assign, reserve, forget, receive, send, keep, unary, binary, lend, channel, sum, foundIn, look, nameCell, actOn, work, downs, yea, nay, either as byTest, Test, condition, upto, testOn, test, downsT, openBlock, closeBlock, enter, Fate, kept, gone, leave, dat}
-use Rattle.machine.specs.Instructions.{Instr, DO, IF, JUMP, GO, NEXT, END}
-use Rattle.machine.specs.Machine.{Frame, fr, Mach, ms, baseOf, base, walk, floor, cellIn, cellAt as cellHere, workOut, stray, exec, obey, start}
+use Rattle.machine.specs.Data.{Data, cells, Result, bad, wrong, good, lift, guard, Act, push, load, store, assign, reserve, forget, receive, send, keep, unary, binary, lend, channel, sum, foundIn, look, nameCell, actOn, work, downs, yea, nay, either as byTest, Test, condition, upto, testOn, test, downsT, openBlock, closeBlock, enter, Fate, kept, gone, leave, contents}
+use Rattle.machine.specs.Instructions.{Instruction, DO, IF, JUMP, GO, NEXT, END}
+use Rattle.machine.specs.Machine.{Activation, activation, Running, running, baseOf, base, walk, floor, cellIn, cellAt as cellHere, workOut, stray, exec, obey, start}
 use Rattle.names.specs.Program.{Name, Sort, positive, negative, negation, Expression, number, logical, name, call, signed, operated, chosen, nested, Expressions, done, then, count, Element, value, while, step, Statement, dummy, assignment, procedure, when, either, repeat, compound, block, Statements, last, first, Procedure, heading}
 use Rattle.names.specs.Scopes.{Thing, routine, ofBlock, ofBody, sortOf, bodyOf, modesOf, valuesOf, formalsOf, Meaning, declared, given, nothing, meaning}
 use Rattle.rules.specs.Entered.{Env, outside, entered, called, scopesOf, oneIf, cellsIn, cut, declaring, cellOf, standsFor}
 use Rattle.rules.specs.Calls.{Primary, held, worked, function, absolute, greatest, no-primary, primary, Command, routine-of, absolute-of, greatest-of, input-to, output-of, no-command, command, thingTold, into, givenTold, Way, direct, sought, way}
-use Rattle.rules.specs.Rules.{stepping, Spot, here, there, Task, ev, evs, ex, exs, stores, loop, act, unchanged, tested, add, trying, summing, settling, seek, find, receiving, return, State, st, noRule, binaryOf, maxint, cellAt, doing, testing, at, reads, seeks, finds, storing, taking-in, passing, adding, evaluate, calls, perform, entering, calling, sstep, beginning}
-use Rattle.translation.specs.Translate.{Mark, blk, own, acl, scopes, cutG, levels, amongG, spot, reach, target, endName, endE, endEs, endWay, endSum, endStep, onward, endStores, endCall, endTake, endCommand, endS, endSs, CALLS, WORKS, storeName, storePart, codeName, codeE, codeEs, codeWay, codeTest, codeSum, codeL, codeStores, codeCall, codeTake, codeCommand, codeS, codeSs, codeP, code}
-use Rattle.translation.specs.Scoped.{OkV, OkWay, OkW, OkVs, OkE, OkEs, OkL, OkS, OkSs, OkP, OkCall, OkPrimary, OkCommand, MeansAs, Scoped}
-use Rattle.translation.specs.Listed.{instructionAt, stepIn}
+use Rattle.rules.specs.Rules.{stepping, Spot, here, there, Task, evaluate, giveAll, begin, goThrough, stores, loop, act, unchanged, tested, add, trying, summing, settling, seek, find, receiving, return, State, state, noRule, binaryOf, maxint, cellAt, doing, testing, at, reads, seeks, finds, storing, taking-in, passing, adding, evaluates, calls, perform, entering, calling, rule, beginning}
+use Rattle.translation.specs.model.Translate.{Around, aBlock, aBody, anActual, scopes, cutG, levels, amongG, spot, reach, target, endName, endE, endEs, endWay, endSum, endStep, onward, endStores, endCall, endTake, endCommand, endS, endSs, CALLS, WORKS, storeName, storePart, codeName, codeE, codeEs, codeWay, codeTest, codeSum, codeL, codeStores, codeCall, codeTake, codeCommand, codeS, codeSs, codeP, code}
+use Rattle.translation.specs.model.Scoped.{OkV, OkWay, OkW, OkVs, OkE, OkEs, OkL, OkS, OkSs, OkP, OkCall, OkPrimary, OkCommand, MeansAs, Scoped}
+use Rattle.translation.specs.model.Listed.{instructionAt, stepIn}
 use Rattle.translation.specs.Faithful.{Ordinary}
 use Rattle.translation.proofs.Sim as Sim
 use Rattle.translation.proofs.Sim.{hop, free, both, stop}
@@ -94,45 +94,45 @@ same-nest n x y = go (eqb n n) (eqb-refl n)
 -- what the source does with no instruction: rules that are no step of the list, a statement's beginning, the sign +
 pub data Aside : State → ℕ → Type 0 where
   idle : {s : State} → Aside s 0
-  begins : {x : Statement} {k : List Task} {v : Env} {d : Data} {n : ℕ} → Aside (st (ex x ∷ k) v d) n
-  plus : {k : List Task} {v : Env} {d : Data} {n : ℕ} → Aside (st (unchanged ∷ k) v d) n
+  begins : {x : Statement} {k : List Task} {v : Env} {d : Data} {n : ℕ} → Aside (state (begin x ∷ k) v d) n
+  plus : {k : List Task} {v : Env} {d : Data} {n : ℕ} → Aside (state (unchanged ∷ k) v d) n
 
-module _ (place : ℕ → ℕ) (P : List Instr) where
-  abbrev D : ℕ → Mach → State → Type 0
-  D = Sim.Diag (sstep place) (stepIn P) size (Rel place P) 16 Ordinary Aside
+module _ (place : ℕ → ℕ) (P : List Instruction) where
+  abbrev D : ℕ → Running → State → Type 0
+  D = Sim.Diag (rule place) (stepIn P) size (Rel place P) 16 Ordinary Aside
 
   -- the instruction at pc is known
-  now : {i : Instr} (pc : ℕ) (ps : List ℕ) (fs : List Frame) (d : Data) → instructionAt P pc ≡ some i → stepIn P (ms pc ps fs d) ≡ exec i pc ps fs d
+  now : {i : Instruction} (pc : ℕ) (ps : List ℕ) (fs : List Activation) (d : Data) → instructionAt P pc ≡ some i → stepIn P (running pc ps fs d) ≡ exec i pc ps fs d
   unfolding stepIn obey
   now pc ps fs d e = ap (λ o. obey o pc ps fs d) e
 
   -- one operation on both sides, with one result but for addresses, and nothing wrong
-  same : {A B : Type 0} {p : ℕ} {m : Mach} {s : State} (Q : A → Type 0) (u : A → B) (k p' : ℕ) (w : Stop) (r : Res A) (f : B → State) (g : A → Mach) → sstep place s ≡ lift noRule k f (onRes u r) → stepIn P m ≡ lift w 1 g r → All Q r → ((a : A) → Q a → Rel place P p' (g a) (f (u a))) → suc p' ≤ p + 16 * k → k ≤ 1 → D p m s
+  same : {A B : Type 0} {p : ℕ} {m : Running} {s : State} (Q : A → Type 0) (u : A → B) (k p' : ℕ) (w : Stop) (r : Result A) (f : B → State) (g : A → Running) → rule place s ≡ lift noRule k f (onRes u r) → stepIn P m ≡ lift w 1 g r → All Q r → ((a : A) → Q a → Rel place P p' (g a) (f (u a))) → suc p' ≤ p + 16 * k → k ≤ 1 → D p m s
   unfolding lift onRes
   same Q u k p' w (bad a q) f g e e' h t le lk = stop e e' (inl h)
   same Q u k p' w wrong f g e e' h t le lk = absurd h
   same Q u k p' w (good o x) f g e e' h t le lk = both e e' lk (t x h) le
 
   -- a step that counts one, and the same operation on the data
-  acts : {p pc' j : ℕ} {m : Mach} {s : State} {g : List Mark} {ks kt : List Kind} {ps : List ℕ} {fs : List Frame} {k : List Task} {v : Env} (w : Stop) (r r' : Res Data) → r' ≡ onRes blank r → Does place P pc' g ks kt ps fs k v j → Here place P fs g kt v → All (FitsD (ks ++ kt) (heldK k)) r → due k ≤ 3 → j ≤ p → sstep place s ≡ lift noRule 1 (st k v) r' → stepIn P m ≡ lift w 1 (ms pc' ps fs) r → D p m s
-  acts {j = j} {ks = ks} {kt = kt} {k = k} {v = v} w r r' eb x c u wd le e e' = same (FitsD (ks ++ kt) (heldK k)) blank 1 (j + 3) w r _ _ (e ∙ ap (lift noRule 1 (st k v)) eb) e' u (λ a z. rel x (stands (c .0) (c .1) z) (λ h. absurd (omega arith)) (omega (arith, owed-most k))) (omega arith) (omega arith)
+  acts : {p pc' j : ℕ} {m : Running} {s : State} {g : List Around} {ks kt : List Kind} {ps : List ℕ} {fs : List Activation} {k : List Task} {v : Env} (w : Stop) (r r' : Result Data) → r' ≡ onRes blank r → Does place P pc' g ks kt ps fs k v j → Here place P fs g kt v → All (FitsD (ks ++ kt) (heldK k)) r → due k ≤ 3 → j ≤ p → rule place s ≡ lift noRule 1 (state k v) r' → stepIn P m ≡ lift w 1 (running pc' ps fs) r → D p m s
+  acts {j = j} {ks = ks} {kt = kt} {k = k} {v = v} w r r' eb x c u wd le e e' = same (FitsD (ks ++ kt) (heldK k)) blank 1 (j + 3) w r _ _ (e ∙ ap (lift noRule 1 (state k v)) eb) e' u (λ a z. rel x (stands (c .0) (c .1) z) (λ h. absurd (omega arith)) (omega (arith, owed-most k))) (omega arith) (omega arith)
 
   -- the machine's own test of its floor
-  over-floor : {A : Type 0} (n m : ℕ) (r : Res A) → n ≤ m → guard (leb n m) r ≡ r
+  over-floor : {A : Type 0} (n m : ℕ) (r : Result A) → n ≤ m → guard (leb n m) r ≡ r
   over-floor n m r h = guard-yes (leb n m) r (le→leb n m h)
 
   -- an operation that names variables: on the machine
-  acted : {fs : List Frame} {g : List Mark} {kt : List Kind} {v : Env} {n : ℕ} (ks : List Kind) (d : Data) (a : Act Spot) → Stand place P fs g (takes a ks) kt v n d → Vars (OkSpot (scopes g)) a → guard (leb (floor fs + downs (actOn (spot g) a)) (cells d)) (work (actOn (cellIn fs d) (actOn (spot g) a)) d) ≡ work (actOn (cellAt (blank d) v) a) d
+  acted : {fs : List Activation} {g : List Around} {kt : List Kind} {v : Env} {n : ℕ} (ks : List Kind) (d : Data) (a : Act Spot) → Stand place P fs g (takes a ks) kt v n d → Vars (OkSpot (scopes g)) a → guard (leb (floor fs + downs (actOn (spot g) a)) (cells d)) (work (actOn (cellIn fs d) (actOn (spot g) a)) d) ≡ work (actOn (cellAt (blank d) v) a) d
   acted {fs = fs} {g = g} {kt = kt} {v = v} {n = n} ks d a (stands c e f) o = over-floor (floor fs + downs (actOn (spot g) a)) (cells d) _ (omega (arith, e, downs-on (spot g) a, taken-length a ks kt, fits-cells (takes a ks ++ kt) n d f, length-append ks kt)) ∙ ap (λ a. work a d) (same-act place P c d (blank d) (found-blank d) a o)
 
   -- a variable has a cell in use; the cell found is one
-  seen : {fs : List Frame} {g : List Mark} {v : Env} (ks kt : List Kind) (d : Data) → Chain place P fs (kindAt kt) (length kt) (length fs) g v → (s : Spot) → OkSpot (scopes g) s → (1 ≤ wantsX s → Usable (ks ++ kt) (foundIn d)) → Usable (ks ++ kt) (cellAt (blank d) v s)
+  seen : {fs : List Activation} {g : List Around} {v : Env} (ks kt : List Kind) (d : Data) → Chain place P fs (kindAt kt) (length kt) (length fs) g v → (s : Spot) → OkSpot (scopes g) s → (1 ≤ wantsX s → Usable (ks ++ kt) (foundIn d)) → Usable (ks ++ kt) (cellAt (blank d) v s)
   seen {v = v} ks kt d c (here x) o fd =
       let u = found place P c (cells (blank d)) x o in
       (omega (arith, u .1, length-append ks kt), plain-eq (kindAt kt (cellOf (cells (blank d)) v x)) (kindAt (ks ++ kt) (cellOf (cells (blank d)) v x)) (sym (kind-above ks kt (cellOf (cells (blank d)) v x) (u .1))) (u .2))
   seen ks kt d c there o fd = rw (← found-blank d) (fd (omega arith))
 
-  seen-all : {fs : List Frame} {g : List Mark} {v : Env} (ks kt : List Kind) (d : Data) → Chain place P fs (kindAt kt) (length kt) (length fs) g v → (a : Act Spot) → Vars (OkSpot (scopes g)) a → (1 ≤ wantsA a → Found (takes a ks ++ kt) d) → Vars (λ s. Usable (ks ++ kt) (cellAt (blank d) v s)) a
+  seen-all : {fs : List Activation} {g : List Around} {v : Env} (ks kt : List Kind) (d : Data) → Chain place P fs (kindAt kt) (length kt) (length fs) g v → (a : Act Spot) → Vars (OkSpot (scopes g)) a → (1 ≤ wantsA a → Found (takes a ks ++ kt) d) → Vars (λ s. Usable (ks ++ kt) (cellAt (blank d) v s)) a
   seen-all ks kt d c (push q v) o fd = tt
   seen-all ks kt d c (load q s) o fd = seen ks kt d c s o (λ h. found-level (ks ++ kt) d (fd h))
   seen-all ks kt d c (store s) o fd = seen ks kt d c s o (λ h. found-below val (ks ++ kt) d (fd h))
@@ -148,50 +148,50 @@ module _ (place : ℕ → ℕ) (P : List Instr) where
   seen-all ks kt d c (channel q) o fd = tt
   seen-all ks kt d c (sum q s) o fd = seen ks kt d c s o (λ h. found-below val (ks ++ kt) d (fd h))
 
-  seen-test : {fs : List Frame} {g : List Mark} {v : Env} (ks kt : List Kind) (d : Data) → Chain place P fs (kindAt kt) (length kt) (length fs) g v → (t : Test Spot) → VarsT (OkSpot (scopes g)) t → (1 ≤ wantsV t → Found (takesT t ks ++ kt) d) → VarsT (λ s. Usable (ks ++ kt) (cellAt (blank d) v s)) t
+  seen-test : {fs : List Activation} {g : List Around} {v : Env} (ks kt : List Kind) (d : Data) → Chain place P fs (kindAt kt) (length kt) (length fs) g v → (t : Test Spot) → VarsT (OkSpot (scopes g)) t → (1 ≤ wantsV t → Found (takesT t ks ++ kt) d) → VarsT (λ s. Usable (ks ++ kt) (cellAt (blank d) v s)) t
   seen-test ks kt d c condition o fd = tt
   seen-test ks kt d c (upto q s) o fd = seen ks kt d c s o (λ h. found-below val (ks ++ kt) d (fd h))
 
   -- what comes of it
-  comes : {fs : List Frame} {g : List Mark} {kt : List Kind} {v : Env} (n : ℕ) (ks : List Kind) (d : Data) (a : Act Spot) → Stand place P fs g (takes a ks) kt v (needs a n) d → Vars (OkSpot (scopes g)) a → (1 ≤ wantsA a → Found (takes a ks ++ kt) d) → All (FitsD (gives a ks ++ kt) (holds a n)) (work (actOn (cellAt (blank d) v) a) d)
+  comes : {fs : List Activation} {g : List Around} {kt : List Kind} {v : Env} (n : ℕ) (ks : List Kind) (d : Data) (a : Act Spot) → Stand place P fs g (takes a ks) kt v (needs a n) d → Vars (OkSpot (scopes g)) a → (1 ≤ wantsA a → Found (takes a ks ++ kt) d) → All (FitsD (gives a ks ++ kt) (holds a n)) (work (actOn (cellAt (blank d) v) a) d)
   comes {g = g} {kt = kt} {v = v} n ks d a (stands c e f) o fd =
       let f' : FitsD (takes a (ks ++ kt)) (needs a n) d = rw (← takes-on a ks kt) f in
       rw (gives-on a ks kt) (works (cellAt (blank d) v) a (ks ++ kt) n d f' (seen-all ks kt d c a o fd))
 
   -- an operation that is a step
-  does : {p pc j : ℕ} {s : State} {g : List Mark} {kt : List Kind} {ps : List ℕ} {fs : List Frame} {k : List Task} {v : Env} (ks : List Kind) (d : Data) (a : Act Spot) → instructionAt P pc ≡ some (DO (actOn (spot g) a)) → Vars (OkSpot (scopes g)) a → Level a → Does place P (suc pc) g (gives a ks) kt ps fs k v j → due k ≤ 3 → Stand place P fs g (takes a ks) kt v (heldK k) d → (1 ≤ wantsA a → Found (takes a ks ++ kt) d) → j ≤ p → sstep place s ≡ lift noRule 1 (st k v) (doing a v (blank d)) → D p (ms pc ps fs d) s
+  does : {p pc j : ℕ} {s : State} {g : List Around} {kt : List Kind} {ps : List ℕ} {fs : List Activation} {k : List Task} {v : Env} (ks : List Kind) (d : Data) (a : Act Spot) → instructionAt P pc ≡ some (DO (actOn (spot g) a)) → Vars (OkSpot (scopes g)) a → Level a → Does place P (suc pc) g (gives a ks) kt ps fs k v j → due k ≤ 3 → Stand place P fs g (takes a ks) kt v (heldK k) d → (1 ≤ wantsA a → Found (takes a ks ++ kt) d) → j ≤ p → rule place s ≡ lift noRule 1 (state k v) (doing a v (blank d)) → D p (running pc ps fs d) s
   unfolding exec
   does {pc = pc} {g = g} {kt = kt} {ps = ps} {fs = fs} {k = k} {v = v} ks d a i o lv x wd (stands c z f) fd le e =
       let f' : Stand place P fs g (takes a ks) kt v (needs a (heldK k)) d = rw (lv (heldK k) .0) (stands c z f) in
       let w : All (FitsD (gives a ks ++ kt) (heldK k)) (work (actOn (cellAt (blank d) v) a) d) = rw (lv (heldK k) .1) at (comes (heldK k) ks d a f' o fd) in
-      acts _ _ _ (work-blank (actOn (cellAt (blank d) v) a) d) x (c, z) w wd le e (now _ _ _ d i ∙ ap (lift (stray pc) 1 (ms (suc pc) ps fs)) (acted ks d a (stands c z f) o))
+      acts _ _ _ (work-blank (actOn (cellAt (blank d) v) a) d) x (c, z) w wd le e (now _ _ _ d i ∙ ap (lift (stray pc) 1 (running (suc pc) ps fs)) (acted ks d a (stands c z f) o))
 
   -- the same that counts n steps, or changes or uses the held values
-  counted : {p pc j : ℕ} {s : State} {g : List Mark} {kt : List Kind} {ps : List ℕ} {fs : List Frame} {v : Env} (i n : ℕ) (ks : List Kind) (d : Data) (a : Act Spot) (k : List Task) → instructionAt P pc ≡ some (DO (actOn (spot g) a)) → Vars (OkSpot (scopes g)) a → Does place P (suc pc) g (gives a ks) kt ps fs k v j → due k ≤ 3 → heldK k ≡ holds a n → Stand place P fs g (takes a ks) kt v (needs a n) d → (1 ≤ wantsA a → Found (takes a ks ++ kt) d) → suc (j + owed k) ≤ p + 16 * i → i ≤ 1 → sstep place s ≡ lift noRule i (st k v) (doing a v (blank d)) → D p (ms pc ps fs d) s
+  counted : {p pc j : ℕ} {s : State} {g : List Around} {kt : List Kind} {ps : List ℕ} {fs : List Activation} {v : Env} (i n : ℕ) (ks : List Kind) (d : Data) (a : Act Spot) (k : List Task) → instructionAt P pc ≡ some (DO (actOn (spot g) a)) → Vars (OkSpot (scopes g)) a → Does place P (suc pc) g (gives a ks) kt ps fs k v j → due k ≤ 3 → heldK k ≡ holds a n → Stand place P fs g (takes a ks) kt v (needs a n) d → (1 ≤ wantsA a → Found (takes a ks ++ kt) d) → suc (j + owed k) ≤ p + 16 * i → i ≤ 1 → rule place s ≡ lift noRule i (state k v) (doing a v (blank d)) → D p (running pc ps fs d) s
   unfolding exec
   counted {pc = pc} {j = j} {g = g} {kt = kt} {ps = ps} {fs = fs} {v = v} m n ks d a k i o x wd eh (stands c z f) fd le lk e =
       let w : All (FitsD (gives a ks ++ kt) (heldK k)) (work (actOn (cellAt (blank d) v) a) d) = rw eh (comes n ks d a (stands c z f) o fd) in
-      same (FitsD (gives a ks ++ kt) (heldK k)) blank m (j + owed k) _ _ _ _ (e ∙ ap (lift noRule m (st k v)) (work-blank (actOn (cellAt (blank d) v) a) d)) (now _ _ _ d i ∙ ap (lift (stray pc) 1 (ms (suc pc) ps fs)) (acted ks d a (stands c z f) o)) w (λ a y. rel x (stands c z y) (λ h. absurd (omega arith)) (omega arith)) (omega arith) lk
+      same (FitsD (gives a ks ++ kt) (heldK k)) blank m (j + owed k) _ _ _ _ (e ∙ ap (lift noRule m (state k v)) (work-blank (actOn (cellAt (blank d) v) a) d)) (now _ _ _ d i ∙ ap (lift (stray pc) 1 (running (suc pc) ps fs)) (acted ks d a (stands c z f) o)) w (λ a y. rel x (stands c z y) (λ h. absurd (omega arith)) (omega arith)) (omega arith) lk
 
   -- a test, and one of two ways on
-  tests : {p pc l j₁ j₂ : ℕ} {s : State} {g : List Mark} {kt : List Kind} {ps : List ℕ} {fs : List Frame} {v : Env} (n : ℕ) (ks : List Kind) (d : Data) (t : Test Spot) (i : ℕ) (k₁ k₂ : List Task) → instructionAt P pc ≡ some (IF (testOn (spot g) t) l) → VarsT (OkSpot (scopes g)) t → (1 ≤ wantsV t → Found (takesT t ks ++ kt) d) → Does place P (suc pc) g ks kt ps fs k₁ v j₁ → heldK k₁ ≡ needsT t n → due k₁ ≤ 3 → Does place P l g ks kt ps fs k₂ v j₂ → heldK k₂ ≡ n → due k₂ ≤ 3 → Stand place P fs g (takesT t ks) kt v (needsT t n) d → j₁ + owed k₁ < p + 16 * i → j₂ + owed k₂ < p + 16 * i → i ≤ 1 → sstep place s ≡ lift noRule i (byTest (st k₁ v) (st k₂ v)) (testing t v (blank d)) → D p (ms pc ps fs d) s
+  tests : {p pc l j₁ j₂ : ℕ} {s : State} {g : List Around} {kt : List Kind} {ps : List ℕ} {fs : List Activation} {v : Env} (n : ℕ) (ks : List Kind) (d : Data) (t : Test Spot) (i : ℕ) (k₁ k₂ : List Task) → instructionAt P pc ≡ some (IF (testOn (spot g) t) l) → VarsT (OkSpot (scopes g)) t → (1 ≤ wantsV t → Found (takesT t ks ++ kt) d) → Does place P (suc pc) g ks kt ps fs k₁ v j₁ → heldK k₁ ≡ needsT t n → due k₁ ≤ 3 → Does place P l g ks kt ps fs k₂ v j₂ → heldK k₂ ≡ n → due k₂ ≤ 3 → Stand place P fs g (takesT t ks) kt v (needsT t n) d → j₁ + owed k₁ < p + 16 * i → j₂ + owed k₂ < p + 16 * i → i ≤ 1 → rule place s ≡ lift noRule i (byTest (state k₁ v) (state k₂ v)) (testing t v (blank d)) → D p (running pc ps fs d) s
   unfolding exec
   tests {p = p} {pc = pc} {l = l} {g = g} {kt = kt} {ps = ps} {fs = fs} {v = v} n ks d t i k₁ k₂ a o fd x e₁ w₁ y e₂ w₂ (stands c z f) le le' lk e =
       let f' : FitsD (takesT t (ks ++ kt)) (needsT t n) d = rw (← takesT-on t ks kt) f in
       let e' = over-floor (floor fs + downsT (testOn (spot g) t)) (cells d) (test (testOn (cellIn fs d) (testOn (spot g) t)) d) (omega (arith, z, downsT-on (spot g) t, takesT-length t ks kt, fits-cells (takesT t ks ++ kt) (needsT t n) d f, length-append ks kt)) ∙ ap (λ a. test a d) (same-test place P c d (blank d) (found-blank d) t o) in
-      same (Fits2 (ks ++ kt) (needsT t n) n) blank2 i (p + 16 * i - 1) _ _ _ _ (e ∙ ap (lift noRule i (byTest (st k₁ v) (st k₂ v))) (test-blank (testOn (cellAt (blank d) v) t) d)) (now _ _ _ d a ∙ ap (lift (stray pc) 1 (byTest (ms (suc pc) ps fs) (ms l ps fs))) e') (works-test (cellAt (blank d) v) t (ks ++ kt) n d f' (seen-test ks kt d c t o fd)) (elim [ yea d ↦ λ f. rel x (stands c z (rw e₁ f)) (λ h. absurd (omega arith)) (omega arith) | nay d ↦ λ f. rel y (stands c z (rw e₂ f)) (λ h. absurd (omega arith)) (omega arith) ]) (omega arith) lk
+      same (Fits2 (ks ++ kt) (needsT t n) n) blank2 i (p + 16 * i - 1) _ _ _ _ (e ∙ ap (lift noRule i (byTest (state k₁ v) (state k₂ v))) (test-blank (testOn (cellAt (blank d) v) t) d)) (now _ _ _ d a ∙ ap (lift (stray pc) 1 (byTest (running (suc pc) ps fs) (running l ps fs))) e') (works-test (cellAt (blank d) v) t (ks ++ kt) n d f' (seen-test ks kt d c t o fd)) (elim [ yea d ↦ λ f. rel x (stands c z (rw e₁ f)) (λ h. absurd (omega arith)) (omega arith) | nay d ↦ λ f. rel y (stands c z (rw e₂ f)) (λ h. absurd (omega arith)) (omega arith) ]) (omega arith) lk
 
   -- the source alone
-  frees : {p pc j i : ℕ} {s : State} {g : List Mark} {ks kt : List Kind} {ps : List ℕ} {fs : List Frame} {k' : List Task} {v : Env} {d : Data} → Does place P pc g ks kt ps fs k' v j → Stand place P fs g ks kt v (heldK k') d → sstep place s ≡ next i quiet (st k' v (blank d)) → Aside s i → sizeK k' < size s → j + owed k' ≤ p + 16 * i → due k' ≤ 3 → D p (ms pc ps fs d) s
+  frees : {p pc j i : ℕ} {s : State} {g : List Around} {ks kt : List Kind} {ps : List ℕ} {fs : List Activation} {k' : List Task} {v : Env} {d : Data} → Does place P pc g ks kt ps fs k' v j → Stand place P fs g ks kt v (heldK k') d → rule place s ≡ next i quiet (state k' v (blank d)) → Aside s i → sizeK k' < size s → j + owed k' ≤ p + 16 * i → due k' ≤ 3 → D p (running pc ps fs d) s
   frees {p = p} {i = i} x c e a lt le wd = free e a (rel {p = p + 16 * i} x c (λ h. absurd (omega arith)) le) lt (omega arith)
 
-  on : {pc r j : ℕ} {g : List Mark} {ks ks' kt : List Kind} {ps : List ℕ} {fs : List Frame} {t : Task} {k : List Task} {v : Env} → AtT place P g (length ps) pc ks t r ks' → Does place P r g ks' kt ps fs k v j → due k ≤ slack t → Does place P pc g ks kt ps fs (t ∷ k) v j
+  on : {pc r j : ℕ} {g : List Around} {ks ks' kt : List Kind} {ps : List ℕ} {fs : List Activation} {t : Task} {k : List Task} {v : Env} → AtT place P g (length ps) pc ks t r ks' → Does place P r g ks' kt ps fs k v j → due k ≤ slack t → Does place P pc g ks kt ps fs (t ∷ k) v j
   on w x h = at-task w h x
 
   -- a procedure's body, and the return from it
-  starts : {b r b₀ l q j : ℕ} {f : Fate} {g g' : List Mark} {ps : List ℕ} {fs : List Frame} {k : List Task} {v v' : Env} (js ks kt kt' : List Kind) (y : Procedure) (c : List Instr) → CodeAt place P b (codeP place g' y b c) → OkP (scopes g') y → Here place P fs g kt v → b₀ ≡ length (ks ++ kt) → kt' ≡ js ++ before f (ks ++ kt) → due k ≤ 3 → Does place P r g (left f ks) kt ps fs k v j → Does place P b (own y ∷ g') [] kt' [] (fr r b₀ l f q ps ∷ fs) (ex (bodyOf y) ∷ return f q b₀ v ∷ k) v' j
+  starts : {b r b₀ l q j : ℕ} {f : Fate} {g g' : List Around} {ps : List ℕ} {fs : List Activation} {k : List Task} {v v' : Env} (js ks kt kt' : List Kind) (y : Procedure) (c : List Instruction) → CodeAt place P b (codeP place g' y b c) → OkP (scopes g') y → Here place P fs g kt v → b₀ ≡ length (ks ++ kt) → kt' ≡ js ++ before f (ks ++ kt) → due k ≤ 3 → Does place P r g (left f ks) kt ps fs k v j → Does place P b (aBody y ∷ g') [] kt' [] (activation r b₀ l f q ps ∷ fs) (begin (bodyOf y) ∷ return f q b₀ v ∷ k) v' j
   unfolding codeS
-  starts {g' = g'} js ks kt kt' (heading t n xs vs ss y) i h o c e e' wd x = on (t-ex y _ h o) (at-ret js ks kt kt' ((pastS place P (own (heading t n xs vs ss y) ∷ g') 0 y _ _ h) .0) c e e' wd x) (omega arith)
+  starts {g' = g'} js ks kt kt' (heading t n xs vs ss y) i h o c e e' wd x = on (t-ex y _ h o) (at-ret js ks kt kt' ((pastS place P (aBody (heading t n xs vs ss y) ∷ g') 0 y _ _ h) .0) c e e' wd x) (omega arith)
 
   -- ---- workings out
 
@@ -204,46 +204,46 @@ module _ (place : ℕ → ℕ) (P : List Instr) where
       go false h = absurd h
 
   -- the activation of a working out, and its chain
-  abbrev workFrame : ℕ → ℕ → List Frame → Data → List Mark → Name → Fate → List ℕ → Frame
-  workFrame pc q fs d g x f ps = fr (suc pc) (cells d) (walk fs (length fs) (levels (declaring x) g) - 1) f q ps
+  abbrev workFrame : ℕ → ℕ → List Activation → Data → List Around → Name → Fate → List ℕ → Activation
+  workFrame pc q fs d g x f ps = activation (suc pc) (cells d) (walk fs (length fs) (levels (declaring x) g) - 1) f q ps
 
-  works-here : {y : ℕ} {fs : List Frame} {g' : List Mark} {v' : Env} (n : ℕ) (g : List Mark) (ks kt : List Kind) (d : Data) (pc q : ℕ) (x : Name) (f : Fate) (ps : List ℕ) → FitsD (ks ++ kt) n d → suc y ≤ length kt → Chain place P fs (kindAt kt) y (walk fs (length fs) (levels (declaring x) g) - 1) g' v' → Here place P (workFrame pc q fs d g x f ps ∷ fs) (acl ∷ g') (ks ++ kt) v'
+  works-here : {y : ℕ} {fs : List Activation} {g' : List Around} {v' : Env} (n : ℕ) (g : List Around) (ks kt : List Kind) (d : Data) (pc q : ℕ) (x : Name) (f : Fate) (ps : List ℕ) → FitsD (ks ++ kt) n d → suc y ≤ length kt → Chain place P fs (kindAt kt) y (walk fs (length fs) (levels (declaring x) g) - 1) g' v' → Here place P (workFrame pc q fs d g x f ps ∷ fs) (anActual ∷ g') (ks ++ kt) v'
   works-here {y} {fs} n g ks kt d pc q x f ps fit l c =
-      let a : Frame = workFrame pc q fs d g x f ps in
+      let a : Activation = workFrame pc q fs d g x f ps in
       let n₁ : cells d ≡ length (ks ++ kt) = fits-cells (ks ++ kt) n d fit in
       let l' : suc y ≤ length (ks ++ kt) = omega (arith, l, length-append ks kt) in
       let c' = chain-as place P fs (kindAt (ks ++ kt)) c (λ i h. sym (kind-above ks kt i (omega (arith, l)))) in
       (chain-work place P (suc pc) (cells d) (walk fs (length fs) (levels (declaring x) g) - 1) y (length (ks ++ kt)) f q ps fs l' c', omega (arith, n₁, ap baseOf (at-newest a fs)))
 
   -- a name formal read
-  dRead : {pc j : ℕ} {s : State} {g : List Mark} {ks kt : List Kind} {ps : List ℕ} {fs : List Frame} {k : List Task} {v : Env} (p : ℕ) (d : Data) (x : Name) → instructionAt P pc ≡ some (WORKS place g x) → Stood place P fs (kindAt kt) (length kt) (walk fs (length fs) (levels (declaring x) g)) (cutG (declaring x) g) (cut (declaring x) v) x → due k ≤ 3 → Does place P (suc pc) g (val ∷ ks) kt ps fs k v j → Stand place P fs g ks kt v (heldK k) d → j ≤ p → sstep place s ≡ reads place (standsFor v x) x k v (blank d) → D p (ms pc ps fs d) s
+  dRead : {pc j : ℕ} {s : State} {g : List Around} {ks kt : List Kind} {ps : List ℕ} {fs : List Activation} {k : List Task} {v : Env} (p : ℕ) (d : Data) (x : Name) → instructionAt P pc ≡ some (WORKS place g x) → Stood place P fs (kindAt kt) (length kt) (walk fs (length fs) (levels (declaring x) g)) (cutG (declaring x) g) (cut (declaring x) v) x → due k ≤ 3 → Does place P (suc pc) g (val ∷ ks) kt ps fs k v j → Stand place P fs g ks kt v (heldK k) d → j ≤ p → rule place s ≡ reads place (standsFor v x) x k v (blank d) → D p (running pc ps fs d) s
   unfolding exec workOut reads
   dRead {pc = pc} {g = g} {ks = ks} {kt = kt} {ps = ps} {fs = fs} {k = k} {v = v} p d x i (stood {a = a} {g' = g'} {v' = v'} e e₁ e₂ l l' c' t) wd y (stands c z f) le se =
       let n₁ : cells d ≡ length (ks ++ kt) = fits-cells (ks ++ kt) (heldK k) d f in
       let u = walk fs (length fs) (levels (declaring x) g) in
-      acts {ks = []} {kt = ks ++ kt} {fs = workFrame pc (at place x) fs d g x kept ps ∷ fs} _ (enter (at place x) d) _ (enter-blank (at place x) d) (on (t-ev e _ (t .1 .1 .1) (t .2)) (at-worked ks kt ((pastE place P (acl ∷ g') e _ _ (t .1 .1 .1)) .0) (c, z) n₁ wd y) (omega arith)) (works-here (heldK k) g ks kt d pc (at place x) x kept ps f l' c') (enter-fits (at place x) (ks ++ kt) (heldK k) d f) (omega arith) le (se ∙ ap (λ s. reads place s x k v (blank d)) e₁ ∙ ap (λ n. lift noRule 1 (st (ev e ∷ return kept (at place x) n v ∷ k) v') (enter (at place x) (blank d))) (cells-blank d)) (now _ _ _ d i ∙ ap (λ c. workOut c u kept (at place x) (at place x) pc ps fs d) (named-cell (heldK k) ks kt (base fs u + amongG (cutG (declaring x) g) x) a d f l e₂))
+      acts {ks = []} {kt = ks ++ kt} {fs = workFrame pc (at place x) fs d g x kept ps ∷ fs} _ (enter (at place x) d) _ (enter-blank (at place x) d) (on (t-ev e _ (t .1 .1 .1) (t .2)) (at-worked ks kt ((pastE place P (anActual ∷ g') e _ _ (t .1 .1 .1)) .0) (c, z) n₁ wd y) (omega arith)) (works-here (heldK k) g ks kt d pc (at place x) x kept ps f l' c') (enter-fits (at place x) (ks ++ kt) (heldK k) d f) (omega arith) le (se ∙ ap (λ s. reads place s x k v (blank d)) e₁ ∙ ap (λ n. lift noRule 1 (state (evaluate e ∷ return kept (at place x) n v ∷ k) v') (enter (at place x) (blank d))) (cells-blank d)) (now _ _ _ d i ∙ ap (λ c. workOut c u kept (at place x) (at place x) pc ps fs d) (named-cell (heldK k) ks kt (base fs u + amongG (cutG (declaring x) g) x) a d f l e₂))
 
   -- a name formal worked out for a store that began at q; the machine does what it does for a name formal's cell
-  dSeek : {pc j : ℕ} {s : State} {g : List Mark} {ks kt : List Kind} {ps : List ℕ} {fs : List Frame} {k : List Task} {v : Env} (p : ℕ) (d : Data) (x : Name) (q : ℕ) → stepIn P (ms pc ps fs d) ≡ workOut (cellHere (base fs (walk fs (length fs) (levels (declaring x) g)) + amongG (cutG (declaring x) g) x) d) (walk fs (length fs) (levels (declaring x) g)) gone (at place x) q pc ps fs d → Stood place P fs (kindAt kt) (length kt) (walk fs (length fs) (levels (declaring x) g)) (cutG (declaring x) g) (cut (declaring x) v) x → Does place P (suc pc) g ks kt ps fs k v j → Stand place P fs g ks kt v (heldK k) d → j ≤ p → sstep place s ≡ seeks place (standsFor v x) x q k v (blank d) → D p (ms pc ps fs d) s
+  dSeek : {pc j : ℕ} {s : State} {g : List Around} {ks kt : List Kind} {ps : List ℕ} {fs : List Activation} {k : List Task} {v : Env} (p : ℕ) (d : Data) (x : Name) (q : ℕ) → stepIn P (running pc ps fs d) ≡ workOut (cellHere (base fs (walk fs (length fs) (levels (declaring x) g)) + amongG (cutG (declaring x) g) x) d) (walk fs (length fs) (levels (declaring x) g)) gone (at place x) q pc ps fs d → Stood place P fs (kindAt kt) (length kt) (walk fs (length fs) (levels (declaring x) g)) (cutG (declaring x) g) (cut (declaring x) v) x → Does place P (suc pc) g ks kt ps fs k v j → Stand place P fs g ks kt v (heldK k) d → j ≤ p → rule place s ≡ seeks place (standsFor v x) x q k v (blank d) → D p (running pc ps fs d) s
   unfolding workOut seeks
   dSeek {pc = pc} {g = g} {ks = ks} {kt = kt} {ps = ps} {fs = fs} {k = k} {v = v} p d x q me (stood {a = a} {g' = g'} {v' = v'} e e₁ e₂ l l' c' t) y (stands c z f) le se =
       let n₁ : cells d ≡ length (ks ++ kt) = fits-cells (ks ++ kt) (heldK k) d f in
       let u = walk fs (length fs) (levels (declaring x) g) in
-      acts {ks = []} {kt = ks ++ kt} {fs = workFrame pc q fs d g x gone ps ∷ fs} _ (enter (at place x) d) _ (enter-blank (at place x) d) (at-find e (t .1 .0) (t .2) (omega arith) (at-sought ks kt (t .1 .1 .0) (c, z) n₁ y)) (works-here (heldK k) g ks kt d pc q x gone ps f l' c') (enter-fits (at place x) (ks ++ kt) (heldK k) d f) (omega arith) le (se ∙ ap (λ s. seeks place s x q k v (blank d)) e₁ ∙ ap (λ n. lift noRule 1 (st (find e q ∷ return gone q n v ∷ k) v') (enter (at place x) (blank d))) (cells-blank d)) (me ∙ ap (λ c. workOut c u gone (at place x) q pc ps fs d) (named-cell (heldK k) ks kt (base fs u + amongG (cutG (declaring x) g) x) a d f l e₂))
+      acts {ks = []} {kt = ks ++ kt} {fs = workFrame pc q fs d g x gone ps ∷ fs} _ (enter (at place x) d) _ (enter-blank (at place x) d) (at-find e (t .1 .0) (t .2) (omega arith) (at-sought ks kt (t .1 .1 .0) (c, z) n₁ y)) (works-here (heldK k) g ks kt d pc q x gone ps f l' c') (enter-fits (at place x) (ks ++ kt) (heldK k) d f) (omega arith) le (se ∙ ap (λ s. seeks place s x q k v (blank d)) e₁ ∙ ap (λ n. lift noRule 1 (state (find e q ∷ return gone q n v ∷ k) v') (enter (at place x) (blank d))) (cells-blank d)) (me ∙ ap (λ c. workOut c u gone (at place x) q pc ps fs d) (named-cell (heldK k) ks kt (base fs u + amongG (cutG (declaring x) g) x) a d f l e₂))
 
   -- what a name means in the environment is what it means in the scopes
-  known : {fs : List Frame} {g : List Mark} {ks kt : List Kind} {v : Env} {n : ℕ} {d : Data} → Stand place P fs g ks kt v n d → scopesOf v ≡ scopes g
+  known : {fs : List Activation} {g : List Around} {ks kt : List Kind} {v : Env} {n : ℕ} {d : Data} → Stand place P fs g ks kt v n d → scopesOf v ≡ scopes g
   known {fs = fs} (stands c z f) = chain-scopes place P fs c
 
   -- what a name formal stands for
-  there-is : {fs : List Frame} {g : List Mark} {ks kt : List Kind} {v : Env} {n : ℕ} {d : Data} (x : Name) → Stand place P fs g ks kt v n d → NamedAs (meaning (scopes g) x) → Stood place P fs (kindAt kt) (length kt) (walk fs (length fs) (levels (declaring x) g)) (cutG (declaring x) g) (cut (declaring x) v) x
+  there-is : {fs : List Activation} {g : List Around} {ks kt : List Kind} {v : Env} {n : ℕ} {d : Data} (x : Name) → Stand place P fs g ks kt v n d → NamedAs (meaning (scopes g) x) → Stood place P fs (kindAt kt) (length kt) (walk fs (length fs) (levels (declaring x) g)) (cutG (declaring x) g) (cut (declaring x) v) x
   there-is {fs = fs} x (stands c z f) o = stands-for place P fs x c o
 
   -- ---- expressions
 
   -- a name with actuals, as a primary
-  dN : {j : ℕ} {g : List Mark} {ks kt : List Kind} {ps : List ℕ} {fs : List Frame} {k : List Task} {v : Env} (pr : Primary) (p : ℕ) (d : Data) (e : Expression) (x : Name) (es : Expressions) (b : ℕ) (r : List Instr) → primary (meaning (scopes g) x) es ≡ pr → CodeAt place P b (codeName place pr g x (count es) (λ m b r. codeEs place g m es b r) b r) → OkPrimary (scopes g) x (count es) pr → OkEs (scopes g) es → due k ≤ 3 → Does place P (endName pr (λ m b. endEs (scopes g) m es b) b) g (val ∷ ks) kt ps fs k v j → Stand place P fs g ks kt v (heldK k) d → j ≤ p → sstep place (st (ev e ∷ k) v (blank d)) ≡ evaluate place pr x es k v (blank d) → sizeEs es + 3 ≤ sizeE e → D p (ms b ps fs d) (st (ev e ∷ k) v (blank d))
-  unfolding evaluate
+  dN : {j : ℕ} {g : List Around} {ks kt : List Kind} {ps : List ℕ} {fs : List Activation} {k : List Task} {v : Env} (pr : Primary) (p : ℕ) (d : Data) (e : Expression) (x : Name) (es : Expressions) (b : ℕ) (r : List Instruction) → primary (meaning (scopes g) x) es ≡ pr → CodeAt place P b (codeName place pr g x (count es) (λ m b r. codeEs place g m es b r) b r) → OkPrimary (scopes g) x (count es) pr → OkEs (scopes g) es → due k ≤ 3 → Does place P (endName pr (λ m b. endEs (scopes g) m es b) b) g (val ∷ ks) kt ps fs k v j → Stand place P fs g ks kt v (heldK k) d → j ≤ p → rule place (state (evaluate e ∷ k) v (blank d)) ≡ evaluates place pr x es k v (blank d) → sizeEs es + 3 ≤ sizeE e → D p (running b ps fs d) (state (evaluate e ∷ k) v (blank d))
+  unfolding evaluates
   dN {ks = ks} held p d e x es b r ep h o oes w y c le se sz = does ks d (load (at place x) (here x)) (h .0) o (λ n. (refl, refl)) y w c (λ h. absurd (omega arith)) le se
   dN {g = g} worked p d e x es b r ep h o oes w y c le se sz = dRead p d x (h .0) (there-is x c (worked-named (meaning (scopes g) x) es ep)) w y c le se
   dN {g = g} {ks = ks} (function q) p d e x es b r ep h o oes w y c le se sz =
@@ -258,12 +258,12 @@ module _ (place : ℕ → ℕ) (P : List Instr) where
   dN {ks = ks} greatest p d e x es b r ep h o oes w y c le se sz = does ks d (push (at place x) maxint) (h .0) tt (λ n. (refl, refl)) y w c (λ h. absurd (omega arith)) le se
   dN no-primary p d e x es b r ep h o oes w y c le se sz = absurd o
 
-  dE : {j : ℕ} {g : List Mark} {ks kt : List Kind} {ps : List ℕ} {fs : List Frame} {k : List Task} {v : Env} (p : ℕ) (d : Data) (e : Expression) (b : ℕ) (r : List Instr) → CodeAt place P b (codeE place g e b r) → OkE (scopes g) e → due k ≤ 3 → Does place P (endE (scopes g) e b) g (val ∷ ks) kt ps fs k v j → Stand place P fs g ks kt v (heldK k) d → j ≤ p → D p (ms b ps fs d) (st (ev e ∷ k) v (blank d))
-  unfolding sstep endE codeE count
+  dE : {j : ℕ} {g : List Around} {ks kt : List Kind} {ps : List ℕ} {fs : List Activation} {k : List Task} {v : Env} (p : ℕ) (d : Data) (e : Expression) (b : ℕ) (r : List Instruction) → CodeAt place P b (codeE place g e b r) → OkE (scopes g) e → due k ≤ 3 → Does place P (endE (scopes g) e b) g (val ∷ ks) kt ps fs k v j → Stand place P fs g ks kt v (heldK k) d → j ≤ p → D p (running b ps fs d) (state (evaluate e ∷ k) v (blank d))
+  unfolding rule endE codeE count
   dE {ks = ks} p d (number q n) b r h o w y c le = does ks d (push (place q) (pos n)) (h .0) tt (λ n. (refl, refl)) y w c (λ h. absurd (omega arith)) le refl
   dE {ks = ks} p d (logical q t) b r h o w y c le = does ks d (push (place q) (truth t)) (h .0) tt (λ n. (refl, refl)) y w c (λ h. absurd (omega arith)) le refl
-  dE {g = g} {k = k} {v = v} p d (name x) b r h o w y c le = dN (primary (meaning (scopes g) x) done) p d (name x) x done b r refl h o tt w y c le (ap (λ g. evaluate place (primary (meaning g x) done) x done k v (blank d)) (known c)) (omega arith)
-  dE {g = g} {k = k} {v = v} p d (call x e es) b r h o w y c le = dN (primary (meaning (scopes g) x) (then e es)) p d (call x e es) x (then e es) b r refl h (o .0) (o .1, o .2) w y c le (ap (λ g. evaluate place (primary (meaning g x) (then e es)) x (then e es) k v (blank d)) (known c)) (omega arith)
+  dE {g = g} {k = k} {v = v} p d (name x) b r h o w y c le = dN (primary (meaning (scopes g) x) done) p d (name x) x done b r refl h o tt w y c le (ap (λ g. evaluates place (primary (meaning g x) done) x done k v (blank d)) (known c)) (omega arith)
+  dE {g = g} {k = k} {v = v} p d (call x e es) b r h o w y c le = dN (primary (meaning (scopes g) x) (then e es)) p d (call x e es) x (then e es) b r refl h (o .0) (o .1, o .2) w y c le (ap (λ g. evaluates place (primary (meaning g x) (then e es)) x (then e es) k v (blank d)) (known c)) (omega arith)
   dE p d (signed q positive e) b r h o w y c le = frees (on (t-ev e _ h o) (on t-unchanged y w) (omega arith)) c refl idle (omega arith) (omega arith) (omega arith)
   dE {g = g} {ks = ks} p d (signed q negative e) b r h o w y c le = frees (on (t-ev e _ h o) (on (t-act ks (unary (place q) Values.minus) ((pastE place P g e _ _ h) .0) tt (λ n. (refl, refl))) y w) (omega arith)) c refl idle (omega arith) (omega arith) (omega arith)
   dE {g = g} {ks = ks} p d (signed q negation e) b r h o w y c le = frees (on (t-ev e _ h o) (on (t-act ks (unary (place q) Values.negation) ((pastE place P g e _ _ h) .0) tt (λ n. (refl, refl))) y w) (omega arith)) c refl idle (omega arith) (omega arith) (omega arith)
@@ -273,17 +273,17 @@ module _ (place : ℕ → ℕ) (P : List Instr) where
   dE p d (chosen q q' a e f) b r h o w y c le = frees (on (t-ev a _ h (o .0)) (on (t-expressions q q' a e f b r h o) y w) (omega arith)) c refl idle (omega arith) (omega arith) (omega arith)
   dE p d (nested q e) b r h o w y c le = frees (on (t-ev e _ h o) y w) c refl idle (omega arith) (omega arith) (omega arith)
 
-  dEs : {j : ℕ} {g : List Mark} {ks ks' kt : List Kind} {ps : List ℕ} {fs : List Frame} {k : List Task} {v : Env} (p : ℕ) (d : Data) (m : List Bool) (es : Expressions) (b : ℕ) (r : List Instr) → CodeAt place P b (codeEs place g m es b r) → OkEs (scopes g) es → ks' ≡ revOn (kindsOf (scopes g) m es b) ks → due k ≤ 0 → Does place P (endEs (scopes g) m es b) g ks' kt ps fs k v j → Stand place P fs g ks kt v (heldK k) d → j ≤ p → D p (ms b ps fs d) (st (evs m es ∷ k) v (blank d))
-  unfolding sstep endE codeE count
+  dEs : {j : ℕ} {g : List Around} {ks ks' kt : List Kind} {ps : List ℕ} {fs : List Activation} {k : List Task} {v : Env} (p : ℕ) (d : Data) (m : List Bool) (es : Expressions) (b : ℕ) (r : List Instruction) → CodeAt place P b (codeEs place g m es b r) → OkEs (scopes g) es → ks' ≡ revOn (kindsOf (scopes g) m es b) ks → due k ≤ 0 → Does place P (endEs (scopes g) m es b) g ks' kt ps fs k v j → Stand place P fs g ks kt v (heldK k) d → j ≤ p → D p (running b ps fs d) (state (giveAll m es ∷ k) v (blank d))
+  unfolding rule endE codeE count
   dEs p d m done b r h o e w y c le = frees y (rw e c) refl idle (omega arith) (omega arith) (omega arith)
   dEs {g = g} p d [] (then x es) b r h o e w y c le = frees (on (t-ev x _ h (o .0)) (on (t-evs [] es _ (pastE place P g x _ _ h) (o .1) e) y w) (omega arith)) c refl idle (omega arith) (omega arith) (omega arith)
   dEs {g = g} p d (true ∷ m) (then x es) b r h o e w y c le = frees (on (t-ev x _ h (o .0)) (on (t-evs m es _ (pastE place P g x _ _ h) (o .1) e) y w) (omega arith)) c refl idle (omega arith) (omega arith) (omega arith)
-  dEs {g = g} p d (false ∷ m) (then x es) b r h o e w y c le = frees (on (t-naming (h .0)) (on (t-evs m es _ ((pastE place P (acl ∷ g) x _ _ (h .1 .1 .1)) .1) (o .1) e) y w) (omega arith)) c refl idle (omega arith) (omega arith) (omega arith)
+  dEs {g = g} p d (false ∷ m) (then x es) b r h o e w y c le = frees (on (t-naming (h .0)) (on (t-evs m es _ ((pastE place P (anActual ∷ g) x _ _ (h .1 .1 .1)) .1) (o .1) e) y w) (omega arith)) c refl idle (omega arith) (omega arith) (omega arith)
 
   -- ---- statements
 
   -- a procedure called as a statement
-  dCall : {j : ℕ} {g : List Mark} {kt : List Kind} {ps : List ℕ} {fs : List Frame} {k : List Task} {v : Env} (t : Option Sort) (p : ℕ) (d : Data) (s : Statement) (q : Procedure) (x : Name) (es : Expressions) (b : ℕ) (r : List Instr) → CodeAt place P b (codeCall place g t (modesOf q) x es b r) → OkCall (scopes g) x q (oneIf t) (count es) → OkEs (scopes g) es → due k ≤ 2 → Does place P (endCall (scopes g) t (modesOf q) es b) g [] kt ps fs k v j → Stand place P fs g [] kt v (heldK k) d → j ≤ p → sstep place (st (ex s ∷ k) v (blank d)) ≡ next 1 quiet (st (calls place t (modesOf q) x es k) v (blank d)) → sizeEs es + 3 ≤ sizeS s → D p (ms b ps fs d) (st (ex s ∷ k) v (blank d))
+  dCall : {j : ℕ} {g : List Around} {kt : List Kind} {ps : List ℕ} {fs : List Activation} {k : List Task} {v : Env} (t : Option Sort) (p : ℕ) (d : Data) (s : Statement) (q : Procedure) (x : Name) (es : Expressions) (b : ℕ) (r : List Instruction) → CodeAt place P b (codeCall place g t (modesOf q) x es b r) → OkCall (scopes g) x q (oneIf t) (count es) → OkEs (scopes g) es → due k ≤ 2 → Does place P (endCall (scopes g) t (modesOf q) es b) g [] kt ps fs k v j → Stand place P fs g [] kt v (heldK k) d → j ≤ p → rule place (state (begin s ∷ k) v (blank d)) ≡ next 1 quiet (state (calls place t (modesOf q) x es k) v (blank d)) → sizeEs es + 3 ≤ sizeS s → D p (running b ps fs d) (state (begin s ∷ k) v (blank d))
   dCall {g = g} none p d s q x es b r h o oes w y c le se sz =
       let h₁ = pastEs place P g (modesOf q) es _ _ h in
       let is = kindsOf (scopes g) (modesOf q) es b in
@@ -297,7 +297,7 @@ module _ (place : ℕ → ℕ) (P : List Instr) where
       let o₁ : OkCall (scopes g) x q 1 (length is) = (o .0, o .1, omega (arith, o .2, e₁)) in
       frees (on (t-act [] (reserve (at place x)) (h .0) tt (λ n. (refl, refl))) (on (t-evs (modesOf q) es _ (h .1) oes refl) (on (t-invoke {f = gone} is [] 1 (suc (count es)) q refl (h₁ .0) (omega arith) o₁ (omega arith) (omega arith) (laid place P g (valuesOf q) (formalsOf q) es (suc b) _ (h .1) oes (o .2))) y (omega arith)) (omega arith)) (omega arith)) c se begins (omega arith) (omega arith) (omega arith)
 
-  dC : {j : ℕ} {g : List Mark} {kt : List Kind} {ps : List ℕ} {fs : List Frame} {k : List Task} {v : Env} (cm : Command) (p : ℕ) (d : Data) (s : Statement) (x : Name) (es : Expressions) (b : ℕ) (r : List Instr) → CodeAt place P b (codeCommand place cm g x es b r) → OkCommand (scopes g) x es cm → due k ≤ 2 → Does place P (endCommand (scopes g) cm es b) g [] kt ps fs k v j → Stand place P fs g [] kt v (heldK k) d → j ≤ p → sstep place (st (ex s ∷ k) v (blank d)) ≡ perform place cm x es k v (blank d) → sizeEs es + 4 ≤ sizeS s → sizeC cm ≤ sizeEs es → D p (ms b ps fs d) (st (ex s ∷ k) v (blank d))
+  dC : {j : ℕ} {g : List Around} {kt : List Kind} {ps : List ℕ} {fs : List Activation} {k : List Task} {v : Env} (cm : Command) (p : ℕ) (d : Data) (s : Statement) (x : Name) (es : Expressions) (b : ℕ) (r : List Instruction) → CodeAt place P b (codeCommand place cm g x es b r) → OkCommand (scopes g) x es cm → due k ≤ 2 → Does place P (endCommand (scopes g) cm es b) g [] kt ps fs k v j → Stand place P fs g [] kt v (heldK k) d → j ≤ p → rule place (state (begin s ∷ k) v (blank d)) ≡ perform place cm x es k v (blank d) → sizeEs es + 4 ≤ sizeS s → sizeC cm ≤ sizeEs es → D p (running b ps fs d) (state (begin s ∷ k) v (blank d))
   unfolding perform
   dC (routine-of q) p d s x es b r h o w y c le se sz cz = dCall (sortOf q) p d s q x es b r h (o .0) (o .1) w y c le se (omega arith)
   dC {g = g} (absolute-of e) p d s x es b r h o w y c le se sz cz =
@@ -310,8 +310,8 @@ module _ (place : ℕ → ℕ) (P : List Instr) where
       frees (on (t-ev e _ h (o .0)) (on (t-ev f _ h₁ (o .1)) (on (t-act [] (send (at place x)) ((pastE place P g f _ _ h₁) .0) tt (λ n. (refl, refl))) y (omega arith)) (omega arith)) (omega arith)) c se begins (omega arith) (omega arith) (omega arith)
   dC no-command p d s x es b r h o w y c le se sz cz = absurd o
 
-  dS : {j : ℕ} {g : List Mark} {kt : List Kind} {ps : List ℕ} {fs : List Frame} {k : List Task} {v : Env} (p : ℕ) (d : Data) (s : Statement) (b : ℕ) (r : List Instr) → CodeAt place P b (codeS place g (length ps) s b r) → OkS (scopes g) s → due k ≤ 2 → Does place P (endS (scopes g) s b) g [] kt ps fs k v j → Stand place P fs g [] kt v (heldK k) d → j ≤ p → D p (ms b ps fs d) (st (ex s ∷ k) v (blank d))
-  unfolding sstep exec endS codeS
+  dS : {j : ℕ} {g : List Around} {kt : List Kind} {ps : List ℕ} {fs : List Activation} {k : List Task} {v : Env} (p : ℕ) (d : Data) (s : Statement) (b : ℕ) (r : List Instruction) → CodeAt place P b (codeS place g (length ps) s b r) → OkS (scopes g) s → due k ≤ 2 → Does place P (endS (scopes g) s b) g [] kt ps fs k v j → Stand place P fs g [] kt v (heldK k) d → j ≤ p → D p (running b ps fs d) (state (begin s ∷ k) v (blank d))
+  unfolding rule exec endS codeS
   dS p d dummy b r h o w y c le = frees y c refl begins (omega arith) (omega arith) (omega arith)
   dS {g = g} p d (assignment x xs q e) b r h o w y c le = frees (on (t-ev e _ h (o .1)) (on (t-stores x xs _ (pastE place P g e _ _ h) (o .0)) y (omega arith)) (omega arith)) c refl begins (omega arith) (omega arith) (omega arith)
   dS {g = g} {k = k} {v = v} p d (procedure x es) b r h o w y c le = dC (command (meaning (scopes g) x) es) p d (procedure x es) x es b r h o w y c le (ap (λ g. perform place (command (meaning g x) es) x es k v (blank d)) (known c)) (omega arith) (command-size (meaning (scopes g) x) es)
@@ -320,7 +320,7 @@ module _ (place : ℕ → ℕ) (P : List Instr) where
   dS {g = g} {ps = ps} p d (repeat x l ls s) b r h o w y c le = frees (on (t-loop x (l ∷ ls) s _ b _ r h (pastL place P g (length ps) x (l ∷ ls) _ _ _ _ h) (o .0) (o .1) (o .2)) y w) c refl begins (omega arith) (omega arith) (omega arith)
   dS p d (compound ss) b r h o w y c le = frees (on (t-exs ss _ h o) y w) c refl begins (omega arith) (omega arith) (omega arith)
   dS {g = g} {kt = kt} {ps = ps} {fs = fs} {k = k} {v = v} p d (block q ds ss) b r h o w y (stands c z f) le =
-      let g' : List Mark = blk (reach g) ds (suc b) ∷ g in
+      let g' : List Around = aBlock (reach g) ds (suc b) ∷ g in
       let n : ℕ = cellsIn (ofBlock ds) in
       let kt' : List Kind = more-of any n kt in
       let h₁ = pastDs place P g' ds _ _ (h .1) in
@@ -332,39 +332,39 @@ module _ (place : ℕ → ℕ) (P : List Instr) where
       let c' : Chain place P fs (kindAt kt') (length kt') (length fs) g' (entered ds (floor fs + reach g) v) = inner _ (h .1) (o .0) e₁ u (chain-more place P fs c₀ (omega (arith, z))) in
       acts {ks = []} {kt = kt'} _ (openBlock (place q) n d) _ (open-blank (place q) n d) (on (t-exs ss _ h₁ (o .1)) (at-close n kt ((pastSs place P g' (length ps) ss _ _ h₁) .0) refl (omega arith) y) (omega arith)) (rw e₃ c', e₂) (open-fits (place q) n kt (heldK k) d f) (omega arith) le refl (now _ _ _ d (h .0))
 
-  dSs : {j : ℕ} {g : List Mark} {kt : List Kind} {ps : List ℕ} {fs : List Frame} {k : List Task} {v : Env} (p : ℕ) (d : Data) (ss : Statements) (b : ℕ) (r : List Instr) → CodeAt place P b (codeSs place g (length ps) ss b r) → OkSs (scopes g) ss → due k ≤ 2 → Does place P (endSs (scopes g) ss b) g [] kt ps fs k v j → Stand place P fs g [] kt v (heldK k) d → j ≤ p → D p (ms b ps fs d) (st (exs ss ∷ k) v (blank d))
-  unfolding sstep endS codeS
+  dSs : {j : ℕ} {g : List Around} {kt : List Kind} {ps : List ℕ} {fs : List Activation} {k : List Task} {v : Env} (p : ℕ) (d : Data) (ss : Statements) (b : ℕ) (r : List Instruction) → CodeAt place P b (codeSs place g (length ps) ss b r) → OkSs (scopes g) ss → due k ≤ 2 → Does place P (endSs (scopes g) ss b) g [] kt ps fs k v j → Stand place P fs g [] kt v (heldK k) d → j ≤ p → D p (running b ps fs d) (state (goThrough ss ∷ k) v (blank d))
+  unfolding rule endS codeS
   dSs p d (last s) b r h o w y c le = frees (on (t-ex s _ h o) y w) c refl idle (omega arith) (omega arith) (omega arith)
   dSs {g = g} {ps = ps} p d (first s ss) b r h o w y c le = frees (on (t-ex s _ h (o .0)) (on (t-exs ss _ (pastS place P g (length ps) s _ _ h) (o .1)) y w) (omega arith)) c refl idle (omega arith) (omega arith) (omega arith)
 
   -- ---- stores
 
   -- the last left part; and another one
-  dLast : {j : ℕ} {g : List Mark} {kt : List Kind} {ps : List ℕ} {fs : List Frame} {k : List Task} {v : Env} (wy : Way) (p : ℕ) (d : Data) (x : Name) (b : ℕ) (r : List Instr) → way (meaning (scopes g) x) ≡ wy → CodeAt place P b (codeWay place wy g x (λ c. store (spot g c)) r) → OkWay wy (scopes g) x → due k ≤ 3 → Does place P (endWay wy b) g [] kt ps fs k v j → Stand place P fs g (val ∷ []) kt v (heldK k) d → j ≤ p → sstep place (st (stores x [] ∷ k) v (blank d)) ≡ storing place wy x [] k v (blank d) → D p (ms b ps fs d) (st (stores x [] ∷ k) v (blank d))
+  dLast : {j : ℕ} {g : List Around} {kt : List Kind} {ps : List ℕ} {fs : List Activation} {k : List Task} {v : Env} (wy : Way) (p : ℕ) (d : Data) (x : Name) (b : ℕ) (r : List Instruction) → way (meaning (scopes g) x) ≡ wy → CodeAt place P b (codeWay place wy g x (λ c. store (spot g c)) r) → OkWay wy (scopes g) x → due k ≤ 3 → Does place P (endWay wy b) g [] kt ps fs k v j → Stand place P fs g (val ∷ []) kt v (heldK k) d → j ≤ p → rule place (state (stores x [] ∷ k) v (blank d)) ≡ storing place wy x [] k v (blank d) → D p (running b ps fs d) (state (stores x [] ∷ k) v (blank d))
   unfolding codeWay endWay storing
   dLast direct p d x b r ew h o w y c le se = does [] d (store (here x)) (h .0) o (λ n. (refl, refl)) y w c (λ h. absurd (omega arith)) le se
   dLast {g = g} sought p d x b r ew h o w y c le se = frees (on (t-seek (h .0) (sought-named (meaning (scopes g) x) ew)) (on (t-act [] (store there) (h .1 .0) tt (λ n. (refl, refl))) y w) (omega arith)) c se idle (omega arith) (omega arith) (omega arith)
 
-  dMore : {j : ℕ} {g : List Mark} {kt : List Kind} {ps : List ℕ} {fs : List Frame} {k : List Task} {v : Env} (wy : Way) (p : ℕ) (d : Data) (x u : Name) (us : List Name) (b : ℕ) (r : List Instr) → way (meaning (scopes g) x) ≡ wy → CodeAt place P b (codeWay place wy g x (λ c. assign (spot g c)) (codeStores place g u us r)) → OkWay wy (scopes g) x → OkVs (scopes g) (u ∷ us) → due k ≤ 3 → Does place P (endStores (scopes g) u us (endWay wy b)) g [] kt ps fs k v j → Stand place P fs g (val ∷ []) kt v (heldK k) d → j ≤ p → sstep place (st (stores x (u ∷ us) ∷ k) v (blank d)) ≡ storing place wy x (u ∷ us) k v (blank d) → D p (ms b ps fs d) (st (stores x (u ∷ us) ∷ k) v (blank d))
+  dMore : {j : ℕ} {g : List Around} {kt : List Kind} {ps : List ℕ} {fs : List Activation} {k : List Task} {v : Env} (wy : Way) (p : ℕ) (d : Data) (x u : Name) (us : List Name) (b : ℕ) (r : List Instruction) → way (meaning (scopes g) x) ≡ wy → CodeAt place P b (codeWay place wy g x (λ c. assign (spot g c)) (codeStores place g u us r)) → OkWay wy (scopes g) x → OkVs (scopes g) (u ∷ us) → due k ≤ 3 → Does place P (endStores (scopes g) u us (endWay wy b)) g [] kt ps fs k v j → Stand place P fs g (val ∷ []) kt v (heldK k) d → j ≤ p → rule place (state (stores x (u ∷ us) ∷ k) v (blank d)) ≡ storing place wy x (u ∷ us) k v (blank d) → D p (running b ps fs d) (state (stores x (u ∷ us) ∷ k) v (blank d))
   unfolding codeWay endWay storing
   dMore direct p d x u us b r ew h o o' w y c le se = does [] d (assign (here x)) (h .0) o (λ n. (refl, refl)) (on (t-stores u us _ (h .1) o') y w) (omega arith) c (λ h. absurd (omega arith)) le se
   dMore {g = g} sought p d x u us b r ew h o o' w y c le se = frees (on (t-seek (h .0) (sought-named (meaning (scopes g) x) ew)) (on (t-act [] (assign there) (h .1 .0) tt (λ n. (refl, refl))) (on (t-stores u us _ (h .1 .1) o') y w) (omega arith)) (omega arith)) c se idle (omega arith) (omega arith) (omega arith)
 
-  dStores : {j : ℕ} {g : List Mark} {kt : List Kind} {ps : List ℕ} {fs : List Frame} {k : List Task} {v : Env} (p : ℕ) (d : Data) (x : Name) (xs : List Name) (b : ℕ) (r : List Instr) → CodeAt place P b (codeStores place g x xs r) → OkVs (scopes g) (x ∷ xs) → due k ≤ 3 → Does place P (endStores (scopes g) x xs b) g [] kt ps fs k v j → Stand place P fs g (val ∷ []) kt v (heldK k) d → j ≤ p → D p (ms b ps fs d) (st (stores x xs ∷ k) v (blank d))
-  unfolding sstep endStores codeStores
+  dStores : {j : ℕ} {g : List Around} {kt : List Kind} {ps : List ℕ} {fs : List Activation} {k : List Task} {v : Env} (p : ℕ) (d : Data) (x : Name) (xs : List Name) (b : ℕ) (r : List Instruction) → CodeAt place P b (codeStores place g x xs r) → OkVs (scopes g) (x ∷ xs) → due k ≤ 3 → Does place P (endStores (scopes g) x xs b) g [] kt ps fs k v j → Stand place P fs g (val ∷ []) kt v (heldK k) d → j ≤ p → D p (running b ps fs d) (state (stores x xs ∷ k) v (blank d))
+  unfolding rule endStores codeStores
   dStores {g = g} {k = k} {v = v} p d x [] b r h o w y c le = dLast (way (meaning (scopes g) x)) p d x b r refl h (o .0) w y c le (ap (λ g. storing place (way (meaning g x)) x [] k v (blank d)) (known c))
   dStores {g = g} {k = k} {v = v} p d x (u ∷ us) b r h o w y c le = dMore (way (meaning (scopes g) x)) p d x u us b r refl h (o .0) (o .1) w y c le (ap (λ g. storing place (way (meaning g x)) x (u ∷ us) k v (blank d)) (known c))
 
   -- ininteger's second actual
-  dTake : {j : ℕ} {g : List Mark} {kt : List Kind} {ps : List ℕ} {fs : List Frame} {k : List Task} {v : Env} (wy : Way) (p : ℕ) (d : Data) (q : ℕ) (x : Name) (b : ℕ) (r : List Instr) → way (meaning (scopes g) x) ≡ wy → CodeAt place P b (codeTake place wy g q x r) → OkWay wy (scopes g) x → due k ≤ 3 → Does place P (endTake wy b) g [] kt ps fs k v j → Stand place P fs g (val ∷ []) kt v (heldK k) d → j + 1 ≤ p → sstep place (st (receiving q x ∷ k) v (blank d)) ≡ taking-in place wy q x k v (blank d) → D p (ms b ps fs d) (st (receiving q x ∷ k) v (blank d))
+  dTake : {j : ℕ} {g : List Around} {kt : List Kind} {ps : List ℕ} {fs : List Activation} {k : List Task} {v : Env} (wy : Way) (p : ℕ) (d : Data) (q : ℕ) (x : Name) (b : ℕ) (r : List Instruction) → way (meaning (scopes g) x) ≡ wy → CodeAt place P b (codeTake place wy g q x r) → OkWay wy (scopes g) x → due k ≤ 3 → Does place P (endTake wy b) g [] kt ps fs k v j → Stand place P fs g (val ∷ []) kt v (heldK k) d → j + 1 ≤ p → rule place (state (receiving q x ∷ k) v (blank d)) ≡ taking-in place wy q x k v (blank d) → D p (running b ps fs d) (state (receiving q x ∷ k) v (blank d))
   unfolding codeTake endTake taking-in
   dTake direct p d q x b r ew h o w y c le se = does [] d (receive q (here x)) (h .0) o (λ n. (refl, refl)) y w c (λ h. absurd (omega arith)) (omega arith) se
   dTake {g = g} {k = k} sought p d q x b r ew h o w y c le se = counted 0 (heldK k) [] d (channel q) (seek x (at place x) ∷ act (receive q there) ∷ k) (h .0) tt (on (t-seek (h .1 .0) (sought-named (meaning (scopes g) x) ew)) (on (t-act [] (receive q there) (h .1 .1 .0) tt (λ n. (refl, refl))) y w) (omega arith)) (omega arith) refl c (λ h. absurd (omega arith)) (omega arith) (omega arith) se
 
   -- ---- for elements
 
-  dL : {j : ℕ} {g : List Mark} {kt : List Kind} {ps : List ℕ} {fs : List Frame} {k : List Task} {v : Env} (p : ℕ) (d : Data) (x : Name) (l : List Element) (y : Statement) (s b : ℕ) (r r' : List Instr) → CodeAt place P b (codeL place g (length ps) x l s (suc (endS (scopes g) y s)) b r) → CodeAt place P s (codeS place g (suc (length ps)) y s (NEXT (length ps) ∷ r')) → OkW (scopes g) x → OkL (scopes g) l → OkS (scopes g) y → due k ≤ 2 → Does place P (suc (endS (scopes g) y s)) g [] kt ps fs k v j → Stand place P fs g [] kt v (heldK k) d → j + 2 ≤ p → D p (ms (onward l b (suc (endS (scopes g) y s))) ps fs d) (st (loop x l y ∷ k) v (blank d))
-  unfolding sstep codeL codeStores endStores
+  dL : {j : ℕ} {g : List Around} {kt : List Kind} {ps : List ℕ} {fs : List Activation} {k : List Task} {v : Env} (p : ℕ) (d : Data) (x : Name) (l : List Element) (y : Statement) (s b : ℕ) (r r' : List Instruction) → CodeAt place P b (codeL place g (length ps) x l s (suc (endS (scopes g) y s)) b r) → CodeAt place P s (codeS place g (suc (length ps)) y s (NEXT (length ps) ∷ r')) → OkW (scopes g) x → OkL (scopes g) l → OkS (scopes g) y → due k ≤ 2 → Does place P (suc (endS (scopes g) y s)) g [] kt ps fs k v j → Stand place P fs g [] kt v (heldK k) d → j + 2 ≤ p → D p (running (onward l b (suc (endS (scopes g) y s))) ps fs d) (state (loop x l y ∷ k) v (blank d))
+  unfolding rule codeL codeStores endStores
   dL p d x [] y s b r r' h h' q o o' w u c le = frees u c refl idle (omega arith) (omega arith) (omega arith)
   dL {g = g} {ps = ps} p d x (value e ∷ l) y s b r r' h h' q o o' w u c le =
       let h₁ = pastE place P g e _ _ h in
@@ -381,22 +381,22 @@ module _ (place : ℕ → ℕ) (P : List Instr) where
       frees (on (t-ev e _ h (o .0)) (on (t-stores x [] _ h₁ (q, tt)) (at-go (h₂ .0) (on (t-ev e' _ (h₂ .1) (o .1)) (at-next (h₃ .0) (on (t-hold (way (meaning (scopes g) x)) n x e' e'' l y s _ r r' (refl, h₂, h', q, o .3, o', o .1, o .2)) u w)) (omega arith))) (omega arith)) (omega arith)) c refl idle (omega arith) (omega arith) (omega arith)
 
   -- the code of a step element, from the test on
-  step-test : (g : List Mark) (m : ℕ) (w : Way) (n : ℕ) (x : Name) (f h : Expression) (l : List Element) (y : Statement) (s a : ℕ) (r r' : List Instr) → StepAt place P w g m n x f h l y s a r r' → CodeAt place P (testAt place P g f h a) (codeTest place w g x (onward l (endStep w (scopes g) f h a) (suc (endS (scopes g) y s))) (GO m s (suc (endWay w (testAt place P g f h a))) ∷ GO m (suc a) (sumAt place P w g f h a) ∷ codeSum place w g n x (JUMP (suc (heldAt place P g f a)) ∷ codeL place g m x l s (suc (endS (scopes g) y s)) (endStep w (scopes g) f h a) r)))
+  step-test : (g : List Around) (m : ℕ) (w : Way) (n : ℕ) (x : Name) (f h : Expression) (l : List Element) (y : Statement) (s a : ℕ) (r r' : List Instruction) → StepAt place P w g m n x f h l y s a r r' → CodeAt place P (testAt place P g f h a) (codeTest place w g x (onward l (endStep w (scopes g) f h a) (suc (endS (scopes g) y s))) (GO m s (suc (endWay w (testAt place P g f h a))) ∷ GO m (suc a) (sumAt place P w g f h a) ∷ codeSum place w g n x (JUMP (suc (heldAt place P g f a)) ∷ codeL place g m x l s (suc (endS (scopes g) y s)) (endStep w (scopes g) f h a) r)))
   step-test g m w n x f h l y s a r r' z = pastE place P g h _ _ ((pastE place P g f _ _ (z .1 .1)) .1 .1)
 
   -- the test of a step element
-  dTest : {j : ℕ} {g : List Mark} {kt : List Kind} {ps : List ℕ} {fs : List Frame} {k : List Task} {v : Env} (wy : Way) (p : ℕ) (d : Data) (n : ℕ) (x : Name) (f h : Expression) (l : List Element) (y : Statement) (s a : ℕ) (r r' : List Instr) → StepAt place P wy g (length ps) n x f h l y s a r r' → due k ≤ 2 → Does place P (suc (endS (scopes g) y s)) g [] kt ps fs k v j → Stand place P fs g (val ∷ []) kt v (suc (heldK k)) d → j ≤ p → sstep place (st (tested (stepping (place n) x f h l y) ∷ k) v (blank d)) ≡ passing place wy (stepping (place n) x f h l y) k v (blank d) → D p (ms (testAt place P g f h a) ps fs d) (st (tested (stepping (place n) x f h l y) ∷ k) v (blank d))
+  dTest : {j : ℕ} {g : List Around} {kt : List Kind} {ps : List ℕ} {fs : List Activation} {k : List Task} {v : Env} (wy : Way) (p : ℕ) (d : Data) (n : ℕ) (x : Name) (f h : Expression) (l : List Element) (y : Statement) (s a : ℕ) (r r' : List Instruction) → StepAt place P wy g (length ps) n x f h l y s a r r' → due k ≤ 2 → Does place P (suc (endS (scopes g) y s)) g [] kt ps fs k v j → Stand place P fs g (val ∷ []) kt v (suc (heldK k)) d → j ≤ p → rule place (state (tested (stepping (place n) x f h l y) ∷ k) v (blank d)) ≡ passing place wy (stepping (place n) x f h l y) k v (blank d) → D p (running (testAt place P g f h a) ps fs d) (state (tested (stepping (place n) x f h l y) ∷ k) v (blank d))
   unfolding codeTest endWay codeSum endSum passing
   dTest {g = g} {ps = ps} {k = k} direct p d n x f h l y s a r r' z w u c le se =
       let o : OkV (scopes g) x = rw (z .0) at (z .3) in
       let t = step-test g (length ps) direct n x f h l y s a r r' z in
-      tests (heldK k) [] d (upto (at place x) (here x)) 1 (ex y ∷ ev f ∷ add (stepping (place n) x f h l y) ∷ k) (loop x l y ∷ k) (t .0) o (λ h. absurd (omega arith)) (at-go (t .1 .0) (on (t-ex y _ (z .2) (z .5)) (at-next ((pastS place P g (suc (length ps)) y _ _ (z .2)) .0) (at-go (t .1 .1 .0) (on (t-ev f _ (z .1 .1) (z .6)) (at-next ((pastE place P g f _ _ (z .1 .1)) .0) (on (t-add direct n x f h l y s a r r' z) u w)) (omega arith)))) (omega arith))) refl (omega arith) (on (t-loop x l y s _ r r' (t .1 .1 .1 .1 .1 .1) (z .2) (z .3) (z .4) (z .5)) u w) refl (omega arith) c (omega arith) (omega arith) (omega arith) se
+      tests (heldK k) [] d (upto (at place x) (here x)) 1 (begin y ∷ evaluate f ∷ add (stepping (place n) x f h l y) ∷ k) (loop x l y ∷ k) (t .0) o (λ h. absurd (omega arith)) (at-go (t .1 .0) (on (t-ex y _ (z .2) (z .5)) (at-next ((pastS place P g (suc (length ps)) y _ _ (z .2)) .0) (at-go (t .1 .1 .0) (on (t-ev f _ (z .1 .1) (z .6)) (at-next ((pastE place P g f _ _ (z .1 .1)) .0) (on (t-add direct n x f h l y s a r r' z) u w)) (omega arith)))) (omega arith))) refl (omega arith) (on (t-loop x l y s _ r r' (t .1 .1 .1 .1 .1 .1) (z .2) (z .3) (z .4) (z .5)) u w) refl (omega arith) c (omega arith) (omega arith) (omega arith) se
   dTest {g = g} {ps = ps} sought p d n x f h l y s a r r' z w u c le se =
       let t = step-test g (length ps) sought n x f h l y s a r r' z in
       frees (on (t-seek (t .0) (sought-named (meaning (scopes g) x) (z .0))) (on (t-trying n x f h l y s a r r' z) u w) (omega arith)) c se idle (omega arith) (omega arith) (omega arith)
 
   -- the addition
-  dAdd : {j : ℕ} {g : List Mark} {kt : List Kind} {ps : List ℕ} {fs : List Frame} {k : List Task} {v : Env} (wy : Way) (p : ℕ) (d : Data) (n : ℕ) (x : Name) (f h : Expression) (l : List Element) (y : Statement) (s a : ℕ) (r r' : List Instr) → StepAt place P wy g (length ps) n x f h l y s a r r' → due k ≤ 2 → Does place P (suc (endS (scopes g) y s)) g [] kt ps fs k v j → Stand place P fs g (val ∷ []) kt v (suc (heldK k)) d → j ≤ p → sstep place (st (add (stepping (place n) x f h l y) ∷ k) v (blank d)) ≡ adding place wy (stepping (place n) x f h l y) k v (blank d) → D p (ms (sumAt place P wy g f h a) ps fs d) (st (add (stepping (place n) x f h l y) ∷ k) v (blank d))
+  dAdd : {j : ℕ} {g : List Around} {kt : List Kind} {ps : List ℕ} {fs : List Activation} {k : List Task} {v : Env} (wy : Way) (p : ℕ) (d : Data) (n : ℕ) (x : Name) (f h : Expression) (l : List Element) (y : Statement) (s a : ℕ) (r r' : List Instruction) → StepAt place P wy g (length ps) n x f h l y s a r r' → due k ≤ 2 → Does place P (suc (endS (scopes g) y s)) g [] kt ps fs k v j → Stand place P fs g (val ∷ []) kt v (suc (heldK k)) d → j ≤ p → rule place (state (add (stepping (place n) x f h l y) ∷ k) v (blank d)) ≡ adding place wy (stepping (place n) x f h l y) k v (blank d) → D p (running (sumAt place P wy g f h a) ps fs d) (state (add (stepping (place n) x f h l y) ∷ k) v (blank d))
   unfolding codeTest endWay codeSum endSum adding
   dAdd {g = g} {ps = ps} {k = k} direct p d n x f h l y s a r r' z w u c le se =
       let o : OkV (scopes g) x = rw (z .0) at (z .3) in
@@ -407,31 +407,31 @@ module _ (place : ℕ → ℕ) (P : List Instr) where
       frees (on (t-seek (t .1 .1 .1 .1 .0) (sought-named (meaning (scopes g) x) (z .0))) (on (t-summing n x f h l y s a r r' z) u w) (omega arith)) c se idle (omega arith) (omega arith) (omega arith)
 
   -- the store of the sum
-  dSetting : {j : ℕ} {g : List Mark} {kt : List Kind} {ps : List ℕ} {fs : List Frame} {k : List Task} {v : Env} (p : ℕ) (d : Data) (n : ℕ) (x : Name) (f h : Expression) (l : List Element) (y : Statement) (s a : ℕ) (r r' : List Instr) → StepAt place P direct g (length ps) n x f h l y s a r r' → due k ≤ 2 → Does place P (suc (endS (scopes g) y s)) g [] kt ps fs k v j → Stand place P fs g (val ∷ []) kt v (suc (heldK k)) d → j + 2 ≤ p → D p (ms (suc (sumAt place P direct g f h a)) ps fs d) (st (settling (here x) (stepping (place n) x f h l y) ∷ k) v (blank d))
-  unfolding sstep codeTest endWay codeSum endSum
+  dSetting : {j : ℕ} {g : List Around} {kt : List Kind} {ps : List ℕ} {fs : List Activation} {k : List Task} {v : Env} (p : ℕ) (d : Data) (n : ℕ) (x : Name) (f h : Expression) (l : List Element) (y : Statement) (s a : ℕ) (r r' : List Instruction) → StepAt place P direct g (length ps) n x f h l y s a r r' → due k ≤ 2 → Does place P (suc (endS (scopes g) y s)) g [] kt ps fs k v j → Stand place P fs g (val ∷ []) kt v (suc (heldK k)) d → j + 2 ≤ p → D p (running (suc (sumAt place P direct g f h a)) ps fs d) (state (settling (here x) (stepping (place n) x f h l y) ∷ k) v (blank d))
+  unfolding rule codeTest endWay codeSum endSum
   dSetting {g = g} {ps = ps} {k = k} p d n x f h l y s a r r' z w u c le =
       let o : OkV (scopes g) x = rw (z .0) at (z .3) in
       let t = step-test g (length ps) direct n x f h l y s a r r' z in
-      counted 0 (suc (heldK k)) [] d (store (here x)) (ev h ∷ tested (stepping (place n) x f h l y) ∷ k) (t .1 .1 .1 .1 .0) o (over-jump (t .1 .1 .1 .1 .1 .0) (on (t-ev h _ ((pastE place P g f _ _ (z .1 .1)) .1 .1) (z .7)) (on (t-tested direct n x f h l y s a r r' z) u w) (omega arith))) (omega arith) refl c (λ h. absurd (omega arith)) (omega arith) (omega arith) refl
+      counted 0 (suc (heldK k)) [] d (store (here x)) (evaluate h ∷ tested (stepping (place n) x f h l y) ∷ k) (t .1 .1 .1 .1 .0) o (over-jump (t .1 .1 .1 .1 .1 .0) (on (t-ev h _ ((pastE place P g f _ _ (z .1 .1)) .1 .1) (z .7)) (on (t-tested direct n x f h l y s a r r' z) u w) (omega arith))) (omega arith) refl c (λ h. absurd (omega arith)) (omega arith) (omega arith) refl
 
   -- where the controlled variable is a name formal, once its cell is found: the test, the sum, its store
-  dTrying : {j : ℕ} {g : List Mark} {kt : List Kind} {ps : List ℕ} {fs : List Frame} {k : List Task} {v : Env} (p : ℕ) (d : Data) (n : ℕ) (x : Name) (f h : Expression) (l : List Element) (y : Statement) (s a : ℕ) (r r' : List Instr) → StepAt place P sought g (length ps) n x f h l y s a r r' → due k ≤ 2 → Does place P (suc (endS (scopes g) y s)) g [] kt ps fs k v j → Stand place P fs g (val ∷ []) kt v (suc (heldK k)) d → (1 ≤ 1 → Found (val ∷ kt) d) → j ≤ p → D p (ms (suc (testAt place P g f h a)) ps fs d) (st (trying (stepping (place n) x f h l y) ∷ k) v (blank d))
-  unfolding sstep codeTest endWay codeSum endSum
+  dTrying : {j : ℕ} {g : List Around} {kt : List Kind} {ps : List ℕ} {fs : List Activation} {k : List Task} {v : Env} (p : ℕ) (d : Data) (n : ℕ) (x : Name) (f h : Expression) (l : List Element) (y : Statement) (s a : ℕ) (r r' : List Instruction) → StepAt place P sought g (length ps) n x f h l y s a r r' → due k ≤ 2 → Does place P (suc (endS (scopes g) y s)) g [] kt ps fs k v j → Stand place P fs g (val ∷ []) kt v (suc (heldK k)) d → (1 ≤ 1 → Found (val ∷ kt) d) → j ≤ p → D p (running (suc (testAt place P g f h a)) ps fs d) (state (trying (stepping (place n) x f h l y) ∷ k) v (blank d))
+  unfolding rule codeTest endWay codeSum endSum
   dTrying {g = g} {ps = ps} {k = k} p d n x f h l y s a r r' z w u c fd le =
       let t = step-test g (length ps) sought n x f h l y s a r r' z in
-      tests (heldK k) [] d (upto (at place x) there) 1 (ex y ∷ ev f ∷ add (stepping (place n) x f h l y) ∷ k) (loop x l y ∷ k) (t .1 .0) tt fd (at-go (t .1 .1 .0) (on (t-ex y _ (z .2) (z .5)) (at-next ((pastS place P g (suc (length ps)) y _ _ (z .2)) .0) (at-go (t .1 .1 .1 .0) (on (t-ev f _ (z .1 .1) (z .6)) (at-next ((pastE place P g f _ _ (z .1 .1)) .0) (on (t-add sought n x f h l y s a r r' z) u w)) (omega arith)))) (omega arith))) refl (omega arith) (on (t-loop x l y s _ r r' (t .1 .1 .1 .1 .1 .1 .1 .1 .1) (z .2) (z .3) (z .4) (z .5)) u w) refl (omega arith) c (omega arith) (omega arith) (omega arith) refl
+      tests (heldK k) [] d (upto (at place x) there) 1 (begin y ∷ evaluate f ∷ add (stepping (place n) x f h l y) ∷ k) (loop x l y ∷ k) (t .1 .0) tt fd (at-go (t .1 .1 .0) (on (t-ex y _ (z .2) (z .5)) (at-next ((pastS place P g (suc (length ps)) y _ _ (z .2)) .0) (at-go (t .1 .1 .1 .0) (on (t-ev f _ (z .1 .1) (z .6)) (at-next ((pastE place P g f _ _ (z .1 .1)) .0) (on (t-add sought n x f h l y s a r r' z) u w)) (omega arith)))) (omega arith))) refl (omega arith) (on (t-loop x l y s _ r r' (t .1 .1 .1 .1 .1 .1 .1 .1 .1) (z .2) (z .3) (z .4) (z .5)) u w) refl (omega arith) c (omega arith) (omega arith) (omega arith) refl
 
-  dSumming : {j : ℕ} {g : List Mark} {kt : List Kind} {ps : List ℕ} {fs : List Frame} {k : List Task} {v : Env} (p : ℕ) (d : Data) (n : ℕ) (x : Name) (f h : Expression) (l : List Element) (y : Statement) (s a : ℕ) (r r' : List Instr) → StepAt place P sought g (length ps) n x f h l y s a r r' → due k ≤ 2 → Does place P (suc (endS (scopes g) y s)) g [] kt ps fs k v j → Stand place P fs g (val ∷ []) kt v (suc (heldK k)) d → (1 ≤ 1 → Found (val ∷ kt) d) → j ≤ p → D p (ms (suc (sumAt place P sought g f h a)) ps fs d) (st (summing (stepping (place n) x f h l y) ∷ k) v (blank d))
-  unfolding sstep codeTest endWay codeSum endSum
+  dSumming : {j : ℕ} {g : List Around} {kt : List Kind} {ps : List ℕ} {fs : List Activation} {k : List Task} {v : Env} (p : ℕ) (d : Data) (n : ℕ) (x : Name) (f h : Expression) (l : List Element) (y : Statement) (s a : ℕ) (r r' : List Instruction) → StepAt place P sought g (length ps) n x f h l y s a r r' → due k ≤ 2 → Does place P (suc (endS (scopes g) y s)) g [] kt ps fs k v j → Stand place P fs g (val ∷ []) kt v (suc (heldK k)) d → (1 ≤ 1 → Found (val ∷ kt) d) → j ≤ p → D p (running (suc (sumAt place P sought g f h a)) ps fs d) (state (summing (stepping (place n) x f h l y) ∷ k) v (blank d))
+  unfolding rule codeTest endWay codeSum endSum
   dSumming {g = g} {ps = ps} {k = k} p d n x f h l y s a r r' z w u c fd le =
       let t = step-test g (length ps) sought n x f h l y s a r r' z in
       counted 1 (heldK k) [] d (sum (place n) there) (seek x (at place x) ∷ settling there (stepping (place n) x f h l y) ∷ k) (t .1 .1 .1 .1 .1 .0) tt (on (t-seek (t .1 .1 .1 .1 .1 .1 .0) (sought-named (meaning (scopes g) x) (z .0))) (on (t-settling n x f h l y s a r r' z) u w) (omega arith)) (omega arith) refl c fd (omega arith) (omega arith) refl
 
-  dSettling : {j : ℕ} {g : List Mark} {kt : List Kind} {ps : List ℕ} {fs : List Frame} {k : List Task} {v : Env} (p : ℕ) (d : Data) (n : ℕ) (x : Name) (f h : Expression) (l : List Element) (y : Statement) (s a : ℕ) (r r' : List Instr) → StepAt place P sought g (length ps) n x f h l y s a r r' → due k ≤ 2 → Does place P (suc (endS (scopes g) y s)) g [] kt ps fs k v j → Stand place P fs g (val ∷ []) kt v (suc (heldK k)) d → (1 ≤ 1 → Found (val ∷ kt) d) → j + 2 ≤ p → D p (ms (suc (suc (suc (sumAt place P sought g f h a)))) ps fs d) (st (settling there (stepping (place n) x f h l y) ∷ k) v (blank d))
-  unfolding sstep codeTest endWay codeSum endSum
+  dSettling : {j : ℕ} {g : List Around} {kt : List Kind} {ps : List ℕ} {fs : List Activation} {k : List Task} {v : Env} (p : ℕ) (d : Data) (n : ℕ) (x : Name) (f h : Expression) (l : List Element) (y : Statement) (s a : ℕ) (r r' : List Instruction) → StepAt place P sought g (length ps) n x f h l y s a r r' → due k ≤ 2 → Does place P (suc (endS (scopes g) y s)) g [] kt ps fs k v j → Stand place P fs g (val ∷ []) kt v (suc (heldK k)) d → (1 ≤ 1 → Found (val ∷ kt) d) → j + 2 ≤ p → D p (running (suc (suc (suc (sumAt place P sought g f h a)))) ps fs d) (state (settling there (stepping (place n) x f h l y) ∷ k) v (blank d))
+  unfolding rule codeTest endWay codeSum endSum
   dSettling {g = g} {ps = ps} {k = k} p d n x f h l y s a r r' z w u c fd le =
       let t = step-test g (length ps) sought n x f h l y s a r r' z in
-      counted 0 (suc (heldK k)) [] d (store there) (ev h ∷ tested (stepping (place n) x f h l y) ∷ k) (t .1 .1 .1 .1 .1 .1 .1 .0) tt (over-jump (t .1 .1 .1 .1 .1 .1 .1 .1 .0) (on (t-ev h _ ((pastE place P g f _ _ (z .1 .1)) .1 .1) (z .7)) (on (t-tested sought n x f h l y s a r r' z) u w) (omega arith))) (omega arith) refl c fd (omega arith) (omega arith) refl
+      counted 0 (suc (heldK k)) [] d (store there) (evaluate h ∷ tested (stepping (place n) x f h l y) ∷ k) (t .1 .1 .1 .1 .1 .1 .1 .0) tt (over-jump (t .1 .1 .1 .1 .1 .1 .1 .1 .0) (on (t-ev h _ ((pastE place P g f _ _ (z .1 .1)) .1 .1) (z .7)) (on (t-tested sought n x f h l y s a r r' z) u w) (omega arith))) (omega arith) refl c fd (omega arith) (omega arith) refl
 
   -- ---- tasks
 
@@ -449,8 +449,8 @@ module _ (place : ℕ → ℕ) (P : List Instr) where
   enters (given n i) y x es f k v d e = absurd e
   enters nothing y x es f k v d e = absurd e
 
-  dT : {pc r j : ℕ} {g : List Mark} {ks ks' kt : List Kind} {ps : List ℕ} {fs : List Frame} {t : Task} {k : List Task} {v : Env} (p : ℕ) (d : Data) → AtT place P g (length ps) pc ks t r ks' → due k ≤ slack t → Does place P r g ks' kt ps fs k v j → Stand place P fs g ks kt v (heldT t (heldK k)) d → (1 ≤ wants (t ∷ k) → Found (ks ++ kt) d) → j + owes t ≤ p → D p (ms pc ps fs d) (st (t ∷ k) v (blank d))
-  unfolding sstep exec endE codeE endS codeS codeL
+  dT : {pc r j : ℕ} {g : List Around} {ks ks' kt : List Kind} {ps : List ℕ} {fs : List Activation} {t : Task} {k : List Task} {v : Env} (p : ℕ) (d : Data) → AtT place P g (length ps) pc ks t r ks' → due k ≤ slack t → Does place P r g ks' kt ps fs k v j → Stand place P fs g ks kt v (heldT t (heldK k)) d → (1 ≤ wants (t ∷ k) → Found (ks ++ kt) d) → j + owes t ≤ p → D p (running pc ps fs d) (state (t ∷ k) v (blank d))
+  unfolding rule exec endE codeE endS codeS codeL
   dT p d (t-ev e r h o) w y c fd le = dE p d e _ r h o w y c (omega arith)
   dT p d (t-evs m es r h o e) w y c fd le = dEs p d m es _ r h o e w y c (omega arith)
   dT {pc = pc} {ks = ks} {kt = kt} {k = k} p d (t-naming {q = q} i) w y (stands c z f) fd le = acts _ (nameCell (place q) (suc pc) d) _ (name-blank (place q) (suc pc) d) y (c, z) (name-fits (place q) (suc pc) (ks ++ kt) (heldK k) d f) w (omega arith) refl (now _ _ _ d i)
@@ -468,19 +468,19 @@ module _ (place : ℕ → ℕ) (P : List Instr) where
   dT {g = g} {k = k} p d (t-expressions {ks = ks} q q' a e f b r h o) w y c fd le =
       let h₁ = pastE place P g a _ _ h in
       let h₂ = pastE place P g e _ _ (h₁ .1) in
-      tests (heldK k) ks d condition 0 (ev e ∷ k) (ev f ∷ k) (h₁ .0) tt (λ h. absurd (omega arith)) (on (t-ev e _ (h₁ .1) (o .1)) (over-jump (h₂ .0) y) w) refl (omega arith) (on (t-ev f _ (h₂ .1) (o .2)) y w) refl (omega arith) c (omega arith) (omega arith) (omega arith) refl
+      tests (heldK k) ks d condition 0 (evaluate e ∷ k) (evaluate f ∷ k) (h₁ .0) tt (λ h. absurd (omega arith)) (on (t-ev e _ (h₁ .1) (o .1)) (over-jump (h₂ .0) y) w) refl (omega arith) (on (t-ev f _ (h₂ .1) (o .2)) y w) refl (omega arith) c (omega arith) (omega arith) (omega arith) refl
   dT {g = g} {ps = ps} {k = k} p d (t-statements q a s t b r h o) w y c fd le =
       let h₁ = pastE place P g a _ _ h in
       let h₂ = pastS place P g (length ps) s _ _ (h₁ .1) in
-      tests (heldK k) [] d condition 0 (ex s ∷ k) (ex t ∷ k) (h₁ .0) tt (λ h. absurd (omega arith)) (on (t-ex s _ (h₁ .1) (o .1)) (over-jump (h₂ .0) y) w) refl (omega arith) (on (t-ex t _ (h₂ .1) (o .2)) y w) refl (omega arith) c (omega arith) (omega arith) (omega arith) refl
+      tests (heldK k) [] d condition 0 (begin s ∷ k) (begin t ∷ k) (h₁ .0) tt (λ h. absurd (omega arith)) (on (t-ex s _ (h₁ .1) (o .1)) (over-jump (h₂ .0) y) w) refl (omega arith) (on (t-ex t _ (h₂ .1) (o .2)) y w) refl (omega arith) c (omega arith) (omega arith) (omega arith) refl
   dT {g = g} {k = k} p d (t-only q a s b r h o) w y c fd le =
       let h₁ = pastE place P g a _ _ h in
-      tests (heldK k) [] d condition 0 (ex s ∷ k) k (h₁ .0) tt (λ h. absurd (omega arith)) (on (t-ex s _ (h₁ .1) (o .1)) y w) refl (omega arith) y refl (omega arith) c (omega arith) (omega arith) (omega arith) refl
+      tests (heldK k) [] d condition 0 (begin s ∷ k) k (h₁ .0) tt (λ h. absurd (omega arith)) (on (t-ex s _ (h₁ .1) (o .1)) y w) refl (omega arith) y refl (omega arith) c (omega arith) (omega arith) (omega arith) refl
   dT {g = g} {ps = ps} {k = k} p d (t-whiling x n e a l y s b i r r' r'' h h₁ h' q o o') w u c fd le =
-      tests (heldK k) [] d condition 1 (ex y ∷ loop x (while n e a ∷ l) y ∷ k) (loop x l y ∷ k) (h₁ .0) tt (λ h. absurd (omega arith)) (at-go (h₁ .1 .0) (on (t-ex y _ h' o') (at-next ((pastS place P g (suc (length ps)) y _ _ h') .0) (on (t-loop x (while n e a ∷ l) y s b r r' h h' q o o') u w)) (omega arith))) refl (omega arith) (on (t-loop x l y s _ r'' r' (h₁ .1 .1) h' q (o .2) o') u w) refl (omega arith) c (omega arith) (omega arith) (omega arith) refl
+      tests (heldK k) [] d condition 1 (begin y ∷ loop x (while n e a ∷ l) y ∷ k) (loop x l y ∷ k) (h₁ .0) tt (λ h. absurd (omega arith)) (at-go (h₁ .1 .0) (on (t-ex y _ h' o') (at-next ((pastS place P g (suc (length ps)) y _ _ h') .0) (on (t-loop x (while n e a ∷ l) y s b r r' h h' q o o') u w)) (omega arith))) refl (omega arith) (on (t-loop x l y s _ r'' r' (h₁ .1 .1) h' q (o .2) o') u w) refl (omega arith) c (omega arith) (omega arith) (omega arith) refl
   dT {g = g} {k = k} p d (t-hold wy n x f h l y s a r r' z) w u c fd le =
       let t = (pastE place P g f _ _ (z .1 .1)) .1 in
-      counted 0 (heldK k) [] d keep (ev h ∷ tested (stepping (place n) x f h l y) ∷ k) (t .0) tt (on (t-ev h _ (t .1) (z .7)) (on (t-tested wy n x f h l y s a r r' z) u w) (omega arith)) (omega arith) refl c (λ h. absurd (omega arith)) (omega arith) (omega arith) refl
+      counted 0 (heldK k) [] d keep (evaluate h ∷ tested (stepping (place n) x f h l y) ∷ k) (t .0) tt (on (t-ev h _ (t .1) (z .7)) (on (t-tested wy n x f h l y s a r r' z) u w) (omega arith)) (omega arith) refl c (λ h. absurd (omega arith)) (omega arith) (omega arith) refl
   dT {g = g} {k = k} {v = v} p d (t-tested wy n x f h l y s a r r' z) w u c fd le = dTest wy p d n x f h l y s a r r' z w u c (omega arith) (ap (λ g. passing place (way (meaning g x)) (stepping (place n) x f h l y) k v (blank d)) (known c) ∙ ap (λ w. passing place w (stepping (place n) x f h l y) k v (blank d)) (z .0))
   dT {g = g} {k = k} {v = v} p d (t-add wy n x f h l y s a r r' z) w u c fd le = dAdd wy p d n x f h l y s a r r' z w u c (omega arith) (ap (λ g. adding place (way (meaning g x)) (stepping (place n) x f h l y) k v (blank d)) (known c) ∙ ap (λ w. adding place w (stepping (place n) x f h l y) k v (blank d)) (z .0))
   dT p d (t-trying n x f h l y s a r r' z) w u c fd le = dTrying p d n x f h l y s a r r' z w u c fd (omega arith)
@@ -496,14 +496,14 @@ module _ (place : ℕ → ℕ) (P : List Instr) where
       let e₂ : cellsIn (ofBody u) ≡ n = omega (arith, body-cells u, o .1, o .2, e₁) in
       let b = cells d - cellsIn (ofBody u) in
       let i'' : instructionAt P pc ≡ some (CALLS place g x (cellsIn (ofBody u)) f) = rw e₂ i' in
-      let a : Frame = fr (suc pc) b (walk fs (length fs) (levels (declaring x) g)) f (at place x) ps in
+      let a : Activation = activation (suc pc) b (walk fs (length fs) (levels (declaring x) g)) f (at place x) ps in
       let n₁ : cells d ≡ length kt' = fits-cells kt' (heldK k) d fit' in
       let n₂ : length kt' ≡ length is + (t + length kk) = rev-length is (more-of any t kk) ∙ ap (λ n. length is + n) (more-length any t kk) in
       let n₃ : b ≡ length kk = omega (arith, n₁, n₂, e₁, e₂) in
       let n₄ : length kk ≡ length ks + length kt = length-append ks kt in
       let n₅ : floor fs + cellsIn (ofBody u) ≤ cells d = omega (arith, n₁, n₂, n₄, e₁, e₂, z) in
       let n₆ : b + cellsIn (ofBody u) ≤ length kt' = omega (arith, n₁, n₂, e₁, e₂) in
-      let n₇ : length kt' ≡ floor (a ∷ fs) + reach (own u ∷ cutG (declaring x) g) = omega (arith, n₁, n₂, e₁, e₂, ap baseOf (at-newest a fs)) in
+      let n₇ : length kt' ≡ floor (a ∷ fs) + reach (aBody u ∷ cutG (declaring x) g) = omega (arith, n₁, n₂, e₁, e₂, ap baseOf (at-newest a fs)) in
       let l : ℕ = target (cutG (declaring x) g) x in
       let sp = split-call f t is kk l₁ l₂ in
       let n₈ : cells (blank d) - cellsIn (ofBody u) ≡ b = ap (λ n. n - cellsIn (ofBody u)) (cells-blank d) in
@@ -512,26 +512,26 @@ module _ (place : ℕ → ℕ) (P : List Instr) where
       let pl : oneIf (sortOf u) ≡ 1 → Plain (kindAt kt' b) = called-plain is t kk b (oneIf (sortOf u)) n₃ (o .1) in
       let n₉ : length (more-of any t kk) ≡ b + oneIf (sortOf u) = omega (arith, more-length any t kk, n₃, o .1) in
       let ac = laid-actuals place P g (valuesOf u) (formalsOf u) es is (more-of any t kk) la in
-      acts {ks = []} {kt = kt'} {fs = a ∷ fs} _ (enter (at place x) d) _ (enter-blank (at place x) d) (starts (sp .0) ks kt kt' u (t' .0) (t' .1) (t' .2) (c, z) n₃ (sp .1) w y) (chain-new place P (suc pc) b (walk fs (length fs) (levels (declaring x) g)) (length kt') u es f (at place x) ps fs n₆ pl (rw n₉ at ac) c₂ (chain-cut place P fs (declaring x) c₂), n₇) (enter-fits (at place x) kt' (heldK k) d fit') (omega arith) (omega arith) (ap (λ g. calling place (meaning g x) x es f k v (blank d)) (chain-scopes place P fs c) ∙ enters (meaning (scopes g) x) u x es f k v (blank d) (o .0) ∙ ap (λ b. lift noRule 1 (st (ex (bodyOf u) ∷ return f (at place x) b v ∷ k) (called u b es v (cut (declaring x) v))) (enter (at place x) (blank d))) n₈) (now _ _ _ d i'' ∙ ap (lift (stray pc) 1 (ms l [] (a ∷ fs))) (over-floor (floor fs + cellsIn (ofBody u)) (cells d) (enter (at place x) d) n₅))
+      acts {ks = []} {kt = kt'} {fs = a ∷ fs} _ (enter (at place x) d) _ (enter-blank (at place x) d) (starts (sp .0) ks kt kt' u (t' .0) (t' .1) (t' .2) (c, z) n₃ (sp .1) w y) (chain-new place P (suc pc) b (walk fs (length fs) (levels (declaring x) g)) (length kt') u es f (at place x) ps fs n₆ pl (rw n₉ at ac) c₂ (chain-cut place P fs (declaring x) c₂), n₇) (enter-fits (at place x) kt' (heldK k) d fit') (omega arith) (omega arith) (ap (λ g. calling place (meaning g x) x es f k v (blank d)) (chain-scopes place P fs c) ∙ enters (meaning (scopes g) x) u x es f k v (blank d) (o .0) ∙ ap (λ b. lift noRule 1 (state (begin (bodyOf u) ∷ return f (at place x) b v ∷ k) (called u b es v (cut (declaring x) v))) (enter (at place x) (blank d))) n₈) (now _ _ _ d i'' ∙ ap (lift (stray pc) 1 (running l [] (a ∷ fs))) (over-floor (floor fs + cellsIn (ofBody u)) (cells d) (enter (at place x) d) n₅))
 
   -- ---- the actual that a store comes to
 
-  dFindName : {pc r b l q j : ℕ} {g : List Mark} {kt : List Kind} {ps ps' : List ℕ} {fs : List Frame} {k : List Task} {v : Env} (pr : Primary) (p : ℕ) (d : Data) (y : Name) → primary (meaning (scopes g) y) done ≡ pr → instructionAt P pc ≡ some (storeName place pr (acl ∷ g) y) → OkPrimary (scopes g) y 0 pr → owed k ≤ 0 → Does place P (suc pc) (acl ∷ g) [] kt ps' (fr r b l gone q ps ∷ fs) k v j → Stand place P (fr r b l gone q ps ∷ fs) (acl ∷ g) [] kt v (heldK k) d → j + 1 ≤ p → sstep place (st (find (name y) q ∷ k) v (blank d)) ≡ finds place pr y q k v (blank d) → D p (ms pc ps' (fr r b l gone q ps ∷ fs) d) (st (find (name y) q ∷ k) v (blank d))
+  dFindName : {pc r b l q j : ℕ} {g : List Around} {kt : List Kind} {ps ps' : List ℕ} {fs : List Activation} {k : List Task} {v : Env} (pr : Primary) (p : ℕ) (d : Data) (y : Name) → primary (meaning (scopes g) y) done ≡ pr → instructionAt P pc ≡ some (storeName place pr (anActual ∷ g) y) → OkPrimary (scopes g) y 0 pr → owed k ≤ 0 → Does place P (suc pc) (anActual ∷ g) [] kt ps' (activation r b l gone q ps ∷ fs) k v j → Stand place P (activation r b l gone q ps ∷ fs) (anActual ∷ g) [] kt v (heldK k) d → j + 1 ≤ p → rule place (state (find (name y) q ∷ k) v (blank d)) ≡ finds place pr y q k v (blank d) → D p (running pc ps' (activation r b l gone q ps ∷ fs) d) (state (find (name y) q ∷ k) v (blank d))
   unfolding exec finds
   dFindName {pc = pc} {r = r} {b = b} {l = l} {q = q} {j = j} {g = g} {kt = kt} {ps = ps} {ps' = ps'} {fs = fs} {k = k} {v = v} held p d y ep i o w x (stands c z f) le e =
       let u = found place P c (cells (blank d)) y o in
       let n = cellOf (cells (blank d)) v y in
       let h = found-under place P c (cells (blank d)) y o in
       let us : Usable kt n = (u .1, u .2) in
-      same (λ d'. FitsD kt (heldK k) d' × (foundIn d' ≡ n)) blank 0 j _ (work (lend n) d) _ _ (e ∙ ap (lift noRule 0 (st k v)) (work-blank (lend n) d)) (now _ _ _ d i ∙ ap (lift (stray pc) 1 (ms (suc pc) ps' (fr r b l gone q ps ∷ fs))) (acted {kt = kt} {n = heldK k} [] d (lend (here y)) (stands c z f) o)) (lend-found n kt (heldK k) d f us) (λ d' m. rel x (stands c z (m .0)) (λ t. rw (m .1) (h, u .2)) (omega arith)) (omega arith) (omega arith)
+      same (λ d'. FitsD kt (heldK k) d' × (foundIn d' ≡ n)) blank 0 j _ (work (lend n) d) _ _ (e ∙ ap (lift noRule 0 (state k v)) (work-blank (lend n) d)) (now _ _ _ d i ∙ ap (lift (stray pc) 1 (running (suc pc) ps' (activation r b l gone q ps ∷ fs))) (acted {kt = kt} {n = heldK k} [] d (lend (here y)) (stands c z f) o)) (lend-found n kt (heldK k) d f us) (λ d' m. rel x (stands c z (m .0)) (λ t. rw (m .1) (h, u .2)) (omega arith)) (omega arith) (omega arith)
   dFindName {g = g} worked p d y ep i o w x c le e = frees (at-pass y i (worked-named (meaning (scopes g) y) done ep) x) c e idle (omega arith) (omega arith) (omega arith)
   dFindName (function u) p d y ep i o w x c le e = stop e (now _ _ _ d i) (inr refl)
   dFindName absolute p d y ep i o w x c le e = stop e (now _ _ _ d i) (inr refl)
   dFindName greatest p d y ep i o w x c le e = stop e (now _ _ _ d i) (inr refl)
   dFindName no-primary p d y ep i o w x c le e = stop e (now _ _ _ d i) (inr refl)
 
-  dFind : {pc r b l q j : ℕ} {g : List Mark} {kt : List Kind} {ps ps' : List ℕ} {fs : List Frame} {k : List Task} {v : Env} (p : ℕ) (d : Data) (e : Expression) → instructionAt P pc ≡ some (storePart place (acl ∷ g) e) → OkE (scopes g) e → owed k ≤ 0 → Does place P (suc pc) (acl ∷ g) [] kt ps' (fr r b l gone q ps ∷ fs) k v j → Stand place P (fr r b l gone q ps ∷ fs) (acl ∷ g) [] kt v (heldK k) d → j + 1 ≤ p → D p (ms pc ps' (fr r b l gone q ps ∷ fs) d) (st (find e q ∷ k) v (blank d))
-  unfolding sstep exec
+  dFind : {pc r b l q j : ℕ} {g : List Around} {kt : List Kind} {ps ps' : List ℕ} {fs : List Activation} {k : List Task} {v : Env} (p : ℕ) (d : Data) (e : Expression) → instructionAt P pc ≡ some (storePart place (anActual ∷ g) e) → OkE (scopes g) e → owed k ≤ 0 → Does place P (suc pc) (anActual ∷ g) [] kt ps' (activation r b l gone q ps ∷ fs) k v j → Stand place P (activation r b l gone q ps ∷ fs) (anActual ∷ g) [] kt v (heldK k) d → j + 1 ≤ p → D p (running pc ps' (activation r b l gone q ps ∷ fs) d) (state (find e q ∷ k) v (blank d))
+  unfolding rule exec
   dFind p d (number a n) i o w x c le = stop refl (now _ _ _ d i) (inr refl)
   dFind p d (logical a t) i o w x c le = stop refl (now _ _ _ d i) (inr refl)
   dFind {q = q} {g = g} {k = k} {v = v} p d (name y) i o w x c le = dFindName (primary (meaning (scopes g) y) done) p d y refl i o w x c le (ap (λ g. finds place (primary (meaning g y) done) y q k v (blank d)) (known c))
@@ -543,8 +543,8 @@ module _ (place : ℕ → ℕ) (P : List Instr) where
 
   -- ---- the agenda
 
-  dD : {pc j : ℕ} {g : List Mark} {ks kt : List Kind} {ps : List ℕ} {fs : List Frame} {k : List Task} {v : Env} (p : ℕ) (d : Data) → Does place P pc g ks kt ps fs k v j → Stand place P fs g ks kt v (heldK k) d → (1 ≤ wants k → Found (ks ++ kt) d) → j + owed k ≤ p → D p (ms pc ps fs d) (st k v (blank d))
-  unfolding sstep exec
+  dD : {pc j : ℕ} {g : List Around} {ks kt : List Kind} {ps : List ℕ} {fs : List Activation} {k : List Task} {v : Env} (p : ℕ) (d : Data) → Does place P pc g ks kt ps fs k v j → Stand place P fs g ks kt v (heldK k) d → (1 ≤ wants k → Found (ks ++ kt) d) → j + owed k ≤ p → D p (running pc ps fs d) (state k v (blank d))
+  unfolding rule exec
   dD {k = k} p d (over-jump {j = j} i y) c fd le = hop (now _ _ _ d i) (rel {p = j + owed k} y c fd (omega arith)) (omega arith)
   dD {ps = ps} {k = k} p d (at-go {j = j} i y) c fd le = hop (now _ _ _ d i ∙ same-nest (length ps) _ _) (rel {p = j + owed k} y c fd (omega arith)) (omega arith)
   dD {k = k} p d (at-next {j = j} {ps = ps} i y) c fd le = hop (now _ _ _ d i ∙ same-nest (length ps) _ _) (rel {p = j + owed k} y c fd (omega arith)) (omega arith)
@@ -554,24 +554,24 @@ module _ (place : ℕ → ℕ) (P : List Instr) where
       let n₁ : length kt ≡ floor fs + reach g = omega (arith, z, e, more-length any n kt) in
       let n₂ : floor fs + n ≤ cells d = omega (arith, z, e, more-length any n kt, fits-cells (more-of any n kt) (heldK k) d f) in
       let c' = chain-as place P fs (kindAt kt) (chain-outer place P fs c) (λ m h. sym (kind-more n kt m (omega (arith, n₁)))) in
-      acts {ks = []} {kt = kt} _ _ _ (close-blank n d) y (chain-more place P fs c' (omega (arith, n₁)), n₁) (close-fits n kt (heldK k) d f) wd (omega arith) refl (now _ _ _ d i ∙ ap (lift (stray pc) 1 (ms (suc pc) ps fs)) (over-floor (floor fs + n) (cells d) (closeBlock n d) n₂))
+      acts {ks = []} {kt = kt} _ _ _ (close-blank n d) y (chain-more place P fs c' (omega (arith, n₁)), n₁) (close-fits n kt (heldK k) d f) wd (omega arith) refl (now _ _ _ d i ∙ ap (lift (stray pc) 1 (running (suc pc) ps fs)) (over-floor (floor fs + n) (cells d) (closeBlock n d) n₂))
   dD p d (at-ret {b = b} {q = q} {f = f} {fs = fs} {k = k} js ks kt kt' i c' e e' wd y) (stands c z fit) fd le =
       let fit' : FitsD (js ++ before f (ks ++ kt)) (heldK k) d = rw e' at fit in
       acts _ _ _ (leave-blank f q b d) y c' (rw (left-on f ks kt) (leave-fits f q b js (ks ++ kt) (heldK k) d fit' e)) wd (omega arith) refl (now _ _ _ d i)
   dD p d (at-worked {b = b} {q = q} {k = k} ks kt i c' e wd y) (stands c z fit) fd le = acts _ _ _ (leave-blank kept q b d) y c' (work-fits q b (ks ++ kt) (heldK k) d fit e) wd (omega arith) refl (now _ _ _ d i)
-  dD p d (at-sought {b = b} {q = q} {j = j} {k = k} {v = v} ks kt i c' e y) (stands c z fit) fd le = same (λ d'. FitsD (ks ++ kt) (heldK k) d' × (foundIn d' ≡ foundIn d)) blank 1 (j + 3) _ (leave gone q b d) _ _ (ap (lift noRule 1 (st k v)) (leave-blank gone q b d)) (now _ _ _ d i) (leave-found q b (ks ++ kt) (heldK k) d fit e) (λ d' m. rel y (stands (c' .0) (c' .1) (m .0)) (λ h. rw (m .1) (fd h)) (omega (arith, owed-most k))) (omega arith) (omega arith)
+  dD p d (at-sought {b = b} {q = q} {j = j} {k = k} {v = v} ks kt i c' e y) (stands c z fit) fd le = same (λ d'. FitsD (ks ++ kt) (heldK k) d' × (foundIn d' ≡ foundIn d)) blank 1 (j + 3) _ (leave gone q b d) _ _ (ap (lift noRule 1 (state k v)) (leave-blank gone q b d)) (now _ _ _ d i) (leave-found q b (ks ++ kt) (heldK k) d fit e) (λ d' m. rel y (stands (c' .0) (c' .1) (m .0)) (λ h. rw (m .1) (fd h)) (omega (arith, owed-most k))) (omega arith) (omega arith)
   dD p d (at-find e i o w y) c fd le = dFind p d e i o w y c le
   dD p d (at-pass {q = q} x i o y) c fd le = dSeek p d x q (now _ _ _ d i) (there-is x c o) y c (omega arith) refl
 
-  pub diag : (p : ℕ) (m : Mach) (s : State) → Rel place P p m s → D p m s
+  pub diag : (p : ℕ) (m : Running) (s : State) → Rel place P p m s → D p m s
   diag p m s (rel {d = d} y c fd le) = dD p d y c fd le
 
 -- a program at its beginning, and the machine at its start
-pub begin : (place : ℕ → ℕ) (s : Statement) → Scoped s → (input : List ℤ) (room space : ℕ) → Rel place (code place s) 0 (start input room space) (beginning place s input room space)
+pub begin-related : (place : ℕ → ℕ) (s : Statement) → Scoped s → (input : List ℤ) (cellsLent space : ℕ) → Rel place (code place s) 0 (start input cellsLent space) (beginning place s input cellsLent space)
 unfolding code blank
-begin place s ok input room space =
-    let P : List Instr = code place s in
+begin-related place s ok input cellsLent space =
+    let P : List Instruction = code place s in
     let h : CodeAt place P 0 (codeS place [] 0 s 0 (END ∷ [])) = whole place P in
-    let d : Data = dat [] [] 0 (record { room = room; input = input; space = space; found = 0 }) in
+    let d : Data = contents [] [] 0 (record { cellsLent = cellsLent; input = input; space = space; found = 0 }) in
     let c : Stand place P [] [] [] [] outside 0 d = stands root refl (tt, refl) in
     rel {p = 0} {kt = []} {d = d} (at-task {k = []} (t-ex s _ h ok) (omega arith) (at-end ((pastS place P [] 0 s 0 _ h) .0))) c (λ h. absurd (omega arith)) (omega arith)

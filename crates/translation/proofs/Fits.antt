@@ -14,7 +14,7 @@ use Rattle.machine.specs.declared.Cell.the-variants.{Unset, Holds, Named}
 use Rattle.machine.specs.declared.Value.{Value}
 use Rattle.machine.specs.declared.Value.the-variants.{Is, Fault}
 use Rattle.machine.specs.Values.{whole, isZero, Unary, minus, negation, absolute, apply1, Binary, plus, less, times, over, below, atMost, equal, atLeast, above, unequal, and, or, impl, equiv, apply2, past}
-use Rattle.machine.specs.Data.{Lent, Data, dat, cells, Res, bad, wrong, good, guard, check, newCells, newest, onValue, back, look, put, plain, find, foundIn, nameCell, reading, valued, hold, unhold, held, input, rest, spend, taking, writing, Act, push, load, store, assign, reserve, forget, receive, send, keep, unary, binary, lend, channel, sum, actOn, work, downs, Two, yea, nay, Test, condition, upto, testOn, test, downsT, openBlock, closeBlock, enter, Fate, kept, gone, stays, given, leave}
+use Rattle.machine.specs.Data.{Lent, Data, contents, cells, Result, bad, wrong, good, guard, check, newCells, newest, onValue, back, look, put, plain, find, foundIn, nameCell, reading, valued, hold, unhold, held, input, rest, spend, taking, writing, Act, push, load, store, assign, reserve, forget, receive, send, keep, unary, binary, lend, channel, sum, actOn, work, downs, Two, yea, nay, Test, condition, upto, testOn, test, downsT, openBlock, closeBlock, enter, Fate, kept, gone, stays, given, leave}
 use Rattle.translation.proofs.CellKinds.{Kind, val, any, nam, Plain, plain-eq, kindAt, kind-on}
 use Rattle.translation.proofs.Chain.{Vars, VarsT}
 
@@ -39,7 +39,7 @@ Fits (k ∷ ks) (c ∷ w) = Fits1 k c × Fits ks w
 
 -- the cells fit, and n values are held
 abbrev pub FitsD : List Kind → ℕ → Data → Type 0
-FitsD ks n (dat w h a l) = Fits ks w × (length h ≡ n)
+FitsD ks n (contents w h a l) = Fits ks w × (length h ≡ n)
 
 -- after a test: n values are held where it says yes, m where it says no
 abbrev pub Fits2 : List Kind → ℕ → ℕ → Two → Type 0
@@ -51,7 +51,7 @@ Fits2 ks n m (nay d) = FitsD ks m d
 abbrev pub Proper : ℕ → Type 0
 Proper a = (21 ≤ a) × (a ≤ 28)
 
-abbrev pub All : {A : Type 0} → (A → Type 0) → Res A → Type 0
+abbrev pub All : {A : Type 0} → (A → Type 0) → Result A → Type 0
 All Q (bad a q) = Proper a
 All Q wrong = ⊥
 All Q (good e x) = Q x
@@ -267,7 +267,7 @@ fits-length (k ∷ ks) [] f = absurd f
 fits-length (k ∷ ks) (c ∷ w) f = ap suc (fits-length ks w (f .1))
 
 pub fits-cells : (ks : List Kind) (n : ℕ) (d : Data) → FitsD ks n d → cells d ≡ length ks
-fits-cells ks n (dat w h a l) f = fits-length ks w (f .0)
+fits-cells ks n (contents w h a l) f = fits-length ks w (f .0)
 
 fits-get : (ks : List Kind) (w : List Cell) (i : ℕ) → Fits ks w → Fits1 (getD ks i any) (getD w i Unset)
 fits-get [] [] i f = tt
@@ -279,7 +279,7 @@ fits-get (k ∷ ks) (c ∷ w) (suc i) f = fits-get ks w i (f .1)
 -- what stands in a cell is of its kind
 pub fits-look : (ks : List Kind) (n c : ℕ) (d : Data) → FitsD ks n d → Fits1 (kindAt ks c) (look c d)
 unfolding look kindAt
-fits-look ks n c (dat w h a l) f = rw (fits-length ks w (f .0)) (fits-get ks w (length ks - suc c) (f .0))
+fits-look ks n c (contents w h a l) f = rw (fits-length ks w (f .0)) (fits-get ks w (length ks - suc c) (f .0))
 
 fits-plain : (k : Kind) (c : Cell) → Fits1 k c → Plain k → T (plain c)
 fits-plain any Unset f p = tt
@@ -353,85 +353,85 @@ fits-drop (j ∷ js) ks (c ∷ w) f = fits-drop js ks w (f .1)
 
 -- ---- the parts of operations
 
-pub guard-yes : {A : Type 0} (b : Bool) (r : Res A) → T b → guard b r ≡ r
+pub guard-yes : {A : Type 0} (b : Bool) (r : Result A) → T b → guard b r ≡ r
 unfolding guard
 guard-yes true r h = refl
 guard-yes false r h = absurd h
 
-guarded : {A : Type 0} (Q : A → Type 0) (b : Bool) (r : Res A) → T b → All Q r → All Q (guard b r)
+guarded : {A : Type 0} (Q : A → Type 0) (b : Bool) (r : Result A) → T b → All Q r → All Q (guard b r)
 unfolding guard
 guarded Q true r h x = x
 guarded Q false r h x = absurd h
 
-checked : {A : Type 0} (Q : A → Type 0) (t : Bool) (a q : ℕ) (r : Res A) → Proper a → All Q r → All Q (check t a q r)
+checked : {A : Type 0} (Q : A → Type 0) (t : Bool) (a q : ℕ) (r : Result A) → Proper a → All Q r → All Q (check t a q r)
 unfolding check
 checked Q true a q r w x = x
 checked Q false a q r w x = w
 
 -- a value is used
-used : {A : Type 0} (Q : A → Type 0) (f : ℤ → Data → Res A) (ks : List Kind) (n : ℕ) (d : Data) → FitsD (val ∷ ks) n d → ((v : ℤ) (d : Data) → FitsD ks n d → All Q (f v d)) → All Q (onValue f (newest d))
+used : {A : Type 0} (Q : A → Type 0) (f : ℤ → Data → Result A) (ks : List Kind) (n : ℕ) (d : Data) → FitsD (val ∷ ks) n d → ((v : ℤ) (d : Data) → FitsD ks n d → All Q (f v d)) → All Q (onValue f (newest d))
 unfolding onValue newest
-used Q f ks n (dat [] h a l) k g = absurd (k .0)
-used Q f ks n (dat (Unset ∷ w) h a l) k g = absurd (k .0 .0)
-used Q f ks n (dat (Holds v ∷ w) h a l) k g = g v (dat w h a l) (k .0 .1, k .1)
-used Q f ks n (dat (Named m ∷ w) h a l) k g = absurd (k .0 .0)
+used Q f ks n (contents [] h a l) k g = absurd (k .0)
+used Q f ks n (contents (Unset ∷ w) h a l) k g = absurd (k .0 .0)
+used Q f ks n (contents (Holds v ∷ w) h a l) k g = g v (contents w h a l) (k .0 .1, k .1)
+used Q f ks n (contents (Named m ∷ w) h a l) k g = absurd (k .0 .0)
 
 -- a cell in use, and no name formal's
 abbrev pub Usable : List Kind → ℕ → Type 0
 Usable ks c = (c < length ks) × Plain (kindAt ks c)
 
-in-use : {A : Type 0} (Q : A → Type 0) (c : ℕ) (ks : List Kind) (n : ℕ) (d : Data) (r : Res A) → FitsD ks n d → Usable ks c → All Q r → All Q (guard (ltb c (cells d)) (guard (plain (look c d)) r))
+in-use : {A : Type 0} (Q : A → Type 0) (c : ℕ) (ks : List Kind) (n : ℕ) (d : Data) (r : Result A) → FitsD ks n d → Usable ks c → All Q r → All Q (guard (ltb c (cells d)) (guard (plain (look c d)) r))
 in-use Q c ks n d r k h x = guarded Q _ _ (lt→ltb c (cells d) (omega (arith, fits-cells ks n d k))) (guarded Q _ r (fits-plain (kindAt ks c) (look c d) (fits-look ks n c d k) (h .1)) x)
 
-read : {A : Type 0} (Q : A → Type 0) (q : ℕ) (f : ℤ → Res A) (c : Cell) (k : Kind) → Fits1 k c → Plain k → ((v : ℤ) → All Q (f v)) → All Q (reading q f c)
+read : {A : Type 0} (Q : A → Type 0) (q : ℕ) (f : ℤ → Result A) (c : Cell) (k : Kind) → Fits1 k c → Plain k → ((v : ℤ) → All Q (f v)) → All Q (reading q f c)
 unfolding reading
 read Q q f Unset k e p g = (omega arith, omega arith)
 read Q q f (Holds v) k e p g = g v
 read Q q f (Named m) k e p g = absurd (fits-plain k (Named m) e p)
 
-worked : {A : Type 0} (Q : A → Type 0) (q : ℕ) (f : ℤ → Res A) (v : Value) → ProperV v → ((x : ℤ) → All Q (f x)) → All Q (valued q f v)
+worked : {A : Type 0} (Q : A → Type 0) (q : ℕ) (f : ℤ → Result A) (v : Value) → ProperV v → ((x : ℤ) → All Q (f x)) → All Q (valued q f v)
 unfolding valued
 worked Q q f (Is x) w g = g x
 worked Q q f (Fault a) w g = w
 
-with-held : {A : Type 0} (Q : A → Type 0) (f : ℤ → Res A) (ks : List Kind) (n : ℕ) (d : Data) → FitsD ks (suc n) d → ((x : ℤ) → All Q (f x)) → All Q (held f d)
+with-held : {A : Type 0} (Q : A → Type 0) (f : ℤ → Result A) (ks : List Kind) (n : ℕ) (d : Data) → FitsD ks (suc n) d → ((x : ℤ) → All Q (f x)) → All Q (held f d)
 unfolding held
-with-held Q f ks n (dat w [] a l) k g = absurd (omega arith)
-with-held Q f ks n (dat w (x ∷ h) a l) k g = g x
+with-held Q f ks n (contents w [] a l) k g = absurd (omega arith)
+with-held Q f ks n (contents w (x ∷ h) a l) k g = g x
 
 put-fits : (ks : List Kind) (n c : ℕ) (v : ℤ) (d : Data) → FitsD ks n d → Usable ks c → FitsD ks n (put c v d)
 unfolding put kindAt
-put-fits ks n c v (dat w h a l) k u = (rw (fits-length ks w (k .0)) (fits-set ks w (length ks - suc c) v (k .0) (u .1)), k .1)
+put-fits ks n c v (contents w h a l) k u = (rw (fits-length ks w (k .0)) (fits-set ks w (length ks - suc c) v (k .0) (u .1)), k .1)
 
 back-fits : (ks : List Kind) (n : ℕ) (v : ℤ) (d : Data) → FitsD ks n d → FitsD (val ∷ ks) n (back v d)
 unfolding back
-back-fits ks n v (dat w h a l) k = ((tt, k .0), k .1)
+back-fits ks n v (contents w h a l) k = ((tt, k .0), k .1)
 
 rest-fits : (ks : List Kind) (n : ℕ) (i : List ℤ) (d : Data) → FitsD ks n d → FitsD ks n (rest i d)
 unfolding rest
-rest-fits ks n i (dat w h a l) k = k
+rest-fits ks n i (contents w h a l) k = k
 
 spend-fits : (ks : List Kind) (n : ℕ) (d : Data) → FitsD ks n d → FitsD ks n (spend d)
 unfolding spend
-spend-fits ks n (dat w h a l) k = k
+spend-fits ks n (contents w h a l) k = k
 
 hold-fits : (ks : List Kind) (n : ℕ) (x : ℤ) (d : Data) → FitsD ks n d → FitsD ks (suc n) (hold x d)
 unfolding hold
-hold-fits ks n x (dat w h a l) k = (k .0, omega arith)
+hold-fits ks n x (contents w h a l) k = (k .0, omega arith)
 
 unhold-fits : (ks : List Kind) (n : ℕ) (d : Data) → FitsD ks (suc n) d → FitsD ks n (unhold d)
 unfolding unhold
-unhold-fits ks n (dat w [] a l) k = (k .0, absurd (omega arith))
-unhold-fits ks n (dat w (x ∷ h) a l) k = (k .0, omega arith)
+unhold-fits ks n (contents w [] a l) k = (k .0, absurd (omega arith))
+unhold-fits ks n (contents w (x ∷ h) a l) k = (k .0, omega arith)
 
 find-fits : (ks : List Kind) (n c : ℕ) (d : Data) → FitsD ks n d → FitsD ks n (find c d)
 unfolding find
-find-fits ks n c (dat w h a l) k = k
+find-fits ks n c (contents w h a l) k = k
 
 -- new cells
 new-fits : (q : ℕ) (x : List Cell) (ks' ks : List Kind) (n : ℕ) (d : Data) → FitsD ks n d → ((w : List Cell) → Fits ks w → Fits ks' (x ++ w)) → All (FitsD ks' n) (newCells q x d)
 unfolding newCells
-new-fits q x ks' ks n (dat w h a l) k g = checked (FitsD ks' n) _ _ q _ (omega arith, omega arith) (g w (k .0), k .1)
+new-fits q x ks' ks n (contents w h a l) k g = checked (FitsD ks' n) _ _ q _ (omega arith, omega arith) (g w (k .0), k .1)
 
 take-fits : (ks : List Kind) (n q c : ℕ) (d : Data) (i : List ℤ) → FitsD ks n d → Usable ks c → All (FitsD ks n) (taking q c d i)
 unfolding taking
@@ -485,7 +485,7 @@ open-fits q m ks n d k = new-fits q (replicate m Unset) (more-of any m ks) ks n 
 
 pub close-fits : (m : ℕ) (ks : List Kind) (n : ℕ) (d : Data) → FitsD (more-of any m ks) n d → All (FitsD ks n) (closeBlock m d)
 unfolding closeBlock
-close-fits m ks n (dat w h a l) k =
+close-fits m ks n (contents w h a l) k =
     let e = more-length any m [] in
     let e' : length (more-of any m []) ≡ m = omega arith in
     let k' : Fits (more-of any m [] ++ ks) w = rw (← more-on any m [] ks) (k .0) in
@@ -497,7 +497,7 @@ name-fits q m ks n d k = new-fits q (Named m ∷ []) (nam m ∷ ks) ks n d k (λ
 
 pub enter-fits : (q : ℕ) (ks : List Kind) (n : ℕ) (d : Data) → FitsD ks n d → All (FitsD ks n) (enter q d)
 unfolding enter
-enter-fits q ks n (dat w h a l) k = checked (FitsD ks n) _ _ q _ (omega arith, omega arith) k
+enter-fits q ks n (contents w h a l) k = checked (FitsD ks n) _ _ q _ (omega arith, omega arith) k
 
 -- the result's cell before and after
 abbrev pub before : Fate → List Kind → List Kind
@@ -517,12 +517,12 @@ given-fits q ks (Named m ∷ w) h n a l k e = absurd (k .0)
 
 pub leave-fits : (f : Fate) (q b : ℕ) (js ks : List Kind) (n : ℕ) (d : Data) → FitsD (js ++ before f ks) n d → b ≡ length ks → All (FitsD (left f ks) n) (leave f q b d)
 unfolding leave
-leave-fits kept q b js ks n (dat w h a l) k e =
+leave-fits kept q b js ks n (contents w h a l) k e =
     let e₁ = fits-length (js ++ (any ∷ ks)) w (k .0) in
     let e₂ = length-append js (any ∷ ks) in
     let e₃ : length w - suc b ≡ length js = omega arith in
     guarded _ _ _ (lt→ltb b (length w) (omega arith)) (given-fits q ks _ h n _ l (rw e₃ (fits-drop js (any ∷ ks) w (k .0))) (k .1))
-leave-fits gone q b js ks n (dat w h a l) k e =
+leave-fits gone q b js ks n (contents w h a l) k e =
     let e₁ = fits-length (js ++ ks) w (k .0) in
     let e₂ = length-append js ks in
     let e₃ : length w - b ≡ length js = omega arith in
@@ -548,7 +548,7 @@ loose ks (Holds v ∷ w) f = f
 loose ks (Named m ∷ w) f = absurd (f .0)
 
 pub work-fits : (q b : ℕ) (ks : List Kind) (n : ℕ) (d : Data) → FitsD (val ∷ ks) n d → b ≡ length ks → All (FitsD (val ∷ ks) n) (leave kept q b d)
-work-fits q b ks n (dat w h a l) k e = leave-fits kept q b [] ks n (dat w h a l) (loose ks w (k .0), k .1) e
+work-fits q b ks n (contents w h a l) k e = leave-fits kept q b [] ks n (contents w h a l) (loose ks w (k .0), k .1) e
 
 -- ---- the cell found
 
@@ -568,7 +568,7 @@ found-below k ks d f =
 -- a working out for a store ends: the cell found stays
 pub leave-found : (q b : ℕ) (ks : List Kind) (n : ℕ) (d : Data) → FitsD ks n d → b ≡ length ks → All (λ d'. FitsD ks n d' × (foundIn d' ≡ foundIn d)) (leave gone q b d)
 unfolding leave foundIn
-leave-found q b ks n (dat w h a l) k e =
+leave-found q b ks n (contents w h a l) k e =
     let e₁ = fits-length ks w (k .0) in
     let e₃ : length w - b ≡ 0 = omega arith in
     guarded _ _ _ (le→leb b (length w) (omega arith)) (rw e₃ (k .0, k .1), refl)
@@ -576,7 +576,7 @@ leave-found q b ks n (dat w h a l) k e =
 -- a variable lent is found
 find-is : (c : ℕ) (d : Data) → foundIn (find c d) ≡ c
 unfolding find foundIn
-find-is c (dat w h a l) = refl
+find-is c (contents w h a l) = refl
 
 pub lend-found : (c : ℕ) (ks : List Kind) (n : ℕ) (d : Data) → FitsD ks n d → Usable ks c → All (λ d'. FitsD ks n d' × (foundIn d' ≡ c)) (work (lend c) d)
 unfolding work

@@ -6,11 +6,11 @@ use mathlib.Core.Path.{_≡_, refl, ap, sym, _∙_}
 use mathlib.Core.List.{List, [], _∷_, _++_}
 use lib.ListN.{length, length-append}
 use Rattle.machine.specs.Data.{Fate, kept, gone, stays}
-use Rattle.machine.specs.Instructions.{Instr}
+use Rattle.machine.specs.Instructions.{Instruction}
 use Rattle.names.specs.Program.{Name, Expression, Expressions, done, then, count}
 use Rattle.names.specs.Scopes.{Scope, has, modes}
-use Rattle.translation.specs.Translate.{Mark, acl, scopes, endE, codeActual, codeE, codeEs}
-use Rattle.translation.specs.Scoped.{OkE, OkEs}
+use Rattle.translation.specs.model.Translate.{Around, anActual, scopes, endE, codeActual, codeE, codeEs}
+use Rattle.translation.specs.model.Scoped.{OkE, OkEs}
 use Rattle.translation.proofs.Stands.{CodeAt, past-actual, pastE}
 use Rattle.translation.proofs.CellKinds.{Kind, val, any, plain-eq, kindAt, kind-on, kind-top, kind-above, revOn, rev-on, kind-rev}
 use Rattle.translation.proofs.Chain.{ActualOne, Actuals}
@@ -48,28 +48,28 @@ split-call kept (suc zero) is kk h h' = (revOn is [], rev-on is [] (any ∷ kk))
 split-call kept (suc (suc t)) is kk h h' = absurd (omega arith)
 split-call gone t is kk h h' = (revOn is (more-of any t []), ap (revOn is) (more-on any t [] kk) ∙ rev-on is (more-of any t []) kk)
 
-module _ (place : ℕ → ℕ) (P : List Instr) where
-  laid-first : (m : Bool) (g : List Mark) (e : Expression) (b : ℕ) (r : List Instr) → CodeAt place P b (codeActual place m g e (λ b. endE (scopes g) e b) (λ g b r. codeE place g e b r) b r) → OkE (scopes g) e → LaidOne place P g m e (kindOf m b)
+module _ (place : ℕ → ℕ) (P : List Instruction) where
+  laid-first : (m : Bool) (g : List Around) (e : Expression) (b : ℕ) (r : List Instruction) → CodeAt place P b (codeActual place m g e (λ b. endE (scopes g) e b) (λ g b r. codeE place g e b r) b r) → OkE (scopes g) e → LaidOne place P g m e (kindOf m b)
   laid-first true g e b r h o = tt
   laid-first false g e b r h o = (suc b, refl, (r, h .1, o))
 
   -- the code of actuals stands, so they are laid
-  pub laid : (g : List Mark) (vs xs : List Name) (es : Expressions) (b : ℕ) (r : List Instr) → CodeAt place P b (codeEs place g (modes vs xs) es b r) → OkEs (scopes g) es → length xs ≡ count es → Laid place P g vs xs es (kindsOf (scopes g) (modes vs xs) es b)
+  pub laid : (g : List Around) (vs xs : List Name) (es : Expressions) (b : ℕ) (r : List Instruction) → CodeAt place P b (codeEs place g (modes vs xs) es b r) → OkEs (scopes g) es → length xs ≡ count es → Laid place P g vs xs es (kindsOf (scopes g) (modes vs xs) es b)
   unfolding modes codeE count
   laid g vs [] done b r h o e = tt
   laid g vs [] (then i es) b r h o e = absurd (omega arith)
   laid g vs (x ∷ xs) done b r h o e = absurd (omega arith)
   laid g vs (x ∷ xs) (then i es) b r h o e = (
     laid-first (has vs x) g i b _ h (o .0),
-    laid g vs xs es _ r (past-actual place P (has vs x) g i _ _ (λ b r h. pastE place P g i b r h) (λ b r h. pastE place P (acl ∷ g) i b r h) b _ h) (o .1) (omega arith),
+    laid g vs xs es _ r (past-actual place P (has vs x) g i _ _ (λ b r h. pastE place P g i b r h) (λ b r h. pastE place P (anActual ∷ g) i b r h) b _ h) (o .1) (omega arith),
   )
 
-  called-one : (K : ℕ → Kind) (g : List Mark) (m : Bool) (e : Expression) (i : Kind) (c : ℕ) → K c ≡ i → LaidOne place P g m e i → ActualOne place P K g m e c
+  called-one : (K : ℕ → Kind) (g : List Around) (m : Bool) (e : Expression) (i : Kind) (c : ℕ) → K c ≡ i → LaidOne place P g m e i → ActualOne place P K g m e c
   called-one K g true e i c w h = plain-eq i (K c) (sym w) h
   called-one K g false e i c w h = (h .0, w ∙ h .1, h .2)
 
   -- laid actuals become formals
-  pub laid-actuals : (g : List Mark) (vs xs : List Name) (es : Expressions) (is ks : List Kind) → Laid place P g vs xs es is → Actuals place P (kindAt (revOn is ks)) g vs xs es (length ks)
+  pub laid-actuals : (g : List Around) (vs xs : List Name) (es : Expressions) (is ks : List Kind) → Laid place P g vs xs es is → Actuals place P (kindAt (revOn is ks)) g vs xs es (length ks)
   laid-actuals g vs [] done [] ks h = tt
   laid-actuals g vs [] done (i ∷ is) ks h = absurd h
   laid-actuals g vs [] (then e es) is ks h = absurd h

@@ -8,18 +8,18 @@ use mathlib.Core.Option.{Option, none, some}
 use lib.ListN.{length}
 use Rattle.machine.specs.Values.{truth}
 use Rattle.machine.specs.Data.{Act}
-use Rattle.machine.specs.Instructions.{Loc, Instr, END}
+use Rattle.machine.specs.Instructions.{Location, Instruction, END}
 use Rattle.names.specs.Program.{Name, Sort, Sign, positive, negative, negation, Expression, number, logical, name, call, signed, operated, chosen, nested, Expressions, done, then, count, Element, value, while, step, Statement, dummy, assignment, procedure, when, either, repeat, compound, block, Statements, last, first, Declarations, none as no-more, variables, declare, Procedure, heading}
 use Rattle.names.specs.Every.{AnyName, EveryE, EveryEs, EveryLs, EveryS, EverySs, EveryD, EveryP}
 use Rattle.names.specs.Scopes.{Thing, variable, routine, formal, by-name, modesOf, Declared, Scope, ofBlock, ofBody, inBlock, inBody, variablesIn, formalsOf, nameOf, sortOf, same, Meaning, declared, given, nothing, meaning}
 use Rattle.rules.specs.Entered.{cellsOf, total, oneIf, cellsIn, before, declaring, bodyOfThis}
 use Rattle.rules.specs.Calls.{Primary, held, worked, function, absolute, greatest, no-primary, primary, Command, routine-of, absolute-of, greatest-of, input-to, output-of, no-command, command, Way, direct, sought, way}
 use Rattle.rules.specs.Rules.{Spot, here, there}
-use Rattle.translation.specs.Translate.{Mark, blk, own, acl, scopes, spot, reach, cutG, levels, amongG, offsetOf, locFor, locAs, loc, endName, endActual, endThen, endSign, endE, endEs, endWay, endSum, endL, onward, endStores, endCall, endTake, endCommand, endS, endSs, endDs, endP, entry, target, storeName, storePart, codeName, codeActual, codeThen, codeSign, codeE, codeEs, codeWay, codeTest, codeSum, codeL, codeStores, codeCall, codeTake, codeCommand, codeS, codeSs, codeDs, codeP, code}
+use Rattle.translation.specs.model.Translate.{Around, aBlock, aBody, anActual, scopes, spot, reach, cutG, levels, amongG, offsetOf, locFor, locAs, loc, endName, endActual, endThen, endSign, endE, endEs, endWay, endSum, endL, onward, endStores, endCall, endTake, endCommand, endS, endSs, endDs, endP, entry, target, storeName, storePart, codeName, codeActual, codeThen, codeSign, codeE, codeEs, codeWay, codeTest, codeSum, codeL, codeStores, codeCall, codeTake, codeCommand, codeS, codeSs, codeDs, codeP, code}
 use Rattle.translation.proofs.Chain.{body-cells as formals-cells}
 use Rattle.translation.proofs.Sizes.{parts, First, none-first, one-first, of-command, few, actuals-most, sizeSs, sizeDs}
-use Rattle.translation.specs.Sizes.{symbolsE, symbolsEs, symbolsL, listed, symbolsS, symbolsSs, symbolsDs, symbolsP, deepE, deepEs, deepA, deepL, deepS, deepSs, deepDs, deepP, Bits32, Whole, Limited}
-use Rattle.machine.specs.Words.{LocFits, ActFits, InstrFits, CodeFits}
+use Rattle.translation.specs.model.Sizes.{symbolsE, symbolsEs, symbolsL, listed, symbolsS, symbolsSs, symbolsDs, symbolsP, deepE, deepEs, deepA, deepL, deepS, deepSs, deepDs, deepP, Bits32, Whole, Limited}
+use Rattle.machine.specs.model.Words.{LocFits, ActFits, InstrFits, CodeFits}
 
 -- ---- code does not end before it begins
 
@@ -147,62 +147,62 @@ before-most (d ∷ l) x = go (same (d .name) x) (before-most l x)
     go true h = omega arith
     go false h = omega arith
 
-abbrev pub owns : List Mark → ℕ
+abbrev pub owns : List Around → ℕ
 owns [] = 0
-owns (blk o ds b ∷ g) = owns g
-owns (own p ∷ g) = suc (owns g)
-owns (acl ∷ g) = suc (owns g)
+owns (aBlock o ds b ∷ g) = owns g
+owns (aBody p ∷ g) = suc (owns g)
+owns (anActual ∷ g) = suc (owns g)
 
-abbrev Reaches : List Mark → Type 0
+abbrev Reaches : List Around → Type 0
 Reaches [] = Unit {0}
-Reaches (blk o ds b ∷ g) = (o + cellsIn (ofBlock ds) < 8191) × (endDs (ofBlock ds ∷ scopes g) ds b < 8192) × Reaches g
-Reaches (own p ∷ g) = (cellsIn (ofBody p) < 8191) × Reaches g
-Reaches (acl ∷ g) = Reaches g
+Reaches (aBlock o ds b ∷ g) = (o + cellsIn (ofBlock ds) < 8191) × (endDs (ofBlock ds ∷ scopes g) ds b < 8192) × Reaches g
+Reaches (aBody p ∷ g) = (cellsIn (ofBody p) < 8191) × Reaches g
+Reaches (anActual ∷ g) = Reaches g
 
-levels-most : (t : Scope → Bool) (g : List Mark) → levels t g ≤ owns g
+levels-most : (t : Scope → Bool) (g : List Around) → levels t g ≤ owns g
 unfolding levels
 levels-most t [] = omega arith
-levels-most t (blk o ds b ∷ g) = go (t (ofBlock ds)) (levels-most t g)
+levels-most t (aBlock o ds b ∷ g) = go (t (ofBlock ds)) (levels-most t g)
   where
     go : (y : Bool) → levels t g ≤ owns g → cond y 0 (levels t g) ≤ owns g
     go true h = omega arith
     go false h = h
-levels-most t (own p ∷ g) = go (t (ofBody p)) (levels-most t g)
+levels-most t (aBody p ∷ g) = go (t (ofBody p)) (levels-most t g)
   where
     go : (y : Bool) → levels t g ≤ owns g → cond y 0 (suc (levels t g)) ≤ suc (owns g)
     go true h = omega arith
     go false h = omega arith
-levels-most t (acl ∷ g) = omega (arith, levels-most t g)
+levels-most t (anActual ∷ g) = omega (arith, levels-most t g)
 
-among-most : (t : Scope → Bool) (x : Name) (g : List Mark) → Reaches g → amongG (cutG t g) x < 8191
+among-most : (t : Scope → Bool) (x : Name) (g : List Around) → Reaches g → amongG (cutG t g) x < 8191
 unfolding cutG
 among-most t x [] h = omega arith
-among-most t x (blk o ds b ∷ g) h = go (t (ofBlock ds)) (among-most t x g (h .2))
+among-most t x (aBlock o ds b ∷ g) h = go (t (ofBlock ds)) (among-most t x g (h .2))
   where
-    go : (y : Bool) → amongG (cutG t g) x < 8191 → amongG (cond y (blk o ds b ∷ g) (cutG t g)) x < 8191
+    go : (y : Bool) → amongG (cutG t g) x < 8191 → amongG (cond y (aBlock o ds b ∷ g) (cutG t g)) x < 8191
     go true w = omega (arith, before-most (inBlock ds) x, h .0)
     go false w = w
-among-most t x (own p ∷ g) h = go (t (ofBody p)) (among-most t x g (h .1))
+among-most t x (aBody p ∷ g) h = go (t (ofBody p)) (among-most t x g (h .1))
   where
-    go : (y : Bool) → amongG (cutG t g) x < 8191 → amongG (cond y (own p ∷ g) (cutG t g)) x < 8191
+    go : (y : Bool) → amongG (cutG t g) x < 8191 → amongG (cond y (aBody p ∷ g) (cutG t g)) x < 8191
     go true w = omega (arith, before-most (inBody p) x, h .0)
     go false w = w
-among-most t x (acl ∷ g) h = among-most t x g h
+among-most t x (anActual ∷ g) h = among-most t x g h
 
-offset-most : (t : Scope → Bool) (g : List Mark) → Reaches g → offsetOf (cutG t g) < 8191
+offset-most : (t : Scope → Bool) (g : List Around) → Reaches g → offsetOf (cutG t g) < 8191
 unfolding cutG
 offset-most t [] h = omega arith
-offset-most t (blk o ds b ∷ g) h = go (t (ofBlock ds)) (offset-most t g (h .2))
+offset-most t (aBlock o ds b ∷ g) h = go (t (ofBlock ds)) (offset-most t g (h .2))
   where
-    go : (y : Bool) → offsetOf (cutG t g) < 8191 → offsetOf (cond y (blk o ds b ∷ g) (cutG t g)) < 8191
+    go : (y : Bool) → offsetOf (cutG t g) < 8191 → offsetOf (cond y (aBlock o ds b ∷ g) (cutG t g)) < 8191
     go true w = omega (arith, h .0)
     go false w = w
-offset-most t (own p ∷ g) h = go (t (ofBody p)) (offset-most t g (h .1))
+offset-most t (aBody p ∷ g) h = go (t (ofBody p)) (offset-most t g (h .1))
   where
-    go : (y : Bool) → offsetOf (cutG t g) < 8191 → offsetOf (cond y (own p ∷ g) (cutG t g)) < 8191
+    go : (y : Bool) → offsetOf (cutG t g) < 8191 → offsetOf (cond y (aBody p ∷ g) (cutG t g)) < 8191
     go true w = omega arith
     go false w = w
-offset-most t (acl ∷ g) h = offset-most t g h
+offset-most t (anActual ∷ g) h = offset-most t g h
 
 entry-most : (g : List Scope) (ds : Declarations) (b : ℕ) (x : Name) → entry g ds b x ≤ endDs g ds b
 unfolding entry endS
@@ -214,22 +214,22 @@ entry-most g (declare p ds) b x = go (same (nameOf p) x) (entry-most g ds (endP 
     go true w = omega (arith, growP g p b, growDs g ds (endP g p b))
     go false w = w
 
-target-most : (t : Scope → Bool) (x : Name) (g : List Mark) → Reaches g → target (cutG t g) x < 8192
+target-most : (t : Scope → Bool) (x : Name) (g : List Around) → Reaches g → target (cutG t g) x < 8192
 unfolding cutG
 target-most t x [] h = omega arith
-target-most t x (blk o ds b ∷ g) h = go (t (ofBlock ds)) (target-most t x g (h .2))
+target-most t x (aBlock o ds b ∷ g) h = go (t (ofBlock ds)) (target-most t x g (h .2))
   where
-    go : (y : Bool) → target (cutG t g) x < 8192 → target (cond y (blk o ds b ∷ g) (cutG t g)) x < 8192
+    go : (y : Bool) → target (cutG t g) x < 8192 → target (cond y (aBlock o ds b ∷ g) (cutG t g)) x < 8192
     go true w = omega (arith, entry-most (ofBlock ds ∷ scopes g) ds b x, h .1)
     go false w = w
-target-most t x (own p ∷ g) h = go (t (ofBody p)) (target-most t x g (h .1))
+target-most t x (aBody p ∷ g) h = go (t (ofBody p)) (target-most t x g (h .1))
   where
-    go : (y : Bool) → target (cutG t g) x < 8192 → target (cond y (own p ∷ g) (cutG t g)) x < 8192
+    go : (y : Bool) → target (cutG t g) x < 8192 → target (cond y (aBody p ∷ g) (cutG t g)) x < 8192
     go true w = omega arith
     go false w = w
-target-most t x (acl ∷ g) h = target-most t x g h
+target-most t x (anActual ∷ g) h = target-most t x g h
 
-loc-fits : (g : List Mark) (x : Name) → Reaches g → owns g < 64 → LocFits (loc g x)
+loc-fits : (g : List Around) (x : Name) → Reaches g → owns g < 64 → LocFits (loc g x)
 unfolding loc
 loc-fits g x h w = go (meaning (scopes g) x)
   where
@@ -245,7 +245,7 @@ loc-fits g x h w = go (meaning (scopes g) x)
     go nothing = (omega arith, omega arith)
 
 -- a name formal's level and offset
-formal-fits : (g : List Mark) (x : Name) → Reaches g → owns g < 64 → (levels (declaring x) g < 64) × (amongG (cutG (declaring x) g) x < 8191)
+formal-fits : (g : List Around) (x : Name) → Reaches g → owns g < 64 → (levels (declaring x) g < 64) × (amongG (cutG (declaring x) g) x < 8191)
 formal-fits g x h w = (omega (arith, levels-most (declaring x) g), among-most (declaring x) x g h)
 
 count-most : (es : Expressions) → count es ≤ symbolsEs es
@@ -279,7 +279,7 @@ one-most (some t) = omega arith
 
 -- ---- the code of each construct
 
-truth-small : (t : Bool) → CodeFits (Instr.DO (Act.push 0 (truth t)) ∷ [])
+truth-small : (t : Bool) → CodeFits (Instruction.DO (Act.push 0 (truth t)) ∷ [])
 truth-small true = (omega arith, tt)
 truth-small false = (omega arith, tt)
 
@@ -309,7 +309,7 @@ deep-least done = omega arith
 deep-least (then e es) = omega arith
 
 module _ (place : ℕ → ℕ) where
-  fits-name : (pr : Primary) (g : List Mark) (x : Name) (n : ℕ) (f : List Bool → ℕ → ℕ) (c : List Bool → ℕ → List Instr → List Instr) → ((m : List Bool) (b : ℕ) (r : List Instr) → f m b < 8192 → CodeFits r → CodeFits (c m b r)) → (b : ℕ) (r : List Instr) → Reaches g → owns g < 64 → suc n < 8192 → endName pr f b < 8192 → CodeFits r → CodeFits (codeName place pr g x n c b r)
+  fits-name : (pr : Primary) (g : List Around) (x : Name) (n : ℕ) (f : List Bool → ℕ → ℕ) (c : List Bool → ℕ → List Instruction → List Instruction) → ((m : List Bool) (b : ℕ) (r : List Instruction) → f m b < 8192 → CodeFits r → CodeFits (c m b r)) → (b : ℕ) (r : List Instruction) → Reaches g → owns g < 64 → suc n < 8192 → endName pr f b < 8192 → CodeFits r → CodeFits (codeName place pr g x n c b r)
   fits-name held g x n f c k b r h w i e z = (loc-fits g x h w, z)
   fits-name worked g x n f c k b r h w i e z = (formal-fits g x h w, z)
   fits-name (function p) g x n f c k b r h w i e z = (tt, k (modesOf p) (suc b) _ (omega arith) ((target-most (declaring x) x g h, omega (arith, levels-most (declaring x) g), i), z))
@@ -318,7 +318,7 @@ module _ (place : ℕ → ℕ) where
   fits-name no-primary g x n f c k b r h w i e z = z
 
   -- the store part of an actual
-  fits-store-name : (pr : Primary) (g : List Mark) (y : Name) → Reaches g → owns g < 64 → InstrFits (storeName place pr g y)
+  fits-store-name : (pr : Primary) (g : List Around) (y : Name) → Reaches g → owns g < 64 → InstrFits (storeName place pr g y)
   fits-store-name held g y h w = loc-fits g y h w
   fits-store-name worked g y h w = formal-fits g y h w
   fits-store-name (function p) g y h w = tt
@@ -326,7 +326,7 @@ module _ (place : ℕ → ℕ) where
   fits-store-name greatest g y h w = tt
   fits-store-name no-primary g y h w = tt
 
-  fits-store : (g : List Mark) (e : Expression) → Reaches g → owns g < 64 → InstrFits (storePart place g e)
+  fits-store : (g : List Around) (e : Expression) → Reaches g → owns g < 64 → InstrFits (storePart place g e)
   fits-store g (number q n) h w = tt
   fits-store g (logical q t) h w = tt
   fits-store g (name y) h w = fits-store-name (primary (meaning (scopes g) y) done) g y h w
@@ -337,15 +337,15 @@ module _ (place : ℕ → ℕ) where
   fits-store g (nested q e) h w = tt
 
   -- an actual, whose code fits one level in as well; and others behind it
-  fits-actual : (m : Bool) (g : List Mark) (e : Expression) (f : ℕ → ℕ) (c : List Mark → ℕ → List Instr → List Instr) → ((b : ℕ) (r : List Instr) → f b < 8192 → CodeFits r → CodeFits (c g b r)) → ((b : ℕ) (r : List Instr) → f b < 8192 → CodeFits r → CodeFits (c (acl ∷ g) b r)) → (b : ℕ) (r : List Instr) → Reaches g → suc (owns g) < 64 → endActual m f b < 8192 → CodeFits r → CodeFits (codeActual place m g e f c b r)
+  fits-actual : (m : Bool) (g : List Around) (e : Expression) (f : ℕ → ℕ) (c : List Around → ℕ → List Instruction → List Instruction) → ((b : ℕ) (r : List Instruction) → f b < 8192 → CodeFits r → CodeFits (c g b r)) → ((b : ℕ) (r : List Instruction) → f b < 8192 → CodeFits r → CodeFits (c (anActual ∷ g) b r)) → (b : ℕ) (r : List Instruction) → Reaches g → suc (owns g) < 64 → endActual m f b < 8192 → CodeFits r → CodeFits (codeActual place m g e f c b r)
   fits-actual true g e f c k k' b r h w i z = k b r i z
-  fits-actual false g e f c k k' b r h w i z = (i, (fits-store (acl ∷ g) e h w, (tt, k' (suc (suc (suc b))) _ (omega arith) (tt, z))))
+  fits-actual false g e f c k k' b r h w i z = (i, (fits-store (anActual ∷ g) e h w, (tt, k' (suc (suc (suc b))) _ (omega arith) (tt, z))))
 
-  fits-then : (m : List Bool) (g : List Mark) (e : Expression) (f : ℕ → ℕ) (fs : List Bool → ℕ → ℕ) (c : List Mark → ℕ → List Instr → List Instr) (cs : List Bool → ℕ → List Instr → List Instr) → ((m : List Bool) (b : ℕ) → b ≤ fs m b) → ((b : ℕ) (r : List Instr) → f b < 8192 → CodeFits r → CodeFits (c g b r)) → ((b : ℕ) (r : List Instr) → f b < 8192 → CodeFits r → CodeFits (c (acl ∷ g) b r)) → ((m : List Bool) (b : ℕ) (r : List Instr) → fs m b < 8192 → CodeFits r → CodeFits (cs m b r)) → (b : ℕ) (r : List Instr) → Reaches g → suc (owns g) < 64 → endThen m f fs b < 8192 → CodeFits r → CodeFits (codeThen place m g e f c cs b r)
+  fits-then : (m : List Bool) (g : List Around) (e : Expression) (f : ℕ → ℕ) (fs : List Bool → ℕ → ℕ) (c : List Around → ℕ → List Instruction → List Instruction) (cs : List Bool → ℕ → List Instruction → List Instruction) → ((m : List Bool) (b : ℕ) → b ≤ fs m b) → ((b : ℕ) (r : List Instruction) → f b < 8192 → CodeFits r → CodeFits (c g b r)) → ((b : ℕ) (r : List Instruction) → f b < 8192 → CodeFits r → CodeFits (c (anActual ∷ g) b r)) → ((m : List Bool) (b : ℕ) (r : List Instruction) → fs m b < 8192 → CodeFits r → CodeFits (cs m b r)) → (b : ℕ) (r : List Instruction) → Reaches g → suc (owns g) < 64 → endThen m f fs b < 8192 → CodeFits r → CodeFits (codeThen place m g e f c cs b r)
   fits-then [] g e f fs c cs u k k' ks b r h w i z = k b _ (omega (arith, u [] (f b))) (ks [] (f b) r i z)
   fits-then (m ∷ ms) g e f fs c cs u k k' ks b r h w i z = fits-actual m g e f c k k' b _ h w (omega (arith, u ms (endActual m f b))) (ks ms (endActual m f b) r i z)
 
-  fits-sign : (q : ℕ) (o : Sign) (r : List Instr) → CodeFits r → CodeFits (codeSign place q o r)
+  fits-sign : (q : ℕ) (o : Sign) (r : List Instruction) → CodeFits r → CodeFits (codeSign place q o r)
   fits-sign q positive r z = z
   fits-sign q negative r z = (tt, z)
   fits-sign q negation r z = (tt, z)
@@ -353,11 +353,11 @@ module _ (place : ℕ → ℕ) where
   mutual
     unfolding endE codeE symbolsE deepE deepA count
 
-    fitsE : (g : List Mark) (e : Expression) (b : ℕ) (r : List Instr) → Reaches g → owns g + deepE e < 64 → EveryE AnyName Bits32 e → symbolsE e < 8192 → endE (scopes g) e b < 8192 → CodeFits r → CodeFits (codeE place g e b r)
+    fitsE : (g : List Around) (e : Expression) (b : ℕ) (r : List Instruction) → Reaches g → owns g + deepE e < 64 → EveryE AnyName Bits32 e → symbolsE e < 8192 → endE (scopes g) e b < 8192 → CodeFits r → CodeFits (codeE place g e b r)
     fitsE g (number q n) b r h w s i e z = (s, z)
     fitsE g (logical q t) b r h w s i e z = (truth-small t .0, z)
     fitsE g (name x) b r h w s i e z = fits-name (primary (meaning (scopes g) x) done) g x 0 (λ m b. b) (λ m b r. r) (λ m b r e z. z) b r h (omega arith) (omega arith) e z
-    fitsE g (call x y ys) b r h w s i e z = fits-name (primary (meaning (scopes g) x) (then y ys)) g x (suc (count ys)) (λ m b. endThen m (λ b. endE (scopes g) y b) (λ m b. endEs (scopes g) m ys b) b) (λ m b r. codeThen place m g y (λ b. endE (scopes g) y b) (λ g b r. codeE place g y b r) (λ m b r. codeEs place g m ys b r) b r) (λ m b r e z. fits-then m g y (λ b. endE (scopes g) y b) (λ m b. endEs (scopes g) m ys b) (λ g b r. codeE place g y b r) (λ m b r. codeEs place g m ys b r) (λ m b. growEs (scopes g) m ys b) (λ b r e z. fitsE g y b r h (omega arith) (s .1) (omega arith) e z) (λ b r e z. fitsE (acl ∷ g) y b r h (omega arith) (s .1) (omega arith) e z) (λ m b r e z. fitsEs g m ys b r h (omega (arith, deep-most ys)) (s .2) (omega arith) e z) b r h (omega arith) e z) b r h (omega arith) (omega (arith, count-most ys)) e z
+    fitsE g (call x y ys) b r h w s i e z = fits-name (primary (meaning (scopes g) x) (then y ys)) g x (suc (count ys)) (λ m b. endThen m (λ b. endE (scopes g) y b) (λ m b. endEs (scopes g) m ys b) b) (λ m b r. codeThen place m g y (λ b. endE (scopes g) y b) (λ g b r. codeE place g y b r) (λ m b r. codeEs place g m ys b r) b r) (λ m b r e z. fits-then m g y (λ b. endE (scopes g) y b) (λ m b. endEs (scopes g) m ys b) (λ g b r. codeE place g y b r) (λ m b r. codeEs place g m ys b r) (λ m b. growEs (scopes g) m ys b) (λ b r e z. fitsE g y b r h (omega arith) (s .1) (omega arith) e z) (λ b r e z. fitsE (anActual ∷ g) y b r h (omega arith) (s .1) (omega arith) e z) (λ m b r e z. fitsEs g m ys b r h (omega (arith, deep-most ys)) (s .2) (omega arith) e z) b r h (omega arith) e z) b r h (omega arith) (omega (arith, count-most ys)) e z
     fitsE g (signed q o y) b r h w s i e z = fitsE g y b _ h w s (omega arith) (omega (arith, grow-sign o (endE (scopes g) y b))) (fits-sign q o r z)
     fitsE g (operated q o y y') b r h w s i e z = fitsE g y b _ h (omega arith) (s .0) (omega arith) (omega (arith, growE (scopes g) y' (endE (scopes g) y b))) (fitsE g y' (endE (scopes g) y b) _ h (omega arith) (s .1) (omega arith) (omega arith) (tt, z))
     fitsE g (chosen q q' c y y') b r h w s i e z =
@@ -368,35 +368,35 @@ module _ (place : ℕ → ℕ) where
         fitsE g c b _ h (omega arith) (s .0) (omega arith) (omega arith) ((tt, omega arith), fitsE g y (suc m) _ h (omega arith) (s .1) (omega arith) (omega arith) (e, fitsE g y' (suc n) r h (omega arith) (s .2) (omega arith) e z))
     fitsE g (nested q y) b r h w s i e z = fitsE g y b r h w s (omega arith) e z
 
-    fitsEs : (g : List Mark) (m : List Bool) (es : Expressions) (b : ℕ) (r : List Instr) → Reaches g → owns g + deepA es < 64 → EveryEs AnyName Bits32 es → symbolsEs es < 8192 → endEs (scopes g) m es b < 8192 → CodeFits r → CodeFits (codeEs place g m es b r)
+    fitsEs : (g : List Around) (m : List Bool) (es : Expressions) (b : ℕ) (r : List Instruction) → Reaches g → owns g + deepA es < 64 → EveryEs AnyName Bits32 es → symbolsEs es < 8192 → endEs (scopes g) m es b < 8192 → CodeFits r → CodeFits (codeEs place g m es b r)
     fitsEs g m done b r h w s i e z = z
-    fitsEs g m (then y ys) b r h w s i e z = fits-then m g y (λ b. endE (scopes g) y b) (λ m b. endEs (scopes g) m ys b) (λ g b r. codeE place g y b r) (λ m b r. codeEs place g m ys b r) (λ m b. growEs (scopes g) m ys b) (λ b r e z. fitsE g y b r h (omega arith) (s .0) (omega arith) e z) (λ b r e z. fitsE (acl ∷ g) y b r h (omega arith) (s .0) (omega arith) e z) (λ m b r e z. fitsEs g m ys b r h (omega (arith, deep-most ys)) (s .1) (omega arith) e z) b r h (omega arith) e z
+    fitsEs g m (then y ys) b r h w s i e z = fits-then m g y (λ b. endE (scopes g) y b) (λ m b. endEs (scopes g) m ys b) (λ g b r. codeE place g y b r) (λ m b r. codeEs place g m ys b r) (λ m b. growEs (scopes g) m ys b) (λ b r e z. fitsE g y b r h (omega arith) (s .0) (omega arith) e z) (λ b r e z. fitsE (anActual ∷ g) y b r h (omega arith) (s .0) (omega arith) e z) (λ m b r e z. fitsEs g m ys b r h (omega (arith, deep-most ys)) (s .1) (omega arith) e z) b r h (omega arith) e z
 
-  spot-fits : (g : List Mark) (s : Spot) → Reaches g → owns g < 64 → LocFits (spot g s)
+  spot-fits : (g : List Around) (s : Spot) → Reaches g → owns g < 64 → LocFits (spot g s)
   spot-fits g (here x) h w = loc-fits g x h w
   spot-fits g there h w = tt
 
-  fits-way : (wy : Way) (g : List Mark) (x : Name) (i : Spot → Act Loc) (r : List Instr) → ((s : Spot) → ActFits (i s)) → Reaches g → owns g < 64 → CodeFits r → CodeFits (codeWay place wy g x i r)
+  fits-way : (wy : Way) (g : List Around) (x : Name) (i : Spot → Act Location) (r : List Instruction) → ((s : Spot) → ActFits (i s)) → Reaches g → owns g < 64 → CodeFits r → CodeFits (codeWay place wy g x i r)
   unfolding codeWay
   fits-way direct g x i r k h w z = (k (here x), z)
   fits-way sought g x i r k h w z = (formal-fits g x h w, (k there, z))
 
-  fits-test : (wy : Way) (g : List Mark) (x : Name) (n : ℕ) (r : List Instr) → Reaches g → owns g < 64 → n < 8192 → CodeFits r → CodeFits (codeTest place wy g x n r)
+  fits-test : (wy : Way) (g : List Around) (x : Name) (n : ℕ) (r : List Instruction) → Reaches g → owns g < 64 → n < 8192 → CodeFits r → CodeFits (codeTest place wy g x n r)
   unfolding codeTest
   fits-test direct g x n r h w e z = ((loc-fits g x h w, e), z)
   fits-test sought g x n r h w e z = (formal-fits g x h w, ((tt, e), z))
 
-  fits-sum : (wy : Way) (g : List Mark) (q : ℕ) (x : Name) (r : List Instr) → Reaches g → owns g < 64 → CodeFits r → CodeFits (codeSum place wy g q x r)
+  fits-sum : (wy : Way) (g : List Around) (q : ℕ) (x : Name) (r : List Instruction) → Reaches g → owns g < 64 → CodeFits r → CodeFits (codeSum place wy g q x r)
   unfolding codeSum
   fits-sum direct g q x r h w z = (loc-fits g x h w, (loc-fits g x h w, z))
   fits-sum sought g q x r h w z = (formal-fits g x h w, (tt, (formal-fits g x h w, (tt, z))))
 
-  fits-take : (wy : Way) (g : List Mark) (q : ℕ) (y : Name) (r : List Instr) → Reaches g → owns g < 64 → CodeFits r → CodeFits (codeTake place wy g q y r)
+  fits-take : (wy : Way) (g : List Around) (q : ℕ) (y : Name) (r : List Instruction) → Reaches g → owns g < 64 → CodeFits r → CodeFits (codeTake place wy g q y r)
   unfolding codeTake
   fits-take direct g q y r h w z = (loc-fits g y h w, z)
   fits-take sought g q y r h w z = (tt, (formal-fits g y h w, (tt, z)))
 
-  fitsL : (g : List Mark) (m : ℕ) (x : Name) (l : List Element) (s n b : ℕ) (r : List Instr) → Reaches g → owns g + deepL l < 64 → m < 64 → s < 8192 → n < 8192 → EveryLs AnyName Bits32 l → symbolsL l < 8192 → endL (scopes g) x l b < 8192 → CodeFits r → CodeFits (codeL place g m x l s n b r)
+  fitsL : (g : List Around) (m : ℕ) (x : Name) (l : List Element) (s n b : ℕ) (r : List Instruction) → Reaches g → owns g + deepL l < 64 → m < 64 → s < 8192 → n < 8192 → EveryLs AnyName Bits32 l → symbolsL l < 8192 → endL (scopes g) x l b < 8192 → CodeFits r → CodeFits (codeL place g m x l s n b r)
   unfolding endL codeL symbolsL deepL
   fitsL g m x [] s n b r h w hm hs hn v i e z = z
   fitsL g m x (value y ∷ l) s n b r h w hm hs hn v i e z =
@@ -429,16 +429,16 @@ module _ (place : ℕ → ℕ) where
       let u₅ = grow-sum wy (suc (suc t)) in
       fitsE g y b _ h (omega arith) (v .0 .0) (omega arith) (omega arith) (fits-way wy g x (λ c. Act.store (spot g c)) _ (λ c. spot-fits g c h (omega arith)) h (omega arith) ((hm, omega arith, omega arith), fitsE g y' (suc a) _ h (omega arith) (v .0 .1) (omega arith) (omega arith) (hm, (tt, fitsE g y'' (suc i') _ h (omega arith) (v .0 .2) (omega arith) (omega arith) (fits-test wy g x (onward l k n) _ h (omega arith) (onward-most l k n (omega arith) hn) ((hm, hs, omega arith), ((hm, omega arith, omega arith), fits-sum wy g q x _ h (omega arith) (omega arith, fitsL g m x l s n k r h (omega arith) hm hs hn (v .1) (omega arith) e z))))))))
 
-  fits-stores : (g : List Mark) (x : Name) (xs : List Name) (r : List Instr) → Reaches g → owns g < 64 → CodeFits r → CodeFits (codeStores place g x xs r)
+  fits-stores : (g : List Around) (x : Name) (xs : List Name) (r : List Instruction) → Reaches g → owns g < 64 → CodeFits r → CodeFits (codeStores place g x xs r)
   unfolding codeStores
   fits-stores g x [] r h w z = fits-way (way (meaning (scopes g) x)) g x (λ c. Act.store (spot g c)) r (λ c. spot-fits g c h w) h w z
   fits-stores g x (y ∷ ys) r h w z = fits-way (way (meaning (scopes g) x)) g x (λ c. Act.assign (spot g c)) _ (λ c. spot-fits g c h w) h w (fits-stores g y ys r h w z)
 
-  fits-call : (g : List Mark) (t : Option Sort) (m : List Bool) (x : Name) (es : Expressions) (b : ℕ) (r : List Instr) → Reaches g → owns g + deepA es < 64 → EveryEs AnyName Bits32 es → symbolsEs es + 1 < 8192 → endCall (scopes g) t m es b < 8192 → CodeFits r → CodeFits (codeCall place g t m x es b r)
+  fits-call : (g : List Around) (t : Option Sort) (m : List Bool) (x : Name) (es : Expressions) (b : ℕ) (r : List Instruction) → Reaches g → owns g + deepA es < 64 → EveryEs AnyName Bits32 es → symbolsEs es + 1 < 8192 → endCall (scopes g) t m es b < 8192 → CodeFits r → CodeFits (codeCall place g t m x es b r)
   fits-call g none m x es b r h w s i e z = fitsEs g m es b _ h w s (omega arith) (omega arith) ((target-most (declaring x) x g h, omega (arith, levels-most (declaring x) g), omega (arith, count-most es)), z)
   fits-call g (some t) m x es b r h w s i e z = (tt, fitsEs g m es (suc b) _ h w s (omega arith) (omega arith) ((target-most (declaring x) x g h, omega (arith, levels-most (declaring x) g), omega (arith, count-most es)), z))
 
-  fits-command : (c : Command) (g : List Mark) (x : Name) (es : Expressions) (b : ℕ) (r : List Instr) → Reaches g → owns g + deepA es < 64 → EveryEs AnyName Bits32 es → EveryEs AnyName Bits32 (parts c) → symbolsEs (parts c) ≤ symbolsEs es → deepEs (parts c) ≤ deepEs es → symbolsEs es + 1 < 8192 → endCommand (scopes g) c es b < 8192 → CodeFits r → CodeFits (codeCommand place c g x es b r)
+  fits-command : (c : Command) (g : List Around) (x : Name) (es : Expressions) (b : ℕ) (r : List Instruction) → Reaches g → owns g + deepA es < 64 → EveryEs AnyName Bits32 es → EveryEs AnyName Bits32 (parts c) → symbolsEs (parts c) ≤ symbolsEs es → deepEs (parts c) ≤ deepEs es → symbolsEs es + 1 < 8192 → endCommand (scopes g) c es b < 8192 → CodeFits r → CodeFits (codeCommand place c g x es b r)
   unfolding symbolsE deepE
   fits-command (routine-of p) g x es b r h w s v j dp i e z = fits-call g (sortOf p) (modesOf p) x es b r h w s i e z
   fits-command (absolute-of y) g x es b r h w s v j dp i e z = fitsE g y b _ h (omega (arith, deep-least es)) (v .0) (omega arith) (omega arith) (tt, (tt, z))
@@ -450,7 +450,7 @@ module _ (place : ℕ → ℕ) where
   mutual
     unfolding endS codeS symbolsS deepS
 
-    fitsS : (g : List Mark) (m : ℕ) (s : Statement) (b : ℕ) (r : List Instr) → Reaches g → owns g + deepS s < 64 → m + deepS s < 64 → reach g + symbolsS s < 8191 → EveryS AnyName Bits32 s → endS (scopes g) s b < 8191 → CodeFits r → CodeFits (codeS place g m s b r)
+    fitsS : (g : List Around) (m : ℕ) (s : Statement) (b : ℕ) (r : List Instruction) → Reaches g → owns g + deepS s < 64 → m + deepS s < 64 → reach g + symbolsS s < 8191 → EveryS AnyName Bits32 s → endS (scopes g) s b < 8191 → CodeFits r → CodeFits (codeS place g m s b r)
     fitsS g m dummy b r h w n i v e z = z
     fitsS g m (assignment x xs q y) b r h w n i v e z = fitsE g y b _ h (omega arith) (v .2) (omega arith) (omega (arith, grow-stores (scopes g) x xs (endE (scopes g) y b))) (fits-stores g x xs r h (omega arith) z)
     fitsS g m (procedure x es) b r h w n i v e z = fits-command (command (meaning (scopes g) x) es) g x es b r h (omega arith) (v .1) (first-numbers (of-command (meaning (scopes g) x) es) (v .1)) (few (of-command (meaning (scopes g) x) es)) (first-deep (of-command (meaning (scopes g) x) es)) (omega (arith, actuals-most es)) (omega arith) z
@@ -470,27 +470,27 @@ module _ (place : ℕ → ℕ) where
         fitsL g m x (l ∷ ls) a (suc (endS (scopes g) s a)) b _ h (omega arith) (omega arith) (omega arith) (omega arith) (v .1, v .2) (omega arith) (omega arith) (fitsS g (suc m) s a _ h (omega arith) (omega arith) (omega arith) (v .3) (omega arith) (omega arith, z))
     fitsS g m (compound ss) b r h w n i v e z = fitsSs g m ss b r h (omega arith) (omega arith) (omega arith) v e z
     fitsS g m (block q ds ss) b r h w n i v e z =
-        let g' : List Mark = blk (reach g) ds (suc b) ∷ g in
+        let g' : List Around = aBlock (reach g) ds (suc b) ∷ g in
         let a = endDs (scopes g') ds (suc b) in
         let u = growSs (scopes g') ss a in
         let k = block-cells ds in
         let h' : Reaches g' = (omega arith, omega arith, h) in
         ((omega arith, omega arith), fitsDs g' ds (suc b) _ h' (omega arith) (omega arith) (v .0) (omega arith) (fitsSs g' m ss a _ h' (omega arith) (omega arith) (omega arith) (v .1) (omega arith) (omega arith, z)))
 
-    fitsSs : (g : List Mark) (m : ℕ) (ss : Statements) (b : ℕ) (r : List Instr) → Reaches g → owns g + deepSs ss < 64 → m + deepSs ss < 64 → reach g + symbolsSs ss < 8191 → EverySs AnyName Bits32 ss → endSs (scopes g) ss b < 8191 → CodeFits r → CodeFits (codeSs place g m ss b r)
+    fitsSs : (g : List Around) (m : ℕ) (ss : Statements) (b : ℕ) (r : List Instruction) → Reaches g → owns g + deepSs ss < 64 → m + deepSs ss < 64 → reach g + symbolsSs ss < 8191 → EverySs AnyName Bits32 ss → endSs (scopes g) ss b < 8191 → CodeFits r → CodeFits (codeSs place g m ss b r)
     fitsSs g m (last s) b r h w n i v e z = fitsS g m s b r h w n (omega arith) v e z
     fitsSs g m (first s ss) b r h w n i v e z = fitsS g m s b _ h (omega arith) (omega arith) (omega arith) (v .0) (omega (arith, growSs (scopes g) ss (endS (scopes g) s b))) (fitsSs g m ss (endS (scopes g) s b) r h (omega arith) (omega arith) (omega arith) (v .1) e z)
 
-    fitsDs : (g : List Mark) (ds : Declarations) (b : ℕ) (r : List Instr) → Reaches g → owns g + deepDs ds < 63 → symbolsDs ds < 8191 → EveryD AnyName Bits32 ds → endDs (scopes g) ds b < 8191 → CodeFits r → CodeFits (codeDs place g ds b r)
+    fitsDs : (g : List Around) (ds : Declarations) (b : ℕ) (r : List Instruction) → Reaches g → owns g + deepDs ds < 63 → symbolsDs ds < 8191 → EveryD AnyName Bits32 ds → endDs (scopes g) ds b < 8191 → CodeFits r → CodeFits (codeDs place g ds b r)
     fitsDs g no-more b r h w i v e z = z
     fitsDs g (variables t xs ds) b r h w i v e z = fitsDs g ds b r h w (omega arith) (v .1) e z
     fitsDs g (declare p ds) b r h w i v e z = fitsP g p b _ h (omega arith) (omega arith) (v .0) (omega (arith, growDs (scopes g) ds (endP (scopes g) p b))) (fitsDs g ds (endP (scopes g) p b) r h (omega arith) (omega arith) (v .1) e z)
 
-    fitsP : (g : List Mark) (p : Procedure) (b : ℕ) (r : List Instr) → Reaches g → owns g + deepP p < 63 → symbolsP p < 8191 → EveryP AnyName Bits32 p → endP (scopes g) p b < 8191 → CodeFits r → CodeFits (codeP place g p b r)
+    fitsP : (g : List Around) (p : Procedure) (b : ℕ) (r : List Instruction) → Reaches g → owns g + deepP p < 63 → symbolsP p < 8191 → EveryP AnyName Bits32 p → endP (scopes g) p b < 8191 → CodeFits r → CodeFits (codeP place g p b r)
     fitsP g (heading t f xs vs ss s) b r h w i v e z =
         let k = body-cells (heading t f xs vs ss s) in
         let k' = listed-most xs in
-        fitsS (own (heading t f xs vs ss s) ∷ g) 0 s b _ (omega arith, h) (omega arith) (omega arith) (omega arith) (v .4) (omega arith) (tt, z)
+        fitsS (aBody (heading t f xs vs ss s) ∷ g) 0 s b _ (omega arith, h) (omega arith) (omega arith) (omega arith) (v .4) (omega arith) (tt, z)
 
   -- ---- whole programs
 

@@ -16,10 +16,10 @@ use Rattle.names.specs.Program.{count, firstSymbol, Statement, number}
 use Rattle.names.specs.Scopes.{has, modes, specified, variablesIn, inBlock, inBody, findIn, findGiven, meaning}
 use Rattle.rules.specs.Entered.{total, before, cut, declaring, bodyOfThis, cellOf, actualOf}
 use Rattle.rules.specs.Calls.{primary, command, way}
-use Rattle.rules.specs.Rules.{reads, seeks, finds, storing, taking-in, passing, adding, evaluate, perform, calling, sstep, source, State, beginning}
-use Rattle.rules.specs.Samples.{var, factorial}
-use Rattle.rules.specs.ByName.{man-or-boy, jensen, handed-on, taken-in}
-use Rattle.translation.specs.Scoped.{Scoped}
+use Rattle.rules.specs.Rules.{reads, seeks, finds, storing, taking-in, passing, adding, evaluates, perform, calling, rule, source, State, beginning}
+use Rattle.rules.specs.samples.Samples.{var, factorial}
+use Rattle.rules.specs.samples.ByName.{man-or-boy, jensen, handed-on, taken-in}
+use Rattle.translation.specs.model.Scoped.{Scoped}
 use Rattle.translation.specs.Faithful.{Machine, Follows, Faithful, Runner}
 use Rattle.translation.proofs.Sim.{Cmp, cmp}
 use Rattle.translation.proofs.Accepted.{accepted-scoped}
@@ -33,24 +33,24 @@ unfolding factorial nameFaults typeFaults joined scopesS usesS usesE usesL each 
 scoped = accepted-scoped factorial refl refl
 
 runs : source (λ q. q) factorial [] 100 9 400 ≡ done Ended 80 (record { written = pos 120 ∷ []; taken = 0 })
-unfolding run sstep lift guard check newCells newest onValue back look put reading valued hold unhold held input space rest spend taking writing work test openBlock closeBlock enter given leave find foundIn nameCell whole apply1 apply2 past cut cellOf actualOf declaring bodyOfThis total before reads seeks finds storing taking-in passing adding evaluate perform calling primary command way meaning findIn findGiven inBlock inBody variablesIn specified has modes sameName equalBytes firstSymbol factorial
+unfolding run rule lift guard check newCells newest onValue back look put reading valued hold unhold held input space rest spend taking writing work test openBlock closeBlock enter given leave find foundIn nameCell whole apply1 apply2 past cut cellOf actualOf declaring bodyOfThis total before reads seeks finds storing taking-in passing adding evaluates perform calling primary command way meaning findIn findGiven inBlock inBody variablesIn specified has modes sameName equalBytes firstSymbol factorial
 runs = refl
 
 -- "A machine that stops at once with nothing written breaks demand 3 on any program that writes a number."
 abbrev lazy : Machine
-lazy input limit room space = record { stop = Ended; done = 1; taken = 0; written = [] }
+lazy input limit cellsLent space = record { stop = Ended; done = 1; taken = 0; written = [] }
 
 -- what a run has told so far
 abbrev told : {S : Type 0} → End S → Trace
 told (done q n o) = o
 told (over n o s) = o
 
-pub lazy-breaks : (place : ℕ → ℕ) (s : Statement) (input : List ℤ) (room space t : ℕ) (v : ℤ) (w : List ℤ) → told (source place s input room space t) .written ≡ v ∷ w → Follows lazy place s → ⊥
-lazy-breaks place s input room space t v w e f =
-    let a = f input room space 0 .same-answer (λ q. let z : _≡_ {A = ℕ} 0 20 = ap stopNumber q in omega arith) in
-    go (source place s input room space t) (a .1) (a .2) e (a .4 .0) (rw (a .3) at (cmp (sstep place) t (a .0) (beginning place s input room space) 0 untold))
+pub lazy-breaks : (place : ℕ → ℕ) (s : Statement) (input : List ℤ) (cellsLent space t : ℕ) (v : ℤ) (w : List ℤ) → told (source place s input cellsLent space t) .written ≡ v ∷ w → Follows lazy place s → ⊥
+lazy-breaks place s input cellsLent space t v w e f =
+    let a = f input cellsLent space 0 .same-answer (λ q. let z : _≡_ {A = ℕ} 0 20 = ap stopNumber q in omega arith) in
+    go (source place s input cellsLent space t) (a .1) (a .2) e (a .4 .0) (rw (a .3) at (cmp (rule place) t (a .0) (beginning place s input cellsLent space) 0 untold))
   where
-    go : (x : End State) (n : ℕ) (o : Trace) → told x .written ≡ v ∷ w → [] ≡ o .written → Cmp (sstep place) x (done Ended n o) → ⊥
+    go : (x : End State) (n : ℕ) (o : Trace) → told x .written ≡ v ∷ w → [] ≡ o .written → Cmp (rule place) x (done Ended n o) → ⊥
     go (done q m o') n o h k c = let z : _≡_ {A = ℕ} 0 (suc (length w)) = ap length (k ∙ sym (ap (λ (y : Trace). y .written) (c .2)) ∙ h) in omega arith
     go (over m o' s') n o h k c =
         let z : _≡_ {A = ℕ} 0 (length (o' .written ++ c .1 .0 .0)) = ap length (k ∙ c .1 .0 .1) in
@@ -61,8 +61,8 @@ not-lazy f = lazy-breaks (λ q. q) factorial [] 100 9 400 (pos 120) [] (ap (λ (
 
 -- "One that performs the first statement and then only counts breaks it on M12": whatever the first n instructions are, and it writes what they write
 abbrev counting : ℕ → Runner
-counting n place s input limit room space =
-    let f = translated place s input (min limit n) room space in
+counting n place s input limit cellsLent space =
+    let f = translated place s input (min limit n) cellsLent space in
     record { stop = Limit; done = limit; taken = f .taken; written = f .written }
 
 pub not-counting : (n : ℕ) → Faithful (counting n) → ⊥
@@ -90,7 +90,7 @@ scoped-chain = accepted-scoped (handed-on (number 23 3)) refl refl
 
 -- Jensen's device, by the source rules: 385 and 11 after 224 steps; so its translation writes them with a limit of 3,600
 device : source (λ q. q) jensen [] 100 9 5000 ≡ done Ended 224 (record { written = pos 385 ∷ pos 11 ∷ []; taken = 0 })
-unfolding run sstep lift guard check newCells newest onValue back look put reading valued hold unhold held input space rest spend taking writing work test openBlock closeBlock enter given leave find foundIn nameCell whole apply1 apply2 past cut cellOf actualOf declaring bodyOfThis total before reads seeks finds storing taking-in passing adding evaluate perform calling primary command way meaning findIn findGiven inBlock inBody variablesIn specified has modes sameName equalBytes firstSymbol jensen
+unfolding run rule lift guard check newCells newest onValue back look put reading valued hold unhold held input space rest spend taking writing work test openBlock closeBlock enter given leave find foundIn nameCell whole apply1 apply2 past cut cellOf actualOf declaring bodyOfThis total before reads seeks finds storing taking-in passing adding evaluates perform calling primary command way meaning findIn findGiven inBlock inBody variablesIn specified has modes sameName equalBytes firstSymbol jensen
 device = refl
 
 pub series : translated (λ q. q) jensen [] 3600 100 9 .written ≡ pos 385 ∷ pos 11 ∷ []

@@ -8,16 +8,16 @@ use mathlib.Core.List.{List, [], _∷_, _++_}
 use mathlib.Core.Option.{some}
 use lib.ListN.{length}
 use Rattle.machine.specs.Data.{Data, Act, push, load, store, assign, reserve, forget, receive, send, keep, unary, binary, lend, channel, sum, Test, condition, upto, actOn, Fate, kept, gone, stays}
-use Rattle.machine.specs.Instructions.{Instr, END, DO, IF, JUMP, LEAVE, RETURN, GO, NEXT, NAME}
-use Rattle.machine.specs.Machine.{Frame, fr, Mach, ms, base}
+use Rattle.machine.specs.Instructions.{Instruction, END, DO, IF, JUMP, LEAVE, RETURN, GO, NEXT, NAME}
+use Rattle.machine.specs.Machine.{Activation, activation, Running, running, base}
 use Rattle.names.specs.Program.{Name, Expression, number, logical, name, call, signed, operated, chosen, nested, Expressions, done, then, Element, value, while, step, Statement, dummy, assignment, procedure, when, either, repeat, compound, block, Statements, last, first, Declarations, Procedure}
 use Rattle.names.specs.Scopes.{has, Scope, ofBlock, valuesOf, formalsOf, meaning}
 use Rattle.rules.specs.Entered.{Env, entered, cellsIn}
 use Rattle.rules.specs.Calls.{Way, direct, sought, way}
-use Rattle.rules.specs.Rules.{Choice, expressions, statements, only, whiling, stepping, Spot, here, there, Task, ev, evs, naming, ex, exs, stores, loop, act, unchanged, drop, pick, hold, tested, add, trying, summing, settling, seek, find, receiving, invoke, close, return, State, st, at}
-use Rattle.translation.specs.Translate.{Mark, blk, acl, scopes, spot, reach, endActual, endE, endEs, endWay, endStep, onward, endStores, endTake, endS, endSs, CALLS, SEEKS, PASSES, storePart, codeE, codeEs, codeStep, codeL, codeStores, codeTake, codeS, codeSs}
-use Rattle.translation.specs.Scoped.{OkW, OkVs, OkE, OkEs, OkL, OkS, OkSs, OkCall}
-use Rattle.translation.specs.Listed.{instructionAt}
+use Rattle.rules.specs.Rules.{Choice, expressions, statements, only, whiling, stepping, Spot, here, there, Task, evaluate, giveAll, naming, begin, goThrough, stores, loop, act, unchanged, drop, pick, hold, tested, add, trying, summing, settling, seek, find, receiving, invoke, close, return, State, state, at}
+use Rattle.translation.specs.model.Translate.{Around, aBlock, anActual, scopes, spot, reach, endActual, endE, endEs, endWay, endStep, onward, endStores, endTake, endS, endSs, CALLS, SEEKS, PASSES, storePart, codeE, codeEs, codeStep, codeL, codeStores, codeTake, codeS, codeSs}
+use Rattle.translation.specs.model.Scoped.{OkW, OkVs, OkE, OkEs, OkL, OkS, OkSs, OkCall}
+use Rattle.translation.specs.model.Listed.{instructionAt}
 use Rattle.translation.proofs.Stands.{CodeAt}
 use Rattle.translation.proofs.Chain.{Chain, Vars, OkSpot, NamedAs, ActualAt}
 use Rattle.translation.proofs.CellKinds.{Kind, val, any, nam, Plain, kindAt, revOn}
@@ -35,11 +35,11 @@ debtC (only s) = (3, 2)
 debtC (whiling x q e c l s) = (0, 2)
 
 abbrev pub debt : Task → ℕ × ℕ
-debt (ev e) = (0, 3)
-debt (evs m es) = (0, 0)
+debt (evaluate e) = (0, 3)
+debt (giveAll m es) = (0, 0)
 debt (naming q) = (0, 3)
-debt (ex s) = (0, 2)
-debt (exs ss) = (0, 2)
+debt (begin s) = (0, 2)
+debt (goThrough ss) = (0, 2)
 debt (stores x xs) = (0, 3)
 debt (loop x l s) = (2, 2)
 debt (act a) = (0, 3)
@@ -76,11 +76,11 @@ owesC-most (only s) = omega arith
 owesC-most (whiling x q e c l s) = omega arith
 
 owes-most : (t : Task) → owes t ≤ 3
-owes-most (ev e) = omega arith
-owes-most (evs m es) = omega arith
+owes-most (evaluate e) = omega arith
+owes-most (giveAll m es) = omega arith
 owes-most (naming q) = omega arith
-owes-most (ex s) = omega arith
-owes-most (exs ss) = omega arith
+owes-most (begin s) = omega arith
+owes-most (goThrough ss) = omega arith
 owes-most (stores x xs) = omega arith
 owes-most (loop x l s) = omega arith
 owes-most (act a) = omega arith
@@ -131,11 +131,11 @@ wantsV condition = 0
 wantsV (upto q x) = wantsX x
 
 abbrev pub wantsT : Task → ℕ → ℕ
-wantsT (ev e) n = 0
-wantsT (evs m es) n = 0
+wantsT (evaluate e) n = 0
+wantsT (giveAll m es) n = 0
 wantsT (naming q) n = 0
-wantsT (ex s) n = 0
-wantsT (exs ss) n = 0
+wantsT (begin s) n = 0
+wantsT (goThrough ss) n = 0
 wantsT (stores x xs) n = 0
 wantsT (loop x l s) n = 0
 wantsT (act a) n = wantsA a
@@ -177,11 +177,11 @@ kindsOf g (n ∷ m) (then e es) b = kindOf n b ∷ kindsOf g m es (endActual n (
 -- ---- how many values an agenda has held: one for each step element under way
 
 abbrev pub heldT : Task → ℕ → ℕ
-heldT (ev e) n = n
-heldT (evs m es) n = n
+heldT (evaluate e) n = n
+heldT (giveAll m es) n = n
 heldT (naming q) n = n
-heldT (ex s) n = n
-heldT (exs ss) n = n
+heldT (begin s) n = n
+heldT (goThrough ss) n = n
 heldT (stores x xs) n = n
 heldT (loop x l s) n = n
 heldT (act a) n = n
@@ -209,13 +209,13 @@ heldK (t ∷ k) = heldT t (heldK k)
 abbrev pub Level : {X : Type 0} → Act X → Type 0
 Level a = (n : ℕ) → (needs a n ≡ n) × (holds a n ≡ n)
 
-module _ (place : ℕ → ℕ) (P : List Instr) where
+module _ (place : ℕ → ℕ) (P : List Instruction) where
   -- actuals under way: of these kinds, and the code of the name formals' stands where their cells will say
-  abbrev pub LaidOne : List Mark → Bool → Expression → Kind → Type 0
+  abbrev pub LaidOne : List Around → Bool → Expression → Kind → Type 0
   LaidOne g true e i = Plain i
   LaidOne g false e i = (a : ℕ) × (i ≡ nam a) × ActualAt place P g e a
 
-  abbrev pub Laid : List Mark → List Name → List Name → Expressions → List Kind → Type 0
+  abbrev pub Laid : List Around → List Name → List Name → Expressions → List Kind → Type 0
   Laid g vs [] done [] = Unit {0}
   Laid g vs [] done (i ∷ is) = ⊥
   Laid g vs [] (then e es) is = ⊥
@@ -224,7 +224,7 @@ module _ (place : ℕ → ℕ) (P : List Instr) where
   Laid g vs (x ∷ xs) (then e es) (i ∷ is) = LaidOne g (has vs x) e i × Laid g vs xs es is
 
   -- a step element under way, whose variable is stored to in a way w: its code from the store of its start on; s: where the body begins
-  abbrev pub StepAt : Way → List Mark → ℕ → ℕ → Name → Expression → Expression → List Element → Statement → ℕ → ℕ → List Instr → List Instr → Type 0
+  abbrev pub StepAt : Way → List Around → ℕ → ℕ → Name → Expression → Expression → List Element → Statement → ℕ → ℕ → List Instruction → List Instruction → Type 0
   StepAt w g m q x f h l y s a r r' =
       let n = suc (endS (scopes g) y s) in
       let k = endStep w (scopes g) f h a in
@@ -238,73 +238,73 @@ module _ (place : ℕ → ℕ) (P : List Instr) where
       × OkE (scopes g) h
 
   -- where its step is held; where the bound's value is tested; where the new step's value is added
-  abbrev pub heldAt : List Mark → Expression → ℕ → ℕ
+  abbrev pub heldAt : List Around → Expression → ℕ → ℕ
   heldAt g f a = suc (endE (scopes g) f (suc a))
 
-  abbrev pub testAt : List Mark → Expression → Expression → ℕ → ℕ
+  abbrev pub testAt : List Around → Expression → Expression → ℕ → ℕ
   testAt g f h a = endE (scopes g) h (suc (heldAt g f a))
 
-  abbrev pub sumAt : Way → List Mark → Expression → Expression → ℕ → ℕ
+  abbrev pub sumAt : Way → List Around → Expression → Expression → ℕ → ℕ
   sumAt w g f h a = suc (suc (endWay w (testAt g f h a)))
 
   -- in the scopes g, within m for statements, from the first address, with values of these kinds not used yet, to the second, with those, stands what
   -- the task needs
-  pub data AtT (g : List Mark) (m : ℕ) : ℕ → List Kind → Task → ℕ → List Kind → Type 0 where
-    t-ev : {b : ℕ} {ks : List Kind} (e : Expression) (r : List Instr) → CodeAt place P b (codeE place g e b r) → OkE (scopes g) e → AtT g m b ks (ev e) (endE (scopes g) e b) (val ∷ ks)
-    t-evs : {b : ℕ} {ks ks' : List Kind} (n : List Bool) (es : Expressions) (r : List Instr) → CodeAt place P b (codeEs place g n es b r) → OkEs (scopes g) es → ks' ≡ revOn (kindsOf (scopes g) n es b) ks → AtT g m b ks (evs n es) (endEs (scopes g) n es b) ks'
+  pub data AtT (g : List Around) (m : ℕ) : ℕ → List Kind → Task → ℕ → List Kind → Type 0 where
+    t-ev : {b : ℕ} {ks : List Kind} (e : Expression) (r : List Instruction) → CodeAt place P b (codeE place g e b r) → OkE (scopes g) e → AtT g m b ks (evaluate e) (endE (scopes g) e b) (val ∷ ks)
+    t-evs : {b : ℕ} {ks ks' : List Kind} (n : List Bool) (es : Expressions) (r : List Instruction) → CodeAt place P b (codeEs place g n es b r) → OkEs (scopes g) es → ks' ≡ revOn (kindsOf (scopes g) n es b) ks → AtT g m b ks (giveAll n es) (endEs (scopes g) n es b) ks'
     t-naming : {b q r : ℕ} {ks : List Kind} → instructionAt P b ≡ some (NAME (place q) r) → AtT g m b ks (naming q) r (nam (suc b) ∷ ks)
-    t-ex : {b : ℕ} (s : Statement) (r : List Instr) → CodeAt place P b (codeS place g m s b r) → OkS (scopes g) s → AtT g m b [] (ex s) (endS (scopes g) s b) []
-    t-exs : {b : ℕ} (ss : Statements) (r : List Instr) → CodeAt place P b (codeSs place g m ss b r) → OkSs (scopes g) ss → AtT g m b [] (exs ss) (endSs (scopes g) ss b) []
-    t-stores : {b : ℕ} (x : Name) (xs : List Name) (r : List Instr) → CodeAt place P b (codeStores place g x xs r) → OkVs (scopes g) (x ∷ xs) → AtT g m b (val ∷ []) (stores x xs) (endStores (scopes g) x xs b) []
+    t-ex : {b : ℕ} (s : Statement) (r : List Instruction) → CodeAt place P b (codeS place g m s b r) → OkS (scopes g) s → AtT g m b [] (begin s) (endS (scopes g) s b) []
+    t-exs : {b : ℕ} (ss : Statements) (r : List Instruction) → CodeAt place P b (codeSs place g m ss b r) → OkSs (scopes g) ss → AtT g m b [] (goThrough ss) (endSs (scopes g) ss b) []
+    t-stores : {b : ℕ} (x : Name) (xs : List Name) (r : List Instruction) → CodeAt place P b (codeStores place g x xs r) → OkVs (scopes g) (x ∷ xs) → AtT g m b (val ∷ []) (stores x xs) (endStores (scopes g) x xs b) []
     t-act : {pc : ℕ} (ks : List Kind) (a : Act Spot) → instructionAt P pc ≡ some (DO (actOn (spot g) a)) → Vars (OkSpot (scopes g)) a → Level a → AtT g m pc (takes a ks) (act a) (suc pc) (gives a ks)
     t-unchanged : {pc : ℕ} {ks : List Kind} → AtT g m pc ks unchanged pc ks
     t-drop : {pc : ℕ} {ks : List Kind} → instructionAt P pc ≡ some (DO forget) → AtT g m pc (val ∷ ks) drop (suc pc) ks
     t-seek : {pc : ℕ} {ks : List Kind} {x : Name} → instructionAt P pc ≡ some (SEEKS place g x) → NamedAs (meaning (scopes g) x) → AtT g m pc ks (seek x (at place x)) (suc pc) ks
-    t-receiving : {pc q : ℕ} (w : Way) (y : Name) (r : List Instr) → way (meaning (scopes g) y) ≡ w → CodeAt place P pc (codeTake place w g q y r) → OkW (scopes g) y → AtT g m pc (val ∷ []) (receiving q y) (endTake w pc) []
+    t-receiving : {pc q : ℕ} (w : Way) (y : Name) (r : List Instruction) → way (meaning (scopes g) y) ≡ w → CodeAt place P pc (codeTake place w g q y r) → OkW (scopes g) y → AtT g m pc (val ∷ []) (receiving q y) (endTake w pc) []
     -- t: how many result cells it has
     t-invoke : {pc : ℕ} {ks' : List Kind} {x : Name} {es : Expressions} {f : Fate} (is ks : List Kind) (t n : ℕ) (p : Procedure) → ks' ≡ revOn is (more-of any t ks) → instructionAt P pc ≡ some (CALLS place g x n f) → n ≡ t + length is → OkCall (scopes g) x p t (length is) → stays f ≤ t → t ≤ 1 → Laid g (valuesOf p) (formalsOf p) es is → AtT g m pc ks' (invoke x es f) (suc pc) (left f ks)
-    t-expressions : {ks : List Kind} (q q' : ℕ) (c e f : Expression) (b : ℕ) (r : List Instr) → CodeAt place P b (codeE place g (chosen q q' c e f) b r) → OkE (scopes g) (chosen q q' c e f) → AtT g m (endE (scopes g) c b) (val ∷ ks) (pick (expressions e f)) (endE (scopes g) (chosen q q' c e f) b) (val ∷ ks)
-    t-statements : (q : ℕ) (c : Expression) (s t : Statement) (b : ℕ) (r : List Instr) → CodeAt place P b (codeS place g m (either q c s t) b r) → OkS (scopes g) (either q c s t) → AtT g m (endE (scopes g) c b) (val ∷ []) (pick (statements s t)) (endS (scopes g) (either q c s t) b) []
-    t-only : (q : ℕ) (c : Expression) (s : Statement) (b : ℕ) (r : List Instr) → CodeAt place P b (codeS place g m (when q c s) b r) → OkS (scopes g) (when q c s) → AtT g m (endE (scopes g) c b) (val ∷ []) (pick (only s)) (endS (scopes g) (when q c s) b) []
+    t-expressions : {ks : List Kind} (q q' : ℕ) (c e f : Expression) (b : ℕ) (r : List Instruction) → CodeAt place P b (codeE place g (chosen q q' c e f) b r) → OkE (scopes g) (chosen q q' c e f) → AtT g m (endE (scopes g) c b) (val ∷ ks) (pick (expressions e f)) (endE (scopes g) (chosen q q' c e f) b) (val ∷ ks)
+    t-statements : (q : ℕ) (c : Expression) (s t : Statement) (b : ℕ) (r : List Instruction) → CodeAt place P b (codeS place g m (either q c s t) b r) → OkS (scopes g) (either q c s t) → AtT g m (endE (scopes g) c b) (val ∷ []) (pick (statements s t)) (endS (scopes g) (either q c s t) b) []
+    t-only : (q : ℕ) (c : Expression) (s : Statement) (b : ℕ) (r : List Instruction) → CodeAt place P b (codeS place g m (when q c s) b r) → OkS (scopes g) (when q c s) → AtT g m (endE (scopes g) c b) (val ∷ []) (pick (only s)) (endS (scopes g) (when q c s) b) []
     -- s: where the body begins; b: where the elements that are left begin
-    t-loop : (x : Name) (l : List Element) (y : Statement) (s b : ℕ) (r r' : List Instr) → CodeAt place P b (codeL place g m x l s (suc (endS (scopes g) y s)) b r) → CodeAt place P s (codeS place g (suc m) y s (NEXT m ∷ r')) → OkW (scopes g) x → OkL (scopes g) l → OkS (scopes g) y → AtT g m (onward l b (suc (endS (scopes g) y s))) [] (loop x l y) (suc (endS (scopes g) y s)) []
-    t-whiling : (x : Name) (q : ℕ) (e c : Expression) (l : List Element) (y : Statement) (s b i : ℕ) (r r' r'' : List Instr) → CodeAt place P b (codeL place g m x (while q e c ∷ l) s (suc (endS (scopes g) y s)) b r) → CodeAt place P i (IF condition (onward l (suc (suc i)) (suc (endS (scopes g) y s))) ∷ GO m s b ∷ codeL place g m x l s (suc (endS (scopes g) y s)) (suc (suc i)) r'') → CodeAt place P s (codeS place g (suc m) y s (NEXT m ∷ r')) → OkW (scopes g) x → OkL (scopes g) (while q e c ∷ l) → OkS (scopes g) y → AtT g m i (val ∷ []) (pick (whiling x q e c l y)) (suc (endS (scopes g) y s)) []
-    t-hold : (w : Way) (q : ℕ) (x : Name) (f h : Expression) (l : List Element) (y : Statement) (s a : ℕ) (r r' : List Instr) → StepAt w g m q x f h l y s a r r' → AtT g m (heldAt g f a) (val ∷ []) (hold (stepping (place q) x f h l y)) (suc (endS (scopes g) y s)) []
-    t-tested : (w : Way) (q : ℕ) (x : Name) (f h : Expression) (l : List Element) (y : Statement) (s a : ℕ) (r r' : List Instr) → StepAt w g m q x f h l y s a r r' → AtT g m (testAt g f h a) (val ∷ []) (tested (stepping (place q) x f h l y)) (suc (endS (scopes g) y s)) []
-    t-add : (w : Way) (q : ℕ) (x : Name) (f h : Expression) (l : List Element) (y : Statement) (s a : ℕ) (r r' : List Instr) → StepAt w g m q x f h l y s a r r' → AtT g m (sumAt w g f h a) (val ∷ []) (add (stepping (place q) x f h l y)) (suc (endS (scopes g) y s)) []
-    t-trying : (q : ℕ) (x : Name) (f h : Expression) (l : List Element) (y : Statement) (s a : ℕ) (r r' : List Instr) → StepAt sought g m q x f h l y s a r r' → AtT g m (suc (testAt g f h a)) (val ∷ []) (trying (stepping (place q) x f h l y)) (suc (endS (scopes g) y s)) []
-    t-summing : (q : ℕ) (x : Name) (f h : Expression) (l : List Element) (y : Statement) (s a : ℕ) (r r' : List Instr) → StepAt sought g m q x f h l y s a r r' → AtT g m (suc (sumAt sought g f h a)) (val ∷ []) (summing (stepping (place q) x f h l y)) (suc (endS (scopes g) y s)) []
-    t-setting : (q : ℕ) (x : Name) (f h : Expression) (l : List Element) (y : Statement) (s a : ℕ) (r r' : List Instr) → StepAt direct g m q x f h l y s a r r' → AtT g m (suc (sumAt direct g f h a)) (val ∷ []) (settling (here x) (stepping (place q) x f h l y)) (suc (endS (scopes g) y s)) []
-    t-settling : (q : ℕ) (x : Name) (f h : Expression) (l : List Element) (y : Statement) (s a : ℕ) (r r' : List Instr) → StepAt sought g m q x f h l y s a r r' → AtT g m (suc (suc (suc (sumAt sought g f h a)))) (val ∷ []) (settling there (stepping (place q) x f h l y)) (suc (endS (scopes g) y s)) []
+    t-loop : (x : Name) (l : List Element) (y : Statement) (s b : ℕ) (r r' : List Instruction) → CodeAt place P b (codeL place g m x l s (suc (endS (scopes g) y s)) b r) → CodeAt place P s (codeS place g (suc m) y s (NEXT m ∷ r')) → OkW (scopes g) x → OkL (scopes g) l → OkS (scopes g) y → AtT g m (onward l b (suc (endS (scopes g) y s))) [] (loop x l y) (suc (endS (scopes g) y s)) []
+    t-whiling : (x : Name) (q : ℕ) (e c : Expression) (l : List Element) (y : Statement) (s b i : ℕ) (r r' r'' : List Instruction) → CodeAt place P b (codeL place g m x (while q e c ∷ l) s (suc (endS (scopes g) y s)) b r) → CodeAt place P i (IF condition (onward l (suc (suc i)) (suc (endS (scopes g) y s))) ∷ GO m s b ∷ codeL place g m x l s (suc (endS (scopes g) y s)) (suc (suc i)) r'') → CodeAt place P s (codeS place g (suc m) y s (NEXT m ∷ r')) → OkW (scopes g) x → OkL (scopes g) (while q e c ∷ l) → OkS (scopes g) y → AtT g m i (val ∷ []) (pick (whiling x q e c l y)) (suc (endS (scopes g) y s)) []
+    t-hold : (w : Way) (q : ℕ) (x : Name) (f h : Expression) (l : List Element) (y : Statement) (s a : ℕ) (r r' : List Instruction) → StepAt w g m q x f h l y s a r r' → AtT g m (heldAt g f a) (val ∷ []) (hold (stepping (place q) x f h l y)) (suc (endS (scopes g) y s)) []
+    t-tested : (w : Way) (q : ℕ) (x : Name) (f h : Expression) (l : List Element) (y : Statement) (s a : ℕ) (r r' : List Instruction) → StepAt w g m q x f h l y s a r r' → AtT g m (testAt g f h a) (val ∷ []) (tested (stepping (place q) x f h l y)) (suc (endS (scopes g) y s)) []
+    t-add : (w : Way) (q : ℕ) (x : Name) (f h : Expression) (l : List Element) (y : Statement) (s a : ℕ) (r r' : List Instruction) → StepAt w g m q x f h l y s a r r' → AtT g m (sumAt w g f h a) (val ∷ []) (add (stepping (place q) x f h l y)) (suc (endS (scopes g) y s)) []
+    t-trying : (q : ℕ) (x : Name) (f h : Expression) (l : List Element) (y : Statement) (s a : ℕ) (r r' : List Instruction) → StepAt sought g m q x f h l y s a r r' → AtT g m (suc (testAt g f h a)) (val ∷ []) (trying (stepping (place q) x f h l y)) (suc (endS (scopes g) y s)) []
+    t-summing : (q : ℕ) (x : Name) (f h : Expression) (l : List Element) (y : Statement) (s a : ℕ) (r r' : List Instruction) → StepAt sought g m q x f h l y s a r r' → AtT g m (suc (sumAt sought g f h a)) (val ∷ []) (summing (stepping (place q) x f h l y)) (suc (endS (scopes g) y s)) []
+    t-setting : (q : ℕ) (x : Name) (f h : Expression) (l : List Element) (y : Statement) (s a : ℕ) (r r' : List Instruction) → StepAt direct g m q x f h l y s a r r' → AtT g m (suc (sumAt direct g f h a)) (val ∷ []) (settling (here x) (stepping (place q) x f h l y)) (suc (endS (scopes g) y s)) []
+    t-settling : (q : ℕ) (x : Name) (f h : Expression) (l : List Element) (y : Statement) (s a : ℕ) (r r' : List Instruction) → StepAt sought g m q x f h l y s a r r' → AtT g m (suc (suc (suc (sumAt sought g f h a)))) (val ∷ []) (settling there (stepping (place q) x f h l y)) (suc (endS (scopes g) y s)) []
 
   -- the activation's own scopes around, below the cells kt
-  abbrev pub Here : List Frame → List Mark → List Kind → Env → Type 0
+  abbrev pub Here : List Activation → List Around → List Kind → Env → Type 0
   Here fs g kt v = Chain place P fs (kindAt kt) (length kt) (length fs) g v × (length kt ≡ base fs (length fs) + reach g)
 
   -- the code from an address on, in the scopes g, with values ks not used yet above the cells kt, with these return positions and activations,
   -- carries out the agenda in an environment, and passes j jumps between its tasks
-  pub data Does : ℕ → List Mark → List Kind → List Kind → List ℕ → List Frame → List Task → Env → ℕ → Type 0 where
-    over-jump : {pc r j : ℕ} {g : List Mark} {ks kt : List Kind} {ps : List ℕ} {fs : List Frame} {k : List Task} {v : Env} → instructionAt P pc ≡ some (JUMP r) → Does r g ks kt ps fs k v j → Does pc g ks kt ps fs k v (suc j)
-    at-go : {pc l r j : ℕ} {g : List Mark} {ks kt : List Kind} {ps : List ℕ} {fs : List Frame} {k : List Task} {v : Env} → instructionAt P pc ≡ some (GO (length ps) l r) → Does l g ks kt (r ∷ ps) fs k v j → Does pc g ks kt ps fs k v (suc j)
-    at-next : {pc r j : ℕ} {g : List Mark} {ks kt : List Kind} {ps : List ℕ} {fs : List Frame} {k : List Task} {v : Env} → instructionAt P pc ≡ some (NEXT (length ps)) → Does r g ks kt ps fs k v j → Does pc g ks kt (r ∷ ps) fs k v (suc j)
-    at-end : {pc : ℕ} {g : List Mark} {ks kt : List Kind} {v : Env} → instructionAt P pc ≡ some END → Does pc g ks kt [] [] [] v 0
-    at-task : {pc r j : ℕ} {g : List Mark} {ks ks' kt : List Kind} {ps : List ℕ} {fs : List Frame} {t : Task} {k : List Task} {v : Env} → AtT g (length ps) pc ks t r ks' → due k ≤ slack t → Does r g ks' kt ps fs k v j → Does pc g ks kt ps fs (t ∷ k) v j
-    at-close : {pc b c j : ℕ} {ds ds' : Declarations} {g : List Mark} {ps : List ℕ} {fs : List Frame} {k : List Task} {v : Env} (n : ℕ) (kt : List Kind) → instructionAt P pc ≡ some (LEAVE n) → n ≡ cellsIn (ofBlock ds) → due k ≤ 3 → Does (suc pc) g [] kt ps fs k v j → Does pc (blk (reach g) ds b ∷ g) [] (more-of any n kt) ps fs (close n ∷ k) (entered ds' c v) j
-    at-ret : {pc r b l q j : ℕ} {f : Fate} {g g' : List Mark} {ps : List ℕ} {fs : List Frame} {k : List Task} {v v' : Env} (js ks kt kt' : List Kind) → instructionAt P pc ≡ some RETURN → Here fs g kt v → b ≡ length (ks ++ kt) → kt' ≡ js ++ before f (ks ++ kt) → due k ≤ 3 → Does r g (left f ks) kt ps fs k v j → Does pc g' [] kt' [] (fr r b l f q ps ∷ fs) (return f q b v ∷ k) v' j
+  pub data Does : ℕ → List Around → List Kind → List Kind → List ℕ → List Activation → List Task → Env → ℕ → Type 0 where
+    over-jump : {pc r j : ℕ} {g : List Around} {ks kt : List Kind} {ps : List ℕ} {fs : List Activation} {k : List Task} {v : Env} → instructionAt P pc ≡ some (JUMP r) → Does r g ks kt ps fs k v j → Does pc g ks kt ps fs k v (suc j)
+    at-go : {pc l r j : ℕ} {g : List Around} {ks kt : List Kind} {ps : List ℕ} {fs : List Activation} {k : List Task} {v : Env} → instructionAt P pc ≡ some (GO (length ps) l r) → Does l g ks kt (r ∷ ps) fs k v j → Does pc g ks kt ps fs k v (suc j)
+    at-next : {pc r j : ℕ} {g : List Around} {ks kt : List Kind} {ps : List ℕ} {fs : List Activation} {k : List Task} {v : Env} → instructionAt P pc ≡ some (NEXT (length ps)) → Does r g ks kt ps fs k v j → Does pc g ks kt (r ∷ ps) fs k v (suc j)
+    at-end : {pc : ℕ} {g : List Around} {ks kt : List Kind} {v : Env} → instructionAt P pc ≡ some END → Does pc g ks kt [] [] [] v 0
+    at-task : {pc r j : ℕ} {g : List Around} {ks ks' kt : List Kind} {ps : List ℕ} {fs : List Activation} {t : Task} {k : List Task} {v : Env} → AtT g (length ps) pc ks t r ks' → due k ≤ slack t → Does r g ks' kt ps fs k v j → Does pc g ks kt ps fs (t ∷ k) v j
+    at-close : {pc b c j : ℕ} {ds ds' : Declarations} {g : List Around} {ps : List ℕ} {fs : List Activation} {k : List Task} {v : Env} (n : ℕ) (kt : List Kind) → instructionAt P pc ≡ some (LEAVE n) → n ≡ cellsIn (ofBlock ds) → due k ≤ 3 → Does (suc pc) g [] kt ps fs k v j → Does pc (aBlock (reach g) ds b ∷ g) [] (more-of any n kt) ps fs (close n ∷ k) (entered ds' c v) j
+    at-ret : {pc r b l q j : ℕ} {f : Fate} {g g' : List Around} {ps : List ℕ} {fs : List Activation} {k : List Task} {v v' : Env} (js ks kt kt' : List Kind) → instructionAt P pc ≡ some RETURN → Here fs g kt v → b ≡ length (ks ++ kt) → kt' ≡ js ++ before f (ks ++ kt) → due k ≤ 3 → Does r g (left f ks) kt ps fs k v j → Does pc g' [] kt' [] (activation r b l f q ps ∷ fs) (return f q b v ∷ k) v' j
     -- the end of a working out: for a read, with its value; for a store
-    at-worked : {pc r b l q j : ℕ} {g g' : List Mark} {ps : List ℕ} {fs : List Frame} {k : List Task} {v v' : Env} (ks kt : List Kind) → instructionAt P pc ≡ some RETURN → Here fs g kt v → b ≡ length (ks ++ kt) → due k ≤ 3 → Does r g (val ∷ ks) kt ps fs k v j → Does pc g' (val ∷ []) (ks ++ kt) [] (fr r b l kept q ps ∷ fs) (return kept q b v ∷ k) v' j
-    at-sought : {pc r b l q j : ℕ} {g g' : List Mark} {ps : List ℕ} {fs : List Frame} {k : List Task} {v v' : Env} (ks kt : List Kind) → instructionAt P pc ≡ some RETURN → Here fs g kt v → b ≡ length (ks ++ kt) → Does r g ks kt ps fs k v j → Does pc g' [] (ks ++ kt) [] (fr r b l gone q ps ∷ fs) (return gone q b v ∷ k) v' j
+    at-worked : {pc r b l q j : ℕ} {g g' : List Around} {ps : List ℕ} {fs : List Activation} {k : List Task} {v v' : Env} (ks kt : List Kind) → instructionAt P pc ≡ some RETURN → Here fs g kt v → b ≡ length (ks ++ kt) → due k ≤ 3 → Does r g (val ∷ ks) kt ps fs k v j → Does pc g' (val ∷ []) (ks ++ kt) [] (activation r b l kept q ps ∷ fs) (return kept q b v ∷ k) v' j
+    at-sought : {pc r b l q j : ℕ} {g g' : List Around} {ps : List ℕ} {fs : List Activation} {k : List Task} {v v' : Env} (ks kt : List Kind) → instructionAt P pc ≡ some RETURN → Here fs g kt v → b ≡ length (ks ++ kt) → Does r g ks kt ps fs k v j → Does pc g' [] (ks ++ kt) [] (activation r b l gone q ps ∷ fs) (return gone q b v ∷ k) v' j
     -- in a working out for a store: its actual, and a name formal that passes it on
-    at-find : {pc r b l q j : ℕ} {g : List Mark} {kt : List Kind} {ps ps' : List ℕ} {fs : List Frame} {k : List Task} {v : Env} (e : Expression) → instructionAt P pc ≡ some (storePart place (acl ∷ g) e) → OkE (scopes g) e → owed k ≤ 0 → Does (suc pc) (acl ∷ g) [] kt ps' (fr r b l gone q ps ∷ fs) k v j → Does pc (acl ∷ g) [] kt ps' (fr r b l gone q ps ∷ fs) (find e q ∷ k) v j
-    at-pass : {pc r b l q j : ℕ} {g : List Mark} {kt : List Kind} {ps ps' : List ℕ} {fs : List Frame} {k : List Task} {v : Env} (x : Name) → instructionAt P pc ≡ some (PASSES place g x) → NamedAs (meaning (scopes g) x) → Does (suc pc) g [] kt ps' (fr r b l gone q ps ∷ fs) k v j → Does pc g [] kt ps' (fr r b l gone q ps ∷ fs) (seek x q ∷ k) v j
+    at-find : {pc r b l q j : ℕ} {g : List Around} {kt : List Kind} {ps ps' : List ℕ} {fs : List Activation} {k : List Task} {v : Env} (e : Expression) → instructionAt P pc ≡ some (storePart place (anActual ∷ g) e) → OkE (scopes g) e → owed k ≤ 0 → Does (suc pc) (anActual ∷ g) [] kt ps' (activation r b l gone q ps ∷ fs) k v j → Does pc (anActual ∷ g) [] kt ps' (activation r b l gone q ps ∷ fs) (find e q ∷ k) v j
+    at-pass : {pc r b l q j : ℕ} {g : List Around} {kt : List Kind} {ps ps' : List ℕ} {fs : List Activation} {k : List Task} {v : Env} (x : Name) → instructionAt P pc ≡ some (PASSES place g x) → NamedAs (meaning (scopes g) x) → Does (suc pc) g [] kt ps' (activation r b l gone q ps ∷ fs) k v j → Does pc g [] kt ps' (activation r b l gone q ps ∷ fs) (seek x q ∷ k) v j
 
   -- the running activation: its scopes' entries below the cells kt; what the cells hold, and how many values are held
-  pub data Stand (fs : List Frame) (g : List Mark) (ks kt : List Kind) (v : Env) (n : ℕ) (d : Data) : Type 0 where
+  pub data Stand (fs : List Activation) (g : List Around) (ks kt : List Kind) (v : Env) (n : ℕ) (d : Data) : Type 0 where
     stands : Chain place P fs (kindAt kt) (length kt) (length fs) g v → length kt ≡ base fs (length fs) + reach g → FitsD (ks ++ kt) n d → Stand fs g ks kt v n d
 
   -- the source's cells of name formals have no address
-  pub data Rel : ℕ → Mach → State → Type 0 where
-    rel : {p pc j : ℕ} {g : List Mark} {ks kt : List Kind} {ps : List ℕ} {fs : List Frame} {k : List Task} {v : Env} {d : Data} → Does pc g ks kt ps fs k v j → Stand fs g ks kt v (heldK k) d → (1 ≤ wants k → Found (ks ++ kt) d) → j + owed k ≤ p → Rel p (ms pc ps fs d) (st k v (blank d))
+  pub data Rel : ℕ → Running → State → Type 0 where
+    rel : {p pc j : ℕ} {g : List Around} {ks kt : List Kind} {ps : List ℕ} {fs : List Activation} {k : List Task} {v : Env} {d : Data} → Does pc g ks kt ps fs k v j → Stand fs g ks kt v (heldK k) d → (1 ≤ wants k → Found (ks ++ kt) d) → j + owed k ≤ p → Rel p (running pc ps fs d) (state k v (blank d))
 
 -- ---- how far a tree can be taken apart with no instruction
 
@@ -350,11 +350,11 @@ abbrev mutual
   sizeSs (first s ss) = sizeS s + sizeSs ss + 1
 
 abbrev pub sizeT : Task → ℕ
-sizeT (ev e) = sizeE e
-sizeT (evs m es) = sizeEs es
+sizeT (evaluate e) = sizeE e
+sizeT (giveAll m es) = sizeEs es
 sizeT (naming q) = 1
-sizeT (ex s) = sizeS s
-sizeT (exs ss) = sizeSs ss
+sizeT (begin s) = sizeS s
+sizeT (goThrough ss) = sizeSs ss
 sizeT (stores x xs) = sizeX xs
 sizeT (loop x l s) = sizeL l (sizeS s)
 sizeT (act a) = 1
@@ -379,4 +379,4 @@ sizeK [] = 0
 sizeK (t ∷ k) = sizeT t + sizeK k
 
 abbrev pub size : State → ℕ
-size (st k v d) = sizeK k
+size (state k v d) = sizeK k

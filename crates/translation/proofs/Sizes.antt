@@ -8,8 +8,8 @@ use lib.ListN.{length}
 use Rattle.names.specs.Program.{Name, Sort, Sign, positive, negative, negation, Expression, number, logical, name, call, signed, operated, chosen, nested, Expressions, done, then, Element, value, while, step, Statement, dummy, assignment, procedure, when, either, repeat, compound, block, Statements, last, first, Declarations, none as no-more, variables, declare, Procedure, heading}
 use Rattle.names.specs.Scopes.{Thing, variable, routine, formal, by-name, modesOf, Scope, ofBlock, ofBody, sortOf, Meaning, declared, given, nothing, meaning}
 use Rattle.rules.specs.Calls.{Primary, held, worked, function, absolute, greatest, no-primary, primary, Command, routine-of, absolute-of, greatest-of, input-to, output-of, no-command, command, thingTold, into, givenTold, Way, direct, sought, way}
-use Rattle.translation.specs.Translate.{endName, endActual, endThen, endSign, endE, endEs, endWay, endSum, endL, endStores, endCall, endTake, endCommand, endS, endSs, endDs, endP}
-use Rattle.translation.specs.Sizes.{symbolsE, symbolsEs, actuals, symbolsL, symbolsS, symbolsSs, symbolsDs, symbolsP}
+use Rattle.translation.specs.model.Translate.{endName, endActual, endThen, endSign, endE, endEs, endWay, endSum, endL, endStores, endCall, endTake, endCommand, endS, endSs, endDs, endP}
+use Rattle.translation.specs.model.Sizes.{symbolsE, symbolsEs, actuals, symbolsL, symbolsS, symbolsSs, symbolsDs, symbolsP}
 
 -- a name with actuals of so many symbols
 name-size : (pr : Primary) (f : List Bool → ℕ → ℕ) (n : ℕ) → ((m : List Bool) (b : ℕ) → f m b ≤ b + 4 * n) → (b : ℕ) → endName pr f b + 2 ≤ b + 4 * (n + 1)

@@ -9,12 +9,12 @@ use mathlib.Core.Option.{none}
 use lib.Dec.{T, ltb, lt→ltb, leb·suc-suc}
 use lib.ListN.{length, getD, replicate}
 use lib.IntN.{ℤ}
-use Rattle.machine.specs.Instructions.{Instr, decode, instruction, fetch}
-use Rattle.machine.specs.Words.{partsOf, firstWord, words, CodeFits}
+use Rattle.machine.specs.Instructions.{Instruction, decode, instruction, fetch}
+use Rattle.machine.specs.model.Words.{partsOf, firstWord, words, CodeFits}
 use Rattle.machine.specs.Run.{untold, run}
-use Rattle.machine.specs.Machine.{Mach, ms, obey, step, finish, start, machine}
+use Rattle.machine.specs.Machine.{Running, running, obey, step, finish, start, machine}
 use Rattle.machine.proofs.Words.{back}
-use Rattle.translation.specs.Listed.{instructionAt, stepIn, machineIn}
+use Rattle.translation.specs.model.Listed.{instructionAt, stepIn, machineIn}
 
 cond-yes : {A : Type 0} (b : Bool) (x y : A) → T b → cond b x y ≡ x
 cond-yes true x y h = refl
@@ -38,7 +38,7 @@ shift w v ws c =
     let e'' : ltb (suc (suc (2 * c + 1))) (suc (suc (length ws))) ≡ ltb (2 * c + 1) (length ws) = leb·suc-suc (suc (suc (2 * c + 1))) (suc (length ws)) ∙ leb·suc-suc (suc (2 * c + 1)) (length ws) in
     rw (e, e', e'') refl
 
-fetched : (p : List Instr) (n c : ℕ) → CodeFits p → fetch (words p ++ replicate n 0) c ≡ instructionAt p c
+fetched : (p : List Instruction) (n c : ℕ) → CodeFits p → fetch (words p ++ replicate n 0) c ≡ instructionAt p c
 unfolding words instructionAt fetch decode
 fetched [] n c h = ap (λ w. cond (ltb (2 * c + 1) (length {A = ℕ} (replicate n 0))) (instruction w (getD (replicate n 0) (2 * c + 1) 0)) none) (zero-at n (2 * c)) ∙ ap (λ v. cond (ltb (2 * c + 1) (length {A = ℕ} (replicate n 0))) (instruction 0 v) none) (zero-at n (2 * c + 1)) ∙ cond-same (ltb (2 * c + 1) (length {A = ℕ} (replicate n 0))) none
 fetched (i ∷ p) n zero h =
@@ -47,10 +47,10 @@ fetched (i ∷ p) n zero h =
 fetched (i ∷ p) n (suc c) h = shift (firstWord (partsOf i)) (partsOf i .operand) (words p ++ replicate n 0) c ∙ fetched p n c (h .1)
 
 -- the machine on the words of a program is the machine on its instructions
-pub same-step : (p : List Instr) (n : ℕ) → CodeFits p → (m : Mach) → step (words p ++ replicate n 0) m ≡ stepIn p m
+pub same-step : (p : List Instruction) (n : ℕ) → CodeFits p → (m : Running) → step (words p ++ replicate n 0) m ≡ stepIn p m
 unfolding step stepIn
-same-step p n h (ms pc ps fs d) = ap (λ i. obey i pc ps fs d) (fetched p n pc h)
+same-step p n h (running pc ps fs d) = ap (λ i. obey i pc ps fs d) (fetched p n pc h)
 
-pub same-machine : (p : List Instr) (n : ℕ) → CodeFits p → (input : List ℤ) (limit room space : ℕ) → machine (words p ++ replicate n 0) input limit room space ≡ machineIn p input limit room space
+pub same-machine : (p : List Instruction) (n : ℕ) → CodeFits p → (input : List ℤ) (limit room space : ℕ) → machine (words p ++ replicate n 0) input limit room space ≡ machineIn p input limit room space
 unfolding machine machineIn
 same-machine p n h input limit room space = ap (λ f. finish (run f limit (start input room space) 0 untold)) (fun-ext (same-step p n h))

@@ -12,11 +12,11 @@ use Rattle.machine.specs.Run.{Trace, done, over}
 use Rattle.machine.specs.Machine.{Finish}
 use Rattle.names.specs.Program.{Statement}
 use Rattle.rules.specs.Rules.{State, source}
-use Rattle.translation.specs.Scoped.{Scoped}
+use Rattle.translation.specs.model.Scoped.{Scoped}
 
 -- y begins with x
-abbrev pub Begins : List ℤ → List ℤ → Type 0
-Begins x y = (z : List ℤ) × (y ≡ x ++ z)
+abbrev pub IsBeginning : List ℤ → List ℤ → Type 0
+IsBeginning x y = (z : List ℤ) × (y ≡ x ++ z)
 
 -- "same answer, place, outputs and numbers taken": the last two of these
 abbrev pub Tells : Finish → Trace → Type 0
@@ -30,24 +30,24 @@ Ordinary (Fault r) = ((21 ≤ r .answer .number) × (r .answer .number ≤ 28)) 
 Ordinary (Wrong a) = ⊥
 
 -- a run that was lent this input, so many cells and so much room for output, and finished so under this limit, did what the source rules say of s
-pub record AsRules (place : ℕ → ℕ) (s : Statement) (input : List ℤ) (room space limit : ℕ) (f : Finish) : Type 0 where
+pub record AsRules (place : ℕ → ℕ) (s : Statement) (input : List ℤ) (cellsLent space limit : ℕ) (f : Finish) : Type 0 where
   -- (1) if the machine stops before its limit, the source run stops with the same answer, place, outputs and numbers taken
-  pub same-answer : (¬ (f .stop ≡ Limit)) → (t n : ℕ) × (o : Trace) × (source place s input room space t ≡ done (f .stop) n o) × Tells f o
+  pub same-answer : (¬ (f .stop ≡ Limit)) → (t n : ℕ) × (o : Trace) × (source place s input cellsLent space t ≡ done (f .stop) n o) × Tells f o
   -- (2) if the source run stops after n steps, a limit of 16 n + 16 is always enough
-  pub enough : (t n : ℕ) (q : Stop) (o : Trace) → source place s input room space t ≡ done q n o → 16 * n + 16 ≤ limit → (f .stop ≡ q) × Tells f o
+  pub enough : (t n : ℕ) (q : Stop) (o : Trace) → source place s input cellsLent space t ≡ done q n o → 16 * n + 16 ≤ limit → (f .stop ≡ q) × Tells f o
   -- (3) a machine stopped by its limit stands where the source run comes to, be it endless: it has written and taken the same
-  pub some-time : f .stop ≡ Limit → (t n : ℕ) × (o : Trace) × (s' : State) × (source place s input room space t ≡ over n o s') × Tells f o
+  pub some-time : f .stop ≡ Limit → (t n : ℕ) × (o : Trace) × (s' : State) × (source place s input cellsLent space t ≡ over n o s') × Tells f o
   -- .. so it has written a beginning of what the source run writes
-  pub a-beginning : (t n : ℕ) (q : Stop) (o : Trace) → f .stop ≡ Limit → source place s input room space t ≡ done q n o → Begins (f .written) (o .written)
+  pub a-beginning : (t n : ℕ) (q : Stop) (o : Trace) → f .stop ≡ Limit → source place s input cellsLent space t ≡ done q n o → IsBeginning (f .written) (o .written)
   -- .. and no less than its first n steps write when the limit is 16 n + 16 or more
-  pub so-much : (t n : ℕ) (o : Trace) (s' : State) → f .stop ≡ Limit → source place s input room space t ≡ over n o s' → 16 * n + 16 ≤ limit → Begins (o .written) (f .written)
+  pub so-much : (t n : ℕ) (o : Trace) (s' : State) → f .stop ≡ Limit → source place s input cellsLent space t ≡ over n o s' → 16 * n + 16 ≤ limit → IsBeginning (o .written) (f .written)
 
 -- a machine with its program: from input, limit, cells and room for output to how it finished
 abbrev pub Machine : Type 0
 Machine = List ℤ → ℕ → ℕ → ℕ → Finish
 
 abbrev pub Follows : Machine → (ℕ → ℕ) → Statement → Type 0
-Follows m place s = (input : List ℤ) (room space limit : ℕ) → AsRules place s input room space limit (m input limit room space)
+Follows m place s = (input : List ℤ) (cellsLent space limit : ℕ) → AsRules place s input cellsLent space limit (m input limit cellsLent space)
 
 -- a machine for each program and its places
 abbrev pub Runner : Type 0

@@ -6,7 +6,7 @@ use Rattle.answers.specs.Answers.{refusal, stopNumber}
 use Rattle.answers.specs.declared.Stop.{Stop}
 use Rattle.answers.specs.declared.Stop.the-variants.{Ended, Limit, Fault, Wrong}
 use Rattle.machine.specs.Data.{Act, push, load, store, assign, reserve, forget, receive, send, keep, unary, binary, lend, channel, sum, Test, condition, upto}
-use Rattle.machine.specs.Instructions.{Instr, END, DO, IF, JUMP, ENTER, LEAVE, CALL, RETURN, GO, NEXT, NAME, WORK, SEEK, PASS, REFUSE}
+use Rattle.machine.specs.Instructions.{Instruction, END, DO, IF, JUMP, ENTER, LEAVE, CALL, RETURN, GO, NEXT, NAME, WORK, SEEK, PASS, REFUSE}
 use Rattle.machine.specs.Machine.{Finish}
 
 module _ (place : ℕ → ℕ) where
@@ -30,7 +30,7 @@ module _ (place : ℕ → ℕ) where
   testP condition = condition
   testP (upto q x) = upto (place q) x
 
-  abbrev pub instrP : Instr → Instr
+  abbrev pub instrP : Instruction → Instruction
   instrP END = END
   instrP (DO a) = DO (actP a)
   instrP (IF t l) = IF (testP t) l

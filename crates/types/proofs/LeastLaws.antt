@@ -8,7 +8,7 @@ use mathlib.Core.Bool.{Bool, true, false, _||_}
 use mathlib.Core.List.{List, [], _∷_, _++_, map}
 use Rattle.answers.specs.Numbers.{types}
 use Rattle.names.specs.Uses.{Fault}
-use Rattle.names.specs.Rows.{faultKey, noFault, leastKey, notedIf}
+use Rattle.names.specs.model.Rows.{faultKey, noFault, leastKey, notedIf}
 use Rattle.types.specs.Types.{when-so}
 
 abbrev pub faulty : ℕ → Fault

@@ -15,10 +15,10 @@ use Rattle.grammar.specs.NodeKinds.{n-formal}
 use Rattle.symbols.specs.Text.{bytes}
 use Rattle.symbols.specs.Names.{sameName}
 use Rattle.names.specs.Program.{Name, Sort, integer, boolean, Specification, Declarations, none as no-more, variables, declare, Procedure}
-use Rattle.names.specs.Scopes.{Thing, variable, routine, formal, by-name, formalAs, Declared, nameOf, sortOf, formalsOf, valuesOf, specificationsOf, specified, same, has, Scope, ofBlock, ofBody, inBlock, inBody, variablesIn, declares, Wanted, an, variable-of, Given, environment, Meaning, declared, given, nothing, findIn, findGiven, innermost, meaning}
+use Rattle.names.specs.Scopes.{Thing, variable, routine, formal, by-name, formalAs, Declared, nameOf, sortOf, formalsOf, valuesOf, specificationsOf, specified, same, has, Scope, ofBlock, ofBody, inBlock, inBody, variablesIn, declares, Wanted, an, variable-of, Given, environment, Meaning, declared, given, nothing, findIn, findGiven, foundElse, meaning}
 use Rattle.names.specs.Uses.{Use, thingKind}
 use Rattle.names.specs.Modes.{typeIn, formalNumber}
-use Rattle.names.specs.Rows.{meantOf, rowIn}
+use Rattle.names.specs.model.Rows.{meantOf, rowIn}
 use Rattle.names.specs.declared.Row.{Row}
 use Rattle.names.specs.Nodes.{sortNumber}
 use Rattle.names.specs.declared.Meant.{Meant}
@@ -27,13 +27,13 @@ use Rattle.names.proofs.ModeLaws.{formal-type, type-alone}
 use Rattle.names.proofs.RowLaws.{row-at}
 use Rattle.names.proofs.Resolved.{Matches}
 use Rattle.names.proofs.Around.{kindAt, symbolAt, sortAt, RowIs, Formals, ToldThing, givenAt, Means}
-use Rattle.types.specs.Types.{alike, Judged, applied, plainly, thingIn, inExpression, wants, thingWants, wantedBy, thingOf, isVariable, ownSort, ownResult, thingLeft, asLeft, thingCalled, miscalled}
-use Rattle.types.specs.Passes.{apartOf, sortIn, formalsFrom, formalsIn, givenSort, givenFormals, judgement, appliedAs, plainlyAs, primaryOf, miscalledOf, givenWants, wantOf, variableOf, ownOf, leftOf}
+use Rattle.types.specs.Types.{alike, NameType, applied, plainly, thingIn, inExpression, wants, thingWants, wantedBy, thingOf, isVariable, ownSort, ownResult, thingLeft, asLeft, thingCalled, miscalled}
+use Rattle.types.specs.model.Passes.{apartOf, sortIn, formalsFrom, formalsIn, givenSort, givenFormals, judgement, appliedAs, plainlyAs, primaryOf, miscalledOf, givenWants, wantOf, variableOf, ownOf, leftOf}
 use Rattle.types.specs.declared.Judgement.{Judgement}
 use Rattle.types.specs.declared.Want.{Want}
 use Rattle.types.specs.declared.Want.the-variants.{An, Variable, Nothing as Anything}
 
-abbrev pub inNumbers : Judged → Judgement
+abbrev pub inNumbers : NameType → Judgement
 inNumbers j = record { sort = sortNumber (j .sort); wrong = j .wrong }
 
 -- ---- judgements
@@ -157,12 +157,12 @@ unfolding inBody
 scope-named (ofBlock d) = block-named d
 scope-named (ofBody p) = formals-named (has (valuesOf p)) (specified (specificationsOf p)) (formalsOf p)
 
-found-proper : (l : List Declared) (g : List Scope) (x : Name) (m : Meaning) → AllNamed l → Proper m → Proper (innermost (findIn l x) g m)
+found-proper : (l : List Declared) (g : List Scope) (x : Name) (m : Meaning) → AllNamed l → Proper m → Proper (foundElse (findIn l x) g m)
 unfolding findIn
 found-proper [] g x m a p = p
 found-proper (d ∷ l) g x m a p = go (same (d .name) x) (found-proper l g x m (a .1) p)
   where
-    go : (b : Bool) → Proper (innermost (findIn l x) g m) → Proper (innermost (cond b (some d) (findIn l x)) g m)
+    go : (b : Bool) → Proper (foundElse (findIn l x) g m) → Proper (foundElse (cond b (some d) (findIn l x)) g m)
     go true h = a .0
     go false h = h
 

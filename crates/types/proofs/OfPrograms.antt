@@ -7,13 +7,13 @@ use lib.ListN.{length}
 use Rattle.answers.specs.Numbers.{types}
 use Rattle.names.specs.Program.{Name, Statement}
 use Rattle.names.specs.Nodes.{nodesS}
-use Rattle.names.specs.Rows.{leastKey, usesOf}
+use Rattle.names.specs.model.Rows.{leastKey, usesOf}
 use Rattle.names.proofs.AllNames.{AllS}
 use Rattle.names.proofs.Around.{Agree}
 use Rattle.names.proofs.Resolved.{resolved-uses}
 use Rattle.names.specs.Outline.{rowsS}
 use Rattle.types.specs.Types.{typeFaults}
-use Rattle.types.specs.Passes.{typedOf}
+use Rattle.types.specs.model.Passes.{typedOf}
 use Rattle.types.proofs.TreeStatements.{typed}
 
 pub typed-program : (Q : Name → Type 0) (ids : List ℕ) (s : Statement) → Agree Q ids → AllS Q s → length (rowsS 0 0 s) ≤ 32768

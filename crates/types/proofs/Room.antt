@@ -7,10 +7,10 @@ use native.Mathlib.Omega.{arith}
 use lib.Dec.{eqb}
 use lib.ListN.{length}
 use Rattle.grammar.specs.NodeKinds.{n-variable, n-procedure, n-formal, n-procedure-end, n-then, n-while, n-start, n-amount, n-left, n-assign, n-condition-end, n-unary, n-binary, n-number, n-logical, n-use, n-call, n-call-end, n-actual}
-use Rattle.names.specs.Rows.{isUse}
+use Rattle.names.specs.model.Rows.{isUse}
 use Rattle.types.specs.declared.Judgement.{Judgement}
-use Rattle.types.specs.Passes.{State, Call, noted, withStack, withCalls, withBodies, withRows, withLeft, withBare, withUse, below, pushed, popped, takenAs, signedAs, operatedAs, chosenAs, assignedAs, nextUse, judged, calledAs, oneMore, plainTyped, namedAs, leftAs, useTyped, actualIn, callEnded, typeNode}
-use Rattle.types.specs.Model.{Within, CountsWithin}
+use Rattle.types.specs.model.Passes.{State, Call, noted, withStack, withCalls, withBodies, withRows, withLeft, withBare, withUse, below, pushed, popped, takenAs, signedAs, operatedAs, chosenAs, assignedAs, nextUse, judged, calledAs, oneMore, plainTyped, namedAs, leftAs, useTyped, actualIn, callEnded, typeNode}
+use Rattle.types.specs.model.Arrays.{Within, CountsWithin}
 
 module _ (i : ℕ) where
   pub counts-on : (l : List Call) → CountsWithin l i → CountsWithin l (i + 1)

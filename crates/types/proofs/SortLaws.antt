@@ -4,7 +4,7 @@ use mathlib.Core.Option.{Option, none, some}
 use Rattle.names.specs.Program.{Sort, integer, boolean, Sign, positive, negative, negation, Operator, times, over, plus, minus, less, atMost, equal, atLeast, greater, unequal, and, or, impl, equiv}
 use Rattle.names.specs.Nodes.{sortNumber, signKind, operatorKind}
 use Rattle.types.specs.Types.{unlike, apart, signTakes, takes, gives}
-use Rattle.types.specs.Passes.{apartOf, signSort, takesSort, givesSort}
+use Rattle.types.specs.model.Passes.{apartOf, signSort, takesSort, givesSort}
 
 pub apart-sorts : (a b : Option Sort) → apartOf (sortNumber a) (sortNumber b) ≡ apart a b
 unfolding apartOf

@@ -10,12 +10,12 @@ use lib.ListN.{length, getD, drop, set, length-set}
 use lib.Seq.{drop-cons, getD-set-same, getD-set-other}
 use lib.Dec.{eqb, ltb}
 use borrow.Author.Tests.{ltb-true}
-use Rattle.names.specs.Rows.{opensOf, meantOf, isUse}
+use Rattle.names.specs.model.Rows.{opensOf, meantOf, isUse}
 use Rattle.names.specs.declared.Meant.{Meant}
 use Rattle.names.specs.declared.Meant.the-variants.{Declared, Given, Nothing}
 use Rattle.types.specs.declared.Want.{Want}
-use Rattle.types.specs.Passes.{State, topOf, below, Call, oneMore, apartOf, noted, withStack, withCalls, withLeft, pushed, popped, takenAs, plainTyped, leftOf, leftAs, misfitOf, wantOf, miscalledOf, primaryOf, judged, actualIn, callEnded, withBare, withRows, typeNode}
-use Rattle.types.specs.Model.{callAt, callsOf, begun, CountsWithin, MeantWithin}
+use Rattle.types.specs.model.Passes.{State, topOf, below, Call, oneMore, apartOf, noted, withStack, withCalls, withLeft, pushed, popped, takenAs, plainTyped, leftOf, leftAs, misfitOf, wantOf, miscalledOf, primaryOf, judged, actualIn, callEnded, withBare, withRows, typeNode}
+use Rattle.types.specs.model.Arrays.{callAt, callsOf, begun, CountsWithin, MeantWithin}
 
 -- ---- words
 

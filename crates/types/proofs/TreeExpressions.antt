@@ -16,11 +16,11 @@ use Rattle.names.proofs.Around.{Means}
 use Rattle.names.proofs.Resolved.{Matches}
 use Rattle.names.specs.Uses.{Use, used, usesE, usesEs}
 use Rattle.names.specs.Nodes.{node, mark, truth, sortNumber, signKind, operatorKind, nodesE, nodesEs}
-use Rattle.names.specs.Rows.{foldNodes, isUse, meantOf, noFault}
+use Rattle.names.specs.model.Rows.{foldNodes, isUse, meantOf, noFault}
 use Rattle.names.specs.declared.Meant.{Meant}
 use Rattle.types.specs.declared.Want.{Want}
 use Rattle.types.specs.Types.{unlike, apart, when-so, inExpression, wantedBy, isName, signTakes, takes, gives, sortE, misfit, misfits, faultsE, faultsEs}
-use Rattle.types.specs.Passes.{State, wantOf, variableOf, noted, withStack, withCalls, withBare, withUse, topOf, below, pushed, popped, takenAs, signedAs, operatedAs, chosenAs, nextUse, judged, namedAs, calledAs, useTyped, misfitOf, actualIn, callEnded, plainTyped, typeNode}
+use Rattle.types.specs.model.Passes.{State, wantOf, variableOf, noted, withStack, withCalls, withBare, withUse, topOf, below, pushed, popped, takenAs, signedAs, operatedAs, chosenAs, nextUse, judged, namedAs, calledAs, useTyped, misfitOf, actualIn, callEnded, plainTyped, typeNode}
 use Rattle.types.proofs.LeastLaws.{keyOf, key-noted, key-none, key-either, order-two, order-operated, order-chosen, order-actuals}
 use Rattle.types.proofs.SortLaws.{apart-sorts, apart-turned, unlike-sorts, sign-sort, takes-sort, gives-sort}
 use Rattle.types.proofs.MeaningLaws.{wantAt, next, primary, want-is, variable-is}

@@ -15,13 +15,13 @@ use Rattle.names.specs.Program.{Name, Sort, integer, boolean, Expression, Expre
 use Rattle.names.specs.Scopes.{nameOf, sortOf, Scope, ofBlock, ofBody, Meaning, meaning}
 use Rattle.names.specs.Uses.{Use, used, usesE, usesEs, usesL, usesS, usesSs, usesD, usesP}
 use Rattle.names.specs.Nodes.{node, mark, sortNumber, nodesE, nodesEs, amountNodes, nodesL, nodesLs, nodesN, nodesSp, nodesLeft, nodesCall, nodesS, nodesSs, nodesD, nodesP}
-use Rattle.names.specs.Rows.{foldNodes, rowOf, rowIn, isUse, meantOf, noFault, leastKey}
+use Rattle.names.specs.model.Rows.{foldNodes, rowOf, rowIn, isUse, meantOf, noFault, leastKey}
 use Rattle.names.proofs.Around.{Means}
 use Rattle.names.proofs.ModeLaws.{type-alone}
 use Rattle.names.proofs.Resolved.{Matches}
 use Rattle.names.specs.Outline.{sizeS, sizeD, sizeP, formalIn, rowsN, rowsS, rowsSs, rowsD, rowsP}
 use Rattle.types.specs.Types.{unlike, apart, when-so, wantedBy, isVariable, sortE, misfits, faultsE, faultsEs, leftOf as leftIn, faultsLeft, miscalled, faultsFor, faultsL, faultsS, faultsSs, faultsD, faultsP, typeFaults}
-use Rattle.types.specs.Passes.{State, fresh, wantOf, noted, withStack, withCalls, withBodies, withRows, withLeft, withBare, withUse, topOf, below, popped, takenAs, assignedAs, nextUse, namedAs, leftAs, useTyped, callEnded, plainTyped, typeNode, typedOf, sortIn}
+use Rattle.types.specs.model.Passes.{State, fresh, wantOf, noted, withStack, withCalls, withBodies, withRows, withLeft, withBare, withUse, topOf, below, popped, takenAs, assignedAs, nextUse, namedAs, leftAs, useTyped, callEnded, plainTyped, typeNode, typedOf, sortIn}
 use Rattle.types.proofs.LeastLaws.{keyOf, key-small, key-noted, key-none, order-two, in-order, order-assigned}
 use Rattle.types.proofs.SortLaws.{apart-sorts, unlike-sorts}
 use Rattle.types.proofs.MeaningLaws.{wantAt, Bodies, proper, next, called-is, want-is, variable-is, left-is}

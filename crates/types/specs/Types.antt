@@ -37,32 +37,32 @@ when-so false q = []
 -- ---- names in expressions
 
 -- a type, and whether the name is at fault
-pub record Judged : Type 0 where
+pub record NameType : Type 0 where
   pub sort : Option Sort
   pub wrong : Bool
 
-abbrev pub judge : Option Sort → Bool → Judged
+abbrev pub judge : Option Sort → Bool → NameType
 judge t w = record { sort = t; wrong = w }
 
 -- a procedure's name in an expression: one without a type is "used as what it isn't (it then has no type ..)"; "or a wrong number of actuals", which
 -- leaves its type
-abbrev pub applied : Option Sort → ℕ → ℕ → Judged
+abbrev pub applied : Option Sort → ℕ → ℕ → NameType
 applied none wants has = judge none true
 applied (some t) wants has = judge (some t) (not (eqb wants has))
 
 -- a variable or formal with no actual has its type; with some it is "used as what it isn't"
-abbrev pub plainly : Option Sort → ℕ → Judged
+abbrev pub plainly : Option Sort → ℕ → NameType
 plainly t zero = judge t false
 plainly t (suc n) = judge none true
 
-abbrev pub thingIn : Thing → ℕ → Judged
+abbrev pub thingIn : Thing → ℕ → NameType
 thingIn (variable t) n = plainly (some t) n
 thingIn (formal t) n = plainly t n
 thingIn (by-name t) n = plainly t n
 thingIn (routine p) n = applied (sortOf p) (length (formalsOf p)) n
 
 -- a name with n actuals as a primary
-unfoldable pub inExpression : Meaning → ℕ → Judged
+unfoldable pub inExpression : Meaning → ℕ → NameType
 inExpression (declared d g) n = thingIn (d .thing) n
 inExpression (given k e) n = applied (e .sort) (length (e .actuals)) n
 inExpression nothing n = judge none false
@@ -190,22 +190,22 @@ ownSort [] p = none
 ownSort (ofBlock d ∷ g) p = ownSort g p
 ownSort (ofBody p' ∷ g) p = cond (eqb (nameOf p' .symbol) (nameOf p .symbol)) (sortOf p') (ownSort g p)
 
-abbrev pub ownResult : Option Sort → Judged
+abbrev pub ownResult : Option Sort → NameType
 ownResult none = judge none true
 ownResult (some t) = judge (some t) false
 
-abbrev pub thingLeft : List Scope → Thing → Judged
+abbrev pub thingLeft : List Scope → Thing → NameType
 thingLeft g (variable t) = judge (some t) false
 thingLeft g (formal t) = judge t false
 thingLeft g (by-name t) = judge t false
 thingLeft g (routine p) = ownResult (ownSort g p)
 
-unfoldable pub asLeft : List Scope → Meaning → Judged
+unfoldable pub asLeft : List Scope → Meaning → NameType
 asLeft g (declared d h) = thingLeft g (d .thing)
 asLeft g (given k e) = judge none true
 asLeft g nothing = judge none false
 
-abbrev pub leftOf : List Scope → Name → Judged
+abbrev pub leftOf : List Scope → Name → NameType
 leftOf g x = asLeft g (meaning g x)
 
 unfoldable pub faultsLeft : List Scope → Option Sort → List Name → List ℕ

@@ -4,7 +4,7 @@ use names::passes::front;
 ghost use mathlib.Core.Path.{_≡_};
 ghost use Prim.Native.Nat.{_*_};
 ghost use lib.ListN.{take};
-ghost use Rattle.types.specs.Passes.{typedOf};
+ghost use Rattle.types.specs.model.Passes.{typedOf};
 
 mod sorts; // types by number, and the operators
 mod meanings; // what a name that means something is used as

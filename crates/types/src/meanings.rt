@@ -11,9 +11,9 @@ ghost use mathlib.Core.Path.{_≡_};
 ghost use Prim.Native.Nat.{_≤_, _<_};
 ghost use lib.Dec.{eqb};
 ghost use lib.ListN.{length};
-ghost use Rattle.names.specs.Rows.{rowIn, opensOf};
-ghost use Rattle.types.specs.Passes.{sortIn, formalsIn, givenSort, givenFormals, appliedAs, plainlyAs, primaryOf, miscalledOf, givenWants, wantOf, variableOf, ownOf, leftOf};
-ghost use Rattle.types.specs.Model.{MeantWithin};
+ghost use Rattle.names.specs.model.Rows.{rowIn, opensOf};
+ghost use Rattle.types.specs.model.Passes.{sortIn, formalsIn, givenSort, givenFormals, appliedAs, plainlyAs, primaryOf, miscalledOf, givenWants, wantOf, variableOf, ownOf, leftOf};
+ghost use Rattle.types.specs.model.Arrays.{MeantWithin};
 
 // The type of a declaration or formal.
 fn sort_of(rows: &[u16], d: Declaration) -> u16

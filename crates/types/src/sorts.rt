@@ -1,7 +1,7 @@
 // Types by number: 0 none, 1 integer, 2 Boolean. An operator is the number of its symbol's kind: 17 'and' to 21 'equiv', 22 `+` to
 // 25 `%`, 26 `<` to 31 `#`; 'not' is 19.
 ghost use mathlib.Core.Path.{_≡_};
-ghost use Rattle.types.specs.Passes.{apartOf, signSort, takesSort, givesSort};
+ghost use Rattle.types.specs.model.Passes.{apartOf, signSort, takesSort, givesSort};
 
 pub const NONE: u16 = 0;
 

@@ -14,9 +14,9 @@ ghost use mathlib.Core.List.{List, _∷_};
 ghost use Prim.Native.Nat.{ℕ, _+_, _*_, _≤_, _<_};
 ghost use lib.Dec.{eqb};
 ghost use lib.ListN.{length, drop};
-ghost use Rattle.names.specs.Rows.{opensOf, meantOf, isUse};
-ghost use Rattle.types.specs.Passes.{noted, withRows, withBodies, topOf, below, pushed, popped, takenAs, signedAs, operatedAs, chosenAs, assignedAs, nextUse, namedAs, calledAs, leftAs, useTyped, misfitOf, oneMore, actualIn, callEnded, plainTyped, typeNode, typedOf};
-ghost use Rattle.types.specs.Model.{see, callAt, callsOf, begun, Within, CountsWithin};
+ghost use Rattle.names.specs.model.Rows.{opensOf, meantOf, isUse};
+ghost use Rattle.types.specs.model.Passes.{noted, withRows, withBodies, topOf, below, pushed, popped, takenAs, signedAs, operatedAs, chosenAs, assignedAs, nextUse, namedAs, calledAs, leftAs, useTyped, misfitOf, oneMore, actualIn, callEnded, plainTyped, typeNode, typedOf};
+ghost use Rattle.types.specs.model.Arrays.{see, callAt, callsOf, begun, Within, CountsWithin};
 
 // A type fault at a symbol, where a test says so.
 fn note(mut t: Seen, wrong: bool, symbol: Ordinal) -> Seen

@@ -1,8 +1,8 @@
 -- `syntax::front` meets its contract. Assumes nothing.
 use mathlib.Core.Path.{sym}
 use native.Mathlib.Omega.{arith}
-use Rattle.grammar.specs.Run.{now}
-use Rattle.syntax.specs.Says.{left}
+use Rattle.grammar.specs.model.Run.{now}
+use Rattle.syntax.specs.model.Says.{left}
 use lib.Seq.{length-take-le}
 use Rattle.syntax.proofs.Whole.{cut}
 use borrow.Author.Needs.{needs}

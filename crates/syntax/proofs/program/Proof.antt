@@ -2,8 +2,8 @@
 use mathlib.Core.Path.{sym, _∙_}
 use mathlib.Core.List.{[], _∷_}
 use native.Mathlib.Omega.{arith}
-use Rattle.grammar.specs.Run.{now}
-use Rattle.syntax.specs.Says.{left}
+use Rattle.grammar.specs.model.Run.{now}
+use Rattle.syntax.specs.model.Says.{left}
 use Rattle.grammar.proofs.Peeks.{inside, text-length}
 use Rattle.syntax.proofs.Whole.{all-read, more-left, refused}
 use borrow.Author.Needs.{needs}

@@ -13,7 +13,7 @@ use mir.Val.{toZ, ofZ, hbits}
 use mir.Facts.{toZ-ofZ}
 use borrow.Author.Tests.{not-true, not-false}
 use Rattle.checking.specs.Checking.{isWord}
-use Rattle.checking.specs.Model.{agreed}
+use Rattle.checking.specs.model.Comparing.{agreed}
 use Rattle.checking.proofs.RowLaws.{agreed-short, agreed-over, agreed-stop, agreed-on}
 use borrow.Author.Needs.{needs}
 use Rattle.checking.proofs.checking.agreeing.Statement.{statement}

@@ -4,7 +4,7 @@ use mathlib.Core.Path.{ap, _∙_}
 use native.Mathlib.Omega.{arith}
 use lib.ListN.{length-replicate}
 use Rattle.checking.specs.Checking.{three, firstWrong, answerOf, refused}
-use Rattle.checking.specs.Model.{section}
+use Rattle.checking.specs.model.Comparing.{section}
 use Rattle.checking.proofs.FromTables.{read-refuses, table-long, answers}
 use borrow.Author.Needs.{needs}
 use Rattle.checking.proofs.checking.check_rows.Statement.{statement}

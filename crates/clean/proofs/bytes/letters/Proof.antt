@@ -4,7 +4,7 @@ use mathlib.Core.Path.{sym, _∙_}
 use native.Mathlib.Omega.{arith}
 use lib.ListN.{length, drop, length-drop}
 use Rattle.symbols.specs.Names.{these}
-use Rattle.clean.specs.Model.{sortOf}
+use Rattle.clean.specs.model.Bytes.{sortOf}
 use Rattle.clean.proofs.Putting.{Putting, none-put, more-put, all-put, left-over, letters-next, letters-stop, letters-end, run-short, not-true, not-false}
 use borrow.Author.Needs.{needs}
 use Rattle.clean.proofs.bytes.letters.Statement.{statement}

@@ -1,6 +1,6 @@
 -- `clean::lines::closed` meets its contract: one thing less is open. Assumes nothing.
 use mathlib.Core.Path.{ap}
-use Rattle.clean.specs.Pen.{levelOf, openOf}
+use Rattle.clean.specs.model.Pen.{levelOf, openOf}
 use borrow.Author.Needs.{needs}
 use Rattle.clean.proofs.lines.closed.Statement.{statement}
 use Rattle.clean.proofs.lines.closed.Tie as tie

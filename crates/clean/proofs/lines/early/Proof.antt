@@ -2,7 +2,7 @@
 use Prim.Native.Nat.{_-_}
 use mathlib.Core.Path.{ap, _∙_}
 use borrow.Author.Tests.{ne-eqb, eq-eqb}
-use Rattle.clean.specs.Pen.{lineOf}
+use Rattle.clean.specs.model.Pen.{lineOf}
 use borrow.Author.Needs.{needs}
 use Rattle.clean.proofs.lines.early.Statement.{statement}
 use Rattle.clean.proofs.lines.early.Tie as tie

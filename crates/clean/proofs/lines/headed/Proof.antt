@@ -1,6 +1,6 @@
 -- `clean::lines::headed` meets its contract: each test has told the kind, or that it is not it. Assumes nothing.
 use borrow.Author.Tests.{ne-eqb}
-use Rattle.clean.specs.Lines.{headed}
+use Rattle.clean.specs.model.Lines.{headed}
 use Rattle.clean.proofs.lines.headed.Statement.{statement}
 use Rattle.clean.proofs.lines.headed.Tie as tie
 

@@ -2,7 +2,7 @@
 use mathlib.Core.Path.{sym}
 use native.Mathlib.Omega.{arith}
 use mathlib.Core.Path.{subst}
-use Rattle.clean.specs.Pen.{Low, stackOf}
+use Rattle.clean.specs.model.Pen.{Low, stackOf}
 use Rattle.clean.proofs.Turns.{small-passed, around-passed, late-begin, late-end, late-semicolon, late-if, late-then, late-else, late-do, late-procedure, late-other}
 use borrow.Author.Needs.{needs}
 use Rattle.clean.proofs.lines.late.Statement.{statement}

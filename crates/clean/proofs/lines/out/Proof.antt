@@ -1,7 +1,7 @@
 -- `clean::lines::out` meets its contract: a body is on top where the number there is 0. Assumes nothing.
 use mathlib.Core.Path.{sym, ap, _∙_}
 use borrow.Author.Tests.{ne-eqb}
-use Rattle.clean.specs.Pen.{openOf, topOf, stackOf}
+use Rattle.clean.specs.model.Pen.{openOf, topOf, stackOf}
 use borrow.Author.Needs.{needs}
 use Rattle.clean.proofs.lines.out.Statement.{statement}
 use Rattle.clean.proofs.lines.out.Tie as tie

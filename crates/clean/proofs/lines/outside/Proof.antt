@@ -2,8 +2,8 @@
 use Prim.Native.Nat.{_-_}
 use mathlib.Core.Path.{ap, _∙_}
 use native.Mathlib.Omega.{arith}
-use Rattle.clean.specs.Lines.{base}
-use Rattle.clean.specs.Pen.{inwardOf, levelOf, topOf, stackOf}
+use Rattle.clean.specs.model.Lines.{base}
+use Rattle.clean.specs.model.Pen.{inwardOf, levelOf, topOf, stackOf}
 use Rattle.clean.proofs.Stacks.{low-top, low-base}
 use Rattle.clean.proofs.Turns.{out-around, out-lines, out-stack}
 use borrow.Author.Needs.{needs}

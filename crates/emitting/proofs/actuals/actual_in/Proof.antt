@@ -4,7 +4,7 @@ use mathlib.Core.Path.{ap, _∙_}
 use Prim.Native.Nat.{_+_}
 use native.Mathlib.Omega.{arith}
 use borrow.Author.Tests.{eq-eqb, ne-eqb}
-use Rattle.emitting.specs.Emission.{replaced, begun, actualIn}
+use Rattle.emitting.specs.model.Emission.{replaced, begun, actualIn}
 use borrow.Author.Needs.{needs}
 use Rattle.emitting.proofs.actuals.actual_in.Statement.{statement}
 use Rattle.emitting.proofs.actuals.actual_in.Tie as tie

@@ -2,7 +2,7 @@
 -- Assumes nothing.
 use mathlib.Core.Path.{sym, _∙_}
 use borrow.Author.Tests.{eq-eqb, ne-eqb}
-use Rattle.emitting.specs.Emission.{begun}
+use Rattle.emitting.specs.model.Emission.{begun}
 use borrow.Author.Needs.{needs}
 use Rattle.emitting.proofs.actuals.begun.Statement.{statement}
 use Rattle.emitting.proofs.actuals.begun.Tie as tie

@@ -3,7 +3,7 @@
 use mathlib.Core.Path.{ap}
 use mathlib.Core.Bool.{cond, _&&_}
 use lib.Dec.{eqb}
-use Rattle.emitting.specs.Emission.{State, withVariable, withOpen, replaced}
+use Rattle.emitting.specs.model.Emission.{State, withVariable, withOpen, replaced}
 use borrow.Author.Needs.{needs}
 use Rattle.emitting.proofs.actuals.given_in.Statement.{statement}
 use Rattle.emitting.proofs.actuals.given_in.Tie as tie

@@ -3,7 +3,7 @@
 use mathlib.Core.Path.{ap, _∙_}
 use Prim.Native.Nat.{_+_}
 use native.Mathlib.Omega.{arith}
-use Rattle.emitting.specs.Emission.{State, replaced, withOpen, withSlot, within, nameBegun}
+use Rattle.emitting.specs.model.Emission.{State, replaced, withOpen, withSlot, within, nameBegun}
 use Rattle.emitting.proofs.Alikes.{alike-then}
 use borrow.Author.Needs.{needs}
 use Rattle.emitting.proofs.actuals.name_begun.Statement.{statement}

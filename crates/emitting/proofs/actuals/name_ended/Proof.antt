@@ -4,8 +4,8 @@ use mathlib.Core.Path.{ap}
 use Prim.Native.Nat.{_+_, _-_}
 use native.Mathlib.Omega.{arith}
 use lib.ListN.{set}
-use Rattle.emitting.specs.Layout.{packed}
-use Rattle.emitting.specs.Emission.{State, put, noted, within, nameEnded}
+use Rattle.emitting.specs.model.Layout.{packed}
+use Rattle.emitting.specs.model.Emission.{State, put, noted, within, nameEnded}
 use borrow.Author.Needs.{needs}
 use Rattle.emitting.proofs.actuals.name_ended.Statement.{statement}
 use Rattle.emitting.proofs.actuals.name_ended.Tie as tie

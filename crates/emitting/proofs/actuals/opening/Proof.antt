@@ -1,7 +1,7 @@
 -- `emitting::actuals::opening` meets its contract: one instruction after the other, with what the three slots say.
 -- Assumes nothing.
 use mathlib.Core.Path.{ap, _∙_}
-use Rattle.emitting.specs.Emission.{put, aheadAt, lending}
+use Rattle.emitting.specs.model.Emission.{put, aheadAt, lending}
 use Rattle.emitting.proofs.Alikes.{alike-then}
 use borrow.Author.Needs.{needs}
 use Rattle.emitting.proofs.actuals.opening.Statement.{statement}

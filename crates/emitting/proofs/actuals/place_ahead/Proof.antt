@@ -1,7 +1,7 @@
 -- `emitting::actuals::place_ahead` meets its contract: the word in the slot, cut to 16 bits.
 -- Assumes nothing.
 use native.Mathlib.Omega.{arith}
-use Rattle.emitting.specs.Emission.{aheadAt}
+use Rattle.emitting.specs.model.Emission.{aheadAt}
 use borrow.Author.Needs.{needs}
 use Rattle.emitting.proofs.actuals.place_ahead.Statement.{statement}
 use Rattle.emitting.proofs.actuals.place_ahead.Tie as tie

@@ -2,7 +2,7 @@
 -- Assumes nothing.
 use mathlib.Core.Path.{ap}
 use borrow.Author.Tests.{eq-eqb, ne-eqb}
-use Rattle.emitting.specs.Emission.{callEnded, nameless, withVariable}
+use Rattle.emitting.specs.model.Emission.{callEnded, nameless, withVariable}
 use borrow.Author.Needs.{needs}
 use Rattle.emitting.proofs.calls.call_ended.Statement.{statement}
 use Rattle.emitting.proofs.calls.call_ended.Tie as tie

@@ -1,6 +1,6 @@
 -- `emitting::calls::called_with` meets its contract: the three parts of the operand are the model's.
 -- Assumes nothing.
-use Rattle.emitting.specs.Emission.{calledWith}
+use Rattle.emitting.specs.model.Emission.{calledWith}
 use borrow.Author.Needs.{needs}
 use Rattle.emitting.proofs.calls.called_with.Statement.{statement}
 use Rattle.emitting.proofs.calls.called_with.Tie as tie

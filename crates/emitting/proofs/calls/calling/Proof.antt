@@ -3,7 +3,7 @@
 use mathlib.Core.Path.{ap, _∙_}
 use Prim.Native.Nat.{_+_}
 use borrow.Author.Tests.{eq-eqb, ne-eqb}
-use Rattle.emitting.specs.Emission.{pushed, begun, calling}
+use Rattle.emitting.specs.model.Emission.{pushed, begun, calling}
 use borrow.Author.Needs.{needs}
 use Rattle.emitting.proofs.calls.calling.Statement.{statement}
 use Rattle.emitting.proofs.calls.calling.Tie as tie

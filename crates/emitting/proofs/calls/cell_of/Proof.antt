@@ -1,7 +1,7 @@
 -- `emitting::calls::cell_of` meets its contract: by the test, from the parts of the word.
 -- Assumes nothing.
 use borrow.Author.Tests.{eq-eqb, ne-eqb}
-use Rattle.emitting.specs.Emission.{cellOf}
+use Rattle.emitting.specs.model.Emission.{cellOf}
 use borrow.Author.Needs.{needs}
 use Rattle.emitting.proofs.calls.cell_of.Statement.{statement}
 use Rattle.emitting.proofs.calls.cell_of.Tie as tie

@@ -1,7 +1,7 @@
 -- `emitting::calls::dropped` meets its contract: by the test.
 -- Assumes nothing.
 use borrow.Author.Tests.{eq-eqb, ne-eqb}
-use Rattle.emitting.specs.Emission.{dropped}
+use Rattle.emitting.specs.model.Emission.{dropped}
 use borrow.Author.Needs.{needs}
 use Rattle.emitting.proofs.calls.dropped.Statement.{statement}
 use Rattle.emitting.proofs.calls.dropped.Tie as tie

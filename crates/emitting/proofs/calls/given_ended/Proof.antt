@@ -2,7 +2,7 @@
 -- Assumes nothing.
 use mathlib.Core.Path.{ap, _∙_}
 use borrow.Author.Tests.{eq-eqb, ne-eqb}
-use Rattle.emitting.specs.Emission.{dropped}
+use Rattle.emitting.specs.model.Emission.{dropped}
 use borrow.Author.Needs.{needs}
 use Rattle.emitting.proofs.calls.given_ended.Statement.{statement}
 use Rattle.emitting.proofs.calls.given_ended.Tie as tie

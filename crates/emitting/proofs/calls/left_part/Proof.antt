@@ -2,7 +2,7 @@
 -- Assumes nothing.
 use mathlib.Core.Path.{ap}
 use Prim.Native.Nat.{_+_}
-use Rattle.emitting.specs.Emission.{State, withLefts, pushed, withOpen}
+use Rattle.emitting.specs.model.Emission.{State, withLefts, pushed, withOpen}
 use borrow.Author.Needs.{needs}
 use Rattle.emitting.proofs.calls.left_part.Statement.{statement}
 use Rattle.emitting.proofs.calls.left_part.Tie as tie

@@ -2,7 +2,7 @@
 -- Assumes nothing.
 use mathlib.Core.Path.{ap, _∙_}
 use borrow.Author.Tests.{eq-eqb, ne-eqb}
-use Rattle.emitting.specs.Emission.{named, dropped, calledWith}
+use Rattle.emitting.specs.model.Emission.{named, dropped, calledWith}
 use borrow.Author.Needs.{needs}
 use Rattle.emitting.proofs.calls.named.Statement.{statement}
 use Rattle.emitting.proofs.calls.named.Tie as tie

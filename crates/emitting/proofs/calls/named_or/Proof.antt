@@ -3,8 +3,8 @@
 use mathlib.Core.Path.{ap, _∙_}
 use Prim.Native.Nat.{ℕ}
 use borrow.Author.Tests.{eq-eqb, ne-eqb}
-use Rattle.emitting.specs.Emission.{named, namedOr, withVariable}
-use Rattle.emitting.specs.Model.{see}
+use Rattle.emitting.specs.model.Emission.{named, namedOr, withVariable}
+use Rattle.emitting.specs.model.Arrays.{see}
 use borrow.Author.Needs.{needs}
 use Rattle.emitting.proofs.calls.named_or.Statement.{statement}
 use Rattle.emitting.proofs.calls.named_or.Tie as tie

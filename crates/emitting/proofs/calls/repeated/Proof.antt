@@ -1,7 +1,7 @@
 -- `emitting::calls::repeated` meets its contract: it is open, and one address more lies ahead.
 -- Assumes nothing.
 use mathlib.Core.Path.{ap, _∙_}
-use Rattle.emitting.specs.Emission.{repeated, withSlot}
+use Rattle.emitting.specs.model.Emission.{repeated, withSlot}
 use borrow.Author.Needs.{needs}
 use Rattle.emitting.proofs.calls.repeated.Statement.{statement}
 use Rattle.emitting.proofs.calls.repeated.Tie as tie

@@ -2,7 +2,7 @@
 -- Assumes nothing.
 use mathlib.Core.Path.{refl, sym, _∙_}
 use borrow.Author.Tests.{eq-eqb, ne-eqb}
-use Rattle.emitting.specs.Emission.{resultFor}
+use Rattle.emitting.specs.model.Emission.{resultFor}
 use Rattle.emitting.proofs.Alikes.{alike-same}
 use native.Mathlib.Omega.{arith}
 use borrow.Author.Needs.{needs}

@@ -1,7 +1,7 @@
 -- `emitting::calls::result_of` meets its contract: by the test.
 -- Assumes nothing.
 use borrow.Author.Tests.{eq-eqb, ne-eqb}
-use Rattle.emitting.specs.Emission.{resultOf}
+use Rattle.emitting.specs.model.Emission.{resultOf}
 use native.Mathlib.Omega.{arith}
 use borrow.Author.Needs.{needs}
 use Rattle.emitting.proofs.calls.result_of.Statement.{statement}

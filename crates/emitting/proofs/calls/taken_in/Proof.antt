@@ -2,7 +2,7 @@
 -- Assumes nothing.
 use mathlib.Core.Path.{sym, ap, _∙_}
 use borrow.Author.Tests.{eq-eqb, ne-eqb}
-use Rattle.emitting.specs.Emission.{onCell, takenIn}
+use Rattle.emitting.specs.model.Emission.{onCell, takenIn}
 use borrow.Author.Needs.{needs}
 use Rattle.emitting.proofs.calls.taken_in.Statement.{statement}
 use Rattle.emitting.proofs.calls.taken_in.Tie as tie

@@ -3,7 +3,7 @@
 use mathlib.Core.Path.{ap, _∙_}
 use borrow.Author.Tests.{ne-eqb}
 use Prim.Native.Nat.{_+_}
-use Rattle.emitting.specs.Emission.{State, usesIn, useNode, namedOr, calling, cellOf, pushed, withLefts, repeated}
+use Rattle.emitting.specs.model.Emission.{State, usesIn, useNode, namedOr, calling, cellOf, pushed, withLefts, repeated}
 use borrow.Author.Needs.{needs}
 use Rattle.emitting.proofs.calls.use_node.Statement.{statement}
 use Rattle.emitting.proofs.calls.use_node.Tie as tie

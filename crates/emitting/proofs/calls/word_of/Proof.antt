@@ -3,7 +3,7 @@
 use mathlib.Core.Path.{sym, ap, _∙_}
 use native.Mathlib.Omega.{arith}
 use borrow.Author.Tests.{eq-eqb, ne-eqb}
-use Rattle.emitting.specs.Emission.{Opened, wordOf}
+use Rattle.emitting.specs.model.Emission.{Opened, wordOf}
 use borrow.Author.Needs.{needs}
 use Rattle.emitting.proofs.calls.word_of.Statement.{statement}
 use Rattle.emitting.proofs.calls.word_of.Tie as tie

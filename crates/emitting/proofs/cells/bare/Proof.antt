@@ -1,6 +1,6 @@
 -- `emitting::cells::bare` meets its contract: the two parts are packed again.
 -- Assumes nothing.
-use Rattle.emitting.specs.Emission.{bare}
+use Rattle.emitting.specs.model.Emission.{bare}
 use borrow.Author.Needs.{needs}
 use Rattle.emitting.proofs.cells.bare.Statement.{statement}
 use Rattle.emitting.proofs.cells.bare.Tie as tie

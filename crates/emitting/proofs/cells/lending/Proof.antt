@@ -2,7 +2,7 @@
 -- Assumes nothing.
 use mathlib.Core.Path.{sym, _∙_}
 use borrow.Author.Tests.{eq-eqb, ne-eqb}
-use Rattle.emitting.specs.Emission.{lending}
+use Rattle.emitting.specs.model.Emission.{lending}
 use borrow.Author.Needs.{needs}
 use Rattle.emitting.proofs.cells.lending.Statement.{statement}
 use Rattle.emitting.proofs.cells.lending.Tie as tie

@@ -3,8 +3,8 @@
 use mathlib.Core.Path.{sym, ap, _∙_}
 use mathlib.Core.List.{List, []}
 use Prim.Native.Nat.{_-_}
-use Rattle.emitting.specs.Emission.{State, Opened, assigned, stored, leftsOf, withLefts, withOpen}
-use Rattle.emitting.specs.Model.{thingsOf, see}
+use Rattle.emitting.specs.model.Emission.{State, Opened, assigned, stored, leftsOf, withLefts, withOpen}
+use Rattle.emitting.specs.model.Arrays.{thingsOf, see}
 use Rattle.emitting.proofs.LeftParts.{behind-things}
 use borrow.Author.Needs.{needs}
 use Rattle.emitting.proofs.emission.assigned.Statement.{statement}

@@ -1,7 +1,7 @@
 -- `emitting::emission::is_use` meets its contract: each kind puts the tests right.
 -- Assumes nothing.
 use borrow.Author.Tests.{ne-eqb}
-use Rattle.names.specs.Rows.{isUse}
+use Rattle.names.specs.model.Rows.{isUse}
 use Rattle.emitting.proofs.emission.is_use.Statement.{statement}
 use Rattle.emitting.proofs.emission.is_use.Tie as tie
 

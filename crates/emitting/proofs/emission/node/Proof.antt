@@ -3,9 +3,9 @@
 use mathlib.Core.Path.{sym, ap, subst, _∙_}
 use native.Mathlib.Omega.{arith}
 use borrow.Author.Tests.{ne-eqb}
-use Rattle.names.specs.Rows.{isUse}
-use Rattle.emitting.specs.Emission.{State, usesIn, Opened, codeNode, actualIn, callEnded, popped}
-use Rattle.emitting.specs.Model.{thingsOf, seen, see, Slim, restNode}
+use Rattle.names.specs.model.Rows.{isUse}
+use Rattle.emitting.specs.model.Emission.{State, usesIn, Opened, codeNode, actualIn, callEnded, popped}
+use Rattle.emitting.specs.model.Arrays.{thingsOf, seen, see, Slim, restNode}
 use Rattle.emitting.proofs.Counters.{fit, slim-top}
 use borrow.Author.Needs.{needs}
 use Rattle.emitting.proofs.emission.node.Statement.{statement}

@@ -2,7 +2,7 @@
 -- Assumes nothing.
 use borrow.Author.Tests.{lt-ltb, le-ltb}
 use native.Mathlib.Omega.{arith}
-use Rattle.emitting.specs.Emission.{operationOf}
+use Rattle.emitting.specs.model.Emission.{operationOf}
 use borrow.Author.Needs.{needs}
 use Rattle.emitting.proofs.emission.operation_of.Statement.{statement}
 use Rattle.emitting.proofs.emission.operation_of.Tie as tie

@@ -4,8 +4,8 @@ use mathlib.Core.Path.{_≡_, ap, _∙_}
 use mathlib.Core.List.{List}
 use Prim.Native.Nat.{ℕ}
 use lib.ListN.{length, replicate}
-use Rattle.emitting.specs.Emission.{Used, State, usesIn, placeAt, emitted, fresh}
-use Rattle.emitting.specs.Model.{freshIn, emittedFrom}
+use Rattle.emitting.specs.model.Emission.{Used, State, usesIn, placeAt, emitted, fresh}
+use Rattle.emitting.specs.model.Arrays.{freshIn, emittedFrom}
 use borrow.Author.Needs.{needs}
 use Rattle.emitting.proofs.emission.pass.Statement.{statement}
 use Rattle.emitting.proofs.emission.pass.Tie as tie

@@ -2,7 +2,7 @@
 -- Assumes nothing.
 use mathlib.Core.Path.{ap}
 use borrow.Author.Tests.{ne-eqb}
-use Rattle.emitting.specs.Emission.{plainNode, within, withCell, withVariable, nameless}
+use Rattle.emitting.specs.model.Emission.{plainNode, within, withCell, withVariable, nameless}
 use borrow.Author.Needs.{needs}
 use Rattle.emitting.proofs.emission.plain_node.Statement.{statement}
 use Rattle.emitting.proofs.emission.plain_node.Tie as tie

@@ -2,8 +2,8 @@
 -- Assumes nothing.
 use mathlib.Core.Path.{sym, ap, subst, _∙_}
 use native.Mathlib.Omega.{arith}
-use Rattle.emitting.specs.Emission.{Opened, elementNode, loopNode, choiceNode, blockNode, procedureNode}
-use Rattle.emitting.specs.Model.{thingsOf, see, Slim}
+use Rattle.emitting.specs.model.Emission.{Opened, elementNode, loopNode, choiceNode, blockNode, procedureNode}
+use Rattle.emitting.specs.model.Arrays.{thingsOf, see, Slim}
 use Rattle.emitting.proofs.Counters.{fit, slim-top}
 use Rattle.emitting.proofs.Dispatch.{rest-element, rest-loop, rest-choice, rest-block, rest-procedure, rest-plain}
 use borrow.Author.Needs.{needs}

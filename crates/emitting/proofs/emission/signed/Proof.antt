@@ -1,7 +1,7 @@
 -- `emitting::emission::signed` meets its contract: by the two tests.
 -- Assumes nothing.
 use borrow.Author.Tests.{eq-eqb, ne-eqb}
-use Rattle.emitting.specs.Emission.{signed}
+use Rattle.emitting.specs.model.Emission.{signed}
 use borrow.Author.Needs.{needs}
 use Rattle.emitting.proofs.emission.signed.Statement.{statement}
 use Rattle.emitting.proofs.emission.signed.Tie as tie

@@ -7,8 +7,8 @@ use mathlib.Core.List.{List, []}
 use Prim.Native.Nat.{ℕ, _+_, _*_, _-_, _≤_}
 use lib.Dec.{eqb}
 use lib.ListN.{length}
-use Rattle.emitting.specs.Emission.{Used, Opened, top, onCell, stored, leftsOf}
-use Rattle.emitting.specs.Model.{thingsOf, seen, see}
+use Rattle.emitting.specs.model.Emission.{Used, Opened, top, onCell, stored, leftsOf}
+use Rattle.emitting.specs.model.Arrays.{thingsOf, seen, see}
 use Rattle.emitting.proofs.LeftParts.{stored-step}
 use Rattle.emitting.proofs.Counters.{left-third}
 use borrow.Author.Needs.{needs}

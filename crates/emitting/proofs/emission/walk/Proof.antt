@@ -5,10 +5,10 @@ use native.Mathlib.Omega.{arith}
 use Prim.Native.Nat.{ℕ, _+_, _*_, _-_, _≤_, _<_}
 use lib.ListN.{length, getD, drop}
 use borrow.Author.Needs.{needs}
-use Rattle.names.specs.Rows.{foldNodes}
+use Rattle.names.specs.model.Rows.{foldNodes}
 use Rattle.names.proofs.RowLaws.{fold-on, fold-end}
-use Rattle.emitting.specs.Emission.{State, usesIn, placeAt, put, placedNode}
-use Rattle.emitting.specs.Model.{thingsOf, see, AllSlim, Small, freshIn}
+use Rattle.emitting.specs.model.Emission.{State, usesIn, placeAt, put, placedNode}
+use Rattle.emitting.specs.model.Arrays.{thingsOf, see, AllSlim, Small, freshIn}
 use Rattle.emitting.proofs.NextUses.{next-small}
 use Rattle.emitting.proofs.Counters.{small-node, small-up, small-alone}
 use Rattle.emitting.proofs.emission.walk.Statement.{statement}

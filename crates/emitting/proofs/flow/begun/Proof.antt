@@ -1,8 +1,8 @@
 -- `emitting::flow::begun` meets its contract: the block's cells and its first statement are noted, and its variables are kept.
 -- Assumes nothing.
 use lib.ListN.{set}
-use Rattle.emitting.specs.Layout.{packed}
-use Rattle.emitting.specs.Emission.{noted, replaced, withOpen}
+use Rattle.emitting.specs.model.Layout.{packed}
+use Rattle.emitting.specs.model.Emission.{noted, replaced, withOpen}
 use borrow.Author.Needs.{needs}
 use Rattle.emitting.proofs.flow.begun.Statement.{statement}
 use Rattle.emitting.proofs.flow.begun.Tie as tie

@@ -1,7 +1,7 @@
 -- `emitting::flow::block_node` meets its contract: each kind puts the tests of `blockNode` right.
 -- Assumes nothing.
 use borrow.Author.Tests.{ne-eqb}
-use Rattle.emitting.specs.Emission.{blockNode}
+use Rattle.emitting.specs.model.Emission.{blockNode}
 use borrow.Author.Needs.{needs}
 use Rattle.emitting.proofs.flow.block_node.Statement.{statement}
 use Rattle.emitting.proofs.flow.block_node.Tie as tie

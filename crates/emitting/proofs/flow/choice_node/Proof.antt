@@ -1,7 +1,7 @@
 -- `emitting::flow::choice_node` meets its contract: each kind puts the tests of `choiceNode` right.
 -- Assumes nothing.
 use borrow.Author.Tests.{ne-eqb}
-use Rattle.emitting.specs.Emission.{choiceNode}
+use Rattle.emitting.specs.model.Emission.{choiceNode}
 use borrow.Author.Needs.{needs}
 use Rattle.emitting.proofs.flow.choice_node.Statement.{statement}
 use Rattle.emitting.proofs.flow.choice_node.Tie as tie

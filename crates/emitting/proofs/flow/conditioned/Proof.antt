@@ -1,7 +1,7 @@
 -- `emitting::flow::conditioned` meets its contract: the instruction, then it is open, and one address more lies ahead.
 -- Assumes nothing.
 use mathlib.Core.Path.{ap, _∙_}
-use Rattle.emitting.specs.Emission.{pushed, withSlot, aheadAt}
+use Rattle.emitting.specs.model.Emission.{pushed, withSlot, aheadAt}
 use borrow.Author.Needs.{needs}
 use Rattle.emitting.proofs.flow.conditioned.Statement.{statement}
 use Rattle.emitting.proofs.flow.conditioned.Tie as tie

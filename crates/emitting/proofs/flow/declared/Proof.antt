@@ -3,7 +3,7 @@
 use mathlib.Core.Path.{ap}
 use Prim.Native.Nat.{_+_}
 use lib.ListN.{set}
-use Rattle.emitting.specs.Emission.{State, pushed, within, withCell, withEntry, withOpen}
+use Rattle.emitting.specs.model.Emission.{State, pushed, within, withCell, withEntry, withOpen}
 use borrow.Author.Needs.{needs}
 use Rattle.emitting.proofs.flow.declared.Statement.{statement}
 use Rattle.emitting.proofs.flow.declared.Tie as tie

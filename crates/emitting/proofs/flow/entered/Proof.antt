@@ -1,7 +1,7 @@
 -- `emitting::flow::entered` meets its contract: the instruction, then the block is open with no variable so far.
 -- Assumes nothing.
 use mathlib.Core.Path.{ap, _∙_}
-use Rattle.emitting.specs.Emission.{State, put, pushed, within, withOpen, withSlot, aheadAt}
+use Rattle.emitting.specs.model.Emission.{State, put, pushed, within, withOpen, withSlot, aheadAt}
 use borrow.Author.Needs.{needs}
 use Rattle.emitting.proofs.flow.entered.Statement.{statement}
 use Rattle.emitting.proofs.flow.entered.Tie as tie

@@ -2,8 +2,8 @@
 -- Assumes nothing.
 use mathlib.Core.Path.{ap}
 use lib.ListN.{set}
-use Rattle.emitting.specs.Layout.{packed}
-use Rattle.emitting.specs.Emission.{noted, popped, withOpen, withVariable, nameless}
+use Rattle.emitting.specs.model.Layout.{packed}
+use Rattle.emitting.specs.model.Emission.{noted, popped, withOpen, withVariable, nameless}
 use borrow.Author.Needs.{needs}
 use Rattle.emitting.proofs.flow.joined.Statement.{statement}
 use Rattle.emitting.proofs.flow.joined.Tie as tie

@@ -1,7 +1,7 @@
 -- `emitting::flow::left` meets its contract: the instruction, then the block is closed, and the one around goes on.
 -- Assumes nothing.
 use mathlib.Core.Path.{ap, _∙_}
-use Rattle.emitting.specs.Emission.{State, put, popped, within, withOpen}
+use Rattle.emitting.specs.model.Emission.{State, put, popped, within, withOpen}
 use borrow.Author.Needs.{needs}
 use Rattle.emitting.proofs.flow.left.Statement.{statement}
 use Rattle.emitting.proofs.flow.left.Tie as tie

@@ -4,8 +4,8 @@ use mathlib.Core.Path.{ap, _∙_}
 use native.Mathlib.Omega.{arith}
 use Prim.Native.Nat.{_+_}
 use lib.ListN.{set}
-use Rattle.emitting.specs.Layout.{packed}
-use Rattle.emitting.specs.Emission.{noted, put, replaced, withOpen, withSlot, aheadAt}
+use Rattle.emitting.specs.model.Layout.{packed}
+use Rattle.emitting.specs.model.Emission.{noted, put, replaced, withOpen, withSlot, aheadAt}
 use borrow.Author.Needs.{needs}
 use Rattle.emitting.proofs.flow.otherwise.Statement.{statement}
 use Rattle.emitting.proofs.flow.otherwise.Tie as tie

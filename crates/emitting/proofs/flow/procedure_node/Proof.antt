@@ -1,7 +1,7 @@
 -- `emitting::flow::procedure_node` meets its contract: by the kind.
 -- Assumes nothing.
 use borrow.Author.Tests.{ne-eqb}
-use Rattle.emitting.specs.Emission.{procedureNode}
+use Rattle.emitting.specs.model.Emission.{procedureNode}
 use borrow.Author.Needs.{needs}
 use Rattle.emitting.proofs.flow.procedure_node.Statement.{statement}
 use Rattle.emitting.proofs.flow.procedure_node.Tie as tie

@@ -2,7 +2,7 @@
 -- Assumes nothing.
 use mathlib.Core.Path.{ap, _∙_}
 use Prim.Native.Nat.{_-_}
-use Rattle.emitting.specs.Emission.{State, put, popped, within, withOpen}
+use Rattle.emitting.specs.model.Emission.{State, put, popped, within, withOpen}
 use borrow.Author.Needs.{needs}
 use Rattle.emitting.proofs.flow.returned.Statement.{statement}
 use Rattle.emitting.proofs.flow.returned.Tie as tie

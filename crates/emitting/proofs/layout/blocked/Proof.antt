@@ -1,6 +1,6 @@
 -- `emitting::layout::blocked` meets its contract: the number written is the new head.
 -- Assumes nothing.
-use Rattle.emitting.specs.Layout.{blocked}
+use Rattle.emitting.specs.model.Layout.{blocked}
 use mathlib.Core.Path.{refl}
 use borrow.Author.Needs.{needs}
 use Rattle.emitting.proofs.layout.blocked.Statement.{statement}

@@ -1,6 +1,6 @@
 -- `emitting::layout::celled` meets its contract: the word is written, and one cell more is taken.
 -- Assumes nothing.
-use Rattle.emitting.specs.Layout.{celled}
+use Rattle.emitting.specs.model.Layout.{celled}
 use borrow.Author.Needs.{needs}
 use Rattle.emitting.proofs.layout.celled.Statement.{statement}
 use Rattle.emitting.proofs.layout.celled.Tie as tie

@@ -1,7 +1,7 @@
 -- `emitting::layout::closed` meets its contract: what stands below is the tail.
 -- Assumes nothing.
-use Rattle.names.specs.Rows.{opensOf}
-use Rattle.emitting.specs.Layout.{closed, outermost, further}
+use Rattle.names.specs.model.Rows.{opensOf}
+use Rattle.emitting.specs.model.Layout.{closed, outermost, further}
 use Rattle.emitting.proofs.Spreading.{opens-outermost, opens-further}
 use borrow.Author.Needs.{needs}
 use Rattle.emitting.proofs.layout.closed.Statement.{statement}

@@ -5,10 +5,10 @@ use native.Mathlib.Omega.{arith}
 use Prim.Native.Nat.{_+_, _*_, _-_, _≤_}
 use lib.ListN.{length, getD, drop}
 use borrow.Author.Needs.{needs}
-use Rattle.names.specs.Rows.{foldNodes, opensOf}
+use Rattle.names.specs.model.Rows.{foldNodes, opensOf}
 use Rattle.names.proofs.RowLaws.{fold-on, fold-end}
-use Rattle.emitting.specs.Layout.{Laying, layNode}
-use Rattle.emitting.specs.Model.{lain, unlaidIn, AllWithin, Spread}
+use Rattle.emitting.specs.model.Layout.{Laying, layNode}
+use Rattle.emitting.specs.model.Arrays.{lain, unlaidIn, AllWithin, Spread}
 use Rattle.emitting.proofs.Spreading.{spread-node, spread-up}
 use Rattle.emitting.proofs.layout.lay.Statement.{statement}
 use Rattle.emitting.proofs.layout.lay.Tie as tie

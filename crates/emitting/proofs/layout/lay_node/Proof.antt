@@ -4,8 +4,8 @@ use mathlib.Core.Path.{sym, _∙_}
 use mathlib.Core.Logic.{inl, inr}
 use native.Mathlib.Omega.{arith}
 use borrow.Author.Tests.{ne-eqb}
-use Rattle.emitting.specs.Layout.{layNode, typed}
-use Rattle.emitting.specs.Model.{lain}
+use Rattle.emitting.specs.model.Layout.{layNode, typed}
+use Rattle.emitting.specs.model.Arrays.{lain}
 use Rattle.emitting.proofs.Spreading.{length-opens, node-celled}
 use borrow.Author.Needs.{needs}
 use Rattle.emitting.proofs.layout.lay_node.Statement.{statement}

@@ -4,9 +4,9 @@ use mathlib.Core.Path.{ap, _∙_}
 use mathlib.Core.List.{List}
 use Prim.Native.Nat.{ℕ}
 use lib.ListN.{replicate}
-use Rattle.names.specs.Rows.{foldNodes}
-use Rattle.emitting.specs.Layout.{layNode, layoutOf}
-use Rattle.emitting.specs.Model.{unlaidIn}
+use Rattle.names.specs.model.Rows.{foldNodes}
+use Rattle.emitting.specs.model.Layout.{layNode, layoutOf}
+use Rattle.emitting.specs.model.Arrays.{unlaidIn}
 use borrow.Author.Needs.{needs}
 use Rattle.emitting.proofs.layout.layout.Statement.{statement}
 use Rattle.emitting.proofs.layout.layout.Tie as tie

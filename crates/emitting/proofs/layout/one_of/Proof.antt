@@ -1,7 +1,7 @@
 -- `emitting::layout::one_of` meets its contract: by the test.
 -- Assumes nothing.
 use borrow.Author.Tests.{eq-eqb, ne-eqb}
-use Rattle.emitting.specs.Layout.{oneOf}
+use Rattle.emitting.specs.model.Layout.{oneOf}
 use Rattle.emitting.proofs.layout.one_of.Statement.{statement}
 use Rattle.emitting.proofs.layout.one_of.Tie as tie
 

@@ -4,7 +4,7 @@ use mathlib.Core.Path.{ap}
 use mathlib.Core.List.{[]}
 use lib.ListN.{set}
 use Prim.Native.Nat.{_+_}
-use Rattle.emitting.specs.Layout.{Laying, packed, oneOf, blocked, procedured}
+use Rattle.emitting.specs.model.Layout.{Laying, packed, oneOf, blocked, procedured}
 use borrow.Author.Needs.{needs}
 use Rattle.emitting.proofs.layout.procedured.Statement.{statement}
 use Rattle.emitting.proofs.layout.procedured.Tie as tie

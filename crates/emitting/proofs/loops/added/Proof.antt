@@ -2,7 +2,7 @@
 -- Assumes nothing.
 use mathlib.Core.Path.{ap, _∙_}
 use native.Mathlib.Omega.{arith}
-use Rattle.emitting.specs.Emission.{onCell, added}
+use Rattle.emitting.specs.model.Emission.{onCell, added}
 use Rattle.emitting.proofs.Alikes.{alike-then}
 use borrow.Author.Needs.{needs}
 use Rattle.emitting.proofs.loops.added.Statement.{statement}

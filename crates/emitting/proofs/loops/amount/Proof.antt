@@ -4,8 +4,8 @@ use mathlib.Core.Path.{sym, ap, subst, _∙_}
 use native.Mathlib.Omega.{arith}
 use mathlib.Core.List.{[]}
 use borrow.Author.Tests.{eq-eqb, ne-eqb}
-use Rattle.emitting.specs.Emission.{Opened, State, top, below, popped, withOpen, element, stepping, amount}
-use Rattle.emitting.specs.Model.{seen, see, thingsOf, Slim}
+use Rattle.emitting.specs.model.Emission.{Opened, State, top, below, popped, withOpen, element, stepping, amount}
+use Rattle.emitting.specs.model.Arrays.{seen, see, thingsOf, Slim}
 use Rattle.emitting.proofs.Counters.{fit, slim-top}
 use Rattle.emitting.proofs.LeftParts.{slim-below}
 use borrow.Author.Needs.{needs}

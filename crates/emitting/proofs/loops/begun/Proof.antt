@@ -3,8 +3,8 @@
 use mathlib.Core.Path.{ap}
 use Prim.Native.Nat.{_+_}
 use lib.ListN.{set}
-use Rattle.emitting.specs.Layout.{packed}
-use Rattle.emitting.specs.Emission.{State, within, noted, withOpen, replaced}
+use Rattle.emitting.specs.model.Layout.{packed}
+use Rattle.emitting.specs.model.Emission.{State, within, noted, withOpen, replaced}
 use borrow.Author.Needs.{needs}
 use Rattle.emitting.proofs.loops.begun.Statement.{statement}
 use Rattle.emitting.proofs.loops.begun.Tie as tie

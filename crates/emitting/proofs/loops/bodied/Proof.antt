@@ -1,6 +1,6 @@
 -- `emitting::loops::bodied` meets its contract: the three parts of the operand are the model's.
 -- Assumes nothing.
-use Rattle.emitting.specs.Emission.{bodied, aheadAt}
+use Rattle.emitting.specs.model.Emission.{bodied, aheadAt}
 use borrow.Author.Needs.{needs}
 use Rattle.emitting.proofs.loops.bodied.Statement.{statement}
 use Rattle.emitting.proofs.loops.bodied.Tie as tie

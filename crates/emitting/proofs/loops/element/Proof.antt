@@ -2,8 +2,8 @@
 -- Assumes nothing.
 use mathlib.Core.Path.{ap, _∙_}
 use lib.ListN.{set}
-use Rattle.emitting.specs.Layout.{packed}
-use Rattle.emitting.specs.Emission.{element, noted, withSlot, withOpen, replaced}
+use Rattle.emitting.specs.model.Layout.{packed}
+use Rattle.emitting.specs.model.Emission.{element, noted, withSlot, withOpen, replaced}
 use borrow.Author.Needs.{needs}
 use Rattle.emitting.proofs.loops.element.Statement.{statement}
 use Rattle.emitting.proofs.loops.element.Tie as tie

@@ -1,7 +1,7 @@
 -- `emitting::loops::element_node` meets its contract: each kind puts the tests of `elementNode` right.
 -- Assumes nothing.
 use borrow.Author.Tests.{ne-eqb}
-use Rattle.emitting.specs.Emission.{elementNode}
+use Rattle.emitting.specs.model.Emission.{elementNode}
 use borrow.Author.Needs.{needs}
 use Rattle.emitting.proofs.loops.element_node.Statement.{statement}
 use Rattle.emitting.proofs.loops.element_node.Tie as tie

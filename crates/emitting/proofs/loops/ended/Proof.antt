@@ -3,8 +3,8 @@
 use mathlib.Core.Path.{ap, _∙_}
 use Prim.Native.Nat.{_+_, _-_}
 use lib.ListN.{set}
-use Rattle.emitting.specs.Layout.{packed}
-use Rattle.emitting.specs.Emission.{State, put, within, noted, popped, withOpen}
+use Rattle.emitting.specs.model.Layout.{packed}
+use Rattle.emitting.specs.model.Emission.{State, put, within, noted, popped, withOpen}
 use borrow.Author.Needs.{needs}
 use Rattle.emitting.proofs.loops.ended.Statement.{statement}
 use Rattle.emitting.proofs.loops.ended.Tie as tie

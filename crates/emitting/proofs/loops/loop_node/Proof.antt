@@ -1,7 +1,7 @@
 -- `emitting::loops::loop_node` meets its contract: by the kind.
 -- Assumes nothing.
 use borrow.Author.Tests.{ne-eqb}
-use Rattle.emitting.specs.Emission.{loopNode}
+use Rattle.emitting.specs.model.Emission.{loopNode}
 use borrow.Author.Needs.{needs}
 use Rattle.emitting.proofs.loops.loop_node.Statement.{statement}
 use Rattle.emitting.proofs.loops.loop_node.Tie as tie

@@ -1,8 +1,8 @@
 -- `emitting::loops::once` meets its contract: to the body, and the element ends.
 -- Assumes nothing.
 use mathlib.Core.Path.{ap, _∙_}
-use Rattle.emitting.specs.Emission.{element, bodied, aheadAt}
-use Rattle.emitting.specs.Model.{seen}
+use Rattle.emitting.specs.model.Emission.{element, bodied, aheadAt}
+use Rattle.emitting.specs.model.Arrays.{seen}
 use borrow.Author.Needs.{needs}
 use Rattle.emitting.proofs.loops.once.Statement.{statement}
 use Rattle.emitting.proofs.loops.once.Tie as tie

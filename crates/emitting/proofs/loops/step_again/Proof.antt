@@ -1,6 +1,6 @@
 -- `emitting::loops::step_again` meets its contract: the three parts of the operand are the model's.
 -- Assumes nothing.
-use Rattle.emitting.specs.Emission.{stepAgain}
+use Rattle.emitting.specs.model.Emission.{stepAgain}
 use borrow.Author.Needs.{needs}
 use Rattle.emitting.proofs.loops.step_again.Statement.{statement}
 use Rattle.emitting.proofs.loops.step_again.Tie as tie

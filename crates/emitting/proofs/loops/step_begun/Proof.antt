@@ -3,7 +3,7 @@
 use mathlib.Core.Path.{ap, _∙_}
 use native.Mathlib.Omega.{arith}
 use Prim.Native.Nat.{_+_}
-use Rattle.emitting.specs.Emission.{pushed, withSlot, aheadAt, stepBegun}
+use Rattle.emitting.specs.model.Emission.{pushed, withSlot, aheadAt, stepBegun}
 use borrow.Author.Needs.{needs}
 use Rattle.emitting.proofs.loops.step_begun.Statement.{statement}
 use Rattle.emitting.proofs.loops.step_begun.Tie as tie

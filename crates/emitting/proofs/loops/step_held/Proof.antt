@@ -4,8 +4,8 @@ use mathlib.Core.Path.{ap, _∙_}
 use native.Mathlib.Omega.{arith}
 use Prim.Native.Nat.{_+_}
 use lib.ListN.{set}
-use Rattle.emitting.specs.Layout.{packed}
-use Rattle.emitting.specs.Emission.{State, put, noted, replaced, withOpen, stepHeld}
+use Rattle.emitting.specs.model.Layout.{packed}
+use Rattle.emitting.specs.model.Emission.{State, put, noted, replaced, withOpen, stepHeld}
 use borrow.Author.Needs.{needs}
 use Rattle.emitting.proofs.loops.step_held.Statement.{statement}
 use Rattle.emitting.proofs.loops.step_held.Tie as tie

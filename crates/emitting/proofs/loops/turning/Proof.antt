@@ -3,8 +3,8 @@
 use mathlib.Core.Path.{ap, _∙_}
 use native.Mathlib.Omega.{arith}
 use Prim.Native.Nat.{_+_}
-use Rattle.emitting.specs.Emission.{State, bodied, turning, aheadAt}
-use Rattle.emitting.specs.Model.{seen}
+use Rattle.emitting.specs.model.Emission.{State, bodied, turning, aheadAt}
+use Rattle.emitting.specs.model.Arrays.{seen}
 use Rattle.emitting.proofs.Alikes.{alike-then}
 use borrow.Author.Needs.{needs}
 use Rattle.emitting.proofs.loops.turning.Statement.{statement}

@@ -1,7 +1,7 @@
 -- `emitting::passes::laid_out` meets its contract: the layout that is lent is that of the nodes.
 -- Assumes nothing.
 use mathlib.Core.Path.{ap, _∙_}
-use Rattle.emitting.specs.Emission.{usesIn, placeAt, codeOf}
+use Rattle.emitting.specs.model.Emission.{usesIn, placeAt, codeOf}
 use lib.ListN.{length}
 use borrow.Author.Needs.{needs}
 use Rattle.emitting.proofs.passes.laid_out.Statement.{statement}

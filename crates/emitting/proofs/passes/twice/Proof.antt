@@ -2,7 +2,7 @@
 -- Assumes nothing.
 use Rattle.emitting.proofs.Twice.{second-run}
 use lib.ListN.{length}
-use Rattle.emitting.specs.Emission.{usesIn, placeAt}
+use Rattle.emitting.specs.model.Emission.{usesIn, placeAt}
 use borrow.Author.Needs.{needs}
 use Rattle.emitting.proofs.passes.twice.Statement.{statement}
 use Rattle.emitting.proofs.passes.twice.Tie as tie

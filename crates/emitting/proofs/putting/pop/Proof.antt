@@ -2,8 +2,8 @@
 -- Assumes nothing.
 use mathlib.Core.Path.{refl}
 use native.Mathlib.Omega.{arith}
-use Rattle.emitting.specs.Emission.{popped, withOpen, below}
-use Rattle.emitting.specs.Model.{thingsOf}
+use Rattle.emitting.specs.model.Emission.{popped, withOpen, below}
+use Rattle.emitting.specs.model.Arrays.{thingsOf}
 use Rattle.emitting.proofs.Stacked.{things-below}
 use borrow.Author.Needs.{needs}
 use Rattle.emitting.proofs.putting.pop.Statement.{statement}

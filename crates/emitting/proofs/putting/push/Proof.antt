@@ -1,7 +1,7 @@
 -- `emitting::putting::push` meets its contract: the thing written is the new head.
 -- Assumes nothing.
 use mathlib.Core.Path.{refl}
-use Rattle.emitting.specs.Emission.{pushed, withOpen}
+use Rattle.emitting.specs.model.Emission.{pushed, withOpen}
 use borrow.Author.Needs.{needs}
 use Rattle.emitting.proofs.putting.push.Statement.{statement}
 use Rattle.emitting.proofs.putting.push.Tie as tie

@@ -1,7 +1,7 @@
 -- `emitting::putting::put` meets its contract: the two words are written, one after the other.
 -- Assumes nothing.
 use mathlib.Core.Path.{refl}
-use Rattle.emitting.specs.Emission.{put}
+use Rattle.emitting.specs.model.Emission.{put}
 use borrow.Author.Needs.{needs}
 use Rattle.emitting.proofs.putting.put.Statement.{statement}
 use Rattle.emitting.proofs.putting.put.Tie as tie

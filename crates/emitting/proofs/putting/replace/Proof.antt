@@ -1,7 +1,7 @@
 -- `emitting::putting::replace` meets its contract: the newest is closed, then another opens.
 -- Assumes nothing.
 use mathlib.Core.Path.{_∙_, ap}
-use Rattle.emitting.specs.Emission.{pushed, popped, replaced, withOpen}
+use Rattle.emitting.specs.model.Emission.{pushed, popped, replaced, withOpen}
 use native.Mathlib.Omega.{arith}
 use Rattle.emitting.proofs.Alikes.{alike-then}
 use borrow.Author.Needs.{needs}

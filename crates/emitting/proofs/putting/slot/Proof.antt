@@ -1,7 +1,7 @@
 -- `emitting::putting::slot` meets its contract: one more is counted.
 -- Assumes nothing.
 use mathlib.Core.Path.{refl}
-use Rattle.emitting.specs.Emission.{withSlot}
+use Rattle.emitting.specs.model.Emission.{withSlot}
 use borrow.Author.Needs.{needs}
 use Rattle.emitting.proofs.putting.slot.Statement.{statement}
 use Rattle.emitting.proofs.putting.slot.Tie as tie

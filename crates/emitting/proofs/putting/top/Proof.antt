@@ -1,8 +1,8 @@
 -- `emitting::putting::top` meets its contract: the last thing of those that are open.
 -- Assumes nothing.
 use mathlib.Core.Path.{_∙_}
-use Rattle.emitting.specs.Emission.{top}
-use Rattle.emitting.specs.Model.{thingsOf}
+use Rattle.emitting.specs.model.Emission.{top}
+use Rattle.emitting.specs.model.Arrays.{thingsOf}
 use Rattle.emitting.proofs.Stacked.{things-top}
 use borrow.Author.Needs.{needs}
 use Rattle.emitting.proofs.putting.top.Statement.{statement}

@@ -3,7 +3,7 @@
 use mathlib.Core.Path.{sym, subst, _∙_}
 use Prim.Native.Nat.{ℕ, _<_, _≤_}
 use borrow.Author.Tests.{eq-eqb, ne-eqb, lt-ltb, le-ltb}
-use Rattle.emitting.specs.Emission.{formalAt}
+use Rattle.emitting.specs.model.Emission.{formalAt}
 use borrow.Author.Needs.{needs}
 use Rattle.emitting.proofs.uses.formal_at.Statement.{statement}
 use Rattle.emitting.proofs.uses.formal_at.Tie as tie

@@ -1,7 +1,7 @@
 -- `emitting::uses::passed` meets its contract: one use more is passed, if there is one.
 -- Assumes nothing.
 use mathlib.Core.Path.{refl}
-use Rattle.emitting.specs.Emission.{withUses}
+use Rattle.emitting.specs.model.Emission.{withUses}
 use Rattle.emitting.proofs.NextUses.{others-here, others-nowhere}
 use borrow.Author.Needs.{needs}
 use Rattle.emitting.proofs.uses.passed.Statement.{statement}

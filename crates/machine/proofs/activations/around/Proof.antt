@@ -4,7 +4,7 @@ use Prim.Native.Nat.{_≤_}
 use native.Mathlib.Omega.{arith}
 use borrow.Author.Needs.{needs}
 use Rattle.machine.specs.Machine.{walk}
-use Rattle.machine.specs.Model.{framesOf}
+use Rattle.machine.specs.model.Holding.{framesOf}
 use Rattle.machine.proofs.Frames.{walk-out, walk-end}
 use Rattle.machine.proofs.activations.around.Statement.{statement}
 use Rattle.machine.proofs.activations.around.Tie as tie

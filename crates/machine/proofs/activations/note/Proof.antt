@@ -1,5 +1,5 @@
 -- The word is set where it stands.
-use Rattle.machine.specs.Model.{noteOf}
+use Rattle.machine.specs.model.Holding.{noteOf}
 use borrow.Author.Needs.{needs}
 use Rattle.machine.proofs.activations.note.Statement.{statement}
 use Rattle.machine.proofs.activations.note.Tie as tie

@@ -1,5 +1,5 @@
 -- The word is read where it stands.
-use Rattle.machine.specs.Model.{wordOf}
+use Rattle.machine.specs.model.Holding.{wordOf}
 use borrow.Author.Needs.{needs}
 use Rattle.machine.proofs.activations.word.Statement.{statement}
 use Rattle.machine.proofs.activations.word.Tie as tie

@@ -3,7 +3,7 @@ use mathlib.Core.Path.{refl}
 use native.Mathlib.Omega.{arith}
 use Rattle.machine.proofs.Kept.{open-full, open-done, open-sound}
 use Prim.Native.Nat.{_+_, _≤_}
-use Rattle.machine.specs.Model.{roomOf}
+use Rattle.machine.specs.model.Holding.{roomOf}
 use borrow.Author.Needs.{needs}
 use Rattle.machine.proofs.blocks.open.Statement.{statement}
 use Rattle.machine.proofs.blocks.open.Tie as tie

@@ -3,7 +3,7 @@ use mathlib.Core.Path.{_≡_, refl, ap, _∙_}
 use Prim.Native.Nat.{_≤_, _-_, _+_}
 use native.Mathlib.Omega.{arith}
 use lib.ListN.{length}
-use Rattle.machine.specs.Model.{unassigned, roomOf, putAt}
+use Rattle.machine.specs.model.Holding.{unassigned, roomOf, putAt}
 use Rattle.machine.specs.declared.Cell.the-variants.{Unset}
 use mathlib.Core.List.{List}
 use lib.IntN.{ℤ}

@@ -4,7 +4,7 @@ use lib.ListN.{getD}
 use lib.IntN.{pos}
 use Prim.Native.Nat.{_*_}
 use mir.Syntax.{w64}
-use Rattle.machine.specs.Model.{roomOf}
+use Rattle.machine.specs.model.Holding.{roomOf}
 use Rattle.machine.proofs.Stacks.{plain-is}
 use Rattle.machine.proofs.Signed.{read-back}
 use borrow.Author.Needs.{needs}

@@ -1,5 +1,5 @@
 -- The cell's number is set where it stands.
-use Rattle.machine.specs.Model.{roomOf, putAt, numberOf}
+use Rattle.machine.specs.model.Holding.{roomOf, putAt, numberOf}
 use mir.Syntax.{w32, w64}
 use Rattle.machine.proofs.Signed.{wide-fits, wide-same}
 use Rattle.machine.proofs.Stacks.{name-fits, name-same}

@@ -1,6 +1,6 @@
 -- The length, by how many numbers a cell takes.
 use mathlib.Core.Path.{refl}
-use Rattle.machine.specs.Model.{roomOf}
+use Rattle.machine.specs.model.Holding.{roomOf}
 use Rattle.machine.proofs.cells.room.Statement.{statement}
 use Rattle.machine.proofs.cells.room.Tie as tie
 

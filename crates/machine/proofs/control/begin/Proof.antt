@@ -2,7 +2,7 @@
 use mathlib.Core.Path.{ap, _∙_}
 use mathlib.Core.List.{List}
 use Prim.Native.Nat.{ℕ}
-use Rattle.machine.specs.Model.{noteOf}
+use Rattle.machine.specs.model.Holding.{noteOf}
 use borrow.Author.Needs.{needs}
 use Rattle.machine.proofs.control.begin.Statement.{statement}
 use Rattle.machine.proofs.control.begin.Tie as tie

@@ -2,7 +2,7 @@
 use mathlib.Core.Path.{refl, _∙_}
 use native.Mathlib.Nat.{le-refl}
 use Rattle.machine.specs.Instructions.{high, mid, low}
-use Rattle.machine.specs.Model.{fateOf}
+use Rattle.machine.specs.model.Holding.{fateOf}
 use Rattle.machine.proofs.Execs.{strayed, strayed-sound, call-stray, call-full, call-done, call-sound, room-no}
 use borrow.Author.Needs.{needs}
 use Rattle.machine.proofs.control.call.Statement.{statement}

@@ -2,7 +2,7 @@
 use mathlib.Core.Path.{refl, ap, _∙_}
 use native.Mathlib.Nat.{le-refl}
 use Rattle.machine.specs.Machine.{stray}
-use Rattle.machine.specs.Model.{lifted, ownOf}
+use Rattle.machine.specs.model.Holding.{lifted, ownOf}
 use Rattle.machine.proofs.Execs.{strayed, strayed-sound, leave-stray, leave-lifted, room-no, room-yes, lifted-next, did-quiet}
 use borrow.Author.Needs.{needs}
 use Rattle.machine.proofs.control.close.Statement.{statement}

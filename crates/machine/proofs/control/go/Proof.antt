@@ -4,7 +4,7 @@ use mathlib.Core.List.{List}
 use Prim.Native.Nat.{ℕ, _+_, _<_}
 use native.Mathlib.Omega.{arith}
 use Rattle.machine.specs.Instructions.{high, mid, low, sixBits}
-use Rattle.machine.specs.Model.{noteOf}
+use Rattle.machine.specs.model.Holding.{noteOf}
 use Rattle.machine.proofs.Execs.{strayed, strayed-sound, go-no, go-done, go-lives}
 use borrow.Author.Needs.{needs}
 use Rattle.machine.proofs.control.go.Statement.{statement}

@@ -1,7 +1,7 @@
 -- The words of the newest activation say where to, what goes and what stays.
 use mathlib.Core.Path.{refl, ap, _∙_}
 use native.Mathlib.Omega.{arith}
-use Rattle.machine.specs.Model.{lifted, ownOf}
+use Rattle.machine.specs.model.Holding.{lifted, ownOf}
 use Rattle.machine.proofs.Execs.{strayed, strayed-sound, return-none, return-lifted, did-quiet}
 use Rattle.machine.proofs.Frames.{lives-less}
 use Rattle.machine.proofs.Signed.{bits-pos}

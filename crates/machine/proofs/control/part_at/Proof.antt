@@ -1,7 +1,7 @@
 -- The read part is 2 further.
 use native.Mathlib.Omega.{arith}
 use borrow.Author.Tests.{ne-eqb}
-use Rattle.machine.specs.Model.{fateOf}
+use Rattle.machine.specs.model.Holding.{fateOf}
 use borrow.Author.Needs.{needs}
 use Rattle.machine.proofs.control.part_at.Statement.{statement}
 use Rattle.machine.proofs.control.part_at.Tie as tie

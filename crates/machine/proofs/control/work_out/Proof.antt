@@ -2,7 +2,7 @@
 use mathlib.Core.Path.{refl, sym, ap₂, _∙_}
 use Prim.Native.Nat.{ℕ, _+_}
 use Rattle.machine.specs.Instructions.{high, mid}
-use Rattle.machine.specs.Model.{fateOf}
+use Rattle.machine.specs.model.Holding.{fateOf}
 use Rattle.machine.proofs.Execs.{strayed, strayed-sound}
 use Rattle.machine.proofs.Named.{named-less, working-out, working-unset, working-holds, working-full, worked-done, worked-sound}
 use borrow.Author.Needs.{needs}

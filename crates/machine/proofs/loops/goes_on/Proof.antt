@@ -1,5 +1,5 @@
 -- The exact test, and where the loop is left the step goes.
-use Rattle.machine.specs.Model.{dataOf}
+use Rattle.machine.specs.model.Holding.{dataOf}
 use mathlib.Core.Path.{refl, sym, _∙_}
 use mir.Syntax.{w32}
 use mir.Facts.{toZ-ofZ}

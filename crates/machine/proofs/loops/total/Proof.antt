@@ -1,5 +1,5 @@
 -- The sum has the cell that the step's value left.
-use Rattle.machine.specs.Model.{dataOf}
+use Rattle.machine.specs.model.Holding.{dataOf}
 use mathlib.Core.Path.{sym, ap, _∙_}
 use Rattle.machine.specs.Values.{whole}
 use native.Mathlib.Omega.{arith}

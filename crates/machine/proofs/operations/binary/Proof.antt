@@ -2,7 +2,7 @@
 use mathlib.Core.Path.{sym, subst, _∙_}
 use native.Mathlib.Omega.{arith}
 use Rattle.machine.specs.Instructions.{binaryOf}
-use Rattle.machine.specs.Model.{FittingV}
+use Rattle.machine.specs.model.Holding.{FittingV}
 use Rattle.machine.proofs.Works.{binary-none, binary-some}
 use Rattle.machine.proofs.Kept.{saw-two, saw-no-two, pair-sound, pair-room, pair-trace, pair-did}
 use mir.Syntax.{w32}

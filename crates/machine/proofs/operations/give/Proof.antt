@@ -1,6 +1,6 @@
 -- The value, or the fault.
 use mathlib.Core.Path.{subst, _∙_}
-use Rattle.machine.specs.Model.{FittingV}
+use Rattle.machine.specs.model.Holding.{FittingV}
 use Rattle.machine.proofs.Kept.{valued-fault, valued-is}
 use mir.Syntax.{w32, w64}
 use Rattle.machine.proofs.Signed.{narrow-fits, narrow-same}

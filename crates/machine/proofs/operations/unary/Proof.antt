@@ -1,7 +1,7 @@
 -- The operator's value takes the place of the one that was used.
 use mathlib.Core.Path.{sym, subst, _∙_}
 use Rattle.machine.specs.Instructions.{unaryOf}
-use Rattle.machine.specs.Model.{FittingV}
+use Rattle.machine.specs.model.Holding.{FittingV}
 use Rattle.machine.proofs.Works.{unary-none, unary-some}
 use Rattle.machine.proofs.Kept.{saw, saw-none, used-sound, used-room, used-trace, used-did}
 use mir.Syntax.{w32}

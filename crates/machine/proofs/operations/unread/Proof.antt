@@ -1,6 +1,6 @@
 -- It is unassigned, or a name formal's.
 use mathlib.Core.Path.{sym, _∙_}
-use Rattle.machine.specs.Model.{cellAt}
+use Rattle.machine.specs.model.Holding.{cellAt}
 use Rattle.machine.proofs.Works.{unread-unset, unread-named}
 use borrow.Author.Needs.{needs}
 use Rattle.machine.proofs.operations.unread.Statement.{statement}

@@ -5,7 +5,7 @@ use mir.Syntax.{w32}
 use mir.Val.{toZ, ofZ}
 use mir.Facts.{toZ-ofZ}
 use Rattle.machine.specs.Run.{say, wrote}
-use Rattle.machine.specs.Model.{traceOf}
+use Rattle.machine.specs.model.Holding.{traceOf}
 use Rattle.machine.proofs.Works.{writing-channel, writing-full, writing-some}
 use Rattle.machine.proofs.Told.{space-none, space-some, spend-data, wrote-trace, wrote-rest, wrote-length, wrote-sound}
 use Rattle.machine.proofs.Signed.{one-yes, one-no}

@@ -1,5 +1,5 @@
 -- The cell, the channel and the input are tested in this order.
-use Rattle.machine.specs.Model.{dataOf}
+use Rattle.machine.specs.model.Holding.{dataOf}
 use mathlib.Core.Path.{refl, _∙_}
 use native.Mathlib.Omega.{arith}
 use Rattle.machine.proofs.Works.{yes-plain, not-plain, taking-named, taking-out, taking-channel, taking-ended, taking-some}

@@ -3,7 +3,7 @@ use mathlib.Core.Path.{refl, ap, _∙_}
 use native.Mathlib.Omega.{arith}
 use native.Mathlib.Nat.{le-refl}
 use Rattle.machine.specs.Instructions.{variable}
-use Rattle.machine.specs.Model.{lifted, ownOf}
+use Rattle.machine.specs.model.Holding.{lifted, ownOf}
 use Rattle.machine.proofs.Execs.{strayed, strayed-sound, do-stray, room-no, room-yes, act-done}
 use borrow.Author.Needs.{needs}
 use Rattle.machine.proofs.steps.act.Statement.{statement}

@@ -3,7 +3,7 @@ use mathlib.Core.Path.{refl, ap, _∙_}
 use Prim.Native.Nat.{_+_}
 use native.Mathlib.Omega.{arith}
 use native.Mathlib.Numerals.{add-one}
-use Rattle.machine.specs.Model.{lifted, ownOf}
+use Rattle.machine.specs.model.Holding.{lifted, ownOf}
 use Rattle.machine.proofs.Works.{name-is}
 use Rattle.machine.proofs.Execs.{strayed, strayed-sound, did-quiet, obeyed, obeyed-none}
 use Rattle.machine.proofs.Named.{name-lifted}

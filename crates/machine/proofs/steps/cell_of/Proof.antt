@@ -2,7 +2,7 @@
 use mathlib.Core.Path.{sym, _∙_}
 use native.Mathlib.Omega.{arith}
 use Rattle.machine.specs.Instructions.{high}
-use Rattle.machine.specs.Model.{foundOf}
+use Rattle.machine.specs.model.Holding.{foundOf}
 use Rattle.machine.proofs.Frames.{walk-end}
 use Rattle.machine.proofs.Execs.{cell-is, cell-found, found-data}
 use borrow.Author.Needs.{needs}

@@ -2,7 +2,7 @@
 use mathlib.Core.Path.{refl, ap, _∙_}
 use native.Mathlib.Nat.{le-refl}
 use Rattle.machine.specs.Data.{channel}
-use Rattle.machine.specs.Model.{lifted, ownOf}
+use Rattle.machine.specs.model.Holding.{lifted, ownOf}
 use Rattle.machine.proofs.Execs.{strayed, strayed-sound, did-quiet, do-stray, room-no, room-yes}
 use Rattle.machine.proofs.Named.{channel-done}
 use borrow.Author.Needs.{needs}

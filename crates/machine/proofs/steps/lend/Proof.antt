@@ -4,8 +4,8 @@ use native.Mathlib.Omega.{arith}
 use native.Mathlib.Nat.{le-refl}
 use Rattle.machine.specs.Data.{lend}
 use Rattle.machine.specs.Instructions.{variable}
-use Rattle.machine.specs.Machine.{Mach}
-use Rattle.machine.specs.Model.{goes, traceOf, ownOf}
+use Rattle.machine.specs.Machine.{Running}
+use Rattle.machine.specs.model.Holding.{goes, traceOf, ownOf}
 use Rattle.machine.proofs.Kept.{cell-in, cell-out, plain-data}
 use Rattle.machine.proofs.Works.{yes-plain, not-plain}
 use Rattle.machine.proofs.Frames.{lives-found}
@@ -39,7 +39,7 @@ returns-3 c = (
 returns-4 : tie.Need-returns-4
 returns-4 c = (
   λ i o.
-      ap (λ (m : Mach). goes m (traceOf (c .before .before .before .before .before .before .before .before .before .before .before .before .args .n) o)) (found-mach (c .before .before .before .before .before .before .before .before .before .before .before .before .args .n) (c .before .before .before .before .before .before .before .before .before .before .before .before .args .live) (c .before .before .before .before .before .before .before .before .before .before .before .before .args .store .now) i o (c .before .before .before .before .before .before .before .before .before .before .before .before .args .own .now) (c .before .before .before .before .before .before .before .before .before .before .before .before .args .at) (c .before .before .before .before .before .before .cell-of .result) (c .before .before .before .before .before .before .before .before .before .before .before .before .pre .1) (c .note .ensures))
+      ap (λ (m : Running). goes m (traceOf (c .before .before .before .before .before .before .before .before .before .before .before .before .args .n) o)) (found-mach (c .before .before .before .before .before .before .before .before .before .before .before .before .args .n) (c .before .before .before .before .before .before .before .before .before .before .before .before .args .live) (c .before .before .before .before .before .before .before .before .before .before .before .before .args .store .now) i o (c .before .before .before .before .before .before .before .before .before .before .before .before .args .own .now) (c .before .before .before .before .before .before .before .before .before .before .before .before .args .at) (c .before .before .before .before .before .before .cell-of .result) (c .before .before .before .before .before .before .before .before .before .before .before .before .pre .1) (c .note .ensures))
       ∙ lend-goes _ (c .before .before .before .before .before .before .before .before .before .before .before .before .args .at) _ _ _ (c .before .before .before .before .before .before .before .before .before .before .before .before .args .v) (c .before .before .before .before .before .before .cell-of .ensures (c .before .before .before .before .before .before .before .before .before .before .before .before .args .n) (c .before .before .before .before .before .before .before .before .before .before .before .before .args .store .now) i o) (room-yes (c .before .before .before .before .before .before .before .before .before .before .before .before .args .n) (c .before .before .before .before .before .before .before .before .before .before .before .before .args .live) (c .before .before .before .before .before .before .before .before .before .before .before .before .args .store .now) i o (c .before .before .before .before .before .before .before .before .before .before .before .before .args .own .now) (c .before .before .before .before .before .before .before .before .before .before .first-cell .ensures .0 (c .before .before .before .before .before .before .before .before .before .before .before .before .args .live) (le-refl _)) 0 (omega (arith, c .before .before .before .before .before .before .before .before .if1 .left))) (cell-in (c .before .before .before .before .before .before .before .before .before .before .before .before .args .n) (ownOf (c .before .before .before .before .before .before .before .before .before .before .before .before .args .own .now) (c .before .before .before .before .before .before .before .before .before .before .before .before .args .live)) (c .before .before .before .before .before .before .before .before .before .before .before .before .args .store .now) i o (c .before .before .before .before .before .before .cell-of .result) (c .before .before .before .before .if2 .left)) (plain-data (c .before .before .before .before .before .before .before .before .before .before .before .before .args .n) (ownOf (c .before .before .before .before .before .before .before .before .before .before .before .before .args .own .now) (c .before .before .before .before .before .before .before .before .before .before .before .before .args .live)) (c .before .before .before .before .before .before .before .before .before .before .before .before .args .store .now) i o (c .before .before .before .before .before .before .cell-of .result) (c .before .before .before .before .if2 .left) (yes-plain (c .before .before .before .is-plain .ensures) (c .before .before .if3 .left))),
   λ o h. (c .before .before .before .before .before .before .before .before .before .before .before .before .pre .0, rw (c .note .ensures) (lives-found (c .before .before .before .before .before .before .before .before .before .before .before .before .args .own .now) (c .before .before .before .before .before .before .before .before .before .before .before .before .args .live) (c .before .before .before .before .before .before .cell-of .result) (c .before .before .before .before .before .before .before .before .before .before .before .before .pre .1)), h, refl),
 )

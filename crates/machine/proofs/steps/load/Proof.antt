@@ -5,7 +5,7 @@ use native.Mathlib.Omega.{arith}
 use native.Mathlib.Nat.{le-refl}
 use Rattle.machine.specs.Data.{load}
 use Rattle.machine.specs.Instructions.{variable}
-use Rattle.machine.specs.Model.{lifted, ownOf}
+use Rattle.machine.specs.model.Holding.{lifted, ownOf}
 use Rattle.machine.proofs.Execs.{strayed, strayed-sound, did-quiet, do-stray, room-no, room-yes, load-done}
 use borrow.Author.Needs.{needs}
 use Rattle.machine.proofs.steps.load.Statement.{statement}

@@ -3,7 +3,7 @@ use mathlib.Core.Path.{refl, ap, _∙_}
 use mathlib.Core.Logic.{⊎-elim}
 use native.Mathlib.Omega.{arith}
 use Rattle.machine.specs.Instructions.{high, mid, low}
-use Rattle.machine.specs.Model.{lifted, ownOf}
+use Rattle.machine.specs.model.Holding.{lifted, ownOf}
 use Rattle.machine.proofs.Execs.{strayed, strayed-sound, obeyed, obeyed-none, jump-goes, end-halts, enter-lifted, did-quiet, fate-kept, fate-gone, same-fate}
 use Rattle.machine.proofs.Decode.{code-0, code-1, code-2, code-3, code-4, code-5, code-6, code-7, code-8, code-9, code-10, code-11, code-13, code-14, code-act, code-none, next-up}
 use borrow.Author.Needs.{needs}

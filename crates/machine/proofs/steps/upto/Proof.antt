@@ -3,7 +3,7 @@ use mathlib.Core.Path.{refl, ap, _∙_}
 use native.Mathlib.Nat.{le-refl}
 use Rattle.machine.specs.Data.{upto}
 use Rattle.machine.specs.Instructions.{low, variable}
-use Rattle.machine.specs.Model.{lifted, ownOf}
+use Rattle.machine.specs.model.Holding.{lifted, ownOf}
 use Rattle.machine.proofs.Execs.{strayed, strayed-sound, if-stray, upto-done, room-no, room-yes}
 use borrow.Author.Needs.{needs}
 use Rattle.machine.proofs.steps.upto.Statement.{statement}

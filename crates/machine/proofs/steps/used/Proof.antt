@@ -4,7 +4,7 @@ use Prim.Native.Nat.{ℕ}
 use lib.ListN.{length, replicate}
 use lib.IntN.{pos}
 use Rattle.machine.specs.Machine.{machine}
-use Rattle.machine.specs.Model.{Drove}
+use Rattle.machine.specs.model.Holding.{Drove}
 use Rattle.machine.proofs.Limits.{first-lives, first-positions, first-found, room-length}
 use borrow.Author.Needs.{needs}
 use Rattle.machine.proofs.steps.used.Statement.{statement}

@@ -4,7 +4,7 @@ use mathlib.Core.Path.{_≡_, sym, _∙_}
 use Prim.Native.Nat.{_-_, _≤_}
 use native.Mathlib.Omega.{arith}
 use lib.ListN.{length, length-set}
-use Rattle.names.specs.Identity.{Standing}
+use Rattle.names.specs.model.Identity.{Standing}
 use Rattle.names.proofs.Identities.{identified, stands-on}
 use Rattle.names.proofs.identity.fill.Statement.{statement}
 use Rattle.names.proofs.identity.fill.Tie as tie

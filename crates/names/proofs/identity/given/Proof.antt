@@ -2,7 +2,7 @@
 -- Assumes nothing.
 use borrow.Author.Needs.{needs}
 use mathlib.Core.Path.{sym, _∙_}
-use Rattle.names.specs.Identity.{numberGiven}
+use Rattle.names.specs.model.Identity.{numberGiven}
 use Rattle.names.proofs.identity.given.Statement.{statement}
 use Rattle.names.proofs.identity.given.Tie as tie
 

@@ -5,7 +5,7 @@ use Prim.Native.Nat.{ℕ, _+_, _-_, _≤_}
 use mathlib.Core.Logic.{⊎-elim}
 use native.Mathlib.Omega.{arith}
 use borrow.Author.Needs.{needs}
-use Rattle.names.specs.Rows.{identityIn}
+use Rattle.names.specs.model.Rows.{identityIn}
 use Rattle.names.proofs.Identities.{NoneBelow, same-letters, not-first, not-same, first-as}
 use Rattle.names.proofs.identity.identity.Statement.{statement}
 use Rattle.names.proofs.identity.identity.Tie as tie

@@ -1,7 +1,7 @@
 -- `names::meanings::declared` meets its contract: the test of the definition.
 use borrow.Author.Tests.{lt-ltb, le-ltb}
 use borrow.Author.Needs.{needs}
-use Rattle.names.specs.Rows.{meantNumber}
+use Rattle.names.specs.model.Rows.{meantNumber}
 use Rattle.names.proofs.meanings.declared.Statement.{statement}
 use Rattle.names.proofs.meanings.declared.Tie as tie
 

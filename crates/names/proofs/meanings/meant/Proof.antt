@@ -1,7 +1,7 @@
 -- `names::meanings::meant` is the meaning that a word keeps.
 -- The two tests of the code are those of the definition, in the same order.
 use borrow.Author.Tests.{lt-ltb, le-ltb}
-use Rattle.names.specs.Rows.{meantOf}
+use Rattle.names.specs.model.Rows.{meantOf}
 use Rattle.names.proofs.meanings.meant.Statement.{statement}
 use Rattle.names.proofs.meanings.meant.Tie as tie
 

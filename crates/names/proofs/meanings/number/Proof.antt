@@ -1,6 +1,6 @@
 -- `names::meanings::number` meets its contract: a case for each kind of meaning.
 use borrow.Author.Needs.{needs}
-use Rattle.names.specs.Rows.{meantNumber}
+use Rattle.names.specs.model.Rows.{meantNumber}
 use Rattle.names.proofs.meanings.number.Statement.{statement}
 use Rattle.names.proofs.meanings.number.Tie as tie
 

@@ -5,7 +5,7 @@ use Prim.Native.Nat.{_*_, _-_, _≤_}
 use native.Mathlib.Omega.{arith}
 use lib.ListN.{length, drop}
 use borrow.Author.Needs.{needs}
-use Rattle.names.specs.Rows.{missingIn}
+use Rattle.names.specs.model.Rows.{missingIn}
 use Rattle.names.proofs.RowLaws.{missing-stop, missing-next, missing-end}
 use Rattle.names.proofs.outline.missing.Statement.{statement}
 use Rattle.names.proofs.outline.missing.Tie as tie

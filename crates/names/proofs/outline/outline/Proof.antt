@@ -1,7 +1,7 @@
 -- `names::outline::outline` meets its contract: the parts of what the walk gives.
 -- Assumes nothing.
 use mathlib.Core.Path.{ap}
-use Rattle.names.specs.Rows.{Known}
+use Rattle.names.specs.model.Rows.{Known}
 use borrow.Author.Needs.{needs}
 use Rattle.names.proofs.outline.outline.Statement.{statement}
 use Rattle.names.proofs.outline.outline.Tie as tie

@@ -4,8 +4,8 @@ use mathlib.Core.Path.{_≡_, refl, sym, ap, _∙_}
 use Prim.Native.Nat.{_+_, _*_, _-_, _≤_}
 use native.Mathlib.Omega.{arith}
 use lib.ListN.{length, drop}
-use Rattle.names.specs.Rows.{opensOf, foldNodes, outlineNode, outlineOf}
-use Rattle.names.specs.Model.{seeOutline, OutlineWithin}
+use Rattle.names.specs.model.Rows.{opensOf, foldNodes, outlineNode, outlineOf}
+use Rattle.names.specs.model.Arrays.{seeOutline, OutlineWithin}
 use Rattle.names.proofs.RowLaws.{fold-on, fold-end}
 use Rattle.names.proofs.OutlineLaws.{within-le}
 use Rattle.names.proofs.outline.walk.Statement.{statement}

@@ -5,7 +5,7 @@ use Prim.Native.Nat.{_+_, _*_, _-_, _≤_}
 use native.Mathlib.Omega.{arith}
 use lib.ListN.{length, drop}
 use borrow.Author.Needs.{needs}
-use Rattle.names.specs.Rows.{findRow}
+use Rattle.names.specs.model.Rows.{findRow}
 use Rattle.names.proofs.RowLaws.{find-stop, find-next, find-end}
 use Rattle.names.proofs.rows.find.Statement.{statement}
 use Rattle.names.proofs.rows.find.Tie as tie

@@ -1,7 +1,7 @@
 -- `names::rows::fits` meets its contract: a test for each part of `sought`, in its order.
 -- Assumes nothing.
 use borrow.Author.Tests.{le-leb, lt-leb, eq-eqb, ne-eqb}
-use Rattle.names.specs.Rows.{sought}
+use Rattle.names.specs.model.Rows.{sought}
 use Rattle.names.proofs.rows.fits.Statement.{statement}
 use Rattle.names.proofs.rows.fits.Tie as tie
 

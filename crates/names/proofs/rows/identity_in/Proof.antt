@@ -2,7 +2,7 @@
 -- Assumes nothing.
 use mathlib.Core.Path.{refl, sym}
 use lib.ListN.{List·getD-eq-default}
-use Rattle.names.specs.Rows.{identityIn}
+use Rattle.names.specs.model.Rows.{identityIn}
 use borrow.Author.Needs.{needs}
 use Rattle.names.proofs.rows.identity_in.Statement.{statement}
 use Rattle.names.proofs.rows.identity_in.Tie as tie

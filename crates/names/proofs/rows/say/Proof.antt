@@ -5,7 +5,7 @@ use mathlib.Core.List.{List}
 use Prim.Native.Nat.{ℕ, _+_, _*_, _-_, _≤_}
 use native.Mathlib.Omega.{arith}
 use lib.ListN.{length, take}
-use Rattle.names.specs.Rows.{saying}
+use Rattle.names.specs.model.Rows.{saying}
 use Rattle.names.proofs.RowLaws.{toldTo, tell-size, tell-next, told-all}
 use Rattle.names.proofs.rows.say.Statement.{statement}
 use Rattle.names.proofs.rows.say.Tie as tie

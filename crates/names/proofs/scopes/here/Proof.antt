@@ -1,6 +1,6 @@
 -- `names::scopes::here` meets its contract: the last word of the open ones.
 -- Assumes nothing.
-use Rattle.names.specs.Rows.{opensOf, hereIn}
+use Rattle.names.specs.model.Rows.{opensOf, hereIn}
 use Rattle.names.proofs.RowLaws.{opens-here}
 use borrow.Author.Needs.{needs}
 use Rattle.names.proofs.scopes.here.Statement.{statement}

@@ -2,7 +2,7 @@
 -- Assumes nothing.
 use mathlib.Core.Path.{refl}
 use native.Mathlib.Omega.{arith}
-use Rattle.names.specs.Rows.{opensOf, outward}
+use Rattle.names.specs.model.Rows.{opensOf, outward}
 use Rattle.names.proofs.RowLaws.{opens-leave}
 use borrow.Author.Needs.{needs}
 use Rattle.names.proofs.scopes.leave.Statement.{statement}

@@ -4,7 +4,7 @@ use Prim.Native.Nat.{_≤_}
 use mathlib.Core.Path.{_≡_, refl, sym, _∙_}
 use native.Mathlib.Omega.{arith}
 use borrow.Author.Needs.{needs}
-use Rattle.names.specs.Rows.{opensOf, meantIn}
+use Rattle.names.specs.model.Rows.{opensOf, meantIn}
 use Rattle.names.proofs.UseLaws.{meant-here, meant-outward, meant-outside}
 use Rattle.names.proofs.uses.meaning.Statement.{statement}
 use Rattle.names.proofs.uses.meaning.Tie as tie

@@ -5,7 +5,7 @@ use mathlib.Core.Path.{_≡_}
 use mathlib.Core.Logic.{_⊎_, ⊎-elim, inl, inr}
 use native.Mathlib.Omega.{arith}
 use borrow.Author.Needs.{needs}
-use Rattle.names.specs.Model.{seeUses}
+use Rattle.names.specs.model.Arrays.{seeUses}
 use Rattle.names.proofs.UseLaws.{uses-name, passes, node-opens, node-closes}
 use Rattle.names.proofs.uses.node.Statement.{statement}
 use Rattle.names.proofs.uses.node.Tie as tie

@@ -1,7 +1,7 @@
 -- `uses::outside` is what the environment gives for an identity.
 -- The two tests of the code are those of the definition, in the same order.
 use borrow.Author.Tests.{lt-ltb, le-ltb}
-use Rattle.names.specs.Rows.{outsideOf}
+use Rattle.names.specs.model.Rows.{outsideOf}
 use borrow.Author.Needs.{needs}
 use Rattle.names.proofs.uses.outside.Statement.{statement}
 use Rattle.names.proofs.uses.outside.Tie as tie

@@ -1,7 +1,7 @@
 -- `uses::resolve` is `walk` over a stack of its own.
 -- Of what the walk has seen it promises the words that keep the uses, and the least fault.
 use mathlib.Core.Path.{ap}
-use Rattle.names.specs.Rows.{Found}
+use Rattle.names.specs.model.Rows.{Found}
 use borrow.Author.Needs.{needs}
 use Rattle.names.proofs.uses.resolve.Statement.{statement}
 use Rattle.names.proofs.uses.resolve.Tie as tie

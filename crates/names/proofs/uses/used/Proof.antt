@@ -8,7 +8,7 @@ use native.Mathlib.Omega.{arith}
 use borrow.Author.Needs.{needs}
 use types.Run.{OneOf}
 use denote.Enum.Declared.{tagOf}
-use Rattle.names.specs.Rows.{isNothing}
+use Rattle.names.specs.model.Rows.{isNothing}
 use Rattle.names.specs.declared.Meant.{Meant}
 use Rattle.names.specs.declared.Meant.the-variants.{Declared, Given, Nothing}
 use Rattle.names.proofs.Meant.{the-type}

@@ -4,8 +4,8 @@ use Prim.Native.Nat.{_+_, _-_, _*_, _≤_}
 use mathlib.Core.Path.{_≡_, refl, sym, _∙_}
 use native.Mathlib.Omega.{arith}
 use lib.ListN.{length, getD, drop}
-use Rattle.names.specs.Rows.{foldNodes, opensOf, useNode, usesOf}
-use Rattle.names.specs.Model.{seeUses, UsesWithin}
+use Rattle.names.specs.model.Rows.{foldNodes, opensOf, useNode, usesOf}
+use Rattle.names.specs.model.Arrays.{seeUses, UsesWithin}
 use Rattle.names.proofs.RowLaws.{fold-end}
 use Rattle.names.proofs.UseLaws.{fold-next}
 use Rattle.names.proofs.uses.walk.Statement.{statement}

@@ -2,7 +2,7 @@
 use mathlib.Core.Path.{refl, ap}
 use Rattle.answers.specs.declared.Verdict.the-variants.{Refused}
 use Rattle.reading.specs.Judging.{too-long}
-use Rattle.reading.specs.Model.{refused}
+use Rattle.reading.specs.model.Stages.{refused}
 use Rattle.reading.proofs.Answers.{as-judged, onward, symbols-first}
 use Rattle.reading.proofs.Stages.{unread, stand, values-stand}
 use borrow.Author.Needs.{needs}

@@ -3,7 +3,7 @@ use mathlib.Core.Path.{refl, ap, _∙_}
 use native.Mathlib.Omega.{arith}
 use Rattle.answers.specs.Answers.{refusal}
 use Rattle.answers.specs.declared.Verdict.the-variants.{Refused}
-use Rattle.reading.specs.Model.{refused}
+use Rattle.reading.specs.model.Stages.{refused}
 use Rattle.reading.proofs.Answers.{as-judged}
 use Rattle.reading.proofs.Stages.{ready, refusals, refused-at}
 use borrow.Author.Needs.{needs}

@@ -3,7 +3,7 @@
 use mathlib.Core.Path.{refl, ap}
 use native.Mathlib.Omega.{arith}
 use Rattle.answers.specs.declared.Verdict.the-variants.{Refused}
-use Rattle.reading.specs.Model.{Named, program, refused}
+use Rattle.reading.specs.model.Stages.{Named, program, refused}
 use Rattle.reading.proofs.Answers.{stage-refused, stage-right, typed-right, typed-wrong}
 use borrow.Author.Needs.{needs}
 use Rattle.reading.proofs.finding.resolved.Statement.{statement}

@@ -2,7 +2,7 @@
 use mathlib.Core.Path.{refl, ap}
 use native.Mathlib.Omega.{arith}
 use Rattle.answers.specs.declared.Verdict.the-variants.{Refused}
-use Rattle.reading.specs.Model.{right, wrong}
+use Rattle.reading.specs.model.Stages.{right, wrong}
 use Rattle.reading.proofs.Answers.{last-refused, last-right}
 use borrow.Author.Needs.{needs}
 use Rattle.reading.proofs.finding.typed.Statement.{statement}

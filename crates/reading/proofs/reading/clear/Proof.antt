@@ -3,7 +3,7 @@ use Prim.Native.Nat.{_-_}
 use mathlib.Core.Path.{_≡_, ap, _∙_}
 use native.Mathlib.Omega.{arith}
 use lib.ListN.{length, length-set}
-use Rattle.grammar.specs.Verdict.{zeros}
+use Rattle.grammar.specs.model.Parsing.{zeros}
 use Rattle.syntax.proofs.Words.{Cleared, not-yet, one-more, all-clear}
 use borrow.Author.Needs.{needs}
 use Rattle.reading.proofs.reading.clear.Statement.{statement}

@@ -1,6 +1,6 @@
 -- `reading::reading::judged` meets its contract: the words are cleared first, so that every refusal leaves zeros. Assumes nothing.
 use mathlib.Core.Path.{refl, ap, _∙_}
-use Rattle.grammar.specs.Verdict.{zeros}
+use Rattle.grammar.specs.model.Parsing.{zeros}
 use Rattle.reading.proofs.Answers.{as-judged, told-program, told-refused}
 use borrow.Author.Needs.{needs}
 use Rattle.reading.proofs.reading.judged.Statement.{statement}

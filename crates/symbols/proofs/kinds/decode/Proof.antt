@@ -1,6 +1,6 @@
 -- `symbols::kinds::decode` meets its contract: each arm has told the kind, and the last one that it is none of them.
 -- Assumes nothing.
-use Rattle.symbols.specs.Kinds.{symbolOf, ordered}
+use Rattle.symbols.specs.model.Kinds.{symbolOf, ordered}
 use Rattle.symbols.specs.declared.Symbol.the-variants.{Colon}
 use mathlib.Core.Path.{sym}
 use lib.ListN.{List·getD-eq-default}

@@ -9,7 +9,7 @@ use lib.ListN.{getD, drop}
 use lib.ListN.{List·getD-eq-default}
 use lib.Seq.{getD-drop}
 use Rattle.symbols.specs.Scan.{gap, followed}
-use Rattle.symbols.specs.Steps.{joinedOf}
+use Rattle.symbols.specs.model.Steps.{joinedOf}
 use borrow.Author.Needs.{needs}
 use Rattle.symbols.proofs.lexemes.joined.Statement.{statement}
 use Rattle.symbols.proofs.lexemes.joined.Tie as tie

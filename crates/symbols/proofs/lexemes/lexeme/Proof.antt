@@ -5,7 +5,7 @@ use mathlib.Core.Path.{sym, _∙_}
 use Prim.Native.Nat.{_-_}
 use borrow.Author.Tests.{lt-ltb, le-ltb, eq-eqb, ne-eqb}
 use Rattle.symbols.specs.Scan.{lexeme}
-use Rattle.symbols.specs.Steps.{lexemeAt}
+use Rattle.symbols.specs.model.Steps.{lexemeAt}
 use borrow.Author.Needs.{needs}
 use Rattle.symbols.proofs.lexemes.lexeme.Statement.{statement}
 use Rattle.symbols.proofs.lexemes.lexeme.Tie as tie

@@ -11,7 +11,7 @@ use mathlib.Core.List.{List, _∷_}
 use mathlib.Core.Logic.{⊎-elim}
 use Rattle.symbols.specs.Names.{digit, these, reach, value, valueFrom}
 use Rattle.symbols.specs.Scan.{valued, number}
-use Rattle.symbols.specs.Steps.{capped}
+use Rattle.symbols.specs.model.Steps.{capped}
 use Rattle.symbols.proofs.Laws.{these-on, these-stop, these-end, reach-one, reach-on, reach-stop, reach-end, number-first, number-more, number-done, capped-small}
 use Rattle.symbols.proofs.lexemes.number.Statement.{statement}
 use Rattle.symbols.proofs.lexemes.number.Tie as tie

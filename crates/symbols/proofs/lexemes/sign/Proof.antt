@@ -3,7 +3,7 @@
 use borrow.Author.Needs.{needs}
 use borrow.Author.Tests.{ne-eqb}
 use Rattle.symbols.specs.Scan.{sign}
-use Rattle.symbols.specs.Steps.{joinedOf}
+use Rattle.symbols.specs.model.Steps.{joinedOf}
 use borrow.Author.Needs.{needs}
 use Rattle.symbols.proofs.lexemes.sign.Statement.{statement}
 use Rattle.symbols.proofs.lexemes.sign.Tie as tie

@@ -2,7 +2,7 @@
 -- Assumes nothing.
 use Prim.Native.Nat.{_-_}
 use native.Mathlib.Omega.{arith}
-use Rattle.symbols.specs.Steps.{capped}
+use Rattle.symbols.specs.model.Steps.{capped}
 use Rattle.symbols.proofs.Laws.{digit-range}
 use borrow.Author.Needs.{needs}
 use Rattle.symbols.proofs.lexemes.with_digit.Statement.{statement}

@@ -7,7 +7,7 @@ use lib.ListN.{length, drop}
 use borrow.Author.Needs.{needs}
 use mathlib.Core.List.{List}
 use Rattle.symbols.specs.Names.{letters, equal, sameName}
-use Rattle.symbols.specs.Steps.{restAt}
+use Rattle.symbols.specs.model.Steps.{restAt}
 use Rattle.symbols.proofs.Laws.{rests-apart, rests-differ, rests-on, rests-end}
 use Rattle.symbols.proofs.names.same_name.Statement.{statement}
 use Rattle.symbols.proofs.names.same_name.Tie as tie

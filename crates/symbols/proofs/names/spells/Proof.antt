@@ -10,7 +10,7 @@ use borrow.Author.Needs.{needs}
 use lib.Dec.{leb}
 use lib.ListN.{length, getD, drop, drop-of-length-le}
 use Rattle.symbols.specs.Names.{letters, equal, sameName}
-use Rattle.symbols.specs.Steps.{restAt}
+use Rattle.symbols.specs.model.Steps.{restAt}
 use Rattle.symbols.proofs.Laws.{peel, rest-on, rest-off}
 use Rattle.symbols.proofs.names.spells.Statement.{statement}
 use Rattle.symbols.proofs.names.spells.Tie as tie

@@ -10,7 +10,7 @@ use borrow.Author.Tests.{lt-ltb, le-ltb}
 use lib.ListN.{length, getD, drop}
 use lib.ListN.{length-drop}
 use Rattle.symbols.specs.Scan.{lexeme, turn, judged}
-use Rattle.symbols.specs.Steps.{turnAt}
+use Rattle.symbols.specs.model.Steps.{turnAt}
 use Rattle.symbols.proofs.Laws.{lexeme-here, judged-large, judged-nothing}
 use Rattle.symbols.proofs.Within.{Fits, fits-lexeme}
 use borrow.Author.Needs.{needs}

@@ -9,7 +9,7 @@ use borrow.Author.Tests.{lt-ltb, le-ltb}
 use lib.ListN.{length, getD, drop}
 use lib.ListN.{length-drop}
 use Rattle.symbols.specs.Scan.{turn}
-use Rattle.symbols.specs.Steps.{stepOf, stepAt}
+use Rattle.symbols.specs.model.Steps.{stepOf, stepAt}
 use Rattle.symbols.proofs.Laws.{turn-here}
 use Rattle.symbols.proofs.Within.{Stays, stays}
 use borrow.Author.Needs.{needs}

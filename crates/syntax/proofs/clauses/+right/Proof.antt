@@ -4,9 +4,9 @@ use mathlib.Core.List.{[], _∷_}
 use Prim.Native.Nat.{ℕ, _+_, _-_, _<_}
 use native.Mathlib.Omega.{arith}
 use lib.ListN.{length}
-use Rattle.grammar.specs.Run.{now}
-use Rattle.grammar.specs.Text.{text, kindAt}
-use Rattle.syntax.specs.Says.{left}
+use Rattle.grammar.specs.model.Run.{now}
+use Rattle.grammar.specs.model.Text.{text, kindAt}
+use Rattle.syntax.specs.model.Says.{left}
 use Rattle.grammar.proofs.Peeks.{inside, is-at, is-not, but}
 use Rattle.syntax.proofs.Lemmas.{s-sy, s-put, s-prod, s-last}
 use Rattle.grammar.specs.Grammar as G

@@ -4,9 +4,9 @@ use mathlib.Core.List.{[], _∷_}
 use Prim.Native.Nat.{ℕ, _-_, _<_}
 use native.Mathlib.Omega.{arith}
 use lib.ListN.{length}
-use Rattle.grammar.specs.Tables.{choose, some}
-use Rattle.grammar.specs.Run.{now}
-use Rattle.grammar.specs.Text.{text}
+use Rattle.grammar.specs.model.Tables.{choose, some}
+use Rattle.grammar.specs.model.Run.{now}
+use Rattle.grammar.specs.model.Text.{text}
 use Rattle.grammar.proofs.Sets.{all-in}
 use Rattle.grammar.proofs.Peeks.{inside, inside-in, is-at, is-in, is-not, but}
 use Rattle.syntax.proofs.Lemmas.{space, s-end, s-sy, s-no, s-prod, s-part, s-bad, s-last}

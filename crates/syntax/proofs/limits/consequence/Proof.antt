@@ -2,9 +2,9 @@
 use mathlib.Core.Path.{refl, ap}
 use mathlib.Core.List.{[], _∷_}
 use Prim.Native.Nat.{ℕ}
-use Rattle.grammar.specs.Tables.{choose}
-use Rattle.grammar.specs.Run.{now, level, rd-six, rd-five, rd-bad}
-use Rattle.syntax.specs.Says.{left}
+use Rattle.grammar.specs.model.Tables.{choose}
+use Rattle.grammar.specs.model.Run.{now, level, rd-six, rd-five, rd-bad}
+use Rattle.syntax.specs.model.Says.{left}
 use Rattle.grammar.proofs.Peeks.{is-at, is-in, is-not, but}
 use Rattle.syntax.proofs.Lemmas.{limits, may, may-end, may-not, may-not-end}
 use Rattle.syntax.proofs.Choices as C

@@ -1,7 +1,7 @@
 -- `syntax::limits::expression` meets its contract: where the symbol begins an expression it is 6, else 5. Assumes nothing.
 use mathlib.Core.Path.{refl}
 use mathlib.Core.List.{[], _∷_}
-use Rattle.grammar.specs.Run.{rd-six, rd-five}
+use Rattle.grammar.specs.model.Run.{rd-six, rd-five}
 use Rattle.grammar.proofs.Peeks.{is-in, is-none, but}
 use Rattle.syntax.proofs.Lemmas.{limits}
 use borrow.Author.Needs.{needs}

@@ -1,8 +1,8 @@
 -- `syntax::limits::statement` meets its contract: 6 where the symbol begins a statement, or may follow an empty one. Assumes nothing.
 use mathlib.Core.Path.{refl}
 use mathlib.Core.List.{[], _∷_}
-use Rattle.grammar.specs.Run.{rd-six, rd-five}
-use Rattle.syntax.specs.Says.{left}
+use Rattle.grammar.specs.model.Run.{rd-six, rd-five}
+use Rattle.syntax.specs.model.Says.{left}
 use Rattle.grammar.proofs.Peeks.{is-at, is-in, but}
 use Rattle.syntax.proofs.Lemmas.{limits, may, may-end, may-not, may-not-end}
 use borrow.Author.Needs.{needs}

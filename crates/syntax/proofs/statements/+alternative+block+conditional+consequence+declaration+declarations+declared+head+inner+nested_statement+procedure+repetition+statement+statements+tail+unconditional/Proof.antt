@@ -5,10 +5,10 @@ use mathlib.Core.List.{[], _∷_}
 use Prim.Native.Nat.{ℕ, _+_, _-_, _*_, _<_}
 use native.Mathlib.Omega.{arith}
 use lib.ListN.{length}
-use Rattle.grammar.specs.Tables.{choose, some}
-use Rattle.grammar.specs.Run.{now}
-use Rattle.grammar.specs.Text.{text}
-use Rattle.syntax.specs.Says.{left}
+use Rattle.grammar.specs.model.Tables.{choose, some}
+use Rattle.grammar.specs.model.Run.{now}
+use Rattle.grammar.specs.model.Text.{text}
+use Rattle.syntax.specs.model.Says.{left}
 use Rattle.grammar.proofs.Sets.{all-in}
 use Rattle.grammar.proofs.Peeks.{inside, inside-in, is-at, is-in, is-not, but}
 use Rattle.syntax.proofs.Lemmas.{says-limit, space, s-end, s-sy, s-no, s-put, s-prod, s-part, s-bad, s-last, deep-got, deep-bad, s-deeper}

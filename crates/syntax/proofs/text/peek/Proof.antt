@@ -1,7 +1,7 @@
 -- `syntax::text::peek` meets its contract. Assumes nothing.
 use mathlib.Core.Path.{sym, ap, _∙_}
-use Rattle.grammar.specs.Run.{now}
-use Rattle.syntax.specs.Says.{left}
+use Rattle.grammar.specs.model.Run.{now}
+use Rattle.syntax.specs.model.Says.{left}
 use Rattle.symbols.specs.Symbols.{kind}
 use Rattle.grammar.proofs.Peeks.{text-at, text-past}
 use borrow.Author.Needs.{needs}

@@ -2,8 +2,8 @@
 use Prim.Native.Nat.{_-_}
 use native.Mathlib.Omega.{arith}
 use lib.ListN.{length}
-use Rattle.grammar.specs.Run.{now}
-use Rattle.syntax.specs.Says.{left}
+use Rattle.grammar.specs.model.Run.{now}
+use Rattle.syntax.specs.model.Says.{left}
 use lib.ListN.{length-set}
 use Rattle.syntax.proofs.Words.{Cleared, not-yet, one-more, all-clear}
 use borrow.Author.Needs.{needs}

@@ -1,6 +1,6 @@
 -- `syntax::writing::put` meets its contract. Assumes nothing.
 use native.Mathlib.Omega.{arith}
-use Rattle.grammar.specs.Run.{now}
+use Rattle.grammar.specs.model.Run.{now}
 use Rattle.syntax.proofs.Words.{put-is}
 use lib.ListN.{length-set}
 use borrow.Author.Needs.{needs}

@@ -6,7 +6,7 @@ use mathlib.Core.Logic.{_⊎_, inl, inr}
 use Prim.Native.Nat.{ℕ}
 use borrow.Author.Tests.{ne-eqb}
 use Rattle.table.specs.Table.{hasNone}
-use Rattle.table.specs.Model.{placeOf}
+use Rattle.table.specs.model.Writing.{placeOf}
 use borrow.Author.Needs.{needs}
 use Rattle.table.proofs.writing.node_place.Statement.{statement}
 use Rattle.table.proofs.writing.node_place.Tie as tie

@@ -6,7 +6,7 @@ use Prim.Native.Nat.{ℕ, _+_, _/_, _≤_, _<_}
 use native.Mathlib.Omega.{arith}
 use lib.ListN.{length}
 use Rattle.table.specs.Table.{declarationWords, nodeWords}
-use Rattle.table.specs.Model.{Wrote, placeOf, useModel, useSection, declarationSection, nodeSection, tableModel}
+use Rattle.table.specs.model.Writing.{Wrote, placeOf, useModel, useSection, declarationSection, nodeSection, tableModel}
 use Rattle.table.proofs.Written.{Writing, none-yet, some-more, as-before, room-next, all-written, fours-is}
 use borrow.Author.Needs.{needs}
 use Rattle.table.proofs.writing.put_all.Statement.{statement}

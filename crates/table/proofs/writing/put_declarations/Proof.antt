@@ -6,7 +6,7 @@ use native.Mathlib.Omega.{arith}
 use lib.ListN.{length, drop}
 use borrow.Author.Needs.{needs}
 use Rattle.table.specs.Table.{declarationWords}
-use Rattle.table.specs.Model.{placeOf}
+use Rattle.table.specs.model.Writing.{placeOf}
 use Rattle.table.proofs.Written.{Writing, none-yet, some-more, room-four, all-written, declarations-on, declarations-end}
 use Rattle.table.proofs.writing.put_declarations.Statement.{statement}
 use Rattle.table.proofs.writing.put_declarations.Tie as tie

@@ -6,7 +6,7 @@ use native.Mathlib.Omega.{arith}
 use lib.ListN.{length, drop}
 use borrow.Author.Needs.{needs}
 use Rattle.table.specs.Table.{nodeWords}
-use Rattle.table.specs.Model.{placeOf}
+use Rattle.table.specs.model.Writing.{placeOf}
 use Rattle.table.proofs.Written.{Writing, none-yet, some-more, room-four, all-written, nodes-on, nodes-end}
 use Rattle.table.proofs.writing.put_nodes.Statement.{statement}
 use Rattle.table.proofs.writing.put_nodes.Tie as tie

@@ -3,7 +3,7 @@
 use mathlib.Core.Path.{sym, ap, _∙_}
 use Prim.Native.Nat.{_-_}
 use native.Mathlib.Omega.{arith}
-use Rattle.table.specs.Model.{placeOf}
+use Rattle.table.specs.model.Writing.{placeOf}
 use Rattle.table.proofs.Written.{wrote-as, declared-small, declared-words, given-words, nothing-words}
 use borrow.Author.Needs.{needs}
 use Rattle.table.proofs.writing.put_use.Statement.{statement}

@@ -6,7 +6,7 @@ use Prim.Native.Nat.{_*_, _-_, _≤_}
 use native.Mathlib.Omega.{arith}
 use lib.ListN.{length, drop}
 use borrow.Author.Needs.{needs}
-use Rattle.table.specs.Model.{placeOf, useModel}
+use Rattle.table.specs.model.Writing.{placeOf, useModel}
 use Rattle.table.proofs.Written.{Writing, none-yet, use-room, use-put, use-past, all-written, uses-end}
 use Rattle.table.proofs.writing.put_uses.Statement.{statement}
 use Rattle.table.proofs.writing.put_uses.Tie as tie

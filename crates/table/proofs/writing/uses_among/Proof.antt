@@ -6,8 +6,8 @@ use Prim.Native.Nat.{_+_, _*_, _-_, _≤_}
 use native.Mathlib.Omega.{arith}
 use lib.ListN.{length, drop}
 use borrow.Author.Needs.{needs}
-use Rattle.names.specs.Rows.{isUse}
-use Rattle.table.specs.Model.{among}
+use Rattle.names.specs.model.Rows.{isUse}
+use Rattle.table.specs.model.Writing.{among}
 use Rattle.table.proofs.Written.{one-more, none-more, among-end}
 use Rattle.table.proofs.writing.uses_among.Statement.{statement}
 use Rattle.table.proofs.writing.uses_among.Tie as tie

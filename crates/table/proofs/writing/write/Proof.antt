@@ -2,7 +2,7 @@
 use mathlib.Core.Path.{refl}
 use native.Mathlib.Omega.{arith}
 use borrow.Author.Needs.{needs}
-use Rattle.table.specs.Model.{placeOf, all, nothing}
+use Rattle.table.specs.model.Writing.{placeOf, all, nothing}
 use Rattle.table.proofs.writing.write.Statement.{statement}
 use Rattle.table.proofs.writing.write.Tie as tie
 

@@ -1,6 +1,6 @@
 -- `types::meanings::applied` meets its contract: where there is no type the result says so.
 use borrow.Author.Tests.{ne-eqb}
-use Rattle.types.specs.Passes.{appliedAs}
+use Rattle.types.specs.model.Passes.{appliedAs}
 use Rattle.types.proofs.meanings.applied.Statement.{statement}
 use Rattle.types.proofs.meanings.applied.Tie as tie
 

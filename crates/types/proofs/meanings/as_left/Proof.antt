@@ -4,7 +4,7 @@ use mathlib.Core.Path.{ap}
 use mathlib.Core.Bool.{false}
 use borrow.Author.Tests.{eq-eqb, ne-eqb}
 use borrow.Author.Needs.{needs}
-use Rattle.types.specs.Passes.{judgement, sortIn, leftOf}
+use Rattle.types.specs.model.Passes.{judgement, sortIn, leftOf}
 use Rattle.types.proofs.meanings.as_left.Statement.{statement}
 use Rattle.types.proofs.meanings.as_left.Tie as tie
 

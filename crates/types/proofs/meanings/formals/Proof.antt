@@ -4,7 +4,7 @@ use Prim.Native.Nat.{_+_, _*_, _-_, _≤_}
 use native.Mathlib.Omega.{arith}
 use lib.ListN.{drop}
 use borrow.Author.Needs.{needs}
-use Rattle.types.specs.Passes.{formalsFrom, formalsIn}
+use Rattle.types.specs.model.Passes.{formalsFrom, formalsIn}
 use Rattle.types.proofs.RowWords.{formals-here, formals-other, formals-end}
 use Rattle.types.proofs.meanings.formals.Statement.{statement}
 use Rattle.types.proofs.meanings.formals.Tie as tie

@@ -1,6 +1,6 @@
 -- `types::meanings::given_formals` meets its contract: each arm's number puts the tests of `givenFormals` right.
 use borrow.Author.Tests.{ne-eqb}
-use Rattle.types.specs.Passes.{givenFormals}
+use Rattle.types.specs.model.Passes.{givenFormals}
 use Rattle.types.proofs.meanings.given_formals.Statement.{statement}
 use Rattle.types.proofs.meanings.given_formals.Tie as tie
 

@@ -1,6 +1,6 @@
 -- `types::meanings::given_sort` meets its contract: its test is that of `givenSort`.
 use borrow.Author.Tests.{lt-ltb, le-ltb}
-use Rattle.types.specs.Passes.{givenSort}
+use Rattle.types.specs.model.Passes.{givenSort}
 use Rattle.types.proofs.meanings.given_sort.Statement.{statement}
 use Rattle.types.proofs.meanings.given_sort.Tie as tie
 

@@ -1,7 +1,7 @@
 -- `types::meanings::given_wants` meets its contract: its tests are those of `givenWants`.
 use borrow.Author.Tests.{le-leb, lt-leb, eq-eqb, ne-eqb}
 use borrow.Author.Needs.{needs}
-use Rattle.types.specs.Passes.{givenWants}
+use Rattle.types.specs.model.Passes.{givenWants}
 use Rattle.types.proofs.meanings.given_wants.Statement.{statement}
 use Rattle.types.proofs.meanings.given_wants.Tie as tie
 

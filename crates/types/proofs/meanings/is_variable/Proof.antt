@@ -1,7 +1,7 @@
 -- `types::meanings::is_variable` meets its contract: a case for each kind of meaning.
 use mathlib.Core.Path.{sym, _∙_}
 use borrow.Author.Needs.{needs}
-use Rattle.types.specs.Passes.{variableOf}
+use Rattle.types.specs.model.Passes.{variableOf}
 use Rattle.types.proofs.meanings.is_variable.Statement.{statement}
 use Rattle.types.proofs.meanings.is_variable.Tie as tie
 

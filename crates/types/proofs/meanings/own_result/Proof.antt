@@ -6,9 +6,9 @@ use lib.Dec.{eqb}
 use lib.ListN.{length}
 use borrow.Author.Needs.{needs}
 use Rattle.names.specs.Modes.{typeIn}
-use Rattle.names.specs.Rows.{opensOf}
+use Rattle.names.specs.model.Rows.{opensOf}
 use Rattle.names.specs.declared.Row.{Row}
-use Rattle.types.specs.Passes.{sortIn, judgement, ownOf}
+use Rattle.types.specs.model.Passes.{sortIn, judgement, ownOf}
 use Rattle.types.proofs.RowWords.{own-here, own-further}
 use Rattle.types.proofs.meanings.own_result.Statement.{statement}
 use Rattle.types.proofs.meanings.own_result.Tie as tie

@@ -1,6 +1,6 @@
 -- `types::meanings::plainly` meets its contract: its test is that of `plainlyAs`.
 use borrow.Author.Tests.{eq-eqb, ne-eqb}
-use Rattle.types.specs.Passes.{plainlyAs}
+use Rattle.types.specs.model.Passes.{plainlyAs}
 use Rattle.types.proofs.meanings.plainly.Statement.{statement}
 use Rattle.types.proofs.meanings.plainly.Tie as tie
 

@@ -2,7 +2,7 @@
 use mathlib.Core.Path.{ap, _∙_}
 use Rattle.names.specs.Modes.{typeIn}
 use Rattle.names.specs.declared.Row.{Row}
-use Rattle.types.specs.Passes.{sortIn}
+use Rattle.types.specs.model.Passes.{sortIn}
 use borrow.Author.Needs.{needs}
 use Rattle.types.proofs.meanings.sort_of.Statement.{statement}
 use Rattle.types.proofs.meanings.sort_of.Tie as tie

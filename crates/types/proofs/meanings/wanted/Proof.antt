@@ -5,8 +5,8 @@ use borrow.Author.Tests.{le-leb, lt-leb}
 use mathlib.Core.Bool.{true, false}
 use borrow.Author.Needs.{needs}
 use Rattle.types.proofs.RowWords.{from-not}
-use Rattle.types.specs.Passes.{wantOf}
-use Rattle.types.specs.Model.{MeantWithin}
+use Rattle.types.specs.model.Passes.{wantOf}
+use Rattle.types.specs.model.Arrays.{MeantWithin}
 use Rattle.types.proofs.meanings.wanted.Statement.{statement}
 use Rattle.types.proofs.meanings.wanted.Tie as tie
 

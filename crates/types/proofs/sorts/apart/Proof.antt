@@ -1,6 +1,6 @@
 -- `types::sorts::apart` meets its contract: its tests are those of `apartOf`, in the same order.
 use borrow.Author.Tests.{eq-eqb, ne-eqb}
-use Rattle.types.specs.Passes.{apartOf}
+use Rattle.types.specs.model.Passes.{apartOf}
 use Rattle.types.proofs.sorts.apart.Statement.{statement}
 use Rattle.types.proofs.sorts.apart.Tie as tie
 

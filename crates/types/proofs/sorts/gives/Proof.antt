@@ -1,6 +1,6 @@
 -- `types::sorts::gives` meets its contract: its tests are those of `givesSort`.
 use borrow.Author.Tests.{lt-ltb, le-ltb}
-use Rattle.types.specs.Passes.{givesSort}
+use Rattle.types.specs.model.Passes.{givesSort}
 use Rattle.types.proofs.sorts.gives.Statement.{statement}
 use Rattle.types.proofs.sorts.gives.Tie as tie
 

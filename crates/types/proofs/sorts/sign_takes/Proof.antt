@@ -1,6 +1,6 @@
 -- `types::sorts::sign_takes` meets its contract: its test is that of `signSort`.
 use borrow.Author.Tests.{eq-eqb, ne-eqb}
-use Rattle.types.specs.Passes.{signSort}
+use Rattle.types.specs.model.Passes.{signSort}
 use Rattle.types.proofs.sorts.sign_takes.Statement.{statement}
 use Rattle.types.proofs.sorts.sign_takes.Tie as tie
 

@@ -1,6 +1,6 @@
 -- `types::sorts::takes` meets its contract: its test is that of `takesSort`.
 use borrow.Author.Tests.{lt-ltb, le-ltb}
-use Rattle.types.specs.Passes.{takesSort}
+use Rattle.types.specs.model.Passes.{takesSort}
 use Rattle.types.proofs.sorts.takes.Statement.{statement}
 use Rattle.types.proofs.sorts.takes.Tie as tie
 

@@ -4,8 +4,8 @@ use mathlib.Core.List.{List}
 use native.Mathlib.Omega.{arith}
 use Prim.Native.Nat.{_*_, _-_}
 use lib.ListN.{getD}
-use Rattle.types.specs.Model.{MeantWithin, see}
-use Rattle.types.specs.Passes.{Call, withCalls, popped}
+use Rattle.types.specs.model.Arrays.{MeantWithin, see}
+use Rattle.types.specs.model.Passes.{Call, withCalls, popped}
 use Rattle.types.proofs.Stacks.{meant-within, noted-ap, misfit-ap, want-ap, counts-first, calls-again, actual-none, actual-some}
 use borrow.Author.Needs.{needs}
 use Rattle.types.proofs.walking.actual.Statement.{statement}

@@ -1,6 +1,6 @@
 -- `types::walking::assign` meets its contract: what its callees say, one behind the other.
 use mathlib.Core.Path.{refl, _∙_}
-use Rattle.types.specs.Passes.{assignedAs, withLeft}
+use Rattle.types.specs.model.Passes.{assignedAs, withLeft}
 use Rattle.types.proofs.Stacks.{apart-ap, noted-ap}
 use borrow.Author.Needs.{needs}
 use Rattle.types.proofs.walking.assign.Statement.{statement}

@@ -1,6 +1,6 @@
 -- `types::walking::binary` meets its contract: what its callees say, one behind the other.
 use mathlib.Core.Path.{refl, _∙_}
-use Rattle.types.specs.Passes.{operatedAs}
+use Rattle.types.specs.model.Passes.{operatedAs}
 use Rattle.types.proofs.Stacks.{pushed-ap, taken-ap}
 use borrow.Author.Needs.{needs}
 use Rattle.types.proofs.walking.binary.Statement.{statement}

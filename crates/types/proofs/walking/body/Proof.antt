@@ -1,5 +1,5 @@
 -- `types::walking::body` meets its contract: the row's number is the new head.
-use Rattle.types.specs.Passes.{withRows, withBodies}
+use Rattle.types.specs.model.Passes.{withRows, withBodies}
 use borrow.Author.Needs.{needs}
 use Rattle.types.proofs.walking.body.Statement.{statement}
 use Rattle.types.proofs.walking.body.Tie as tie

@@ -1,6 +1,6 @@
 -- `types::walking::body_end` meets its contract: one word fewer is the tail.
-use Rattle.names.specs.Rows.{opensOf}
-use Rattle.types.specs.Passes.{withBodies, below}
+use Rattle.names.specs.model.Rows.{opensOf}
+use Rattle.types.specs.model.Passes.{withBodies, below}
 use Rattle.types.proofs.Stacks.{opens-below}
 use borrow.Author.Needs.{needs}
 use Rattle.types.proofs.walking.body_end.Statement.{statement}

@@ -1,5 +1,5 @@
 -- `types::walking::call` meets its contract: the call begun is the new head.
-use Rattle.types.specs.Passes.{calledAs, withCalls}
+use Rattle.types.specs.model.Passes.{calledAs, withCalls}
 use borrow.Author.Needs.{needs}
 use Rattle.types.proofs.walking.call.Statement.{statement}
 use Rattle.types.proofs.walking.call.Tie as tie

@@ -4,8 +4,8 @@ use Prim.Native.Nat.{_*_, _-_}
 use borrow.Author.Tests.{eq-eqb, ne-eqb}
 use lib.ListN.{getD}
 use Rattle.types.specs.declared.Judgement.{Judgement}
-use Rattle.types.specs.Model.{MeantWithin, see}
-use Rattle.types.specs.Passes.{judged, withCalls}
+use Rattle.types.specs.model.Arrays.{MeantWithin, see}
+use Rattle.types.specs.model.Passes.{judged, withCalls}
 use Rattle.types.proofs.Stacks.{meant-within, noted-ap, pushed-ap, miscalled-ap, primary-ap, ended-none, ended-statement, ended-primary}
 use borrow.Author.Needs.{needs}
 use Rattle.types.proofs.walking.call_end.Statement.{statement}

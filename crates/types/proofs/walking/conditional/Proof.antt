@@ -1,7 +1,7 @@
 -- `types::walking::conditional` meets its contract: what its callees say, one behind the other.
 use mathlib.Core.Path.{ap, _∙_}
-use Rattle.types.specs.Passes.{chosenAs, topOf}
-use Rattle.types.specs.Model.{see}
+use Rattle.types.specs.model.Passes.{chosenAs, topOf}
+use Rattle.types.specs.model.Arrays.{see}
 use Rattle.types.proofs.Stacks.{apart-ap, noted-ap, stack-popped}
 use borrow.Author.Needs.{needs}
 use Rattle.types.proofs.walking.conditional.Statement.{statement}

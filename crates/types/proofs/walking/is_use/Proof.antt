@@ -1,6 +1,6 @@
 -- `types::walking::is_use` meets its contract: each arm's number puts the tests of `isUse` right.
 use borrow.Author.Tests.{ne-eqb}
-use Rattle.names.specs.Rows.{isUse}
+use Rattle.names.specs.model.Rows.{isUse}
 use Rattle.types.proofs.walking.is_use.Statement.{statement}
 use Rattle.types.proofs.walking.is_use.Tie as tie
 

@@ -2,11 +2,11 @@
 use mathlib.Core.Path.{refl, sym, ap, subst, _∙_}
 use mathlib.Core.Bool.{true}
 use native.Mathlib.Omega.{arith}
-use Rattle.names.specs.Rows.{opensOf}
+use Rattle.names.specs.model.Rows.{opensOf}
 use Rattle.names.specs.declared.Meant.{Meant}
 use Rattle.types.specs.declared.Judgement.{Judgement}
-use Rattle.types.specs.Model.{MeantWithin, see}
-use Rattle.types.specs.Passes.{leftOf, withLeft}
+use Rattle.types.specs.model.Arrays.{MeantWithin, see}
+use Rattle.types.specs.model.Passes.{leftOf, withLeft}
 use Rattle.types.proofs.Stacks.{meant-within, noted-ap, apart-ap, or-true, or-false, left-again, left-first}
 use borrow.Author.Needs.{needs}
 use Rattle.types.proofs.walking.left.Statement.{statement}

@@ -1,7 +1,7 @@
 -- `types::walking::misfit` meets its contract: a case for each want.
 use mathlib.Core.Path.{sym, subst}
-use Rattle.types.specs.Model.{MeantWithin}
-use Rattle.types.specs.Passes.{misfitOf}
+use Rattle.types.specs.model.Arrays.{MeantWithin}
+use Rattle.types.specs.model.Passes.{misfitOf}
 use Rattle.types.proofs.Stacks.{meant-within}
 use borrow.Author.Needs.{needs}
 use Rattle.types.proofs.walking.misfit.Statement.{statement}

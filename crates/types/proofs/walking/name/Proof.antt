@@ -3,8 +3,8 @@ use mathlib.Core.Path.{refl, sym, ap, subst, _∙_}
 use borrow.Author.Tests.{eq-eqb, ne-eqb}
 use Rattle.names.specs.declared.Meant.{Meant}
 use Rattle.types.specs.declared.Judgement.{Judgement}
-use Rattle.types.specs.Model.{MeantWithin}
-use Rattle.types.specs.Passes.{namedAs, judged, withBare, miscalledOf, primaryOf}
+use Rattle.types.specs.model.Arrays.{MeantWithin}
+use Rattle.types.specs.model.Passes.{namedAs, judged, withBare, miscalledOf, primaryOf}
 use Rattle.types.proofs.Stacks.{meant-within, noted-ap, pushed-ap}
 use borrow.Author.Needs.{needs}
 use Rattle.types.proofs.walking.name.Statement.{statement}

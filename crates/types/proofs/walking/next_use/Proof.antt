@@ -1,7 +1,7 @@
 -- `types::walking::next_use` meets its contract: the next use is the head of those to come, if there is one.
 use mathlib.Core.Path.{refl}
 use lib.ListN.{drop-of-length-le}
-use Rattle.types.specs.Passes.{nextUse, withUse}
+use Rattle.types.specs.model.Passes.{nextUse, withUse}
 use Rattle.types.proofs.Stacks.{uses-on}
 use borrow.Author.Needs.{needs}
 use Rattle.types.proofs.walking.next_use.Statement.{statement}

@@ -3,9 +3,9 @@ use mathlib.Core.Path.{sym, _∙_}
 use mathlib.Core.Logic.{inl, inr}
 use native.Mathlib.Omega.{arith}
 use borrow.Author.Tests.{ne-eqb}
-use Rattle.names.specs.Rows.{isUse}
-use Rattle.types.specs.Model.{see}
-use Rattle.types.specs.Passes.{typeNode, withBare, withRows}
+use Rattle.names.specs.model.Rows.{isUse}
+use Rattle.types.specs.model.Arrays.{see}
+use Rattle.types.specs.model.Passes.{typeNode, withBare, withRows}
 use Rattle.types.proofs.Stacks.{length-opens, length-calls, node-declared}
 use borrow.Author.Needs.{needs}
 use Rattle.types.proofs.walking.node.Statement.{statement}

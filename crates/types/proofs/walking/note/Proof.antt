@@ -1,6 +1,6 @@
 -- `types::walking::note` meets its contract: by the test.
 use mathlib.Core.Path.{refl}
-use Rattle.types.specs.Passes.{noted}
+use Rattle.types.specs.model.Passes.{noted}
 use borrow.Author.Needs.{needs}
 use Rattle.types.proofs.walking.note.Statement.{statement}
 use Rattle.types.proofs.walking.note.Tie as tie

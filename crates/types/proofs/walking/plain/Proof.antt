@@ -2,7 +2,7 @@
 use mathlib.Core.Path.{_∙_}
 use mathlib.Core.Logic.{inl, inr}
 use borrow.Author.Tests.{ne-eqb}
-use Rattle.types.specs.Passes.{plainTyped}
+use Rattle.types.specs.model.Passes.{plainTyped}
 use Rattle.types.proofs.Stacks.{plain-boolean, plain-integer}
 use borrow.Author.Needs.{needs}
 use Rattle.types.proofs.walking.plain.Statement.{statement}

@@ -1,7 +1,7 @@
 -- `types::walking::pop` meets its contract: one word fewer is the tail.
 use native.Mathlib.Omega.{arith}
-use Rattle.names.specs.Rows.{opensOf}
-use Rattle.types.specs.Passes.{popped, withStack, below}
+use Rattle.names.specs.model.Rows.{opensOf}
+use Rattle.types.specs.model.Passes.{popped, withStack, below}
 use Rattle.types.proofs.Stacks.{opens-below}
 use borrow.Author.Needs.{needs}
 use Rattle.types.proofs.walking.pop.Statement.{statement}

@@ -1,5 +1,5 @@
 -- `types::walking::push` meets its contract: the word written is the new head.
-use Rattle.types.specs.Passes.{pushed, withStack}
+use Rattle.types.specs.model.Passes.{pushed, withStack}
 use borrow.Author.Needs.{needs}
 use Rattle.types.proofs.walking.push.Statement.{statement}
 use Rattle.types.proofs.walking.push.Tie as tie

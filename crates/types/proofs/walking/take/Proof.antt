@@ -1,7 +1,7 @@
 -- `types::walking::take` meets its contract: what its callees say, one behind the other.
 use mathlib.Core.Path.{refl, _∙_}
 use native.Mathlib.Omega.{arith}
-use Rattle.types.specs.Passes.{takenAs}
+use Rattle.types.specs.model.Passes.{takenAs}
 use Rattle.types.proofs.Stacks.{apart-ap, noted-ap}
 use borrow.Author.Needs.{needs}
 use Rattle.types.proofs.walking.take.Statement.{statement}

@@ -1,6 +1,6 @@
 -- `types::walking::top` meets its contract: the last word of those on the stack.
-use Rattle.names.specs.Rows.{opensOf}
-use Rattle.types.specs.Passes.{topOf}
+use Rattle.names.specs.model.Rows.{opensOf}
+use Rattle.types.specs.model.Passes.{topOf}
 use Rattle.types.proofs.Stacks.{opens-top}
 use borrow.Author.Needs.{needs}
 use Rattle.types.proofs.walking.top.Statement.{statement}

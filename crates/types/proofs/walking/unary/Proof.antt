@@ -1,6 +1,6 @@
 -- `types::walking::unary` meets its contract: what its callees say, one behind the other.
 use mathlib.Core.Path.{refl, _∙_}
-use Rattle.types.specs.Passes.{signedAs}
+use Rattle.types.specs.model.Passes.{signedAs}
 use Rattle.types.proofs.Stacks.{pushed-ap, taken-ap}
 use borrow.Author.Needs.{needs}
 use Rattle.types.proofs.walking.unary.Statement.{statement}

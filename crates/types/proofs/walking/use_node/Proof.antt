@@ -2,10 +2,10 @@
 use mathlib.Core.Path.{refl, sym, ap, subst, _∙_}
 use mathlib.Core.Bool.{not}
 use borrow.Author.Tests.{ne-eqb}
-use Rattle.names.specs.Rows.{meantOf}
+use Rattle.names.specs.model.Rows.{meantOf}
 use Rattle.names.specs.declared.Meant.{Meant}
-use Rattle.types.specs.Model.{MeantWithin}
-use Rattle.types.specs.Passes.{State, useTyped, namedAs, calledAs, leftAs, variableOf, noted}
+use Rattle.types.specs.model.Arrays.{MeantWithin}
+use Rattle.types.specs.model.Passes.{State, useTyped, namedAs, calledAs, leftAs, variableOf, noted}
 use Rattle.types.proofs.Stacks.{meant-within, noted-ap}
 use borrow.Author.Needs.{needs}
 use Rattle.types.proofs.walking.use_node.Statement.{statement}

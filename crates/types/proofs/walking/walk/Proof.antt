@@ -4,10 +4,10 @@ use mathlib.Core.Path.{_≡_, refl, sym, ap, subst, _∙_}
 use native.Mathlib.Omega.{arith}
 use Prim.Native.Nat.{_+_, _*_, _-_, _≤_}
 use lib.ListN.{length, getD, drop}
-use Rattle.names.specs.Rows.{foldNodes, opensOf}
+use Rattle.names.specs.model.Rows.{foldNodes, opensOf}
 use Rattle.names.proofs.RowLaws.{fold-on, fold-end}
-use Rattle.types.specs.Model.{see, callsOf, Within, CountsWithin}
-use Rattle.types.specs.Passes.{State, fresh, typeNode, typedOf}
+use Rattle.types.specs.model.Arrays.{see, callsOf, Within, CountsWithin}
+use Rattle.types.specs.model.Passes.{State, fresh, typeNode, typedOf}
 use Rattle.types.proofs.Room.{node-in, within-up}
 use borrow.Author.Needs.{needs}
 use Rattle.types.proofs.walking.walk.Statement.{statement}
