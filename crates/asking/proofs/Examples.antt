@@ -1,4 +1,5 @@
--- What people type, read by computation: numbers at the limits, signs, words of a line, and the options of a run.
+-- What people type, read by computation: numbers at the limits, signs, words of a line, the options of a run, and lists; and readers of lists that the
+-- definitions rule out.
 use Prim.Native.Nat.{ℕ}
 use Prim.Native.String.{String}
 use mathlib.Core.Path.{_≡_, refl}
@@ -6,12 +7,15 @@ use mathlib.Core.Bool.{true, false}
 use mathlib.Core.List.{List, [], _∷_, map}
 use mathlib.Core.Option.{Option, none, some}
 use lib.IntN.{ℤ, pos, negsuc}
+use native.Mathlib.Omega.{arith}
 use Rattle.symbols.specs.Text.{bytes}
 use Rattle.symbols.specs.Names.{blank, digit, valueFrom, equal}
 use Rattle.asking.specs.Numerals.{digits, spelled, numberOf, naturalOf, counted, negated, within, integerOf, wholeOf}
-use Rattle.asking.specs.Words.{ended, cut, wordsOf, has, plain, asked, unblanked}
+use Rattle.asking.specs.Words.{ended, cut, wordsOf, has, plain, asked, unblanked, separates, unlisted}
 use Rattle.asking.specs.Jobs.{jobIn, jobOf}
 use Rattle.asking.specs.Options.{isOption, firstNumber, optionOf, together, sizesOf, pastOptions, numbersIn}
+use Rattle.asking.specs.Lists.{listWords, sent, standing, sentOf, inFront, leading, listedIn}
+use Rattle.asking.specs.declared.lists.Listed.the-variants.{Are, Not as NoNumber, Full}
 use Rattle.asking.specs.declared.jobs.Job.the-variants.{Run, Other}
 use Rattle.asking.specs.declared.sizes.Asked.{Asked}
 use Rattle.asking.specs.declared.sizes.Asked.the-variants.{Are, Not}
@@ -135,3 +139,37 @@ file-behind-options = refl
 pub numbers-of-run : numbersIn false (wordsOf (line "1200 -c 3 - 25 -o -l 2")) ≡ bytes "1200" ∷ bytes "25" ∷ bytes "2" ∷ []
 unfolding numbersIn isOption equal cut ended unblanked blank
 numbers-of-run = refl
+
+-- ---- lists
+
+abbrev numbers : String → List ℤ
+numbers t = leading (listWords (bytes t))
+
+pub list-numbers : numbers "1, 21 ,1,,18" ≡ pos 1 ∷ pos 21 ∷ pos 1 ∷ pos 18 ∷ []
+unfolding leading inFront sentOf standing sent integerOf negated counted numberOf spelled digits digit valueFrom cut ended unlisted separates blank
+list-numbers = refl
+
+-- a line end separates as a blank does
+pub list-lines : leading (listWords (49 ∷ 13 ∷ 10 ∷ 50 ∷ 9 ∷ 51 ∷ 10 ∷ [])) ≡ pos 1 ∷ pos 2 ∷ pos 3 ∷ []
+unfolding leading inFront sentOf standing sent integerOf negated counted numberOf spelled digits digit valueFrom cut ended unlisted separates blank
+list-lines = refl
+
+-- below 0, past 16 bits, past 64 bits: none comes round to a word
+pub list-outside : numbers "65535 65536 65537 -1 -0 18446744073709551617 -18446744073709551615"
+    ≡ pos 65535 ∷ negsuc 0 ∷ negsuc 0 ∷ negsuc 0 ∷ pos 0 ∷ negsuc 0 ∷ negsuc 0 ∷ []
+unfolding leading inFront sentOf standing sent integerOf negated counted numberOf spelled digits digit valueFrom cut ended unlisted separates blank
+list-outside = refl
+
+pub list-or-not : (listedIn 3 (listWords (bytes "1 2 3")) ≡ Are 3) × (listedIn 3 (listWords (bytes "1 12x 3")) ≡ NoNumber 1) × (listedIn 2 (listWords (bytes "1 2 3")) ≡ Full)
+unfolding listedIn leading inFront sentOf standing sent integerOf negated counted numberOf spelled digits digit valueFrom cut ended unlisted separates blank
+list-or-not = (refl, refl, refl)
+
+-- a reader that keeps the last 16 bits of a number
+pub not-kept-low : sentOf (bytes "65537") ≡ some (pos 1) → ⊥
+unfolding sentOf standing sent integerOf negated counted numberOf spelled digits digit valueFrom
+not-kept-low e = let z : _≡_ {A = ℕ} 0 1 = cc in omega arith
+
+-- one that stops at the first byte that is no digit, and takes what it has
+pub not-begun : sentOf (bytes "12x") ≡ some (pos 12) → ⊥
+unfolding sentOf standing sent integerOf negated counted numberOf spelled digits digit valueFrom
+not-begun e = let z : _≡_ {A = ℕ} 0 1 = cc in omega arith

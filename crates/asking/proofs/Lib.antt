@@ -1,4 +1,5 @@
 pub mod Spelling
 pub mod Lines
 pub mod Choices
+pub mod Sending
 pub mod Examples

@@ -12,7 +12,7 @@ use borrow.Author.Tests.{eq-eqb, ne-eqb, le-leb, lt-leb, leb-true, leb-false}
 use Rattle.symbols.specs.Names.{equal}
 use Rattle.symbols.specs.Scan.{before}
 use Rattle.symbols.proofs.Laws.{peel, before-take, equal-length}
-use Rattle.asking.specs.Words.{ended, cut, wordsOf, has, plain, asked, askedFrom, part, isPart, leadingZeros, unblanked, WordFrom}
+use Rattle.asking.specs.Words.{ended, cut, wordsOf, has, plain, asked, askedFrom, part, isPart, leadingZeros, WordFrom}
 use Rattle.asking.specs.declared.words.Word.{Word}
 
 -- ---- zeros from a place on
@@ -194,12 +194,12 @@ module _ (line : List ℕ) (at : ℕ) (w : Word) (h : WordFrom line at w) where
 
 -- ---- a text as a line: one byte more of it is put into the row
 
-module _ (text row : List ℕ) (i : ℕ) (h : i < length text) (k : i < length row) where
-  pub row-more : set (take i (map unblanked text) ++ drop i row) i (unblanked (getD text i 0)) ≡ take (i + 1) (map unblanked text) ++ drop (i + 1) row
+module _ (f : ℕ → ℕ) (text row : List ℕ) (i : ℕ) (h : i < length text) (k : i < length row) where
+  pub row-more : set (take i (map f text) ++ drop i row) i (f (getD text i 0)) ≡ take (i + 1) (map f text) ++ drop (i + 1) row
   row-more =
-      let m = map unblanked text in
-      let v = unblanked (getD text i 0) in
-      let l : i < length m = omega (arith, length-map text unblanked) in
+      let m = map f text in
+      let v = f (getD text i 0) in
+      let l : i < length m = omega (arith, length-map text f) in
       let n : length (take i m) ≡ i = length-take-le i m (omega arith) in
-      let e : take (i + 1) m ≡ take i m ++ (v ∷ []) = rw (add-one i) (take-suc m i (unblanked 0) l ∙ ap (λ (x : ℕ). take i m ++ (x ∷ [])) (List·getD-map unblanked text i 0)) in
+      let e : take (i + 1) m ≡ take i m ++ (v ∷ []) = rw (add-one i) (take-suc m i (f 0) l ∙ ap (λ (x : ℕ). take i m ++ (x ∷ [])) (List·getD-map f text i 0)) in
       rw (peel row i k, e) (set-at (take i m) (getD row i 0) (drop (i + 1) row) v i n ∙ sym (append-snoc (take i m) v (drop (i + 1) row)))

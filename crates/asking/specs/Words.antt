@@ -1,7 +1,8 @@
 -- A line of words: bytes in which a zero ends a word, so that a word can hold blanks. An empty word is none.
 use Prim.Native.Nat.{ℕ, suc, _+_, _-_, _≤_, _<_, min}
+use Prim.Native.Char.{code}
 use mathlib.Core.Path.{_≡_}
-use mathlib.Core.Bool.{Bool, false, cond, _&&_, _||_}
+use mathlib.Core.Bool.{Bool, true, false, cond, _&&_, _||_}
 use mathlib.Core.List.{List, [], _∷_, _++_, map}
 use lib.ListN.{length, take, drop}
 use lib.Dec.{eqb, leb}
@@ -83,9 +84,26 @@ pub record First (words : ℕ → List (List ℕ)) (line : List ℕ) (at : ℕ) 
 unfoldable pub unblanked : ℕ → ℕ
 unblanked b = cond (blank b) 0 b
 
--- of a text as much as the row takes is put there, n bytes, and the rest of the row stays. The last two are for callers
-pub record LineOf (text row : List ℕ) (n : ℕ) (row′ : List ℕ) : Type 0 where
+-- blanks, line ends and commas separate numbers
+unfoldable pub separates : ℕ → Bool
+separates b = blank b || eqb b (code ",")
+
+-- a byte of a list as one of a line: what separates is a zero; a zero itself does not, and is part of no number
+unfoldable pub unlisted : ℕ → ℕ
+unlisted b = cond (separates b) 0 (cond (eqb b 0) (code "?") b)
+
+-- a byte of a text as one of a line: of a list, or of words that blanks end
+abbrev pub laidAs : Bool → ℕ → ℕ
+laidAs true b = unlisted b
+laidAs false b = unblanked b
+
+-- of a text, each byte f of what it was, as much as the row takes is put there, n bytes, and the rest of the row stays. The last three are for callers
+pub record LineBy (f : ℕ → ℕ) (text row : List ℕ) (n : ℕ) (row′ : List ℕ) : Type 0 where
   pub many : n ≡ min (length text) (length row)
-  pub holds : row′ ≡ take n (map unblanked text) ++ drop n row
+  pub holds : row′ ≡ take n (map f text) ++ drop n row
   pub inside : n ≤ length row′
   pub counts : n ≡ length (take n row′)
+  pub kept : length row′ ≡ length row
+
+abbrev pub LineOf : List ℕ → List ℕ → ℕ → List ℕ → Type 0
+LineOf = LineBy unblanked

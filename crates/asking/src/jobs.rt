@@ -6,10 +6,12 @@ ghost use Rattle.asking.specs.Jobs.{jobOf};
 pub enum Job {
     Read,
     Uses,
+    List, // of `uses --list`; no word asks for it alone
     Levels,
     Page,
     Code,
     Write,
+    Check,
     Run,
     Help,
     Other,
@@ -35,6 +37,9 @@ pub fn job_of(text: &[u8]) -> Job
     }
     if same_bytes(text, b"write") {
         return Job::Write;
+    }
+    if same_bytes(text, b"check") {
+        return Job::Check;
     }
     if same_bytes(text, b"run") {
         return Job::Run;

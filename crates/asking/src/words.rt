@@ -5,7 +5,8 @@ use symbols::text::same_bytes;
 ghost use mathlib.Core.Path.{_≡_};
 ghost use Prim.Native.Nat.{_+_};
 ghost use lib.ListN.{drop};
-ghost use Rattle.asking.specs.Words.{wordsOf, leadingZeros, has, plain, askedFrom, isPart, unblanked, WordFrom, First, LineOf};
+ghost use Rattle.asking.specs.Words.{wordsOf, leadingZeros, has, plain, askedFrom, isPart, unblanked, separates, unlisted, laidAs, WordFrom, First, LineBy, LineOf};
+ghost use Rattle.asking.specs.Lists.{ListLine};
 
 // A word of a line: its first byte, and the byte behind it. Where there is none, both are the line's end.
 pub struct Word {
@@ -112,17 +113,61 @@ fn unblank(b: u8) -> u8
     if is_blank(b) { 0 } else { b }
 }
 
-// A text as a line, as much as the row takes; gives how many bytes.
-pub fn line_of(text: &[u8], row: &mut [u8]) -> usize
-    ensures { λ r. ⌜ LineOf (now (text .entry)) (now (row .entry)) r (now (row .exit)) ⌝ }
+// Whether a byte stands between numbers.
+fn is_between(b: u8) -> bool
+    ensures { λ r. ⌜ r ≡ separates b ⌝ }
+{
+    if is_blank(b) {
+        return true;
+    }
+    b == b','
+}
+
+// A byte of a list as one of a line of words.
+fn unlist(b: u8) -> u8
+    ensures { λ r. ⌜ r ≡ unlisted b ⌝ }
+{
+    if is_between(b) {
+        return 0;
+    }
+    if b == 0 { b'?' } else { b }
+}
+
+// A byte of a text as one of a line: of a list, or of words that blanks end.
+fn laid(list: bool, b: u8) -> u8
+    ensures { λ r. ⌜ r ≡ laidAs list b ⌝ }
+{
+    if list {
+        return unlist(b);
+    }
+    unblank(b)
+}
+
+// A text as a line, as much as the row takes; gives how many bytes. Each byte stands where it did.
+fn lay(list: bool, text: &[u8], row: &mut [u8]) -> usize
+    ensures { λ r. ⌜ LineBy (laidAs list) (now (text .entry)) (now (row .entry)) r (now (row .exit)) ⌝ }
 {
     let mut i: usize = 0;
     while i < text.len() {
         if row.len() <= i {
             return i;
         }
-        row[i] = unblank(text[i]);
+        row[i] = laid(list, text[i]);
         i += 1;
     }
     i
+}
+
+// A text of words that blanks end.
+pub fn line_of(text: &[u8], row: &mut [u8]) -> usize
+    ensures { λ r. ⌜ LineOf (now (text .entry)) (now (row .entry)) r (now (row .exit)) ⌝ }
+{
+    lay(false, text, row)
+}
+
+// A list that somebody sent.
+pub fn list_line(text: &[u8], row: &mut [u8]) -> usize
+    ensures { λ r. ⌜ ListLine (now (text .entry)) (now (row .entry)) r (now (row .exit)) ⌝ }
+{
+    lay(true, text, row)
 }
