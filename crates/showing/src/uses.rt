@@ -52,3 +52,27 @@ pub fn say_use_words(table: &[u16]) {
         i += 1;
     }
 }
+
+// The words of the use that begins at `at`, on a line.
+fn show_row(table: &[u16], at: usize)
+    requires { ⌜ at < 262144 ⌝ }
+{
+    say_number(word(table, at) as u64);
+    say(b" ");
+    say_number(word(table, at + 1) as u64);
+    say(b" ");
+    say_number(word(table, at + 2) as u64);
+    say(b"\n");
+}
+
+// The use section alone, as lists of it are sent: the count on its line, then a use a line.
+pub fn show_section(table: &[u16]) {
+    let n = word(table, 0);
+    say_number(n as u64);
+    say(b"\n");
+    let mut k: usize = 0;
+    while k < n {
+        show_row(table, 3 * k + 1);
+        k += 1;
+    }
+}
