@@ -14,11 +14,16 @@ use Rattle.answers.specs.declared.Verdict.{Verdict}
 use Rattle.answers.specs.declared.Verdict.the-variants.{Accepted, Refused}
 use Rattle.answers.specs.declared.Stop.{Stop}
 use Rattle.answers.specs.declared.Stop.the-variants.{Ended, Limit, Fault, Wrong}
+use Rattle.asking.specs.Lists.{listWords, leading, listedIn}
+use Rattle.asking.specs.declared.lists.Listed.{Listed}
+use Rattle.asking.specs.declared.lists.Listed.the-variants.{Are, Not, Full}
+use Rattle.checking.specs.declared.Checked.{Checked}
+use Rattle.checking.specs.declared.Checked.the-variants.{Yes, Refused as Unchecked, Wrong as WrongAt}
 use Rattle.clean.specs.declared.Written.{Written}
 use Rattle.clean.specs.declared.Written.the-variants.{Text, Refused as Unwritten}
 use Rattle.machine.specs.declared.Ran.{Ran}
 use Rattle.machine.specs.Machine.{Finish, onCode, Exit, exit, afterwards, job}
-use Rattle.deed.specs.Status.{bad, nothing, ofVerdict, ofWritten, ofStop, ofRun, Told, WriteStatus, RunStatus}
+use Rattle.deed.specs.Status.{bad, nothing, ofVerdict, ofWritten, ofChecked, ofStop, ofRun, Told, WriteStatus, CheckStatus, ByWords, SentStatus, RunStatus}
 
 -- ---- what the machine was lent
 
@@ -78,6 +83,11 @@ most-written : (w : Written) → ofWritten w ≤ nothing
 most-written (Text n) = omega arith
 most-written (Unwritten r) = omega arith
 
+most-checked : (c : Checked) → ofChecked c ≤ nothing
+most-checked Yes = omega arith
+most-checked (Unchecked r) = omega arith
+most-checked (WrongAt i) = omega arith
+
 most-stop : (q : Stop) → ofStop q ≤ nothing
 most-stop Ended = omega arith
 most-stop Limit = omega arith
@@ -93,6 +103,14 @@ told-most t = rw (t .told) (most-verdict (t .verdict))
 
 pub write-most : {text : List ℕ} {s : ℕ} → WriteStatus text s → s ≤ nothing
 write-most t = rw (t .told) (most-written (t .written))
+
+by-words-most : (text : List ℕ) (numbers : List ℤ) (l : Listed) (s : ℕ) → ByWords text numbers l s → s ≤ nothing
+by-words-most text numbers (Are n) s t = let h : CheckStatus text numbers s = t in rw (h .told) (most-checked (h .checked))
+by-words-most text numbers (Not i) s t = let h : s ≡ nothing = t in omega arith
+by-words-most text numbers Full s t = let h : s ≡ nothing = t in omega arith
+
+pub sent-most : {text list : List ℕ} {s : ℕ} → SentStatus text list s → s ≤ nothing
+sent-most {text} {list} {s} t = by-words-most text (leading (listWords list)) (listedIn 32768 (listWords list)) s (t .by-words)
 
 pub run-most : {text : List ℕ} {input : List ℤ} {limit cells space s : ℕ} → RunStatus text input limit cells space s → s ≤ nothing
 run-most {input = input} {limit = limit} {cells = cells} {space = space} t = rw (t .told) (most-run (t .verdict) (onCode (t .words) input limit cells space))

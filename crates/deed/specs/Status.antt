@@ -1,5 +1,5 @@
--- The exit status of the tool: "0 where the source was accepted or the run ended, 1 where it was refused or stopped, and 2 where nothing was done; of do
--- the greatest of its commands". These are definitions of the tool and no part of the paper.
+-- The exit status of the tool: "0 where the source was accepted, the run ended or the list is right, 1 where it was refused, stopped or wrong, and 2 where
+-- nothing was done; of do the greatest of its commands". These are definitions of the tool and no part of the paper.
 use Prim.Native.Nat.{ℕ}
 use mathlib.Core.Path.{_≡_}
 use mathlib.Core.List.{List}
@@ -9,6 +9,12 @@ use Rattle.answers.specs.declared.Verdict.{Verdict}
 use Rattle.answers.specs.declared.Verdict.the-variants.{Accepted, Refused}
 use Rattle.answers.specs.declared.Stop.{Stop}
 use Rattle.answers.specs.declared.Stop.the-variants.{Ended, Limit, Fault, Wrong}
+use Rattle.asking.specs.Lists.{listWords, leading, listedIn}
+use Rattle.asking.specs.declared.lists.Listed.{Listed}
+use Rattle.asking.specs.declared.lists.Listed.the-variants.{Are, Not, Full}
+use Rattle.checking.specs.declared.Checked.{Checked}
+use Rattle.checking.specs.declared.Checked.the-variants.{Yes, Refused as Unchecked, Wrong as WrongAt}
+use Rattle.checking.specs.Checking.{Checks}
 use Rattle.clean.specs.declared.Written.{Written}
 use Rattle.clean.specs.declared.Written.the-variants.{Text, Refused as Unwritten}
 use Rattle.clean.specs.Job.{Writes}
@@ -34,6 +40,12 @@ ofVerdict (Refused r) = bad
 abbrev pub ofWritten : Written → ℕ
 ofWritten (Text n) = good
 ofWritten (Unwritten r) = bad
+
+-- of a list that is held against a source
+abbrev pub ofChecked : Checked → ℕ
+ofChecked Yes = good
+ofChecked (Unchecked r) = bad
+ofChecked (WrongAt i) = bad
 
 -- of a run
 abbrev pub ofStop : Stop → ℕ
@@ -66,6 +78,22 @@ pub record WriteStatus (text : List ℕ) (s : ℕ) : Type 0 where
   pub page : List ℕ
   pub writes : Writes text (replicate 16384 0) written page
   pub told : s ≡ ofWritten written
+
+-- s is the status of what `check_list` says of a source and of numbers
+pub record CheckStatus (text : List ℕ) (numbers : List ℤ) (s : ℕ) : Type 0 where
+  pub checked : Checked
+  pub checks : Checks text numbers checked
+  pub told : s ≡ ofChecked checked
+
+-- by what the words of a list are: the status is that of its numbers; nothing is done where a word is no number, or where there are too many
+abbrev pub ByWords : List ℕ → List ℤ → Listed → ℕ → Type 0
+ByWords text numbers (Are n) s = CheckStatus text numbers s
+ByWords text numbers (Not i) s = s ≡ nothing
+ByWords text numbers Full s = s ≡ nothing
+
+-- s is the status of a source and of a list as it was sent, of which 32,768 numbers are taken at most
+pub record SentStatus (text list : List ℕ) (s : ℕ) : Type 0 where
+  pub by-words : ByWords text (leading (listWords list)) (listedIn 32768 (listWords list)) s
 
 -- s is the status of a source's run on this input, under this limit, with so many cells and so much space for output: of what `translate` answers, and
 -- of how the machine finishes on the words that it leaves

@@ -12,6 +12,7 @@ use showing::text::complain;
 use showing::text::say;
 use symbols::text::find;
 
+mod comparing; // deed check
 mod files; // files and arguments
 mod given; // the numbers of a run
 mod help; // what the tool says of itself

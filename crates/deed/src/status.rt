@@ -2,14 +2,15 @@
 // `deed` opens; where that is not open, nothing is written.
 use answers::Stop;
 use answers::Verdict;
+use checking::Checked;
 use clean::Written;
 ghost use mathlib.Core.Path.{_≡_};
 ghost use Prim.Native.Nat.{max};
-ghost use Rattle.deed.specs.Status.{ofVerdict, ofWritten, ofStop};
+ghost use Rattle.deed.specs.Status.{ofVerdict, ofWritten, ofChecked, ofStop};
 
-// Accepted, or a run that ended.
+// Accepted, a run that ended, or a list that is right.
 pub const GOOD: u8 = 0;
-// Refused, or a run that was stopped.
+// Refused, a run that was stopped, or a list that is wrong.
 pub const BAD: u8 = 1;
 // Nothing was done.
 pub const NOTHING: u8 = 2;
@@ -31,6 +32,16 @@ pub fn of_written(w: Written) -> u8
     match w {
         Written::Text(_) => GOOD,
         Written::Refused(_) => BAD,
+    }
+}
+
+pub fn of_checked(c: Checked) -> u8
+    ensures { λ r. ⌜ r ≡ ofChecked c ⌝ }
+{
+    match c {
+        Checked::Yes => GOOD,
+        Checked::Refused(_) => BAD,
+        Checked::Wrong(_) => BAD,
     }
 }
 

@@ -15,7 +15,10 @@ returns-4 : tie.Need-returns-4
 returns-4 c = write-most (c .tell-text .ensures)
 
 returns-5 : tie.Need-returns-5
-returns-5 c = told-most (c .tell .ensures)
+returns-5 c = told-most (c .tell-section .ensures)
+
+returns-6 : tie.Need-returns-6
+returns-6 c = told-most (c .tell .ensures)
 
 pub on-file-spec : {M : Type 1} → statement M
 on-file-spec =
@@ -40,8 +43,13 @@ on-file-spec =
     (λ c κs. search needs)
     (λ c. search needs)
     (λ c. search needs)
+    (λ c. search needs)
+    (λ c κs. search needs)
+    (λ c. search needs)
+    (λ c. search needs)
     (λ c κs. search needs)
     returns-2
     returns-3
     returns-4
-    returns-5)
+    returns-5
+    returns-6)
