@@ -96,6 +96,17 @@ module _ (l : List Delimiter) (w : List ℕ) where
       let f = sym (eqb-true n (length v) (not-false (eqb n (length v)) e)) in
       rw (ne-eqb (length w) (length v) (λ k. h (k ∙ f))) (no-and (eqb (getD w 0 0) (getD v 0 0))))
 
+-- the letter is known, and the length too; or that it is another than one, or than two
+module _ (l : List Delimiter) (w : List ℕ) (c : ℕ) (e : getD w 0 0 ≡ c) where
+  pub of-length : (n : ℕ) → length w ≡ n → spelled l w ≡ spelled (sized n (opening c l)) w
+  of-length n h = by-letter l w c e ∙ by-length (opening c l) w n h
+
+  pub of-another : (n : ℕ) → (length w ≡ n → ⊥) → spelled l w ≡ spelled (unsized n (opening c l)) w
+  of-another n h = by-letter l w c e ∙ by-other-length (opening c l) w n h
+
+  pub of-neither : (n m : ℕ) → (length w ≡ n → ⊥) → (length w ≡ m → ⊥) → spelled l w ≡ spelled (unsized m (unsized n (opening c l))) w
+  of-neither n m h k = of-another n h ∙ by-other-length (unsized n (opening c l)) w m k
+
 -- a search in any table finds what a search by first letter and length finds
 pub by-key : (l : List Delimiter) (w : List ℕ) → spelled l w ≡ spelled (sized (length w) (opening (getD w 0 0) l)) w
 by-key l w = by-letter l w (getD w 0 0) refl ∙ by-length (opening (getD w 0 0) l) w (length w) refl

@@ -1,11 +1,6 @@
 -- `asking::words::laid` meets its contract. By what is asked: a list's byte, or another text's.
 -- Assumes nothing.
-use mathlib.Core.Path.{_∙_, ap}
-use Prim.Native.Nat.{ℕ}
-use mathlib.Core.Bool.{Bool}
-use mathlib.Core.Path.{sym}
 use borrow.Author.Needs.{needs}
-use Rattle.asking.specs.Words.{laidAs}
 use Rattle.asking.proofs.words.laid.Statement.{statement}
 use Rattle.asking.proofs.words.laid.Tie as tie
 

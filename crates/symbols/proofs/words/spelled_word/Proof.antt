@@ -6,7 +6,7 @@ use mathlib.Core.Path.{refl, sym, _∙_}
 use Rattle.symbols.specs.Text.{bytes}
 use Rattle.symbols.specs.Symbols.{words}
 use Rattle.symbols.specs.Scan.{spelled}
-use Rattle.symbols.proofs.Keyed.{opening, unsized, by-letter, by-length, by-other-length, elsewhere}
+use Rattle.symbols.proofs.Keyed.{by-letter, by-length, of-length, of-another, of-neither, elsewhere}
 use Rattle.symbols.proofs.words.spelled_word.Statement.{statement}
 use Rattle.symbols.proofs.words.spelled_word.Tie as tie
 
@@ -43,61 +43,37 @@ returns-6 c = c .only5 .ensures ∙ sym (by-letter words _ 100 (c .before .befor
 -- e
 returns-7 : tie.Need-returns-7
 unfolding spelled
-returns-7 c =
-    let w = c .before .before .before .before .before .before .before .args .w .now in
-    let e = by-letter words w 101 (c .before .before .before .match .keys6) in
-    c .only6 .ensures ∙ sym (e ∙ by-length (opening 101 words) w 3 (c .before .before .match2 .keys1))
+returns-7 c = c .only6 .ensures ∙ sym (of-length words _ 101 (c .before .before .before .match .keys6) 3 (c .before .before .match2 .keys1))
 
 returns-8 : tie.Need-returns-8
 unfolding spelled
-returns-8 c =
-    let w = c .before .before .before .before .before .before .before .args .w .now in
-    let e = by-letter words w 101 (c .before .before .before .match .keys6) in
-    c .only7 .ensures ∙ sym (e ∙ by-length (opening 101 words) w 4 (c .before .before .match2 .keys2))
+returns-8 c = c .only7 .ensures ∙ sym (of-length words _ 101 (c .before .before .before .match .keys6) 4 (c .before .before .match2 .keys2))
 
 returns-9 : tie.Need-returns-9
 unfolding spelled
-returns-9 c =
-    let w = c .before .before .before .before .before .before .before .args .w .now in
-    let e = by-letter words w 101 (c .before .before .before .match .keys6) in
-    c .only8 .ensures ∙ sym (e ∙ by-other-length (opening 101 words) w 3 (c .before .before .match2 .rest .0 .1) ∙ by-other-length (unsized 3 (opening 101 words)) w 4 (c .before .before .match2 .rest .1))
+returns-9 c = c .only8 .ensures ∙ sym (of-neither words _ 101 (c .before .before .before .match .keys6) 3 4 (c .before .before .match2 .rest .0 .1) (c .before .before .match2 .rest .1))
 
 -- f
 returns-10 : tie.Need-returns-10
 unfolding spelled
-returns-10 c =
-    let w = c .before .before .before .before .before .before .before .args .w .now in
-    let e = by-letter words w 102 (c .before .before .before .match .keys7) in
-    c .only9 .ensures ∙ sym (e ∙ by-length (opening 102 words) w 3 (c .before .before .match3 .keys1))
+returns-10 c = c .only9 .ensures ∙ sym (of-length words _ 102 (c .before .before .before .match .keys7) 3 (c .before .before .match3 .keys1))
 
 returns-11 : tie.Need-returns-11
 unfolding spelled
-returns-11 c =
-    let w = c .before .before .before .before .before .before .before .args .w .now in
-    let e = by-letter words w 102 (c .before .before .before .match .keys7) in
-    c .only10 .ensures ∙ sym (e ∙ by-other-length (opening 102 words) w 3 (c .before .before .match3 .rest .1))
+returns-11 c = c .only10 .ensures ∙ sym (of-another words _ 102 (c .before .before .before .match .keys7) 3 (c .before .before .match3 .rest .1))
 
 -- i
 returns-12 : tie.Need-returns-12
 unfolding spelled
-returns-12 c =
-    let w = c .before .before .before .before .before .before .before .args .w .now in
-    let e = by-letter words w 105 (c .before .before .before .match .keys8) in
-    c .only11 .ensures ∙ sym (e ∙ by-length (opening 105 words) w 2 (c .before .before .match4 .keys1))
+returns-12 c = c .only11 .ensures ∙ sym (of-length words _ 105 (c .before .before .before .match .keys8) 2 (c .before .before .match4 .keys1))
 
 returns-13 : tie.Need-returns-13
 unfolding spelled
-returns-13 c =
-    let w = c .before .before .before .before .before .before .before .args .w .now in
-    let e = by-letter words w 105 (c .before .before .before .match .keys8) in
-    c .only12 .ensures ∙ sym (e ∙ by-length (opening 105 words) w 4 (c .before .before .match4 .keys2))
+returns-13 c = c .only12 .ensures ∙ sym (of-length words _ 105 (c .before .before .before .match .keys8) 4 (c .before .before .match4 .keys2))
 
 returns-14 : tie.Need-returns-14
 unfolding spelled
-returns-14 c =
-    let w = c .before .before .before .before .before .before .before .args .w .now in
-    let e = by-letter words w 105 (c .before .before .before .match .keys8) in
-    c .only13 .ensures ∙ sym (e ∙ by-other-length (opening 105 words) w 2 (c .before .before .match4 .rest .0 .1) ∙ by-other-length (unsized 2 (opening 105 words)) w 4 (c .before .before .match4 .rest .1))
+returns-14 c = c .only13 .ensures ∙ sym (of-neither words _ 105 (c .before .before .before .match .keys8) 2 4 (c .before .before .match4 .rest .0 .1) (c .before .before .match4 .rest .1))
 
 -- n
 returns-15 : tie.Need-returns-15
