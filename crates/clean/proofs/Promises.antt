@@ -11,7 +11,7 @@ use lib.Seq.{take-append-seam, drop-append-seam}
 use Rattle.answers.specs.Answers.{numberOf}
 use Rattle.answers.specs.declared.Refusal.{Refusal}
 use Rattle.answers.specs.declared.Verdict.{Verdict}
-use Rattle.answers.specs.declared.Verdict.the-variants.{Accepted, Refused as Wrong}
+use Rattle.answers.specs.declared.Verdict.the-variants.{Accepted, Refused as NotAccepted}
 use Rattle.grammar.proofs.Unique.{unique}
 use Rattle.names.specs.Program.{Statement}
 use Rattle.names.specs.Outline.{declarations}
@@ -145,10 +145,10 @@ only-fits (written h l) (too-long k) = absurd (omega arith)
 only-fits (written h l) (too-short k m) = absurd (omega arith)
 only-fits (written h l) (written k m) = (refl, refl)
 
-refused-accepted : {r : Refusal} → Wrong r ≡ Accepted → ⊥
+refused-accepted : {r : Refusal} → NotAccepted r ≡ Accepted → ⊥
 refused-accepted e = let z : _≡_ {A = ℕ} 0 1 = cc in omega arith
 
-same-refusal : {r r₂ : Refusal} → Wrong r ≡ Wrong r₂ → r ≡ r₂
+same-refusal : {r r₂ : Refusal} → NotAccepted r ≡ NotAccepted r₂ → r ≡ r₂
 same-refusal e = cc
 
 one-page : {source : List ℕ} (p p₂ : Grammatical source) → pageOf p ≡ pageOf p₂

@@ -7,7 +7,7 @@ use lib.ListN.{length, drop}
 use Rattle.answers.specs.Numbers.{short, long}
 use Rattle.answers.specs.Answers.{refusal}
 use Rattle.answers.specs.declared.Refusal.{Refusal}
-use Rattle.answers.specs.declared.Verdict.the-variants.{Refused as Wrong}
+use Rattle.answers.specs.declared.Verdict.the-variants.{Refused as NotAccepted}
 use Rattle.names.specs.Uses.{nameFaults, least}
 use Rattle.types.specs.Types.{typeFault}
 use Rattle.reading.specs.Judging.{itsProgram}
@@ -28,6 +28,6 @@ pub data Fits (text room : List ℕ) : Written → List ℕ → Type 0 where
 
 -- "A source not accepted gives its refusal"
 pub data Writes (source room : List ℕ) : Written → List ℕ → Type 0 where
-  refused : (r : Refusal) → Judged source (Wrong r) cleared → Writes source room (Refused r) room
+  refused : (r : Refusal) → Judged source (NotAccepted r) cleared → Writes source room (Refused r) room
   accepted : (p : Grammatical source) → least (nameFaults (itsProgram p)) ≡ none → typeFault (itsProgram p) ≡ none → (w : Written) (room' : List ℕ)
       → Fits (pageOf p) room w room' → Writes source room w room'

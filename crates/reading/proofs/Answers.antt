@@ -32,7 +32,7 @@ use Rattle.reading.specs.Judging.{accepted}
 use Rattle.reading.specs.Reading.{symbols, kindsIn, placeIn, refusedAt, tableWords, cleared, filled, Judged, Reads, too-short}
 use Rattle.reading.specs.declared.Sizes.{Sizes}
 use Rattle.reading.specs.declared.Found.{Found}
-use Rattle.reading.specs.declared.Found.the-variants.{Program, Refused as Wrong}
+use Rattle.reading.specs.declared.Found.the-variants.{Program, Refused as FoundRefused}
 use Rattle.reading.proofs.Places.{place-inside}
 use Rattle.table.specs.model.Writing.{placeOf, Wrote, tableModel}
 use Rattle.reading.specs.model.Stages.{Known, Outlined, Named, programOf, Typed, right, wrong, Tells, program as told, refused, Declared, Holds}
@@ -255,11 +255,11 @@ told-program {source} {P} (told s₀ h) s e = subst P (same e) h
     same q = cc
 told-program (refused r j) s e = absurd (let z : _≡_ {A = ℕ} 0 1 = cc in omega arith)
 
-pub told-refused : {source : List ℕ} {P : Sizes → Type 0} {f : Found} → Tells source P f → (r : Refusal) → f ≡ Wrong r → Judged source (Refused r) cleared
+pub told-refused : {source : List ℕ} {P : Sizes → Type 0} {f : Found} → Tells source P f → (r : Refusal) → f ≡ FoundRefused r → Judged source (Refused r) cleared
 told-refused (told s h) r e = absurd (let z : _≡_ {A = ℕ} 0 1 = cc in omega arith)
 told-refused {source} (refused r₀ j) r e = subst (λ x. Judged source (Refused x) cleared) (same e) j
   where
-    same : {a b : Refusal} → Wrong a ≡ Wrong b → a ≡ b
+    same : {a b : Refusal} → FoundRefused a ≡ FoundRefused b → a ≡ b
     same q = cc
 
 pub typed-right : {source places nodes ids rows uses : List ℕ} {n : ℕ} {m : Named source places nodes ids rows uses n} {v : Verdict} → Typed m v → v ≡ Accepted → typeFault (programOf m) ≡ none

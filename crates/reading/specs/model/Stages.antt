@@ -11,7 +11,7 @@ use Rattle.types.specs.Types.{typeFault}
 use Rattle.symbols.specs.Scan.{scan, valuesOf}
 use Rattle.answers.specs.declared.Refusal.{Refusal}
 use Rattle.answers.specs.declared.Verdict.{Verdict}
-use Rattle.answers.specs.declared.Verdict.the-variants.{Accepted, Refused as Wrong}
+use Rattle.answers.specs.declared.Verdict.the-variants.{Accepted, Refused as NotAccepted}
 use Rattle.names.specs.model.Rows.{outlineOf, usesOf}
 use Rattle.names.specs.Uses.{nameFaults, least}
 use Rattle.reading.specs.Judging.{itsProgram}
@@ -64,12 +64,12 @@ programOf m = itsProgram (m .outlined .known .ready .program)
 -- 10, or no type is at fault
 pub data Typed {source places nodes ids rows uses : List ℕ} {n : ℕ} (m : Named source places nodes ids rows uses n) : Verdict → Type 0 where
   right : typeFault (programOf m) ≡ none → Typed m Accepted
-  wrong : (r : Refusal) → Judged source (Wrong r) cleared → Typed m (Wrong r)
+  wrong : (r : Refusal) → Judged source (NotAccepted r) cleared → Typed m (NotAccepted r)
 
 -- what is found is the source's refusal, or its sizes are told with what stands then
 pub data Tells (source : List ℕ) (P : Sizes → Type 0) : Found → Type 0 where
   program : (s : Sizes) → P s → Tells source P (Program s)
-  refused : (r : Refusal) → Judged source (Wrong r) cleared → Tells source P (Refused r)
+  refused : (r : Refusal) → Judged source (NotAccepted r) cleared → Tells source P (Refused r)
 
 -- the nodes, rows and uses are the first of those that are lent
 pub record Resolved (source places nodes ids rows uses : List ℕ) (n : ℕ) (s : Sizes) : Type 0 where
