@@ -107,3 +107,7 @@ ininteger = 2
 
 abbrev pub outinteger : ℕ
 outinteger = 3
+
+-- request 6: "outreal (4)"
+abbrev pub outreal : ℕ
+outreal = 4

@@ -1,7 +1,7 @@
 // The numbers of paper 01, "Numbered answers", and what carries them. Places, symbols, declarations and code addresses
 // are types of their own, so that none is taken for another; answer and environment numbers are constants of their types.
 ghost use mathlib.Core.Path.{_≡_};
-ghost use Rattle.answers.specs.Numbers.{accepted, ended, short, long, noSymbol, tooLarge, grammar, depth, twice, undeclared, heading, types, limit, range, zeroDivisor, unassigned, inputEnded, outputFull, cells, activations, channel, noInstruction, noVariable, iabs, maxint, ininteger, outinteger};
+ghost use Rattle.answers.specs.Numbers.{accepted, ended, short, long, noSymbol, tooLarge, grammar, depth, twice, undeclared, heading, types, limit, range, zeroDivisor, unassigned, inputEnded, outputFull, cells, activations, channel, noInstruction, noVariable, iabs, maxint, ininteger, outinteger, outreal};
 ghost use Rattle.answers.specs.Answers.{answer, environment, refusal, numberOf, placeOf, stopNumber, stopPlace};
 
 // A byte of the source, counted from 0.
@@ -230,6 +230,8 @@ impl Environment {
     pub const ININTEGER: Environment = Environment { number: 2 };
     // Writes an output number.
     pub const OUTINTEGER: Environment = Environment { number: 3 };
+    // Writes an output real.
+    pub const OUTREAL: Environment = Environment { number: 4 };
 
     pub fn iabs() -> Environment
         ensures { λ r. ⌜ r ≡ environment iabs ⌝ }
@@ -253,6 +255,12 @@ impl Environment {
         ensures { λ r. ⌜ r ≡ environment outinteger ⌝ }
     {
         Environment::OUTINTEGER
+    }
+
+    pub fn outreal() -> Environment
+        ensures { λ r. ⌜ r ≡ environment outreal ⌝ }
+    {
+        Environment::OUTREAL
     }
 }
 

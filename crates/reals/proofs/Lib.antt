@@ -1,0 +1,10 @@
+pub mod Signed
+pub mod Finite
+pub mod Mixed
+pub mod Pairs
+pub mod Entier
+pub mod Divided
+pub mod Patterns
+pub mod ReadBack
+pub mod Fits
+pub mod Runs
