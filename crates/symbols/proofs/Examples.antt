@@ -9,10 +9,11 @@ use native.Mathlib.Omega.{arith}
 use lib.ListN.{length}
 use Rattle.answers.specs.Answers.{refusal}
 use Rattle.symbols.specs.Text.{bytes}
-use Rattle.symbols.specs.Names.{blank, letter, digit, inName, these, reach, valueFrom, equal}
-use Rattle.symbols.specs.Scan.{before, closed, spelled, named, word, gap, followed, sign, sized, name, valued, number, lexeme, behind, endsRemark, note, counted, judged, turn, scanFrom, scan, Found, Scan}
+use Rattle.symbols.specs.Symbols.{packed}
+use Rattle.symbols.specs.Names.{blank, letter, digit, inName, these, reach, valueFrom, decimals, equal}
+use Rattle.symbols.specs.Scan.{before, closed, spelled, named, word, gap, followed, sign, sized, name, valued, pointed, withPoint, number, point, lexeme, behind, endsRemark, note, counted, judged, turn, scanFrom, scan, Found, Scan}
 use Rattle.symbols.specs.declared.Symbol.{Symbol}
-use Rattle.symbols.specs.declared.Symbol.the-variants.{Name, Comment, Begin, End, Then, True, Semicolon, LessEqual, Number, Equal, Colon, Becomes, Greater, Minus}
+use Rattle.symbols.specs.declared.Symbol.the-variants.{Name, Comment, Begin, End, Then, True, Semicolon, LessEqual, Number, Equal, Colon, Becomes, Greater, Minus, Comma, Real, Slash, Decimal}
 
 abbrev at : Symbol → ℕ → Found
 at s p = record { symbol = s; place = p }
@@ -63,6 +64,21 @@ rows =
     fails 2048 "-2147483648" (at Minus 0 ∷ []) 4 1 ∷
     -- nothing at all
     reads 2048 "" [] ∷
+    -- 6.a: 'real' and `/`
+    reads 2048 "'real' a / b" (at Real 0 ∷ at Name 7 ∷ at Slash 9 ∷ at Name 11 ∷ []) ∷
+    -- 6.b: numbers with a point; a point needs a digit behind it
+    reads 2048 "1.5, .5, 1 . 2 5, 007.50" (at (Decimal (packed 15 1)) 0 ∷ at Comma 3 ∷ at (Decimal (packed 5 1)) 5 ∷ at Comma 7 ∷ at (Decimal (packed 125 2)) 9 ∷ at Comma 16 ∷ at (Decimal (packed 750 2)) 18 ∷ []) ∷
+    fails 2048 "1." (at (Number 1) 0 ∷ []) 3 1 ∷
+    fails 2048 "1..5" (at (Number 1) 0 ∷ []) 3 1 ∷
+    reads 2048 "1.5.2" (at (Decimal (packed 15 1)) 0 ∷ at (Decimal (packed 2 1)) 3 ∷ []) ∷
+    reads 2048 "a.5" (at Name 0 ∷ at (Decimal (packed 5 1)) 1 ∷ []) ∷
+    fails 2048 "a.b" (at Name 0 ∷ []) 3 1 ∷
+    -- 6.c: 15 digits, leading zeros counted; only without a point is the value tested
+    reads 2048 "000000000000.125, 2147483648.0" (at (Decimal (packed 125 3)) 0 ∷ at Comma 16 ∷ at (Decimal (packed 21474836480 1)) 18 ∷ []) ∷
+    fails 2048 "0000000000000.125" [] 4 0 ∷
+    -- 6.e: in a remark a point alone is no symbol, and sizes are not tested
+    fails 2048 "'end' of the deed." (at End 0 ∷ []) 3 17 ∷
+    reads 2048 "'end' clause 1.55555555555555555" (at End 0 ∷ []) ∷
     []
 
 abbrev Right : List Row → Type 0
@@ -70,15 +86,15 @@ Right [] = Unit {0}
 Right (r ∷ l) = (scan (r .limit) (bytes (r .source)) ≡ r .expected) × Right l
 
 pub readings : Right rows
-unfolding scan scanFrom turn judged counted note lexeme number valued name sized sign followed gap word named spelled closed before behind endsRemark blank letter digit inName these reach valueFrom equal
-readings = (refl, (refl, (refl, (refl, (refl, (refl, (refl, (refl, (refl, (refl, (refl, (refl, (refl, (refl, (refl, (refl, (refl, (refl, tt))))))))))))))))))
+unfolding scan scanFrom turn judged counted note lexeme point number decimals withPoint pointed valued name sized sign followed gap word named spelled closed before behind endsRemark blank letter digit inName these reach valueFrom equal
+readings = (refl, (refl, (refl, (refl, (refl, (refl, (refl, (refl, (refl, (refl, (refl, (refl, (refl, (refl, (refl, (refl, (refl, (refl, (refl, (refl, (refl, (refl, (refl, (refl, (refl, (refl, (refl, (refl, (refl, tt)))))))))))))))))))))))))))))
 
 -- a remark that ran on past 'else' would leave one symbol here; there are three
 pub not-past-else : length (scan 2048 (bytes "'end' a remark 'else' b") .found) ≡ 1 → ⊥
-unfolding scan scanFrom turn judged counted note lexeme number valued name sized sign followed gap word named spelled closed before behind endsRemark blank letter digit inName these reach valueFrom equal
+unfolding scan scanFrom turn judged counted note lexeme point number decimals withPoint pointed valued name sized sign followed gap word named spelled closed before behind endsRemark blank letter digit inName these reach valueFrom equal
 not-past-else e = omega arith
 
 -- a word told by its length and first letter alone would be read here, as 'then' or as 'true'; there is none
 pub not-by-key-alone : length (scan 2048 (bytes "'thue'") .found) ≡ 1 → ⊥
-unfolding scan scanFrom turn judged counted note lexeme number valued name sized sign followed gap word named spelled closed before behind endsRemark blank letter digit inName these reach valueFrom equal
+unfolding scan scanFrom turn judged counted note lexeme point number decimals withPoint pointed valued name sized sign followed gap word named spelled closed before behind endsRemark blank letter digit inName these reach valueFrom equal
 not-by-key-alone e = omega arith

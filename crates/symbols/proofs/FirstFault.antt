@@ -9,20 +9,20 @@ use Prim.Native.Nat.{ℕ, zero, suc, pred, _+_, _-_, _≤_, _<_}
 use Prim.Native.Char.{code}
 use native.Mathlib.Omega.{arith}
 use lib.Dec.{eqb, ltb}
-use lib.ListN.{length, getD, take, drop, length-drop, length-take, take-append-drop, List·getD-eq-default, List·getD-append}
-use lib.Seq.{drop-append-le, getD-append-add}
+use lib.ListN.{length, getD, take, drop, length-drop, length-take, take-append-drop, List·getD-eq-default, List·getD-append, drop-of-length-le}
+use lib.Seq.{drop-append-le, drop-append-add, getD-append-add}
 use borrow.Author.Tests.{ltb-false, le-ltb, eqb-true}
 use Rattle.answers.specs.Numbers.{noSymbol, tooLarge}
 use Rattle.answers.specs.Answers.{answer}
 use Rattle.answers.specs.declared.Refusal.{Refusal}
-use Rattle.symbols.specs.Names.{blank, letter, digit, inName, these, reach, valueFrom}
-use Rattle.symbols.specs.Symbols.{signs, words, is}
-use Rattle.symbols.specs.Scan.{before, closed, spelled, named, word, gap, followed, sign, sized, name, valued, number, lexeme, behind, endsRemark, note, counted, judged, turn, Scan, kept, then, scanFrom, scan}
+use Rattle.symbols.specs.Names.{blank, letter, digit, inName, these, reach, valueFrom, decimals}
+use Rattle.symbols.specs.Symbols.{signs, words, is, packed}
+use Rattle.symbols.specs.Scan.{before, closed, spelled, named, word, gap, followed, sign, sized, name, valued, pointed, withPoint, number, point, lexeme, behind, endsRemark, note, counted, judged, turn, Scan, kept, then, scanFrom, scan}
 use Rattle.symbols.specs.model.Steps.{joinedOf}
 use Rattle.symbols.specs.declared.words.Spelled.{Spelled}
 use Rattle.symbols.specs.declared.words.Spelled.the-variants.{Word, Unknown}
 use Rattle.symbols.specs.declared.Symbol.{Symbol}
-use Rattle.symbols.specs.declared.Symbol.the-variants.{Comment, Name, Number, Less, LessEqual, Greater, GreaterEqual, Colon, Becomes}
+use Rattle.symbols.specs.declared.Symbol.the-variants.{Comment, Name, Number, Decimal, Less, LessEqual, Greater, GreaterEqual, Colon, Becomes}
 use Rattle.symbols.specs.declared.Context.{Context}
 use Rattle.symbols.specs.declared.Context.the-variants.{Opens, Plain, Remark}
 use Rattle.symbols.specs.declared.Lexeme.{Lexeme}
@@ -55,7 +55,7 @@ unfolding reach
 run-held sort xs ys h = go (ran sort xs)
   where
     go : Ran sort xs → (these sort xs ≡ these sort (xs ++ ys)) × (reach sort xs ≡ reach sort (xs ++ ys))
-    go (stops p q) = (sym (p ys), sym (q ys))
+    go (stops p q l) = (sym (p ys), sym (q ys))
     go (runs p q) =
         let z : reach sort ys ≡ 0 = omega (arith, q ys) in
         let a = ap (reach sort) (append-nil xs) in
@@ -72,12 +72,96 @@ name-held x xs ys h =
     let r = run-held inName xs ys (held-either (ltb 32 (length (these inName (x ∷ (xs ++ ys))))) Name (reach inName (xs ++ ys)) (length xs) h) in
     rw (r .0, r .1)
 
-number-held : (x : ℕ) (xs ys : List ℕ) → Held (length xs) (number x (xs ++ ys)) → number x xs ≡ number x (xs ++ ys)
-unfolding number valued these
-number-held x xs ys h =
-    let v = valueFrom 0 (these digit (x ∷ (xs ++ ys))) in
-    let r = run-held digit xs ys (held-either (ltb 2147483647 v) (Number v) (reach digit (xs ++ ys)) (length xs) h) in
-    rw (r .0, r .1)
+valued-held : (v k m : ℕ) → Held m (valued v k) → k ≤ m
+unfolding valued
+valued-held v k m h = held-either (ltb 2147483647 v) (Number v) k m h
+
+pointed-held : (v n d k m : ℕ) → Held m (pointed v n d k) → k ≤ m
+unfolding pointed
+pointed-held v n d k m h = held-either (ltb 15 n) (Decimal (packed v d)) k m h
+
+-- the digits behind a point, which k bytes and cs end
+with-held : (plain : Lexeme) (ds : List ℕ) (k m : ℕ) (cs ys : List ℕ) → m ≡ k + length cs → Held m (withPoint plain ds (these digit (cs ++ ys)) (k + reach digit (cs ++ ys)))
+    → withPoint plain ds (these digit cs) (k + reach digit cs) ≡ withPoint plain ds (these digit (cs ++ ys)) (k + reach digit (cs ++ ys))
+unfolding withPoint reach
+with-held plain ds k m cs ys n h = go (ran digit cs)
+  where
+    -- all of cs belongs to the run
+    inside : (ls ms : List ℕ) (j : ℕ) → (j ≡ 0 → ms ≡ []) → Held m (withPoint plain ds (ls ++ ms) (m + j)) → withPoint plain ds ls m ≡ withPoint plain ds (ls ++ ms) (m + j)
+    inside [] [] j z w = refl
+    inside [] (x ∷ ms) j z w =
+        let l = pointed-held (valueFrom 0 (ds ++ (x ∷ ms))) (length (ds ++ (x ∷ ms))) (length (x ∷ ms)) (m + j) m w in
+        let y = ap length (z (omega (arith, l))) in
+        absurd (omega (arith, y))
+    inside (x ∷ ls) ms j z w =
+        let l = pointed-held (valueFrom 0 (ds ++ (x ∷ ls ++ ms))) (length (ds ++ (x ∷ ls ++ ms))) (length (x ∷ ls ++ ms)) (m + j) m w in
+        let o : j ≡ 0 = omega (arith, l) in
+        let a : m + 0 ≡ m = omega arith in
+        rw (z o, o, a, append-nil ls)
+
+    go : Ran digit cs → withPoint plain ds (these digit cs) (k + reach digit cs) ≡ withPoint plain ds (these digit (cs ++ ys)) (k + reach digit (cs ++ ys))
+    go (stops p q l) = rw (p ys, q ys)
+    go (runs p q) =
+        let r : k + reach digit cs ≡ m = omega (arith, n, q [], ap (reach digit) (append-nil cs)) in
+        let u : k + reach digit (cs ++ ys) ≡ m + reach digit ys = omega (arith, n, q ys) in
+        rw (r, u, p ys) (inside (these digit cs) (these digit ys) (reach digit ys) (these-none digit ys) (rw (u, p ys) at h))
+
+point-held : (xs ys : List ℕ) → Held (length xs) (point (xs ++ ys)) → point xs ≡ point (xs ++ ys)
+unfolding point
+point-held xs ys h =
+    let z : (m : ℕ) → 0 + m ≡ m = λ m. omega arith in
+    rw (← z (reach digit xs), ← z (reach digit (xs ++ ys))) (with-held Nothing [] 0 (length xs) xs ys (omega arith) (subst (λ k. Held (length xs) (withPoint Nothing [] (these digit (xs ++ ys)) k)) (sym (z (reach digit (xs ++ ys)))) h))
+
+digits-same : (x : ℕ) (xs ys : List ℕ) → these digit xs ≡ these digit ys → these digit (x ∷ xs) ≡ these digit (x ∷ ys)
+unfolding these
+digits-same x xs ys e = rw e
+
+module _ (x : ℕ) (xs ys : List ℕ) where
+  -- as a number is made of the bytes zs behind its first
+  abbrev Made : List ℕ → Lexeme
+  Made zs = let k = reach digit zs in withPoint (valued (valueFrom 0 (these digit (x ∷ zs))) k) (these digit (x ∷ zs)) (decimals (drop k zs)) (k + 1 + reach digit (drop 1 (drop k zs)))
+
+  stopped-held : (k : ℕ) (rest : List ℕ) → k < length xs → drop k xs ≡ rest → (D : List ℕ)
+      → Held (length xs) (withPoint (valued (valueFrom 0 D) k) D (decimals (rest ++ ys)) (k + 1 + reach digit (drop 1 (rest ++ ys))))
+      → withPoint (valued (valueFrom 0 D) k) D (decimals rest) (k + 1 + reach digit (drop 1 rest)) ≡ withPoint (valued (valueFrom 0 D) k) D (decimals (rest ++ ys)) (k + 1 + reach digit (drop 1 (rest ++ ys)))
+  unfolding decimals
+  stopped-held k [] l w D h = absurd (omega (arith, l, length-drop k xs, ap length w))
+  stopped-held k (c ∷ cs) l w D h = go (eqb c 46) h
+    where
+      go : (t : Bool) → Held (length xs) (withPoint (valued (valueFrom 0 D) k) D (cond t (these digit (cs ++ ys)) []) (k + 1 + reach digit (cs ++ ys)))
+          → withPoint (valued (valueFrom 0 D) k) D (cond t (these digit cs) []) (k + 1 + reach digit cs) ≡ withPoint (valued (valueFrom 0 D) k) D (cond t (these digit (cs ++ ys)) []) (k + 1 + reach digit (cs ++ ys))
+      go true y = with-held (valued (valueFrom 0 D) k) D (k + 1) (length xs) cs ys (omega (arith, l, length-drop k xs, ap length w)) y
+      go false y = unfold withPoint in refl
+
+  -- the digits do not end within xs: then they end where it does
+  ended-held : (D E : List ℕ) (m j r : ℕ) → Held m (withPoint (valued (valueFrom 0 D) (m + j)) D E (m + j + 1 + r)) → (j ≡ 0) × (E ≡ [])
+  unfolding withPoint
+  ended-held D [] m j r h = let l = valued-held (valueFrom 0 D) (m + j) m h in (omega (arith, l), refl)
+  ended-held D (c ∷ cs) m j r h =
+      let l = pointed-held (valueFrom 0 (D ++ (c ∷ cs))) (length (D ++ (c ∷ cs))) (length (c ∷ cs)) (m + j + 1 + r) m h in
+      absurd (omega (arith, l))
+
+  number-held : Held (length xs) (number x (xs ++ ys)) → number x xs ≡ number x (xs ++ ys)
+  unfolding number withPoint decimals reach
+  number-held h = go (ran digit xs)
+    where
+      go : Ran digit xs → Made xs ≡ Made (xs ++ ys)
+      go (stops p q l) =
+          let k = reach digit xs in
+          let d : these digit (x ∷ (xs ++ ys)) ≡ these digit (x ∷ xs) = digits-same x (xs ++ ys) xs (p ys) in
+          let w = drop-append-le k xs ys (omega (arith, l)) in
+          rw (d, q ys, w) (stopped-held k (drop k xs) l refl (these digit (x ∷ xs)) (rw (d, q ys, w) at h))
+      go (runs p q) =
+          let j = reach digit ys in
+          let r : reach digit xs ≡ length xs = omega (arith, q [], ap (reach digit) (append-nil xs)) in
+          let w = drop-append-add xs ys j in
+          let z = ended-held (these digit (x ∷ (xs ++ ys))) (decimals (drop j ys)) (length xs) j (reach digit (drop 1 (drop j ys))) (rw (q ys, w) at h) in
+          let d : these digit (x ∷ (xs ++ ys)) ≡ these digit (x ∷ xs)
+          = digits-same x (xs ++ ys) xs (p ys ∙ ap (λ l. these digit xs ++ l) (these-none digit ys (z .0)) ∙ append-nil (these digit xs)) in
+          let m : length xs ≤ length xs = omega arith in
+          let o : drop (length xs) xs ≡ [] = drop-of-length-le xs m in
+          let a : length xs + j ≡ length xs = omega (arith, z .0) in
+          rw (q ys, w, d, r, o, z .1, a)
 
 -- what is not closed within xs reaches behind it
 open-long : (q : ℕ) (xs ys : List ℕ) → closed q xs ≡ false → length xs ≤ length (before q (xs ++ ys))
@@ -147,7 +231,8 @@ lexeme-held : (x : ℕ) (xs ys : List ℕ) → Held (length xs) (lexeme x (xs ++
 unfolding lexeme
 lexeme-held x xs ys h =
     pick (letter x) _ _ _ _ (name-held x xs ys)
-    (pick (digit x) _ _ _ _ (number-held x xs ys) (pick (eqb x 39) _ _ _ _ (word-held xs ys) (sign-held x xs ys)))
+    (pick (digit x) _ _ _ _ (number-held x xs ys)
+    (pick (eqb x 46) _ _ _ _ (point-held xs ys) (pick (eqb x 39) _ _ _ _ (word-held xs ys) (sign-held x xs ys))))
     h
   where
     pick : (t : Bool) (a a' b b' : Lexeme) → (Held (length xs) a' → a ≡ a') → (Held (length xs) b' → b ≡ b') → Held (length xs) (cond t a' b') → cond t a b ≡ cond t a' b'
@@ -327,7 +412,7 @@ pub data Why (n b : ℕ) (bs : List ℕ) : ℕ → Type 0 where
   no-symbol : lexeme b bs ≡ Nothing → Why n b bs noSymbol
   -- 3: "note without `;`"
   open-note : (s : Symbol) (k : ℕ) → lexeme b bs ≡ Is s k → is s Comment ≡ true → closed (code ";") (drop k bs) ≡ false → Why n b bs noSymbol
-  -- 4: "number over 2,147,483,647; name over 32 characters"
+  -- 4: "number over 2,147,483,647; name over 32 characters"; a number with a point and more than 15 digits
   over : (k : ℕ) → lexeme b bs ≡ Large k → Why n b bs tooLarge
   -- 4: "symbol 2,049"
   one-too-many : (s : Symbol) (k : ℕ) → lexeme b bs ≡ Is s k → n ≡ 0 → Why n b bs tooLarge

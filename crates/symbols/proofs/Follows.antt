@@ -1,21 +1,22 @@
 -- What begins at a byte, by the bytes xs behind it and what follows them: it is the same whatever follows; or it is open where nothing
--- follows; or it goes on into what follows, and then nothing but blanks is left of xs. A blank between xs and what follows changes no symbol.
+-- follows; or it goes on into what follows, and then nothing but blanks is left of xs, or a point with no digit behind it. A blank between xs and what follows changes no symbol.
 use mathlib.Core.Path.{_≡_, refl, sym, ap, subst, _∙_}
 use mathlib.Core.Bool.{Bool, true, false, cond, _||_}
 use mathlib.Core.List.{List, [], _∷_, _++_, append-nil}
+use mathlib.Core.Logic.{_⊎_, inl, inr}
 use Prim.Native.Nat.{ℕ, suc, _+_, _-_, _≤_, _<_}
 use native.Mathlib.Omega.{arith}
 use lib.Dec.{eqb, ltb}
-use lib.ListN.{length, getD, drop, length-append, List·getD-eq-default, List·getD-append, drop-of-length-le}
-use lib.Seq.{getD-append-add}
+use lib.ListN.{length, getD, drop, length-append, List·getD-eq-default, List·getD-append, length-drop, drop-of-length-le}
+use lib.Seq.{getD-append-add, drop-append-le, drop-append-add}
 use borrow.Author.Tests.{ltb-true, lt-ltb, eqb-true}
-use Rattle.symbols.proofs.Within.{Fits, fits-word, fits-sign, reach-within}
-use Rattle.symbols.specs.Names.{blank, letter, digit, inName, these, reach, valueFrom}
-use Rattle.symbols.specs.Symbols.{signs, is}
-use Rattle.symbols.specs.Scan.{before, closed, word, gap, followed, sign, sized, name, valued, number, lexeme, behind, endsRemark}
+use Rattle.symbols.proofs.Within.{Fits, fits-word, fits-sign, fits-with, fits-valued, reach-within}
+use Rattle.symbols.specs.Names.{blank, letter, digit, inName, these, reach, valueFrom, decimals}
+use Rattle.symbols.specs.Symbols.{signs, is, packed}
+use Rattle.symbols.specs.Scan.{before, closed, word, gap, followed, sign, sized, name, valued, pointed, withPoint, number, point, lexeme, behind, endsRemark}
 use Rattle.symbols.specs.model.Steps.{joinedOf}
 use Rattle.symbols.specs.declared.Symbol.{Symbol}
-use Rattle.symbols.specs.declared.Symbol.the-variants.{Comment, Name, Number, Less, LessEqual, Greater, GreaterEqual, Colon, Becomes}
+use Rattle.symbols.specs.declared.Symbol.the-variants.{Comment, Name, Number, Decimal, Less, LessEqual, Greater, GreaterEqual, Colon, Becomes}
 use Rattle.symbols.specs.declared.Context.the-variants.{Plain}
 use Rattle.symbols.specs.declared.Lexeme.{Lexeme}
 use Rattle.symbols.specs.declared.Lexeme.the-variants.{Is, Large, Nothing}
@@ -27,16 +28,21 @@ abbrev pub Bare : List ℕ → Type 0
 Bare [] = Unit {0}
 Bare (b ∷ bs) = (blank b ≡ true) × Bare bs
 
+-- nothing but blanks, or behind a point
+pub data Spent (xs : List ℕ) : Type 0 where
+  blanks : Bare xs → Spent xs
+  dot : (cs : List ℕ) → xs ≡ 46 ∷ cs → Bare cs → Spent xs
+
 -- a symbol that opens no note, ends no remark and is followed by none
 pub record Quiet (s : Symbol) : Type 0 where
   pub after : behind s ≡ Plain
   pub in-remark : endsRemark s ≡ false
   pub no-note : is s Comment ≡ false
 
--- behind it xs has blanks alone
+-- behind it nothing is left of xs
 pub data Tail (xs : List ℕ) : Lexeme → Type 0 where
-  tail : {s : Symbol} {k : ℕ} → Quiet s → k ≤ length xs → Bare (drop k xs) → Tail xs (Is s k)
-  tail-large : {k : ℕ} → k ≤ length xs → Bare (drop k xs) → Tail xs (Large k)
+  tail : {s : Symbol} {k : ℕ} → Quiet s → k ≤ length xs → Spent (drop k xs) → Tail xs (Is s k)
+  tail-large : {k : ℕ} → k ≤ length xs → Spent (drop k xs) → Tail xs (Large k)
 
 -- it goes on behind m bytes: one byte further in the first
 pub data Grown (m : ℕ) : Lexeme → Lexeme → Type 0 where
@@ -48,6 +54,17 @@ pub data Alike (xs : List ℕ) : Lexeme → Lexeme → Lexeme → Type 0 where
   same : {x : Lexeme} → Fits x (length xs) → Alike xs x x x
   unclosed : {y z : Lexeme} → Alike xs Nothing y z
   grown : {x y z : Lexeme} → Tail xs x → Grown (length xs) y z → Alike xs x y z
+
+-- the same of what begins with a point: it is no word, and so never open but for its digits
+pub data Joint (xs : List ℕ) : Lexeme → Lexeme → Lexeme → Type 0 where
+  joint-same : {x : Lexeme} → Fits x (length xs) → Joint xs x x x
+  joint-open : {y z : Lexeme} → Grown (length xs) y z → Joint xs Nothing y z
+  joint-grown : {x y z : Lexeme} → Tail xs x → Grown (length xs) y z → Joint xs x y z
+
+alike : {xs : List ℕ} {x y z : Lexeme} → Joint xs x y z → Alike xs x y z
+alike (joint-same h) = same h
+alike (joint-open g) = unclosed
+alike (joint-grown t g) = grown t g
 
 -- ---- blanks are of no other sort
 
@@ -73,24 +90,24 @@ blank-no-digit = blank-is (λ b. digit b ≡ false) refl refl refl refl
 -- ---- runs of one sort: they stop within xs, or go on into what follows
 
 pub data Ran (sort : ℕ → Bool) (xs : List ℕ) : Type 0 where
-  stops : ((zs : List ℕ) → these sort (xs ++ zs) ≡ these sort xs) → ((zs : List ℕ) → reach sort (xs ++ zs) ≡ reach sort xs) → Ran sort xs
+  stops : ((zs : List ℕ) → these sort (xs ++ zs) ≡ these sort xs) → ((zs : List ℕ) → reach sort (xs ++ zs) ≡ reach sort xs) → reach sort xs < length xs → Ran sort xs
   runs : ((zs : List ℕ) → these sort (xs ++ zs) ≡ these sort xs ++ these sort zs) → ((zs : List ℕ) → reach sort (xs ++ zs) ≡ length xs + reach sort zs) → Ran sort xs
 
 ran-one : (sort : ℕ → Bool) (x : ℕ) (xs : List ℕ) → sort x ≡ true → Ran sort xs → Ran sort (x ∷ xs)
 unfolding these reach
-ran-one sort x xs e (stops f g) =
-    stops (λ zs. rw e (ap (λ (l : List ℕ). x ∷ l) (f zs))) (λ zs. rw e (ap suc (g zs)))
+ran-one sort x xs e (stops f g l) =
+    stops (λ zs. rw e (ap (λ (l : List ℕ). x ∷ l) (f zs))) (λ zs. rw e (ap suc (g zs))) (rw e (omega (arith, l)))
 ran-one sort x xs e (runs f g) =
     runs (λ zs. rw e (ap (λ (l : List ℕ). x ∷ l) (f zs))) (λ zs. rw e (let h = g zs in omega arith))
 
 ran-blank : (sort : ℕ → Bool) (x : ℕ) (xs : List ℕ) → sort x ≡ false → blank x ≡ true → Ran sort xs → Ran sort (x ∷ xs)
 unfolding these reach
-ran-blank sort x xs e b (stops f g) = stops (λ zs. rw (e, b) (f zs)) (λ zs. rw (e, b) (ap suc (g zs)))
+ran-blank sort x xs e b (stops f g l) = stops (λ zs. rw (e, b) (f zs)) (λ zs. rw (e, b) (ap suc (g zs))) (rw (e, b) (omega (arith, l)))
 ran-blank sort x xs e b (runs f g) = runs (λ zs. rw (e, b) (f zs)) (λ zs. rw (e, b) (let h = g zs in omega arith))
 
 ran-stop : (sort : ℕ → Bool) (x : ℕ) (xs : List ℕ) → sort x ≡ false → blank x ≡ false → Ran sort (x ∷ xs)
 unfolding these reach
-ran-stop sort x xs e b = stops (λ zs. rw (e, b)) (λ zs. rw (e, b))
+ran-stop sort x xs e b = stops (λ zs. rw (e, b)) (λ zs. rw (e, b)) (rw (e, b) (omega arith))
 
 pub ran : (sort : ℕ → Bool) (xs : List ℕ) → Ran sort xs
 unfolding these reach
@@ -116,10 +133,10 @@ module _ (sort : ℕ → Bool) (b : ℕ) (e : blank b ≡ true) (f : sort b ≡ 
   these-with xs ys = go (ran sort xs)
     where
       go : Ran sort xs → these sort (xs ++ (b ∷ ys)) ≡ these sort (xs ++ ys)
-      go (stops p q) = p (b ∷ ys) ∙ sym (p ys)
+      go (stops p q l) = p (b ∷ ys) ∙ sym (p ys)
       go (runs p q) = p (b ∷ ys) ∙ ap (λ (l : List ℕ). these sort xs ++ l) (these-blank ys) ∙ sym (p ys)
 
--- ---- names and numbers
+-- ---- names
 
 -- what a run of a sort makes: `make` has the bytes and how far they reach
 module _ (sort : ℕ → Bool) (b : ℕ) (e : blank b ≡ true) (f : sort b ≡ false) (make : List ℕ → ℕ → Lexeme) where
@@ -131,7 +148,7 @@ module _ (sort : ℕ → Bool) (b : ℕ) (e : blank b ≡ true) (f : sort b ≡ 
   run-alike x xs ys t fit last grow = go (ran sort xs)
     where
       go : Ran sort xs → Alike xs (make (x ∷ these sort xs) (reach sort xs)) (make (x ∷ these sort (xs ++ (b ∷ ys))) (reach sort (xs ++ (b ∷ ys)))) (make (x ∷ these sort (xs ++ ys)) (reach sort (xs ++ ys)))
-      go (stops p q) = rw (p (b ∷ ys), q (b ∷ ys), p ys, q ys) (same (fit (x ∷ these sort xs) (reach sort xs) (reach-within sort xs)))
+      go (stops p q l) = rw (p (b ∷ ys), q (b ∷ ys), p ys, q ys) (same (fit (x ∷ these sort xs) (reach sort xs) (reach-within sort xs)))
       go (runs p q) =
           let r = q [] in
           let a = ap (reach sort) (append-nil xs) in
@@ -143,12 +160,12 @@ either-fits : (t : Bool) (s : Symbol) (k n : ℕ) → k ≤ n → Fits (cond t (
 either-fits true s k n h = h
 either-fits false s k n h = h
 
-all-passed : (xs : List ℕ) → Bare (drop (length xs) xs)
-all-passed xs = let h : length xs ≤ length xs = omega arith in rw (drop-of-length-le xs h) tt
+all-passed : (xs : List ℕ) → Spent (drop (length xs) xs)
+all-passed xs = let h : length xs ≤ length xs = omega arith in rw (drop-of-length-le xs h) (blanks tt)
 
-either-tail : (t : Bool) (s : Symbol) (xs : List ℕ) → Quiet s → Tail xs (cond t (Large (length xs)) (Is s (length xs)))
-either-tail true s xs q = let h : length xs ≤ length xs = omega arith in tail-large h (all-passed xs)
-either-tail false s xs q = let h : length xs ≤ length xs = omega arith in tail q h (all-passed xs)
+either-tail : (t : Bool) (s : Symbol) (k : ℕ) (xs : List ℕ) → Quiet s → k ≤ length xs → Spent (drop k xs) → Tail xs (cond t (Large k) (Is s k))
+either-tail true s k xs q h p = tail-large h p
+either-tail false s k xs q h p = tail q h p
 
 either-grows : (t : Bool) (s : Symbol) (m j : ℕ) → Quiet s → Grown m (cond t (Large (m + suc j)) (Is s (m + suc j))) (cond t (Large (m + j)) (Is s (m + j)))
 either-grows true s m j q = grows-large j
@@ -169,17 +186,144 @@ module _ (b : ℕ) (e : blank b ≡ true) (x : ℕ) (xs ys : List ℕ) where
       rw t
       (run-alike inName b e (blank-no-name b e) (λ l k. sized (length l) k) x xs ys t
       (λ l k h. either-fits (ltb 32 (length l)) Name k (length xs) h)
-      (λ l. either-tail (ltb 32 (length l)) Name xs quiet-name)
+      (λ l. either-tail (ltb 32 (length l)) Name (length xs) xs quiet-name (omega arith) (all-passed xs))
       (λ l j. either-grows (ltb 32 (length l)) Name (length xs) j quiet-name))
 
-  number-alike : digit x ≡ true → Alike xs (number x xs) (number x (xs ++ (b ∷ ys))) (number x (xs ++ ys))
-  unfolding number valued these
-  number-alike t =
-      rw t
-      (run-alike digit b e (blank-no-digit b e) (λ l k. valued (valueFrom 0 l) k) x xs ys t
-      (λ l k h. either-fits (ltb 2147483647 (valueFrom 0 l)) (Number (valueFrom 0 l)) k (length xs) h)
-      (λ l. either-tail (ltb 2147483647 (valueFrom 0 l)) (Number (valueFrom 0 l)) xs (quiet-number (valueFrom 0 l)))
-      (λ l j. either-grows (ltb 2147483647 (valueFrom 0 l)) (Number (valueFrom 0 l)) (length xs) j (quiet-number (valueFrom 0 l))))
+-- ---- numbers: the digits before a point, and those behind it
+
+quiet-decimal : (w : ℕ) → Quiet (Decimal w)
+unfolding behind endsRemark
+quiet-decimal w = record { after = refl; in-remark = refl; no-note = refl }
+
+valued-tail : (v k : ℕ) (xs : List ℕ) → k ≤ length xs → Spent (drop k xs) → Tail xs (valued v k)
+unfolding valued
+valued-tail v k xs h p = either-tail (ltb 2147483647 v) (Number v) k xs (quiet-number v) h p
+
+valued-grows : (v m j : ℕ) → Grown m (valued v (m + suc j)) (valued v (m + j))
+unfolding valued
+valued-grows v m j = either-grows (ltb 2147483647 v) (Number v) m j (quiet-number v)
+
+pointed-tail : (v n m k : ℕ) (xs : List ℕ) → k ≤ length xs → Spent (drop k xs) → Tail xs (pointed v n m k)
+unfolding pointed
+pointed-tail v n m k xs h p = either-tail (ltb 15 n) (Decimal (packed v m)) k xs (quiet-decimal (packed v m)) h p
+
+pointed-grows : (v n d m j : ℕ) → Grown m (pointed v n d (m + suc j)) (pointed v n d (m + j))
+unfolding pointed
+pointed-grows v n d m j = either-grows (ltb 15 n) (Decimal (packed v d)) m j (quiet-decimal (packed v d))
+
+-- bytes that are digits and blanks alone, and have no digit
+none-bare : (cs : List ℕ) → these digit cs ≡ [] → reach digit cs ≡ length cs → Bare cs
+unfolding these reach
+none-bare [] t r = tt
+none-bare (c ∷ cs) t r = go (digit c) (blank c) refl t r (none-bare cs)
+  where
+    go : (u v : Bool) → blank c ≡ v → cond u (c ∷ these digit cs) (cond v (these digit cs) []) ≡ [] → cond (u || v) (suc (reach digit cs)) 0 ≡ suc (length cs)
+        → (these digit cs ≡ [] → reach digit cs ≡ length cs → Bare cs) → Bare (c ∷ cs)
+    go true v f t' r' rec = let z : suc (length (these digit cs)) ≡ 0 = ap length t' in absurd (omega (arith, z))
+    go false true f t' r' rec = (f, rec t' (omega (arith, r')))
+    go false false f t' r' rec = absurd (omega (arith, r'))
+
+module _ (b : ℕ) (e : blank b ≡ true) (plain : Lexeme) (ds : List ℕ) (k : ℕ) where
+  -- the point is behind k bytes, or the first, and cs behind it
+  abbrev Behind : List ℕ → Lexeme
+  Behind cs = withPoint plain ds (these digit cs) (k + reach digit cs)
+
+  module _ (xs cs ys : List ℕ) (n : length xs ≡ k + length cs) (fit : Fits plain (length xs)) (left : Bare cs → Tail xs plain ⊎ (plain ≡ Nothing)) where
+    -- cs has digits and blanks alone
+    going-on : (ls ms : List ℕ) (j : ℕ) → (ls ≡ [] → Bare cs)
+        → Joint xs (withPoint plain ds ls (length xs)) (withPoint plain ds (ls ++ ms) (length xs + suc j)) (withPoint plain ds (ls ++ ms) (length xs + j))
+    unfolding withPoint
+    going-on [] [] j h = joint-same fit
+    going-on [] (m ∷ ms) j h = go (left (h refl))
+      where
+        go : Tail xs plain ⊎ (plain ≡ Nothing)
+            → Joint xs plain (pointed (valueFrom 0 (ds ++ (m ∷ ms))) (length (ds ++ (m ∷ ms))) (length (m ∷ ms)) (length xs + suc j)) (pointed (valueFrom 0 (ds ++ (m ∷ ms))) (length (ds ++ (m ∷ ms))) (length (m ∷ ms)) (length xs + j))
+        go (inl t) = joint-grown t (pointed-grows (valueFrom 0 (ds ++ (m ∷ ms))) (length (ds ++ (m ∷ ms))) (length (m ∷ ms)) (length xs) j)
+        go (inr z) = rw z (joint-open (pointed-grows (valueFrom 0 (ds ++ (m ∷ ms))) (length (ds ++ (m ∷ ms))) (length (m ∷ ms)) (length xs) j))
+    going-on (l ∷ ls) ms j h =
+        joint-grown (pointed-tail (valueFrom 0 (ds ++ (l ∷ ls))) (length (ds ++ (l ∷ ls))) (length (l ∷ ls)) (length xs) xs (omega arith) (all-passed xs))
+        (pointed-grows (valueFrom 0 (ds ++ (l ∷ ls ++ ms))) (length (ds ++ (l ∷ ls ++ ms))) (length (l ∷ ls ++ ms)) (length xs) j)
+
+    with-joint : Joint xs (Behind cs) (Behind (cs ++ (b ∷ ys))) (Behind (cs ++ ys))
+    unfolding reach
+    with-joint = go (ran digit cs)
+      where
+        go : Ran digit cs → Joint xs (Behind cs) (Behind (cs ++ (b ∷ ys))) (Behind (cs ++ ys))
+        go (stops p q l) =
+            rw (p (b ∷ ys), q (b ∷ ys), p ys, q ys)
+            (joint-same (fits-with plain ds (these digit cs) (k + reach digit cs) (length xs) fit (λ h. omega (arith, n, l))))
+        go (runs p q) =
+            let j = reach digit ys in
+            let r : reach digit cs ≡ length cs = omega (arith, q [], ap (reach digit) (append-nil cs)) in
+            let f = blank-no-digit b e in
+            let t = p (b ∷ ys) ∙ ap (λ (l : List ℕ). these digit cs ++ l) (these-blank digit b e f ys) in
+            let o : k + reach digit cs ≡ length xs = omega (arith, n, r) in
+            let u : k + reach digit (cs ++ (b ∷ ys)) ≡ length xs + suc j = omega (arith, n, q (b ∷ ys), reach-blank digit b e f ys) in
+            let w : k + reach digit (cs ++ ys) ≡ length xs + j = omega (arith, n, q ys) in
+            rw (o, t, p ys, u, w) (going-on (these digit cs) (these digit ys) j (λ z. none-bare cs z r))
+
+module _ (b : ℕ) (e : blank b ≡ true) where
+  pub point-joint : (xs ys : List ℕ) → Joint xs (point xs) (point (xs ++ (b ∷ ys))) (point (xs ++ ys))
+  unfolding point
+  point-joint xs ys =
+      let z : (m : ℕ) → 0 + m ≡ m = λ m. omega arith in
+      rw (← z (reach digit xs), ← z (reach digit (xs ++ (b ∷ ys))), ← z (reach digit (xs ++ ys)))
+      (with-joint b e Nothing [] 0 xs xs ys (omega arith) tt (λ h. inr refl))
+
+  module _ (x : ℕ) (xs ys : List ℕ) (d : digit x ≡ true) where
+    -- the digits do not end within xs
+    on-grows : (D E : List ℕ) (m j r : ℕ) → Grown m (withPoint (valued (valueFrom 0 D) (m + suc j)) D E (m + suc j + 1 + r)) (withPoint (valued (valueFrom 0 D) (m + j)) D E (m + j + 1 + r))
+    unfolding withPoint
+    on-grows D [] m j r = valued-grows (valueFrom 0 D) m j
+    on-grows D (c ∷ cs) m j r =
+        let a : m + suc j + 1 + r ≡ m + suc (j + 1 + r) = omega arith in
+        let o : m + j + 1 + r ≡ m + (j + 1 + r) = omega arith in
+        rw (a, o) (pointed-grows (valueFrom 0 (D ++ (c ∷ cs))) (length (D ++ (c ∷ cs))) (length (c ∷ cs)) m (j + 1 + r))
+
+    -- they end at c, behind which cs is left of xs
+    stopped-alike : (k : ℕ) (rest : List ℕ) → k < length xs → drop k xs ≡ rest → (D : List ℕ)
+        → Alike xs (withPoint (valued (valueFrom 0 D) k) D (decimals rest) (k + 1 + reach digit (drop 1 rest)))
+        (withPoint (valued (valueFrom 0 D) k) D (decimals (rest ++ (b ∷ ys))) (k + 1 + reach digit (drop 1 (rest ++ (b ∷ ys)))))
+        (withPoint (valued (valueFrom 0 D) k) D (decimals (rest ++ ys)) (k + 1 + reach digit (drop 1 (rest ++ ys))))
+    unfolding decimals
+    stopped-alike k [] l w D = absurd (omega (arith, l, length-drop k xs, ap length w))
+    stopped-alike k (c ∷ cs) l w D = go (eqb c 46) refl
+      where
+        fit : Fits (valued (valueFrom 0 D) k) (length xs)
+        fit = fits-valued (valueFrom 0 D) k (length xs) (omega arith)
+
+        go : (t : Bool) → eqb c 46 ≡ t
+            → Alike xs (withPoint (valued (valueFrom 0 D) k) D (cond t (these digit cs) []) (k + 1 + reach digit cs))
+            (withPoint (valued (valueFrom 0 D) k) D (cond t (these digit (cs ++ (b ∷ ys))) []) (k + 1 + reach digit (cs ++ (b ∷ ys))))
+            (withPoint (valued (valueFrom 0 D) k) D (cond t (these digit (cs ++ ys)) []) (k + 1 + reach digit (cs ++ ys)))
+        go false z = unfold withPoint in same fit
+        go true z =
+            alike
+            (with-joint b e (valued (valueFrom 0 D) k) D (k + 1) xs cs ys (omega (arith, l, length-drop k xs, ap length w)) fit
+            (λ h. inl (valued-tail (valueFrom 0 D) k xs (omega arith) (dot cs (w ∙ ap (λ (y : ℕ). y ∷ cs) (eqb-true c 46 z)) h))))
+
+    number-alike : Alike xs (number x xs) (number x (xs ++ (b ∷ ys))) (number x (xs ++ ys))
+    unfolding number withPoint decimals these reach
+    number-alike = rw d (go (ran digit xs))
+      where
+        N : List ℕ → Lexeme
+        N zs = let k = reach digit zs in withPoint (valued (valueFrom 0 (x ∷ these digit zs)) k) (x ∷ these digit zs) (decimals (drop k zs)) (k + 1 + reach digit (drop 1 (drop k zs)))
+
+        go : Ran digit xs → Alike xs (N xs) (N (xs ++ (b ∷ ys))) (N (xs ++ ys))
+        go (stops p q l) =
+            rw (p (b ∷ ys), q (b ∷ ys), p ys, q ys, drop-append-le (reach digit xs) xs (b ∷ ys) (omega (arith, l)), drop-append-le (reach digit xs) xs ys (omega (arith, l)))
+            (stopped-alike (reach digit xs) (drop (reach digit xs) xs) l refl (x ∷ these digit xs))
+        go (runs p q) =
+            let j = reach digit ys in
+            let r : reach digit xs ≡ length xs = omega (arith, q [], ap (reach digit) (append-nil xs)) in
+            let f = blank-no-digit b e in
+            let t = p (b ∷ ys) ∙ ap (λ (l : List ℕ). these digit xs ++ l) (these-blank digit b e f ys) in
+            let u = q (b ∷ ys) ∙ ap (λ (i : ℕ). length xs + i) (reach-blank digit b e f ys) in
+            let m : length xs ≤ length xs = omega arith in
+            let o : drop (length xs) xs ≡ [] = drop-of-length-le xs m in
+            rw (t, p ys, u, q ys, r, o, drop-append-add xs (b ∷ ys) (suc j), drop-append-add xs ys j)
+            (grown (valued-tail (valueFrom 0 (x ∷ these digit xs)) (length xs) xs (omega arith) (all-passed xs))
+            (on-grows (x ∷ (these digit xs ++ these digit ys)) (decimals (drop j ys)) (length xs) j (reach digit (drop 1 (drop j ys)))))
 
 -- ---- words: closed within xs, or open
 
@@ -247,7 +391,7 @@ joined-alike alone twin qa qt b e xs ys = go (gaps xs)
 
     on : (t : Bool) → Bare xs
         → Alike xs (Is alone 0) (cond t (Is twin (length xs + suc (gap ys + 1))) (Is alone 0)) (cond t (Is twin (length xs + (gap ys + 1))) (Is alone 0))
-    on true h = let z : 0 ≤ length xs = omega arith in grown (tail qa z h) (grows (gap ys + 1) qt)
+    on true h = let z : 0 ≤ length xs = omega arith in grown (tail qa z (blanks h)) (grows (gap ys + 1) qt)
     on false h = let z : 0 ≤ length xs = omega arith in same z
 
     go : Gaps xs → Alike xs (joinedOf alone twin xs) (joinedOf alone twin (xs ++ (b ∷ ys))) (joinedOf alone twin (xs ++ ys))
@@ -290,16 +434,38 @@ sign-alike b e x xs ys = go (eqb x 60) (eqb x 62) (eqb x 58) refl refl refl
 
 pub lexeme-alike : (b : ℕ) → blank b ≡ true → (x : ℕ) (xs ys : List ℕ) → Alike xs (lexeme x xs) (lexeme x (xs ++ (b ∷ ys))) (lexeme x (xs ++ ys))
 unfolding lexeme inName
-lexeme-alike b e x xs ys = go (letter x) (digit x) (eqb x 39) refl refl
+lexeme-alike b e x xs ys = go (letter x) (digit x) refl refl
   where
     pick : (u : Bool) (k l m k' l' m' : Lexeme) → Alike xs k l m → Alike xs k' l' m' → Alike xs (cond u k k') (cond u l l') (cond u m m')
     pick true k l m k' l' m' h h' = h
     pick false k l m k' l' m' h h' = h'
 
-    rest : Alike xs (cond (eqb x 39) (word xs) (sign signs x xs)) (cond (eqb x 39) (word (xs ++ (b ∷ ys))) (sign signs x (xs ++ (b ∷ ys)))) (cond (eqb x 39) (word (xs ++ ys)) (sign signs x (xs ++ ys)))
-    rest = pick (eqb x 39) _ _ _ _ _ _ (word-alike b xs ys) (sign-alike b e x xs ys)
+    go : (t u : Bool) → letter x ≡ t → digit x ≡ u → Alike xs (lexeme x xs) (lexeme x (xs ++ (b ∷ ys))) (lexeme x (xs ++ ys))
+    go true u p q = rw p (name-alike b e x xs ys (rw p))
+    go false true p q = rw (p, q) (number-alike b e x xs ys q)
+    go false false p q =
+        rw (p, q) (pick (eqb x 46) _ _ _ _ _ _ (alike (point-joint b e xs ys)) (pick (eqb x 39) _ _ _ _ _ _ (word-alike b xs ys) (sign-alike b e x xs ys)))
 
-    go : (t u v : Bool) → letter x ≡ t → digit x ≡ u → Alike xs (lexeme x xs) (lexeme x (xs ++ (b ∷ ys))) (lexeme x (xs ++ ys))
-    go true u v p q = rw p (name-alike b e x xs ys (rw p))
-    go false true v p q = rw (p, q) (number-alike b e x xs ys q)
-    go false false v p q = rw (p, q) rest
+-- ---- what begins with a point: it is no 'comment'
+
+pub lexeme-dot : (x : ℕ) (bs : List ℕ) → eqb x 46 ≡ true → lexeme x bs ≡ point bs
+unfolding lexeme letter digit
+lexeme-dot x bs e = subst (λ (y : ℕ). lexeme y bs ≡ point bs) (sym (eqb-true x 46 e)) refl
+
+abbrev pub Calm : Lexeme → Type 0
+Calm (Is s k) = is s Comment ≡ false
+Calm (Large k) = Unit {0}
+Calm Nothing = Unit {0}
+
+calm-with : (es : List ℕ) (k : ℕ) → Calm (withPoint Nothing [] es k)
+unfolding withPoint pointed
+calm-with [] k = tt
+calm-with (e ∷ es) k = go (ltb 15 (length (e ∷ es)))
+  where
+    go : (t : Bool) → Calm (cond t (Large k) (Is (Decimal (packed (valueFrom 0 (e ∷ es)) (length (e ∷ es)))) k))
+    go true = tt
+    go false = refl
+
+pub calm-point : (bs : List ℕ) → Calm (point bs)
+unfolding point
+calm-point bs = calm-with (these digit bs) (reach digit bs)

@@ -133,6 +133,14 @@ cap-twice : (v : ℕ) → capped (capped v) ≡ capped v
 unfolding capped
 cap-twice v = omega arith
 
+pub capped-small : (v : ℕ) → capped v ≤ 1000000000000000
+unfolding capped
+capped-small v = omega arith
+
+pub capped-within : (v : ℕ) → v ≤ 1000000000000000 → capped v ≡ v
+unfolding capped
+capped-within v h = omega arith
+
 pub capped-from : (w : ℕ) (ds : List ℕ) → capped (valueFrom (capped w) ds) ≡ capped (valueFrom w ds)
 unfolding valueFrom
 capped-from w [] = cap-twice w
@@ -148,11 +156,11 @@ valued-capped v k = go (ltb 2147483647 v) refl
     go : (t : Bool) → ltb 2147483647 v ≡ t → valued (capped v) k ≡ valued v k
     go true e =
         let h = ltb-true 2147483647 v e in
-        let f : 2147483647 < min v 2147483648 = omega arith in
-        simp (e, lt-ltb 2147483647 (min v 2147483648) f)
+        let f : 2147483647 < min v 1000000000000000 = omega arith in
+        simp (e, lt-ltb 2147483647 (min v 1000000000000000) f)
     go false e =
         let h = ltb-false 2147483647 v e in
-        let f : min v 2147483648 ≡ v = omega arith in
+        let f : min v 1000000000000000 ≡ v = omega arith in
         rw f
 
 -- ---- the first byte of a name or number
@@ -165,19 +173,11 @@ pub digit-first : (b : ℕ) (bs : List ℕ) → digit b ≡ true → these digit
 unfolding these
 digit-first b bs h = rw h
 
-pub number-first : (b : ℕ) (bs : List ℕ) → digit b ≡ true
-    → capped (valueFrom 0 (these digit (b ∷ bs))) ≡ capped (valueFrom (capped (10 * 0 + (b - 48))) (these digit bs))
-unfolding valueFrom
-number-first b bs h = rw (digit-first b bs h) (sym (capped-from (10 * 0 + (b - 48)) (these digit bs)))
-
 pub number-more : (v : ℕ) (s : List ℕ) (i : ℕ) → i < length s → digit (getD s i 0) ≡ true
     → capped (valueFrom v (these digit (drop i s))) ≡ capped (valueFrom (capped (10 * v + (getD s i 0 - 48))) (these digit (drop (i + 1) s)))
 unfolding valueFrom
 number-more v s i h e =
     rw (these-one digit s i h e) (sym (capped-from (10 * v + (getD s i 0 - 48)) (these digit (drop (i + 1) s))))
-
-pub number-done : (w v k : ℕ) → capped w ≡ capped v → valued w k ≡ valued v k
-number-done w v k e = sym (valued-capped w k) ∙ ap (λ (x : ℕ). valued x k) e ∙ valued-capped v k
 
 -- ---- what is left of a name
 
@@ -234,10 +234,6 @@ rests-end s i j h = rw (rest-off s i h) (go (leb (length s) j) refl)
     go false e = rw (rest-on s j (leb-false (length s) j e))
 
 -- ---- counting
-
-pub capped-small : (v : ℕ) → capped v ≤ 2147483648
-unfolding capped
-capped-small v = omega arith
 
 pub counted-none : (n : ℕ) (s : Symbol) (k : ℕ) → n ≡ 0 → counted n s k ≡ Refuse (answer tooLarge)
 unfolding counted

@@ -3,6 +3,7 @@ pub mod Keyed
 pub mod Stored
 pub mod Tags
 pub mod Within
+pub mod Decimals
 pub mod Resume
 pub mod Filling
 pub mod Follows
@@ -14,3 +15,4 @@ pub mod SpelledSymbols
 pub mod Written
 pub mod OwnSymbols
 pub mod WrittenAgain
+pub mod Values

@@ -1,17 +1,18 @@
 -- The symbols of any source, with their letters, can stand next to each other as they do: so they can be written with other blanks.
 use mathlib.Core.Path.{_≡_, refl, sym, ap, subst, _∙_}
 use mathlib.Core.Bool.{Bool, true, false, cond, not, _&&_, _||_}
-use mathlib.Core.List.{List, [], _∷_, map}
+use mathlib.Core.List.{List, [], _∷_, _++_, map}
 use Prim.Native.Nat.{ℕ, zero, suc, pred, _+_, _-_, _≤_, _<_}
 use native.Mathlib.Omega.{arith}
 use lib.Dec.{eqb, ltb}
-use lib.ListN.{length, getD, drop}
+use lib.ListN.{length, drop}
 use lib.Seq.{drop-drop}
 use borrow.Author.Tests.{ltb-false, eqb-true, ne-eqb}
 use Rattle.symbols.proofs.Laws.{both, name-first, digit-first}
-use Rattle.symbols.specs.Names.{blank, letter, digit, inName, reach, letters, valueFrom, value}
-use Rattle.symbols.specs.Symbols.{Delimiter, words, Sign, one, two, signs, kind, is}
-use Rattle.symbols.specs.Scan.{before, closed, spelled, named, word, gap, followed, sign, sized, name, valued, number, lexeme, behind, endsRemark, note, counted, judged, turn, Found, Scan, then, scanFrom, scan}
+use Rattle.symbols.proofs.Follows.{blank-no-digit}
+use Rattle.symbols.specs.Names.{blank, letter, digit, inName, these, reach, letters, valueFrom, value, decimals}
+use Rattle.symbols.specs.Symbols.{Delimiter, words, Sign, one, two, signs, kind, is, packed}
+use Rattle.symbols.specs.Scan.{before, closed, spelled, named, word, gap, followed, sign, sized, name, valued, pointed, withPoint, number, point, lexeme, behind, endsRemark, note, counted, judged, turn, Found, Scan, then, scanFrom, scan}
 use Rattle.symbols.specs.declared.Context.{Context}
 use Rattle.symbols.specs.declared.Context.the-variants.{Opens, Plain, Remark}
 use Rattle.symbols.specs.declared.words.Spelled.{Spelled}
@@ -21,18 +22,18 @@ use Rattle.symbols.specs.declared.Lexeme.the-variants.{Is, Large, Nothin
 use Rattle.symbols.specs.declared.Turn.{Turn}
 use Rattle.symbols.specs.declared.Turn.the-variants.{Pass, Keep, Refuse}
 use Rattle.symbols.specs.declared.Symbol.{Symbol}
-use Rattle.symbols.specs.declared.Symbol.the-variants.{Begin, End, Comment, Plus, Minus, Times, Divide, Less, LessEqual, Equal, GreaterEqual, Greater, NotEqual, Comma, Colon, Becomes, Semicolon, Open, Close, Name, Number}
+use Rattle.symbols.specs.declared.Symbol.the-variants.{Begin, End, Comment, Plus, Minus, Times, Divide, Less, LessEqual, Equal, GreaterEqual, Greater, NotEqual, Comma, Colon, Becomes, Semicolon, Open, Close, Name, Number, Slash, Decimal}
 use Rattle.symbols.specs.Spelling as S
-use Rattle.symbols.specs.Spelling.{Token, Proper, AllProper, joins, admitted, Linked, Sound, readOff, tokenAt, tokens}
-use Rattle.symbols.proofs.SpelledBytes.{ahead, ahead-here, ahead-past, followed-ahead, these-are, run-ends}
-use Rattle.symbols.proofs.SpelledSymbols.{yes-no, blocks, FirstByte, blocks-joins, letter-begins, digit-begins}
+use Rattle.symbols.specs.Spelling.{Token, All, Proper, AllProper, dotted, figured, joins, admitted, Linked, Sound, withDecimals, readOff, tokenAt, tokens}
+use Rattle.symbols.proofs.SpelledBytes.{ahead, ahead-past, followed-ahead, these-are, run-ends, some-ahead, dots-past, run-dots}
+use Rattle.symbols.proofs.SpelledSymbols.{yes-no, token, blocks, FirstByte, blocks-joins, letter-begins, number-begins, decimal-begins, dot-begins}
 
 -- ---- what is read at a byte: what it begins with, its letters, and what stands behind it
 
 pub record Lexed (b : ℕ) (bs : List ℕ) (t : Symbol) (k : ℕ) : Type 0 where
-  pub begins : FirstByte b t
+  pub begins : FirstByte b bs (token t (readOff t (b ∷ bs)))
   pub proper : Proper t (readOff t (b ∷ bs))
-  pub ends : blocks t (ahead (drop k bs)) ≡ false
+  pub ends : blocks t (drop k bs) ≡ false
 
 abbrev LexedAs : ℕ → List ℕ → Lexeme → Type 0
 LexedAs b bs (Is t k) = Lexed b bs t k
@@ -41,11 +42,12 @@ LexedAs b bs Nothing = Unit {0}
 
 -- a symbol that goes on with nothing, and is no `=`
 plain : Symbol → Bool
-plain s = not (is s Name || is s (Number 0) || is s Less || is s Greater || is s Colon || is s Equal)
+plain s = not (is s Name || is s (Number 0) || is s (Decimal 0) || is s Less || is s Greater || is s Colon || is s Equal)
 
 record Plainly (s : Symbol) : Type 0 where
   no-name : is s Name ≡ false
   no-number : is s (Number 0) ≡ false
+  no-decimal : is s (Decimal 0) ≡ false
   no-less : is s Less ≡ false
   no-greater : is s Greater ≡ false
   no-colon : is s Colon ≡ false
@@ -53,25 +55,33 @@ record Plainly (s : Symbol) : Type 0 where
 
 plainly : (s : Symbol) → plain s ≡ true → Plainly s
 unfolding plain
-plainly s h = go (is s Name) (is s (Number 0)) (is s Less) (is s Greater) (is s Colon) (is s Equal) refl refl refl refl refl refl h
+plainly s h = go (is s Name) (is s (Number 0)) (is s (Decimal 0)) (is s Less) (is s Greater) (is s Colon) (is s Equal) refl refl refl refl refl refl refl h
   where
-    go : (t u v w x y : Bool) → is s Name ≡ t → is s (Number 0) ≡ u → is s Less ≡ v → is s Greater ≡ w → is s Colon ≡ x → is s Equal ≡ y → not (t || u || v || w || x || y) ≡ true → Plainly s
-    go true u v w x y a b c d e f h' = absurd (yes-no (sym h'))
-    go false true v w x y a b c d e f h' = absurd (yes-no (sym h'))
-    go false false true w x y a b c d e f h' = absurd (yes-no (sym h'))
-    go false false false true x y a b c d e f h' = absurd (yes-no (sym h'))
-    go false false false false true y a b c d e f h' = absurd (yes-no (sym h'))
-    go false false false false false true a b c d e f h' = absurd (yes-no (sym h'))
-    go false false false false false false a b c d e f h' = record { no-name = a; no-number = b; no-less = c; no-greater = d; no-colon = e; no-equal = f }
+    go : (t u d v w x y : Bool) → is s Name ≡ t → is s (Number 0) ≡ u → is s (Decimal 0) ≡ d → is s Less ≡ v → is s Greater ≡ w → is s Colon ≡ x → is s Equal ≡ y → not (t || u || d || v || w || x || y) ≡ true → Plainly s
+    go true u d v w x y a b g c i e f h' = absurd (yes-no (sym h'))
+    go false true d v w x y a b g c i e f h' = absurd (yes-no (sym h'))
+    go false false true v w x y a b g c i e f h' = absurd (yes-no (sym h'))
+    go false false false true w x y a b g c i e f h' = absurd (yes-no (sym h'))
+    go false false false false true x y a b g c i e f h' = absurd (yes-no (sym h'))
+    go false false false false false true y a b g c i e f h' = absurd (yes-no (sym h'))
+    go false false false false false false true a b g c i e f h' = absurd (yes-no (sym h'))
+    go false false false false false false false a b g c i e f h' = record { no-name = a; no-number = b; no-decimal = g; no-less = c; no-greater = i; no-colon = e; no-equal = f }
 
-other-lexed : (b : ℕ) (bs : List ℕ) (t : Symbol) (k : ℕ) → blank b ≡ false → letter b ≡ false → digit b ≡ false → eqb b 61 ≡ false → plain t ≡ true → Lexed b bs t k
-unfolding inName readOff blocks
-other-lexed b bs t k d l m q h =
+-- a byte that begins no name, no number and no `=`
+record Else (b : ℕ) : Type 0 where
+  dark : blank b ≡ false
+  no-letter : letter b ≡ false
+  no-digit : digit b ≡ false
+  no-point : eqb b 46 ≡ false
+
+other-lexed : (b : ℕ) (bs : List ℕ) (t : Symbol) (k : ℕ) → Else b → eqb b 61 ≡ false → plain t ≡ true → Lexed b bs t k
+unfolding inName figured dotted readOff blocks
+other-lexed b bs t k o q h =
     let p = plainly t h in
     record {
-      begins = record { dark = d; named = rw (l, m, p .no-name, p .no-number); numbered = rw (m, p .no-number); equals = rw (q, p .no-equal) };
-      proper = rw (p .no-name, p .no-number) (S.other (p .no-name) (p .no-number));
-      ends = rw (p .no-name, p .no-number, p .no-less, p .no-greater, p .no-colon);
+      begins = record { dark = o .dark; named = rw (o .no-letter, o .no-digit, p .no-name, p .no-number, p .no-decimal); numbered = rw (o .no-digit, p .no-number, p .no-decimal); dot = rw (o .no-point, p .no-decimal); equals = rw (q, p .no-equal) };
+      proper = rw (p .no-name, p .no-number, p .no-decimal) (S.other (p .no-name) (p .no-number) (p .no-decimal));
+      ends = rw (p .no-name, p .no-number, p .no-decimal, p .no-less, p .no-greater, p .no-colon);
     }
 
 -- ---- words
@@ -99,53 +109,53 @@ words-plain : plain-words words ≡ true
 unfolding plain-words plain
 words-plain = refl
 
-named-as : (b : ℕ) (bs : List ℕ) (r : Spelled) (k : ℕ) → blank b ≡ false → letter b ≡ false → digit b ≡ false → eqb b 61 ≡ false → SpelledAs r → LexedAs b bs (named r k)
+named-as : (b : ℕ) (bs : List ℕ) (r : Spelled) (k : ℕ) → Else b → eqb b 61 ≡ false → SpelledAs r → LexedAs b bs (named r k)
 unfolding named
-named-as b bs (Word s) k d l m q h = other-lexed b bs s k d l m q h
-named-as b bs Unknown k d l m q h = tt
+named-as b bs (Word s) k o q h = other-lexed b bs s k o q h
+named-as b bs Unknown k o q h = tt
 
-word-as : (b : ℕ) (bs : List ℕ) → blank b ≡ false → letter b ≡ false → digit b ≡ false → eqb b 61 ≡ false → LexedAs b bs (word bs)
+word-as : (b : ℕ) (bs : List ℕ) → Else b → eqb b 61 ≡ false → LexedAs b bs (word bs)
 unfolding word
-word-as b bs d l m q = go (closed 39 bs)
+word-as b bs o q = go (closed 39 bs)
   where
     go : (t : Bool) → LexedAs b bs (cond t (named (spelled words (before 39 bs)) (length (before 39 bs) + 1)) Nothing)
-    go true = named-as b bs (spelled words (before 39 bs)) (length (before 39 bs) + 1) d l m q (spelled-as words (before 39 bs) words-plain)
+    go true = named-as b bs (spelled words (before 39 bs)) (length (before 39 bs) + 1) o q (spelled-as words (before 39 bs) words-plain)
     go false = tt
 
 -- ---- signs: `<`, `>` and `:`, which may be joined with `=`; `=`; the others
 
 abbrev simple : List Sign
-simple = one "+" Plus ∷ one "-" Minus ∷ one "*" Times ∷ one "%" Divide ∷ one "#" NotEqual ∷ one "," Comma ∷ one ";" Semicolon ∷ one "(" Open ∷ one ")" Close ∷ []
+simple = one "+" Plus ∷ one "-" Minus ∷ one "*" Times ∷ one "%" Divide ∷ one "#" NotEqual ∷ one "," Comma ∷ one ";" Semicolon ∷ one "(" Open ∷ one ")" Close ∷ one "/" Slash ∷ []
 
 plain-signs : List Sign → Bool
 plain-signs [] = true
 plain-signs (one c s ∷ l) = plain s && plain-signs l
 plain-signs (two c d s ∷ l) = false
 
-simple-as : (b : ℕ) (bs : List ℕ) (l : List Sign) → blank b ≡ false → letter b ≡ false → digit b ≡ false → eqb b 61 ≡ false → plain-signs l ≡ true → LexedAs b bs (sign l b bs)
+simple-as : (b : ℕ) (bs : List ℕ) (l : List Sign) → Else b → eqb b 61 ≡ false → plain-signs l ≡ true → LexedAs b bs (sign l b bs)
 unfolding sign plain-signs
-simple-as b bs [] d l m q h = tt
-simple-as b bs (one c s ∷ r) d l m q h =
+simple-as b bs [] o q h = tt
+simple-as b bs (one c s ∷ r) o q h =
     let k = both (plain s) (plain-signs r) h in
-    go (eqb b (Prim.Native.Char.code c)) (other-lexed b bs s 0 d l m q (k .0)) (simple-as b bs r d l m q (k .1))
+    go (eqb b (Prim.Native.Char.code c)) (other-lexed b bs s 0 o q (k .0)) (simple-as b bs r o q (k .1))
   where
     go : (t : Bool) → Lexed b bs s 0 → LexedAs b bs (sign r b bs) → LexedAs b bs (cond t (Is s 0) (sign r b bs))
     go true x y = x
     go false x y = y
-simple-as b bs (two c e s ∷ r) d l m q h = absurd (yes-no (sym h))
+simple-as b bs (two c e s ∷ r) o q h = absurd (yes-no (sym h))
 
 sign-simple : (b : ℕ) (bs : List ℕ) → eqb b 60 ≡ false → eqb b 62 ≡ false → eqb b 58 ≡ false → eqb b 61 ≡ false → sign signs b bs ≡ sign simple b bs
 unfolding sign
 sign-simple b bs p q r s = rw (p, q, r, s)
 
 -- a sign of one byte, which is b, where nothing joins it
-lone : (b : ℕ) (bs : List ℕ) (t : Symbol) → FirstByte b t → is t Name ≡ false → is t (Number 0) ≡ false → blocks t (ahead bs) ≡ false → Lexed b bs t 0
+lone : (b : ℕ) (bs : List ℕ) (t : Symbol) → FirstByte b bs (token t (readOff t (b ∷ bs))) → is t Name ≡ false → is t (Number 0) ≡ false → is t (Decimal 0) ≡ false → blocks t bs ≡ false → Lexed b bs t 0
 unfolding readOff
-lone b bs t g n m e = record { begins = g; proper = rw (n, m) (S.other n m); ends = e }
+lone b bs t g n m i e = record { begins = g; proper = rw (n, m, i) (S.other n m i); ends = e }
 
-sign-as : (b : ℕ) (bs : List ℕ) → blank b ≡ false → letter b ≡ false → digit b ≡ false → LexedAs b bs (sign signs b bs)
-unfolding sign blank letter digit inName blocks plain plain-signs
-sign-as b bs d l m = go (eqb b 60) (eqb b 62) (eqb b 58) (eqb b 61) refl refl refl refl
+sign-as : (b : ℕ) (bs : List ℕ) → Else b → LexedAs b bs (sign signs b bs)
+unfolding sign blank letter digit inName figured dotted blocks plain plain-signs
+sign-as b bs o = go (eqb b 60) (eqb b 62) (eqb b 58) (eqb b 61) refl refl refl refl
   where
     joined : (c : ℕ) (alone twin : Symbol) → Lexed c bs twin (gap bs + 1) → (eqb (ahead bs) 61 ≡ false → Lexed c bs alone 0)
         → LexedAs c bs (cond (followed 61 bs) (Is twin (gap bs + 1)) (Is alone 0))
@@ -155,27 +165,42 @@ sign-as b bs d l m = go (eqb b 60) (eqb b 62) (eqb b 58) (eqb b 61) refl refl re
         pick true e = x
         pick false e = y e
 
-    start : (c : ℕ) (t : Symbol) → blank c ≡ false → inName c ≡ (is t Name || is t (Number 0)) → digit c ≡ is t (Number 0) → eqb c 61 ≡ is t Equal → FirstByte c t
-    start c t a e f g = record { dark = a; named = e; numbered = f; equals = g }
+    other : (c : ℕ) → blank c ≡ false → letter c ≡ false → digit c ≡ false → eqb c 46 ≡ false → Else c
+    other c x y z w = record { dark = x; no-letter = y; no-digit = z; no-point = w }
 
     go : (t u v w : Bool) → eqb b 60 ≡ t → eqb b 62 ≡ u → eqb b 58 ≡ v → eqb b 61 ≡ w → LexedAs b bs (sign signs b bs)
     go true u v w p q r s =
         subst (λ (c : ℕ). LexedAs c bs (sign signs c bs)) (sym (eqb-true b 60 p))
-        (joined 60 Less LessEqual (other-lexed 60 bs LessEqual (gap bs + 1) refl refl refl refl refl) (λ e. lone 60 bs Less (start 60 Less refl refl refl refl) refl refl e))
+        (joined 60 Less LessEqual (other-lexed 60 bs LessEqual (gap bs + 1) (other 60 refl refl refl refl) refl refl) (λ e. lone 60 bs Less (record { dark = refl; named = refl; numbered = refl; dot = refl; equals = refl }) refl refl refl e))
     go false true v w p q r s =
         subst (λ (c : ℕ). LexedAs c bs (sign signs c bs)) (sym (eqb-true b 62 q))
-        (joined 62 Greater GreaterEqual (other-lexed 62 bs GreaterEqual (gap bs + 1) refl refl refl refl refl) (λ e. lone 62 bs Greater (start 62 Greater refl refl refl refl) refl refl e))
+        (joined 62 Greater GreaterEqual (other-lexed 62 bs GreaterEqual (gap bs + 1) (other 62 refl refl refl refl) refl refl) (λ e. lone 62 bs Greater (record { dark = refl; named = refl; numbered = refl; dot = refl; equals = refl }) refl refl refl e))
     go false false true w p q r s =
         subst (λ (c : ℕ). LexedAs c bs (sign signs c bs)) (sym (eqb-true b 58 r))
-        (joined 58 Colon Becomes (other-lexed 58 bs Becomes (gap bs + 1) refl refl refl refl refl) (λ e. lone 58 bs Colon (start 58 Colon refl refl refl refl) refl refl e))
+        (joined 58 Colon Becomes (other-lexed 58 bs Becomes (gap bs + 1) (other 58 refl refl refl refl) refl refl) (λ e. lone 58 bs Colon (record { dark = refl; named = refl; numbered = refl; dot = refl; equals = refl }) refl refl refl e))
     go false false false true p q r s =
-        subst (λ (c : ℕ). LexedAs c bs (sign signs c bs)) (sym (eqb-true b 61 s)) (lone 61 bs Equal (start 61 Equal refl refl refl refl) refl refl refl)
-    go false false false false p q r s = rw (sign-simple b bs p q r s) (simple-as b bs simple d l m s refl)
+        subst (λ (c : ℕ). LexedAs c bs (sign signs c bs)) (sym (eqb-true b 61 s)) (lone 61 bs Equal (record { dark = refl; named = refl; numbered = refl; dot = refl; equals = refl }) refl refl refl refl)
+    go false false false false p q r s = rw (sign-simple b bs p q r s) (simple-as b bs simple o s refl)
 
 -- ---- names and numbers
 
-no-more : (s : Bool) → s ≡ false → (s || false || false) ≡ false
+no-more : (s : Bool) → s ≡ false → (s || false || false || false) ≡ false
 no-more s e = rw e
+
+no-digit-there : digit 0 ≡ false
+no-digit-there = unfold digit in refl
+
+decimals-nil : decimals [] ≡ []
+unfolding decimals
+decimals-nil = refl
+
+decimals-dot : (c : ℕ) (cs : List ℕ) → eqb c 46 ≡ true → decimals (c ∷ cs) ≡ these digit cs
+unfolding decimals
+decimals-dot c cs z = rw z
+
+decimals-other : (c : ℕ) (cs : List ℕ) → eqb c 46 ≡ false → decimals (c ∷ cs) ≡ []
+unfolding decimals
+decimals-other c cs z = rw z
 
 module _ (b : ℕ) (bs : List ℕ) where
   name-lexed : letter b ≡ true → ltb 32 (length (letters (b ∷ bs))) ≡ false → Lexed b bs Name (reach inName bs)
@@ -184,7 +209,7 @@ module _ (b : ℕ) (bs : List ℕ) where
       let f = name-first b bs h in
       let l = ltb-false 32 (length (letters (b ∷ bs))) e in
       let m : length (letters bs) < 32 = omega (arith, ap length f) in
-      record { begins = letter-begins b h; proper = rw f (S.name h (these-are inName bs) m); ends = no-more (inName (ahead (drop (reach inName bs) bs))) (run-ends inName none-there bs) }
+      record { begins = letter-begins b bs (letters (b ∷ bs)) h; proper = rw f (S.name h (these-are inName bs) m); ends = no-more (inName (ahead (drop (reach inName bs) bs))) (run-ends inName none-there bs) }
     where
       none-there : inName 0 ≡ false
       none-there = unfold inName letter digit in refl
@@ -197,34 +222,119 @@ module _ (b : ℕ) (bs : List ℕ) where
       go true e = tt
       go false e = name-lexed h e
 
-  number-lexed : digit b ≡ true → ltb 2147483647 (value (b ∷ bs)) ≡ false → Lexed b bs (Number (value (b ∷ bs))) (reach digit bs)
+  none-behind : (plain : Lexeme) (ds es : List ℕ) (k : ℕ) → es ≡ [] → LexedAs b bs plain → LexedAs b bs (withPoint plain ds es k)
+  unfolding withPoint
+  none-behind plain ds es k z p = rw z p
+
+  -- digits ds, the point, and cs behind it
+  decimal-lexed : (ds cs : List ℕ) (k : ℕ) → withDecimals (b ∷ bs) ≡ ds ++ (46 ∷ these digit cs) → All digit ds → 0 < length (these digit cs) → length (ds ++ these digit cs) ≤ 15
+      → ((w : ℕ) → FirstByte b bs (token (Decimal w) (ds ++ (46 ∷ these digit cs)))) → drop k bs ≡ drop (reach digit cs) cs
+      → Lexed b bs (Decimal (packed (valueFrom 0 (ds ++ these digit cs)) (length (these digit cs)))) k
   unfolding readOff blocks
-  number-lexed h e =
+  decimal-lexed ds cs k w a o n g d =
+      let v = packed (valueFrom 0 (ds ++ these digit cs)) (length (these digit cs)) in
+      record {
+        begins = subst (λ (l : List ℕ). FirstByte b bs (token (Decimal v) l)) (sym w) (g v);
+        proper = S.decimal ds (these digit cs) w a (these-are digit cs) o n refl;
+        ends = rw (d, run-ends digit no-digit-there cs);
+      }
+
+  decimal-as : (plain : Lexeme) (ds cs : List ℕ) (k : ℕ) → (these digit cs ≡ [] → LexedAs b bs plain) → withDecimals (b ∷ bs) ≡ ds ++ (46 ∷ these digit cs) → All digit ds
+      → (0 < length (these digit cs) → (w : ℕ) → FirstByte b bs (token (Decimal w) (ds ++ (46 ∷ these digit cs)))) → drop k bs ≡ drop (reach digit cs) cs
+      → LexedAs b bs (withPoint plain ds (these digit cs) k)
+  decimal-as plain ds cs k p w a g d = go (these digit cs) refl
+    where
+      go : (es : List ℕ) → these digit cs ≡ es → LexedAs b bs (withPoint plain ds es k)
+      go [] z = none-behind plain ds [] k refl (p z)
+      go (e ∷ es) z = unfold withPoint pointed in pick (ltb 15 (length (ds ++ (e ∷ es)))) refl
+        where
+          pick : (t : Bool) → ltb 15 (length (ds ++ (e ∷ es))) ≡ t → LexedAs b bs (cond t (Large k) (Is (Decimal (packed (valueFrom 0 (ds ++ (e ∷ es))) (length (e ∷ es)))) k))
+          pick true y = tt
+          pick false y =
+              let o : 0 < length (these digit cs) = omega (arith, ap length z) in
+              let n = ltb-false 15 (length (ds ++ (e ∷ es))) y in
+              subst (λ (l : List ℕ). Lexed b bs (Decimal (packed (valueFrom 0 (ds ++ l)) (length l))) k) z
+              (decimal-lexed ds cs k w a o (subst (λ (l : List ℕ). length (ds ++ l) ≤ 15) (sym z) n) (g o) d)
+
+  number-lexed : digit b ≡ true → decimals (drop (reach digit bs) bs) ≡ [] → ltb 2147483647 (value (b ∷ bs)) ≡ false → Lexed b bs (Number (value (b ∷ bs))) (reach digit bs)
+  unfolding readOff blocks
+  number-lexed h z e =
       let v = value (b ∷ bs) in
       let f = digit-first b bs h in
       let l = ltb-false 2147483647 v e in
-      record { begins = digit-begins v b h; proper = subst (Proper (Number v)) (sym f) (S.number h (these-are digit bs) (ap (valueFrom 0) (sym f)) l); ends = rw (run-ends digit none-there bs) }
-    where
-      none-there : digit 0 ≡ false
-      none-there = unfold digit in refl
+      record {
+        begins = number-begins v b bs (these digit (b ∷ bs)) h;
+        proper = subst (Proper (Number v)) (sym f) (S.number h (these-are digit bs) (ap (valueFrom 0) (sym f)) l);
+        ends = rw (run-ends digit no-digit-there bs, run-dots bs z);
+      }
 
-  number-as : digit b ≡ true → LexedAs b bs (Rattle.symbols.specs.Scan.number b bs)
-  unfolding number valued
-  number-as h = go (ltb 2147483647 (value (b ∷ bs))) refl
+  plain-as : digit b ≡ true → decimals (drop (reach digit bs) bs) ≡ [] → LexedAs b bs (valued (value (b ∷ bs)) (reach digit bs))
+  unfolding valued
+  plain-as h z = go (ltb 2147483647 (value (b ∷ bs))) refl
     where
       go : (t : Bool) → ltb 2147483647 (value (b ∷ bs)) ≡ t → LexedAs b bs (cond t (Large (reach digit bs)) (Is (Number (value (b ∷ bs))) (reach digit bs)))
       go true e = tt
-      go false e = number-lexed h e
+      go false e = number-lexed h z e
+
+  number-as : digit b ≡ true → LexedAs b bs (Rattle.symbols.specs.Scan.number b bs)
+  unfolding number
+  number-as h = go (drop (reach digit bs) bs) refl
+    where
+      -- the letters with the point
+      letters-are : (cs : List ℕ) → drop (reach digit bs) bs ≡ 46 ∷ cs → withDecimals (b ∷ bs) ≡ these digit (b ∷ bs) ++ (46 ∷ these digit cs)
+      letters-are cs e =
+          unfold withDecimals decimals in
+          (let r : reach digit (b ∷ bs) ≡ suc (reach digit bs) = unfold reach in rw h in
+          rw (r, e))
+
+      starts : (cs : List ℕ) (w : ℕ) → FirstByte b bs (token (Decimal w) (these digit (b ∷ bs) ++ (46 ∷ these digit cs)))
+      starts cs w = rw (digit-first b bs h) (decimal-begins w b bs (these digit bs ++ (46 ∷ these digit cs)) h)
+
+      left : (cs : List ℕ) → drop (reach digit bs) bs ≡ 46 ∷ cs → drop (reach digit bs + 1 + reach digit cs) bs ≡ drop (reach digit cs) cs
+      left cs e =
+          let m : reach digit bs + 1 + reach digit cs ≡ reach digit bs + suc (reach digit cs) = omega arith in
+          rw m (sym (drop-drop (suc (reach digit cs)) (reach digit bs) bs) ∙ ap (drop (suc (reach digit cs))) e)
+
+      go : (rest : List ℕ) → drop (reach digit bs) bs ≡ rest
+          → LexedAs b bs (withPoint (valued (value (b ∷ bs)) (reach digit bs)) (these digit (b ∷ bs)) (decimals rest) (reach digit bs + 1 + reach digit (drop 1 rest)))
+      go [] e = none-behind (valued (value (b ∷ bs)) (reach digit bs)) (these digit (b ∷ bs)) (decimals []) (reach digit bs + 1 + reach digit []) decimals-nil (plain-as h (ap decimals e ∙ decimals-nil))
+      go (c ∷ cs) e = pick (eqb c 46) refl
+        where
+          pick : (t : Bool) → eqb c 46 ≡ t
+              → LexedAs b bs (withPoint (valued (value (b ∷ bs)) (reach digit bs)) (these digit (b ∷ bs)) (decimals (c ∷ cs)) (reach digit bs + 1 + reach digit cs))
+          pick true z =
+              let e' : drop (reach digit bs) bs ≡ 46 ∷ cs = e ∙ ap (λ (x : ℕ). x ∷ cs) (eqb-true c 46 z) in
+              let q = decimals-dot c cs z in
+              rw q
+              (decimal-as (valued (value (b ∷ bs)) (reach digit bs)) (these digit (b ∷ bs)) cs (reach digit bs + 1 + reach digit cs)
+              (λ y. plain-as h (ap decimals e ∙ q ∙ y)) (letters-are cs e') (these-are digit (b ∷ bs)) (λ o. starts cs) (left cs e'))
+          pick false z =
+              let q = decimals-other c cs z in
+              none-behind (valued (value (b ∷ bs)) (reach digit bs)) (these digit (b ∷ bs)) (decimals (c ∷ cs)) (reach digit bs + 1 + reach digit cs) q (plain-as h (ap decimals e ∙ q))
+
+  point-as : b ≡ 46 → LexedAs b bs (point bs)
+  unfolding point
+  point-as e =
+      decimal-as Nothing [] bs (reach digit bs) (λ y. tt) letters-are tt starts refl
+    where
+      letters-are : withDecimals (b ∷ bs) ≡ 46 ∷ these digit bs
+      letters-are = unfold withDecimals decimals these reach digit blank in rw e
+
+      starts : 0 < length (these digit bs) → (w : ℕ) → FirstByte b bs (token (Decimal w) (46 ∷ these digit bs))
+      starts o w = rw e (dot-begins w bs (these digit bs) (some-ahead digit bs blank-no-digit o))
 
 pub lexed : (b : ℕ) (bs : List ℕ) → blank b ≡ false → LexedAs b bs (lexeme b bs)
 unfolding lexeme
-lexed b bs d = go (letter b) (digit b) (eqb b 39) refl refl refl
+lexed b bs d = go (letter b) (digit b) (eqb b 46) (eqb b 39) refl refl refl refl
   where
-    go : (t u v : Bool) → letter b ≡ t → digit b ≡ u → eqb b 39 ≡ v → LexedAs b bs (cond t (Rattle.symbols.specs.Scan.name b bs) (cond u (Rattle.symbols.specs.Scan.number b bs) (cond v (word bs) (sign signs b bs))))
-    go true u v e f g = name-as b bs e
-    go false true v e f g = number-as b bs f
-    go false false true e f g = word-as b bs d e f (let z = eqb-true b 39 g in ne-eqb b 61 (λ y. omega arith))
-    go false false false e f g = sign-as b bs d e f
+    go : (t u w v : Bool) → letter b ≡ t → digit b ≡ u → eqb b 46 ≡ w → eqb b 39 ≡ v
+        → LexedAs b bs (cond t (Rattle.symbols.specs.Scan.name b bs) (cond u (Rattle.symbols.specs.Scan.number b bs) (cond w (point bs) (cond v (word bs) (sign signs b bs)))))
+    go true u w v e f i g = name-as b bs e
+    go false true w v e f i g = number-as b bs f
+    go false false true v e f i g = point-as b bs (eqb-true b 46 i)
+    go false false false true e f i g =
+        word-as b bs (record { dark = d; no-letter = e; no-digit = f; no-point = i }) (let z = eqb-true b 39 g in ne-eqb b 61 (λ y. omega arith))
+    go false false false false e f i g = sign-as b bs (record { dark = d; no-letter = e; no-digit = f; no-point = i })
 
 -- ---- what is done at a byte
 
@@ -283,7 +393,7 @@ turned n c b bs = go (blank b) refl
 
 -- ---- a symbol behind which a note can open or a remark runs goes on with nothing
 
-calm : (s : Symbol) (x : ℕ) → (behind s ≡ Plain → blocks s x ≡ false) → blocks s x ≡ false
+calm : (s : Symbol) (x : List ℕ) → (behind s ≡ Plain → blocks s x ≡ false) → blocks s x ≡ false
 unfolding behind blocks
 calm s x h = go (is s Semicolon) (is s Begin) (is s End) refl refl refl
   where
@@ -295,16 +405,9 @@ calm s x h = go (is s Semicolon) (is s Begin) (is s End) refl refl refl
 
 -- ---- the symbols of a source
 
--- each symbol begins with the byte at its place
-abbrev pub Started : List ℕ → List Found → Type 0
-Started S [] = Unit {0}
-Started S (f ∷ l) = FirstByte (getD S (f .place) 0) (f .symbol) × Started S l
-
-pub byte-at : (S : List ℕ) (p b : ℕ) (bs : List ℕ) → drop p S ≡ b ∷ bs → getD S p 0 ≡ b
-byte-at [] zero b bs d = let z : _≡_ {A = ℕ} 0 1 = cc in absurd (omega arith)
-byte-at [] (suc p) b bs d = let z : _≡_ {A = ℕ} 0 1 = cc in absurd (omega arith)
-byte-at (x ∷ S) zero b bs d = cc
-byte-at (x ∷ S) (suc p) b bs d = byte-at S p b bs d
+blocks-past : (s : Symbol) (b : ℕ) (bs : List ℕ) → blank b ≡ true → blocks s (b ∷ bs) ≡ blocks s bs
+unfolding blocks
+blocks-past s b bs e = rw (ahead-past b bs e, dots-past b bs e)
 
 module _ (S : List ℕ) where
   -- behind s, from a scan that may keep n symbols
@@ -312,26 +415,24 @@ module _ (S : List ℕ) where
     pub proper : AllProper (map (tokenAt S) l)
     pub linked : Linked s (map (tokenAt S) l)
     pub few : length l ≤ n
-    pub starts : Started S l
 
   abbrev Claim : List ℕ → Type 0
-  Claim bs = (n : ℕ) (c : Context) (s : Symbol) (p k : ℕ) → c ≡ behind s → drop p S ≡ bs → (behind s ≡ Plain → blocks s (ahead (drop k bs)) ≡ false) → Own n s (scanFrom n c p k bs .found)
+  Claim bs = (n : ℕ) (c : Context) (s : Symbol) (p k : ℕ) → c ≡ behind s → drop p S ≡ bs → (behind s ≡ Plain → blocks s (drop k bs) ≡ false) → Own n s (scanFrom n c p k bs .found)
 
   none-own : (n : ℕ) (s : Symbol) → Own n s []
-  none-own n s = record { proper = tt; linked = tt; few = omega arith; starts = tt }
+  none-own n s = record { proper = tt; linked = tt; few = omega arith }
 
-  at-turn : (b : ℕ) (bs : List ℕ) → Claim bs → (n : ℕ) (c : Context) (s : Symbol) (p : ℕ) → c ≡ behind s → drop p S ≡ b ∷ bs → (behind s ≡ Plain → blocks s (ahead (b ∷ bs)) ≡ false)
+  at-turn : (b : ℕ) (bs : List ℕ) → Claim bs → (n : ℕ) (c : Context) (s : Symbol) (p : ℕ) → c ≡ behind s → drop p S ≡ b ∷ bs → (behind s ≡ Plain → blocks s (b ∷ bs) ≡ false)
       → (t : Turn) → Turned n c b bs t → Own n s (then p t (λ c k. scanFrom n c (p + 1) k bs) (λ c k. scanFrom (pred n) c (p + 1) k bs) .found)
   at-turn b bs rec n c s p q d h (Pass c' k) (passes e f) = rec n c' s (p + 1) k (e ∙ q) (sym (drop-drop 1 p S) ∙ ap (drop 1) d)
-      (λ g. let y = f (q ∙ g) in ap (λ (j : ℕ). blocks s (ahead (drop j bs))) (y .1) ∙ ap (blocks s) (sym (ahead-past b bs (y .0))) ∙ h g)
+      (λ g. let y = f (q ∙ g) in ap (λ (j : ℕ). blocks s (drop j bs)) (y .1) ∙ sym (blocks-past s b bs (y .0)) ∙ h g)
   at-turn b bs rec n c s p q d h (Keep t c' k) (keeps e f y x a m) =
       let r = rec (pred n) c' t (p + 1) k e (sym (drop-drop 1 p S) ∙ ap (drop 1) d) (λ g. x .ends) in
-      let z : blocks s b ≡ false = calm s b (λ g. ap (blocks s) (sym (ahead-here b bs f)) ∙ h g) in
+      let z : blocks s (b ∷ bs) ≡ false = calm s (b ∷ bs) h in
       record {
         proper = (subst (λ (l : List ℕ). Proper t (readOff t l)) (sym d) (x .proper), r .proper);
-        linked = (record { apart = sym (blocks-joins s t b (x .begins)) ∙ z; counts = ap (λ (y : Context). admitted y t) (sym q) ∙ a }, r .linked);
+        linked = (record { apart = ap (λ (l : List ℕ). joins s (token t (readOff t l))) d ∙ sym (blocks-joins s (token t (readOff t (b ∷ bs))) b bs (x .begins)) ∙ z; counts = ap (λ (y : Context). admitted y t) (sym q) ∙ a }, r .linked);
         few = omega (arith, r .few);
-        starts = (subst (λ (v : ℕ). FirstByte v t) (sym (byte-at S p b bs d)) (x .begins), r .starts);
       }
   at-turn b bs rec n c s p q d h (Refuse a) y = none-own n s
 

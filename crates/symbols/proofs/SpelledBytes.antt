@@ -1,13 +1,13 @@
--- Bytes: blanks, the first byte that is no blank, runs of one sort, and words.
+-- Bytes: blanks, the first byte that is no blank, runs of one sort, points, and words.
 use mathlib.Core.Path.{_≡_, refl, sym, ap, _∙_}
-use mathlib.Core.Bool.{Bool, true, false, cond, not, _||_}
+use mathlib.Core.Bool.{Bool, true, false, cond, not, _&&_, _||_}
 use mathlib.Core.List.{List, [], _∷_, _++_}
 use Prim.Native.Nat.{ℕ, suc, pred, _+_, _-_, _<_}
 use native.Mathlib.Omega.{arith}
 use lib.Dec.{eqb}
 use lib.ListN.{length, getD, drop, length-append}
 use borrow.Author.Tests.{lt-ltb}
-use Rattle.symbols.specs.Names.{blank, these, reach}
+use Rattle.symbols.specs.Names.{blank, digit, these, reach, decimals}
 use Rattle.symbols.specs.Symbols.{words}
 use Rattle.symbols.specs.Scan.{before, closed, spelled, named, word, gap, followed, turn, then, scanFrom}
 use Rattle.symbols.specs.declared.Context.{Context}
@@ -17,6 +17,7 @@ use Rattle.symbols.specs.declared.Symbol.{Symbol}
 use Rattle.symbols.specs.declared.words.Spelled.the-variants.{Word}
 use Rattle.symbols.specs.declared.Lexeme.the-variants.{Is}
 use Rattle.symbols.specs.Spelling.{All}
+use Rattle.symbols.proofs.Follows.{blank-no-digit}
 
 -- the first byte that is no blank; 0 where there is none
 unfoldable pub ahead : List ℕ → ℕ
@@ -102,6 +103,87 @@ run-ends sort z (b ∷ bs) = go (sort b) (blank b) refl refl (run-ends sort z bs
     go true u e f h = h
     go false true e f h = h
     go false false e f h = rw f e
+
+-- where a run has no byte, what stands ahead is not of it
+none-ahead : (sort : ℕ → Bool) → sort 0 ≡ false → (bs : List ℕ) → these sort bs ≡ [] → sort (ahead bs) ≡ false
+unfolding these ahead
+none-ahead sort z [] h = z
+none-ahead sort z (b ∷ bs) h = go (sort b) (blank b) refl h (none-ahead sort z bs)
+  where
+    go : (t u : Bool) → sort b ≡ t → cond t (b ∷ these sort bs) (cond u (these sort bs) []) ≡ [] → (these sort bs ≡ [] → sort (ahead bs) ≡ false) → sort (cond u (ahead bs) b) ≡ false
+    go true u e h' f = let y : suc (length (these sort bs)) ≡ 0 = ap length h' in absurd (omega (arith, y))
+    go false true e h' f = f h'
+    go false false e h' f = e
+
+-- and where it has one, it is
+pub some-ahead : (sort : ℕ → Bool) (bs : List ℕ) → ((b : ℕ) → blank b ≡ true → sort b ≡ false) → 0 < length (these sort bs) → sort (ahead bs) ≡ true
+unfolding these ahead
+some-ahead sort [] apart h = absurd (omega (arith, h))
+some-ahead sort (b ∷ bs) apart h = go (sort b) (blank b) refl refl h (some-ahead sort bs apart)
+  where
+    go : (t u : Bool) → sort b ≡ t → blank b ≡ u → 0 < length (cond t (b ∷ these sort bs) (cond u (these sort bs) [])) → (0 < length (these sort bs) → sort (ahead bs) ≡ true) → sort (cond u (ahead bs) b) ≡ true
+    go true false e f h' g = e
+    go true true e f h' g = absurd (let z = sym e ∙ apart b f in let y : _≡_ {A = ℕ} 0 1 = cc in omega (arith, y))
+    go false true e f h' g = g h'
+    go false false e f h' g = absurd (omega (arith, h'))
+
+-- ---- points
+
+-- a point with a digit behind it, behind blanks or none
+unfoldable pub dots : List ℕ → Bool
+dots [] = false
+dots (b ∷ bs) = cond (blank b) (dots bs) (eqb b 46 && digit (ahead bs))
+
+pub dots-here : (b : ℕ) (bs : List ℕ) → blank b ≡ false → dots (b ∷ bs) ≡ (eqb b 46 && digit (ahead bs))
+unfolding dots
+dots-here b bs e = rw e
+
+pub dots-past : (b : ℕ) (bs : List ℕ) → blank b ≡ true → dots (b ∷ bs) ≡ dots bs
+unfolding dots
+dots-past b bs e = rw e
+
+pub dots-end : (e : List ℕ) → All blank e → dots e ≡ false
+unfolding dots
+dots-end [] h = refl
+dots-end (b ∷ e) h = rw (h .0) (dots-end e (h .1))
+
+pub dots-behind : (g zs : List ℕ) → All blank g → dots (g ++ zs) ≡ dots zs
+unfolding dots
+dots-behind [] zs h = refl
+dots-behind (b ∷ g) zs h = rw (h .0) (dots-behind g zs (h .1))
+
+-- where there is none, no digits stand behind one
+pub dots-none : (zs : List ℕ) → dots zs ≡ false → decimals (drop (gap zs) zs) ≡ []
+unfolding dots decimals gap
+dots-none [] h = refl
+dots-none (b ∷ bs) h = go (blank b) h (dots-none bs)
+  where
+    here : (t : Bool) → (t && digit (ahead bs)) ≡ false → cond t (these digit bs) [] ≡ []
+    here true e = these-none digit blank-no-digit bs e
+    here false e = refl
+
+    go : (t : Bool) → cond t (dots bs) (eqb b 46 && digit (ahead bs)) ≡ false → (dots bs ≡ false → decimals (drop (gap bs) bs) ≡ []) → decimals (drop (cond t (suc (gap bs)) 0) (b ∷ bs)) ≡ []
+    go true e f = f e
+    go false e f = here (eqb b 46) e
+
+-- and behind a run of digits, which no such digits follow, there is none
+pub run-dots : (bs : List ℕ) → decimals (drop (reach digit bs) bs) ≡ [] → dots (drop (reach digit bs) bs) ≡ false
+unfolding dots decimals reach
+run-dots [] h = refl
+run-dots (b ∷ bs) h = go (digit b) (blank b) refl h (run-dots bs)
+  where
+    none-there : digit 0 ≡ false
+    none-there = unfold digit in refl
+
+    here : (t : Bool) → cond t (these digit bs) [] ≡ [] → (t && digit (ahead bs)) ≡ false
+    here true e = none-ahead digit none-there bs e
+    here false e = refl
+
+    go : (t u : Bool) → blank b ≡ u → decimals (drop (cond (t || u) (suc (reach digit bs)) 0) (b ∷ bs)) ≡ [] → (decimals (drop (reach digit bs) bs) ≡ [] → dots (drop (reach digit bs) bs) ≡ false)
+        → dots (drop (cond (t || u) (suc (reach digit bs)) 0) (b ∷ bs)) ≡ false
+    go true u z e f = f e
+    go false true z e f = f e
+    go false false z e f = rw z (here (eqb b 46) e)
 
 -- ---- words
 

@@ -1,11 +1,11 @@
--- What is stored of a symbol gives the symbol back.
-use Prim.Native.Nat.{ℕ, zero, suc, _≤_, _<_}
+-- What is stored of a symbol gives the symbol back, and a number with a point has its digits back.
+use Prim.Native.Nat.{ℕ, zero, suc, _+_, _*_, _/_, _%_, _≤_, _<_}
 use mathlib.Core.Path.{_≡_, refl}
 use native.Mathlib.Omega.{arith}
-use Rattle.symbols.specs.Symbols.{kind, valueOf}
-use Rattle.symbols.specs.model.Kinds.{symbolOf}
+use Rattle.symbols.specs.Symbols.{kind, packed, valueOf}
+use Rattle.symbols.specs.model.Kinds.{symbolOf, unpacked}
 use Rattle.symbols.specs.declared.Symbol.{Symbol}
-use Rattle.symbols.specs.declared.Symbol.the-variants.{Begin, End, If, Then, Else, For, Do, Step, Until, While, Comment, Integer, Boolean, Procedure, Value, True, False, And, Or, Not, Impl, Equiv, Plus, Minus, Times, Divide, Less, LessEqual, Equal, GreaterEqual, Greater, NotEqual, Comma, Colon, Becomes, Semicolon, Open, Close, Name, Number}
+use Rattle.symbols.specs.declared.Symbol.the-variants.{Begin, End, If, Then, Else, For, Do, Step, Until, While, Comment, Integer, Boolean, Procedure, Value, True, False, And, Or, Not, Impl, Equiv, Plus, Minus, Times, Divide, Less, LessEqual, Equal, GreaterEqual, Greater, NotEqual, Comma, Colon, Becomes, Semicolon, Open, Close, Name, Number, Real, Slash, Decimal}
 
 pub given-back : (s : Symbol) → symbolOf (kind s) (valueOf s) ≡ s
 unfolding symbolOf
@@ -49,8 +49,11 @@ given-back Open = refl
 given-back Close = refl
 given-back Name = refl
 given-back (Number v) = refl
+given-back Real = refl
+given-back Slash = refl
+given-back (Decimal w) = refl
 
-pub kind-small : (s : Symbol) → kind s < 40
+pub kind-small : (s : Symbol) → kind s < 43
 kind-small Begin = omega arith
 kind-small End = omega arith
 kind-small If = omega arith
@@ -91,6 +94,17 @@ kind-small Open = omega arith
 kind-small Close = omega arith
 kind-small Name = omega arith
 kind-small (Number v) = omega arith
+kind-small Real = omega arith
+kind-small Slash = omega arith
+kind-small (Decimal w) = omega arith
+
+-- a number with a point has at most 15 digits behind it, and reads back
+pub unpack-packed : (n k : ℕ) → k < 16 → unpacked (packed n k) ≡ record { digits = n; behind = k }
+unfolding unpacked
+unpack-packed n k h =
+    let d : (16 * n + k) / 16 ≡ n = omega arith in
+    let m : (16 * n + k) % 16 ≡ k = omega arith in
+    rw (d, m)
 
 -- a number that is none of those below n is at least n
 abbrev NoneOf : ℕ → ℕ → Type 0

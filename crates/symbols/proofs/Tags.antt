@@ -12,7 +12,7 @@ use Rattle.symbols.specs.Scan.{behind, endsRemark}
 use Rattle.symbols.specs.declared.Context.the-variants.{Opens, Plain, Remark}
 use Rattle.symbols.proofs.Symbol.{the-type}
 use Rattle.symbols.specs.declared.Symbol.{Symbol}
-use Rattle.symbols.specs.declared.Symbol.the-variants.{Begin, End, If, Then, Else, For, Do, Step, Until, While, Comment, Integer, Boolean, Procedure, Value, True, False, And, Or, Not, Impl, Equiv, Plus, Minus, Times, Divide, Less, LessEqual, Equal, GreaterEqual, Greater, NotEqual, Comma, Colon, Becomes, Semicolon, Open, Close, Name, Number}
+use Rattle.symbols.specs.declared.Symbol.the-variants.{Begin, End, If, Then, Else, For, Do, Step, Until, While, Comment, Integer, Boolean, Procedure, Value, True, False, And, Or, Not, Impl, Equiv, Plus, Minus, Times, Divide, Less, LessEqual, Equal, GreaterEqual, Greater, NotEqual, Comma, Colon, Becomes, Semicolon, Open, Close, Name, Number, Real, Slash, Decimal}
 
 -- the compiler's numbers are the kinds
 tag-kind : (s : Symbol) → tagOf the-type s ≡ kind s
@@ -56,6 +56,9 @@ tag-kind Open = refl
 tag-kind Close = refl
 tag-kind Name = refl
 tag-kind (Number v) = refl
+tag-kind Real = refl
+tag-kind Slash = refl
+tag-kind (Decimal w) = refl
 
 abbrev has : ℕ → List ℕ → Bool
 has y [] = false
@@ -67,7 +70,7 @@ less out [] = []
 less out (k ∷ ks) = cond (has k out) (less out ks) (k ∷ less out ks)
 
 abbrev others : List ℕ → List ℕ
-others out = less out (0 ∷ 1 ∷ 2 ∷ 3 ∷ 4 ∷ 5 ∷ 6 ∷ 7 ∷ 8 ∷ 9 ∷ 10 ∷ 11 ∷ 12 ∷ 13 ∷ 14 ∷ 15 ∷ 16 ∷ 17 ∷ 18 ∷ 19 ∷ 20 ∷ 21 ∷ 22 ∷ 23 ∷ 24 ∷ 25 ∷ 26 ∷ 27 ∷ 28 ∷ 29 ∷ 30 ∷ 31 ∷ 32 ∷ 33 ∷ 34 ∷ 35 ∷ 36 ∷ 37 ∷ 38 ∷ 39 ∷ [])
+others out = less out (0 ∷ 1 ∷ 2 ∷ 3 ∷ 4 ∷ 5 ∷ 6 ∷ 7 ∷ 8 ∷ 9 ∷ 10 ∷ 11 ∷ 12 ∷ 13 ∷ 14 ∷ 15 ∷ 16 ∷ 17 ∷ 18 ∷ 19 ∷ 20 ∷ 21 ∷ 22 ∷ 23 ∷ 24 ∷ 25 ∷ 26 ∷ 27 ∷ 28 ∷ 29 ∷ 30 ∷ 31 ∷ 32 ∷ 33 ∷ 34 ∷ 35 ∷ 36 ∷ 37 ∷ 38 ∷ 39 ∷ 40 ∷ 41 ∷ 42 ∷ [])
 
 one-not : (k x y : ℕ) (t : Bool) → x ≡ k → cond (eqb k y) true t ≡ false → eqb x y ≡ false
 one-not k x y t e h = rw e (go (eqb k y) h)

@@ -1,7 +1,7 @@
 -- What begins at a byte ends within the source.
 use mathlib.Core.Path.{_≡_, refl, sym, _∙_}
 use mathlib.Core.Bool.{Bool, true, false, cond, _&&_, _||_}
-use mathlib.Core.List.{List, [], _∷_}
+use mathlib.Core.List.{List, [], _∷_, _++_}
 use Prim.Native.Nat.{ℕ, zero, suc, _+_, _-_, _≤_, _<_}
 use Prim.Native.Char.{code}
 use native.Mathlib.Omega.{arith}
@@ -9,9 +9,9 @@ use lib.Dec.{eqb, ltb}
 use lib.ListN.{length, getD, drop, length-drop, List·getD-eq-default}
 use borrow.Author.Tests.{ltb-true, eqb-true}
 use Rattle.symbols.proofs.Laws.{both}
-use Rattle.symbols.specs.Names.{blank, letter, digit, inName, reach, letters, value}
+use Rattle.symbols.specs.Names.{blank, letter, digit, inName, these, reach, letters, value, decimals}
 use Rattle.symbols.specs.Symbols.{Sign, one, two, signs, words, is}
-use Rattle.symbols.specs.Scan.{before, closed, spelled, named, word, gap, followed, sign, sized, name, valued, number, lexeme, endsRemark, note, counted, judged, turn}
+use Rattle.symbols.specs.Scan.{before, closed, spelled, named, word, gap, followed, sign, sized, name, valued, pointed, withPoint, number, point, lexeme, endsRemark, note, counted, judged, turn}
 use Rattle.symbols.specs.declared.words.Spelled.{Spelled}
 use Rattle.symbols.specs.declared.words.Spelled.the-variants.{Word, Unknown}
 use Rattle.symbols.specs.declared.Symbol.{Symbol}
@@ -92,18 +92,45 @@ fits-sign (two c d s ∷ l) b bs o =
     (λ e. let h = followed-within (code d) bs (o .0) (both (eqb b (code c)) (followed (code d) bs) e .1) in omega arith)
     (fits-sign l b bs (o .1))
 
+-- the point and the digits behind it
+pub fits-with : (plain : Lexeme) (ds es : List ℕ) (k n : ℕ) → Fits plain n → (0 < length es → k ≤ n) → Fits (withPoint plain ds es k) n
+unfolding withPoint pointed
+fits-with plain ds [] k n p h = p
+fits-with plain ds (e ∷ es) k n p h =
+    let l = h (omega arith) in
+    either (ltb 15 (length (ds ++ (e ∷ es)))) (Large k) (Is _ k) n (λ f. l) l
+
+decimals-within : (bs : List ℕ) → 0 < length (decimals bs) → 1 + reach digit (drop 1 bs) ≤ length bs
+unfolding decimals
+decimals-within [] h = absurd (omega arith)
+decimals-within (b ∷ bs) h = omega (arith, reach-within digit bs)
+
+pub fits-valued : (v k n : ℕ) → k ≤ n → Fits (valued v k) n
+unfolding valued
+fits-valued v k n h = either (ltb 2147483647 v) (Large k) (Is _ k) n (λ f. h) h
+
+fits-number : (b : ℕ) (bs : List ℕ) → Fits (number b bs) (length bs)
+unfolding number
+fits-number b bs =
+    let k = reach digit bs in
+    let r = reach-within digit bs in
+    fits-with (valued (value (b ∷ bs)) k) (these digit (b ∷ bs)) (decimals (drop k bs)) (k + 1 + reach digit (drop 1 (drop k bs))) (length bs)
+    (fits-valued (value (b ∷ bs)) k (length bs) r) (λ h. omega (arith, r, decimals-within (drop k bs) h, length-drop k bs))
+
+fits-point : (bs : List ℕ) → Fits (point bs) (length bs)
+unfolding point
+fits-point bs = fits-with Nothing [] (these digit bs) (reach digit bs) (length bs) tt (λ h. reach-within digit bs)
+
 pub fits-lexeme : (b : ℕ) (bs : List ℕ) → Fits (lexeme b bs) (length bs)
-unfolding lexeme name sized number valued
+unfolding lexeme name sized
 fits-lexeme b bs =
     let n = length (letters (b ∷ bs)) in
-    let v = value (b ∷ bs) in
     let r = reach-within inName bs in
-    let d = reach-within digit bs in
-    either (letter b) (name b bs) (cond (digit b) (number b bs) (cond (eqb b 39) (word bs) (sign signs b bs))) (length bs)
+    either (letter b) (name b bs) (cond (digit b) (number b bs) (cond (eqb b 46) (point bs) (cond (eqb b 39) (word bs) (sign signs b bs)))) (length bs)
     (λ e. either (ltb 32 n) (Large (reach inName bs)) (Is _ (reach inName bs)) (length bs) (λ f. r) r)
-    (either (digit b) (number b bs) (cond (eqb b 39) (word bs) (sign signs b bs)) (length bs)
-    (λ e. either (ltb 2147483647 v) (Large (reach digit bs)) (Is _ (reach digit bs)) (length bs) (λ f. d) d)
-    (either (eqb b 39) (word bs) (sign signs b bs) (length bs) (λ e. fits-word bs) (fits-sign signs b bs (omega arith))))
+    (either (digit b) (number b bs) (cond (eqb b 46) (point bs) (cond (eqb b 39) (word bs) (sign signs b bs))) (length bs) (λ e. fits-number b bs)
+    (either (eqb b 46) (point bs) (cond (eqb b 39) (word bs) (sign signs b bs)) (length bs) (λ e. fits-point bs)
+    (either (eqb b 39) (word bs) (sign signs b bs) (length bs) (λ e. fits-word bs) (fits-sign signs b bs (omega arith)))))
 
 -- ---- what is done at a byte: it ends within the n bytes behind it, and what is kept has room m
 

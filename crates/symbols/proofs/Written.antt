@@ -12,15 +12,13 @@ use Rattle.symbols.specs.Symbols.{is}
 use Rattle.symbols.specs.Scan.{lexeme, behind, counted, judged, turn, Found, Scan, kept, scanFrom, scan}
 use Rattle.symbols.specs.declared.Context.{Context}
 use Rattle.symbols.specs.declared.Context.the-variants.{Opens, Plain, Remark}
-use Rattle.symbols.specs.declared.Lexeme.{Lexeme}
 use Rattle.symbols.specs.declared.Lexeme.the-variants.{Is}
-use Rattle.symbols.specs.declared.Turn.{Turn}
 use Rattle.symbols.specs.declared.Turn.the-variants.{Keep}
 use Rattle.symbols.specs.declared.Symbol.{Symbol}
 use Rattle.symbols.specs.declared.Symbol.the-variants.{Comment, Comma}
 use Rattle.symbols.specs.Spelling.{Token, All, AllProper, spell, joins, admitted, Linked, Sound, Piece, tokensOf, Blanks, spelling, text, placed, readOff, tokenAt, tokens}
-use Rattle.symbols.proofs.SpelledBytes.{ahead, ahead-here, ahead-end, ahead-behind, at-turn, blanks-passed}
-use Rattle.symbols.proofs.SpelledSymbols.{yes-no, blocks, blocks-joins, blocks-end, starts, reads, letters-back}
+use Rattle.symbols.proofs.SpelledBytes.{at-turn, blanks-passed}
+use Rattle.symbols.proofs.SpelledSymbols.{yes-no, blocks, blocks-joins, blocks-end, blocks-behind, starts, reads, letters-back}
 
 abbrev whole : List Found → Scan
 whole l = record { found = l; refused = none }
@@ -49,16 +47,15 @@ drop-all [] zs = refl
 drop-all (b ∷ bs) zs = drop-all bs zs
 
 module _ (e : List ℕ) (eb : All blank e) where
-  pub free : (s : Symbol) (l : List Piece) → Blanks l → AllProper (tokensOf l) → Linked s (tokensOf l) → blocks s (ahead (text l e)) ≡ false
+  pub free : (s : Symbol) (l : List Piece) → Blanks l → AllProper (tokensOf l) → Linked s (tokensOf l) → blocks s (text l e) ≡ false
   unfolding text spelling
-  free s [] bl pr li = ap (blocks s) (ahead-end e eb) ∙ blocks-end s
+  free s [] bl pr li = blocks-end s e eb
   free s (x ∷ l) bl pr li =
       let t = x .token .symbol in
       let st = starts t (x .token .letters) (pr .0) in
-      ap (blocks s) (ahead-behind (x .separator) (spell t (x .token .letters) ++ text l e) (bl .0)
-      ∙ ap (λ (w : List ℕ). ahead (w ++ text l e)) (st .same)
-      ∙ ahead-here (st .first) (st .rest ++ text l e) (st .begins .dark))
-      ∙ blocks-joins s t (st .first) (st .begins)
+      blocks-behind s (x .separator) (spell t (x .token .letters) ++ text l e) (bl .0)
+      ∙ ap (λ (w : List ℕ). blocks s (w ++ text l e)) (st .same)
+      ∙ blocks-joins s (x .token) (st .first) (st .rest ++ text l e) (st .begins (text l e))
       ∙ li .0 .apart
 
   -- ---- the scan of a text
@@ -81,7 +78,7 @@ module _ (e : List ℕ) (eb : All blank e) where
       let z : q + 1 + length (st .rest) ≡ q + length (spell t (x .token .letters)) = omega (arith, ap length (st .same)) in
       blanks-passed (suc n) (behind s) p (x .separator) (spell t (x .token .letters) ++ Z) (bl .0)
       ∙ ap (λ (w : List ℕ). scanFrom (suc n) (behind s) q 0 (w ++ Z)) (st .same)
-      ∙ keeps n (behind s) q (st .first) (st .rest ++ Z) t (r .beyond) (st .begins .dark) (r .lexes) (li .0 .counts)
+      ∙ keeps n (behind s) q (st .first) (st .rest ++ Z) t (r .beyond) (st .begins Z .dark) (r .lexes) (li .0 .counts)
       ∙ ap (kept t q) (r .onward n (behind t) (q + 1) ∙ ap (λ (m : ℕ). scanFrom n (behind t) m 0 Z) z ∙ scanned l t n (q + length (spell t (x .token .letters))) (bl .1) (pr .1) (li .1) (omega arith))
 
   -- ---- the letters

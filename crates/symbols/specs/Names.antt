@@ -44,6 +44,11 @@ valueFrom v (d ∷ ds) = valueFrom (10 * v + (d - code "0")) ds
 abbrev pub value : List ℕ → ℕ
 value bs = valueFrom 0 (these digit bs)
 
+-- request 6, "decimal numbers with a point": the digits behind a point that stands first here; none where there is no point, or no digit behind it
+unfoldable pub decimals : List ℕ → List ℕ
+decimals [] = []
+decimals (b ∷ bs) = cond (eqb b (code ".")) (these digit bs) []
+
 -- two lists of bytes are equal
 unfoldable pub equal : List ℕ → List ℕ → Bool
 equal [] [] = true

@@ -2,7 +2,7 @@
 use Prim.Native.Nat.{ℕ, zero, suc, pred, _+_}
 use Prim.Native.Char.{code}
 use mathlib.Core.Bool.{Bool, cond, _&&_, _||_}
-use mathlib.Core.List.{List, [], _∷_, map}
+use mathlib.Core.List.{List, [], _∷_, _++_, map}
 use mathlib.Core.Option.{Option, none, some}
 use lib.ListN.{length, getD, drop}
 use lib.Dec.{eqb, ltb}
@@ -11,8 +11,8 @@ use Rattle.answers.specs.Answers.{answer, refusal}
 use Rattle.answers.specs.declared.Answer.{Answer}
 use Rattle.answers.specs.declared.Refusal.{Refusal}
 use Rattle.symbols.specs.Text.{bytes}
-use Rattle.symbols.specs.Names.{blank, letter, digit, inName, reach, letters, value, equal}
-use Rattle.symbols.specs.Symbols.{Delimiter, words, Sign, one, two, signs, kind, is, valueOf}
+use Rattle.symbols.specs.Names.{blank, letter, digit, inName, these, reach, letters, valueFrom, value, decimals, equal}
+use Rattle.symbols.specs.Symbols.{Delimiter, words, Sign, one, two, signs, kind, is, packed, valueOf}
 use Rattle.symbols.specs.declared.Context.{Context}
 use Rattle.symbols.specs.declared.Context.the-variants.{Opens, Plain, Remark}
 use Rattle.symbols.specs.declared.words.Spelled.{Spelled}
@@ -22,7 +22,7 @@ use Rattle.symbols.specs.declared.Lexeme.the-variants.{Is, Large, Nothin
 use Rattle.symbols.specs.declared.Turn.{Turn}
 use Rattle.symbols.specs.declared.Turn.the-variants.{Pass, Keep, Refuse}
 use Rattle.symbols.specs.declared.Symbol.{Symbol}
-use Rattle.symbols.specs.declared.Symbol.the-variants.{Begin, End, Else, Comment, Semicolon, Name, Number}
+use Rattle.symbols.specs.declared.Symbol.the-variants.{Begin, End, Else, Comment, Semicolon, Name, Number, Decimal}
 
 -- ---- what begins at a byte
 
@@ -77,16 +77,36 @@ name b bs = sized (length (letters (b ∷ bs))) (reach inName bs)
 unfoldable pub valued : ℕ → ℕ → Lexeme
 valued v k = cond (ltb 2147483647 v) (Large k) (Is (Number v) k)
 
+-- request 6: "at most 15 digits, leading zeros counted, a number with a point and more being 4". The digits make v and are n, of which m stand
+-- behind the point
+unfoldable pub pointed : ℕ → ℕ → ℕ → ℕ → Lexeme
+pointed v n m k = cond (ltb 15 n) (Large k) (Is (Decimal (packed v m)) k)
+
+-- a point needs a digit behind it: what is read where there is none; the digits before it; those behind it
+unfoldable pub withPoint : Lexeme → List ℕ → List ℕ → ℕ → Lexeme
+withPoint plain ds [] k = plain
+withPoint plain ds (e ∷ es) k =
+    let all = ds ++ (e ∷ es) in
+    pointed (valueFrom 0 all) (length all) (length (e ∷ es)) k
+
 unfoldable pub number : ℕ → List ℕ → Lexeme
-number b bs = valued (value (b ∷ bs)) (reach digit bs)
+number b bs =
+    let k = reach digit bs in
+    let rest = drop k bs in
+    withPoint (valued (value (b ∷ bs)) k) (these digit (b ∷ bs)) (decimals rest) (k + 1 + reach digit (drop 1 rest))
+
+-- behind a point with which a number begins
+unfoldable pub point : List ℕ → Lexeme
+point bs = withPoint Nothing [] (these digit bs) (reach digit bs)
 
 -- what the byte b, which is no blank, and those behind it begin with
 unfoldable pub lexeme : ℕ → List ℕ → Lexeme
 lexeme b bs =
     cond (letter b) (name b bs)
     (cond (digit b) (number b bs)
+    (cond (eqb b (code ".")) (point bs)
     (cond (eqb b (code "'")) (word bs)
-    (sign signs b bs)))
+    (sign signs b bs))))
 
 -- ---- where a note can open, and where a remark runs
 

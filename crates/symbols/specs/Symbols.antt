@@ -1,12 +1,12 @@
 -- Paper 01, "Bytes to symbols": what a symbol is, and how each is written.
-use Prim.Native.Nat.{ℕ}
+use Prim.Native.Nat.{ℕ, _+_, _*_}
 use Prim.Native.Char.{Char}
 use Prim.Native.String.{String}
 use mathlib.Core.Bool.{Bool}
 use mathlib.Core.List.{List, [], _∷_}
 use lib.Dec.{eqb}
 use Rattle.symbols.specs.declared.Symbol.{Symbol}
-use Rattle.symbols.specs.declared.Symbol.the-variants.{Begin, End, If, Then, Else, For, Do, Step, Until, While, Comment, Integer, Boolean, Procedure, Value, True, False, And, Or, Not, Impl, Equiv, Plus, Minus, Times, Divide, Less, LessEqual, Equal, GreaterEqual, Greater, NotEqual, Comma, Colon, Becomes, Semicolon, Open, Close, Name, Number}
+use Rattle.symbols.specs.declared.Symbol.the-variants.{Begin, End, If, Then, Else, For, Do, Step, Until, While, Comment, Integer, Boolean, Procedure, Value, True, False, And, Or, Not, Impl, Equiv, Plus, Minus, Times, Divide, Less, LessEqual, Equal, GreaterEqual, Greater, NotEqual, Comma, Colon, Becomes, Semicolon, Open, Close, Name, Number, Real, Slash, Decimal}
 
 -- ---- "Delimiter words stand between apostrophes, spelled exactly"
 
@@ -41,9 +41,10 @@ words =
     word "not" Not ∷
     word "impl" Impl ∷
     word "equiv" Equiv ∷
+    word "real" Real ∷
     []
 
--- ---- "Signs: `+ - * % < <= = >= > # , : := ; ( )`." One of two bytes stands before those that begin as it does:
+-- ---- "Signs: `+ - * % < <= = >= > # , : := ; ( )`", and with request 6 `/`. One of two bytes stands before those that begin as it does:
 -- "Two-sign symbols are joined wherever they can be."
 
 pub data Sign : Type 0 where
@@ -68,9 +69,11 @@ signs =
     one ";" Semicolon ∷
     one "(" Open ∷
     one ")" Close ∷
+    one "/" Slash ∷
     []
 
--- ---- kinds: a number for each symbol, which tells symbols apart but for a number's value; and that value, which no other symbol has
+-- ---- kinds: a number for each symbol, which tells symbols apart but for a number's value; and that value, which no other symbol has. A number
+-- with a point has a word
 
 abbrev numbered : Symbol → ℕ × ℕ
 numbered Begin = (0, 0)
@@ -113,6 +116,9 @@ numbered Open = (36, 0)
 numbered Close = (37, 0)
 numbered Name = (38, 0)
 numbered (Number v) = (39, v)
+numbered Real = (40, 0)
+numbered Slash = (41, 0)
+numbered (Decimal w) = (42, w)
 
 abbrev pub kind : Symbol → ℕ
 kind s = numbered s .0
@@ -123,3 +129,7 @@ valueOf s = numbered s .1
 -- the same symbol, a number's value aside
 abbrev pub is : Symbol → Symbol → Bool
 is a b = eqb (kind a) (kind b)
+
+-- a number with a point (request 6): all its digits as one whole number n, and k, how many of them stand behind the point, as one word
+abbrev pub packed : ℕ → ℕ → ℕ
+packed n k = 16 * n + k

@@ -1,7 +1,7 @@
 // A symbol is stored as its kind and its value: a slice of enums is not to be had.
 use crate::Symbol;
 ghost use mathlib.Core.Path.{_≡_};
-ghost use Rattle.symbols.specs.model.Kinds.{storedOf, symbolOf};
+ghost use Rattle.symbols.specs.model.Kinds.{storedOf, symbolOf, unpacked};
 
 // The kinds, by name.
 pub const BEGIN: u8 = 0;
@@ -84,9 +84,15 @@ pub const NAME: u8 = 38;
 
 pub const NUMBER: u8 = 39;
 
+pub const REAL: u8 = 40;
+
+pub const SLASH: u8 = 41;
+
+pub const DECIMAL: u8 = 42;
+
 pub struct Stored {
     pub kind: u8,
-    pub value: u32,
+    pub value: u64,
 }
 
 pub fn store(s: Symbol) -> Stored
@@ -244,11 +250,23 @@ pub fn store(s: Symbol) -> Stored
             kind: NUMBER,
             value: v,
         },
+        Symbol::Real => Stored {
+            kind: REAL,
+            value: 0,
+        },
+        Symbol::Slash => Stored {
+            kind: SLASH,
+            value: 0,
+        },
+        Symbol::Decimal(w) => Stored {
+            kind: DECIMAL,
+            value: w,
+        },
     }
 }
 
 // The symbol of a kind and a value; a number that is no kind is read as `:`, which no program has.
-pub fn decode(k: u8, v: u32) -> Symbol
+pub fn decode(k: u8, v: u64) -> Symbol
     ensures { λ r. ⌜ r ≡ symbolOf k v ⌝ }
 {
     match k {
@@ -292,6 +310,24 @@ pub fn decode(k: u8, v: u32) -> Symbol
         CLOSE => Symbol::Close,
         NAME => Symbol::Name,
         NUMBER => Symbol::Number(v),
+        REAL => Symbol::Real,
+        SLASH => Symbol::Slash,
+        DECIMAL => Symbol::Decimal(v),
         _ => Symbol::Colon,
+    }
+}
+
+// A number with a point: its digits as one whole number, and how many of them stand behind the point.
+pub struct Unpacked {
+    pub digits: u64,
+    pub behind: u32,
+}
+
+pub fn unpack(w: u64) -> Unpacked
+    ensures { λ r. ⌜ r ≡ unpacked w ⌝ }
+{
+    Unpacked {
+        digits: w / 16,
+        behind: (w % 16) as u32,
     }
 }

@@ -13,10 +13,10 @@ ghost use mathlib.Core.Path.{_≡_};
 ghost use Prim.Native.Nat.{_+_, _-_, _*_, _<_, _≤_};
 ghost use lib.ListN.{length, getD, drop};
 ghost use Rattle.symbols.specs.Symbols.{signs};
-ghost use Rattle.symbols.specs.Names.{letter, digit};
-ghost use Rattle.symbols.specs.model.Steps.{capped, joinedOf, lexemeAt};
+ghost use Rattle.symbols.specs.Names.{letter, digit, reach};
+ghost use Rattle.symbols.specs.model.Steps.{capped, digitsFrom, pointedAt, joinedOf, lexemeAt};
 ghost use mathlib.Core.Bool.{true};
-ghost use Rattle.symbols.specs.Scan.{name as nameOf, number as numberOf, word as wordOf, sign as signOf, sized as sizedOf, valued as valuedOf};
+ghost use Rattle.symbols.specs.Scan.{name as nameOf, number as numberOf, word as wordOf, sign as signOf, sized as sizedOf, valued as valuedOf, pointed as pointedOf, point as pointOf};
 
 // A letter at `at`, and the letters and digits behind it.
 fn name(source: &[u8], at: usize) -> Lexeme
@@ -49,37 +49,57 @@ fn sized(size: usize, more: usize) -> Lexeme
     }
 }
 
-// A digit at `at`, and those behind it. The value is kept at one over the limit where it is over.
-fn number(source: &[u8], at: usize) -> Lexeme
-    requires { ⌜ at < length (now source) ⌝ }
-    requires { ⌜ digit (getD (now source) at 0) ≡ true ⌝ }
-    ensures { λ r. ⌜ r ≡ numberOf (getD (now (source .entry)) at 0) (drop (at + 1) (now (source .entry))) ⌝ }
+// Digits read one after the other: their value, kept at 10^15 where it is over; how many they are; and where they end.
+pub struct Digits {
+    pub value: u64,
+    pub count: usize,
+    pub end: usize,
+}
+
+// The digits from `from` on, behind others of this value and count.
+fn digits_from(source: &[u8], from: usize, value: u64, count: usize) -> Digits
+    requires { ⌜ (from ≤ length (now source)) × (count ≤ from) × (value ≤ 1000000000000000) ⌝ }
+    ensures { λ r. ⌜ r ≡ digitsFrom (now (source .entry)) from value count ⌝ }
 {
-    let mut i = at + 1;
-    let mut value = with_digit(0, source[at]);
+    let mut i = from;
+    let mut v = value;
+    let mut n = count;
     while i < source.len() {
         let b = source[i];
         if is_digit(b) {
-            value = with_digit(value, b);
+            v = with_digit(v, b);
+            n += 1;
         } else if !is_blank(b) {
-            return valued(value, i - at - 1);
+            return Digits {
+                value: v,
+                count: n,
+                end: i,
+            };
         }
         i += 1;
     }
-    valued(value, i - at - 1)
+    Digits {
+        value: v,
+        count: n,
+        end: i,
+    }
 }
 
-// One digit more, up to one over the limit.
-fn with_digit(v: u32, b: u8) -> u32
-    requires { ⌜ (v ≤ 2147483648) × (digit b ≡ true) ⌝ }
+// One digit more, up to 10^15.
+fn with_digit(v: u64, b: u8) -> u64
+    requires { ⌜ (v ≤ 1000000000000000) × (digit b ≡ true) ⌝ }
     ensures { λ r. ⌜ r ≡ capped (10 * v + (b - 48)) ⌝ }
 {
-    let w = 10 * (v as u64) + ((b - 48) as u64);
-    if w < 2147483648 { w as u32 } else { 2147483648 }
+    let w = 10 * v + ((b - 48) as u64);
+    if w < 1000000000000000 {
+        w
+    } else {
+        1000000000000000
+    }
 }
 
 // A number of this value.
-fn valued(v: u32, more: usize) -> Lexeme
+fn valued(v: u64, more: usize) -> Lexeme
     ensures { λ r. ⌜ r ≡ valuedOf v more ⌝ }
 {
     if 2147483647 < v {
@@ -87,6 +107,64 @@ fn valued(v: u32, more: usize) -> Lexeme
     } else {
         Lexeme::Is(Symbol::Number(v), more)
     }
+}
+
+// A number with a point, of so many digits.
+fn pointed(v: u64, count: usize, behind: usize, more: usize) -> Lexeme
+    requires { ⌜ (v ≤ 1000000000000000) × (behind ≤ count) ⌝ }
+    ensures { λ r. ⌜ r ≡ pointedOf v count behind more ⌝ }
+{
+    if 15 < count {
+        Lexeme::Large(more)
+    } else {
+        Lexeme::Is(Symbol::Decimal(16 * v + (behind as u64)), more)
+    }
+}
+
+// Behind the digits from `at` on stands a point: with digits behind it the number goes on.
+fn with_point(source: &[u8], at: usize, front: Digits, plain: Lexeme) -> Lexeme
+    requires { ⌜ (front ≡ digitsFrom (now source) at 0 0) × (at + reach digit (drop at (now source)) < length (now source)) ⌝ }
+    ensures { λ r. ⌜ r ≡ pointedAt (now (source .entry)) at plain ⌝ }
+{
+    let dot = front.end;
+    let all = digits_from(source, dot + 1, front.value, front.count);
+    if all.count == front.count {
+        return plain;
+    }
+    pointed(
+        all.value,
+        all.count,
+        all.count - front.count,
+        all.end - at - 1,
+    )
+}
+
+// A digit at `at`, and those behind it.
+fn number(source: &[u8], at: usize) -> Lexeme
+    requires { ⌜ at < length (now source) ⌝ }
+    requires { ⌜ digit (getD (now source) at 0) ≡ true ⌝ }
+    ensures { λ r. ⌜ r ≡ numberOf (getD (now (source .entry)) at 0) (drop (at + 1) (now (source .entry))) ⌝ }
+{
+    let front = digits_from(source, at, 0, 0);
+    let end = front.end;
+    let plain = valued(front.value, end - at - 1);
+    if source.len() <= end {
+        return plain;
+    }
+    if source[end] == 46 {
+        return with_point(source, at, front, plain);
+    }
+    plain
+}
+
+// A point at `at`.
+fn point(source: &[u8], at: usize) -> Lexeme
+    requires { ⌜ at < length (now source) ⌝ }
+    requires { ⌜ getD (now source) at 0 ≡ 46 ⌝ }
+    ensures { λ r. ⌜ r ≡ pointOf (drop (at + 1) (now (source .entry))) ⌝ }
+{
+    let front = digits_from(source, at, 0, 0);
+    with_point(source, at, front, Lexeme::Nothing)
 }
 
 // An apostrophe at `at`: the word up to the next one.
@@ -138,6 +216,7 @@ fn sign(source: &[u8], at: usize) -> Lexeme
         59 => Lexeme::Is(Symbol::Semicolon, 0),
         40 => Lexeme::Is(Symbol::Open, 0),
         41 => Lexeme::Is(Symbol::Close, 0),
+        47 => Lexeme::Is(Symbol::Slash, 0),
         _ => Lexeme::Nothing,
     }
 }
@@ -155,6 +234,9 @@ pub fn lexeme(source: &[u8], at: usize) -> Lexeme
     }
     if is_digit(b) {
         return number(source, at);
+    }
+    if b == 46 {
+        return point(source, at);
     }
     if b == 39 {
         return word(source, at);

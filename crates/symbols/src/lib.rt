@@ -10,7 +10,8 @@ pub mod kinds; // how a symbol is stored
 pub mod scanning; // the symbols of a source
 pub mod names; // when two names are the same
 
-// What a symbol is. A name's letters stay in the source, at the symbol's place.
+// What a symbol is. A name's letters stay in the source, at the symbol's place. A number with a point has its digits and how many of them
+// stand behind the point as one word.
 pub enum Symbol {
     Begin,
     End,
@@ -51,7 +52,10 @@ pub enum Symbol {
     Open,
     Close,
     Name,
-    Number(u32),
+    Number(u64),
+    Real,
+    Slash,
+    Decimal(u64),
 }
 
 // What begins at a byte: a symbol, or a name or number over its limit, with how many bytes belong to it behind its first;

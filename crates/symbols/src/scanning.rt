@@ -50,7 +50,7 @@ fn fill(
     room: usize,
     kinds: &mut [u8],
     places: &mut [usize],
-    values: &mut [u32],
+    values: &mut [u64],
 ) -> Scanned
     requires { ⌜ (room ≤ length (now kinds)) × (room ≤ length (now places)) × (room ≤ length (now values)) ⌝ }
     ensures { λ r. ⌜ Filled room (now (source .entry)) r (now (kinds .entry)) (now (kinds .exit)) (now (places .entry)) (now (places .exit)) (now (values .entry)) (now (values .exit)) ⌝ }
@@ -89,7 +89,7 @@ pub fn scan(
     limit: usize,
     kinds: &mut [u8; 2048],
     places: &mut [usize; 2048],
-    values: &mut [u32; 2048],
+    values: &mut [u64; 2048],
 ) -> Scanned
     ensures { λ r. ⌜ Filled (min limit 2048) (now (source .entry)) r (now (kinds .entry)) (now (kinds .exit)) (now (places .entry)) (now (places .exit)) (now (values .entry)) (now (values .exit)) ⌝ }
 {

@@ -64,6 +64,7 @@ pub fn spelled_word(w: &[u8]) -> Spelled
         b'n' => only(w, b"not", Symbol::Not),
         b'o' => only(w, b"or", Symbol::Or),
         b'p' => only(w, b"procedure", Symbol::Procedure),
+        b'r' => only(w, b"real", Symbol::Real),
         b's' => only(w, b"step", Symbol::Step),
         b't' => either(w, b"then", Symbol::Then, b"true", Symbol::True),
         b'u' => only(w, b"until", Symbol::Until),

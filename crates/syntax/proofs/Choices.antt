@@ -8,7 +8,7 @@ use native.Mathlib.Decide.{ℕ-discrete}
 use lib.Dec.{eqb}
 use borrow.Author.Tests.{ne-eqb, eq-eqb}
 use Rattle.symbols.specs.Symbols.{kind}
-use Rattle.grammar.specs.Grammar.{Op, times, over, plus, minus, and, or, implies, equals, opSymbol, Relation, less, lessEqual, equal, greaterEqual, greater, notEqual, relationSymbol}
+use Rattle.grammar.specs.Grammar.{Op, times, over, divide, plus, minus, and, or, implies, equals, opSymbol, Relation, less, lessEqual, equal, greaterEqual, greater, notEqual, relationSymbol}
 use Rattle.grammar.specs.Grammar.{operand}
 use Rattle.grammar.specs.Grammar.{inner, declarations, declaration, declared, type, formals, values, specifications, others, statements, statement, consequence, alternative, further, progress, unconditional, named, right, expression, level, more, negation, comparison, primary, actuals, further-actuals}
 use Rattle.grammar.specs.Grammar.{a-compound, no-declaration, typed, variables, no-formals, no-values, no-specification, no-other, no-statement, plain, then-plain, no-else, no-element, once, dummy, call, left, value, simple, chain, signed, again, no-more, no-not, compare, no-comparison, number, bare, no-actual}
@@ -26,14 +26,14 @@ pub in-not : {c k : ℕ} (l : List ℕ) → In c l → disjoint (k ∷ []) l ≡
 in-not {k = k} l h d e = apart (k ∷ []) l d (now e) h
 
 module _ {c : ℕ} where
-  pub else-inner : (c ≡ 11 → ⊥) → (c ≡ 12 → ⊥) → (c ≡ 13 → ⊥) → choose inner c 0 ≡ some a-compound
-  else-inner p0 p1 p2 = simp (ne-eqb _ _ p0, ne-eqb _ _ p1, ne-eqb _ _ p2)
+  pub else-inner : (c ≡ 11 → ⊥) → (c ≡ 12 → ⊥) → (c ≡ 13 → ⊥) → (c ≡ 40 → ⊥) → choose inner c 0 ≡ some a-compound
+  else-inner p0 p1 p2 p3 = simp (ne-eqb _ _ p0, ne-eqb _ _ p1, ne-eqb _ _ p2, ne-eqb _ _ p3)
 
   pub else-statements : (c ≡ 35 → ⊥) → choose statements c 0 ≡ some no-statement
   else-statements p0 = simp (ne-eqb _ _ p0)
 
-  pub else-declarations : (c ≡ 11 → ⊥) → (c ≡ 12 → ⊥) → (c ≡ 13 → ⊥) → choose declarations c 0 ≡ some no-declaration
-  else-declarations p0 p1 p2 = simp (ne-eqb _ _ p0, ne-eqb _ _ p1, ne-eqb _ _ p2)
+  pub else-declarations : (c ≡ 11 → ⊥) → (c ≡ 12 → ⊥) → (c ≡ 13 → ⊥) → (c ≡ 40 → ⊥) → choose declarations c 0 ≡ some no-declaration
+  else-declarations p0 p1 p2 p3 = simp (ne-eqb _ _ p0, ne-eqb _ _ p1, ne-eqb _ _ p2, ne-eqb _ _ p3)
 
   pub else-declaration : (c ≡ 13 → ⊥) → choose declaration c 0 ≡ some typed
   else-declaration p0 = simp (ne-eqb _ _ p0)
@@ -41,8 +41,8 @@ module _ {c : ℕ} where
   pub else-declared : (c ≡ 13 → ⊥) → choose declared c 0 ≡ some variables
   else-declared p0 = simp (ne-eqb _ _ p0)
 
-  pub else-type : (c ≡ 11 → ⊥) → (c ≡ 12 → ⊥) → choose type c 0 ≡ none
-  else-type p0 p1 = simp (ne-eqb _ _ p0, ne-eqb _ _ p1)
+  pub else-type : (c ≡ 11 → ⊥) → (c ≡ 12 → ⊥) → (c ≡ 40 → ⊥) → choose type c 0 ≡ none
+  else-type p0 p1 p2 = simp (ne-eqb _ _ p0, ne-eqb _ _ p1, ne-eqb _ _ p2)
 
   pub else-formals : (c ≡ 36 → ⊥) → choose formals c 0 ≡ some no-formals
   else-formals p0 = simp (ne-eqb _ _ p0)
@@ -50,8 +50,8 @@ module _ {c : ℕ} where
   pub else-values : (c ≡ 14 → ⊥) → choose values c 0 ≡ some no-values
   else-values p0 = simp (ne-eqb _ _ p0)
 
-  pub else-specifications : (c ≡ 11 → ⊥) → (c ≡ 12 → ⊥) → choose specifications c 0 ≡ some no-specification
-  else-specifications p0 p1 = simp (ne-eqb _ _ p0, ne-eqb _ _ p1)
+  pub else-specifications : (c ≡ 11 → ⊥) → (c ≡ 12 → ⊥) → (c ≡ 40 → ⊥) → choose specifications c 0 ≡ some no-specification
+  else-specifications p0 p1 p2 = simp (ne-eqb _ _ p0, ne-eqb _ _ p1, ne-eqb _ _ p2)
 
   pub else-others : (e : Entry) → (c ≡ 32 → ⊥) → choose (others e) c 0 ≡ some (no-other e)
   else-others e p0 = simp (ne-eqb _ _ p0)
@@ -83,8 +83,8 @@ module _ {c : ℕ} where
   pub else-level-Sum : (c ≡ 22 → ⊥) → (c ≡ 23 → ⊥) → choose (level Sum) c 0 ≡ some (chain Sum)
   else-level-Sum p0 p1 = simp (ne-eqb _ _ p0, ne-eqb _ _ p1)
 
-  pub else-more-Product : (c ≡ 24 → ⊥) → (c ≡ 25 → ⊥) → choose (more Product) c 0 ≡ some (no-more Product)
-  else-more-Product p0 p1 = simp (ne-eqb _ _ p0, ne-eqb _ _ p1)
+  pub else-more-Product : (c ≡ 24 → ⊥) → (c ≡ 25 → ⊥) → (c ≡ 41 → ⊥) → choose (more Product) c 0 ≡ some (no-more Product)
+  else-more-Product p0 p1 p2 = simp (ne-eqb _ _ p0, ne-eqb _ _ p1, ne-eqb _ _ p2)
 
   pub else-more-Sum : (c ≡ 22 → ⊥) → (c ≡ 23 → ⊥) → choose (more Sum) c 0 ≡ some (no-more Sum)
   else-more-Sum p0 p1 = simp (ne-eqb _ _ p0, ne-eqb _ _ p1)
@@ -107,8 +107,8 @@ module _ {c : ℕ} where
   pub else-comparison : (c ≡ 26 → ⊥) → (c ≡ 27 → ⊥) → (c ≡ 28 → ⊥) → (c ≡ 29 → ⊥) → (c ≡ 30 → ⊥) → (c ≡ 31 → ⊥) → choose comparison c 0 ≡ some no-comparison
   else-comparison p0 p1 p2 p3 p4 p5 = simp (ne-eqb _ _ p0, ne-eqb _ _ p1, ne-eqb _ _ p2, ne-eqb _ _ p3, ne-eqb _ _ p4, ne-eqb _ _ p5)
 
-  pub else-primary : (c ≡ 39 → ⊥) → (c ≡ 15 → ⊥) → (c ≡ 16 → ⊥) → (c ≡ 38 → ⊥) → (c ≡ 36 → ⊥) → choose primary c 0 ≡ none
-  else-primary p0 p1 p2 p3 p4 = simp (ne-eqb _ _ p0, ne-eqb _ _ p1, ne-eqb _ _ p2, ne-eqb _ _ p3, ne-eqb _ _ p4)
+  pub else-primary : (c ≡ 39 → ⊥) → (c ≡ 15 → ⊥) → (c ≡ 16 → ⊥) → (c ≡ 38 → ⊥) → (c ≡ 36 → ⊥) → (c ≡ 42 → ⊥) → choose primary c 0 ≡ none
+  else-primary p0 p1 p2 p3 p4 p5 = simp (ne-eqb _ _ p0, ne-eqb _ _ p1, ne-eqb _ _ p2, ne-eqb _ _ p3, ne-eqb _ _ p4, ne-eqb _ _ p5)
 
   pub else-actuals : (u : Use) → (c ≡ 36 → ⊥) → choose (actuals u) c 0 ≡ some (bare u)
   else-actuals u p0 = simp (ne-eqb _ _ p0)
@@ -125,6 +125,14 @@ pub record Found (l : Level) (c c' o : ℕ) : Type 0 where
   pub symbol : c ≡ kind (opSymbol op)
   pub number : o ≡ kind (opSymbol op)
 
+three-found : (l : Level) (a b d : Op l) (c c' : ℕ) {o : ℕ} → Dec (c ≡ kind (opSymbol a)) → Dec (c ≡ kind (opSymbol b)) → Dec (c ≡ kind (opSymbol d))
+    → pick (eqb c (kind (opSymbol a))) (kind (opSymbol a)) (pick (eqb c (kind (opSymbol b))) (kind (opSymbol b)) (pick (eqb c (kind (opSymbol d))) (kind (opSymbol d)) 0)) ≡ o
+    → (o ≡ 0 → ⊥) → choose (more l) c c' ≡ pick (eqb c (kind (opSymbol a))) (some (again a)) (pick (eqb c (kind (opSymbol b))) (some (again b)) (pick (eqb c (kind (opSymbol d))) (some (again d)) (some (no-more l)))) → Found l c c' o
+three-found l a b d c c' (yes e) y w q h z = record { op = a; taken = z ∙ simp (eq-eqb _ _ e); symbol = e; number = sym q ∙ simp (eq-eqb _ _ e) }
+three-found l a b d c c' (no n) (yes e) w q h z = record { op = b; taken = z ∙ simp (ne-eqb _ _ n, eq-eqb _ _ e); symbol = e; number = sym q ∙ simp (ne-eqb _ _ n, eq-eqb _ _ e) }
+three-found l a b d c c' (no n) (no m) (yes e) q h z = record { op = d; taken = z ∙ simp (ne-eqb _ _ n, ne-eqb _ _ m, eq-eqb _ _ e); symbol = e; number = sym q ∙ simp (ne-eqb _ _ n, ne-eqb _ _ m, eq-eqb _ _ e) }
+three-found l a b d c c' (no n) (no m) (no k) q h z = absurd (h (sym q ∙ simp (ne-eqb _ _ n, ne-eqb _ _ m, ne-eqb _ _ k)))
+
 two-found : (l : Level) (a b : Op l) (c c' : ℕ) {o : ℕ} → (Dec (c ≡ kind (opSymbol a))) → Dec (c ≡ kind (opSymbol b)) → pick (eqb c (kind (opSymbol a))) (kind (opSymbol a)) (pick (eqb c (kind (opSymbol b))) (kind (opSymbol b)) 0) ≡ o
     → (o ≡ 0 → ⊥) → choose (more l) c c' ≡ pick (eqb c (kind (opSymbol a))) (some (again a)) (pick (eqb c (kind (opSymbol b))) (some (again b)) (some (no-more l))) → Found l c c' o
 two-found l a b c c' (yes e) y q h z = record { op = a; taken = z ∙ simp (eq-eqb _ _ e); symbol = e; number = sym q ∙ simp (eq-eqb _ _ e) }
@@ -138,7 +146,7 @@ one-found l a c c' (no n) q h z = absurd (h (sym q ∙ simp (ne-eqb _ _ n)))
 
 pub op-found : (l : Level) (c c' : ℕ) {o : ℕ} → operatorOf l c ≡ o → (o ≡ 0 → ⊥) → Found l c c' o
 unfolding operatorOf
-op-found Product c c' q h = two-found Product times over c c' (ℕ-discrete c 24) (ℕ-discrete c 25) q h refl
+op-found Product c c' q h = three-found Product times over divide c c' (ℕ-discrete c 24) (ℕ-discrete c 25) (ℕ-discrete c 41) q h refl
 op-found Sum c c' q h = two-found Sum plus minus c c' (ℕ-discrete c 22) (ℕ-discrete c 23) q h refl
 op-found Conjunction c c' q h = one-found Conjunction and c c' (ℕ-discrete c 17) q h refl
 op-found Disjunction c c' q h = one-found Disjunction or c c' (ℕ-discrete c 18) q h refl
@@ -159,7 +167,11 @@ passed c k other h q = go (ℕ-discrete c k)
 
 pub op-none : (l : Level) (c c' : ℕ) → operatorOf l c ≡ 0 → choose (more l) c c' ≡ some (no-more l)
 unfolding operatorOf
-op-none Product c c' q = let a = passed c 24 (pick (eqb c 25) 25 0) (λ e. omega arith) q in let b = passed c 25 0 (λ e. omega arith) (a .1) in else-more-Product (a .0) (b .0)
+op-none Product c c' q =
+    let a = passed c 24 (pick (eqb c 25) 25 (pick (eqb c 41) 41 0)) (λ e. omega arith) q in
+    let b = passed c 25 (pick (eqb c 41) 41 0) (λ e. omega arith) (a .1) in
+    let d = passed c 41 0 (λ e. omega arith) (b .1) in
+    else-more-Product (a .0) (b .0) (d .0)
 op-none Sum c c' q = let a = passed c 22 (pick (eqb c 23) 23 0) (λ e. omega arith) q in let b = passed c 23 0 (λ e. omega arith) (a .1) in else-more-Sum (a .0) (b .0)
 op-none Conjunction c c' q = else-more-Conjunction (passed c 17 0 (λ e. omega arith) q .0)
 op-none Disjunction c c' q = else-more-Disjunction (passed c 18 0 (λ e. omega arith) q .0)
@@ -181,6 +193,7 @@ with-sign {c} {c'} f = go (f .op) (f .symbol)
 pub op-low : {l : Level} (p : Op l) → kind (opSymbol p) ≡ 33 → ⊥
 op-low times e = omega arith
 op-low over e = omega arith
+op-low divide e = omega arith
 op-low plus e = omega arith
 op-low minus e = omega arith
 op-low and e = omega arith

@@ -7,7 +7,7 @@ use mathlib.Core.Bool.{Bool, true, false}
 use lib.ListN.{length, length-append, take}
 use Rattle.answers.specs.Answers.{answer}
 use Rattle.answers.specs.declared.Answer.{Answer}
-use Rattle.grammar.specs.Grammar.{Class, operand, Item, sy, rd, Prod, rhs}
+use Rattle.grammar.specs.Grammar.{Class, operand, Item, sy, rd, Prod}
 use Rattle.grammar.specs.Trees.{Syn, nil, tok, sub, yield}
 use Rattle.grammar.specs.model.Marked.{Node, Marks, end as no-more, on as past, put, unmarked, marks, word, nodeWords, below, nodes}
 use Rattle.grammar.specs.model.Tables.{some, none, choose}

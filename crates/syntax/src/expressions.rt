@@ -263,6 +263,13 @@ fn primary(kinds: &[u8], pos: usize, depth: u16, nodes: &mut [u16], free: usize)
                 },
             }
         }
+        Symbol::Decimal(_) => {
+            let end = put(nodes, free, nodes::DECIMAL, pos, 0, 0);
+            Parsed::Read {
+                next: pos + 1,
+                used: end,
+            }
+        }
         _ => Parsed::Refused {
             answer: Answer::GRAMMAR,
             at: pos,

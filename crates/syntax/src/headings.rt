@@ -16,7 +16,7 @@ ghost use mathlib.Core.Path.{_≡_};
 ghost use Rattle.grammar.specs.model.Text.{text};
 ghost use Rattle.syntax.specs.model.Says.{Room, TellsAll};
 
-// 'integer' or 'Boolean'.
+// 'integer', 'Boolean' or 'real'.
 pub fn type_symbol(kinds: &[u8], pos: usize, nodes: &mut [u16], free: usize) -> Parsed
     requires { ⌜ Room (text (now kinds)) (now nodes) pos free ⌝ }
     ensures { λ r. ⌜ TellsAll (text (now (kinds .entry))) (now (nodes .entry)) (now (nodes .exit)) (part type ∷ []) pos free r ⌝ }
@@ -31,6 +31,13 @@ pub fn type_symbol(kinds: &[u8], pos: usize, nodes: &mut [u16], free: usize) -> 
         }
         Symbol::Boolean => {
             let end = put(nodes, free, nodes::TYPE, 0, 2, 0);
+            Parsed::Read {
+                next: pos + 1,
+                used: end,
+            }
+        }
+        Symbol::Real => {
+            let end = put(nodes, free, nodes::TYPE, 0, 3, 0);
             Parsed::Read {
                 next: pos + 1,
                 used: end,
@@ -148,7 +155,7 @@ fn specifications(kinds: &[u8], pos: usize, nodes: &mut [u16], free: usize) -> P
     ensures { λ r. ⌜ TellsAll (text (now (kinds .entry))) (now (nodes .entry)) (now (nodes .exit)) (part the-specifications ∷ []) pos free r ⌝ }
 {
     match peek(kinds, pos) {
-        Symbol::Integer | Symbol::Boolean => {
+        Symbol::Integer | Symbol::Boolean | Symbol::Real => {
             let one = type_symbol(kinds, pos, nodes, free);
             match one {
                 Parsed::Refused { answer, at } => Parsed::Refused { answer, at },

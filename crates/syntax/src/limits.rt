@@ -22,7 +22,8 @@ pub fn expression(kinds: &[u8], pos: usize) -> Parsed
         | Symbol::Minus
         | Symbol::Open
         | Symbol::Name
-        | Symbol::Number(_) => Parsed::Refused {
+        | Symbol::Number(_)
+        | Symbol::Decimal(_) => Parsed::Refused {
             answer: Answer::DEPTH,
             at: pos,
         },
@@ -45,7 +46,8 @@ pub fn simple(kinds: &[u8], pos: usize) -> Parsed
         | Symbol::Minus
         | Symbol::Open
         | Symbol::Name
-        | Symbol::Number(_) => Parsed::Refused {
+        | Symbol::Number(_)
+        | Symbol::Decimal(_) => Parsed::Refused {
             answer: Answer::DEPTH,
             at: pos,
         },

@@ -13,6 +13,7 @@ pub fn operator(l: Level, s: Symbol) -> u16
         Level::Product => match s {
             Symbol::Times => 24,
             Symbol::Divide => 25,
+            Symbol::Slash => 41,
             _ => 0,
         },
         Level::Sum => match s {

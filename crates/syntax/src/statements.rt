@@ -58,7 +58,7 @@ fn inner(kinds: &[u8], begin: usize, depth: u16, nodes: &mut [u16], free: usize)
     ensures { λ r. ⌜ Says (text (now (kinds .entry))) (now (nodes .entry)) (now (nodes .exit)) depth (begin + 1) (kind End ∷ []) (part an-inner ∷ []) (begin + 1) free r ⌝ }
 {
     match peek(kinds, begin + 1) {
-        Symbol::Integer | Symbol::Boolean | Symbol::Procedure => {
+        Symbol::Integer | Symbol::Boolean | Symbol::Procedure | Symbol::Real => {
             let opened = put(nodes, free, nodes::BLOCK, begin, 0, 0);
             let one = head(kinds, begin + 1, depth, nodes, opened);
             match one {
@@ -103,7 +103,7 @@ fn declarations(kinds: &[u8], pos: usize, depth: u16, nodes: &mut [u16], free: u
     ensures { λ r. ⌜ Tells (text (now (kinds .entry))) (now (nodes .entry)) (now (nodes .exit)) depth (part the-declarations ∷ []) pos free r ⌝ }
 {
     match peek(kinds, pos) {
-        Symbol::Integer | Symbol::Boolean | Symbol::Procedure => head(
+        Symbol::Integer | Symbol::Boolean | Symbol::Procedure | Symbol::Real => head(
             kinds,
             pos,
             depth,

@@ -6,8 +6,8 @@ use mathlib.Core.List.{List, [], _∷_, _++_}
 use lib.ListN.{length}
 use Rattle.symbols.specs.Symbols.{kind}
 use Rattle.symbols.specs.declared.Symbol.the-variants.{Not}
-use Rattle.grammar.specs.NodeKinds.{n-block, n-statements, n-block-end, n-type, n-variable, n-procedure, n-formal, n-value, n-specified, n-body, n-procedure-end, n-then, n-else, n-if-end, n-for, n-start, n-once, n-while, n-step, n-amount, n-do, n-for-end, n-left, n-assign, n-condition-end, n-unary, n-binary, n-number, n-logical, n-use, n-call, n-call-end, n-actual}
-use Rattle.grammar.specs.Grammar.{Class, opSymbol, relationSymbol, Item, Prod, begin-end, a-block, a-compound, a-tail, a-statement, no-statement, a-head, some-declarations, no-declaration, typed, untyped, variables, function, integer, boolean, a-procedure, a-heading, some-formals, no-formals, some-values, no-values, a-specification, no-specification, a-list, another, no-other, conditional, repeated, plain, then-for, then-plain, an-else, no-else, a-for, a-clause, for-list, another-element, no-element, an-element, once, while, by-steps, a-step, an-amount, dummy, compound, with-name, assignment, call, left, value, a-condition, simple, an-otherwise, chain, signed, again, no-more, a-not, no-not, a-relation, compare, no-comparison, number, true-value, false-value, a-name, in-parentheses, with, bare, an-actual, another-actual, no-actual, rhs, program}
+use Rattle.grammar.specs.NodeKinds.{n-block, n-statements, n-block-end, n-type, n-variable, n-procedure, n-formal, n-value, n-specified, n-body, n-procedure-end, n-then, n-else, n-if-end, n-for, n-start, n-once, n-while, n-step, n-amount, n-do, n-for-end, n-left, n-assign, n-condition-end, n-unary, n-binary, n-number, n-logical, n-use, n-call, n-call-end, n-actual, n-decimal}
+use Rattle.grammar.specs.Grammar.{Class, opSymbol, relationSymbol, Item, Prod, begin-end, a-block, a-compound, a-tail, a-statement, no-statement, a-head, some-declarations, no-declaration, typed, untyped, variables, function, integer, boolean, real, a-procedure, a-heading, some-formals, no-formals, some-values, no-values, a-specification, no-specification, a-list, another, no-other, conditional, repeated, plain, then-for, then-plain, an-else, no-else, a-for, a-clause, for-list, another-element, no-element, an-element, once, while, by-steps, a-step, an-amount, dummy, compound, with-name, assignment, call, left, value, a-condition, simple, an-otherwise, chain, signed, again, no-more, a-not, no-not, a-relation, compare, no-comparison, number, decimal, true-value, false-value, a-name, in-parentheses, with, bare, an-actual, another-actual, no-actual, rhs, program}
 use Rattle.grammar.specs.Trees.{Syn, nil, tok, sub, yield}
 use Rattle.grammar.specs.declared.Entry.{Entry}
 use Rattle.grammar.specs.declared.Entry.the-variants.{Variable, Formal, Valued, Specified}
@@ -66,6 +66,7 @@ marks a-block = put (mark n-block before) (on (put (mark n-statements before) (o
 marks untyped = put (node n-type (lit 0) (lit 0) (lit 0)) (on (on end))
 marks integer = on (put (node n-type (lit 0) (lit 1) (lit 0)) end)
 marks boolean = on (put (node n-type (lit 0) (lit 2) (lit 0)) end)
+marks real = on (put (node n-type (lit 0) (lit 3) (lit 0)) end)
 marks a-procedure = on (put (mark n-body first) (on (put (mark n-procedure-end first) end)))
 marks a-heading = on (put (mark n-procedure last) (on (on (on (on end)))))
 marks (a-list e) = on (put (mark (entryNode e) last) (on end))
@@ -89,6 +90,7 @@ marks (again {l} o) = on (on (put (node n-binary first (lit (kind (opSymbol o)))
 marks a-not = on (on (put (node n-unary first (lit (kind Not)) (lit 0)) end))
 marks (compare r) = on (on (put (node n-binary first (lit (kind (relationSymbol r))) (lit 0)) end))
 marks number = on (put (mark n-number last) end)
+marks decimal = on (put (mark n-decimal last) end)
 marks true-value = on (put (node n-logical last (lit 1) (lit 0)) end)
 marks false-value = on (put (node n-logical last (lit 0) (lit 0)) end)
 marks (with u) = put (name-mark n-call last (useNumber u)) (on (on (on (on (put (node n-call-end before (lit 0) (lit (useNumber u))) end)))))

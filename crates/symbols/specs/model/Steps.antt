@@ -11,8 +11,8 @@ use lib.Dec.{ltb}
 use Rattle.answers.specs.Numbers.{noSymbol}
 use Rattle.answers.specs.Answers.{answer, refusal}
 use Rattle.answers.specs.declared.Refusal.{Refusal}
-use Rattle.symbols.specs.Names.{letters}
-use Rattle.symbols.specs.Scan.{gap, followed, lexeme, turn, Scan, scan}
+use Rattle.symbols.specs.Names.{digit, these, reach, letters, valueFrom}
+use Rattle.symbols.specs.Scan.{gap, followed, withPoint, lexeme, turn, Scan, scan}
 -- passed on: what the lent arrays hold is said by these
 pub use Rattle.symbols.specs.Scan.{kindsOf, placesOf, valuesOf}
 use Rattle.symbols.specs.declared.Symbol.{Symbol}
@@ -21,6 +21,7 @@ use Rattle.symbols.specs.declared.Lexeme.{Lexeme}
 use Rattle.symbols.specs.declared.Lexeme.the-variants.{Is, Nothing}
 use Rattle.symbols.specs.declared.Turn.{Turn}
 use Rattle.symbols.specs.declared.Turn.the-variants.{Pass, Keep, Refuse}
+use Rattle.symbols.specs.declared.lexemes.Digits.{Digits}
 use Rattle.symbols.specs.declared.Cursor.{Cursor}
 use Rattle.symbols.specs.declared.Step.{Step}
 use Rattle.symbols.specs.declared.Step.the-variants.{Read, Passed, Refused, End}
@@ -29,9 +30,22 @@ use Rattle.symbols.specs.declared.Scanned.the-variants.{Read as Symbols,
 
 -- ---- numbers, signs and names
 
--- a value is kept at one over the limit where it is over
+-- a value is kept at 10^15 where it is over: then it is over any limit
 unfoldable pub capped : ℕ → ℕ
-capped v = min v 2147483648
+capped v = min v 1000000000000000
+
+-- the digits from a place on, behind n digits that make v
+unfoldable pub digitsFrom : List ℕ → ℕ → ℕ → ℕ → Digits
+digitsFrom source from v n =
+    let bs = drop from source in
+    record { value = capped (valueFrom v (these digit bs)); count = n + length (these digit bs); end = from + reach digit bs }
+
+-- the number at a place, where a point stands behind its digits: what is read without the point is given
+unfoldable pub pointedAt : List ℕ → ℕ → Lexeme → Lexeme
+pointedAt source at plain =
+    let k = reach digit (drop at source) in
+    let rest = drop (at + k + 1) source in
+    withPoint plain (these digit (drop at source)) (these digit rest) (k + reach digit rest)
 
 -- a sign that may be joined with `=`
 unfoldable pub joinedOf : Symbol → Symbol → List ℕ → Lexeme

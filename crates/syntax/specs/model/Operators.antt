@@ -5,13 +5,13 @@ use Rattle.grammar.specs.model.Tables.{pick}
 use Rattle.grammar.specs.declared.Level.{Level}
 use Rattle.grammar.specs.declared.Level.the-variants.{Product, Sum, Conjunction, Disjunction, Implication, Equivalence}
 use Rattle.symbols.specs.Symbols.{kind}
-use Rattle.symbols.specs.declared.Symbol.the-variants.{Begin, And, Or, Impl, Equiv, Plus, Minus, Times, Divide, Less, LessEqual, Equal, GreaterEqual, Greater, NotEqual}
+use Rattle.symbols.specs.declared.Symbol.the-variants.{Begin, And, Or, Impl, Equiv, Plus, Minus, Times, Divide, Slash, Less, LessEqual, Equal, GreaterEqual, Greater, NotEqual}
 
 abbrev pub one : ℕ → ℕ → ℕ → ℕ
 one c k other = pick (eqb c k) k other
 
 unfoldable pub operatorOf : Level → ℕ → ℕ
-operatorOf Product c = one c (kind Times) (one c (kind Divide) (kind Begin))
+operatorOf Product c = one c (kind Times) (one c (kind Divide) (one c (kind Slash) (kind Begin)))
 operatorOf Sum c = one c (kind Plus) (one c (kind Minus) (kind Begin))
 operatorOf Conjunction c = one c (kind And) (kind Begin)
 operatorOf Disjunction c = one c (kind Or) (kind Begin)

@@ -53,4 +53,7 @@ decode-spec =
     (λ c. simp (c .match .keys38))
     (λ c. simp (c .match .keys39))
     (λ c. simp (c .match .keys40))
-    (λ c. sym (List·getD-eq-default (ordered (c .before .args .v)) Colon (above 40 (c .before .args .k) (c .match .rest)))))
+    (λ c. simp (c .match .keys41))
+    (λ c. simp (c .match .keys42))
+    (λ c. simp (c .match .keys43))
+    (λ c. sym (List·getD-eq-default (ordered (c .before .args .v)) Colon (above 43 (c .before .args .k) (c .match .rest)))))

@@ -28,13 +28,20 @@ returns-3 : tie.Need-returns-3
 unfolding lexemeAt lexeme
 returns-3 c = simp (lt-ltb _ _ (c .before .before .before .before .before .before .if1 .left), sym (c .before .before .before .before .is-letter .ensures) ∙ c .before .before .before .if2 .left, sym (c .before .before .is-digit .ensures) ∙ c .before .if3 .taken) (c .number .ensures)
 
+point-requires : tie.Need-point-requires
+point-requires c κs = (c .before .before .before .before .before .before .if1 .left, c .if4 .taken)
+
 returns-4 : tie.Need-returns-4
 unfolding lexemeAt lexeme
-returns-4 c = simp (lt-ltb _ _ (c .before .before .before .before .before .before .before .if1 .left), sym (c .before .before .before .before .before .is-letter .ensures) ∙ c .before .before .before .before .if2 .left, sym (c .before .before .before .is-digit .ensures) ∙ c .before .before .if3 .left, eq-eqb _ _ (c .before .if4 .taken)) (c .word .ensures)
+returns-4 c = simp (lt-ltb _ _ (c .before .before .before .before .before .before .before .if1 .left), sym (c .before .before .before .before .before .is-letter .ensures) ∙ c .before .before .before .before .if2 .left, sym (c .before .before .before .is-digit .ensures) ∙ c .before .before .if3 .left, eq-eqb _ _ (c .before .if4 .taken)) (c .point .ensures)
 
 returns-5 : tie.Need-returns-5
 unfolding lexemeAt lexeme
-returns-5 c = simp (lt-ltb _ _ (c .before .before .before .before .before .before .before .if1 .left), sym (c .before .before .before .before .before .is-letter .ensures) ∙ c .before .before .before .before .if2 .left, sym (c .before .before .before .is-digit .ensures) ∙ c .before .before .if3 .left, ne-eqb _ _ (c .before .if4 .left)) (c .sign .ensures)
+returns-5 c = simp (lt-ltb _ _ (c .before .before .before .before .before .before .before .before .if1 .left), sym (c .before .before .before .before .before .before .is-letter .ensures) ∙ c .before .before .before .before .before .if2 .left, sym (c .before .before .before .before .is-digit .ensures) ∙ c .before .before .before .if3 .left, ne-eqb _ _ (c .before .before .if4 .left), eq-eqb _ _ (c .before .if5 .taken)) (c .word .ensures)
+
+returns-6 : tie.Need-returns-6
+unfolding lexemeAt lexeme
+returns-6 c = simp (lt-ltb _ _ (c .before .before .before .before .before .before .before .before .if1 .left), sym (c .before .before .before .before .before .before .is-letter .ensures) ∙ c .before .before .before .before .before .if2 .left, sym (c .before .before .before .before .is-digit .ensures) ∙ c .before .before .before .if3 .left, ne-eqb _ _ (c .before .before .if4 .left), ne-eqb _ _ (c .before .if5 .left)) (c .sign .ensures)
 
 pub lexeme-spec : {M : Type 1} → statement M
 lexeme-spec =
@@ -48,7 +55,9 @@ lexeme-spec =
     (λ c κs. search needs)
     number-requires
     returns-3
-    (λ c κs. search needs)
+    point-requires
     returns-4
     (λ c κs. search needs)
-    returns-5)
+    returns-5
+    (λ c κs. search needs)
+    returns-6)

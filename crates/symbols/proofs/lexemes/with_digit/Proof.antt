@@ -26,4 +26,4 @@ returns-2 c =
     omega arith
 
 pub with-digit-spec : {M : Type 1} → statement M
-with-digit-spec = tie.close (tie.spec (λ c. search needs) sub-w (λ c. search needs) (λ c. search needs) (λ c. search needs) returns returns-2)
+with-digit-spec = tie.close (tie.spec (λ c. search needs) sub-w (λ c. search needs) (λ c. search needs) returns returns-2)

@@ -90,34 +90,39 @@ returns-17 : tie.Need-returns-17
 unfolding spelled
 returns-17 c = c .only16 .ensures ∙ sym (by-letter words _ 112 (c .before .before .match .keys11))
 
--- s
+-- r
 returns-18 : tie.Need-returns-18
 unfolding spelled
-returns-18 c = c .only17 .ensures ∙ sym (by-letter words _ 115 (c .before .before .match .keys12))
+returns-18 c = c .only17 .ensures ∙ sym (by-letter words _ 114 (c .before .before .match .keys12))
 
--- t
+-- s
 returns-19 : tie.Need-returns-19
 unfolding spelled
-returns-19 c = c .either .ensures ∙ sym (by-letter words _ 116 (c .before .before .before .match .keys13))
+returns-19 c = c .only18 .ensures ∙ sym (by-letter words _ 115 (c .before .before .match .keys13))
 
--- u
+-- t
 returns-20 : tie.Need-returns-20
 unfolding spelled
-returns-20 c = c .only18 .ensures ∙ sym (by-letter words _ 117 (c .before .before .match .keys14))
+returns-20 c = c .either .ensures ∙ sym (by-letter words _ 116 (c .before .before .before .match .keys14))
 
--- v
+-- u
 returns-21 : tie.Need-returns-21
 unfolding spelled
-returns-21 c = c .only19 .ensures ∙ sym (by-letter words _ 118 (c .before .before .match .keys15))
+returns-21 c = c .only19 .ensures ∙ sym (by-letter words _ 117 (c .before .before .match .keys15))
 
--- w
+-- v
 returns-22 : tie.Need-returns-22
 unfolding spelled
-returns-22 c = c .only20 .ensures ∙ sym (by-letter words _ 119 (c .before .before .match .keys16))
+returns-22 c = c .only20 .ensures ∙ sym (by-letter words _ 118 (c .before .before .match .keys16))
+
+-- w
+returns-23 : tie.Need-returns-23
+unfolding spelled
+returns-23 c = c .only21 .ensures ∙ sym (by-letter words _ 119 (c .before .before .match .keys17))
 
 -- any other byte
-returns-23 : tie.Need-returns-23
-returns-23 c = sym (elsewhere (bytes "wvutsponifedcBba") words _ refl (c .match .rest))
+returns-24 : tie.Need-returns-24
+returns-24 c = sym (elsewhere (bytes "wvutsrponifedcBba") words _ refl (c .match .rest))
 
 pub spelled-word-spec : {M : Type 1} → statement M
 spelled-word-spec =
@@ -125,6 +130,8 @@ spelled-word-spec =
     (tie.spec
     returns
     (λ c. search needs)
+    (λ c. search needs)
+    (λ c κs. search needs)
     (λ c. search needs)
     (λ c κs. search needs)
     (λ c. search needs)
@@ -189,4 +196,5 @@ spelled-word-spec =
     returns-20
     returns-21
     returns-22
-    returns-23)
+    returns-23
+    returns-24)

@@ -1130,8 +1130,8 @@ primary-put-requires t c κs =
     let i1 = inside _ _ (is-at ((c .before .before .before .peek) .result) ((c .before .before .before .peek) .ensures) (c .before .before .match .keys1)) (λ h. omega arith) in
     (omega arith, omega arith)
 
-primary-add-t18 : (t : ℕ) → primary-lts.Need-add-t18 (primary-calls t) (primary-at t) primary.Post
-primary-add-t18 t c =
+primary-add-t19 : (t : ℕ) → primary-lts.Need-add-t19 (primary-calls t) (primary-at t) primary.Post
+primary-add-t19 t c =
     let μ = (c .before .before .before .before .before .before .before .before .before .pre) .0 in let r = (c .before .before .before .before .before .before .before .before .before .pre) .1 in
     let i1 = inside _ _ (is-at ((c .before .before .before .before .before .before .peek) .result) ((c .before .before .before .before .before .before .peek) .ensures) (c .before .before .before .before .before .match .keys1)) (λ h. omega arith) in
     let p1 = (c .before .before .put) .ensures in let k1 = (c .before .before .put) .kept .0 in
@@ -1143,8 +1143,8 @@ primary-put-requires-2 t c κs =
     let i1 = inside _ _ (is-at ((c .before .before .before .peek) .result) ((c .before .before .before .peek) .ensures) (c .before .before .match .keys2)) (λ h. omega arith) in
     (omega arith, omega arith)
 
-primary-add-t21 : (t : ℕ) → primary-lts.Need-add-t21 (primary-calls t) (primary-at t) primary.Post
-primary-add-t21 t c =
+primary-add-t22 : (t : ℕ) → primary-lts.Need-add-t22 (primary-calls t) (primary-at t) primary.Post
+primary-add-t22 t c =
     let μ = (c .before .before .before .before .before .before .before .before .before .pre) .0 in let r = (c .before .before .before .before .before .before .before .before .before .pre) .1 in
     let i1 = inside _ _ (is-at ((c .before .before .before .before .before .before .peek) .result) ((c .before .before .before .before .before .before .peek) .ensures) (c .before .before .before .before .before .match .keys2)) (λ h. omega arith) in
     let p1 = (c .before .before .put2) .ensures in let k1 = (c .before .before .put2) .kept .0 in
@@ -1156,8 +1156,8 @@ primary-put-requires-3 t c κs =
     let i1 = inside _ _ (is-at ((c .before .before .before .peek) .result) ((c .before .before .before .peek) .ensures) (c .before .before .match .keys3)) (λ h. omega arith) in
     (omega arith, omega arith)
 
-primary-add-t24 : (t : ℕ) → primary-lts.Need-add-t24 (primary-calls t) (primary-at t) primary.Post
-primary-add-t24 t c =
+primary-add-t25 : (t : ℕ) → primary-lts.Need-add-t25 (primary-calls t) (primary-at t) primary.Post
+primary-add-t25 t c =
     let μ = (c .before .before .before .before .before .before .before .before .before .pre) .0 in let r = (c .before .before .before .before .before .before .before .before .before .pre) .1 in
     let i1 = inside _ _ (is-at ((c .before .before .before .before .before .before .peek) .result) ((c .before .before .before .before .before .before .peek) .ensures) (c .before .before .before .before .before .match .keys3)) (λ h. omega arith) in
     let p1 = (c .before .before .put3) .ensures in let k1 = (c .before .before .put3) .kept .0 in
@@ -1181,13 +1181,26 @@ primary-nested-requires t c κs =
     let i1 = inside _ _ (is-at ((c .before .before .before .peek) .result) ((c .before .before .before .peek) .ensures) (c .before .before .match .keys5)) (λ h. omega arith) in
     (omega arith, record { inside = omega arith; short = omega arith; size = omega arith; room = omega arith })
 
-primary-add-t34 : (t : ℕ) → primary-lts.Need-add-t34 (primary-calls t) (primary-at t) primary.Post
-primary-add-t34 t c =
+primary-add-t35 : (t : ℕ) → primary-lts.Need-add-t35 (primary-calls t) (primary-at t) primary.Post
+primary-add-t35 t c =
     let μ = (c .before .before .before .before .before .before .before .before .before .before .before .before .before .before .before .pre) .0 in let r = (c .before .before .before .before .before .before .before .before .before .before .before .before .before .before .before .pre) .1 in
     let i1 = inside _ _ (is-at ((c .before .before .before .before .before .before .before .before .before .before .before .before .peek) .result) ((c .before .before .before .before .before .before .before .before .before .before .before .before .peek) .ensures) (c .before .before .before .before .before .before .before .before .before .before .before .match .keys5)) (λ h. omega arith) in
     let l1 = (c .before .before .before .before .before .before .before .before .nested) .kept .1 .1 .1 .0 in
     let g1 = ((c .before .before .before .before .before .before .before .before .nested) .ensures []) .read _ _ ((c .before .before .before .before .one2) .given .1) in let s1 = space g1 in
     let i2 = inside _ _ (is-at ((c .before .before .peek2) .result) ((c .before .before .peek2) .ensures) (c .before .match3 .keys1)) (λ h. omega arith) in
+    omega arith
+
+primary-put-requires-4 : (t : ℕ) → primary-lts.Need-put-requires-4 (primary-calls t) (primary-at t) primary.Post
+primary-put-requires-4 t c κs =
+    let μ = (c .before .before .before .before .before .before .pre) .0 in let r = (c .before .before .before .before .before .before .pre) .1 in
+    let i1 = inside _ _ (is-at ((c .before .before .before .peek) .result) ((c .before .before .before .peek) .ensures) (c .before .before .match .keys6)) (λ h. omega arith) in
+    (omega arith, omega arith)
+
+primary-add-t39 : (t : ℕ) → primary-lts.Need-add-t39 (primary-calls t) (primary-at t) primary.Post
+primary-add-t39 t c =
+    let μ = (c .before .before .before .before .before .before .before .before .before .pre) .0 in let r = (c .before .before .before .before .before .before .before .before .before .pre) .1 in
+    let i1 = inside _ _ (is-at ((c .before .before .before .before .before .before .peek) .result) ((c .before .before .before .before .before .before .peek) .ensures) (c .before .before .before .before .before .match .keys6)) (λ h. omega arith) in
+    let p1 = (c .before .before .put4) .ensures in let k1 = (c .before .before .put4) .kept .0 in
     omega arith
 
 primary-same-length : (t : ℕ) → primary-lts.Need-same-length (primary-calls t) (primary-at t) primary.Post
@@ -1281,8 +1294,22 @@ primary-same-length-7 t c =
 primary-returns-7 : (t : ℕ) → primary-lts.Need-returns-7 (primary-calls t) (primary-at t) primary.Post
 primary-returns-7 t c = λ F. s-prod G.in-parentheses (ap (λ (z : ℕ). choose G.primary z 0) (is-at ((c .before .before .before .before .before .before .before .before .before .before .before .peek) .result) ((c .before .before .before .before .before .before .before .before .before .before .before .peek) .ensures) (c .before .before .before .before .before .before .before .before .before .before .match .keys5))) (s-sy (is-at ((c .before .before .before .before .before .before .before .before .before .before .before .peek) .result) ((c .before .before .before .before .before .before .before .before .before .before .before .peek) .ensures) (c .before .before .before .before .before .before .before .before .before .before .match .keys5)) (s-part _ (((c .before .before .before .before .before .before .before .nested) .ensures _) .read _ _ ((c .before .before .before .one2) .given .1)) (s-no (is-not ((c .before .peek2) .result) ((c .before .peek2) .ensures) (but (37 ∷ [])) 37 refl (c .match3 .keys2)))))
 
+primary-same-length-8 : (t : ℕ) → primary-lts.Need-same-length-8 (primary-calls t) (primary-at t) primary.Post
+primary-same-length-8 t c =
+    let μ = (c .before .before .before .before .before .before .before .before .before .pre) .0 in let r = (c .before .before .before .before .before .before .before .before .before .pre) .1 in
+    let i1 = inside _ _ (is-at ((c .before .before .before .before .before .before .peek) .result) ((c .before .before .before .before .before .before .peek) .ensures) (c .before .before .before .before .before .match .keys6)) (λ h. omega arith) in
+    let p1 = (c .before .before .put4) .ensures in let k1 = (c .before .before .put4) .kept .0 in
+    omega arith
+
 primary-returns-8 : (t : ℕ) → primary-lts.Need-returns-8 (primary-calls t) (primary-at t) primary.Post
-primary-returns-8 t c = λ F. s-none (C.else-primary (is-not ((c .before .peek) .result) ((c .before .peek) .ensures) (but (15 ∷ 16 ∷ 36 ∷ 38 ∷ 39 ∷ [])) 39 refl (c .match .keys6)) (is-not ((c .before .peek) .result) ((c .before .peek) .ensures) (but (15 ∷ 16 ∷ 36 ∷ 38 ∷ 39 ∷ [])) 15 refl (c .match .keys6)) (is-not ((c .before .peek) .result) ((c .before .peek) .ensures) (but (15 ∷ 16 ∷ 36 ∷ 38 ∷ 39 ∷ [])) 16 refl (c .match .keys6)) (is-not ((c .before .peek) .result) ((c .before .peek) .ensures) (but (15 ∷ 16 ∷ 36 ∷ 38 ∷ 39 ∷ [])) 38 refl (c .match .keys6)) (is-not ((c .before .peek) .result) ((c .before .peek) .ensures) (but (15 ∷ 16 ∷ 36 ∷ 38 ∷ 39 ∷ [])) 36 refl (c .match .keys6)))
+primary-returns-8 t c =
+    let μ = (c .before .before .before .before .before .before .before .before .before .pre) .0 in let r = (c .before .before .before .before .before .before .before .before .before .pre) .1 in
+    let i1 = inside _ _ (is-at ((c .before .before .before .before .before .before .peek) .result) ((c .before .before .before .before .before .before .peek) .ensures) (c .before .before .before .before .before .match .keys6)) (λ h. omega arith) in
+    let p1 = (c .before .before .put4) .ensures in let k1 = (c .before .before .put4) .kept .0 in
+    λ F. s-prod G.decimal (ap (λ (z : ℕ). choose G.primary z 0) (is-at ((c .before .before .before .before .before .before .peek) .result) ((c .before .before .before .before .before .before .peek) .ensures) (c .before .before .before .before .before .match .keys6))) (s-sy (is-at ((c .before .before .before .before .before .before .peek) .result) ((c .before .before .before .before .before .before .peek) .ensures) (c .before .before .before .before .before .match .keys6)) (s-put ((c .before .before .put4) .ensures) (omega arith) (omega arith) (omega arith) (s-end (omega arith))))
+
+primary-returns-9 : (t : ℕ) → primary-lts.Need-returns-9 (primary-calls t) (primary-at t) primary.Post
+primary-returns-9 t c = λ F. s-none (C.else-primary (is-not ((c .before .peek) .result) ((c .before .peek) .ensures) (but (15 ∷ 16 ∷ 36 ∷ 38 ∷ 39 ∷ 42 ∷ [])) 39 refl (c .match .keys7)) (is-not ((c .before .peek) .result) ((c .before .peek) .ensures) (but (15 ∷ 16 ∷ 36 ∷ 38 ∷ 39 ∷ 42 ∷ [])) 15 refl (c .match .keys7)) (is-not ((c .before .peek) .result) ((c .before .peek) .ensures) (but (15 ∷ 16 ∷ 36 ∷ 38 ∷ 39 ∷ 42 ∷ [])) 16 refl (c .match .keys7)) (is-not ((c .before .peek) .result) ((c .before .peek) .ensures) (but (15 ∷ 16 ∷ 36 ∷ 38 ∷ 39 ∷ 42 ∷ [])) 38 refl (c .match .keys7)) (is-not ((c .before .peek) .result) ((c .before .peek) .ensures) (but (15 ∷ 16 ∷ 36 ∷ 38 ∷ 39 ∷ 42 ∷ [])) 36 refl (c .match .keys7)) (is-not ((c .before .peek) .result) ((c .before .peek) .ensures) (but (15 ∷ 16 ∷ 36 ∷ 38 ∷ 39 ∷ 42 ∷ [])) 42 refl (c .match .keys7)))
 
 relation-sum-requires : (t : ℕ) → relation-lts.Need-sum-requires (relation-calls t) (relation-at t) relation.Post
 relation-sum-requires t c κs =
@@ -1634,13 +1661,13 @@ pub +actual+actuals+chain+comparison+condition+expression+further-actuals+more+n
     (λ c κs. search needs)
     (λ c. search needs)
     (primary-put-requires t)
-    (primary-add-t18 t)
+    (primary-add-t19 t)
     (λ c. search needs)
     (primary-put-requires-2 t)
-    (primary-add-t21 t)
+    (primary-add-t22 t)
     (λ c. search needs)
     (primary-put-requires-3 t)
-    (primary-add-t24 t)
+    (primary-add-t25 t)
     (λ c. search needs)
     (primary-actuals-requires t)
     (λ c. search needs)
@@ -1650,7 +1677,10 @@ pub +actual+actuals+chain+comparison+condition+expression+further-actuals+more+n
     (λ c. search needs)
     (λ c κs. search needs)
     (λ c. search needs)
-    (primary-add-t34 t)
+    (primary-add-t35 t)
+    (λ c. search needs)
+    (primary-put-requires-4 t)
+    (primary-add-t39 t)
     (primary-same-length t)
     (primary-returns t)
     (primary-same-length-2 t)
@@ -1665,7 +1695,9 @@ pub +actual+actuals+chain+comparison+condition+expression+further-actuals+more+n
     (primary-returns-6 t)
     (primary-same-length-7 t)
     (primary-returns-7 t)
-    (primary-returns-8 t))
+    (primary-same-length-8 t)
+    (primary-returns-8 t)
+    (primary-returns-9 t))
     (λ t. relation-lts.spec
     (relation-calls t)
     (relation-at t)

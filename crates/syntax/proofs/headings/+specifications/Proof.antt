@@ -51,14 +51,14 @@ specifications-type-symbol-requires : (t : ℕ) → specifications-lts.Need-type
 specifications-type-symbol-requires t c κs =
     let μ = (c .before .before .before .before .before .pre) .0 in
     let r = (c .before .before .before .before .before .pre) .1 in
-    let i1 = inside-in _ _ (11 ∷ 12 ∷ []) refl (is-in ((c .before .before .peek) .result) ((c .before .before .peek) .ensures) (11 ∷ 12 ∷ []) (c .before .match .keys1)) in
+    let i1 = inside-in _ _ (11 ∷ 12 ∷ 40 ∷ []) refl (is-in ((c .before .before .peek) .result) ((c .before .before .peek) .ensures) (11 ∷ 12 ∷ 40 ∷ []) (c .before .match .keys1)) in
     record { inside = omega arith; short = omega arith; size = omega arith; room = omega arith }
 
 specifications-list-requires : (t : ℕ) → specifications-lts.Need-list-requires (specifications-calls t) (specifications-at t) specifications.Post
 specifications-list-requires t c κs =
     let μ = (c .before .before .before .before .before .before .before .before .before .before .before .before .pre) .0 in
     let r = (c .before .before .before .before .before .before .before .before .before .before .before .before .pre) .1 in
-    let i1 = inside-in _ _ (11 ∷ 12 ∷ []) refl (is-in ((c .before .before .before .before .before .before .before .before .before .peek) .result) ((c .before .before .before .before .before .before .before .before .before .peek) .ensures) (11 ∷ 12 ∷ []) (c .before .before .before .before .before .before .before .before .match .keys1)) in
+    let i1 = inside-in _ _ (11 ∷ 12 ∷ 40 ∷ []) refl (is-in ((c .before .before .before .before .before .before .before .before .before .peek) .result) ((c .before .before .before .before .before .before .before .before .before .peek) .ensures) (11 ∷ 12 ∷ 40 ∷ []) (c .before .before .before .before .before .before .before .before .match .keys1)) in
     let l1 = (c .before .before .before .before .before .before .type-symbol) .kept .1 .1 .0 in
     let g1 = ((c .before .before .before .before .before .before .type-symbol) .ensures 0 []) .read _ _ ((c .before .before .one2) .given .1) in let s1 = space g1 in
     record { inside = omega arith; short = omega arith; size = omega arith; room = omega arith }
@@ -67,7 +67,7 @@ specifications-add-specifications : (t : ℕ) → specifications-lts.Need-add-sp
 specifications-add-specifications t c =
     let μ = (c .before .before .before .before .before .before .before .before .before .before .before .before .before .before .before .before .before .before .before .before .before .pre) .0 in
     let r = (c .before .before .before .before .before .before .before .before .before .before .before .before .before .before .before .before .before .before .before .before .before .pre) .1 in
-    let i1 = inside-in _ _ (11 ∷ 12 ∷ []) refl (is-in ((c .before .before .before .before .before .before .before .before .before .before .before .before .before .before .before .before .before .before .peek) .result) ((c .before .before .before .before .before .before .before .before .before .before .before .before .before .before .before .before .before .before .peek) .ensures) (11 ∷ 12 ∷ []) (c .before .before .before .before .before .before .before .before .before .before .before .before .before .before .before .before .before .match .keys1)) in
+    let i1 = inside-in _ _ (11 ∷ 12 ∷ 40 ∷ []) refl (is-in ((c .before .before .before .before .before .before .before .before .before .before .before .before .before .before .before .before .before .before .peek) .result) ((c .before .before .before .before .before .before .before .before .before .before .before .before .before .before .before .before .before .before .peek) .ensures) (11 ∷ 12 ∷ 40 ∷ []) (c .before .before .before .before .before .before .before .before .before .before .before .before .before .before .before .before .before .match .keys1)) in
     let l1 = (c .before .before .before .before .before .before .before .before .before .before .before .before .before .before .before .type-symbol) .kept .1 .1 .0 in
     let g1 = ((c .before .before .before .before .before .before .before .before .before .before .before .before .before .before .before .type-symbol) .ensures 0 []) .read _ _ ((c .before .before .before .before .before .before .before .before .before .before .before .one2) .given .1) in let s1 = space g1 in
     let l2 = (c .before .before .before .before .before .before .before .before .list) .kept .1 .1 .0 in
@@ -79,7 +79,7 @@ specifications-specifications-requires : (t : ℕ) → specifications-lts.Need-s
 specifications-specifications-requires t c κs =
     let μ = (c .before .before .before .before .before .before .before .before .before .before .before .before .before .before .before .before .before .before .before .before .before .before .pre) .0 in
     let r = (c .before .before .before .before .before .before .before .before .before .before .before .before .before .before .before .before .before .before .before .before .before .before .pre) .1 in
-    let i1 = inside-in _ _ (11 ∷ 12 ∷ []) refl (is-in ((c .before .before .before .before .before .before .before .before .before .before .before .before .before .before .before .before .before .before .before .peek) .result) ((c .before .before .before .before .before .before .before .before .before .before .before .before .before .before .before .before .before .before .before .peek) .ensures) (11 ∷ 12 ∷ []) (c .before .before .before .before .before .before .before .before .before .before .before .before .before .before .before .before .before .before .match .keys1)) in
+    let i1 = inside-in _ _ (11 ∷ 12 ∷ 40 ∷ []) refl (is-in ((c .before .before .before .before .before .before .before .before .before .before .before .before .before .before .before .before .before .before .before .peek) .result) ((c .before .before .before .before .before .before .before .before .before .before .before .before .before .before .before .before .before .before .before .peek) .ensures) (11 ∷ 12 ∷ 40 ∷ []) (c .before .before .before .before .before .before .before .before .before .before .before .before .before .before .before .before .before .before .match .keys1)) in
     let l1 = (c .before .before .before .before .before .before .before .before .before .before .before .before .before .before .before .before .type-symbol) .kept .1 .1 .0 in
     let g1 = ((c .before .before .before .before .before .before .before .before .before .before .before .before .before .before .before .before .type-symbol) .ensures 0 []) .read _ _ ((c .before .before .before .before .before .before .before .before .before .before .before .before .one2) .given .1) in let s1 = space g1 in
     let l2 = (c .before .before .before .before .before .before .before .before .before .list) .kept .1 .1 .0 in
@@ -91,31 +91,31 @@ specifications-same-length : (t : ℕ) → specifications-lts.Need-same-length (
 specifications-same-length t c =
     let μ = (c .before .before .before .before .before .before .before .before .before .before .before .pre) .0 in
     let r = (c .before .before .before .before .before .before .before .before .before .before .before .pre) .1 in
-    let i1 = inside-in _ _ (11 ∷ 12 ∷ []) refl (is-in ((c .before .before .before .before .before .before .before .before .peek) .result) ((c .before .before .before .before .before .before .before .before .peek) .ensures) (11 ∷ 12 ∷ []) (c .before .before .before .before .before .before .before .match .keys1)) in
+    let i1 = inside-in _ _ (11 ∷ 12 ∷ 40 ∷ []) refl (is-in ((c .before .before .before .before .before .before .before .before .peek) .result) ((c .before .before .before .before .before .before .before .before .peek) .ensures) (11 ∷ 12 ∷ 40 ∷ []) (c .before .before .before .before .before .before .before .match .keys1)) in
     let l1 = (c .before .before .before .before .before .type-symbol) .kept .1 .1 .0 in
     omega arith
 
 specifications-returns : (t : ℕ) → specifications-lts.Need-returns (specifications-calls t) (specifications-at t) specifications.Post
-specifications-returns t c = λ d F. s-prod G.a-specification (all-in (λ (z : ℕ). choose G.specifications z 0 ≡ some G.a-specification) (is-in ((c .before .before .before .before .before .before .before .before .peek) .result) ((c .before .before .before .before .before .before .before .before .peek) .ensures) (11 ∷ 12 ∷ []) (c .before .before .before .before .before .before .before .match .keys1)) (refl, (refl, tt))) (s-bad _ (((c .before .before .before .before .before .type-symbol) .ensures _ _) .refused _ _ ((c .before .one) .given .1)))
+specifications-returns t c = λ d F. s-prod G.a-specification (all-in (λ (z : ℕ). choose G.specifications z 0 ≡ some G.a-specification) (is-in ((c .before .before .before .before .before .before .before .before .peek) .result) ((c .before .before .before .before .before .before .before .before .peek) .ensures) (11 ∷ 12 ∷ 40 ∷ []) (c .before .before .before .before .before .before .before .match .keys1)) (refl, (refl, (refl, tt)))) (s-bad _ (((c .before .before .before .before .before .type-symbol) .ensures _ _) .refused _ _ ((c .before .one) .given .1)))
 
 specifications-same-length-2 : (t : ℕ) → specifications-lts.Need-same-length-2 (specifications-calls t) (specifications-at t) specifications.Post
 specifications-same-length-2 t c =
     let μ = (c .before .before .before .before .before .before .before .before .before .before .before .before .before .before .before .before .before .before .pre) .0 in
     let r = (c .before .before .before .before .before .before .before .before .before .before .before .before .before .before .before .before .before .before .pre) .1 in
-    let i1 = inside-in _ _ (11 ∷ 12 ∷ []) refl (is-in ((c .before .before .before .before .before .before .before .before .before .before .before .before .before .before .before .peek) .result) ((c .before .before .before .before .before .before .before .before .before .before .before .before .before .before .before .peek) .ensures) (11 ∷ 12 ∷ []) (c .before .before .before .before .before .before .before .before .before .before .before .before .before .before .match .keys1)) in
+    let i1 = inside-in _ _ (11 ∷ 12 ∷ 40 ∷ []) refl (is-in ((c .before .before .before .before .before .before .before .before .before .before .before .before .before .before .before .peek) .result) ((c .before .before .before .before .before .before .before .before .before .before .before .before .before .before .before .peek) .ensures) (11 ∷ 12 ∷ 40 ∷ []) (c .before .before .before .before .before .before .before .before .before .before .before .before .before .before .match .keys1)) in
     let l1 = (c .before .before .before .before .before .before .before .before .before .before .before .before .type-symbol) .kept .1 .1 .0 in
     let g1 = ((c .before .before .before .before .before .before .before .before .before .before .before .before .type-symbol) .ensures 0 []) .read _ _ ((c .before .before .before .before .before .before .before .before .one2) .given .1) in let s1 = space g1 in
     let l2 = (c .before .before .before .before .before .list) .kept .1 .1 .0 in
     omega arith
 
 specifications-returns-2 : (t : ℕ) → specifications-lts.Need-returns-2 (specifications-calls t) (specifications-at t) specifications.Post
-specifications-returns-2 t c = λ d F. s-prod G.a-specification (all-in (λ (z : ℕ). choose G.specifications z 0 ≡ some G.a-specification) (is-in ((c .before .before .before .before .before .before .before .before .before .before .before .before .before .before .before .peek) .result) ((c .before .before .before .before .before .before .before .before .before .before .before .before .before .before .before .peek) .ensures) (11 ∷ 12 ∷ []) (c .before .before .before .before .before .before .before .before .before .before .before .before .before .before .match .keys1)) (refl, (refl, tt))) (s-part _ (((c .before .before .before .before .before .before .before .before .before .before .before .before .type-symbol) .ensures _ _) .read _ _ ((c .before .before .before .before .before .before .before .before .one2) .given .1)) (s-bad _ (((c .before .before .before .before .before .list) .ensures _ _) .refused _ _ ((c .before .two) .given .1))))
+specifications-returns-2 t c = λ d F. s-prod G.a-specification (all-in (λ (z : ℕ). choose G.specifications z 0 ≡ some G.a-specification) (is-in ((c .before .before .before .before .before .before .before .before .before .before .before .before .before .before .before .peek) .result) ((c .before .before .before .before .before .before .before .before .before .before .before .before .before .before .before .peek) .ensures) (11 ∷ 12 ∷ 40 ∷ []) (c .before .before .before .before .before .before .before .before .before .before .before .before .before .before .match .keys1)) (refl, (refl, (refl, tt)))) (s-part _ (((c .before .before .before .before .before .before .before .before .before .before .before .before .type-symbol) .ensures _ _) .read _ _ ((c .before .before .before .before .before .before .before .before .one2) .given .1)) (s-bad _ (((c .before .before .before .before .before .list) .ensures _ _) .refused _ _ ((c .before .two) .given .1))))
 
 specifications-same-length-3 : (t : ℕ) → specifications-lts.Need-same-length-3 (specifications-calls t) (specifications-at t) specifications.Post
 specifications-same-length-3 t c =
     let μ = (c .before .before .before .before .before .before .before .before .before .before .before .before .before .before .before .before .before .before .before .before .before .before .before .before .before .pre) .0 in
     let r = (c .before .before .before .before .before .before .before .before .before .before .before .before .before .before .before .before .before .before .before .before .before .before .before .before .before .pre) .1 in
-    let i1 = inside-in _ _ (11 ∷ 12 ∷ []) refl (is-in ((c .before .before .before .before .before .before .before .before .before .before .before .before .before .before .before .before .before .before .before .before .before .before .peek) .result) ((c .before .before .before .before .before .before .before .before .before .before .before .before .before .before .before .before .before .before .before .before .before .before .peek) .ensures) (11 ∷ 12 ∷ []) (c .before .before .before .before .before .before .before .before .before .before .before .before .before .before .before .before .before .before .before .before .before .match .keys1)) in
+    let i1 = inside-in _ _ (11 ∷ 12 ∷ 40 ∷ []) refl (is-in ((c .before .before .before .before .before .before .before .before .before .before .before .before .before .before .before .before .before .before .before .before .before .before .peek) .result) ((c .before .before .before .before .before .before .before .before .before .before .before .before .before .before .before .before .before .before .before .before .before .before .peek) .ensures) (11 ∷ 12 ∷ 40 ∷ []) (c .before .before .before .before .before .before .before .before .before .before .before .before .before .before .before .before .before .before .before .before .before .match .keys1)) in
     let l1 = (c .before .before .before .before .before .before .before .before .before .before .before .before .before .before .before .before .before .before .before .type-symbol) .kept .1 .1 .0 in
     let g1 = ((c .before .before .before .before .before .before .before .before .before .before .before .before .before .before .before .before .before .before .before .type-symbol) .ensures 0 []) .read _ _ ((c .before .before .before .before .before .before .before .before .before .before .before .before .before .before .before .one2) .given .1) in let s1 = space g1 in
     let l2 = (c .before .before .before .before .before .before .before .before .before .before .before .before .list) .kept .1 .1 .0 in
@@ -125,13 +125,13 @@ specifications-same-length-3 t c =
     omega arith
 
 specifications-returns-3 : (t : ℕ) → specifications-lts.Need-returns-3 (specifications-calls t) (specifications-at t) specifications.Post
-specifications-returns-3 t c = λ d F. s-prod G.a-specification (all-in (λ (z : ℕ). choose G.specifications z 0 ≡ some G.a-specification) (is-in ((c .before .before .before .before .before .before .before .before .before .before .before .before .before .before .before .before .before .before .before .before .before .before .peek) .result) ((c .before .before .before .before .before .before .before .before .before .before .before .before .before .before .before .before .before .before .before .before .before .before .peek) .ensures) (11 ∷ 12 ∷ []) (c .before .before .before .before .before .before .before .before .before .before .before .before .before .before .before .before .before .before .before .before .before .match .keys1)) (refl, (refl, tt))) (s-part _ (((c .before .before .before .before .before .before .before .before .before .before .before .before .before .before .before .before .before .before .before .type-symbol) .ensures _ _) .read _ _ ((c .before .before .before .before .before .before .before .before .before .before .before .before .before .before .before .one2) .given .1)) (s-part _ (((c .before .before .before .before .before .before .before .before .before .before .before .before .list) .ensures _ _) .read _ _ ((c .before .before .before .before .before .before .before .before .two2) .given .1)) (s-sy (is-at ((c .before .before .before .before .before .before .peek2) .result) ((c .before .before .before .before .before .before .peek2) .ensures) (c .before .before .before .before .before .match4 .keys1)) (s-last ((c .before .before .specifications) .ensures _ _)))))
+specifications-returns-3 t c = λ d F. s-prod G.a-specification (all-in (λ (z : ℕ). choose G.specifications z 0 ≡ some G.a-specification) (is-in ((c .before .before .before .before .before .before .before .before .before .before .before .before .before .before .before .before .before .before .before .before .before .before .peek) .result) ((c .before .before .before .before .before .before .before .before .before .before .before .before .before .before .before .before .before .before .before .before .before .before .peek) .ensures) (11 ∷ 12 ∷ 40 ∷ []) (c .before .before .before .before .before .before .before .before .before .before .before .before .before .before .before .before .before .before .before .before .before .match .keys1)) (refl, (refl, (refl, tt)))) (s-part _ (((c .before .before .before .before .before .before .before .before .before .before .before .before .before .before .before .before .before .before .before .type-symbol) .ensures _ _) .read _ _ ((c .before .before .before .before .before .before .before .before .before .before .before .before .before .before .before .one2) .given .1)) (s-part _ (((c .before .before .before .before .before .before .before .before .before .before .before .before .list) .ensures _ _) .read _ _ ((c .before .before .before .before .before .before .before .before .two2) .given .1)) (s-sy (is-at ((c .before .before .before .before .before .before .peek2) .result) ((c .before .before .before .before .before .before .peek2) .ensures) (c .before .before .before .before .before .match4 .keys1)) (s-last ((c .before .before .specifications) .ensures _ _)))))
 
 specifications-same-length-4 : (t : ℕ) → specifications-lts.Need-same-length-4 (specifications-calls t) (specifications-at t) specifications.Post
 specifications-same-length-4 t c =
     let μ = (c .before .before .before .before .before .before .before .before .before .before .before .before .before .before .before .before .before .before .before .before .pre) .0 in
     let r = (c .before .before .before .before .before .before .before .before .before .before .before .before .before .before .before .before .before .before .before .before .pre) .1 in
-    let i1 = inside-in _ _ (11 ∷ 12 ∷ []) refl (is-in ((c .before .before .before .before .before .before .before .before .before .before .before .before .before .before .before .before .before .peek) .result) ((c .before .before .before .before .before .before .before .before .before .before .before .before .before .before .before .before .before .peek) .ensures) (11 ∷ 12 ∷ []) (c .before .before .before .before .before .before .before .before .before .before .before .before .before .before .before .before .match .keys1)) in
+    let i1 = inside-in _ _ (11 ∷ 12 ∷ 40 ∷ []) refl (is-in ((c .before .before .before .before .before .before .before .before .before .before .before .before .before .before .before .before .before .peek) .result) ((c .before .before .before .before .before .before .before .before .before .before .before .before .before .before .before .before .before .peek) .ensures) (11 ∷ 12 ∷ 40 ∷ []) (c .before .before .before .before .before .before .before .before .before .before .before .before .before .before .before .before .match .keys1)) in
     let l1 = (c .before .before .before .before .before .before .before .before .before .before .before .before .before .before .type-symbol) .kept .1 .1 .0 in
     let g1 = ((c .before .before .before .before .before .before .before .before .before .before .before .before .before .before .type-symbol) .ensures 0 []) .read _ _ ((c .before .before .before .before .before .before .before .before .before .before .one2) .given .1) in let s1 = space g1 in
     let l2 = (c .before .before .before .before .before .before .before .list) .kept .1 .1 .0 in
@@ -139,13 +139,13 @@ specifications-same-length-4 t c =
     omega arith
 
 specifications-returns-4 : (t : ℕ) → specifications-lts.Need-returns-4 (specifications-calls t) (specifications-at t) specifications.Post
-specifications-returns-4 t c = λ d F. s-prod G.a-specification (all-in (λ (z : ℕ). choose G.specifications z 0 ≡ some G.a-specification) (is-in ((c .before .before .before .before .before .before .before .before .before .before .before .before .before .before .before .before .before .peek) .result) ((c .before .before .before .before .before .before .before .before .before .before .before .before .before .before .before .before .before .peek) .ensures) (11 ∷ 12 ∷ []) (c .before .before .before .before .before .before .before .before .before .before .before .before .before .before .before .before .match .keys1)) (refl, (refl, tt))) (s-part _ (((c .before .before .before .before .before .before .before .before .before .before .before .before .before .before .type-symbol) .ensures _ _) .read _ _ ((c .before .before .before .before .before .before .before .before .before .before .one2) .given .1)) (s-part _ (((c .before .before .before .before .before .before .before .list) .ensures _ _) .read _ _ ((c .before .before .before .two2) .given .1)) (s-no (is-not ((c .before .peek2) .result) ((c .before .peek2) .ensures) (but (35 ∷ [])) 35 refl (c .match4 .keys2)))))
+specifications-returns-4 t c = λ d F. s-prod G.a-specification (all-in (λ (z : ℕ). choose G.specifications z 0 ≡ some G.a-specification) (is-in ((c .before .before .before .before .before .before .before .before .before .before .before .before .before .before .before .before .before .peek) .result) ((c .before .before .before .before .before .before .before .before .before .before .before .before .before .before .before .before .before .peek) .ensures) (11 ∷ 12 ∷ 40 ∷ []) (c .before .before .before .before .before .before .before .before .before .before .before .before .before .before .before .before .match .keys1)) (refl, (refl, (refl, tt)))) (s-part _ (((c .before .before .before .before .before .before .before .before .before .before .before .before .before .before .type-symbol) .ensures _ _) .read _ _ ((c .before .before .before .before .before .before .before .before .before .before .one2) .given .1)) (s-part _ (((c .before .before .before .before .before .before .before .list) .ensures _ _) .read _ _ ((c .before .before .before .two2) .given .1)) (s-no (is-not ((c .before .peek2) .result) ((c .before .peek2) .ensures) (but (35 ∷ [])) 35 refl (c .match4 .keys2)))))
 
 specifications-returns-5 : (t : ℕ) → specifications-lts.Need-returns-5 (specifications-calls t) (specifications-at t) specifications.Post
 specifications-returns-5 t c =
     let μ = (c .before .before .before .before .pre) .0 in
     let r = (c .before .before .before .before .pre) .1 in
-    λ d F. s-prod G.no-specification (C.else-specifications (is-not ((c .before .peek) .result) ((c .before .peek) .ensures) (but (11 ∷ 12 ∷ [])) 11 refl (c .match .keys2)) (is-not ((c .before .peek) .result) ((c .before .peek) .ensures) (but (11 ∷ 12 ∷ [])) 12 refl (c .match .keys2))) (s-end (omega arith))
+    λ d F. s-prod G.no-specification (C.else-specifications (is-not ((c .before .peek) .result) ((c .before .peek) .ensures) (but (11 ∷ 12 ∷ 40 ∷ [])) 11 refl (c .match .keys2)) (is-not ((c .before .peek) .result) ((c .before .peek) .ensures) (but (11 ∷ 12 ∷ 40 ∷ [])) 12 refl (c .match .keys2)) (is-not ((c .before .peek) .result) ((c .before .peek) .ensures) (but (11 ∷ 12 ∷ 40 ∷ [])) 40 refl (c .match .keys2))) (s-end (omega arith))
 
 pub +specifications-spec : {M : Type 1} → statement M
 +specifications-spec = close μ-specifications λ t. specifications-lts.spec (specifications-calls t)

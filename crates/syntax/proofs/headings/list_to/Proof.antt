@@ -3,7 +3,7 @@ use mathlib.Core.Path.{_≡_, sym, ap, _∙_}
 use native.Mathlib.Omega.{arith}
 use Rattle.symbols.specs.declared.kinds.Stored.{Stored}
 use Rattle.grammar.proofs.Peeks.{inside}
-use Rattle.syntax.proofs.Lemmas.{space, s-end, s-sy, s-no, s-part, s-bad}
+use Rattle.syntax.proofs.Lemmas.{s-end, s-sy, s-no, s-part, s-bad}
 use borrow.Author.Needs.{needs}
 use Rattle.syntax.proofs.headings.list_to.Statement.{statement}
 use Rattle.syntax.proofs.headings.list_to.Tie as tie

@@ -18,8 +18,8 @@ put-requires c κs =
     let i1 = inside _ _ (is-at ((c .before .before .before .peek) .result) ((c .before .before .before .peek) .ensures) (c .before .before .match .keys1)) (λ h. omega arith) in
     (omega arith, omega arith)
 
-add-t11 : tie.Need-add-t11
-add-t11 c =
+add-t12 : tie.Need-add-t12
+add-t12 c =
     let r = (c .before .before .before .before .before .before .before .before .before .pre) in
     let i1 = inside _ _ (is-at ((c .before .before .before .before .before .before .peek) .result) ((c .before .before .before .before .before .before .peek) .ensures) (c .before .before .before .before .before .match .keys1)) (λ h. omega arith) in
     let p1 = (c .before .before .put) .ensures in let k1 = (c .before .before .put) .kept .0 in
@@ -31,11 +31,24 @@ put-requires-2 c κs =
     let i1 = inside _ _ (is-at ((c .before .before .before .peek) .result) ((c .before .before .before .peek) .ensures) (c .before .before .match .keys2)) (λ h. omega arith) in
     (omega arith, omega arith)
 
-add-t14 : tie.Need-add-t14
-add-t14 c =
+add-t15 : tie.Need-add-t15
+add-t15 c =
     let r = (c .before .before .before .before .before .before .before .before .before .pre) in
     let i1 = inside _ _ (is-at ((c .before .before .before .before .before .before .peek) .result) ((c .before .before .before .before .before .before .peek) .ensures) (c .before .before .before .before .before .match .keys2)) (λ h. omega arith) in
     let p1 = (c .before .before .put2) .ensures in let k1 = (c .before .before .put2) .kept .0 in
+    omega arith
+
+put-requires-3 : tie.Need-put-requires-3
+put-requires-3 c κs =
+    let r = (c .before .before .before .before .before .before .pre) in
+    let i1 = inside _ _ (is-at ((c .before .before .before .peek) .result) ((c .before .before .before .peek) .ensures) (c .before .before .match .keys3)) (λ h. omega arith) in
+    (omega arith, omega arith)
+
+add-t18 : tie.Need-add-t18
+add-t18 c =
+    let r = (c .before .before .before .before .before .before .before .before .before .pre) in
+    let i1 = inside _ _ (is-at ((c .before .before .before .before .before .before .peek) .result) ((c .before .before .before .before .before .before .peek) .ensures) (c .before .before .before .before .before .match .keys3)) (λ h. omega arith) in
+    let p1 = (c .before .before .put3) .ensures in let k1 = (c .before .before .put3) .kept .0 in
     omega arith
 
 same-length : tie.Need-same-length
@@ -66,8 +79,22 @@ returns-2 c =
     let p1 = (c .before .before .put2) .ensures in let k1 = (c .before .before .put2) .kept .0 in
     λ d F. s-prod G.boolean (ap (λ (z : ℕ). choose G.type z 0) (is-at ((c .before .before .before .before .before .before .peek) .result) ((c .before .before .before .before .before .before .peek) .ensures) (c .before .before .before .before .before .match .keys2))) (s-sy (is-at ((c .before .before .before .before .before .before .peek) .result) ((c .before .before .before .before .before .before .peek) .ensures) (c .before .before .before .before .before .match .keys2)) (s-put ((c .before .before .put2) .ensures) (omega arith) (omega arith) (omega arith) (s-end (omega arith))))
 
+same-length-3 : tie.Need-same-length-3
+same-length-3 c =
+    let r = (c .before .before .before .before .before .before .before .before .before .pre) in
+    let i1 = inside _ _ (is-at ((c .before .before .before .before .before .before .peek) .result) ((c .before .before .before .before .before .before .peek) .ensures) (c .before .before .before .before .before .match .keys3)) (λ h. omega arith) in
+    let p1 = (c .before .before .put3) .ensures in let k1 = (c .before .before .put3) .kept .0 in
+    omega arith
+
 returns-3 : tie.Need-returns-3
-returns-3 c = λ d F. s-none (C.else-type (is-not ((c .before .peek) .result) ((c .before .peek) .ensures) (but (11 ∷ 12 ∷ [])) 11 refl (c .match .keys3)) (is-not ((c .before .peek) .result) ((c .before .peek) .ensures) (but (11 ∷ 12 ∷ [])) 12 refl (c .match .keys3)))
+returns-3 c =
+    let r = (c .before .before .before .before .before .before .before .before .before .pre) in
+    let i1 = inside _ _ (is-at ((c .before .before .before .before .before .before .peek) .result) ((c .before .before .before .before .before .before .peek) .ensures) (c .before .before .before .before .before .match .keys3)) (λ h. omega arith) in
+    let p1 = (c .before .before .put3) .ensures in let k1 = (c .before .before .put3) .kept .0 in
+    λ d F. s-prod G.real (ap (λ (z : ℕ). choose G.type z 0) (is-at ((c .before .before .before .before .before .before .peek) .result) ((c .before .before .before .before .before .before .peek) .ensures) (c .before .before .before .before .before .match .keys3))) (s-sy (is-at ((c .before .before .before .before .before .before .peek) .result) ((c .before .before .before .before .before .before .peek) .ensures) (c .before .before .before .before .before .match .keys3)) (s-put ((c .before .before .put3) .ensures) (omega arith) (omega arith) (omega arith) (s-end (omega arith))))
+
+returns-4 : tie.Need-returns-4
+returns-4 c = λ d F. s-none (C.else-type (is-not ((c .before .peek) .result) ((c .before .peek) .ensures) (but (11 ∷ 12 ∷ 40 ∷ [])) 11 refl (c .match .keys4)) (is-not ((c .before .peek) .result) ((c .before .peek) .ensures) (but (11 ∷ 12 ∷ 40 ∷ [])) 12 refl (c .match .keys4)) (is-not ((c .before .peek) .result) ((c .before .peek) .ensures) (but (11 ∷ 12 ∷ 40 ∷ [])) 40 refl (c .match .keys4)))
 
 pub type-symbol-spec : {M : Type 1} → statement M
 type-symbol-spec =
@@ -76,12 +103,17 @@ type-symbol-spec =
     (λ c κs. search needs)
     (λ c. search needs)
     put-requires
-    add-t11
+    add-t12
     (λ c. search needs)
     put-requires-2
-    add-t14
+    add-t15
+    (λ c. search needs)
+    put-requires-3
+    add-t18
     same-length
     returns
     same-length-2
     returns-2
-    returns-3)
+    same-length-3
+    returns-3
+    returns-4)

@@ -9,10 +9,10 @@ use Rattle.syntax.proofs.limits.expression.Statement.{statement}
 use Rattle.syntax.proofs.limits.expression.Tie as tie
 
 returns : tie.Need-returns
-returns c = λ F. limits (rd-six (is-in ((c .before .peek) .result) ((c .before .peek) .ensures) (2 ∷ 15 ∷ 16 ∷ 19 ∷ 22 ∷ 23 ∷ 36 ∷ 38 ∷ 39 ∷ []) ((c .match) .keys1)))
+returns c = λ F. limits (rd-six (is-in ((c .before .peek) .result) ((c .before .peek) .ensures) (2 ∷ 15 ∷ 16 ∷ 19 ∷ 22 ∷ 23 ∷ 36 ∷ 38 ∷ 39 ∷ 42 ∷ []) ((c .match) .keys1)))
 
 returns-2 : tie.Need-returns-2
-returns-2 c = λ F. limits (rd-five (is-none ((c .before .peek) .result) ((c .before .peek) .ensures) (but (2 ∷ 15 ∷ 16 ∷ 19 ∷ 22 ∷ 23 ∷ 36 ∷ 38 ∷ 39 ∷ [])) (2 ∷ 15 ∷ 16 ∷ 19 ∷ 22 ∷ 23 ∷ 36 ∷ 38 ∷ 39 ∷ []) refl ((c .match) .keys2)))
+returns-2 c = λ F. limits (rd-five (is-none ((c .before .peek) .result) ((c .before .peek) .ensures) (but (2 ∷ 15 ∷ 16 ∷ 19 ∷ 22 ∷ 23 ∷ 36 ∷ 38 ∷ 39 ∷ 42 ∷ [])) (2 ∷ 15 ∷ 16 ∷ 19 ∷ 22 ∷ 23 ∷ 36 ∷ 38 ∷ 39 ∷ 42 ∷ []) refl ((c .match) .keys2)))
 
 pub expression-spec : {M : Type 1} → statement M
 expression-spec = tie.close (tie.spec (λ c κs. search needs) returns returns-2)
