@@ -6,8 +6,8 @@ use mathlib.Core.List.{List, [], _∷_, _++_, append-nil, append-assoc}
 use mathlib.Core.Option.{Option, none, some}
 use native.Mathlib.Omega.{arith}
 use lib.ListN.{length}
-use Rattle.grammar.specs.Grammar.{Op, times, over, plus, minus, and, or, implies, equals, Relation, less, lessEqual, equal, greaterEqual, greater, notEqual, Class, block, inner, head, tail, declarations, declaration, declared, type, procedure, heading, formals, values, specifications, list, others, statements, statement, consequence, alternative, repetition, for-clause, elements, further, element, progress, stepping, amount, unconditional, named, right, expression, otherwise, level, more, negation, relation, comparison, primary, actuals, actual, further-actuals, operand, Item, sy, rd, rhs, program, opSymbol, relationSymbol}
-use Rattle.grammar.specs.Grammar.{Prod, begin-end, a-block, a-compound, a-tail, a-head, some-declarations, no-declaration, typed, untyped, variables, function, integer, boolean, a-procedure, a-heading, some-formals, no-formals, some-values, no-values, a-specification, no-specification, a-list, another, no-other, a-statement, no-statement, conditional, repeated, plain, then-for, then-plain, an-else, no-else, a-for, a-clause, for-list, another-element, no-element, an-element, once, while, by-steps, a-step, an-amount, dummy, compound, with-name, assignment, call, left, value, a-condition, simple, an-otherwise, chain, signed, again, no-more, a-not, no-not, a-relation, compare, no-comparison, number, true-value, false-value, a-name, in-parentheses, with, bare, an-actual, another-actual, no-actual}
+use Rattle.grammar.specs.Grammar.{Op, times, over, divide, plus, minus, and, or, implies, equals, Relation, less, lessEqual, equal, greaterEqual, greater, notEqual, Class, block, inner, head, tail, declarations, declaration, declared, type, procedure, heading, formals, values, specifications, list, others, statements, statement, consequence, alternative, repetition, for-clause, elements, further, element, progress, stepping, amount, unconditional, named, right, expression, otherwise, level, more, negation, relation, comparison, primary, actuals, actual, further-actuals, operand, Item, sy, rd, program, opSymbol, relationSymbol}
+use Rattle.grammar.specs.Grammar.{Prod, begin-end, a-block, a-compound, a-tail, a-head, some-declarations, no-declaration, typed, untyped, variables, function, integer, boolean, real, a-procedure, a-heading, some-formals, no-formals, some-values, no-values, a-specification, no-specification, a-list, another, no-other, a-statement, no-statement, conditional, repeated, plain, then-for, then-plain, an-else, no-else, a-for, a-clause, for-list, another-element, no-element, an-element, once, while, by-steps, a-step, an-amount, dummy, compound, with-name, assignment, call, left, value, a-condition, simple, an-otherwise, chain, signed, again, no-more, a-not, no-not, a-relation, compare, no-comparison, number, decimal, true-value, false-value, a-name, in-parentheses, with, bare, an-actual, another-actual, no-actual}
 use Rattle.grammar.specs.Trees.{Syn, nil, tok, sub, yield}
 use Rattle.grammar.specs.model.Marked.{entryNode, useNumber, Marks, end, on, put, unmarked, marks, nodeWords, below, before-item, behind-item, allWords, nodes, nodesOf}
 use Rattle.grammar.specs.NodeKinds.{n-block, n-statements, n-block-end, n-type, n-procedure, n-formal, n-value, n-body, n-procedure-end, n-then, n-if-end, n-for, n-start, n-for-end, n-left, n-call, n-call-end, n-actual}
@@ -131,6 +131,7 @@ module _ (worth : ℕ → ℕ) (letters : ℕ → List ℕ) where
   op-kind : {l : Level} (o : Op l) → Rattle.symbols.specs.Symbols.kind (opSymbol o) ≡ operatorKind (operatorOf o)
   op-kind times = refl
   op-kind over = refl
+  op-kind divide = refl
   op-kind plus = refl
   op-kind minus = refl
   op-kind and = refl
@@ -213,6 +214,10 @@ module _ (worth : ℕ → ℕ) (letters : ℕ → List ℕ) where
   f-number : Fits number
   unfolding build nodesE firstSymbol
   f-number d i = (rw (back i), refl)
+
+  f-decimal : Fits decimal
+  unfolding build nodesE firstSymbol
+  f-decimal d i = (rw (back i), refl)
 
   f-true : Fits true-value
   unfolding build nodesE firstSymbol
@@ -462,6 +467,10 @@ module _ (worth : ℕ → ℕ) (letters : ℕ → List ℕ) where
   unfolding build
   f-boolean d i = refl
 
+  f-real : Fits real
+  unfolding build
+  f-real d i = refl
+
   f-a-procedure : Fits a-procedure
   unfolding build
   f-a-procedure d i f w m h s w' m' k t = h t s ∙ rw k (simp append-assoc)
@@ -529,6 +538,7 @@ module _ (worth : ℕ → ℕ) (letters : ℕ → List ℕ) where
   fits function = f-function
   fits integer = f-integer
   fits boolean = f-boolean
+  fits real = f-real
   fits a-procedure = f-a-procedure
   fits a-heading = f-a-heading
   fits some-formals = f-some-formals
@@ -580,6 +590,7 @@ module _ (worth : ℕ → ℕ) (letters : ℕ → List ℕ) where
   fits (compare r) = f-compare r
   fits no-comparison = f-no-comparison
   fits number = f-number
+  fits decimal = f-decimal
   fits true-value = f-true
   fits false-value = f-false
   fits a-name = f-a-name

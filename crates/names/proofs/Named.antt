@@ -7,7 +7,7 @@ use mathlib.Core.Option.{Option, none, some}
 use native.Mathlib.Omega.{arith}
 use lib.ListN.{length, length-append}
 use Rattle.grammar.specs.Grammar.{Class, block, inner, head, tail, declarations, declaration, declared, type, procedure, heading, formals, values, specifications, list, others, statements, statement, consequence, alternative, repetition, for-clause, elements, further, element, progress, stepping, amount, unconditional, named as behind-name, right, expression, otherwise, level, more, negation, relation, comparison, primary, actuals, actual, further-actuals, operand, Item, sy, rd, rhs, program}
-use Rattle.grammar.specs.Grammar.{Prod, begin-end, a-block, a-compound, a-tail, a-head, some-declarations, no-declaration, typed, untyped, variables, function, integer, boolean, a-procedure, a-heading, some-formals, no-formals, some-values, no-values, a-specification, no-specification, a-list, another, no-other, a-statement, no-statement, conditional, repeated, plain, then-for, then-plain, an-else, no-else, a-for, a-clause, for-list, another-element, no-element, an-element, once, while, by-steps, a-step, an-amount, dummy, compound, with-name, assignment, call, left, value, a-condition, simple, an-otherwise, chain, signed, again, no-more, a-not, no-not, a-relation, compare, no-comparison, number, true-value, false-value, a-name, in-parentheses, with, bare, an-actual, another-actual, no-actual}
+use Rattle.grammar.specs.Grammar.{Prod, begin-end, a-block, a-compound, a-tail, a-head, some-declarations, no-declaration, typed, untyped, variables, function, integer, boolean, real, a-procedure, a-heading, some-formals, no-formals, some-values, no-values, a-specification, no-specification, a-list, another, no-other, a-statement, no-statement, conditional, repeated, plain, then-for, then-plain, an-else, no-else, a-for, a-clause, for-list, another-element, no-element, an-element, once, while, by-steps, a-step, an-amount, dummy, compound, with-name, assignment, call, left, value, a-condition, simple, an-otherwise, chain, signed, again, no-more, a-not, no-not, a-relation, compare, no-comparison, number, decimal, true-value, false-value, a-name, in-parentheses, with, bare, an-actual, another-actual, no-actual}
 use Rattle.grammar.specs.Trees.{Syn, nil, tok, sub, yield}
 use Rattle.grammar.specs.declared.Level.{Level}
 use Rattle.grammar.specs.declared.Level.the-variants.{Product, Sum, Conjunction, Disjunction, Implication, Equivalence}
@@ -118,6 +118,7 @@ module _ (worth : ℕ → ℕ) (letters : ℕ → List ℕ) (Q : Name → Type 0
   keeps function = λ i q f m h t ds l. (h (some t), l)
   keeps integer = λ i q. tt
   keeps boolean = λ i q. tt
+  keeps real = λ i q. tt
   keeps a-procedure = λ i f m h s m' k t. h t s k
   keeps a-heading = λ i x xs m h q vs m' k ss m'' l t s r. (x, h, k, l, r)
   keeps some-formals = λ i q xs m h r. h
@@ -169,6 +170,7 @@ module _ (worth : ℕ → ℕ) (letters : ℕ → List ℕ) (Q : Name → Type 0
   keeps (compare r) = λ i q f m h e k. (k, h)
   keeps no-comparison = λ i e h. h
   keeps number = λ i q. tt
+  keeps decimal = λ i q. tt
   keeps true-value = λ i q. tt
   keeps false-value = λ i q. tt
   keeps a-name = λ i x es m h. all-applied (nameAt worth letters i) es x h

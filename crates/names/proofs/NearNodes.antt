@@ -6,7 +6,7 @@ use native.Mathlib.Omega.{arith}
 use mathlib.Core.List.{List, [], _∷_, _++_}
 use lib.ListN.{length, length-append}
 use Rattle.grammar.specs.Grammar.{Class, Item, program}
-use Rattle.grammar.specs.Grammar.{Prod, begin-end, a-block, a-compound, a-tail, a-head, some-declarations, no-declaration, typed, untyped, variables, function, integer, boolean, a-procedure, a-heading, some-formals, no-formals, some-values, no-values, a-specification, no-specification, a-list, another, no-other, a-statement, no-statement, conditional, repeated, plain, then-for, then-plain, an-else, no-else, a-for, a-clause, for-list, another-element, no-element, an-element, once, while, by-steps, a-step, an-amount, dummy, compound, with-name, assignment, call, left, value, a-condition, simple, an-otherwise, chain, signed, again, no-more, a-not, no-not, a-relation, compare, no-comparison, number, true-value, false-value, a-name, in-parentheses, with, bare, an-actual, another-actual, no-actual}
+use Rattle.grammar.specs.Grammar.{Prod, begin-end, a-block, a-compound, a-tail, a-head, some-declarations, no-declaration, typed, untyped, variables, function, integer, boolean, real, a-procedure, a-heading, some-formals, no-formals, some-values, no-values, a-specification, no-specification, a-list, another, no-other, a-statement, no-statement, conditional, repeated, plain, then-for, then-plain, an-else, no-else, a-for, a-clause, for-list, another-element, no-element, an-element, once, while, by-steps, a-step, an-amount, dummy, compound, with-name, assignment, call, left, value, a-condition, simple, an-otherwise, chain, signed, again, no-more, a-not, no-not, a-relation, compare, no-comparison, number, decimal, true-value, false-value, a-name, in-parentheses, with, bare, an-actual, another-actual, no-actual}
 use Rattle.grammar.specs.Trees.{Syn, nil, tok, sub, yield}
 use Rattle.grammar.specs.model.Marked.{Word, lit, last, first, before, depth, Marks, end, on, put, unmarked, marks, word, below, before-item, behind-item, allWords, nodes, nodesOf}
 use Rattle.names.proofs.Fours.{Fours, none, one, fours-append}
@@ -44,6 +44,7 @@ numbered variables = tt
 numbered function = tt
 numbered integer = (tt, tt)
 numbered boolean = (tt, tt)
+numbered real = (tt, tt)
 numbered a-procedure = (tt, (tt, tt))
 numbered a-heading = (tt, tt)
 numbered some-formals = tt
@@ -95,6 +96,7 @@ numbered a-relation = tt
 numbered (compare r) = (tt, tt)
 numbered no-comparison = tt
 numbered number = (tt, tt)
+numbered decimal = (tt, tt)
 numbered true-value = (tt, tt)
 numbered false-value = (tt, tt)
 numbered a-name = tt

@@ -1,11 +1,12 @@
--- What is read off a tree looks at letters at names alone and at values at numbers alone: where these agree, the program is the same.
+-- What is read off a tree looks at letters at names alone and at values at numbers alone, with a point or without: where these agree, the program is the same.
 -- Assumes nothing.
 use mathlib.Core.Path.{_≡_, refl, ap, subst, _∙_}
 use mathlib.Core.List.{List, [], _∷_, _++_}
 use Prim.Native.Nat.{ℕ, _+_}
 use lib.ListN.{length}
+use Rattle.symbols.specs.model.Kinds.{unpacked}
 use Rattle.grammar.specs.Grammar.{and, Class, head, heading, values, Item, rhs, program}
-use Rattle.grammar.specs.Grammar.{Prod, begin-end, a-block, a-compound, a-tail, a-head, some-declarations, no-declaration, typed, untyped, variables, function, integer, boolean, a-procedure, a-heading, some-formals, no-formals, some-values, no-values, a-specification, no-specification, a-list, another, no-other, a-statement, no-statement, conditional, repeated, plain, then-for, then-plain, an-else, no-else, a-for, a-clause, for-list, another-element, no-element, an-element, once, while, by-steps, a-step, an-amount, dummy, compound, with-name, assignment, call, left, value, a-condition, simple, an-otherwise, chain, signed, again, no-more, a-not, no-not, a-relation, compare, no-comparison, number, true-value, false-value, a-name, in-parentheses, with, bare, an-actual, another-actual, no-actual}
+use Rattle.grammar.specs.Grammar.{Prod, begin-end, a-block, a-compound, a-tail, a-head, some-declarations, no-declaration, typed, untyped, variables, function, integer, boolean, real, a-procedure, a-heading, some-formals, no-formals, some-values, no-values, a-specification, no-specification, a-list, another, no-other, a-statement, no-statement, conditional, repeated, plain, then-for, then-plain, an-else, no-else, a-for, a-clause, for-list, another-element, no-element, an-element, once, while, by-steps, a-step, an-amount, dummy, compound, with-name, assignment, call, left, value, a-condition, simple, an-otherwise, chain, signed, again, no-more, a-not, no-not, a-relation, compare, no-comparison, number, decimal, true-value, false-value, a-name, in-parentheses, with, bare, an-actual, another-actual, no-actual}
 use Rattle.grammar.specs.Trees.{Syn, nil, tok, sub, yield}
 use Rattle.grammar.proofs.Sets.{Spells, head as spells-head, rest as spells-rest, spells-left, spells-right}
 use Rattle.names.specs.Program as P
@@ -26,13 +27,15 @@ agree-refl R (sub p t s) i f = λ x. agree-refl R s (i + length (yield t)) (f x)
 agree-path : {is : List Item} (R : Type 0) (s : Syn is) (i : ℕ) (f f' : Makes is R) → f ≡ f' → Agree R s i f f'
 agree-path R s i f f' e = subst (λ h. Agree R s i f h) e (agree-refl R s i f)
 
-module _ (w w' : ℕ → ℕ) (l l' : ℕ → List ℕ) (g : ℕ → ℕ) (hw : (j : ℕ) → g j ≡ 39 → w j ≡ w' j) (hl : (j : ℕ) → g j ≡ 38 → l j ≡ l' j) where
+module _ (w w' : ℕ → ℕ) (l l' : ℕ → List ℕ) (g : ℕ → ℕ) (hw : (j : ℕ) → g j ≡ 39 → w j ≡ w' j) (hd : (j : ℕ) → g j ≡ 42 → w j ≡ w' j) (hl : (j : ℕ) → g j ≡ 38 → l j ≡ l' j) where
   at-name : (i : ℕ) → g i ≡ 38 → nameAt w l i ≡ nameAt w' l' i
   at-name i e = ap (λ (m : List ℕ). record { symbol = i; letters = m }) (hl i e)
 
   built : {X : Class} (p : Prod X) (t : Syn (rhs p)) (i : ℕ) → Spells g i (yield t) → Agree (Sem X) t i (build w l p) (build w' l' p)
   unfolding build yield
   built number (tok s) i sp = agree-path _ s (i + 1) _ _ (ap (P.number i) (hw i (spells-head sp)))
+  built decimal (tok s) i sp =
+      agree-path _ s (i + 1) _ _ (ap (λ (v : ℕ). let u = unpacked v in P.decimal i (u .digits) (u .behind)) (hd i (spells-head sp)))
   built a-heading (tok s) i sp = agree-path _ s (i + 1) _ _ (ap (λ n. λ xs q vs ss t s. P.heading t n xs vs ss s) (at-name i (spells-head sp)))
   built (a-list e) (tok s) i sp = agree-path _ s (i + 1) _ _ (ap (λ n. λ xs. n ∷ xs) (at-name i (spells-head sp)))
   built a-clause (tok (tok s)) i sp = agree-path _ s (i + 1 + 1) _ _ (ap (λ n. λ l s. l n s) (at-name (i + 1) (spells-head (spells-rest sp))))
@@ -54,6 +57,7 @@ module _ (w w' : ℕ → ℕ) (l l' : ℕ → List ℕ) (g : ℕ → ℕ) (hw : 
   built function t i sp = agree-refl _ t i _
   built integer t i sp = agree-refl _ t i _
   built boolean t i sp = agree-refl _ t i _
+  built real t i sp = agree-refl _ t i _
   built a-procedure t i sp = agree-refl _ t i _
   built some-formals t i sp = agree-refl _ t i _
   built no-formals t i sp = agree-refl _ t i _

@@ -11,7 +11,7 @@ ghost use lib.ListN.{length};
 ghost use Rattle.symbols.specs.Names.{lettersAt};
 ghost use Rattle.names.specs.model.Identity.{givenOf, StandsFor, Standing, Identified};
 
-// The environment's number of the name at a place, or 4.
+// The environment's number of the name at a place, or 5.
 fn given(source: &[u8], place: Place) -> u16
     ensures { λ r. ⌜ r ≡ givenOf (lettersAt (now (source .entry)) (place .at)) ⌝ }
 {
@@ -27,7 +27,10 @@ fn given(source: &[u8], place: Place) -> u16
     if spells(source, place, b"outinteger") {
         return Environment::OUTINTEGER.number;
     }
-    4
+    if spells(source, place, b"outreal") {
+        return Environment::OUTREAL.number;
+    }
+    5
 }
 
 // The identity of a symbol, where those before it have theirs: that of the first one with the same letters.
@@ -37,7 +40,7 @@ fn identity(source: &[u8], places: &[usize; 2048], ids: &[u16], symbol: Ordinal)
 {
     let i = symbol.number as usize;
     let g = given(source, Place { at: places[i] });
-    if g < 4 {
+    if g < 5 {
         return OUTSIDE + g;
     }
     let mut j = 0;

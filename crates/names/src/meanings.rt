@@ -1,4 +1,4 @@
-// What a name means as one number: a declaration's, behind all of them the environment's four, behind those nothing.
+// What a name means as one number: a declaration's, behind all of them the environment's five, behind those nothing.
 use crate::Meant;
 use answers::Declaration;
 use answers::Environment;
@@ -8,7 +8,7 @@ ghost use Rattle.names.specs.declared.Meant.the-variants.{Declared, Give
 
 pub const GIVEN: u16 = 8192;
 
-pub const NOTHING: u16 = 8196;
+pub const NOTHING: u16 = 8197;
 
 // The number of a declaration; one too large is kept as nothing.
 fn declared(d: Declaration) -> u16
@@ -26,7 +26,7 @@ fn given(e: Environment) -> u16
     ensures { λ r. ⌜ r ≡ meantNumber (Given e) ⌝ }
 {
     let n = e.number;
-    if n < 4 {
+    if n < 5 {
         return GIVEN + n;
     }
     NOTHING

@@ -28,7 +28,7 @@ fn outside(id: u16) -> Meant
     if id < OUTSIDE {
         return Meant::Nothing;
     }
-    if OUTSIDE + 3 < id {
+    if OUTSIDE + 4 < id {
         return Meant::Nothing;
     }
     Meant::Given(Environment {

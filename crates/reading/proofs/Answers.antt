@@ -239,10 +239,10 @@ pub onward : {source : List ℕ} {P Q : Sizes → Type 0} {r : Found} → Tells 
 onward (told s h) f = told s (f s h)
 onward (refused r j) f = refused r j
 
-pub symbols-first : {source kinds places values nodes rows uses : List ℕ} {n : ℕ} → take n kinds ≡ kindsIn source → take n values ≡ valuesOf (scan symbols source .found) → (s : Sizes)
-    → Declared source places nodes rows uses n s → Holds source kinds places values nodes rows uses s
-symbols-first {source} {kinds} {places} {values} {nodes} {rows} {uses} {n} k v s h = record {
-  declared = subst (λ k. Declared source places nodes rows uses k s) (sym (h .resolved .count)) h;
+pub symbols-first : {source kinds places values nodes rows uses was marks : List ℕ} {n : ℕ} → take n kinds ≡ kindsIn source → take n values ≡ valuesOf (scan symbols source .found) → (s : Sizes)
+    → Declared source places nodes rows uses was marks n s → Holds source kinds places values nodes rows uses was marks s
+symbols-first {source} {kinds} {places} {values} {nodes} {rows} {uses} {was} {marks} {n} k v s h = record {
+  declared = subst (λ k. Declared source places nodes rows uses was marks k s) (sym (h .resolved .count)) h;
   kinded = ap (λ n. take n kinds) (h .resolved .count) ∙ k;
   valued = ap (λ k. take k values) (h .resolved .count) ∙ v;
 }

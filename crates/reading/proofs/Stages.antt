@@ -18,7 +18,7 @@ use Rattle.symbols.specs.model.Kinds.{symbolOf}
 use Rattle.symbols.specs.Scan.{Found, Scan, scan, kindsOf, placesOf, valuesOf}
 use Rattle.symbols.specs.model.Steps.{answerOf, over, Filled}
 use Rattle.symbols.specs.declared.Symbol.{Symbol}
-use Rattle.symbols.specs.declared.Symbol.the-variants.{Begin, End, If, Then, Else, For, Do, Step, Until, While, Comment, Integer, Boolean, Procedure, Value, True, False, And, Or, Not, Impl, Equiv, Plus, Minus, Times, Divide, Less, LessEqual, Equal, GreaterEqual, Greater, NotEqual, Comma, Colon, Becomes, Semicolon, Open, Close, Name, Number}
+use Rattle.symbols.specs.declared.Symbol.the-variants.{Begin, End, If, Then, Else, For, Do, Step, Until, While, Comment, Integer, Boolean, Procedure, Value, True, False, And, Or, Not, Impl, Equiv, Plus, Minus, Times, Divide, Less, LessEqual, Equal, GreaterEqual, Greater, NotEqual, Comma, Colon, Becomes, Semicolon, Open, Close, Name, Number, Real, Slash, Decimal}
 use Rattle.symbols.specs.declared.Scanned.{Scanned as Told}
 use Rattle.symbols.specs.declared.Scanned.the-variants.{Read as Symbols-read, Refused as Symbols-refused}
 use Rattle.grammar.specs.model.Text.{text}
@@ -77,6 +77,9 @@ same-kind Open = refl
 same-kind Close = refl
 same-kind Name = refl
 same-kind (Number v) = refl
+same-kind Real = refl
+same-kind Slash = refl
+same-kind (Decimal v) = refl
 
 pub text-is : (l : List Found) → text (kindsOf l) ≡ kindsOf l
 unfolding text

@@ -22,6 +22,7 @@ ghost use Prim.Native.Nat.{ℕ, _*_, _<_, min};
 ghost use lib.ListN.{take};
 ghost use Rattle.answers.specs.Answers.{refusal};
 ghost use Rattle.names.specs.model.Rows.{faultOf, noFault, outlineOf};
+ghost use Rattle.types.specs.model.Passes.{marksOf};
 ghost use Rattle.reading.specs.Reading.{placeIn};
 ghost use Rattle.reading.specs.model.Stages.{Placed, Symbols, Ready, Known, Outlined, Named, Typed, Tells, Resolved, Declared, Finds};
 
@@ -68,11 +69,13 @@ fn typed(
     declared: usize,
     uses: &[u16; 8192],
     used: usize,
+    marks: &mut [u16; 2048],
 ) -> Verdict
     requires { ⌜ Placed (now source) (now places) count ⌝ }
     ensures { λ r. ⌜ ((ids : List ℕ) (m : Named (now (source .entry)) (now (places .entry)) (take words (now (nodes .entry))) ids (take (4 * declared) (now (rows .entry))) (take used (now (uses .entry))) count) → Typed m r) ⌝ }
+    ensures { λ _. ⌜ now (marks .exit) ≡ marksOf (take (4 * declared) (now (rows .entry))) (take used (now (uses .entry))) (take words (now (nodes .entry))) (now (marks .entry)) ⌝ }
 {
-    let fault = check(nodes, words, uses, used, rows, declared);
+    let fault = check(nodes, words, uses, used, rows, declared, marks);
     if fault < faults::NONE {
         return Verdict::Refused(refused(fault, source, places, count));
     }
@@ -91,9 +94,10 @@ fn resolved(
     declared: usize,
     least: usize,
     uses: &mut [u16; 8192],
+    marks: &mut [u16; 2048],
 ) -> Found
     requires { ⌜ Outlined (now source) (now places) (take words (now nodes)) (now ids) (take (4 * declared) (now rows)) count × (least ≡ outlineOf (now ids) (take words (now nodes)) .least) ⌝ }
-    ensures { λ r. ⌜ Tells (now (source .entry)) (Resolved (now (source .entry)) (now (places .entry)) (now (nodes .entry)) (now (ids .entry)) (now (rows .entry)) (now (uses .exit)) count) r ⌝ }
+    ensures { λ r. ⌜ Tells (now (source .entry)) (Resolved (now (source .entry)) (now (places .entry)) (now (nodes .entry)) (now (ids .entry)) (now (rows .entry)) (now (uses .exit)) (now (marks .entry)) (now (marks .exit)) count) r ⌝ }
 {
     let u = resolve(nodes, words, rows, declared, ids, uses);
     let fault = lesser(least, u.least);
@@ -111,6 +115,7 @@ fn resolved(
         declared,
         uses,
         used,
+        marks,
     ) {
         Verdict::Accepted => Found::Program(Sizes {
             symbols: count,
@@ -132,9 +137,10 @@ fn declared(
     ids: &[u16; 2048],
     rows: &mut [u16; 32768],
     uses: &mut [u16; 8192],
+    marks: &mut [u16; 2048],
 ) -> Found
     requires { ⌜ Known (now source) (now places) (take words (now nodes)) (now ids) count ⌝ }
-    ensures { λ r. ⌜ Tells (now (source .entry)) (Resolved (now (source .entry)) (now (places .entry)) (now (nodes .entry)) (now (ids .entry)) (now (rows .exit)) (now (uses .exit)) count) r ⌝ }
+    ensures { λ r. ⌜ Tells (now (source .entry)) (Resolved (now (source .entry)) (now (places .entry)) (now (nodes .entry)) (now (ids .entry)) (now (rows .exit)) (now (uses .exit)) (now (marks .entry)) (now (marks .exit)) count) r ⌝ }
 {
     let o = outline(nodes, words, ids, rows);
     resolved(
@@ -148,6 +154,7 @@ fn declared(
         o.count,
         o.least,
         uses,
+        marks,
     )
 }
 
@@ -160,13 +167,14 @@ fn named(
     words: usize,
     rows: &mut [u16; 32768],
     uses: &mut [u16; 8192],
+    marks: &mut [u16; 2048],
 ) -> Found
     requires { ⌜ Ready (now source) (now places) (take words (now nodes)) count ⌝ }
-    ensures { λ r. ⌜ Tells (now (source .entry)) (Declared (now (source .entry)) (now (places .entry)) (now (nodes .entry)) (now (rows .exit)) (now (uses .exit)) count) r ⌝ }
+    ensures { λ r. ⌜ Tells (now (source .entry)) (Declared (now (source .entry)) (now (places .entry)) (now (nodes .entry)) (now (rows .exit)) (now (uses .exit)) (now (marks .entry)) (now (marks .exit)) count) r ⌝ }
 {
     let mut ids = [0u16; 2048];
     identify(source, places, count, &mut ids);
-    declared(source, places, count, nodes, words, &ids, rows, uses)
+    declared(source, places, count, nodes, words, &ids, rows, uses, marks)
 }
 
 // The symbols of a source: 5 or 6, or on.
@@ -178,12 +186,22 @@ fn parsed(
     nodes: &mut [u16; 32768],
     rows: &mut [u16; 32768],
     uses: &mut [u16; 8192],
+    marks: &mut [u16; 2048],
 ) -> Found
     requires { ⌜ Symbols (now source) (now kinds) (now places) count ⌝ }
-    ensures { λ r. ⌜ Tells (now (source .entry)) (Declared (now (source .entry)) (now (places .entry)) (now (nodes .exit)) (now (rows .exit)) (now (uses .exit)) count) r ⌝ }
+    ensures { λ r. ⌜ Tells (now (source .entry)) (Declared (now (source .entry)) (now (places .entry)) (now (nodes .exit)) (now (rows .exit)) (now (uses .exit)) (now (marks .entry)) (now (marks .exit)) count) r ⌝ }
 {
     match parse(kinds, count, nodes) {
-        Parsed::Read { next: _, used } => named(source, places, count, nodes, used, rows, uses),
+        Parsed::Read { next: _, used } => named(
+            source,
+            places,
+            count,
+            nodes,
+            used,
+            rows,
+            uses,
+            marks,
+        ),
         Parsed::Refused { answer, at } => {
             let symbol = Ordinal { number: at as u16 };
             let place = place_at(source, places, count, symbol);
@@ -192,23 +210,25 @@ fn parsed(
     }
 }
 
-// What a source holds, for any bytes: 2 to 10, or its symbols' kinds, places and values, its nodes, its rows, and what each use means.
+// What a source holds, for any bytes: 2 to 10, or its symbols' kinds, places and values, its nodes, its rows, what each use means,
+// and the marks of its conditional expressions.
 pub fn find(
     source: &[u8],
     kinds: &mut [u8; 2048],
     places: &mut [usize; 2048],
-    values: &mut [u32; 2048],
+    values: &mut [u64; 2048],
     nodes: &mut [u16; 32768],
     rows: &mut [u16; 32768],
     uses: &mut [u16; 8192],
+    marks: &mut [u16; 2048],
 ) -> Found
-    ensures { λ r. ⌜ Finds (now (source .entry)) (now (kinds .exit)) (now (places .exit)) (now (values .exit)) (now (nodes .exit)) (now (rows .exit)) (now (uses .exit)) r ⌝ }
+    ensures { λ r. ⌜ Finds (now (source .entry)) (now (kinds .exit)) (now (places .exit)) (now (values .exit)) (now (nodes .exit)) (now (rows .exit)) (now (uses .exit)) (now (marks .entry)) (now (marks .exit)) r ⌝ }
 {
     if 16384 < source.len() {
         return Found::Refused(Refusal::new(Answer::LONG, 16384));
     }
     match scan(source, 2048, kinds, places, values) {
-        Scanned::Read(n) => parsed(source, kinds, places, n, nodes, rows, uses),
+        Scanned::Read(n) => parsed(source, kinds, places, n, nodes, rows, uses, marks),
         Scanned::Refused(r) => Found::Refused(r),
     }
 }

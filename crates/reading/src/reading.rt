@@ -37,8 +37,8 @@ fn written(
     rows: &[u16; 32768],
     places: &[usize; 2048],
 )
-    requires { ⌜ ((source kinds values : List ℕ) × Holds source kinds (now places) values (now nodes) (now rows) (now uses) s) × (now words ≡ cleared) ⌝ }
-    ensures { λ _. ⌜ ((source kinds values : List ℕ) → Holds source kinds (now (places .entry)) values (now (nodes .entry)) (now (rows .entry)) (now (uses .entry)) s → Judged source Accepted (now (words .exit))) ⌝ }
+    requires { ⌜ ((source kinds values was marks : List ℕ) × Holds source kinds (now places) values (now nodes) (now rows) (now uses) was marks s) × (now words ≡ cleared) ⌝ }
+    ensures { λ _. ⌜ ((source kinds values was marks : List ℕ) → Holds source kinds (now (places .entry)) values (now (nodes .entry)) (now (rows .entry)) (now (uses .entry)) was marks s → Judged source Accepted (now (words .exit))) ⌝ }
 {
     write(
         words,
@@ -56,10 +56,11 @@ fn judged(source: &[u8], words: &mut [u16]) -> Verdict
 {
     let mut kinds = [0u8; 2048];
     let mut places = [0usize; 2048];
-    let mut values = [0u32; 2048];
+    let mut values = [0u64; 2048];
     let mut nodes = [0u16; 32768];
     let mut rows = [0u16; 32768];
     let mut uses = [0u16; 8192];
+    let mut marks = [0u16; 2048];
     clear(words);
     match find(
         source,
@@ -69,6 +70,7 @@ fn judged(source: &[u8], words: &mut [u16]) -> Verdict
         &mut nodes,
         &mut rows,
         &mut uses,
+        &mut marks,
     ) {
         Found::Program(s) => {
             written(words, s, &nodes, &uses, &rows, &places);

@@ -7,12 +7,12 @@ use mathlib.Core.List.{List, [], _∷_, _++_, map, append-nil, append-assoc}
 use mathlib.Core.Option.{some}
 use native.Mathlib.Omega.{arith}
 use lib.ListN.{length, length-append}
-use Rattle.grammar.specs.NodeKinds.{n-block, n-statements, n-block-end, n-type, n-variable, n-procedure, n-formal, n-value, n-specified, n-body, n-procedure-end, n-then, n-else, n-if-end, n-for, n-start, n-once, n-while, n-step, n-amount, n-do, n-for-end, n-left, n-assign, n-condition-end, n-unary, n-binary, n-number, n-logical, n-use, n-call, n-call-end, n-actual}
+use Rattle.grammar.specs.NodeKinds.{n-block, n-statements, n-block-end, n-type, n-variable, n-procedure, n-formal, n-value, n-specified, n-body, n-procedure-end, n-then, n-else, n-if-end, n-for, n-start, n-once, n-while, n-step, n-amount, n-do, n-for-end, n-left, n-assign, n-condition-end, n-unary, n-binary, n-number, n-decimal, n-logical, n-use, n-call, n-call-end, n-actual}
 use Rattle.grammar.specs.Grammar.{program}
 use Rattle.grammar.specs.Trees.{Syn, yield}
 use Rattle.grammar.specs.model.Marked.{unmarked, nodesOf}
 use Rattle.grammar.proofs.Room.{count, table-fits}
-use Rattle.names.specs.Program.{Name, Expression, number, logical, name, call, signed, operated, chosen, nested, Expressions, done, then, Element, value, while, step, Specification, Statement, dummy, assignment, procedure, when, either, repeat, compound, block, Statements, last, first, Declarations, none as no-more, variables, declare, Procedure, heading, firstSymbol}
+use Rattle.names.specs.Program.{Name, Expression, number, decimal, logical, name, call, signed, operated, chosen, nested, Expressions, done, then, Element, value, while, step, Specification, Statement, dummy, assignment, procedure, when, either, repeat, compound, block, Statements, last, first, Declarations, none as no-more, variables, declare, Procedure, heading, firstSymbol}
 use Rattle.names.specs.ReadOff.{programOf}
 use Rattle.names.specs.Scopes.{Scope, ofBlock, ofBody, Meaning, declared, given, nothing, meaning}
 use Rattle.names.specs.Uses.{Use, used, usesE, usesEs, usesL, usesS, usesSs, usesD, usesP, joined, Row, rowIn, rowOf, useRows}
@@ -67,6 +67,7 @@ mutual
 
   toldE : (g : List Scope) (d : ℕ) (e : Expression) → Told [] (usesE g e) (nodesE d e)
   toldE g d (number q v) = still n-number q 0 0 refl refl
+  toldE g d (decimal q n k) = still n-decimal q 0 0 refl refl
   toldE g d (logical q b) = still n-logical q (truth b) 0 refl refl
   toldE g d (name x) = use-of n-use (x .symbol) d 0 (used g x) refl refl
   toldE g d (call x e es) =

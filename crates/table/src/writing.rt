@@ -108,9 +108,9 @@ fn is_use(kind: u16) -> bool
 
 // The meaning of use u; nothing where there is none.
 fn use_at(uses: &[u16], u: usize) -> u16
-    ensures { λ r. ⌜ r ≡ getD (now (uses .entry)) u 8196 ⌝ }
+    ensures { λ r. ⌜ r ≡ getD (now (uses .entry)) u 8197 ⌝ }
 {
-    if u < uses.len() { uses[u] } else { 8196 }
+    if u < uses.len() { uses[u] } else { 8197 }
 }
 
 // The uses among the nodes, from a place on; gives the place behind them.

@@ -1,13 +1,14 @@
 -- Paper 01, "Names and types": "Types are local: an operator, number, logical value or name gives its own type, and a conditional expression the
--- type of its 'then' part." The type faults of a program, each at a symbol.
+-- type of its 'then' part." Request 6: "Types in refusal 10 let integer and real mix where the Report does. Whatever paper 01 says of the 'then' part, a
+-- conditional expression with a real in either arm is real". The type faults of a program, each at a symbol.
 use Prim.Native.Nat.{ℕ, zero, suc}
-use mathlib.Core.Bool.{Bool, true, false, cond, not, _||_}
+use mathlib.Core.Bool.{Bool, true, false, cond, not, _||_, _&&_}
 use mathlib.Core.List.{List, [], _∷_, _++_, map}
 use mathlib.Core.Option.{Option, none, some}
 use lib.Dec.{eqb}
 use lib.ListN.{length}
 use Rattle.answers.specs.Numbers.{types}
-use Rattle.names.specs.Program.{Name, Sort, integer, boolean, Sign, positive, negative, negation, Operator, times, over, plus, minus, less, atMost, equal, atLeast, greater, unequal, and, or, impl, equiv, Expression, number, logical, name, call, signed, operated, chosen, nested, Expressions, done, then, count, Element, value, while, step, Statement, dummy, assignment, procedure, when, either, repeat, compound, block, Statements, last, first, Declarations, none as no-more, variables, declare, Procedure, heading, firstSymbol}
+use Rattle.names.specs.Program.{Name, Sort, integer, boolean, Sign, positive, negative, negation, Operator, times, over, plus, minus, less, atMost, equal, atLeast, greater, unequal, and, or, impl, equiv, Expression, number, logical, name, call, signed, operated, chosen, nested, Expressions, done, then, count, Element, value, while, step, Statement, dummy, assignment, procedure, when, either, repeat, compound, block, Statements, last, first, Declarations, none as no-more, variables, declare, Procedure, heading, firstSymbol, real, divide, decimal}
 use Rattle.names.specs.Scopes.{Thing, variable, routine, formal, by-name, nameOf, sortOf, formalsOf, specificationsOf, specified, Scope, ofBlock, ofBody, Wanted, an, variable-of, Meaning, declared, given, nothing, meaning}
 use Rattle.names.specs.Uses.{Fault, least}
 
@@ -16,13 +17,42 @@ use Rattle.names.specs.Uses.{Fault, least}
 abbrev pub alike : Sort → Sort → Bool
 alike integer integer = true
 alike integer boolean = false
+alike integer real = false
 alike boolean integer = false
 alike boolean boolean = true
+alike boolean real = false
+alike real integer = false
+alike real boolean = false
+alike real real = true
+
+-- "integer and real mix where the Report does"
+abbrev pub mixes : Sort → Sort → Bool
+mixes integer t = not (alike t boolean)
+mixes real t = not (alike t boolean)
+mixes boolean t = alike t boolean
+
+-- real where one of two is
+abbrev pub wider : Option Sort → Option Sort → Sort
+wider none none = integer
+wider none (some t) = cond (alike t real) real integer
+wider (some s) none = cond (alike s real) real integer
+wider (some s) (some t) = cond (alike s real || alike t real) real integer
+
+abbrev pub armed : Option Sort → Option Sort → Option Sort
+armed s none = s
+armed none (some t) = cond (alike t real) (some real) none
+armed (some s) (some t) = cond (alike t real) (some real) (some s)
 
 -- known, and another than this
 abbrev pub unlike : Option Sort → Sort → Bool
 unlike none t = false
-unlike (some s) t = not (alike s t)
+unlike (some s) t = not (mixes s t)
+
+-- both known, and not the same
+abbrev pub differ : Option Sort → Option Sort → Bool
+differ none t = false
+differ (some s) none = false
+differ (some s) (some t) = not (alike s t)
 
 -- both known, and different
 abbrev pub apart : Option Sort → Option Sort → Bool
@@ -86,11 +116,11 @@ wantedBy nothing = []
 
 -- "integer variable or formal", for the type given
 abbrev pub thingOf : Sort → Thing → Bool
-thingOf t (variable s) = alike s t
+thingOf t (variable s) = mixes s t
 thingOf t (formal none) = true
-thingOf t (formal (some s)) = alike s t
+thingOf t (formal (some s)) = mixes s t
 thingOf t (by-name none) = true
-thingOf t (by-name (some s)) = alike s t
+thingOf t (by-name (some s)) = mixes s t
 thingOf t (routine p) = false
 
 unfoldable pub isVariable : Sort → Meaning → Bool
@@ -101,6 +131,7 @@ isVariable t nothing = true
 -- "The second actual of ininteger is an integer variable or formal alone."
 unfoldable pub isName : List Scope → Sort → Expression → Bool
 isName g t (number q v) = false
+isName g t (decimal q v i) = false
 isName g t (logical q b) = false
 isName g t (name x) = isVariable t (meaning g x)
 isName g t (call x e es) = false
@@ -116,41 +147,75 @@ signTakes positive = integer
 signTakes negative = integer
 signTakes negation = boolean
 
--- what an operator takes and gives: arithmetic integers, a relation takes integers and gives a Boolean, the logical operators take and give Booleans
-abbrev pub sortsOf : Operator → Sort × Sort
-sortsOf times = (integer, integer)
-sortsOf over = (integer, integer)
-sortsOf plus = (integer, integer)
-sortsOf minus = (integer, integer)
-sortsOf less = (integer, boolean)
-sortsOf atMost = (integer, boolean)
-sortsOf equal = (integer, boolean)
-sortsOf atLeast = (integer, boolean)
-sortsOf greater = (integer, boolean)
-sortsOf unequal = (integer, boolean)
-sortsOf and = (boolean, boolean)
-sortsOf or = (boolean, boolean)
-sortsOf impl = (boolean, boolean)
-sortsOf equiv = (boolean, boolean)
+-- what an operator gives, its operands being of a type together: arithmetic a number, a relation and a logical operator a Boolean
+abbrev pub gives : Operator → Sort → Sort
+gives times t = t
+gives over t = integer
+gives divide t = real
+gives plus t = t
+gives minus t = t
+gives less t = boolean
+gives atMost t = boolean
+gives equal t = boolean
+gives atLeast t = boolean
+gives greater t = boolean
+gives unequal t = boolean
+gives and t = boolean
+gives or t = boolean
+gives impl t = boolean
+gives equiv t = boolean
 
-abbrev pub takes : Operator → Sort
-takes o = sortsOf o .0
+-- a sign gives its operand's type
+abbrev pub signGives : Sign → Option Sort → Sort
+signGives positive t = wider t none
+signGives negative t = wider t none
+signGives negation t = boolean
 
-abbrev pub gives : Operator → Sort
-gives o = sortsOf o .1
+-- `%` takes integers alone
+abbrev pub unfit : Operator → Option Sort → Bool
+unfit times t = unlike t integer
+unfit over t = differ t (some integer)
+unfit divide t = unlike t integer
+unfit plus t = unlike t integer
+unfit minus t = unlike t integer
+unfit less t = unlike t integer
+unfit atMost t = unlike t integer
+unfit equal t = unlike t integer
+unfit atLeast t = unlike t integer
+unfit greater t = unlike t integer
+unfit unequal t = unlike t integer
+unfit and t = unlike t boolean
+unfit or t = unlike t boolean
+unfit impl t = unlike t boolean
+unfit equiv t = unlike t boolean
 
 -- ---- expressions
 
 -- g: the scopes around
 unfoldable pub sortE : List Scope → Expression → Option Sort
 sortE g (number q v) = some integer
+sortE g (decimal q v i) = some real
 sortE g (logical q b) = some boolean
 sortE g (name x) = inExpression (meaning g x) 0 .sort
 sortE g (call x e es) = inExpression (meaning g x) (suc (count es)) .sort
-sortE g (signed q o e) = some (signTakes o)
-sortE g (operated q o e f) = some (gives o)
-sortE g (chosen q r c e f) = sortE g e
+sortE g (signed q o e) = some (signGives o (sortE g e))
+sortE g (operated q o e f) = some (gives o (wider (sortE g e) (sortE g f)))
+sortE g (chosen q r c e f) = armed (sortE g e) (sortE g f)
 sortE g (nested q e) = sortE g e
+
+-- a whole-number arm e of a conditional whose other arm is real
+abbrev pub sortIs : Sort → Option Sort → Bool
+sortIs t none = false
+sortIs t (some s) = alike s t
+
+unfoldable pub widens : List Scope → Expression → Expression → Bool
+widens g e f = sortIs real (sortE g f) && sortIs integer (sortE g e)
+
+-- the same as one number, of the 'then' part and of the 'else' part: 0 neither, 1 the first, 2 the second
+abbrev pub wideArm : Bool → Bool → ℕ
+wideArm true u = 1
+wideArm false true = 2
+wideArm false false = 0
 
 -- "a wrong actual .. at its first symbol"
 unfoldable pub misfit : List Scope → Wanted → Expression → Bool
@@ -165,6 +230,7 @@ misfits g (w ∷ ws) (then e es) = when-so (misfit g w e) (firstSymbol e) ++ mis
 unfoldable mutual
   pub faultsE : List Scope → Expression → List ℕ
   faultsE g (number q v) = []
+  faultsE g (decimal q v i) = []
   faultsE g (logical q b) = []
   faultsE g (name x) = when-so (inExpression (meaning g x) 0 .wrong) (x .symbol)
   faultsE g (call x e es) =
@@ -172,7 +238,7 @@ unfoldable mutual
       ++ (misfits g (wantedBy (meaning g x)) (then e es) ++ (faultsE g e ++ faultsEs g es))
   -- "an operand of the wrong type, at the operator"
   faultsE g (signed q o e) = when-so (unlike (sortE g e) (signTakes o)) q ++ faultsE g e
-  faultsE g (operated q o e f) = when-so (unlike (sortE g e) (takes o) || unlike (sortE g f) (takes o)) q ++ (faultsE g e ++ faultsE g f)
+  faultsE g (operated q o e f) = when-so (unfit o (sortE g e) || unfit o (sortE g f)) q ++ (faultsE g e ++ faultsE g f)
   -- "a condition not Boolean, at 'if' or 'while'; 'else' of another type, at 'else'"
   faultsE g (chosen q r c e f) =
       when-so (unlike (sortE g c) boolean) q ++ (when-so (apart (sortE g e) (sortE g f)) r ++ (faultsE g c ++ (faultsE g e ++ faultsE g f)))
@@ -210,7 +276,7 @@ leftOf g x = asLeft g (meaning g x)
 
 unfoldable pub faultsLeft : List Scope → Option Sort → List Name → List ℕ
 faultsLeft g t [] = []
-faultsLeft g t (x ∷ xs) = when-so (leftOf g x .wrong || apart t (leftOf g x .sort)) (x .symbol) ++ faultsLeft g t xs
+faultsLeft g t (x ∷ xs) = when-so (leftOf g x .wrong || differ t (leftOf g x .sort)) (x .symbol) ++ faultsLeft g t xs
 
 -- ---- statements
 

@@ -4,7 +4,7 @@ use names::passes::front;
 ghost use mathlib.Core.Path.{_≡_};
 ghost use Prim.Native.Nat.{_*_};
 ghost use lib.ListN.{take};
-ghost use Rattle.types.specs.model.Passes.{typedOf};
+ghost use Rattle.types.specs.model.Passes.{typedOf, marksOf};
 
 mod sorts; // types by number, and the operators
 mod meanings; // what a name that means something is used as
@@ -40,7 +40,7 @@ pub struct Seen {
 }
 
 // The least type fault of a program, for any words: of each array how much is in use, of the rows how many; what is past that is
-// cut off.
+// cut off. And at the 'if' of each conditional expression the mark of the part that is a whole number beside a real: 1 'then', 2 'else', 0 none.
 pub fn check(
     nodes: &[u16; 32768],
     count: usize,
@@ -48,12 +48,15 @@ pub fn check(
     used: usize,
     rows: &[u16; 32768],
     declared: usize,
+    marks: &mut [u16; 2048],
 ) -> usize
     ensures { λ r. ⌜ r ≡ typedOf (take (4 * declared) (now (rows .entry))) (take used (now (uses .entry))) (take count (now (nodes .entry))) ⌝ }
+    ensures { λ _. ⌜ now (marks .exit) ≡ marksOf (take (4 * declared) (now (rows .entry))) (take used (now (uses .entry))) (take count (now (nodes .entry))) (now (marks .entry)) ⌝ }
 {
     walking::check(
         front(nodes, count),
         front(uses, used),
         first_rows(rows, declared),
+        marks,
     )
 }

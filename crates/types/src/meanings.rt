@@ -142,13 +142,15 @@ fn given_wants(e: Environment, k: usize) -> Want
     if given_formals(e) <= k {
         return Want::Nothing;
     }
-    if e.number != 2 {
-        return Want::An(sorts::INTEGER);
-    }
     if k != 1 {
         return Want::An(sorts::INTEGER);
     }
-    Want::Variable(sorts::INTEGER)
+    let number = e.number;
+    match number {
+        2 => Want::Variable(sorts::INTEGER),
+        4 => Want::An(sorts::REAL),
+        _ => Want::An(sorts::INTEGER),
+    }
 }
 
 // What is wanted of actual k of a name.

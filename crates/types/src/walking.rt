@@ -13,9 +13,9 @@ ghost use mathlib.Core.Path.{_≡_};
 ghost use mathlib.Core.List.{List, _∷_};
 ghost use Prim.Native.Nat.{ℕ, _+_, _*_, _≤_, _<_};
 ghost use lib.Dec.{eqb};
-ghost use lib.ListN.{length, drop};
+ghost use lib.ListN.{length, set, drop};
 ghost use Rattle.names.specs.model.Rows.{opensOf, meantOf, isUse};
-ghost use Rattle.types.specs.model.Passes.{noted, withRows, withBodies, topOf, below, pushed, popped, takenAs, signedAs, operatedAs, chosenAs, assignedAs, nextUse, namedAs, calledAs, leftAs, useTyped, misfitOf, oneMore, actualIn, callEnded, plainTyped, typeNode, typedOf};
+ghost use Rattle.types.specs.model.Passes.{noted, withRows, withBodies, topOf, below, pushed, popped, takenAs, signedAs, operatedAs, conditionAs, chosenAs, assignedAs, nextUse, namedAs, calledAs, leftAs, useTyped, misfitOf, oneMore, actualIn, callEnded, plainTyped, typeNode, typedOf, markOf, marksOf};
 ghost use Rattle.types.specs.model.Arrays.{see, callAt, callsOf, begun, Within, CountsWithin};
 
 // A type fault at a symbol, where a test says so.
@@ -86,10 +86,11 @@ fn binary(t: Seen, symbol: Ordinal, kind: u16, stack: &mut [u16; 8192]) -> Seen
     requires { ⌜ t .depth < 8192 ⌝ }
     ensures { λ r. ⌜ ((u c b : List ℕ) → see r u (now (stack .exit)) c b ≡ operatedAs kind (symbol .number) (see t u (now (stack .entry)) c b)) ⌝ }
 {
-    let sort = sorts::takes(kind);
-    let one = take(t, sort, symbol, stack);
-    let both = take(one, sort, symbol, stack);
-    push(both, sorts::gives(kind), stack)
+    let second = top(t, stack);
+    let one = pop(t);
+    let first = top(one, stack);
+    let both = note(pop(one), sorts::unfit_one(kind, first, second), symbol);
+    push(both, sorts::gives(kind, first, second), stack)
 }
 
 // A sign or 'not'.
@@ -97,18 +98,28 @@ fn unary(t: Seen, symbol: Ordinal, kind: u16, stack: &mut [u16; 8192]) -> Seen
     requires { ⌜ t .depth < 8192 ⌝ }
     ensures { λ r. ⌜ ((u c b : List ℕ) → see r u (now (stack .exit)) c b ≡ signedAs kind (symbol .number) (see t u (now (stack .entry)) c b)) ⌝ }
 {
-    let sort = sorts::sign_takes(kind);
-    push(take(t, sort, symbol, stack), sort, stack)
+    let sort = sorts::sign_gives(kind, top(t, stack));
+    push(take(t, sorts::sign_takes(kind), symbol, stack), sort, stack)
 }
 
-// The end of a conditional expression: the type of the 'then' part stays.
-fn conditional(t: Seen, symbol: Ordinal, stack: &[u16; 8192]) -> Seen
-    requires { ⌜ t .depth ≤ 8192 ⌝ }
-    ensures { λ r. ⌜ ((u c b : List ℕ) → see r u (now (stack .entry)) c b ≡ chosenAs (symbol .number) (see t u (now (stack .entry)) c b)) ⌝ }
+// A condition: its 'if' is put below the parts.
+fn condition(t: Seen, symbol: Ordinal, stack: &mut [u16; 8192]) -> Seen
+    requires { ⌜ t .depth < 8192 ⌝ }
+    ensures { λ r. ⌜ ((u c b : List ℕ) → see r u (now (stack .exit)) c b ≡ conditionAs (symbol .number) (see t u (now (stack .entry)) c b)) ⌝ }
 {
-    let otherwise = top(t, stack);
-    let p = pop(t);
-    note(p, sorts::apart(top(p, stack), otherwise), symbol)
+    push(take(t, sorts::BOOLEAN, symbol, stack), symbol.number, stack)
+}
+
+// The end of a conditional expression.
+fn conditional(t: Seen, symbol: Ordinal, stack: &mut [u16; 8192]) -> Seen
+    requires { ⌜ t .depth < 8192 ⌝ }
+    ensures { λ r. ⌜ ((u c b : List ℕ) → see r u (now (stack .exit)) c b ≡ chosenAs (symbol .number) (see t u (now (stack .entry)) c b)) ⌝ }
+{
+    let second = top(t, stack);
+    let one = pop(t);
+    let first = top(one, stack);
+    let both = note(pop(pop(one)), sorts::apart(first, second), symbol);
+    push(both, sorts::armed(first, second), stack)
 }
 
 // The next use: what it means.
@@ -278,7 +289,7 @@ fn left(mut t: Seen, symbol: Ordinal, rows: &[u16], bodies: &[u16; 8192]) -> See
         if j.wrong {
             return note(t, true, symbol);
         }
-        return note(t, sorts::apart(t.left, j.sort), symbol);
+        return note(t, sorts::differ(t.left, j.sort), symbol);
     }
     t.begun = true;
     t.left = j.sort;
@@ -324,11 +335,14 @@ fn plain(t: Seen, kind: u16, symbol: Ordinal, one: u16, stack: &mut [u16; 8192])
 {
     match kind {
         nodes::NUMBER => push(t, sorts::INTEGER, stack),
+        nodes::DECIMAL => push(t, sorts::REAL, stack),
         nodes::LOGICAL => push(t, sorts::BOOLEAN, stack),
         nodes::UNARY => unary(t, symbol, one, stack),
         nodes::BINARY => binary(t, symbol, one, stack),
-        nodes::THEN | nodes::WHILE => take(t, sorts::BOOLEAN, symbol, stack),
+        nodes::THEN => condition(t, symbol, stack),
+        nodes::WHILE => take(t, sorts::BOOLEAN, symbol, stack),
         nodes::START | nodes::AMOUNT => take(t, sorts::INTEGER, symbol, stack),
+        nodes::IF_END => pop(t),
         nodes::CONDITION_END => conditional(t, symbol, stack),
         nodes::ASSIGN => assign(t, symbol, stack),
         _ => t,
@@ -411,6 +425,30 @@ fn node(
     }
 }
 
+// A mark is kept at a symbol, where there is room.
+fn keep(marks: &mut [u16], symbol: usize, mark: u16)
+    ensures { λ _. ⌜ now (marks .exit) ≡ set (now (marks .entry)) symbol mark ⌝ }
+{
+    if symbol < marks.len() {
+        marks[symbol] = mark;
+    }
+}
+
+// The mark of a conditional expression, where a node ends one.
+fn mark(t: Seen, kind: u16, stack: &[u16; 8192], marks: &mut [u16])
+    requires { ⌜ t .depth ≤ 8192 ⌝ }
+    ensures { λ _. ⌜ now (marks .exit) ≡ markOf kind (opensOf (t .depth) (now (stack .entry))) (now (marks .entry)) ⌝ }
+{
+    if kind != nodes::CONDITION_END {
+        return;
+    }
+    let second = top(t, stack);
+    let one = pop(t);
+    let first = top(one, stack);
+    let symbol = top(pop(one), stack);
+    keep(marks, symbol as usize, sorts::wide(first, second));
+}
+
 // All nodes.
 fn walk(
     nodes: &[u16],
@@ -419,9 +457,11 @@ fn walk(
     stack: &mut [u16; 8192],
     calls: &mut [u16; 24576],
     bodies: &mut [u16; 8192],
+    marks: &mut [u16],
 ) -> usize
     requires { ⌜ (length (now nodes) ≤ 32768) × (length (now rows) ≤ 32768) ⌝ }
     ensures { λ r. ⌜ r ≡ typedOf (now (rows .entry)) (now (uses .entry)) (now (nodes .entry)) ⌝ }
+    ensures { λ _. ⌜ now (marks .exit) ≡ marksOf (now (rows .entry)) (now (uses .entry)) (now (nodes .entry)) (now (marks .entry)) ⌝ }
 {
     let mut t = Seen {
         uses: 0,
@@ -441,9 +481,11 @@ fn walk(
         let symbol = Ordinal {
             number: nodes[at + 1],
         };
+        let kind = nodes[at];
+        mark(t, kind, stack, marks);
         t = node(
             t,
-            nodes[at],
+            kind,
             symbol,
             nodes[at + 2],
             nodes[at + 3],
@@ -458,13 +500,22 @@ fn walk(
     t.least
 }
 
-// The least type fault of a program, of which the nodes, the uses and the declarations are lent.
-pub fn check(nodes: &[u16], uses: &[u16], rows: &[u16]) -> usize
+// The least type fault of a program, of which the nodes, the uses and the declarations are lent; and the marks of its conditional expressions.
+pub fn check(nodes: &[u16], uses: &[u16], rows: &[u16], marks: &mut [u16]) -> usize
     requires { ⌜ (length (now nodes) ≤ 32768) × (length (now rows) ≤ 32768) ⌝ }
     ensures { λ r. ⌜ r ≡ typedOf (now (rows .entry)) (now (uses .entry)) (now (nodes .entry)) ⌝ }
+    ensures { λ _. ⌜ now (marks .exit) ≡ marksOf (now (rows .entry)) (now (uses .entry)) (now (nodes .entry)) (now (marks .entry)) ⌝ }
 {
     let mut stack = [0u16; 8192];
     let mut calls = [0u16; 24576];
     let mut bodies = [0u16; 8192];
-    walk(nodes, uses, rows, &mut stack, &mut calls, &mut bodies)
+    walk(
+        nodes,
+        uses,
+        rows,
+        &mut stack,
+        &mut calls,
+        &mut bodies,
+        marks,
+    )
 }

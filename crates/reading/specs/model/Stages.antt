@@ -8,6 +8,7 @@ use Rattle.grammar.specs.model.Marked.{nodesOf}
 use Rattle.names.specs.model.Identity.{Identified}
 use Rattle.names.specs.Program.{Statement}
 use Rattle.types.specs.Types.{typeFault}
+use Rattle.types.specs.model.Passes.{marksOf}
 use Rattle.symbols.specs.Scan.{scan, valuesOf}
 use Rattle.answers.specs.declared.Refusal.{Refusal}
 use Rattle.answers.specs.declared.Verdict.{Verdict}
@@ -71,22 +72,23 @@ pub data Tells (source : List ℕ) (P : Sizes → Type 0) : Found → Type 0 whe
   program : (s : Sizes) → P s → Tells source P (Program s)
   refused : (r : Refusal) → Judged source (NotAccepted r) cleared → Tells source P (Refused r)
 
--- the nodes, rows and uses are the first of those that are lent
-pub record Resolved (source places nodes ids rows uses : List ℕ) (n : ℕ) (s : Sizes) : Type 0 where
+-- the nodes, rows and uses are the first of those that are lent; the marks, which were others before, are those of the type pass
+pub record Resolved (source places nodes ids rows uses was marks : List ℕ) (n : ℕ) (s : Sizes) : Type 0 where
   pub named : Named source places (take (s .nodes) nodes) ids (take (4 * s .rows) rows) (take (s .uses) uses) n
   pub typed : typeFault (programOf named) ≡ none
   pub count : s .symbols ≡ n
   pub few : s .uses ≤ 8192
+  pub marked : marks ≡ marksOf (take (4 * s .rows) rows) (take (s .uses) uses) (take (s .nodes) nodes) was
 
-pub record Declared (source places nodes rows uses : List ℕ) (n : ℕ) (s : Sizes) : Type 0 where
+pub record Declared (source places nodes rows uses was marks : List ℕ) (n : ℕ) (s : Sizes) : Type 0 where
   pub ids : List ℕ
-  pub resolved : Resolved source places nodes ids rows uses n s
+  pub resolved : Resolved source places nodes ids rows uses was marks n s
 
 -- and so are the kinds and the values of the symbols: this is what every job that takes a source is told
-pub record Holds (source kinds places values nodes rows uses : List ℕ) (s : Sizes) : Type 0 where
-  pub declared : Declared source places nodes rows uses (s .symbols) s
+pub record Holds (source kinds places values nodes rows uses was marks : List ℕ) (s : Sizes) : Type 0 where
+  pub declared : Declared source places nodes rows uses was marks (s .symbols) s
   pub kinded : take (s .symbols) kinds ≡ kindsIn source
   pub valued : take (s .symbols) values ≡ valuesOf (scan symbols source .found)
 
-abbrev pub Finds : List ℕ → List ℕ → List ℕ → List ℕ → List ℕ → List ℕ → List ℕ → Found → Type 0
-Finds source kinds places values nodes rows uses = Tells source (Holds source kinds places values nodes rows uses)
+abbrev pub Finds : List ℕ → List ℕ → List ℕ → List ℕ → List ℕ → List ℕ → List ℕ → List ℕ → List ℕ → Found → Type 0
+Finds source kinds places values nodes rows uses was marks = Tells source (Holds source kinds places values nodes rows uses was marks)

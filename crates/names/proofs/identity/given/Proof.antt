@@ -24,7 +24,11 @@ returns-4 c = simp (sym (c .before .before .before .before .before .before .befo
 
 returns-5 : tie.Need-returns-5
 unfolding numberGiven
-returns-5 c = simp (sym (c .before .before .before .before .before .before .before .before .before .before .spells .ensures) ∙ c .before .before .before .before .before .before .before .before .before .if1 .left, sym (c .before .before .before .before .before .before .before .spells2 .ensures) ∙ c .before .before .before .before .before .before .if2 .left, sym (c .before .before .before .before .spells3 .ensures) ∙ c .before .before .before .if3 .left, sym (c .before .spells4 .ensures) ∙ c .if4 .left)
+returns-5 c = simp (sym (c .before .before .before .before .before .before .before .before .before .before .before .before .before .spells .ensures) ∙ c .before .before .before .before .before .before .before .before .before .before .before .before .if1 .left, sym (c .before .before .before .before .before .before .before .before .before .before .spells2 .ensures) ∙ c .before .before .before .before .before .before .before .before .before .if2 .left, sym (c .before .before .before .before .before .before .before .spells3 .ensures) ∙ c .before .before .before .before .before .before .if3 .left, sym (c .before .before .before .before .spells4 .ensures) ∙ c .before .before .before .if4 .left, sym (c .before .spells5 .ensures) ∙ c .if5 .taken)
+
+returns-6 : tie.Need-returns-6
+unfolding numberGiven
+returns-6 c = simp (sym (c .before .before .before .before .before .before .before .before .before .before .before .before .before .spells .ensures) ∙ c .before .before .before .before .before .before .before .before .before .before .before .before .if1 .left, sym (c .before .before .before .before .before .before .before .before .before .before .spells2 .ensures) ∙ c .before .before .before .before .before .before .before .before .before .if2 .left, sym (c .before .before .before .before .before .before .before .spells3 .ensures) ∙ c .before .before .before .before .before .before .if3 .left, sym (c .before .before .before .before .spells4 .ensures) ∙ c .before .before .before .if4 .left, sym (c .before .spells5 .ensures) ∙ c .if5 .left)
 
 pub given-spec : {M : Type 1} → statement M
 given-spec =
@@ -42,4 +46,7 @@ given-spec =
     (λ c. search needs)
     (λ c κs. search needs)
     returns-4
-    returns-5)
+    (λ c. search needs)
+    (λ c κs. search needs)
+    returns-5
+    returns-6)

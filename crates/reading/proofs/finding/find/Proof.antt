@@ -22,16 +22,15 @@ enum-known-n : tie.Need-enum-known-n
 enum-known-n c = search needs
 
 parsed-requires : tie.Need-parsed-requires
-parsed-requires c κs = stand (c .before .before .before .before .before .before .before .before .scan .ensures) (c .before .before .before .before .before .before .before .before .before .before .before .before .if1 .left) _ (c .before .before .before .before .before .before .n .given .1)
+parsed-requires c κs = stand (c .before .before .before .before .before .before .before .before .before .scan .ensures) (c .before .before .before .before .before .before .before .before .before .before .before .before .before .if1 .left) _ (c .before .before .before .before .before .before .before .n .given .1)
 
 enum-known-r : tie.Need-enum-known-r
 enum-known-r c = search needs
 
 returns-2 : tie.Need-returns-2
 returns-2 c =
-    let b = c .before .before .before .before .before .before .before .before .before in
-    let told = c .before .before .before .before .before .before .before .n .given .1 in
-    onward (c .parsed .ensures) (symbols-first (stand (b .scan .ensures) (b .before .before .before .before .if1 .left) _ told .kinded) (values-stand (b .scan .ensures) _ told))
+    let told = c .before .before .before .before .before .before .before .before .n .given .1 in
+    onward (c .parsed .ensures) (symbols-first (stand (c .before .before .before .before .before .before .before .before .before .before .scan .ensures) (c .before .before .before .before .before .before .before .before .before .before .before .before .before .before .if1 .left) _ told .kinded) (values-stand (c .before .before .before .before .before .before .before .before .before .before .scan .ensures) _ told))
 
 returns-3 : tie.Need-returns-3
 returns-3 c = refused _ (unread (c .before .before .before .scan .ensures) (c .before .before .before .before .before .before .before .if1 .left) _ (c .before .r .given .1))

@@ -9,7 +9,7 @@ identify-requires : tie.Need-identify-requires
 identify-requires c κs = search needs
 
 declared-requires : tie.Need-declared-requires
-declared-requires c κs = known (c .before .before .before .before .before .before .pre) (c .before .before .before .identify .ensures)
+declared-requires c κs = known (c .before .before .before .before .before .before .before .pre) (c .before .before .before .before .identify .ensures)
 
 returns : tie.Need-returns
 returns c = onward (c .declared .ensures) (λ s h. record { ids = _; resolved = h })

@@ -17,13 +17,13 @@ enum-known-used : tie.Need-enum-known-used
 enum-known-used c = search needs
 
 named-requires : tie.Need-named-requires
-named-requires c κs = ready (c .before .before .before .before .before .before .before .before .before .pre) (c .before .before .before .before .before .before .parse .ensures) _ _ (c .before .before .before .before .used .given .1)
+named-requires c κs = ready (c .before .before .before .before .before .before .before .before .before .before .pre) (c .before .before .before .before .before .before .before .parse .ensures) _ _ (c .before .before .before .before .before .used .given .1)
 
 enum-known-answer : tie.Need-enum-known-answer
 enum-known-answer c = search needs
 
-cast-t19 : tie.Need-cast-t19
-cast-t19 c = omega (arith, refused-at (c .before .before .before .before .before .before .pre) (c .before .before .before .parse .ensures) _ _ (c .before .answer .given .1))
+cast-t21 : tie.Need-cast-t21
+cast-t21 c = omega (arith, refused-at (c .before .before .before .before .before .before .pre) (c .before .before .before .parse .ensures) _ _ (c .before .answer .given .1))
 
 place-at-requires : tie.Need-place-at-requires
 place-at-requires c κs = search needs
@@ -45,7 +45,7 @@ parsed-spec =
     enum-known-used
     named-requires
     enum-known-answer
-    cast-t19
+    cast-t21
     place-at-requires
     new-requires
     returns

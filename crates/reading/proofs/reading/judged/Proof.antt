@@ -16,7 +16,7 @@ enum-known-s : tie.Need-enum-known-s
 enum-known-s c = search needs
 
 written-requires : tie.Need-written-requires
-written-requires c κs = ((_, _, _, told-program (c .before .before .before .before .before .before .before .before .find .ensures) _ (c .before .before .before .before .before .before .s .given .1)), c .before .before .before .before .before .before .before .before .before .before .before .before .before .before .before .before .before .clear .ensures ∙ ap zeros (c .before .before .before .before .before .before .before .before .before .before .before .before .before .before .before .before .before .before .before .before .before .pre))
+written-requires c κs = ((_, _, _, _, _, told-program (c .before .before .before .before .before .before .before .before .find .ensures) _ (c .before .before .before .before .before .before .s .given .1)), c .before .before .before .before .before .before .before .before .before .before .before .before .before .before .before .before .before .before .clear .ensures ∙ ap zeros (c .before .before .before .before .before .before .before .before .before .before .before .before .before .before .before .before .before .before .before .before .before .before .pre))
 
 enum-known-r : tie.Need-enum-known-r
 enum-known-r c = search needs
@@ -25,13 +25,13 @@ same-length : tie.Need-same-length
 same-length c = search needs
 
 returns : tie.Need-returns
-returns c = c .before .before .written .ensures _ _ _ (told-program (c .before .before .before .before .before .before .before .before .before .before .before .find .ensures) _ (c .before .before .before .before .before .before .before .before .before .s .given .1))
+returns c = c .before .before .written .ensures _ _ _ _ _ (told-program (c .before .before .before .before .before .before .before .before .before .before .before .find .ensures) _ (c .before .before .before .before .before .before .before .before .before .s .given .1))
 
 same-length-2 : tie.Need-same-length-2
 same-length-2 c = search needs
 
 returns-2 : tie.Need-returns-2
-returns-2 c = as-judged refl (c .before .before .before .before .before .before .before .before .before .before .before .before .clear .ensures ∙ ap zeros (c .before .before .before .before .before .before .before .before .before .before .before .before .before .before .before .before .pre)) (told-refused (c .before .before .before .find .ensures) _ (c .before .r .given .1))
+returns-2 c = as-judged refl (c .before .before .before .before .before .before .before .before .before .before .before .before .before .clear .ensures ∙ ap zeros (c .before .before .before .before .before .before .before .before .before .before .before .before .before .before .before .before .before .pre)) (told-refused (c .before .before .before .find .ensures) _ (c .before .r .given .1))
 
 pub judged-spec : {M : Type 1} → statement M
 judged-spec =

@@ -8,7 +8,7 @@ use Rattle.reading.proofs.reading.written.Statement.{statement}
 use Rattle.reading.proofs.reading.written.Tie as tie
 
 returns : tie.Need-returns
-returns c = λ source kinds values h.
+returns c = λ source kinds values was marks h.
     let start = c .before .before .before .before .before .before .before .before .before .before in
     let named = h .declared .resolved .named in
     table-judged named (h .declared .resolved .typed) _ _ (start .pre .1)

@@ -14,10 +14,10 @@ shared-slice-read-result : tie.Need-shared-slice-read-result
 shared-slice-read-result c = search needs
 
 returns : tie.Need-returns
-returns c = inside (c .before .before .args .uses .now) (c .before .before .args .u) 0 8196 (c .before .if1 .taken)
+returns c = inside (c .before .before .args .uses .now) (c .before .before .args .u) 0 8197 (c .before .if1 .taken)
 
 returns-2 : tie.Need-returns-2
-returns-2 c = sym (List·getD-eq-default (c .before .args .uses .now) 8196 (c .if1 .left))
+returns-2 c = sym (List·getD-eq-default (c .before .args .uses .now) 8197 (c .if1 .left))
 
 pub use-at-spec : {M : Type 1} → statement M
 use-at-spec = tie.close (tie.spec mul-result shared-slice-read-result returns returns-2)

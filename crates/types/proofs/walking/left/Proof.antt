@@ -6,8 +6,8 @@ use Rattle.names.specs.model.Rows.{opensOf}
 use Rattle.names.specs.declared.Meant.{Meant}
 use Rattle.types.specs.declared.Judgement.{Judgement}
 use Rattle.types.specs.model.Arrays.{MeantWithin, see}
-use Rattle.types.specs.model.Passes.{leftOf, withLeft}
-use Rattle.types.proofs.Stacks.{meant-within, noted-ap, apart-ap, or-true, or-false, left-again, left-first}
+use Rattle.types.specs.model.Passes.{differOf, leftOf, withLeft}
+use Rattle.types.proofs.Stacks.{meant-within, noted-ap, both-ap, or-true, or-false, left-again, left-first}
 use borrow.Author.Needs.{needs}
 use Rattle.types.proofs.walking.left.Statement.{statement}
 use Rattle.types.proofs.walking.left.Tie as tie
@@ -27,8 +27,8 @@ returns c =
     λ u s d. c .note .ensures .0 u s d _ ∙ noted-ap _ (or-true _ (sym (ap (λ (z : Judgement). z .wrong) j) ∙ c .before .if2 .taken)) refl
     ∙ sym (left-again (c .before .before .before .before .before .before .before .args .rows .now) (c .before .before .before .before .before .before .before .args .symbol .number) (see (c .before .before .before .before .before .before .before .args .t) u s d (c .before .before .before .before .before .before .before .args .bodies .now)) (c .before .before .if1 .taken))
 
-apart-requires : tie.Need-apart-requires
-apart-requires c κs = search needs
+differ-requires : tie.Need-differ-requires
+differ-requires c κs = search needs
 
 note-requires-2 : tie.Need-note-requires-2
 note-requires-2 c κs = search needs
@@ -37,7 +37,7 @@ returns-2 : tie.Need-returns-2
 returns-2 c =
     let j = c .before .before .before .before .as-left .ensures ∙ ap (λ (m : Meant). leftOf (c .before .before .before .before .before .before .before .before .args .rows .now) (opensOf (c .before .before .before .before .before .before .before .before .args .t .bodies) (c .before .before .before .before .before .before .before .before .args .bodies .now)) m) (c .before .before .before .before .before .before .meant .ensures) in
     λ u s d. c .note2 .ensures .0 u s d _
-    ∙ noted-ap _ (or-false (sym (ap (λ (z : Judgement). z .wrong) j) ∙ c .before .before .if2 .left) (c .before .apart .ensures ∙ apart-ap refl (ap (λ (z : Judgement). z .sort) j))) refl
+    ∙ noted-ap _ (or-false (sym (ap (λ (z : Judgement). z .wrong) j) ∙ c .before .before .if2 .left) (c .before .differ .ensures ∙ both-ap differOf refl (ap (λ (z : Judgement). z .sort) j))) refl
     ∙ sym (left-again (c .before .before .before .before .before .before .before .before .args .rows .now) (c .before .before .before .before .before .before .before .before .args .symbol .number) (see (c .before .before .before .before .before .before .before .before .args .t) u s d (c .before .before .before .before .before .before .before .before .args .bodies .now)) (c .before .before .before .if1 .taken))
 
 note-requires-3 : tie.Need-note-requires-3
@@ -59,7 +59,7 @@ left-spec =
     as-left-requires
     note-requires
     returns
-    apart-requires
+    differ-requires
     note-requires-2
     returns-2
     note-requires-3

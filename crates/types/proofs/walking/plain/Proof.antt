@@ -3,34 +3,10 @@ use mathlib.Core.Path.{_∙_}
 use mathlib.Core.Logic.{inl, inr}
 use borrow.Author.Tests.{ne-eqb}
 use Rattle.types.specs.model.Passes.{plainTyped}
-use Rattle.types.proofs.Stacks.{plain-boolean, plain-integer}
+use Rattle.types.proofs.Stacks.{plain-integer}
 use borrow.Author.Needs.{needs}
 use Rattle.types.proofs.walking.plain.Statement.{statement}
 use Rattle.types.proofs.walking.plain.Tie as tie
-
-push-requires : tie.Need-push-requires
-push-requires c κs = search needs
-
-push-requires-2 : tie.Need-push-requires-2
-push-requires-2 c κs = search needs
-
-unary-requires : tie.Need-unary-requires
-unary-requires c κs = search needs
-
-binary-requires : tie.Need-binary-requires
-binary-requires c κs = search needs
-
-take-requires : tie.Need-take-requires
-take-requires c κs = search needs
-
-take-requires-2 : tie.Need-take-requires-2
-take-requires-2 c κs = search needs
-
-conditional-requires : tie.Need-conditional-requires
-conditional-requires c κs = search needs
-
-assign-requires : tie.Need-assign-requires
-assign-requires c κs = search needs
 
 returns : tie.Need-returns
 unfolding plainTyped
@@ -42,44 +18,60 @@ returns-2 c = λ u d b. simp (c .before .before .match .keys2) (c .push2 .ensure
 
 returns-3 : tie.Need-returns-3
 unfolding plainTyped
-returns-3 c = λ u d b. simp (c .before .before .match .keys3) (c .unary .ensures u d b)
+returns-3 c = λ u d b. simp (c .before .before .match .keys3) (c .push3 .ensures u d b)
 
 returns-4 : tie.Need-returns-4
 unfolding plainTyped
-returns-4 c = λ u d b. simp (c .before .before .match .keys4) (c .binary .ensures u d b)
+returns-4 c = λ u d b. simp (c .before .before .match .keys4) (c .unary .ensures u d b)
 
 returns-5 : tie.Need-returns-5
-returns-5 c = λ u d b. c .take .ensures .0 u d b ∙ plain-boolean _ _ _ _ (c .before .before .match .keys5)
+unfolding plainTyped
+returns-5 c = λ u d b. simp (c .before .before .match .keys5) (c .binary .ensures u d b)
 
 returns-6 : tie.Need-returns-6
-returns-6 c = λ u d b. c .take2 .ensures .0 u d b ∙ plain-integer _ _ _ _ (c .before .before .match .keys6)
+unfolding plainTyped
+returns-6 c = λ u d b. simp (c .before .before .match .keys6) (c .condition .ensures u d b)
 
 returns-7 : tie.Need-returns-7
 unfolding plainTyped
-returns-7 c = λ u d b. simp (c .before .before .match .keys7) (c .conditional .ensures u d b)
+returns-7 c = λ u d b. simp (c .before .before .match .keys7) (c .take .ensures .0 u d b)
 
 returns-8 : tie.Need-returns-8
-unfolding plainTyped
-returns-8 c = λ u d b. simp (c .before .before .match .keys8) (c .assign .ensures u d b)
+returns-8 c = λ u d b. c .take2 .ensures .0 u d b ∙ plain-integer _ _ _ _ (c .before .before .match .keys8)
 
 returns-9 : tie.Need-returns-9
 unfolding plainTyped
-returns-9 c =
+returns-9 c = λ u d b. simp (c .before .match .keys9) (c .pop .ensures .0 u _ d b)
+
+returns-10 : tie.Need-returns-10
+unfolding plainTyped
+returns-10 c = λ u d b. simp (c .before .before .match .keys10) (c .conditional .ensures u d b)
+
+returns-11 : tie.Need-returns-11
+unfolding plainTyped
+returns-11 c = λ u d b. simp (c .before .before .match .keys11) (c .assign .ensures u d b)
+
+returns-12 : tie.Need-returns-12
+unfolding plainTyped
+returns-12 c =
     let r = c .match .rest in
-    λ u d b. simp (ne-eqb _ _ (r .1), ne-eqb _ _ (r .0 .1), ne-eqb _ _ (λ e. r .0 .0 .1 (inl e)), ne-eqb _ _ (λ e. r .0 .0 .1 (inr e)), ne-eqb _ _ (λ e. r .0 .0 .0 .1 (inl e)), ne-eqb _ _ (λ e. r .0 .0 .0 .1 (inr e)), ne-eqb _ _ (r .0 .0 .0 .0 .1), ne-eqb _ _ (r .0 .0 .0 .0 .0 .1), ne-eqb _ _ (r .0 .0 .0 .0 .0 .0 .1), ne-eqb _ _ (r .0 .0 .0 .0 .0 .0 .0 .1))
+    λ u d b. simp (ne-eqb _ _ (r .1), ne-eqb _ _ (r .0 .1), ne-eqb _ _ (r .0 .0 .1), ne-eqb _ _ (λ e. r .0 .0 .0 .1 (inl e)), ne-eqb _ _ (λ e. r .0 .0 .0 .1 (inr e)), ne-eqb _ _ (r .0 .0 .0 .0 .1), ne-eqb _ _ (r .0 .0 .0 .0 .0 .1), ne-eqb _ _ (r .0 .0 .0 .0 .0 .0 .1), ne-eqb _ _ (r .0 .0 .0 .0 .0 .0 .0 .1), ne-eqb _ _ (r .0 .0 .0 .0 .0 .0 .0 .0 .1), ne-eqb _ _ (r .0 .0 .0 .0 .0 .0 .0 .0 .0 .1), ne-eqb _ _ (r .0 .0 .0 .0 .0 .0 .0 .0 .0 .0 .1))
 
 pub plain-spec : {M : Type 1} → statement M
 plain-spec =
     tie.close
     (tie.spec
-    push-requires
-    push-requires-2
-    unary-requires
-    binary-requires
-    take-requires
-    take-requires-2
-    conditional-requires
-    assign-requires
+    (λ c κs. search needs)
+    (λ c κs. search needs)
+    (λ c κs. search needs)
+    (λ c κs. search needs)
+    (λ c κs. search needs)
+    (λ c κs. search needs)
+    (λ c κs. search needs)
+    (λ c κs. search needs)
+    (λ c κs. search needs)
+    (λ c κs. search needs)
+    (λ c κs. search needs)
     returns
     returns-2
     returns-3
@@ -88,4 +80,7 @@ plain-spec =
     returns-6
     returns-7
     returns-8
-    returns-9)
+    returns-9
+    returns-10
+    returns-11
+    returns-12)

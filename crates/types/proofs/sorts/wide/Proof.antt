@@ -1,0 +1,35 @@
+-- `types::sorts::wide` meets its contract: its tests are those of `wideOf`.
+use borrow.Author.Tests.{eq-eqb, ne-eqb}
+use Rattle.types.specs.model.Passes.{wideOf}
+use Rattle.types.proofs.sorts.wide.Statement.{statement}
+use Rattle.types.proofs.sorts.wide.Tie as tie
+
+returns : tie.Need-returns
+unfolding wideOf
+returns c = simp (eq-eqb _ _ (c .before .if1 .taken), eq-eqb _ _ (c .if2 .taken))
+
+returns-2 : tie.Need-returns-2
+unfolding wideOf
+returns-2 c = simp (eq-eqb _ _ (c .before .if1 .taken), ne-eqb _ _ (c .if2 .left))
+
+returns-3 : tie.Need-returns-3
+unfolding wideOf
+returns-3 c = simp (ne-eqb _ _ (c .before .if1 .left), ne-eqb _ _ (c .if3 .taken))
+
+returns-4 : tie.Need-returns-4
+unfolding wideOf
+returns-4 c = simp (ne-eqb _ _ (c .before .before .if1 .left), eq-eqb _ _ (c .before .if3 .left), eq-eqb _ _ (c .if4 .taken))
+
+returns-5 : tie.Need-returns-5
+unfolding wideOf
+returns-5 c = simp (ne-eqb _ _ (c .before .before .if1 .left), eq-eqb _ _ (c .before .if3 .left), ne-eqb _ _ (c .if4 .left))
+
+pub wide-spec : {M : Type 1} → statement M
+wide-spec =
+    tie.close
+    (tie.spec
+    returns
+    returns-2
+    returns-3
+    returns-4
+    returns-5)
