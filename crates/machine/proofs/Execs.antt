@@ -18,19 +18,24 @@ use Rattle.answers.specs.Numbers.{activations}
 use Rattle.machine.specs.declared.Counts.{Counts}
 use Rattle.machine.specs.declared.Did.{Did}
 use Rattle.machine.specs.declared.Did.the-variants.{Good, Bad, Stray}
+use Rattle.reals.specs.declared.Form.{Form}
+use Rattle.reals.specs.declared.Value.the-variants.{Truth}
+use Rattle.reals.specs.declared.Form.the-variants.{Truths, Wholes, Reals}
+use Rattle.machine.specs.declared.Typed.{Typed}
+use Rattle.machine.specs.declared.Typed.the-variants.{Is as Form1, Not as NoForm}
 use Rattle.machine.specs.declared.Chosen.{Chosen}
 use Rattle.machine.specs.declared.Chosen.the-variants.{Yes, No, Bad as BadT, Stray as StrayT}
 use Rattle.answers.specs.declared.Answer.{Answer}
 use Rattle.machine.specs.declared.Outcome.{Outcome}
 use Rattle.machine.specs.declared.Outcome.the-variants.{Goes, Strays}
 use Rattle.machine.specs.Run.{Trace}
-use Rattle.machine.specs.Data.{Data, cells, Result, bad, wrong, good, lift, guard, check, foundIn, Act, load, store, actOn, downs, work, Test, upto, testOn, downsT, test, either, openBlock, closeBlock, enter, leave, Fate, kept, gone}
-use Rattle.machine.specs.Instructions.{Location, Instruction, END, DO, IF, JUMP, ENTER, LEAVE, CALL, RETURN, GO, NEXT, variable, foundOffset, high, mid, actOf, decode, fetch}
-use Rattle.machine.specs.Machine.{Activation, activation, Running, running, base, floor, walk, cellIn, stray, exec, obey, step}
-use Rattle.machine.specs.model.Holding.{After, told, goes, halted, stepped, lifted, dataOf, traceOf, seenD, seenT, seenO, machOf, wordOf, noteOf, begun, positionsOf, fateOf, framesOf, foundOf, ownOf, Lives, Sound, SoundD, SoundT, SoundO, SoundG}
+use Rattle.machine.specs.Data.{Link, link, to, Target, Data, cells, Result, bad, wrong, good, lift, guard, check, foundIn, Act, push, load, store, actOn, downs, work, Test, upto, testOn, downsT, test, either, Counted, openBlock, closeBlock, enter, leave, Fate, kept, gone, stored}
+use Rattle.machine.specs.Instructions.{Location, Instruction, END, DO, IF, JUMP, ENTER, LEAVE, CALL, RETURN, GO, NEXT, variable, foundOffset, high, mid, withForm, logical, actOf, decode, fetch}
+use Rattle.machine.specs.Machine.{Activation, activation, Running, running, base, floor, walk, targetIn, stray, exec, obey, step}
+use Rattle.machine.specs.model.Holding.{After, told, goes, halted, stepped, lifted, dataOf, traceOf, seenD, seenT, seenO, machOf, wordOf, noteOf, begun, positionsOf, fateOf, framesOf, formOfWord, linksOf, linksFound, linked, foundOf, ownOf, left, adds, typedOf, Lives, Sound, SoundD, SoundT, SoundO, SoundG}
 use Rattle.machine.proofs.Decode.{act-on}
 use Rattle.machine.proofs.Stacks.{cells-length}
-use Rattle.machine.proofs.Frames.{frames-length, positions-length, begun-frames, begun-positions, begun-lives, begun-found, found-note, push-positions, pop-positions, frames-own, lives-note, lives-count}
+use Rattle.machine.proofs.Frames.{frames-length, positions-length, begun-frames, begun-positions, begun-lives, begun-found, found-note, push-positions, pop-positions, frames-own, lives-note, lives-count, lives-less, linked-found, linked-frames, linked-positions, linked-lives, stores-top}
 
 pub lift-stepped : {A : Type 0} (w : Stop) (f : A → Running) (t : Trace) (r : Result A) → stepped t (lift w 1 f r) ≡ lifted w f (told t r)
 unfolding stepped lift lifted told
@@ -49,22 +54,22 @@ module _ (t : Trace) (pc : ℕ) (ps : List ℕ) (fs : List Activation) (d : Data
   do-stray a e = rw e
 
   pub do-lifted : (a : Act Location) → leb (floor fs + downs a) (cells d) ≡ true
-      → lifted (stray pc) (running (suc pc) ps fs) (told t (work (actOn (cellIn fs d) a) d)) ≡ stepped t (exec (DO a) pc ps fs d)
+      → lifted (stray pc) (running (suc pc) ps fs) (told t (work (actOn (targetIn fs d) a) d)) ≡ stepped t (exec (DO a) pc ps fs d)
   unfolding exec guard
-  do-lifted a e = rw e (sym (lift-stepped (stray pc) (running (suc pc) ps fs) t (work (actOn (cellIn fs d) a) d)))
+  do-lifted a e = rw e (sym (lift-stepped (stray pc) (running (suc pc) ps fs) t (work (actOn (targetIn fs d) a) d)))
 
   pub if-stray : (a : Test Location) (l : ℕ) → leb (floor fs + downsT a) (cells d) ≡ false → halted (stray pc) ≡ stepped t (exec (IF a l) pc ps fs d)
   unfolding exec guard lift stepped
   if-stray a l e = rw e
 
   pub if-lifted : (a : Test Location) (l : ℕ) → leb (floor fs + downsT a) (cells d) ≡ true
-      → lifted (stray pc) (either (running (suc pc) ps fs) (running l ps fs)) (told t (test (testOn (cellIn fs d) a) d)) ≡ stepped t (exec (IF a l) pc ps fs d)
+      → lifted (stray pc) (either (running (suc pc) ps fs) (running l ps fs)) (told t (test (testOn (targetIn fs d) a) d)) ≡ stepped t (exec (IF a l) pc ps fs d)
   unfolding exec guard
-  if-lifted a l e = rw e (sym (lift-stepped (stray pc) (either (running (suc pc) ps fs) (running l ps fs)) t (test (testOn (cellIn fs d) a) d)))
+  if-lifted a l e = rw e (sym (lift-stepped (stray pc) (either (running (suc pc) ps fs) (running l ps fs)) t (test (testOn (targetIn fs d) a) d)))
 
-  pub enter-lifted : (q n l : ℕ) → lifted (stray pc) (running l ps fs) (told t (openBlock q n d)) ≡ stepped t (exec (ENTER q n l) pc ps fs d)
+  pub enter-lifted : (q : ℕ) (n : Counted) → lifted (stray pc) (running (suc pc) ps fs) (told t (openBlock q n d)) ≡ stepped t (exec (ENTER q n) pc ps fs d)
   unfolding exec
-  enter-lifted q n l = sym (lift-stepped (stray pc) (running l ps fs) t (openBlock q n d))
+  enter-lifted q n = sym (lift-stepped (stray pc) (running (suc pc) ps fs) t (openBlock q n d))
 
   pub leave-stray : (n : ℕ) → leb (floor fs + n) (cells d) ≡ false → halted (stray pc) ≡ stepped t (exec (LEAVE n) pc ps fs d)
   unfolding exec guard lift stepped
@@ -119,14 +124,18 @@ module _ (n : Counts) (a : ℕ) (s i o : List ℤ) (l : List ℕ) {f : ℕ} (e :
       let z : floor (framesOf l a) + k ≤ n .cells = rw (floor-is l a, ← e) h in
       rw (cells-length (n .cells) s) (le-leb (floor (framesOf l a) + k) (n .cells) z)
 
-module _ (l : List ℕ) (a v : ℕ) (d : Data) {r : ℕ} where
-  pub cell-is : {f b : ℕ} → (mid v ≡ foundOffset → ⊥) → f ≡ walk (framesOf l a) a (high v) → b ≡ base (framesOf l a) f → r ≡ b + mid v → r ≡ cellIn (framesOf l a) d (variable v)
-  unfolding cellIn
-  cell-is n e g h = rw (ne-eqb (mid v) foundOffset n, frames-length l a, ← e, ← g) h
+found-words : (l : List ℕ) → to (wordOf l 0 4) (linksOf l (wordOf l 0 3)) ≡ foundOf l
+unfolding foundOf
+found-words l = refl
 
-  pub cell-found : mid v ≡ foundOffset → r ≡ foundIn d → r ≡ cellIn (framesOf l a) d (variable v)
-  unfolding cellIn
-  cell-found e h = rw (eq-eqb (mid v) foundOffset e) h
+module _ (l : List ℕ) (a v : ℕ) (d : Data) where
+  pub cell-is : {r f b : ℕ} → (mid v ≡ foundOffset → ⊥) → f ≡ walk (framesOf l a) a (high v) → b ≡ base (framesOf l a) f → r ≡ b + mid v → to r (linksOf l 0) ≡ targetIn (framesOf l a) d (variable v)
+  unfolding targetIn linksOf
+  cell-is n e g h = rw (ne-eqb (mid v) foundOffset n, frames-length l a, ← e, ← g, h)
+
+  pub cell-found : {c k : ℕ} → mid v ≡ foundOffset → c ≡ wordOf l 0 4 → k ≡ wordOf l 0 3 → foundOf l ≡ foundIn d → to c (linksOf l k) ≡ targetIn (framesOf l a) d (variable v)
+  unfolding targetIn
+  cell-found e g h p = rw (eq-eqb (mid v) foundOffset e, g, h, ← p) (found-words l)
 
 pub found-data : (n : Counts) (l : List ℕ) (a : ℕ) (s i o : List ℤ) → foundIn (dataOf n (ownOf l a) s i o) ≡ foundOf l
 unfolding foundIn
@@ -146,32 +155,94 @@ module _ (n : Counts) (a : ℕ) (s i o : List ℤ) (l : List ℕ) (pc q e u k : 
       let w : length (framesOf l a) ≡ a = frames-length l a in
       rw (c, d, j, room-yes n a s i o l z k h, lt-ltb a 256 m, p, g, cells-length (n .cells) s, w)
 
-pub return-none : (t : Trace) (pc : ℕ) (ps : List ℕ) (l : List ℕ) (a : ℕ) (d : Data) → a ≡ 0 → halted (stray pc) ≡ stepped t (exec RETURN pc ps (framesOf l a) d)
-unfolding exec stepped framesOf
-return-none t pc ps l a d e = rw e
-
-needed-fate : (w : ℕ) → cond (not (eqb w 0)) kept gone ≡ fateOf w
-unfolding fateOf
-needed-fate w = go (eqb w 0)
-  where
-    go : (b : Bool) → cond (not b) kept gone ≡ cond b gone kept
-    go true = refl
-    go false = refl
-
-return-cases : (t : Trace) (pc : ℕ) (ps : List ℕ) (l : List ℕ) (a : ℕ) (d : Data) → 1 ≤ a
-    → lifted (stray pc) (running (wordOf l a 0) (positionsOf l (a - 1)) (framesOf l (a - 1))) (told t (leave (fateOf (wordOf l a 3)) (wordOf l a 4) (wordOf l a 1) d))
-    ≡ stepped t (exec RETURN pc ps (framesOf l a) d)
+return-cases : (t : Trace) (pc : ℕ) (ps : List ℕ) (l : List ℕ) (a : ℕ) (d : Data) (x : Link) → 1 ≤ a
+    → lifted (stray pc) (running (wordOf l a 0) (positionsOf l (a - 1)) (framesOf l (a - 1))) (told t (leave (fateOf (wordOf l a 3)) x (wordOf l a 4) (wordOf l a 1) d))
+    ≡ stepped t (exec (RETURN x) pc ps (framesOf l a) d)
 unfolding exec framesOf
-return-cases t pc ps l zero d h = absurd (not-suc-le-zero h)
-return-cases t pc ps l (suc n) d h =
+return-cases t pc ps l zero d x h = absurd (not-suc-le-zero h)
+return-cases t pc ps l (suc n) d x h =
     let e : suc n - 1 ≡ n = omega arith in
-    rw e (sym (lift-stepped (stray pc) (running (wordOf l (suc n) 0) (positionsOf l n) (framesOf l n)) t (leave (fateOf (wordOf l (suc n) 3)) (wordOf l (suc n) 4) (wordOf l (suc n) 1) d)))
+    rw e (sym (lift-stepped (stray pc) (running (wordOf l (suc n) 0) (positionsOf l n) (framesOf l n)) t (leave (fateOf (wordOf l (suc n) 3)) x (wordOf l (suc n) 4) (wordOf l (suc n) 1) d)))
 
-pub return-lifted : (t : Trace) (pc : ℕ) (ps : List ℕ) (l : List ℕ) (a : ℕ) (d : Data) {r w q b : ℕ} {x : Bool} → 1 ≤ a
-    → r ≡ wordOf l a 0 → w ≡ wordOf l a 3 → x ≡ not (eqb w 0) → q ≡ wordOf l a 4 → b ≡ wordOf l a 1
-    → lifted (stray pc) (running r (positionsOf l (a - 1)) (framesOf l (a - 1))) (told t (leave (cond x kept gone) q b d))
-    ≡ stepped t (exec RETURN pc ps (framesOf l a) d)
-return-lifted t pc ps l a d {w = w} h e g k m p = rw (e, k, m, p, needed-fate w, g) (return-cases t pc ps l a d h)
+module _ (t : Trace) (pc : ℕ) (ps : List ℕ) (l : List ℕ) (a : ℕ) (d : Data) (x : Link) where
+  pub return-none : a ≡ 0 → halted (stray pc) ≡ stepped t (exec (RETURN x) pc ps (framesOf l a) d)
+  unfolding exec stepped framesOf
+  return-none e = rw e
+
+  pub return-lifted : {r w q b : ℕ} → 1 ≤ a → r ≡ wordOf l a 0 → w ≡ wordOf l a 3 → q ≡ wordOf l a 4 → b ≡ wordOf l a 1
+      → lifted (stray pc) (running r (positionsOf l (a - 1)) (framesOf l (a - 1))) (told t (leave (fateOf w) x q b d))
+      ≡ stepped t (exec (RETURN x) pc ps (framesOf l a) d)
+  return-lifted h e g m p = rw (e, g, m, p) (return-cases t pc ps l a d x h)
+
+-- what is apart after it
+pub fate-some : (w : ℕ) → 2 ≤ w → fateOf w ≡ stored
+unfolding fateOf
+fate-some w h = rw (ne-eqb w 0 (omega arith), ne-eqb w 1 (omega arith))
+
+pub left-same : (l : List ℕ) (a w : ℕ) (x : Link) → w ≤ 1 → ownOf l (a - 1) ≡ left (fateOf w) x (ownOf l a)
+unfolding fateOf
+left-same l a zero x h = refl
+left-same l a (suc zero) x h = refl
+left-same l a (suc (suc w)) x h = absurd (omega arith)
+
+module _ (l : List ℕ) (a f q : ℕ) (g : Lives l a) (h : 1 ≤ a) {w : ℕ} (k : w ≡ wordOf l a 3) (m : 2 ≤ w) where
+  is-stored : fateOf (wordOf l a 3) ≡ stored
+  is-stored = ap fateOf (sym k) ∙ fate-some w m
+
+  pub left-room : linksFound l < 256
+  left-room = omega (arith, g .way, stores-top l a h is-stored)
+
+  module _ {l' : List ℕ} (e : l' ≡ linked l f q) where
+    pub left-more : ownOf l' (a - 1) ≡ left (fateOf w) (link (formOfWord f) q) (ownOf l a)
+    left-more = rw (e, linked-found l a f q g left-room, fate-some w m)
+
+    pub left-positions : positionsOf l' (a - 1) ≡ positionsOf l (a - 1)
+    left-positions = rw e (linked-positions l a f q g left-room (a - 1) (omega arith))
+
+    pub left-frames : framesOf l' (a - 1) ≡ framesOf l (a - 1)
+    left-frames = rw e (linked-frames l (a - 1) f q (lives-less l a (a - 1) g (omega arith)) left-room)
+
+    pub left-lives : Lives l' (a - 1)
+    left-lives =
+        rw e (linked-lives l (a - 1) f q (lives-less l a (a - 1) g (omega arith)) left-room (omega (arith, g .way, stores-top l a h is-stored)))
+
+-- the form in the operand
+abbrev instrOf : (Form → Instruction) → Typed → Option Instruction
+instrOf i (Form1 t) = some (i t)
+instrOf i NoForm = none
+
+form-cond : (a b c : Bool) (i : Form → Instruction)
+    → instrOf i (cond a (Form1 Wholes) (cond b (Form1 Reals) (cond c (Form1 Truths) NoForm))) ≡ cond a (some (i Wholes)) (cond b (some (i Reals)) (cond c (some (i Truths)) none))
+form-cond true b c i = refl
+form-cond false true c i = refl
+form-cond false false true i = refl
+form-cond false false false i = refl
+
+typed-form : (f : ℕ) (i : Form → Instruction) → instrOf i (typedOf f) ≡ withForm f i
+unfolding typedOf withForm
+typed-form f i = form-cond (eqb f 0) (eqb f 1) (eqb f 2) i
+
+module _ (f : ℕ) (i : Form → Instruction) where
+  pub form-none : 2 < f → withForm f i ≡ none
+  unfolding withForm
+  form-none h = rw (ne-eqb f 0 (omega arith), ne-eqb f 1 (omega arith), ne-eqb f 2 (omega arith))
+
+  pub form-some : f ≤ 2 → withForm f i ≡ some (i (formOfWord f))
+  unfolding withForm formOfWord
+  form-some h = go f h
+    where
+      go : (f : ℕ) → f ≤ 2 → withForm f i ≡ some (i (formOfWord f))
+      go zero h = refl
+      go (suc zero) h = refl
+      go (suc (suc zero)) h = refl
+      go (suc (suc (suc n))) h = absurd (omega arith)
+
+  -- as it is told
+  pub form-not : {x : Typed} → x ≡ typedOf f → x ≡ NoForm → withForm f i ≡ none
+  form-not e g = sym (typed-form f i) ∙ ap (instrOf i) (sym e ∙ g)
+
+  pub form-is : {x : Typed} {t : Form} → x ≡ typedOf f → x ≡ Form1 t → withForm f i ≡ some (i t)
+  form-is e g = sym (typed-form f i) ∙ ap (instrOf i) (sym e ∙ g)
 
 -- ---- what the code relies on
 
@@ -242,7 +313,16 @@ module _ (n : Counts) (s o : List ℤ) (l : List ℕ) {c : Chosen} (pc a : ℕ) 
 pub lifted-next : (w : Stop) (at : ℕ) (ps : List ℕ) (fs : List Activation) (x : After Data) → lifted w (running (at + 1) ps fs) x ≡ lifted w (running (suc at) ps fs) x
 lifted-next w at ps fs x = ap (λ (k : ℕ). lifted w (running k ps fs) x) (add-one at)
 
+pub lifted-as : (w : Stop) (r : ℕ) {ps ps' : List ℕ} {fs fs' : List Activation} → ps ≡ ps' → fs ≡ fs' → (x : After Data) → lifted w (running r ps fs) x ≡ lifted w (running r ps' fs') x
+lifted-as w r e g x = rw (e, g)
+
 -- ---- calls and loops, done
+
+pub adds-none : (w : ℕ) → w ≤ 1 → adds (fateOf w) ≡ 0
+unfolding fateOf
+adds-none zero h = refl
+adds-none (suc zero) h = refl
+adds-none (suc (suc w)) h = absurd (omega arith)
 
 module _ (n : Counts) (a : ℕ) (s i o : List ℤ) (l : List ℕ) (at q e u k w : ℕ) {b : ℕ} (z : b ≡ base (framesOf l a) a) (h : b + k ≤ n .cells) (g : Lives l a) (m : a < 256) (x y : ℕ) {l' : List ℕ} (c : l' ≡ begun l (a + 1) (at + 1) x y w q) where
   begun-is : l' ≡ begun l (suc a) (suc at) x y w q
@@ -258,10 +338,10 @@ module _ (n : Counts) (a : ℕ) (s i o : List ℤ) (l : List ℕ) (at q e u k w 
       (ap (λ (c : List ℕ). positionsOf c (suc a)) begun-is ∙ begun-positions l a (suc at) x y w q g m)
       (ap foundOf begun-is ∙ begun-found l a (suc at) x y w q g m)
 
-  pub call-sound : y ≤ a → Sound n s → n .written ≤ length o → SoundG (Goes e (a + 1) n) s l' o o
-  call-sound v d j =
+  pub call-sound : w ≤ 1 → y ≤ a → Sound n s → n .written ≤ length o → SoundG (Goes e (a + 1) n) s l' o o
+  call-sound b v d j =
       let z' = add-one a in
-      (d, rw (z', begun-is) (begun-lives l a (suc at) x y w q g m (omega arith)), j, refl)
+      (d, rw (z', begun-is) (begun-lives l a (suc at) x y w q g m (omega arith) (rw (adds-none w b) (omega (arith, g .way)))), j, refl)
 
 module _ (n : Counts) (a : ℕ) (s i o : List ℤ) (l : List ℕ) (at m : ℕ) {w : ℕ} (e : w ≡ wordOf l a 5) where
   pub go-no : (b r : ℕ) → (m ≡ w → ⊥) → halted (stray at) ≡ stepped (traceOf n o) (exec (GO m b r) at (positionsOf l a) (framesOf l a) (dataOf n (ownOf l a) s i o))
@@ -276,7 +356,7 @@ module _ (n : Counts) (a : ℕ) (s i o : List ℤ) (l : List ℕ) (at m : ℕ) {
         let v = lives-note l a (6 + m) r g (omega arith) (omega arith) in
         let p = ap (λ (c : List ℕ). positionsOf c a) c ∙ push-positions l a m r g (h ∙ e) k in
         let f = ap (λ (c : List ℕ). framesOf c a) c ∙ frames-own (noteOf l a (6 + m) r) a 5 (m + 1) (v .notes) (omega arith) ∙ frames-own l a (6 + m) r (g .notes) (omega arith) in
-        let j = ap foundOf c ∙ found-note (noteOf l a (6 + m) r) a 5 (m + 1) (omega arith) ∙ found-note l a (6 + m) r (omega arith) in
+        let j = ap foundOf c ∙ found-note (noteOf l a (6 + m) r) a 5 (m + 1) (omega arith) (omega (arith, g .many)) ∙ found-note l a (6 + m) r (omega arith) (omega (arith, g .many)) in
         rw j (ap₂ (λ (x : List ℕ) (y : List Activation). goes (running b x y (dataOf n (ownOf l a) s i o)) (traceOf n o)) p f
         ∙ go-goes (traceOf n o) at (positionsOf l a) (framesOf l a) (dataOf n (ownOf l a) s i o) m b r (h ∙ e ∙ sym (positions-length l a)))
 
@@ -288,7 +368,7 @@ module _ (n : Counts) (a : ℕ) (s i o : List ℤ) (l : List ℕ) (at m : ℕ) {
     next-done =
         let f = ap (λ (c : List ℕ). framesOf c a) c ∙ frames-own l a 5 m (g .notes) (omega arith) in
         let j = pop-positions l a m g (h ∙ e) in
-        let x = ap foundOf c ∙ found-note l a 5 m (omega arith) in
+        let x = ap foundOf c ∙ found-note l a 5 m (omega arith) (omega (arith, g .many)) in
         rw x (ap (λ (y : List Activation). goes (running r (positionsOf l' a) y (dataOf n (ownOf l a) s i o)) (traceOf n o)) f
         ∙ next-goes (traceOf n o) at (positionsOf l a) (framesOf l a) (dataOf n (ownOf l a) s i o) m r (positionsOf l' a)
         (j ∙ ap₂ (λ (x : ℕ) (y : List ℕ). x ∷ y) (sym p) (ap (λ (c : List ℕ). positionsOf c a) (sym c))) (h ∙ e ∙ sym (positions-length l a)))
@@ -296,35 +376,57 @@ module _ (n : Counts) (a : ℕ) (s i o : List ℤ) (l : List ℕ) (at m : ℕ) {
     pub next-lives : Lives l' a
     next-lives = rw c (lives-count l a m g (omega (arith, g .notes a (omega arith))))
 
--- ---- operations on the data and tests, over the variable's cell
+-- ---- operations on the data and tests, over what names the variable
 
-module _ (t : Trace) (at : ℕ) (ps : List ℕ) (fs : List Activation) (d : Data) (q v : ℕ) {c : ℕ} (e : c ≡ cellIn fs d (variable v)) where
-  pub act-done : (k : ℕ) → leb (floor fs + downs (actOf k q (variable v) v)) (cells d) ≡ true
-      → lifted (stray at) (running (at + 1) ps fs) (told t (work (actOf k q c v) d)) ≡ stepped t (exec (DO (actOf k q (variable v) v)) at ps fs d)
-  act-done k h =
+module _ (t : Trace) (at : ℕ) (ps : List ℕ) (fs : List Activation) (d : Data) where
+  -- an operation that names no variable, or whose variable is known
+  pub plain-done : (a : Act Location) {b : Act Target} → leb (floor fs + downs a) (cells d) ≡ true → b ≡ actOn (targetIn fs d) a
+      → lifted (stray at) (running (at + 1) ps fs) (told t (work b d)) ≡ stepped t (exec (DO a) at ps fs d)
+  plain-done a h e =
       lifted-next (stray at) at ps fs _
-      ∙ ap (λ (x : Act ℕ). lifted (stray at) (running (suc at) ps fs) (told t (work x d))) (ap (λ (y : ℕ). actOf k q y v) e ∙ sym (act-on (cellIn fs d) k q (variable v) v))
-      ∙ do-lifted t at ps fs d (actOf k q (variable v) v) h
+      ∙ ap (λ (x : Act Target). lifted (stray at) (running (suc at) ps fs) (told t (work x d))) e
+      ∙ do-lifted t at ps fs d a h
 
-  -- .. of LOAD and STORE
-  pub load-done : leb (floor fs + 0) (cells d) ≡ true
-      → lifted (stray at) (running (at + 1) ps fs) (told t (work (load q c) d)) ≡ stepped t (exec (DO (load q (variable v))) at ps fs d)
-  load-done h =
-      lifted-next (stray at) at ps fs _
-      ∙ ap (λ (y : ℕ). lifted (stray at) (running (suc at) ps fs) (told t (work (load q y) d))) e
-      ∙ do-lifted t at ps fs d (load q (variable v)) h
+  module _ (q v : ℕ) {c : Target} (e : c ≡ targetIn fs d (variable v)) where
+    pub act-done : (k : ℕ) → leb (floor fs + downs (actOf k q (variable v) v)) (cells d) ≡ true
+        → lifted (stray at) (running (at + 1) ps fs) (told t (work (actOf k q c v) d)) ≡ stepped t (exec (DO (actOf k q (variable v) v)) at ps fs d)
+    act-done k h = plain-done (actOf k q (variable v) v) h (ap (λ (y : Target). actOf k q y v) e ∙ sym (act-on (targetIn fs d) k q (variable v) v))
 
-  pub store-done : leb (floor fs + 1) (cells d) ≡ true
-      → lifted (stray at) (running (at + 1) ps fs) (told t (work (store c) d)) ≡ stepped t (exec (DO (store (variable v))) at ps fs d)
-  store-done h =
-      lifted-next (stray at) at ps fs _
-      ∙ ap (λ (y : ℕ). lifted (stray at) (running (suc at) ps fs) (told t (work (store y) d))) e
-      ∙ do-lifted t at ps fs d (store (variable v)) h
+    -- .. of LOAD and STORE
+    pub load-done : leb (floor fs + 0) (cells d) ≡ true
+        → lifted (stray at) (running (at + 1) ps fs) (told t (work (load q c) d)) ≡ stepped t (exec (DO (load q (variable v))) at ps fs d)
+    load-done h = plain-done (load q (variable v)) h (ap (load q) e)
 
-  pub upto-done : (l : ℕ) → leb (floor fs + 1) (cells d) ≡ true
-      → lifted (stray at) (either (running (suc at) ps fs) (running l ps fs)) (told t (test (upto q c) d)) ≡ stepped t (exec (IF (upto q (variable v)) l) at ps fs d)
-  upto-done l h =
-      ap (λ (y : ℕ). lifted (stray at) (either (running (suc at) ps fs) (running l ps fs)) (told t (test (upto q y) d))) e ∙ if-lifted t at ps fs d (upto q (variable v)) l h
+    pub store-done : leb (floor fs + 1) (cells d) ≡ true
+        → lifted (stray at) (running (at + 1) ps fs) (told t (work (store q c) d)) ≡ stepped t (exec (DO (store q (variable v))) at ps fs d)
+    store-done h = plain-done (store q (variable v)) h (ap (store q) e)
+
+    pub upto-done : (l : ℕ) → leb (floor fs + 1) (cells d) ≡ true
+        → lifted (stray at) (either (running (suc at) ps fs) (running l ps fs)) (told t (test (upto q c) d)) ≡ stepped t (exec (IF (upto q (variable v)) l) at ps fs d)
+    upto-done l h =
+        ap (λ (y : Target). lifted (stray at) (either (running (suc at) ps fs) (running l ps fs)) (told t (test (upto q y) d))) e ∙ if-lifted t at ps fs d (upto q (variable v)) l h
+
+-- whether cells are lacking
+pub lacks-yes : {r b : Bool} → not r ≡ b → r ≡ true → b ≡ false
+lacks-yes e g = sym e ∙ ap (λ (z : Bool). not z) g
+
+pub lacks-no : {r b : Bool} → not r ≡ b → r ≡ false → b ≡ true
+lacks-no e g = sym e ∙ ap (λ (z : Bool). not z) g
+
+-- the logical value in the operand
+module _ (q f : ℕ) where
+  pub logical-none : 1 < f → logical q f ≡ none
+  unfolding logical
+  logical-none h = rw (ne-eqb f 0 (omega arith), ne-eqb f 1 (omega arith))
+
+  pub logical-is : f ≤ 1 → logical q f ≡ some (DO (push q (Truth (eqb f 1))))
+  unfolding logical
+  logical-is h = go f h
+    where
+      go : (f : ℕ) → f ≤ 1 → logical q f ≡ some (DO (push q (Truth (eqb f 1))))
+      go zero h = refl
+      go (suc zero) h = refl
+      go (suc (suc n)) h = absurd (omega arith)
 
 -- ---- the instruction at the counter
 
@@ -332,6 +434,9 @@ module _ (t : Trace) (at : ℕ) (ps : List ℕ) (fs : List Activation) (d : Data
   pub obeyed : {x : Option Instruction} {i : Instruction} → x ≡ some i → stepped t (exec i at ps fs d) ≡ stepped t (obey x at ps fs d)
   unfolding obey
   obeyed e = rw e
+
+  pub obeyed-as : {x y : Option Instruction} → x ≡ y → stepped t (obey y at ps fs d) ≡ stepped t (obey x at ps fs d)
+  obeyed-as e = ap (λ (z : Option Instruction). stepped t (obey z at ps fs d)) (sym e)
 
   pub obeyed-none : {x : Option Instruction} → x ≡ none → halted (stray at) ≡ stepped t (obey x at ps fs d)
   unfolding obey stepped

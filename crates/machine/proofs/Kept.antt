@@ -3,7 +3,7 @@ use mathlib.Core.Path.{_≡_, refl, sym, ap, _∙_}
 use mathlib.Core.List.{List, [], _∷_}
 use Prim.Native.Nat.{ℕ, suc, _+_, _-_, _≤_, _<_}
 use native.Mathlib.Omega.{arith}
-use lib.ListN.{length, drop, length-replicate}
+use lib.ListN.{length, drop, length-replicate, length-append}
 use lib.Dec.{ltb}
 use mathlib.Core.Bool.{Bool, true, false}
 use mathlib.Core.Path.{subst}
@@ -12,62 +12,59 @@ use native.Mathlib.Nat.{eq-or-lt-of-le, le-of-suc-le-suc}
 use native.Mathlib.Numerals.{add-one}
 use borrow.Author.Tests.{lt-ltb, le-ltb, le-leb, lt-leb}
 use lib.IntN.{ℤ}
-use mir.Syntax.{w32}
-use mir.Val.{SFits}
-use Rattle.machine.specs.declared.Cell.{Cell}
-use Rattle.machine.specs.declared.Cell.the-variants.{Unset, Holds, Named}
+use Rattle.answers.specs.declared.Answer.{Answer}
+use Rattle.answers.specs.Numbers.{cells as noCell}
+use Rattle.reals.specs.declared.Form.{Form}
+use Rattle.reals.specs.declared.Value.{Value}
+use Rattle.reals.specs.declared.Outcome.{Outcome}
+use Rattle.reals.specs.declared.Outcome.the-variants.{Is, Fault, Stray}
+use Rattle.reals.specs.declared.Cell.{Cell}
+use Rattle.reals.specs.declared.Cell.the-variants.{Unset, Holds, Named}
+use Rattle.reals.specs.model.Stored.{Fitting, FittingC}
 use Rattle.machine.specs.declared.Counts.{Counts}
 use Rattle.machine.specs.declared.Used.{Used}
 use Rattle.machine.specs.declared.Used.the-variants.{Value as Value1, Nothing as Nothing1}
 use Rattle.machine.specs.declared.Pair.{Pair}
 use Rattle.machine.specs.declared.Pair.the-variants.{Values as Values2, Nothing as Nothing2}
 use Rattle.machine.specs.declared.Did.{Did}
-use Rattle.machine.specs.declared.Did.the-variants.{Good, Bad, Stray}
+use Rattle.machine.specs.declared.Did.the-variants.{Good, Bad, Stray as StrayD}
 use Rattle.machine.specs.declared.Chosen.{Chosen}
 use Rattle.machine.specs.declared.Chosen.the-variants.{Yes, No, Bad as BadT, Stray as StrayT}
-use Rattle.machine.specs.declared.Number.the-variants.{Is as Number1, Not}
-use Rattle.machine.specs.declared.Value.{Value}
-use Rattle.machine.specs.declared.Value.the-variants.{Is, Fault}
-use Rattle.answers.specs.declared.Answer.{Answer}
-use Rattle.answers.specs.Numbers.{cells as noCell}
 use Rattle.machine.specs.Run.{Trace, quiet}
-use Rattle.machine.specs.Data.{Data, contents, Lent, cells, Result, bad, wrong, good, check, value, nothing, newest, two, back, put, look, plain, newCells, openBlock, valued}
-use Rattle.machine.specs.model.Holding.{Own, Fitting, numberIn, cellAt, putAt, roomOf, unassigned, cellsOf, heldOf, dataOf, traceOf, seenU, onPair, told, fine, ill, fewer, holding, UsedIn, PairIn, Sound, SoundD, SoundT}
-use Rattle.machine.proofs.Stacks.{sound-unassigned, put-same, put-other, sound-put, sound-same, cells-unassigned, held-unassigned, room-unassigned, room-put, cells-length, cells-put, cells-new, cells-cons, cells-get, cells-set, held-length, held-put, held-new}
+use Rattle.machine.specs.Data.{Data, contents, cells, Result, bad, wrong, good, check, value, nothing, newest, two, back, put, look, plain, newCells, openBlock, valued, Counted, inAll, unset}
+use Rattle.machine.specs.model.Holding.{Own, cellAt, putAt, roomOf, unassignedAll, cellsOf, heldOf, dataOf, traceOf, seenU, onPair, told, fine, ill, lost, fewer, holding, UsedIn, PairIn, Sound, SoundD, SoundT}
+use Rattle.machine.proofs.Stacks.{put-same, put-other, sound-put, sound-same, cells-all, held-all, room-all, sound-all, room-put, cells-length, cells-put, cells-new, cells-cons, cells-get, cells-set, held-length, held-put, held-new}
 
 -- one cell more
 abbrev pub more : ℕ → Counts → Counts
 more k n = record { cells = n .cells + k; held = n .held; taken = n .taken; written = n .written }
 
--- what a cell holds that was found to hold a number, or none
-pub number-holds : (x : Cell) {v : ℤ} → numberIn x ≡ Number1 v → x ≡ Holds v
-number-holds Unset {v} e = absurd (let z : _≡_ {A = ℕ} 0 1 = cc in omega arith)
-number-holds (Holds w) {v} e = let z : w ≡ v = cc in ap Holds z
-number-holds (Named m) {v} e = absurd (let z : _≡_ {A = ℕ} 0 1 = cc in omega arith)
-
-newest-no : (x : Cell) (w : List Cell) (h : List ℤ) (a : ℕ) (l : Lent) → numberIn x ≡ Not → newest (contents (x ∷ w) h a l) ≡ nothing
-unfolding newest
-newest-no Unset w h a l e = refl
-newest-no (Holds v) w h a l e = absurd (let z : _≡_ {A = ℕ} 0 1 = cc in omega arith)
-newest-no (Named m) w h a l e = refl
+pub unset-length : (k : Counted) → length (unset k) ≡ inAll k
+unset-length k =
+    simp (length-append, length-replicate) (omega arith)
 
 module _ (n : Counts) (a : Own) (s i o : List ℤ) where
   pub newest-none : n .cells ≡ 0 → newest (dataOf n a s i o) ≡ nothing
   unfolding newest cellsOf
   newest-none e = rw e
 
-  pub newest-not : 1 ≤ n .cells → numberIn (cellAt s (n .cells - 1)) ≡ Not → newest (dataOf n a s i o) ≡ nothing
-  newest-not h e = rw (cells-cons (n .cells) s h) (newest-no (cellAt s (n .cells - 1)) _ _ _ _ e)
-
-  pub newest-holds : {v v' : ℤ} → 1 ≤ n .cells → cellAt s (n .cells - 1) ≡ Holds v → v' ≡ v → newest (dataOf n a s i o) ≡ value v' (dataOf (fewer 1 n) a s i o)
+  pub newest-unset : {t : Form} → 1 ≤ n .cells → cellAt s (n .cells - 1) ≡ Unset t → newest (dataOf n a s i o) ≡ nothing
   unfolding newest
-  newest-holds h e p = rw (cells-cons (n .cells) s h, e, p)
+  newest-unset h e = rw (cells-cons (n .cells) s h, e)
+
+  pub newest-named : {m : ℕ} → 1 ≤ n .cells → cellAt s (n .cells - 1) ≡ Named m → newest (dataOf n a s i o) ≡ nothing
+  unfolding newest
+  newest-named h e = rw (cells-cons (n .cells) s h, e)
+
+  pub newest-holds : {v : Value} → 1 ≤ n .cells → cellAt s (n .cells - 1) ≡ Holds v → newest (dataOf n a s i o) ≡ value v (dataOf (fewer 1 n) a s i o)
+  unfolding newest
+  newest-holds h e = rw (cells-cons (n .cells) s h, e)
 
   pub look-data : (c : ℕ) → c < n .cells → look c (dataOf n a s i o) ≡ cellAt s c
   unfolding look
   look-data c h = rw (cells-length (n .cells) s) (cells-get (n .cells) s c h)
 
-  pub put-data : (c : ℕ) (v : ℤ) → SFits w32 v → c < n .cells → n .cells + n .held ≤ roomOf s → dataOf n a (putAt s c (Holds v)) i o ≡ put c v (dataOf n a s i o)
+  pub put-data : (c : ℕ) (v : Value) → Fitting v → c < n .cells → n .cells + n .held ≤ roomOf s → dataOf n a (putAt s c (Holds v)) i o ≡ put c v (dataOf n a s i o)
   unfolding put
   put-data c v f h r =
       let l : c + n .held < roomOf s = omega arith in
@@ -75,14 +72,14 @@ module _ (n : Counts) (a : Own) (s i o : List ℤ) where
       rw (cells-length (n .cells) s, cells-set (n .cells) s c (Holds v) f h m, held-put (n .held) s c (Holds v) l, room-put s c (Holds v))
 
   -- a new cell
-  pub new-data : (x : Cell) → Fitting x → n .cells + n .held < roomOf s
+  pub new-data : (x : Cell) → FittingC x → n .cells + n .held < roomOf s
       → dataOf (more 1 n) a (putAt s (n .cells) x) i o
       ≡ contents (x ∷ cellsOf (n .cells) s) (heldOf (n .held) s) (a .live) (record { cellsLent = roomOf s; input = drop (n .taken) i; space = length o - n .written; found = a .found })
   new-data x f h =
       let l : n .cells < roomOf s = omega arith in
       rw (cells-new (n .cells) s x f l, held-put (n .held) s (n .cells) x h, room-put s (n .cells) x)
 
-  pub back-data : (v : ℤ) → SFits w32 v → n .cells + n .held < roomOf s → dataOf (more 1 n) a (putAt s (n .cells) (Holds v)) i o ≡ back v (dataOf n a s i o)
+  pub back-data : (v : Value) → Fitting v → n .cells + n .held < roomOf s → dataOf (more 1 n) a (putAt s (n .cells) (Holds v)) i o ≡ back v (dataOf n a s i o)
   unfolding back
   back-data v f h = new-data (Holds v) f h
 
@@ -102,7 +99,7 @@ module _ (n : Counts) (a : Own) (s i o : List ℤ) where
       let l : roomOf s < n .cells + n .held + 1 = omega arith in
       rw (cells-length (n .cells) s, held-length (n .held) s, lt-leb (n .cells + n .held + 1) (roomOf s) l)
 
-  pub new-some : (q : ℕ) (x : Cell) → Fitting x → n .cells + n .held < roomOf s
+  pub new-some : (q : ℕ) (x : Cell) → FittingC x → n .cells + n .held < roomOf s
       → newCells q (x ∷ []) (dataOf n a s i o) ≡ good quiet (dataOf (more 1 n) a (putAt s (n .cells) x) i o)
   unfolding newCells check
   new-some q x f h =
@@ -110,68 +107,68 @@ module _ (n : Counts) (a : Own) (s i o : List ℤ) where
       rw (cells-length (n .cells) s, held-length (n .held) s, le-leb (n .cells + n .held + 1) (roomOf s) l) (ap (good quiet) (sym (new-data x f h)))
 
   -- a block's cells
-  pub open-none : (q k : ℕ) → roomOf s < n .cells + n .held + k → openBlock q k (dataOf n a s i o) ≡ bad noCell q
+  pub open-none : (q : ℕ) (k : Counted) → roomOf s < n .cells + n .held + inAll k → openBlock q k (dataOf n a s i o) ≡ bad noCell q
   unfolding openBlock newCells check
   open-none q k h =
-      rw (cells-length (n .cells) s, held-length (n .held) s, length-replicate k Unset, lt-leb (n .cells + n .held + k) (roomOf s) h)
+      rw (cells-length (n .cells) s, held-length (n .held) s, unset-length k, lt-leb (n .cells + n .held + inAll k) (roomOf s) h)
 
-  pub open-full : (q k : ℕ) → roomOf s < n .cells + n .held + k → ill noCell q ≡ told (traceOf n o) (openBlock q k (dataOf n a s i o))
+  pub open-full : (q : ℕ) (k : Counted) → roomOf s < n .cells + n .held + inAll k → ill noCell q ≡ told (traceOf n o) (openBlock q k (dataOf n a s i o))
   unfolding told
   open-full q k h = rw (open-none q k h)
 
-  pub open-some : (q k : ℕ) → n .cells + n .held + k ≤ roomOf s
-      → openBlock q k (dataOf n a s i o) ≡ good quiet (dataOf (more k n) a (unassigned s (n .cells) k) i o)
+  pub open-some : (q : ℕ) (k : Counted) → n .cells + n .held + inAll k ≤ roomOf s
+      → openBlock q k (dataOf n a s i o) ≡ good quiet (dataOf (more (inAll k) n) a (unassignedAll k s (n .cells)) i o)
   unfolding openBlock newCells check
   open-some q k h =
-      let l : n .cells + k ≤ roomOf s = omega arith in
-      let m : n .cells + k + n .held ≤ roomOf s = omega arith in
+      let l : n .cells + inAll k ≤ roomOf s = omega arith in
+      let m : n .cells + inAll k + n .held ≤ roomOf s = omega arith in
       rw (
         cells-length (n .cells) s,
         held-length (n .held) s,
-        length-replicate k Unset,
-        le-leb (n .cells + n .held + k) (roomOf s) h,
-        cells-unassigned s (n .cells) k l,
-        held-unassigned (n .held) s (n .cells) k m,
-        room-unassigned s (n .cells) k,
+        unset-length k,
+        le-leb (n .cells + n .held + inAll k) (roomOf s) h,
+        cells-all k s (n .cells) l,
+        held-all k s (n .cells) (n .held) m,
+        room-all k s (n .cells),
       )
 
   -- a value used, or none
-  pub saw : {u : Used} {v : ℤ} {m : Counts} → u ≡ Value1 v m → newest (dataOf n a s i o) ≡ seenU u a s i o → newest (dataOf n a s i o) ≡ value v (dataOf m a s i o)
+  pub saw : {u : Used} {v : Value} {m : Counts} → u ≡ Value1 v m → newest (dataOf n a s i o) ≡ seenU u a s i o → newest (dataOf n a s i o) ≡ value v (dataOf m a s i o)
   saw e p = p ∙ ap (λ (w : Used). seenU w a s i o) e
 
   pub saw-none : {u : Used} → u ≡ Nothing1 → newest (dataOf n a s i o) ≡ seenU u a s i o → newest (dataOf n a s i o) ≡ nothing
   saw-none e p = p ∙ ap (λ (w : Used). seenU w a s i o) e
 
   -- two values used, or not
-  pub saw-two : {u : Pair} {x y : ℤ} {m : Counts} → u ≡ Values2 x y m → ((f : ℤ → ℤ → Data → Result Data) → two f (dataOf n a s i o) ≡ onPair f u a s i o)
-      → (f : ℤ → ℤ → Data → Result Data) → two f (dataOf n a s i o) ≡ f x y (dataOf m a s i o)
+  pub saw-two : {u : Pair} {x y : Value} {m : Counts} → u ≡ Values2 x y m → ((f : Value → Value → Data → Result Data) → two f (dataOf n a s i o) ≡ onPair f u a s i o)
+      → (f : Value → Value → Data → Result Data) → two f (dataOf n a s i o) ≡ f x y (dataOf m a s i o)
   saw-two e p f = p f ∙ ap (λ (w : Pair). onPair f w a s i o) e
 
-  pub saw-no-two : {u : Pair} → u ≡ Nothing2 → ((f : ℤ → ℤ → Data → Result Data) → two f (dataOf n a s i o) ≡ onPair f u a s i o)
-      → (f : ℤ → ℤ → Data → Result Data) → two f (dataOf n a s i o) ≡ wrong
+  pub saw-no-two : {u : Pair} → u ≡ Nothing2 → ((f : Value → Value → Data → Result Data) → two f (dataOf n a s i o) ≡ onPair f u a s i o)
+      → (f : Value → Value → Data → Result Data) → two f (dataOf n a s i o) ≡ wrong
   saw-no-two e p f = p f ∙ ap (λ (w : Pair). onPair f w a s i o) e
 
   -- the store after a cell was put
   module _ {s' : List ℤ} where
-    pub back-done : {v v' : ℤ} → s' ≡ putAt s (n .cells) (Holds v') → v' ≡ v → SFits w32 v → n .cells + n .held < roomOf s
+    pub back-done : (v : Value) → s' ≡ putAt s (n .cells) (Holds v) → Fitting v → n .cells + n .held < roomOf s
         → fine (dataOf (more 1 n) a s' i o) (traceOf n o) ≡ fine (back v (dataOf n a s i o)) (traceOf n o)
-    back-done {v} e p f h = rw (e, p) (ap (λ (d : Data). fine d (traceOf n o)) (back-data v f h))
+    back-done v e f h = rw e (ap (λ (d : Data). fine d (traceOf n o)) (back-data v f h))
 
-    pub put-is : {c : ℕ} {v v' : ℤ} → s' ≡ putAt s c (Holds v') → v' ≡ v → SFits w32 v → c < n .cells → n .cells + n .held ≤ roomOf s
+    pub put-is : {c : ℕ} (v : Value) → s' ≡ putAt s c (Holds v) → Fitting v → c < n .cells → n .cells + n .held ≤ roomOf s
         → dataOf n a s' i o ≡ put c v (dataOf n a s i o)
-    put-is {c} {v} e p f h r = rw (e, p) (put-data c v f h r)
+    put-is {c} v e f h r = rw e (put-data c v f h r)
 
-    pub put-done : {c : ℕ} {v v' : ℤ} → s' ≡ putAt s c (Holds v') → v' ≡ v → SFits w32 v → c < n .cells → n .cells + n .held ≤ roomOf s
+    pub put-done : {c : ℕ} (v : Value) → s' ≡ putAt s c (Holds v) → Fitting v → c < n .cells → n .cells + n .held ≤ roomOf s
         → fine (dataOf n a s' i o) (traceOf n o) ≡ fine (put c v (dataOf n a s i o)) (traceOf n o)
-    put-done {c} {v} e p f h r = ap (λ (d : Data). fine d (traceOf n o)) (put-is e p f h r)
+    put-done {c} v e f h r = ap (λ (d : Data). fine d (traceOf n o)) (put-is v e f h r)
 
-    pub new-done : (q : ℕ) (x : Cell) → s' ≡ putAt s (n .cells) x → Fitting x → n .cells + n .held < roomOf s
+    pub new-done : (q : ℕ) (x : Cell) → s' ≡ putAt s (n .cells) x → FittingC x → n .cells + n .held < roomOf s
         → fine (dataOf (more 1 n) a s' i o) (traceOf n o) ≡ told (traceOf n o) (newCells q (x ∷ []) (dataOf n a s i o))
     unfolding told
     new-done q x e f h = rw (e, new-some q x f h)
 
-    pub open-done : (q k : ℕ) → s' ≡ unassigned s (n .cells) k → n .cells + n .held + k ≤ roomOf s
-        → fine (dataOf (more k n) a s' i o) (traceOf n o) ≡ told (traceOf n o) (openBlock q k (dataOf n a s i o))
+    pub open-done : (q : ℕ) (k : Counted) → s' ≡ unassignedAll k s (n .cells) → n .cells + n .held + inAll k ≤ roomOf s
+        → fine (dataOf (more (inAll k) n) a s' i o) (traceOf n o) ≡ told (traceOf n o) (openBlock q k (dataOf n a s i o))
     unfolding told
     open-done q k e h = rw (e, open-some q k h)
 
@@ -180,7 +177,7 @@ module _ (n : Counts) (a : Own) (s i o : List ℤ) where
   new-full q x h = rw (new-none q x h)
 
   -- one more is held
-  pub hold-data : (v : ℤ) → SFits w32 v → n .cells + n .held < roomOf s
+  pub hold-data : (v : Value) → Fitting v → n .cells + n .held < roomOf s
       → dataOf (holding n) a (putAt s (roomOf s - 1 - n .held) (Holds v)) i o
       ≡ contents (cellsOf (n .cells) s) (v ∷ heldOf (n .held) s) (a .live) (record { cellsLent = roomOf s; input = drop (n .taken) i; space = length o - n .written; found = a .found })
   hold-data v f h =
@@ -191,7 +188,7 @@ module _ (n : Counts) (a : Own) (s i o : List ℤ) where
 
 -- ---- what the code relies on
 
-pub sound-hold : (n : Counts) (s : List ℤ) (v : ℤ) → SFits w32 v → Sound n s → n .cells + n .held < roomOf s → Sound (holding n) (putAt s (roomOf s - 1 - n .held) (Holds v))
+pub sound-hold : (n : Counts) (s : List ℤ) (v : Value) → Fitting v → Sound n s → n .cells + n .held < roomOf s → Sound (holding n) (putAt s (roomOf s - 1 - n .held) (Holds v))
 sound-hold n s v f g h =
     let c = roomOf s - 1 - n .held in
     let r = room-put s c (Holds v) in
@@ -226,7 +223,7 @@ fewer-fewer n m l e f =
 pub sound-as : (n m : Counts) (r : Did) (s : List ℤ) → m .written ≡ n .written → SoundD m r s → SoundD n r s
 sound-as n m (Good l) s e h = (h .0, h .1 ∙ e)
 sound-as n m (Bad x q) s e h = tt
-sound-as n m Stray s e h = tt
+sound-as n m StrayD s e h = tt
 
 pub test-as : (n m : Counts) (r : Chosen) (s : List ℤ) → m .written ≡ n .written → SoundT m r s → SoundT n r s
 test-as n m (Yes l) s e h = (h .0, h .1 ∙ e)
@@ -242,13 +239,13 @@ trace-as k n m o e = ap (λ (l : Counts). traceOf l o) e
 
 -- ---- what a function that used values says of the counts
 
-used-as : (n : Counts) {m : Counts} {u : Used} {v : ℤ} → u ≡ Value1 v m → UsedIn n u → (1 ≤ n .cells) × (m ≡ fewer 1 n)
+used-as : (n : Counts) {m : Counts} {u : Used} {v : Value} → u ≡ Value1 v m → UsedIn n u → (1 ≤ n .cells) × (m ≡ fewer 1 n) × Fitting v
 used-as n e h = subst (UsedIn n) e h
 
-pair-as : (n : Counts) {m : Counts} {u : Pair} {x y : ℤ} → u ≡ Values2 x y m → PairIn n u → (2 ≤ n .cells) × (m ≡ fewer 2 n)
+pair-as : (n : Counts) {m : Counts} {u : Pair} {x y : Value} → u ≡ Values2 x y m → PairIn n u → (2 ≤ n .cells) × (m ≡ fewer 2 n) × Fitting x × Fitting y
 pair-as n e h = subst (PairIn n) e h
 
-module _ (n : Counts) {m : Counts} {u : Used} {v : ℤ} (e : u ≡ Value1 v m) (h : UsedIn n u) where
+module _ (n : Counts) {m : Counts} {u : Used} {v : Value} (e : u ≡ Value1 v m) (h : UsedIn n u) where
   pub used-sound : {s : List ℤ} → Sound n s → Sound m s
   used-sound g = fewer-sound 1 n m _ g (used-as n e h .1)
 
@@ -264,15 +261,18 @@ module _ (n : Counts) {m : Counts} {u : Used} {v : ℤ} (e : u ≡ Value1 v m) (
   pub used-did : (r : Did) (s : List ℤ) → SoundD m r s → SoundD n r s
   used-did r s g = sound-as n m r s used-written g
 
+  pub used-fits : Fitting v
+  used-fits = used-as n e h .2
+
   -- and once more
-  pub used-twice : {w : Used} {x : ℤ} {l : Counts} → w ≡ Value1 x l → UsedIn m w → (2 ≤ n .cells) × (l ≡ fewer 2 n)
+  pub used-twice : {w : Used} {x : Value} {l : Counts} → w ≡ Value1 x l → UsedIn m w → (2 ≤ n .cells) × (l ≡ fewer 2 n) × Fitting x × Fitting v
   used-twice {w} {x} {l} f k =
       let a = used-as n e h in
       let b = used-as m f k in
       let z : m .cells ≡ n .cells - 1 = ap (λ (c : Counts). c .cells) (a .1) in
-      (omega arith, fewer-fewer n m l (a .1) (b .1))
+      (omega arith, fewer-fewer n m l (a .1) (b .1), b .2, a .2)
 
-module _ (n : Counts) {m : Counts} {u : Pair} {x y : ℤ} (e : u ≡ Values2 x y m) (h : PairIn n u) where
+module _ (n : Counts) {m : Counts} {u : Pair} {x y : Value} (e : u ≡ Values2 x y m) (h : PairIn n u) where
   pub pair-sound : {s : List ℤ} → Sound n s → Sound m s
   pair-sound g = fewer-sound 2 n m _ g (pair-as n e h .1)
 
@@ -302,16 +302,20 @@ module _ {n : Counts} {s s' : List ℤ} (c : ℕ) (x : Cell) (e : s' ≡ putAt s
 
 -- ---- an operator's value, or its fault
 
-module _ (q : ℕ) (t : Trace) (d : Data) (w : Value) where
-  pub valued-fault : {a : Answer} → w ≡ Fault a → ill (a .number) q ≡ told t (valued q (λ v. good quiet (back v d)) w)
+module _ {A : Type 0} (q : ℕ) (t : Trace) (g : Value → A) (w : Outcome) where
+  pub valued-fault : {a : Answer} → w ≡ Fault a → ill (a .number) q ≡ told t (valued q (λ v. good quiet (g v)) w)
   unfolding told valued
   valued-fault e = rw e
 
-  pub valued-is : {x x' : ℤ} → w ≡ Is x → x' ≡ x → fine (back x' d) t ≡ told t (valued q (λ v. good quiet (back v d)) w)
+  pub valued-stray : w ≡ Stray → lost ≡ told t (valued q (λ v. good quiet (g v)) w)
   unfolding told valued
-  valued-is e p = rw (e, p)
+  valued-stray e = rw e
 
-pub open-sound : (n : Counts) (s : List ℤ) {s' : List ℤ} (k : ℕ) → s' ≡ unassigned s (n .cells) k → Sound n s → n .cells + n .held + k ≤ roomOf s → Sound (more k n) s'
+  pub valued-is : {x : Value} → w ≡ Is x → fine (g x) t ≡ told t (valued q (λ v. good quiet (g v)) w)
+  unfolding told valued
+  valued-is e = rw e
+
+pub open-sound : (n : Counts) (s : List ℤ) {s' : List ℤ} (k : Counted) → s' ≡ unassignedAll k s (n .cells) → Sound n s → n .cells + n .held + inAll k ≤ roomOf s → Sound (more (inAll k) n) s'
 open-sound n s k e g h =
-    let u = sound-unassigned n s (n .cells) k g (omega arith) in
-    rw e (sound-same n (more k n) (unassigned s (n .cells) k) u (omega arith) (rw (room-unassigned s (n .cells) k) (omega arith)))
+    let u = sound-all k s (n .cells) n g (omega arith) in
+    rw e (sound-same n (more (inAll k) n) (unassignedAll k s (n .cells)) u (omega arith) (rw (room-all k s (n .cells)) (omega arith)))

@@ -1,14 +1,13 @@
-pub mod Signed
 pub mod Wholes
 pub mod Decode
 pub mod Words
 pub mod Stacks
 pub mod Frames
+pub mod Turns
 pub mod Kept
 pub mod Works
 pub mod Told
 pub mod Execs
+pub mod Numbers
 pub mod Named
 pub mod Limits
-pub mod Runs
-pub mod Order

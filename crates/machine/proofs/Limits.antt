@@ -4,7 +4,7 @@ use mathlib.Core.Path.{_≡_, refl, sym, ap, subst, _∙_}
 use mathlib.Core.Bool.{Bool, true, false, cond}
 use mathlib.Core.List.{List, [], _∷_, _++_, append-nil}
 use mathlib.Core.Option.{Option, none, some}
-use Prim.Native.Nat.{ℕ, zero, suc, _+_, _-_, _≤_, _<_, min}
+use Prim.Native.Nat.{ℕ, zero, suc, _+_, _-_, _*_, _/_, _≤_, _<_, min}
 use native.Mathlib.Omega.{arith}
 use native.Mathlib.Nat.{not-suc-le-zero, le-of-suc-le-suc, sub-zero, zero-min, min-zero, suc-min-suc}
 use native.Mathlib.Numerals.{add-one}
@@ -15,17 +15,17 @@ use lib.Seq.{length-take-le, drop-drop, drop-length}
 use lib.IntN.{ℤ, pos}
 use Rattle.answers.specs.declared.Stop.{Stop}
 use Rattle.answers.specs.declared.Stop.the-variants.{Limit, Wrong}
-use Rattle.machine.specs.declared.Cell.{Cell}
-use Rattle.machine.specs.declared.Cell.the-variants.{Unset, Holds, Named}
+use Rattle.reals.specs.declared.Cell.{Cell}
+use Rattle.reals.specs.declared.Cell.the-variants.{Unset, Holds, Named}
 use Rattle.machine.specs.declared.Counts.{Counts}
 use Rattle.machine.specs.declared.Ran.{Ran}
 use Rattle.machine.specs.declared.Outcome.{Outcome}
 use Rattle.machine.specs.declared.Outcome.the-variants.{Goes}
 use Rattle.machine.specs.Run.{Trace, untold, say, quiet, wrote, took, Out, halt, next, End, done, over, after, run}
-use Rattle.machine.specs.Data.{Data, Result, bad, wrong, good, lift, Fate}
+use Rattle.machine.specs.Data.{to, Data, Result, bad, wrong, good, lift, Fate}
 use Rattle.machine.specs.Instructions.{Instruction, END, DO, IF, JUMP, ENTER, LEAVE, CALL, RETURN, GO, NEXT, NAME, WORK, SEEK, PASS, REFUSE, fetch, decode}
 use Rattle.machine.specs.Machine.{Activation, activation, Running, running, workOut, exec, obey, step, finish, start, machine, used, exit, afterwards, job}
-use Rattle.machine.specs.model.Holding.{goes, halted, stepped, traceOf, machOf, roomOf, cellsOf, heldOf, stacked, positionsOf, framesOf, foundOf, wordOf, Sound, Lives, SoundG, seenO, Drove}
+use Rattle.machine.specs.model.Holding.{goes, halted, stepped, traceOf, machOf, roomOf, cellsOf, heldOf, stacked, positionsOf, framesOf, linksOf, storesOf, foundOf, wordOf, Sound, Lives, SoundG, seenO, Drove}
 
 -- ---- every instruction counts one
 
@@ -45,7 +45,7 @@ cond-counted false x y g h = h
 
 workout-counted : (x : Cell) (f : ℕ) (t : Fate) (q q' pc : ℕ) (ps : List ℕ) (fs : List Activation) (d : Data) → Counted (workOut x f t q q' pc ps fs d)
 unfolding workOut
-workout-counted Unset f t q q' pc ps fs d = tt
+workout-counted (Unset i) f t q q' pc ps fs d = tt
 workout-counted (Holds v) f t q q' pc ps fs d = tt
 workout-counted (Named n) f t q q' pc ps fs d = lift-counted _ _ _
 
@@ -55,11 +55,11 @@ exec-counted END pc ps fs d = tt
 exec-counted (DO a) pc ps fs d = lift-counted _ _ _
 exec-counted (IF t l) pc ps fs d = lift-counted _ _ _
 exec-counted (JUMP l) pc ps fs d = refl
-exec-counted (ENTER q n l) pc ps fs d = lift-counted _ _ _
+exec-counted (ENTER q n) pc ps fs d = lift-counted _ _ _
 exec-counted (LEAVE n) pc ps fs d = lift-counted _ _ _
 exec-counted (CALL q l u n f) pc ps fs d = lift-counted _ _ _
-exec-counted RETURN pc ps [] d = tt
-exec-counted RETURN pc ps (activation r b l f q ps' ∷ fs) d = lift-counted _ _ _
+exec-counted (RETURN x) pc ps [] d = tt
+exec-counted (RETURN x) pc ps (activation r b l f q ps' ∷ fs) d = lift-counted _ _ _
 exec-counted (GO m l r) pc ps fs d = cond-counted (eqb m (length ps)) _ _ refl tt
 exec-counted (NEXT m) pc [] fs d = tt
 exec-counted (NEXT m) pc (r ∷ ps) fs d = cond-counted (eqb m (length ps)) _ _ refl tt
@@ -114,7 +114,7 @@ module _ (words : List ℕ) (m : Running) (l d n : ℕ) (o : Trace) where
 
 -- ---- the whole run
 
-pub started : (s o i : List ℤ) (l : List ℕ) (n : Counts) → n ≡ record { cells = 0; held = 0; taken = 0; written = 0 } → wordOf l 0 5 ≡ 0 → foundOf l ≡ 0 → machOf 0 0 n s l i o ≡ start i (roomOf s) (length o)
+pub started : (s o i : List ℤ) (l : List ℕ) (n : Counts) → n ≡ record { cells = 0; held = 0; taken = 0; written = 0 } → wordOf l 0 5 ≡ 0 → foundOf l ≡ to 0 [] → machOf 0 0 n s l i o ≡ start i (roomOf s) (length o)
 unfolding positionsOf stacked framesOf cellsOf heldOf
 started s o i l n e z f = rw (e, z, f, sub-zero (length o))
 
@@ -142,7 +142,7 @@ wrote-more t (next k took m') {m} {t'} e =
     omega (arith, ap (λ (y : Trace). length (y .written)) z)
 wrote-more t (next k (wrote v) m') {m} {t'} e =
     let z : say t (wrote v) ≡ t' = cc in
-    omega (arith, ap (λ (y : Trace). length (y .written)) z, length-append (t .written) (v ∷ []))
+    omega (arith, ap (λ (y : Trace). length (y .written)) z, length-append (t .written) v)
 
 -- what holds before each instruction: what is left of the run is the whole of it
 pub record Driving (code : List ℕ) (input : List ℤ) (limit : ℕ) (store₀ output₀ store output : List ℤ) (own : List ℕ) (at live : ℕ) (n : Counts) (d : ℕ) : Type 0 where
@@ -155,18 +155,14 @@ pub record Driving (code : List ℕ) (input : List ℤ) (limit : ℕ) (store₀ 
   pub behind : drop (n .written) output ≡ drop (n .written) output₀
   pub same : run (step code) (limit - d) (machOf at live n store own input output) d (traceOf n output) ≡ run (step code) limit (start input (roomOf store₀) (length output₀)) 0 untold
 
-few-cells : (s : List ℤ) → length s ≤ 8192 → roomOf s ≤ 8192
-unfolding roomOf
-few-cells s h = omega arith
-
-pub driving-start : (code : List ℕ) (input : List ℤ) (limit : ℕ) (store output : List ℤ) (own : List ℕ) → length store ≤ 8192 → Lives own 0 → wordOf own 0 5 ≡ 0 → foundOf own ≡ 0
+pub driving-start : (code : List ℕ) (input : List ℤ) (limit : ℕ) (store output : List ℤ) (own : List ℕ) → roomOf store ≤ 8192 → Lives own 0 → wordOf own 0 5 ≡ 0 → foundOf own ≡ to 0 []
     → Driving code input limit store output store output own 0 0 (record { cells = 0; held = 0; taken = 0; written = 0 }) 0
 driving-start code input limit store output own h g z f =
     record {
       within = omega arith;
       long-store = refl;
       long-output = refl;
-      sound = record { room = omega arith; few = few-cells store h; holds = λ k b. absurd (not-suc-le-zero b) };
+      sound = record { room = omega arith; few = h; holds = λ k b. absurd (not-suc-le-zero b) };
       lives = g;
       wrote = omega arith;
       behind = refl;
@@ -229,31 +225,27 @@ fill-more n v d l = rw add-one (fill-suc n v d l)
 
 -- ---- the machine's own memory, at first
 
-pub first-lives : Lives (replicate 17990 0) 0
-unfolding wordOf
+pub first-lives : Lives (replicate 18502 0) 0
+unfolding wordOf storesOf
 first-lives =
     record {
-      long = length-replicate {A = ℕ} 17990 0;
+      long = length-replicate {A = ℕ} 18502 0;
       many = omega arith;
       links = λ i h. let e : i ≡ 0 = omega arith in rw e (omega arith);
       notes = λ i h. let e : i ≡ 0 = omega arith in rw e (omega arith);
+      way = omega arith;
     }
 
-pub first-positions : wordOf (replicate 17990 0) 0 5 ≡ 0
+pub first-positions : wordOf (replicate 18502 0) 0 5 ≡ 0
 unfolding wordOf
 first-positions = refl
 
-pub first-found : foundOf (replicate 17990 0) ≡ 0
-unfolding foundOf wordOf
+pub first-found : foundOf (replicate 18502 0) ≡ to 0 []
+unfolding foundOf wordOf linksOf
 first-found = refl
 
 pub filled : (i : ℕ) (d : List ℤ) {x : List ℤ} → i ≡ length d → x ≡ replicate i (pos 0) ++ drop i d → x ≡ replicate (length d) (pos 0)
 filled i d e h = h ∙ rw (e, drop-length d, append-nil (replicate (length d) (pos 0)))
-
--- as many cells as numbers
-pub room-length : (s : List ℤ) → roomOf s ≡ length s
-unfolding roomOf
-room-length s = omega arith
 
 -- ---- what is lent, afterwards
 
@@ -268,16 +260,32 @@ taken-length {c = c} n l e = sym (length-take c l ∙ (let z : min c (length l) 
 pub taken-most : {A : Type 0} {c : ℕ} (n : ℕ) (l : List A) → c ≡ min n (length l) → length (take c l) ≤ n
 taken-most n l e = omega (arith, taken-length n l e)
 
+-- two numbers a cell
+module _ (store : List ℤ) {c m : ℕ} (b : c ≡ min 8192 (length store / 2)) (p : m ≡ 2 * c) where
+  pub store-length : m ≡ length (take m store)
+  store-length = sym (length-take m store ∙ (let z : min m (length store) ≡ m = omega arith in z))
+
+  pub store-room : roomOf (take m store) ≡ used store
+  unfolding roomOf
+  store-room =
+      let z : m / 2 ≡ c = omega arith in
+      ap (λ (x : ℕ). x / 2) (sym store-length) ∙ z ∙ b
+
+  pub store-most : roomOf (take m store) ≤ 8192
+  store-most = omega (arith, store-room)
+
 -- the answer, the counts and every lent word
-pub run-exit : {r : Ran} {s' o' : List ℤ} (code : List ℕ) (input : List ℤ) (limit : ℕ) (store output : List ℤ) {k c : ℕ} → k ≡ min 16384 (length code) → c ≡ min 8192 (length store)
-    → Drove r output o' (machine (take k code) input limit (length (take c store)) (length output)) → s' ≡ replicate (length (take c store)) (pos 0)
-    → exit r (s' ++ drop c store) o' ≡ job code input limit store output
+pub run-exit : {r : Ran} {s' o' : List ℤ} (code : List ℕ) (input : List ℤ) (limit : ℕ) (store output : List ℤ) {k c m : ℕ} → k ≡ min 16384 (length code) → c ≡ min 8192 (length store / 2) → m ≡ 2 * c
+    → Drove r output o' (machine (take k code) input limit (roomOf (take m store)) (length output)) → s' ≡ replicate (length (take m store)) (pos 0)
+    → exit r (s' ++ drop m store) o' ≡ job code input limit store output
 unfolding afterwards
-run-exit {r} {s'} {o'} code input limit store output {k} {c} a b d e =
-    let n : length (take c store) ≡ used store = sym (taken-length 8192 store b) ∙ b in
+run-exit {r} {s'} {o'} code input limit store output {k} {c} {m} a b g d e =
+    let n : roomOf (take m store) ≡ used store = store-room store b g in
+    let l : length (take m store) ≡ 2 * used store = sym (store-length store b g) ∙ g ∙ ap (λ (x : ℕ). 2 * x) b in
+    let j : m ≡ 2 * used store = g ∙ ap (λ (x : ℕ). 2 * x) b in
     let w : take k code ≡ take 16384 code = ap (λ (x : ℕ). take x code) a ∙ take-min 16384 code in
     let f : Drove r output o' (machine (take 16384 code) input limit (used store) (length output)) = rw (w, n) at d in
-    let p : s' ++ drop c store ≡ replicate (used store) (pos 0) ++ drop (used store) store = rw (e, n, b) in
+    let p : s' ++ drop m store ≡ replicate (2 * used store) (pos 0) ++ drop (2 * used store) store = rw (e, l, j) in
     λ i. record { ran = record { stop = f .stop i; done = f .done i; taken = f .taken i; written = f .written i }; store = p i; output = f .output i }
 
 -- ---- what a limit changes

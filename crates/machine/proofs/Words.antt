@@ -8,10 +8,13 @@ use lib.Dec.{eqb}
 use borrow.Author.Tests.{eqb-true}
 use mir.Syntax.{w32}
 use mir.Facts.{toZ-ofZ}
+use Rattle.reals.specs.declared.Form.the-variants.{Truths, Wholes, Reals}
+use Rattle.reals.specs.declared.Value.the-variants.{Truth, Whole, Real}
+use Rattle.reals.specs.declared.Unary.the-variants.{Minus, Negation, Absolute}
+use Rattle.reals.specs.declared.Binary.the-variants.{Plus, Less, Times, Over, Divide, Below, AtMost, Equal, AtLeast, Above, Unequal, And, Or, Impl, Equiv}
 use Rattle.machine.specs.Operations.{o-end, o-jump, o-enter, o-leave, o-call-needed, o-call, o-return, o-go, o-next, o-unless, o-test, o-name, o-work, o-seek, o-pass, o-refuse}
-use Rattle.machine.specs.Values.{minus, negation, absolute, plus, less, times, over, below, atMost, equal, atLeast, above, unequal, and, or, impl, equiv}
-use Rattle.machine.specs.Data.{Act, push, load, store, assign, reserve, forget, receive, send, keep, unary, binary, lend, channel, sum, condition, upto, kept, gone}
-use Rattle.machine.specs.Instructions.{Location, located, cellFound, Instruction, END, DO, IF, JUMP, ENTER, LEAVE, CALL, RETURN, GO, NEXT, NAME, WORK, SEEK, PASS, REFUSE, sixBits, thirteenBits, foundOffset, pack, high, mid, low, variable, unaryOf, binaryOf, actOf, decode, instruction}
+use Rattle.machine.specs.Data.{link, Act, push, heighten, load, store, assign, reserve, forget, receive, send, keep, unary, binary, lend, channel, sum, turn, condition, upto, kept, gone, stored, Counted}
+use Rattle.machine.specs.Instructions.{Location, located, cellFound, Instruction, END, DO, IF, JUMP, ENTER, LEAVE, CALL, RETURN, GO, NEXT, NAME, WORK, SEEK, PASS, REFUSE, sixBits, tenBits, thirteenBits, foundOffset, pack, high, mid, low, counted, packCounted, withForm, logical, variable, unaryOf, binaryOf, actOf, decode, instruction}
 use Rattle.machine.specs.model.Words.{beside, partsOfAct, partsOf, firstWord, LocFits, ActFits, InstrFits}
 
 -- ---- one packing, read back
@@ -58,80 +61,106 @@ low-beside : (x : Location) (l : ℕ) → LocFits x → l < thirteenBits → low
 low-beside (located u o) l h h' = low-pack u o l (omega (arith, h .1)) h'
 low-beside cellFound l h h' = low-pack 0 foundOffset l (omega arith) h'
 
+-- three counts
+pub counted-back : (n : Counted) → n .wholes < tenBits → n .reals < tenBits → n .truths < tenBits → counted (packCounted n) ≡ n
+counted-back n h h' h'' =
+    let e₁ : packCounted n % tenBits ≡ n .wholes = omega arith in
+    let e : packCounted n / tenBits ≡ n .reals + tenBits * n .truths = omega arith in
+    let e₂ : packCounted n / tenBits % tenBits ≡ n .reals = rw e (omega arith) in
+    let e₃ : packCounted n / tenBits / tenBits ≡ n .truths = rw e (omega arith) in
+    rw (e₁, e₂, e₃) refl
+
 -- an operation on the data
 back-act : (a : Act Location) → ActFits a → decode (partsOfAct a .operation) (partsOfAct a .place) (partsOfAct a .operand) ≡ some (DO a)
-unfolding decode actOf unaryOf binaryOf
-back-act (push q v) h = ap (λ v. some (DO (push q v))) (toZ-ofZ {w = w32} (record { sfits = h }))
+unfolding decode actOf unaryOf binaryOf withForm logical
+back-act (push q (Truth false)) h = refl
+back-act (push q (Truth true)) h = refl
+back-act (push q (Whole z)) h = ap (λ z. some (DO (push q (Whole z)))) (toZ-ofZ {w = w32} (record { sfits = h }))
+back-act (push q (Real r)) h = absurd h
+back-act (heighten n) h = refl
 back-act (load q x) h = ap (λ x. some (DO (load q x))) (loc-back x 0 h (omega arith))
-back-act (store x) h = ap (λ x. some (DO (store x))) (loc-back x 0 h (omega arith))
-back-act (assign x) h = ap (λ x. some (DO (assign x))) (loc-back x 0 h (omega arith))
-back-act (reserve q) h = refl
+back-act (store q x) h = ap (λ x. some (DO (store q x))) (loc-back x 0 h (omega arith))
+back-act (assign q x) h = ap (λ x. some (DO (assign q x))) (loc-back x 0 h (omega arith))
+back-act (reserve q Truths) h = refl
+back-act (reserve q Wholes) h = refl
+back-act (reserve q Reals) h = refl
 back-act forget h = refl
 back-act (receive q x) h = ap (λ x. some (DO (receive q x))) (loc-back x 0 h (omega arith))
-back-act (send q) h = refl
+back-act (send q Truths) h = absurd h
+back-act (send q Wholes) h = refl
+back-act (send q Reals) h = refl
 back-act keep h = refl
-back-act (unary q minus) h = refl
-back-act (unary q negation) h = refl
-back-act (unary q absolute) h = refl
-back-act (binary q plus) h = refl
-back-act (binary q less) h = refl
-back-act (binary q times) h = refl
-back-act (binary q over) h = refl
-back-act (binary q below) h = refl
-back-act (binary q atMost) h = refl
-back-act (binary q equal) h = refl
-back-act (binary q atLeast) h = refl
-back-act (binary q above) h = refl
-back-act (binary q unequal) h = refl
-back-act (binary q and) h = refl
-back-act (binary q or) h = refl
-back-act (binary q impl) h = refl
-back-act (binary q equiv) h = refl
+back-act (unary q Minus) h = refl
+back-act (unary q Negation) h = refl
+back-act (unary q Absolute) h = refl
+back-act (binary q Plus) h = refl
+back-act (binary q Less) h = refl
+back-act (binary q Times) h = refl
+back-act (binary q Over) h = refl
+back-act (binary q Divide) h = refl
+back-act (binary q Below) h = refl
+back-act (binary q AtMost) h = refl
+back-act (binary q Equal) h = refl
+back-act (binary q AtLeast) h = refl
+back-act (binary q Above) h = refl
+back-act (binary q Unequal) h = refl
+back-act (binary q And) h = refl
+back-act (binary q Or) h = refl
+back-act (binary q Impl) h = refl
+back-act (binary q Equiv) h = refl
 back-act (lend x) h = ap (λ x. some (DO (lend x))) (loc-back x 0 h (omega arith))
 back-act (channel q) h = refl
 back-act (sum q x) h = ap (λ x. some (DO (sum q x))) (loc-back x 0 h (omega arith))
+back-act (turn q Truths) h = refl
+back-act (turn q Wholes) h = refl
+back-act (turn q Reals) h = refl
 
 -- the operation of an operation on the data is below 64
 pub act-below : (a : Act Location) → partsOfAct a .operation < sixBits
-act-below (push q v) = omega arith
+act-below (push q (Truth false)) = omega arith
+act-below (push q (Truth true)) = omega arith
+act-below (push q (Whole z)) = omega arith
+act-below (push q (Real r)) = omega arith
+act-below (heighten n) = omega arith
 act-below (load q x) = omega arith
-act-below (store x) = omega arith
-act-below (assign x) = omega arith
-act-below (reserve q) = omega arith
+act-below (store q x) = omega arith
+act-below (assign q x) = omega arith
+act-below (reserve q t) = omega arith
 act-below forget = omega arith
 act-below (receive q x) = omega arith
-act-below (send q) = omega arith
+act-below (send q Truths) = omega arith
+act-below (send q Wholes) = omega arith
+act-below (send q Reals) = omega arith
 act-below keep = omega arith
-act-below (unary q minus) = omega arith
-act-below (unary q negation) = omega arith
-act-below (unary q absolute) = omega arith
-act-below (binary q plus) = omega arith
-act-below (binary q less) = omega arith
-act-below (binary q times) = omega arith
-act-below (binary q over) = omega arith
-act-below (binary q below) = omega arith
-act-below (binary q atMost) = omega arith
-act-below (binary q equal) = omega arith
-act-below (binary q atLeast) = omega arith
-act-below (binary q above) = omega arith
-act-below (binary q unequal) = omega arith
-act-below (binary q and) = omega arith
-act-below (binary q or) = omega arith
-act-below (binary q impl) = omega arith
-act-below (binary q equiv) = omega arith
+act-below (unary q Minus) = omega arith
+act-below (unary q Negation) = omega arith
+act-below (unary q Absolute) = omega arith
+act-below (binary q Plus) = omega arith
+act-below (binary q Less) = omega arith
+act-below (binary q Times) = omega arith
+act-below (binary q Over) = omega arith
+act-below (binary q Divide) = omega arith
+act-below (binary q Below) = omega arith
+act-below (binary q AtMost) = omega arith
+act-below (binary q Equal) = omega arith
+act-below (binary q AtLeast) = omega arith
+act-below (binary q Above) = omega arith
+act-below (binary q Unequal) = omega arith
+act-below (binary q And) = omega arith
+act-below (binary q Or) = omega arith
+act-below (binary q Impl) = omega arith
+act-below (binary q Equiv) = omega arith
 act-below (lend x) = omega arith
 act-below (channel q) = omega arith
 act-below (sum q x) = omega arith
+act-below (turn q t) = omega arith
 
 -- the read-back law
 pub back : (i : Instruction) → InstrFits i → instruction (firstWord (partsOf i)) (partsOf i .operand) ≡ some i
-unfolding decode
+unfolding decode withForm
 back END h = read-first o-end 0 0 (omega arith)
 back (JUMP l) h = read-first o-jump 0 _ (omega arith) ∙ ap (λ l. some (JUMP l)) (low-pack 0 0 l (omega arith) h)
-back (ENTER q n l) h =
-    read-first o-enter q _ (omega arith)
-    ∙ ap (λ n'. some (ENTER q n' (low (pack 0 n l)))) (mid-pack 0 n l (h .0) (h .1))
-    ∙ ap (λ l. some (ENTER q n l)) (low-pack 0 n l (h .0) (h .1))
+back (ENTER q n) h = read-first o-enter q _ (omega arith) ∙ ap (λ n. some (ENTER q n)) (counted-back n (h .0) (h .1) (h .2))
 back (LEAVE n) h = read-first o-leave 0 _ (omega arith) ∙ ap (λ n. some (LEAVE n)) (mid-pack 0 n 0 h (omega arith))
 back (CALL q l u n kept) h =
     read-first o-call-needed q _ (omega arith)
@@ -143,7 +172,10 @@ back (CALL q l u n gone) h =
     ∙ ap (λ l'. some (CALL q l' (high (pack u n l)) (mid (pack u n l)) gone)) (low-pack u n l (h .2) (h .0))
     ∙ ap (λ u'. some (CALL q l u' (mid (pack u n l)) gone)) (high-pack u n l (h .2) (h .0))
     ∙ ap (λ n. some (CALL q l u n gone)) (mid-pack u n l (h .2) (h .0))
-back RETURN h = read-first o-return 0 0 (omega arith)
+back (CALL q l u n stored) h = absurd h
+back (RETURN (link Truths q)) h = read-first o-return q 2 (omega arith)
+back (RETURN (link Wholes q)) h = read-first o-return q 0 (omega arith)
+back (RETURN (link Reals q)) h = read-first o-return q 1 (omega arith)
 back (GO m l r) h =
     read-first o-go 0 _ (omega arith)
     ∙ ap (λ m'. some (GO m' (low (pack m r l)) (mid (pack m r l)))) (high-pack m r l (h .2) (h .1))

@@ -1,6 +1,5 @@
 pub mod Limits
 pub mod Operations
-pub mod Values
 pub mod Run
 pub mod Data
 pub mod Instructions

@@ -12,6 +12,14 @@ mostInstructions = 8192
 abbrev pub mostCells : ℕ
 mostCells = 8192
 
+-- "it takes two of the store's numbers, so 8,192 cells are 16,384 of them"
+abbrev pub cellNumbers : ℕ
+cellNumbers = 2
+
+-- "an output entry becomes three numbers"
+abbrev pub entryNumbers : ℕ
+entryNumbers = 3
+
 -- 27: "a 257th activation live". The program is none of them
 abbrev pub mostLive : ℕ
 mostLive = 256
@@ -26,3 +34,7 @@ activationWords = 70
 
 abbrev pub memoryWords : ℕ
 memoryWords = 17990
+
+-- name formals on the way of one store: each was an activation that was live at once with the others
+abbrev pub mostLinks : ℕ
+mostLinks = 256

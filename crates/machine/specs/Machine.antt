@@ -1,6 +1,6 @@
 -- The machine, for any words at all: where it is; the return positions of the running activation; the activations, the newest first; the data.
 -- Assumes nothing: these are definitions.
-use Prim.Native.Nat.{ℕ, zero, suc, _+_, _-_, min}
+use Prim.Native.Nat.{ℕ, zero, suc, _+_, _-_, _*_, _/_, min}
 use mathlib.Core.Bool.{cond}
 use mathlib.Core.List.{List, [], _∷_, _++_}
 use mathlib.Core.Option.{Option, none, some}
@@ -12,11 +12,12 @@ use Rattle.answers.specs.Answers.{refusal}
 use Rattle.answers.specs.declared.Stop.{Stop}
 use Rattle.answers.specs.declared.Stop.the-variants.{Ended, Limit, Wrong, Fault}
 use Rattle.machine.specs.declared.Ran.{Ran}
-use Rattle.machine.specs.declared.Cell.{Cell}
-use Rattle.machine.specs.declared.Cell.the-variants.{Unset, Holds, Named}
-use Rattle.machine.specs.Limits.{mostWords, mostCells}
+use Rattle.reals.specs.declared.Form.the-variants.{Wholes}
+use Rattle.reals.specs.declared.Cell.{Cell}
+use Rattle.reals.specs.declared.Cell.the-variants.{Unset, Holds, Named}
+use Rattle.machine.specs.Limits.{mostWords, mostCells, cellNumbers}
 use Rattle.machine.specs.Run.{untold, Out, halt, next, End, done, over, run, quiet}
-use Rattle.machine.specs.Data.{Data, contents, cells, actOn, testOn, Fate, kept, gone, lift, guard, look, foundIn, nameCell, downs, downsT, work, test, either, openBlock, closeBlock, enter, leave}
+use Rattle.machine.specs.Data.{Target, to, Data, contents, cells, actOn, testOn, Fate, kept, gone, stored, lift, guard, look, foundIn, seeking, nameCell, downs, downsT, work, test, either, openBlock, closeBlock, enter, leave}
 use Rattle.machine.specs.Instructions.{Location, located, cellFound, Instruction, END, DO, IF, JUMP, ENTER, LEAVE, CALL, RETURN, GO, NEXT, NAME, WORK, SEEK, PASS, REFUSE, fetch}
 
 -- an activation: where to return to, its first cell, the activation around it, the fate of its first cell, the call's place, and the return
@@ -50,15 +51,16 @@ base fs (suc f) = baseOf (activationAt fs f)
 abbrev pub floor : List Activation → ℕ
 floor fs = base fs (length fs)
 
-unfoldable pub cellIn : List Activation → Data → Location → ℕ
-cellIn fs d (located u o) = base fs (walk fs (length fs) u) + o
-cellIn fs d cellFound = foundIn d
+unfoldable pub targetIn : List Activation → Data → Location → Target
+targetIn fs d (located u o) = to (base fs (walk fs (length fs) u) + o) []
+targetIn fs d cellFound = foundIn d
 
 -- what a name formal's cell holds
 abbrev pub cellAt : ℕ → Data → Cell
-cellAt c d = cond (ltb c (cells d)) (look c d) Unset
+cellAt c d = cond (ltb c (cells d)) (look c d) (Unset Wholes)
 
--- 29 at the counter: "no instruction at the counter, an operand outside its range, or a value taken where none is held"
+-- 29 at the counter: "no instruction at the counter, an operand outside its range, or a value taken where none is held"; "A value of another type
+-- than the instruction takes is 29"
 abbrev pub stray : ℕ → Stop
 stray pc = Wrong (record { at = pc })
 
@@ -67,10 +69,17 @@ stray pc = Wrong (record { at = pc })
 abbrev pub partAt : Fate → ℕ → ℕ
 partAt kept n = suc (suc n)
 partAt gone n = n
+partAt stored n = n
+
+-- a working out for a store forgets the formals on the way to an earlier one
+abbrev pub begins : Fate → Data → Data
+begins kept d = d
+begins gone d = d
+begins stored d = seeking d
 
 unfoldable pub workOut : Cell → ℕ → Fate → ℕ → ℕ → ℕ → List ℕ → List Activation → Data → Out Running
-workOut (Named n) f t q q' pc ps fs d = lift (stray pc) 1 (running (partAt t n) [] (activation (suc pc) (cells d) (f - 1) t q' ps ∷ fs)) (enter q d)
-workOut Unset f t q q' pc ps fs d = halt (stray pc)
+workOut (Named n) f t q q' pc ps fs d = lift (stray pc) 1 (running (partAt t n) [] (activation (suc pc) (cells d) (f - 1) t q' ps ∷ fs)) (enter q (begins t d))
+workOut (Unset i) f t q q' pc ps fs d = halt (stray pc)
 workOut (Holds v) f t q q' pc ps fs d = halt (stray pc)
 
 abbrev pub working : Fate → ℕ → ℕ → ℕ → ℕ → ℕ → List ℕ → List Activation → Data → Out Running
@@ -86,25 +95,25 @@ began (activation r b l f q ps) = q
 unfoldable pub exec : Instruction → ℕ → List ℕ → List Activation → Data → Out Running
 exec END pc ps fs d = halt Ended
 exec (DO a) pc ps fs d =
-    lift (stray pc) 1 (running (suc pc) ps fs) (guard (leb (floor fs + downs a) (cells d)) (work (actOn (cellIn fs d) a) d))
+    lift (stray pc) 1 (running (suc pc) ps fs) (guard (leb (floor fs + downs a) (cells d)) (work (actOn (targetIn fs d) a) d))
 exec (IF t l) pc ps fs d =
-    lift (stray pc) 1 (either (running (suc pc) ps fs) (running l ps fs)) (guard (leb (floor fs + downsT t) (cells d)) (test (testOn (cellIn fs d) t) d))
+    lift (stray pc) 1 (either (running (suc pc) ps fs) (running l ps fs)) (guard (leb (floor fs + downsT t) (cells d)) (test (testOn (targetIn fs d) t) d))
 exec (JUMP l) pc ps fs d = next 1 quiet (running l ps fs d)
-exec (ENTER q n l) pc ps fs d = lift (stray pc) 1 (running l ps fs) (openBlock q n d)
+exec (ENTER q n) pc ps fs d = lift (stray pc) 1 (running (suc pc) ps fs) (openBlock q n d)
 exec (LEAVE n) pc ps fs d = lift (stray pc) 1 (running (suc pc) ps fs) (guard (leb (floor fs + n) (cells d)) (closeBlock n d))
 exec (CALL q l u n f) pc ps fs d =
     lift (stray pc) 1 (running l [] (activation (suc pc) (cells d - n) (walk fs (length fs) u) f q ps ∷ fs))
     (guard (leb (floor fs + n) (cells d)) (enter q d))
-exec RETURN pc ps [] d = halt (stray pc)
-exec RETURN pc ps (activation r b l f q ps' ∷ fs) d = lift (stray pc) 1 (running r ps' fs) (leave f q b d)
+exec (RETURN x) pc ps [] d = halt (stray pc)
+exec (RETURN x) pc ps (activation r b l f q ps' ∷ fs) d = lift (stray pc) 1 (running r ps' fs) (leave f x q b d)
 exec (GO m l r) pc ps fs d = cond (eqb m (length ps)) (next 1 quiet (running l (r ∷ ps) fs d)) (halt (stray pc))
 exec (NEXT m) pc [] fs d = halt (stray pc)
 exec (NEXT m) pc (r ∷ ps) fs d = cond (eqb m (length ps)) (next 1 quiet (running r ps fs d)) (halt (stray pc))
 exec (NAME q l) pc ps fs d = lift (stray pc) 1 (running l ps fs) (nameCell q (suc pc) d)
 exec (WORK q u o) pc ps fs d = working kept q q u o pc ps fs d
-exec (SEEK q u o) pc ps fs d = working gone q q u o pc ps fs d
+exec (SEEK q u o) pc ps fs d = working stored q q u o pc ps fs d
 exec (PASS q u o) pc ps [] d = halt (stray pc)
-exec (PASS q u o) pc ps (x ∷ fs) d = working gone q (began x) u o pc ps (x ∷ fs) d
+exec (PASS q u o) pc ps (x ∷ fs) d = working stored q (began x) u o pc ps (x ∷ fs) d
 exec REFUSE pc ps [] d = halt (stray pc)
 exec REFUSE pc ps (x ∷ fs) d = halt (Fault (refusal noVariable (began x)))
 
@@ -131,7 +140,7 @@ finish (over n o m) = record { stop = Limit; done = n; taken = o .taken; written
 
 -- no cell in use, no activation, no number taken
 abbrev pub start : List ℤ → ℕ → ℕ → Running
-start input cellsLent space = running 0 [] [] (contents [] [] 0 (record { cellsLent = cellsLent; input = input; space = space; found = 0 }))
+start input cellsLent space = running 0 [] [] (contents [] [] 0 (record { cellsLent = cellsLent; input = input; space = space; found = to 0 [] }))
 
 -- It takes how many cells there are and how many numbers may be written, and never what stands there.
 unfoldable pub machine : List ℕ → List ℤ → ℕ → ℕ → ℕ → Finish
@@ -143,9 +152,9 @@ machine words input limit cellsLent space = finish (run (step words) limit (star
 abbrev pub onCode : List ℕ → List ℤ → ℕ → ℕ → ℕ → Finish
 onCode code input limit cellsLent space = machine (take mostWords code) input limit cellsLent space
 
--- "It uses the first 8,192 cells of the store, or fewer if lent fewer"
+-- "It uses the first 8,192 cells of the store, or fewer if lent fewer"; a cell "takes two of the store's numbers, .. and an odd last one is unused"
 abbrev pub used : List ℤ → ℕ
-used store = min mostCells (length store)
+used store = min mostCells (length store / cellNumbers)
 
 -- what is handed back, and what the store and the output hold
 pub record Exit : Type 0 where
@@ -160,7 +169,7 @@ exit r s o = record { ran = r; store = s; output = o }
 unfoldable pub afterwards : Finish → List ℤ → List ℤ → Exit
 afterwards f store output = record {
   ran = record { stop = f .stop; done = f .done; taken = f .taken; written = length (f .written) };
-  store = replicate (used store) (pos 0) ++ drop (used store) store;
+  store = replicate (cellNumbers * used store) (pos 0) ++ drop (cellNumbers * used store) store;
   output = f .written ++ drop (length (f .written)) output;
 }
 

@@ -152,6 +152,22 @@ o-refuse = 44
 abbrev pub o-channel : ℕ
 o-channel = 45
 
+-- the operator /; outreal; a logical value; the upper half of a real constant; a value becomes one of a type
+abbrev pub o-divide : ℕ
+o-divide = 46
+
+abbrev pub o-outreal : ℕ
+o-outreal = 47
+
+abbrev pub o-logical : ℕ
+o-logical = 48
+
+abbrev pub o-high : ℕ
+o-high = 49
+
+abbrev pub o-as : ℕ
+o-as = 50
+
 -- no operation from here on
 abbrev pub o-behind : ℕ
-o-behind = 46
+o-behind = 51

@@ -1,2 +1,4 @@
 pub mod Holding
+pub mod Quick
+pub mod Moves
 pub mod Words

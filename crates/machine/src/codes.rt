@@ -108,5 +108,16 @@ pub const REFUSE: u32 = 44;
 // The channel of an ininteger tested.
 pub const CHANNEL: u32 = 45;
 
+// The operator /; outreal; a logical value; the upper half of a real constant; a value becomes one of a type.
+pub const DIVIDE: u32 = 46;
+
+pub const OUTREAL: u32 = 47;
+
+pub const LOGICAL: u32 = 48;
+
+pub const HIGH: u32 = 49;
+
+pub const AS: u32 = 50;
+
 // No operation from here on.
-pub const BEHIND: u32 = 46;
+pub const BEHIND: u32 = 51;

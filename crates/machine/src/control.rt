@@ -1,11 +1,11 @@
 // The instructions that open and close blocks and activations, and those of loops.
-use crate::Cell;
 use crate::Chosen;
 use crate::Counts;
 use crate::Did;
 use crate::Outcome;
 use crate::activations;
 use crate::activations::Memory;
+use crate::activations::add_link;
 use crate::activations::around;
 use crate::activations::first_cell;
 use crate::activations::note;
@@ -18,6 +18,7 @@ use crate::operands::high;
 use crate::operands::low;
 use crate::operands::mid;
 use answers::Answer;
+use reals::Cell;
 ghost use mathlib.Core.Path.{_≡_};
 ghost use mathlib.Core.Bool.{cond};
 ghost use mathlib.Core.List.{List};
@@ -27,10 +28,10 @@ ghost use lib.IntN.{ℤ};
 ghost use lib.ListN.{length};
 ghost use Rattle.machine.specs.Limits.{mostInstructions, mostCells, mostLive};
 ghost use Rattle.machine.specs.Operations.{o-work, o-pass};
-ghost use Rattle.machine.specs.Data.{either};
-ghost use Rattle.machine.specs.Instructions.{Instruction, thirteenBits, high, mid, low, decode};
+ghost use Rattle.machine.specs.Data.{link, either};
+ghost use Rattle.machine.specs.Instructions.{Instruction, thirteenBits, high, mid, low, withForm, decode};
 ghost use Rattle.machine.specs.Machine.{Running, stray as strayOf, exec, obey, partAt, working};
-ghost use Rattle.machine.specs.model.Holding.{Sound, SoundT, SoundO, SoundG, Lives, dataOf, traceOf, seenD, seenT, seenO, lifted, stepped, positionsOf, framesOf, ownOf, wordOf, fateOf, begun, names};
+ghost use Rattle.machine.specs.model.Holding.{Sound, SoundT, SoundO, SoundG, Lives, dataOf, traceOf, seenD, seenT, seenO, lifted, stepped, positionsOf, framesOf, ownOf, wordOf, fateOf, begun, formOfWord, forgot};
 
 // 29 at the counter.
 pub fn stray(at: u32) -> Outcome
@@ -78,30 +79,22 @@ pub fn close(at: u32, live: usize, n: Counts, own: &Memory, k: usize) -> Outcome
 }
 
 // A new activation's words.
-fn begin(own: &mut Memory, i: usize, at: u32, first: usize, outer: usize, needed: u32, q: u32)
+fn begin(own: &mut Memory, i: usize, at: u32, first: usize, outer: usize, fate: u32, q: u32)
     requires { ⌜ (i ≤ mostLive) × (at < mostInstructions) × (first < 4294967296) × (outer < 4294967296) ⌝ }
-    ensures { λ _. ⌜ now (own .exit) ≡ begun (now (own .entry)) i (at + 1) first outer needed q ⌝ }
+    ensures { λ _. ⌜ now (own .exit) ≡ begun (now (own .entry)) i (at + 1) first outer fate q ⌝ }
 {
     note(own, i, activations::RETURN, at + 1);
     note(own, i, activations::FIRST, first as u32);
     note(own, i, activations::AROUND, outer as u32);
-    note(own, i, activations::NEEDED, needed);
+    note(own, i, activations::FATE, fate);
     note(own, i, activations::PLACE, q);
     note(own, i, activations::NOTED, 0);
 }
 
 // A call at q: the k newest cells become those of a new activation, which lies `levels` in.
-pub fn call(
-    at: u32,
-    live: usize,
-    n: Counts,
-    own: &mut Memory,
-    q: u32,
-    v: u32,
-    needed: u32,
-) -> Outcome
-    requires { ⌜ Lives (now own) live × (at < mostInstructions) × (n .cells ≤ mostCells) ⌝ }
-    ensures { λ r. ⌜ ((s i o : List ℤ) → seenO r s (now (own .exit)) i o ≡ stepped (traceOf n o) (exec (Instruction.CALL q (low v) (high v) (mid v) (fateOf needed)) at (positionsOf (now (own .entry)) live) (framesOf (now (own .entry)) live) (dataOf n (ownOf (now (own .entry)) live) s i o))) ⌝ }
+pub fn call(at: u32, live: usize, n: Counts, own: &mut Memory, q: u32, v: u32, fate: u32) -> Outcome
+    requires { ⌜ Lives (now own) live × (at < mostInstructions) × (n .cells ≤ mostCells) × (fate ≤ 1) ⌝ }
+    ensures { λ r. ⌜ ((s i o : List ℤ) → seenO r s (now (own .exit)) i o ≡ stepped (traceOf n o) (exec (Instruction.CALL q (low v) (high v) (mid v) (fateOf fate)) at (positionsOf (now (own .entry)) live) (framesOf (now (own .entry)) live) (dataOf n (ownOf (now (own .entry)) live) s i o))) ⌝ }
     ensures { λ r. ⌜ ((s o : List ℤ) → Sound n s → n .written ≤ length o → SoundG r s (now (own .exit)) o o) ⌝ }
 {
     let k = mid(v as usize);
@@ -113,24 +106,58 @@ pub fn call(
         return Outcome::Faults(Answer::ACTIVATIONS, q as usize);
     }
     let outer = around(own, live, high(v as usize));
-    begin(own, live + 1, at, c - k, outer, needed, q);
+    begin(own, live + 1, at, c - k, outer, fate, q);
     Outcome::Goes(low(v as usize) as u32, live + 1, n)
 }
 
-// A call returns.
-pub fn leave(at: u32, live: usize, n: Counts, own: &Memory, store: &[i64]) -> Outcome
+// An activation ends; where it was begun for a store, the formal of the type of number f, whose actual begins at `place`, is on the way.
+fn end(
+    at: u32,
+    live: usize,
+    n: Counts,
+    own: &mut Memory,
+    store: &[i64],
+    f: u32,
+    place: u32,
+) -> Outcome
     requires { ⌜ Sound n (now store) × Lives (now own) live ⌝ }
-    ensures { λ r. ⌜ ((i o : List ℤ) → seenO r (now (store .entry)) (now (own .entry)) i o ≡ stepped (traceOf n o) (exec Instruction.RETURN at (positionsOf (now (own .entry)) live) (framesOf (now (own .entry)) live) (dataOf n (ownOf (now (own .entry)) live) (now (store .entry)) i o))) ⌝ }
-    ensures { λ r. ⌜ ((o : List ℤ) → n .written ≤ length o → SoundG r (now (store .entry)) (now (own .entry)) o o) ⌝ }
+    ensures { λ r. ⌜ ((i o : List ℤ) → seenO r (now (store .entry)) (now (own .exit)) i o ≡ stepped (traceOf n o) (exec (Instruction.RETURN (link (formOfWord f) place)) at (positionsOf (now (own .entry)) live) (framesOf (now (own .entry)) live) (dataOf n (ownOf (now (own .entry)) live) (now (store .entry)) i o))) ⌝ }
+    ensures { λ r. ⌜ ((o : List ℤ) → n .written ≤ length o → SoundG r (now (store .entry)) (now (own .exit)) o o) ⌝ }
 {
     if live == 0 {
         return stray(at);
     }
-    let needed = word(own, live, activations::NEEDED) != 0;
+    let fate = word(own, live, activations::FATE);
     let q = word(own, live, activations::PLACE) as usize;
     let b = word(own, live, activations::FIRST) as usize;
     let next = word(own, live, activations::RETURN);
-    lift(at, next, live - 1, blocks::leave(n, store, needed, q, b))
+    let did = blocks::leave(n, store, fate, q, b);
+    if fate > activations::KEPT {
+        add_link(own, f, place);
+        return lift(at, next, live - 1, did);
+    }
+    lift(at, next, live - 1, did)
+}
+
+// The same, of the type in the operand v.
+pub fn leave(
+    at: u32,
+    live: usize,
+    n: Counts,
+    own: &mut Memory,
+    store: &[i64],
+    q: u32,
+    v: u32,
+) -> Outcome
+    requires { ⌜ Sound n (now store) × Lives (now own) live ⌝ }
+    ensures { λ r. ⌜ ((i o : List ℤ) → seenO r (now (store .entry)) (now (own .exit)) i o ≡ stepped (traceOf n o) (obey (withForm (low v) (λ t. Instruction.RETURN (link t q))) at (positionsOf (now (own .entry)) live) (framesOf (now (own .entry)) live) (dataOf n (ownOf (now (own .entry)) live) (now (store .entry)) i o))) ⌝ }
+    ensures { λ r. ⌜ ((o : List ℤ) → n .written ≤ length o → SoundG r (now (store .entry)) (now (own .exit)) o o) ⌝ }
+{
+    let f = low(v as usize) as u32;
+    if f > 2 {
+        return stray(at);
+    }
+    end(at, live, n, own, store, f, q)
 }
 
 // To a loop's body, noting where to go after it.
@@ -179,18 +206,27 @@ fn before(f: usize) -> usize
 }
 
 // The code of an actual, at a: its store part stands there, its read part behind it.
-fn part_at(needed: u32, a: u32) -> u32
-    requires { ⌜ a < names ⌝ }
-    ensures { λ r. ⌜ r ≡ partAt (fateOf needed) a ⌝ }
+fn part_at(fate: u32, a: u32) -> u32
+    requires { ⌜ a < 2147483648 ⌝ }
+    ensures { λ r. ⌜ r ≡ partAt (fateOf fate) a ⌝ }
 {
-    if needed == 0 {
-        return a;
+    if fate == activations::KEPT {
+        return a + 2;
     }
-    a + 2
+    a
+}
+
+// A store begins with no formal on the way.
+fn forget(own: &mut Memory, fate: u32)
+    ensures { λ _. ⌜ now (own .exit) ≡ forgot (fateOf fate) (now (own .entry)) ⌝ }
+{
+    if fate > activations::KEPT {
+        note(own, 0, activations::LINKS, 0);
+    }
 }
 
 // A name formal's actual worked out, for a use at q: the formal is `high` activations out, at the offset `mid`. The store that it is for, or the
-// read, began at `place`; a read needs a result.
+// read, began at `place`.
 fn work_out(
     at: u32,
     live: usize,
@@ -200,10 +236,10 @@ fn work_out(
     q: u32,
     place: u32,
     v: u32,
-    needed: u32,
+    fate: u32,
 ) -> Outcome
-    requires { ⌜ Sound n (now store) × Lives (now own) live × (at < mostInstructions) ⌝ }
-    ensures { λ r. ⌜ ((i o : List ℤ) → seenO r (now (store .entry)) (now (own .exit)) i o ≡ stepped (traceOf n o) (working (fateOf needed) q place (high v) (mid v) at (positionsOf (now (own .entry)) live) (framesOf (now (own .entry)) live) (dataOf n (ownOf (now (own .entry)) live) (now (store .entry)) i o))) ⌝ }
+    requires { ⌜ Sound n (now store) × Lives (now own) live × (at < mostInstructions) × (1 ≤ fate) ⌝ }
+    ensures { λ r. ⌜ ((i o : List ℤ) → seenO r (now (store .entry)) (now (own .exit)) i o ≡ stepped (traceOf n o) (working (fateOf fate) q place (high v) (mid v) at (positionsOf (now (own .entry)) live) (framesOf (now (own .entry)) live) (dataOf n (ownOf (now (own .entry)) live) (now (store .entry)) i o))) ⌝ }
     ensures { λ r. ⌜ ((o : List ℤ) → n .written ≤ length o → SoundG r (now (store .entry)) (now (own .exit)) o o) ⌝ }
 {
     let c = n.cells;
@@ -213,14 +249,15 @@ fn work_out(
         return stray(at);
     }
     match cell_at(store, b) {
-        Cell::Unset => stray(at),
+        Cell::Unset(_) => stray(at),
         Cell::Holds(_) => stray(at),
         Cell::Named(a) => {
             if live >= bounds::LIVE {
                 return Outcome::Faults(Answer::ACTIVATIONS, q as usize);
             }
-            begin(own, live + 1, at, c, before(f), needed, place);
-            Outcome::Goes(part_at(needed, a), live + 1, n)
+            forget(own, fate);
+            begin(own, live + 1, at, c, before(f), fate, place);
+            Outcome::Goes(part_at(fate, a), live + 1, n)
         }
     }
 }
@@ -236,11 +273,15 @@ fn place_of(own: &Memory, live: usize, k: u32, q: u32) -> u32
     q
 }
 
-// 1 for a read.
-fn needed_of(k: u32) -> u32
-    ensures { λ r. ⌜ r ≡ cond (eqb k o-work) 1 0 ⌝ }
+// A read needs a result.
+fn fate_of(k: u32) -> u32
+    ensures { λ r. ⌜ r ≡ cond (eqb k o-work) 1 2 ⌝ }
+    ensures { λ r. ⌜ 1 ≤ r ⌝ }
 {
-    if k == codes::WORK { 1 } else { 0 }
+    if k == codes::WORK {
+        return activations::KEPT;
+    }
+    activations::STORED
 }
 
 // WORK, SEEK and PASS.
@@ -264,7 +305,7 @@ pub fn seek(
         }
     }
     let place = place_of(own, live, k, q);
-    work_out(at, live, n, own, store, q, place, v, needed_of(k))
+    work_out(at, live, n, own, store, q, place, v, fate_of(k))
 }
 
 // A store whose actual is no variable.

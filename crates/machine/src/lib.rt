@@ -2,6 +2,9 @@
 // they do.
 use answers::Answer;
 use answers::Stop;
+use reals::Entry;
+use reals::Form;
+use reals::Value;
 
 mod activations;
 mod blocks;
@@ -13,29 +16,12 @@ mod loops;
 pub mod operands; // the parts of an operand
 mod operations;
 mod ports;
+mod quick;
 mod steps;
 mod values;
+mod ways;
 
 pub use steps::run;
-
-// What a cell holds: nothing yet; a whole number, where a logical value is 1 or 0; or where the code of a name formal's actual is.
-pub enum Cell {
-    Unset,
-    Holds(i32),
-    Named(u32),
-}
-
-// The whole number that a cell holds, or that it holds none.
-pub enum Number {
-    Is(i32),
-    Not,
-}
-
-// What an operator gives: a whole number of 32 bits, or its fault. It stands in 64 bits, so that it is handed on without being packed.
-pub enum Value {
-    Is(i64),
-    Fault(Answer),
-}
 
 // How many cells are in use and how many are held, and how many numbers were taken and written.
 pub struct Counts {
@@ -45,15 +31,53 @@ pub struct Counts {
     pub written: usize,
 }
 
+// A variable's cell, and how many name formals are on the way to it.
+pub struct Way {
+    pub cell: usize,
+    pub links: usize,
+}
+
+// A type, or none.
+pub enum Typed {
+    Is(Form),
+    Not,
+}
+
+// A whole number, or something else.
+pub enum Number {
+    Is(i32),
+    Not,
+}
+
+// What a value has become on its way: a value, a fault and its place, or that it is of another type than is taken there.
+pub enum Turned {
+    Is(Value),
+    Bad(Answer, usize),
+    Stray,
+}
+
+// A channel's number: 1, another one, or no whole number.
+pub enum Line {
+    One,
+    Other,
+    Not,
+}
+
+// An output entry, or that the value has none there.
+pub enum Entered {
+    Is(Entry),
+    Not,
+}
+
 // A value used, with the counts after it.
 pub enum Used {
-    Value(i32, Counts),
+    Value(Value, Counts),
     Nothing,
 }
 
 // Two values used, the older one first, with the counts after them.
 pub enum Pair {
-    Values(i32, i32, Counts),
+    Values(Value, Value, Counts),
     Nothing,
 }
 
@@ -79,6 +103,18 @@ pub enum Outcome {
     Ends,
     Faults(Answer, usize),
     Strays(u32),
+}
+
+// What an instruction on whole numbers alone came to: the next counter and how many cells are in use; or it is no such one, and nothing was done.
+pub enum Swift {
+    Goes(u32, usize),
+    Not,
+}
+
+// What an instruction of control came to, or that it is another one.
+pub enum Moved {
+    Is(Outcome),
+    Not,
 }
 
 // What a run answers.

@@ -6,6 +6,8 @@ ghost use Rattle.machine.specs.Instructions.{high, mid, low, packed};
 // Numbers of so many bits are below these.
 pub const SIX_BITS: usize = 64;
 
+pub const TEN_BITS: usize = 1024;
+
 pub const THIRTEEN_BITS: usize = 8192;
 
 pub const TWENTY_SIX_BITS: usize = 67108864;

@@ -1,7 +1,7 @@
 // Hand-written code for each instruction and each answer, run and shown: the answer and its place, the counts, and every lent word. Before a run
 // each store number is 7 and each output number 9. The runs stand in the file `rows`, one a line: a label and a colon, the limit, the lengths of
-// store and output, how many inputs (one or none), the input, and the words of the code. A line that begins with # is a remark; it names the
-// instructions, operation @ place and operands.
+// store (two numbers a cell) and output (three an entry), how many inputs (one or none), the input, and the words of the code. A line that begins
+// with # is a remark; it names the instructions, operation @ place and operands.
 use asking::numerals::Natural;
 use asking::numerals::natural_in;
 use asking::words::line_of;
@@ -74,17 +74,17 @@ fn ran(
 }
 
 // One run, with so many store numbers and so much room in the output.
-fn tried(label: &[u8], code: &[u32], input: &[i32], limit: u64, cells: usize, room: usize)
-    requires { ⌜ (cells ≤ 24) × (room ≤ 24) ⌝ }
+fn tried(label: &[u8], code: &[u32], input: &[i32], limit: u64, numbers: usize, room: usize)
+    requires { ⌜ (numbers ≤ 48) × (room ≤ 24) ⌝ }
 {
-    let mut store = [7i64; 24];
+    let mut store = [7i64; 48];
     let mut output = [9i32; 24];
     ran(
         label,
         code,
         input,
         limit,
-        &mut store[..cells],
+        &mut store[..numbers],
         &mut output[..room],
     );
 }
@@ -138,7 +138,7 @@ fn word_at(words: &[u32], i: usize) -> u32 {
 // The run of a label and the first n words.
 fn listed(label: &[u8], words: &[u32], n: usize) {
     let limit = word_at(words, 0) as u64;
-    let cells = least(word_at(words, 1) as usize, 24);
+    let numbers = least(word_at(words, 1) as usize, 48);
     let room = least(word_at(words, 2) as usize, 24);
     let input = [input_of(word_at(words, 4))];
     if words.len() < n {
@@ -148,13 +148,13 @@ fn listed(label: &[u8], words: &[u32], n: usize) {
         return;
     }
     if word_at(words, 3) == 0 {
-        tried(label, &words[4..n], &input[..0], limit, cells, room);
+        tried(label, &words[4..n], &input[..0], limit, numbers, room);
         return;
     }
     if n < 5 {
         return;
     }
-    tried(label, &words[5..n], &input, limit, cells, room);
+    tried(label, &words[5..n], &input, limit, numbers, room);
 }
 
 // A line of the file. Behind its words the row has zeros.
@@ -188,7 +188,7 @@ fn lines(text: &[u8]) {
     }
 }
 
-// Words past 16,384 are not read, and store numbers past 8,192 are left alone: the last two of the store are shown.
+// Words past 16,384 are not read, and store numbers past 8,192 cells of two are left alone: the last two of the store are shown.
 fn far() {
     let mut code = [0u32; 16386];
     code[0] = 2;
@@ -197,10 +197,10 @@ fn far() {
     code[16383] = 5;
     code[16384] = 1;
     let input: [i32; 1] = [0];
-    let mut store = [7i64; 8193];
+    let mut store = [7i64; 16385];
     let mut output: [i32; 1] = [9];
     let r = machine::run(&code, &input[..0], 10, &mut store, &mut output);
-    show(b"far", r, &store[8191..], &output);
+    show(b"far", r, &store[16383..], &output);
 }
 
 fn main() {

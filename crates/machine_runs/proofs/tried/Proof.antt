@@ -1,4 +1,4 @@
--- A part of 24 numbers is as long as it is said to be.
+-- A part of the numbers is as long as it is said to be.
 use mathlib.Core.Path.{sym}
 use lib.Seq.{length-take-le}
 use borrow.Author.Needs.{needs}
@@ -9,7 +9,7 @@ array-borrow-prefix-store : tie.Need-array-borrow-prefix-store
 array-borrow-prefix-store c = search needs
 
 slice-aggregate-ran : tie.Need-slice-aggregate-ran
-slice-aggregate-ran c = sym (length-take-le (c .before .before .before .args .cells) _ (c .before .before .before .pre .0))
+slice-aggregate-ran c = sym (length-take-le (c .before .before .before .args .numbers) _ (c .before .before .before .pre .0))
 
 array-borrow-prefix-output : tie.Need-array-borrow-prefix-output
 array-borrow-prefix-output c = search needs

@@ -2,7 +2,7 @@
 use mathlib.Core.Path.{sym, _∙_}
 use native.Mathlib.Omega.{arith}
 use Rattle.machine.proofs.Frames.{base-at}
-use Rattle.machine.proofs.Signed.{bits-pos}
+use Rattle.reals.proofs.Signed.{bits-pos}
 use borrow.Author.Needs.{needs}
 use Rattle.machine.proofs.activations.first_cell.Statement.{statement}
 use Rattle.machine.proofs.activations.first_cell.Tie as tie

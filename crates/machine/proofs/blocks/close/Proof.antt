@@ -1,4 +1,4 @@
--- So many cells go, where there are as many.
+-- Fewer cells.
 use mathlib.Core.Path.{refl}
 use native.Mathlib.Omega.{arith}
 use Rattle.machine.proofs.Told.{close-no, close-yes, cut-sound}
@@ -12,4 +12,8 @@ returns-2 : tie.Need-returns-2
 returns-2 c = (λ a s i o. close-yes (c .before .args .n) a s i o (c .before .args .k) (c .if1 .left), λ s g. (cut-sound _ (c .before .args .n) s g (omega arith), refl))
 
 pub close-spec : {M : Type 1} → statement M
-close-spec = tie.close (tie.spec returns returns-2)
+close-spec =
+    tie.close
+    (tie.spec
+    returns
+    returns-2)

@@ -1,61 +1,60 @@
--- A number of 32 bits is what the cell holds; any other stands for an unassigned one or for a name formal's.
-use Rattle.machine.specs.model.Holding.{roomOf, cellAt, cellOf}
-use Rattle.machine.proofs.Signed.{low-out, high-out, between, read-back}
-use lib.ListN.{getD}
-use lib.IntN.{pos}
-use Prim.Native.Nat.{_*_}
+-- Both numbers are read.
+use mathlib.Core.Path.{ap₂, _∙_}
+use Prim.Native.Nat.{_+_, _*_}
 use native.Mathlib.Omega.{arith}
-use mir.Syntax.{w32, w64}
-use mir.Facts.{toZ-ofZ}
-use borrow.Author.Tests.{lt-ltb}
-use lib.Signed.{mag}
-use Rattle.machine.proofs.Stacks.{other-low}
+use lib.IntN.{ℤ, pos}
+use lib.ListN.{getD}
+use mir.Syntax.{w64}
+use mir.Val.{ofZ}
+use Rattle.reals.specs.model.Stored.{cellOf}
+use Rattle.machine.specs.model.Holding.{cellAt, roomOf}
+use Rattle.reals.proofs.Signed.{read-back}
 use borrow.Author.Needs.{needs}
 use Rattle.machine.proofs.cells.cell_at.Statement.{statement}
 use Rattle.machine.proofs.cells.cell_at.Tie as tie
 
-mul-x-2 : tie.Need-mul-x-2
+mul-kind : tie.Need-mul-kind
 unfolding roomOf
-mul-x-2 c = omega arith
+mul-kind c = omega arith
 
-shared-slice-copy-out-x : tie.Need-shared-slice-copy-out-x
+mul-kind-2 : tie.Need-mul-kind-2
 unfolding roomOf
-shared-slice-copy-out-x c = omega arith
+mul-kind-2 c = omega arith
+
+shared-slice-copy-out-kind : tie.Need-shared-slice-copy-out-kind
+unfolding roomOf
+shared-slice-copy-out-kind c = omega arith
+
+mul-load : tie.Need-mul-load
+unfolding roomOf
+mul-load c = omega arith
+
+add-load : tie.Need-add-load
+unfolding roomOf
+add-load c = omega arith
+
+mul-load-2 : tie.Need-mul-load-2
+unfolding roomOf
+mul-load-2 c = omega arith
+
+shared-slice-copy-out-load : tie.Need-shared-slice-copy-out-load
+unfolding roomOf
+shared-slice-copy-out-load c = omega arith
 
 returns : tie.Need-returns
-unfolding cellAt cellOf
-returns c =
-    let z = getD (c .before .before .args .store .now) (1 * c .before .before .args .c) (pos 0) in
-    let l = simp (read-back w64 z (c .before .x .given)) at (c .if1 .taken) in
-    simp (low-out w32 z l, other-low z 2147483647 l)
-
-returns-2 : tie.Need-returns-2
-unfolding cellAt cellOf
-returns-2 c =
-    let z = getD (c .before .before .before .before .args .store .now) (1 * c .before .before .before .before .args .c) (pos 0) in
-    simp (high-out w32 z (simp (read-back w64 z (c .before .before .before .x .given)) at (c .before .if2 .taken))) (simp (read-back w64 z (c .before .before .before .x .given)) at (c .beyond .ensures))
-
-cast-t9 : tie.Need-cast-t9
-cast-t9 c =
-    let z = getD (c .before .before .before .args .store .now) (1 * c .before .before .before .args .c) (pos 0) in
-    rw (read-back w64 z (c .before .before .x .given)) (between w32 z (simp (read-back w64 z (c .before .before .x .given)) at (c .before .if1 .left)) (simp (read-back w64 z (c .before .before .x .given)) at (c .if2 .left)))
-
-returns-3 : tie.Need-returns-3
-unfolding cellAt cellOf
-returns-3 c =
-    let z = getD (c .before .before .before .args .store .now) (1 * c .before .before .before .args .c) (pos 0) in
-    let h = between w32 z (simp (read-back w64 z (c .before .before .x .given)) at (c .before .if1 .left)) (simp (read-back w64 z (c .before .before .x .given)) at (c .if2 .left)) in
-    simp (read-back w64 z (c .before .before .x .given), toZ-ofZ h, lt-ltb (mag z) 2147483648 (h .sfits))
+unfolding cellAt
+returns c = c .decode .ensures ∙ ap₂ (λ (x y : ℤ). cellOf (ofZ w64 x) y) (read-back w64 (getD (c .before .before .before .args .store .now) (2 * c .before .before .before .args .c) (pos 0)) (c .before .before .kind .given)) (read-back w64 (getD (c .before .before .before .args .store .now) (2 * c .before .before .before .args .c + 1) (pos 0)) (c .before .load .given))
 
 pub cell-at-spec : {M : Type 1} → statement M
 cell-at-spec =
     tie.close
     (tie.spec
-    (λ c. search needs)
-    mul-x-2
-    shared-slice-copy-out-x
-    returns
+    mul-kind
+    mul-kind-2
+    shared-slice-copy-out-kind
+    mul-load
+    add-load
+    mul-load-2
+    shared-slice-copy-out-load
     (λ c κs. search needs)
-    returns-2
-    cast-t9
-    returns-3)
+    returns)

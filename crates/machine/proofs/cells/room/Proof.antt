@@ -9,4 +9,7 @@ unfolding roomOf
 returns c = refl
 
 pub room-spec : {M : Type 1} → statement M
-room-spec = tie.close (tie.spec returns)
+room-spec =
+    tie.close
+    (tie.spec
+    returns)

@@ -1,21 +1,9 @@
--- Each of the three ways.
+-- By what the operation came to.
 use mathlib.Core.Path.{_∙_}
 use Rattle.machine.proofs.Execs.{lift-good, lift-bad, lift-none, good-sound, bad-sound, none-sound, strayed, strayed-sound}
 use borrow.Author.Needs.{needs}
 use Rattle.machine.proofs.control.lift.Statement.{statement}
 use Rattle.machine.proofs.control.lift.Tie as tie
-
-enum-known-did : tie.Need-enum-known-did
-enum-known-did c = search needs
-
-enum-known-did-2 : tie.Need-enum-known-did-2
-enum-known-did-2 c = search needs
-
-enum-told : tie.Need-enum-told
-enum-told c = search needs
-
-stray-requires : tie.Need-stray-requires
-stray-requires c κs = search needs
 
 returns : tie.Need-returns
 returns c = (λ s i o l. lift-good _ (c .before .before .before .args .next) (c .before .before .before .args .live) s i o l (c .before .did .given .1), λ s o o' l g v. good-sound s o o' l g (c .before .before .before .args .next) (c .before .before .before .args .live) (c .before .did .given .1) v)
@@ -29,4 +17,11 @@ returns-3 c = (λ s i o l. strayed (c .stray .ensures) s l i o ∙ lift-none _ (
 pub lift-spec : {M : Type 1} → statement M
 lift-spec =
     tie.close
-    (tie.spec enum-known-did enum-known-did-2 enum-told stray-requires returns returns-2 returns-3)
+    (tie.spec
+    (λ c. search needs)
+    (λ c. search needs)
+    (λ c. search needs)
+    (λ c κs. search needs)
+    returns
+    returns-2
+    returns-3)

@@ -1,31 +1,13 @@
--- Each of the four ways.
-use Prim.Native.Nat.{_+_}
+-- By what the test came to.
 use mathlib.Core.Path.{refl, _∙_}
+use Prim.Native.Nat.{_+_}
 use Rattle.machine.proofs.Execs.{test-yes, test-no, test-bad, test-none, yes-sound, no-sound, strayed, strayed-sound}
 use borrow.Author.Needs.{needs}
 use Rattle.machine.proofs.control.lift_test.Statement.{statement}
 use Rattle.machine.proofs.control.lift_test.Tie as tie
 
-enum-known-chosen : tie.Need-enum-known-chosen
-enum-known-chosen c = search needs
-
-add-t10 : tie.Need-add-t10
-add-t10 c = search needs
-
-enum-known-chosen-2 : tie.Need-enum-known-chosen-2
-enum-known-chosen-2 c = search needs
-
-enum-known-chosen-3 : tie.Need-enum-known-chosen-3
-enum-known-chosen-3 c = search needs
-
-enum-told : tie.Need-enum-told
-enum-told c = search needs
-
-stray-requires : tie.Need-stray-requires
-stray-requires c κs = search needs
-
 returns : tie.Need-returns
-returns c = (λ s i o l. test-yes _ (c .before .before .before .args .at) (c .before .before .before .args .other) (c .before .before .before .args .live) s i o l (c .before .chosen .given .1), λ n s o l g h v. yes-sound n s o l (c .before .before .before .args .at + 1) (c .before .before .before .args .live) g h v (c .before .chosen .given .1))
+returns c = (λ s i o l. test-yes _ (c .before .before .before .args .at) (c .before .before .before .args .other) (c .before .before .before .args .live) s i o l (c .before .chosen .given .1), λ n s o l g h v. yes-sound n s o l ((c .before .before .before .args .at) + 1) (c .before .before .before .args .live) g h v (c .before .chosen .given .1))
 
 returns-2 : tie.Need-returns-2
 returns-2 c = (λ s i o l. test-no _ (c .before .before .before .args .at) (c .before .before .before .args .other) (c .before .before .before .args .live) s i o l (c .before .chosen2 .given .1), λ n s o l g h v. no-sound n s o l (c .before .before .before .args .other) (c .before .before .before .args .live) g h v (c .before .chosen2 .given .1))
@@ -40,12 +22,12 @@ pub lift-test-spec : {M : Type 1} → statement M
 lift-test-spec =
     tie.close
     (tie.spec
-    enum-known-chosen
-    add-t10
-    enum-known-chosen-2
-    enum-known-chosen-3
-    enum-told
-    stray-requires
+    (λ c. search needs)
+    (λ c. search needs)
+    (λ c. search needs)
+    (λ c. search needs)
+    (λ c. search needs)
+    (λ c κs. search needs)
     returns
     returns-2
     returns-3

@@ -1,4 +1,4 @@
--- The running activation's place, or this one.
+-- Of PASS alone it is the running activation's.
 use borrow.Author.Tests.{ne-eqb}
 use borrow.Author.Needs.{needs}
 use Rattle.machine.proofs.control.place_of.Statement.{statement}

@@ -1,8 +1,8 @@
--- The place is the running activation's.
+-- Where the store began.
 use mathlib.Core.Path.{refl, _∙_}
 use Rattle.machine.proofs.Execs.{strayed, strayed-sound}
 use Rattle.machine.proofs.Named.{refuse-none, refuse-done}
-use Rattle.machine.proofs.Signed.{bits-pos}
+use Rattle.reals.proofs.Signed.{bits-pos}
 use borrow.Author.Needs.{needs}
 use Rattle.machine.proofs.control.refuse.Statement.{statement}
 use Rattle.machine.proofs.control.refuse.Tie as tie

@@ -1,27 +1,22 @@
--- The value goes.
+-- Nothing is done with the value.
 use Rattle.machine.proofs.Works.{forget-none, forget-some}
 use Rattle.machine.proofs.Kept.{saw, saw-none, used-sound, used-trace, used-written}
 use borrow.Author.Needs.{needs}
 use Rattle.machine.proofs.operations.forget.Statement.{statement}
 use Rattle.machine.proofs.operations.forget.Tie as tie
 
-newest-requires : tie.Need-newest-requires
-newest-requires c κs = search needs
-
-enum-told : tie.Need-enum-told
-enum-told c = search needs
-
-enum-known-m : tie.Need-enum-known-m
-enum-known-m c = search needs
-
 returns : tie.Need-returns
 returns c = (λ a i o. forget-none _ _ (saw-none (c .before .before .before .args .n) a (c .before .before .before .args .store .now) i o (c .enum-told .given .1) (c .before .before .newest .ensures .0 a i o)), tt)
 
 returns-2 : tie.Need-returns-2
-returns-2 c = (
-  λ a i o. forget-some _ _ (saw (c .before .before .before .before .args .n) a (c .before .before .before .before .args .store .now) i o (c .before .m .given .1) (c .before .before .before .newest .ensures .0 a i o)) (used-trace (c .before .before .before .before .args .n) (c .before .m .given .1) (c .before .before .before .newest .ensures .1) o),
-  (used-sound (c .before .before .before .before .args .n) (c .before .m .given .1) (c .before .before .before .newest .ensures .1) (c .before .before .before .before .pre), used-written (c .before .before .before .before .args .n) (c .before .m .given .1) (c .before .before .before .newest .ensures .1)),
-)
+returns-2 c = (λ a i o. forget-some _ _ (saw (c .before .before .before .before .args .n) a (c .before .before .before .before .args .store .now) i o (c .before .m .given .1) (c .before .before .before .newest .ensures .0 a i o)) (used-trace (c .before .before .before .before .args .n) (c .before .m .given .1) (c .before .before .before .newest .ensures .1) o), ((used-sound (c .before .before .before .before .args .n) (c .before .m .given .1) (c .before .before .before .newest .ensures .1) (c .before .before .before .before .pre)), used-written (c .before .before .before .before .args .n) (c .before .m .given .1) (c .before .before .before .newest .ensures .1)))
 
 pub forget-spec : {M : Type 1} → statement M
-forget-spec = tie.close (tie.spec newest-requires enum-told enum-known-m returns returns-2)
+forget-spec =
+    tie.close
+    (tie.spec
+    (λ c κs. search needs)
+    (λ c. search needs)
+    (λ c. search needs)
+    returns
+    returns-2)

@@ -1,8 +1,8 @@
 -- The newest cell is the last one in use.
 use mathlib.Core.Path.{refl, sym, _∙_}
-use Rattle.machine.proofs.Kept.{newest-none, newest-not, newest-holds, number-holds}
-use mir.Syntax.{w32}
-use Rattle.machine.proofs.Signed.{read-back, bits-pos}
+use Rattle.machine.proofs.Kept.{newest-none, newest-unset, newest-named, newest-holds}
+use Rattle.machine.proofs.Stacks.{held-fits}
+use Rattle.reals.proofs.Signed.{bits-pos}
 use borrow.Author.Needs.{needs}
 use Rattle.machine.proofs.operations.newest.Statement.{statement}
 use Rattle.machine.proofs.operations.newest.Tie as tie
@@ -11,12 +11,13 @@ returns : tie.Need-returns
 returns c = (λ a i o. newest-none (c .before .args .n) a (c .before .args .store .now) i o (c .if1 .taken), tt)
 
 returns-2 : tie.Need-returns-2
-returns-2 c = (λ a i o. newest-not (c .before .before .before .before .args .n) a (c .before .before .before .before .args .store .now) i o (bits-pos _ (c .before .before .before .if1 .left)) (sym (c .before .before .number-at .ensures) ∙ c .enum-told .given .1), tt)
+returns-2 c = let h = bits-pos _ (c .before .before .before .before .if1 .left) in let e = sym (c .before .before .before .cell-at .ensures) ∙ c .before .v .given .1 in (λ a i o. newest-holds (c .before .before .before .before .before .args .n) a (c .before .before .before .before .before .args .store .now) i o h e, (h, refl, held-fits (c .before .before .before .before .before .args .store .now) _ e))
 
 returns-3 : tie.Need-returns-3
-returns-3 c =
-    let h = bits-pos _ (c .before .before .before .before .if1 .left) in
-    (λ a i o. newest-holds (c .before .before .before .before .before .args .n) a (c .before .before .before .before .before .args .store .now) i o h (number-holds _ (sym (c .before .before .before .number-at .ensures) ∙ c .before .v .given .1)) (read-back w32 (c .before .v .given .0 .0) (c .known-told .given .0 .1)), (h, refl))
+returns-3 c = (λ a i o. newest-unset (c .before .before .before .before .args .n) a (c .before .before .before .before .args .store .now) i o (bits-pos _ (c .before .before .before .if1 .left)) (sym (c .before .before .cell-at .ensures) ∙ c .enum-told .given .1), tt)
+
+returns-4 : tie.Need-returns-4
+returns-4 c = (λ a i o. newest-named (c .before .before .before .before .args .n) a (c .before .before .before .before .args .store .now) i o (bits-pos _ (c .before .before .before .if1 .left)) (sym (c .before .before .cell-at .ensures) ∙ c .enum-told2 .given .1), tt)
 
 pub newest-spec : {M : Type 1} → statement M
 newest-spec =
@@ -28,5 +29,7 @@ newest-spec =
     (λ c. search needs)
     (λ c. search needs)
     (λ c. search needs)
+    (λ c. search needs)
     returns-2
-    returns-3)
+    returns-3
+    returns-4)

@@ -3,10 +3,10 @@ use mathlib.Core.Path.{_≡_, refl, ap, _∙_}
 use mathlib.Core.List.{List, _++_}
 use Prim.Native.Nat.{_≤_, _-_, _<_}
 use native.Mathlib.Omega.{arith}
-use borrow.Author.Needs.{needs}
 use lib.ListN.{length, drop, replicate, set, length-set}
 use lib.IntN.{ℤ, pos}
 use Rattle.machine.proofs.Limits.{fill-more, filled}
+use borrow.Author.Needs.{needs}
 use Rattle.machine.proofs.steps.clear.Statement.{statement}
 use Rattle.machine.proofs.steps.clear.Tie as tie
 
@@ -32,10 +32,7 @@ loop-less : tie.Need-loop-less Inv-loop μ-loop
 loop-less c = omega (arith, c .before .loop .inv .1)
 
 loop-again : tie.Need-loop-again Inv-loop μ-loop
-loop-again c =
-    let s = c .before .before .args .store .now in
-    let h : c .before .loop .i < length s = omega (arith, c .loop-test .taken, c .before .loop .inv .1) in
-    (omega arith, length-set (c .before .loop .store) (c .before .loop .i) (pos 0) ∙ c .before .loop .inv .1, ap (λ (z : List ℤ). set z (c .before .loop .i) (pos 0)) (c .before .loop .inv .2) ∙ fill-more (c .before .loop .i) (pos 0) s h)
+loop-again c = let s = (c .before .before .args .store .now) in let h : c .before .loop .i < length s = omega (arith, c .loop-test .taken, c .before .loop .inv .1) in (omega arith, length-set (c .before .loop .store) (c .before .loop .i) (pos 0) ∙ c .before .loop .inv .1, ap (λ (z : List ℤ). set z (c .before .loop .i) (pos 0)) (c .before .loop .inv .2) ∙ fill-more (c .before .loop .i) (pos 0) s h)
 
 same-length : tie.Need-same-length Inv-loop μ-loop
 same-length c = c .before .loop .inv .1

@@ -1,9 +1,9 @@
 -- What is left of the run is the whole of it.
-use Prim.Native.Nat.{_-_}
-use native.Mathlib.Omega.{arith}
-use borrow.Author.Needs.{needs}
 use mathlib.Core.Path.{refl, _∙_}
+use native.Mathlib.Omega.{arith}
+use Prim.Native.Nat.{_-_}
 use Rattle.machine.proofs.Limits.{Driving, driving-start, driving-on, driven-stop, driven-over}
+use borrow.Author.Needs.{needs}
 use Rattle.machine.proofs.steps.drive.Statement.{statement}
 use Rattle.machine.proofs.steps.drive.Tie as tie
 
@@ -38,9 +38,7 @@ same-length-2 : tie.Need-same-length-2 Inv-loop μ-loop
 same-length-2 c = c .before .before .before .before .before .step .kept .1 .1 .1 .1 .1 .1 .0 ∙ c .before .before .before .before .before .before .before .before .before .before .loop .inv .long-output
 
 returns : tie.Need-returns Inv-loop μ-loop
-returns c =
-    let s = c .before .before .before .before .before .step in
-    rw (c .ended .ensures) (driven-stop (c .before .before .before .before .before .before .before .before .before .before .loop .inv) (c .before .before .before .before .before .before .before .before .before .loop-test .taken) (s .last .1 .1 .1 .1 .1 .0) (s .last .1 .1 .1 .1 .1 .1 .0) (s .last .1 .1 .1 .1 .1 .1 .1 .0) (s .ensures .0) (s .ensures .1) (c .before .enum-told .given .1) refl (λ k. k))
+returns c = rw (c .ended .ensures) (driven-stop (c .before .before .before .before .before .before .before .before .before .before .loop .inv) (c .before .before .before .before .before .before .before .before .before .loop-test .taken) (c .before .before .before .before .before .step .last .1 .1 .1 .1 .1 .0) (c .before .before .before .before .before .step .last .1 .1 .1 .1 .1 .1 .0) (c .before .before .before .before .before .step .last .1 .1 .1 .1 .1 .1 .1 .0) (c .before .before .before .before .before .step .ensures .0) (c .before .before .before .before .before .step .ensures .1) (c .before .enum-told .given .1) refl (λ k. k))
 
 enum-known-a-2 : tie.Need-enum-known-a-2 Inv-loop μ-loop
 enum-known-a-2 c = search needs
@@ -61,9 +59,7 @@ same-length-4 : tie.Need-same-length-4 Inv-loop μ-loop
 same-length-4 c = c .before .before .before .before .before .before .before .step .kept .1 .1 .1 .1 .1 .1 .0 ∙ c .before .before .before .before .before .before .before .before .before .before .before .before .loop .inv .long-output
 
 returns-2 : tie.Need-returns-2 Inv-loop μ-loop
-returns-2 c =
-    let s = c .before .before .before .before .before .before .before .step in
-    rw (c .ended2 .ensures, c .before .new .ensures) (driven-stop (c .before .before .before .before .before .before .before .before .before .before .before .before .loop .inv) (c .before .before .before .before .before .before .before .before .before .before .before .loop-test .taken) (s .last .1 .1 .1 .1 .1 .0) (s .last .1 .1 .1 .1 .1 .1 .0) (s .last .1 .1 .1 .1 .1 .1 .1 .0) (s .ensures .0) (s .ensures .1) (c .before .before .before .a2 .given .1) refl (λ k. k))
+returns-2 c = rw (c .ended2 .ensures, c .before .new .ensures) (driven-stop (c .before .before .before .before .before .before .before .before .before .before .before .before .loop .inv) (c .before .before .before .before .before .before .before .before .before .before .before .loop-test .taken) (c .before .before .before .before .before .before .before .step .last .1 .1 .1 .1 .1 .0) (c .before .before .before .before .before .before .before .step .last .1 .1 .1 .1 .1 .1 .0) (c .before .before .before .before .before .before .before .step .last .1 .1 .1 .1 .1 .1 .1 .0) (c .before .before .before .before .before .before .before .step .ensures .0) (c .before .before .before .before .before .before .before .step .ensures .1) (c .before .before .before .a2 .given .1) refl (λ k. k))
 
 enum-known-c : tie.Need-enum-known-c Inv-loop μ-loop
 enum-known-c c = search needs
@@ -81,9 +77,7 @@ same-length-6 : tie.Need-same-length-6 Inv-loop μ-loop
 same-length-6 c = c .before .before .before .before .before .before .step .kept .1 .1 .1 .1 .1 .1 .0 ∙ c .before .before .before .before .before .before .before .before .before .before .before .loop .inv .long-output
 
 returns-3 : tie.Need-returns-3 Inv-loop μ-loop
-returns-3 c =
-    let s = c .before .before .before .before .before .before .step in
-    rw (c .ended3 .ensures) (driven-stop (c .before .before .before .before .before .before .before .before .before .before .before .loop .inv) (c .before .before .before .before .before .before .before .before .before .before .loop-test .taken) (s .last .1 .1 .1 .1 .1 .0) (s .last .1 .1 .1 .1 .1 .1 .0) (s .last .1 .1 .1 .1 .1 .1 .1 .0) (s .ensures .0) (s .ensures .1) (c .before .before .c .given .1) refl (λ k. k))
+returns-3 c = rw (c .ended3 .ensures) (driven-stop (c .before .before .before .before .before .before .before .before .before .before .before .loop .inv) (c .before .before .before .before .before .before .before .before .before .before .loop-test .taken) (c .before .before .before .before .before .before .step .last .1 .1 .1 .1 .1 .0) (c .before .before .before .before .before .before .step .last .1 .1 .1 .1 .1 .1 .0) (c .before .before .before .before .before .before .step .last .1 .1 .1 .1 .1 .1 .1 .0) (c .before .before .before .before .before .before .step .ensures .0) (c .before .before .before .before .before .before .step .ensures .1) (c .before .before .c .given .1) refl (λ k. k))
 
 add-done : tie.Need-add-done Inv-loop μ-loop
 add-done c = omega (arith, c .before .before .before .before .before .before .before .before .before .loop-test .taken)

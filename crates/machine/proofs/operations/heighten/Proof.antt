@@ -1,0 +1,32 @@
+-- What the value becomes is in its place.
+use mathlib.Core.Path.{sym, subst, _∙_}
+use Rattle.reals.specs.model.Stored.{FittingO}
+use Rattle.machine.proofs.Turns.{raised-fits}
+use Rattle.machine.proofs.Works.{heighten-none, heighten-some}
+use Rattle.machine.proofs.Kept.{saw, saw-none, used-sound, used-room, used-trace, used-did}
+use borrow.Author.Needs.{needs}
+use Rattle.machine.proofs.operations.heighten.Statement.{statement}
+use Rattle.machine.proofs.operations.heighten.Tie as tie
+
+give-requires : tie.Need-give-requires
+give-requires c κs = ((used-sound (c .before .before .before .before .before .before .before .args .n) (c .before .before .before .x .given .1) (c .before .before .before .before .before .newest .ensures .1) (c .before .before .before .before .before .before .before .pre)), (used-room (c .before .before .before .before .before .before .before .args .n) (c .before .before .before .x .given .1) (c .before .before .before .before .before .newest .ensures .1) (c .before .before .before .before .before .before .before .pre)), subst FittingO (sym (c .raised .ensures)) (raised-fits _ _))
+
+returns : tie.Need-returns
+returns c = (λ a i o. heighten-none _ _ (c .before .before .before .before .args .h) (saw-none (c .before .before .before .before .args .n) a (c .before .before .before .before .args .store .now) i o (c .enum-told .given .1) (c .before .before .newest .ensures .0 a i o)), tt)
+
+returns-2 : tie.Need-returns-2
+returns-2 c = (λ a i o. c .before .give .ensures .0 a i o ∙ heighten-some _ _ (c .before .before .before .before .before .before .before .before .before .args .h) (saw (c .before .before .before .before .before .before .before .before .before .args .n) a (c .before .before .before .before .before .before .before .before .before .args .store .now) i o (c .before .before .before .before .before .x .given .1) (c .before .before .before .before .before .before .before .newest .ensures .0 a i o)) (used-trace (c .before .before .before .before .before .before .before .before .before .args .n) (c .before .before .before .before .before .x .given .1) (c .before .before .before .before .before .before .before .newest .ensures .1) o) (c .before .before .raised .ensures), used-did (c .before .before .before .before .before .before .before .before .before .args .n) (c .before .before .before .before .before .x .given .1) (c .before .before .before .before .before .before .before .newest .ensures .1) (c .before .give .result) (c .before .give .last .1 .0) (c .before .give .ensures .1))
+
+pub heighten-spec : {M : Type 1} → statement M
+heighten-spec =
+    tie.close
+    (tie.spec
+    (λ c κs. search needs)
+    (λ c. search needs)
+    (λ c. search needs)
+    (λ c κs. search needs)
+    give-requires
+    (λ c. search needs)
+    returns
+    (λ c. search needs)
+    returns-2)

@@ -1,0 +1,26 @@
+-- There is room for one more cell.
+use native.Mathlib.Omega.{arith}
+use native.Mathlib.Nat.{le-refl}
+use Rattle.machine.proofs.Numbers.{fill-quick}
+use borrow.Author.Needs.{needs}
+use Rattle.machine.proofs.quick.fill.Statement.{statement}
+use Rattle.machine.proofs.quick.fill.Tie as tie
+
+returns-3 : tie.Need-returns-3
+returns-3 c = λ f p. fill-quick (c .before .before .before .before .before .before .before .before .before .args .at) (c .before .before .before .before .before .before .before .before .before .args .live) (c .before .before .before .before .before .before .before .before .before .args .n) (c .before .before .before .before .before .before .before .before .before .args .store .now) (c .before .before .before .before .before .before .before .before .before .args .own .now) (c .before .before .before .before .before .before .before .before .before .pre .0) (c .before .before .before .before .before .before .before .before .before .args .x) (c .before .before .before .before .before .before .before .before .before .pre .3) (omega (arith, c .before .before .before .before .before .before .before .if1 .left, (c .before .before .before .before .before .before .before .before .first-cell .ensures .0 (c .before .before .before .before .before .before .before .before .before .args .live) (le-refl _)))) (omega (arith, c .before .before .before .if2 .left, c .before .before .before .before .room .ensures)) (c .before .put-cell .ensures) f p
+
+pub fill-spec : {M : Type 1} → statement M
+fill-spec =
+    tie.close
+    (tie.spec
+    (λ c κs. search needs)
+    (λ c. search needs)
+    (λ c. search needs)
+    (λ c κs. search needs)
+    (λ c. search needs)
+    (λ c. search needs)
+    (λ c κs. search needs)
+    (λ c. search needs)
+    (λ c. search needs)
+    (λ c. search needs)
+    returns-3)
