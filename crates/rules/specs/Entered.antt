@@ -5,8 +5,11 @@ use mathlib.Core.Bool.{Bool, true, false, cond}
 use mathlib.Core.List.{List, [], _∷_}
 use mathlib.Core.Option.{Option, none, some}
 use lib.Dec.{eqb}
-use Rattle.names.specs.Program.{Name, Sort, Procedure, Declarations, Expression, Expressions, done, then}
-use Rattle.names.specs.Scopes.{Thing, variable, routine, formal, by-name, Declared, Scope, ofBlock, ofBody, declares, nameOf, sortOf, formalsOf, same, findIn, Meaning, declared, given, nothing, meaning}
+use Rattle.reals.specs.declared.Form.{Form}
+use Rattle.reals.specs.declared.Form.the-variants.{Truths, Wholes, Reals}
+use Rattle.machine.specs.Data.{Counted}
+use Rattle.names.specs.Program.{Specification, Name, Sort, integer, boolean, real, Procedure, Declarations, Expression, Expressions, done, then}
+use Rattle.names.specs.Scopes.{Thing, variable, routine, formal, by-name, Declared, Scope, ofBlock, ofBody, inBlock, inBody, declares, nameOf, sortOf, formalsOf, specificationsOf, specified, same, findIn, Meaning, declared, given, nothing, meaning}
 
 -- the innermost entered scope, and those around it: a block with its first cell; a body with its first cell, its actuals, and the environment of
 -- its call
@@ -44,14 +47,76 @@ results (ofBody p) = oneIf (sortOf p)
 abbrev pub cellsIn : Scope → ℕ
 cellsIn s = results s + total (declares s)
 
--- how many cells of the list stand before a name's
+-- ---- types of cells
+
+abbrev pub formFor : Sort → Form
+formFor integer = Wholes
+formFor real = Reals
+formFor boolean = Truths
+
+-- what has no type is nobody's
+abbrev pub formAs : Option Sort → Form
+formAs none = Wholes
+formAs (some t) = formFor t
+
+-- ---- a name's place among the cells of the scope that declares it
+
+-- 1 where the two are one type, or else 0
+abbrev pub oneType : Sort → Sort → ℕ
+oneType integer integer = 1
+oneType integer real = 0
+oneType integer boolean = 0
+oneType real integer = 0
+oneType real real = 1
+oneType real boolean = 0
+oneType boolean integer = 0
+oneType boolean real = 0
+oneType boolean boolean = 1
+
+abbrev pub typed : Sort → Thing → ℕ
+typed t (variable s) = oneType t s
+typed t (formal s) = 0
+typed t (by-name s) = 0
+typed t (routine p) = 0
+
+-- how many variables of a type a list has
+unfoldable pub variablesOf : Sort → List Declared → ℕ
+variablesOf t [] = 0
+variablesOf t (d ∷ l) = typed t (d .thing) + variablesOf t l
+
+abbrev pub counted : List Declared → Counted
+counted l = record { wholes = variablesOf integer l; reals = variablesOf real l; truths = variablesOf boolean l }
+
+-- how many of them stand before a name
+unfoldable pub typedBefore : Sort → List Declared → Name → ℕ
+typedBefore t [] x = 0
+typedBefore t (d ∷ l) x = cond (same (d .name) x) 0 (typed t (d .thing) + typedBefore t l x)
+
+-- "one per variable of an entered block", all taken at once: those of one type lie beside each other, integers first, then reals, then Booleans
+abbrev pub firstOf : Sort → List Declared → ℕ
+firstOf integer l = 0
+firstOf real l = variablesOf integer l
+firstOf boolean l = variablesOf integer l + variablesOf real l
+
+abbrev pub amongTyped : List Declared → Thing → Name → ℕ
+amongTyped l (variable t) x = firstOf t l + typedBefore t l x
+amongTyped l (formal t) x = 0
+amongTyped l (by-name t) x = 0
+amongTyped l (routine p) x = 0
+
+abbrev pub placeOf : List Declared → Option Declared → Name → ℕ
+placeOf l none x = 0
+placeOf l (some d) x = amongTyped l (d .thing) x
+
+-- how many cells of a list stand before a name's
 unfoldable pub before : List Declared → Name → ℕ
 before [] x = 0
 before (d ∷ l) x = cond (same (d .name) x) 0 (cellsOf (d .thing) + before l x)
 
--- a name's place among the cells of the scope that declares it
+-- of a body the result cell comes first, then the formals in their order
 abbrev pub placeIn : Scope → Name → ℕ
-placeIn s x = results s + before (declares s) x
+placeIn (ofBlock d) x = placeOf (inBlock d) (findIn (inBlock d) x) x
+placeIn (ofBody p) x = oneIf (sortOf p) + before (inBody p) x
 
 -- ---- outward to a scope
 
@@ -106,19 +171,19 @@ cellOf n v x = cellAs n v (meaning (scopesOf v) x) x
 -- ---- what a name formal stands for: "the actual's text with the environment at the call"
 
 pub data Actual : Type 0 where
-  actual : Expression → Env → Actual
+  actual : Option Sort → Expression → Env → Actual
   no-actual : Actual
 
 -- the actual of the formal with a name
-unfoldable pub actualOf : Env → List Name → Expressions → Name → Actual
-actualOf v [] es x = no-actual
-actualOf v (y ∷ ys) done x = no-actual
-actualOf v (y ∷ ys) (then e es) x = cond (same y x) (actual e v) (actualOf v ys es x)
+unfoldable pub actualOf : Env → List Specification → List Name → Expressions → Name → Actual
+actualOf v ss [] es x = no-actual
+actualOf v ss (y ∷ ys) done x = no-actual
+actualOf v ss (y ∷ ys) (then e es) x = cond (same y x) (actual (specified ss y) e v) (actualOf v ss ys es x)
 
 abbrev pub standsIn : Env → Name → Actual
 standsIn outside x = no-actual
 standsIn (entered ds c v) x = no-actual
-standsIn (called p c es v' v) x = actualOf v' (formalsOf p) es x
+standsIn (called p c es v' v) x = actualOf v' (specificationsOf p) (formalsOf p) es x
 
 abbrev pub standsFor : Env → Name → Actual
 standsFor v x = standsIn (cut (declaring x) v) x

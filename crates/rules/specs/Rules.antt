@@ -13,22 +13,29 @@ use Rattle.answers.specs.Answers.{refusal}
 use Rattle.answers.specs.Numbers.{noVariable}
 use Rattle.answers.specs.declared.Stop.{Stop}
 use Rattle.answers.specs.declared.Stop.the-variants.{Ended, Wrong, Fault}
-use Rattle.machine.specs.Values
-use Rattle.machine.specs.Values.{Binary, truth}
+use Rattle.reals.specs.declared.Form.{Form}
+use Rattle.reals.specs.declared.Form.the-variants.{Wholes, Reals}
+use Rattle.reals.specs.declared.Value.{Value}
+use Rattle.reals.specs.declared.Value.the-variants.{Truth, Whole, Real}
+use Rattle.reals.specs.declared.Unary.the-variants.{Minus, Negation, Absolute}
+use Rattle.reals.specs.declared.Binary.{Binary}
+use Rattle.reals.specs.declared.Binary.the-variants.{Plus, Less, Times, Over, Divide, Below, AtMost, Equal, AtLeast, Above, Unequal, And, Or, Impl, Equiv}
+use Rattle.reals.specs.Values
 use Rattle.machine.specs.Run.{quiet, untold, Out, halt, next, End, run}
-use Rattle.machine.specs.Data.{Data, contents, cells, Result, lift, Act, push, load, store, assign, reserve, forget, receive, send, keep, unary, binary, lend, channel, sum, foundIn, nameCell, actOn, work, Two, either as byTest, Test, condition, upto, testOn, test, openBlock, closeBlock, enter, Fate, kept, gone, leave}
+use Rattle.machine.specs.Data.{Link, link, unlinked, Target, to, Data, contents, cells, Result, lift, Act, push, load, store, assign, reserve, forget, receive, send, keep, unary, binary, lend, channel, sum, turn, foundIn, seeking, nameCell, actOn, work, Two, either as byTest, Test, condition, upto, testOn, test, openBlock, closeBlock, enter, Fate, kept, gone, stored, leave}
 use Rattle.names.specs.Program
-use Rattle.names.specs.Program.{Name, Sort, Sign, positive, negative, negation, Operator, Expression, number, logical, name, call, signed, operated, chosen, nested, Expressions, done, then, firstSymbol, Element, value, while, step, Statement, dummy, assignment, procedure, when, either, repeat, compound, block, Statements, last, first}
-use Rattle.names.specs.Scopes.{Thing, variable, routine, formal, by-name, ofBlock, ofBody, sortOf, bodyOf, modesOf, Meaning, declared, given, nothing, meaning}
-use Rattle.rules.specs.Entered.{Env, outside, entered, called, scopesOf, cellsIn, cut, declaring, cellOf, Actual, actual, no-actual, standsFor}
+use Rattle.names.specs.Program.{Name, Sort, integer, Sign, positive, negative, negation, Operator, Expression, number, decimal, logical, name, call, signed, operated, chosen, nested, Expressions, done, then, firstSymbol, Element, value, while, step, Statement, dummy, assignment, procedure, when, either, repeat, compound, block, Statements, last, first}
+use Rattle.names.specs.Scopes.{Mode, byValue, byName, Thing, variable, routine, formal, by-name, inBlock, ofBlock, ofBody, sortOf, bodyOf, modesOf, Meaning, declared, given, nothing, meaning}
+use Rattle.types.specs.Types.{widens}
+use Rattle.rules.specs.Entered.{formFor, formAs, counted, Env, outside, entered, called, scopesOf, cellsIn, cut, declaring, cellOf, Actual, actual, no-actual, standsFor}
 use Rattle.rules.specs.Calls.{Primary, held, worked, function, absolute, greatest, no-primary, primary, Command, routine-of, absolute-of, greatest-of, input-to, output-of, no-command, command, Way, direct, sought, way}
 
 -- ---- the agenda
 
 -- a choice, once its condition or test is known: the parts of a conditional expression or statement; the body after a 'while' element's condition
--- (the variable, its value, its condition, the elements left, the body)
+-- (the variable, its value, its condition, the elements left, the body). Of an expression's parts besides: whether each is a whole number beside a real
 pub data Choice : Type 0 where
-  expressions : Expression → Expression → Choice
+  expressions : Bool → Bool → Expression → Expression → Choice
   statements : Statement → Statement → Choice
   only : Statement → Choice
   whiling : Name → ℕ → Expression → Expression → List Element → Statement → Choice
@@ -45,7 +52,11 @@ pub data Spot : Type 0 where
 pub data Task : Type 0 where
   -- evaluate an expression, actuals; begin a statement, go on with the statements of a list
   evaluate : Expression → Task
-  giveAll : List Bool → Expressions → Task
+  giveAll : List Mode → Expressions → Task
+  -- a value becomes one of a type, 21 at a place
+  turning : ℕ → Form → Task
+  -- the value of a whole-number arm, whose first symbol it is, becomes a real
+  widening : Task
   -- give a name formal its cell, for the actual whose first symbol it is
   naming : ℕ → Task
   begin : Statement → Task
@@ -73,11 +84,11 @@ pub data Task : Type 0 where
   seek : Name → ℕ → Task
   find : Expression → ℕ → Task
   receiving : ℕ → Name → Task
-  -- call the procedure that the name means; leave a block of so many cells; return from a call (fate of the result, place of the call, first cell of
-  -- the activation, environment of the call)
+  -- call the procedure that the name means; leave a block of so many cells; return from a call or a working out (fate of the result, formal on the way
+  -- of a store, place of the call, first cell of the activation, environment of the call)
   invoke : Name → Expressions → Fate → Task
   close : ℕ → Task
-  return : Fate → ℕ → ℕ → Env → Task
+  return : Fate → Link → ℕ → ℕ → Env → Task
 
 pub data State : Type 0 where
   state : List Task → Env → Data → State
@@ -89,37 +100,38 @@ noRule = Wrong (record { at = 0 })
 -- ---- operators
 
 abbrev pub binaryOf : Operator → Binary
-binaryOf Program.times = Values.times
-binaryOf Program.over = Values.over
-binaryOf Program.plus = Values.plus
-binaryOf Program.minus = Values.less
-binaryOf Program.less = Values.below
-binaryOf Program.atMost = Values.atMost
-binaryOf Program.equal = Values.equal
-binaryOf Program.atLeast = Values.atLeast
-binaryOf Program.greater = Values.above
-binaryOf Program.unequal = Values.unequal
-binaryOf Program.and = Values.and
-binaryOf Program.or = Values.or
-binaryOf Program.impl = Values.impl
-binaryOf Program.equiv = Values.equiv
+binaryOf Program.times = Times
+binaryOf Program.over = Over
+binaryOf Program.divide = Divide
+binaryOf Program.plus = Plus
+binaryOf Program.minus = Less
+binaryOf Program.less = Below
+binaryOf Program.atMost = AtMost
+binaryOf Program.equal = Equal
+binaryOf Program.atLeast = AtLeast
+binaryOf Program.greater = Above
+binaryOf Program.unequal = Unequal
+binaryOf Program.and = And
+binaryOf Program.or = Or
+binaryOf Program.impl = Impl
+binaryOf Program.equiv = Equiv
 
 -- "maxint gives 2,147,483,647"
-abbrev pub maxint : ℤ
-maxint = pos 2147483647
+abbrev pub maxint : Value
+maxint = Whole (pos 2147483647)
 
 -- ---- operations and tests in an environment
 
 -- A name that has no cell means the first cell not in use: every operation on it is wrong.
-abbrev pub cellAt : Data → Env → Spot → ℕ
-cellAt d v (here x) = cellOf (cells d) v x
-cellAt d v there = foundIn d
+abbrev pub targetAt : Data → Env → Spot → Target
+targetAt d v (here x) = to (cellOf (cells d) v x) []
+targetAt d v there = foundIn d
 
 abbrev pub doing : Act Spot → Env → Data → Result Data
-doing a v d = work (actOn (cellAt d v) a) d
+doing a v d = work (actOn (targetAt d v) a) d
 
 abbrev pub testing : Test Spot → Env → Data → Result Two
-testing t v d = test (testOn (cellAt d v) t) d
+testing t v d = test (testOn (targetAt d v) t) d
 
 -- an operation that is a step
 abbrev pub acting : Act Spot → List Task → Env → Data → Out State
@@ -134,21 +146,26 @@ begun k v d = next 1 quiet (state k v d)
 
 -- ---- choices
 
+-- "its whole-number value becomes one"
+unfoldable pub widened : Bool → List Task → List Task
+widened true k = widening ∷ k
+widened false k = k
+
 abbrev pub yes : Choice → List Task → List Task
-yes (expressions e f) k = evaluate e ∷ k
+yes (expressions u u' e f) k = evaluate e ∷ widened u k
 yes (statements s t) k = begin s ∷ k
 yes (only s) k = begin s ∷ k
 yes (whiling x q e c l s) k = begin s ∷ loop x (while q e c ∷ l) s ∷ k
 
 abbrev pub no : Choice → List Task → List Task
-no (expressions e f) k = evaluate f ∷ k
+no (expressions u u' e f) k = evaluate f ∷ widened u' k
 no (statements s t) k = begin t ∷ k
 no (only s) k = k
 no (whiling x q e c l s) k = loop x l s ∷ k
 
 -- "for element tested" is a step; deciding a condition is none
 abbrev pub counts : Choice → ℕ
-counts (expressions e f) = 0
+counts (expressions u u' e f) = 0
 counts (statements s t) = 0
 counts (only s) = 0
 counts (whiling x q e c l s) = 1
@@ -186,18 +203,18 @@ module _ (place : ℕ → ℕ) where
   -- the sign + leaves its operand's value as it is
   abbrev pub applied : ℕ → Sign → Task
   applied q positive = unchanged
-  applied q negative = act (unary (place q) Values.minus)
-  applied q negation = act (unary (place q) Values.negation)
+  applied q negative = act (unary (place q) Minus)
+  applied q negation = act (unary (place q) Negation)
 
   -- ---- name formals: "it stands for the actual's text with the environment at the call, worked out afresh at each use"
 
   -- "each working out, for a read or a store, is an activation under 27, placed at the formal's use, and two more steps"
   unfoldable pub reads : Actual → Name → List Task → Env → Data → Out State
-  reads (actual e v') x k v d = lift noRule 1 (state (evaluate e ∷ return kept (at x) (cells d) v ∷ k) v') (enter (at x) d)
+  reads (actual t e v') x k v d = lift noRule 1 (state (evaluate e ∷ turning (place (firstSymbol e)) (formAs t) ∷ return kept unlinked (at x) (cells d) v ∷ k) v') (enter (at x) d)
   reads no-actual x k v d = halt noRule
 
   unfoldable pub seeks : Actual → Name → ℕ → List Task → Env → Data → Out State
-  seeks (actual e v') x q k v d = lift noRule 1 (state (find e q ∷ return gone q (cells d) v ∷ k) v') (enter (at x) d)
+  seeks (actual t e v') x q k v d = lift noRule 1 (state (find e q ∷ return stored (link (formAs t) (place (firstSymbol e))) q (cells d) v ∷ k) v') (enter (at x) (seeking d))
   seeks no-actual x q k v d = halt noRule
 
   -- 30: "A store to one whose actual is no variable", "at the name where the store began"; "a value formal is a variable here, a name formal passes
@@ -213,22 +230,23 @@ module _ (place : ℕ → ℕ) where
   finds greatest y q k v d = refused q
   finds no-primary y q k v d = refused q
 
-  -- an actual: a value; or a name formal's cell: "one cell, needed at its actual's first symbol". An environment's actuals have no modes
-  abbrev pub giving : Bool → Expression → Task
-  giving true e = evaluate e
-  giving false e = naming (firstSymbol e)
+  -- an actual: a value, which becomes one of the formal's type when it is finished; or a name formal's cell: "one cell, needed at its actual's first
+  -- symbol"
+  abbrev pub giving : Mode → Expression → List Task → List Task
+  giving (byValue t) e k = evaluate e ∷ turning (place (firstSymbol e)) (formAs t) ∷ k
+  giving (byName t) e k = naming (firstSymbol e) ∷ k
 
-  abbrev pub laying : List Bool → Expression → Expressions → List Task → List Task
+  abbrev pub laying : List Mode → Expression → Expressions → List Task → List Task
   laying [] e es k = evaluate e ∷ giveAll [] es ∷ k
-  laying (b ∷ m) e es k = giving b e ∷ giveAll m es ∷ k
+  laying (m ∷ ms) e es k = giving m e (giveAll ms es ∷ k)
 
   -- ---- stores: "the formal is worked out after the value to be stored, 27 coming before 30, and for ininteger between 28 and 24"
 
   unfoldable pub storing : Way → Name → List Name → List Task → Env → Data → Out State
-  storing direct x [] k v d = acting (store (here x)) k v d
-  storing direct x (y ∷ ys) k v d = acting (assign (here x)) (stores y ys ∷ k) v d
-  storing sought x [] k v d = goOn (seek x (at x) ∷ act (store there) ∷ k) v d
-  storing sought x (y ∷ ys) k v d = goOn (seek x (at x) ∷ act (assign there) ∷ stores y ys ∷ k) v d
+  storing direct x [] k v d = acting (store (at x) (here x)) k v d
+  storing direct x (y ∷ ys) k v d = acting (assign (at x) (here x)) (stores y ys ∷ k) v d
+  storing sought x [] k v d = goOn (seek x (at x) ∷ act (store (at x) there) ∷ k) v d
+  storing sought x (y ∷ ys) k v d = goOn (seek x (at x) ∷ act (assign (at x) there) ∷ stores y ys ∷ k) v d
 
   unfoldable pub taking-in : Way → ℕ → Name → List Task → Env → Data → Out State
   taking-in direct q y k v d = acting (receive q (here y)) k v d
@@ -251,26 +269,26 @@ module _ (place : ℕ → ℕ) where
   -- a name formal: its actual is worked out
   evaluates worked x es k v d = reads (standsFor v x) x k v d
   -- "for a typed call one result cell first"; "Operands and actuals go left to right"
-  evaluates (function p) x es k v d = goOn (act (reserve (at x)) ∷ giveAll (modesOf p) es ∷ invoke x es kept ∷ k) v d
+  evaluates (function p) x es k v d = goOn (act (reserve (at x) (formAs (sortOf p))) ∷ giveAll (modesOf p) es ∷ invoke x es kept ∷ k) v d
   -- "An environment call takes no result cell: its value replaces its actuals' cells"
-  evaluates absolute x es k v d = goOn (giveAll [] es ∷ act (unary (at x) Values.absolute) ∷ k) v d
+  evaluates absolute x es k v d = goOn (giveAll (byValue (some integer) ∷ []) es ∷ act (unary (at x) Absolute) ∷ k) v d
   evaluates greatest x es k v d = acting (push (at x) maxint) k v d
   evaluates no-primary x es k v d = halt noRule
 
   -- ---- procedures called as statements
 
   -- "A typed procedure may be called as a statement": its result cell is taken all the same
-  abbrev pub calls : Option Sort → List Bool → Name → Expressions → List Task → List Task
+  abbrev pub calls : Option Sort → List Mode → Name → Expressions → List Task → List Task
   calls none m x es k = giveAll m es ∷ invoke x es gone ∷ k
-  calls (some t) m x es k = act (reserve (at x)) ∷ giveAll m es ∷ invoke x es gone ∷ k
+  calls (some t) m x es k = act (reserve (at x) (formFor t)) ∷ giveAll m es ∷ invoke x es gone ∷ k
 
   unfoldable pub perform : Command → Name → Expressions → List Task → Env → Data → Out State
   perform (routine-of p) x es k v d = begun (calls (sortOf p) (modesOf p) x es k) v d
-  perform (absolute-of e) x es k v d = begun (evaluate e ∷ act (unary (at x) Values.absolute) ∷ drop ∷ k) v d
+  perform (absolute-of e) x es k v d = begun (evaluate e ∷ turning (place (firstSymbol e)) Wholes ∷ act (unary (at x) Absolute) ∷ drop ∷ k) v d
   perform greatest-of x es k v d = begun (act (push (at x) maxint) ∷ drop ∷ k) v d
   -- "ininteger's second actual is neither read nor held"
-  perform (input-to e y) x es k v d = begun (evaluate e ∷ receiving (at x) y ∷ k) v d
-  perform (output-of e f) x es k v d = begun (evaluate e ∷ evaluate f ∷ act (send (at x)) ∷ k) v d
+  perform (input-to e y) x es k v d = begun (evaluate e ∷ turning (place (firstSymbol e)) Wholes ∷ receiving (at x) y ∷ k) v d
+  perform (output-of t e f) x es k v d = begun (evaluate e ∷ turning (place (firstSymbol e)) Wholes ∷ evaluate f ∷ turning (place (firstSymbol f)) t ∷ act (send (at x) t) ∷ k) v d
   perform no-command x es k v d = halt noRule
 
   -- ---- calls: "An activation is counted after the actuals." The actuals' cells become the formals'; the body runs in the environment that the
@@ -282,7 +300,7 @@ module _ (place : ℕ → ℕ) where
   entering (by-name t) x es f k v d = halt noRule
   entering (routine p) x es f k v d =
       let b = cells d - cellsIn (ofBody p) in
-      lift noRule 1 (state (begin (bodyOf p) ∷ return f (at x) b v ∷ k) (called p b es v (cut (declaring x) v))) (enter (at x) d)
+      lift noRule 1 (state (begin (bodyOf p) ∷ return f unlinked (at x) b v ∷ k) (called p b es v (cut (declaring x) v))) (enter (at x) d)
 
   unfoldable pub calling : Meaning → Name → Expressions → Fate → List Task → Env → Data → Out State
   calling (declared m g) x es f k v d = entering (m .thing) x es f k v d
@@ -294,17 +312,20 @@ module _ (place : ℕ → ℕ) where
   unfoldable pub rule : State → Out State
   rule (state [] v d) = halt Ended
   -- expressions: "primary evaluated, operator applied". Parentheses are no step
-  rule (state (evaluate (number q n) ∷ k) v d) = acting (push (place q) (pos n)) k v d
-  rule (state (evaluate (logical q b) ∷ k) v d) = acting (push (place q) (truth b)) k v d
+  rule (state (evaluate (number q n) ∷ k) v d) = acting (push (place q) (Whole (pos n))) k v d
+  rule (state (evaluate (decimal q n i) ∷ k) v d) = acting (push (place q) (Real (Values.reading n i))) k v d
+  rule (state (evaluate (logical q b) ∷ k) v d) = acting (push (place q) (Truth b)) k v d
   rule (state (evaluate (name x) ∷ k) v d) = evaluates (primary (meaning (scopesOf v) x) done) x done k v d
   rule (state (evaluate (call x e es) ∷ k) v d) = evaluates (primary (meaning (scopesOf v) x) (then e es)) x (then e es) k v d
   rule (state (evaluate (signed q o e) ∷ k) v d) = goOn (evaluate e ∷ applied q o ∷ k) v d
   -- "both sides of 'and' and 'or' are evaluated"
   rule (state (evaluate (operated q o e f) ∷ k) v d) = goOn (evaluate e ∷ evaluate f ∷ act (binary (place q) (binaryOf o)) ∷ k) v d
-  rule (state (evaluate (chosen q r c e f) ∷ k) v d) = goOn (evaluate c ∷ pick (expressions e f) ∷ k) v d
+  rule (state (evaluate (chosen q r c e f) ∷ k) v d) = goOn (evaluate c ∷ pick (expressions (widens (scopesOf v) e f) (widens (scopesOf v) f e) e f) ∷ k) v d
   rule (state (evaluate (nested q e) ∷ k) v d) = goOn (evaluate e ∷ k) v d
   rule (state (giveAll m done ∷ k) v d) = goOn k v d
   rule (state (giveAll m (then e es) ∷ k) v d) = goOn (laying m e es k) v d
+  rule (state (turning q t ∷ k) v d) = lift noRule 0 (state k v) (doing (turn q t) v d)
+  rule (state (widening ∷ k) v d) = lift noRule 0 (state k v) (doing (turn 0 Reals) v d)
   rule (state (naming q ∷ k) v d) = lift noRule 1 (state k v) (nameCell (place q) 0 d)
   -- statements: "each statement begun"
   rule (state (begin dummy ∷ k) v d) = begun k v d
@@ -317,7 +338,7 @@ module _ (place : ℕ → ℕ) where
   -- a block: its cells all at once, 26 at its 'begin'
   rule (state (begin (block q ds ss) ∷ k) v d) =
       let n = cellsIn (ofBlock ds) in
-      lift noRule 1 (state (goThrough ss ∷ close n ∷ k) (entered ds (cells d) v)) (openBlock (place q) n d)
+      lift noRule 1 (state (goThrough ss ∷ close n ∷ k) (entered ds (cells d) v)) (openBlock (place q) (counted (inBlock ds)) d)
   rule (state (goThrough (last s) ∷ k) v d) = goOn (begin s ∷ k) v d
   rule (state (goThrough (first s ss) ∷ k) v d) = goOn (begin s ∷ goThrough ss ∷ k) v d
   -- "A left part list takes one value, stored left to right"
@@ -339,9 +360,10 @@ module _ (place : ℕ → ℕ) where
   rule (state (trying s ∷ k) v d) = lift noRule 1 (byTest (state (again s k) v) (state (through s k) v)) (testing (tries there s) v d)
   -- "The addition of a step element, with its store, is one operator"
   rule (state (summing s ∷ k) v d) = lift noRule 1 (state (seek (controlled s) (at (controlled s)) ∷ settling there s ∷ k) v) (doing (sums there s) v d)
-  rule (state (settling c s ∷ k) v d) = lift noRule 0 (state (bounded s k) v) (doing (store c) v d)
+  rule (state (settling c s ∷ k) v d) = lift noRule 0 (state (bounded s k) v) (doing (store (at (controlled s)) c) v d)
   rule (state (seek x q ∷ k) v d) = seeks (standsFor v x) x q k v d
   rule (state (find (number a n) q ∷ k) v d) = refused q
+  rule (state (find (decimal a n i) q ∷ k) v d) = refused q
   rule (state (find (logical a b) q ∷ k) v d) = refused q
   rule (state (find (name y) q ∷ k) v d) = finds (primary (meaning (scopesOf v) y) done) y q k v d
   rule (state (find (call y e es) q ∷ k) v d) = refused q
@@ -354,12 +376,12 @@ module _ (place : ℕ → ℕ) where
   rule (state (close n ∷ k) (entered ds c v) d) = lift noRule 1 (state k v) (closeBlock n d)
   rule (state (close n ∷ k) (called p c es v' v) d) = halt noRule
   rule (state (close n ∷ k) outside d) = halt noRule
-  rule (state (return f q b v' ∷ k) v d) = lift noRule 1 (state k v') (leave f q b d)
+  rule (state (return f x q b v' ∷ k) v d) = lift noRule 1 (state k v') (leave f x q b d)
 
   -- ---- the run of a program: so many rules, from no cell in use, no activation and no number taken
 
   abbrev pub beginning : Statement → List ℤ → ℕ → ℕ → State
-  beginning s input cellsLent space = state (begin s ∷ []) outside (contents [] [] 0 (record { cellsLent = cellsLent; input = input; space = space; found = 0 }))
+  beginning s input cellsLent space = state (begin s ∷ []) outside (contents [] [] 0 (record { cellsLent = cellsLent; input = input; space = space; found = to 0 [] }))
 
   abbrev pub source : Statement → List ℤ → ℕ → ℕ → ℕ → End State
   source s input cellsLent space t = run rule t (beginning s input cellsLent space) 0 untold

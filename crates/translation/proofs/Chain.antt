@@ -5,22 +5,22 @@ use Prim.Native.Nat.{ℕ, zero, suc, _+_, _-_, _≤_, _<_}
 use native.Mathlib.Omega.{arith}
 use mathlib.Core.Bool.{Bool, true, false, cond}
 use mathlib.Core.Path.{_≡_, refl, sym, ap, _∙_}
-use mathlib.Core.List.{List, [], _∷_, _++_, map}
+use mathlib.Core.List.{List, [], _∷_, map}
 use mathlib.Core.Option.{Option, none, some, Option·none-ne-some}
-use lib.ListN.{getD, length}
-use Rattle.symbols.specs.Names.{sameName}
-use Rattle.symbols.specs.Text.{bytes}
-use Rattle.machine.specs.Data.{Fate, gone, Act, push, load, store, assign, reserve, forget, receive, send, keep, unary, binary, lend, channel, sum, Data, foundIn, actOn, Test, condition, upto, testOn}
+use lib.ListN.{length}
+use Rattle.machine.specs.Data.{link as on-way, unlinked, to, heighten, Fate, gone, Act, push, load, store, assign, reserve, forget, receive, send, keep, unary, binary, lend, channel, sum, turn, Data, foundIn, actOn, Test, condition, upto, testOn}
 use Rattle.machine.specs.Instructions.{Instruction, Location, located, cellFound, RETURN}
-use Rattle.machine.specs.Machine.{Activation, activation, activationAt, linkOf, baseOf, base, walk, cellIn}
-use Rattle.names.specs.Program.{Name, Sort, Specification, Declarations, none as no-more, variables, declare, Procedure, Expression, Expressions, done, then}
-use Rattle.names.specs.Scopes.{Thing, variable, routine, formal, by-name, formalAs, has, sortOf, valuesOf, nameOf, variablesIn, Declared, Scope, ofBlock, ofBody, inBlock, inBody, specified, specificationsOf, formalsOf, same, findIn, findGiven, Given, Meaning, declared, given, nothing, foundElse, meaning}
-use Rattle.rules.specs.Entered.{Env, outside, entered, called, scopesOf, cellsOf, total, oneIf, cellsIn, before, placeIn, cut, isSome, declaring, bodyOfThis, among, firstOr, cellFor, cellAs, cellOf, actual, actualOf, standsIn}
+use Rattle.machine.specs.Machine.{Activation, activation, activationAt, linkOf, baseOf, base, walk, targetIn}
+use Rattle.names.specs.Program.{Name, Sort, Specification, Declarations, Procedure, Expression, Expressions, done, then, firstSymbol}
+use Rattle.names.specs.Scopes.{Thing, variable, routine, formal, by-name, formalAs, has, sortOf, valuesOf, Declared, Scope, ofBlock, ofBody, inBlock, inBody, specified, specificationsOf, formalsOf, same, findIn, Meaning, declared, given, nothing, foundElse, meaning, Mode, byValue, byName, modeAs}
+use Rattle.rules.specs.Entered.{amongTyped, Env, outside, entered, called, scopesOf, cellsOf, total, oneIf, cellsIn, before, placeIn, cut, isSome, declaring, bodyOfThis, among, firstOr, cellFor, cellAs, cellOf, actual, actualOf, standsIn, formAs}
 use Rattle.rules.specs.Calls.{Primary, held, worked, function, absolute, greatest, no-primary, primary, givenAs, withType, alone, thingAs, thingWay, Way, direct, sought, way}
-use Rattle.rules.specs.Rules.{Spot, here, there, cellAt}
-use Rattle.translation.specs.model.Translate.{Around, aBlock, aBody, anActual, scopes, cutG, levels, amongG, offsetOf, locFor, locAs, loc, spot, target, codeDs, storePart, codeE}
+use Rattle.rules.specs.Rules.{Spot, here, there, targetAt}
+use Rattle.rules.proofs.KindLists.{kindFrom, kind-on, kind-top}
+use Rattle.rules.proofs.Declarations.{formalIn, formals-cells, typed-bound, first-most, rank, OfBlock, block-things, body-things, none-declared}
+use Rattle.translation.specs.model.Translate.{AS, Around, aBlock, aBody, anActual, scopes, cutG, levels, amongG, offsetOf, locFor, locAs, loc, spot, target, codeDs, storePart, codeE}
 use Rattle.translation.specs.model.Scoped.{nearest, HasCell, CellAs, OkV, MeansAs, OkDs, OkE}
-use Rattle.translation.proofs.Stands.{procedureOf, CodeAt, Ready, ready}
+use Rattle.translation.proofs.Stands.{CodeAt, Ready, ready}
 use Rattle.translation.proofs.CellKinds.{Kind, nam, Plain, plain-eq}
 
 -- ---- scopes
@@ -39,41 +39,6 @@ bound (c ∷ l) x d e h = go (same (c .name) x) (λ e. bound l x d e h) e
     go false f e =
         let w = f e in
         omega arith
-
--- what a formal is
-abbrev formalIn : List Specification → List Name → Name → Declared
-formalIn ss vs y = record { name = y; thing = formalAs (has vs y) (specified ss y) }
-
--- a formal is no procedure
-no-procedure : (b : Bool) (t : Option Sort) → procedureOf (formalAs b t) ≡ none
-no-procedure true t = refl
-no-procedure false t = refl
-
-no-routine : (ss : List Specification) (vs xs : List Name) (x : Name) (d : Declared) (p : Procedure) → findIn (map (formalIn ss vs) xs) x ≡ some d → d .thing ≡ routine p → ⊥
-unfolding findIn
-no-routine ss vs [] x d p e e' = Option·none-ne-some d e
-no-routine ss vs (y ∷ ys) x d p e e' = go (same y x) (λ e. no-routine ss vs ys x d p e e') e
-  where
-    go : (t : Bool) → (findIn (map (formalIn ss vs) ys) x ≡ some d → ⊥) → cond t (some (formalIn ss vs y)) (findIn (map (formalIn ss vs) ys) x) ≡ some d → ⊥
-    go true f e =
-        let e₁ : formalIn ss vs y ≡ d = cc in
-        let e₂ : formalAs (has vs y) (specified ss y) ≡ routine p = ap (λ d. d .thing) e₁ ∙ e' in
-        Option·none-ne-some p (sym (no-procedure (has vs y) (specified ss y)) ∙ ap procedureOf e₂)
-    go false f e = f e
-
--- a formal has one cell
-one-cell : (b : Bool) (t : Option Sort) → cellsOf (formalAs b t) ≡ 1
-one-cell true t = refl
-one-cell false t = refl
-
-formal-cells : (ss : List Specification) (vs xs : List Name) → total (map (formalIn ss vs) xs) ≡ length xs
-unfolding total
-formal-cells ss vs [] = refl
-formal-cells ss vs (y ∷ ys) = omega (arith, one-cell (has vs y) (specified ss y), formal-cells ss vs ys)
-
-pub body-cells : (p : Procedure) → total (inBody p) ≡ length (formalsOf p)
-unfolding inBody
-body-cells p = formal-cells (specificationsOf p) (valuesOf p) (formalsOf p)
 
 -- a variable or value formal; a name formal
 abbrev Valued : Thing → Type 0
@@ -99,31 +64,25 @@ valued-one (formal t) h = refl
 valued-one (by-name t) h = absurd h
 valued-one (routine p) h = absurd h
 
--- a name formal is no variable and no procedure of a block
-no-variable : (t : Sort) (xs : List Name) (l : List Declared) (x : Name) (d : Declared) → findIn (variablesIn t xs ++ l) x ≡ some d → ByName (d .thing) → findIn l x ≡ some d
-unfolding variablesIn findIn
-no-variable t [] l x d e n = e
-no-variable t (y ∷ ys) l x d e n = go (same y x) (λ e. no-variable t ys l x d e n) e
+-- a variable's place is one of its block's
+block-bound : (ds : Declarations) (x : Name) (d : Declared) → findIn (inBlock ds) x ≡ some d → Valued (d .thing) → placeIn (ofBlock ds) x < cellsIn (ofBlock ds)
+block-bound ds x d e h = rw e (go (d .thing) refl (omega (arith, bound (inBlock ds) x d e (valued-one (d .thing) h))))
   where
-    go : (b : Bool) → (findIn (variablesIn t ys ++ l) x ≡ some d → findIn l x ≡ some d) → cond b (some (record { name = y; thing = variable t })) (findIn (variablesIn t ys ++ l) x) ≡ some d → findIn l x ≡ some d
-    go true f e =
-        let e₁ : d ≡ record { name = y; thing = variable t } = cc in
-        let n' : ByName (variable t) = rw (ap (λ d. d .thing) e₁) at n in
-        absurd n'
-    go false f e = f e
+    go : (t : Thing) → d .thing ≡ t → 0 < total (inBlock ds) → amongTyped (inBlock ds) t x < 0 + total (inBlock ds)
+    go (variable t) i w = omega (arith, first-most t (inBlock ds), typed-bound t (inBlock ds) x d e i)
+    go (formal t) i w = omega arith
+    go (by-name t) i w = omega arith
+    go (routine p) i w = omega arith
 
+-- a block has no name formals
 none-by-name : (ds : Declarations) (x : Name) (d : Declared) → findIn (inBlock ds) x ≡ some d → ByName (d .thing) → ⊥
-unfolding inBlock findIn
-none-by-name no-more x d e n = Option·none-ne-some d e
-none-by-name (variables t xs ds) x d e n = none-by-name ds x d (no-variable t xs (inBlock ds) x d e n) n
-none-by-name (declare q ds) x d e n = go (same (nameOf q) x) (λ e. none-by-name ds x d e n) e
+none-by-name ds x d e n = go (d .thing) (block-things ds x d e) n
   where
-    go : (b : Bool) → (findIn (inBlock ds) x ≡ some d → ⊥) → cond b (some (record { name = nameOf q; thing = routine q })) (findIn (inBlock ds) x) ≡ some d → ⊥
-    go true f e =
-        let e₁ : d ≡ record { name = nameOf q; thing = routine q } = cc in
-        let n' : ByName (routine q) = rw (ap (λ d. d .thing) e₁) at n in
-        n'
-    go false f e = f e
+    go : (t : Thing) → OfBlock (rank t) → ByName t → ⊥
+    go (variable t) h n = n
+    go (formal t) h n = h
+    go (by-name t) h n = h
+    go (routine p) h n = n
 
 -- a name that is worked out, or sought for a store, is a name formal
 abbrev rankP : Primary → ℕ
@@ -178,21 +137,6 @@ sought-named (declared d h) e = go (d .thing) e
 sought-named (given n i) e = absurd (omega (arith, ap rankW e))
 sought-named nothing e = absurd (omega (arith, ap rankW e))
 
-abbrev isDeclared : Meaning → Option Declared
-isDeclared (declared d g) = some d
-isDeclared (given n e) = none
-isDeclared nothing = none
-
--- what the environment gives is not declared
-given-only : (n : ℕ) (l : List Given) (x : Name) → isDeclared (findGiven n l x) ≡ none
-unfolding findGiven
-given-only n [] x = refl
-given-only n (y ∷ l) x = go (sameName (bytes (y .spelling)) (x .letters)) (findGiven (n + 1) l x) (given-only (n + 1) l x)
-  where
-    go : (t : Bool) (m : Meaning) → isDeclared m ≡ none → isDeclared (cond t (given n y) m) ≡ none
-    go true m e = refl
-    go false m e = e
-
 -- the innermost of these scopes declares d under the name
 abbrev Finds : List Around → Name → Declared → Type 0
 Finds [] x d = ⊥
@@ -202,7 +146,7 @@ Finds (anActual ∷ g) x d = ⊥
 
 found-in : (g : List Around) (x : Name) (d : Declared) (h : List Scope) → meaning (scopes g) x ≡ declared d h → Finds (cutG (declaring x) g) x d
 unfolding meaning cutG declaring
-found-in [] x d h e = absurd (Option·none-ne-some d (sym (given-only 0 _ x) ∙ ap isDeclared e))
+found-in [] x d h e = absurd (none-declared 0 _ x d h e)
 found-in (aBlock o ds b ∷ g) x d h e = go (findIn (inBlock ds) x) refl (found-in g x d h) e
   where
     go : (i : Option Declared) → findIn (inBlock ds) x ≡ i → (meaning (scopes g) x ≡ declared d h → Finds (cutG (declaring x) g) x d) → foundElse i (ofBlock ds ∷ scopes g) (meaning (scopes g) x) ≡ declared d h → Finds (cond (isSome i) (aBlock o ds b ∷ g) (cutG (declaring x) g)) x d
@@ -244,32 +188,30 @@ nearest-cut (anActual ∷ g) p = nearest-cut g p
 -- ---- a frame more
 
 at-older : (x : Activation) (fs : List Activation) (f : ℕ) → f < length fs → activationAt (x ∷ fs) f ≡ activationAt fs f
-unfolding activationAt
-at-older x fs f h =
-    let e : suc (length fs) - suc f ≡ suc (length fs - suc f) = omega arith in
-    ap (λ n. getD (x ∷ fs) n (activation 0 0 0 gone 0 [])) e
+unfolding activationAt kindFrom
+at-older x fs f h = kind-on (activation 0 0 0 gone 0 []) x fs f h
 
 pub at-newest : (x : Activation) (fs : List Activation) → activationAt (x ∷ fs) (length fs) ≡ x
-unfolding activationAt
-at-newest x fs =
-    let e : suc (length fs) - suc (length fs) ≡ 0 = omega arith in
-    ap (λ n. getD (x ∷ fs) n (activation 0 0 0 gone 0 [])) e
+unfolding activationAt kindFrom
+at-newest x fs = kind-top (activation 0 0 0 gone 0 []) x fs
 
 -- what is asked of the variables of an operation
 abbrev pub Vars : {X : Type 0} → (X → Type 0) → Act X → Type 0
 Vars Q (push q v) = Unit {0}
+Vars Q (heighten h) = Unit {0}
 Vars Q (load q x) = Q x
-Vars Q (store x) = Q x
-Vars Q (assign x) = Q x
-Vars Q (reserve q) = Unit {0}
+Vars Q (store q x) = Q x
+Vars Q (assign q x) = Q x
+Vars Q (reserve q t) = Unit {0}
 Vars Q forget = Unit {0}
 Vars Q (receive q x) = Q x
-Vars Q (send q) = Unit {0}
+Vars Q (send q t) = Unit {0}
 Vars Q keep = Unit {0}
 Vars Q (unary q o) = Unit {0}
 Vars Q (binary q o) = Unit {0}
 Vars Q (lend x) = Q x
 Vars Q (channel q) = Unit {0}
+Vars Q (turn q t) = Unit {0}
 Vars Q (sum q x) = Q x
 
 abbrev pub VarsT : {X : Type 0} → (X → Type 0) → Test X → Type 0
@@ -287,19 +229,19 @@ OkSpot g there = Unit {0}
 
 module _ (place : ℕ → ℕ) (P : List Instruction) where
   -- the code of a name formal's actual stands at a: its store part, its read part two further; g: the scopes of the call
-  abbrev pub ActualAt : List Around → Expression → ℕ → Type 0
-  ActualAt g e a = (r : List Instruction) × CodeAt place P a (storePart place (anActual ∷ g) e ∷ RETURN ∷ codeE place (anActual ∷ g) e (suc (suc a)) (RETURN ∷ r)) × OkE (scopes g) e
+  abbrev pub ActualAt : List Around → Option Sort → Expression → ℕ → Type 0
+  ActualAt g t e a = (r : List Instruction) × CodeAt place P a (storePart place (anActual ∷ g) e ∷ RETURN (on-way (formAs t) (place (firstSymbol e))) ∷ codeE place (anActual ∷ g) e (suc (suc a)) (AS place e (formAs t) ∷ RETURN unlinked ∷ r)) × OkE (scopes g) e
 
   -- the cells of the formals, from c on
-  abbrev pub ActualOne : (ℕ → Kind) → List Around → Bool → Expression → ℕ → Type 0
-  ActualOne K g true e c = Plain (K c)
-  ActualOne K g false e c = (a : ℕ) × (K c ≡ nam a) × ActualAt g e a
+  abbrev pub ActualOne : (ℕ → Kind) → List Around → Mode → Expression → ℕ → Type 0
+  ActualOne K g (byValue t) e c = Plain (K c)
+  ActualOne K g (byName t) e c = (a : ℕ) × (K c ≡ nam a) × ActualAt g t e a
 
-  abbrev pub Actuals : (ℕ → Kind) → List Around → List Name → List Name → Expressions → ℕ → Type 0
-  Actuals K g vs [] done c = Unit {0}
-  Actuals K g vs [] (then e es) c = ⊥
-  Actuals K g vs (x ∷ xs) done c = ⊥
-  Actuals K g vs (x ∷ xs) (then e es) c = ActualOne K g (has vs x) e c × Actuals K g vs xs es (suc c)
+  abbrev pub Actuals : (ℕ → Kind) → List Around → List Specification → List Name → List Name → Expressions → ℕ → Type 0
+  Actuals K g ss vs [] done c = Unit {0}
+  Actuals K g ss vs [] (then e es) c = ⊥
+  Actuals K g ss vs (x ∷ xs) done c = ⊥
+  Actuals K g ss vs (x ∷ xs) (then e es) c = ActualOne K g (modeAs (has vs x) (specified ss x)) e c × Actuals K g ss vs xs es (suc c)
 
   -- the entries of activation f begin at its base and their offset, those around belong to the activation around, and all cells are below z; the
   -- procedures of each block are well-scoped, and their code stands where the translator says; K: the kinds of the cells. A body's call was made by
@@ -307,7 +249,7 @@ module _ (place : ℕ → ℕ) (P : List Instruction) where
   pub data Chain (fs : List Activation) (K : ℕ → Kind) : ℕ → ℕ → List Around → Env → Type 0 where
     root : {z : ℕ} → Chain fs K z 0 [] outside
     inner : {z f o b : ℕ} {ds : Declarations} {g : List Around} {v : Env} (r : List Instruction) → CodeAt place P b (codeDs place (aBlock o ds b ∷ g) ds b r) → OkDs (ofBlock ds ∷ scopes g) ds → base fs f + o + cellsIn (ofBlock ds) ≤ z → Clear K (base fs f + o) (cellsIn (ofBlock ds)) → Chain fs K (base fs f + o) f g v → Chain fs K z f (aBlock o ds b ∷ g) (entered ds (base fs f + o) v)
-    link : {z f : ℕ} {p : Procedure} {es : Expressions} {g g' : List Around} {v v' : Env} → f < length fs → baseOf (activationAt fs f) + cellsIn (ofBody p) ≤ z → (oneIf (sortOf p) ≡ 1 → Plain (K (baseOf (activationAt fs f)))) → Actuals K g' (valuesOf p) (formalsOf p) es (baseOf (activationAt fs f) + oneIf (sortOf p)) → Chain fs K (baseOf (activationAt fs f)) f g' v' → Chain fs K (baseOf (activationAt fs f)) (linkOf (activationAt fs f)) g v → Chain fs K z (suc f) (aBody p ∷ g) (called p (baseOf (activationAt fs f)) es v' v)
+    link : {z f : ℕ} {p : Procedure} {es : Expressions} {g g' : List Around} {v v' : Env} → f < length fs → baseOf (activationAt fs f) + cellsIn (ofBody p) ≤ z → (oneIf (sortOf p) ≡ 1 → Plain (K (baseOf (activationAt fs f)))) → Actuals K g' (specificationsOf p) (valuesOf p) (formalsOf p) es (baseOf (activationAt fs f) + oneIf (sortOf p)) → Chain fs K (baseOf (activationAt fs f)) f g' v' → Chain fs K (baseOf (activationAt fs f)) (linkOf (activationAt fs f)) g v → Chain fs K z (suc f) (aBody p ∷ g) (called p (baseOf (activationAt fs f)) es v' v)
     working : {z y f : ℕ} {g : List Around} {v : Env} → f < length fs → suc y ≤ z → Chain fs K y (linkOf (activationAt fs f)) g v → Chain fs K z (suc f) (anActual ∷ g) v
 
   pub chain-more : (fs : List Activation) {K : ℕ → Kind} {z z' f : ℕ} {g : List Around} {v : Env} → Chain fs K z f g v → z ≤ z' → Chain fs K z' f g v
@@ -323,15 +265,15 @@ module _ (place : ℕ → ℕ) (P : List Instruction) where
       working h w' c
 
   -- kinds of cells above do not matter
-  one-as : (K K' : ℕ → Kind) (g : List Around) (m : Bool) (e : Expression) (c : ℕ) → K c ≡ K' c → ActualOne K g m e c → ActualOne K' g m e c
-  one-as K K' g true e c i h = plain-eq (K c) (K' c) i h
-  one-as K K' g false e c i h = (h .0, sym i ∙ h .1, h .2)
+  one-as : (K K' : ℕ → Kind) (g : List Around) (m : Mode) (e : Expression) (c : ℕ) → K c ≡ K' c → ActualOne K g m e c → ActualOne K' g m e c
+  one-as K K' g (byValue t) e c i h = plain-eq (K c) (K' c) i h
+  one-as K K' g (byName t) e c i h = (h .0, sym i ∙ h .1, h .2)
 
-  actuals-as : (K K' : ℕ → Kind) (g : List Around) (vs xs : List Name) (es : Expressions) (c z : ℕ) → c + length xs ≤ z → ((c : ℕ) → c < z → K c ≡ K' c) → Actuals K g vs xs es c → Actuals K' g vs xs es c
-  actuals-as K K' g vs [] done c z le i h = tt
-  actuals-as K K' g vs [] (then e es) c z le i h = absurd h
-  actuals-as K K' g vs (x ∷ xs) done c z le i h = absurd h
-  actuals-as K K' g vs (x ∷ xs) (then e es) c z le i h = (one-as K K' g (has vs x) e c (i c (omega arith)) (h .0), actuals-as K K' g vs xs es (suc c) z (omega arith) i (h .1))
+  actuals-as : (K K' : ℕ → Kind) (g : List Around) (ss : List Specification) (vs xs : List Name) (es : Expressions) (c z : ℕ) → c + length xs ≤ z → ((c : ℕ) → c < z → K c ≡ K' c) → Actuals K g ss vs xs es c → Actuals K' g ss vs xs es c
+  actuals-as K K' g ss vs [] done c z le i h = tt
+  actuals-as K K' g ss vs [] (then e es) c z le i h = absurd h
+  actuals-as K K' g ss vs (x ∷ xs) done c z le i h = absurd h
+  actuals-as K K' g ss vs (x ∷ xs) (then e es) c z le i h = (one-as K K' g (modeAs (has vs x) (specified ss x)) e c (i c (omega arith)) (h .0), actuals-as K K' g ss vs xs es (suc c) z (omega arith) i (h .1))
 
   pub chain-as : (fs : List Activation) {K : ℕ → Kind} (K' : ℕ → Kind) {z f : ℕ} {g : List Around} {v : Env} → Chain fs K z f g v → ((c : ℕ) → c < z → K c ≡ K' c) → Chain fs K' z f g v
   chain-as fs K' root i = root
@@ -339,10 +281,10 @@ module _ (place : ℕ → ℕ) (P : List Instruction) where
       let u' : Clear K' (base fs f + o) (cellsIn (ofBlock ds)) = (λ n l. plain-eq (K (base fs f + o + n)) (K' (base fs f + o + n)) (i (base fs f + o + n) (omega arith)) (u n l)) in
       inner r h k w u' (chain-as fs K' c (λ n l. i n (omega arith)))
   chain-as fs {K} K' {z = z} (link {f = f} {p = p} {es = es} {g' = g'} h w u a c' c) i =
-      let e = body-cells p in
+      let e = formals-cells p in
       let b = baseOf (activationAt fs f) in
       let u' : oneIf (sortOf p) ≡ 1 → Plain (K' b) = (λ l. plain-eq (K b) (K' b) (i b (omega arith)) (u l)) in
-      link h w u' (actuals-as K K' g' (valuesOf p) (formalsOf p) es (b + oneIf (sortOf p)) z (omega arith) i a) (chain-as fs K' c' (λ n l. i n (omega arith))) (chain-as fs K' c (λ n l. i n (omega arith)))
+      link h w u' (actuals-as K K' g' (specificationsOf p) (valuesOf p) (formalsOf p) es (b + oneIf (sortOf p)) z (omega arith) i a) (chain-as fs K' c' (λ n l. i n (omega arith))) (chain-as fs K' c (λ n l. i n (omega arith)))
   chain-as fs K' (working h w c) i = working h w (chain-as fs K' c (λ n l. i n (omega arith)))
 
   -- the environment and the translator know the same scopes
@@ -374,13 +316,13 @@ module _ (place : ℕ → ℕ) (P : List Instruction) where
 
   -- ---- the machine finds the cell that the source means, it is below z, and no name formal's
 
-  value-plain : (K : ℕ → Kind) (g : List Around) (ss : List Specification) (vs xs : List Name) (es : Expressions) (c : ℕ) (x : Name) (d : Declared) → Actuals K g vs xs es c → findIn (map (formalIn ss vs) xs) x ≡ some d → Valued (d .thing) → Plain (K (c + before (map (formalIn ss vs) xs) x))
+  value-plain : (K : ℕ → Kind) (g : List Around) (ss : List Specification) (vs xs : List Name) (es : Expressions) (c : ℕ) (x : Name) (d : Declared) → Actuals K g ss vs xs es c → findIn (map (formalIn ss vs) xs) x ≡ some d → Valued (d .thing) → Plain (K (c + before (map (formalIn ss vs) xs) x))
   unfolding findIn before
   value-plain K g ss vs [] es c x d h e n = absurd (Option·none-ne-some d e)
   value-plain K g ss vs (y ∷ ys) done c x d h e n = absurd h
   value-plain K g ss vs (y ∷ ys) (then i es) c x d h e n = go (same y x) (has vs y) (h .0) (λ e. value-plain K g ss vs ys es (suc c) x d (h .1) e n) e
     where
-      go : (t m : Bool) → ActualOne K g m i c → (findIn (map (formalIn ss vs) ys) x ≡ some d → Plain (K (suc c + before (map (formalIn ss vs) ys) x))) → cond t (some (record { name = y; thing = formalAs m (specified ss y) })) (findIn (map (formalIn ss vs) ys) x) ≡ some d → Plain (K (c + cond t 0 (cellsOf (formalAs m (specified ss y)) + before (map (formalIn ss vs) ys) x)))
+      go : (t m : Bool) → ActualOne K g (modeAs m (specified ss y)) i c → (findIn (map (formalIn ss vs) ys) x ≡ some d → Plain (K (suc c + before (map (formalIn ss vs) ys) x))) → cond t (some (record { name = y; thing = formalAs m (specified ss y) })) (findIn (map (formalIn ss vs) ys) x) ≡ some d → Plain (K (c + cond t 0 (cellsOf (formalAs m (specified ss y)) + before (map (formalIn ss vs) ys) x)))
       go true true k f e =
           let e' : c ≡ c + 0 = omega arith in
           plain-eq (K c) (K (c + 0)) (ap K e') k
@@ -399,7 +341,7 @@ module _ (place : ℕ → ℕ) (P : List Instruction) where
   unfolding inBody
   chain-cell fs n x d root e h = absurd e
   chain-cell fs n x d {K} (inner {f = f} {o = o} {ds = ds} r k i w p c) e h =
-      let u = bound (inBlock ds) x d e (valued-one (d .thing) h) in
+      let u = block-bound ds x d e h in
       (omega arith, omega arith, p (placeIn (ofBlock ds) x) (omega arith))
   chain-cell fs n x d {K} (link {f = f} {p = p} {es = es} {g' = g'} k w y a c' c) e h =
       let u = bound (inBody p) x d e (valued-one (d .thing) h) in
@@ -441,34 +383,36 @@ module _ (place : ℕ → ℕ) (P : List Instruction) where
       let u = found c n x o in
       omega arith
 
-  at-cell : (fs : List Activation) (d : Data) (l : Location) (c : ℕ) → At fs (length fs) l c → cellIn fs d l ≡ c
-  unfolding cellIn
-  at-cell fs d (located u o) c e = e
+  at-cell : (fs : List Activation) (d : Data) (l : Location) (c : ℕ) → At fs (length fs) l c → targetIn fs d l ≡ to c []
+  unfolding targetIn
+  at-cell fs d (located u o) c e = ap (λ c. to c []) e
   at-cell fs d cellFound c e = absurd e
 
   -- so an operation on variables is the same operation on cells
-  same-spot : {K : ℕ → Kind} {z : ℕ} {fs : List Activation} {g : List Around} {v : Env} → Chain fs K z (length fs) g v → (d d' : Data) → foundIn d ≡ foundIn d' → (s : Spot) → OkSpot (scopes g) s → cellIn fs d (spot g s) ≡ cellAt d' v s
-  unfolding cellIn
+  same-spot : {K : ℕ → Kind} {z : ℕ} {fs : List Activation} {g : List Around} {v : Env} → Chain fs K z (length fs) g v → (d d' : Data) → foundIn d ≡ foundIn d' → (s : Spot) → OkSpot (scopes g) s → targetIn fs d (spot g s) ≡ targetAt d' v s
+  unfolding targetIn
   same-spot {fs = fs} {g = g} c d d' e (here x) o = at-cell fs d (loc g x) _ (found c _ x o .0)
   same-spot c d d' e there o = e
 
-  pub same-act : {K : ℕ → Kind} {z : ℕ} {fs : List Activation} {g : List Around} {v : Env} → Chain fs K z (length fs) g v → (d d' : Data) → foundIn d ≡ foundIn d' → (a : Act Spot) → Vars (OkSpot (scopes g)) a → actOn (cellIn fs d) (actOn (spot g) a) ≡ actOn (cellAt d' v) a
+  pub same-act : {K : ℕ → Kind} {z : ℕ} {fs : List Activation} {g : List Around} {v : Env} → Chain fs K z (length fs) g v → (d d' : Data) → foundIn d ≡ foundIn d' → (a : Act Spot) → Vars (OkSpot (scopes g)) a → actOn (targetIn fs d) (actOn (spot g) a) ≡ actOn (targetAt d' v) a
   same-act c d d' e (push q i) o = refl
+  same-act c d d' e (heighten h) o = refl
   same-act c d d' e (load q x) o = ap (load q) (same-spot c d d' e x o)
-  same-act c d d' e (store x) o = ap store (same-spot c d d' e x o)
-  same-act c d d' e (assign x) o = ap assign (same-spot c d d' e x o)
-  same-act c d d' e (reserve q) o = refl
+  same-act c d d' e (store q x) o = ap (store q) (same-spot c d d' e x o)
+  same-act c d d' e (assign q x) o = ap (assign q) (same-spot c d d' e x o)
+  same-act c d d' e (reserve q t) o = refl
   same-act c d d' e forget o = refl
   same-act c d d' e (receive q x) o = ap (receive q) (same-spot c d d' e x o)
-  same-act c d d' e (send q) o = refl
+  same-act c d d' e (send q t) o = refl
   same-act c d d' e keep o = refl
   same-act c d d' e (unary q i) o = refl
   same-act c d d' e (binary q i) o = refl
   same-act c d d' e (lend x) o = ap lend (same-spot c d d' e x o)
   same-act c d d' e (channel q) o = refl
+  same-act c d d' e (turn q t) o = refl
   same-act c d d' e (sum q x) o = ap (sum q) (same-spot c d d' e x o)
 
-  pub same-test : {K : ℕ → Kind} {z : ℕ} {fs : List Activation} {g : List Around} {v : Env} → Chain fs K z (length fs) g v → (d d' : Data) → foundIn d ≡ foundIn d' → (a : Test Spot) → VarsT (OkSpot (scopes g)) a → testOn (cellIn fs d) (testOn (spot g) a) ≡ testOn (cellAt d' v) a
+  pub same-test : {K : ℕ → Kind} {z : ℕ} {fs : List Activation} {g : List Around} {v : Env} → Chain fs K z (length fs) g v → (d d' : Data) → foundIn d ≡ foundIn d' → (a : Test Spot) → VarsT (OkSpot (scopes g)) a → testOn (targetIn fs d) (testOn (spot g) a) ≡ testOn (targetAt d' v) a
   same-test c d d' e condition o = refl
   same-test c d d' e (upto q x) o = ap (upto q) (same-spot c d d' e x o)
 
@@ -476,30 +420,30 @@ module _ (place : ℕ → ℕ) (P : List Instruction) where
 
   -- x is a name formal of activation f, with actual e: its cell says where that one's code stands; the activation before made the call
   pub data Stood (fs : List Activation) (K : ℕ → Kind) (z f : ℕ) (g : List Around) (v : Env) (x : Name) : Type 0 where
-    stood : {y a : ℕ} {g' : List Around} {v' : Env} (e : Expression) → standsIn v x ≡ actual e v' → K (base fs f + amongG g x) ≡ nam a → base fs f + amongG g x < z → suc y ≤ z → Chain fs K y (f - 1) g' v' → ActualAt g' e a → Stood fs K z f g v x
+    stood : {t : Option Sort} {y a : ℕ} {g' : List Around} {v' : Env} (e : Expression) → standsIn v x ≡ actual t e v' → K (base fs f + amongG g x) ≡ nam a → base fs f + amongG g x < z → suc y ≤ z → Chain fs K y (f - 1) g' v' → ActualAt g' t e a → Stood fs K z f g v x
 
-  name-actual : (K : ℕ → Kind) (g : List Around) (v : Env) (ss : List Specification) (vs xs : List Name) (es : Expressions) (c : ℕ) (x : Name) (d : Declared) → Actuals K g vs xs es c → findIn (map (formalIn ss vs) xs) x ≡ some d → ByName (d .thing) → (e : Expression) × (a : ℕ) × (actualOf v xs es x ≡ actual e v) × (K (c + before (map (formalIn ss vs) xs) x) ≡ nam a) × ActualAt g e a
+  name-actual : (K : ℕ → Kind) (g : List Around) (v : Env) (ss : List Specification) (vs xs : List Name) (es : Expressions) (c : ℕ) (x : Name) (d : Declared) → Actuals K g ss vs xs es c → findIn (map (formalIn ss vs) xs) x ≡ some d → ByName (d .thing) → (e : Expression) × (a : ℕ) × (t : Option Sort) × (actualOf v ss xs es x ≡ actual t e v) × (K (c + before (map (formalIn ss vs) xs) x) ≡ nam a) × ActualAt g t e a
   unfolding findIn before actualOf
   name-actual K g v ss vs [] es c x d h e n = absurd (Option·none-ne-some d e)
   name-actual K g v ss vs (y ∷ ys) done c x d h e n = absurd h
   name-actual K g v ss vs (y ∷ ys) (then i es) c x d h e n = go (same y x) (has vs y) (h .0) (λ e. name-actual K g v ss vs ys es (suc c) x d (h .1) e n) e
     where
-      go : (t m : Bool) → ActualOne K g m i c → (findIn (map (formalIn ss vs) ys) x ≡ some d → (e : Expression) × (a : ℕ) × (actualOf v ys es x ≡ actual e v) × (K (suc c + before (map (formalIn ss vs) ys) x) ≡ nam a) × ActualAt g e a) → cond t (some (record { name = y; thing = formalAs m (specified ss y) })) (findIn (map (formalIn ss vs) ys) x) ≡ some d → (e : Expression) × (a : ℕ) × (cond t (actual i v) (actualOf v ys es x) ≡ actual e v) × (K (c + cond t 0 (cellsOf (formalAs m (specified ss y)) + before (map (formalIn ss vs) ys) x)) ≡ nam a) × ActualAt g e a
+      go : (u m : Bool) → ActualOne K g (modeAs m (specified ss y)) i c → (findIn (map (formalIn ss vs) ys) x ≡ some d → (e : Expression) × (a : ℕ) × (t : Option Sort) × (actualOf v ss ys es x ≡ actual t e v) × (K (suc c + before (map (formalIn ss vs) ys) x) ≡ nam a) × ActualAt g t e a) → cond u (some (record { name = y; thing = formalAs m (specified ss y) })) (findIn (map (formalIn ss vs) ys) x) ≡ some d → (e : Expression) × (a : ℕ) × (t : Option Sort) × (cond u (actual (specified ss y) i v) (actualOf v ss ys es x) ≡ actual t e v) × (K (c + cond u 0 (cellsOf (formalAs m (specified ss y)) + before (map (formalIn ss vs) ys) x)) ≡ nam a) × ActualAt g t e a
       go true true k f e =
           let e₁ : d ≡ record { name = y; thing = formal (specified ss y) } = cc in
           let n' : ByName (formal (specified ss y)) = rw (ap (λ d. d .thing) e₁) at n in
           absurd n'
       go true false k f e =
           let e' : c + 0 ≡ c = omega arith in
-          (i, k .0, refl, ap K e' ∙ k .1, k .2)
+          (i, k .0, specified ss y, refl, ap K e' ∙ k .1, k .2)
       go false true k f e =
           let e' : c + (1 + before (map (formalIn ss vs) ys) x) ≡ suc c + before (map (formalIn ss vs) ys) x = omega arith in
           let w = f e in
-          (w .0, w .1, w .2, ap K e' ∙ w .3, w .4)
+          (w .0, w .1, w .2, w .3, ap K e' ∙ w .4, w .5)
       go false false k f e =
           let e' : c + (1 + before (map (formalIn ss vs) ys) x) ≡ suc c + before (map (formalIn ss vs) ys) x = omega arith in
           let w = f e in
-          (w .0, w .1, w .2, ap K e' ∙ w .3, w .4)
+          (w .0, w .1, w .2, w .3, ap K e' ∙ w .4, w .5)
 
   by-name-one : (t : Thing) → ByName t → cellsOf t ≡ 1
   by-name-one (variable t) h = absurd h
@@ -520,7 +464,7 @@ module _ (place : ℕ → ℕ) (P : List Instruction) where
       let l' : suc b ≤ z = omega arith in
       let i' : suc f - 1 ≡ f = omega arith in
       let c'' : Chain fs K b (suc f - 1) g' v' = rw i' c' in
-      stood (q .0) (q .2) (ap K j ∙ q .3) l l' c'' (q .4)
+      stood (q .0) (q .3) (ap K j ∙ q .4) l l' c'' (q .5)
   chain-stood fs x d (working h w c) e n = absurd e
 
   pub stands-for : {K : ℕ → Kind} {z f : ℕ} (fs : List Activation) (x : Name) {g : List Around} {v : Env} → Chain fs K z f g v → NamedAs (meaning (scopes g) x) → Stood fs K z (walk fs f (levels (declaring x) g)) (cutG (declaring x) g) (cut (declaring x) v) x
@@ -556,14 +500,14 @@ module _ (place : ℕ → ℕ) (P : List Instruction) where
       let y : Chain (x ∷ fs) K (baseOf (activationAt (x ∷ fs) f)) (linkOf (activationAt (x ∷ fs) f)) g v = rw e (chain-older x fs c) in
       let w' : baseOf (activationAt (x ∷ fs) f) + cellsIn (ofBody p) ≤ z = rw e w in
       let u' : oneIf (sortOf p) ≡ 1 → Plain (K (baseOf (activationAt (x ∷ fs) f))) = rw e u in
-      let a' : Actuals K g' (valuesOf p) (formalsOf p) es (baseOf (activationAt (x ∷ fs) f) + oneIf (sortOf p)) = rw e a in
+      let a' : Actuals K g' (specificationsOf p) (valuesOf p) (formalsOf p) es (baseOf (activationAt (x ∷ fs) f) + oneIf (sortOf p)) = rw e a in
       rw (← e) (link {f = f} {p = p} (omega arith) w' u' a' y' y)
   chain-older x fs {K} (working {z = z} {y = y} {f = f} {g = g} {v = v} h w c) =
       let e = at-older x fs f h in
       let c' : Chain (x ∷ fs) K y (linkOf (activationAt (x ∷ fs) f)) g v = rw e (chain-older x fs c) in
       working {f = f} (omega arith) w c'
 
-  pub chain-new : (r b l z : ℕ) (p : Procedure) (es : Expressions) (t : Fate) (q : ℕ) (ps : List ℕ) (fs : List Activation) {K : ℕ → Kind} {g g' : List Around} {v v' : Env} → b + cellsIn (ofBody p) ≤ z → (oneIf (sortOf p) ≡ 1 → Plain (K b)) → Actuals K g' (valuesOf p) (formalsOf p) es (b + oneIf (sortOf p)) → Chain fs K b (length fs) g' v' → Chain fs K b l g v → Chain (activation r b l t q ps ∷ fs) K z (suc (length fs)) (aBody p ∷ g) (called p b es v' v)
+  pub chain-new : (r b l z : ℕ) (p : Procedure) (es : Expressions) (t : Fate) (q : ℕ) (ps : List ℕ) (fs : List Activation) {K : ℕ → Kind} {g g' : List Around} {v v' : Env} → b + cellsIn (ofBody p) ≤ z → (oneIf (sortOf p) ≡ 1 → Plain (K b)) → Actuals K g' (specificationsOf p) (valuesOf p) (formalsOf p) es (b + oneIf (sortOf p)) → Chain fs K b (length fs) g' v' → Chain fs K b l g v → Chain (activation r b l t q ps ∷ fs) K z (suc (length fs)) (aBody p ∷ g) (called p b es v' v)
   chain-new r b l z p es t q ps fs {K} {g} {g'} {v} {v'} le u a c' c =
       let x : Activation = activation r b l t q ps in
       let e = at-newest x fs in
@@ -571,7 +515,7 @@ module _ (place : ℕ → ℕ) (P : List Instruction) where
       let y : Chain (x ∷ fs) K (baseOf (activationAt (x ∷ fs) (length fs))) (linkOf (activationAt (x ∷ fs) (length fs))) g v = rw e (chain-older x fs c) in
       let le' : baseOf (activationAt (x ∷ fs) (length fs)) + cellsIn (ofBody p) ≤ z = rw e le in
       let u' : oneIf (sortOf p) ≡ 1 → Plain (K (baseOf (activationAt (x ∷ fs) (length fs)))) = rw e u in
-      let a' : Actuals K g' (valuesOf p) (formalsOf p) es (baseOf (activationAt (x ∷ fs) (length fs)) + oneIf (sortOf p)) = rw e a in
+      let a' : Actuals K g' (specificationsOf p) (valuesOf p) (formalsOf p) es (baseOf (activationAt (x ∷ fs) (length fs)) + oneIf (sortOf p)) = rw e a in
       let w : Chain (x ∷ fs) K z (suc (length fs)) (aBody p ∷ g) (called p (baseOf (activationAt (x ∷ fs) (length fs))) es v' v) = link {f = length fs} {p = p} (omega arith) le' u' a' y' y in
       rw e at w
 
@@ -589,7 +533,7 @@ module _ (place : ℕ → ℕ) (P : List Instruction) where
   unfolding inBody
   ready-at fs x d p root e e' = absurd e
   ready-at fs x d p (inner {b = b} {ds = ds} r h k w u c) e e' = ready place P _ ds b r x d p h k e e'
-  ready-at fs x d p (link {p = p'} h w u a c' c) e e' = absurd (no-routine (specificationsOf p') (valuesOf p') (formalsOf p') x d p e e')
+  ready-at fs x d p (link {p = p'} h w u a c' c) e e' = absurd (omega (arith, ap rank e', body-things p' x d e))
   ready-at fs x d p (working h w c) e e' = absurd e
 
   pub callee : (fs : List Activation) (x : Name) (p : Procedure) {K : ℕ → Kind} {z f : ℕ} {g : List Around} {v : Env} → Chain fs K z f g v → MeansAs (meaning (scopes g) x) p → Ready place P (cutG (declaring x) g) p (target (cutG (declaring x) g) x)

@@ -1,140 +1,29 @@
 -- Every operand of a translated program is in its range: levels and nesting below 64, offsets, counts and addresses below 8,192. Assumes nothing.
-use Prim.Native.Nat.{ℕ, suc, _+_, _≤_, _<_}
+use Prim.Native.Nat.{ℕ, suc, _+_, _*_, _≤_, _<_, max}
 use native.Mathlib.Omega.{arith}
 use mathlib.Core.Bool.{Bool, true, false, cond}
 use mathlib.Core.Path.{_≡_}
 use mathlib.Core.List.{List, [], _∷_, _++_}
 use mathlib.Core.Option.{Option, none, some}
 use lib.ListN.{length}
-use Rattle.machine.specs.Values.{truth}
+use Rattle.reals.specs.declared.Form.{Form}
+use Rattle.reals.specs.declared.Form.the-variants.{Truths, Wholes, Reals}
 use Rattle.machine.specs.Data.{Act}
 use Rattle.machine.specs.Instructions.{Location, Instruction, END}
-use Rattle.names.specs.Program.{Name, Sort, Sign, positive, negative, negation, Expression, number, logical, name, call, signed, operated, chosen, nested, Expressions, done, then, count, Element, value, while, step, Statement, dummy, assignment, procedure, when, either, repeat, compound, block, Statements, last, first, Declarations, none as no-more, variables, declare, Procedure, heading}
-use Rattle.names.specs.Every.{AnyName, EveryE, EveryEs, EveryLs, EveryS, EverySs, EveryD, EveryP}
-use Rattle.names.specs.Scopes.{Thing, variable, routine, formal, by-name, modesOf, Declared, Scope, ofBlock, ofBody, inBlock, inBody, variablesIn, formalsOf, nameOf, sortOf, same, Meaning, declared, given, nothing, meaning}
-use Rattle.rules.specs.Entered.{cellsOf, total, oneIf, cellsIn, before, declaring, bodyOfThis}
+use Rattle.names.specs.Program.{integer, decimal, Name, Sort, Sign, positive, negative, negation, Expression, number, logical, name, call, signed, operated, chosen, nested, Expressions, done, then, count, Element, value, while, step, Statement, dummy, assignment, procedure, when, either, repeat, compound, block, Statements, last, first, Declarations, none as no-more, variables, declare, Procedure, heading}
+use Rattle.names.specs.Scopes.{Mode, byValue, byName, findIn, Thing, variable, routine, formal, by-name, modesOf, Declared, Scope, ofBlock, ofBody, inBlock, inBody, variablesIn, formalsOf, nameOf, sortOf, same, Meaning, declared, given, nothing, meaning}
+use Rattle.types.specs.Types.{widens}
+use Rattle.rules.specs.Entered.{typed, variablesOf, typedBefore, amongTyped, placeOf, cellsOf, total, oneIf, cellsIn, before, declaring, bodyOfThis}
 use Rattle.rules.specs.Calls.{Primary, held, worked, function, absolute, greatest, no-primary, primary, Command, routine-of, absolute-of, greatest-of, input-to, output-of, no-command, command, Way, direct, sought, way}
-use Rattle.rules.specs.Rules.{Spot, here, there}
-use Rattle.translation.specs.model.Translate.{Around, aBlock, aBody, anActual, scopes, spot, reach, cutG, levels, amongG, offsetOf, locFor, locAs, loc, endName, endActual, endThen, endSign, endE, endEs, endWay, endSum, endL, onward, endStores, endCall, endTake, endCommand, endS, endSs, endDs, endP, entry, target, storeName, storePart, codeName, codeActual, codeThen, codeSign, codeE, codeEs, codeWay, codeTest, codeSum, codeL, codeStores, codeCall, codeTake, codeCommand, codeS, codeSs, codeDs, codeP, code}
-use Rattle.translation.proofs.Chain.{body-cells as formals-cells}
-use Rattle.translation.proofs.Sizes.{parts, First, none-first, one-first, of-command, few, actuals-most, sizeSs, sizeDs}
-use Rattle.translation.specs.model.Sizes.{symbolsE, symbolsEs, symbolsL, listed, symbolsS, symbolsSs, symbolsDs, symbolsP, deepE, deepEs, deepA, deepL, deepS, deepSs, deepDs, deepP, Bits32, Whole, Limited}
+use Rattle.rules.specs.Rules.{Spot, here, there, at}
+use Rattle.translation.specs.model.Translate.{endWide, codeWide, routines, codeJump, endHead, Around, aBlock, aBody, anActual, scopes, spot, reach, cutG, levels, amongG, offsetOf, locFor, locAs, loc, endName, endActual, endThen, endE, endEs, endWay, endSum, endL, onward, endCall, endCommand, endS, endSs, endDs, endP, entry, target, storeName, storePart, codeName, codeActual, codeThen, codeSign, codeE, codeEs, codeWay, codeTest, codeSum, codeL, codeStores, codeCall, codeTake, codeCommand, codeS, codeSs, codeDs, codeP, code}
+use Rattle.rules.proofs.WellTyped.{Sent}
+use Rattle.rules.proofs.Declarations.{typed-total, first-most, formals-cells}
+use Rattle.translation.proofs.Constants.{lower, upper}
+use Rattle.translation.proofs.Commands.{told}
+use Rattle.translation.proofs.Sizes.{sign-size, wide-size, jump-size, way-size, sum-size, take-size, symbolsC, few, actuals-most, size-stores, sizeE, sizeEs, sizeL, sizeS, sizeSs, sizeDs, sizeP}
+use Rattle.translation.specs.model.Sizes.{symbolsE, symbolsEs, symbolsL, listed, symbolsS, symbolsSs, symbolsDs, symbolsP, deepE, deepEs, deepA, deepL, deepS, deepSs, deepDs, deepP, SmallE, SmallEs, SmallL, SmallS, SmallSs, SmallDs, SmallP, Whole, Limited}
 use Rattle.machine.specs.model.Words.{LocFits, ActFits, InstrFits, CodeFits}
-
--- ---- code does not end before it begins
-
-pub grow-name : (pr : Primary) (f : List Bool → ℕ → ℕ) → ((m : List Bool) (b : ℕ) → b ≤ f m b) → (b : ℕ) → b ≤ endName pr f b
-grow-name held f h b = omega arith
-grow-name worked f h b = omega arith
-grow-name (function p) f h b = omega (arith, h (modesOf p) (suc b))
-grow-name absolute f h b = omega (arith, h [] b)
-grow-name greatest f h b = omega arith
-grow-name no-primary f h b = omega arith
-
-grow-actual : (m : Bool) (f : ℕ → ℕ) → ((b : ℕ) → b ≤ f b) → (b : ℕ) → b ≤ endActual m f b
-grow-actual true f h b = h b
-grow-actual false f h b = omega (arith, h (suc (suc (suc b))))
-
-pub grow-then : (m : List Bool) (f : ℕ → ℕ) (fs : List Bool → ℕ → ℕ) → ((b : ℕ) → b ≤ f b) → ((m : List Bool) (b : ℕ) → b ≤ fs m b) → (b : ℕ) → b ≤ endThen m f fs b
-grow-then [] f fs h h' b = omega (arith, h b, h' [] (f b))
-grow-then (m ∷ ms) f fs h h' b = omega (arith, grow-actual m f h b, h' ms (endActual m f b))
-
-pub grow-sign : (o : Sign) (b : ℕ) → b ≤ endSign o b
-grow-sign positive b = omega arith
-grow-sign negative b = omega arith
-grow-sign negation b = omega arith
-
-mutual
-  unfolding endE
-
-  growE : (g : List Scope) (e : Expression) (b : ℕ) → b ≤ endE g e b
-  growE g (number q n) b = omega arith
-  growE g (logical q t) b = omega arith
-  growE g (name x) b = grow-name (primary (meaning g x) done) (λ m b. b) (λ m b. omega arith) b
-  growE g (call x e es) b = grow-name (primary (meaning g x) (then e es)) (λ m b. endThen m (λ b. endE g e b) (λ m b. endEs g m es b) b) (λ m b. grow-then m (λ b. endE g e b) (λ m b. endEs g m es b) (λ b. growE g e b) (λ m b. growEs g m es b) b) b
-  growE g (signed q o e) b = omega (arith, growE g e b, grow-sign o (endE g e b))
-  growE g (operated q o e f) b = omega (arith, growE g e b, growE g f (endE g e b))
-  growE g (chosen q r c e f) b = omega (arith, growE g c b, growE g e (suc (endE g c b)), growE g f (suc (endE g e (suc (endE g c b)))))
-  growE g (nested q e) b = growE g e b
-
-  growEs : (g : List Scope) (m : List Bool) (es : Expressions) (b : ℕ) → b ≤ endEs g m es b
-  growEs g m done b = omega arith
-  growEs g m (then e es) b = grow-then m (λ b. endE g e b) (λ m b. endEs g m es b) (λ b. growE g e b) (λ m b. growEs g m es b) b
-
-pub grow-way : (w : Way) (b : ℕ) → b < endWay w b
-unfolding endWay
-grow-way direct b = omega arith
-grow-way sought b = omega arith
-
-pub grow-sum : (w : Way) (b : ℕ) → b < endSum w b
-unfolding endSum
-grow-sum direct b = omega arith
-grow-sum sought b = omega arith
-
-pub grow-take : (w : Way) (b : ℕ) → b < endTake w b
-unfolding endTake
-grow-take direct b = omega arith
-grow-take sought b = omega arith
-
-growL : (g : List Scope) (x : Name) (l : List Element) (b : ℕ) → b ≤ endL g x l b
-unfolding endL
-growL g x [] b = omega arith
-growL g x (value e ∷ l) b =
-    let w = way (meaning g x) in
-    omega (arith, growE g e b, grow-way w (endE g e b), growL g x l (suc (endWay w (endE g e b))))
-growL g x (while q e c ∷ l) b =
-    let w = way (meaning g x) in
-    let a = endWay w (endE g e b) in
-    omega (arith, growE g e b, grow-way w (endE g e b), growE g c a, growL g x l (suc (suc (endE g c a))))
-growL g x (step q e f h ∷ l) b =
-    let w = way (meaning g x) in
-    let a = endWay w (endE g e b) in
-    let i = suc (suc (endE g f (suc a))) in
-    let n = endE g h i in
-    let t = endWay w n in
-    omega (arith, growE g e b, grow-way w (endE g e b), growE g f (suc a), growE g h i, grow-way w n, grow-sum w (suc (suc t)), growL g x l (suc (endSum w (suc (suc t)))))
-
-pub grow-stores : (g : List Scope) (x : Name) (xs : List Name) (b : ℕ) → b ≤ endStores g x xs b
-unfolding endStores
-grow-stores g x [] b = omega (arith, grow-way (way (meaning g x)) b)
-grow-stores g x (y ∷ ys) b = omega (arith, grow-way (way (meaning g x)) b, grow-stores g y ys (endWay (way (meaning g x)) b))
-
-grow-call : (g : List Scope) (t : Option Sort) (m : List Bool) (es : Expressions) (b : ℕ) → b ≤ endCall g t m es b
-grow-call g none m es b = omega (arith, growEs g m es b)
-grow-call g (some t) m es b = omega (arith, growEs g m es (suc b))
-
-grow-command : (g : List Scope) (c : Command) (es : Expressions) (b : ℕ) → b ≤ endCommand g c es b
-grow-command g (routine-of p) es b = grow-call g (sortOf p) (modesOf p) es b
-grow-command g (absolute-of e) es b = omega (arith, growE g e b)
-grow-command g greatest-of es b = omega arith
-grow-command g (input-to e y) es b = omega (arith, growE g e b, grow-take (way (meaning g y)) (endE g e b))
-grow-command g (output-of e f) es b = omega (arith, growE g e b, growE g f (endE g e b))
-grow-command g no-command es b = omega arith
-
-mutual
-  unfolding endS
-
-  growS : (g : List Scope) (s : Statement) (b : ℕ) → b ≤ endS g s b
-  growS g dummy b = omega arith
-  growS g (assignment x xs q e) b = omega (arith, growE g e b, grow-stores g x xs (endE g e b))
-  growS g (procedure x es) b = grow-command g (command (meaning g x) es) es b
-  growS g (when q c s) b = omega (arith, growE g c b, growS g s (suc (endE g c b)))
-  growS g (either q c s t) b = omega (arith, growE g c b, growS g s (suc (endE g c b)), growS g t (suc (endS g s (suc (endE g c b)))))
-  growS g (repeat x l ls s) b = omega (arith, growL g x (l ∷ ls) b, growS g s (endL g x (l ∷ ls) b))
-  growS g (compound ss) b = growSs g ss b
-  growS g (block q ds ss) b = omega (arith, growDs (ofBlock ds ∷ g) ds (suc b), growSs (ofBlock ds ∷ g) ss (endDs (ofBlock ds ∷ g) ds (suc b)))
-
-  growSs : (g : List Scope) (ss : Statements) (b : ℕ) → b ≤ endSs g ss b
-  growSs g (last s) b = growS g s b
-  growSs g (first s ss) b = omega (arith, growS g s b, growSs g ss (endS g s b))
-
-  growDs : (g : List Scope) (ds : Declarations) (b : ℕ) → b ≤ endDs g ds b
-  growDs g no-more b = omega arith
-  growDs g (variables t xs ds) b = growDs g ds b
-  growDs g (declare p ds) b = omega (arith, growP g p b, growDs g ds (endP g p b))
-
-  growP : (g : List Scope) (p : Procedure) (b : ℕ) → b ≤ endP g p b
-  growP g (heading t f xs vs ss s) b = omega (arith, growS (ofBody (heading t f xs vs ss s) ∷ g) s b)
 
 -- ---- what the translator knows of the scopes around is in range
 
@@ -146,6 +35,25 @@ before-most (d ∷ l) x = go (same (d .name) x) (before-most l x)
     go : (t : Bool) → before l x ≤ total l → cond t 0 (cellsOf (d .thing) + before l x) ≤ cellsOf (d .thing) + total l
     go true h = omega arith
     go false h = omega arith
+
+typed-most : (t : Sort) (l : List Declared) (x : Name) → typedBefore t l x ≤ variablesOf t l
+unfolding typedBefore variablesOf
+typed-most t [] x = omega arith
+typed-most t (d ∷ l) x = go (same (d .name) x) (typed-most t l x)
+  where
+    go : (b : Bool) → typedBefore t l x ≤ variablesOf t l → cond b 0 (typed t (d .thing) + typedBefore t l x) ≤ typed t (d .thing) + variablesOf t l
+    go true h = omega arith
+    go false h = omega arith
+
+place-most : (l : List Declared) (o : Option Declared) (x : Name) → placeOf l o x ≤ total l
+place-most l none x = omega arith
+place-most l (some d) x = go (d .thing)
+  where
+    go : (t : Thing) → amongTyped l t x ≤ total l
+    go (variable t) = omega (arith, first-most t l, typed-most t l x)
+    go (formal t) = omega arith
+    go (by-name t) = omega arith
+    go (routine p) = omega arith
 
 abbrev pub owns : List Around → ℕ
 owns [] = 0
@@ -180,7 +88,7 @@ among-most t x [] h = omega arith
 among-most t x (aBlock o ds b ∷ g) h = go (t (ofBlock ds)) (among-most t x g (h .2))
   where
     go : (y : Bool) → amongG (cutG t g) x < 8191 → amongG (cond y (aBlock o ds b ∷ g) (cutG t g)) x < 8191
-    go true w = omega (arith, before-most (inBlock ds) x, h .0)
+    go true w = omega (arith, place-most (inBlock ds) (findIn (inBlock ds) x) x, h .0)
     go false w = w
 among-most t x (aBody p ∷ g) h = go (t (ofBody p)) (among-most t x g (h .1))
   where
@@ -211,7 +119,7 @@ entry-most g (variables t xs ds) b x = entry-most g ds b x
 entry-most g (declare p ds) b x = go (same (nameOf p) x) (entry-most g ds (endP g p b) x)
   where
     go : (y : Bool) → entry g ds (endP g p b) x ≤ endDs g ds (endP g p b) → cond y b (entry g ds (endP g p b) x) ≤ endDs g ds (endP g p b)
-    go true w = omega (arith, growP g p b, growDs g ds (endP g p b))
+    go true w = omega (arith, sizeP g p b, sizeDs g ds (endP g p b))
     go false w = w
 
 target-most : (t : Scope → Bool) (x : Name) (g : List Around) → Reaches g → target (cutG t g) x < 8192
@@ -255,7 +163,7 @@ count-most (then e es) = omega (arith, count-most es)
 
 -- ---- a scope has fewer cells than its declarations have symbols
 
-pub listed-most : (xs : List Name) → length xs ≤ listed xs
+pub listed-most : (xs : List Name) → 2 * length xs ≤ listed xs
 listed-most [] = omega arith
 listed-most (x ∷ xs) = omega arith
 
@@ -264,7 +172,7 @@ unfolding variablesIn total
 total-variables t [] l = omega arith
 total-variables t (x ∷ xs) l = omega (arith, total-variables t xs l)
 
-pub block-cells : (ds : Declarations) → total (inBlock ds) ≤ symbolsDs ds
+pub block-cells : (ds : Declarations) → 2 * total (inBlock ds) ≤ symbolsDs ds
 unfolding inBlock total symbolsS
 block-cells no-more = omega arith
 block-cells (variables t xs ds) = omega (arith, total-variables t xs (inBlock ds), listed-most xs, block-cells ds)
@@ -279,23 +187,38 @@ one-most (some t) = omega arith
 
 -- ---- the code of each construct
 
-truth-small : (t : Bool) → CodeFits (Instruction.DO (Act.push 0 (truth t)) ∷ [])
-truth-small true = (omega arith, tt)
-truth-small false = (omega arith, tt)
+sent-fits : (q : ℕ) (t : Form) → Sent t → ActFits (Act.send q t)
+sent-fits q Truths h = absurd h
+sent-fits q Wholes h = tt
+sent-fits q Reals h = tt
 
--- the expressions of a command are no deeper than its actuals, and have no other numbers
-first-numbers : {es fs : Expressions} → First es fs → EveryEs AnyName Bits32 fs → EveryEs AnyName Bits32 es
-first-numbers none-first s = tt
-first-numbers (one-first f) s = (s .0, first-numbers f (s .1))
+abbrev SmallC : Command → Type 0
+SmallC (routine-of p) = Unit {0}
+SmallC (absolute-of e) = SmallE e
+SmallC greatest-of = Unit {0}
+SmallC (input-to e y) = SmallE e
+SmallC (output-of t e f) = Sent t × SmallE e × SmallE f
+SmallC no-command = Unit {0}
 
-first-deep : {es fs : Expressions} → First es fs → deepEs es ≤ deepEs fs
-unfolding deepE
-first-deep none-first = omega arith
-first-deep (one-first f) = omega (arith, first-deep f)
+small-command : (m : Meaning) (es : Expressions) → SmallEs es → SmallC (command m es)
+small-command = told (λ c es. SmallEs es → SmallC c) (λ p es s. tt) (λ e s. s .0) (λ s. tt) (λ e f y s. s .0) (λ t n e f s. (n, s .0, s .1 .0)) (λ es s. tt)
 
 onward-most : (l : List Element) (a n : ℕ) → a < 8192 → n < 8192 → onward l a n < 8192
 onward-most [] a n h h' = h'
 onward-most (x ∷ l) a n h h' = h
+
+-- the expressions of a command are no deeper than its actuals
+abbrev deepC : Command → ℕ
+deepC (routine-of p) = 0
+deepC (absolute-of e) = deepE e
+deepC greatest-of = 0
+deepC (input-to e y) = deepE e
+deepC (output-of t e f) = max (deepE e) (deepE f)
+deepC no-command = 0
+
+deep-command : (m : Meaning) (es : Expressions) → deepC (command m es) ≤ deepEs es
+unfolding deepE
+deep-command = told (λ c es. deepC c ≤ deepEs es) (λ p es. omega arith) (λ e. omega arith) (omega arith) (λ e f y. omega arith) (λ t n e f. omega arith) (λ es. omega arith)
 
 -- actuals are one deeper than what holds them, where there are any
 deep-most : (es : Expressions) → deepA es ≤ suc (deepEs es)
@@ -309,11 +232,11 @@ deep-least done = omega arith
 deep-least (then e es) = omega arith
 
 module _ (place : ℕ → ℕ) where
-  fits-name : (pr : Primary) (g : List Around) (x : Name) (n : ℕ) (f : List Bool → ℕ → ℕ) (c : List Bool → ℕ → List Instruction → List Instruction) → ((m : List Bool) (b : ℕ) (r : List Instruction) → f m b < 8192 → CodeFits r → CodeFits (c m b r)) → (b : ℕ) (r : List Instruction) → Reaches g → owns g < 64 → suc n < 8192 → endName pr f b < 8192 → CodeFits r → CodeFits (codeName place pr g x n c b r)
+  fits-name : (pr : Primary) (g : List Around) (x : Name) (n : ℕ) (f : List Mode → ℕ → ℕ) (c : List Mode → ℕ → List Instruction → List Instruction) → ((m : List Mode) (b : ℕ) (r : List Instruction) → f m b < 8192 → CodeFits r → CodeFits (c m b r)) → (b : ℕ) (r : List Instruction) → Reaches g → owns g < 64 → suc n < 8192 → endName pr f b < 8192 → CodeFits r → CodeFits (codeName place pr g x n c b r)
   fits-name held g x n f c k b r h w i e z = (loc-fits g x h w, z)
   fits-name worked g x n f c k b r h w i e z = (formal-fits g x h w, z)
   fits-name (function p) g x n f c k b r h w i e z = (tt, k (modesOf p) (suc b) _ (omega arith) ((target-most (declaring x) x g h, omega (arith, levels-most (declaring x) g), i), z))
-  fits-name absolute g x n f c k b r h w i e z = k [] b _ (omega arith) (tt, z)
+  fits-name absolute g x n f c k b r h w i e z = k (byValue (some integer) ∷ []) b _ (omega arith) (tt, z)
   fits-name greatest g x n f c k b r h w i e z = (omega arith, z)
   fits-name no-primary g x n f c k b r h w i e z = z
 
@@ -328,6 +251,7 @@ module _ (place : ℕ → ℕ) where
 
   fits-store : (g : List Around) (e : Expression) → Reaches g → owns g < 64 → InstrFits (storePart place g e)
   fits-store g (number q n) h w = tt
+  fits-store g (decimal q n i) h w = tt
   fits-store g (logical q t) h w = tt
   fits-store g (name y) h w = fits-store-name (primary (meaning (scopes g) y) done) g y h w
   fits-store g (call y e es) h w = tt
@@ -337,11 +261,11 @@ module _ (place : ℕ → ℕ) where
   fits-store g (nested q e) h w = tt
 
   -- an actual, whose code fits one level in as well; and others behind it
-  fits-actual : (m : Bool) (g : List Around) (e : Expression) (f : ℕ → ℕ) (c : List Around → ℕ → List Instruction → List Instruction) → ((b : ℕ) (r : List Instruction) → f b < 8192 → CodeFits r → CodeFits (c g b r)) → ((b : ℕ) (r : List Instruction) → f b < 8192 → CodeFits r → CodeFits (c (anActual ∷ g) b r)) → (b : ℕ) (r : List Instruction) → Reaches g → suc (owns g) < 64 → endActual m f b < 8192 → CodeFits r → CodeFits (codeActual place m g e f c b r)
-  fits-actual true g e f c k k' b r h w i z = k b r i z
-  fits-actual false g e f c k k' b r h w i z = (i, (fits-store (anActual ∷ g) e h w, (tt, k' (suc (suc (suc b))) _ (omega arith) (tt, z))))
+  fits-actual : (m : Mode) (g : List Around) (e : Expression) (f : ℕ → ℕ) (c : List Around → ℕ → List Instruction → List Instruction) → ((b : ℕ) (r : List Instruction) → f b < 8192 → CodeFits r → CodeFits (c g b r)) → ((b : ℕ) (r : List Instruction) → f b < 8192 → CodeFits r → CodeFits (c (anActual ∷ g) b r)) → (b : ℕ) (r : List Instruction) → Reaches g → suc (owns g) < 64 → endActual m f b < 8192 → CodeFits r → CodeFits (codeActual place m g e f c b r)
+  fits-actual (byValue t) g e f c k k' b r h w i z = k b _ (omega arith) (tt, z)
+  fits-actual (byName t) g e f c k k' b r h w i z = (i, (fits-store (anActual ∷ g) e h w, (tt, k' (suc (suc (suc b))) _ (omega arith) (tt, (tt, z)))))
 
-  fits-then : (m : List Bool) (g : List Around) (e : Expression) (f : ℕ → ℕ) (fs : List Bool → ℕ → ℕ) (c : List Around → ℕ → List Instruction → List Instruction) (cs : List Bool → ℕ → List Instruction → List Instruction) → ((m : List Bool) (b : ℕ) → b ≤ fs m b) → ((b : ℕ) (r : List Instruction) → f b < 8192 → CodeFits r → CodeFits (c g b r)) → ((b : ℕ) (r : List Instruction) → f b < 8192 → CodeFits r → CodeFits (c (anActual ∷ g) b r)) → ((m : List Bool) (b : ℕ) (r : List Instruction) → fs m b < 8192 → CodeFits r → CodeFits (cs m b r)) → (b : ℕ) (r : List Instruction) → Reaches g → suc (owns g) < 64 → endThen m f fs b < 8192 → CodeFits r → CodeFits (codeThen place m g e f c cs b r)
+  fits-then : (m : List Mode) (g : List Around) (e : Expression) (f : ℕ → ℕ) (fs : List Mode → ℕ → ℕ) (c : List Around → ℕ → List Instruction → List Instruction) (cs : List Mode → ℕ → List Instruction → List Instruction) → ((m : List Mode) (b : ℕ) → b ≤ fs m b) → ((b : ℕ) (r : List Instruction) → f b < 8192 → CodeFits r → CodeFits (c g b r)) → ((b : ℕ) (r : List Instruction) → f b < 8192 → CodeFits r → CodeFits (c (anActual ∷ g) b r)) → ((m : List Mode) (b : ℕ) (r : List Instruction) → fs m b < 8192 → CodeFits r → CodeFits (cs m b r)) → (b : ℕ) (r : List Instruction) → Reaches g → suc (owns g) < 64 → endThen m f fs b < 8192 → CodeFits r → CodeFits (codeThen place m g e f c cs b r)
   fits-then [] g e f fs c cs u k k' ks b r h w i z = k b _ (omega (arith, u [] (f b))) (ks [] (f b) r i z)
   fits-then (m ∷ ms) g e f fs c cs u k k' ks b r h w i z = fits-actual m g e f c k k' b _ h w (omega (arith, u ms (endActual m f b))) (ks ms (endActual m f b) r i z)
 
@@ -350,27 +274,42 @@ module _ (place : ℕ → ℕ) where
   fits-sign q negative r z = (tt, z)
   fits-sign q negation r z = (tt, z)
 
+  fits-wide : (u : Bool) (r : List Instruction) → CodeFits r → CodeFits (codeWide u r)
+  unfolding codeWide
+  fits-wide true r z = (tt, z)
+  fits-wide false r z = z
+
+  fits-jump : (u : Bool) (i : ℕ) (r : List Instruction) → i < 8192 → CodeFits r → CodeFits (codeJump place u i r)
+  unfolding codeJump
+  fits-jump true i r h z = (h, z)
+  fits-jump false i r h z = z
+
   mutual
     unfolding endE codeE symbolsE deepE deepA count
 
-    fitsE : (g : List Around) (e : Expression) (b : ℕ) (r : List Instruction) → Reaches g → owns g + deepE e < 64 → EveryE AnyName Bits32 e → symbolsE e < 8192 → endE (scopes g) e b < 8192 → CodeFits r → CodeFits (codeE place g e b r)
+    fitsE : (g : List Around) (e : Expression) (b : ℕ) (r : List Instruction) → Reaches g → owns g + deepE e < 64 → SmallE e → symbolsE e < 8192 → endE (scopes g) e b < 8192 → CodeFits r → CodeFits (codeE place g e b r)
     fitsE g (number q n) b r h w s i e z = (s, z)
-    fitsE g (logical q t) b r h w s i e z = (truth-small t .0, z)
+    fitsE g (decimal q n j) b r h w s i e z = (lower n j, (upper n j, z))
+    fitsE g (logical q t) b r h w s i e z = (tt, z)
     fitsE g (name x) b r h w s i e z = fits-name (primary (meaning (scopes g) x) done) g x 0 (λ m b. b) (λ m b r. r) (λ m b r e z. z) b r h (omega arith) (omega arith) e z
-    fitsE g (call x y ys) b r h w s i e z = fits-name (primary (meaning (scopes g) x) (then y ys)) g x (suc (count ys)) (λ m b. endThen m (λ b. endE (scopes g) y b) (λ m b. endEs (scopes g) m ys b) b) (λ m b r. codeThen place m g y (λ b. endE (scopes g) y b) (λ g b r. codeE place g y b r) (λ m b r. codeEs place g m ys b r) b r) (λ m b r e z. fits-then m g y (λ b. endE (scopes g) y b) (λ m b. endEs (scopes g) m ys b) (λ g b r. codeE place g y b r) (λ m b r. codeEs place g m ys b r) (λ m b. growEs (scopes g) m ys b) (λ b r e z. fitsE g y b r h (omega arith) (s .1) (omega arith) e z) (λ b r e z. fitsE (anActual ∷ g) y b r h (omega arith) (s .1) (omega arith) e z) (λ m b r e z. fitsEs g m ys b r h (omega (arith, deep-most ys)) (s .2) (omega arith) e z) b r h (omega arith) e z) b r h (omega arith) (omega (arith, count-most ys)) e z
-    fitsE g (signed q o y) b r h w s i e z = fitsE g y b _ h w s (omega arith) (omega (arith, grow-sign o (endE (scopes g) y b))) (fits-sign q o r z)
-    fitsE g (operated q o y y') b r h w s i e z = fitsE g y b _ h (omega arith) (s .0) (omega arith) (omega (arith, growE (scopes g) y' (endE (scopes g) y b))) (fitsE g y' (endE (scopes g) y b) _ h (omega arith) (s .1) (omega arith) (omega arith) (tt, z))
+    fitsE g (call x y ys) b r h w s i e z = fits-name (primary (meaning (scopes g) x) (then y ys)) g x (suc (count ys)) (λ m b. endThen m (λ b. endE (scopes g) y b) (λ m b. endEs (scopes g) m ys b) b) (λ m b r. codeThen place m g y (λ b. endE (scopes g) y b) (λ g b r. codeE place g y b r) (λ m b r. codeEs place g m ys b r) b r) (λ m b r e z. fits-then m g y (λ b. endE (scopes g) y b) (λ m b. endEs (scopes g) m ys b) (λ g b r. codeE place g y b r) (λ m b r. codeEs place g m ys b r) (λ m b. sizeEs (scopes g) m ys b .0) (λ b r e z. fitsE g y b r h (omega arith) (s .0) (omega arith) e z) (λ b r e z. fitsE (anActual ∷ g) y b r h (omega arith) (s .0) (omega arith) e z) (λ m b r e z. fitsEs g m ys b r h (omega (arith, deep-most ys)) (s .1) (omega arith) e z) b r h (omega arith) e z) b r h (omega arith) (omega (arith, count-most ys)) e z
+    fitsE g (signed q o y) b r h w s i e z = fitsE g y b _ h w s (omega arith) (omega (arith, sign-size o (endE (scopes g) y b))) (fits-sign q o r z)
+    fitsE g (operated q o y y') b r h w s i e z = fitsE g y b _ h (omega arith) (s .0) (omega arith) (omega (arith, sizeE (scopes g) y' (endE (scopes g) y b))) (fitsE g y' (endE (scopes g) y b) _ h (omega arith) (s .1) (omega arith) (omega arith) (tt, z))
     fitsE g (chosen q q' c y y') b r h w s i e z =
         let m = endE (scopes g) c b in
-        let n = endE (scopes g) y (suc m) in
-        let e₁ = growE (scopes g) y (suc m) in
-        let e₂ = growE (scopes g) y' (suc n) in
-        fitsE g c b _ h (omega arith) (s .0) (omega arith) (omega arith) ((tt, omega arith), fitsE g y (suc m) _ h (omega arith) (s .1) (omega arith) (omega arith) (e, fitsE g y' (suc n) r h (omega arith) (s .2) (omega arith) e z))
+        let u = widens (scopes g) y y' in
+        let u' = widens (scopes g) y' y in
+        let n = endWide u (endE (scopes g) y (suc m)) in
+        let e₁ = sizeE (scopes g) y (suc m) in
+        let e₂ = sizeE (scopes g) y' (suc n) in
+        let e₃ = wide-size u (endE (scopes g) y (suc m)) in
+        let e₄ = wide-size u' (endE (scopes g) y' (suc n)) in
+        fitsE g c b _ h (omega arith) (s .0) (omega arith) (omega arith) ((tt, omega arith), fitsE g y (suc m) _ h (omega arith) (s .1) (omega arith) (omega arith) (fits-wide u _ (e, fitsE g y' (suc n) _ h (omega arith) (s .2) (omega arith) (omega arith) (fits-wide u' r z))))
     fitsE g (nested q y) b r h w s i e z = fitsE g y b r h w s (omega arith) e z
 
-    fitsEs : (g : List Around) (m : List Bool) (es : Expressions) (b : ℕ) (r : List Instruction) → Reaches g → owns g + deepA es < 64 → EveryEs AnyName Bits32 es → symbolsEs es < 8192 → endEs (scopes g) m es b < 8192 → CodeFits r → CodeFits (codeEs place g m es b r)
+    fitsEs : (g : List Around) (m : List Mode) (es : Expressions) (b : ℕ) (r : List Instruction) → Reaches g → owns g + deepA es < 64 → SmallEs es → symbolsEs es < 8192 → endEs (scopes g) m es b < 8192 → CodeFits r → CodeFits (codeEs place g m es b r)
     fitsEs g m done b r h w s i e z = z
-    fitsEs g m (then y ys) b r h w s i e z = fits-then m g y (λ b. endE (scopes g) y b) (λ m b. endEs (scopes g) m ys b) (λ g b r. codeE place g y b r) (λ m b r. codeEs place g m ys b r) (λ m b. growEs (scopes g) m ys b) (λ b r e z. fitsE g y b r h (omega arith) (s .0) (omega arith) e z) (λ b r e z. fitsE (anActual ∷ g) y b r h (omega arith) (s .0) (omega arith) e z) (λ m b r e z. fitsEs g m ys b r h (omega (arith, deep-most ys)) (s .1) (omega arith) e z) b r h (omega arith) e z
+    fitsEs g m (then y ys) b r h w s i e z = fits-then m g y (λ b. endE (scopes g) y b) (λ m b. endEs (scopes g) m ys b) (λ g b r. codeE place g y b r) (λ m b r. codeEs place g m ys b r) (λ m b. sizeEs (scopes g) m ys b .0) (λ b r e z. fitsE g y b r h (omega arith) (s .0) (omega arith) e z) (λ b r e z. fitsE (anActual ∷ g) y b r h (omega arith) (s .0) (omega arith) e z) (λ m b r e z. fitsEs g m ys b r h (omega (arith, deep-most ys)) (s .1) (omega arith) e z) b r h (omega arith) e z
 
   spot-fits : (g : List Around) (s : Spot) → Reaches g → owns g < 64 → LocFits (spot g s)
   spot-fits g (here x) h w = loc-fits g x h w
@@ -396,24 +335,24 @@ module _ (place : ℕ → ℕ) where
   fits-take direct g q y r h w z = (loc-fits g y h w, z)
   fits-take sought g q y r h w z = (tt, (formal-fits g y h w, (tt, z)))
 
-  fitsL : (g : List Around) (m : ℕ) (x : Name) (l : List Element) (s n b : ℕ) (r : List Instruction) → Reaches g → owns g + deepL l < 64 → m < 64 → s < 8192 → n < 8192 → EveryLs AnyName Bits32 l → symbolsL l < 8192 → endL (scopes g) x l b < 8192 → CodeFits r → CodeFits (codeL place g m x l s n b r)
+  fitsL : (g : List Around) (m : ℕ) (x : Name) (l : List Element) (s n b : ℕ) (r : List Instruction) → Reaches g → owns g + deepL l < 64 → m < 64 → s < 8192 → n < 8192 → SmallL l → symbolsL l < 8192 → endL (scopes g) x l b < 8192 → CodeFits r → CodeFits (codeL place g m x l s n b r)
   unfolding endL codeL symbolsL deepL
   fitsL g m x [] s n b r h w hm hs hn v i e z = z
   fitsL g m x (value y ∷ l) s n b r h w hm hs hn v i e z =
       let wy = way (meaning (scopes g) x) in
       let a = suc (endWay wy (endE (scopes g) y b)) in
-      let u = growL (scopes g) x l a in
-      let u₁ = grow-way wy (endE (scopes g) y b) in
-      fitsE g y b _ h (omega arith) (v .0) (omega arith) (omega arith) (fits-way wy g x (λ c. Act.store (spot g c)) _ (λ c. spot-fits g c h (omega arith)) h (omega arith) ((hm, hs, onward-most l a n (omega arith) hn), fitsL g m x l s n a r h (omega arith) hm hs hn (v .1) (omega arith) e z))
+      let u = sizeL (scopes g) x l a in
+      let u₁ = way-size wy (endE (scopes g) y b) in
+      fitsE g y b _ h (omega arith) (v .0) (omega arith) (omega arith) (fits-way wy g x (λ c. Act.store (at place x) (spot g c)) _ (λ c. spot-fits g c h (omega arith)) h (omega arith) ((hm, hs, onward-most l a n (omega arith) hn), fitsL g m x l s n a r h (omega arith) hm hs hn (v .1) (omega arith) e z))
   fitsL g m x (while q y c ∷ l) s n b r h w hm hs hn v i e z =
       let wy = way (meaning (scopes g) x) in
       let a = endWay wy (endE (scopes g) y b) in
       let k = suc (suc (endE (scopes g) c a)) in
-      let u = growL (scopes g) x l k in
-      let u₁ = growE (scopes g) c a in
-      let u₂ = growE (scopes g) y b in
-      let u₃ = grow-way wy (endE (scopes g) y b) in
-      fitsE g y b _ h (omega arith) (v .0 .0) (omega arith) (omega arith) (fits-way wy g x (λ c. Act.store (spot g c)) _ (λ c. spot-fits g c h (omega arith)) h (omega arith) (fitsE g c a _ h (omega arith) (v .0 .1) (omega arith) (omega arith) ((tt, onward-most l k n (omega arith) hn), ((hm, hs, omega arith), fitsL g m x l s n k r h (omega arith) hm hs hn (v .1) (omega arith) e z))))
+      let u = sizeL (scopes g) x l k in
+      let u₁ = sizeE (scopes g) c a in
+      let u₂ = sizeE (scopes g) y b in
+      let u₃ = way-size wy (endE (scopes g) y b) in
+      fitsE g y b _ h (omega arith) (v .0) (omega arith) (omega arith) (fits-way wy g x (λ c. Act.store (at place x) (spot g c)) _ (λ c. spot-fits g c h (omega arith)) h (omega arith) (fitsE g c a _ h (omega arith) (v .1) (omega arith) (omega arith) ((tt, onward-most l k n (omega arith) hn), ((hm, hs, omega arith), fitsL g m x l s n k r h (omega arith) hm hs hn (v .2) (omega arith) e z))))
   fitsL g m x (step q y y' y'' ∷ l) s n b r h w hm hs hn v i e z =
       let wy = way (meaning (scopes g) x) in
       let a = endWay wy (endE (scopes g) y b) in
@@ -421,76 +360,79 @@ module _ (place : ℕ → ℕ) where
       let j = endE (scopes g) y'' (suc i') in
       let t = endWay wy j in
       let k = suc (endSum wy (suc (suc t))) in
-      let u = growL (scopes g) x l k in
-      let u₁ = growE (scopes g) y' (suc a) in
-      let u₂ = growE (scopes g) y'' (suc i') in
-      let u₃ = grow-way wy (endE (scopes g) y b) in
-      let u₄ = grow-way wy j in
-      let u₅ = grow-sum wy (suc (suc t)) in
-      fitsE g y b _ h (omega arith) (v .0 .0) (omega arith) (omega arith) (fits-way wy g x (λ c. Act.store (spot g c)) _ (λ c. spot-fits g c h (omega arith)) h (omega arith) ((hm, omega arith, omega arith), fitsE g y' (suc a) _ h (omega arith) (v .0 .1) (omega arith) (omega arith) (hm, (tt, fitsE g y'' (suc i') _ h (omega arith) (v .0 .2) (omega arith) (omega arith) (fits-test wy g x (onward l k n) _ h (omega arith) (onward-most l k n (omega arith) hn) ((hm, hs, omega arith), ((hm, omega arith, omega arith), fits-sum wy g q x _ h (omega arith) (omega arith, fitsL g m x l s n k r h (omega arith) hm hs hn (v .1) (omega arith) e z))))))))
+      let u = sizeL (scopes g) x l k in
+      let u₁ = sizeE (scopes g) y' (suc a) in
+      let u₂ = sizeE (scopes g) y'' (suc i') in
+      let u₃ = way-size wy (endE (scopes g) y b) in
+      let u₄ = way-size wy j in
+      let u₅ = sum-size wy (suc (suc t)) in
+      fitsE g y b _ h (omega arith) (v .0) (omega arith) (omega arith) (fits-way wy g x (λ c. Act.store (at place x) (spot g c)) _ (λ c. spot-fits g c h (omega arith)) h (omega arith) ((hm, omega arith, omega arith), fitsE g y' (suc a) _ h (omega arith) (v .1) (omega arith) (omega arith) (hm, (tt, fitsE g y'' (suc i') _ h (omega arith) (v .2) (omega arith) (omega arith) (fits-test wy g x (onward l k n) _ h (omega arith) (onward-most l k n (omega arith) hn) ((hm, hs, omega arith), ((hm, omega arith, omega arith), fits-sum wy g q x _ h (omega arith) (omega arith, fitsL g m x l s n k r h (omega arith) hm hs hn (v .3) (omega arith) e z))))))))
 
   fits-stores : (g : List Around) (x : Name) (xs : List Name) (r : List Instruction) → Reaches g → owns g < 64 → CodeFits r → CodeFits (codeStores place g x xs r)
   unfolding codeStores
-  fits-stores g x [] r h w z = fits-way (way (meaning (scopes g) x)) g x (λ c. Act.store (spot g c)) r (λ c. spot-fits g c h w) h w z
-  fits-stores g x (y ∷ ys) r h w z = fits-way (way (meaning (scopes g) x)) g x (λ c. Act.assign (spot g c)) _ (λ c. spot-fits g c h w) h w (fits-stores g y ys r h w z)
+  fits-stores g x [] r h w z = fits-way (way (meaning (scopes g) x)) g x (λ c. Act.store (at place x) (spot g c)) r (λ c. spot-fits g c h w) h w z
+  fits-stores g x (y ∷ ys) r h w z = fits-way (way (meaning (scopes g) x)) g x (λ c. Act.assign (at place x) (spot g c)) _ (λ c. spot-fits g c h w) h w (fits-stores g y ys r h w z)
 
-  fits-call : (g : List Around) (t : Option Sort) (m : List Bool) (x : Name) (es : Expressions) (b : ℕ) (r : List Instruction) → Reaches g → owns g + deepA es < 64 → EveryEs AnyName Bits32 es → symbolsEs es + 1 < 8192 → endCall (scopes g) t m es b < 8192 → CodeFits r → CodeFits (codeCall place g t m x es b r)
+  fits-call : (g : List Around) (t : Option Sort) (m : List Mode) (x : Name) (es : Expressions) (b : ℕ) (r : List Instruction) → Reaches g → owns g + deepA es < 64 → SmallEs es → symbolsEs es + 1 < 8192 → endCall (scopes g) t m es b < 8192 → CodeFits r → CodeFits (codeCall place g t m x es b r)
   fits-call g none m x es b r h w s i e z = fitsEs g m es b _ h w s (omega arith) (omega arith) ((target-most (declaring x) x g h, omega (arith, levels-most (declaring x) g), omega (arith, count-most es)), z)
   fits-call g (some t) m x es b r h w s i e z = (tt, fitsEs g m es (suc b) _ h w s (omega arith) (omega arith) ((target-most (declaring x) x g h, omega (arith, levels-most (declaring x) g), omega (arith, count-most es)), z))
 
-  fits-command : (c : Command) (g : List Around) (x : Name) (es : Expressions) (b : ℕ) (r : List Instruction) → Reaches g → owns g + deepA es < 64 → EveryEs AnyName Bits32 es → EveryEs AnyName Bits32 (parts c) → symbolsEs (parts c) ≤ symbolsEs es → deepEs (parts c) ≤ deepEs es → symbolsEs es + 1 < 8192 → endCommand (scopes g) c es b < 8192 → CodeFits r → CodeFits (codeCommand place c g x es b r)
-  unfolding symbolsE deepE
+  fits-command : (c : Command) (g : List Around) (x : Name) (es : Expressions) (b : ℕ) (r : List Instruction) → Reaches g → owns g + deepA es < 64 → SmallEs es → SmallC c → symbolsC c ≤ symbolsEs es → deepC c ≤ deepEs es → symbolsEs es + 1 < 8192 → endCommand (scopes g) c es b < 8192 → CodeFits r → CodeFits (codeCommand place c g x es b r)
   fits-command (routine-of p) g x es b r h w s v j dp i e z = fits-call g (sortOf p) (modesOf p) x es b r h w s i e z
-  fits-command (absolute-of y) g x es b r h w s v j dp i e z = fitsE g y b _ h (omega (arith, deep-least es)) (v .0) (omega arith) (omega arith) (tt, (tt, z))
+  fits-command (absolute-of y) g x es b r h w s v j dp i e z = fitsE g y b _ h (omega (arith, deep-least es)) v (omega arith) (omega arith) (tt, (tt, (tt, z)))
   fits-command greatest-of g x es b r h w s v j dp i e z = (omega arith, (tt, z))
-  fits-command (input-to y u) g x es b r h w s v j dp i e z = fitsE g y b _ h (omega (arith, deep-least es)) (v .0) (omega arith) (omega (arith, grow-take (way (meaning (scopes g) u)) (endE (scopes g) y b))) (fits-take (way (meaning (scopes g) u)) g _ u r h (omega arith) z)
-  fits-command (output-of y y') g x es b r h w s v j dp i e z = fitsE g y b _ h (omega (arith, deep-least es)) (v .0) (omega arith) (omega (arith, growE (scopes g) y' (endE (scopes g) y b))) (fitsE g y' (endE (scopes g) y b) _ h (omega (arith, deep-least es)) (v .1 .0) (omega arith) (omega arith) (tt, z))
+  fits-command (input-to y u) g x es b r h w s v j dp i e z = fitsE g y b _ h (omega (arith, deep-least es)) v (omega arith) (omega (arith, take-size (way (meaning (scopes g) u)) (suc (endE (scopes g) y b)))) (tt, fits-take (way (meaning (scopes g) u)) g _ u r h (omega arith) z)
+  fits-command (output-of t y y') g x es b r h w s v j dp i e z =
+      let a = suc (endE (scopes g) y b) in
+      fitsE g y b _ h (omega (arith, deep-least es)) (v .1) (omega arith) (omega (arith, sizeE (scopes g) y' a)) (tt, fitsE g y' a _ h (omega (arith, deep-least es)) (v .2) (omega arith) (omega arith) (tt, (sent-fits (at place x) t (v .0), z)))
   fits-command no-command g x es b r h w s v j dp i e z = z
 
   mutual
     unfolding endS codeS symbolsS deepS
 
-    fitsS : (g : List Around) (m : ℕ) (s : Statement) (b : ℕ) (r : List Instruction) → Reaches g → owns g + deepS s < 64 → m + deepS s < 64 → reach g + symbolsS s < 8191 → EveryS AnyName Bits32 s → endS (scopes g) s b < 8191 → CodeFits r → CodeFits (codeS place g m s b r)
+    fitsS : (g : List Around) (m : ℕ) (s : Statement) (b : ℕ) (r : List Instruction) → Reaches g → owns g + deepS s < 64 → m + deepS s < 64 → reach g + symbolsS s < 2049 → SmallS s → endS (scopes g) s b < 8191 → CodeFits r → CodeFits (codeS place g m s b r)
     fitsS g m dummy b r h w n i v e z = z
-    fitsS g m (assignment x xs q y) b r h w n i v e z = fitsE g y b _ h (omega arith) (v .2) (omega arith) (omega (arith, grow-stores (scopes g) x xs (endE (scopes g) y b))) (fits-stores g x xs r h (omega arith) z)
-    fitsS g m (procedure x es) b r h w n i v e z = fits-command (command (meaning (scopes g) x) es) g x es b r h (omega arith) (v .1) (first-numbers (of-command (meaning (scopes g) x) es) (v .1)) (few (of-command (meaning (scopes g) x) es)) (first-deep (of-command (meaning (scopes g) x) es)) (omega (arith, actuals-most es)) (omega arith) z
+    fitsS g m (assignment x xs q y) b r h w n i v e z = fitsE g y b _ h (omega arith) v (omega arith) (omega (arith, size-stores (scopes g) x xs (endE (scopes g) y b))) (fits-stores g x xs r h (omega arith) z)
+    fitsS g m (procedure x es) b r h w n i v e z = fits-command (command (meaning (scopes g) x) es) g x es b r h (omega arith) v (small-command (meaning (scopes g) x) es v) (few (meaning (scopes g) x) es) (deep-command (meaning (scopes g) x) es) (omega (arith, actuals-most es)) (omega arith) z
     fitsS g m (when q c s) b r h w n i v e z =
         let a = suc (endE (scopes g) c b) in
-        let u = growS (scopes g) s a in
+        let u = sizeS (scopes g) s a in
         fitsE g c b _ h (omega arith) (v .0) (omega arith) (omega arith) ((tt, omega arith), fitsS g m s a r h (omega arith) (omega arith) (omega arith) (v .1) e z)
     fitsS g m (either q c s t) b r h w n i v e z =
         let a = suc (endE (scopes g) c b) in
         let k = suc (endS (scopes g) s a) in
-        let u = growS (scopes g) s a in
-        let u₁ = growS (scopes g) t k in
+        let u = sizeS (scopes g) s a in
+        let u₁ = sizeS (scopes g) t k in
         fitsE g c b _ h (omega arith) (v .0) (omega arith) (omega arith) ((tt, omega arith), fitsS g m s a _ h (omega arith) (omega arith) (omega arith) (v .1) (omega arith) (omega arith, fitsS g m t k r h (omega arith) (omega arith) (omega arith) (v .2) e z))
     fitsS g m (repeat x l ls s) b r h w n i v e z =
         let a = endL (scopes g) x (l ∷ ls) b in
-        let u = growS (scopes g) s a in
-        fitsL g m x (l ∷ ls) a (suc (endS (scopes g) s a)) b _ h (omega arith) (omega arith) (omega arith) (omega arith) (v .1, v .2) (omega arith) (omega arith) (fitsS g (suc m) s a _ h (omega arith) (omega arith) (omega arith) (v .3) (omega arith) (omega arith, z))
+        let u = sizeS (scopes g) s a in
+        fitsL g m x (l ∷ ls) a (suc (endS (scopes g) s a)) b _ h (omega arith) (omega arith) (omega arith) (omega arith) (v .0) (omega arith) (omega arith) (fitsS g (suc m) s a _ h (omega arith) (omega arith) (omega arith) (v .1) (omega arith) (omega arith, z))
     fitsS g m (compound ss) b r h w n i v e z = fitsSs g m ss b r h (omega arith) (omega arith) (omega arith) v e z
     fitsS g m (block q ds ss) b r h w n i v e z =
-        let g' : List Around = aBlock (reach g) ds (suc b) ∷ g in
-        let a = endDs (scopes g') ds (suc b) in
-        let u = growSs (scopes g') ss a in
+        let p = endHead ds b in
+        let g' : List Around = aBlock (reach g) ds p ∷ g in
+        let a = endDs (scopes g') ds p in
+        let u = sizeSs (scopes g') ss (suc a) in
         let k = block-cells ds in
+        let k' = typed-total (inBlock ds) in
         let h' : Reaches g' = (omega arith, omega arith, h) in
-        ((omega arith, omega arith), fitsDs g' ds (suc b) _ h' (omega arith) (omega arith) (v .0) (omega arith) (fitsSs g' m ss a _ h' (omega arith) (omega arith) (omega arith) (v .1) (omega arith) (omega arith, z)))
+        fits-jump (routines ds) a _ (omega arith) (fitsDs g' ds p _ h' (omega arith) (omega arith) (v .0) (omega arith) ((omega arith, omega arith, omega arith), fitsSs g' m ss (suc a) _ h' (omega arith) (omega arith) (omega arith) (v .1) (omega arith) (omega arith, z)))
 
-    fitsSs : (g : List Around) (m : ℕ) (ss : Statements) (b : ℕ) (r : List Instruction) → Reaches g → owns g + deepSs ss < 64 → m + deepSs ss < 64 → reach g + symbolsSs ss < 8191 → EverySs AnyName Bits32 ss → endSs (scopes g) ss b < 8191 → CodeFits r → CodeFits (codeSs place g m ss b r)
+    fitsSs : (g : List Around) (m : ℕ) (ss : Statements) (b : ℕ) (r : List Instruction) → Reaches g → owns g + deepSs ss < 64 → m + deepSs ss < 64 → reach g + symbolsSs ss < 2049 → SmallSs ss → endSs (scopes g) ss b < 8191 → CodeFits r → CodeFits (codeSs place g m ss b r)
     fitsSs g m (last s) b r h w n i v e z = fitsS g m s b r h w n (omega arith) v e z
-    fitsSs g m (first s ss) b r h w n i v e z = fitsS g m s b _ h (omega arith) (omega arith) (omega arith) (v .0) (omega (arith, growSs (scopes g) ss (endS (scopes g) s b))) (fitsSs g m ss (endS (scopes g) s b) r h (omega arith) (omega arith) (omega arith) (v .1) e z)
+    fitsSs g m (first s ss) b r h w n i v e z = fitsS g m s b _ h (omega arith) (omega arith) (omega arith) (v .0) (omega (arith, sizeSs (scopes g) ss (endS (scopes g) s b))) (fitsSs g m ss (endS (scopes g) s b) r h (omega arith) (omega arith) (omega arith) (v .1) e z)
 
-    fitsDs : (g : List Around) (ds : Declarations) (b : ℕ) (r : List Instruction) → Reaches g → owns g + deepDs ds < 63 → symbolsDs ds < 8191 → EveryD AnyName Bits32 ds → endDs (scopes g) ds b < 8191 → CodeFits r → CodeFits (codeDs place g ds b r)
+    fitsDs : (g : List Around) (ds : Declarations) (b : ℕ) (r : List Instruction) → Reaches g → owns g + deepDs ds < 63 → symbolsDs ds < 2049 → SmallDs ds → endDs (scopes g) ds b < 8191 → CodeFits r → CodeFits (codeDs place g ds b r)
     fitsDs g no-more b r h w i v e z = z
-    fitsDs g (variables t xs ds) b r h w i v e z = fitsDs g ds b r h w (omega arith) (v .1) e z
-    fitsDs g (declare p ds) b r h w i v e z = fitsP g p b _ h (omega arith) (omega arith) (v .0) (omega (arith, growDs (scopes g) ds (endP (scopes g) p b))) (fitsDs g ds (endP (scopes g) p b) r h (omega arith) (omega arith) (v .1) e z)
+    fitsDs g (variables t xs ds) b r h w i v e z = fitsDs g ds b r h w (omega arith) v e z
+    fitsDs g (declare p ds) b r h w i v e z = fitsP g p b _ h (omega arith) (omega arith) (v .0) (omega (arith, sizeDs (scopes g) ds (endP (scopes g) p b))) (fitsDs g ds (endP (scopes g) p b) r h (omega arith) (omega arith) (v .1) e z)
 
-    fitsP : (g : List Around) (p : Procedure) (b : ℕ) (r : List Instruction) → Reaches g → owns g + deepP p < 63 → symbolsP p < 8191 → EveryP AnyName Bits32 p → endP (scopes g) p b < 8191 → CodeFits r → CodeFits (codeP place g p b r)
+    fitsP : (g : List Around) (p : Procedure) (b : ℕ) (r : List Instruction) → Reaches g → owns g + deepP p < 63 → symbolsP p < 2049 → SmallP p → endP (scopes g) p b < 8191 → CodeFits r → CodeFits (codeP place g p b r)
     fitsP g (heading t f xs vs ss s) b r h w i v e z =
         let k = body-cells (heading t f xs vs ss s) in
         let k' = listed-most xs in
-        fitsS (aBody (heading t f xs vs ss s) ∷ g) 0 s b _ (omega arith, h) (omega arith) (omega arith) (omega arith) (v .4) (omega arith) (tt, z)
+        fitsS (aBody (heading t f xs vs ss s) ∷ g) 0 s b _ (omega arith, h) (omega arith) (omega arith) (omega arith) v (omega arith) (tt, z)
 
   -- ---- whole programs
 
@@ -503,7 +445,9 @@ module _ (place : ℕ → ℕ) where
   ends (either q c s t) h i = absurd h
   ends (repeat x l ls s) h i = absurd h
   ends (compound ss) h i = omega (arith, sizeSs [] ss 0)
-  ends (block q ds ss) h i = omega (arith, sizeDs (ofBlock ds ∷ []) ds 1, sizeSs (ofBlock ds ∷ []) ss (endDs (ofBlock ds ∷ []) ds 1))
+  ends (block q ds ss) h i =
+      let a = endHead ds 0 in
+      omega (arith, jump-size (routines ds) 0, sizeDs (ofBlock ds ∷ []) ds a, sizeSs (ofBlock ds ∷ []) ss (suc (endDs (ofBlock ds ∷ []) ds a)))
 
   -- "An accepted program always fits": every operand of its code is in range
   pub in-range : (s : Statement) → Limited s → CodeFits (code place s)

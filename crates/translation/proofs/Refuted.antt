@@ -9,31 +9,29 @@ use lib.ListN.{length, length-append}
 use Rattle.answers.specs.Answers.{stopNumber}
 use Rattle.answers.specs.declared.Stop.the-variants.{Ended, Limit}
 use Rattle.symbols.specs.Names.{sameName, equal as equalBytes}
-use Rattle.machine.specs.Values.{whole, apply1, apply2, past}
+use Rattle.reals.specs.Values.{convert, whole, apply1, apply2, bothOf, onNumbers, past, pastBy}
 use Rattle.machine.specs.Run.{done, run, Trace, untold, End, over}
-use Rattle.machine.specs.Data.{lift, guard, check, newCells, newest, onValue, back, look, put, reading, valued, hold, unhold, held, input, space, rest, spend, taking, writing, work, test, openBlock, closeBlock, enter, given, leave, find, foundIn, nameCell}
+use Rattle.machine.specs.Data.{lift, guard, check, newCells, newest, onValue, back, look, put, reading, valued, hold, unhold, held, input, space, rest, spend, taking, writing, work, test, openBlock, closeBlock, enter, given, leave, find, foundIn, seeking, nameCell, along, outward, inward, picking, written as entered, onChannel}
 use Rattle.names.specs.Program.{count, firstSymbol, Statement, number}
 use Rattle.names.specs.Scopes.{has, modes, specified, variablesIn, inBlock, inBody, findIn, findGiven, meaning}
-use Rattle.rules.specs.Entered.{total, before, cut, declaring, bodyOfThis, cellOf, actualOf}
+use Rattle.rules.specs.Entered.{total, variablesOf, typedBefore, before, cut, declaring, bodyOfThis, cellOf, actualOf}
 use Rattle.rules.specs.Calls.{primary, command, way}
-use Rattle.rules.specs.Rules.{reads, seeks, finds, storing, taking-in, passing, adding, evaluates, perform, calling, rule, source, State, beginning}
+use Rattle.rules.specs.Rules.{widened, reads, seeks, finds, storing, taking-in, passing, adding, evaluates, perform, calling, rule, source, State, beginning}
 use Rattle.rules.specs.samples.Samples.{var, factorial}
 use Rattle.rules.specs.samples.ByName.{man-or-boy, jensen, handed-on, taken-in}
-use Rattle.translation.specs.model.Scoped.{Scoped}
-use Rattle.translation.specs.Faithful.{Machine, Follows, Faithful, Runner}
+use Rattle.translation.specs.Faithful.{Accepted, Machine, Follows, Faithful, Runner}
 use Rattle.translation.proofs.Sim.{Cmp, cmp}
-use Rattle.translation.proofs.Accepted.{accepted-scoped}
 use Rattle.translation.proofs.Correct.{faithful, translated}
 use Rattle.names.specs.Uses.{usesE, usesL, usesS, scopesS, each, twiceIn, allNames, missing, headingIn, joined, nameFaults}
-use Rattle.types.specs.Types.{inExpression, wants, wantedBy, isVariable, isName, sortE, misfit, misfits, faultsE, ownSort, asLeft, faultsLeft, miscalled, faultsL, faultsS, typeFaults}
+use Rattle.types.specs.Types.{widens, inExpression, wants, wantedBy, isVariable, isName, sortE, misfit, misfits, faultsE, ownSort, asLeft, faultsLeft, miscalled, faultsL, faultsS, typeFaults}
 
 -- M12, by the source rules: 120 after 80 steps
-scoped : Scoped factorial
+accepted : Accepted factorial
 unfolding factorial nameFaults typeFaults joined scopesS usesS usesE usesL each twiceIn allNames missing headingIn inExpression wants wantedBy isVariable isName sortE misfit misfits faultsE ownSort asLeft faultsLeft miscalled faultsL faultsS count firstSymbol meaning findIn findGiven inBlock inBody variablesIn specified has sameName equalBytes
-scoped = accepted-scoped factorial refl refl
+accepted = (refl, refl)
 
-runs : source (λ q. q) factorial [] 100 9 400 ≡ done Ended 80 (record { written = pos 120 ∷ []; taken = 0 })
-unfolding run rule lift guard check newCells newest onValue back look put reading valued hold unhold held input space rest spend taking writing work test openBlock closeBlock enter given leave find foundIn nameCell whole apply1 apply2 past cut cellOf actualOf declaring bodyOfThis total before reads seeks finds storing taking-in passing adding evaluates perform calling primary command way meaning findIn findGiven inBlock inBody variablesIn specified has modes sameName equalBytes firstSymbol factorial
+runs : source (λ q. q) factorial [] 100 27 400 ≡ done Ended 80 (record { written = pos 0 ∷ pos 120 ∷ pos 0 ∷ []; taken = 0 })
+unfolding run rule lift guard check newCells newest onValue back look put reading valued hold unhold held input space rest spend taking writing work test openBlock closeBlock enter given leave find foundIn seeking nameCell along outward inward picking entered onChannel convert whole apply1 apply2 bothOf onNumbers past pastBy variablesOf typedBefore cut cellOf actualOf declaring bodyOfThis total before reads seeks finds storing taking-in passing adding evaluates perform calling primary command way meaning findIn findGiven inBlock inBody variablesIn specified has modes sameName equalBytes firstSymbol factorial widened widens sortE inExpression
 runs = refl
 
 -- "A machine that stops at once with nothing written breaks demand 3 on any program that writes a number."
@@ -57,7 +55,7 @@ lazy-breaks place s input cellsLent space t v w e f =
         omega (arith, length-append (o' .written) (c .1 .0 .0), ap length h)
 
 pub not-lazy : Faithful (λ place s. lazy) → ⊥
-not-lazy f = lazy-breaks (λ q. q) factorial [] 100 9 400 (pos 120) [] (ap (λ (x : End State). told x .written) runs) (f (λ q. q) factorial scoped)
+not-lazy f = lazy-breaks (λ q. q) factorial [] 100 27 400 (pos 0) (pos 120 ∷ pos 0 ∷ []) (ap (λ (x : End State). told x .written) runs) (f (λ q. q) factorial accepted)
 
 -- "One that performs the first statement and then only counts breaks it on M12": whatever the first n instructions are, and it writes what they write
 abbrev counting : ℕ → Runner
@@ -67,31 +65,31 @@ counting n place s input limit cellsLent space =
 
 pub not-counting : (n : ℕ) → Faithful (counting n) → ⊥
 not-counting n f =
-    let w = f (λ q. q) factorial scoped [] 100 9 1296 .enough 400 80 Ended _ runs (omega arith) in
+    let w = f (λ q. q) factorial accepted [] 100 27 1296 .enough 400 80 Ended _ runs (omega arith) in
     let e : _≡_ {A = ℕ} 20 0 = ap stopNumber (w .0) in
     omega arith
 
--- man or boy, Jensen's device, ininteger through a name formal, and 30 through a chain: accepted, so well-scoped
-scoped-boy : Scoped (man-or-boy 2)
+-- man or boy, Jensen's device, ininteger through a name formal, and 30 through a chain: accepted, so in the promise
+accepted-boy : Accepted (man-or-boy 2)
 unfolding man-or-boy nameFaults typeFaults joined scopesS usesS usesE usesL each twiceIn allNames missing headingIn inExpression wants wantedBy isVariable isName sortE misfit misfits faultsE ownSort asLeft faultsLeft miscalled faultsL faultsS count firstSymbol meaning findIn findGiven inBlock inBody variablesIn specified has sameName equalBytes
-scoped-boy = accepted-scoped (man-or-boy 2) refl refl
+accepted-boy = (refl, refl)
 
-scoped-jensen : Scoped jensen
+accepted-jensen : Accepted jensen
 unfolding jensen nameFaults typeFaults joined scopesS usesS usesE usesL each twiceIn allNames missing headingIn inExpression wants wantedBy isVariable isName sortE misfit misfits faultsE ownSort asLeft faultsLeft miscalled faultsL faultsS count firstSymbol meaning findIn findGiven inBlock inBody variablesIn specified has sameName equalBytes
-scoped-jensen = accepted-scoped jensen refl refl
+accepted-jensen = (refl, refl)
 
-scoped-in : Scoped (taken-in 1 (var 16 "x"))
+accepted-in : Accepted (taken-in 1 (var 16 "x"))
 unfolding taken-in nameFaults typeFaults joined scopesS usesS usesE usesL each twiceIn allNames missing headingIn inExpression wants wantedBy isVariable isName sortE misfit misfits faultsE ownSort asLeft faultsLeft miscalled faultsL faultsS count firstSymbol meaning findIn findGiven inBlock inBody variablesIn specified has sameName equalBytes
-scoped-in = accepted-scoped (taken-in 1 (var 16 "x")) refl refl
+accepted-in = (refl, refl)
 
-scoped-chain : Scoped (handed-on (number 23 3))
+accepted-chain : Accepted (handed-on (number 23 3))
 unfolding handed-on nameFaults typeFaults joined scopesS usesS usesE usesL each twiceIn allNames missing headingIn inExpression wants wantedBy isVariable isName sortE misfit misfits faultsE ownSort asLeft faultsLeft miscalled faultsL faultsS count firstSymbol meaning findIn findGiven inBlock inBody variablesIn specified has sameName equalBytes
-scoped-chain = accepted-scoped (handed-on (number 23 3)) refl refl
+accepted-chain = (refl, refl)
 
 -- Jensen's device, by the source rules: 385 and 11 after 224 steps; so its translation writes them with a limit of 3,600
-device : source (λ q. q) jensen [] 100 9 5000 ≡ done Ended 224 (record { written = pos 385 ∷ pos 11 ∷ []; taken = 0 })
-unfolding run rule lift guard check newCells newest onValue back look put reading valued hold unhold held input space rest spend taking writing work test openBlock closeBlock enter given leave find foundIn nameCell whole apply1 apply2 past cut cellOf actualOf declaring bodyOfThis total before reads seeks finds storing taking-in passing adding evaluates perform calling primary command way meaning findIn findGiven inBlock inBody variablesIn specified has modes sameName equalBytes firstSymbol jensen
+device : source (λ q. q) jensen [] 100 27 5000 ≡ done Ended 224 (record { written = pos 0 ∷ pos 385 ∷ pos 0 ∷ pos 0 ∷ pos 11 ∷ pos 0 ∷ []; taken = 0 })
+unfolding run rule lift guard check newCells newest onValue back look put reading valued hold unhold held input space rest spend taking writing work test openBlock closeBlock enter given leave find foundIn seeking nameCell along outward inward picking entered onChannel convert whole apply1 apply2 bothOf onNumbers past pastBy variablesOf typedBefore cut cellOf actualOf declaring bodyOfThis total before reads seeks finds storing taking-in passing adding evaluates perform calling primary command way meaning findIn findGiven inBlock inBody variablesIn specified has modes sameName equalBytes firstSymbol jensen
 device = refl
 
-pub series : translated (λ q. q) jensen [] 3600 100 9 .written ≡ pos 385 ∷ pos 11 ∷ []
-series = faithful (λ q. q) jensen scoped-jensen [] 100 9 3600 .enough 5000 224 Ended _ device (omega arith) .1 .0
+pub series : translated (λ q. q) jensen [] 3600 100 27 .written ≡ pos 0 ∷ pos 385 ∷ pos 0 ∷ pos 0 ∷ pos 11 ∷ pos 0 ∷ []
+series = faithful (λ q. q) jensen accepted-jensen [] 100 27 3600 .enough 5000 224 Ended _ device (omega arith) .1 .0

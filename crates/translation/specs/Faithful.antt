@@ -3,7 +3,7 @@
 -- not over the translation. Assumes nothing: these are definitions.
 use Prim.Native.Nat.{ℕ, _+_, _*_, _≤_}
 use mathlib.Core.Path.{_≡_}
-use mathlib.Core.List.{List, _++_}
+use mathlib.Core.List.{List, [], _++_}
 use mathlib.Core.Logic.{_⊎_}
 use lib.IntN.{ℤ}
 use Rattle.answers.specs.declared.Stop.{Stop}
@@ -11,8 +11,9 @@ use Rattle.answers.specs.declared.Stop.the-variants.{Ended, Limit, Fault, Wrong
 use Rattle.machine.specs.Run.{Trace, done, over}
 use Rattle.machine.specs.Machine.{Finish}
 use Rattle.names.specs.Program.{Statement}
+use Rattle.names.specs.Uses.{nameFaults}
+use Rattle.types.specs.Types.{typeFaults}
 use Rattle.rules.specs.Rules.{State, source}
-use Rattle.translation.specs.model.Scoped.{Scoped}
 
 -- y begins with x
 abbrev pub IsBeginning : List ℤ → List ℤ → Type 0
@@ -49,9 +50,13 @@ Machine = List ℤ → ℕ → ℕ → ℕ → Finish
 abbrev pub Follows : Machine → (ℕ → ℕ) → Statement → Type 0
 Follows m place s = (input : List ℤ) (cellsLent space limit : ℕ) → AsRules place s input cellsLent space limit (m input limit cellsLent space)
 
+-- a program that names and types refuse nothing of
+abbrev pub Accepted : Statement → Type 0
+Accepted s = (nameFaults s ≡ []) × (typeFaults s ≡ [])
+
 -- a machine for each program and its places
 abbrev pub Runner : Type 0
 Runner = (ℕ → ℕ) → Statement → Machine
 
 abbrev pub Faithful : Runner → Type 0
-Faithful m = (place : ℕ → ℕ) (s : Statement) → Scoped s → Follows (m place s) place s
+Faithful m = (place : ℕ → ℕ) (s : Statement) → Accepted s → Follows (m place s) place s

@@ -1,17 +1,24 @@
 -- The translation: the code of a tree at an address, in front of the code r that follows it. docs/MACHINE.md has it in words. The end of a tree's
 -- code is worked out by functions of their own, so that every address is known where it is written. Assumes nothing: these are definitions.
-use Prim.Native.Nat.{ℕ, suc, _+_}
+use Prim.Native.Nat.{ℕ, suc, _+_, _/_, _%_}
 use mathlib.Core.Bool.{Bool, true, false, cond}
 use mathlib.Core.List.{List, [], _∷_}
 use mathlib.Core.Option.{Option, none, some}
-use lib.IntN.{pos}
-use Rattle.machine.specs.Values
-use Rattle.machine.specs.Values.{truth}
-use Rattle.machine.specs.Data.{Act, push, load, store, assign, reserve, forget, receive, send, keep, unary, binary, lend, channel, sum, condition, upto, Fate, kept, gone}
+use lib.IntN.{ℤ, pos}
+use lib.Ieee.{binary64, toBits}
+use mir.Syntax.{w32}
+use mir.Val.{toZ}
+use Rattle.reals.specs.declared.Form.{Form}
+use Rattle.reals.specs.declared.Form.the-variants.{Wholes, Reals}
+use Rattle.reals.specs.declared.Value.the-variants.{Truth, Whole}
+use Rattle.reals.specs.declared.Unary.the-variants.{Minus, Negation, Absolute}
+use Rattle.reals.specs.Values
+use Rattle.machine.specs.Data.{link, unlinked, Act, push, heighten, load, store, assign, reserve, forget, receive, send, keep, unary, binary, lend, channel, sum, turn, condition, upto, Fate, kept, gone}
 use Rattle.machine.specs.Instructions.{Location, located, cellFound, Instruction, END, DO, IF, JUMP, ENTER, LEAVE, CALL, RETURN, GO, NEXT, NAME, WORK, SEEK, PASS, REFUSE}
-use Rattle.names.specs.Program.{Name, Sort, Sign, positive, negative, negation, Expression, number, logical, name, call, signed, operated, chosen, nested, Expressions, done, then, count, firstSymbol, Element, value, while, step, Statement, dummy, assignment, procedure, when, either, repeat, compound, block, Statements, last, first, Declarations, none as no-more, variables, declare, Procedure, heading}
-use Rattle.names.specs.Scopes.{Thing, variable, routine, formal, by-name, Scope, ofBlock, ofBody, nameOf, sortOf, modesOf, same, Meaning, declared, given, nothing, meaning}
-use Rattle.rules.specs.Entered.{cellsIn, placeIn, declaring, bodyOfThis}
+use Rattle.names.specs.Program.{Name, Sort, integer, Sign, positive, negative, negation, Expression, number, decimal, logical, name, call, signed, operated, chosen, nested, Expressions, done, then, count, firstSymbol, Element, value, while, step, Statement, dummy, assignment, procedure, when, either, repeat, compound, block, Statements, last, first, Declarations, none as no-more, variables, declare, Procedure, heading}
+use Rattle.names.specs.Scopes.{Thing, variable, routine, formal, by-name, Scope, ofBlock, ofBody, inBlock, Mode, byValue, byName, nameOf, sortOf, modesOf, same, Meaning, declared, given, nothing, meaning}
+use Rattle.types.specs.Types.{widens}
+use Rattle.rules.specs.Entered.{formFor, formAs, counted, cellsIn, placeIn, declaring, bodyOfThis}
 use Rattle.rules.specs.Calls.{Primary, held, worked, function, absolute, greatest, no-primary, primary, Command, routine-of, absolute-of, greatest-of, input-to, output-of, no-command, command, Way, direct, sought, way}
 use Rattle.rules.specs.Rules.{binaryOf, maxint, at, Spot, here, there}
 
@@ -84,11 +91,11 @@ spot g there = cellFound
 -- ---- the address after the code of a tree at b; g: the scopes around
 
 -- a name in an expression; f: the address after the code of its actuals, by the formals' modes
-abbrev pub endName : Primary → (List Bool → ℕ → ℕ) → ℕ → ℕ
+abbrev pub endName : Primary → (List Mode → ℕ → ℕ) → ℕ → ℕ
 endName held f b = suc b
 endName worked f b = suc b
 endName (function p) f b = suc (f (modesOf p) (suc b))
-endName absolute f b = suc (f [] b)
+endName absolute f b = suc (f (byValue (some integer) ∷ []) b)
 endName greatest f b = suc b
 endName no-primary f b = b
 
@@ -99,27 +106,33 @@ endSign negative b = suc b
 endSign negation b = suc b
 
 -- an actual; e: the address after the code of its expression
-abbrev pub endActual : Bool → (ℕ → ℕ) → ℕ → ℕ
-endActual true e b = e b
-endActual false e b = suc (e (suc (suc (suc b))))
+abbrev pub endActual : Mode → (ℕ → ℕ) → ℕ → ℕ
+endActual (byValue t) e b = suc (e b)
+endActual (byName t) e b = suc (suc (e (suc (suc (suc b)))))
 
 -- actuals, the first of which ends as e says and the others as es
-abbrev pub endThen : List Bool → (ℕ → ℕ) → (List Bool → ℕ → ℕ) → ℕ → ℕ
+abbrev pub endThen : List Mode → (ℕ → ℕ) → (List Mode → ℕ → ℕ) → ℕ → ℕ
 endThen [] e es b = es [] (e b)
 endThen (m ∷ ms) e es b = es ms (endActual m e b)
+
+-- a whole-number arm becomes a real
+unfoldable pub endWide : Bool → ℕ → ℕ
+endWide true b = suc b
+endWide false b = b
 
 unfoldable mutual
   pub endE : List Scope → Expression → ℕ → ℕ
   endE g (number q n) b = suc b
+  endE g (decimal q n i) b = suc (suc b)
   endE g (logical q t) b = suc b
   endE g (name x) b = endName (primary (meaning g x) done) (λ m b. b) b
   endE g (call x e es) b = endName (primary (meaning g x) (then e es)) (λ m b. endThen m (λ b. endE g e b) (λ m b. endEs g m es b) b) b
   endE g (signed q o e) b = endSign o (endE g e b)
   endE g (operated q o e f) b = suc (endE g f (endE g e b))
-  endE g (chosen q r c e f) b = endE g f (suc (endE g e (suc (endE g c b))))
+  endE g (chosen q r c e f) b = endWide (widens g f e) (endE g f (suc (endWide (widens g e f) (endE g e (suc (endE g c b))))))
   endE g (nested q e) b = endE g e b
 
-  pub endEs : List Scope → List Bool → Expressions → ℕ → ℕ
+  pub endEs : List Scope → List Mode → Expressions → ℕ → ℕ
   endEs g m done b = b
   endEs g m (then e es) b = endThen m (λ b. endE g e b) (λ m b. endEs g m es b) b
 
@@ -156,7 +169,7 @@ unfoldable pub endStores : List Scope → Name → List Name → ℕ → ℕ
 endStores g x [] b = endStore g x b
 endStores g x (y ∷ ys) b = endStores g y ys (endStore g x b)
 
-abbrev pub endCall : List Scope → Option Sort → List Bool → Expressions → ℕ → ℕ
+abbrev pub endCall : List Scope → Option Sort → List Mode → Expressions → ℕ → ℕ
 endCall g none m es b = suc (endEs g m es b)
 endCall g (some t) m es b = suc (endEs g m es (suc b))
 
@@ -166,11 +179,24 @@ endTake sought b = suc (suc (suc b))
 
 abbrev pub endCommand : List Scope → Command → Expressions → ℕ → ℕ
 endCommand g (routine-of p) es b = endCall g (sortOf p) (modesOf p) es b
-endCommand g (absolute-of e) es b = suc (suc (endE g e b))
+endCommand g (absolute-of e) es b = suc (suc (suc (endE g e b)))
 endCommand g greatest-of es b = suc (suc b)
-endCommand g (input-to e y) es b = endTake (way (meaning g y)) (endE g e b)
-endCommand g (output-of e f) es b = suc (endE g f (endE g e b))
+endCommand g (input-to e y) es b = endTake (way (meaning g y)) (suc (endE g e b))
+endCommand g (output-of t e f) es b = suc (suc (endE g f (suc (endE g e b))))
 endCommand g no-command es b = b
+
+-- a block's procedures lie before its opening, and a jump before them; without procedures there is none
+abbrev pub routines : Declarations → Bool
+routines no-more = false
+routines (variables t xs ds) = routines ds
+routines (declare p ds) = true
+
+unfoldable pub endJump : Bool → ℕ → ℕ
+endJump true b = suc b
+endJump false b = b
+
+abbrev pub endHead : Declarations → ℕ → ℕ
+endHead ds b = endJump (routines ds) b
 
 unfoldable mutual
   pub endS : List Scope → Statement → ℕ → ℕ
@@ -181,7 +207,7 @@ unfoldable mutual
   endS g (either q c s t) b = endS g t (suc (endS g s (suc (endE g c b))))
   endS g (repeat x l ls s) b = suc (endS g s (endL g x (l ∷ ls) b))
   endS g (compound ss) b = endSs g ss b
-  endS g (block q ds ss) b = suc (endSs (ofBlock ds ∷ g) ss (endDs (ofBlock ds ∷ g) ds (suc b)))
+  endS g (block q ds ss) b = suc (endSs (ofBlock ds ∷ g) ss (suc (endDs (ofBlock ds ∷ g) ds (endHead ds b))))
 
   pub endSs : List Scope → Statements → ℕ → ℕ
   endSs g (last s) b = endS g s b
@@ -207,7 +233,20 @@ target (aBlock o ds b ∷ g) x = entry (ofBlock ds ∷ scopes g) ds b x
 target (aBody p ∷ g) x = 0
 target (anActual ∷ g) x = 0
 
+-- ---- a real constant: its bits, the lower half as a whole number of 32 bits in two's complement, and the upper half
+
+abbrev pub lowerHalf : ℕ → ℕ → ℤ
+lowerHalf n i = toZ w32 (toBits binary64 (Values.reading n i) % 4294967296)
+
+abbrev pub upperHalf : ℕ → ℕ → ℕ
+upperHalf n i = toBits binary64 (Values.reading n i) / 4294967296
+
 -- ---- the code; g: the scopes around
+
+-- a whole-number arm of a real conditional, which has no fault at this
+unfoldable pub codeWide : Bool → List Instruction → List Instruction
+codeWide true r = DO (turn 0 Reals) ∷ r
+codeWide false r = r
 
 module _ (place : ℕ → ℕ) where
   -- a call with n cells handed over
@@ -224,12 +263,16 @@ module _ (place : ℕ → ℕ) where
   abbrev pub PASSES : List Around → Name → Instruction
   PASSES g x = PASS (at place x) (levels (declaring x) g) (amongG (cutG (declaring x) g) x)
 
+  -- the value of e becomes one of a type
+  abbrev pub AS : Expression → Form → Instruction
+  AS e t = DO (turn (place (firstSymbol e)) t)
+
   -- a name in an expression, with n actuals; c: their code, by the formals' modes
-  abbrev pub codeName : Primary → List Around → Name → ℕ → (List Bool → ℕ → List Instruction → List Instruction) → ℕ → List Instruction → List Instruction
+  abbrev pub codeName : Primary → List Around → Name → ℕ → (List Mode → ℕ → List Instruction → List Instruction) → ℕ → List Instruction → List Instruction
   codeName held g x n c b r = DO (load (at place x) (loc g x)) ∷ r
   codeName worked g x n c b r = WORKS g x ∷ r
-  codeName (function p) g x n c b r = DO (reserve (at place x)) ∷ c (modesOf p) (suc b) (CALLS g x (suc n) kept ∷ r)
-  codeName absolute g x n c b r = c [] b (DO (unary (at place x) Values.absolute) ∷ r)
+  codeName (function p) g x n c b r = DO (reserve (at place x) (formAs (sortOf p))) ∷ c (modesOf p) (suc b) (CALLS g x (suc n) kept ∷ r)
+  codeName absolute g x n c b r = c (byValue (some integer) ∷ []) b (DO (unary (at place x) Absolute) ∷ r)
   codeName greatest g x n c b r = DO (push (at place x) maxint) ∷ r
   codeName no-primary g x n c b r = r
 
@@ -244,6 +287,7 @@ module _ (place : ℕ → ℕ) where
 
   abbrev pub storePart : List Around → Expression → Instruction
   storePart g (number q n) = REFUSE
+  storePart g (decimal q n i) = REFUSE
   storePart g (logical q t) = REFUSE
   storePart g (name y) = storeName (primary (meaning (scopes g) y) done) g y
   storePart g (call y e es) = REFUSE
@@ -253,25 +297,30 @@ module _ (place : ℕ → ℕ) where
   storePart g (nested q e) = REFUSE
 
   -- an actual. A name formal's cell holds the address behind NAME: there is the store part, and two behind it the read part, each an activation's
-  -- code, so one level further in. c: the code of the expression; f: where that ends
-  abbrev pub codeActual : Bool → List Around → Expression → (ℕ → ℕ) → (List Around → ℕ → List Instruction → List Instruction) → ℕ → List Instruction → List Instruction
-  codeActual true g e f c b r = c g b r
-  codeActual false g e f c b r =
-      NAME (place (firstSymbol e)) (endActual false f b) ∷ storePart (anActual ∷ g) e ∷ RETURN ∷ c (anActual ∷ g) (suc (suc (suc b))) (RETURN ∷ r)
+  -- code, so one level further in. The store part's RETURN has the formal on the way; the value read becomes one of the formal's type. c: the code of the
+  -- expression; f: where that ends
+  abbrev pub codeActual : Mode → List Around → Expression → (ℕ → ℕ) → (List Around → ℕ → List Instruction → List Instruction) → ℕ → List Instruction → List Instruction
+  codeActual (byValue t) g e f c b r = c g b (AS e (formAs t) ∷ r)
+  codeActual (byName t) g e f c b r =
+      NAME (place (firstSymbol e)) (endActual (byName t) f b)
+      ∷ storePart (anActual ∷ g) e
+      ∷ RETURN (link (formAs t) (place (firstSymbol e)))
+      ∷ c (anActual ∷ g) (suc (suc (suc b))) (AS e (formAs t) ∷ RETURN unlinked ∷ r)
 
-  abbrev pub codeThen : List Bool → List Around → Expression → (ℕ → ℕ) → (List Around → ℕ → List Instruction → List Instruction) → (List Bool → ℕ → List Instruction → List Instruction) → ℕ → List Instruction → List Instruction
+  abbrev pub codeThen : List Mode → List Around → Expression → (ℕ → ℕ) → (List Around → ℕ → List Instruction → List Instruction) → (List Mode → ℕ → List Instruction → List Instruction) → ℕ → List Instruction → List Instruction
   codeThen [] g e f c cs b r = c g b (cs [] (f b) r)
   codeThen (m ∷ ms) g e f c cs b r = codeActual m g e f c b (cs ms (endActual m f b) r)
 
   abbrev pub codeSign : ℕ → Sign → List Instruction → List Instruction
   codeSign q positive r = r
-  codeSign q negative r = DO (unary (place q) Values.minus) ∷ r
-  codeSign q negation r = DO (unary (place q) Values.negation) ∷ r
+  codeSign q negative r = DO (unary (place q) Minus) ∷ r
+  codeSign q negation r = DO (unary (place q) Negation) ∷ r
 
   unfoldable mutual
     pub codeE : List Around → Expression → ℕ → List Instruction → List Instruction
-    codeE g (number q n) b r = DO (push (place q) (pos n)) ∷ r
-    codeE g (logical q t) b r = DO (push (place q) (truth t)) ∷ r
+    codeE g (number q n) b r = DO (push (place q) (Whole (pos n))) ∷ r
+    codeE g (decimal q n i) b r = DO (push (place q) (Whole (lowerHalf n i))) ∷ DO (heighten (upperHalf n i)) ∷ r
+    codeE g (logical q t) b r = DO (push (place q) (Truth t)) ∷ r
     codeE g (name x) b r = codeName (primary (meaning (scopes g) x) done) g x 0 (λ m b r. r) b r
     codeE g (call x e es) b r =
         codeName (primary (meaning (scopes g) x) (then e es)) g x (suc (count es)) (λ m b r. codeThen m g e (λ b. endE (scopes g) e b) (λ g b r. codeE g e b r) (λ m b r. codeEs g m es b r) b r) b r
@@ -279,11 +328,13 @@ module _ (place : ℕ → ℕ) where
     codeE g (operated q o e f) b r = codeE g e b (codeE g f (endE (scopes g) e b) (DO (binary (place q) (binaryOf o)) ∷ r))
     codeE g (chosen q q' c e f) b r =
         let m = endE (scopes g) c b in
-        let n = endE (scopes g) e (suc m) in
-        codeE g c b (IF condition (suc n) ∷ codeE g e (suc m) (JUMP (endE (scopes g) f (suc n)) ∷ codeE g f (suc n) r))
+        let u = widens (scopes g) e f in
+        let u' = widens (scopes g) f e in
+        let n = endWide u (endE (scopes g) e (suc m)) in
+        codeE g c b (IF condition (suc n) ∷ codeE g e (suc m) (codeWide u (JUMP (endWide u' (endE (scopes g) f (suc n))) ∷ codeE g f (suc n) (codeWide u' r))))
     codeE g (nested q e) b r = codeE g e b r
 
-    pub codeEs : List Around → List Bool → Expressions → ℕ → List Instruction → List Instruction
+    pub codeEs : List Around → List Mode → Expressions → ℕ → List Instruction → List Instruction
     codeEs g m done b r = r
     codeEs g m (then e es) b r = codeThen m g e (λ b. endE (scopes g) e b) (λ g b r. codeE g e b r) (λ m b r. codeEs g m es b r) b r
 
@@ -293,7 +344,7 @@ module _ (place : ℕ → ℕ) where
   codeWay sought g x i r = SEEKS g x ∷ DO (i there) ∷ r
 
   abbrev pub codeStore : List Around → Name → List Instruction → List Instruction
-  codeStore g x r = codeWay (way (meaning (scopes g) x)) g x (λ c. store (spot g c)) r
+  codeStore g x r = codeWay (way (meaning (scopes g) x)) g x (λ c. store (at place x) (spot g c)) r
 
   -- the test of a step element, which goes on at n where the loop is left; the addition
   unfoldable pub codeTest : Way → List Around → Name → ℕ → List Instruction → List Instruction
@@ -301,8 +352,8 @@ module _ (place : ℕ → ℕ) where
   codeTest sought g x n r = SEEKS g x ∷ IF (upto (at place x) cellFound) n ∷ r
 
   unfoldable pub codeSum : Way → List Around → ℕ → Name → List Instruction → List Instruction
-  codeSum direct g q x r = DO (sum (place q) (loc g x)) ∷ DO (store (loc g x)) ∷ r
-  codeSum sought g q x r = SEEKS g x ∷ DO (sum (place q) cellFound) ∷ SEEKS g x ∷ DO (store cellFound) ∷ r
+  codeSum direct g q x r = DO (sum (place q) (loc g x)) ∷ DO (store (at place x) (loc g x)) ∷ r
+  codeSum sought g q x r = SEEKS g x ∷ DO (sum (place q) cellFound) ∷ SEEKS g x ∷ DO (store (at place x) cellFound) ∷ r
 
   -- a step element from the store of its start on, its step's code once: s is where the body begins, n where it goes on once it is left
   abbrev pub codeStep : Way → List Around → ℕ → ℕ → Name → Expression → Expression → ℕ → ℕ → ℕ → List Instruction → List Instruction
@@ -333,11 +384,11 @@ module _ (place : ℕ → ℕ) where
   -- "A left part list takes one value, stored left to right"
   unfoldable pub codeStores : List Around → Name → List Name → List Instruction → List Instruction
   codeStores g x [] r = codeStore g x r
-  codeStores g x (y ∷ ys) r = codeWay (way (meaning (scopes g) x)) g x (λ c. assign (spot g c)) (codeStores g y ys r)
+  codeStores g x (y ∷ ys) r = codeWay (way (meaning (scopes g) x)) g x (λ c. assign (at place x) (spot g c)) (codeStores g y ys r)
 
-  abbrev pub codeCall : List Around → Option Sort → List Bool → Name → Expressions → ℕ → List Instruction → List Instruction
+  abbrev pub codeCall : List Around → Option Sort → List Mode → Name → Expressions → ℕ → List Instruction → List Instruction
   codeCall g none m x es b r = codeEs g m es b (CALLS g x (count es) gone ∷ r)
-  codeCall g (some t) m x es b r = DO (reserve (at place x)) ∷ codeEs g m es (suc b) (CALLS g x (suc (count es)) gone ∷ r)
+  codeCall g (some t) m x es b r = DO (reserve (at place x) (formFor t)) ∷ codeEs g m es (suc b) (CALLS g x (suc (count es)) gone ∷ r)
 
   -- ininteger's second actual
   unfoldable pub codeTake : Way → List Around → ℕ → Name → List Instruction → List Instruction
@@ -346,11 +397,15 @@ module _ (place : ℕ → ℕ) where
 
   abbrev pub codeCommand : Command → List Around → Name → Expressions → ℕ → List Instruction → List Instruction
   codeCommand (routine-of p) g x es b r = codeCall g (sortOf p) (modesOf p) x es b r
-  codeCommand (absolute-of e) g x es b r = codeE g e b (DO (unary (at place x) Values.absolute) ∷ DO forget ∷ r)
+  codeCommand (absolute-of e) g x es b r = codeE g e b (AS e Wholes ∷ DO (unary (at place x) Absolute) ∷ DO forget ∷ r)
   codeCommand greatest-of g x es b r = DO (push (at place x) maxint) ∷ DO forget ∷ r
-  codeCommand (input-to e y) g x es b r = codeE g e b (codeTake (way (meaning (scopes g) y)) g (at place x) y r)
-  codeCommand (output-of e f) g x es b r = codeE g e b (codeE g f (endE (scopes g) e b) (DO (send (at place x)) ∷ r))
+  codeCommand (input-to e y) g x es b r = codeE g e b (AS e Wholes ∷ codeTake (way (meaning (scopes g) y)) g (at place x) y r)
+  codeCommand (output-of t e f) g x es b r = codeE g e b (AS e Wholes ∷ codeE g f (suc (endE (scopes g) e b)) (AS f t ∷ DO (send (at place x) t) ∷ r))
   codeCommand no-command g x es b r = r
+
+  unfoldable pub codeJump : Bool → ℕ → List Instruction → List Instruction
+  codeJump true i r = JUMP i ∷ r
+  codeJump false i r = r
 
   -- m: how many for statements of the activation are around
   unfoldable mutual
@@ -369,12 +424,12 @@ module _ (place : ℕ → ℕ) where
         let i = endL (scopes g) x (l ∷ ls) b in
         codeL g m x (l ∷ ls) i (suc (endS (scopes g) s i)) b (codeS g (suc m) s i (NEXT m ∷ r))
     codeS g m (compound ss) b r = codeSs g m ss b r
-    -- a block's opening instruction carries the address of its first statement: procedures lie between, and nothing is done for a declaration
+    -- nothing is done for a declaration
     codeS g m (block q ds ss) b r =
-        let h = aBlock (reach g) ds (suc b) ∷ g in
-        let n = cellsIn (ofBlock ds) in
-        let i = endDs (scopes h) ds (suc b) in
-        ENTER (place q) n i ∷ codeDs h ds (suc b) (codeSs h m ss i (LEAVE n ∷ r))
+        let p = endHead ds b in
+        let h = aBlock (reach g) ds p ∷ g in
+        let i = endDs (scopes h) ds p in
+        codeJump (routines ds) i (codeDs h ds p (ENTER (place q) (counted (inBlock ds)) ∷ codeSs h m ss (suc i) (LEAVE (cellsIn (ofBlock ds)) ∷ r)))
 
     pub codeSs : List Around → ℕ → Statements → ℕ → List Instruction → List Instruction
     codeSs g m (last s) b r = codeS g m s b r
@@ -386,7 +441,7 @@ module _ (place : ℕ → ℕ) where
     codeDs g (declare p ds) b r = codeP g p b (codeDs g ds (endP (scopes g) p b) r)
 
     pub codeP : List Around → Procedure → ℕ → List Instruction → List Instruction
-    codeP g (heading t f xs vs ss s) b r = codeS (aBody (heading t f xs vs ss s) ∷ g) 0 s b (RETURN ∷ r)
+    codeP g (heading t f xs vs ss s) b r = codeS (aBody (heading t f xs vs ss s) ∷ g) 0 s b (RETURN unlinked ∷ r)
 
   unfoldable pub code : Statement → List Instruction
   code s = codeS [] 0 s 0 (END ∷ [])
