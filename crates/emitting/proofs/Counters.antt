@@ -8,10 +8,10 @@ use native.Mathlib.Omega.{arith}
 use lib.Dec.{eqb, ltb}
 use lib.ListN.{length, getD}
 use Rattle.machine.specs.Instructions.{high, mid, low}
-use Rattle.grammar.specs.NodeKinds.{n-block, n-statements, n-variable, n-procedure, n-formal, n-procedure-end, n-then, n-else, n-start, n-once, n-while, n-step, n-do, n-for-end, n-left, n-assign, n-unary, n-binary, n-number, n-logical, n-use, n-call, n-call-end, n-actual}
+use Rattle.grammar.specs.NodeKinds.{n-block, n-statements, n-variable, n-procedure, n-formal, n-procedure-end, n-then, n-else, n-start, n-once, n-while, n-step, n-do, n-for-end, n-left, n-assign, n-unary, n-binary, n-number, n-decimal, n-logical, n-use, n-call, n-call-end, n-actual}
 use Rattle.names.specs.model.Rows.{isUse}
 use Rattle.emitting.specs.model.Layout.{packed}
-use Rattle.emitting.specs.model.Emission.{Used, State, Opened, put, withOpen, withSlot, noted, within, withLefts, withVariable, withUses, withCell, withEntry, top, below, pushed, popped, replaced, nameless, bare, onCell, formalAt, kindNext, meansNext, othersNext, signed, largest, aheadAt, cellOf, resultOf, calledWith, resultFor, dropped, named, wordOf, namedOr, lending, nameBegun, nameEnded, takenIn, callEnded, repeated, begun, calling, actualIn, useNode, element, bodied, tested, added, stepBegun, stepHeld, stepAgain, turning, stepping, amount, elementNode, loopNode, choiceNode, blockNode, procedureNode, leftsOf, assigned, plainNode, isElement, isChoice, isBlock, codeNode}
+use Rattle.emitting.specs.model.Emission.{Used, State, Opened, put, withOpen, withSlot, noted, within, withLefts, withVariable, withUses, withCell, withEntry, top, below, pushed, popped, replaced, nameless, bare, onCell, formalAt, formAt, kindNext, meansNext, othersNext, signed, largest, aheadAt, cellOf, resultOf, calledWith, resultFor, dropped, named, wordOf, namedOr, lending, nameBegun, nameEnded, givenTurned, takenIn, callEnded, repeated, begun, calling, actualIn, useNode, element, bodied, tested, added, stepBegun, stepHeld, stepAgain, turning, stepping, amount, elementNode, loopNode, widened, otherwise, joined, choiceNode, opening, blockNode, skipped, proceeding, procedureNode, leftsOf, assigned, plainNode, isElement, isChoice, isBlock, codeNode}
 use Rattle.emitting.specs.declared.Writing.{Writing}
 use Rattle.emitting.specs.model.Arrays.{thingsOf, see, Slim, AllSlim, Small, Fit}
 use Rattle.emitting.proofs.Stacked.{length-things}
@@ -235,6 +235,14 @@ module _ {b n : ℕ} (st : State) (h : Small b n st) where
   in-entry =
       grown 1 (withEntry st) (omega arith) (omega arith) (omega arith) (omega arith) (omega arith) (omega arith) refl refl
 
+in-proceeding : (vs ly ks es : List ℕ) {b n : ℕ} (st : State) → Small b n st → Small (b + 1) (n + 1) (proceeding vs ly ks es st)
+unfolding proceeding
+in-proceeding vs ly ks es st h =
+    let y = h .loops in
+    let z = h .level in
+    let w = h .cells in
+    in-within _ (in-pushed _ (in-entry st h) (st .loops) 0 0 0 (omega arith) (omega arith) (omega arith) (omega arith)) (st .level + 1) 0 (st .cells) (omega arith) (omega arith) (omega arith)
+
 -- on a cell: at most two instructions
 in-on : {b n : ℕ} (st : State) → Small b n st → (o q p v : ℕ) → Small (b + 1 + 1) n (onCell o q p v st)
 unfolding onCell
@@ -260,9 +268,9 @@ module _ (vs ly ks es : List ℕ) {b n : ℕ} (st : State) (h : Small b n st) wh
   unfolding calledWith
   in-called k m a u p = in-put st h _ p _
 
-  in-result : (k m p : ℕ) → Small (b + 1) n (resultFor vs ly ks es k m p st)
+  in-result : (k m p f : ℕ) → Small (b + 1) n (resultFor vs ly ks es k m p f st)
   unfolding resultFor
-  in-result k m p = either (eqb (resultOf vs ly ks es k m) 0) (small-up st h (omega arith) (omega arith)) (in-put st h 16 p 0)
+  in-result k m p f = either (eqb (resultOf vs ly ks es k m) 0) (small-up st h (omega arith) (omega arith)) (in-put st h 16 p f)
 
   in-dropped : (u : ℕ) → Small (b + 1) n (dropped vs ly ks es u st)
   unfolding dropped
@@ -273,21 +281,21 @@ module _ (vs ly ks es : List ℕ) {b n : ℕ} (st : State) (h : Small b n st) wh
   in-bodied f r = in-put st h 8 0 _
 
 module _ (vs ly ks es : List ℕ) {b n : ℕ} (st : State) (h : Small b n st) where
-  in-named : (k m u p : ℕ) → Small (b + 1 + 1) n (named vs ly ks es k m u p st)
+  in-named : (k m u p f : ℕ) → Small (b + 1 + 1) n (named vs ly ks es k m u p f st)
   unfolding named
-  in-named k m u p =
+  in-named k m u p f =
       either (eqb k 0) (in-dropped vs ly ks es _ (in-put st h 12 p largest) u)
-      (either (eqb k 2) (in-called vs ly ks es _ (in-result vs ly ks es st h k m p) k m 0 u p)
+      (either (eqb k 2) (in-called vs ly ks es _ (in-result vs ly ks es st h k m p f) k m 0 u p)
       (small-up _ (in-put st h _ p _) (omega arith) (omega arith)))
 
   word-word : (k m d : ℕ) → wordOf vs ly ks es k m d st < 4294967296
   unfolding wordOf
   word-word k m d = either-word (eqb k 0 || eqb k 2) (omega arith) (either-word (eqb d (top (st .open-ones) .fourth)) (cell-word vs ly ks es (st .level) k m) (omega arith))
 
-  in-named-or : (k m u p d : ℕ) → Small (b + 1 + 1) n (namedOr vs ly ks es k m u p d st)
+  in-named-or : (k m u p d f : ℕ) → Small (b + 1 + 1) n (namedOr vs ly ks es k m u p d f st)
   unfolding namedOr
-  in-named-or k m u p d =
-      either (eqb (st .awaits) 0) (in-variable _ (in-named k m u p) 0 _ (word-word k m d))
+  in-named-or k m u p d f =
+      either (eqb (st .awaits) 0) (in-variable _ (in-named k m u p f) 0 _ (word-word k m d))
       (in-variable st (small-up st h (omega arith) (omega arith)) 0 _ (cell-word vs ly ks es (st .level) k m))
 
   in-left : (k m p : ℕ) → p ≤ b → Small (b + 2) (n + 1) (withLefts (st .lefts + 1) (pushed 0 (cellOf vs ly ks es (st .level) k m) p 0 st))
@@ -304,13 +312,18 @@ module _ (vs ly ks es : List ℕ) {b n : ℕ} (st : State) (h : Small b n st) wh
   unfolding lending
   in-lending w p = either (eqb (low w) 0) (in-put st h 44 0 0) (either (eqb (low w) 1) (in-put st h 43 0 _) (in-put st h 42 p _))
 
-  in-name-ended : (f : Opened) (p : ℕ) → Small (b + 1) n (nameEnded vs ly ks es f p st)
+  in-name-ended : (f : Opened) (p i : ℕ) → Small (b + 1 + 1) n (nameEnded vs ly ks es f p i st)
   unfolding nameEnded
-  in-name-ended f p =
+  in-name-ended f p i =
       let x = h .level in
       let y = h .loops in
       let z = h .cells in
-      in-noted _ (in-noted _ (in-noted _ (in-within _ (in-put st h 7 0 0) (st .level - 1) (st .loops) (st .cells) (omega arith) (omega arith) (omega arith)) _ _) _ _) _ _
+      in-noted _ (in-noted _ (in-noted _ (in-within _ (in-put _ (in-put st h 50 p i) 7 0 0) (st .level - 1) (st .loops) (st .cells) (omega arith) (omega arith) (omega arith)) _ _) _ _) _ _
+
+  in-given-turned : (f : Opened) (p : ℕ) → Small (b + 1) n (givenTurned vs ly ks es f p st)
+  unfolding givenTurned
+  in-given-turned f p =
+      either (eqb (f .third) 1) (either (eqb (f .second) 2) (small-up st h (omega arith) (omega arith)) (in-put st h 50 p _)) (in-put st h 50 p 0)
 
   in-taken-in : (p q : ℕ) → Small (b + 1 + 1 + 1) n (takenIn vs ly ks es p q st)
   unfolding takenIn
@@ -318,26 +331,26 @@ module _ (vs ly ks es : List ℕ) {b n : ℕ} (st : State) (h : Small b n st) wh
 
 -- an actual begins: three instructions, three slots
 module _ (vs ly ks es : List ℕ) {b n : ℕ} (st : State) (h : Small b n st) (m j d : ℕ) (o : 1 ≤ n) (p : m < 4294967296) (q : j ≤ b) (r : d ≤ b) where
-  in-name-begun : Small (b + 4 + 1 + 1 + 1) n (nameBegun vs ly ks es m j d st)
+  in-name-begun : (f : ℕ) → Small (b + 4 + 1 + 1 + 1) n (nameBegun vs ly ks es m j d f st)
   unfolding nameBegun
-  in-name-begun =
+  in-name-begun f =
       let x = h .level in
       let y = h .loops in
       let z = h .cells in
       let w = h .slots in
-      let c = in-put _ (in-lending vs ly ks es _ (in-put st h 39 (aheadAt vs ly ks es (st .slots + 1) % 65536) (aheadAt vs ly ks es (st .slots))) (aheadAt vs ly ks es (st .slots + 2)) (aheadAt vs ly ks es (st .slots + 1) % 65536)) 7 0 0 in
+      let c = in-put _ (in-lending vs ly ks es _ (in-put st h 39 (aheadAt vs ly ks es (st .slots + 1) % 65536) (aheadAt vs ly ks es (st .slots))) (aheadAt vs ly ks es (st .slots + 2)) (aheadAt vs ly ks es (st .slots + 1) % 65536)) 7 (aheadAt vs ly ks es (st .slots + 1) % 65536) f in
       let e = in-renewed _ (small-up _ c {d = b + 4} {m = n} (omega arith) (omega arith)) (4 + st .slots) m j d o (omega arith) p (omega arith) (omega arith) in
       in-within _ (in-slot _ (in-slot _ (in-slot _ e))) (st .level + 1) (st .loops) (st .cells) (omega arith) (omega arith) (omega arith)
 
   in-begun : (rows : List ℕ) → Small (b + 4 + 1 + 1 + 1) n (begun vs ly ks es rows m j d st)
   unfolding begun
-  in-begun rows = either (eqb (formalAt rows (m + 1 + j)) 2) in-name-begun (small-up st h (omega arith) (omega arith))
+  in-begun rows = either (eqb (formalAt rows (m + 1 + j)) 2) (in-name-begun _) (small-up st h (omega arith) (omega arith))
 
 module _ (vs ly ks es rows : List ℕ) {b n : ℕ} (st : State) (h : Small b n st) (g : 2 ≤ b) where
   in-calling : (k m p a : ℕ) → k ≤ b → m < 4294967296 → a + 1 ≤ b → Small (b + 10) (n + 1) (calling vs ly ks es rows k m p a st)
   unfolding calling
   in-calling k m p a q r s =
-      let e = in-result vs ly ks es st h k m p in
+      let e = in-result vs ly ks es st h k m p (formAt rows m) in
       either (eqb k 2)
       (small-up _ (in-begun vs ly ks es _ (in-pushed _ e 2 m 0 (a + 1) (omega arith) r (omega arith) (omega arith)) m 0 (a + 1) (omega arith) r (omega arith) (omega arith) rows) (omega arith) (omega arith))
       (small-up _ (in-pushed _ e k m 0 0 (omega arith) r (omega arith) (omega arith)) (omega arith) (omega arith))
@@ -345,7 +358,7 @@ module _ (vs ly ks es rows : List ℕ) {b n : ℕ} (st : State) (h : Small b n s
   in-use : (i k m u p a : ℕ) → k ≤ b → m < 4294967296 → p ≤ b → a + 1 ≤ b → Small (b + 10) (n + 1) (useNode vs ly ks es rows i k m u p a st)
   unfolding useNode
   in-use i k m u p a q r s t =
-      either (eqb i n-use) (small-up _ (in-named-or vs ly ks es st h k m u p a) (omega arith) (omega arith))
+      either (eqb i n-use) (small-up _ (in-named-or vs ly ks es st h k m u p a (formAt rows m)) (omega arith) (omega arith))
       (either (eqb i n-call) (in-calling k m p a q r t)
       (either (eqb i n-left) (small-up _ (in-left vs ly ks es st h k m p s) (omega arith) (omega arith))
       (small-up _ (in-repeated vs ly ks es st h k m p s) (omega arith) (omega arith))))
@@ -355,9 +368,11 @@ module _ (vs ly ks es rows : List ℕ) {b n : ℕ} (st : State) (h : Small b n s
   in-actual f s p q =
       let y = s .third in
       let z = s .fourth in
-      let e = either (ltb (f .first) 4) (small-up st h (omega arith) (omega arith)) (in-name-ended vs ly ks es st h f p) in
+      let i = formAt rows (f .second + 1 + f .third) in
+      let e = either (ltb (f .first) 4) (small-up _ (in-put st h 50 p i) (omega arith) (omega arith)) (in-name-ended vs ly ks es st h f p i) in
+      let k = small-up _ (in-given-turned vs ly ks es st h f p) {d = b + 10} {m = n} (omega arith) (omega arith) in
       either (eqb (f .first) 0)
-      (in-variable _ (in-replaced st (small-up st h (omega arith) (omega arith)) 0 (f .second) (f .third + 1) p (omega arith) (s .second) (omega arith) (omega arith)) _ _ (h .variable))
+      (in-variable _ (in-replaced _ k 0 (f .second) (f .third + 1) p (omega arith) (s .second) (omega arith) (omega arith)) _ _ (h .variable))
       (small-up _ (in-begun vs ly ks es _ (in-replaced _ e 2 (f .second) (f .third + 1) (f .fourth) (omega arith) (s .second) (omega arith) (omega arith)) (f .second) (f .third + 1) (f .fourth) (omega arith) (s .second) (omega arith) (omega arith) rows) (omega arith) (omega arith))
 
 module _ (vs ly ks es : List ℕ) {b n : ℕ} (st : State) (h : Small b n st) where
@@ -368,7 +383,7 @@ module _ (vs ly ks es : List ℕ) {b n : ℕ} (st : State) (h : Small b n st) wh
       (either (eqb (f .first) 2) (small-up _ (in-called vs ly ks es st h 2 (f .second) (f .third) u p) (omega arith) (omega arith))
       (either (eqb (f .second) 0) (small-up _ (in-dropped vs ly ks es _ (in-put st h 24 p 0) u) (omega arith) (omega arith))
       (either (eqb (f .second) 2) (small-up _ (in-taken-in vs ly ks es st h p (f .fourth)) (omega arith) (omega arith))
-      (small-up _ (in-put st h 19 p 0) (omega arith) (omega arith)))))
+      (small-up _ (in-put st h _ p 0) (omega arith) (omega arith)))))
 
   -- ---- for statements
 
@@ -384,7 +399,7 @@ module _ (vs ly ks es : List ℕ) {b n : ℕ} (st : State) (h : Small b n st) wh
 
   in-added : (q v p : ℕ) → Small (b + 1 + 1 + 1 + 1) n (added vs ly ks es q v p st)
   unfolding added
-  in-added q v p = in-on _ (in-on st h 21 p q v) 14 0 q v
+  in-added q v p = in-on _ (in-on st h 21 p q v) 14 q q v
 
   in-step-begun : (p : ℕ) → p ≤ b → Small (b + 10) (n + 1) (stepBegun vs ly ks es p st)
   unfolding stepBegun
@@ -423,7 +438,7 @@ module _ (vs ly ks es : List ℕ) {b n : ℕ} (st : State) (h : Small b n st) (f
   in-elements : (k p : ℕ) → p ≤ b → Small (b + 10) (n + 1) (elementNode vs ly ks es k f p st)
   unfolding elementNode
   in-elements k p q =
-      either (eqb k n-start) (small-up _ (in-on st h 14 0 (f .third) (f .second)) (omega arith) (omega arith))
+      either (eqb k n-start) (small-up _ (in-on st h 14 (f .third) (f .third) (f .second)) (omega arith) (omega arith))
       (either (eqb k n-once) (small-up _ (in-element vs ly ks es _ (in-bodied vs ly ks es st h f _) f (slim-up f (omega arith) s)) (omega arith) (omega arith))
       (either (eqb k n-while) (small-up _ (in-element vs ly ks es _ (in-bodied vs ly ks es _ (in-put st h 10 0 _) f _) f (slim-up f (omega arith) s)) (omega arith) (omega arith))
       (either (eqb k n-step) (in-step-begun vs ly ks es st h p q)
@@ -442,28 +457,58 @@ module _ (vs ly ks es : List ℕ) {b n : ℕ} (st : State) (h : Small b n st) (f
 
   -- ---- conditions, blocks, procedures
 
-  in-choice : (k : ℕ) → Small (b + 10) (n + 1) (choiceNode vs ly ks es k f st)
-  unfolding choiceNode
-  in-choice k =
-      let x = h .slots in
-      either (eqb k n-then)
-      (small-up _ (in-slot _ (in-pushed _ (in-put st h 10 0 _) (st .slots) 0 0 0 (omega arith) (omega arith) (omega arith) (omega arith))) (omega arith) (omega arith))
-      (either (eqb k n-else)
-      (small-up _ (in-noted _ (in-slot _ (in-replaced _ (in-put st h 2 0 _) (st .slots) 0 0 0 (omega arith) (omega arith) (omega arith) (omega arith))) _ _) (omega arith) (omega arith))
-      (small-up _ (in-nameless _ (in-noted _ (in-popped st h) _ _)) (omega arith) (omega arith)))
+  in-widened : (i : ℕ) → Small (b + 1) n (widened vs ly ks es i f st)
+  unfolding widened
+  in-widened i = either (eqb (f .second) i) (in-put st h 50 0 1) (small-up st h (omega arith) (omega arith))
 
-  in-block : (k p : ℕ) → Small (b + 10) (n + 1) (blockNode vs ly ks es k f p st)
+  in-skipped : Small (b + 1) n (skipped vs ly ks es f st)
+  unfolding skipped
+  in-skipped = either (eqb (st .variable) 0) (in-put st h 2 0 _) (small-up st h (omega arith) (omega arith))
+
+module _ (vs ly ks es : List ℕ) {b n : ℕ} (st : State) (h : Small b n st) (f : Opened) (s : Slim b f) where
+  in-otherwise : Small (b + 1 + 1) (n + 1) (otherwise vs ly ks es f st)
+  unfolding otherwise
+  in-otherwise =
+      let x = h .slots in
+      in-noted _ (in-slot _ (in-replaced _ (in-put st h 2 0 _) (st .slots) (f .second) 0 0 (omega arith) (s .second) (omega arith) (omega arith))) _ _
+
+  in-joined : Small b n (joined vs ly ks es f st)
+  unfolding joined
+  in-joined = in-nameless _ (in-noted _ (in-popped st h) _ _)
+
+  in-opening : (rows : List ℕ) (p : ℕ) → Small (b + 1) (n + 1) (opening vs ly ks es rows f p st)
+  unfolding opening
+  in-opening rows p =
+      let x = s .first in
+      let y = h .cells in
+      let z = s .fourth in
+      in-noted _ (in-replaced _ (in-put st h 3 p _) (f .first) 0 (st .cells) (f .fourth) (omega arith) (omega arith) (omega arith) (omega arith)) _ _
+
+module _ (vs ly ks es : List ℕ) {b n : ℕ} (st : State) (h : Small b n st) (f : Opened) (s : Slim b f) where
+  in-choice : (k m : ℕ) → m < 4294967296 → Small (b + 10) (n + 1) (choiceNode vs ly ks es k f m st)
+  unfolding choiceNode
+  in-choice k m i =
+      let x = h .slots in
+      let g = slim-up {b = b} {d = b + 1} f (omega arith) s in
+      either (eqb k n-then)
+      (small-up _ (in-slot _ (in-pushed _ (in-put st h 10 0 _) (st .slots) m 0 0 (omega arith) i (omega arith) (omega arith))) (omega arith) (omega arith))
+      (either (eqb k n-else)
+      (small-up _ (in-otherwise vs ly ks es _ (in-widened vs ly ks es st h f s 1) f g) (omega arith) (omega arith))
+      (small-up _ (in-joined vs ly ks es _ (in-widened vs ly ks es st h f s 2) f g) (omega arith) (omega arith)))
+
+  in-block : (rows : List ℕ) (k p : ℕ) → Small (b + 10) (n + 1) (blockNode vs ly ks es rows k f p st)
   unfolding blockNode
-  in-block k p =
+  in-block rows k p =
       let x = h .slots in
       let y = h .loops in
       let z = h .level in
       let w = h .cells in
+      let v = h .declared in
       let q = s .fourth in
       either (eqb k n-block)
-      (small-up _ (in-within _ (in-slot _ (in-pushed _ (in-put st h 3 p _) (st .slots) 0 0 (st .cells) (omega arith) (omega arith) (omega arith) (omega arith))) (st .level) (st .loops) 0 (omega arith) (omega arith) (omega arith)) (omega arith) (omega arith))
+      (small-up _ (in-within _ (in-slot _ (in-pushed _ (in-nameless st h) (st .slots) 0 (st .declared) (st .cells) (omega arith) (omega arith) (omega arith) (omega arith))) (st .level) (st .loops) 0 (omega arith) (omega arith) (omega arith)) (omega arith) (omega arith))
       (either (eqb k n-statements)
-      (small-up _ (in-noted _ (in-replaced st h (f .first) 0 (st .cells) (f .fourth) (s .first) (omega arith) (h .cells) (s .fourth)) _ _) (omega arith) (omega arith))
+      (small-up _ (in-opening vs ly ks es st h f s rows p) (omega arith) (omega arith))
       (small-up _ (in-within _ (in-popped _ (in-put st h 4 0 _)) (st .level) (st .loops) (f .fourth) (omega arith) (omega arith) (omega arith)) (omega arith) (omega arith)))
 
   in-procedure : (k : ℕ) → Small (b + 10) (n + 1) (procedureNode vs ly ks es k f st)
@@ -474,8 +519,8 @@ module _ (vs ly ks es : List ℕ) {b n : ℕ} (st : State) (h : Small b n st) (f
       let w = h .cells in
       let q = s .first in
       either (eqb k n-procedure)
-      (small-up _ (in-within _ (in-pushed _ (in-entry st h) (st .loops) 0 0 0 (omega arith) (omega arith) (omega arith) (omega arith)) (st .level + 1) 0 (st .cells) (omega arith) (omega arith) (omega arith)) (omega arith) (omega arith))
-      (small-up _ (in-within _ (in-popped _ (in-put st h 7 0 0)) (st .level - 1) (f .first) (st .cells) (omega arith) (omega arith) (omega arith)) (omega arith) (omega arith))
+      (small-up _ (in-proceeding vs ly ks es _ (in-skipped vs ly ks es st h f s)) (omega arith) (omega arith))
+      (small-up _ (in-variable _ (in-within _ (in-popped _ (in-put st h 7 0 0)) (st .level - 1) (f .first) (st .cells) (omega arith) (omega arith) (omega arith)) _ 1 (omega arith)) (omega arith) (omega arith))
 
 -- ---- what is left
 
@@ -525,18 +570,19 @@ module _ (vs ly ks es : List ℕ) {b n : ℕ} (st : State) (h : Small b n st) wh
       let z = h .level in
       let w = h .cells in
       either (eqb k n-number) (small-up _ (in-nameless _ (in-put st h 12 p _)) (omega arith) (omega arith))
-      (either (eqb k n-logical) (small-up _ (in-nameless _ (in-put st h 12 p a)) (omega arith) (omega arith))
+      (either (eqb k n-decimal) (small-up _ (in-nameless _ (in-put _ (in-put st h 12 p _) 49 0 _)) (omega arith) (omega arith))
+      (either (eqb k n-logical) (small-up _ (in-nameless _ (in-put st h 48 p a)) (omega arith) (omega arith))
       (either (eqb k n-unary) (small-up _ (in-nameless _ (in-signed st h a p)) (omega arith) (omega arith))
       (either (eqb k n-binary) (small-up _ (in-nameless _ (in-put st h _ p 0)) (omega arith) (omega arith))
       (either (eqb k n-assign) (small-up _ in-assigned (omega arith) (omega arith))
       (either (eqb k n-variable) (small-up _ (in-cell _ (in-within st (small-up st h {d = b + 1} {m = n} (omega arith) (omega arith)) (st .level) (st .loops) (st .cells + 1) (omega arith) (omega arith) (omega arith))) (omega arith) (omega arith))
       (either (eqb k n-formal) (small-up _ (in-cell st h) (omega arith) (omega arith))
-      (small-up st h (omega arith) (omega arith))))))))
+      (small-up st h (omega arith) (omega arith)))))))))
 
   -- what a node adds
-  pub small-node : (rows : List ℕ) → 65536 ≤ b → (k y p a c : ℕ) → p < 65536 → a < 65536 → kindNext (st .uses) < 65536 → meansNext (st .uses) < 65536 → Small (b + 10) (n + 1) (codeNode vs ly ks es rows k y p a c st)
+  pub small-node : (rows marks : List ℕ) → 65536 ≤ b → (k y p a c : ℕ) → p < 65536 → a < 65536 → kindNext (st .uses) < 65536 → meansNext (st .uses) < 65536 → Small (b + 10) (n + 1) (codeNode vs ly ks es rows marks k y p a c st)
   unfolding codeNode
-  small-node rows q k y p a c r t i j =
+  small-node rows marks q k y p a c r t i j =
       let f = top (st .open-ones) in
       let s = slim-top b (st .open-ones) (h .things) in
       either (isUse k) (in-use vs ly ks es rows _ (in-uses st h (othersNext (st .uses))) (omega arith) k _ _ c p a (omega arith) (omega arith) (omega arith) (omega arith))
@@ -544,8 +590,8 @@ module _ (vs ly ks es : List ℕ) {b n : ℕ} (st : State) (h : Small b n st) wh
       (either (eqb k n-call-end) (in-call-ended vs ly ks es _ (in-popped st h) f p c)
       (either (isElement vs ly ks es k) (in-elements vs ly ks es st h f s k p (omega arith))
       (either (eqb k n-do || eqb k n-for-end) (in-loop vs ly ks es st h f s k)
-      (either (isChoice vs ly ks es k) (in-choice vs ly ks es st h f s k)
-      (either (isBlock vs ly ks es k) (in-block vs ly ks es st h f s k p)
+      (either (isChoice vs ly ks es k) (in-choice vs ly ks es st h f s k _ (omega arith))
+      (either (isBlock vs ly ks es k) (in-block vs ly ks es st h f s rows k p)
       (either (eqb k n-procedure || eqb k n-procedure-end) (in-procedure vs ly ks es st h f s k)
       (in-plain k y p a))))))))
 

@@ -68,28 +68,28 @@ module _ (vs ly ks es : List ℕ) where
   length-lefts zero l acc = omega arith
   length-lefts (suc n) l acc = let e = length-lefts n (below l) (top l ∷ acc) in omega arith
 
-  stored-two : (x y : Opened) (l : List Opened) (st : State) → stored vs ly ks es (x ∷ y ∷ l) st ≡ stored vs ly ks es (y ∷ l) (onCell 15 0 (x .third) (x .second) st)
+  stored-two : (x y : Opened) (l : List Opened) (st : State) → stored vs ly ks es (x ∷ y ∷ l) st ≡ stored vs ly ks es (y ∷ l) (onCell 15 (x .third) (x .third) (x .second) st)
   unfolding stored
   stored-two x y l st = refl
 
   stored-more : (n : ℕ) (l : List Opened) (st : State)
-      → stored vs ly ks es (leftsOf vs ly ks es (suc (suc n)) l []) st ≡ stored vs ly ks es (leftsOf vs ly ks es (suc n) l []) (onCell 15 0 (top (behindLefts vs ly ks es (suc n) l) .third) (top (behindLefts vs ly ks es (suc n) l) .second) st)
+      → stored vs ly ks es (leftsOf vs ly ks es (suc (suc n)) l []) st ≡ stored vs ly ks es (leftsOf vs ly ks es (suc n) l []) (onCell 15 (top (behindLefts vs ly ks es (suc n) l) .third) (top (behindLefts vs ly ks es (suc n) l) .third) (top (behindLefts vs ly ks es (suc n) l) .second) st)
   stored-more n l st = rw (lefts-more (suc n) l [], lefts-more n l []) (stored-two _ _ _ st)
 
   -- the first of n + 1 left parts is stored; the last one takes the value away
   pub stored-on : (n : ℕ) (l : List Opened) (st : State)
-      → stored vs ly ks es (leftsOf vs ly ks es (n + 1) l []) st ≡ stored vs ly ks es (leftsOf vs ly ks es n l []) (onCell (cond (eqb n 0) 14 15) 0 (top (behindLefts vs ly ks es n l) .third) (top (behindLefts vs ly ks es n l) .second) st)
+      → stored vs ly ks es (leftsOf vs ly ks es (n + 1) l []) st ≡ stored vs ly ks es (leftsOf vs ly ks es n l []) (onCell (cond (eqb n 0) 14 15) (top (behindLefts vs ly ks es n l) .third) (top (behindLefts vs ly ks es n l) .third) (top (behindLefts vs ly ks es n l) .second) st)
   unfolding stored leftsOf behindLefts
   stored-on zero l st = refl
   stored-on (suc n) l st = let d : suc n ≡ 0 → ⊥ = λ e. omega arith in rw (add-one, ne-eqb (suc n) 0 d) (stored-more n l st)
 
   pub stored-step : (n m : ℕ) (op : List ℕ) (st : State) → 0 < n
-      → stored vs ly ks es (leftsOf vs ly ks es n (thingsOf m op) []) st ≡ stored vs ly ks es (leftsOf vs ly ks es (n - 1) (thingsOf m op) []) (onCell (cond (eqb (n - 1) 0) 14 15) 0 (top (thingsOf (m - (n - 1)) op) .third) (top (thingsOf (m - (n - 1)) op) .second) st)
+      → stored vs ly ks es (leftsOf vs ly ks es n (thingsOf m op) []) st ≡ stored vs ly ks es (leftsOf vs ly ks es (n - 1) (thingsOf m op) []) (onCell (cond (eqb (n - 1) 0) 14 15) (top (thingsOf (m - (n - 1)) op) .third) (top (thingsOf (m - (n - 1)) op) .third) (top (thingsOf (m - (n - 1)) op) .second) st)
   stored-step n m op st h =
       let e : n ≡ n - 1 + 1 = omega arith in
       ap (λ (i : ℕ). stored vs ly ks es (leftsOf vs ly ks es i (thingsOf m op) []) st) e
       ∙ stored-on (n - 1) (thingsOf m op) st
-      ∙ ap (λ (l : List Opened). stored vs ly ks es (leftsOf vs ly ks es (n - 1) (thingsOf m op) []) (onCell (cond (eqb (n - 1) 0) 14 15) 0 (top l .third) (top l .second) st)) (behind-things (n - 1) m op)
+      ∙ ap (λ (l : List Opened). stored vs ly ks es (leftsOf vs ly ks es (n - 1) (thingsOf m op) []) (onCell (cond (eqb (n - 1) 0) 14 15) (top l .third) (top l .third) (top l .second) st)) (behind-things (n - 1) m op)
 
   pub slim-behind : (b n : ℕ) (l : List Opened) → AllSlim b l → AllSlim b (behindLefts vs ly ks es n l)
   unfolding behindLefts
@@ -105,12 +105,12 @@ module _ (vs ly ks es : List ℕ) where
   unfolding stored
   storing [] st = record { at = omega arith; slots = refl; level = refl; loops = refl; cells = refl; variable = refl; declared = refl }
   storing (x ∷ []) st =
-      let r = storing-one 14 0 (x .third) (x .second) st in
+      let r = storing-one 14 (x .third) (x .third) (x .second) st in
       let e = r .at in
       record { at = omega arith; slots = r .slots; level = r .level; loops = r .loops; cells = r .cells; variable = r .variable; declared = r .declared }
   storing (x ∷ y ∷ l) st =
-      let q = storing-one 15 0 (x .third) (x .second) st in
-      let r = storing (y ∷ l) (onCell 15 0 (x .third) (x .second) st) in
+      let q = storing-one 15 (x .third) (x .third) (x .second) st in
+      let r = storing (y ∷ l) (onCell 15 (x .third) (x .third) (x .second) st) in
       let d = q .at in
       let e = r .at in
       record {

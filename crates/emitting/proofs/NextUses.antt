@@ -50,7 +50,7 @@ module _ (rows : List ℕ) where
 
   used-small : (w : ℕ) → w < 65536 → (usedAs rows (meantOf w) .kind < 65536) × (usedAs rows (meantOf w) .means < 65536)
   unfolding usedAs meantOf
-  used-small w s = go (ltb w 8192) (ltb w 8196)
+  used-small w s = go (ltb w 8192) (ltb w 8197)
     where
       kind : (b : Bool) → cond b 4 (getD rows (4 * w) 0 % 65536 - 4) < 65536
       kind true = omega arith
@@ -74,23 +74,23 @@ module _ (rows : List ℕ) where
 
 pub declared-small : (w : ℕ) (d : Declaration) → meantOf w ≡ Declared d → d .number < 8192
 unfolding meantOf
-declared-small w d e = go (ltb w 8192) refl (ltb w 8196) e
+declared-small w d e = go (ltb w 8192) refl (ltb w 8197) e
   where
     go : (b : Bool) → ltb w 8192 ≡ b → (c : Bool) → cond b (Declared (record { number = w })) (cond c (Given (record { number = w - 8192 })) Nothing) ≡ Declared d → d .number < 8192
     go true l c e = let z : record { number = w } ≡ d = cc in let y : w ≡ d .number = ap (λ (d : Declaration). d .number) z in omega (arith, ltb-true w 8192 l)
     go false l true e = absurd (let z : _≡_ {A = ℕ} 0 1 = cc in omega arith)
     go false l false e = absurd (let z : _≡_ {A = ℕ} 0 1 = cc in omega arith)
 
-pub given-small : (w : ℕ) (d : Environment) → meantOf w ≡ Given d → d .number < 4
+pub given-small : (w : ℕ) (d : Environment) → meantOf w ≡ Given d → d .number < 5
 unfolding meantOf
-given-small w d e = go (ltb w 8192) refl (ltb w 8196) refl e
+given-small w d e = go (ltb w 8192) refl (ltb w 8197) refl e
   where
-    go : (b : Bool) → ltb w 8192 ≡ b → (c : Bool) → ltb w 8196 ≡ c → cond b (Declared (record { number = w })) (cond c (Given (record { number = w - 8192 })) Nothing) ≡ Given d → d .number < 4
+    go : (b : Bool) → ltb w 8192 ≡ b → (c : Bool) → ltb w 8197 ≡ c → cond b (Declared (record { number = w })) (cond c (Given (record { number = w - 8192 })) Nothing) ≡ Given d → d .number < 5
     go true l c l' e = absurd (let z : _≡_ {A = ℕ} 0 1 = cc in omega arith)
     go false l true l' e =
         let z : record { number = w - 8192 } ≡ d = cc in
         let y : w - 8192 ≡ d .number = ap (λ (d : Environment). d .number) z in
-        omega (arith, ltb-true w 8196 l', ltb-false w 8192 l)
+        omega (arith, ltb-true w 8197 l', ltb-false w 8192 l)
     go false l false l' e = absurd (let z : _≡_ {A = ℕ} 0 1 = cc in omega arith)
 
 module _ (rows : List ℕ) (w : ℕ) {k m : ℕ} where

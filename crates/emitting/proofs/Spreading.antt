@@ -1,8 +1,7 @@
 -- The open scopes of the layout as they stand in an array, and how far it spreads: a node adds no more than one activation, one cell and one scope,
 -- so that behind i nodes there are at most i of each.
 use mathlib.Core.Path.{_≡_, refl}
-use mathlib.Core.Logic.{_⊎_, inl, inr}
-use mathlib.Core.Bool.{Bool, true, false, cond, _||_}
+use mathlib.Core.Bool.{Bool, true, false, cond}
 use mathlib.Core.List.{List, [], _∷_}
 use Prim.Native.Nat.{ℕ, zero, suc, _+_, _-_, _≤_}
 use native.Mathlib.Omega.{arith}
@@ -37,7 +36,7 @@ unfolding AllWithin
 all-on i [] h = h
 all-on i (n ∷ l) h = (let k = h .0 in omega arith, all-on i l (h .1))
 
-outermost-within : (i : ℕ) (l : List ℕ) → AllWithin l i → outermost l ≤ i
+pub outermost-within : (i : ℕ) (l : List ℕ) → AllWithin l i → outermost l ≤ i
 unfolding AllWithin outermost
 outermost-within i [] h = omega arith
 outermost-within i (n ∷ l) h = h .0
@@ -74,9 +73,9 @@ module _ (i : ℕ) (st : Laying) (h : Spread i st) where
   unfolding typed
   on-typed t = record { level = on .level; reach = on .reach; open-scopes = on .open-scopes; declared = on .declared; outside = on .outside }
 
-  on-celled : Spread (i + 1) (celled st)
+  on-celled : (o : ℕ) → Spread (i + 1) (celled o st)
   unfolding celled
-  on-celled =
+  on-celled o =
       let b = h .reach in
       let e = h .declared in
       record { level = on .level; reach = omega arith; open-scopes = on .open-scopes; declared = omega arith; outside = on .outside }
@@ -106,17 +105,18 @@ module _ (i : ℕ) (st : Laying) (h : Spread i st) where
         outside = further-within (i + 1) (st .around) (on .outside);
       }
 
-  pub spread-node : (k p a b : ℕ) → Spread (i + 1) (layNode k p a b st)
+  pub spread-node : (rows : List ℕ) (k p a b : ℕ) → Spread (i + 1) (layNode rows k p a b st)
   unfolding layNode
-  spread-node k p a b =
+  spread-node rows k p a b =
       let l = h .level in
       either i (eqb k n-type) (on-typed a)
-      (either i (eqb k n-variable || eqb k n-formal) on-celled
+      (either i (eqb k n-variable) (on-celled _)
+      (either i (eqb k n-formal) (on-celled _)
       (either i (eqb k n-procedure) on-procedured
       (either i (eqb k n-procedure-end) (on-closed (st .level - 1) (omega arith))
       (either i (eqb k n-block) on-blocked
       (either i (eqb k n-block-end) (on-closed (st .level) l)
-      on)))))
+      on))))))
 
 -- ---- more room
 
@@ -132,10 +132,3 @@ spread-up i j st q h =
     let d = h .open-scopes in
     let f = h .declared in
     record { level = omega arith; reach = omega arith; open-scopes = omega arith; declared = omega arith; outside = all-up i j (st .around) q (h .outside) }
-
--- ---- two kinds of nodes that do the same
-
-pub node-celled : (k p a b : ℕ) (st : Laying) → (k ≡ 5) ⊎ (k ≡ 7) → celled st ≡ layNode k p a b st
-unfolding layNode
-node-celled k p a b st (inl e) = rw e
-node-celled k p a b st (inr e) = rw e

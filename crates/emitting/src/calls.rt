@@ -72,23 +72,24 @@ fn called_with(
     putting::put(t, code, codes::CALL_NEEDED + u, place, v)
 }
 
-// A result's cell, where there is a result.
+// A result's cell, where there is a result; it is of the type `form`.
 fn result_for(
     t: Writing,
     k: usize,
     d: Declaration,
     place: Place,
+    form: usize,
     layout: &[u32],
     code: &mut [u32],
 ) -> Writing
-    requires { ⌜ (t .here .at < 1048576) × (place .at < 65536) ⌝ }
-    ensures { λ r. ⌜ ((vs ks es : List ℕ) (us : List Used) (op ah en : List ℕ) → see r us op (now (code .exit)) ah en ≡ resultFor vs (now (layout .entry)) ks es k (d .number) (place .at) (see t us op (now (code .entry)) ah en)) ⌝ }
+    requires { ⌜ (t .here .at < 1048576) × (place .at < 65536) × (form < 3) ⌝ }
+    ensures { λ r. ⌜ ((vs ks es : List ℕ) (us : List Used) (op ah en : List ℕ) → see r us op (now (code .exit)) ah en ≡ resultFor vs (now (layout .entry)) ks es k (d .number) (place .at) form (see t us op (now (code .entry)) ah en)) ⌝ }
     ensures { λ r. ⌜ Alike t r × (r .here .at ≤ t .here .at + 1) × (r .open ≡ t .open) ⌝ }
 {
     if result_of(k, d, layout) == 0 {
         return t;
     }
-    putting::put(t, code, codes::RESULT, place, 0)
+    putting::put(t, code, codes::RESULT, place, form)
 }
 
 // What a statement does not need.
@@ -117,12 +118,13 @@ fn named(
     m: usize,
     u: usize,
     place: Place,
+    form: usize,
     layout: &[u32],
     entries: &[u32],
     code: &mut [u32],
 ) -> Writing
-    requires { ⌜ (t .here .at < 262144) × (u < 65536) × (place .at < 65536) ⌝ }
-    ensures { λ r. ⌜ ((vs ks : List ℕ) (us : List Used) (op ah en : List ℕ) → see r us op (now (code .exit)) ah en ≡ named vs (now (layout .entry)) ks (now (entries .entry)) k m u (place .at) (see t us op (now (code .entry)) ah en)) ⌝ }
+    requires { ⌜ (t .here .at < 262144) × (u < 65536) × (place .at < 65536) × (form < 3) ⌝ }
+    ensures { λ r. ⌜ ((vs ks : List ℕ) (us : List Used) (op ah en : List ℕ) → see r us op (now (code .exit)) ah en ≡ named vs (now (layout .entry)) ks (now (entries .entry)) k m u (place .at) form (see t us op (now (code .entry)) ah en)) ⌝ }
 {
     if k == 0 {
         return dropped(
@@ -132,7 +134,8 @@ fn named(
         );
     }
     if k == 2 {
-        let r = result_for(t, k, Declaration { number: m }, place, layout, code);
+        let d = Declaration { number: m };
+        let r = result_for(t, k, d, place, form, layout, code);
         return called_with(
             r,
             k,
@@ -184,17 +187,18 @@ fn named_or(
     u: usize,
     place: Place,
     d: usize,
+    form: usize,
     layout: &[u32],
     entries: &[u32],
     things: &[usize; 32768],
     code: &mut [u32],
 ) -> Writing
-    requires { ⌜ (t .here .at < 262144) × (t .open ≤ 8192) × (u < 65536) × (place .at < 65536) ⌝ }
-    ensures { λ r. ⌜ ((vs ks : List ℕ) (us : List Used) (ah en : List ℕ) → see r us (now (things .entry)) (now (code .exit)) ah en ≡ namedOr vs (now (layout .entry)) ks (now (entries .entry)) k m u (place .at) d (see t us (now (things .entry)) (now (code .entry)) ah en)) ⌝ }
+    requires { ⌜ (t .here .at < 262144) × (t .open ≤ 8192) × (u < 65536) × (place .at < 65536) × (form < 3) ⌝ }
+    ensures { λ r. ⌜ ((vs ks : List ℕ) (us : List Used) (ah en : List ℕ) → see r us (now (things .entry)) (now (code .exit)) ah en ≡ namedOr vs (now (layout .entry)) ks (now (entries .entry)) k m u (place .at) d form (see t us (now (things .entry)) (now (code .entry)) ah en)) ⌝ }
 {
     if t.awaits == 0 {
         let w = word_of(t, k, m, d, layout, things);
-        let mut r = named(t, k, m, u, place, layout, entries, code);
+        let mut r = named(t, k, m, u, place, form, layout, entries, code);
         r.awaits = 0;
         r.variable = w;
         return r;
@@ -220,7 +224,8 @@ fn calling(
     requires { ⌜ (t .here .at < 262144) × (t .slots < 262144) × (t .level < 262144) × (t .open < 8192) × (m < 4294967296) × (place .at < 65536) × (d < 65536) ⌝ }
     ensures { λ r. ⌜ ((vs es : List ℕ) (us : List Used) (ah en : List ℕ) → see r us (now (things .exit)) (now (code .exit)) ah en ≡ calling vs (now (layout .entry)) (now (ahead .entry)) es (now (rows .entry)) k m (place .at) d (see t us (now (things .entry)) (now (code .entry)) ah en)) ⌝ }
 {
-    let r = result_for(t, k, Declaration { number: m }, place, layout, code);
+    let form = uses::form_at(rows, m);
+    let r = result_for(t, k, Declaration { number: m }, place, form, layout, code);
     if k == 2 {
         let s = putting::push(r, things, 2, m, 0, d + 1);
         return actuals::begun(s, m, 0, d + 1, rows, ahead, things, code);
@@ -240,10 +245,22 @@ fn taken_in(t: Writing, place: Place, name: Place, code: &mut [u32]) -> Writing
     cells::on_cell(t, code, codes::IN, place, name, t.variable)
 }
 
+// The operation of outinteger, or of outreal.
+fn sending(c: Thing) -> usize
+    ensures { λ r. ⌜ r ≡ cond (eqb (c .second) 4) 47 19 ⌝ }
+    ensures { λ r. ⌜ r < 64 ⌝ }
+{
+    if c.second == 4 {
+        codes::OUTREAL
+    } else {
+        codes::OUT
+    }
+}
+
 // The end of a call of what the environment gives.
 fn given_ended(t: Writing, c: Thing, place: Place, u: usize, code: &mut [u32]) -> Writing
     requires { ⌜ Fit t × Slim 262143 (seen c) × (place .at < 65536) ⌝ }
-    ensures { λ r. ⌜ ((vs ly ks es : List ℕ) (us : List Used) (op ah en : List ℕ) → see r us op (now (code .exit)) ah en ≡ cond (eqb (c .second) 0) (dropped vs ly ks es u (put 24 (place .at) 0 (see t us op (now (code .entry)) ah en))) (cond (eqb (c .second) 2) (takenIn vs ly ks es (place .at) (c .fourth) (see t us op (now (code .entry)) ah en)) (put 19 (place .at) 0 (see t us op (now (code .entry)) ah en)))) ⌝ }
+    ensures { λ r. ⌜ ((vs ly ks es : List ℕ) (us : List Used) (op ah en : List ℕ) → see r us op (now (code .exit)) ah en ≡ cond (eqb (c .second) 0) (dropped vs ly ks es u (put 24 (place .at) 0 (see t us op (now (code .entry)) ah en))) (cond (eqb (c .second) 2) (takenIn vs ly ks es (place .at) (c .fourth) (see t us op (now (code .entry)) ah en)) (put (cond (eqb (c .second) 4) 47 19) (place .at) 0 (see t us op (now (code .entry)) ah en)))) ⌝ }
 {
     if c.second == 0 {
         return dropped(putting::put(t, code, codes::IABS, place, 0), u, code);
@@ -251,7 +268,7 @@ fn given_ended(t: Writing, c: Thing, place: Place, u: usize, code: &mut [u32]) -
     if c.second == 2 {
         return taken_in(t, place, Place { at: c.fourth }, code);
     }
-    putting::put(t, code, codes::OUT, place, 0)
+    putting::put(t, code, sending(c), place, 0)
 }
 
 // The end of a call.
@@ -341,7 +358,10 @@ pub fn use_node(
     let m = n.means;
     let r = uses::passed(t, uses);
     match kind {
-        nodes::USE => named_or(r, k, m, u, place, one, layout, entries, things, code),
+        nodes::USE => {
+            let form = uses::form_at(rows, m);
+            named_or(r, k, m, u, place, one, form, layout, entries, things, code)
+        }
         nodes::CALL => calling(r, k, m, place, one, rows, layout, ahead, things, code),
         nodes::LEFT => left_part(r, k, m, place, layout, things),
         _ => repeated(r, k, m, place, layout, things),

@@ -71,5 +71,14 @@ pub const REFUSE: usize = codes::REFUSE as usize;
 // Ininteger to a cell that is sought: its channel; the step added to one.
 pub const CHANNEL: usize = codes::CHANNEL as usize;
 
+// Outreal; a logical value; the upper half of a real constant; a value becomes one of a type.
+pub const OUTREAL: usize = codes::OUTREAL as usize;
+
+pub const LOGICAL: usize = codes::LOGICAL as usize;
+
+pub const HIGH: usize = codes::HIGH as usize;
+
+pub const AS: usize = codes::AS as usize;
+
 // The place of an instruction that has none.
 pub const NOWHERE: Place = Place { at: 0 };

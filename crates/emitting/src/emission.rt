@@ -13,6 +13,7 @@ use answers::Address;
 use answers::Ordinal;
 use answers::Place;
 use grammar::nodes;
+use reals::decimals::constant;
 ghost use mathlib.Core.Path.{_≡_};
 ghost use mathlib.Core.Bool.{cond, _||_};
 ghost use mathlib.Core.List.{List, []};
@@ -21,7 +22,7 @@ ghost use lib.Dec.{eqb};
 ghost use lib.ListN.{length};
 ghost use Rattle.grammar.specs.NodeKinds.{n-do, n-for-end, n-procedure, n-procedure-end};
 ghost use Rattle.names.specs.model.Rows.{isUse};
-ghost use Rattle.emitting.specs.model.Emission.{Used, usesIn, placeAt, top, operationOf, signed, stored, leftsOf, assigned, plainNode, isElement, isChoice, isBlock, codeNode, emitted};
+ghost use Rattle.emitting.specs.model.Emission.{Used, usesIn, placeAt, put, top, lowerOf, upperOf, operationOf, signed, stored, leftsOf, assigned, plainNode, isElement, isChoice, isBlock, codeNode, emitted};
 ghost use Rattle.emitting.specs.model.Arrays.{thingsOf, seen, see, AllSlim, Small, Fit, restNode, freshIn, emittedFrom};
 
 // The operation of an operator, by its symbol's kind.
@@ -36,7 +37,10 @@ fn operation_of(k: usize) -> usize
     if k < 22 {
         return k + 17;
     }
-    k + 3
+    if k < 32 {
+        return k + 3;
+    }
+    k + 5
 }
 
 // A sign or 'not'.
@@ -80,7 +84,7 @@ fn stored(mut t: Writing, things: &[usize; 32768], code: &mut [u32]) -> Writing
         n -= 1;
         let f = left_at(t, things, n);
         let name = Place { at: f.third };
-        t = cells::on_cell(t, code, storing(n), codes::NOWHERE, name, f.second);
+        t = cells::on_cell(t, code, storing(n), name, name, f.second);
     }
     t
 }
@@ -96,6 +100,22 @@ fn assigned(t: Writing, things: &[usize; 32768], code: &mut [u32]) -> Writing
     r
 }
 
+// A number with a point: the lower half of its bits, then the upper one.
+fn pointed(t: Writing, w: u64, place: Place, code: &mut [u32]) -> Writing
+    requires { ⌜ (t .here .at < 262144) × (place .at < 65536) ⌝ }
+    ensures { λ r. ⌜ ((us : List Used) (op ah en : List ℕ) → see r us op (now (code .exit)) ah en ≡ put 49 0 (upperOf w) (put 12 (place .at) (lowerOf w) (see t us op (now (code .entry)) ah en))) ⌝ }
+{
+    let halves = constant(w / 16, w % 16);
+    let lower = putting::put(t, code, codes::CONST, place, halves.low as usize);
+    putting::put(
+        lower,
+        code,
+        codes::HIGH,
+        codes::NOWHERE,
+        halves.high as usize,
+    )
+}
+
 // A node that is of no name and opens nothing.
 fn plain_node(
     mut t: Writing,
@@ -103,7 +123,7 @@ fn plain_node(
     symbol: Ordinal,
     place: Place,
     one: usize,
-    values: &[u32],
+    values: &[u64],
     things: &[usize; 32768],
     code: &mut [u32],
 ) -> Writing
@@ -112,13 +132,18 @@ fn plain_node(
 {
     match kind {
         nodes::NUMBER => {
-            let v = parts::value_of(values, symbol);
+            let v = (parts::value_of(values, symbol) % 4294967296) as usize;
             let mut r = putting::put(t, code, codes::CONST, place, v);
             r.variable = 0;
             r
         }
+        nodes::DECIMAL => {
+            let mut r = pointed(t, parts::value_of(values, symbol), place, code);
+            r.variable = 0;
+            r
+        }
         nodes::LOGICAL => {
-            let mut r = putting::put(t, code, codes::CONST, place, one);
+            let mut r = putting::put(t, code, codes::LOGICAL, place, one);
             r.variable = 0;
             r
         }
@@ -227,7 +252,9 @@ fn rest_node(
     symbol: Ordinal,
     place: Place,
     one: usize,
-    values: &[u32],
+    rows: &[u16],
+    marks: &[u16],
+    values: &[u64],
     ahead: &[u32],
     things: &mut [usize; 32768],
     next_ahead: &mut [u32],
@@ -235,7 +262,7 @@ fn rest_node(
     code: &mut [u32],
 ) -> Writing
     requires { ⌜ Small 262143 8191 (see t [] (now things) [] [] []) × (place .at < 65536) × (one < 65536) ⌝ }
-    ensures { λ r. ⌜ ((ly es : List ℕ) (us : List Used) → see r us (now (things .exit)) (now (code .exit)) (now («next_ahead» .exit)) (now («next_entries» .exit)) ≡ restNode (now (values .entry)) ly (now (ahead .entry)) es kind (symbol .number) (place .at) one (see t us (now (things .entry)) (now (code .entry)) (now («next_ahead» .entry)) (now («next_entries» .entry)))) ⌝ }
+    ensures { λ r. ⌜ ((ly es : List ℕ) (us : List Used) → see r us (now (things .exit)) (now (code .exit)) (now («next_ahead» .exit)) (now («next_entries» .exit)) ≡ restNode (now (values .entry)) ly (now (ahead .entry)) es (now (rows .entry)) (now (marks .entry)) kind (symbol .number) (place .at) one (see t us (now (things .entry)) (now (code .entry)) (now («next_ahead» .entry)) (now («next_entries» .entry)))) ⌝ }
 {
     let c = putting::top(t, things);
     if is_element(kind) {
@@ -245,13 +272,14 @@ fn rest_node(
         return loops::loop_node(t, kind, c, things, next_ahead, code);
     }
     if is_choice(kind) {
-        return flow::choice_node(t, kind, c, ahead, things, next_ahead, code);
+        let mark = parts::mark_of(marks, symbol);
+        return flow::choice_node(t, kind, c, mark, ahead, things, next_ahead, code);
     }
     if is_block(kind) {
-        return flow::block_node(t, kind, c, place, ahead, things, next_ahead, code);
+        return flow::block_node(t, kind, c, place, rows, things, next_ahead, code);
     }
     if is_procedure(kind) {
-        return flow::procedure_node(t, kind, c, things, next_entries, code);
+        return flow::procedure_node(t, kind, c, ahead, things, next_entries, code);
     }
     plain_node(t, kind, symbol, place, one, values, things, code)
 }
@@ -266,7 +294,8 @@ fn node(
     uses: &[u16],
     rows: &[u16],
     places: &[usize; 2048],
-    values: &[u32],
+    marks: &[u16],
+    values: &[u64],
     layout: &[u32],
     ahead: &[u32],
     entries: &[u32],
@@ -276,7 +305,7 @@ fn node(
     code: &mut [u32],
 ) -> Writing
     requires { ⌜ Small 262143 8191 (see t [] (now things) [] [] []) ⌝ }
-    ensures { λ r. ⌜ see r (usesIn (now (rows .entry)) (now (uses .entry))) (now (things .exit)) (now (code .exit)) (now («next_ahead» .exit)) (now («next_entries» .exit)) ≡ codeNode (now (values .entry)) (now (layout .entry)) (now (ahead .entry)) (now (entries .entry)) (now (rows .entry)) kind (symbol .number) (placeAt (now (places .entry)) (symbol .number)) one two (see t (usesIn (now (rows .entry)) (now (uses .entry))) (now (things .entry)) (now (code .entry)) (now («next_ahead» .entry)) (now («next_entries» .entry))) ⌝ }
+    ensures { λ r. ⌜ see r (usesIn (now (rows .entry)) (now (uses .entry))) (now (things .exit)) (now (code .exit)) (now («next_ahead» .exit)) (now («next_entries» .exit)) ≡ codeNode (now (values .entry)) (now (layout .entry)) (now (ahead .entry)) (now (entries .entry)) (now (rows .entry)) (now (marks .entry)) kind (symbol .number) (placeAt (now (places .entry)) (symbol .number)) one two (see t (usesIn (now (rows .entry)) (now (uses .entry))) (now (things .entry)) (now (code .entry)) (now («next_ahead» .entry)) (now («next_entries» .entry))) ⌝ }
 {
     let p = parts::place_in(places, symbol);
     let u = two as usize;
@@ -311,6 +340,8 @@ fn node(
             symbol,
             p,
             one as usize,
+            rows,
+            marks,
             values,
             ahead,
             things,
@@ -327,7 +358,8 @@ fn walk(
     uses: &[u16],
     rows: &[u16],
     places: &[usize; 2048],
-    values: &[u32],
+    marks: &[u16],
+    values: &[u64],
     layout: &[u32],
     ahead: &[u32],
     entries: &[u32],
@@ -337,9 +369,9 @@ fn walk(
     code: &mut [u32],
 )
     requires { ⌜ length (now nodes) ≤ 32768 ⌝ }
-    ensures { λ _. ⌜ now (code .exit) ≡ emittedFrom (placeAt (now (places .entry))) (now (values .entry)) (now (layout .entry)) (now (ahead .entry)) (now (entries .entry)) (now (rows .entry)) (now (nodes .entry)) (freshIn (usesIn (now (rows .entry)) (now (uses .entry))) (now (code .entry)) (now («next_ahead» .entry)) (now («next_entries» .entry))) .code ⌝ }
-    ensures { λ _. ⌜ now («next_ahead» .exit) ≡ emittedFrom (placeAt (now (places .entry))) (now (values .entry)) (now (layout .entry)) (now (ahead .entry)) (now (entries .entry)) (now (rows .entry)) (now (nodes .entry)) (freshIn (usesIn (now (rows .entry)) (now (uses .entry))) (now (code .entry)) (now («next_ahead» .entry)) (now («next_entries» .entry))) .ahead ⌝ }
-    ensures { λ _. ⌜ now («next_entries» .exit) ≡ emittedFrom (placeAt (now (places .entry))) (now (values .entry)) (now (layout .entry)) (now (ahead .entry)) (now (entries .entry)) (now (rows .entry)) (now (nodes .entry)) (freshIn (usesIn (now (rows .entry)) (now (uses .entry))) (now (code .entry)) (now («next_ahead» .entry)) (now («next_entries» .entry))) .entries ⌝ }
+    ensures { λ _. ⌜ now (code .exit) ≡ emittedFrom (placeAt (now (places .entry))) (now (values .entry)) (now (layout .entry)) (now (ahead .entry)) (now (entries .entry)) (now (rows .entry)) (now (marks .entry)) (now (nodes .entry)) (freshIn (usesIn (now (rows .entry)) (now (uses .entry))) (now (code .entry)) (now («next_ahead» .entry)) (now («next_entries» .entry))) .code ⌝ }
+    ensures { λ _. ⌜ now («next_ahead» .exit) ≡ emittedFrom (placeAt (now (places .entry))) (now (values .entry)) (now (layout .entry)) (now (ahead .entry)) (now (entries .entry)) (now (rows .entry)) (now (marks .entry)) (now (nodes .entry)) (freshIn (usesIn (now (rows .entry)) (now (uses .entry))) (now (code .entry)) (now («next_ahead» .entry)) (now («next_entries» .entry))) .ahead ⌝ }
+    ensures { λ _. ⌜ now («next_entries» .exit) ≡ emittedFrom (placeAt (now (places .entry))) (now (values .entry)) (now (layout .entry)) (now (ahead .entry)) (now (entries .entry)) (now (rows .entry)) (now (marks .entry)) (now (nodes .entry)) (freshIn (usesIn (now (rows .entry)) (now (uses .entry))) (now (code .entry)) (now («next_ahead» .entry)) (now («next_entries» .entry))) .entries ⌝ }
 {
     let mut t = Writing {
         uses: 0,
@@ -368,6 +400,7 @@ fn walk(
             uses,
             rows,
             places,
+            marks,
             values,
             layout,
             ahead,
@@ -388,7 +421,8 @@ pub fn pass(
     uses: &[u16],
     rows: &[u16],
     places: &[usize; 2048],
-    values: &[u32],
+    marks: &[u16],
+    values: &[u64],
     layout: &[u32],
     ahead: &[u32],
     entries: &[u32],
@@ -397,9 +431,9 @@ pub fn pass(
     code: &mut [u32],
 )
     requires { ⌜ (length (now nodes) ≤ 32768) × (length (now «next_ahead») ≡ 8192) × (length (now «next_entries») ≡ 2048) ⌝ }
-    ensures { λ _. ⌜ now (code .exit) ≡ emitted (now (values .entry)) (now (layout .entry)) (now (ahead .entry)) (now (entries .entry)) (now (rows .entry)) (length (now (code .entry))) (placeAt (now (places .entry))) (now (nodes .entry)) (usesIn (now (rows .entry)) (now (uses .entry))) .code ⌝ }
-    ensures { λ _. ⌜ now («next_ahead» .exit) ≡ emitted (now (values .entry)) (now (layout .entry)) (now (ahead .entry)) (now (entries .entry)) (now (rows .entry)) (length (now (code .entry))) (placeAt (now (places .entry))) (now (nodes .entry)) (usesIn (now (rows .entry)) (now (uses .entry))) .ahead ⌝ }
-    ensures { λ _. ⌜ now («next_entries» .exit) ≡ emitted (now (values .entry)) (now (layout .entry)) (now (ahead .entry)) (now (entries .entry)) (now (rows .entry)) (length (now (code .entry))) (placeAt (now (places .entry))) (now (nodes .entry)) (usesIn (now (rows .entry)) (now (uses .entry))) .entries ⌝ }
+    ensures { λ _. ⌜ now (code .exit) ≡ emitted (now (values .entry)) (now (layout .entry)) (now (ahead .entry)) (now (entries .entry)) (now (rows .entry)) (now (marks .entry)) (length (now (code .entry))) (placeAt (now (places .entry))) (now (nodes .entry)) (usesIn (now (rows .entry)) (now (uses .entry))) .code ⌝ }
+    ensures { λ _. ⌜ now («next_ahead» .exit) ≡ emitted (now (values .entry)) (now (layout .entry)) (now (ahead .entry)) (now (entries .entry)) (now (rows .entry)) (now (marks .entry)) (length (now (code .entry))) (placeAt (now (places .entry))) (now (nodes .entry)) (usesIn (now (rows .entry)) (now (uses .entry))) .ahead ⌝ }
+    ensures { λ _. ⌜ now («next_entries» .exit) ≡ emitted (now (values .entry)) (now (layout .entry)) (now (ahead .entry)) (now (entries .entry)) (now (rows .entry)) (now (marks .entry)) (length (now (code .entry))) (placeAt (now (places .entry))) (now (nodes .entry)) (usesIn (now (rows .entry)) (now (uses .entry))) .entries ⌝ }
 {
     let mut things = [0usize; 32768];
     parts::clear(next_ahead);
@@ -410,6 +444,7 @@ pub fn pass(
         uses,
         rows,
         places,
+        marks,
         values,
         layout,
         ahead,

@@ -1,5 +1,6 @@
 // Where the cells of a program lie: the first pass over the nodes.
 use crate::Laid;
+use crate::counting;
 use crate::parts;
 use grammar::nodes;
 use machine::operands;
@@ -8,7 +9,7 @@ ghost use mathlib.Core.List.{List, _∷_};
 ghost use Prim.Native.Nat.{ℕ, _+_, _≤_, _<_};
 ghost use lib.ListN.{length};
 ghost use Rattle.names.specs.model.Rows.{opensOf, foldNodes};
-ghost use Rattle.emitting.specs.model.Layout.{oneOf, celled, blocked, procedured, closed, layNode, layoutOf};
+ghost use Rattle.emitting.specs.model.Layout.{amongFor, oneOf, outermost, celled, blocked, procedured, closed, layNode, layoutOf};
 ghost use Rattle.emitting.specs.model.Arrays.{lain, unlaidIn, Spread};
 
 // 1 where there is a type.
@@ -18,15 +19,36 @@ fn one_of(sort: usize) -> usize
     if sort == 0 { 0 } else { 1 }
 }
 
-// A variable or a formal: it has the next cell.
-fn celled(mut t: Laid, table: &mut [u32]) -> Laid
+// A variable or a formal, whose cell is at an offset.
+fn celled(mut t: Laid, offset: usize, table: &mut [u32]) -> Laid
     requires { ⌜ (t .reach < 65536) × (t .declared < 65536) ⌝ }
-    ensures { λ r. ⌜ ((a : List ℕ) → lain r a (now (table .exit)) ≡ celled (lain t a (now (table .entry)))) ⌝ }
+    ensures { λ r. ⌜ ((a : List ℕ) → lain r a (now (table .exit)) ≡ celled offset (lain t a (now (table .entry)))) ⌝ }
 {
-    parts::set_word(table, t.declared, operands::packed(t.level, t.reach, 0));
+    parts::set_word(table, t.declared, operands::packed(t.level, offset, 0));
     t.reach += 1;
     t.declared += 1;
     t
+}
+
+// The cells outside the innermost scope.
+fn outside(t: Laid, around: &[usize; 8192]) -> usize
+    requires { ⌜ t .open ≤ 8192 ⌝ }
+    ensures { λ r. ⌜ r ≡ outermost (opensOf (t .open) (now (around .entry))) ⌝ }
+{
+    let n = t.open;
+    if n == 0 {
+        return 0;
+    }
+    around[n - 1]
+}
+
+// A variable: the cells of its block lie by their types, behind those outside.
+fn varied(t: Laid, rows: &[u16], around: &[usize; 8192], table: &mut [u32]) -> Laid
+    requires { ⌜ Spread 8191 (lain t (now around) (now table)) ⌝ }
+    ensures { λ r. ⌜ lain r (now (around .entry)) (now (table .exit)) ≡ celled (outermost (opensOf (t .open) (now (around .entry))) + amongFor (now (rows .entry)) (t .declared)) (lain t (now (around .entry)) (now (table .entry))) ⌝ }
+{
+    let offset = outside(t, around) + counting::among_for(rows, t.declared);
+    celled(t, offset, table)
 }
 
 // A number of an array is written.
@@ -85,18 +107,20 @@ fn lay_node(
     mut t: Laid,
     kind: u16,
     sort: u16,
+    rows: &[u16],
     around: &mut [usize; 8192],
     table: &mut [u32],
 ) -> Laid
     requires { ⌜ Spread 8191 (lain t (now around) (now table)) ⌝ }
-    ensures { λ r. ⌜ ((s b : ℕ) → lain r (now (around .exit)) (now (table .exit)) ≡ layNode kind s sort b (lain t (now (around .entry)) (now (table .entry)))) ⌝ }
+    ensures { λ r. ⌜ ((s b : ℕ) → lain r (now (around .exit)) (now (table .exit)) ≡ layNode (now (rows .entry)) kind s sort b (lain t (now (around .entry)) (now (table .entry)))) ⌝ }
 {
     match kind {
         nodes::TYPE => {
             t.sort = sort as usize;
             t
         }
-        nodes::VARIABLE | nodes::FORMAL => celled(t, table),
+        nodes::VARIABLE => varied(t, rows, around, table),
+        nodes::FORMAL => celled(t, t.reach, table),
         nodes::PROCEDURE => procedured(t, around, table),
         nodes::PROCEDURE_END => closed(t, parts::less(t.level, 1), around),
         nodes::BLOCK => blocked(t, around),
@@ -106,9 +130,9 @@ fn lay_node(
 }
 
 // All nodes.
-fn lay(nodes: &[u16], around: &mut [usize; 8192], table: &mut [u32])
+fn lay(nodes: &[u16], rows: &[u16], around: &mut [usize; 8192], table: &mut [u32])
     requires { ⌜ length (now nodes) ≤ 32768 ⌝ }
-    ensures { λ _. ⌜ now (table .exit) ≡ foldNodes layNode (now (nodes .entry)) (unlaidIn (now (table .entry))) .table ⌝ }
+    ensures { λ _. ⌜ now (table .exit) ≡ foldNodes (layNode (now (rows .entry))) (now (nodes .entry)) (unlaidIn (now (table .entry))) .table ⌝ }
 {
     let mut t = Laid {
         sort: 0,
@@ -120,18 +144,18 @@ fn lay(nodes: &[u16], around: &mut [usize; 8192], table: &mut [u32])
     let mut i = 0;
     while 4 * i + 3 < nodes.len() {
         let at = 4 * i;
-        t = lay_node(t, nodes[at], nodes[at + 2], around, table);
+        t = lay_node(t, nodes[at], nodes[at + 2], rows, around, table);
         i += 1;
     }
 }
 
 // For each declaration or formal, by its number: the activations around its scope, and the offset of its cell in its
 // activation; of a procedure whether it has a result.
-pub fn layout(nodes: &[u16], table: &mut [u32; 2048])
+pub fn layout(nodes: &[u16], rows: &[u16], table: &mut [u32; 2048])
     requires { ⌜ length (now nodes) ≤ 32768 ⌝ }
-    ensures { λ _. ⌜ now (table .exit) ≡ layoutOf (now (nodes .entry)) ⌝ }
+    ensures { λ _. ⌜ now (table .exit) ≡ layoutOf (now (rows .entry)) (now (nodes .entry)) ⌝ }
 {
     let mut around = [0usize; 8192];
     parts::clear(table);
-    lay(nodes, &mut around, table)
+    lay(nodes, rows, &mut around, table)
 }

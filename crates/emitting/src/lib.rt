@@ -3,6 +3,7 @@
 mod codes; // the operations' numbers
 mod parts; // the parts of an operand, and words in lent arrays
 mod uses; // what a use means
+mod counting; // the variables of a block by their types
 mod layout; // where the cells of a program lie
 mod putting; // an instruction, and what is open
 mod cells; // operations on the cells of names
@@ -40,7 +41,8 @@ pub struct Laid {
 // What is known behind some nodes of the code: how many uses were passed; the address of the next instruction; how many
 // addresses lie ahead so far; the activations and the for statements of the running one that are around; the variables of
 // the block so far; the left parts before; 1 where a name stands that a number is taken to; the word of the name that was the
-// last node, 0 where it was no such name; how many declarations and formals there were; how much is open.
+// last node, 0 where it was no such name, and among declarations 1 behind a procedure; how many declarations and formals there
+// were; how much is open.
 pub struct Writing {
     pub uses: usize,
     pub here: Address,
@@ -63,8 +65,8 @@ pub struct Thing {
     pub fourth: usize,
 }
 
-// The code of a program, of which the first n words of the nodes, the first u uses, the first d rows, and the places and
-// values of the symbols are lent: it fills the words that are lent for it, with zeros behind.
+// The code of a program, of which the first n words of the nodes, the first u uses, the first d rows, and the places, marks
+// and values of the symbols are lent: it fills the words that are lent for it, with zeros behind.
 pub fn emit(
     nodes: &[u16; 32768],
     n: usize,
@@ -73,16 +75,18 @@ pub fn emit(
     rows: &[u16; 32768],
     d: usize,
     places: &[usize; 2048],
-    values: &[u32; 2048],
+    marks: &[u16; 2048],
+    values: &[u64; 2048],
     code: &mut [u32],
 )
-    ensures { λ _. ⌜ now (code .exit) ≡ codeOf (length (now (code .entry))) (placeAt (now (places .entry))) (now (values .entry)) (layoutOf (take n (now (nodes .entry)))) (take (4 * d) (now (rows .entry))) (take n (now (nodes .entry))) (usesIn (take (4 * d) (now (rows .entry))) (take u (now (uses .entry)))) ⌝ }
+    ensures { λ _. ⌜ now (code .exit) ≡ codeOf (length (now (code .entry))) (placeAt (now (places .entry))) (now (values .entry)) (layoutOf (take (4 * d) (now (rows .entry))) (take n (now (nodes .entry)))) (take (4 * d) (now (rows .entry))) (now (marks .entry)) (take n (now (nodes .entry))) (usesIn (take (4 * d) (now (rows .entry))) (take u (now (uses .entry)))) ⌝ }
 {
     passes::laid_out(
         parts::front(nodes, n),
         parts::front(uses, u),
         parts::front(rows, parts::row_words(d)),
         places,
+        marks,
         values,
         code,
     )

@@ -74,7 +74,7 @@ fn added(t: Writing, f: Thing, place: Place, code: &mut [u32]) -> Writing
 {
     let name = Place { at: f.third };
     let summed = cells::on_cell(t, code, codes::SUM, place, name, f.second);
-    cells::on_cell(summed, code, codes::STORE, codes::NOWHERE, name, f.second)
+    cells::on_cell(summed, code, codes::STORE, name, name, f.second)
 }
 
 // A step element begins: to its step, and on where a slot tells.
@@ -216,16 +216,10 @@ fn whiled(
 // The value of an element is stored.
 fn started(t: Writing, f: Thing, code: &mut [u32]) -> Writing
     requires { ⌜ (t .here .at < 262144) × Slim 262143 (seen f) ⌝ }
-    ensures { λ r. ⌜ ((us : List Used) (op ah en : List ℕ) → see r us op (now (code .exit)) ah en ≡ onCell 14 0 (f .third) (f .second) (see t us op (now (code .entry)) ah en)) ⌝ }
+    ensures { λ r. ⌜ ((us : List Used) (op ah en : List ℕ) → see r us op (now (code .exit)) ah en ≡ onCell 14 (f .third) (f .third) (f .second) (see t us op (now (code .entry)) ah en)) ⌝ }
 {
-    cells::on_cell(
-        t,
-        code,
-        codes::STORE,
-        codes::NOWHERE,
-        Place { at: f.third },
-        f.second,
-    )
+    let name = Place { at: f.third };
+    cells::on_cell(t, code, codes::STORE, name, name, f.second)
 }
 
 // A node of an element.

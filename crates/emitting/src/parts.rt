@@ -10,7 +10,7 @@ ghost use Prim.Native.Nat.{_*_, _-_, _<_};
 ghost use lib.Dec.{ltb};
 ghost use lib.ListN.{length, getD, set, replicate, take};
 ghost use Rattle.emitting.specs.model.Layout.{packed};
-ghost use Rattle.emitting.specs.model.Emission.{placeAt};
+ghost use Rattle.emitting.specs.model.Emission.{placeAt, markAt};
 
 // A number less another, 0 where that is greater.
 pub fn less(a: usize, b: usize) -> usize
@@ -84,11 +84,26 @@ pub fn place_in(places: &[usize], symbol: Ordinal) -> Place
 }
 
 // The value of a symbol, 0 behind the last one.
-pub fn value_of(values: &[u32], symbol: Ordinal) -> usize
+pub fn value_of(values: &[u64], symbol: Ordinal) -> u64
     ensures { λ r. ⌜ r ≡ getD (now (values .entry)) (symbol .number) 0 ⌝ }
-    ensures { λ r. ⌜ r < 4294967296 ⌝ }
 {
-    word_at(values, symbol.number as usize)
+    let s = symbol.number as usize;
+    if s < values.len() {
+        return values[s];
+    }
+    0
+}
+
+// The mark of a symbol, 0 behind the last one.
+pub fn mark_of(marks: &[u16], symbol: Ordinal) -> usize
+    ensures { λ r. ⌜ r ≡ markAt (now (marks .entry)) (symbol .number) ⌝ }
+    ensures { λ r. ⌜ r < 65536 ⌝ }
+{
+    let s = symbol.number as usize;
+    if s < marks.len() {
+        return marks[s] as usize;
+    }
+    0
 }
 
 // The address in a slot, 0 behind the last one.

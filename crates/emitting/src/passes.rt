@@ -13,14 +13,15 @@ fn again(
     uses: &[u16],
     rows: &[u16],
     places: &[usize; 2048],
-    values: &[u32],
+    marks: &[u16],
+    values: &[u64],
     laid: &[u32],
     ahead: &[u32],
     entries: &[u32],
     code: &mut [u32],
 )
     requires { ⌜ length (now nodes) ≤ 32768 ⌝ }
-    ensures { λ _. ⌜ now (code .exit) ≡ emitted (now (values .entry)) (now (laid .entry)) (now (ahead .entry)) (now (entries .entry)) (now (rows .entry)) (length (now (code .entry))) (placeAt (now (places .entry))) (now (nodes .entry)) (usesIn (now (rows .entry)) (now (uses .entry))) .code ⌝ }
+    ensures { λ _. ⌜ now (code .exit) ≡ emitted (now (values .entry)) (now (laid .entry)) (now (ahead .entry)) (now (entries .entry)) (now (rows .entry)) (now (marks .entry)) (length (now (code .entry))) (placeAt (now (places .entry))) (now (nodes .entry)) (usesIn (now (rows .entry)) (now (uses .entry))) .code ⌝ }
 {
     let mut next_ahead = [0u32; 8192];
     let mut next_entries = [0u32; 2048];
@@ -29,6 +30,7 @@ fn again(
         uses,
         rows,
         places,
+        marks,
         values,
         laid,
         ahead,
@@ -45,14 +47,15 @@ fn twice(
     uses: &[u16],
     rows: &[u16],
     places: &[usize; 2048],
-    values: &[u32],
+    marks: &[u16],
+    values: &[u64],
     laid: &[u32],
     code: &mut [u32],
 )
     requires { ⌜ length (now nodes) ≤ 32768 ⌝ }
-    ensures { λ _. ⌜ now (code .exit) ≡ codeOf (length (now (code .entry))) (placeAt (now (places .entry))) (now (values .entry)) (now (laid .entry)) (now (rows .entry)) (now (nodes .entry)) (usesIn (now (rows .entry)) (now (uses .entry))) ⌝ }
+    ensures { λ _. ⌜ now (code .exit) ≡ codeOf (length (now (code .entry))) (placeAt (now (places .entry))) (now (values .entry)) (now (laid .entry)) (now (rows .entry)) (now (marks .entry)) (now (nodes .entry)) (usesIn (now (rows .entry)) (now (uses .entry))) ⌝ }
 {
-    let nothing = &values[..0];
+    let nothing = &laid[..0];
     let mut ahead = [0u32; 8192];
     let mut entries = [0u32; 2048];
     pass(
@@ -60,6 +63,7 @@ fn twice(
         uses,
         rows,
         places,
+        marks,
         values,
         laid,
         nothing,
@@ -75,6 +79,7 @@ fn twice(
         uses,
         rows,
         places,
+        marks,
         values,
         laid,
         all_ahead,
@@ -89,14 +94,15 @@ pub fn laid_out(
     uses: &[u16],
     rows: &[u16],
     places: &[usize; 2048],
-    values: &[u32],
+    marks: &[u16],
+    values: &[u64],
     code: &mut [u32],
 )
     requires { ⌜ length (now nodes) ≤ 32768 ⌝ }
-    ensures { λ _. ⌜ now (code .exit) ≡ codeOf (length (now (code .entry))) (placeAt (now (places .entry))) (now (values .entry)) (layoutOf (now (nodes .entry))) (now (rows .entry)) (now (nodes .entry)) (usesIn (now (rows .entry)) (now (uses .entry))) ⌝ }
+    ensures { λ _. ⌜ now (code .exit) ≡ codeOf (length (now (code .entry))) (placeAt (now (places .entry))) (now (values .entry)) (layoutOf (now (rows .entry)) (now (nodes .entry))) (now (rows .entry)) (now (marks .entry)) (now (nodes .entry)) (usesIn (now (rows .entry)) (now (uses .entry))) ⌝ }
 {
     let mut cells = [0u32; 2048];
-    layout(nodes, &mut cells);
+    layout(nodes, rows, &mut cells);
     let all_cells = &cells;
-    twice(nodes, uses, rows, places, values, all_cells, code)
+    twice(nodes, uses, rows, places, marks, values, all_cells, code)
 }

@@ -13,11 +13,11 @@ ghost use Prim.Native.Nat.{ℕ, _*_, _-_, _%_, _<_};
 ghost use lib.Dec.{eqb};
 ghost use lib.ListN.{getD, drop};
 ghost use Rattle.names.specs.model.Rows.{meantOf};
-ghost use Rattle.emitting.specs.model.Emission.{formalAt, usedAs, usesIn, kindNext, meansNext, othersNext, withUses};
+ghost use Rattle.emitting.specs.model.Emission.{formalAt, formOf, formAt, usedAs, usesIn, kindNext, meansNext, othersNext, withUses};
 ghost use Rattle.emitting.specs.model.Arrays.{see, Alike};
 
 // A word of a row, 0 behind the last one.
-fn row_word(rows: &[u16], at: usize) -> usize
+pub fn row_word(rows: &[u16], at: usize) -> usize
     ensures { λ r. ⌜ r ≡ getD (now (rows .entry)) at 0 ⌝ }
     ensures { λ r. ⌜ r < 65536 ⌝ }
 {
@@ -42,6 +42,29 @@ pub fn formal_at(rows: &[u16], i: usize) -> usize
         return 2;
     }
     0
+}
+
+// A type as an instruction has it: 0 whole number, 1 real, 2 Boolean.
+fn form_of(sort: usize) -> usize
+    ensures { λ r. ⌜ r ≡ formOf sort ⌝ }
+    ensures { λ r. ⌜ r < 3 ⌝ }
+{
+    if sort == 3 {
+        return 1;
+    }
+    if sort == 2 {
+        return 2;
+    }
+    0
+}
+
+// That of declaration i.
+pub fn form_at(rows: &[u16], i: usize) -> usize
+    requires { ⌜ i < 8589934592 ⌝ }
+    ensures { λ r. ⌜ r ≡ formAt (now (rows .entry)) i ⌝ }
+    ensures { λ r. ⌜ r < 3 ⌝ }
+{
+    form_of(row_word(rows, 4 * i + 3) % 4)
 }
 
 // The kind of a use that means a declaration.

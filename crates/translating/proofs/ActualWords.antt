@@ -9,8 +9,8 @@ use lib.Dec.{eqb}
 use lib.ListN.{getD}
 use borrow.Author.Tests.{eq-eqb, ne-eqb}
 use Rattle.machine.specs.Instructions.{high, mid}
-use Rattle.grammar.specs.NodeKinds.{n-unary, n-binary, n-number, n-logical, n-use, n-call, n-call-end, n-actual, n-then, n-else, n-condition-end}
-use Rattle.names.specs.Program.{Name, Sign, Expression, number, logical, name, call, signed, operated, chosen, nested, Expressions, firstSymbol}
+use Rattle.grammar.specs.NodeKinds.{n-unary, n-binary, n-number, n-decimal, n-logical, n-use, n-call, n-call-end, n-actual, n-then, n-else, n-condition-end}
+use Rattle.names.specs.Program.{Name, Sign, Expression, number, decimal, logical, name, call, signed, operated, chosen, nested, Expressions, firstSymbol}
 use Rattle.names.specs.Scopes.{meaning}
 use Rattle.names.specs.Nodes.{node, mark, signKind, operatorKind, nodesE, nodesEs}
 use Rattle.names.specs.model.Rows.{foldNodes, isUse}
@@ -19,7 +19,7 @@ use Rattle.names.proofs.Fours.{Whole, none as no-words, one, fours-append, a-no
 use Rattle.translation.specs.model.Translate.{Around, scopes}
 use Rattle.translation.proofs.Ranges.{owns}
 use Rattle.emitting.specs.model.Layout.{packed}
-use Rattle.emitting.specs.model.Emission.{State, kindNext, top, withUses, withVariable, nameless, cellOf, wordOf, namedOr, callEnded, useNode, choiceNode, plainNode, codeNode}
+use Rattle.emitting.specs.model.Emission.{State, formAt, kindNext, top, withUses, withVariable, nameless, cellOf, wordOf, namedOr, callEnded, useNode, joined, choiceNode, plainNode, codeNode}
 use Rattle.translating.proofs.Written.{Tables, Frame, Flow, kindOf, meansOf, taken, step, run, state, use-step}
 
 -- ---- the word
@@ -31,6 +31,7 @@ nameWord layout level k m =
 -- of an actual; g: the scopes around, the actual's own mark among them
 abbrev pub wordIn : (ℕ → ℕ) → List ℕ → List Around → Expression → ℕ
 wordIn key layout g (number q v) = 0
+wordIn key layout g (decimal q v i) = 0
 wordIn key layout g (logical q t) = 0
 wordIn key layout g (name x) = nameWord layout (owns g) (kindOf (meaning (scopes g) x)) (meansOf key (meaning (scopes g) x))
 wordIn key layout g (call x e es) = 0
@@ -75,6 +76,10 @@ module _ (tb : Tables) where
   unfolding foldNodes step codeNode isUse plainNode nameless withVariable
   number-clears q st = refl
 
+  decimal-clears : (q : ℕ) → Clears (mark n-decimal q)
+  unfolding foldNodes step codeNode isUse plainNode nameless withVariable
+  decimal-clears q st = refl
+
   logical-clears : (q a : ℕ) → Clears (node n-logical q a 0)
   unfolding foldNodes step codeNode isUse plainNode nameless withVariable
   logical-clears q a st = refl
@@ -92,7 +97,7 @@ module _ (tb : Tables) where
   call-clears q u st = refl
 
   choice-clears : (q : ℕ) → Clears (mark n-condition-end q)
-  unfolding foldNodes step codeNode isUse choiceNode nameless withVariable
+  unfolding foldNodes step codeNode isUse choiceNode joined nameless withVariable
   choice-clears q st = refl
 
   call-part : (d u : ℕ) (x : Name) (e : Expression) (es : Expressions) → Clears (node n-call (x .symbol) d u ++ ((nodesE (d + 1) e ++ (mark n-actual (firstSymbol e) ++ nodesEs (d + 1) es)) ++ node n-call-end (x .symbol) 0 u))
@@ -121,6 +126,7 @@ module _ (tb : Tables) where
   deeper : (e : Expression) (d D : ℕ) (st : State) → D < d → top (st .open-ones) .fourth ≡ D → st .awaits ≡ 0 → run tb (nodesE d e) st .variable ≡ 0
   unfolding nodesE
   deeper (number q v) d D st h i j = number-clears q st
+  deeper (decimal q v k) d D st h i j = decimal-clears q st
   deeper (logical q true) d D st h i j = logical-clears q 1 st
   deeper (logical q false) d D st h i j = logical-clears q 0 st
   deeper (name x) d D st h i j = deep-name (x .symbol) d D st h i j
@@ -139,10 +145,10 @@ module _ (tb : Tables) where
       go false true u v = refl
       go false false u v = refl
 
-  kept-name : (k m u p d : ℕ) (st : State) → st .awaits ≡ 0
-      → namedOr (tb .values) (tb .layout) (tb .ahead) (tb .entries) k m u p d st .variable ≡ wordOf (tb .values) (tb .layout) (tb .ahead) (tb .entries) k m d st
+  kept-name : (k m u p d f : ℕ) (st : State) → st .awaits ≡ 0
+      → namedOr (tb .values) (tb .layout) (tb .ahead) (tb .entries) k m u p d f st .variable ≡ wordOf (tb .values) (tb .layout) (tb .ahead) (tb .entries) k m d st
   unfolding namedOr withVariable
-  kept-name k m u p d st j = rw j
+  kept-name k m u p d f st j = rw j
 
   alone-word : (x : Name) (D : ℕ) (g : List Around) (us : List Use) (fr : Frame) (fl : Flow) → fl .uses ≡ used (scopes g) x ∷ us → top (fr .opens) .fourth ≡ D → fr .awaits ≡ 0 → fr .level ≡ owns g
       → run tb (node n-use (x .symbol) D 0) (state tb fr fl) .variable ≡ wordIn (tb .key) (tb .layout) g (name x)
@@ -150,7 +156,7 @@ module _ (tb : Tables) where
   alone-word x D g us fr fl u i j l =
       let M = meaning (scopes g) x in
       ap (λ (s : State). s .variable) (use-step tb n-use (x .symbol) D 0 fr fl (scopes g) x us (kindOf M) (meansOf (tb .key) M) refl u refl refl)
-      ∙ kept-name (kindOf M) (meansOf (tb .key) M) 0 (tb .place (x .symbol)) D (state tb fr (taken us fl)) j
+      ∙ kept-name (kindOf M) (meansOf (tb .key) M) 0 (tb .place (x .symbol)) D (formAt (tb .rows) (meansOf (tb .key) M)) (state tb fr (taken us fl)) j
       ∙ kept-word (kindOf M) (meansOf (tb .key) M) D (state tb fr (taken us fl)) i
       ∙ ap (λ (n : ℕ). nameWord (tb .layout) n (kindOf M) (meansOf (tb .key) M)) l
 
@@ -159,6 +165,7 @@ module _ (tb : Tables) where
       → run tb (nodesE D e) (state tb fr fl) .variable ≡ wordIn (tb .key) (tb .layout) g e
   unfolding nodesE usesE
   last-word (number q v) D g us fr fl u i j l = number-clears q (state tb fr fl)
+  last-word (decimal q v k) D g us fr fl u i j l = decimal-clears q (state tb fr fl)
   last-word (logical q true) D g us fr fl u i j l = logical-clears q 1 (state tb fr fl)
   last-word (logical q false) D g us fr fl u i j l = logical-clears q 0 (state tb fr fl)
   last-word (name x) D g us fr fl u i j l = alone-word x D g us fr fl u i j l

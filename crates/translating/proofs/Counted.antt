@@ -7,7 +7,7 @@ use mathlib.Core.Option.{Option, none, some}
 use native.Mathlib.Omega.{arith}
 use lib.ListN.{length, length-append}
 use Rattle.grammar.specs.Grammar.{Class, block, inner, head, tail, declarations, declaration, declared, type, procedure, heading, formals, values, specifications, list, others, statements, statement, consequence, alternative, repetition, for-clause, elements, further, element, progress, stepping, amount, unconditional, named, right, expression, otherwise, level, more, negation, relation, comparison, primary, actuals, actual, further-actuals, operand, program}
-use Rattle.grammar.specs.Grammar.{Prod, begin-end, a-block, a-compound, a-tail, a-head, some-declarations, no-declaration, typed, untyped, variables, function, integer, boolean, a-procedure, a-heading, some-formals, no-formals, some-values, no-values, a-specification, no-specification, a-list, another, no-other, a-statement, no-statement, conditional, repeated, plain, then-for, then-plain, an-else, no-else, a-for, a-clause, for-list, another-element, no-element, an-element, once, while, by-steps, a-step, an-amount, dummy, compound, with-name, assignment, call, left, value, a-condition, simple, an-otherwise, chain, signed, again, no-more, a-not, no-not, a-relation, compare, no-comparison, number, true-value, false-value, a-name, in-parentheses, with, bare, an-actual, another-actual, no-actual}
+use Rattle.grammar.specs.Grammar.{Prod, begin-end, a-block, a-compound, a-tail, a-head, some-declarations, no-declaration, typed, untyped, variables, function, integer, boolean, real, a-procedure, a-heading, some-formals, no-formals, some-values, no-values, a-specification, no-specification, a-list, another, no-other, a-statement, no-statement, conditional, repeated, plain, then-for, then-plain, an-else, no-else, a-for, a-clause, for-list, another-element, no-element, an-element, once, while, by-steps, a-step, an-amount, dummy, compound, with-name, assignment, call, left, value, a-condition, simple, an-otherwise, chain, signed, again, no-more, a-not, no-not, a-relation, compare, no-comparison, number, decimal, true-value, false-value, a-name, in-parentheses, with, bare, an-actual, another-actual, no-actual}
 use Rattle.grammar.specs.Trees.{Syn, yield}
 use Rattle.grammar.specs.declared.Level.{Level}
 use Rattle.grammar.specs.declared.Level.the-variants.{Product, Sum, Conjunction, Disjunction, Implication, Equivalence}
@@ -90,7 +90,7 @@ sized-elements (P.while q e c) ls = omega arith
 sized-elements (P.step q e f h) ls = omega arith
 
 module _ (worth : ℕ → ℕ) (letters : ℕ → List ℕ) where
-  fits : {X : Class} (p : Prod X) → Fits worth letters (λ i. Unit {0}) Sized p
+  fits : {X : Class} (p : Prod X) → Fits worth letters (λ i k. Unit {0}) Sized p
   unfolding build symbolsE symbolsL symbolsS actualSymbols specificationSymbols
   fits begin-end = λ i b f j l h e. omega (arith, h i)
   fits a-block = λ i ds j l h ss j' l' k q. omega arith
@@ -105,6 +105,7 @@ module _ (worth : ℕ → ℕ) (letters : ℕ → List ℕ) where
   fits function = λ i q f j l h t ds. omega (arith, h (some t))
   fits integer = λ i q. omega arith
   fits boolean = λ i q. omega arith
+  fits real = λ i q. omega arith
   fits a-procedure = λ i f j l h s j' l' k t. omega (arith, h t s)
   fits a-heading = λ i x xs j l h q vs j' l' k ss j'' l'' m t s. omega arith
   fits some-formals = λ i q xs j l h r. omega (arith, sized-list xs (i + 1) j l h)
@@ -156,6 +157,7 @@ module _ (worth : ℕ → ℕ) (letters : ℕ → List ℕ) where
   fits (compare r) = λ i q f j l h e. omega arith
   fits no-comparison = λ i e. omega arith
   fits number = λ i q. omega arith
+  fits decimal = λ i q. omega arith
   fits true-value = λ i q. omega arith
   fits false-value = λ i q. omega arith
   fits a-name = λ i x es j l h. omega (arith, sized-applied (nameAt worth letters i) es)
@@ -168,4 +170,4 @@ module _ (worth : ℕ → ℕ) (letters : ℕ → List ℕ) where
 
   -- the program has the symbols of the text
   pub counted : (t : Syn program) → symbolsS (programOf worth letters t) ≡ length (yield t)
-  counted t = omega (arith, built worth letters (λ i. Unit {0}) Sized (λ X p. fits p) t (λ i h. tt))
+  counted t = omega (arith, built worth letters (λ i k. Unit {0}) Sized (λ X p. fits p) t (λ i h. tt))

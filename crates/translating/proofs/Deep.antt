@@ -9,7 +9,7 @@ use native.Mathlib.Omega.{arith}
 use lib.ListN.{length}
 use Rattle.grammar.specs.model.Run.{levels}
 use Rattle.grammar.specs.Grammar.{Class, block, inner, head, tail, declarations, declaration, declared, type, procedure, heading, formals, values, specifications, list, others, statements, statement, consequence, alternative, repetition, for-clause, elements, further, element, progress, stepping, amount, unconditional, named, right, expression, otherwise, level, more, negation, relation, comparison, primary, actuals, actual, further-actuals, Item, sy, rd, rhs, program}
-use Rattle.grammar.specs.Grammar.{Prod, begin-end, a-block, a-compound, a-tail, a-head, some-declarations, no-declaration, typed, untyped, variables, function, integer, boolean, a-procedure, a-heading, some-formals, no-formals, some-values, no-values, a-specification, no-specification, a-list, another, no-other, a-statement, no-statement, conditional, repeated, plain, then-for, then-plain, an-else, no-else, a-for, a-clause, for-list, another-element, no-element, an-element, once, while, by-steps, a-step, an-amount, dummy, compound, with-name, assignment, call, left, value, a-condition, simple, an-otherwise, chain, signed, again, no-more, a-not, no-not, a-relation, compare, no-comparison, number, true-value, false-value, a-name, in-parentheses, with, bare, an-actual, another-actual, no-actual}
+use Rattle.grammar.specs.Grammar.{Prod, begin-end, a-block, a-compound, a-tail, a-head, some-declarations, no-declaration, typed, untyped, variables, function, integer, boolean, real, a-procedure, a-heading, some-formals, no-formals, some-values, no-values, a-specification, no-specification, a-list, another, no-other, a-statement, no-statement, conditional, repeated, plain, then-for, then-plain, an-else, no-else, a-for, a-clause, for-list, another-element, no-element, an-element, once, while, by-steps, a-step, an-amount, dummy, compound, with-name, assignment, call, left, value, a-condition, simple, an-otherwise, chain, signed, again, no-more, a-not, no-not, a-relation, compare, no-comparison, number, decimal, true-value, false-value, a-name, in-parentheses, with, bare, an-actual, another-actual, no-actual}
 use Rattle.grammar.specs.Grammar.{operand}
 use Rattle.grammar.specs.declared.Level.{Level}
 use Rattle.grammar.specs.declared.Level.the-variants.{Product, Sum, Conjunction, Disjunction, Implication, Equivalence}
@@ -142,6 +142,7 @@ module _ (worth : ℕ → ℕ) (letters : ℕ → List ℕ) where
   fits function = λ d q f h t ds m. omega (arith, h (some t))
   fits integer = λ d q. tt
   fits boolean = λ d q. tt
+  fits real = λ d q. tt
   fits a-procedure = λ d f h s e z k t. omega (arith, h t s)
   fits a-heading = λ d x xs h q vs k ss m t s. refl
   fits some-formals = λ d q xs h r. tt
@@ -193,6 +194,7 @@ module _ (worth : ℕ → ℕ) (letters : ℕ → List ℕ) where
   fits (compare r) = λ d q f h e k. omega arith
   fits no-comparison = λ d e h. h
   fits number = λ d q. omega arith
+  fits decimal = λ d q. omega arith
   fits true-value = λ d q. omega arith
   fits false-value = λ d q. omega arith
   fits a-name = λ d x es h. deep-applied (nameAt worth letters x) es d h

@@ -1,6 +1,6 @@
 -- The words that the pass over a program's nodes writes are the words of its translation: done once, the pass finds what lies ahead and where procedures
 -- begin; done again with these tables, it writes the code. Assumes nothing.
-use Prim.Native.Nat.{ℕ, _+_, _-_, _≤_, _<_}
+use Prim.Native.Nat.{ℕ, _-_, _≤_, _<_}
 use native.Mathlib.Omega.{arith}
 use mathlib.Core.Path.{_≡_, refl, sym, ap, _∙_}
 use mathlib.Core.List.{List, [], _∷_, _++_, append-nil}
@@ -18,6 +18,10 @@ use Rattle.translation.specs.model.Scoped.{Scoped}
 use Rattle.translation.specs.model.Sizes.{Limited}
 use Rattle.emitting.specs.model.Emission.{Used, State, put, fresh, emitted, codeOf}
 use Rattle.names.specs.Every.{AnyName, EveryS}
+use Rattle.translating.proofs.Accepting.{Valued, Pointed}
+use Rattle.translating.proofs.Standing.{StandS}
+use Rattle.translating.proofs.Counts.{HeadedS, CountsS}
+use Rattle.translating.proofs.BlockRows.{counts}
 use Rattle.translating.proofs.ToldCalls.{Asked, ToldS, toldS}
 use Rattle.translating.proofs.ActualWords.{wordIn}
 use Rattle.translating.proofs.Rising.{RowsRise}
@@ -30,6 +34,10 @@ use Rattle.translating.proofs.EntryTables.{enteredS, RightS, right-entr
 use Rattle.translating.proofs.Written.{Tables, Frame, Flow, usesAs, real, wrote, put-real, step, run, Passed}
 use Rattle.translating.proofs.WrittenStatements.{emitsS}
 
+-- the mark of an 'if'
+abbrev pub Marked : List ℕ → ℕ → ℕ → Type 0
+Marked marks q w = getD marks q 0 ≡ w
+
 -- nothing around, nothing behind
 abbrev outermost : Frame
 outermost = record { level = 0; loops = 0; cells = 0; lefts = 0; awaits = 0; opens = [] }
@@ -40,9 +48,10 @@ begun s = record { uses = usesS [] s; at = 0; variable = 0; code = []; slots = [
 fresh-is : (key : ℕ → ℕ) (s : Statement) → fresh 16384 (usesAs key (usesS [] s)) ≡ real key outermost (begun s)
 fresh-is key s = rw (shown-none 16384, shown-none 8192, shown-none 2048)
 
-module _ (place key : ℕ → ℕ) (small : (q : ℕ) → place q < 65536) (values layout rows : List ℕ) (s : Statement) (ok : Scoped s) (calls : ToldS (λ q v. getD values q 0 ≡ v) (Asked key rows) [] s) (laid : LaidS key layout 0 0 s) where
+module _ (place key : ℕ → ℕ) (small : (q : ℕ) → place q < 65536) (values layout rows marks : List ℕ) (s : Statement) (ok : Scoped s)
+    (calls : ToldS (Valued values) (Pointed values) (Marked marks) (Asked key rows) [] s) (laid : LaidS key layout 0 0 s) (counts : CountsS rows 0 s) where
   abbrev told : List ℕ → List ℕ → Tables
-  told ahead entries = record { place = place; key = key; values = values; layout = layout; ahead = ahead; entries = entries; rows = rows; small = small }
+  told ahead entries = record { place = place; key = key; values = values; layout = layout; ahead = ahead; entries = entries; rows = rows; marks = marks; small = small }
 
   -- what lies ahead
   abbrev before : List Around → Statement → ℕ → List ℕ → List ℕ
@@ -55,10 +64,10 @@ module _ (place key : ℕ → ℕ) (small : (q : ℕ) → place q < 65536) (valu
   whole : (R : Type 0) (ahead entries : List ℕ) → (R → RightS key entries [] s 0)
       → Passed (told ahead entries) R outermost outermost (nodesS 1 s) [] (endS [] s 0) (before [] s 0) (enteredS [] s 0) (codeS place [] 0 s 0) (begun s)
   whole R ahead entries right =
-      emitsS (told ahead entries) R [] 0 s 1 0 (λ z. tt) right tt ok calls laid .pass [] outermost (begun s) (record { level = refl; loops = refl; lefts = refl; awaits = refl }) (sym (append-nil (usesS [] s))) refl
+      emitsS (told ahead entries) R [] 0 s 1 0 0 (λ z. tt) right tt ok calls laid counts .pass [] outermost (begun s) (record { level = refl; loops = refl; lefts = refl; awaits = refl }) (sym (append-nil (usesS [] s))) refl refl
 
   ran : (R : Type 0) (ahead entries : List ℕ) (right : R → RightS key entries [] s 0)
-      → emitted values layout ahead entries rows 16384 place (nodesS 1 s) uses ≡ real key outermost (wrote 1 0 0 (whole R ahead entries right .next))
+      → emitted values layout ahead entries rows marks 16384 place (nodesS 1 s) uses ≡ real key outermost (wrote 1 0 0 (whole R ahead entries right .next))
   unfolding emitted step foldNodes
   ran R ahead entries right =
       let tb = told ahead entries in
@@ -86,12 +95,12 @@ module _ (place key : ℕ → ℕ) (small : (q : ℕ) → place q < 65536) (valu
       → Passed (told (shown 8192 slots) entries) (Unit {0}) outermost outermost (nodesS 1 s) [] (endS [] s 0) (before [] s 0) (enteredS [] s 0) (codeS place [] 0 s 0) (begun s)
   second right = whole (Unit {0}) (shown 8192 slots) entries (λ z. right)
 
-  twice : (right : RightS key entries [] s 0) → codeOf 16384 place values layout rows (nodesS 1 s) uses ≡ shown 16384 (second right .next .code ++ (1 ∷ 0 ∷ []))
+  twice : (right : RightS key entries [] s 0) → codeOf 16384 place values layout rows marks (nodesS 1 s) uses ≡ shown 16384 (second right .next .code ++ (1 ∷ 0 ∷ []))
   unfolding codeOf first second
   twice right =
       let nodes = nodesS 1 s in
-      ap (λ (st : State). emitted values layout (st .ahead) (st .entries) rows 16384 place nodes uses .code) (ran ⊥ [] [] (λ z. absurd z))
-      ∙ ap (λ (l : List ℕ). emitted values layout (shown 8192 slots) (shown 2048 l) rows 16384 place nodes uses .code) (first .enters)
+      ap (λ (st : State). emitted values layout (st .ahead) (st .entries) rows marks 16384 place nodes uses .code) (ran ⊥ [] [] (λ z. absurd z))
+      ∙ ap (λ (l : List ℕ). emitted values layout (shown 8192 slots) (shown 2048 l) rows marks 16384 place nodes uses .code) (first .enters)
       ∙ ap (λ (st : State). st .code) (ran (Unit {0}) (shown 8192 slots) entries (λ z. right))
 
   -- the table of what lies ahead is right
@@ -106,14 +115,16 @@ module _ (place key : ℕ → ℕ) (small : (q : ℕ) → place q < 65536) (valu
   written l right = second right .right tt (replicate (8192 - length slots) 0) (END ∷ []) (ahead-right l) (in-range place s l) .0
 
 -- the words of the pass are the words of the translation, and zeros behind them
-pub emitted-code : (place : ℕ → ℕ) → ((q : ℕ) → place q < 65536) → (n : ℕ) (values layout : List ℕ) (s : Statement) → n ≤ 2048 → RowsRise 0 n (rowsS 0 0 s) → Scoped s → Limited s
-    → EveryS AnyName (λ q v. getD values q 0 ≡ v) s → LaidS (numberOf (rowsS 0 0 s)) layout 0 0 s → (words-of : List ℕ) → Matches (rowsS 0 0 s) words-of (usesS [] s)
-    → codeOf 16384 place values layout (rowsS 0 0 s) (nodesS 1 s) (usesAs (numberOf (rowsS 0 0 s)) (usesS [] s)) ≡ words (code place s) ++ replicate (16384 - length (words (code place s))) 0
-emitted-code place small n values layout s few rising ok limited numbers laid ws used =
+pub emitted-code : (place : ℕ → ℕ) → ((q : ℕ) → place q < 65536) → (n : ℕ) (values layout marks : List ℕ) (s : Statement) → n ≤ 2048 → RowsRise 0 n (rowsS 0 0 s) → Scoped s → Limited s
+    → HeadedS s → EveryS AnyName (Valued values) (Pointed values) s → StandS (Marked marks) [] s → LaidS (numberOf (rowsS 0 0 s)) layout 0 0 s
+    → (words-of : List ℕ) → Matches (rowsS 0 0 s) words-of (usesS [] s)
+    → codeOf 16384 place values layout (rowsS 0 0 s) marks (nodesS 1 s) (usesAs (numberOf (rowsS 0 0 s)) (usesS [] s)) ≡ words (code place s) ++ replicate (16384 - length (words (code place s))) 0
+emitted-code place small n values layout marks s few rising ok limited headed numbers stand laid ws used =
     let rows = rowsS 0 0 s in
     let key = numberOf rows in
     let right = right-entries n few s rising in
-    let calls = toldS (λ q v. getD values q 0 ≡ v) n rows rising [] s numbers (ws, used) in
-    twice place key small values layout rows s ok calls laid right
-    ∙ ap (shown 16384) (written place key small values layout rows s ok calls laid limited right)
+    let calls = toldS (Valued values) (Pointed values) (Marked marks) n rows rising [] s numbers stand (ws, used) in
+    let counted = counts s headed (limited .symbols) in
+    twice place key small values layout rows marks s ok calls laid counted right
+    ∙ ap (shown 16384) (written place key small values layout rows marks s ok calls laid counted limited right)
     ∙ shown-whole 16384 (words (code place s)) (fits-words place s limited)

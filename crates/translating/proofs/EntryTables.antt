@@ -1,18 +1,20 @@
 -- Where procedures begin: the words that a pass over a tree adds to the table of the entries, one for each declaration in source order, and that a table
 -- of them all is right for every procedure of the tree: each is found by its number, since one word stands for each row.
 use Prim.Native.Nat.{ℕ, suc, _+_, _≤_}
+use native.Mathlib.Omega.{arith}
 use mathlib.Core.Path.{_≡_, refl, sym, ap, _∙_}
 use mathlib.Core.Bool.{Bool, true, false, cond}
 use mathlib.Core.List.{List, [], _∷_, _++_}
 use mathlib.Core.Option.{some, Option·none-ne-some}
-use lib.ListN.{getD}
+use lib.ListN.{length, getD, length-append}
 use Rattle.grammar.specs.NodeKinds.{n-variable, n-formal}
 use Rattle.names.specs.Program.{Name, Statement, dummy, assignment, procedure, when, either, repeat, compound, block, Statements, last, first, Declarations, none as no-more, variables, declare, Procedure, heading}
 use Rattle.names.specs.Scopes.{routine, Declared, Scope, ofBlock, ofBody, nameOf, same, inBlock, findIn}
 use Rattle.names.specs.Nodes.{sortNumber}
 use Rattle.names.specs.Outline.{sizeS, sizeD, sizeP, formalIn, rowsN, rowsS, rowsSs, rowsD, rowsP}
-use Rattle.translation.specs.model.Translate.{endE, endL, endS, endDs, endP, entry}
-use Rattle.translation.proofs.Stands.{behind}
+use Rattle.translation.specs.model.Translate.{endE, endL, endHead, endS, endDs, endP, entry}
+use Rattle.rules.proofs.Declarations.{behind}
+use Rattle.translating.proofs.Counts.{manyS, manySs, manyDs, manyP}
 use Rattle.translating.proofs.Shown.{shown}
 use Rattle.translating.proofs.Rising.{RowsRise}
 use Rattle.translating.proofs.Sites.{numberOf}
@@ -39,7 +41,8 @@ unfoldable mutual
   enteredS g (compound ss) b l = enteredSs g ss b l
   enteredS g (block q ds ss) b l =
       let h = ofBlock ds ∷ g in
-      enteredSs h ss (endDs h ds (suc b)) (enteredDs h ds (suc b) l)
+      let p = endHead ds b in
+      enteredSs h ss (suc (endDs h ds p)) (enteredDs h ds p l)
 
   pub enteredSs : List Scope → Statements → ℕ → List ℕ → List ℕ
   enteredSs g (last s) b l = enteredS g s b l
@@ -68,7 +71,10 @@ unfoldable mutual
   entriesS g (either q c s t) b = entriesS g s (suc (endE g c b)) ++ entriesS g t (suc (endS g s (suc (endE g c b))))
   entriesS g (repeat x y ys s) b = entriesS g s (endL g x (y ∷ ys) b)
   entriesS g (compound ss) b = entriesSs g ss b
-  entriesS g (block q ds ss) b = entriesDs (ofBlock ds ∷ g) ds (suc b) ++ entriesSs (ofBlock ds ∷ g) ss (endDs (ofBlock ds ∷ g) ds (suc b))
+  entriesS g (block q ds ss) b =
+      let h = ofBlock ds ∷ g in
+      let p = endHead ds b in
+      entriesDs h ds p ++ entriesSs h ss (suc (endDs h ds p))
 
   pub entriesSs : List Scope → Statements → ℕ → List Written
   entriesSs g (last s) b = entriesS g s b
@@ -106,7 +112,9 @@ mutual
   enteredS-are g (compound ss) b l = enteredSs-are g ss b l
   enteredS-are g (block q ds ss) b l =
       let h = ofBlock ds ∷ g in
-      then-are l (entriesDs h ds (suc b)) (entriesSs h ss (endDs h ds (suc b))) (enteredDs-are h ds (suc b) l) (enteredSs-are h ss (endDs h ds (suc b)) (enteredDs h ds (suc b) l))
+      let p = endHead ds b in
+      let i = suc (endDs h ds p) in
+      then-are l (entriesDs h ds p) (entriesSs h ss i) (enteredDs-are h ds p l) (enteredSs-are h ss i (enteredDs h ds p l))
 
   enteredSs-are : (g : List Scope) (ss : Statements) (b : ℕ) (l : List ℕ) → enteredSs g ss b l ≡ writes l (entriesSs g ss b)
   enteredSs-are g (last s) b l = enteredS-are g s b l
@@ -120,6 +128,43 @@ mutual
   enteredP-are : (g : List Scope) (p : Procedure) (b : ℕ) (l : List ℕ) → enteredP g p b l ≡ writes l (entriesP g p b)
   enteredP-are g (heading t f xs vs ss s) b l =
       then-are (l ++ (b ∷ [])) (entriesN xs) (entriesS (ofBody (heading t f xs vs ss s) ∷ g) s b) (blanks-are xs (l ++ (b ∷ []))) (enteredS-are (ofBody (heading t f xs vs ss s) ∷ g) s b (blanks xs (l ++ (b ∷ []))))
+
+-- as many as there are declarations and formals
+pub blanks-many : (xs : List Name) (l : List ℕ) → length (blanks xs l) ≡ length l + length xs
+blanks-many [] l = omega arith
+blanks-many (x ∷ xs) l = omega (arith, blanks-many xs (l ++ (0 ∷ [])), length-append l (0 ∷ []))
+
+mutual
+  unfolding enteredS manyS
+
+  pub enteredS-many : (g : List Scope) (s : Statement) (b : ℕ) (l : List ℕ) → length (enteredS g s b l) ≡ length l + manyS s
+  enteredS-many g dummy b l = omega arith
+  enteredS-many g (assignment x xs q e) b l = omega arith
+  enteredS-many g (procedure x es) b l = omega arith
+  enteredS-many g (when q c s) b l = enteredS-many g s (suc (endE g c b)) l
+  enteredS-many g (either q c s t) b l =
+      let i = suc (endE g c b) in
+      omega (arith, enteredS-many g s i l, enteredS-many g t (suc (endS g s i)) (enteredS g s i l))
+  enteredS-many g (repeat x y ys s) b l = enteredS-many g s (endL g x (y ∷ ys) b) l
+  enteredS-many g (compound ss) b l = enteredSs-many g ss b l
+  enteredS-many g (block q ds ss) b l =
+      let h = ofBlock ds ∷ g in
+      let p = endHead ds b in
+      omega (arith, enteredDs-many h ds p l, enteredSs-many h ss (suc (endDs h ds p)) (enteredDs h ds p l))
+
+  enteredSs-many : (g : List Scope) (ss : Statements) (b : ℕ) (l : List ℕ) → length (enteredSs g ss b l) ≡ length l + manySs ss
+  enteredSs-many g (last s) b l = enteredS-many g s b l
+  enteredSs-many g (first s ss) b l = omega (arith, enteredS-many g s b l, enteredSs-many g ss (endS g s b) (enteredS g s b l))
+
+  pub enteredDs-many : (g : List Scope) (ds : Declarations) (b : ℕ) (l : List ℕ) → length (enteredDs g ds b l) ≡ length l + manyDs ds
+  enteredDs-many g no-more b l = omega arith
+  enteredDs-many g (variables t xs ds) b l = omega (arith, blanks-many xs l, enteredDs-many g ds b (blanks xs l))
+  enteredDs-many g (declare p ds) b l = omega (arith, enteredP-many g p b l, enteredDs-many g ds (endP g p b) (enteredP g p b l))
+
+  pub enteredP-many : (g : List Scope) (p : Procedure) (b : ℕ) (l : List ℕ) → length (enteredP g p b l) ≡ length l + manyP p
+  enteredP-many g (heading t f xs vs ss s) b l =
+      let h = ofBody (heading t f xs vs ss s) ∷ g in
+      omega (arith, enteredS-many h s b (blanks xs (l ++ (b ∷ []))), blanks-many xs (l ++ (b ∷ [])), length-append l (b ∷ []))
 
 -- one for each row
 alikeN : (k q : ℕ) (t : Name → ℕ) (xs : List Name) → Alike (rowsN k q t xs) (entriesN xs)
@@ -140,7 +185,8 @@ mutual
   alikeS c q g (compound ss) b = alikeSs c q g ss b
   alikeS c q g (block p ds ss) b =
       let h = ofBlock ds ∷ g in
-      alike-append (alikeDs (c + 1) (c + 1) h ds (suc b)) (alikeSs (c + 1 + sizeD ds) (c + 1) h ss (endDs h ds (suc b)))
+      let i = endHead ds b in
+      alike-append (alikeDs (c + 1) (c + 1) h ds i) (alikeSs (c + 1 + sizeD ds) (c + 1) h ss (suc (endDs h ds i)))
 
   alikeSs : (c q : ℕ) (g : List Scope) (ss : Statements) (b : ℕ) → Alike (rowsSs c q ss) (entriesSs g ss b)
   alikeSs c q g (last s) b = alikeS c q g s b
@@ -167,7 +213,7 @@ module _ (key : ℕ → ℕ) (T : List ℕ) where
     RightS g (either q c s t) b = RightS g s (suc (endE g c b)) × RightS g t (suc (endS g s (suc (endE g c b))))
     RightS g (repeat x y ys s) b = RightS g s (endL g x (y ∷ ys) b)
     RightS g (compound ss) b = RightSs g ss b
-    RightS g (block q ds ss) b = RightDs (ofBlock ds ∷ g) ds (suc b) × RightSs (ofBlock ds ∷ g) ss (endDs (ofBlock ds ∷ g) ds (suc b))
+    RightS g (block q ds ss) b = RightDs (ofBlock ds ∷ g) ds (endHead ds b) × RightSs (ofBlock ds ∷ g) ss (suc (endDs (ofBlock ds ∷ g) ds (endHead ds b)))
 
     pub RightSs : List Scope → Statements → ℕ → Type 0
     RightSs g (last s) b = RightS g s b
@@ -219,9 +265,10 @@ module _ (key : ℕ → ℕ) (T : List ℕ) where
     rightS g (compound ss) b h = rightSs g ss b h
     rightS g (block q ds ss) b h =
         let g' = ofBlock ds ∷ g in
-        let i = endDs g' ds (suc b) in
-        let r = found-split key T (entriesDs g' ds (suc b)) (entriesSs g' ss i) h in
-        (rightDs g' ds (suc b) (r .0), rightSs g' ss i (r .1))
+        let p = endHead ds b in
+        let i = suc (endDs g' ds p) in
+        let r = found-split key T (entriesDs g' ds p) (entriesSs g' ss i) h in
+        (rightDs g' ds p (r .0), rightSs g' ss i (r .1))
 
     rightSs : (g : List Scope) (ss : Statements) (b : ℕ) → Found key T (entriesSs g ss b) → RightSs g ss b
     rightSs g (last s) b h = rightS g s b h

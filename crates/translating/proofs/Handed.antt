@@ -26,7 +26,7 @@ pub as-refused : {text ws : List ℕ} (r : Refusal) (n : ℕ) → Judged text (R
 as-refused {text} r n j e k = subst (Translated text (Refused r)) (sym (e ∙ ap (λ i. replicate i 0) k)) (refused r j)
 
 -- 0
-pub as-accepted : {text nodes uses rows places values ws : List ℕ} {n : ℕ} (p : Grammatical text) → Lent p nodes uses rows places values → least (nameFaults (itsProgram p)) ≡ none → typeFault (itsProgram p) ≡ none
-    → n ≡ codeWords → ws ≡ codeOf n (placeAt places) values (layoutOf nodes) rows nodes (usesIn rows uses) → Translated text Accepted ws
-as-accepted {text} {nodes} {uses} {rows} {places} {values} p t named typed k e =
-    subst (Translated text Accepted) (sym (e ∙ ap (λ i. codeOf i (placeAt places) values (layoutOf nodes) rows nodes (usesIn rows uses)) k ∙ coded t named typed)) (accepted p named typed)
+pub as-accepted : {text nodes uses rows places values marks ws : List ℕ} {n : ℕ} (p : Grammatical text) → Lent p nodes uses rows places values marks → least (nameFaults (itsProgram p)) ≡ none → typeFault (itsProgram p) ≡ none
+    → n ≡ codeWords → ws ≡ codeOf n (placeAt places) values (layoutOf rows nodes) rows marks nodes (usesIn rows uses) → Translated text Accepted ws
+as-accepted {text} {nodes} {uses} {rows} {places} {values} {marks} p t named typed k e =
+    subst (Translated text Accepted) (sym (e ∙ ap (λ i. codeOf i (placeAt places) values (layoutOf rows nodes) rows marks nodes (usesIn rows uses)) k ∙ coded t named typed)) (accepted p named typed)

@@ -13,11 +13,12 @@ use Rattle.names.specs.Scopes.{ofBlock, ofBody}
 use Rattle.names.specs.Nodes.{sortNumber}
 use Rattle.names.specs.Outline.{sizeS, sizeD, sizeP, formalIn, rowsN, rowsS, rowsSs, rowsD, rowsP}
 use Rattle.rules.specs.Entered.{cellsIn, oneIf}
-use Rattle.emitting.specs.model.Layout.{packed}
+use Rattle.emitting.specs.model.Layout.{packed, amongFor}
 use Rattle.translating.proofs.Shown.{shown, shown-get}
 use Rattle.names.proofs.Rising.{Rising, no-more, next}
 use Rattle.translating.proofs.Rising.{seconds, RowsRise}
 use Rattle.translating.proofs.Sites.{numberOf}
+use Rattle.translating.proofs.Counts.{manyS, manyDs, manyP}
 
 -- a word, and the symbol of the declaring name that it tells of
 pub record Written : Type 0 where
@@ -27,37 +28,44 @@ pub record Written : Type 0 where
 abbrev pub written : ℕ → ℕ → Written
 written k w = record { symbol = k; word = w }
 
--- ---- those of a part: u activations are around, o cells of the running one's scopes
+-- ---- those of a part: u activations are around, o cells of the running one's scopes, n declarations and formals before
 
--- names that have cells
+-- formals, whose cells lie in their order
 unfoldable pub writtenN : ℕ → ℕ → List Name → List Written
 writtenN u o [] = []
 writtenN u o (x ∷ xs) = written (x .symbol) (packed u o 0) ∷ writtenN u (o + 1) xs
 
-unfoldable mutual
-  pub writtenS : ℕ → ℕ → Statement → List Written
-  writtenS u o dummy = []
-  writtenS u o (assignment x xs q e) = []
-  writtenS u o (procedure x es) = []
-  writtenS u o (when q c s) = writtenS u o s
-  writtenS u o (either q c s t) = writtenS u o s ++ writtenS u o t
-  writtenS u o (repeat x l ls s) = writtenS u o s
-  writtenS u o (compound ss) = writtenSs u o ss
-  writtenS u o (block q ds ss) = writtenD u o ds ++ writtenSs u (o + cellsIn (ofBlock ds)) ss
+-- rows: of the program, which tell where a variable lies among the cells of its block
+module _ (rows : List ℕ) where
+  -- variables of a block whose first cell is at o
+  unfoldable pub writtenV : ℕ → ℕ → ℕ → List Name → List Written
+  writtenV u o n [] = []
+  writtenV u o n (x ∷ xs) = written (x .symbol) (packed u (o + amongFor rows n) 0) ∷ writtenV u o (n + 1) xs
 
-  pub writtenSs : ℕ → ℕ → Statements → List Written
-  writtenSs u o (last s) = writtenS u o s
-  writtenSs u o (first s ss) = writtenS u o s ++ writtenSs u o ss
+  unfoldable mutual
+    pub writtenS : ℕ → ℕ → ℕ → Statement → List Written
+    writtenS u o n dummy = []
+    writtenS u o n (assignment x xs q e) = []
+    writtenS u o n (procedure x es) = []
+    writtenS u o n (when q c s) = writtenS u o n s
+    writtenS u o n (either q c s t) = writtenS u o n s ++ writtenS u o (n + manyS s) t
+    writtenS u o n (repeat x l ls s) = writtenS u o n s
+    writtenS u o n (compound ss) = writtenSs u o n ss
+    writtenS u o n (block q ds ss) = writtenD u o n ds ++ writtenSs u (o + cellsIn (ofBlock ds)) (n + manyDs ds) ss
 
-  pub writtenD : ℕ → ℕ → Declarations → List Written
-  writtenD u o no-more = []
-  writtenD u o (variables t xs ds) = writtenN u o xs ++ writtenD u (o + length xs) ds
-  writtenD u o (declare p ds) = writtenP u p ++ writtenD u o ds
+    pub writtenSs : ℕ → ℕ → ℕ → Statements → List Written
+    writtenSs u o n (last s) = writtenS u o n s
+    writtenSs u o n (first s ss) = writtenS u o n s ++ writtenSs u o (n + manyS s) ss
 
-  pub writtenP : ℕ → Procedure → List Written
-  writtenP u (heading t f xs vs ss s) =
-      written (f .symbol) (packed u (oneIf t) 0)
-      ∷ (writtenN (suc u) (oneIf t) xs ++ writtenS (suc u) (cellsIn (ofBody (heading t f xs vs ss s))) s)
+    pub writtenD : ℕ → ℕ → ℕ → Declarations → List Written
+    writtenD u o n no-more = []
+    writtenD u o n (variables t xs ds) = writtenV u o n xs ++ writtenD u o (n + length xs) ds
+    writtenD u o n (declare p ds) = writtenP u n p ++ writtenD u o (n + manyP p) ds
+
+    pub writtenP : ℕ → ℕ → Procedure → List Written
+    writtenP u n (heading t f xs vs ss s) =
+        written (f .symbol) (packed u (oneIf t) 0)
+        ∷ (writtenN (suc u) (oneIf t) xs ++ writtenS (suc u) (cellsIn (ofBody (heading t f xs vs ss s))) (n + 1 + length xs) s)
 
 -- ---- one word for each row, of the same symbol
 
@@ -74,32 +82,38 @@ unfolding rowsN writtenN
 alikeN k q t u o [] = no-word
 alikeN k q t u o (x ∷ xs) = a-word (alikeN k q t u (o + 1) xs)
 
-mutual
-  unfolding rowsS writtenS
+module _ (rows : List ℕ) where
+  alikeV : (k q : ℕ) (t : Name → ℕ) (u o n : ℕ) (xs : List Name) → Alike (rowsN k q t xs) (writtenV rows u o n xs)
+  unfolding rowsN writtenV
+  alikeV k q t u o n [] = no-word
+  alikeV k q t u o n (x ∷ xs) = a-word (alikeV k q t u o (n + 1) xs)
 
-  alikeS : (c q u o : ℕ) (s : Statement) → Alike (rowsS c q s) (writtenS u o s)
-  alikeS c q u o dummy = no-word
-  alikeS c q u o (assignment x xs p e) = no-word
-  alikeS c q u o (procedure x es) = no-word
-  alikeS c q u o (when p e s) = alikeS c q u o s
-  alikeS c q u o (either p e s t) = alike-append (alikeS c q u o s) (alikeS (c + sizeS s) q u o t)
-  alikeS c q u o (repeat x l ls s) = alikeS c q u o s
-  alikeS c q u o (compound ss) = alikeSs c q u o ss
-  alikeS c q u o (block p ds ss) =
-      alike-append (alikeD (c + 1) (c + 1) u o ds) (alikeSs (c + 1 + sizeD ds) (c + 1) u (o + cellsIn (ofBlock ds)) ss)
+  mutual
+    unfolding rowsS writtenS
 
-  alikeSs : (c q u o : ℕ) (ss : Statements) → Alike (rowsSs c q ss) (writtenSs u o ss)
-  alikeSs c q u o (last s) = alikeS c q u o s
-  alikeSs c q u o (first s ss) = alike-append (alikeS c q u o s) (alikeSs (c + sizeS s) q u o ss)
+    alikeS : (c q u o n : ℕ) (s : Statement) → Alike (rowsS c q s) (writtenS rows u o n s)
+    alikeS c q u o n dummy = no-word
+    alikeS c q u o n (assignment x xs p e) = no-word
+    alikeS c q u o n (procedure x es) = no-word
+    alikeS c q u o n (when p e s) = alikeS c q u o n s
+    alikeS c q u o n (either p e s t) = alike-append (alikeS c q u o n s) (alikeS (c + sizeS s) q u o (n + manyS s) t)
+    alikeS c q u o n (repeat x l ls s) = alikeS c q u o n s
+    alikeS c q u o n (compound ss) = alikeSs c q u o n ss
+    alikeS c q u o n (block p ds ss) =
+        alike-append (alikeD (c + 1) (c + 1) u o n ds) (alikeSs (c + 1 + sizeD ds) (c + 1) u (o + cellsIn (ofBlock ds)) (n + manyDs ds) ss)
 
-  alikeD : (c q u o : ℕ) (ds : Declarations) → Alike (rowsD c q ds) (writtenD u o ds)
-  alikeD c q u o no-more = no-word
-  alikeD c q u o (variables t xs ds) = alike-append (alikeN n-variable q (λ x. sortNumber (some t)) u o xs) (alikeD c q u (o + length xs) ds)
-  alikeD c q u o (declare p ds) = alike-append (alikeP c q u p) (alikeD (c + sizeP p) q u o ds)
+    alikeSs : (c q u o n : ℕ) (ss : Statements) → Alike (rowsSs c q ss) (writtenSs rows u o n ss)
+    alikeSs c q u o n (last s) = alikeS c q u o n s
+    alikeSs c q u o n (first s ss) = alike-append (alikeS c q u o n s) (alikeSs (c + sizeS s) q u o (n + manyS s) ss)
 
-  alikeP : (c q u : ℕ) (p : Procedure) → Alike (rowsP c q p) (writtenP u p)
-  alikeP c q u (heading t f xs vs ss s) =
-      a-word (alike-append (alikeN n-formal (c + 1) (formalIn vs ss) (suc u) (oneIf t) xs) (alikeS (c + 1) (c + 1) (suc u) (cellsIn (ofBody (heading t f xs vs ss s))) s))
+    alikeD : (c q u o n : ℕ) (ds : Declarations) → Alike (rowsD c q ds) (writtenD rows u o n ds)
+    alikeD c q u o n no-more = no-word
+    alikeD c q u o n (variables t xs ds) = alike-append (alikeV n-variable q (λ x. sortNumber (some t)) u o n xs) (alikeD c q u o (n + length xs) ds)
+    alikeD c q u o n (declare p ds) = alike-append (alikeP c q u n p) (alikeD (c + sizeP p) q u o (n + manyP p) ds)
+
+    alikeP : (c q u n : ℕ) (p : Procedure) → Alike (rowsP c q p) (writtenP rows u n p)
+    alikeP c q u n (heading t f xs vs ss s) =
+        a-word (alike-append (alikeN n-formal (c + 1) (formalIn vs ss) (suc u) (oneIf t) xs) (alikeS (c + 1) (c + 1) (suc u) (cellsIn (ofBody (heading t f xs vs ss s))) (n + 1 + length xs) s))
 
 -- ---- the words one after the other
 
@@ -159,5 +173,7 @@ found-in n N h {rs} {ws} a r =
     found-as (numberOf rs) (wordsOf ws) (shown N (wordsOf ws)) (λ i. shown-get N (wordsOf ws) i (omega arith)) ws (all-found a (r .1))
 
 -- of a program
-pub found : (n : ℕ) → n ≤ 2048 → (s : Statement) → RowsRise 0 n (rowsS 0 0 s) → Found (numberOf (rowsS 0 0 s)) (shown 2048 (wordsOf (writtenS 0 0 s))) (writtenS 0 0 s)
-found n h s r = found-in n 2048 h (alikeS 0 0 0 0 s) r
+pub found : (n : ℕ) → n ≤ 2048 → (s : Statement) → RowsRise 0 n (rowsS 0 0 s)
+    → let ws : List Written = writtenS (rowsS 0 0 s) 0 0 0 s in
+    Found (numberOf (rowsS 0 0 s)) (shown 2048 (wordsOf ws)) ws
+found n h s r = found-in n 2048 h (alikeS (rowsS 0 0 s) 0 0 0 0 0 s) r

@@ -1,11 +1,14 @@
 pub mod Built
+pub mod Standing
 pub mod Counted
 pub mod Numbers
 pub mod Deep
 pub mod Limits
 pub mod Rising
 pub mod Sites
-pub mod SmallValues
+pub mod Counts
+pub mod Headed
+pub mod BlockRows
 pub mod Accepting
 pub mod LaidWords
 pub mod LayoutPass

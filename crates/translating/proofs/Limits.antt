@@ -1,12 +1,16 @@
 -- What the reader lets pass is within the limits that the translation is told of. A program is 'begin' and what is inside, so it is a block or a
 -- compound statement; the rest is said in Counted, Deep and Numbers.
 use Prim.Native.Nat.{ℕ, _≤_, _<_}
+use mathlib.Core.Path.{_≡_}
 use mathlib.Core.List.{List}
 use native.Mathlib.Omega.{arith}
 use lib.ListN.{length}
 use Rattle.grammar.specs.Grammar.{a-block, a-compound, program}
 use Rattle.grammar.specs.Trees.{Syn, nil, tok, sub, yield}
 use Rattle.grammar.specs.Program.{Keeps}
+use Rattle.grammar.specs.model.Text.{kindAt}
+use Rattle.symbols.specs.Symbols.{kind}
+use Rattle.symbols.specs.declared.Symbol.the-variants.{Number}
 use Rattle.names.specs.ReadOff.{build, read, programOf}
 use Rattle.translation.specs.model.Sizes.{Whole, Limited}
 use Rattle.translating.proofs.Counted.{counted}
@@ -20,5 +24,5 @@ module _ (worth : ℕ → ℕ) (letters : ℕ → List ℕ) where
   whole (tok (sub a-compound (sub s r nil) (tok nil))) = tt
 
   -- of a text of at most 2,048 symbols that keeps the grammar and the depth, and whose numbers are of 32 bits
-  pub limited : {ks : List ℕ} (t : Syn program) → ((k : ℕ) → worth k < 2147483648) → length (yield t) ≤ 2048 → Keeps ks t → Limited (programOf worth letters t)
+  pub limited : {ks : List ℕ} (t : Syn program) → ((k : ℕ) → kindAt (yield t) k ≡ kind (Number 0) → worth k < 2147483648) → length (yield t) ≤ 2048 → Keeps ks t → Limited (programOf worth letters t)
   limited t h l k = record { whole = whole t; symbols = omega (arith, counted worth letters t); depth = deep-kept worth letters t k; numbers = small worth letters t h }

@@ -5,16 +5,14 @@ use native.Mathlib.Omega.{arith}
 use native.Mathlib.Nat.{zero-add}
 use mathlib.Core.Path.{_≡_, refl, sym, ap, subst, _∙_}
 use mathlib.Core.Bool.{Bool, true, false, cond}
-use mathlib.Core.List.{List, [], _∷_, _++_, map}
+use mathlib.Core.List.{List, [], _∷_, _++_}
 use mathlib.Core.Option.{Option, none, some, Option·none-ne-some}
 use lib.Dec.{eqb}
 use lib.ListN.{getD}
 use borrow.Author.Tests.{eqb-true}
-use Rattle.symbols.specs.Text.{bytes}
-use Rattle.symbols.specs.Names.{sameName}
 use Rattle.machine.specs.Instructions.{Location, located, pack, high, mid, low}
-use Rattle.names.specs.Program.{Name, Sort, Specification, Declarations, none as no-more, variables, declare, Procedure}
-use Rattle.names.specs.Scopes.{has, Thing, variable, routine, formal, by-name, formalAs, valuesOf, Declared, Scope, ofBlock, ofBody, declares, variablesIn, inBlock, inBody, specified, specificationsOf, formalsOf, nameOf, sortOf, same, findIn, Given, environment, findGiven, foundElse, Meaning, declared, given, nothing, meaning}
+use Rattle.names.specs.Program.{Name, Sort, Declarations, none as no-more, variables, declare, Procedure}
+use Rattle.names.specs.Scopes.{Thing, variable, routine, formal, by-name, Declared, Scope, ofBlock, ofBody, declares, variablesIn, inBlock, inBody, nameOf, sortOf, same, findIn, environment, foundElse, Meaning, declared, given, nothing, meaning}
 use Rattle.rules.specs.Entered.{placeIn, oneIf, isSome, declaring, bodyOfThis}
 use Rattle.translation.specs.model.Translate.{Around, aBlock, aBody, anActual, scopes, cutG, levels, amongG, offsetOf, locFor, locAs, loc, entry, target}
 use Rattle.translation.specs.model.Scoped.{nearest, HasCell, CellAs, OkV}
@@ -25,21 +23,9 @@ use Rattle.translating.proofs.Sites.{Lying, Lies}
 use Rattle.translation.proofs.Ranges.{owns}
 use Rattle.translating.proofs.Written.{useKind, kindOf, meansOf}
 use Rattle.machine.proofs.Words.{high-pack, mid-pack}
-use Rattle.translation.proofs.Stands.{procedureOf, behind}
+use Rattle.rules.proofs.Declarations.{rank, body-things, behind, none-declared}
 
 -- ---- what is found is what is declared
-
-no-given : (n : ℕ) (l : List Given) (x : Name) (d : Declared) (g : List Scope) → findGiven n l x ≡ declared d g → ⊥
-unfolding findGiven
-no-given n [] x d g e = never e
-  where
-    never : nothing ≡ declared d g → ⊥
-    never e = let z : _≡_ {A = ℕ} 0 1 = cc in omega arith
-no-given n (y ∷ l) x d g e = go (sameName (bytes (y .spelling)) (x .letters)) (no-given (n + 1) l x d g) e
-  where
-    go : (b : Bool) → (findGiven (n + 1) l x ≡ declared d g → ⊥) → cond b (given n y) (findGiven (n + 1) l x) ≡ declared d g → ⊥
-    go true f e = let z : _≡_ {A = ℕ} 0 1 = cc in omega arith
-    go false f e = f e
 
 -- a procedure is declared by its own name
 variables-name : (t : Sort) (xs : List Name) (l : List Declared) (x : Name) (d : Declared) (p : Procedure)
@@ -60,35 +46,13 @@ block-name (declare q ds) x d p e e' = go (same (nameOf q) x) (λ e. block-name 
         sym (ap (λ d. d .name) e₁) ∙ ap nameOf e₃
     go false f e = f e
 
--- a formal is no procedure
-formal-none : (b : Bool) (t : Option Sort) (p : Procedure) → formalAs b t ≡ routine p → ⊥
-formal-none true t p e = Option·none-ne-some p (ap procedureOf e)
-formal-none false t p e = Option·none-ne-some p (ap procedureOf e)
-
-formals-none : (vs : List Name) (ss : List Specification) (xs : List Name) (x : Name) (d : Declared) (p : Procedure)
-    → findIn (map (λ x. record { name = x; thing = formalAs (has vs x) (specified ss x) }) xs) x ≡ some d → d .thing ≡ routine p → ⊥
-unfolding findIn
-formals-none vs ss [] x d p e e' = Option·none-ne-some d e
-formals-none vs ss (y ∷ ys) x d p e e' = go (same y x) (λ e. formals-none vs ss ys x d p e e') e
-  where
-    go : (b : Bool) → (findIn (map (λ x. record { name = x; thing = formalAs (has vs x) (specified ss x) }) ys) x ≡ some d → ⊥)
-        → cond b (some (record { name = y; thing = formalAs (has vs y) (specified ss y) })) (findIn (map (λ x. record { name = x; thing = formalAs (has vs x) (specified ss x) }) ys) x) ≡ some d → ⊥
-    go true f e =
-        let e₁ : record { name = y; thing = formalAs (has vs y) (specified ss y) } ≡ d = cc in
-        formal-none (has vs y) (specified ss y) p (ap (λ d. d .thing) e₁ ∙ e')
-    go false f e = f e
-
-body-none : (q : Procedure) (x : Name) (d : Declared) (p : Procedure) → findIn (inBody q) x ≡ some d → d .thing ≡ routine p → ⊥
-unfolding inBody
-body-none q x d p e e' = formals-none (valuesOf q) (specificationsOf q) (formalsOf q) x d p e e'
-
 routine-name : (s : Scope) (x : Name) (d : Declared) (p : Procedure) → findIn (declares s) x ≡ some d → d .thing ≡ routine p → d .name ≡ nameOf p
 routine-name (ofBlock ds) x d p e e' = block-name ds x d p e e'
-routine-name (ofBody q) x d p e e' = absurd (body-none q x d p e e')
+routine-name (ofBody q) x d p e e' = absurd (omega (arith, ap rank e', body-things q x d e))
 
 pub meant-name : (g : List Scope) (x : Name) (d : Declared) (h : List Scope) (p : Procedure) → meaning g x ≡ declared d h → d .thing ≡ routine p → d .name ≡ nameOf p
 unfolding meaning
-meant-name [] x d h p e e' = absurd (no-given 0 environment x d h e)
+meant-name [] x d h p e e' = absurd (none-declared 0 environment x d h e)
 meant-name (s ∷ g) x d h p e e' = go (findIn (declares s) x) refl (λ e. meant-name g x d h p e e') e
   where
     go : (f : Option Declared) → findIn (declares s) x ≡ f → (meaning g x ≡ declared d h → d .name ≡ nameOf p) → foundElse f (s ∷ g) (meaning g x) ≡ declared d h → d .name ≡ nameOf p
@@ -122,7 +86,7 @@ module _ (key : ℕ → ℕ) (L : List ℕ) where
 
   pub stands : (g : List Around) (x : Name) (d : Declared) (h : List Scope) → Known g → meaning (scopes g) x ≡ declared d h → Stands g x d
   unfolding meaning levels cutG declaring
-  stands [] x d h k e = absurd (no-given 0 environment x d h e)
+  stands [] x d h k e = absurd (none-declared 0 environment x d h e)
   stands (aBlock o ds b ∷ g) x d h k e = go (findIn (inBlock ds) x) refl (stands g x d h (k .1)) e
     where
       go : (f : Option Declared) → findIn (inBlock ds) x ≡ f → (meaning (scopes g) x ≡ declared d h → Stands g x d)
@@ -309,7 +273,7 @@ module _ (key : ℕ → ℕ) (T : List ℕ) where
   pub target-is : (g : List Around) (x : Name) (d : Declared) (h : List Scope) (p : Procedure) → Targets g → meaning (scopes g) x ≡ declared d h → d .thing ≡ routine p
       → getD T (key (d .name .symbol)) 0 ≡ target (cutG (declaring x) g) x
   unfolding meaning cutG declaring
-  target-is [] x d h p k e i = absurd (no-given 0 environment x d h e)
+  target-is [] x d h p k e i = absurd (none-declared 0 environment x d h e)
   target-is (aBlock o ds b ∷ g) x d h p k e i = go (findIn (inBlock ds) x) refl (λ e. target-is g x d h p (k .1) e i) e
     where
       go : (f : Option Declared) → findIn (inBlock ds) x ≡ f → (meaning (scopes g) x ≡ declared d h → getD T (key (d .name .symbol)) 0 ≡ target (cutG (declaring x) g) x)
@@ -327,5 +291,5 @@ module _ (key : ℕ → ℕ) (T : List ℕ) where
       go none j f e = rw j (f e)
       go (some d') j f e =
           let j' : findIn (inBody q) x ≡ some d = cc in
-          absurd (body-none q x d p j' i)
+          absurd (omega (arith, ap rank i, body-things q x d j'))
   target-is (anActual ∷ g) x d h p k e i = target-is g x d h p k e i

@@ -32,12 +32,12 @@ use Rattle.translation.specs.model.Listed.{machineIn}
 use Rattle.translation.proofs.Lengths.{fits-words}
 use Rattle.translation.proofs.Ranges.{in-range}
 use Rattle.translation.proofs.Words.{same-machine}
-use Rattle.translation.specs.Places.{finishP}
-use Rattle.translation.proofs.Correct.{machine-answers, source-answers, translated}
+use Rattle.translation.specs.Places.{numbered, placing, finishP}
+use Rattle.translation.proofs.Correct.{accepted-machine, accepted-source, translated}
 use Rattle.translation.proofs.RunPlaced.{placed-words}
 use Rattle.translation.proofs.OnWords.{follows-as, onWords, faithful-words}
 use Rattle.translating.specs.Job.{codeWords, filled, codeIn, Translated, refused, accepted, Translates, too-short, enough, RunsAs, Deed}
-use Rattle.translating.proofs.Accepting.{within-limits, well-scoped}
+use Rattle.translating.proofs.Accepting.{within-limits, accepted as accepted-program}
 use Rattle.reading.proofs.Promises.{zero-judged}
 
 -- ---- the words that are left
@@ -60,7 +60,7 @@ module _ {text : List ℕ} (p : Grammatical text) (named : least (nameFaults (it
   faithful-left =
       follows-as (onCode (filled (codeIn p) ++ rest)) (onWords (codeWords - length (codeIn p)) (placeIn text) (itsProgram p)) (placeIn text) (itsProgram p)
       (λ input limit cells space. ap (λ ws. machine ws input limit cells space) (take-filled (codeIn p) rest (code-fits p)))
-      (faithful-words (codeWords - length (codeIn p)) (placeIn text) (itsProgram p) (well-scoped p named typed) (within-limits p))
+      (faithful-words (codeWords - length (codeIn p)) (placeIn text) (itsProgram p) (accepted-program p named typed) (within-limits p))
 
 -- demand 3 of what translate leaves
 pub faith : {text old new : List ℕ} {v : Verdict} → Translates text old v new → RunsAs text v new
@@ -124,21 +124,22 @@ never-wrong {text} {old} (enough h v ws (accepted p n t)) z input limit cells sp
     let e : machine (take codeWords (filled (codeIn p) ++ drop codeWords old)) input limit cells space ≡ machineIn (code (placeIn text) (itsProgram p)) input limit cells space =
     ap (λ ws. machine ws input limit cells space) (take-filled (codeIn p) (drop codeWords old) (code-fits p))
     ∙ same-machine (code (placeIn text) (itsProgram p)) (codeWords - length (codeIn p)) (in-range (placeIn text) (itsProgram p) (within-limits p)) input limit cells space in
-    subst (λ (f : Finish). Ordinary (f .stop) ⊎ (f .stop ≡ Limit)) (sym e) (machine-answers (placeIn text) (itsProgram p) (well-scoped p n t) input cells space limit)
+    subst (λ (f : Finish). Ordinary (f .stop) ⊎ (f .stop ≡ Limit)) (sym e) (accepted-machine (placeIn text) (itsProgram p) (accepted-program p n t) input cells space limit)
 
 -- of an accepted source the source rules answer nothing but 0, 21 to 28 and 30
 pub rules-answers : {text : List ℕ} (p : Grammatical text) → least (nameFaults (itsProgram p)) ≡ none → typeFault (itsProgram p) ≡ none → (input : List ℤ) (cells space t n : ℕ) (q : Stop) (o : Trace)
     → source (placeIn text) (itsProgram p) input cells space t ≡ done q n o → Ordinary q
-rules-answers {text} p named typed input cells space t n q o e = source-answers (placeIn text) (itsProgram p) (well-scoped p named typed) input cells space t n q o e
+rules-answers {text} p named typed input cells space t n q o e =
+    accepted-source (placeIn text) (itsProgram p) (accepted-program p named typed) input cells space t n q o e
 
 -- ---- places aside
 
--- a run of translated code is the run by symbols' numbers, with their places put in
+-- a run of translated code is the run by symbols' numbers, from 1 on, with their places put in
 pub by-numbers : {text old new : List ℕ} {v : Verdict} → Translates text old v new → numberOf v ≡ 0 → (p : Grammatical text) (input : List ℤ) (limit cells space : ℕ)
-    → onCode new input limit cells space ≡ finishP (placeIn text) (translated (λ q. q) (itsProgram p) input limit cells space)
+    → onCode new input limit cells space ≡ finishP (placing (placeIn text)) (translated numbered (itsProgram p) input limit cells space)
 by-numbers (too-short l) z p input limit cells space = absurd (omega (arith, z))
 by-numbers (enough h v ws (refused r j)) z p input limit cells space = absurd (refused-accepted (zero-judged j z))
 by-numbers {text} {old} (enough h v ws (accepted p₀ n t)) z p input limit cells space =
     ap (λ ws. machine ws input limit cells space) (take-filled (codeIn p₀) (drop codeWords old) (code-fits p₀))
     ∙ placed-words (codeWords - length (codeIn p₀)) (placeIn text) (itsProgram p₀) (within-limits p₀) input limit cells space
-    ∙ ap (λ (s : Statement). finishP (placeIn text) (translated (λ q. q) s input limit cells space)) (one-program p₀ p)
+    ∙ ap (λ (s : Statement). finishP (placing (placeIn text)) (translated numbered s input limit cells space)) (one-program p₀ p)

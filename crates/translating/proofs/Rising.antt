@@ -7,7 +7,7 @@ use mathlib.Core.Option.{Option, none, some}
 use native.Mathlib.Omega.{arith}
 use lib.ListN.{length}
 use Rattle.grammar.specs.Grammar.{Class, block, inner, head, tail, declarations, declaration, declared, type, procedure, heading, formals, values, specifications, list, others, statements, statement, consequence, alternative, repetition, for-clause, elements, further, element, progress, stepping, amount, unconditional, named, right, expression, otherwise, level, more, negation, relation, comparison, primary, actuals, actual, further-actuals, program}
-use Rattle.grammar.specs.Grammar.{Prod, begin-end, a-block, a-compound, a-tail, a-head, some-declarations, no-declaration, typed, untyped, variables, function, integer, boolean, a-procedure, a-heading, some-formals, no-formals, some-values, no-values, a-specification, no-specification, a-list, another, no-other, a-statement, no-statement, conditional, repeated, plain, then-for, then-plain, an-else, no-else, a-for, a-clause, for-list, another-element, no-element, an-element, once, while, by-steps, a-step, an-amount, dummy, compound, with-name, assignment, call, left, value, a-condition, simple, an-otherwise, chain, signed, again, no-more, a-not, no-not, a-relation, compare, no-comparison, number, true-value, false-value, a-name, in-parentheses, with, bare, an-actual, another-actual, no-actual}
+use Rattle.grammar.specs.Grammar.{Prod, begin-end, a-block, a-compound, a-tail, a-head, some-declarations, no-declaration, typed, untyped, variables, function, a-procedure, a-heading, some-formals, no-formals, a-list, another, no-other, a-statement, no-statement, conditional, repeated, plain, then-for, then-plain, an-else, no-else, a-for, a-clause, for-list, dummy, compound, with-name, assignment, call, left, value}
 use Rattle.grammar.specs.Trees.{Syn, yield}
 use Rattle.grammar.specs.NodeKinds.{n-variable, n-formal}
 use Rattle.names.specs.Program.{Name, Sort, Expression, Statement, Statements, Declarations, Procedure}
@@ -16,7 +16,7 @@ use Rattle.names.specs.Nodes.{sortNumber}
 use Rattle.names.specs.Outline.{sizeS, sizeD, sizeP, formalIn, rowsN, rowsS, rowsSs, rowsD, rowsP}
 use Rattle.names.proofs.Fours.{Whole, none as no-rows, one, fours-append, a-node}
 use Rattle.names.proofs.Rising.{Rising, no-more, next, widen, follow}
-use Rattle.translating.proofs.Built.{Fits, built}
+use Rattle.translating.proofs.Built.{Fits, built, all-fits}
 
 -- ---- rows of four words: their symbols, the second words, rise from a on, and all are before b
 
@@ -111,82 +111,66 @@ Rise further-actuals i j es = Unit {0}
 -- ---- the productions
 
 module _ (worth : ℕ → ℕ) (letters : ℕ → List ℕ) where
-  fits : {X : Class} (p : Prod X) → Fits worth letters (λ i. Unit {0}) Rise p
+  fits : (X : Class) (p : Prod X) → Fits worth letters (λ i k. Unit {0}) Rise p
   unfolding build rowsN rowsS
-  fits begin-end = λ i b f j l h e c q. wider (omega arith) (omega arith) (h i c q)
-  fits a-block = λ i ds j l h ss j' l' k p c q. behind (h (c + 1) (c + 1)) (k (c + 1 + sizeD ds) (c + 1))
-  fits a-compound = λ i ss j l h p. h
-  fits a-tail = λ i s j l h f j' l' k. k s i h
-  fits a-head = λ i f j l h p ds j' l' k. h ds j' (λ c q. wider (omega arith) (omega arith) (k c q))
-  fits some-declarations = λ i ds j l h. h
-  fits no-declaration = λ i c q. nowhere (omega arith)
-  fits typed = λ i t j l h f j' l' k ds n m c q. wider l (omega arith) (k t ds n m c q)
-  fits untyped = λ i p f j l h ds n m c q. behind (wider (omega arith) (omega arith) (h none c q)) (m (c + sizeP (f none)) q)
-  fits variables = λ i xs j l h t ds n m c q. behind (h n-variable q (λ x. sortNumber (some t))) (m c q)
-  fits function = λ i p f j l h t ds n m c q. behind (wider (omega arith) (omega arith) (h (some t) c q)) (m (c + sizeP (f (some t))) q)
-  fits integer = λ i q. tt
-  fits boolean = λ i q. tt
-  fits a-procedure = λ i f j l h s j' l' k t. h t s j' k
-  fits a-heading = λ i x xs j l h p vs j' l' k ss j'' l'' m t s n r c q. at i (behind (wider (omega arith) (omega arith) (h n-formal (c + 1) (formalIn vs ss))) (r (c + 1) (c + 1)))
-  fits some-formals = λ i p xs j l h r k q t. wider (omega arith) (omega arith) (h k q t)
-  fits no-formals = λ i k q t. nowhere (omega arith)
-  fits some-values = λ i q xs j l h r. tt
-  fits no-values = λ i. tt
-  fits a-specification = λ i t j l h xs j' l' k q ss j'' l'' m. tt
-  fits no-specification = λ i. tt
-  fits (a-list e) = λ i x xs j l h k q t. at i (h k q t)
-  fits (another e) = λ i p xs j l h k q t. wider (omega arith) (omega arith) (h k q t)
-  fits (no-other e) = λ i k q t. nowhere (omega arith)
-  fits a-statement = λ i p ss j l h s a k c q. behind (k c q) (wider (omega arith) (omega arith) (h (c + sizeS s) q))
-  fits no-statement = λ i s a h. h
-  fits conditional = λ i p e j l h r f j' l' k c q. wider (omega arith) (omega arith) (k i e c q)
-  fits repeated = λ i s j l h. h
-  fits plain = λ i s j l h. h
-  fits then-for = λ i s j l h p e. h
-  fits then-plain = λ i s j l h f j' l' k p e. k p e s i h
-  fits an-else = λ i r t j l h p e s a k c q. behind (k c q) (wider (omega arith) (omega arith) (h (c + sizeS s) q))
-  fits no-else = λ i p e s a h. h
-  fits a-for = λ i f j l h s j' l' k. h s j' k
-  fits a-clause = λ i p x f j l h s n k c q. wider (omega arith) (omega arith) (h (nameAt worth letters (i + 1)) s n k c q)
-  fits for-list = λ i p d j l h ds j' l' k r x s n m c q. wider (omega arith) (omega arith) (m c q)
-  fits another-element = λ i q d j l h ds j' l' k. tt
-  fits no-element = λ i. tt
-  fits an-element = λ i e j l h f j' l' k. tt
-  fits once = λ i. tt
-  fits while = λ i q c j l h. tt
-  fits by-steps = λ i f j l h. tt
-  fits a-step = λ i q f j l h r g j' l' k. tt
-  fits an-amount = λ i e j l h. tt
-  fits dummy = λ i c q. nowhere (omega arith)
-  fits compound = λ i s j l h. h
-  fits with-name = λ i x f j l h c q. wider (omega arith) (omega arith) (h (nameAt worth letters i) c q)
-  fits assignment = λ i p f j l h x c q. wider (omega arith) (omega arith) (h x [] i c q)
-  fits call = λ i es j l h x c q. nowhere l
-  fits left = λ i y p f j l h x xs r c q. wider (omega arith) (omega arith) (h x (xs ++ (nameAt worth letters i ∷ [])) (i + 1) c q)
-  fits value = λ i e j l h x xs p c q. nowhere l
-  fits a-condition = λ i q c j l h r e j' l' k f j'' l'' m. tt
-  fits simple = λ i e j l h. tt
-  fits an-otherwise = λ i r f j l h. tt
-  fits (chain n) = λ i e j l h f j' l' k. tt
-  fits (signed o) = λ i q e j l h f j' l' k. tt
-  fits (again o) = λ i q e j l h f j' l' k. tt
-  fits (no-more n) = λ i. tt
-  fits a-not = λ i q e j l h. tt
-  fits no-not = λ i e j l h. tt
-  fits a-relation = λ i e j l h f j' l' k. tt
-  fits (compare r) = λ i q f j l h. tt
-  fits no-comparison = λ i. tt
-  fits number = λ i q. tt
-  fits true-value = λ i q. tt
-  fits false-value = λ i q. tt
-  fits a-name = λ i x es j l h. tt
-  fits in-parentheses = λ i q e j l h r. tt
-  fits (with u) = λ i q e j l h es j' l' k r. tt
-  fits (bare u) = λ i. tt
-  fits an-actual = λ i e j l h. tt
-  fits another-actual = λ i q e j l h es j' l' k. tt
-  fits no-actual = λ i. tt
+  fits block begin-end = λ i b f j l h e c q. wider (omega arith) (omega arith) (h i c q)
+  fits inner a-block = λ i ds j l h ss j' l' k p c q. behind (h (c + 1) (c + 1)) (k (c + 1 + sizeD ds) (c + 1))
+  fits inner a-compound = λ i ss j l h p. h
+  fits tail a-tail = λ i s j l h f j' l' k. k s i h
+  fits head a-head = λ i f j l h p ds j' l' k. h ds j' (λ c q. wider (omega arith) (omega arith) (k c q))
+  fits declarations some-declarations = λ i ds j l h. h
+  fits declarations no-declaration = λ i c q. nowhere (omega arith)
+  fits declaration typed = λ i t j l h f j' l' k ds n m c q. wider l (omega arith) (k t ds n m c q)
+  fits declaration untyped = λ i p f j l h ds n m c q. behind (wider (omega arith) (omega arith) (h none c q)) (m (c + sizeP (f none)) q)
+  fits declared variables = λ i xs j l h t ds n m c q. behind (h n-variable q (λ x. sortNumber (some t))) (m c q)
+  fits declared function = λ i p f j l h t ds n m c q. behind (wider (omega arith) (omega arith) (h (some t) c q)) (m (c + sizeP (f (some t))) q)
+  fits procedure a-procedure = λ i f j l h s j' l' k t. h t s j' k
+  fits heading a-heading = λ i x xs j l h p vs j' l' k ss j'' l'' m t s n r c q. at i (behind (wider (omega arith) (omega arith) (h n-formal (c + 1) (formalIn vs ss))) (r (c + 1) (c + 1)))
+  fits formals some-formals = λ i p xs j l h r k q t. wider (omega arith) (omega arith) (h k q t)
+  fits formals no-formals = λ i k q t. nowhere (omega arith)
+  fits (list e) (a-list e') = λ i x xs j l h k q t. at i (h k q t)
+  fits (others e) (another e') = λ i p xs j l h k q t. wider (omega arith) (omega arith) (h k q t)
+  fits (others e) (no-other e') = λ i k q t. nowhere (omega arith)
+  fits statements a-statement = λ i p ss j l h s a k c q. behind (k c q) (wider (omega arith) (omega arith) (h (c + sizeS s) q))
+  fits statements no-statement = λ i s a h. h
+  fits statement conditional = λ i p e j l h r f j' l' k c q. wider (omega arith) (omega arith) (k i e c q)
+  fits statement repeated = λ i s j l h. h
+  fits statement plain = λ i s j l h. h
+  fits consequence then-for = λ i s j l h p e. h
+  fits consequence then-plain = λ i s j l h f j' l' k p e. k p e s i h
+  fits alternative an-else = λ i r t j l h p e s a k c q. behind (k c q) (wider (omega arith) (omega arith) (h (c + sizeS s) q))
+  fits alternative no-else = λ i p e s a h. h
+  fits repetition a-for = λ i f j l h s j' l' k. h s j' k
+  fits for-clause a-clause = λ i p x f j l h s n k c q. wider (omega arith) (omega arith) (h (nameAt worth letters (i + 1)) s n k c q)
+  fits elements for-list = λ i p d j l h ds j' l' k r x s n m c q. wider (omega arith) (omega arith) (m c q)
+  fits unconditional dummy = λ i c q. nowhere (omega arith)
+  fits unconditional compound = λ i s j l h. h
+  fits unconditional with-name = λ i x f j l h c q. wider (omega arith) (omega arith) (h (nameAt worth letters i) c q)
+  fits named assignment = λ i p f j l h x c q. wider (omega arith) (omega arith) (h x [] i c q)
+  fits named call = λ i es j l h x c q. nowhere l
+  fits right left = λ i y p f j l h x xs r c q. wider (omega arith) (omega arith) (h x (xs ++ (nameAt worth letters i ∷ [])) (i + 1) c q)
+  fits right value = λ i e j l h x xs p c q. nowhere l
+  -- of these classes nothing is said
+  fits type p = all-fits worth letters (λ i k. Unit {0}) Rise (λ i j v. tt) p
+  fits values p = all-fits worth letters (λ i k. Unit {0}) Rise (λ i j v. tt) p
+  fits specifications p = all-fits worth letters (λ i k. Unit {0}) Rise (λ i j v. tt) p
+  fits further p = all-fits worth letters (λ i k. Unit {0}) Rise (λ i j v. tt) p
+  fits element p = all-fits worth letters (λ i k. Unit {0}) Rise (λ i j v. tt) p
+  fits progress p = all-fits worth letters (λ i k. Unit {0}) Rise (λ i j v. tt) p
+  fits stepping p = all-fits worth letters (λ i k. Unit {0}) Rise (λ i j v. tt) p
+  fits amount p = all-fits worth letters (λ i k. Unit {0}) Rise (λ i j v. tt) p
+  fits expression p = all-fits worth letters (λ i k. Unit {0}) Rise (λ i j v. tt) p
+  fits otherwise p = all-fits worth letters (λ i k. Unit {0}) Rise (λ i j v. tt) p
+  fits (level l) p = all-fits worth letters (λ i k. Unit {0}) Rise (λ i j v. tt) p
+  fits (more l) p = all-fits worth letters (λ i k. Unit {0}) Rise (λ i j v. tt) p
+  fits negation p = all-fits worth letters (λ i k. Unit {0}) Rise (λ i j v. tt) p
+  fits relation p = all-fits worth letters (λ i k. Unit {0}) Rise (λ i j v. tt) p
+  fits comparison p = all-fits worth letters (λ i k. Unit {0}) Rise (λ i j v. tt) p
+  fits primary p = all-fits worth letters (λ i k. Unit {0}) Rise (λ i j v. tt) p
+  fits (actuals u) p = all-fits worth letters (λ i k. Unit {0}) Rise (λ i j v. tt) p
+  fits actual p = all-fits worth letters (λ i k. Unit {0}) Rise (λ i j v. tt) p
+  fits further-actuals p = all-fits worth letters (λ i k. Unit {0}) Rise (λ i j v. tt) p
 
   -- "in source order"
   pub rising : (t : Syn program) → RowsRise 0 (length (yield t)) (rowsS 0 0 (programOf worth letters t))
-  rising t = built worth letters (λ i. Unit {0}) Rise (λ X p. fits p) t (λ i h. tt) 0 0
+  rising t = built worth letters (λ i k. Unit {0}) Rise fits t (λ i h. tt) 0 0

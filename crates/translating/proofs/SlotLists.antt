@@ -1,21 +1,20 @@
 -- What lies ahead of a tree's code, in the order in which the pass takes slots for it, in front of what lies ahead behind the tree; and how slots are
 -- taken and filled. An actual of a name formal takes three. No more slots are taken than instructions are written. Assumes nothing.
-use Prim.Native.Nat.{ℕ, suc, _+_, _-_, _≤_, _<_}
+use Prim.Native.Nat.{ℕ, suc, _+_, _≤_, _<_}
 use native.Mathlib.Omega.{arith}
 use native.Mathlib.Nat.{add-zero}
 use mathlib.Core.Path.{_≡_, refl, sym, ap, _∙_}
-use mathlib.Core.Bool.{Bool, true, false}
 use mathlib.Core.List.{List, [], _∷_, _++_, append-assoc, append-nil}
 use mathlib.Core.Option.{Option, none, some}
 use lib.ListN.{length, getD, drop, set, length-append}
 use lib.Seq.{set-append-seam, set-append-left, drop-append-seam, drop-append-add, drop-drop, getD-drop}
-use Rattle.names.specs.Program.{Name, Sort, firstSymbol, Expression, number, logical, name, call, signed, operated, chosen, nested, Expressions, done, then, Element, value, while, step, Statement, dummy, assignment, procedure, when, either, repeat, compound, block, Statements, last, first, Declarations, none as no-more, variables, declare, Procedure, heading}
-use Rattle.names.specs.Scopes.{Scope, ofBlock, sortOf, modesOf, meaning}
-use Rattle.rules.specs.Entered.{cellsIn}
+use Rattle.names.specs.Program.{Name, Sort, integer, firstSymbol, Expression, number, decimal, logical, name, call, signed, operated, chosen, nested, Expressions, done, then, Element, value, while, step, Statement, dummy, assignment, procedure, when, either, repeat, compound, block, Statements, last, first, Declarations, none as no-more, variables, declare, Procedure, heading}
+use Rattle.names.specs.Scopes.{Scope, sortOf, Mode, byValue, byName, modesOf, meaning}
+use Rattle.types.specs.Types.{widens}
 use Rattle.rules.specs.Calls.{Primary, held, worked, function, absolute, greatest, no-primary, primary, Command, routine-of, absolute-of, greatest-of, input-to, output-of, no-command, command, way}
-use Rattle.translation.specs.model.Translate.{Around, aBlock, aBody, anActual, scopes, reach, endName, endActual, endThen, endE, endEs, endStore, endWay, endStep, endL, endCall, endCommand, endS, endSs, endDs, endP}
+use Rattle.translation.specs.model.Translate.{Around, aBlock, aBody, anActual, scopes, reach, endName, endActual, endThen, endWide, endE, endEs, endStore, endWay, endStep, endL, endCall, endCommand, routines, endHead, endS, endSs, endDs, endP}
 use Rattle.emitting.specs.model.Layout.{packed}
-use Rattle.translation.proofs.Ranges.{grow-name, grow-sign, grow-way, grow-sum, grow-take, grow-stores}
+use Rattle.translation.proofs.Sizes.{name-size, sign-size, wide-size, jump-size, way-size, sum-size, take-size, size-stores}
 
 -- ---- slots taken and filled
 
@@ -84,26 +83,27 @@ endX g x (step q e f h) b = endStep (way (meaning g x)) g f h (endStore g x (end
 
 -- place: of a symbol; word: of an actual
 module _ (place : ℕ → ℕ) (word : List Around → Expression → ℕ) where
-  abbrev pub aheadName : Primary → (List Bool → ℕ → List ℕ → List ℕ) → ℕ → List ℕ → List ℕ
+  abbrev pub aheadName : Primary → (List Mode → ℕ → List ℕ → List ℕ) → ℕ → List ℕ → List ℕ
   aheadName held f b k = k
   aheadName worked f b k = k
   aheadName (function p) f b k = f (modesOf p) (suc b) k
-  aheadName absolute f b k = f [] b k
+  aheadName absolute f b k = f (byValue (some integer) ∷ []) b k
   aheadName greatest f b k = k
   aheadName no-primary f b k = k
 
   -- an actual; of a name formal: where it ends, its first symbol's place, its word. f: where its expression ends; a: what lies ahead in that
-  abbrev pub aheadActual : Bool → List Around → Expression → (ℕ → ℕ) → (List Around → ℕ → List ℕ → List ℕ) → ℕ → List ℕ → List ℕ
-  aheadActual true g e f a b k = a g b k
-  aheadActual false g e f a b k = there (endActual false f b) ∷ place (firstSymbol e) ∷ word (anActual ∷ g) e ∷ a (anActual ∷ g) (suc (suc (suc b))) k
+  abbrev pub aheadActual : Mode → List Around → Expression → (ℕ → ℕ) → (List Around → ℕ → List ℕ → List ℕ) → ℕ → List ℕ → List ℕ
+  aheadActual (byValue t) g e f a b k = a g b k
+  aheadActual (byName t) g e f a b k = there (endActual (byName t) f b) ∷ place (firstSymbol e) ∷ word (anActual ∷ g) e ∷ a (anActual ∷ g) (suc (suc (suc b))) k
 
-  abbrev pub aheadThen : List Bool → List Around → Expression → (ℕ → ℕ) → (List Around → ℕ → List ℕ → List ℕ) → (List Bool → ℕ → List ℕ → List ℕ) → ℕ → List ℕ → List ℕ
+  abbrev pub aheadThen : List Mode → List Around → Expression → (ℕ → ℕ) → (List Around → ℕ → List ℕ → List ℕ) → (List Mode → ℕ → List ℕ → List ℕ) → ℕ → List ℕ → List ℕ
   aheadThen [] g e f a more b k = a g b (more [] (f b) k)
   aheadThen (m ∷ ms) g e f a more b k = aheadActual m g e f a b (more ms (endActual m f b) k)
 
   unfoldable mutual
     pub aheadE : List Around → Expression → ℕ → List ℕ → List ℕ
     aheadE g (number q n) b k = k
+    aheadE g (decimal q n i) b k = k
     aheadE g (logical q t) b k = k
     aheadE g (name x) b k = k
     aheadE g (call x e es) b k =
@@ -112,11 +112,11 @@ module _ (place : ℕ → ℕ) (word : List Around → Expression → ℕ) where
     aheadE g (operated q o e f) b k = aheadE g e b (aheadE g f (endE (scopes g) e b) k)
     aheadE g (chosen q r c e f) b k =
         let m = endE (scopes g) c b in
-        let n = endE (scopes g) e (suc m) in
-        aheadE g c b (there (suc n) ∷ aheadE g e (suc m) (there (endE (scopes g) f (suc n)) ∷ aheadE g f (suc n) k))
+        let n = endWide (widens (scopes g) e f) (endE (scopes g) e (suc m)) in
+        aheadE g c b (there (suc n) ∷ aheadE g e (suc m) (there (endWide (widens (scopes g) f e) (endE (scopes g) f (suc n))) ∷ aheadE g f (suc n) k))
     aheadE g (nested q e) b k = aheadE g e b k
 
-    pub aheadEs : List Around → List Bool → Expressions → ℕ → List ℕ → List ℕ
+    pub aheadEs : List Around → List Mode → Expressions → ℕ → List ℕ → List ℕ
     aheadEs g m done b k = k
     aheadEs g m (then e es) b k = aheadThen m g e (λ b. endE (scopes g) e b) (λ g b k. aheadE g e b k) (λ m b k. aheadEs g m es b k) b k
 
@@ -134,7 +134,7 @@ module _ (place : ℕ → ℕ) (word : List Around → Expression → ℕ) where
   aheadL g x l [] b k = aheadX g x l b k
   aheadL g x l (y ∷ ls) b k = aheadX g x l b (there (endX (scopes g) x l b) ∷ aheadL g x y ls (endX (scopes g) x l b) k)
 
-  abbrev pub aheadCall : List Around → Option Sort → List Bool → Expressions → ℕ → List ℕ → List ℕ
+  abbrev pub aheadCall : List Around → Option Sort → List Mode → Expressions → ℕ → List ℕ → List ℕ
   aheadCall g none m es b k = aheadEs g m es b k
   aheadCall g (some t) m es b k = aheadEs g m es (suc b) k
 
@@ -143,7 +143,7 @@ module _ (place : ℕ → ℕ) (word : List Around → Expression → ℕ) where
   aheadCommand g (absolute-of e) es b k = aheadE g e b k
   aheadCommand g greatest-of es b k = k
   aheadCommand g (input-to e y) es b k = aheadE g e b k
-  aheadCommand g (output-of e f) es b k = aheadE g e b (aheadE g f (endE (scopes g) e b) k)
+  aheadCommand g (output-of t e f) es b k = aheadE g e b (aheadE g f (suc (endE (scopes g) e b)) k)
   aheadCommand g no-command es b k = k
 
   unfoldable mutual
@@ -163,9 +163,10 @@ module _ (place : ℕ → ℕ) (word : List Around → Expression → ℕ) where
         there i ∷ aheadL g x l ls b (there (suc (endS (scopes g) s i)) ∷ aheadS g s i k)
     aheadS g (compound ss) b k = aheadSs g ss b k
     aheadS g (block q ds ss) b k =
-        let h = aBlock (reach g) ds (suc b) ∷ g in
-        let i = endDs (scopes h) ds (suc b) in
-        packed 0 (cellsIn (ofBlock ds)) i ∷ aheadDs h ds (suc b) (aheadSs h ss i k)
+        let p = endHead ds b in
+        let h = aBlock (reach g) ds p ∷ g in
+        let i = endDs (scopes h) ds p in
+        there i ∷ aheadDs h ds p (aheadSs h ss (suc i) k)
 
     pub aheadSs : List Around → Statements → ℕ → List ℕ → List ℕ
     aheadSs g (last s) b k = aheadS g s b k
@@ -184,20 +185,20 @@ module _ (place : ℕ → ℕ) (word : List Around → Expression → ℕ) where
   abbrev Few : (ℕ → ℕ) → (ℕ → List ℕ → List ℕ) → Type 0
   Few f a = (b : ℕ) (k : List ℕ) → length (a b k) + b ≤ length k + f b
 
-  few-name : (pr : Primary) (f : List Bool → ℕ → ℕ) (a : List Bool → ℕ → List ℕ → List ℕ) → ((m : List Bool) → Few (f m) (a m)) → Few (endName pr f) (aheadName pr a)
+  few-name : (pr : Primary) (f : List Mode → ℕ → ℕ) (a : List Mode → ℕ → List ℕ → List ℕ) → ((m : List Mode) → Few (f m) (a m)) → Few (endName pr f) (aheadName pr a)
   few-name held f a h b k = omega arith
   few-name worked f a h b k = omega arith
   few-name (function p) f a h b k = omega (arith, h (modesOf p) (suc b) k)
-  few-name absolute f a h b k = omega (arith, h [] b k)
+  few-name absolute f a h b k = omega (arith, h (byValue (some integer) ∷ []) b k)
   few-name greatest f a h b k = omega arith
   few-name no-primary f a h b k = omega arith
 
-  few-then : (m : List Bool) (g : List Around) (e : Expression) (f : ℕ → ℕ) (a : List Around → ℕ → List ℕ → List ℕ) (fs : List Bool → ℕ → ℕ) (more : List Bool → ℕ → List ℕ → List ℕ)
-      → Few f (a g) → Few f (a (anActual ∷ g)) → ((m : List Bool) → Few (fs m) (more m)) → Few (endThen m f fs) (aheadThen m g e f a more)
+  few-then : (m : List Mode) (g : List Around) (e : Expression) (f : ℕ → ℕ) (a : List Around → ℕ → List ℕ → List ℕ) (fs : List Mode → ℕ → ℕ) (more : List Mode → ℕ → List ℕ → List ℕ)
+      → Few f (a g) → Few f (a (anActual ∷ g)) → ((m : List Mode) → Few (fs m) (more m)) → Few (endThen m f fs) (aheadThen m g e f a more)
   few-then [] g e f a fs more h h' hs b k = omega (arith, h b (more [] (f b) k), hs [] (f b) k)
-  few-then (true ∷ ms) g e f a fs more h h' hs b k = omega (arith, h b (more ms (f b) k), hs ms (f b) k)
-  few-then (false ∷ ms) g e f a fs more h h' hs b k =
-      let n = suc (f (suc (suc (suc b)))) in
+  few-then (byValue t ∷ ms) g e f a fs more h h' hs b k = omega (arith, h b (more ms (suc (f b)) k), hs ms (suc (f b)) k)
+  few-then (byName t ∷ ms) g e f a fs more h h' hs b k =
+      let n = suc (suc (f (suc (suc (suc b))))) in
       omega (arith, h' (suc (suc (suc b))) (more ms n k), hs ms n k)
 
   mutual
@@ -205,31 +206,36 @@ module _ (place : ℕ → ℕ) (word : List Around → Expression → ℕ) where
 
     fewE : (g : List Around) (e : Expression) → Few (endE (scopes g) e) (aheadE g e)
     fewE g (number q n) b k = omega arith
+    fewE g (decimal q n i) b k = omega arith
     fewE g (logical q t) b k = omega arith
-    fewE g (name x) b k = omega (arith, grow-name (primary (meaning (scopes g) x) done) (λ m b. b) (λ m b. omega arith) b)
+    fewE g (name x) b k = omega (arith, name-size (primary (meaning (scopes g) x) done) (λ m b. b) 0 (λ m b. omega arith) b)
     fewE g (call x e es) b k =
         few-name (primary (meaning (scopes g) x) (then e es)) (λ m b. endThen m (λ b. endE (scopes g) e b) (λ m b. endEs (scopes g) m es b) b) (λ m b k. aheadThen m g e (λ b. endE (scopes g) e b) (λ g b k. aheadE g e b k) (λ m b k. aheadEs g m es b k) b k)
         (λ m b k. few-then m g e (λ b. endE (scopes g) e b) (λ g b k. aheadE g e b k) (λ m b. endEs (scopes g) m es b) (λ m b k. aheadEs g m es b k) (λ b k. fewE g e b k) (λ b k. fewE (anActual ∷ g) e b k) (λ m b k. fewEs g m es b k) b k) b k
-    fewE g (signed q o e) b k = omega (arith, fewE g e b k, grow-sign o (endE (scopes g) e b))
+    fewE g (signed q o e) b k = omega (arith, fewE g e b k, sign-size o (endE (scopes g) e b))
     fewE g (operated q o e f) b k = omega (arith, fewE g e b (aheadE g f (endE (scopes g) e b) k), fewE g f (endE (scopes g) e b) k)
     fewE g (chosen q r c e f) b k =
         let m = endE (scopes g) c b in
-        let n = endE (scopes g) e (suc m) in
-        let k₁ : List ℕ = there (endE (scopes g) f (suc n)) ∷ aheadE g f (suc n) k in
-        omega (arith, fewE g c b (there (suc n) ∷ aheadE g e (suc m) k₁), fewE g e (suc m) k₁, fewE g f (suc n) k)
+        let u = widens (scopes g) e f in
+        let v = widens (scopes g) f e in
+        let i = endE (scopes g) e (suc m) in
+        let n = endWide u i in
+        let j = endE (scopes g) f (suc n) in
+        let k₁ : List ℕ = there (endWide v j) ∷ aheadE g f (suc n) k in
+        omega (arith, fewE g c b (there (suc n) ∷ aheadE g e (suc m) k₁), fewE g e (suc m) k₁, wide-size u i, fewE g f (suc n) k, wide-size v j)
     fewE g (nested q e) b k = fewE g e b k
 
-    fewEs : (g : List Around) (m : List Bool) (es : Expressions) → Few (endEs (scopes g) m es) (aheadEs g m es)
+    fewEs : (g : List Around) (m : List Mode) (es : Expressions) → Few (endEs (scopes g) m es) (aheadEs g m es)
     fewEs g m done b k = omega arith
     fewEs g m (then e es) b k =
         few-then m g e (λ b. endE (scopes g) e b) (λ g b k. aheadE g e b k) (λ m b. endEs (scopes g) m es b) (λ m b k. aheadEs g m es b k) (λ b k. fewE g e b k) (λ b k. fewE (anActual ∷ g) e b k) (λ m b k. fewEs g m es b k) b k
 
   fewX : (g : List Around) (x : Name) (l : Element) (b : ℕ) (k : List ℕ) → length (aheadX g x l b k) + b + 1 ≤ length k + endX (scopes g) x l b
   unfolding aheadX endX
-  fewX g x (value e) b k = omega (arith, fewE g e b k, grow-way (way (meaning (scopes g) x)) (endE (scopes g) e b))
+  fewX g x (value e) b k = omega (arith, fewE g e b k, way-size (way (meaning (scopes g) x)) (endE (scopes g) e b))
   fewX g x (while q e c) b k =
       let a = endStore (scopes g) x (endE (scopes g) e b) in
-      omega (arith, fewE g e b (aheadE g c a k), fewE g c a k, grow-way (way (meaning (scopes g) x)) (endE (scopes g) e b))
+      omega (arith, fewE g e b (aheadE g c a k), fewE g c a k, way-size (way (meaning (scopes g) x)) (endE (scopes g) e b))
   fewX g x (step q e f h) b k =
       let a = endStore (scopes g) x (endE (scopes g) e b) in
       let w = way (meaning (scopes g) x) in
@@ -237,7 +243,7 @@ module _ (place : ℕ → ℕ) (word : List Around → Expression → ℕ) where
       let n = endE (scopes g) h (suc i) in
       let k₁ : List ℕ = aheadE g f (suc a) (aheadE g h (suc i) k) in
       omega
-      (arith, fewE g e b (there i ∷ k₁), fewE g f (suc a) (aheadE g h (suc i) k), fewE g h (suc i) k, grow-way w (endE (scopes g) e b), grow-way w n, grow-sum w (suc (suc (endWay w n))))
+      (arith, fewE g e b (there i ∷ k₁), fewE g f (suc a) (aheadE g h (suc i) k), fewE g h (suc i) k, way-size w (endE (scopes g) e b), way-size w n, sum-size w (suc (suc (endWay w n))))
 
 -- the address behind an element is where the others begin
 pub end-element : (g : List Scope) (x : Name) (l : Element) (ls : List Element) (b : ℕ) → endL g x (l ∷ ls) b ≡ endL g x ls (endX g x l b)
@@ -254,7 +260,7 @@ module _ (place : ℕ → ℕ) (word : List Around → Expression → ℕ) where
       let i = endX (scopes g) x l b in
       omega (arith, fewX place word g x l b (there i ∷ aheadL place word g x y ls i k), fewL g x y ls i k, end-element (scopes g) x l (y ∷ ls) b)
 
-  few-call : (g : List Around) (t : Option Sort) (m : List Bool) (es : Expressions) (b : ℕ) (k : List ℕ) → length (aheadCall place word g t m es b k) + b ≤ length k + endCall (scopes g) t m es b
+  few-call : (g : List Around) (t : Option Sort) (m : List Mode) (es : Expressions) (b : ℕ) (k : List ℕ) → length (aheadCall place word g t m es b k) + b ≤ length k + endCall (scopes g) t m es b
   few-call g none m es b k = omega (arith, fewEs place word g m es b k)
   few-call g (some t) m es b k = omega (arith, fewEs place word g m es (suc b) k)
 
@@ -262,9 +268,10 @@ module _ (place : ℕ → ℕ) (word : List Around → Expression → ℕ) where
   few-command g (routine-of p) es b k = few-call g (sortOf p) (modesOf p) es b k
   few-command g (absolute-of e) es b k = omega (arith, fewE place word g e b k)
   few-command g greatest-of es b k = omega arith
-  few-command g (input-to e y) es b k = omega (arith, fewE place word g e b k, grow-take (way (meaning (scopes g) y)) (endE (scopes g) e b))
-  few-command g (output-of e f) es b k =
-      omega (arith, fewE place word g e b (aheadE place word g f (endE (scopes g) e b) k), fewE place word g f (endE (scopes g) e b) k)
+  few-command g (input-to e y) es b k = omega (arith, fewE place word g e b k, take-size (way (meaning (scopes g) y)) (suc (endE (scopes g) e b)))
+  few-command g (output-of t e f) es b k =
+      let i = suc (endE (scopes g) e b) in
+      omega (arith, fewE place word g e b (aheadE place word g f i k), fewE place word g f i k)
   few-command g no-command es b k = omega arith
 
   mutual
@@ -272,7 +279,7 @@ module _ (place : ℕ → ℕ) (word : List Around → Expression → ℕ) where
 
     pub fewS : (g : List Around) (s : Statement) (b : ℕ) (k : List ℕ) → length (aheadS place word g s b k) + b ≤ length k + endS (scopes g) s b
     fewS g dummy b k = omega arith
-    fewS g (assignment x xs q e) b k = omega (arith, fewE place word g e b k, grow-stores (scopes g) x xs (endE (scopes g) e b))
+    fewS g (assignment x xs q e) b k = omega (arith, fewE place word g e b k, size-stores (scopes g) x xs (endE (scopes g) e b))
     fewS g (procedure x es) b k = few-command g (command (meaning (scopes g) x) es) es b k
     fewS g (when q c s) b k =
         let i = suc (endE (scopes g) c b) in
@@ -287,9 +294,10 @@ module _ (place : ℕ → ℕ) (word : List Around → Expression → ℕ) where
         omega (arith, fewL g x l ls b (there (suc (endS (scopes g) s i)) ∷ aheadS place word g s i k), fewS g s i k)
     fewS g (compound ss) b k = fewSs g ss b k
     fewS g (block q ds ss) b k =
-        let h : List Around = aBlock (reach g) ds (suc b) ∷ g in
-        let i = endDs (scopes h) ds (suc b) in
-        omega (arith, fewDs h ds (suc b) (aheadSs place word h ss i k), fewSs h ss i k)
+        let p = endHead ds b in
+        let h : List Around = aBlock (reach g) ds p ∷ g in
+        let i = endDs (scopes h) ds p in
+        omega (arith, jump-size (routines ds) b, fewDs h ds p (aheadSs place word h ss (suc i) k), fewSs h ss (suc i) k)
 
     fewSs : (g : List Around) (ss : Statements) (b : ℕ) (k : List ℕ) → length (aheadSs place word g ss b k) + b ≤ length k + endSs (scopes g) ss b
     fewSs g (last s) b k = fewS g s b k

@@ -9,7 +9,7 @@ use mathlib.Core.Option.{none, some}
 use lib.Dec.{eqb}
 use lib.ListN.{length, getD}
 use borrow.Author.Tests.{eq-eqb, ne-eqb}
-use Rattle.names.specs.Program.{integer, boolean}
+use Rattle.names.specs.Program.{integer, boolean, real}
 use Rattle.names.specs.Scopes.{Thing, variable, routine, formal, by-name, Meaning, declared, given, nothing, meaning}
 use Rattle.names.specs.Uses.{Use, thingKind}
 use Rattle.names.specs.model.Rows.{meantOf}
@@ -58,9 +58,11 @@ kind-of R j (routine p) e h = rw e
 kind-of R j (formal none) e h = rw (e, h)
 kind-of R j (formal (some integer)) e h = rw (e, h)
 kind-of R j (formal (some boolean)) e h = rw (e, h)
+kind-of R j (formal (some real)) e h = rw (e, h)
 kind-of R j (by-name none) e h = rw (e, h)
 kind-of R j (by-name (some integer)) e h = rw (e, h)
 kind-of R j (by-name (some boolean)) e h = rw (e, h)
+kind-of R j (by-name (some real)) e h = rw (e, h)
 
 used-is : {k m k' m' : ℕ} → k ≡ k' → m ≡ m' → _≡_ {A = Used} (record { kind = k; means = m }) (record { kind = k'; means = m' })
 used-is e f = rw (e, f)

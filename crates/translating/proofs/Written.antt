@@ -1,6 +1,6 @@
 -- What some nodes do in the pass that writes code: the state is what is around a part, its frame, and what goes through it, its flow. Parts that follow
 -- one another are passed one after the other; if the tables tell what lies ahead, the words written are those of the part's code.
-use Prim.Native.Nat.{ℕ, suc, _+_, _*_, _-_, _<_}
+use Prim.Native.Nat.{ℕ, suc, _+_, _*_, _<_}
 use native.Mathlib.Omega.{arith}
 use native.Mathlib.Numerals.{add-one}
 use mathlib.Core.Path.{_≡_, refl, sym, ap, _∙_}
@@ -21,7 +21,7 @@ use Rattle.translating.proofs.SlotLists.{Fills, no-slot, then-slots, sl
 use Rattle.translation.proofs.Ranges.{owns}
 
 -- what the pass is told: the places of symbols, which have 16 bits, and the declarations' numbers by their names' symbols; of symbols their values, of
--- declarations how they lie, of slots what lies ahead, of procedures where they begin; the rows
+-- declarations how they lie, of slots what lies ahead, of procedures where they begin; the rows; the marks of symbols
 pub record Tables : Type 0 where
   pub place : ℕ → ℕ
   pub key : ℕ → ℕ
@@ -30,6 +30,7 @@ pub record Tables : Type 0 where
   pub ahead : List ℕ
   pub entries : List ℕ
   pub rows : List ℕ
+  pub marks : List ℕ
   pub small : (q : ℕ) → place q < 65536
 
 -- what is around a part
@@ -135,7 +136,7 @@ entry-real key fr fl = rw (shown-next 2048 (fl .entries) (fl .at), length-append
 
 module _ (tb : Tables) where
   unfoldable pub step : ℕ → ℕ → ℕ → ℕ → State → State
-  step k s a b st = codeNode (tb .values) (tb .layout) (tb .ahead) (tb .entries) (tb .rows) k s (tb .place s) a b st
+  step k s a b st = codeNode (tb .values) (tb .layout) (tb .ahead) (tb .entries) (tb .rows) (tb .marks) k s (tb .place s) a b st
 
   abbrev pub run : List ℕ → State → State
   run = foldNodes step
@@ -168,6 +169,10 @@ module _ (tb : Tables) where
   -- a part with its uses, from the address b to e, wherever it stands
   pub record Emits (R : Type 0) (g : List Around) (h m : ℕ) (ws : List ℕ) (vs : List Use) (b e : ℕ) (A E : List ℕ → List ℕ) (C : List Instruction → List Instruction) : Type 0 where
     pub pass : (us : List Use) (fr : Frame) (fl : Flow) → Fits g h m fr → fl .uses ≡ vs ++ us → fl .at ≡ b → Passed R fr fr ws us e A E C fl
+
+  -- the same where n declarations and formals stand before
+  pub record EmitsBehind (n : ℕ) (R : Type 0) (g : List Around) (h m : ℕ) (ws : List ℕ) (vs : List Use) (b e : ℕ) (A E : List ℕ → List ℕ) (C : List Instruction → List Instruction) : Type 0 where
+    pub pass : (us : List Use) (fr : Frame) (fl : Flow) → Fits g h m fr → fl .uses ≡ vs ++ us → fl .at ≡ b → length (fl .entries) ≡ n → Passed R fr fr ws us e A E C fl
 
 -- the words of an instruction, behind others
 pub wrote-right : (i : Instruction) (o p v : ℕ) (c : List ℕ) (r : List Instruction) → o + 64 * p ≡ firstWord (partsOf i) → v ≡ partsOf i .operand
@@ -217,6 +222,22 @@ module _ {tb : Tables} where
         pass = λ us fr fl w u b.
             let p = x .pass (vs' ++ us) fr fl w (u ∙ append-assoc vs vs' us) b in
             p and-then (y .pass us fr (p .next) w (p .uses) (p .at));
+      }
+
+  -- behind any number of declarations
+  pub behind-any : {n : ℕ} {R : Type 0} {g : List Around} {h m : ℕ} {ws : List ℕ} {vs : List Use} {b e : ℕ} {A E : List ℕ → List ℕ} {C : List Instruction → List Instruction}
+      → Emits tb R g h m ws vs b e A E C → EmitsBehind tb n R g h m ws vs b e A E C
+  behind-any x = record { pass = λ us fr fl w u b l. x .pass us fr fl w u b }
+
+  -- behind n, and then behind n'
+  pub behind-then : {n n' : ℕ} {R : Type 0} {g : List Around} {h m : ℕ} {ws ws' : List ℕ} {vs vs' : List Use} {b c e : ℕ} {A A' E E' : List ℕ → List ℕ} {C C' : List Instruction → List Instruction}
+      → ((l : List ℕ) → length l ≡ n → length (E l) ≡ n') → EmitsBehind tb n R g h m ws vs b c A E C → EmitsBehind tb n' R g h m ws' vs' c e A' E' C'
+      → EmitsBehind tb n R g h m (ws ++ ws') (vs ++ vs') b e (λ k. A (A' k)) (λ t. E' (E t)) (λ r. C (C' r))
+  behind-then {vs = vs} {vs' = vs'} f x y =
+      record {
+        pass = λ us fr fl w u b l.
+            let p = x .pass (vs' ++ us) fr fl w (u ∙ append-assoc vs vs' us) b l in
+            p and-then (y .pass us fr (p .next) w (p .uses) (p .at) (ap length (p .enters) ∙ f (fl .entries) l));
       }
 
   -- a last part with no use

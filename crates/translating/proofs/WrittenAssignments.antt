@@ -1,6 +1,6 @@
 -- Assignments in the pass that writes code: left parts are kept until the value is there, and are stored to from the first to the last. Nothing is
 -- assumed of what else is open.
-use Prim.Native.Nat.{ℕ, suc, _+_, _-_}
+use Prim.Native.Nat.{ℕ, suc}
 use native.Mathlib.Numerals.{add-one}
 use mathlib.Core.Path.{_≡_, refl, sym, ap, _∙_}
 use mathlib.Core.List.{List, [], _∷_, _++_, map, append-assoc, append-nil}
@@ -18,13 +18,12 @@ use Rattle.translation.specs.model.Translate.{Around, scopes, endE, endStores, 
 use Rattle.machine.specs.model.Words.{Parts, CodeFits}
 use Rattle.translation.specs.model.Scoped.{OkW, OkVs, OkE}
 use Rattle.emitting.specs.model.Emission.{Opened, opened, State, put, withOpen, withLefts, pushed, top, below, useNode, stored, leftsOf, behindLefts, assigned, plainNode, codeNode}
-use Rattle.translating.proofs.ToldCalls.{ToldE}
 use Rattle.translating.proofs.SlotLists.{aheadS}
 use Rattle.translating.proofs.Written.{Tables, Frame, Flow, kindOf, meansOf, taken, putAll, past, Same, fits-apart, step, state, Passed, Emits, _and-then_, passed-nothing, passed-all, passed-as, use-step}
 use Rattle.translating.proofs.NameWords.{Known, Targets}
 use Rattle.translating.proofs.WrittenNames.{wordAt, seeks, seeks-is, worded, wayParts, on-cell, way-past, wayInstrs, way-code, way-same}
 use Rattle.translating.proofs.ActualWords.{wordIn}
-use Rattle.translating.proofs.WrittenExpressions.{Numbered, Moded, emitsE}
+use Rattle.translating.proofs.WrittenExpressions.{IsTold, emitsE}
 use Rattle.translation.proofs.Ranges.{owns}
 
 -- ---- left parts kept, newest first: their words, the ways they are stored to and their places
@@ -50,8 +49,8 @@ kept [] = []
 kept (w ∷ ws) = opened 0 (w .word) (w .place) 0 ∷ kept ws
 
 abbrev storeParts : Left → List Left → List Parts
-storeParts w [] = wayParts (w .goes) 14 0 (w .place) (w .word)
-storeParts w (v ∷ ws) = wayParts (w .goes) 15 0 (w .place) (w .word) ++ storeParts v ws
+storeParts w [] = wayParts (w .goes) 14 (w .place) (w .place) (w .word)
+storeParts w (v ∷ ws) = wayParts (w .goes) 15 (w .place) (w .place) (w .word) ++ storeParts v ws
 
 -- a word tells whether its cell is sought
 abbrev Tells : Left → List Left → Type 0
@@ -87,11 +86,11 @@ module _ (tb : Tables) where
 
   stored-all : (w : Left) (ws : List Left) (st : State) → Tells w ws → stored (tb .values) (tb .layout) (tb .ahead) (tb .entries) (kept (w ∷ ws)) st ≡ putAll (storeParts w ws) st
   unfolding stored
-  stored-all w [] st h = on-cell (w .goes) 14 0 (w .place) (w .word) st h
+  stored-all w [] st h = on-cell (w .goes) 14 (w .place) (w .place) (w .word) st h
   stored-all w (v ∷ ws) st h =
-      ap (stored (tb .values) (tb .layout) (tb .ahead) (tb .entries) (kept (v ∷ ws))) (on-cell (w .goes) 15 0 (w .place) (w .word) st (h .0))
-      ∙ stored-all v ws (putAll (wayParts (w .goes) 15 0 (w .place) (w .word)) st) (h .1)
-      ∙ sym (puts-append (wayParts (w .goes) 15 0 (w .place) (w .word)) (storeParts v ws) st)
+      ap (stored (tb .values) (tb .layout) (tb .ahead) (tb .entries) (kept (v ∷ ws))) (on-cell (w .goes) 15 (w .place) (w .place) (w .word) st (h .0))
+      ∙ stored-all v ws (putAll (wayParts (w .goes) 15 (w .place) (w .place) (w .word)) st) (h .1)
+      ∙ sym (puts-append (wayParts (w .goes) 15 (w .place) (w .place) (w .word)) (storeParts v ws) st)
 
   -- what is open is none of an instruction's
   aside : (ps : List Parts) (os : List Opened) (st : State) → withLefts 0 (withOpen os (putAll ps st)) ≡ putAll ps (withLefts 0 (withOpen os st))
@@ -145,38 +144,38 @@ module _ (tb : Tables) (R : Type 0) (g : List Around) (right : R → Targets (tb
 
   -- the instructions of the stores
   abbrev storesOf : Name → List Name → List Instruction
-  storesOf x [] = wayInstrs tb (way (meaning (scopes g) x)) g x (λ l. store l)
-  storesOf x (y ∷ ys) = wayInstrs tb (way (meaning (scopes g) x)) g x (λ l. assign l) ++ storesOf y ys
+  storesOf x [] = wayInstrs tb (way (meaning (scopes g) x)) g x (λ l. store (tb .place (x .symbol)) l)
+  storesOf x (y ∷ ys) = wayInstrs tb (way (meaning (scopes g) x)) g x (λ l. assign (tb .place (x .symbol)) l) ++ storesOf y ys
 
   stores-code : (x : Name) (xs : List Name) (r : List Instruction) → storesOf x xs ++ r ≡ codeStores (tb .place) g x xs r
   unfolding codeStores
-  stores-code x [] r = way-code tb (way (meaning (scopes g) x)) g x (λ l. store l) r
+  stores-code x [] r = way-code tb (way (meaning (scopes g) x)) g x (λ l. store (tb .place (x .symbol)) l) r
   stores-code x (y ∷ ys) r =
       let w = way (meaning (scopes g) x) in
-      append-assoc (wayInstrs tb w g x (λ l. assign l)) (storesOf y ys) r
-      ∙ ap (λ (l : List Instruction). wayInstrs tb w g x (λ l. assign l) ++ l) (stores-code y ys r)
-      ∙ way-code tb w g x (λ l. assign l) (codeStores (tb .place) g y ys r)
+      append-assoc (wayInstrs tb w g x (λ l. assign (tb .place (x .symbol)) l)) (storesOf y ys) r
+      ∙ ap (λ (l : List Instruction). wayInstrs tb w g x (λ l. assign (tb .place (x .symbol)) l) ++ l) (stores-code y ys r)
+      ∙ way-code tb w g x (λ l. assign (tb .place (x .symbol)) l) (codeStores (tb .place) g y ys r)
 
   stores-end : (n : ℕ) (x : Name) (xs : List Name) (e : ℕ) → past (storeParts (leftOf n x) (map (leftOf n) xs)) e ≡ endStores (scopes g) x xs e
   unfolding endStores
-  stores-end n x [] e = way-past (way (meaning (scopes g) x)) 14 0 (tb .place (x .symbol)) (wordAt tb g n x) e
+  stores-end n x [] e = way-past (way (meaning (scopes g) x)) 14 (tb .place (x .symbol)) (tb .place (x .symbol)) (wordAt tb g n x) e
   stores-end n x (y ∷ ys) e =
-      let ps = wayParts (way (meaning (scopes g) x)) 15 0 (tb .place (x .symbol)) (wordAt tb g n x) in
+      let ps = wayParts (way (meaning (scopes g) x)) 15 (tb .place (x .symbol)) (tb .place (x .symbol)) (wordAt tb g n x) in
       past-append ps (storeParts (leftOf n y) (map (leftOf n) ys)) e
       ∙ stores-end n y ys (past ps e)
-      ∙ ap (endStores (scopes g) y ys) (way-past (way (meaning (scopes g) x)) 15 0 (tb .place (x .symbol)) (wordAt tb g n x) e)
+      ∙ ap (endStores (scopes g) y ys) (way-past (way (meaning (scopes g) x)) 15 (tb .place (x .symbol)) (tb .place (x .symbol)) (wordAt tb g n x) e)
 
   stores-same : (n : ℕ) (x : Name) (xs : List Name) → n ≡ owns g → OkW (scopes g) x → OkVs (scopes g) xs → CodeFits (storesOf x xs)
       → Same (storeParts (leftOf n x) (map (leftOf n) xs)) (storesOf x xs)
-  stores-same n x [] e ok oks c = way-same tb (way (meaning (scopes g) x)) g x (λ l. store l) 14 0 (wordAt tb g n x) (λ l. refl) (λ l f. f) (worded tb g known x n e ok) c
+  stores-same n x [] e ok oks c = way-same tb (way (meaning (scopes g) x)) g x (λ l. store (tb .place (x .symbol)) l) 14 (tb .place (x .symbol)) (wordAt tb g n x) (λ l. refl) (λ l f. f) (worded tb g known x n e ok) c
   stores-same n x (y ∷ ys) e ok oks c =
       let w = way (meaning (scopes g) x) in
-      let is = wayInstrs tb w g x (λ l. assign l) in
+      let is = wayInstrs tb w g x (λ l. assign (tb .place (x .symbol)) l) in
       let f = fits-apart is (storesOf y ys) c in
-      same-append (wayParts w 15 0 (tb .place (x .symbol)) (wordAt tb g n x)) (storeParts (leftOf n y) (map (leftOf n) ys)) is (storesOf y ys)
-      (way-same tb w g x (λ l. assign l) 15 0 (wordAt tb g n x) (λ l. refl) (λ l f. f) (worded tb g known x n e ok) (f .0)) (stores-same n y ys e (oks .0) (oks .1) (f .1))
+      same-append (wayParts w 15 (tb .place (x .symbol)) (tb .place (x .symbol)) (wordAt tb g n x)) (storeParts (leftOf n y) (map (leftOf n) ys)) is (storesOf y ys)
+      (way-same tb w g x (λ l. assign (tb .place (x .symbol)) l) 15 (tb .place (x .symbol)) (wordAt tb g n x) (λ l. refl) (λ l f. f) (worded tb g known x n e ok) (f .0)) (stores-same n y ys e (oks .0) (oks .1) (f .1))
 
-  pub assignment-part : (x : Name) (xs : List Name) (q : ℕ) (y : Expression) (d b : ℕ) → OkVs (scopes g) (x ∷ xs) → OkE (scopes g) y → ToldE (Numbered tb) (Moded tb) (scopes g) y
+  pub assignment-part : (x : Name) (xs : List Name) (q : ℕ) (y : Expression) (d b : ℕ) → OkVs (scopes g) (x ∷ xs) → OkE (scopes g) y → IsTold tb (scopes g) y
       → Emits tb R g 0 m (nodesS d (assignment x xs q y)) (usesS (scopes g) (assignment x xs q y)) b (endS (scopes g) (assignment x xs q y) b) (aheadS (tb .place) (wordIn (tb .key) (tb .layout)) g (assignment x xs q y) b) (λ t. t) (codeS (tb .place) g m (assignment x xs q y) b)
   unfolding nodesS usesS endS aheadS codeS
   assignment-part x xs q y d b ok ok' n =

@@ -1,6 +1,6 @@
 -- The elements of a for statement in the pass that writes code: each goes to the body, which a slot tells, and on to where its own slot tells; the
 -- last one's slot is filled behind the loop. Assumes nothing.
-use Prim.Native.Nat.{ℕ, suc, _+_, _-_, _<_}
+use Prim.Native.Nat.{ℕ, suc, _+_, _<_}
 use native.Mathlib.Omega.{arith}
 use native.Mathlib.Numerals.{add-one}
 use mathlib.Core.Path.{_≡_, refl, sym, ap, ap₂, _∙_}
@@ -22,13 +22,13 @@ use Rattle.machine.specs.model.Words.{Parts, beside, CodeFits, words}
 use Rattle.emitting.specs.model.Layout.{packed}
 use Rattle.translation.specs.model.Scoped.{OkE, OkL}
 use Rattle.emitting.specs.model.Emission.{opened, State, put, withOpen, withSlot, noted, pushed, popped, replaced, top, below, bare, foundWord, onCell, aheadAt, element, bodied, tested, added, stepBegun, stepHeld, stepAgain, turning, stepping, amount, elementNode, codeNode}
-use Rattle.translating.proofs.ToldCalls.{ToldE, ToldL}
+use Rattle.translating.proofs.ToldCalls.{ToldL}
 use Rattle.translating.proofs.SlotLists.{Fills, a-slot, then-slots, longer, refill, slot-read, slot-past, slots-past, there, aheadE, aheadX, aheadL, endX, end-element}
 use Rattle.translating.proofs.Written.{Tables, Frame, Flow, withOpens, wrote, slotted, taken, put-real, slot-real, noted-real, putAll, wroteAll, puts-real, past, Same, wrote-all, fits-apart, step, state, Goes, Passed, Fits, goes-node, goes-then, wrote-right, _and-then_, passed-all, passed-as}
 use Rattle.translating.proofs.WrittenChoices.{address, fits-open}
-use Rattle.translating.proofs.WrittenNames.{parts, seeks, Worded, wayParts, on-cell, way-past, wayInstrs, way-code, way-same}
+use Rattle.translating.proofs.WrittenNames.{parts, Numbered, Pointed, Moded, seeks, Worded, wayParts, on-cell, way-past, wayInstrs, way-code, way-same}
 use Rattle.translating.proofs.ActualWords.{wordIn}
-use Rattle.translating.proofs.WrittenExpressions.{Numbered, Moded, emitsE}
+use Rattle.translating.proofs.WrittenExpressions.{Marked, IsTold, emitsE}
 use Rattle.translating.proofs.NameWords.{Known, Targets}
 
 -- a frame within a for statement: the slot of its body's address, its variable's word and place, the address of the element
@@ -121,9 +121,9 @@ module _ (tb : Tables) where
   -- ---- the nodes
 
   start-step : (w : Way) (n s v p a : ℕ) (fr : Frame) (fl : Flow) → eqb (low v) 2 ≡ seeks w
-      → step tb n-start n 0 0 (state tb (inLoop s v p a fr) fl) ≡ putAll (wayParts w 14 0 p v) (state tb (inLoop s v p a fr) fl)
+      → step tb n-start n 0 0 (state tb (inLoop s v p a fr) fl) ≡ putAll (wayParts w 14 p p v) (state tb (inLoop s v p a fr) fl)
   unfolding step codeNode isUse elementNode top
-  start-step w n s v p a fr fl e = on-cell w 14 0 p v (state tb (inLoop s v p a fr) fl) e
+  start-step w n s v p a fr fl e = on-cell w 14 p p v (state tb (inLoop s v p a fr) fl) e
 
   abbrev ahead-of : ℕ → ℕ
   ahead-of i = getD (tb .ahead) i 0
@@ -181,13 +181,13 @@ module _ (tb : Tables) where
   stepParts direct q f t s v p fr fl =
       parts 11 p (packed (high v) (mid v) (ahead-of (length (fl .slots)))) ∷
       parts 8 0 (packed (fr .loops) (fl .at + 1 + 1) (ahead-of s)) ∷
-      parts 8 0 (packed (fr .loops) (fl .at + 1 + 1 + 1) f) ∷ parts 21 q (bare v) ∷ parts 14 0 (bare v) ∷ parts 2 0 (there t) ∷ []
+      parts 8 0 (packed (fr .loops) (fl .at + 1 + 1 + 1) f) ∷ parts 21 q (bare v) ∷ parts 14 p (bare v) ∷ parts 2 0 (there t) ∷ []
   stepParts sought q f t s v p fr fl =
       parts 41 p (bare v) ∷
       parts 11 p (packed 0 8191 (ahead-of (length (fl .slots)))) ∷
       parts 8 0 (packed (fr .loops) (fl .at + 1 + 1 + 1) (ahead-of s)) ∷
       parts 8 0 (packed (fr .loops) (fl .at + 1 + 1 + 1 + 1) f) ∷
-      parts 41 p (bare v) ∷ parts 21 q foundWord ∷ parts 41 p (bare v) ∷ parts 14 0 foundWord ∷ parts 2 0 (there t) ∷ []
+      parts 41 p (bare v) ∷ parts 21 q foundWord ∷ parts 41 p (bare v) ∷ parts 14 p foundWord ∷ parts 2 0 (there t) ∷ []
 
   abbrev testParts : Way → ℕ → ℕ → ℕ → List Parts
   testParts direct p v o = parts 11 p (packed (high v) (mid v) o) ∷ []
@@ -198,16 +198,16 @@ module _ (tb : Tables) where
   tested-puts direct p v o st e = rw e
   tested-puts sought p v o st e = rw e
 
-  added-puts : (w : Way) (p v q : ℕ) (st : State) → eqb (low v) 2 ≡ seeks w → added (tb .values) (tb .layout) (tb .ahead) (tb .entries) p v q st ≡ putAll (wayParts w 14 0 p v) (putAll (wayParts w 21 q p v) st)
+  added-puts : (w : Way) (p v q : ℕ) (st : State) → eqb (low v) 2 ≡ seeks w → added (tb .values) (tb .layout) (tb .ahead) (tb .entries) p v q st ≡ putAll (wayParts w 14 p p v) (putAll (wayParts w 21 q p v) st)
   unfolding added
-  added-puts w p v q st e = ap (onCell 14 0 p v) (on-cell w 21 q p v st e) ∙ on-cell w 14 0 p v (putAll (wayParts w 21 q p v) st) e
+  added-puts w p v q st e = ap (onCell 14 p p v) (on-cell w 21 q p v st e) ∙ on-cell w 14 p p v (putAll (wayParts w 21 q p v) st) e
 
   -- both in their places
   stepping-puts : (w : Way) (f q t s v p a : ℕ) (st : State) → eqb (low v) 2 ≡ seeks w
       → let u = putAll (testParts w p v (getD (tb .ahead) (st .slots) 0)) st in
       stepping (tb .values) (tb .layout) (tb .ahead) (tb .entries) (opened s v p a) (opened t 1 q f) st
       ≡ put 2 0 (there t)
-      (putAll (wayParts w 14 0 p v) (putAll (wayParts w 21 q p v)
+      (putAll (wayParts w 14 p p v) (putAll (wayParts w 21 q p v)
       (stepAgain (tb .values) (tb .layout) (tb .ahead) (tb .entries) (opened t 1 q f) (bodied (tb .values) (tb .layout) (tb .ahead) (tb .entries) (opened s v p a) (u .at + 1) u))))
   unfolding stepping turning aheadAt
   stepping-puts w f q t s v p a st e =
@@ -276,11 +276,11 @@ ok-more g (while q e c) ls ok = ((ok .0, ok .1), ok .2)
 ok-more g (by-step q e f h) ls ok = ((ok .0, ok .1, ok .2), ok .3)
 
 abbrev ToldX : Tables → List Scope → Element → Type 0
-ToldX tb g (value e) = ToldE (Numbered tb) (Moded tb) g e
-ToldX tb g (while q e c) = ToldE (Numbered tb) (Moded tb) g e × ToldE (Numbered tb) (Moded tb) g c
-ToldX tb g (by-step q e f h) = ToldE (Numbered tb) (Moded tb) g e × ToldE (Numbered tb) (Moded tb) g f × ToldE (Numbered tb) (Moded tb) g h
+ToldX tb g (value e) = IsTold tb g e
+ToldX tb g (while q e c) = IsTold tb g e × IsTold tb g c
+ToldX tb g (by-step q e f h) = IsTold tb g e × IsTold tb g f × IsTold tb g h
 
-told-more : (tb : Tables) (g : List Scope) (l : Element) (ls : List Element) → ToldL (Numbered tb) (Moded tb) g (l ∷ ls) → ToldX tb g l × ToldL (Numbered tb) (Moded tb) g ls
+told-more : (tb : Tables) (g : List Scope) (l : Element) (ls : List Element) → ToldL (Numbered tb) (Pointed tb) (Marked tb) (Moded tb) g (l ∷ ls) → ToldX tb g l × ToldL (Numbered tb) (Pointed tb) (Marked tb) (Moded tb) g ls
 told-more tb g (value e) ls ok = ok
 told-more tb g (while q e c) ls ok = ((ok .0, ok .1), ok .2)
 told-more tb g (by-step q e f h) ls ok = ((ok .0, ok .1, ok .2), ok .3)
@@ -332,17 +332,17 @@ module _ (tb : Tables) (R : Type 0) (g : List Around) (right : R → Targets (tb
   abbrev startWords : ℕ → Expression → List ℕ
   startWords d e = nodesE d e ++ mark n-start (firstSymbol e)
 
-  start-passed : (e : Expression) (d b : ℕ) → OkE (scopes g) e → ToldE (Numbered tb) (Moded tb) (scopes g) e → (us : List Use) (fr : Frame) (fl : Flow) → Fits tb g 0 m fr → fl .uses ≡ usesE (scopes g) e ++ us → fl .at ≡ b
+  start-passed : (e : Expression) (d b : ℕ) → OkE (scopes g) e → IsTold tb (scopes g) e → (us : List Use) (fr : Frame) (fl : Flow) → Fits tb g 0 m fr → fl .uses ≡ usesE (scopes g) e ++ us → fl .at ≡ b
       → Passed tb R (F b fr) (F b fr) (startWords d e) us (endStore (scopes g) x (endE (scopes g) e b)) (ahead e b) (λ t. t) (λ r. codeE (tb .place) g e b (codeStore (tb .place) g x r)) fl
   start-passed e d b ok n us fr fl w u a =
       let p = tb .place (x .symbol) in
       let z = way (meaning (scopes g) x) in
       let y = emitsE tb R 0 m g right known e d b ok n .pass us (F b fr) fl (fits-open (opened s v p b ∷ fr .opens) w) u a in
       y
-      and-then (passed-as (endStore (scopes g) x (endE (scopes g) e b)) (codeStore (tb .place) g x) (way-past z 14 0 p v (endE (scopes g) e b)) (way-code tb z g x (λ l. store l))
-      (passed-all (y .next .variable) (wayInstrs tb z g x (λ l. store l)) (wayParts z 14 0 p v) n-start (firstSymbol e) 0 0
-      (start-step tb z (firstSymbol e) s v p b fr (y .next) tell ∙ ap (λ (us : List Use). putAll (wayParts z 14 0 p v) (state tb (F b fr) (taken us (y .next)))) (y .uses))
-      (y .at) (λ t c. way-same tb z g x (λ l. store l) 14 0 v (λ l. refl) (λ l f. f) word c)))
+      and-then (passed-as (endStore (scopes g) x (endE (scopes g) e b)) (codeStore (tb .place) g x) (way-past z 14 p p v (endE (scopes g) e b)) (way-code tb z g x (λ l. store p l))
+      (passed-all (y .next .variable) (wayInstrs tb z g x (λ l. store p l)) (wayParts z 14 p p v) n-start (firstSymbol e) 0 0
+      (start-step tb z (firstSymbol e) s v p b fr (y .next) tell ∙ ap (λ (us : List Use). putAll (wayParts z 14 p p v) (state tb (F b fr) (taken us (y .next)))) (y .uses))
+      (y .at) (λ t c. way-same tb z g x (λ l. store p l) 14 p v (λ l. refl) (λ l f. f) word c)))
 
   -- from 'step' to where the step is held: to its code, which ends at c, and on
   held-passed : (q n a c : ℕ) {wf : List ℕ} {us : List Use} {Af : List ℕ → List ℕ} {Cf : List Instruction → List Instruction} {fr : Frame} {fl : Flow} → fr .loops ≡ m → fl .at ≡ a
@@ -378,7 +378,7 @@ module _ (tb : Tables) (R : Type 0) (g : List Around) (right : R → Targets (tb
       (us : List Use) (fr : Frame) (fl : Flow) → Fits tb g 0 m fr → fl .uses ≡ usesX (scopes g) l ++ us → fl .at ≡ b
       → Turned tb R s v (tb .place (x .symbol)) b fr (nodesL d l) us (endX (scopes g) x l b) (aheadX (tb .place) (wordIn (tb .key) (tb .layout)) g x l b) (codeX tb g m x l b) fl
 
-  value-turned : (e : Expression) (d b : ℕ) → OkE (scopes g) e → ToldE (Numbered tb) (Moded tb) (scopes g) e → IsX (value e) d b
+  value-turned : (e : Expression) (d b : ℕ) → OkE (scopes g) e → IsTold tb (scopes g) e → IsX (value e) d b
   unfolding nodesL endX aheadX
   value-turned e d b ok n us fr fl w u a =
       let p = tb .place (x .symbol) in
@@ -410,14 +410,14 @@ module _ (tb : Tables) (R : Type 0) (g : List Around) (right : R → Targets (tb
       let p = tb .place (x .symbol) in
       let at₂ : y .next .at + 1 + 1 ≡ suc (suc n) = omega (arith, y .at) in
       let at₃ : y .next .at + 1 + 1 + 1 ≡ suc (suc (suc n)) = omega (arith, y .at) in
-      turn tb y (λ i o. IF (upto p (loc g x)) o ∷ GO m i (suc (suc n)) ∷ GO m (suc a) (suc (suc (suc n))) ∷ DO (sum (tb .place q) (loc g x)) ∷ DO (store (loc g x)) ∷ JUMP t ∷ []) (stepParts tb direct (tb .place q) (suc a) t s v p fr (y .next)) n-amount z (turned-step tb direct z (suc a) (tb .place q) t s v p b fr (y .next) tell)
+      turn tb y (λ i o. IF (upto p (loc g x)) o ∷ GO m i (suc (suc n)) ∷ GO m (suc a) (suc (suc (suc n))) ∷ DO (sum (tb .place q) (loc g x)) ∷ DO (store p (loc g x)) ∷ JUMP t ∷ []) (stepParts tb direct (tb .place q) (suc a) t s v p fr (y .next)) n-amount z (turned-step tb direct z (suc a) (tb .place q) t s v p b fr (y .next) tell)
       (λ z i o h l c. (
         ap (parts 11 p) (upto-word tb v o _ (loc g x) (word (c .0 .0) .bared) l (c .0 .1)),
         (
           ap (parts 8 0) (go-back tb (fr .loops) m (suc (suc n)) i _ _ (w .loops) at₂ h (c .1 .0)),
           (
             ap (parts 8 0) (go-step tb (fr .loops) m (suc (suc (suc n))) (suc a) _ (w .loops) at₃ (c .1 .1 .0)),
-            (ap (parts 21 (tb .place q)) (word (c .1 .1 .1 .0) .bared), (ap (parts 14 0) (word (c .1 .1 .1 .1 .0) .bared), (ap (parts 2 0) (jump-word tb _ t refl (c .1 .1 .1 .1 .1 .0)), tt))),
+            (ap (parts 21 (tb .place q)) (word (c .1 .1 .1 .0) .bared), (ap (parts 14 p) (word (c .1 .1 .1 .1 .0) .bared), (ap (parts 2 0) (jump-word tb _ t refl (c .1 .1 .1 .1 .1 .0)), tt))),
           ),
         ),
       ))
@@ -426,7 +426,7 @@ module _ (tb : Tables) (R : Type 0) (g : List Around) (right : R → Targets (tb
       let at₃ : y .next .at + 1 + 1 + 1 ≡ suc (suc (suc n)) = omega (arith, y .at) in
       let at₄ : y .next .at + 1 + 1 + 1 + 1 ≡ suc (suc (suc (suc n))) = omega (arith, y .at) in
       let k = SEEKS (tb .place) g x in
-      turn tb y (λ i o. k ∷ IF (upto p cellFound) o ∷ GO m i (suc (suc (suc n))) ∷ GO m (suc a) (suc (suc (suc (suc n)))) ∷ k ∷ DO (sum (tb .place q) cellFound) ∷ k ∷ DO (store cellFound) ∷ JUMP t ∷ []) (stepParts tb sought (tb .place q) (suc a) t s v p fr (y .next)) n-amount z (turned-step tb sought z (suc a) (tb .place q) t s v p b fr (y .next) tell)
+      turn tb y (λ i o. k ∷ IF (upto p cellFound) o ∷ GO m i (suc (suc (suc n))) ∷ GO m (suc a) (suc (suc (suc (suc n)))) ∷ k ∷ DO (sum (tb .place q) cellFound) ∷ k ∷ DO (store p cellFound) ∷ JUMP t ∷ []) (stepParts tb sought (tb .place q) (suc a) t s v p fr (y .next)) n-amount z (turned-step tb sought z (suc a) (tb .place q) t s v p b fr (y .next) tell)
       (λ z i o h l c.
       let e = ap (parts 41 p) (word (c .0) .bared) in (
         e,
@@ -479,7 +479,7 @@ module _ (tb : Tables) (R : Type 0) (g : List Around) (right : R → Targets (tb
       (us : List Use) (fr : Frame) (fl : Flow) → Fits tb g 0 m fr → fl .uses ≡ usesL (scopes g) (l ∷ ls) ++ us → fl .at ≡ b
       → Turned tb R s v (tb .place (x .symbol)) b fr (nodesL d l ++ nodesLs d ls) us (endL (scopes g) x (l ∷ ls) b) (aheadL (tb .place) (wordIn (tb .key) (tb .layout)) g x l ls b) (λ i n r. codeL (tb .place) g m x (l ∷ ls) i n b r) fl
 
-  pub elements-turned : (l : Element) (ls : List Element) (d b : ℕ) → OkL (scopes g) (l ∷ ls) → ToldL (Numbered tb) (Moded tb) (scopes g) (l ∷ ls) → IsL l ls d b
+  pub elements-turned : (l : Element) (ls : List Element) (d b : ℕ) → OkL (scopes g) (l ∷ ls) → ToldL (Numbered tb) (Pointed tb) (Marked tb) (Moded tb) (scopes g) (l ∷ ls) → IsL l ls d b
   unfolding nodesLs usesL aheadL endL codeL
   elements-turned l [] d b ok n = λ us fr fl w u a.
       let y = element-turned l d b (ok-more (scopes g) l [] ok .0) (told-more tb (scopes g) l [] n .0) us fr fl w (u ∙ ap (λ (z : List Use). z ++ us) (uses-more (scopes g) l []) ∙ append-assoc (usesX (scopes g) l) [] us) a in

@@ -20,10 +20,10 @@ use Rattle.translation.specs.model.Scoped.{OkW, OkL}
 use Rattle.emitting.specs.model.Emission.{opened, State, put, withOpen, withSlot, within, noted, pushed, popped, replaced, top, below, cellOf, repeated, useNode, loopNode, codeNode}
 use Rattle.translating.proofs.ToldCalls.{ToldL}
 use Rattle.translating.proofs.SlotLists.{Fills, longer, then-slots, refill, slot-read, slot-past, slots-past, there, aheadS}
-use Rattle.translating.proofs.Written.{Tables, Frame, Flow, kindOf, meansOf, wrote, slotted, taken, put-real, slot-real, noted-real, step, state, Passed, Emits, wrote-right, goes-node, goes-then, passed-words, use-step}
-use Rattle.translating.proofs.WrittenNames.{wordAt, seeks-is, worded}
+use Rattle.translating.proofs.Written.{Tables, Frame, Flow, kindOf, meansOf, wrote, slotted, taken, put-real, slot-real, noted-real, step, state, Passed, EmitsBehind, wrote-right, goes-node, goes-then, passed-words, use-step}
+use Rattle.translating.proofs.WrittenNames.{Numbered, Pointed, Moded, wordAt, seeks-is, worded}
 use Rattle.translating.proofs.ActualWords.{wordIn}
-use Rattle.translating.proofs.WrittenExpressions.{Numbered, Moded}
+use Rattle.translating.proofs.WrittenExpressions.{Marked}
 use Rattle.translating.proofs.WrittenElements.{inLoop, Turned, elements-turned}
 use Rattle.translating.proofs.NameWords.{Known, Targets}
 use Rattle.translating.proofs.EntryTables.{enteredS}
@@ -115,23 +115,23 @@ module _ {tb : Tables} {R : Type 0} {wl wb : List ℕ} {us us' : List Use} {b i 
             (wrote-right (NEXT m) 9 0 (packed (fr .loops) 0 0) (y .next .code) r refl (next-word (fr .loops) m ml (p₂ .1 .0)) ∙ p₂ .0 ∙ p₁ .0, p₂ .1 .1);
       }
 
-module _ (tb : Tables) (R : Type 0) (g : List Around) (right : R → Targets (tb .key) (tb .entries) g) (known : Known (tb .key) (tb .layout) g) (m : ℕ) where
-  pub loop-part : (x : Name) (l : Element) (ls : List Element) (s : Statement) (d b : ℕ) → OkW (scopes g) x → OkL (scopes g) (l ∷ ls) → ToldL (Numbered tb) (Moded tb) (scopes g) (l ∷ ls)
+module _ (tb : Tables) (R : Type 0) (g : List Around) (right : R → Targets (tb .key) (tb .entries) g) (known : Known (tb .key) (tb .layout) g) (m n : ℕ) where
+  pub loop-part : (x : Name) (l : Element) (ls : List Element) (s : Statement) (d b : ℕ) → OkW (scopes g) x → OkL (scopes g) (l ∷ ls) → ToldL (Numbered tb) (Pointed tb) (Marked tb) (Moded tb) (scopes g) (l ∷ ls)
       → let i = endL (scopes g) x (l ∷ ls) b in
-      Emits tb R g 0 (suc m) (nodesS (d + 1) s) (usesS (scopes g) s) i (endS (scopes g) s i) (aheadS (tb .place) (wordIn (tb .key) (tb .layout)) g s i) (enteredS (scopes g) s i) (codeS (tb .place) g (suc m) s i)
-      → Emits tb R g 0 m (nodesS d (repeat x l ls s)) (usesS (scopes g) (repeat x l ls s)) b (endS (scopes g) (repeat x l ls s) b) (aheadS (tb .place) (wordIn (tb .key) (tb .layout)) g (repeat x l ls s) b) (enteredS (scopes g) (repeat x l ls s) b) (codeS (tb .place) g m (repeat x l ls s) b)
+      EmitsBehind tb n R g 0 (suc m) (nodesS (d + 1) s) (usesS (scopes g) s) i (endS (scopes g) s i) (aheadS (tb .place) (wordIn (tb .key) (tb .layout)) g s i) (enteredS (scopes g) s i) (codeS (tb .place) g (suc m) s i)
+      → EmitsBehind tb n R g 0 m (nodesS d (repeat x l ls s)) (usesS (scopes g) (repeat x l ls s)) b (endS (scopes g) (repeat x l ls s) b) (aheadS (tb .place) (wordIn (tb .key) (tb .layout)) g (repeat x l ls s) b) (enteredS (scopes g) (repeat x l ls s) b) (codeS (tb .place) g m (repeat x l ls s) b)
   unfolding nodesS usesS endS aheadS enteredS codeS
-  loop-part x l ls s d b ok ok' n body =
+  loop-part x l ls s d b ok ok' told body =
       record {
-        pass = λ us fr fl w u a.
+        pass = λ us fr fl w u a c.
             let i = endL (scopes g) x (l ∷ ls) b in
             let v = wordAt tb g (fr .level) x in
             let ul = usesL (scopes g) (l ∷ ls) in
             let ub = usesS (scopes g) s in
             let us₀ : List Use = (ul ++ ub) ++ us in
-            let t = elements-turned tb R g right known m x (length (fl .slots)) v (seeks-is tb g (fr .level) x) (worded tb g known x (fr .level) (w .level) ok) l ls d b ok' n (ub ++ us) fr (forFlow tb us₀ fl) w (append-assoc ul ub us) a in
+            let t = elements-turned tb R g right known m x (length (fl .slots)) v (seeks-is tb g (fr .level) x) (worded tb g known x (fr .level) (w .level) ok) l ls d b ok' told (ub ++ us) fr (forFlow tb us₀ fl) w (append-assoc ul ub us) a in
             let l' = doSlots tb (length (fl .slots)) i (t .front) in
-            let y = body .pass us (inBody (length l') fr) (slotted (l' ++ (there i ∷ [])) (t .next)) (record { level = w .level; loops = ap suc (w .loops); lefts = w .lefts; awaits = w .awaits }) (t .uses) (t .at) in
+            let y = body .pass us (inBody (length l') fr) (slotted (l' ++ (there i ∷ [])) (t .next)) (record { level = w .level; loops = ap suc (w .loops); lefts = w .lefts; awaits = w .awaits }) (t .uses) (t .at) (ap length (t .enters) ∙ c) in
             passed-words (nodesS d (repeat x l ls s))
             (ap (λ (z : List ℕ). node n-for (x .symbol) d 0 ++ z) (append-assoc (nodesL d l) (nodesLs d ls) (mark n-do 0 ++ (nodesS (d + 1) s ++ mark n-for-end (x .symbol - 1)))))
             (loop-passed (scopes g) x d (x .symbol - 1) m us₀ (w .loops) u a refl t y);

@@ -1,50 +1,70 @@
 -- Names and numbers in the pass that writes code: a name is loaded, called or worked out by what it means, and its word is kept; an operation on its
 -- cell seeks that first where the name is a formal called by name. Assumes nothing.
-use Prim.Native.Nat.{ℕ, zero, suc, _+_, _-_, _<_}
+use Prim.Native.Nat.{ℕ, zero, suc, _-_, _<_, _/_, _%_}
 use native.Mathlib.Omega.{arith}
+use native.Mathlib.Nat.{mod-eq-of-lt}
 use mathlib.Core.Path.{_≡_, refl, sym, ap, subst, _∙_}
 use mathlib.Core.Bool.{Bool, true, false}
 use mathlib.Core.List.{List, [], _∷_, _++_}
 use mathlib.Core.Option.{Option, none, some}
 use lib.Dec.{eqb}
 use lib.IntN.{pos}
+use lib.Ieee.{binary64, toBits}
 use lib.ListN.{getD}
-use Rattle.machine.specs.Values
-use Rattle.machine.specs.Data.{Act, push, load, reserve, unary, binary, kept}
+use mir.Syntax.{w32}
+use mir.Facts.{ofZ-toZ}
+use Rattle.reals.specs.declared.Value.the-variants.{Truth, Whole}
+use Rattle.reals.specs.declared.Unary.the-variants.{Minus, Negation}
+use Rattle.reals.specs.Values.{reading}
+use Rattle.machine.specs.Data.{Act, push, heighten, load, reserve, unary, binary, kept}
 use Rattle.machine.specs.Instructions.{Location, cellFound, Instruction, DO, pack, high, low}
-use Rattle.grammar.specs.NodeKinds.{n-unary, n-binary, n-number, n-logical, n-use}
-use Rattle.names.specs.Program.{Name, Sort, Sign, positive, negative, negation, Operator, times, over, plus, minus, less, atMost, equal, atLeast, greater, unequal, and, or, impl, equiv, done, Procedure}
+use Rattle.grammar.specs.NodeKinds.{n-unary, n-binary, n-number, n-decimal, n-logical, n-use}
+use Rattle.names.specs.Program.{Name, Sort, Sign, positive, negative, negation, Operator, times, over, divide, plus, minus, less, atMost, equal, atLeast, greater, unequal, and, or, impl, equiv, done, Procedure}
 use Rattle.names.specs.Scopes.{Thing, variable, routine, formal, by-name, Declared, Scope, sortOf, Given, Meaning, declared, given, nothing, meaning}
 use Rattle.names.specs.Nodes.{node, mark, truth, signKind, operatorKind}
 use Rattle.names.specs.model.Rows.{isUse}
 use Rattle.names.specs.Uses.{Use, used}
-use Rattle.rules.specs.Entered.{oneIf, declaring}
+use Rattle.rules.specs.Entered.{oneIf, formAs, declaring}
 use Rattle.rules.specs.Calls.{Primary, held, worked, function, greatest, withType, thingAs, givenAs, primary, Way, direct, sought, thingWay, way}
 use Rattle.rules.specs.Rules.{binaryOf, maxint}
-use Rattle.translation.specs.model.Translate.{Around, scopes, loc, spot, cutG, levels, amongG, target, endName, endSign, endWay, CALLS, WORKS, SEEKS, codeName, codeSign, codeWay}
+use Rattle.translation.specs.model.Translate.{Around, scopes, loc, spot, cutG, levels, amongG, target, lowerHalf, upperHalf, endName, endSign, endWay, CALLS, WORKS, SEEKS, codeName, codeSign, codeWay}
 use Rattle.machine.specs.model.Words.{Parts, beside, partsOf, LocFits, ActFits, CodeFits, binaryNumber}
 use Rattle.translation.specs.model.Scoped.{CellAs, OkV, OkWay, OkW, OkPrimary}
 use Rattle.emitting.specs.model.Layout.{packed}
-use Rattle.emitting.specs.model.Emission.{State, put, withVariable, nameless, bare, foundWord, onCell, signed as signedAs, operationOf, largest, cellOf, resultOf, calledWith, resultFor, dropped, named, wordOf, namedOr, useNode, plainNode, codeNode}
+use Rattle.emitting.specs.model.Emission.{State, formAt, put, withVariable, nameless, bare, foundWord, onCell, signed as signedAs, operationOf, bitsOf, lowerOf, upperOf, largest, cellOf, resultOf, calledWith, resultFor, dropped, named, wordOf, namedOr, useNode, plainNode, codeNode}
 use Rattle.translating.proofs.Written.{Tables, Frame, Flow, useKind, kindOf, meansOf, taken, varied, putAll, past, Same, step, state, Emits, passed-all, emits-all, use-step}
+use Rattle.translating.proofs.ToldCalls.{Asked}
 use Rattle.translating.proofs.NameWords.{Known, Targets, Celled, Sought, low-word, cell-is, sought-is, result-is, levels-is, target-is}
 use Rattle.translation.proofs.Ranges.{owns}
 
 abbrev pub parts : ℕ → ℕ → ℕ → Parts
 parts o p v = record { operation = o; place = p; operand = v }
 
--- the values of numbers, by symbol
+-- the values of numbers, by symbol; of those with a point their digits, and how many of these stand behind it
 abbrev pub Numbered : Tables → ℕ → ℕ → Type 0
 Numbered tb q v = getD (tb .values) q 0 ≡ v
+
+abbrev pub Pointed : Tables → ℕ → ℕ → ℕ → Type 0
+Pointed tb q n i = (getD (tb .values) q 0 / 16 ≡ n) × (getD (tb .values) q 0 % 16 ≡ i)
+
+-- of each procedure that a name means its type, and its formals' and how they are called
+abbrev pub Moded : Tables → List Scope → Name → Type 0
+Moded tb = Asked (tb .key) (tb .rows)
 
 -- ---- nodes that write an instruction
 
 module _ (tb : Tables) where
-  number-step : (q : ℕ) (fr : Frame) (fl : Flow) → step tb n-number q 0 0 (state tb fr fl) ≡ putAll (parts 12 (tb .place q) (getD (tb .values) q 0) ∷ []) (state tb fr (varied 0 fl))
+  number-step : (q : ℕ) (fr : Frame) (fl : Flow) → step tb n-number q 0 0 (state tb fr fl) ≡ putAll (parts 12 (tb .place q) (getD (tb .values) q 0 % 4294967296) ∷ []) (state tb fr (varied 0 fl))
   unfolding step codeNode isUse plainNode nameless withVariable put
   number-step q fr fl = refl
 
-  logical-step : (q a : ℕ) (fr : Frame) (fl : Flow) → step tb n-logical q a 0 (state tb fr fl) ≡ putAll (parts 12 (tb .place q) a ∷ []) (state tb fr (varied 0 fl))
+  decimal-step : (q : ℕ) (fr : Frame) (fl : Flow)
+      → step tb n-decimal q 0 0 (state tb fr fl)
+      ≡ putAll (parts 12 (tb .place q) (lowerOf (getD (tb .values) q 0)) ∷ parts 49 0 (upperOf (getD (tb .values) q 0)) ∷ []) (state tb fr (varied 0 fl))
+  unfolding step codeNode isUse plainNode nameless withVariable put
+  decimal-step q fr fl = refl
+
+  logical-step : (q a : ℕ) (fr : Frame) (fl : Flow) → step tb n-logical q a 0 (state tb fr fl) ≡ putAll (parts 48 (tb .place q) a ∷ []) (state tb fr (varied 0 fl))
   unfolding step codeNode isUse plainNode nameless withVariable put
   logical-step q a fr fl = refl
 
@@ -56,6 +76,7 @@ module _ (tb : Tables) where
   unfolding operationOf
   operation-is times = refl
   operation-is over = refl
+  operation-is divide = refl
   operation-is plus = refl
   operation-is minus = refl
   operation-is less = refl
@@ -69,13 +90,34 @@ module _ (tb : Tables) where
   operation-is impl = refl
   operation-is equiv = refl
 
-  module _ {R : Type 0} {g : List Around} {h m : ℕ} where
-    pub number-part : (q v b : ℕ) → getD (tb .values) q 0 ≡ v → Emits tb R g h m (mark n-number q) [] b (suc b) (λ k. k) (λ t. t) (λ r. DO (push (tb .place q) (pos v)) ∷ r)
-    number-part q v b e = emits-all (λ fl. 0) (DO (push (tb .place q) (pos v)) ∷ []) (parts 12 (tb .place q) (getD (tb .values) q 0) ∷ []) n-number q 0 0 (number-step q) (λ z c. (ap (parts 12 (tb .place q)) e, tt))
+  number-same : (q v : ℕ) → Numbered tb q v → v < 2147483648 → getD (tb .values) q 0 % 4294967296 ≡ v
+  number-same q v e h = ap (λ (n : ℕ). n % 4294967296) e ∙ mod-eq-of-lt (omega arith)
 
-    pub logical-part : (q : ℕ) (t : Bool) (b : ℕ) → Emits tb R g h m (node n-logical q (truth t) 0) [] b (suc b) (λ k. k) (λ t. t) (λ r. DO (push (tb .place q) (Values.truth t)) ∷ r)
-    logical-part q true b = emits-all (λ fl. 0) (DO (push (tb .place q) (Values.truth true)) ∷ []) (parts 12 (tb .place q) 1 ∷ []) n-logical q 1 0 (logical-step q 1) (λ z c. (refl, tt))
-    logical-part q false b = emits-all (λ fl. 0) (DO (push (tb .place q) (Values.truth false)) ∷ []) (parts 12 (tb .place q) 0 ∷ []) n-logical q 0 0 (logical-step q 0) (λ z c. (refl, tt))
+  -- the bits of a number with a point
+  bits-same : (q n i : ℕ) → Pointed tb q n i → bitsOf (getD (tb .values) q 0) ≡ toBits binary64 (reading n i)
+  unfolding bitsOf
+  bits-same q n i e = rw (e .0, e .1)
+
+  module _ {R : Type 0} {g : List Around} {h m : ℕ} where
+    pub number-part : (q v b : ℕ) → Numbered tb q v → Emits tb R g h m (mark n-number q) [] b (suc b) (λ k. k) (λ t. t) (λ r. DO (push (tb .place q) (Whole (pos v))) ∷ r)
+    number-part q v b e =
+        emits-all (λ fl. 0) (DO (push (tb .place q) (Whole (pos v))) ∷ []) (parts 12 (tb .place q) (getD (tb .values) q 0 % 4294967296) ∷ []) n-number q 0 0 (number-step q)
+        (λ z c. (ap (parts 12 (tb .place q)) (number-same q v e (c .0)), tt))
+
+    pub decimal-part : (q n i b : ℕ) → Pointed tb q n i
+        → Emits tb R g h m (mark n-decimal q) [] b (suc (suc b)) (λ k. k) (λ t. t) (λ r. DO (push (tb .place q) (Whole (lowerHalf n i))) ∷ DO (heighten (upperHalf n i)) ∷ r)
+    unfolding lowerOf upperOf
+    decimal-part q n i b e =
+        let w = getD (tb .values) q 0 in
+        emits-all (λ fl. 0) (DO (push (tb .place q) (Whole (lowerHalf n i))) ∷ DO (heighten (upperHalf n i)) ∷ []) (parts 12 (tb .place q) (lowerOf w) ∷ parts 49 0 (upperOf w) ∷ []) n-decimal q 0 0 (decimal-step q)
+        (λ z c. (
+          ap (parts 12 (tb .place q)) (ap (λ (n : ℕ). n % 4294967296) (bits-same q n i e) ∙ sym (ofZ-toZ {w = w32} (record { fits = omega arith }))),
+          (ap (parts 49 0) (ap (λ (n : ℕ). n / 4294967296) (bits-same q n i e)), tt),
+        ))
+
+    pub logical-part : (q : ℕ) (t : Bool) (b : ℕ) → Emits tb R g h m (node n-logical q (truth t) 0) [] b (suc b) (λ k. k) (λ t. t) (λ r. DO (push (tb .place q) (Truth t)) ∷ r)
+    logical-part q true b = emits-all (λ fl. 0) (DO (push (tb .place q) (Truth true)) ∷ []) (parts 48 (tb .place q) 1 ∷ []) n-logical q 1 0 (logical-step q 1) (λ z c. (refl, tt))
+    logical-part q false b = emits-all (λ fl. 0) (DO (push (tb .place q) (Truth false)) ∷ []) (parts 48 (tb .place q) 0 ∷ []) n-logical q 0 0 (logical-step q 0) (λ z c. (refl, tt))
 
     pub binary-part : (q : ℕ) (o : Operator) (b : ℕ) → Emits tb R g h m (node n-binary q (operatorKind o) 0) [] b (suc b) (λ k. k) (λ t. t) (λ r. DO (binary (tb .place q) (binaryOf o)) ∷ r)
     binary-part q o b =
@@ -85,8 +127,8 @@ module _ (tb : Tables) where
     pub sign-part : (q : ℕ) (o : Sign) (b : ℕ) → Emits tb R g h m (node n-unary q (signKind o) 0) [] b (endSign o b) (λ k. k) (λ t. t) (codeSign (tb .place) q o)
     unfolding step codeNode isUse plainNode signedAs nameless withVariable put
     sign-part q positive b = emits-all (λ fl. 0) [] [] n-unary q (signKind positive) 0 (λ fr fl. refl) (λ z c. tt)
-    sign-part q negative b = emits-all (λ fl. 0) (DO (unary (tb .place q) Values.minus) ∷ []) (parts 22 (tb .place q) 0 ∷ []) n-unary q (signKind negative) 0 (λ fr fl. refl) (λ z c. (refl, tt))
-    sign-part q negation b = emits-all (λ fl. 0) (DO (unary (tb .place q) Values.negation) ∷ []) (parts 23 (tb .place q) 0 ∷ []) n-unary q (signKind negation) 0 (λ fr fl. refl) (λ z c. (refl, tt))
+    sign-part q negative b = emits-all (λ fl. 0) (DO (unary (tb .place q) Minus) ∷ []) (parts 22 (tb .place q) 0 ∷ []) n-unary q (signKind negative) 0 (λ fr fl. refl) (λ z c. (refl, tt))
+    sign-part q negation b = emits-all (λ fl. 0) (DO (unary (tb .place q) Negation) ∷ []) (parts 23 (tb .place q) 0 ∷ []) n-unary q (signKind negation) 0 (λ fr fl. refl) (λ z c. (refl, tt))
 
 -- ---- names
 
@@ -118,7 +160,7 @@ module _ (tb : Tables) where
   pub name-step : (s d u : ℕ) (fr : Frame) (fl : Flow) (gs : List Scope) (x : Name) (us : List Use) (k m : ℕ) → fr .awaits ≡ 0 → fl .uses ≡ used gs x ∷ us
       → kindOf (meaning gs x) ≡ k → meansOf (tb .key) (meaning gs x) ≡ m
       → step tb n-use s d u (state tb fr fl)
-      ≡ withVariable (fr .awaits) (keptWord k m d fr (taken us fl)) (named (tb .values) (tb .layout) (tb .ahead) (tb .entries) k m u (tb .place s) (state tb fr (taken us fl)))
+      ≡ withVariable (fr .awaits) (keptWord k m d fr (taken us fl)) (named (tb .values) (tb .layout) (tb .ahead) (tb .entries) k m u (tb .place s) (formAt (tb .rows) m) (state tb fr (taken us fl)))
   unfolding useNode namedOr isUse
   name-step s d u fr fl gs x us k m w i e e' = use-step tb n-use s d u fr fl gs x us k m refl i e e' ∙ rw w
 
@@ -214,25 +256,25 @@ module _ (tb : Tables) where
 -- ---- names in expressions
 
 module _ (tb : Tables) where
-  held-named : (k m p a w : ℕ) (st : State) → eqb k 0 ≡ false → eqb k 2 ≡ false → eqb k 4 ≡ false
-      → withVariable a w (named (tb .values) (tb .layout) (tb .ahead) (tb .entries) k m 0 p st) ≡ put 13 p (bare (cellOf (tb .values) (tb .layout) (tb .ahead) (tb .entries) (st .level) k m)) (withVariable a w st)
+  held-named : (k m p f a w : ℕ) (st : State) → eqb k 0 ≡ false → eqb k 2 ≡ false → eqb k 4 ≡ false
+      → withVariable a w (named (tb .values) (tb .layout) (tb .ahead) (tb .entries) k m 0 p f st) ≡ put 13 p (bare (cellOf (tb .values) (tb .layout) (tb .ahead) (tb .entries) (st .level) k m)) (withVariable a w st)
   unfolding named put withVariable
-  held-named k m p a w st e f g = rw (e, f, g)
+  held-named k m p f a w st e e' e'' = rw (e, e', e'')
 
-  worked-named : (m p a w : ℕ) (st : State)
-      → withVariable a w (named (tb .values) (tb .layout) (tb .ahead) (tb .entries) 4 m 0 p st) ≡ put 40 p (bare (cellOf (tb .values) (tb .layout) (tb .ahead) (tb .entries) (st .level) 4 m)) (withVariable a w st)
+  worked-named : (m p f a w : ℕ) (st : State)
+      → withVariable a w (named (tb .values) (tb .layout) (tb .ahead) (tb .entries) 4 m 0 p f st) ≡ put 40 p (bare (cellOf (tb .values) (tb .layout) (tb .ahead) (tb .entries) (st .level) 4 m)) (withVariable a w st)
   unfolding named put withVariable
-  worked-named m p a w st = refl
+  worked-named m p f a w st = refl
 
-  called-named : (m p w : ℕ) (fr : Frame) (fl : Flow) → resultOf (tb .values) (tb .layout) (tb .ahead) (tb .entries) 2 m ≡ 1
-      → withVariable (fr .awaits) w (named (tb .values) (tb .layout) (tb .ahead) (tb .entries) 2 m 0 p (state tb fr fl))
-      ≡ putAll (parts 16 p 0 ∷ parts 5 p (packed (fr .level - high (getD (tb .layout) m 0)) 1 (getD (tb .entries) m 0)) ∷ []) (state tb fr (varied w fl))
+  called-named : (m p f w : ℕ) (fr : Frame) (fl : Flow) → resultOf (tb .values) (tb .layout) (tb .ahead) (tb .entries) 2 m ≡ 1
+      → withVariable (fr .awaits) w (named (tb .values) (tb .layout) (tb .ahead) (tb .entries) 2 m 0 p f (state tb fr fl))
+      ≡ putAll (parts 16 p f ∷ parts 5 p (packed (fr .level - high (getD (tb .layout) m 0)) 1 (getD (tb .entries) m 0)) ∷ []) (state tb fr (varied w fl))
   unfolding named calledWith resultFor put withVariable
-  called-named m p w fr fl e = rw e
+  called-named m p f w fr fl e = rw e
 
-  greatest-named : (m p a w : ℕ) (st : State) → withVariable a w (named (tb .values) (tb .layout) (tb .ahead) (tb .entries) 0 m 0 p st) ≡ put 12 p largest (withVariable a w st)
+  greatest-named : (m p f a w : ℕ) (st : State) → withVariable a w (named (tb .values) (tb .layout) (tb .ahead) (tb .entries) 0 m 0 p f st) ≡ put 12 p largest (withVariable a w st)
   unfolding named dropped put withVariable
-  greatest-named m p a w st = refl
+  greatest-named m p f a w st = refl
 
 module _ (tb : Tables) (R : Type 0) (g : List Around) (right : R → Targets (tb .key) (tb .entries) g) (known : Known (tb .key) (tb .layout) g) (h m : ℕ) where
   abbrev Named : Name → ℕ → ℕ → Primary → Type 0
@@ -248,7 +290,7 @@ module _ (tb : Tables) (R : Type 0) (g : List Around) (right : R → Targets (tb
             let w = keptWord tb k n d fr (taken us fl) in
             passed-all w (DO (load (tb .place (x .symbol)) (loc g x)) ∷ [])
             (parts 13 (tb .place (x .symbol)) (bare (cellOf (tb .values) (tb .layout) (tb .ahead) (tb .entries) (fr .level) k n)) ∷ []) n-use (x .symbol) d 0
-            (name-step tb (x .symbol) d 0 fr fl (scopes g) x us k n (f .awaits) u e e' ∙ held-named tb k n (tb .place (x .symbol)) (fr .awaits) w (state tb fr (taken us fl)) i j j')
+            (name-step tb (x .symbol) d 0 fr fl (scopes g) x us k n (f .awaits) u e e' ∙ held-named tb k n (tb .place (x .symbol)) (formAt (tb .rows) n) (fr .awaits) w (state tb fr (taken us fl)) i j j')
             a
             (λ z c. (ap (parts 13 (tb .place (x .symbol))) (cell-word tb g known x (fr .level) k n ok (f .level) e e' (c .0) .bared), tt));
       }
@@ -262,25 +304,25 @@ module _ (tb : Tables) (R : Type 0) (g : List Around) (right : R → Targets (tb
             let w = keptWord tb 4 n d fr (taken us fl) in
             passed-all w (WORKS (tb .place) g x ∷ [])
             (parts 40 (tb .place (x .symbol)) (bare (cellOf (tb .values) (tb .layout) (tb .ahead) (tb .entries) (fr .level) 4 n)) ∷ []) n-use (x .symbol) d 0
-            (name-step tb (x .symbol) d 0 fr fl (scopes g) x us 4 n (f .awaits) u (ap kindOf e ∙ ap useKind i) (ap (meansOf (tb .key)) e) ∙ worked-named tb n (tb .place (x .symbol)) (fr .awaits) w (state tb fr (taken us fl)))
+            (name-step tb (x .symbol) d 0 fr fl (scopes g) x us 4 n (f .awaits) u (ap kindOf e ∙ ap useKind i) (ap (meansOf (tb .key)) e) ∙ worked-named tb n (tb .place (x .symbol)) (formAt (tb .rows) n) (fr .awaits) w (state tb fr (taken us fl)))
             a
             (λ z c. (ap (parts 40 (tb .place (x .symbol))) (sought-word tb g known x (fr .level) D hs t (f .level) e i (c .0) .bared), tt));
       }
 
-  function-part : (x : Name) (d b : ℕ) (D : Declared) (hs : List Scope) (p : Procedure) (t : Sort) → meaning (scopes g) x ≡ declared D hs → D .thing ≡ routine p → sortOf p ≡ some t
+  function-part : (x : Name) (d b : ℕ) (D : Declared) (hs : List Scope) (p : Procedure) (t : Sort) → Moded tb (scopes g) x → meaning (scopes g) x ≡ declared D hs → D .thing ≡ routine p → sortOf p ≡ some t
       → Named x d b (function p)
-  function-part x d b D hs p t e i s =
+  function-part x d b D hs p t asked e i s =
       record {
         pass = λ us fr fl f u a.
             let q = tb .place (x .symbol) in
             let n = tb .key (D .name .symbol) in
             let w = keptWord tb 2 n d fr (taken us fl) in
             let one : resultOf (tb .values) (tb .layout) (tb .ahead) (tb .entries) 2 n ≡ 1 = result-is (tb .key) (tb .layout) (tb .values) (tb .ahead) (tb .entries) g x D hs p known e i ∙ ap oneIf s in
-            passed-all w (DO (reserve q) ∷ CALLS (tb .place) g x 1 kept ∷ [])
-            (parts 16 q 0 ∷ parts 5 q (packed (fr .level - high (getD (tb .layout) n 0)) 1 (getD (tb .entries) n 0)) ∷ []) n-use (x .symbol) d 0
-            (name-step tb (x .symbol) d 0 fr fl (scopes g) x us 2 n (f .awaits) u (ap kindOf e ∙ ap useKind i) (ap (meansOf (tb .key)) e) ∙ called-named tb n q w fr (taken us fl) one)
+            passed-all w (DO (reserve q (formAs (sortOf p))) ∷ CALLS (tb .place) g x 1 kept ∷ [])
+            (parts 16 q (formAt (tb .rows) n) ∷ parts 5 q (packed (fr .level - high (getD (tb .layout) n 0)) 1 (getD (tb .entries) n 0)) ∷ []) n-use (x .symbol) d 0
+            (name-step tb (x .symbol) d 0 fr fl (scopes g) x us 2 n (f .awaits) u (ap kindOf e ∙ ap useKind i) (ap (meansOf (tb .key)) e) ∙ called-named tb n q (formAt (tb .rows) n) w fr (taken us fl) one)
             a
-            (λ z c. (refl, (ap (parts 5 q) (call-word tb g known x D hs p (fr .level) 1 1 (right z) (f .level) e i refl (c .1 .0)), tt)));
+            (λ z c. (ap (parts 16 q) (asked D hs p e i .0), (ap (parts 5 q) (call-word tb g known x D hs p (fr .level) 1 1 (right z) (f .level) e i refl (c .1 .0)), tt)));
       }
 
   greatest-part : (x : Name) (d b n : ℕ) (y : Given) → meaning (scopes g) x ≡ given n y → Named x d b greatest
@@ -290,19 +332,19 @@ module _ (tb : Tables) (R : Type 0) (g : List Around) (right : R → Targets (tb
         pass = λ us fr fl f u a.
             let w = keptWord tb 0 n d fr (taken us fl) in
             passed-all w (DO (push (tb .place (x .symbol)) maxint) ∷ []) (parts 12 (tb .place (x .symbol)) largest ∷ []) n-use (x .symbol) d 0
-            (name-step tb (x .symbol) d 0 fr fl (scopes g) x us 0 n (f .awaits) u (ap kindOf e) (ap (meansOf (tb .key)) e) ∙ greatest-named tb n (tb .place (x .symbol)) (fr .awaits) w (state tb fr (taken us fl)))
+            (name-step tb (x .symbol) d 0 fr fl (scopes g) x us 0 n (f .awaits) u (ap kindOf e) (ap (meansOf (tb .key)) e) ∙ greatest-named tb n (tb .place (x .symbol)) (formAt (tb .rows) n) (fr .awaits) w (state tb fr (taken us fl)))
             a
             (λ z c. (refl, tt));
       }
 
-  pub name-part : (x : Name) (d b : ℕ) → OkPrimary (scopes g) x 0 (primary (meaning (scopes g) x) done) → Named x d b (primary (meaning (scopes g) x) done)
+  pub name-part : (x : Name) (d b : ℕ) → Moded tb (scopes g) x → OkPrimary (scopes g) x 0 (primary (meaning (scopes g) x) done) → Named x d b (primary (meaning (scopes g) x) done)
   unfolding primary
-  name-part x d b ok = go (meaning (scopes g) x) refl ok
+  name-part x d b asked ok = go (meaning (scopes g) x) refl ok
     where
       typed : (D : Declared) (hs : List Scope) (p : Procedure) → meaning (scopes g) x ≡ declared D hs → D .thing ≡ routine p → (s : Option Sort) → sortOf p ≡ s
           → OkPrimary (scopes g) x 0 (withType s p) → Named x d b (withType s p)
       typed D hs p e i none s ok = absurd ok
-      typed D hs p e i (some t) s ok = function-part x d b D hs p t e i s
+      typed D hs p e i (some t) s ok = function-part x d b D hs p t asked e i s
 
       thing : (D : Declared) (hs : List Scope) → meaning (scopes g) x ≡ declared D hs → (t : Thing) → D .thing ≡ t → OkPrimary (scopes g) x 0 (thingAs t done) → Named x d b (thingAs t done)
       thing D hs e (variable t) i ok = held-part x d b 1 (tb .key (D .name .symbol)) ok (ap kindOf e ∙ ap useKind i) (ap (meansOf (tb .key)) e) refl refl refl

@@ -17,10 +17,11 @@ fn judged(source: &[u8], words: &mut [u32]) -> Verdict
 {
     let mut kinds = [0u8; 2048];
     let mut places = [0usize; 2048];
-    let mut values = [0u32; 2048];
+    let mut values = [0u64; 2048];
     let mut nodes = [0u16; 32768];
     let mut rows = [0u16; 32768];
     let mut uses = [0u16; 8192];
+    let mut marks = [0u16; 2048];
     match find(
         source,
         &mut kinds,
@@ -29,6 +30,7 @@ fn judged(source: &[u8], words: &mut [u32]) -> Verdict
         &mut nodes,
         &mut rows,
         &mut uses,
+        &mut marks,
     ) {
         Found::Program(s) => {
             emit(
@@ -39,6 +41,7 @@ fn judged(source: &[u8], words: &mut [u32]) -> Verdict
                 &rows,
                 s.rows,
                 &places,
+                &marks,
                 &values,
                 words,
             );

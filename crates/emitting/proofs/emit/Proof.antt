@@ -35,17 +35,17 @@ front-requires-3 c κs = search needs
 
 laid-out-requires : tie.Need-laid-out-requires
 laid-out-requires c κs =
-    let a = c .before .before .before .before .before .before .before .before .before .before .args in
-    omega (arith, ap length (c .before .before .before .before .before .before .before .front .ensures), length-take (a .n) (a .nodes .now), c .before .before .before .before .before .before .before .before .front-arg .given .0)
+    let a = c .before .before .before .before .before .before .before .before .before .before .before .args in
+    omega (arith, ap length (c .before .before .before .before .before .before .before .before .front .ensures), length-take (a .n) (a .nodes .now), c .before .before .before .before .before .before .before .before .before .front-arg .given .0)
 
 same-length : tie.Need-same-length
 same-length c = search needs
 
 returns : tie.Need-returns
 returns c =
-    let a = c .before .before .before .before .before .before .before .before .before .before .before .before .before .args in
-    let r = c .before .before .before .before .before .front3 .ensures ∙ ap (λ (k : ℕ). take k (a .rows .now)) (c .before .before .before .before .before .before .row-words .ensures) ∙ first-rows (a .d) (a .rows .now) (c .before .before .before .before .before .before .before .front-arg3 .given .0) in
-    rw (c .before .before .before .before .before .before .before .before .before .before .front .ensures, c .before .before .before .before .before .before .before .before .front2 .ensures, r) at (c .before .before .laid-out .ensures)
+    let a = c .before .before .before .before .before .before .before .before .before .before .before .before .before .before .args in
+    let r = c .before .before .before .before .before .before .front3 .ensures ∙ ap (λ (k : ℕ). take k (a .rows .now)) (c .before .before .before .before .before .before .before .row-words .ensures) ∙ first-rows (a .d) (a .rows .now) (c .before .before .before .before .before .before .before .before .front-arg3 .given .0) in
+    rw (c .before .before .before .before .before .before .before .before .before .before .before .front .ensures, c .before .before .before .before .before .before .before .before .before .front2 .ensures, r) at (c .before .before .laid-out .ensures)
 
 pub emit-spec : {M : Type 1} → statement M
 emit-spec =

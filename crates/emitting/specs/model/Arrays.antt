@@ -8,7 +8,7 @@ use lib.ListN.{length, getD, drop}
 use Rattle.grammar.specs.NodeKinds.{n-do, n-for-end, n-procedure, n-procedure-end}
 use Rattle.names.specs.model.Rows.{opensOf, foldNodes}
 use Rattle.emitting.specs.model.Layout.{Laying}
-use Rattle.emitting.specs.model.Emission.{Used, State, Opened, opened, put, top, elementNode, loopNode, choiceNode, blockNode, procedureNode, plainNode, isElement, isChoice, isBlock, placedNode}
+use Rattle.emitting.specs.model.Emission.{Used, State, Opened, opened, markAt, put, top, elementNode, loopNode, choiceNode, blockNode, procedureNode, plainNode, isElement, isChoice, isBlock, placedNode}
 use Rattle.emitting.specs.declared.Laid.{Laid}
 use Rattle.emitting.specs.declared.Writing.{Writing}
 use Rattle.emitting.specs.declared.Thing.{Thing}
@@ -96,12 +96,12 @@ pub record Fit (t : Writing) : Type 0 where
 -- ---- the pass
 
 -- what a node adds that is of no name and no call
-unfoldable pub restNode : List ℕ → List ℕ → List ℕ → List ℕ → ℕ → ℕ → ℕ → ℕ → State → State
-restNode values layout ahead entries k s p a st =
+unfoldable pub restNode : List ℕ → List ℕ → List ℕ → List ℕ → List ℕ → List ℕ → ℕ → ℕ → ℕ → ℕ → State → State
+restNode values layout ahead entries rows marks k s p a st =
     cond (isElement values layout ahead entries k) (elementNode values layout ahead entries k (top (st .open-ones)) p st)
     (cond (eqb k n-do || eqb k n-for-end) (loopNode values layout ahead entries k (top (st .open-ones)) st)
-    (cond (isChoice values layout ahead entries k) (choiceNode values layout ahead entries k (top (st .open-ones)) st)
-    (cond (isBlock values layout ahead entries k) (blockNode values layout ahead entries k (top (st .open-ones)) p st)
+    (cond (isChoice values layout ahead entries k) (choiceNode values layout ahead entries k (top (st .open-ones)) (markAt marks s) st)
+    (cond (isBlock values layout ahead entries k) (blockNode values layout ahead entries rows k (top (st .open-ones)) p st)
     (cond (eqb k n-procedure || eqb k n-procedure-end) (procedureNode values layout ahead entries k (top (st .open-ones)) st)
     (plainNode values layout ahead entries k s p a st)))))
 
@@ -110,5 +110,5 @@ abbrev pub freshIn : List Used → List ℕ → List ℕ → List ℕ → State
 freshIn uses code ahead entries =
     record { uses = uses; at = 0; slots = 0; level = 0; loops = 0; cells = 0; lefts = 0; awaits = 0; variable = 0; declared = 0; open-ones = []; code = code; ahead = ahead; entries = entries }
 
-abbrev pub emittedFrom : (ℕ → ℕ) → List ℕ → List ℕ → List ℕ → List ℕ → List ℕ → List ℕ → State → State
-emittedFrom place values layout ahead entries rows nodes st = put 1 0 0 (foldNodes (placedNode values layout ahead entries rows place) nodes st)
+abbrev pub emittedFrom : (ℕ → ℕ) → List ℕ → List ℕ → List ℕ → List ℕ → List ℕ → List ℕ → List ℕ → State → State
+emittedFrom place values layout ahead entries rows marks nodes st = put 1 0 0 (foldNodes (placedNode values layout ahead entries rows marks place) nodes st)

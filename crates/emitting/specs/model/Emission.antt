@@ -1,17 +1,19 @@
 -- How the code is written: one pass over the nodes of a program, with its uses, the layout of its cells, and the values and places of its symbols. The
 -- pass takes the addresses that lie ahead from tables, and fills such tables itself: done once with nothing in them, it finds them; done again with
 -- those, it writes the code. This is the model of the code and no part of the paper; crate translating has that it comes to what Translate says.
-use Prim.Native.Nat.{ℕ, zero, suc, _+_, _*_, _-_, _%_}
+use Prim.Native.Nat.{ℕ, zero, suc, _+_, _*_, _-_, _/_, _%_}
 use mathlib.Core.Bool.{Bool, cond, _&&_, _||_}
 use mathlib.Core.List.{List, [], _∷_}
 use lib.Dec.{eqb, ltb}
+use lib.Ieee.{binary64, toBits}
 use lib.ListN.{getD, set, replicate}
+use Rattle.reals.specs.Values.{reading}
 use Rattle.machine.specs.Instructions.{high, mid, low}
-use Rattle.grammar.specs.NodeKinds.{n-block, n-statements, n-block-end, n-variable, n-procedure, n-formal, n-procedure-end, n-then, n-else, n-if-end, n-start, n-once, n-while, n-step, n-amount, n-do, n-for-end, n-left, n-assign, n-condition-end, n-unary, n-binary, n-number, n-logical, n-use, n-call, n-call-end, n-actual}
+use Rattle.grammar.specs.NodeKinds.{n-block, n-statements, n-block-end, n-variable, n-procedure, n-formal, n-procedure-end, n-then, n-else, n-if-end, n-start, n-once, n-while, n-step, n-amount, n-do, n-for-end, n-left, n-assign, n-condition-end, n-unary, n-binary, n-number, n-decimal, n-logical, n-use, n-call, n-call-end, n-actual}
 use Rattle.names.specs.model.Rows.{foldNodes, isUse, meantOf}
 use Rattle.names.specs.declared.Meant.{Meant}
 use Rattle.names.specs.declared.Meant.the-variants.{Declared, Given, Nothing}
-use Rattle.emitting.specs.model.Layout.{packed, declarationRoom}
+use Rattle.emitting.specs.model.Layout.{packed, declarationRoom, countsFor}
 
 -- ---- uses
 
@@ -24,6 +26,14 @@ pub record Used : Type 0 where
 -- row i as a formal's: 0 it is of no formal, 1 called by value, 2 called by name
 unfoldable pub formalAt : List ℕ → ℕ → ℕ
 formalAt rows i = cond (eqb (getD rows (4 * i) 0) n-formal) (cond (ltb (getD rows (4 * i + 3) 0) 4) 1 2) 0
+
+-- a type (1 integer, 2 Boolean, 3 real, 0 none) as an instruction has it: 0 whole number, 1 real, 2 Boolean
+unfoldable pub formOf : ℕ → ℕ
+formOf t = cond (eqb t 3) 1 (cond (eqb t 2) 2 0)
+
+-- that of declaration i, whose row has its type in the last word's lower bits
+unfoldable pub formAt : List ℕ → ℕ → ℕ
+formAt rows i = formOf (getD rows (4 * i + 3) 0 % 4)
 
 -- of a declaration the kind stands in its row, a word of 16 bits; nothing, which no accepted program has, is zeros
 unfoldable pub usedAs : List ℕ → Meant → Used
@@ -53,6 +63,10 @@ othersNext (u ∷ l) = l
 abbrev pub placeAt : List ℕ → ℕ → ℕ
 placeAt places s = getD places s 0 % 65536
 
+-- the mark of a symbol, of 16 bits: of an 'if' which part is a whole number beside a real one, 1 the 'then' part, 2 the 'else' part
+abbrev pub markAt : List ℕ → ℕ → ℕ
+markAt marks s = getD marks s 0 % 65536
+
 -- ---- what is known behind some nodes
 
 -- something open, or a left part; what each number is stands where it is opened. The second is a word, or what a use means; the others are counts,
@@ -68,8 +82,8 @@ opened a b c d = record { first = a; second = b; third = c; fourth = d }
 
 -- the uses to come; the address of the next instruction; how many addresses lie ahead so far; the activations and the for
 -- statements of the running one that are around; the variables of the block so far; the left parts before; 1 where a name stands that a number is
--- taken to; the word of the name that was the last node, 0 where it was no such name; how many declarations and formals there were; what is open,
--- newest first; the words; the addresses that lay ahead; those of procedures, by their declarations' numbers
+-- taken to; the word of the name that was the last node, 0 where it was no such name, and among declarations 1 behind a procedure; how many declarations
+-- and formals there were; what is open, newest first; the words; the addresses that lay ahead; those of procedures, by their declarations' numbers
 pub record State : Type 0 where
   pub uses : List Used
   pub at : ℕ
@@ -176,13 +190,24 @@ foundWord = packed 0 8191 0
 unfoldable pub onCell : ℕ → ℕ → ℕ → ℕ → State → State
 onCell o q p v st = cond (eqb (low v) 2) (put o q foundWord (put 41 p (bare v) st)) (put o q (bare v) st)
 
--- ---- operators, by their symbols' kinds: 17 'and', 18 'or', 20 'impl', 21 'equiv', 22 `+` to 31 `#`; 19 is 'not'
+-- ---- operators, by their symbols' kinds: 17 'and', 18 'or', 20 'impl', 21 'equiv', 22 `+` to 31 `#`, 41 `/`; 19 is 'not'
 
 unfoldable pub operationOf : ℕ → ℕ
-operationOf k = cond (ltb k 19) (k + 18) (cond (ltb k 22) (k + 17) (k + 3))
+operationOf k = cond (ltb k 19) (k + 18) (cond (ltb k 22) (k + 17) (cond (ltb k 32) (k + 3) (k + 5)))
 
 unfoldable pub signed : ℕ → ℕ → State → State
 signed k p st = cond (eqb k 19) (put 23 p 0 st) (cond (eqb k 23) (put 22 p 0 st) st)
+
+-- ---- numbers with a point: all digits as one whole number, and how many of them stand behind the point, as one word; the halves of their bits
+
+unfoldable pub bitsOf : ℕ → ℕ
+bitsOf w = toBits binary64 (reading (w / 16) (w % 16))
+
+unfoldable pub lowerOf : ℕ → ℕ
+lowerOf w = bitsOf w % 4294967296
+
+unfoldable pub upperOf : ℕ → ℕ
+upperOf w = bitsOf w / 4294967296
 
 -- ---- the pass. values: of numbers, by symbol; layout: as Layout has it; ahead, entries: what is known already of what lies ahead
 
@@ -209,18 +234,19 @@ module _ (values layout ahead entries : List ℕ) where
   calledWith k m n u p st =
       put (5 + u) p (packed (st .level - high (getD layout m 0)) (resultOf k m + n) (getD entries m 0)) st
 
-  unfoldable pub resultFor : ℕ → ℕ → ℕ → State → State
-  resultFor k m p st = cond (eqb (resultOf k m) 0) st (put 16 p 0 st)
+  -- f: the type of what it gives
+  unfoldable pub resultFor : ℕ → ℕ → ℕ → ℕ → State → State
+  resultFor k m p f st = cond (eqb (resultOf k m) 0) st (put 16 p f st)
 
   -- what a statement does not need
   unfoldable pub dropped : ℕ → State → State
   dropped u st = cond (eqb u 0) st (put 17 0 0 st)
 
   -- a name alone; a variable or formal, a procedure, maxint
-  unfoldable pub named : ℕ → ℕ → ℕ → ℕ → State → State
-  named k m u p st =
+  unfoldable pub named : ℕ → ℕ → ℕ → ℕ → ℕ → State → State
+  named k m u p f st =
       cond (eqb k 0) (dropped u (put 12 p largest st))
-      (cond (eqb k 2) (calledWith k m 0 u p (resultFor k m p st))
+      (cond (eqb k 2) (calledWith k m 0 u p (resultFor k m p f st))
       (put (cond (eqb k 4) 40 13) p (bare (cellOf (st .level) k m)) st))
 
   -- the word that an actual has which is this name and nothing else, not even in parentheses: those are deeper, by d, than the call that is open
@@ -228,30 +254,35 @@ module _ (values layout ahead entries : List ℕ) where
   wordOf k m d st = cond (eqb k 0 || eqb k 2) 0 (cond (eqb d (top (st .open-ones) .fourth)) (cellOf (st .level) k m) 0)
 
   -- the second actual of ininteger is stored to, not loaded
-  unfoldable pub namedOr : ℕ → ℕ → ℕ → ℕ → ℕ → State → State
-  namedOr k m u p d st =
-      cond (eqb (st .awaits) 0) (withVariable 0 (wordOf k m d st) (named k m u p st)) (withVariable 0 (cellOf (st .level) k m) st)
+  unfoldable pub namedOr : ℕ → ℕ → ℕ → ℕ → ℕ → ℕ → State → State
+  namedOr k m u p d f st =
+      cond (eqb (st .awaits) 0) (withVariable 0 (wordOf k m d st) (named k m u p f st)) (withVariable 0 (cellOf (st .level) k m) st)
 
   -- the store part of an actual, by its word
   unfoldable pub lending : ℕ → ℕ → State → State
   lending w p st = cond (eqb (low w) 0) (put 44 0 0 st) (cond (eqb (low w) 1) (put 43 0 (bare w) st) (put 42 p (bare w) st))
 
-  -- actual j of a call of the procedure m, whose formal is called by name, d deep, begins: three slots, of where it ends, its place and its word. The
-  -- open call's first number is then 4 and the first of the slots
-  unfoldable pub nameBegun : ℕ → ℕ → ℕ → State → State
-  nameBegun m j d st =
+  -- actual j of a call of the procedure m, whose formal is called by name and of the type f, d deep, begins: three slots, of where it ends, its place and
+  -- its word. The open call's first number is then 4 and the first of the slots
+  unfoldable pub nameBegun : ℕ → ℕ → ℕ → ℕ → State → State
+  nameBegun m j d f st =
       within (st .level + 1) (st .loops) (st .cells)
       (withSlot (withSlot (withSlot (replaced (4 + st .slots) m j d
-      (put 7 0 0
+      (put 7 (aheadAt (st .slots + 1) % 65536) f
       (lending (aheadAt (st .slots + 2)) (aheadAt (st .slots + 1) % 65536)
       (put 39 (aheadAt (st .slots + 1) % 65536) (aheadAt (st .slots)) st)))))))
 
   -- it ends; p: the place of its first symbol
-  unfoldable pub nameEnded : Opened → ℕ → State → State
-  nameEnded c p st =
-      noted (c .first - 4) (packed 0 0 (st .at + 1))
+  unfoldable pub nameEnded : Opened → ℕ → ℕ → State → State
+  nameEnded c p f st =
+      noted (c .first - 4) (packed 0 0 (st .at + 1 + 1))
       (noted (c .first - 4 + 1) p
-      (noted (c .first - 4 + 2) (st .variable) (within (st .level - 1) (st .loops) (st .cells) (put 7 0 0 st))))
+      (noted (c .first - 4 + 2) (st .variable) (within (st .level - 1) (st .loops) (st .cells) (put 7 0 0 (put 50 p f st)))))
+
+  -- the end of an actual of the environment's: its value becomes one of the type that is wanted, but that ininteger's second one is no value
+  unfoldable pub givenTurned : Opened → ℕ → State → State
+  givenTurned c p st =
+      cond (eqb (c .third) 1) (cond (eqb (c .second) 2) st (put 50 p (cond (eqb (c .second) 4) 1 0) st)) (put 50 p 0 st)
 
   -- what is taken in goes to the cell of the last name, at q
   unfoldable pub takenIn : ℕ → ℕ → State → State
@@ -264,7 +295,7 @@ module _ (values layout ahead entries : List ℕ) where
       (cond (eqb (c .first) 2) (calledWith 2 (c .second) (c .third) u p st)
       (cond (eqb (c .second) 0) (dropped u (put 24 p 0 st))
       (cond (eqb (c .second) 2) (takenIn p (c .fourth) st)
-      (put 19 p 0 st))))
+      (put (cond (eqb (c .second) 4) 47 19) p 0 st))))
 
   -- a for statement with its elements: slot of the body's address, the variable, its place, the address of the element
   unfoldable pub repeated : ℕ → ℕ → ℕ → State → State
@@ -274,20 +305,23 @@ module _ (values layout ahead entries : List ℕ) where
   module _ (rows : List ℕ) where
     -- actual j of a call of the procedure m begins, d deep
     unfoldable pub begun : ℕ → ℕ → ℕ → State → State
-    begun m j d st = cond (eqb (formalAt rows (m + 1 + j)) 2) (nameBegun m j d st) st
+    begun m j d st = cond (eqb (formalAt rows (m + 1 + j)) 2) (nameBegun m j d (formAt rows (m + 1 + j)) st) st
 
     unfoldable pub calling : ℕ → ℕ → ℕ → ℕ → State → State
-    calling k m p a st = cond (eqb k 2) (begun m 0 (a + 1) (pushed 2 m 0 (a + 1) (resultFor k m p st))) (pushed k m 0 0 (resultFor k m p st))
+    calling k m p a st =
+        cond (eqb k 2) (begun m 0 (a + 1) (pushed 2 m 0 (a + 1) (resultFor k m p (formAt rows m) st))) (pushed k m 0 0 (resultFor k m p (formAt rows m) st))
 
     -- an actual ends, whose first symbol's place is p, and the next begins
     unfoldable pub actualIn : Opened → ℕ → State → State
     actualIn c p st =
-        cond (eqb (c .first) 0) (withVariable (cond (eqb (c .second) 2 && eqb (c .third) 0) 1 0) (st .variable) (replaced 0 (c .second) (c .third + 1) p st))
-        (begun (c .second) (c .third + 1) (c .fourth) (replaced 2 (c .second) (c .third + 1) (c .fourth) (cond (ltb (c .first) 4) st (nameEnded c p st))))
+        cond (eqb (c .first) 0) (withVariable (cond (eqb (c .second) 2 && eqb (c .third) 0) 1 0) (st .variable) (replaced 0 (c .second) (c .third + 1) p (givenTurned c p st)))
+        (begun (c .second) (c .third + 1) (c .fourth)
+        (replaced 2 (c .second) (c .third + 1) (c .fourth)
+        (cond (ltb (c .first) 4) (put 50 p (formAt rows (c .second + 1 + c .third)) st) (nameEnded c p (formAt rows (c .second + 1 + c .third)) st))))
 
     unfoldable pub useNode : ℕ → ℕ → ℕ → ℕ → ℕ → ℕ → State → State
     useNode n k m b p a st =
-        cond (eqb n n-use) (namedOr k m b p a st)
+        cond (eqb n n-use) (namedOr k m b p a (formAt rows m) st)
         (cond (eqb n n-call) (calling k m p a st)
         (cond (eqb n n-left) (withLefts (st .lefts + 1) (pushed 0 (cellOf (st .level) k m) p 0 st))
         (repeated k m p st)))
@@ -306,7 +340,7 @@ module _ (values layout ahead entries : List ℕ) where
 
   -- the addition and its store; p: the place of 'step'
   unfoldable pub added : ℕ → ℕ → ℕ → State → State
-  added q v p st = onCell 14 0 q v (onCell 21 p q v st)
+  added q v p st = onCell 14 q q v (onCell 21 p q v st)
 
   -- a step element begins: to its step, and on where a slot tells. It is open with that slot, 0, the place of 'step' and the step's address; once the
   -- bound's address is known, with that one and 1
@@ -335,7 +369,7 @@ module _ (values layout ahead entries : List ℕ) where
 
   unfoldable pub elementNode : ℕ → Opened → ℕ → State → State
   elementNode k f p st =
-      cond (eqb k n-start) (onCell 14 0 (f .third) (f .second) st)
+      cond (eqb k n-start) (onCell 14 (f .third) (f .third) (f .second) st)
       (cond (eqb k n-once) (element f (bodied f (aheadAt (st .slots)) st))
       (cond (eqb k n-while) (element f (bodied f (f .fourth) (put 10 0 (packed 0 0 (aheadAt (st .slots))) st)))
       (cond (eqb k n-step) (stepBegun p st)
@@ -347,31 +381,55 @@ module _ (values layout ahead entries : List ℕ) where
       cond (eqb k n-do) (within (st .level) (st .loops + 1) (st .cells) (noted (f .first) (packed 0 0 (st .at)) (replaced (st .slots - 1) 0 0 0 st)))
       (noted (f .first) (packed 0 0 (st .at + 1)) (popped (within (st .level) (st .loops - 1) (st .cells) (put 9 0 (packed (st .loops - 1) 0 0) st))))
 
-  -- a condition: the slot of where it goes on
-  unfoldable pub choiceNode : ℕ → Opened → State → State
-  choiceNode k c st =
-      cond (eqb k n-then) (withSlot (pushed (st .slots) 0 0 0 (put 10 0 (packed 0 0 (aheadAt (st .slots))) st)))
-      (cond (eqb k n-else) (noted (c .first) (packed 0 0 (st .at + 1)) (withSlot (replaced (st .slots) 0 0 0 (put 2 0 (packed 0 0 (aheadAt (st .slots))) st))))
-      (nameless (noted (c .first) (packed 0 0 (st .at)) (popped st))))
+  -- part i of a conditional expression ends: it becomes a real, where the mark says so, which has no fault
+  unfoldable pub widened : ℕ → Opened → State → State
+  widened i c st = cond (eqb (c .second) i) (put 50 0 1 st) st
 
-  -- a block: slot of its cells and its first statement; its own variables, and those of the block around
-  unfoldable pub blockNode : ℕ → Opened → ℕ → State → State
-  blockNode k c p st =
-      cond (eqb k n-block) (within (st .level) (st .loops) 0 (withSlot (pushed (st .slots) 0 0 (st .cells) (put 3 p (aheadAt (st .slots)) st))))
-      (cond (eqb k n-statements) (noted (c .first) (packed 0 (st .cells) (st .at)) (replaced (c .first) 0 (st .cells) (c .fourth) st))
+  -- behind the 'then' part, where there is another; behind it all
+  unfoldable pub otherwise : Opened → State → State
+  otherwise c st =
+      noted (c .first) (packed 0 0 (st .at + 1))
+      (withSlot (replaced (st .slots) (c .second) 0 0 (put 2 0 (packed 0 0 (aheadAt (st .slots))) st)))
+
+  unfoldable pub joined : Opened → State → State
+  joined c st = nameless (noted (c .first) (packed 0 0 (st .at)) (popped st))
+
+  -- a condition, whose 'if' has the mark m: the slot of where it goes on, and the mark
+  unfoldable pub choiceNode : ℕ → Opened → ℕ → State → State
+  choiceNode k c m st =
+      cond (eqb k n-then) (withSlot (pushed (st .slots) m 0 0 (put 10 0 (packed 0 0 (aheadAt (st .slots))) st)))
+      (cond (eqb k n-else) (otherwise c (widened 1 c st))
+      (joined c (widened 2 c st)))
+
+  -- a block: the slot of its opening, which lies behind its procedures; the number of its first declaration, and behind the declarations its own
+  -- variables; those of the block around
+  unfoldable pub opening : List ℕ → Opened → ℕ → State → State
+  opening rows c p st = noted (c .first) (packed 0 0 (st .at)) (replaced (c .first) 0 (st .cells) (c .fourth) (put 3 p (countsFor rows (c .third)) st))
+
+  unfoldable pub blockNode : List ℕ → ℕ → Opened → ℕ → State → State
+  blockNode rows k c p st =
+      cond (eqb k n-block) (within (st .level) (st .loops) 0 (withSlot (pushed (st .slots) 0 (st .declared) (st .cells) (nameless st))))
+      (cond (eqb k n-statements) (opening rows c p st)
       (within (st .level) (st .loops) (c .fourth) (popped (put 4 0 (packed 0 (c .third) 0) st))))
 
+  -- before the first procedure of a block: to its opening
+  unfoldable pub skipped : Opened → State → State
+  skipped c st = cond (eqb (st .variable) 0) (put 2 0 (packed 0 0 (aheadAt (c .first))) st) st
+
   -- a procedure: the for statements around
+  unfoldable pub proceeding : State → State
+  proceeding st = within (st .level + 1) 0 (st .cells) (pushed (st .loops) 0 0 0 (withEntry st))
+
   unfoldable pub procedureNode : ℕ → Opened → State → State
   procedureNode k c st =
-      cond (eqb k n-procedure) (within (st .level + 1) 0 (st .cells) (pushed (st .loops) 0 0 0 (withEntry st)))
-      (within (st .level - 1) (c .first) (st .cells) (popped (put 7 0 0 st)))
+      cond (eqb k n-procedure) (proceeding (skipped c st))
+      (withVariable (st .awaits) 1 (within (st .level - 1) (c .first) (st .cells) (popped (put 7 0 0 st))))
 
   -- left parts, from the first to the last
   unfoldable pub stored : List Opened → State → State
   stored [] st = st
-  stored (x ∷ []) st = onCell 14 0 (x .third) (x .second) st
-  stored (x ∷ y ∷ l) st = stored (y ∷ l) (onCell 15 0 (x .third) (x .second) st)
+  stored (x ∷ []) st = onCell 14 (x .third) (x .third) (x .second) st
+  stored (x ∷ y ∷ l) st = stored (y ∷ l) (onCell 15 (x .third) (x .third) (x .second) st)
 
   unfoldable pub leftsOf : ℕ → List Opened → List Opened → List Opened
   leftsOf zero l acc = acc
@@ -387,14 +445,15 @@ module _ (values layout ahead entries : List ℕ) where
   -- of the symbol s, whose place is p
   unfoldable pub plainNode : ℕ → ℕ → ℕ → ℕ → State → State
   plainNode k s p a st =
-      cond (eqb k n-number) (nameless (put 12 p (getD values s 0) st))
-      (cond (eqb k n-logical) (nameless (put 12 p a st))
+      cond (eqb k n-number) (nameless (put 12 p (getD values s 0 % 4294967296) st))
+      (cond (eqb k n-decimal) (nameless (put 49 0 (upperOf (getD values s 0)) (put 12 p (lowerOf (getD values s 0)) st)))
+      (cond (eqb k n-logical) (nameless (put 48 p a st))
       (cond (eqb k n-unary) (nameless (signed a p st))
       (cond (eqb k n-binary) (nameless (put (operationOf a) p 0 st))
       (cond (eqb k n-assign) (assigned st)
       (cond (eqb k n-variable) (withCell (within (st .level) (st .loops) (st .cells + 1) st))
       (cond (eqb k n-formal) (withCell st)
-      st))))))
+      st)))))))
 
   abbrev pub isElement : ℕ → Bool
   isElement k = eqb k n-start || (eqb k n-once || (eqb k n-while || (eqb k n-step || eqb k n-amount)))
@@ -405,7 +464,7 @@ module _ (values layout ahead entries : List ℕ) where
   abbrev pub isBlock : ℕ → Bool
   isBlock k = eqb k n-block || (eqb k n-statements || eqb k n-block-end)
 
-  module _ (rows : List ℕ) where
+  module _ (rows marks : List ℕ) where
     -- what a node adds
     unfoldable pub codeNode : ℕ → ℕ → ℕ → ℕ → ℕ → State → State
     codeNode k s p a b st =
@@ -414,8 +473,8 @@ module _ (values layout ahead entries : List ℕ) where
         (cond (eqb k n-call-end) (callEnded (top (st .open-ones)) p b (popped st))
         (cond (isElement k) (elementNode k (top (st .open-ones)) p st)
         (cond (eqb k n-do || eqb k n-for-end) (loopNode k (top (st .open-ones)) st)
-        (cond (isChoice k) (choiceNode k (top (st .open-ones)) st)
-        (cond (isBlock k) (blockNode k (top (st .open-ones)) p st)
+        (cond (isChoice k) (choiceNode k (top (st .open-ones)) (markAt marks s) st)
+        (cond (isBlock k) (blockNode rows k (top (st .open-ones)) p st)
         (cond (eqb k n-procedure || eqb k n-procedure-end) (procedureNode k (top (st .open-ones)) st)
         (plainNode k s p a st))))))))
 
@@ -428,7 +487,7 @@ module _ (values layout ahead entries : List ℕ) where
     emitted room place nodes uses = put 1 0 0 (foldNodes (placedNode place) nodes (fresh room uses))
 
 -- twice: what lies ahead is found, then the code is written
-unfoldable pub codeOf : ℕ → (ℕ → ℕ) → List ℕ → List ℕ → List ℕ → List ℕ → List Used → List ℕ
-codeOf room place values layout rows nodes uses =
-    let found = emitted values layout [] [] rows room place nodes uses in
-    emitted values layout (found .ahead) (found .entries) rows room place nodes uses .code
+unfoldable pub codeOf : ℕ → (ℕ → ℕ) → List ℕ → List ℕ → List ℕ → List ℕ → List ℕ → List Used → List ℕ
+codeOf room place values layout rows marks nodes uses =
+    let found = emitted values layout [] [] rows marks room place nodes uses in
+    emitted values layout (found .ahead) (found .entries) rows marks room place nodes uses .code

@@ -7,6 +7,33 @@ use borrow.Author.Needs.{needs}
 use Rattle.emitting.proofs.actuals.opening.Statement.{statement}
 use Rattle.emitting.proofs.actuals.opening.Tie as tie
 
+add-place-ahead : tie.Need-add-place-ahead
+add-place-ahead c = search needs
+
+place-ahead-requires : tie.Need-place-ahead-requires
+place-ahead-requires c κs = search needs
+
+word-at-requires : tie.Need-word-at-requires
+word-at-requires c κs = search needs
+
+put-requires : tie.Need-put-requires
+put-requires c κs = search needs
+
+add-word-at : tie.Need-add-word-at
+add-word-at c = search needs
+
+word-at-requires-2 : tie.Need-word-at-requires-2
+word-at-requires-2 c κs = search needs
+
+lending-requires : tie.Need-lending-requires
+lending-requires c κs = search needs
+
+put-requires-2 : tie.Need-put-requires-2
+put-requires-2 c κs = search needs
+
+same-length : tie.Need-same-length
+same-length c = search needs
+
 returns : tie.Need-returns
 unfolding aheadAt
 returns c =
@@ -14,19 +41,19 @@ returns c =
     let f = c .before .before .before .before .before .before .before .before .before .before .before .put .ensures .1 in
     let g = c .before .before .before .before .before .before .lending .ensures .1 in
     let h = c .before .before .put2 .ensures .1 in
-    (λ vs ly es us op ah en. rw (c .before .before .before .before .before .before .before .before .before .before .before .before .before .before .place-ahead .ensures .0 vs ly es, c .before .before .before .before .before .before .before .before .before .before .before .before .word-at .ensures .0, c .before .before .before .before .before .before .before .before .word-at2 .ensures .0) at (c .before .before .put2 .ensures .0 us op ah en ∙ ap (put 7 0 0) (c .before .before .before .before .before .before .lending .ensures .0 vs ly (a .ahead .now) es us op ah en ∙ ap (lending vs ly (a .ahead .now) es (c .before .before .before .before .before .before .before .before .word-at2 .result) (c .before .before .before .before .before .before .before .before .before .before .before .before .before .before .place-ahead .result .at)) (c .before .before .before .before .before .before .before .before .before .before .before .put .ensures .0 us op ah en))), (alike-then (alike-then (f .0) (g .0)) (h .0), h .2 ∙ g .2 ∙ f .2))
+    (λ vs ly es us op ah en. rw (c .before .before .before .before .before .before .before .before .before .before .before .before .before .before .place-ahead .ensures .0 vs ly es, c .before .before .before .before .before .before .before .before .before .before .before .before .word-at .ensures .0, c .before .before .before .before .before .before .before .before .word-at2 .ensures .0) at (c .before .before .put2 .ensures .0 us op ah en ∙ ap (put 7 (c .before .before .before .before .before .before .before .before .before .before .before .before .before .before .place-ahead .result .at) (a .form)) (c .before .before .before .before .before .before .lending .ensures .0 vs ly (a .ahead .now) es us op ah en ∙ ap (lending vs ly (a .ahead .now) es (c .before .before .before .before .before .before .before .before .word-at2 .result) (c .before .before .before .before .before .before .before .before .before .before .before .before .before .before .place-ahead .result .at)) (c .before .before .before .before .before .before .before .before .before .before .before .put .ensures .0 us op ah en))), (alike-then (alike-then (f .0) (g .0)) (h .0), h .2 ∙ g .2 ∙ f .2))
 
 pub opening-spec : {M : Type 1} → statement M
 opening-spec =
     tie.close
     (tie.spec
-    (λ c. search needs)
-    (λ c κs. search needs)
-    (λ c κs. search needs)
-    (λ c κs. search needs)
-    (λ c. search needs)
-    (λ c κs. search needs)
-    (λ c κs. search needs)
-    (λ c κs. search needs)
-    (λ c. search needs)
+    add-place-ahead
+    place-ahead-requires
+    word-at-requires
+    put-requires
+    add-word-at
+    word-at-requires-2
+    lending-requires
+    put-requires-2
+    same-length
     returns)

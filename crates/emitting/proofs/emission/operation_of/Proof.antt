@@ -26,8 +26,24 @@ add-result-3 c = search needs
 
 returns-3 : tie.Need-returns-3
 unfolding operationOf
-returns-3 c = (simp (le-ltb _ _ (c .before .if1 .left), le-ltb _ _ (c .if2 .left)), omega arith)
+returns-3 c = (simp (le-ltb _ _ (c .before .before .if1 .left), le-ltb _ _ (c .before .if2 .left), lt-ltb _ _ (c .if3 .taken)), omega arith)
+
+add-result-4 : tie.Need-add-result-4
+add-result-4 c = search needs
+
+returns-4 : tie.Need-returns-4
+unfolding operationOf
+returns-4 c = (simp (le-ltb _ _ (c .before .before .if1 .left), le-ltb _ _ (c .before .if2 .left), le-ltb _ _ (c .if3 .left)), omega arith)
 
 pub operation-of-spec : {M : Type 1} → statement M
 operation-of-spec =
-    tie.close (tie.spec add-result returns add-result-2 returns-2 add-result-3 returns-3)
+    tie.close
+    (tie.spec
+    add-result
+    returns
+    add-result-2
+    returns-2
+    add-result-3
+    returns-3
+    add-result-4
+    returns-4)

@@ -38,13 +38,13 @@ same-length-3 c = search needs
 returns : tie.Need-returns
 unfolding emitted
 returns c =
-    let x = c .before .before .before .before .before .before .before .before .before .before .before .before .before .before .before .before .before .before .before .before .before .before .before .before .before .before .before .before .before .before .before .before .before .args in
-    let g = c .before .before .before .before .before .before .before .before .before .before .before .before .before .before .before .before .before .before .before .before .before .before .before .before .before .before .before .before .before .before .before .before .before .pre in
+    let x = c .before .before .before .before .before .before .before .before .before .before .before .before .before .before .before .before .before .before .before .before .before .before .before .before .before .before .before .before .before .before .before .before .before .before .args in
+    let g = c .before .before .before .before .before .before .before .before .before .before .before .before .before .before .before .before .before .before .before .before .before .before .before .before .before .before .before .before .before .before .before .before .before .before .pre in
     let a = c .before .before .before .before .before .before .before .before .before .before .before .before .before .before .before .before .before .before .before .before .before .clear .ensures ∙ ap (λ (n : ℕ). replicate n 0) (g .1) in
     let b = c .before .before .before .before .before .before .before .before .before .before .before .before .before .before .before .before .before .clear2 .ensures ∙ ap (λ (n : ℕ). replicate n 0) (g .2) in
     let f = begins (usesIn (x .rows .now) (x .uses .now)) (length (x .code .now)) (c .before .before .before .before .before .before .before .before .before .before .before .before .before .clear3 .ensures) a b in
     let r = c .before .before .before .before .before .before .walk .ensures in
-    let e : State → State = emittedFrom (placeAt (x .places .now)) (x .values .now) (x .layout .now) (x .ahead .now) (x .entries .now) (x .rows .now) (x .nodes .now) in
+    let e : State → State = emittedFrom (placeAt (x .places .now)) (x .values .now) (x .layout .now) (x .ahead .now) (x .entries .now) (x .rows .now) (x .marks .now) (x .nodes .now) in
     (r .0 ∙ ap (λ (st : State). e st .code) f, (r .1 .0 ∙ ap (λ (st : State). e st .ahead) f, r .1 .1 ∙ ap (λ (st : State). e st .entries) f))
 
 pub pass-spec : {M : Type 1} → statement M

@@ -71,7 +71,7 @@ loop-again c =
       omega arith,
       c .before .before .on-cell .kept .1 .0 ∙ c .before .before .before .before .before .before .before .loop .inv .3,
       λ vs ly ks es us ah en. ap (stored vs ly ks es (leftsOf vs ly ks es n (thingsOf m s) [])) ((rw (c .before .before .before .storing .ensures .0) at (c .before .before .on-cell .ensures .0 us s ah en))
-          ∙ ap (λ (f : Opened). onCell (cond (eqb n 0) 14 15) 0 (f .third) (f .second) (see z us s (c .before .before .before .before .before .before .before .loop .code) ah en)) q)
+          ∙ ap (λ (f : Opened). onCell (cond (eqb n 0) 14 15) (f .third) (f .third) (f .second) (see z us s (c .before .before .before .before .before .before .before .loop .code) ah en)) q)
           ∙ sym (stored-step vs ly ks es (c .before .before .before .before .before .before .before .loop .n) m s (see z us s (c .before .before .before .before .before .before .before .loop .code) ah en) h) ∙ c .before .before .before .before .before .before .before .loop .inv .4 vs ly ks es us ah en,
     )
 

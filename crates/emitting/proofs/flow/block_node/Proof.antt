@@ -15,26 +15,26 @@ begun-requires c κs = search needs
 left-requires : tie.Need-left-requires
 left-requires c κs = search needs
 
-same-length : tie.Need-same-length
-same-length c = search needs
-
 returns : tie.Need-returns
 unfolding blockNode
-returns c = λ vs ly es us en. simp (c .before .before .before .before .before .match .keys1) (c .before .before .entered .ensures vs ly es us (c .before .before .before .before .before .before .before .before .before .args .next-ahead .now) en)
+returns c = λ vs ly ks es us en. simp (c .before .before .match .keys1) (c .entered .ensures us (c .before .before .before .before .before .before .args .code .now) (c .before .before .before .before .before .before .args .next-ahead .now) en)
+
+same-length : tie.Need-same-length
+same-length c = search needs
 
 same-length-2 : tie.Need-same-length-2
 same-length-2 c = search needs
 
 returns-2 : tie.Need-returns-2
 unfolding blockNode
-returns-2 c = λ vs ly es us en. simp (c .before .before .before .before .before .match .keys2) (c .before .before .begun .ensures us (c .before .before .before .before .before .before .before .before .before .args .code .now) en)
+returns-2 c = λ vs ly ks es us en. simp (c .before .before .before .before .before .before .before .before .match .keys2) (c .before .before .before .before .begun .ensures vs ly ks es us en)
 
 same-length-3 : tie.Need-same-length-3
 same-length-3 c = search needs
 
 returns-3 : tie.Need-returns-3
 unfolding blockNode
-returns-3 c = λ vs ly es us en. simp (ne-eqb _ _ (c .before .before .before .before .match .rest .1), ne-eqb _ _ (c .before .before .before .before .match .rest .0 .1)) (c .before .before .left .ensures us (c .before .before .before .before .before .before .before .before .args .things .now) (c .before .before .before .before .before .before .before .before .args .next-ahead .now) en)
+returns-3 c = λ vs ly ks es us en. simp (ne-eqb _ _ (c .before .before .before .before .match .rest .1), ne-eqb _ _ (c .before .before .before .before .match .rest .0 .1)) (c .before .before .left .ensures us (c .before .before .before .before .before .before .before .before .args .things .now) (c .before .before .before .before .before .before .before .before .args .next-ahead .now) en)
 
 pub block-node-spec : {M : Type 1} → statement M
 block-node-spec =
@@ -43,8 +43,8 @@ block-node-spec =
     entered-requires
     begun-requires
     left-requires
-    same-length
     returns
+    same-length
     same-length-2
     returns-2
     same-length-3

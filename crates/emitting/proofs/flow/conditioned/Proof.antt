@@ -28,7 +28,7 @@ returns : tie.Need-returns
 unfolding aheadAt
 returns c =
     let n = c .before .before .before .before .before .before .before .before .before .before .before .args .t .slots in
-    λ vs ly es us ah en. rw (c .before .before .before .before .before .before .before .going-to .ensures .0, c .before .before .before .before .before .before .before .before .address-at .ensures) at (c .slot .ensures us _ _ ah en ∙ ap withSlot (c .before .push .ensures .0 us _ ah en ∙ ap (pushed n 0 0 0) (c .before .before .before .before .before .put .ensures .0 us (c .before .before .before .before .before .before .before .before .before .before .before .args .things .now) ah en)))
+    λ vs ly es us ah en. rw (c .before .before .before .before .before .before .before .going-to .ensures .0, c .before .before .before .before .before .before .before .before .address-at .ensures) at (c .slot .ensures us _ _ ah en ∙ ap withSlot (c .before .push .ensures .0 us _ ah en ∙ ap (pushed n (c .before .before .before .before .before .before .before .before .before .before .before .args .mark) 0 0) (c .before .before .before .before .before .put .ensures .0 us (c .before .before .before .before .before .before .before .before .before .before .before .args .things .now) ah en)))
 
 pub conditioned-spec : {M : Type 1} → statement M
 conditioned-spec =

@@ -3,7 +3,7 @@
 use mathlib.Core.Path.{ap}
 use Prim.Native.Nat.{_+_}
 use lib.ListN.{set}
-use Rattle.emitting.specs.model.Emission.{State, pushed, within, withCell, withEntry, withOpen}
+use Rattle.emitting.specs.model.Emission.{State, pushed, within, withCell, withEntry, withOpen, proceeding}
 use borrow.Author.Needs.{needs}
 use Rattle.emitting.proofs.flow.declared.Statement.{statement}
 use Rattle.emitting.proofs.flow.declared.Tie as tie
@@ -24,10 +24,10 @@ same-length : tie.Need-same-length
 same-length c = search needs
 
 returns : tie.Need-returns
-unfolding within pushed withOpen withCell withEntry
+unfolding proceeding within pushed withOpen withCell withEntry
 returns c =
     let w = set (c .before .before .before .before .before .before .before .before .before .args .next-entries .now) (c .before .before .before .before .before .before .before .before .before .args .t .declared) (c .before .before .before .before .before .before .before .before .before .args .t .here .at) in
-    λ us co ah. rw (c .before .before .before .before .before .before .set-entry .ensures) (ap (λ (z : State). within (z .level + 1) 0 (z .cells) (withCell z)) (c .before .before .push .ensures .0 us co ah w))
+    λ vs ly ks es us co ah. rw (c .before .before .before .before .before .before .set-entry .ensures) (ap (λ (z : State). within (z .level + 1) 0 (z .cells) (withCell z)) (c .before .before .push .ensures .0 us co ah w))
 
 pub declared-spec : {M : Type 1} → statement M
 declared-spec =

@@ -3,7 +3,7 @@
 use mathlib.Core.Path.{ap}
 use lib.ListN.{set}
 use Rattle.emitting.specs.model.Layout.{packed}
-use Rattle.emitting.specs.model.Emission.{noted, popped, withOpen, withVariable, nameless}
+use Rattle.emitting.specs.model.Emission.{joined, noted, popped, withOpen, withVariable, nameless}
 use borrow.Author.Needs.{needs}
 use Rattle.emitting.proofs.flow.joined.Statement.{statement}
 use Rattle.emitting.proofs.flow.joined.Tie as tie
@@ -21,10 +21,10 @@ same-length : tie.Need-same-length
 same-length c = search needs
 
 returns : tie.Need-returns
-unfolding noted popped withOpen withVariable nameless
+unfolding joined noted popped withOpen withVariable nameless
 returns c =
     let w = set (c .before .before .before .before .before .before .before .args .next-ahead .now) (c .before .before .before .before .before .before .before .args .c .first) (packed 0 0 (c .before .before .before .before .before .before .before .args .t .here .at)) in
-    λ us op co en. rw (c .before .before .before .set-word .ensures, c .before .before .before .before .going-to .ensures .0) (ap nameless (c .pop .ensures .0 us op co w en))
+    λ vs ly ks es us op co en. rw (c .before .before .before .set-word .ensures, c .before .before .before .before .going-to .ensures .0) (ap nameless (c .pop .ensures .0 us op co w en))
 
 pub joined-spec : {M : Type 1} → statement M
 joined-spec =

@@ -1,10 +1,14 @@
 -- `emitting::flow::procedure_node` meets its contract: by the kind.
 -- Assumes nothing.
+use mathlib.Core.Path.{ap, _∙_}
 use borrow.Author.Tests.{ne-eqb}
-use Rattle.emitting.specs.model.Emission.{procedureNode}
+use Rattle.emitting.specs.model.Emission.{proceeding, procedureNode}
 use borrow.Author.Needs.{needs}
 use Rattle.emitting.proofs.flow.procedure_node.Statement.{statement}
 use Rattle.emitting.proofs.flow.procedure_node.Tie as tie
+
+skipped-requires : tie.Need-skipped-requires
+skipped-requires c κs = search needs
 
 declared-requires : tie.Need-declared-requires
 declared-requires c κs = search needs
@@ -15,18 +19,31 @@ returned-requires c κs = search needs
 same-length : tie.Need-same-length
 same-length c = search needs
 
-returns : tie.Need-returns
-unfolding procedureNode
-returns c = λ vs ly ks es us ah. simp (c .before .before .before .before .before .match .keys1) (c .before .before .declared .ensures us (c .before .before .before .before .before .before .before .before .args .code .now) ah)
-
 same-length-2 : tie.Need-same-length-2
 same-length-2 c = search needs
 
+returns : tie.Need-returns
+unfolding procedureNode
+returns c =
+    let a = c .before .before .before .before .before .before .before .before .before .before .before .before .before .args in
+    λ vs ly es us ah. simp (c .before .before .before .before .before .before .before .before .before .match .keys1) (c .before .before .declared .ensures vs ly (a .ahead .now) es us _ ah ∙ ap (proceeding vs ly (a .ahead .now) es) (c .before .before .before .before .before .before .before .skipped .ensures .0 vs ly es us (a .things .now) ah (a .next-entries .now)))
+
+same-length-3 : tie.Need-same-length-3
+same-length-3 c = search needs
+
 returns-2 : tie.Need-returns-2
 unfolding procedureNode
-returns-2 c = λ vs ly ks es us ah. simp (ne-eqb _ _ (c .before .before .before .before .match .rest .1)) (c .before .before .returned .ensures us (c .before .before .before .before .before .before .before .args .things .now) ah (c .before .before .before .before .before .before .before .args .next-entries .now))
+returns-2 c = λ vs ly es us ah. simp (ne-eqb _ _ (c .before .before .before .before .match .rest .1)) (c .before .before .returned .ensures us (c .before .before .before .before .before .before .before .before .args .things .now) ah (c .before .before .before .before .before .before .before .before .args .next-entries .now))
 
 pub procedure-node-spec : {M : Type 1} → statement M
 procedure-node-spec =
     tie.close
-    (tie.spec declared-requires returned-requires same-length returns same-length-2 returns-2)
+    (tie.spec
+    skipped-requires
+    declared-requires
+    returned-requires
+    same-length
+    same-length-2
+    returns
+    same-length-3
+    returns-2)

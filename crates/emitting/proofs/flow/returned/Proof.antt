@@ -2,7 +2,7 @@
 -- Assumes nothing.
 use mathlib.Core.Path.{ap, _∙_}
 use Prim.Native.Nat.{_-_}
-use Rattle.emitting.specs.model.Emission.{State, put, popped, within, withOpen}
+use Rattle.emitting.specs.model.Emission.{State, put, popped, within, withOpen, withVariable}
 use borrow.Author.Needs.{needs}
 use Rattle.emitting.proofs.flow.returned.Statement.{statement}
 use Rattle.emitting.proofs.flow.returned.Tie as tie
@@ -20,9 +20,9 @@ same-length : tie.Need-same-length
 same-length c = search needs
 
 returns : tie.Need-returns
-unfolding within popped withOpen put
+unfolding within popped withOpen put withVariable
 returns c =
-    λ us op ah en. rw (c .less .ensures) (ap (λ (z : State). within (c .before .before .before .before .before .before .before .args .t .level - 1) (c .before .before .before .before .before .before .before .args .c .first) (z .cells) z) (c .before .pop .ensures .0 us op _ ah en ∙ ap popped (c .before .before .before .before .put .ensures .0 us op ah en)))
+    λ us op ah en. rw (c .less .ensures) (ap (λ (z : State). withVariable (z .awaits) 1 (within (c .before .before .before .before .before .before .before .args .t .level - 1) (c .before .before .before .before .before .before .before .args .c .first) (z .cells) z)) (c .before .pop .ensures .0 us op _ ah en ∙ ap popped (c .before .before .before .before .put .ensures .0 us op ah en)))
 
 pub returned-spec : {M : Type 1} → statement M
 returned-spec = tie.close (tie.spec put-requires pop-requires less-requires same-length returns)

@@ -25,4 +25,5 @@ unfolding celled
 returns c = λ a. rw (c .before .before .before .before .set-word .ensures, c .before .before .before .before .before .packed .ensures .0)
 
 pub celled-spec : {M : Type 1} → statement M
-celled-spec = tie.close (tie.spec packed-requires set-word-requires add-t add-t-2 same-length returns)
+celled-spec =
+    tie.close (tie.spec packed-requires set-word-requires add-t add-t-2 same-length returns)

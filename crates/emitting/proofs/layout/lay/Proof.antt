@@ -14,14 +14,14 @@ use Rattle.emitting.proofs.layout.lay.Statement.{statement}
 use Rattle.emitting.proofs.layout.lay.Tie as tie
 
 abbrev Inv-loop : tie.InvT-loop
-Inv-loop nodes around₀ table₀ t₀ i₀ around table t i =
+Inv-loop nodes rows around₀ table₀ t₀ i₀ around table t i =
     Spread i (lain t around table)
-    × (foldNodes layNode (drop (4 * i) nodes) (lain t around table) ≡ foldNodes layNode nodes (unlaidIn table₀))
+    × (foldNodes (layNode rows) (drop (4 * i) nodes) (lain t around table) ≡ foldNodes (layNode rows) nodes (unlaidIn table₀))
     × (4 * i ≤ length nodes)
     × (length table ≡ length table₀)
 
 abbrev μ-loop : tie.MeasureT-loop
-μ-loop nodes around₀ table₀ t₀ i₀ around table t i = length nodes - 4 * i
+μ-loop nodes rows around₀ table₀ t₀ i₀ around table t i = length nodes - 4 * i
 
 loop-holds : tie.Need-loop-holds Inv-loop μ-loop
 unfolding opensOf AllWithin
@@ -64,22 +64,22 @@ loop-again : tie.Need-loop-again Inv-loop μ-loop
 loop-again c =
     let l = c .before .before .before .before .before .before .before .before .loop in
     let z = lain (l .t) (l .around) (l .table) in
-    let w = c .before .before .before .before .before .before .before .before .before .before .before .args .nodes .now in
+    let w = c .before .before .before .before .before .before .before .before .before .before .before .before .args .nodes .now in
     let i = l .i in
     let h = c .before .before .before .before .before .before .before .loop-test .taken in
     let b = getD w (4 * i + 3) 0 in
     let e = c .before .before .lay-node .ensures (getD w (4 * i + 1) 0) b in (
-      subst (Spread (i + 1)) (sym e) (spread-node i z (l .inv .0) (getD w (4 * i) 0) (getD w (4 * i + 1) 0) (getD w (4 * i + 2) 0) b),
-      ap (foldNodes layNode (drop (4 * (i + 1)) w)) e ∙ sym (fold-on layNode w i z h) ∙ l .inv .1,
+      subst (Spread (i + 1)) (sym e) (spread-node i z (l .inv .0) (c .before .before .before .before .before .before .before .before .before .before .before .before .args .rows .now) (getD w (4 * i) 0) (getD w (4 * i + 1) 0) (getD w (4 * i + 2) 0) b),
+      ap (foldNodes (layNode (c .before .before .before .before .before .before .before .before .before .before .before .before .args .rows .now)) (drop (4 * (i + 1)) w)) e ∙ sym (fold-on (layNode (c .before .before .before .before .before .before .before .before .before .before .before .before .args .rows .now)) w i z h) ∙ l .inv .1,
       omega arith,
-      c .before .before .lay-node .kept .1 .1 .1 .1 .0 ∙ l .inv .3,
+      c .before .before .lay-node .kept .1 .1 .1 .1 .1 .0 ∙ l .inv .3,
     )
 
 same-length : tie.Need-same-length Inv-loop μ-loop
 same-length c = c .before .loop .inv .3
 
 returns : tie.Need-returns Inv-loop μ-loop
-returns c = let l = c .before .loop in ap (λ (st : Laying). st .table) (sym (fold-end layNode (c .before .before .before .before .args .nodes .now) (l .i) (lain (l .t) (l .around) (l .table)) (c .loop-test .left)) ∙ l .inv .1)
+returns c = let l = c .before .loop in ap (λ (st : Laying). st .table) (sym (fold-end (layNode (c .before .before .before .before .before .args .rows .now)) (c .before .before .before .before .before .args .nodes .now) (l .i) (lain (l .t) (l .around) (l .table)) (c .loop-test .left)) ∙ l .inv .1)
 
 pub lay-spec : {M : Type 1} → statement M
 lay-spec =

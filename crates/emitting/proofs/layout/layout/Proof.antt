@@ -19,7 +19,12 @@ lay-requires c κs = search needs
 
 returns : tie.Need-returns
 unfolding layoutOf
-returns c = c .lay .ensures ∙ ap (λ (w : List ℕ). foldNodes layNode (c .before .before .before .before .before .before .args .nodes .now) (unlaidIn w) .table) (c .before .before .before .clear .ensures ∙ ap (λ (n : ℕ). replicate n 0) (c .before .before .before .before .clear-arg .given .0 .1))
+returns c = c .lay .ensures ∙ ap (λ (w : List ℕ). foldNodes (layNode (c .before .before .before .before .before .before .before .args .rows .now)) (c .before .before .before .before .before .before .before .args .nodes .now) (unlaidIn w) .table) (c .before .before .before .clear .ensures ∙ ap (λ (n : ℕ). replicate n 0) (c .before .before .before .before .clear-arg .given .0 .1))
 
 pub layout-spec : {M : Type 1} → statement M
-layout-spec = tie.close (tie.spec clear-requires lay-requires returns)
+layout-spec =
+    tie.close
+    (tie.spec
+    clear-requires
+    lay-requires
+    returns)

@@ -24,7 +24,7 @@ returns c =
     let b = c .before .before .on-cell2 .ensures .1 in
     let x = a .1 in
     let y = b .1 in
-    (λ vs ly ks es us op ah en. c .before .before .on-cell2 .ensures .0 us op ah en ∙ ap (onCell 14 0 (c .before .before .before .before .before .before .before .before .before .args .f .third) (c .before .before .before .before .before .before .before .before .before .args .f .second)) (c .before .before .before .before .before .before .on-cell .ensures .0 us op ah en), (alike-then (a .0) (b .0), omega arith, b .2 ∙ a .2))
+    (λ vs ly ks es us op ah en. c .before .before .on-cell2 .ensures .0 us op ah en ∙ ap (onCell 14 (c .before .before .before .before .before .before .before .before .before .args .f .third) (c .before .before .before .before .before .before .before .before .before .args .f .third) (c .before .before .before .before .before .before .before .before .before .args .f .second)) (c .before .before .before .before .before .before .on-cell .ensures .0 us op ah en), (alike-then (a .0) (b .0), omega arith, b .2 ∙ a .2))
 
 pub added-spec : {M : Type 1} → statement M
 added-spec = tie.close (tie.spec on-cell-requires on-cell-requires-2 same-length returns)

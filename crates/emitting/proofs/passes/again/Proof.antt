@@ -20,4 +20,9 @@ returns c = search needs
 pub again-spec : {M : Type 1} → statement M
 again-spec =
     tie.close
-    (tie.spec slice-aggregate-pass slice-aggregate-pass-2 pass-requires same-length returns)
+    (tie.spec
+    slice-aggregate-pass
+    slice-aggregate-pass-2
+    pass-requires
+    same-length
+    returns)

@@ -18,8 +18,14 @@ same-length c = search needs
 
 returns : tie.Need-returns
 returns c =
-    let a = c .before .before .before .before .before .before .before .before .before .before .before .before .before .args in
-    c .before .before .twice .ensures ∙ ap (λ l. codeOf (length (a .code .now)) (placeAt (a .places .now)) (a .values .now) l (a .rows .now) (a .nodes .now) (usesIn (a .rows .now) (a .uses .now))) (c .before .before .before .before .before .before .layout .ensures)
+    let a = c .before .before .before .before .before .before .before .before .before .before .before .before .before .before .args in
+    c .before .before .twice .ensures ∙ ap (λ l. codeOf (length (a .code .now)) (placeAt (a .places .now)) (a .values .now) l (a .rows .now) (a .marks .now) (a .nodes .now) (usesIn (a .rows .now) (a .uses .now))) (c .before .before .before .before .before .before .layout .ensures)
 
 pub laid-out-spec : {M : Type 1} → statement M
-laid-out-spec = tie.close (tie.spec layout-requires twice-requires same-length returns)
+laid-out-spec =
+    tie.close
+    (tie.spec
+    layout-requires
+    twice-requires
+    same-length
+    returns)

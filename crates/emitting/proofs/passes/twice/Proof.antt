@@ -27,8 +27,8 @@ same-length c = search needs
 
 returns : tie.Need-returns
 returns c =
-    let a = c .before .before .before .before .before .before .before .before .before .before .before .before .before .before .before .before .before .before .before .before .before .before .before .args in
-    second-run (length (a .code .now)) (placeAt (a .places .now)) (a .values .now) (a .laid .now) (a .rows .now) (a .nodes .now) (usesIn (a .rows .now) (a .uses .now)) (c .before .before .again .ensures) (c .before .before .before .before .before .before .before .before .before .before .before .before .pass .kept .1 .1 .1 .1 .1 .1 .1 .1 .1 .1 .0) (c .before .before .before .before .before .before .before .before .before .before .before .before .pass .ensures .1 .0) (c .before .before .before .before .before .before .before .before .before .before .before .before .pass .ensures .1 .1)
+    let a = c .before .before .before .before .before .before .before .before .before .before .before .before .before .before .before .before .before .before .before .before .before .before .before .before .args in
+    second-run (length (a .code .now)) (placeAt (a .places .now)) (a .values .now) (a .laid .now) (a .rows .now) (a .marks .now) (a .nodes .now) (usesIn (a .rows .now) (a .uses .now)) (c .before .before .again .ensures) (c .before .before .before .before .before .before .before .before .before .before .before .before .pass .kept .1 .1 .1 .1 .1 .1 .1 .1 .1 .1 .1 .0) (c .before .before .before .before .before .before .before .before .before .before .before .before .pass .ensures .1 .0) (c .before .before .before .before .before .before .before .before .before .before .before .before .pass .ensures .1 .1)
 
 pub twice-spec : {M : Type 1} → statement M
 twice-spec =
