@@ -1,9 +1,9 @@
 -- Pages: a page reads back as the same symbols with the same letters; its page is itself.
 use mathlib.Core.Path.{_≡_, refl, sym, ap, subst, _∙_}
 use mathlib.Core.Bool.{Bool, true, false, cond}
-use mathlib.Core.List.{List, [], _∷_, _++_}
+use mathlib.Core.List.{List, [], _∷_}
 use mathlib.Core.Option.{none}
-use Prim.Native.Nat.{ℕ, zero, suc, _+_}
+use Prim.Native.Nat.{ℕ, zero, suc}
 use Rattle.symbols.specs.Names.{blank}
 use Rattle.symbols.specs.Scan.{Scan, scan}
 use Rattle.symbols.specs.Scan.{kindsOf, valuesOf}
@@ -12,6 +12,7 @@ use Rattle.grammar.specs.Trees.{Syn, yield}
 use Rattle.grammar.specs.Program.{Keeps}
 use Rattle.grammar.proofs.Unique.{unique}
 use Rattle.symbols.specs.Spelling.{Token, All, AllBlank, text, dress, tokens, placed}
+use Rattle.symbols.proofs.Decimals.{all-both}
 use Rattle.symbols.proofs.WrittenAgain.{scan-again, refused-again, tokens-again, kinds-again, values-again}
 use Rattle.clean.specs.House.{Mark, line, symbol, laid, spaces, tight, gaps, house, page}
 
@@ -22,10 +23,6 @@ unfolding blank
 spaces-blank zero = tt
 spaces-blank (suc v) = (refl, (refl, spaces-blank v))
 
-all-append : (sort : ℕ → Bool) (a b : List ℕ) → All sort a → All sort b → All sort (a ++ b)
-all-append sort [] b h k = k
-all-append sort (x ∷ a) b h k = (h .0, all-append sort a b (h .1) k)
-
 gaps-blank : (a b : ℕ) (ls : List ℕ) (v : ℕ) (l : List Mark) → All blank ls → AllBlank (gaps a b ls v l)
 unfolding gaps blank
 gaps-blank a b ls v [] h = tt
@@ -35,7 +32,7 @@ gaps-blank a b [] v (symbol k ∷ l) h = (space (tight a b k), gaps-blank b k []
     space : (t : Bool) → All blank (cond t [] (32 ∷ []))
     space true = tt
     space false = (refl, tt)
-gaps-blank a b (x ∷ ls) v (symbol k ∷ l) h = (all-append blank (x ∷ ls) (spaces v) h (spaces-blank v), gaps-blank b k [] v l tt)
+gaps-blank a b (x ∷ ls) v (symbol k ∷ l) h = (all-both blank (x ∷ ls) (spaces v) h (spaces-blank v), gaps-blank b k [] v l tt)
 
 house-blank : (t : Syn program) → AllBlank (house t)
 unfolding house

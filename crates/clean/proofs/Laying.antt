@@ -158,7 +158,7 @@ pub record Laying (source kinds places page₀ page held : List ℕ) (s : State)
   pub within : i ≤ length kinds
   pub holds : length held ≡ 2048
   pub grows : Grown i s (stackOf (s .around) held)
-  pub counted : at ≤ 32768 * i
+  pub counted : at ≤ 65536 * i
   pub putting : Putting page₀ page 0 at (writtenFrom source (λ j. getD places j 0) s (stackOf (s .around) held) i (drop i kinds)) (writtenOf source places kinds)
 
 pub laying-first : (source kinds places page held : List ℕ) (s : State) → s ≡ firstOf → length held ≡ 2048 → Laying source kinds places page page held s 0 0
@@ -189,7 +189,7 @@ module _ {source kinds places page₀ page held : List ℕ} {s : State} {at i : 
   pub gap-ends : {mid : List ℕ} {from : ℕ} (here : State) → here ≡ earlyOf s stack kind → Puts page mid at from (gapOf here kind) → from ≤ at + 8192
   gap-ends here e p = let r = here-ready here e in omega (arith, p .behind, gap-short here kind (r .lines) (omega (arith, r .line)))
 
-  pub laying-next : {mid new held' : List ℕ} {from to : ℕ} (here s' : State) (n : ℕ) → kind < 40 → here ≡ earlyOf s stack kind → Puts page mid at from (gapOf here kind)
+  pub laying-next : {mid new held' : List ℕ} {from to : ℕ} (here s' : State) (n : ℕ) → kind < 43 → here ≡ earlyOf s stack kind → Puts page mid at from (gapOf here kind)
       → Puts mid new from to (spellingAt source kind (getD places i 0)) → n ≡ getD kinds (i + 1) 33 → Late held held' here kind n s'
       → Laying source kinds places page₀ new held' s' to (i + 1)
   unfolding writtenFrom

@@ -6,8 +6,8 @@ use Prim.Native.Nat.{ℕ, suc, pred, _+_, _-_}
 use native.Mathlib.Omega.{arith}
 use lib.Dec.{eqb}
 use borrow.Author.Tests.{ne-eqb}
-use Rattle.grammar.specs.Grammar.{times, over, plus, minus, and, or, implies, equals, less, lessEqual, equal, greaterEqual, greater, notEqual, Class, block, inner, head, tail, declarations, declaration, declared, type, procedure, heading, formals, values, specifications, list, others, statements, statement, consequence, alternative, repetition, for-clause, elements, further, element, progress, stepping, amount, unconditional, named, right, expression, otherwise, level, more, negation, relation, comparison, primary, actuals, actual, further-actuals, Item, sy, rd, rhs, program}
-use Rattle.grammar.specs.Grammar.{Prod, begin-end, a-block, a-compound, a-tail, a-head, some-declarations, no-declaration, typed, untyped, variables, function, integer, boolean, a-procedure, a-heading, some-formals, no-formals, some-values, no-values, a-specification, no-specification, a-list, another, no-other, a-statement, no-statement, conditional, repeated, plain, then-for, then-plain, an-else, no-else, a-for, a-clause, for-list, another-element, no-element, an-element, once, while, by-steps, a-step, an-amount, dummy, compound, with-name, assignment, call, left, value, a-condition, simple, an-otherwise, chain, signed, again, no-more, a-not, no-not, a-relation, compare, no-comparison, number, true-value, false-value, a-name, in-parentheses, with, bare, an-actual, another-actual, no-actual}
+use Rattle.grammar.specs.Grammar.{times, over, divide, plus, minus, and, or, implies, equals, less, lessEqual, equal, greaterEqual, greater, notEqual, Class, block, inner, head, tail, declarations, declaration, declared, type, procedure, heading, formals, values, specifications, list, others, statements, statement, consequence, alternative, repetition, for-clause, elements, further, element, progress, stepping, amount, unconditional, named, right, expression, otherwise, level, more, negation, relation, comparison, primary, actuals, actual, further-actuals, Item, sy, rd, rhs, program}
+use Rattle.grammar.specs.Grammar.{Prod, begin-end, a-block, a-compound, a-tail, a-head, some-declarations, no-declaration, typed, untyped, variables, function, integer, boolean, real, a-procedure, a-heading, some-formals, no-formals, some-values, no-values, a-specification, no-specification, a-list, another, no-other, a-statement, no-statement, conditional, repeated, plain, then-for, then-plain, an-else, no-else, a-for, a-clause, for-list, another-element, no-element, an-element, once, while, by-steps, a-step, an-amount, dummy, compound, with-name, assignment, call, left, value, a-condition, simple, an-otherwise, chain, signed, again, no-more, a-not, no-not, a-relation, compare, no-comparison, number, decimal, true-value, false-value, a-name, in-parentheses, with, bare, an-actual, another-actual, no-actual}
 use Rattle.grammar.specs.Trees.{Syn, nil, tok, sub, yield}
 use Rattle.grammar.specs.declared.Level.the-variants.{Product, Sum, Conjunction, Disjunction, Implication, Equivalence}
 use Rattle.clean.specs.House.{Placing, on, aside, placing, Mark, line, symbol, any, begun, levelIn, laid, gaps, house}
@@ -149,6 +149,7 @@ balanced variables h c = absurd h
 balanced function h c = absurd h
 balanced integer h c = absurd h
 balanced boolean h c = absurd h
+balanced real h c = absurd h
 balanced a-procedure h c = absurd h
 balanced a-heading h c = absurd h
 balanced some-formals h c = (c, plainly refl, (refl, tt, (c, refl, (c, plainly refl, refl))))
@@ -202,6 +203,7 @@ balanced (again plus) h c = (c, plainly refl, (refl, tt, (c, refl, (refl, tt, (c
 balanced (again minus) h c = (c, plainly refl, (refl, tt, (c, refl, (refl, tt, (c, refl, refl)))))
 balanced (again times) h c = (c, plainly refl, (refl, tt, (c, refl, (refl, tt, (c, refl, refl)))))
 balanced (again over) h c = (c, plainly refl, (refl, tt, (c, refl, (refl, tt, (c, refl, refl)))))
+balanced (again divide) h c = (c, plainly refl, (refl, tt, (c, refl, (refl, tt, (c, refl, refl)))))
 balanced (again and) h c = (c, plainly refl, (refl, tt, (c, refl, (refl, tt, (c, refl, refl)))))
 balanced (again or) h c = (c, plainly refl, (refl, tt, (c, refl, (refl, tt, (c, refl, refl)))))
 balanced (again implies) h c = (c, plainly refl, (refl, tt, (c, refl, (refl, tt, (c, refl, refl)))))
@@ -218,6 +220,7 @@ balanced (compare greater) h c = (c, plainly refl, (refl, tt, (c, refl, refl)))
 balanced (compare notEqual) h c = (c, plainly refl, (refl, tt, (c, refl, refl)))
 balanced no-comparison h c = refl
 balanced number h c = (c, plainly refl, refl)
+balanced decimal h c = (c, plainly refl, refl)
 balanced true-value h c = (c, plainly refl, refl)
 balanced false-value h c = (c, plainly refl, refl)
 balanced a-name h c = (c, plainly refl, (refl, tt, (c, refl, refl)))
@@ -440,6 +443,10 @@ made-boolean : Made (rhs boolean) (Spec type)
 unfolding lines
 made-boolean = (λ rest. (refl, refl), λ v st c h f rest. refl)
 
+made-real : Made (rhs real) (Spec type)
+unfolding lines
+made-real = (λ rest. (refl, refl), λ v st c h f rest. refl)
+
 made-typed : Made (rhs typed) (Spec declaration)
 made-typed y m h z n k v u st rest r =
     let d = k v u st rest r in
@@ -658,6 +665,7 @@ built variables h = made-variables
 built function h = made-function
 built integer h = made-integer
 built boolean h = made-boolean
+built real h = made-real
 built a-procedure h = made-a-procedure
 built a-heading h = made-a-heading
 built some-formals h = absurd (h tt)
@@ -709,6 +717,7 @@ built a-relation h = absurd (h tt)
 built (compare r) h = absurd (h tt)
 built no-comparison h = absurd (h tt)
 built number h = absurd (h tt)
+built decimal h = absurd (h tt)
 built true-value h = absurd (h tt)
 built false-value h = absurd (h tt)
 built a-name h = absurd (h tt)

@@ -38,7 +38,7 @@ page-passed n source t e place h =
     ap (λ g. text (dress g (tokens n source)) (10 ∷ [])) (house-lines t ∙ ap (λ ks. gaps 36 36 [] 0 (lines 0 [] 0 false true ks)) e)
     ∙ penned source F firstOf [] 0 place (λ j l. ap place (omega arith) ∙ h j l)
 
-module _ {source kinds places values nodes rows uses : List ℕ} {s : Sizes} (h : Holds source kinds places values nodes rows uses s) where
+module _ {source kinds places values nodes rows uses was marks : List ℕ} {s : Sizes} (h : Holds source kinds places values nodes rows uses was marks s) where
   abbrev pub programOf : Grammatical source
   programOf = h .declared .resolved .named .outlined .known .ready .program
 

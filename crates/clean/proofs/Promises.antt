@@ -19,7 +19,7 @@ use Rattle.names.specs.Uses.{nameFaults, least, useRows}
 use Rattle.types.specs.Types.{typeFault}
 use Rattle.table.specs.Table.{tableOf}
 use Rattle.machine.specs.Machine.{Finish, onCode}
-use Rattle.translation.specs.Places.{Alike, finishP}
+use Rattle.translation.specs.Places.{numbered, placing, Alike, finishP}
 use Rattle.translation.proofs.Correct.{translated}
 use Rattle.translation.proofs.RunPlaced.{alike-placed}
 use Rattle.reading.specs.Judging as J
@@ -81,19 +81,20 @@ module _ {source : List ℕ} (p : Grammatical source) (short : length (pageOf p)
   -- so every run of it is the same: answer, outputs, numbers taken and instructions; a fault is at the place where the same symbol stands
   module _ {old old' code code' : List ℕ} {v v' : Verdict} (t : Translates source old v code) (t' : Translates clean old' v' code') (z : numberOf v ≡ 0) (z' : numberOf v' ≡ 0)
       (input : List ℤ) (limit cells space : ℕ) where
-    pub one-run : (f : Finish) × (onCode code input limit cells space ≡ finishP (placeIn source) f) × (onCode code' input limit cells space ≡ finishP (placeIn clean) f)
+    pub one-run : (f : Finish) × (onCode code input limit cells space ≡ finishP (placing (placeIn source)) f)
+        × (onCode code' input limit cells space ≡ finishP (placing (placeIn clean)) f)
     one-run = (
-      translated (λ q. q) (itsProgram p) input limit cells space,
+      translated numbered (itsProgram p) input limit cells space,
       by-numbers t z p input limit cells space,
       by-numbers t' z' clean-parsed input limit cells space
-          ∙ ap (λ (s : Statement). finishP (placeIn clean) (translated (λ q. q) s input limit cells space)) (same-program clean-parsed),
+          ∙ ap (λ (s : Statement). finishP (placing (placeIn clean)) (translated numbered s input limit cells space)) (same-program clean-parsed),
     )
 
     pub same-run : Alike (onCode code input limit cells space) (onCode code' input limit cells space)
     same-run =
         let r = one-run in
         subst (λ x. Alike x (onCode code' input limit cells space)) (sym (r .1))
-        (subst (λ y. Alike (finishP (placeIn source) (r .0)) y) (sym (r .2)) (alike-placed (placeIn source) (placeIn clean) (r .0)))
+        (subst (λ y. Alike (finishP (placing (placeIn source)) (r .0)) y) (sym (r .2)) (alike-placed (placing (placeIn source)) (placing (placeIn clean)) (r .0)))
 
 -- ---- of the job
 

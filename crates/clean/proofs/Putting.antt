@@ -5,9 +5,11 @@ use mathlib.Core.List.{List, [], _∷_, _++_, append-nil, append-assoc}
 use mathlib.Core.Bool.{Bool, true, false, cond, not, _||_}
 use native.Mathlib.Omega.{arith}
 use native.Mathlib.Numerals.{add-one}
+use borrow.Author.Tests.{ne-eqb}
 use lib.ListN.{length, set, getD, drop, replicate, length-append, length-set}
-use lib.Seq.{drop-cons}
-use Rattle.symbols.specs.Names.{blank, these}
+use lib.Seq.{drop-cons, drop-drop}
+use Rattle.symbols.specs.Names.{blank, these, reach, digit, decimals}
+use Rattle.symbols.specs.Spelling.{withDecimals}
 use Rattle.table.specs.model.Writing.{Wrote}
 use Rattle.table.proofs.Written.{wrote-none, wrote-one, wrote-on}
 use Rattle.clean.specs.model.Bytes.{Puts}
@@ -112,6 +114,15 @@ module _ (sort : ℕ → Bool) where
   unfolding these
   letters-end w i h = ap (these sort) (word-none w i h)
 
+  -- how far it reaches
+  pub reach-next : (w : List ℕ) (i : ℕ) → i < length w → (sort (getD w i 0) || blank (getD w i 0)) ≡ true → reach sort (drop i w) ≡ suc (reach sort (drop (i + 1) w))
+  unfolding reach
+  reach-next w i h e = ap (reach sort) (word-next w i h) ∙ rw e
+
+  pub reach-stops : (w : List ℕ) (i : ℕ) → i < length w → (sort (getD w i 0) || blank (getD w i 0)) ≡ false → reach sort (drop i w) ≡ 0
+  unfolding reach
+  reach-stops w i h e = ap (reach sort) (word-next w i h) ∙ rw e
+
   -- a run is no longer than the bytes it is found in
   pub run-short : (bs : List ℕ) → length (these sort bs) ≤ length bs
   unfolding these
@@ -122,6 +133,26 @@ module _ (sort : ℕ → Bool) where
       go true t h = omega arith
       go false true h = omega arith
       go false false h = omega arith
+
+-- the digits behind a point: none behind the source's end, none where another byte stands
+pub decimals-end : (w : List ℕ) (i : ℕ) → length w ≤ i → decimals (drop i w) ≡ []
+unfolding decimals
+decimals-end w i h = ap decimals (word-none w i h)
+
+pub decimals-here : (w : List ℕ) (i : ℕ) → i < length w → getD w i 0 ≡ 46 → decimals (drop i w) ≡ these digit (drop (i + 1) w)
+unfolding decimals
+decimals-here w i h e = ap decimals (word-next w i h) ∙ rw e
+
+pub decimals-none : (w : List ℕ) (i : ℕ) → i < length w → (getD w i 0 ≡ 46 → ⊥) → decimals (drop i w) ≡ []
+unfolding decimals
+decimals-none w i h e = ap decimals (word-next w i h) ∙ rw (ne-eqb (getD w i 0) 46 e)
+
+-- digits, a point, and the digits behind it
+pub decimal-put : {old mid next new : List ℕ} {at to to' r dot : ℕ} (source : List ℕ) (from : ℕ) → Puts old mid at to (these digit (drop from source)) → Puts mid next to to' (46 ∷ [])
+    → dot ≡ from + reach digit (drop from source) → Puts next new to' r (decimals (drop dot source)) → Puts old new at r (withDecimals (drop from source))
+unfolding withDecimals
+decimal-put source from p q e d =
+    puts-on p (puts-on q (puts-as d (ap (λ (i : ℕ). decimals (drop i source)) e ∙ ap decimals (sym (drop-drop (reach digit (drop from source)) from source)))))
 
 pub or-false : (b : Bool) → b ≡ (b || false)
 or-false true = refl

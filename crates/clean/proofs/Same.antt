@@ -39,6 +39,7 @@ tokens-program n old new t k h =
     program-agree (λ k. getD (valuesOf F') k 0) (λ k. getD (valuesOf F) k 0) (λ k. lettersAt new (getD (placesOf F') k (length new))) (λ k. lettersAt old (getD (placesOf F) k (length old)))
     (kindAt (yield t))
     (λ j e. ap (λ (v : List ℕ). getD v j 0) (tokens-values n old new k))
+    (λ j e. ap (λ (v : List ℕ). getD v j 0) (tokens-values n old new k))
     (λ j e.
     let q : getD (kindsOf F) j 33 ≡ 38 = ap (λ (v : List ℕ). getD v j 33) (sym h) ∙ e in
     let q' : getD (kindsOf F') j 33 ≡ 38 = ap (λ (v : List ℕ). getD v j 33) (tokens-kinds n old new k) ∙ q in

@@ -1,20 +1,20 @@
--- A symbol is spelled by its kind: what is no name and no number by its word or sign, a name or number by its letters.
-use Prim.Native.Nat.{ℕ, zero, suc, _+_, _≤_, _<_}
+-- A symbol is spelled by its kind: what is no name and no number by its word or sign, a name or number by its letters, its point among them.
+use Prim.Native.Nat.{ℕ, zero, suc, _+_, _*_, _≤_, _<_}
 use mathlib.Core.Path.{_≡_, refl, ap, _∙_}
-use mathlib.Core.Bool.{Bool, true, false, _&&_}
+use mathlib.Core.Bool.{Bool, true, false, cond, _&&_}
 use mathlib.Core.List.{List, [], _∷_, map}
 use native.Mathlib.Omega.{arith}
 use lib.Dec.{eqb, ltb}
 use native.Mathlib.Decide.{decLt}
-use lib.ListN.{length, getD, drop}
+use lib.ListN.{length, getD, drop, length-append, length-drop}
 use borrow.Author.Tests.{ne-eqb, ltb-true}
 use Rattle.symbols.specs.Symbols.{kind, is}
 use Rattle.symbols.specs.model.Kinds.{ordered, symbolOf}
-use Rattle.symbols.specs.Names.{these}
+use Rattle.symbols.specs.Names.{digit, these, reach, decimals}
 use Rattle.symbols.specs.Scan.{Found, kindsOf}
 use Rattle.symbols.specs.declared.Symbol.{Symbol}
 use Rattle.symbols.specs.declared.Symbol.the-variants.{Colon}
-use Rattle.symbols.specs.Spelling.{wordFor, signFor, spell, readOff}
+use Rattle.symbols.specs.Spelling.{wordFor, signFor, spell, withDecimals, readOff}
 use Rattle.reading.proofs.Stages.{same-kind}
 use Rattle.clean.specs.model.Bytes.{sortOf, spellingAt, wordAt, AllKinds}
 use Rattle.clean.proofs.Putting.{run-short}
@@ -28,7 +28,7 @@ pub past : (b n k : ℕ) → b ≤ k → NoneFrom b n k → b + n ≤ k
 past b zero k l h = omega arith
 past b (suc n) k l h = let m = past b n k l (h .0) in let e = h .1 in omega arith
 
--- ---- kinds are the numbers below 40, in the order of the symbols
+-- ---- kinds are the numbers below 43, in the order of the symbols
 
 abbrev range : ℕ → ℕ → List ℕ
 range a zero = []
@@ -44,51 +44,52 @@ kind-at [] k = refl
 kind-at (s ∷ l) zero = refl
 kind-at (s ∷ l) (suc k) = kind-at l k
 
-in-order : map kind (ordered 0) ≡ range 0 40
+in-order : map kind (ordered 0) ≡ range 0 43
 in-order = refl
 
-kind-back : (k : ℕ) → k < 40 → kind (symbolOf k 0) ≡ k
+kind-back : (k : ℕ) → k < 43 → kind (symbolOf k 0) ≡ k
 unfolding symbolOf
-kind-back k h = kind-at (ordered 0) k ∙ ap (λ l. getD l k 33) in-order ∙ range-at 0 40 k 33 h ∙ omega arith
+kind-back k h = kind-at (ordered 0) k ∙ ap (λ l. getD l k 33) in-order ∙ range-at 0 43 k 33 h ∙ omega arith
 
 small-all : List Symbol → Bool
 small-all [] = true
-small-all (s ∷ l) = ltb (kind s) 40 && small-all l
+small-all (s ∷ l) = ltb (kind s) 43 && small-all l
 
-small-at : (l : List Symbol) (k : ℕ) → small-all l ≡ true → ltb (kind (getD l k Colon)) 40 ≡ true
+small-at : (l : List Symbol) (k : ℕ) → small-all l ≡ true → ltb (kind (getD l k Colon)) 43 ≡ true
 unfolding small-all
 small-at [] k h = refl
-small-at (s ∷ l) zero h = left (ltb (kind s) 40) (small-all l) h
+small-at (s ∷ l) zero h = left (ltb (kind s) 43) (small-all l) h
   where
     left : (a b : Bool) → (a && b) ≡ true → a ≡ true
     left true b h = refl
     left false b h = h
-small-at (s ∷ l) (suc k) h = small-at l k (right (ltb (kind s) 40) (small-all l) h)
+small-at (s ∷ l) (suc k) h = small-at l k (right (ltb (kind s) 43) (small-all l) h)
   where
     right : (a b : Bool) → (a && b) ≡ true → b ≡ true
     right true b h = h
     right false b h = absurd (let z : _≡_ {A = ℕ} 0 1 = cc in omega arith)
 
-pub kind-small : (s : Symbol) → kind s < 40
+pub kind-small : (s : Symbol) → kind s < 43
 unfolding symbolOf small-all
-kind-small s = let h = ltb-true (kind (symbolOf (kind s) 0)) 40 (small-at (ordered 0) (kind s) refl) in omega (arith, same-kind s)
+kind-small s = let h = ltb-true (kind (symbolOf (kind s) 0)) 43 (small-at (ordered 0) (kind s) refl) in omega (arith, same-kind s)
 
 pub all-kinds : (l : List Found) → AllKinds (kindsOf l)
 all-kinds [] = tt
 all-kinds (f ∷ l) = (kind-small (f .symbol), all-kinds l)
 
-pub kind-in : (ks : List ℕ) (i : ℕ) → AllKinds ks → i < length ks → getD ks i 0 < 40
+pub kind-in : (ks : List ℕ) (i : ℕ) → AllKinds ks → i < length ks → getD ks i 0 < 43
 kind-in [] i h l = absurd (omega arith)
 kind-in (k ∷ ks) zero h l = h .0
 kind-in (k ∷ ks) (suc i) h l = kind-in ks i (h .1) (omega arith)
 
 -- ---- by its word or sign, and by its letters
 
-pub by-word : (source : List ℕ) (k p : ℕ) → k < 38 → spellingAt source k p ≡ wordAt k
+pub by-word : (source : List ℕ) (k p : ℕ) → k < 43 → (k ≡ 38 → ⊥) → (k ≡ 39 → ⊥) → (k ≡ 42 → ⊥) → spellingAt source k p ≡ wordAt k
 unfolding spell
-by-word source k p h =
-    let e = kind-back k (omega arith) in
-    rw (e, ne-eqb k 38 (λ q. omega arith), ne-eqb k 39 (λ q. omega arith))
+by-word source k p h a b c = rw (kind-back k h, ne-eqb k 38 a, ne-eqb k 39 b, ne-eqb k 42 c)
+
+pub by-low : (source : List ℕ) (k p : ℕ) → k < 38 → spellingAt source k p ≡ wordAt k
+by-low source k p h = by-word source k p (omega arith) (λ e. omega arith) (λ e. omega arith) (λ e. omega arith)
 
 pub by-letters : (source : List ℕ) (k p : ℕ) → 38 ≤ k → k < 40 → these (sortOf (eqb k 38)) (drop p source) ≡ spellingAt source k p
 unfolding spell readOff symbolOf
@@ -98,7 +99,11 @@ by-letters source k p l h = go (decLt k 39)
     go (yes m) = let e : k ≡ 38 = omega arith in rw e
     go (no m) = let e : k ≡ 39 = omega arith in rw e
 
--- a spelling is short: 16 bytes and those of the source are enough
+pub by-decimals : (source : List ℕ) (p : ℕ) → withDecimals (drop p source) ≡ spellingAt source 42 p
+unfolding spell readOff symbolOf
+by-decimals source p = refl
+
+-- a spelling is short: 16 bytes and twice those of the source are enough
 short-all : (n : ℕ) → Bool
 short-all zero = true
 short-all (suc n) = ltb (length (wordAt n)) 16 && short-all n
@@ -120,13 +125,33 @@ short-at (suc n) k h l = go (decLt k n) (λ r m. short-at n k r m)
     go (yes m) f = f (right (ltb (length (wordAt n)) 16) (short-all n) h) m
     go (no m) f = let e : k ≡ n = omega arith in rw e (left (ltb (length (wordAt n)) 16) (short-all n) h)
 
-word-short : (k : ℕ) → k < 38 → length (wordAt k) < 16
+word-short : (k : ℕ) → k < 43 → length (wordAt k) < 16
 unfolding short-all wordFor signFor symbolOf
-word-short k h = ltb-true (length (wordAt k)) 16 (short-at 38 k refl h)
+word-short k h = ltb-true (length (wordAt k)) 16 (short-at 43 k refl h)
 
-pub spelled-short : (source : List ℕ) (k p : ℕ) → k < 40 → length (spellingAt source k p) ≤ 16 + length (drop p source)
-spelled-short source k p h = go (decLt k 38)
+-- the digits behind a point are no more than the bytes they are found in
+decimals-short : (bs : List ℕ) → length (decimals bs) ≤ length bs
+unfolding decimals
+decimals-short [] = omega arith
+decimals-short (b ∷ bs) = go (eqb b 46)
   where
-    go : Dec (k < 38) → length (spellingAt source k p) ≤ 16 + length (drop p source)
-    go (yes m) = omega (arith, ap length (by-word source k p m), word-short k m)
-    go (no m) = omega (arith, ap length (by-letters source k p (omega arith) h), run-short (sortOf (eqb k 38)) (drop p source))
+    go : (t : Bool) → length (cond t (these digit bs) []) ≤ suc (length bs)
+    go true = omega (arith, run-short digit bs)
+    go false = omega arith
+
+with-short : (bs : List ℕ) → length (withDecimals bs) ≤ 1 + 2 * length bs
+unfolding withDecimals
+with-short bs =
+    let r = drop (reach digit bs) bs in
+    omega (arith, length-append (these digit bs) (46 ∷ decimals r), run-short digit bs, decimals-short r, length-drop (reach digit bs) bs)
+
+pub spelled-short : (source : List ℕ) (k p : ℕ) → k < 43 → length (spellingAt source k p) ≤ 16 + 2 * length (drop p source)
+spelled-short source k p h = go (decLt k 38) (decLt k 40) (decLt k 42)
+  where
+    go : Dec (k < 38) → Dec (k < 40) → Dec (k < 42) → length (spellingAt source k p) ≤ 16 + 2 * length (drop p source)
+    go (yes a) b c = omega (arith, ap length (by-low source k p a), word-short k h)
+    go (no a) (yes b) c = omega (arith, ap length (by-letters source k p (omega arith) b), run-short (sortOf (eqb k 38)) (drop p source))
+    go (no a) (no b) (yes c) = omega (arith, ap length (by-word source k p h (λ e. omega arith) (λ e. omega arith) (λ e. omega arith)), word-short k h)
+    go (no a) (no b) (no c) =
+        let e : k ≡ 42 = omega arith in
+        omega (arith, ap (λ (j : ℕ). length (spellingAt source j p)) e, ap length (by-decimals source p), with-short (drop p source))

@@ -15,6 +15,7 @@ use Rattle.symbols.specs.Scan.{Found, scan, kindsOf}
 use Rattle.symbols.specs.declared.Symbol.{Symbol}
 use Rattle.symbols.proofs.Follows.{blank-no-name}
 use Rattle.symbols.proofs.Laws.{both}
+use Rattle.symbols.proofs.Decimals.{all-both}
 use Rattle.grammar.specs.Grammar.{program}
 use Rattle.grammar.specs.Trees.{Syn, tok, yield}
 use Rattle.symbols.specs.Spelling as S
@@ -37,6 +38,13 @@ named-dark b h = go (blank b) refl
     go : (t : Bool) → blank b ≡ t → not t ≡ true
     go true e = absurd (yes-no (sym h ∙ blank-no-name b e))
     go false e = refl
+
+digit-dark : (b : ℕ) → digit b ≡ true → dark b ≡ true
+digit-dark b h = named-dark b (digit-named b h)
+
+point-dark : dark 46 ≡ true
+unfolding blank
+point-dark = refl
 
 all-of : (sort sort' : ℕ → Bool) → ((b : ℕ) → sort b ≡ true → sort' b ≡ true) → (l : List ℕ) → All sort l → All sort' l
 all-of sort sort' f [] h = tt
@@ -93,9 +101,10 @@ table-dark s = word-dark s (signFor signs s) (sign-dark s signs refl) words refl
 
 spelled-dark : (s : Symbol) (l : List ℕ) → Proper s l → All dark (spell s l)
 unfolding spell
-spelled-dark s (b ∷ bs) (S.name h f k) = (named-dark b (letter-named b h), all-of inName dark named-dark bs f)
-spelled-dark s (b ∷ bs) (S.number h f e k) = (named-dark b (digit-named b h), all-of digit dark (λ c d. named-dark c (digit-named c d)) bs f)
-spelled-dark s [] (S.other h k) = rw (h, k) (table-dark s)
+spelled-dark s l (S.name {b = b} {bs = bs} h f k) = (named-dark b (letter-named b h), all-of inName dark named-dark bs f)
+spelled-dark s l (S.number {b = b} {bs = bs} h f e k) = (digit-dark b h, all-of digit dark digit-dark bs f)
+spelled-dark s l (S.decimal ds es e a c o n q) = subst (All dark) (sym e) (all-both dark ds (46 ∷ es) (all-of digit dark digit-dark ds a) (point-dark, all-of digit dark digit-dark es c))
+spelled-dark s l (S.other h k j) = rw (h, k, j) (table-dark s)
 
 -- ---- which byte may stand behind which: no tab, no CR, no LF behind a space
 
@@ -181,7 +190,7 @@ house-gaps t = gaps-are 36 36 0 0 (laid 0 t)
 
 record Set (x : Piece) : Type 0 where
   gap : Gap (x .separator)
-  starts : Starts (spelling (x .token)) (x .token .symbol)
+  starts : Starts (spelling (x .token)) (x .token)
   word : All dark (spelling (x .token))
 
 abbrev AllSet : List Piece → Type 0
@@ -212,9 +221,9 @@ no-word : {b : ℕ} {bs : List ℕ} → [] ≡ b ∷ bs → ⊥
 no-word e = let z : _≡_ {A = ℕ} 0 1 = cc in omega arith
 
 -- a symbol has a byte
-over-symbol : (s : Symbol) (w zs : List ℕ) → Starts w s → All dark w → ((c : ℕ) → NoSpace c → Neat c zs) → (a : ℕ) → Neat a (w ++ zs)
-over-symbol s [] zs h d f a = absurd (no-word (h .same))
-over-symbol s (b ∷ w) zs h d f a = (dark-fair a b (d .0), over-word b w zs (seen b (d .0) .no-space) (d .1) f)
+over-symbol : (t : Token) (w zs : List ℕ) → Starts w t → All dark w → ((c : ℕ) → NoSpace c → Neat c zs) → (a : ℕ) → Neat a (w ++ zs)
+over-symbol t [] zs h d f a = absurd (no-word (h .same))
+over-symbol t (b ∷ w) zs h d f a = (dark-fair a b (d .0), over-word b w zs (seen b (d .0) .no-space) (d .1) f)
 
 over-gap : (a : ℕ) (g zs : List ℕ) → Neat a g → ((c : ℕ) → Neat c zs) → Neat a (g ++ zs)
 over-gap a [] zs h f = f a
@@ -226,7 +235,7 @@ text-neat [] h a n = (feed-fair a n, tt)
 text-neat (x ∷ l) h a n =
     let w = spelling (x .token) in
     let rest = text l (10 ∷ []) in
-    over-gap a (x .separator) (w ++ rest) (h .0 .gap .neat a n) (over-symbol (x .token .symbol) w rest (h .0 .starts) (h .0 .word) (text-neat l (h .1)))
+    over-gap a (x .separator) (w ++ rest) (h .0 .gap .neat a n) (over-symbol (x .token) w rest (h .0 .starts) (h .0 .word) (text-neat l (h .1)))
 
 -- ---- what is neat has no tab, no CR, and no space at a line's end
 
@@ -276,7 +285,7 @@ text-ended : (x : Piece) (l : List Piece) → AllSet (x ∷ l) → Ended (text (
 unfolding text
 text-ended x [] h = ended-behind (x .separator) (spelling (x .token) ++ (10 ∷ [])) (last (spelling (x .token)) (h .0 .starts) (h .0 .word))
   where
-    last : (w : List ℕ) → Starts w (x .token .symbol) → All dark w → Ended (w ++ (10 ∷ []))
+    last : (w : List ℕ) → Starts w (x .token) → All dark w → Ended (w ++ (10 ∷ []))
     last [] s d = absurd (no-word (s .same))
     last (b ∷ w) s d = ended-word b w d
 text-ended x (y ∷ l) h =

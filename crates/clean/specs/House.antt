@@ -21,7 +21,7 @@ use mathlib.Core.Bool.{Bool, true, false, cond, not, _&&_, _||_}
 use mathlib.Core.List.{List, [], _∷_, _++_}
 use lib.Dec.{eqb}
 use Rattle.symbols.specs.Symbols.{kind}
-use Rattle.symbols.specs.declared.Symbol.the-variants.{End, True, False, Plus, Minus, Comma, Semicolon, Open, Close, Name, Number}
+use Rattle.symbols.specs.declared.Symbol.the-variants.{End, True, False, Plus, Minus, Comma, Semicolon, Open, Close, Name, Number, Decimal}
 use Rattle.grammar.specs.Grammar.{Class, block, inner, head, tail, declarations, declaration, declared, type, procedure, heading, formals, values, specifications, list, others, statements, statement, consequence, alternative, repetition, for-clause, elements, further, element, progress, stepping, amount, unconditional, named, right, expression, otherwise, level, more, negation, relation, comparison, primary, actuals, actual, further-actuals, Item, program}
 use Rattle.grammar.specs.Trees.{Syn, nil, tok, sub, yield}
 use Rattle.symbols.specs.Spelling.{tokens, text, dress}
@@ -124,7 +124,7 @@ opensCall b c = eqb b (kind Name) && eqb c (kind Open)
 
 -- "a sign that begins a sum (the symbol before it is no name, number, `)`, 'true' or 'false')"
 unfoldable pub endsOperand : ℕ → Bool
-endsOperand a = among a (kind Name ∷ kind (Number 0) ∷ kind Close ∷ kind True ∷ kind False ∷ [])
+endsOperand a = among a (kind Name ∷ kind (Number 0) ∷ kind (Decimal 0) ∷ kind Close ∷ kind True ∷ kind False ∷ [])
 
 unfoldable pub beginsSum : ℕ → ℕ → Bool
 beginsSum a b = among b (kind Plus ∷ kind Minus ∷ []) && not (endsOperand a)

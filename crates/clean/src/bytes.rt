@@ -5,9 +5,10 @@ use symbols::text::is_name_byte;
 ghost use mathlib.Core.Path.{_≡_};
 ghost use mathlib.Core.Bool.{cond, _||_};
 ghost use mathlib.Core.List.{[], _∷_};
-ghost use Prim.Native.Nat.{_+_, _<_, _≤_};
+ghost use Prim.Native.Nat.{_+_, _*_, _<_, _≤_};
 ghost use lib.ListN.{length, drop, replicate};
-ghost use Rattle.symbols.specs.Names.{these, blank};
+ghost use Rattle.symbols.specs.Names.{these, reach, decimals, digit, blank};
+ghost use Rattle.symbols.specs.Spelling.{withDecimals};
 ghost use Rattle.clean.specs.model.Bytes.{Puts, sortOf, most};
 
 // One byte.
@@ -94,4 +95,42 @@ pub fn letters(page: &mut [u8], at: usize, source: &[u8], from: usize, name: boo
         i += 1;
     }
     to
+}
+
+// Where the digits end that stand at a place of the source, blanks among them passed over.
+fn digits_end(source: &[u8], from: usize) -> usize
+    ensures { λ r. ⌜ r ≡ from + reach digit (drop from (now (source .entry))) ⌝ }
+{
+    let mut i = from;
+    while i < source.len() {
+        if !goes_on(source[i], false) {
+            return i;
+        }
+        i += 1;
+    }
+    i
+}
+
+// The digits behind the point at a place of the source; none where no point stands there.
+fn behind_point(page: &mut [u8], at: usize, source: &[u8], dot: usize) -> usize
+    requires { ⌜ at + length (now source) < most ⌝ }
+    ensures { λ r. ⌜ Puts (now (page .entry)) (now (page .exit)) at r (decimals (drop dot (now (source .entry)))) ⌝ }
+{
+    if source.len() <= dot {
+        return at;
+    }
+    if source[dot] == 46 {
+        return letters(page, at, source, dot + 1, false);
+    }
+    at
+}
+
+// The number with a point that stands at a place of the source: its digits, the point and the digits behind it.
+pub fn decimal(page: &mut [u8], at: usize, source: &[u8], from: usize) -> usize
+    requires { ⌜ at + 1 + 2 * length (now source) < most ⌝ }
+    ensures { λ r. ⌜ Puts (now (page .entry)) (now (page .exit)) at r (withDecimals (drop from (now (source .entry)))) ⌝ }
+{
+    let front = letters(page, at, source, from, false);
+    let to = put(page, front, 46);
+    behind_point(page, to, source, digits_end(source, from))
 }

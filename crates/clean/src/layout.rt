@@ -15,7 +15,7 @@ ghost use Rattle.clean.specs.House.{tight as tightOf, endsOperand, close
 ghost use Rattle.clean.specs.model.Bytes.{Puts, most, AllKinds};
 ghost use Rattle.clean.specs.model.Pen.{gapOf, writtenOf, Small};
 
-// A name, a number, `)` or a logical value: a sign that follows it does not begin a sum.
+// A name, a number, with a point or without, `)` or a logical value: a sign that follows it does not begin a sum.
 fn ends_operand(kind: u8) -> bool
     ensures { λ r. ⌜ r ≡ endsOperand kind ⌝ }
 {
@@ -23,6 +23,9 @@ fn ends_operand(kind: u8) -> bool
         return true;
     }
     if kind == kinds::NUMBER {
+        return true;
+    }
+    if kind == kinds::DECIMAL {
         return true;
     }
     if kind == kinds::CLOSE {

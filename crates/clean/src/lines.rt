@@ -128,7 +128,7 @@ fn passed(mut s: State, kind: u8) -> State
     s
 }
 
-// 'value', 'integer' or 'Boolean' goes on with a heading.
+// 'value', 'integer', 'Boolean' or 'real' goes on with a heading.
 fn headed(kind: u8) -> bool
     ensures { λ r. ⌜ r ≡ headedOf kind ⌝ }
 {
@@ -138,7 +138,10 @@ fn headed(kind: u8) -> bool
     if kind == kinds::INTEGER {
         return true;
     }
-    kind == kinds::BOOLEAN
+    if kind == kinds::BOOLEAN {
+        return true;
+    }
+    kind == kinds::REAL
 }
 
 // Behind a `;` of a heading: the next part of it, or the body.

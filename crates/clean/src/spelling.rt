@@ -1,9 +1,10 @@
 // The house spelling: a word in apostrophes, a sign, a name or number without blanks.
+use crate::bytes::decimal;
 use crate::bytes::letters;
 use crate::bytes::word;
 use answers::Place;
 use symbols::kinds;
-ghost use Prim.Native.Nat.{_+_, _<_, _≤_};
+ghost use Prim.Native.Nat.{_+_, _*_, _<_, _≤_};
 ghost use lib.ListN.{length};
 ghost use Rattle.clean.specs.model.Bytes.{Puts, most, spellingAt, wordAt};
 
@@ -72,9 +73,21 @@ fn sign(page: &mut [u8], at: usize, kind: u8) -> usize
     }
 }
 
+// 'real' and `/`; a number with a point.
+fn of_reals(page: &mut [u8], at: usize, source: &[u8], kind: u8, place: Place) -> usize
+    requires { ⌜ (at + 16 + 2 * length (now source) < most) × (40 ≤ kind) × (kind < 43) ⌝ }
+    ensures { λ r. ⌜ Puts (now (page .entry)) (now (page .exit)) at r (spellingAt (now (source .entry)) kind (place .at)) ⌝ }
+{
+    match kind {
+        kinds::REAL => word(page, at, b"'real'"),
+        kinds::SLASH => word(page, at, b"/"),
+        _ => decimal(page, at, source, place.at),
+    }
+}
+
 // The symbol of a kind that stands at a place of the source.
 pub fn spelled(page: &mut [u8], at: usize, source: &[u8], kind: u8, place: Place) -> usize
-    requires { ⌜ (at + 16 + length (now source) < most) × (kind < 40) ⌝ }
+    requires { ⌜ (at + 16 + 2 * length (now source) < most) × (kind < 43) ⌝ }
     ensures { λ r. ⌜ Puts (now (page .entry)) (now (page .exit)) at r (spellingAt (now (source .entry)) kind (place .at)) ⌝ }
 {
     if kind < 14 {
@@ -86,5 +99,8 @@ pub fn spelled(page: &mut [u8], at: usize, source: &[u8], kind: u8, place: Place
     if kind < 38 {
         return sign(page, at, kind);
     }
-    letters(page, at, source, place.at, kind == kinds::NAME)
+    if kind < 40 {
+        return letters(page, at, source, place.at, kind == kinds::NAME);
+    }
+    of_reals(page, at, source, kind, place)
 }

@@ -32,10 +32,11 @@ pub fn write(source: &[u8], room: &mut [u8]) -> Written
 {
     let mut kinds = [0u8; 2048];
     let mut places = [0usize; 2048];
-    let mut values = [0u32; 2048];
+    let mut values = [0u64; 2048];
     let mut nodes = [0u16; 32768];
     let mut rows = [0u16; 32768];
     let mut uses = [0u16; 8192];
+    let mut marks = [0u16; 2048];
     match find(
         source,
         &mut kinds,
@@ -44,6 +45,7 @@ pub fn write(source: &[u8], room: &mut [u8]) -> Written
         &mut nodes,
         &mut rows,
         &mut uses,
+        &mut marks,
     ) {
         Found::Program(s) => {
             let count = s.symbols;

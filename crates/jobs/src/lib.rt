@@ -49,7 +49,8 @@ pub extern "C" fn deed_write(
     written.answer().number
 }
 
-// Code to a run: the answer's number; its place, the instructions done, the numbers taken and the numbers written.
+// Code to a run: the answer's number; its place, the instructions done, the numbers taken and the numbers written. A cell takes two numbers of the
+// store, an entry three of the output.
 #[no_mangle]
 pub extern "C" fn deed_run(
     code: &[u32],

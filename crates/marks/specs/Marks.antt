@@ -10,9 +10,9 @@ use Rattle.answers.specs.declared.Stop.the-variants.{Ended, Fault}
 use Rattle.symbols.specs.Text.{bytes}
 use Rattle.marks.specs.Rows.{Row, reads, runs}
 
--- a run with no input, all cells and room for 64 numbers
+-- a run with no input, all cells and room for 64 entries
 abbrev run : String → Stop → ℕ → ℕ → List ℤ → Row
-run s q n d o = runs (bytes s) (record { input = []; cells = 8192; space = 64; stop = q; steps = n; done = d; written = o; taken = 0 })
+run s q n d o = runs (bytes s) (record { input = []; cells = 8192; space = 192; stop = q; steps = n; done = d; written = o; taken = 0 })
 
 -- so many levels of 'begin' and 'end', and nothing in them
 unfoldable pub copies : ℕ → String → List ℕ
@@ -25,14 +25,14 @@ nested n = copies n "'begin'" ++ copies n "'end'"
 unfoldable pub marks : List Row
 marks =
     -- M1 to M5
-    run "'begin' outinteger(1, 7 % (-2)) 'end'" Ended 8 7 (negsuc 2 ∷ []) ∷
-    run "'begin' outinteger(1, 8 % 3 % 2) 'end'" Ended 9 8 (pos 1 ∷ []) ∷
-    run "'begin' outinteger(1, 7 - 2 - 1) 'end'" Ended 9 8 (pos 4 ∷ []) ∷
-    run "'begin' outinteger(1, 'if' 'false' 'impl' 'false' 'impl' 'false' 'then' 1 'else' 0) 'end'" Ended 10 10 (pos 0 ∷ []) ∷
-    run "'begin' outinteger(1, (-2147483647 - 1) % (-1)) 'end'" (Fault (refusal 21 40)) 9 8 [] ∷
+    run "'begin' outinteger(1, 7 % (-2)) 'end'" Ended 8 9 (pos 0 ∷ negsuc 2 ∷ pos 0 ∷ []) ∷
+    run "'begin' outinteger(1, 8 % 3 % 2) 'end'" Ended 9 10 (pos 0 ∷ pos 1 ∷ pos 0 ∷ []) ∷
+    run "'begin' outinteger(1, 7 - 2 - 1) 'end'" Ended 9 10 (pos 0 ∷ pos 4 ∷ pos 0 ∷ []) ∷
+    run "'begin' outinteger(1, 'if' 'false' 'impl' 'false' 'impl' 'false' 'then' 1 'else' 0) 'end'" Ended 10 12 (pos 0 ∷ pos 0 ∷ pos 0 ∷ []) ∷
+    run "'begin' outinteger(1, (-2147483647 - 1) % (-1)) 'end'" (Fault (refusal 21 40)) 9 9 [] ∷
     -- M6 and M7
-    run "'begin' 'integer' i; 'for' i := 1 'step' 2 'until' 6 'do' outinteger(1, i); outinteger(1, i) 'end'" Ended 36 53 (pos 1 ∷ pos 3 ∷ pos 5 ∷ pos 7 ∷ []) ∷
-    run "'begin' 'integer' i; 'for' i := 3 'step' -1 'until' 1 'do' outinteger(1, i) 'end'" Ended 36 54 (pos 3 ∷ pos 2 ∷ pos 1 ∷ []) ∷
+    run "'begin' 'integer' i; 'for' i := 1 'step' 2 'until' 6 'do' outinteger(1, i); outinteger(1, i) 'end'" Ended 36 61 (pos 0 ∷ pos 1 ∷ pos 0 ∷ pos 0 ∷ pos 3 ∷ pos 0 ∷ pos 0 ∷ pos 5 ∷ pos 0 ∷ pos 0 ∷ pos 7 ∷ pos 0 ∷ []) ∷
+    run "'begin' 'integer' i; 'for' i := 3 'step' -1 'until' 1 'do' outinteger(1, i) 'end'" Ended 36 60 (pos 0 ∷ pos 3 ∷ pos 0 ∷ pos 0 ∷ pos 2 ∷ pos 0 ∷ pos 0 ∷ pos 1 ∷ pos 0 ∷ []) ∷
     -- M8 and M9: S1 and S2
     reads (bytes "'begin' 'integer' a; a := 1 'end'") Accepted
     (1 ∷ 21 ∷ 1 ∷ 18 ∷
@@ -54,6 +54,6 @@ marks =
     "'begin' 'integer' 'procedure' fact(n); 'value' n; 'integer' n; fact := 'if' n = 0 'then' 1 'else' n * fact(n - 1); outinteger(1, fact(5)) 'end'"
     Ended
     80
-    81
-    (pos 120 ∷ []) ∷
+    90
+    (pos 0 ∷ pos 120 ∷ pos 0 ∷ []) ∷
     []

@@ -23,7 +23,7 @@ use Rattle.vectors.specs.declared.texts.Numeral.{Numeral}
 use Rattle.vectors.specs.declared.tally.Tally.{Tally}
 use Rattle.vectors.specs.Listed.{digits, behind, digitsAt, numberAt, secondLine, runListed, nothing, oneRun, oneSource, onePage, oneList, oneDifference, checked, mostOf, answeredBy, acceptedBy, sameUses, afterRead}
 use Rattle.vectors.specs.Pages.{all, samePage, sameMeanings, numbered, writtenBy, BackTold, AgainTold, afterPage, Turned, unwritten, turned, afterLent, roomListed, ListedTold, unlisted, listed, WriteTold}
-use Rattle.vectors.specs.Ended.{begins, numbers, after, allAre, allWords, stoppedBy, strays, afterSteps, afterWritten, afterTaken, afterPlace, afterStop, afterExit, afterSupplied, afterListed, afterRefused, afterAccepted, afterTranslate}
+use Rattle.vectors.specs.Ended.{begins, numbers, after, allAre, cleared, allWords, stoppedBy, strays, afterSteps, afterWritten, afterTaken, afterPlace, afterStop, afterExit, afterSupplied, afterListed, afterRefused, afterAccepted, afterTranslate}
 use Rattle.vectors.specs.Sent.{saidBy, ListTold, FourTold, OwnTold, refused, accepted as own-accepted, ListsTold, own-alone, and-sent}
 use Rattle.vectors.specs.Counted.{RowTold, Rows, none, more}
 
@@ -77,7 +77,7 @@ stop-keeps r output text from t h =
 
 exit-keeps : (e : Exit) (text : List ℕ) (from : ℕ) (t : Tally) → t .differences ≤ 4294967295 → Kept t (afterExit e text from t)
 exit-keeps e text from t h =
-    let a = check-keeps (allAre (pos 0) (e .store)) t h in
+    let a = check-keeps (cleared (e .store)) t h in
     then a (stop-keeps (e .ran) (e .output) text from _ (a .below))
 
 listed-keeps : (code text : List ℕ) (from : ℕ) (t : Tally) → t .differences ≤ 4294967295 → Kept t (afterListed code text from t)

@@ -16,8 +16,8 @@ use Rattle.answers.specs.Answers.{stopNumber, stopPlace}
 use Rattle.answers.specs.declared.Stop.{Stop}
 use Rattle.clean.specs.declared.Written.{Written}
 use Rattle.clean.specs.Job.{Writes}
-use Rattle.machine.specs.Values.{same}
-use Rattle.machine.proofs.Signed.{same-bits}
+use Rattle.reals.specs.Values.{same}
+use Rattle.reals.proofs.Signed.{same-bits}
 use Rattle.vectors.specs.declared.tally.Tally.{Tally}
 use Rattle.vectors.specs.declared.texts.Numeral.{Numeral}
 use Rattle.vectors.specs.Listed.{numberAt, wholeOf}

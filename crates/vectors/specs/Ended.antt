@@ -1,7 +1,7 @@
 -- What `translate` and `run` answer and leave, against what is listed of a source, as a tally. The second line of a text, unless it is a page's, has: how many inputs, the
 -- inputs, the lengths of store and output, the limit; the answer, its place, how many numbers are taken (negative: not listed), how many are written,
--- those numbers, and the steps (negative: not listed).
-use Prim.Native.Nat.{ℕ, zero, suc, _+_, _*_, min}
+-- those numbers, three an entry, and the steps (negative: not listed).
+use Prim.Native.Nat.{ℕ, zero, suc, _+_, _*_, _/_, min}
 use mathlib.Core.Path.{_≡_}
 use mathlib.Core.Bool.{Bool, true, false, cond, _&&_, _||_}
 use mathlib.Core.List.{List, [], _∷_}
@@ -12,7 +12,7 @@ use Rattle.answers.specs.Numbers.{noInstruction}
 use Rattle.answers.specs.Answers.{stopNumber, stopPlace}
 use Rattle.answers.specs.declared.Stop.{Stop}
 use Rattle.answers.specs.declared.Verdict.{Verdict}
-use Rattle.machine.specs.Values.{same}
+use Rattle.reals.specs.Values.{same}
 use Rattle.machine.specs.Machine.{Exit, job}
 use Rattle.machine.specs.declared.Ran.{Ran}
 use Rattle.translating.specs.Job.{Translates}
@@ -77,31 +77,39 @@ afterPlace r output text answer place t =
 unfoldable pub afterStop : Ran → List ℤ → List ℕ → ℕ → Tally → Tally
 afterStop r output text from t = afterPlace r output text (numberAt text from) (numberAt text (numberAt text from .next)) t
 
--- what a run hands back and leaves: the store is zero
+-- how many of a store's numbers are its cells': a cell "takes two of the store's numbers, so 8,192 cells are 16,384 of them, and an odd last one is unused"
+abbrev pub cellNumbers : List ℤ → ℕ
+cellNumbers store = 2 * min (length store / 2) 8192
+
+-- whether the cells are zero, and the store behind them holds 7 as before
+unfoldable pub cleared : List ℤ → Bool
+cleared store = allAre (pos 0) (take (cellNumbers store) store) && allAre (pos 7) (drop (cellNumbers store) store)
+
+-- what a run hands back and leaves
 abbrev pub afterExit : Exit → List ℕ → ℕ → Tally → Tally
-afterExit e text from t = afterStop (e .ran) (e .output) text from (checked (allAre (pos 0) (e .store)) t)
+afterExit e text from t = afterStop (e .ran) (e .output) text from (checked (cleared (e .store)) t)
 
 -- what is lent: the store holds 7 before, and the output 9
 unfoldable pub freshStore : List ℤ
-freshStore = replicate 8192 (pos 7)
+freshStore = replicate 16386 (pos 7)
 
 unfoldable pub freshOutput : List ℤ
-freshOutput = replicate 512 (pos 9)
+freshOutput = replicate 1536 (pos 9)
 
 -- .. of the listed lengths
 abbrev pub storeOf : Numeral → List ℤ
-storeOf n = take (min (n .value) 8192) freshStore
+storeOf n = take (min (n .value) 16386) freshStore
 
 abbrev pub outputOf : Numeral → List ℤ
-outputOf n = take (min (n .value) 512) freshOutput
+outputOf n = take (min (n .value) 1536) freshOutput
 
 -- the run with these inputs; the two lengths and the limit are listed from a place on
 unfoldable pub afterSupplied : List ℕ → List ℤ → List ℕ → ℕ → Tally → Tally
 afterSupplied code input text from t =
-    let cells : Numeral = numberAt text from in
-    let space : Numeral = numberAt text (cells .next) in
+    let lent : Numeral = numberAt text from in
+    let space : Numeral = numberAt text (lent .next) in
     let limit : Numeral = numberAt text (space .next) in
-    afterExit (job code input (limit .value) (storeOf cells) (outputOf space)) text (limit .next) t
+    afterExit (job code input (limit .value) (storeOf lent) (outputOf space)) text (limit .next) t
 
 -- the run that is listed from a place on, with at most 128 inputs
 unfoldable pub afterListed : List ℕ → List ℕ → ℕ → Tally → Tally

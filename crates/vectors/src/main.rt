@@ -9,7 +9,7 @@ mod texts; // numbers in a text
 mod writes; // the job write
 
 fn main() {
-    let mut buf = io::large_buffer();
+    let mut buf = rows::buffer();
     let n = rows::load(b"index", &mut buf);
     rows::rows(&buf[..n]).show();
 }

@@ -6,6 +6,7 @@ use crate::tally::Tally;
 use crate::tally::print;
 use crate::writes;
 ghost use mathlib.Core.List.{List};
+ghost use mathlib.Core.Path.{_≡_};
 ghost use Prim.Native.Nat.{ℕ, _+_, _/_, _≤_};
 ghost use lib.ListN.{length};
 ghost use Rattle.vectors.specs.Counted.{RowTold, Rows};
@@ -28,8 +29,15 @@ fn name_end(text: &[u8], from: usize) -> usize
     i
 }
 
+// Room for the bytes of a file, of which the index has the most.
+pub fn buffer() -> [u8; 131072]
+    ensures { λ r. ⌜ 131072 ≡ length r ⌝ }
+{
+    [0; 131072]
+}
+
 // The bytes of a file; none, and a word about it, where it is missing.
-pub fn load(name: &[u8], buf: &mut [u8; 65536]) -> usize
+pub fn load(name: &[u8], buf: &mut [u8; 131072]) -> usize
     ensures { λ r. ⌜ r ≤ length (now (buf .exit)) ⌝ }
 {
     let fd = os::open_read(name);
@@ -58,8 +66,8 @@ fn row(t: Tally, index: &[u8], from: usize) -> Tally
     requires { ⌜ from + 49 ≤ length (now index) ⌝ }
     ensures { λ r. ⌜ ((source text : List ℕ) × RowTold source text t r) ⌝ }
 {
-    let mut source = io::large_buffer();
-    let mut text = io::large_buffer();
+    let mut source = buffer();
+    let mut text = buffer();
     let end = name_end(index, from);
     let n = load(&index[from..end], &mut source);
     let last = name_end(index, from + 24);

@@ -1,7 +1,7 @@
 // A source translated and its code run, against a text: `translate` answers as `read` does; a refused source leaves zero words, which are
 // no instruction; and the code of an accepted one runs as the second line says, unless that is a page's. That line has: how many inputs, the inputs, the lengths of
-// store and output, the limit; the answer, its place, how many numbers are taken (-1: not listed), how many are written, those numbers, and
-// the steps (-1: not listed).
+// store and output, the limit; the answer, its place, how many numbers are taken (-1: not listed), how many are written, those numbers, three an
+// entry, and the steps (-1: not listed).
 use crate::reads::accepted;
 use crate::reads::answered;
 use crate::tally::Tally;
@@ -20,11 +20,14 @@ ghost use lib.IntN.{pos};
 ghost use lib.ListN.{length, drop};
 ghost use mathlib.Core.List.{[], _∷_};
 ghost use Rattle.machine.specs.Machine.{job};
-ghost use Rattle.vectors.specs.Ended.{numbers, after, begins, allAre, allWords, afterSteps, afterWritten, afterStop, afterExit, freshStore, freshOutput, afterSupplied, afterListed, strays, afterRefused, TranslateTold};
+ghost use Rattle.vectors.specs.Ended.{numbers, after, begins, allAre, cleared, allWords, afterSteps, afterWritten, afterStop, afterExit, freshStore, freshOutput, afterSupplied, afterListed, strays, afterRefused, TranslateTold};
 ghost use Rattle.vectors.specs.Listed.{numberAt};
 
 // The words that are lent hold this before, and the words behind the first 16,384 afterwards.
 const BEFORE: u32 = 7;
+
+// The numbers of the store hold this before, and those behind its cells afterwards.
+const UNUSED: i64 = 7;
 
 // The numbers of the output hold this before, and those behind the written ones afterwards.
 const UNWRITTEN: i32 = 9;
@@ -57,6 +60,27 @@ fn all_zero(store: &[i64]) -> bool
         i += 1;
     }
     true
+}
+
+fn unused(store: &[i64], from: usize) -> bool
+    ensures { λ r. ⌜ r ≡ allAre (pos 7) (drop from (now (store .entry))) ⌝ }
+{
+    let mut i = from;
+    while i < store.len() {
+        if store[i] != UNUSED {
+            return false;
+        }
+        i += 1;
+    }
+    true
+}
+
+// Whether the cells, two numbers each and at most 8,192, are zero, and the store behind them is as before.
+fn is_cleared(store: &[i64]) -> bool
+    ensures { λ r. ⌜ r ≡ cleared (now (store .entry)) ⌝ }
+{
+    let n = 2 * clipped((store.len() / 2) as u64, 8192);
+    all_zero(&store[..n]) && unused(store, n)
 }
 
 fn untouched(output: &[i32], from: usize) -> bool
@@ -223,7 +247,11 @@ fn ran(
     ensures { λ r. ⌜ r ≡ afterExit (job (now (code .entry)) (now (input .entry)) limit (now (store .entry)) (now (output .entry))) (now (text .entry)) from t ⌝ }
 {
     let r = run(code, input, limit, store, output);
-    let told = t.check(all_zero(store), name, b"a store number is left");
+    let told = t.check(
+        is_cleared(store),
+        name,
+        b"a cell is left, or the store behind the cells is not as before",
+    );
     stopped(told, name, r, output, text, from)
 }
 
@@ -233,16 +261,16 @@ fn fresh_input() -> [i32; 128]
     [0; 128]
 }
 
-fn fresh_store() -> [i64; 8192]
+fn fresh_store() -> [i64; 16386]
     ensures { λ r. ⌜ r ≡ freshStore ⌝ }
 {
-    [7; 8192]
+    [UNUSED; 16386]
 }
 
-fn fresh_output() -> [i32; 512]
+fn fresh_output() -> [i32; 1536]
     ensures { λ r. ⌜ r ≡ freshOutput ⌝ }
 {
-    [UNWRITTEN; 512]
+    [UNWRITTEN; 1536]
 }
 
 // A run with as many inputs as there is room for, the first one listed at `from`.
@@ -262,15 +290,15 @@ fn supplied(
     let length = number_at(text, next);
     let space = number_at(text, length.next);
     let limit = number_at(text, space.next);
-    let cells = clipped(length.value, 8192);
-    let room = clipped(space.value, 512);
+    let lent = clipped(length.value, 16386);
+    let room = clipped(space.value, 1536);
     ran(
         t,
         name,
         code,
         input,
         limit.value,
-        &mut store[..cells],
+        &mut store[..lent],
         &mut output[..room],
         text,
         limit.next,

@@ -35,7 +35,7 @@ wordAt k = wordFor words (symbolOf k 0) (signFor signs (symbolOf k 0))
 -- the numbers are kinds
 abbrev pub AllKinds : List ℕ → Type 0
 AllKinds [] = Unit {0}
-AllKinds (k ∷ ks) = (k < 40) × AllKinds ks
+AllKinds (k ∷ ks) = (k < 43) × AllKinds ks
 
 -- the arrays in which the symbols of a source stand
 pub record Lendable (source kinds : List ℕ) : Type 0 where

@@ -5,7 +5,7 @@ use mathlib.Core.Bool.{Bool, true, false, cond, _||_}
 use mathlib.Core.List.{List, [], _∷_}
 use lib.Dec.{eqb}
 use Rattle.symbols.specs.Symbols.{kind}
-use Rattle.symbols.specs.declared.Symbol.the-variants.{Begin, End, If, Then, Else, Do, Integer, Boolean, Procedure, Value, Colon, Semicolon}
+use Rattle.symbols.specs.declared.Symbol.the-variants.{Begin, End, If, Then, Else, Do, Integer, Boolean, Procedure, Value, Colon, Semicolon, Real}
 use Rattle.clean.specs.House.{Mark, line, symbol}
 
 -- what is open: a block whose 'begin' is at the level u, as suc u; a procedure body, as 0
@@ -28,9 +28,9 @@ abbrev pub peek : List ℕ → ℕ
 peek [] = kind Colon
 peek (k ∷ ks) = k
 
--- 'value', 'integer' or 'Boolean' goes on with a heading
+-- 'value', 'integer', 'Boolean' or 'real' goes on with a heading
 abbrev pub headed : ℕ → Bool
-headed k = eqb k (kind Value) || eqb k (kind Integer) || eqb k (kind Boolean)
+headed k = eqb k (kind Value) || eqb k (kind Integer) || eqb k (kind Boolean) || eqb k (kind Real)
 
 -- v: the level of the statement or declaration; st: what is open; x: how many conditional expressions wait for their 'else'; h: inside a heading;
 -- f: a statement or declaration begins here

@@ -23,7 +23,11 @@ returns-4 c = simp (ne-eqb _ _ (c .before .before .before .if1 .left), ne-eqb _ 
 
 returns-5 : tie.Need-returns-5
 unfolding endsOperand
-returns-5 c = rw (ne-eqb _ _ (c .before .before .before .if1 .left), ne-eqb _ _ (c .before .before .if2 .left), ne-eqb _ _ (c .before .if3 .left), ne-eqb _ _ (c .if4 .left)) (or-false _)
+returns-5 c = simp (ne-eqb _ _ (c .before .before .before .before .if1 .left), ne-eqb _ _ (c .before .before .before .if2 .left), ne-eqb _ _ (c .before .before .if3 .left), ne-eqb _ _ (c .before .if4 .left), c .if5 .taken)
+
+returns-6 : tie.Need-returns-6
+unfolding endsOperand
+returns-6 c = rw (ne-eqb _ _ (c .before .before .before .before .if1 .left), ne-eqb _ _ (c .before .before .before .if2 .left), ne-eqb _ _ (c .before .before .if3 .left), ne-eqb _ _ (c .before .if4 .left), ne-eqb _ _ (c .if5 .left)) (or-false _)
 
 pub ends-operand-spec : {M : Type 1} → statement M
-ends-operand-spec = tie.close (tie.spec returns returns-2 returns-3 returns-4 returns-5)
+ends-operand-spec = tie.close (tie.spec returns returns-2 returns-3 returns-4 returns-5 returns-6)

@@ -1,6 +1,6 @@
 -- `vectors::lists::long` meets its contract. A number of 32 bits is the same in 64. Assumes nothing.
 use mir.Syntax.{w32, w64}
-use Rattle.machine.proofs.Signed.{wide-same, wide-fits}
+use Rattle.reals.proofs.Signed.{wide-same, wide-fits}
 use Rattle.vectors.proofs.lists.long.Statement.{statement}
 use Rattle.vectors.proofs.lists.long.Tie as tie
 

@@ -6,11 +6,11 @@ use borrow.Author.Needs.{needs}
 use Rattle.vectors.proofs.rows.row.Statement.{statement}
 use Rattle.vectors.proofs.rows.row.Tie as tie
 
-large-buffer-requires : tie.Need-large-buffer-requires
-large-buffer-requires c κs = search needs
+buffer-requires : tie.Need-buffer-requires
+buffer-requires c κs = search needs
 
-large-buffer-requires-2 : tie.Need-large-buffer-requires-2
-large-buffer-requires-2 c κs = search needs
+buffer-requires-2 : tie.Need-buffer-requires-2
+buffer-requires-2 c κs = search needs
 
 name-end-requires : tie.Need-name-end-requires
 name-end-requires c κs = search needs
@@ -83,8 +83,8 @@ pub row-spec : {M : Type 1} → statement M
 row-spec =
     tie.close
     (tie.spec
-    large-buffer-requires
-    large-buffer-requires-2
+    buffer-requires
+    buffer-requires-2
     name-end-requires
     sub-load
     part-load-start

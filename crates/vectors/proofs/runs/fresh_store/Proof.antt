@@ -1,4 +1,4 @@
--- `vectors::runs::fresh_store` meets its contract. Each cell holds 7.
+-- `vectors::runs::fresh_store` meets its contract. Each number is 7.
 -- Assumes nothing.
 use mathlib.Core.Path.{refl}
 use Rattle.vectors.specs.Ended.{freshStore}

@@ -8,8 +8,8 @@ use lib.IntN.{ℤ, pos}
 use lib.ListN.{length, getD, drop, drop-of-length-le}
 use lib.Seq.{drop-cons}
 use mir.Syntax.{w32}
-use Rattle.machine.specs.Values.{same}
-use Rattle.machine.proofs.Signed.{same-bits}
+use Rattle.reals.specs.Values.{same}
+use Rattle.reals.proofs.Signed.{same-bits}
 use Rattle.vectors.specs.Ended.{begins}
 use Rattle.vectors.proofs.Laws.{and-true}
 use borrow.Author.Needs.{needs}

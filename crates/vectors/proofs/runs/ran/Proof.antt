@@ -4,18 +4,18 @@ use mathlib.Core.Path.{_≡_, ap, _∙_}
 use mathlib.Core.Bool.{Bool}
 use mathlib.Core.List.{List}
 use Prim.Native.Nat.{ℕ}
-use lib.IntN.{ℤ, pos}
+use lib.IntN.{ℤ}
 use Rattle.machine.specs.Machine.{Exit, exit, job}
 use Rattle.machine.specs.declared.Ran.{Ran}
 use Rattle.vectors.specs.declared.tally.Tally.{Tally}
 use Rattle.vectors.specs.Listed.{checked}
-use Rattle.vectors.specs.Ended.{allAre, afterStop, afterExit}
+use Rattle.vectors.specs.Ended.{cleared, afterStop, afterExit}
 use borrow.Author.Needs.{needs}
 use Rattle.vectors.proofs.runs.ran.Statement.{statement}
 use Rattle.vectors.proofs.runs.ran.Tie as tie
 
 compared : (e : Exit) (text : List ℕ) (from : ℕ) (t k u : Tally) (r : Ran) (s o : List ℤ) (z : Bool)
-    → exit r s o ≡ e → z ≡ allAre (pos 0) s → k ≡ checked z t → u ≡ afterStop r o text from k → u ≡ afterExit e text from t
+    → exit r s o ≡ e → z ≡ cleared s → k ≡ checked z t → u ≡ afterStop r o text from k → u ≡ afterExit e text from t
 compared e text from t k u r s o z e1 e2 e3 e4 =
     let f : u ≡ afterExit (exit r s o) text from t = cc in
     f ∙ ap (λ (x : Exit). afterExit x text from t) e1
@@ -23,8 +23,8 @@ compared e text from t k u r s o z e1 e2 e3 e4 =
 run-requires : tie.Need-run-requires
 run-requires c κs = search needs
 
-all-zero-requires : tie.Need-all-zero-requires
-all-zero-requires c κs = search needs
+is-cleared-requires : tie.Need-is-cleared-requires
+is-cleared-requires c κs = search needs
 
 slice-aggregate-check : tie.Need-slice-aggregate-check
 slice-aggregate-check c = search needs
@@ -44,15 +44,15 @@ same-length-2 c = search needs
 returns : tie.Need-returns
 returns c =
     let a = c .before .before .before .before .before .before .before .before .before .before .before .before .before .before .args in
-    compared (job (a .code .now) (a .input .now) (a .limit) (a .store .now) (a .output .now)) (a .text .now) (a .from) (a .t) (c .before .before .check .result) (c .stopped .result) (c .before .before .before .before .before .before .before .before .run .result) _ _ (c .before .before .before .before .all-zero .result)
-    (c .before .before .before .before .before .before .before .before .run .ensures) (c .before .before .before .before .all-zero .ensures) (c .before .before .check .ensures) (c .stopped .ensures)
+    compared (job (a .code .now) (a .input .now) (a .limit) (a .store .now) (a .output .now)) (a .text .now) (a .from) (a .t) (c .before .before .check .result) (c .stopped .result) (c .before .before .before .before .before .before .before .before .run .result) _ _ (c .before .before .before .before .is-cleared .result)
+    (c .before .before .before .before .before .before .before .before .run .ensures) (c .before .before .before .before .is-cleared .ensures) (c .before .before .check .ensures) (c .stopped .ensures)
 
 pub ran-spec : {M : Type 1} → statement M
 ran-spec =
     tie.close
     (tie.spec
     run-requires
-    all-zero-requires
+    is-cleared-requires
     slice-aggregate-check
     check-requires
     stopped-requires

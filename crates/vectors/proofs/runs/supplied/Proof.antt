@@ -21,8 +21,8 @@ in-turn : (code text : List ℕ) (count from : ℕ) (t u : Tally) (next p q : �
     → x ≡ numberAt text next
     → y ≡ numberAt text (x .next)
     → z ≡ numberAt text (y .next)
-    → p ≡ min (x .value) 8192
-    → q ≡ min (y .value) 512
+    → p ≡ min (x .value) 16386
+    → q ≡ min (y .value) 1536
     → store ≡ freshStore
     → output ≡ freshOutput
     → u ≡ afterExit (job code input (z .value) (take p store) (take q output)) text (z .next) t
