@@ -64,13 +64,13 @@ pub sizes-cells : (l c o : ℕ) → 8192 < c → together (some l) (some c) (som
 unfolding together
 sizes-cells l c o h = rw (lt-leb c 8192 h)
 
-pub sizes-room : (l c o : ℕ) → 65536 < o → together (some l) (some c) (some o) ≡ Not
+pub sizes-room : (l c o : ℕ) → 196608 < o → together (some l) (some c) (some o) ≡ Not
 unfolding together
-sizes-room l c o h = rw (lt-leb o 65536 h, and-false (leb c 8192))
+sizes-room l c o h = rw (lt-leb o 196608 h, and-false (leb c 8192))
 
-pub sizes-are : (l c o : ℕ) → c ≤ 8192 → o ≤ 65536 → together (some l) (some c) (some o) ≡ Are (record { limit = l; cells = c; room = o })
+pub sizes-are : (l c o : ℕ) → c ≤ 8192 → o ≤ 196608 → together (some l) (some c) (some o) ≡ Are (record { limit = l; cells = c; room = o })
 unfolding together
-sizes-are l c o h k = rw (le-leb c 8192 h, le-leb o 65536 k)
+sizes-are l c o h k = rw (le-leb c 8192 h, le-leb o 196608 k)
 
 -- ---- words behind options
 

@@ -116,7 +116,7 @@ job-other = refl
 abbrev sizesIn : String → Asked
 sizesIn t = sizesOf (asked (wordsOf (line t)))
 
-pub usual-sizes : sizesIn "a 1200 25" ≡ Are (record { limit = 1000000; cells = 8192; room = 65536 })
+pub usual-sizes : sizesIn "a 1200 25" ≡ Are (record { limit = 1000000; cells = 8192; room = 196608 })
 unfolding sizesOf together optionOf firstNumber naturalOf spelled digits digit valueFrom asked equal cut ended unblanked blank
 usual-sizes = refl
 

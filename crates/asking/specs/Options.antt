@@ -36,15 +36,15 @@ optionOf name usual (w ∷ ws) = cond (equal w name) (firstNumber ws) (optionOf 
 
 -- ---- the three sizes
 
--- instructions, cells and room, where all are numbers, the cells at most 8,192 and the room at most 65,536
+-- instructions, cells and room, where all are numbers, the cells at most 8,192 and the room at most 196,608
 unfoldable pub together : Option ℕ → Option ℕ → Option ℕ → Asked
 together none c o = Not
 together (some l) none o = Not
 together (some l) (some c) none = Not
-together (some l) (some c) (some o) = cond (leb c 8192 && leb o 65536) (Are (record { limit = l; cells = c; room = o })) Not
+together (some l) (some c) (some o) = cond (leb c 8192 && leb o 196608) (Are (record { limit = l; cells = c; room = o })) Not
 
 unfoldable pub sizesOf : List (List ℕ) → Asked
-sizesOf ws = together (optionOf (bytes "-l") 1000000 ws) (optionOf (bytes "-c") 8192 ws) (optionOf (bytes "-o") 65536 ws)
+sizesOf ws = together (optionOf (bytes "-l") 1000000 ws) (optionOf (bytes "-c") 8192 ws) (optionOf (bytes "-o") 196608 ws)
 
 -- ---- words behind options
 

@@ -8,13 +8,13 @@ ghost use Rattle.asking.specs.Numerals.{naturalIs};
 ghost use Rattle.asking.specs.Words.{askedFrom};
 ghost use Rattle.asking.specs.Options.{firstNumber, optionOf, together, sizesOf};
 
-// Instructions at most, cells and room for numbers written, where nothing else is asked. No more cells and no more room
+// Instructions at most, cells and room for numbers written, three an entry, where nothing else is asked. No more cells and no more room
 // can be asked.
 const LIMIT: u64 = 1000000;
 
 const CELLS: u64 = 8192;
 
-const ROOM: u64 = 65536;
+const ROOM: u64 = 196608;
 
 pub struct Sizes {
     pub limit: u64,

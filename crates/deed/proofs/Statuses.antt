@@ -2,7 +2,7 @@
 use mathlib.Core.Path.{_≡_, refl, sym, ap, _∙_}
 use mathlib.Core.Bool.{Bool, true, false}
 use mathlib.Core.List.{List}
-use Prim.Native.Nat.{ℕ, _≤_, min}
+use Prim.Native.Nat.{ℕ, _*_, _/_, _≤_, min}
 use native.Mathlib.Omega.{arith}
 use lib.Dec.{leb}
 use lib.IntN.{ℤ}
@@ -22,7 +22,7 @@ use Rattle.checking.specs.declared.Checked.the-variants.{Yes, Refused as Unchec
 use Rattle.clean.specs.declared.Written.{Written}
 use Rattle.clean.specs.declared.Written.the-variants.{Text, Refused as Unwritten}
 use Rattle.machine.specs.declared.Ran.{Ran}
-use Rattle.machine.specs.Machine.{Finish, onCode, Exit, exit, afterwards, job}
+use Rattle.machine.specs.Machine.{Finish, onCode, used, Exit, exit, afterwards, job}
 use Rattle.deed.specs.Status.{bad, nothing, ofVerdict, ofWritten, ofChecked, ofStop, ofRun, Told, WriteStatus, CheckStatus, ByWords, SentStatus, RunStatus}
 
 -- ---- what the machine was lent
@@ -46,22 +46,26 @@ length-least : (n k : ℕ) (l : List ℤ) → k ≡ min n (length l) → length 
 length-least n k l e = length-take-le k l (omega arith) ∙ e
 
 module _ (code : List ℕ) (input store output : List ℤ) (count limit cells space : ℕ) where
-  pub ran-stop : (n k m : ℕ) (r : Ran) (s o : List ℤ) → n ≡ min count (length input) → k ≡ min cells (length store) → m ≡ min space (length output)
-      → exit r s o ≡ job code (take n input) limit (take k store) (take m output)
-      → r .stop ≡ onCode code (take count input) limit (min 8192 (min cells (length store))) (min space (length output)) .stop
+  -- the cells of the first 2 · cells numbers
+  used-least : (k : ℕ) → k ≡ min (2 * min cells 8192) (length store) → used (take k store) ≡ min 8192 (min cells (length store / 2))
+  used-least k b = let e : length (take k store) ≡ k = length-take-le k store (omega arith) in omega arith
+
+  pub ran-stop : (n k m : ℕ) (r : Ran) (s o : List ℤ) → n ≡ min count (length input) → k ≡ min (2 * min cells 8192) (length store)
+      → m ≡ min space (length output) → exit r s o ≡ job code (take n input) limit (take k store) (take m output)
+      → r .stop ≡ onCode code (take count input) limit (min 8192 (min cells (length store / 2))) (min space (length output)) .stop
   unfolding afterwards
   ran-stop n k m r s o a b d e =
       ap (λ (x : Exit). x .ran .stop) e
-      ∙ ap (λ (x : List ℤ). onCode code x limit (min 8192 (length (take k store))) (length (take m output)) .stop) (take-least count n input a)
-      ∙ ap (λ (x : ℕ). onCode code (take count input) limit (min 8192 x) (length (take m output)) .stop) (length-least cells k store b)
-      ∙ ap (λ (x : ℕ). onCode code (take count input) limit (min 8192 (min cells (length store))) x .stop) (length-least space m output d)
+      ∙ ap (λ (x : List ℤ). onCode code x limit (used (take k store)) (length (take m output)) .stop) (take-least count n input a)
+      ∙ ap (λ (x : ℕ). onCode code (take count input) limit x (length (take m output)) .stop) (used-least k b)
+      ∙ ap (λ (x : ℕ). onCode code (take count input) limit (min 8192 (min cells (length store / 2))) x .stop) (length-least space m output d)
 
-  pub run-told : (s : ℕ) (q : Stop) → length store ≡ 8192 → length output ≡ 65536 → s ≡ ofStop q
-      → q ≡ onCode code input limit (min 8192 (min cells (length store))) (min space (length output)) .stop
-      → s ≡ ofStop (onCode code input limit (min cells 8192) (min space 65536) .stop)
+  pub run-told : (s : ℕ) (q : Stop) → length store ≡ 16384 → length output ≡ 196608 → s ≡ ofStop q
+      → q ≡ onCode code input limit (min 8192 (min cells (length store / 2))) (min space (length output)) .stop
+      → s ≡ ofStop (onCode code input limit (min cells 8192) (min space 196608) .stop)
   run-told s q a b e h =
-      let f : min 8192 (min cells (length store)) ≡ min cells 8192 = omega arith in
-      let g : min space (length output) ≡ min space 65536 = omega arith in
+      let f : min 8192 (min cells (length store / 2)) ≡ min cells 8192 = omega arith in
+      let g : min space (length output) ≡ min space 196608 = omega arith in
       e ∙ ap ofStop (h ∙ ap (λ (x : ℕ). onCode code input limit x (min space (length output)) .stop) f ∙ ap (λ (x : ℕ). onCode code input limit (min cells 8192) x .stop) g)
 
 -- ---- what translate answered

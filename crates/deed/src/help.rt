@@ -49,7 +49,8 @@ pub fn help() {
   deed run FILE [-l LIMIT] [-c CELLS] [-o ROOM] [-] NUMBER ..
                     runs the program on these numbers, and behind them, where - stands, on those of
                     standard input; at most LIMIT instructions (1000000), CELLS cells (8192, the most)
-                    and ROOM numbers written (65536, the most)
+                    and ROOM numbers written, three an output (196608, the most); a real is shown with the
+                    fewest digits that give it back
   deed do FILE      the commands that FILE holds, one a line, each shown before what it gives
   deed help         these lines
 
@@ -60,7 +61,8 @@ was refused, stopped or wrong, and 2 where nothing was done; of do the greatest 
 
 With --plain, read, uses and run give other programs one line of numbers: the answer and its place in
 bytes from 0; for uses then the words of the use section, which are the number of uses and three numbers
-a use; for run then instructions done, numbers taken, numbers written and the numbers written themselves.
+a use; for run then instructions done, numbers taken, numbers written and the numbers written themselves,
+three an output: 0, the whole number and 0, or 1 and the two halves of a real's bits, the lower one first.
 write gives such a line of three numbers, answer, place and length of the text, and behind it the text.
 check gives 0 for a list that is right, 1, number and place for a refusal, and 2 and the index for a wrong word.
 ",

@@ -190,7 +190,7 @@ fn run_next(line: &[u8], at: usize) -> u8
 {
     let Asked::Are(sizes) = sizes_of(line, at) else {
         misused(
-            b"-l, -c and -o want a number, -c at most 8192, -o at most 65536",
+            b"-l, -c and -o want a number, -c at most 8192, -o at most 196608",
             b"",
         );
         return status::NOTHING;

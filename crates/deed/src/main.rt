@@ -17,6 +17,7 @@ mod files; // files and arguments
 mod given; // the numbers of a run
 mod help; // what the tool says of itself
 mod jobs; // what is done for a line
+mod outputs; // what a run wrote
 mod running; // deed run
 mod status; // how it ended, for a script
 mod writing; // deed write

@@ -1,32 +1,23 @@
 // A run of a source, and its answer shown.
+use crate::outputs::say_numbers;
+use crate::outputs::show_entries;
 use crate::status;
 use answers::Stop;
 use answers::Verdict;
 use asking::sizes::Sizes;
 use machine::Ran;
+use machine::bounds::CELLS;
 use showing::text::least;
 use showing::text::say;
 use showing::text::say_number;
-use showing::text::say_whole;
 use showing::words::show_answer;
 use showing::words::show_placeless;
 use translating::translating::translate;
 ghost use mathlib.Core.Path.{_≡_};
-ghost use Prim.Native.Nat.{min};
+ghost use Prim.Native.Nat.{_*_, _/_, min};
 ghost use lib.ListN.{length, take};
 ghost use Rattle.machine.specs.Machine.{onCode};
 ghost use Rattle.deed.specs.Status.{ofStop, RunStatus};
-
-// The outputs, each between two texts.
-fn show_output(before: &[u8], output: &[i32], after: &[u8]) {
-    let mut i: usize = 0;
-    while i < output.len() {
-        say(before);
-        say_whole(output[i] as i64);
-        say(after);
-        i += 1;
-    }
-}
 
 fn show_counts(ran: Ran) {
     say(b"instructions done: ");
@@ -61,7 +52,7 @@ fn show_plain(answer: u16, place: usize, done: u64, taken: usize, written: usize
     say_number(taken as u64);
     say(b" ");
     say_number(written as u64);
-    show_output(b" ", output, b"");
+    say_numbers(output);
     say(b"\n");
 }
 
@@ -84,10 +75,17 @@ fn show_ran(name: &[u8], source: &[u8], plain: bool, ran: Ran, output: &[i32]) -
         );
         return status::of_stop(stop);
     }
-    show_output(b"", wrote, b"\n");
+    show_entries(wrote);
     show_end(name, source, stop);
     show_counts(ran);
     status::of_stop(stop)
+}
+
+// How many numbers of a store are lent for so many cells, which take two each, where there are no more than `all`.
+fn numbers_for(cells: usize, all: usize) -> usize
+    ensures { λ r. ⌜ r ≡ min (2 * min cells 8192) all ⌝ }
+{
+    least(2 * least(cells, CELLS), all)
 }
 
 // Runs code on the first of some numbers, in no more cells and with no more room than asked.
@@ -99,16 +97,16 @@ fn run_within(
     store: &mut [i64],
     output: &mut [i32],
 ) -> Ran
-    ensures { λ r. ⌜ r .stop ≡ onCode (now (code .entry)) (take count (now (input .entry))) (sizes .limit) (min 8192 (min (sizes .cells) (length (now (store .entry))))) (min (sizes .room) (length (now (output .entry)))) .stop ⌝ }
+    ensures { λ r. ⌜ r .stop ≡ onCode (now (code .entry)) (take count (now (input .entry))) (sizes .limit) (min 8192 (min (sizes .cells) (length (now (store .entry)) / 2))) (min (sizes .room) (length (now (output .entry)))) .stop ⌝ }
 {
     let taken = least(count, input.len());
-    let cells = least(sizes.cells, store.len());
+    let numbers = numbers_for(sizes.cells, store.len());
     let room = least(sizes.room, output.len());
     machine::run(
         code,
         &input[..taken],
         sizes.limit,
-        &mut store[..cells],
+        &mut store[..numbers],
         &mut output[..room],
     )
 }
@@ -122,10 +120,10 @@ fn run_code(
     count: usize,
     sizes: Sizes,
 ) -> u8
-    ensures { λ r. ⌜ r ≡ ofStop (onCode (now (code .entry)) (take count (now (input .entry))) (sizes .limit) (min (sizes .cells) 8192) (min (sizes .room) 65536) .stop) ⌝ }
+    ensures { λ r. ⌜ r ≡ ofStop (onCode (now (code .entry)) (take count (now (input .entry))) (sizes .limit) (min (sizes .cells) 8192) (min (sizes .room) 196608) .stop) ⌝ }
 {
-    let mut store = [0i64; 8192];
-    let mut output = [0i32; 65536];
+    let mut store = [0i64; 16384];
+    let mut output = [0i32; 196608];
     let ran = run_within(code, input, count, sizes, &mut store, &mut output);
     show_ran(name, source, plain, ran, &output)
 }
@@ -139,7 +137,7 @@ pub fn run_source(
     count: usize,
     sizes: Sizes,
 ) -> u8
-    ensures { λ r. ⌜ RunStatus (now (source .entry)) (take count (now (input .entry))) (sizes .limit) (min (sizes .cells) 8192) (min (sizes .room) 65536) r ⌝ }
+    ensures { λ r. ⌜ RunStatus (now (source .entry)) (take count (now (input .entry))) (sizes .limit) (min (sizes .cells) 8192) (min (sizes .room) 196608) r ⌝ }
 {
     let mut code = [0u32; 16384];
     match translate(source, &mut code) {

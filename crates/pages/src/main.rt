@@ -8,6 +8,7 @@ use showing::text::say_number;
 use symbols::Scanned;
 use symbols::Symbol;
 use symbols::kinds::decode;
+use symbols::kinds::unpack;
 use symbols::scanning::scan;
 use syntax::parse;
 ghost use Prim.Native.Nat.{_+_, _<_, _≤_};
@@ -16,11 +17,22 @@ ghost use lib.ListN.{length};
 // A row of `index`: a name of 24 bytes, an answer of 3 digits, a place or count of 6.
 const ROW: usize = 36;
 
+// A number with a point: its digits as one whole number, over ten to the power of how many stand behind the point.
+fn say_decimal(word: u64) {
+    let u = unpack(word);
+    say_number(u.digits);
+    say(b" / 10^");
+    say_number(u.behind as u64);
+}
+
 // A symbol's text: a name's letters stand in the source, a number's value beside its kind, and the others here, a line a kind.
-fn say_symbol(source: &[u8], kind: u8, value: u32, at: usize) {
+fn say_symbol(source: &[u8], kind: u8, value: u64, at: usize) {
     match decode(kind, value) {
         Symbol::Name => say_name(source, at),
-        Symbol::Number(v) => say_number(v as u64),
+        Symbol::Number(v) => say_number(v),
+        Symbol::Decimal(w) => say_decimal(w),
+        Symbol::Real => say(b"'real'"),
+        Symbol::Slash => say(b"/"),
         _ => say_nth(
             b"'begin'
 'end'
@@ -65,7 +77,7 @@ fn say_symbol(source: &[u8], kind: u8, value: u32, at: usize) {
     }
 }
 
-fn show_symbol(source: &[u8], kind: u8, value: u32, at: usize) {
+fn show_symbol(source: &[u8], kind: u8, value: u64, at: usize) {
     say_number(at as u64);
     say(b" ");
     say_symbol(source, kind, value, at);
@@ -77,7 +89,7 @@ fn show_symbols(
     n: usize,
     kinds: &[u8; 2048],
     places: &[usize; 2048],
-    values: &[u32; 2048],
+    values: &[u64; 2048],
 ) {
     let mut i = 0;
     while i < n {
@@ -137,7 +149,7 @@ fn tell(source: &[u8], shown: bool) -> Told {
     }
     let mut kinds = [0u8; 2048];
     let mut places = [0usize; 2048];
-    let mut values = [0u32; 2048];
+    let mut values = [0u64; 2048];
     match scan(source, 2048, &mut kinds, &mut places, &mut values) {
         Scanned::Read(n) => {
             say_number(n as u64);

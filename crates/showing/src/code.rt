@@ -1,4 +1,5 @@
 // The translation, instruction by instruction, in the words of docs/MACHINE.md.
+use crate::text::least;
 use crate::text::say;
 use crate::text::say_blanks;
 use crate::text::say_nth;
@@ -7,6 +8,7 @@ use crate::text::say_spot;
 use machine::bounds;
 use machine::codes;
 use machine::operands::FOUND_OFFSET;
+use machine::operands::TEN_BITS;
 use machine::operands::high;
 use machine::operands::low;
 use machine::operands::mid;
@@ -61,7 +63,12 @@ SEEK
 PASS
 LEND
 REFUSE
-CHANNEL",
+CHANNEL
+/
+OUTREAL
+LOGICAL
+HIGH
+AS",
             wide(operation),
         );
     } else {
@@ -94,14 +101,31 @@ fn say_constant(v: u32) {
     }
 }
 
+// A type, by its number.
+fn say_form(v: u32) {
+    say_nth(
+        b" integer\n real\n Boolean\n no type",
+        least(low(wide(v)), 3),
+    );
+}
+
+// A logical value, by its number.
+fn say_logical(v: u32) {
+    say_nth(b" false\n true\n no value", least(low(wide(v)), 2));
+}
+
+// How many cells of each type a block has.
+fn say_counts(v: u32) {
+    say_part(b" integers ", wide(v) % TEN_BITS);
+    say_part(b", reals ", wide(v) / TEN_BITS % TEN_BITS);
+    say_part(b", Booleans ", wide(v) / TEN_BITS / TEN_BITS);
+}
+
 // The operands of control instructions.
 fn say_route(operation: u32, v: u32) {
     match operation {
         codes::JUMP | codes::UNLESS => say_part(b" to ", low(wide(v))),
-        codes::ENTER => {
-            say_part(b" cells ", mid(wide(v)));
-            say_part(b", to ", low(wide(v)));
-        }
+        codes::ENTER => say_counts(v),
         codes::LEAVE => say_part(b" cells ", mid(wide(v))),
         codes::CALL_NEEDED | codes::CALL => {
             say_part(b" to ", low(wide(v)));
@@ -123,8 +147,17 @@ fn say_route(operation: u32, v: u32) {
     }
 }
 
-fn say_operands(operation: u32, v: u32) {
+// The operands. A RETURN without a place has none: with one it ends the store part of an actual, and has the formal's type.
+fn say_operands(operation: u32, place: usize, v: u32) {
     match operation {
+        codes::RETURN => {
+            if 0 < place {
+                say_form(v);
+            }
+        }
+        codes::RESULT | codes::AS => say_form(v),
+        codes::LOGICAL => say_logical(v),
+        codes::HIGH => say_part(b" ", wide(v)),
         codes::TEST => {
             say_variable(v);
             say_part(b", to ", low(wide(v)));
@@ -136,13 +169,14 @@ fn say_operands(operation: u32, v: u32) {
     }
 }
 
-// Whether an instruction carries a place of the source.
-fn placed(operation: u32) -> bool {
+// Whether an instruction carries a place of the source. Nothing but the program's 'begin' is at place 0.
+fn placed(operation: u32, place: usize) -> bool {
     match operation {
+        codes::RETURN | codes::AS => 0 < place,
         codes::ENTER | codes::CALL_NEEDED | codes::CALL | codes::TEST => true,
-        codes::CONST | codes::LOAD | codes::RESULT | codes::IN | codes::OUT => true,
+        codes::CONST..=codes::RESULT | codes::IN | codes::OUT => true,
         codes::SUM..=codes::PASS => true,
-        codes::CHANNEL => true,
+        codes::CHANNEL..=codes::LOGICAL => true,
         _ => false,
     }
 }
@@ -166,14 +200,15 @@ fn wide(n: u32) -> usize
 
 fn show_instruction(source: &[u8], address: usize, first: u32, second: u32) {
     let operation = first % codes::BASE;
+    let place = wide(first / codes::BASE);
     say_indent(address);
     say_number(address as u64);
     say(b"  ");
     say_operation(operation);
-    say_operands(operation, second);
-    if placed(operation) {
+    say_operands(operation, place, second);
+    if placed(operation, place) {
         say(b"  at ");
-        say_spot(source, wide(first / codes::BASE));
+        say_spot(source, place);
     }
     say(b"\n");
 }

@@ -44,6 +44,7 @@ fn say_type(number: usize) {
     match number {
         1 => say(b"integer "),
         2 => say(b"Boolean "),
+        3 => say(b"real "),
         _ => {}
     }
 }

@@ -28,6 +28,8 @@ fn tell_no_symbol(to: i32, b: u8) {
             to,
             b"the apostrophe stays open, or the word is no delimiter word, or the note has no `;`",
         );
+    } else if b == b'.' {
+        tell(to, b"no digit stands behind the point");
     } else {
         tell(to, b"no symbol begins with this byte");
     }
@@ -37,7 +39,12 @@ fn tell_too_large(to: i32, b: u8) {
     if is_digit(b) {
         tell(
             to,
-            b"the number is over 2,147,483,647, or this is symbol 2,049",
+            b"the number is over 2,147,483,647, or has a point and over 15 digits, or this is symbol 2,049",
+        );
+    } else if b == b'.' {
+        tell(
+            to,
+            b"the number has over 15 digits, or this is symbol 2,049",
         );
     } else if is_letter(b) {
         tell(
@@ -75,7 +82,7 @@ fn tell_type_of_word(to: i32, a: u8, b: u8) {
             if b == b'l' {
                 tell(
                     to,
-                    b"the 'else' part is of another type than the 'then' part",
+                    b"of the 'then' part and the 'else' part one is Boolean and the other is not",
                 );
             } else {
                 tell(to, b"an operand is of the wrong type");
@@ -114,7 +121,7 @@ fn tell_type_of_name(to: i32, behind: u8) {
         );
         tell(
             to,
-            b"or the controlled variable is no integer variable or formal",
+            b"or the controlled variable is no integer or real variable or formal",
         );
     } else {
         tell(
@@ -128,8 +135,14 @@ fn tell_type_of_name(to: i32, behind: u8) {
 fn tell_type(to: i32, source: &[u8], place: usize) {
     let b = byte_at(source, place);
     match b {
-        b':' => tell(to, b"the right side is of another type than the left part"),
-        b'*' | b'%' | b'<' | b'=' | b'>' | b'#' => tell(to, b"an operand is of the wrong type"),
+        b':' => tell(
+            to,
+            b"of the left part and the right side one is Boolean and the other is not",
+        ),
+        b'*' | b'/' | b'%' | b'<' | b'=' | b'>' | b'#' => tell(
+            to,
+            b"an operand is of the wrong type",
+        ),
         b'+' | b'-' => {
             tell(
                 to,
@@ -141,7 +154,7 @@ fn tell_type(to: i32, source: &[u8], place: usize) {
                 tell_type_of_word(to, byte_at(source, place + 1), byte_at(source, place + 2));
             }
         }
-        b'(' | b'0'..=b'9' => tell(to, b"a wrong actual or for expression begins here"),
+        b'(' | b'.' | b'0'..=b'9' => tell(to, b"a wrong actual or for expression begins here"),
         _ => tell_type_of_name(to, byte_behind(source, place)),
     }
 }
@@ -176,7 +189,10 @@ fn tell_names(to: i32, number: u16) {
 fn tell_run(to: i32, number: u16) {
     match number {
         20 => tell(to, b"the instruction limit is reached"),
-        21 => tell(to, b"the result is outside -2,147,483,648 to 2,147,483,647"),
+        21 => tell(
+            to,
+            b"the result is outside -2,147,483,648 to 2,147,483,647, or is no finite real",
+        ),
         22 => tell(to, b"the divisor is zero"),
         23 => tell(
             to,
@@ -196,7 +212,10 @@ fn tell_run(to: i32, number: u16) {
                 to,
                 b"there is no instruction at the counter, or an operand is outside its range, ",
             );
-            tell(to, b"or a value is taken where none is held")
+            tell(
+                to,
+                b"or a value is taken where none is held, or is of another type than the instruction takes",
+            )
         }
     }
 }

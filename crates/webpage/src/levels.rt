@@ -41,7 +41,7 @@ fn pop(open: usize) -> usize {
 // Whether a symbol begins a declaration.
 fn declares(s: Symbol) -> bool {
     match s {
-        Symbol::Integer | Symbol::Boolean | Symbol::Procedure => true,
+        Symbol::Integer | Symbol::Boolean | Symbol::Real | Symbol::Procedure => true,
         _ => false,
     }
 }
@@ -49,7 +49,7 @@ fn declares(s: Symbol) -> bool {
 // Whether it goes on with a heading.
 fn heads(s: Symbol) -> bool {
     match s {
-        Symbol::Value | Symbol::Integer | Symbol::Boolean => true,
+        Symbol::Value | Symbol::Integer | Symbol::Boolean | Symbol::Real => true,
         _ => false,
     }
 }

@@ -119,6 +119,7 @@ pub fn show_lists(source: &[u8], table: &[u16], levels: &[u32]) {
     show_given(source, table, 1, b"maxint", b"integer procedure");
     show_given(source, table, 2, b"ininteger", b"procedure");
     show_given(source, table, 3, b"outinteger", b"procedure");
+    show_given(source, table, 4, b"outreal", b"procedure");
     say(b"</table>\n<h2>Uses</h2>\n<pre class=\"text\">");
     show_uses(source, table);
     say(b"</pre>\n<h2>Levels</h2>\n<pre class=\"text\">");

@@ -121,7 +121,7 @@ fn paint_symbols(source: &[u8], table: &[u16], looks: &mut [u32], levels: &mut [
 {
     let mut kinds = [33u8; 2048];
     let mut places = [NOWHERE; 2048];
-    let mut values = [0u32; 2048];
+    let mut values = [0u64; 2048];
     let mut stack = [0u32; 2048];
     let mut open: usize = 0;
     let mut row: usize = 1;
@@ -159,7 +159,7 @@ fn mark_end(source: &[u8], place: usize, next: usize) -> usize
     ensures { λ r. ⌜ (place < next → place < r) ⌝ }
     ensures { λ r. ⌜ ((i : ℕ) → length (now (source .entry)) ≤ i → next ≤ i → r ≤ i) ⌝ }
 {
-    if place < source.len() && is_name_byte(source[place]) {
+    if place < source.len() && (is_name_byte(source[place]) || source[place] == b'.') {
         return symbol_end(source, place);
     }
     next

@@ -1,4 +1,4 @@
--- `deed::running::run_code` meets its contract. The store has 8,192 cells, and the output room for 65,536 numbers.
+-- `deed::running::run_code` meets its contract. The store has two numbers for each of 8,192 cells, and the output room for 65,536 entries.
 -- Assumes nothing.
 use lib.IntN.{pos}
 use lib.ListN.{take, replicate, length-replicate}
@@ -10,7 +10,7 @@ use Rattle.deed.proofs.running.run_code.Tie as tie
 returns : tie.Need-returns
 returns c =
     let a = c .before .before .before .before .before .before .before .before .before .before .args in
-    run-told (a .code .now) (take (a .count) (a .input .now)) (replicate 8192 (pos 0)) (replicate 65536 (pos 0)) (a .count) (a .sizes .limit) (a .sizes .cells) (a .sizes .room) (c .show-ran .result) (c .before .before .before .before .run-within .result .stop) (length-replicate 8192 (pos 0)) (length-replicate 65536 (pos 0)) (c .show-ran .ensures) (c .before .before .before .before .run-within .ensures)
+    run-told (a .code .now) (take (a .count) (a .input .now)) (replicate 16384 (pos 0)) (replicate 196608 (pos 0)) (a .count) (a .sizes .limit) (a .sizes .cells) (a .sizes .room) (c .show-ran .result) (c .before .before .before .before .run-within .result .stop) (length-replicate 16384 (pos 0)) (length-replicate 196608 (pos 0)) (c .show-ran .ensures) (c .before .before .before .before .run-within .ensures)
 
 pub run-code-spec : {M : Type 1} → statement M
 run-code-spec =

@@ -19,7 +19,7 @@ slice-aggregate-run-3 c = sym (length-take-le _ _ (search needs))
 returns : tie.Need-returns
 returns c =
     let a = c .before .before .before .before .before .before .before .before .before .before .args in
-    ran-stop (a .code .now) (a .input .now) (a .store .now) (a .output .now) (a .count) (a .sizes .limit) (a .sizes .cells) (a .sizes .room) _ _ _ _ _ _ (c .before .before .before .before .before .before .before .before .least .ensures) (c .before .before .before .before .before .before .before .least2 .ensures) (c .before .before .before .before .before .before .least3 .ensures) (c .before .before .run .ensures)
+    ran-stop (a .code .now) (a .input .now) (a .store .now) (a .output .now) (a .count) (a .sizes .limit) (a .sizes .cells) (a .sizes .room) _ _ _ _ _ _ (c .before .before .before .before .before .before .before .before .least .ensures) (c .before .before .before .before .before .before .before .numbers-for .ensures) (c .before .before .before .before .before .before .least2 .ensures) (c .before .before .run .ensures)
 
 pub run-within-spec : {M : Type 1} → statement M
 run-within-spec =

@@ -1,0 +1,4 @@
+pub mod Digits
+pub mod Fewest
+pub mod Written
+pub mod Reading
