@@ -1,7 +1,7 @@
-/* bench [INSTRUCTIONS [ROUNDS]]: instructions a second of four loops, through the library and in the machine of own.h, one after the other in each
+/* bench [INSTRUCTIONS [ROUNDS]]: instructions a second of some loops, through the library and in the machine of own.h, one after the other in each
  * round; then the time of reading (and translating) the largest sources. Times are of this process on this processor: under an emulator only the
- * ratio of the two machines means something. With an earlier library (BEFORE, see `bindings/run`) each source is read by both, one after the other in
- * each round.
+ * ratio of the two machines means something. With an earlier library (BEFORE, see `bindings/run`) loops over whole numbers are translated and run,
+ * and each source is read, by both, one after the other in each round.
  * bench INSTRUCTIONS library, bench INSTRUCTIONS own: the first loop once, in one of the two, and nothing else (`bindings/run count` counts what it
  * takes of the processor's instructions). */
 #define _POSIX_C_SOURCE 199309L
@@ -31,14 +31,14 @@ static double seconds(void)
 /* ---- the machine */
 
 static struct code code;
-static int64_t store[DEED_CELLS];
-static int32_t output[1], own_output[1];
+static int64_t store[DEED_STORE];
+static int32_t output[DEED_ENTRY], own_output[DEED_ENTRY];
 
 /* a := a + b, for ever: loads, additions, stores and jumps. */
 static void loads_adds_stores_jumps(uint64_t limit)
 {
     (void)limit;
-    put(&code, ENTER, parts(0, 2, 1));
+    put(&code, ENTER, counts(2, 0, 0));
     put(&code, CONST, 0);
     put(&code, STORE, parts(0, 0, 0));
     put(&code, CONST, 1);
@@ -50,10 +50,30 @@ static void loads_adds_stores_jumps(uint64_t limit)
     put(&code, JUMP, 5);
 }
 
+/* x := x * y + z, for ever, of reals. */
+static void reals(uint64_t limit)
+{
+    (void)limit;
+    put(&code, ENTER, counts(0, 3, 0));
+    put_real(&code, 1.0);
+    put(&code, STORE, parts(0, 0, 0));
+    put_real(&code, 0.999);
+    put(&code, STORE, parts(0, 1, 0));
+    put_real(&code, 0.125);
+    put(&code, STORE, parts(0, 2, 0));
+    put(&code, LOAD, parts(0, 0, 0)); /* 10 */
+    put(&code, LOAD, parts(0, 1, 0));
+    put(&code, TIMES, 0);
+    put(&code, LOAD, parts(0, 2, 0));
+    put(&code, PLUS, 0);
+    put(&code, STORE, parts(0, 0, 0));
+    put(&code, JUMP, 10);
+}
+
 /* 'for' i := 1 'step' 1 'until' n 'do' s := i - s, as a source's is laid down. */
 static void step_until(uint64_t limit)
 {
-    put(&code, ENTER, parts(0, 2, 1));
+    put(&code, ENTER, counts(2, 0, 0));
     put(&code, CONST, 0);
     put(&code, STORE, parts(0, 1, 0));
     put(&code, CONST, 1);
@@ -110,32 +130,44 @@ static void calls(uint64_t limit)
 }
 
 #ifdef DEED_TRANSLATE
-/* A series summed by name, as a source's is laid down: 23 instructions a term. */
-static void series(uint64_t limit)
+/* A source with a number in it as code. */
+static void translated(const char *source, unsigned number)
 {
     char text[400];
     size_t place;
-    int n = snprintf(text, sizeof text,
-                     "'begin' 'integer' i; 'integer' 'procedure' sum(k, low, high, term); 'value' low, high; 'integer' k, low, high, term; "
-                     "'begin' 'integer' s; s := 0; 'for' k := low 'step' 1 'until' high 'do' s := s + term; sum := s 'end'; "
-                     "outinteger(1, sum(i, 1, %u, i %% 1000000)) 'end'",
-                     (unsigned)(limit / 23 + 1));
+    int n = snprintf(text, sizeof text, source, number);
     if (deed_translate((const uint8_t *)text, (size_t)n, code.word, WORDS, &place) != DEED_ACCEPTED)
-        printf("the series is refused\n");
+        printf("the source is refused\n");
     code.length = DEED_CODE;
+}
+
+static const char summed[] = "'begin' 'integer' i; 'integer' 'procedure' sum(k, low, high, term); 'value' low, high; 'integer' k, low, high, term; "
+                             "'begin' 'integer' s; s := 0; 'for' k := low 'step' 1 'until' high 'do' s := s + term; sum := s 'end'; "
+                             "outinteger(1, sum(i, 1, %u, i %% 1000000)) 'end'";
+
+/* A series summed by name, as a source's is laid down: some 25 instructions a term. */
+static void series(uint64_t limit) { translated(summed, (unsigned)(limit / 20 + 1)); }
+
+/* .. and one of reals. */
+static void real_series(uint64_t limit)
+{
+    translated("'begin' 'real' x; 'real' 'procedure' sum(k, low, high, term); 'value' low, high; 'real' k, term; 'integer' low, high; "
+               "'begin' 'real' s; s := 0; 'for' k := low 'step' 1 'until' high 'do' s := s + term; sum := s 'end'; "
+               "outreal(1, sum(x, 1, %u, 1 / x)) 'end'",
+               (unsigned)(limit / 20 + 1));
 }
 #endif
 
 static struct own_ran through_library(uint64_t limit)
 {
     struct own_ran r;
-    r.number = deed_run(code.word, code.length, output, 0, limit, store, DEED_CELLS, output, 1, &r.place, &r.done, &r.taken, &r.written);
+    r.number = deed_run(code.word, code.length, output, 0, limit, store, DEED_STORE, output, DEED_ENTRY, &r.place, &r.done, &r.taken, &r.written);
     return r;
 }
 
 static struct own_ran through_own(uint64_t limit)
 {
-    return own_run(code.word, code.length, own_output, 0, limit, DEED_CELLS, own_output, 1);
+    return own_run(code.word, code.length, own_output, 0, limit, DEED_STORE, own_output, DEED_ENTRY);
 }
 
 static int by_size(const void *a, const void *b)
@@ -168,6 +200,62 @@ static void time_code(const char *name, void (*lay)(uint64_t), uint64_t limit, i
     printf("%-28s %11llu instructions, answer %2u: library %7.1f, own %7.1f million a second, ratio %.2f (%.2f to %.2f)\n", name,
            (unsigned long long)l.done, l.number, library[rounds / 2], own[rounds / 2], ratio[rounds / 2], ratio[0], ratio[rounds - 1]);
 }
+
+#if defined BEFORE && defined DEED_TRANSLATE
+/* ---- loops over whole numbers, by both libraries: each translates the source and runs its own code to the end */
+
+typedef uint16_t translator(const uint8_t *, size_t, uint32_t *, size_t, size_t *);
+typedef uint16_t runner(const uint32_t *, size_t, const int32_t *, size_t, uint64_t, int64_t *, size_t, int32_t *, size_t, size_t *, uint64_t *, size_t *,
+                        size_t *);
+translator before_deed_translate;
+runner before_deed_run;
+
+/* The time in milliseconds of a run to its end, and its instructions. */
+static double running_time(translator *translate, runner *run, const char *text, uint64_t *done)
+{
+    static uint32_t words[DEED_CODE];
+    size_t place, taken, written;
+    if (translate((const uint8_t *)text, strlen(text), words, DEED_CODE, &place) != DEED_ACCEPTED)
+        printf("a loop is refused\n");
+    double t0 = seconds();
+    if (run(words, DEED_CODE, output, 0, UINT64_MAX, store, DEED_STORE, output, DEED_ENTRY, &place, done, &taken, &written) != DEED_ENDED)
+        printf("a loop does not end\n");
+    return (seconds() - t0) * 1e3;
+}
+
+static void time_loop(const char *name, const char *source, unsigned number, int rounds)
+{
+    char text[400];
+    double now[50], earlier[50], ratio[50];
+    uint64_t done = 0, earlier_done = 0;
+    snprintf(text, sizeof text, source, number);
+    for (int i = 0; i < rounds; i++) {
+        earlier[i] = running_time(before_deed_translate, before_deed_run, text, &earlier_done);
+        now[i] = running_time(deed_translate, deed_run, text, &done);
+        ratio[i] = now[i] / earlier[i];
+    }
+    qsort(now, (size_t)rounds, sizeof now[0], by_size);
+    qsort(earlier, (size_t)rounds, sizeof earlier[0], by_size);
+    qsort(ratio, (size_t)rounds, sizeof ratio[0], by_size);
+    printf("loop %-24s before %9.1f milliseconds (%llu instructions), now %9.1f (%llu), now by before %.2f (%.2f to %.2f)\n", name, earlier[rounds / 2],
+           (unsigned long long)earlier_done, now[rounds / 2], (unsigned long long)done, ratio[rounds / 2], ratio[0], ratio[rounds - 1]);
+}
+
+static void time_loops(uint64_t limit, int rounds)
+{
+    unsigned n = 1;
+    for (uint64_t f = 1, g = 1, h; 30 * (f + g) < limit && n < 40; n++, f = g, g = h) /* f(n) takes some 15 instructions a call */
+        h = f + g;
+    time_loop("an assignment", "'begin' 'integer' i, s, a; s := 0; a := 3; 'for' i := 1 'step' 1 'until' %u 'do' s := (a * i + s - i) %% a 'end'",
+              (unsigned)(limit / 25 + 1), rounds);
+    time_loop("'step' 'until'", "'begin' 'integer' i, s; s := 0; 'for' i := 1 'step' 1 'until' %u 'do' s := i - s 'end'", (unsigned)(limit / 14 + 1), rounds);
+    time_loop("'while'", "'begin' 'integer' i; i := 0; 'for' i := i + 1 'while' i < %u 'do' 'end'", (unsigned)(limit / 10 + 1), rounds);
+    time_loop("calls",
+              "'begin' 'integer' 'procedure' f(n); 'value' n; 'integer' n; f := 'if' n < 2 'then' n 'else' f(n - 1) + f(n - 2); outinteger(1, f(%u)) 'end'",
+              n, rounds);
+    time_loop("a series summed by name", summed, (unsigned)(limit / 25 + 1), rounds);
+}
+#endif
 
 /* ---- sources */
 
@@ -253,7 +341,7 @@ static void deep(void)
     fill_up();
 }
 
-/* 2,048 delimiter words: each of the 22 in turn. No note opens, since 'comment' stands behind 'while'; and no remark runs, since 'else' stands
+/* 2,048 delimiter words: each of 22 in turn. No note opens, since 'comment' stands behind 'while'; and no remark runs, since 'else' stands
  * behind 'end'. They are no program, so that little but the scan is timed. */
 static void delimiter_words(void)
 {
@@ -381,8 +469,13 @@ int main(int argc, char **argv)
     time_code("loads, adds, stores, jumps", loads_adds_stores_jumps, limit, rounds);
     time_code("'step' 'until'", step_until, limit, rounds);
     time_code("calls", calls, limit, rounds);
+    time_code("reals", reals, limit, rounds);
 #ifdef DEED_TRANSLATE
     time_code("a series summed by name", series, limit, rounds);
+    time_code("a series of reals", real_series, limit, rounds);
+#ifdef BEFORE
+    time_loops(limit, rounds);
+#endif
 #endif
     time_source("delimiter words", delimiter_words);
     time_source("plain", plain);

@@ -1,13 +1,14 @@
 /* compare COUNT [FILE..]: COUNT random sources, and COUNT random codes with their input, store and output, each handed to the library and to the
- * scanner and machine of own.h; COUNT random sources to the writer of page.h; and COUNT lists for sources, against a comparison of its own. Shows
- * each difference, and how many were compared. The files are sources that are changed at random. The seed is fixed. Ends with 1 where something
- * differs. */
+ * scanner and machine of own.h; COUNT operators and conversions on random numbers, and COUNT numbers with a point, against the arithmetic of
+ * numbers.h; COUNT random sources to the writer of page.h; and COUNT lists for sources, against a comparison of its own. Shows each difference, and
+ * how many were compared. The files are sources that are changed at random. The seed is fixed. Ends with 1 where something differs. */
 #include <stdio.h>
 #include <stdlib.h>
 #include <string.h>
 
 #include "codes.h"
 #include "deed.h"
+#include "numbers.h"
 #include "own.h"
 #include "page.h"
 #include "sources.h"
@@ -77,7 +78,7 @@ static int is_symbol(size_t at)
 /* Each use of an accepted source is a name, in order, and what it names is spelled as it is. */
 static const char *wrong_uses(const uint16_t *words)
 {
-    static const char *const environment[] = {"iabs", "maxint", "ininteger", "outinteger"};
+    static const char *const environment[] = {"iabs", "maxint", "ininteger", "outinteger", "outreal"};
     uint8_t used[34], named[34];
     for (unsigned i = 0; i < words[0]; i++) {
         const uint16_t *use = words + 1 + 3 * i;
@@ -85,7 +86,7 @@ static const char *wrong_uses(const uint16_t *words)
             return "a use is no name, or not in order";
         letters_at(use[0], used);
         if (use[1] == 0) {
-            if (use[2] > 3 || strcmp(environment[use[2]], (char *)used) != 0)
+            if (use[2] > 4 || strcmp(environment[use[2]], (char *)used) != 0)
                 return "a use of the environment is spelled otherwise";
         } else {
             letters_at(use[2], named);
@@ -140,7 +141,7 @@ static void compare_source(unsigned long k)
 
 /* ---- runs */
 
-enum { STORE_ROOM = DEED_CELLS + 200, INPUTS = 12, OUTPUTS = 60 };
+enum { STORE_ROOM = DEED_STORE + 200, INPUTS = 12, OUTPUTS = 150 };
 
 static struct code code;
 static int32_t input[INPUTS];
@@ -149,7 +150,7 @@ static int32_t output[OUTPUTS + 2 * MARGIN], own_output[OUTPUTS + 2 * MARGIN];
 
 static const char *wrong_run(struct own_ran l, struct own_ran o, size_t lent)
 {
-    size_t used = lent < DEED_CELLS ? lent : DEED_CELLS;
+    size_t used = lent < DEED_STORE ? lent / DEED_CELL * DEED_CELL : DEED_STORE;
     if (l.number != o.number || l.place != o.place)
         return "another answer or place";
     if (l.done != o.done || l.taken != o.taken || l.written != o.written)
@@ -198,8 +199,8 @@ static struct own_ran compare_run(unsigned long k, size_t inputs, uint64_t limit
 static void compare_code(unsigned long k)
 {
     static const int32_t edges[] = {0, 1, -1, 5, 12, 13, 254, 255, 256, INT32_MAX, INT32_MIN, INT32_MIN + 1};
-    size_t inputs = below(INPUTS + 1), outputs = below(once_in(3) ? 3 : OUTPUTS + 1);
-    size_t lent = once_in(10) ? DEED_CELLS - 100 + below(300) : once_in(3) ? below(24) : once_in(3) ? below(400) : 100 + below(8000);
+    size_t inputs = below(INPUTS + 1), outputs = below(once_in(3) ? 9 : OUTPUTS + 1);
+    size_t lent = once_in(10) ? DEED_STORE - 100 + below(300) : once_in(3) ? below(48) : once_in(3) ? below(800) : 200 + below(16000);
     uint64_t limit = once_in(8) ? below(40) : once_in(3) ? below(500) : 1000 + below(20000);
     random_code(&code);
     for (size_t i = 0; i < INPUTS; i++)
@@ -251,7 +252,7 @@ static void compare_translation(unsigned long k)
         code.length = DEED_CODE;
         for (size_t i = 0; i < INPUTS; i++)
             input[i] = (int32_t)below(20);
-        if (compare_run(k, below(INPUTS + 1), 1000 + below(20000), once_in(4) ? below(24) : DEED_CELLS, below(OUTPUTS + 1)).number == 29)
+        if (compare_run(k, below(INPUTS + 1), 1000 + below(20000), once_in(4) ? below(48) : DEED_STORE, below(OUTPUTS + 1)).number == 29)
             wrong = "a translated program stops with 29";
     }
     if (wrong != NULL) {
@@ -261,6 +262,48 @@ static void compare_translation(unsigned long k)
     }
 }
 #endif
+
+/* ---- numbers: one operator, one conversion or one number with a point, against what numbers.h works out */
+
+static unsigned long numbers_seen[ANSWERS];
+
+static void compare_number(unsigned long k, const char *what, struct due due)
+{
+    static int64_t cells[16];
+    int32_t entry[DEED_ENTRY] = {0, 0, 0};
+    size_t place, taken, written;
+    uint64_t done;
+    unsigned number = deed_run(code.word, code.length, input, 0, 1000, cells, 16, entry, DEED_ENTRY, &place, &done, &taken, &written);
+    if (number < ANSWERS)
+        numbers_seen[number]++;
+    if (number == due.number && written == (number == 0 ? DEED_ENTRY : 0) && memcmp(entry, due.entry, sizeof entry) == 0)
+        return;
+    differs("number", k);
+    printf("library %u, %ld %ld %ld, due %u, %ld %ld %ld; %s, %zu words:", number, (long)entry[0], (long)entry[1], (long)entry[2], due.number,
+           (long)due.entry[0], (long)due.entry[1], (long)due.entry[2], what, code.length);
+    for (size_t i = 0; i < code.length && i < 32; i++)
+        printf(" %lu", (unsigned long)code.word[i]);
+    printf("\n");
+}
+
+static void compare_numbers(unsigned long k)
+{
+    code.length = 0;
+    struct due due = number_code(&code);
+    compare_number(k, "an operator or a conversion", due);
+#ifdef DEED_TRANSLATE
+    char source[100];
+    size_t place;
+    due = decimal_source(source, sizeof source);
+    if (deed_translate((const uint8_t *)source, strlen(source), code.word, WORDS, &place) != DEED_ACCEPTED) {
+        differs("number", k);
+        printf("a number with a point is refused: %s\n", source);
+        return;
+    }
+    code.length = DEED_CODE;
+    compare_number(k, source, due);
+#endif
+}
 
 /* ---- pages */
 
@@ -467,6 +510,9 @@ int main(int argc, char **argv)
     show_seen("translations compared", translations_seen);
 #endif
     show_seen("runs compared", runs_seen);
+    for (unsigned long k = 0; k < count; k++)
+        compare_numbers(k);
+    show_seen("numbers compared", numbers_seen);
     for (size_t i = 0; i < sizeof room_before; i++)
         room_before[i] = (uint8_t)random_word();
     for (unsigned long k = 0; k < count; k++)

@@ -3,11 +3,18 @@
  * A lent array is a pointer and how many elements it has. What is asked of a caller:
  *   - each pointer is not null and is aligned for its type, also where the length is 0;
  *   - what is lent for writing overlaps nothing else that is lent;
- *   - the stack has room: 1 MB (the most that was measured is 580,000 bytes, of deed_read; deed_check takes 65,568 more than that).
+ *   - the stack has room: 1 MB (the most that was measured is 663,000 bytes, of deed_translate).
  * Nothing else: any bytes, any words, any lengths and any limit are answered. No memory is kept from one call to the next, so that any number
  * of threads may call.
  *
  * Each function gives back the answer's number (paper 01, "Numbered answers") and writes its place; docs/PROMISES.md has what is promised.
+ *
+ * Version 6 (change request 6, reals) asks this of callers of version 5; the declarations of the functions are the same:
+ *   - a cell takes two of the store's numbers: lend DEED_STORE numbers, or twice as many as before, for as many cells; an odd last one is not used;
+ *   - an output entry is three numbers, DEED_WHOLE, the whole number and 0, or DEED_REAL and the real's bits, low half first: lend three times as
+ *     many as before for as many entries, and read entries; *written counts numbers, and DEED_OUTPUT_FULL means that fewer than three are free;
+ *   - code made by an earlier deed_translate is to be made again: some operands have another meaning, and there are five more operations.
+ * A table is as before, with a type 3 (real), a node 34 (a number with a point) and the environment's number 4 (outreal).
  */
 #ifndef DEED_H
 #define DEED_H
@@ -19,12 +26,25 @@
 extern "C" {
 #endif
 
+/* The change request up to which this library goes. */
+enum { DEED_VERSION = 6 };
+
 /* The lengths that the jobs want or use. */
 enum {
     DEED_SOURCE = 16384, /* bytes of a source, at most */
     DEED_TABLE = 32768,  /* words of a table, at least */
     DEED_CODE = 16384,   /* words of code, at least for translate, at most for run */
-    DEED_CELLS = 8192    /* cells that a run uses, at most */
+    DEED_CELLS = 8192,   /* cells that a run uses, at most */
+    DEED_CELL = 2,       /* numbers of the store that a cell takes */
+    DEED_STORE = 16384,  /* .. that a run uses, at most */
+    DEED_ENTRY = 3       /* numbers of an output entry */
+};
+
+/* An output entry's first number. */
+enum {
+    DEED_WHOLE = 0, /* then the whole number, and 0 */
+    DEED_REAL = 1   /* then the lower and the upper half of the bits of a real of 64 bits (a C double), each as a number of 32 bits:
+                     * uint64_t bits = (uint32_t)entry[1] | (uint64_t)(uint32_t)entry[2] << 32; */
 };
 
 /* The answers. */
@@ -88,8 +108,9 @@ uint16_t deed_check(const uint8_t *source, size_t source_length,
                     const int64_t *list, size_t list_length,
                     uint16_t *number, size_t *place);
 
-/* Code to a run. 0 or 20 to 30. The first DEED_CELLS cells of the store, or fewer if lent fewer, are zero afterwards; the output holds what was
- * written, and behind it what it held. */
+/* Code to a run. 0 or 20 to 30. The numbers of the first DEED_CELLS cells of the store, or of fewer if fewer were lent, are zero afterwards, and
+ * the others as they were; the output holds what was written, entry behind entry, and behind it what it held. *done counts instructions, *taken
+ * input numbers, *written output numbers. */
 uint16_t deed_run(const uint32_t *code, size_t code_length,
                   const int32_t *input, size_t input_length,
                   uint64_t limit,

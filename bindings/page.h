@@ -43,10 +43,12 @@ static int page_one_of(size_t k, const char *const *symbols)
     return 0;
 }
 
+static int page_is_number(size_t k) { return own_digit(page.source[page.scan->at[k]]) || page.source[page.scan->at[k]] == '.'; }
+
 static int page_is_operand(size_t k)
 {
     static const char *const ends[] = {")", "'true'", "'false'", NULL};
-    return k < page.scan->count && (page.scan->name[k] || own_digit(page.source[page.scan->at[k]]) || page_one_of(k, ends));
+    return k < page.scan->count && (page.scan->name[k] || page_is_number(k) || page_one_of(k, ends));
 }
 
 /* Whether symbol k goes on in the line without a space. */
@@ -58,6 +60,9 @@ static int page_tight(size_t k)
     return page_one_of(k - 1, sign) && !page_is_operand(k - 2);
 }
 
+/* Whether a name, or a number, goes on with this byte. In an accepted source no number stands behind another. */
+static int page_goes_on(int name, uint8_t b) { return own_digit(b) || (name ? own_letter(b) : b == '.'); }
+
 /* A symbol without the blanks in it. */
 static void page_spell(size_t i)
 {
@@ -68,8 +73,8 @@ static void page_spell(size_t i)
         while (page.source[i] != '\'')
             page_put(page.source[i++]);
         page_put('\'');
-    } else if (own_letter(first) || own_digit(first)) {
-        for (; i < page.length && (own_blank(page.source[i]) || own_digit(page.source[i]) || (own_letter(first) && own_letter(page.source[i]))); i++)
+    } else if (own_letter(first) || own_digit(first) || first == '.') {
+        for (; i < page.length && (own_blank(page.source[i]) || page_goes_on(own_letter(first), page.source[i])); i++)
             if (!own_blank(page.source[i]))
                 page_put(page.source[i]);
     } else if (first == '<' || first == '>' || first == ':') {
@@ -148,7 +153,7 @@ static void page_simple(void)
 
 static void page_procedure(unsigned v)
 {
-    static const char *const parts[] = {"'value'", "'integer'", "'Boolean'", NULL};
+    static const char *const parts[] = {"'value'", "'integer'", "'real'", "'Boolean'", NULL};
     page_through(";");
     while (page_one_of(page.k, parts)) {
         page_line(v + 1);
@@ -161,7 +166,7 @@ static void page_procedure(unsigned v)
 
 static void page_block(unsigned v)
 {
-    static const char *const types[] = {"'integer'", "'Boolean'", NULL};
+    static const char *const types[] = {"'integer'", "'real'", "'Boolean'", NULL};
     page_go();
     for (;;) {
         page_line(v + 1);

@@ -18,6 +18,6 @@ static uint32_t random_word(void)
 static uint32_t below(uint32_t n) { return (uint32_t)(((uint64_t)random_word() * n) >> 32); }
 
 /* Once in n. */
-static int once_in(uint32_t n) { return below(n) == 0; }
+static inline int once_in(uint32_t n) { return below(n) == 0; }
 
 #endif

@@ -8,7 +8,7 @@
 
 #include "random.h"
 
-enum { TEXT = 40000, FILES = 2000 };
+enum { TEXT = 40000, FILES = 4000 };
 
 struct text {
     size_t length;
@@ -62,13 +62,8 @@ static void put_name(struct text *t, unsigned length)
     }
 }
 
-static void put_number(struct text *t, unsigned length)
+static void put_digits(struct text *t, unsigned length)
 {
-    static const char *const edges[] = {"2147483647", "2147483648", "2147483646", "21474836470", "0000000000002147483647", "4294967296", "18446744073709551616"};
-    if (once_in(8)) {
-        put_text(t, edges[below(7)]);
-        return;
-    }
     for (unsigned i = 0; i < length; i++) {
         if (once_in(12))
             put_blanks(t);
@@ -76,22 +71,44 @@ static void put_number(struct text *t, unsigned length)
     }
 }
 
+/* With a point now and then: in front, inside, or with nothing behind it. */
+static void put_number(struct text *t, unsigned length)
+{
+    static const char *const edges[] = {"2147483647", "2147483648", "2147483646", "21474836470", "0000000000002147483647", "4294967296", "18446744073709551616",
+                                        "2147483648.0", "0.00000000000001", "0.000000000000001", "999999999999999.9", "99999999999999.9", "1.", ".", "1..5",
+                                        "1.5.2", "007.50", "1 . 2 5", ". 5"};
+    if (once_in(8)) {
+        put_text(t, edges[below(19)]);
+        return;
+    }
+    unsigned behind = once_in(3) ? 1 + below(length) : 0;
+    if (behind == 0 || !once_in(4))
+        put_digits(t, length);
+    if (behind != 0) {
+        put_blanks(t);
+        put_byte(t, '.');
+        put_blanks(t);
+        put_digits(t, behind);
+    }
+}
+
 static const char *const words[] = {
-    "'begin'", "'end'", "'if'", "'then'", "'else'", "'for'", "'do'", "'step'", "'until'", "'while'", "'comment'", "'integer'", "'Boolean'", "'procedure'",
-    "'value'", "'true'", "'false'", "'and'", "'or'", "'not'", "'impl'", "'equiv'",
+    "'begin'", "'end'", "'if'", "'then'", "'else'", "'for'", "'do'", "'step'", "'until'", "'while'", "'comment'", "'integer'", "'real'", "'Boolean'",
+    "'procedure'", "'value'", "'true'", "'false'", "'and'", "'or'", "'not'", "'impl'", "'equiv'",
 };
-static const char *const signs[] = {"+", "-", "*", "%", "<", "<=", "=", ">=", ">", "#", ",", ":", ":=", ";", "(", ")", "< =", ": =", "> \n="};
-static const char *const wrong[] = {"'", "''", "'Begin'", "'begin '", "' end'", "'boolean'", "'go to'", "'real'", "'ends'", "'en'", "!", "\"", "/", "_", "~", "\f", "\v", "\x80", "\xff", "'end", "."};
+static const char *const signs[] = {"+", "-", "*", "/", "%", "<", "<=", "=", ">=", ">", "#", ",", ":", ":=", ";", "(", ")", "< =", ": =", "> \n="};
+static const char *const wrong[] = {"'", "''", "'Begin'", "'begin '", "' end'", "'boolean'", "'go to'", "'reals'", "'Real'", "'ends'", "'en'", "!",
+                                    "\"", "\\", "_", "~", "\f", "\v", "\x80", "\xff", "'end", "."};
 
 /* One symbol, or now and then something that is none. */
 static void put_symbol(struct text *t, unsigned faults)
 {
     switch (below(12)) {
     case 0: case 1: case 2:
-        put_text(t, words[below(22)]);
+        put_text(t, words[below(23)]);
         break;
     case 3: case 4: case 5:
-        put_text(t, signs[below(19)]);
+        put_text(t, signs[below(20)]);
         break;
     case 6: case 7:
         put_name(t, once_in(faults) ? 30 + below(6) : 1 + below(8));
@@ -112,7 +129,7 @@ static void put_symbol(struct text *t, unsigned faults)
         break;
     default:
         if (once_in(faults))
-            put_text(t, wrong[below(21)]);
+            put_text(t, wrong[below(22)]);
         else
             put_text(t, ";");
     }
@@ -122,7 +139,7 @@ static void random_bytes(struct text *t)
 {
     unsigned length = below(once_in(10) ? 600 : 40);
     for (unsigned i = 0; i < length; i++)
-        put_byte(t, (uint8_t)(once_in(4) ? below(256) : " \n'';:=<>aZ09(,"[below(15)]));
+        put_byte(t, once_in(4) ? (uint8_t)below(256) : (uint8_t)" \n'';:=<>aZ09(,."[below(16)]);
 }
 
 static void random_symbols(struct text *t)
@@ -155,18 +172,19 @@ static void random_long(struct text *t)
     put_text(t, once_in(2) ? ";'end'" : "'end'");
 }
 
-/* A piece of a program that the grammar has, so that later answers come too; v: a variable or formal. */
+/* A piece of a program that the grammar has, so that later answers come too; v: a variable or formal, a whole number's or a real's. */
 static void put_statement(struct text *t, unsigned depth, const char *v)
 {
-    switch (depth == 0 ? below(4) : below(9)) {
+    static const char *const values[] = {" := b + 1", " := r / b", " := 2.5 * a - r", " := -r", " := b * .1", " := 'if' a < r 'then' a 'else' r"};
+    switch (depth == 0 ? below(5) : below(10)) {
     case 0:
         put_text(t, v);
-        put_text(t, " := b + 1");
+        put_text(t, values[below(6)]);
         break;
     case 1:
-        put_text(t, "outinteger(1, ");
+        put_text(t, once_in(2) ? "outinteger(1, " : "outreal(1, ");
         put_text(t, v);
-        put_text(t, " % 2)");
+        put_text(t, once_in(4) ? " % 2)" : " / 2)");
         break;
     case 2:
         put_text(t, "ininteger(1, ");
@@ -176,14 +194,17 @@ static void put_statement(struct text *t, unsigned depth, const char *v)
     case 3:
         put_text(t, "p(");
         put_text(t, v);
-        put_text(t, once_in(2) ? ", 1)" : once_in(2) ? ", b)" : ", a * b)");
+        put_text(t, once_in(2) ? ", 1)" : once_in(2) ? ", b)" : once_in(2) ? ", r)" : ", a * 1.5)");
         break;
     case 4:
-        put_text(t, "'begin' 'integer' a, c; a := 2;");
+        put_text(t, once_in(2) ? "outreal(1, r)" : "outinteger(1, a)");
+        break;
+    case 5:
+        put_text(t, once_in(2) ? "'begin' 'integer' a, c; a := 2;" : "'begin' 'Boolean' d; 'real' r; 'integer' c; 'real' e; r := 0.25;");
         put_statement(t, depth - 1, v);
         put_text(t, "'end'");
         break;
-    case 5:
+    case 6:
         put_text(t, "'if' b < ");
         put_text(t, v);
         put_text(t, " 'then' 'begin'");
@@ -191,36 +212,40 @@ static void put_statement(struct text *t, unsigned depth, const char *v)
         put_text(t, "'end' 'else' ");
         put_statement(t, depth - 1, v);
         break;
-    case 6:
+    case 7:
         put_text(t, "'for' ");
         put_text(t, v);
-        put_text(t, " := 1, b 'while' a > 2, 1 'step' 2 'until' 9 'do' ");
+        put_text(t, once_in(2) ? " := 1, b 'while' a > 2, 1 'step' 2 'until' 9 'do' " : " := 0.5, r 'while' r > 2.5, 1 'step' .75 'until' 3 'do' ");
         put_statement(t, depth - 1, v);
         break;
-    case 7: put_text(t, "p(1, a)"); break;
+    case 8: put_text(t, once_in(2) ? "p(1, a)" : "p(r, 2.25)"); break;
     default:
-        put_text(t, v);
-        put_text(t, " := b := f(a < b) * 3");
+        put_text(t, once_in(2) ? "a := b := " : "r := ");
+        put_text(t, "f(a < b) * 3");
         break;
     }
 }
 
-/* Its formals are called by value or by name. */
+/* Its formals are called by value or by name, and are whole numbers or reals. */
 static void random_program(struct text *t)
 {
-    static const char *const value[] = {"", "'value' x; ", "'value' y; ", "'value' x, y; "}, *const names[] = {"a", "x", "y"};
-    put_text(t, "'begin' 'integer' a, b; 'procedure' p(x, y); ");
+    static const char *const value[] = {"", "'value' x; ", "'value' y; ", "'value' x, y; "}, *const names[] = {"a", "x", "y", "r"};
+    static const char *const types[] = {"'integer' x, y; ", "'real' x, y; ", "'integer' x; 'real' y; ", "'real' x; 'integer' y; "};
+    put_text(t, "'begin' 'integer' a, b; 'real' r; 'procedure' p(x, y); ");
     put_text(t, value[below(4)]);
-    put_text(t, "'integer' x, y; ");
-    put_statement(t, 2, names[below(3)]);
-    put_text(t, once_in(2) ? "; 'integer' 'procedure' f(l); 'value' l; " : "; 'integer' 'procedure' f(l); ");
-    put_text(t, "'Boolean' l; f := 'if' l 'then' 1 'else' 0; ");
+    put_text(t, types[below(4)]);
+    put_statement(t, 2, names[below(4)]);
+    put_text(t, once_in(2) ? "; 'integer' 'procedure' f(l); " : "; 'real' 'procedure' f(l); ");
+    put_text(t, once_in(2) ? "'value' l; " : "");
+    put_text(t, "'Boolean' l; f := 'if' l 'then' 1 'else' ");
+    put_text(t, once_in(2) ? "0; " : "0.5; ");
     put_text(t, once_in(2) ? "a := b := 1; " : "");
+    put_text(t, once_in(2) ? "r := 1; " : "");
     for (unsigned i = below(6); i != 0; i--) {
-        put_statement(t, 3, "a");
+        put_statement(t, 3, once_in(2) ? "a" : "r");
         put_text(t, ";");
     }
-    put_statement(t, 3, "a");
+    put_statement(t, 3, once_in(2) ? "a" : "r");
     put_text(t, " 'end'");
 }
 
@@ -251,7 +276,7 @@ static void change(struct text *t, unsigned times)
         switch (below(6)) {
         case 0:
             if (at < t->length)
-                t->byte[at] = (uint8_t)(once_in(4) ? below(256) : "'; =a0(\n"[below(8)]);
+                t->byte[at] = once_in(4) ? (uint8_t)below(256) : (uint8_t)"'; =a0(.\n"[below(9)];
             break;
         case 1: drop_bytes(t, at, 1 + below(3)); break;
         case 2: drop_bytes(t, at, 1 + below(30)); break;
