@@ -242,14 +242,14 @@ unfolding withForm
 form-whole f i e = rw e
 
 module _ (at a : ℕ) (n : Counts) (s : List ℤ) (l : List ℕ) {s' : List ℤ} (g : Sound n s) where
-  pub load-quick : (v : ℕ) {c : ℕ} {r : Number} {z : ℤ} → Spots c v 0 n a l → c < n .cells → n .cells + n .held < roomOf s → r ≡ Number1 z → NumberIn r (cellAt s c) → s' ≡ putAt s (n .cells) (Holds (Whole (seen z)))
+  pub load-quick : (v : ℕ) {c : ℕ} {r : Number} {z : ℤ} → Spots c v (n .cells + 1) n a l → c < n .cells → n .cells + n .held < roomOf s → r ≡ Number1 z → NumberIn r (cellAt s c) → s' ≡ putAt s (n .cells) (Holds (Whole (seen z)))
       → Quickly (λ q. some (DO (load q (variable v)))) at a n (Goes (at + 1) (n .cells + 1)) s s' l
   load-quick v {c} {r} {z} k h w e p d =
       let x = number-is e p in
       let d' = d ∙ ap (λ (y : ℤ). putAt s (n .cells) (Holds (Whole y))) (seen-is s c x) in
       (λ q i o. did at a n s s' i o l (load q (variable v)) (n .cells + 1) (omega (arith, k h .0)) (load-whole n (ownOf l a) s i o q c _ (k h .1 n s i o) h x w d'), new-sound (n .cells) (Holds (Whole z)) d' g refl w)
 
-  pub save-quick : (v : ℕ) {c : ℕ} {r : Number} {z : ℤ} → Spots c v 1 n a l → c + 1 < n .cells → r ≡ Number1 z → NumberIn r (cellAt s (n .cells - 1)) → TakesWholes (cellAt s c) → s' ≡ putAt s c (Holds (Whole (seen z)))
+  pub save-quick : (v : ℕ) {c : ℕ} {r : Number} {z : ℤ} → Spots c v (n .cells) n a l → c + 1 < n .cells → r ≡ Number1 z → NumberIn r (cellAt s (n .cells - 1)) → TakesWholes (cellAt s c) → s' ≡ putAt s c (Holds (Whole (seen z)))
       → Quickly (λ q. some (DO (store q (variable v)))) at a n (Goes (at + 1) (n .cells - 1)) s s' l
   save-quick v {c} {r} {z} k h e p t d =
       let b = k (omega arith) in
@@ -271,7 +271,7 @@ module _ (at a : ℕ) (n : Counts) (s : List ℤ) (l : List ℕ) {s' : List ℤ}
       let z : n .cells - 1 ≡ n .cells - 2 + 1 = omega arith in
       (λ q i o. did at a n s s' i o l (binary q op) (n .cells - 1) h (binary-whole n (ownOf l a) s i o q op (omega arith) (g .room) b b' k' u d), rw z (new-sound (n .cells - 2) (Holds v) d (fewer-sound 2 n (fewer 2 n) s g refl) refl (omega (arith, g .room))))
 
-  pub sum-quick : (v : ℕ) {c : ℕ} {x z : ℤ} {r t : Number} {w : Outcome} {u : Value} {s₁ : List ℤ} → Spots c v 1 n a l → c + 1 < n .cells → 1 ≤ n .held → r ≡ Number1 x → NumberIn r (cellAt s (n .cells - 1)) → t ≡ Number1 z → NumberIn t (cellAt s c) → w ≡ apply2 Plus (Whole (seen z)) (Whole (seen x)) → w ≡ Is u
+  pub sum-quick : (v : ℕ) {c : ℕ} {x z : ℤ} {r t : Number} {w : Outcome} {u : Value} {s₁ : List ℤ} → Spots c v (n .cells) n a l → c + 1 < n .cells → 1 ≤ n .held → r ≡ Number1 x → NumberIn r (cellAt s (n .cells - 1)) → t ≡ Number1 z → NumberIn t (cellAt s c) → w ≡ apply2 Plus (Whole (seen z)) (Whole (seen x)) → w ≡ Is u
       → s₁ ≡ putAt s (roomOf s - n .held) (Holds (Whole (seen x))) → s' ≡ putAt s₁ (n .cells - 1) (Holds u) → Quickly (λ q. some (DO (sum q (variable v)))) at a n (Goes (at + 1) (n .cells)) s s' l
   sum-quick v {c} {x} {u = u} {s₁ = s₁} k h m e p e' p' j y d₀ d' =
       let b = k (omega arith) in
@@ -294,7 +294,7 @@ module _ (at a : ℕ) (n : Counts) (s : List ℤ) (l : List ℕ) (g : Sound n s)
   turn-quick v h f e p =
       (λ q i o. did at a n s s i o l (turn q Wholes) (n .cells) h (turn-whole n (ownOf l a) s i o q (omega arith) (number-is e p)) ∙ obeyed-as _ at _ _ _ (form-whole (low v) (λ t. DO (turn q t)) f), sound-same n (cut (n .cells) n) s g (omega arith) (g .room))
 
-  pub upto-quick : (v : ℕ) {c : ℕ} {x y z : ℤ} {r t u : Number} → Spots c v 1 n a l → c + 1 < n .cells → 1 ≤ n .held → r ≡ Number1 y → NumberIn r (cellAt s (n .cells - 1)) → t ≡ Number1 x → NumberIn t (cellAt s (roomOf s - n .held)) → u ≡ Number1 z → NumberIn u (cellAt s c) → leaves (Whole (seen z)) (Whole (seen x)) (Whole (seen y)) ≡ Is (Truth false)
+  pub upto-quick : (v : ℕ) {c : ℕ} {x y z : ℤ} {r t u : Number} → Spots c v (n .cells) n a l → c + 1 < n .cells → 1 ≤ n .held → r ≡ Number1 y → NumberIn r (cellAt s (n .cells - 1)) → t ≡ Number1 x → NumberIn t (cellAt s (roomOf s - n .held)) → u ≡ Number1 z → NumberIn u (cellAt s c) → leaves (Whole (seen z)) (Whole (seen x)) (Whole (seen y)) ≡ Is (Truth false)
       → Quickly (λ q. some (IF (upto q (variable v)) (low v))) at a n (Goes (at + 1) (n .cells - 1)) s s l
   upto-quick v {c} {x} {y} {z} k h m e p e₁ p₁ e₂ p₂ j =
       let b = k (omega arith) in

@@ -59,17 +59,17 @@ fn whole_way(own: &Memory, k: usize) -> bool
     true
 }
 
-// The variable's cell, where k values are above the running activation's first cell and no formal on the way converts; else one that is not in use.
-fn cell_of(live: usize, n: Counts, own: &Memory, v: u32, k: usize) -> usize
-    requires { ⌜ Lives (now own) live × (n .cells ≤ mostCells) × (k ≤ 1) ⌝ }
-    ensures { λ r. ⌜ Spots r v k n live (now (own .entry)) ⌝ }
+// The variable's cell, where the running activation's first cell is below `most` and no formal on the way converts; else one that is not in use.
+fn cell_of(live: usize, n: Counts, own: &Memory, v: u32, most: usize) -> usize
+    requires { ⌜ Lives (now own) live × (n .cells ≤ mostCells) × (n .cells ≤ most) ⌝ }
+    ensures { λ r. ⌜ Spots r v most n live (now (own .entry)) ⌝ }
     ensures { λ r. ⌜ r < 4294967296 + thirteenBits ⌝ }
 {
     let cells = n.cells;
     let b = first_cell(own, live);
     let o = mid(v as usize);
     if o == FOUND_OFFSET {
-        if b + k > cells {
+        if b >= most {
             return cells;
         }
         if whole_way(own, word(own, 0, LINKS) as usize) {
@@ -81,7 +81,7 @@ fn cell_of(live: usize, n: Counts, own: &Memory, v: u32, k: usize) -> usize
     if u == 0 {
         return b + o;
     }
-    if b + k > cells {
+    if b >= most {
         return cells;
     }
     first_cell(own, around(own, live, u)) + o
@@ -93,7 +93,7 @@ fn load(at: u32, live: usize, n: Counts, v: u32, store: &mut [i64], own: &Memory
     ensures { λ r. ⌜ Quickly (λ q. some (Instruction.DO (Act.load q (variable v)))) at live n r (now (store .entry)) (now (store .exit)) (now (own .entry)) ⌝ }
 {
     let m = n.cells;
-    let c = cell_of(live, n, own, v, 0);
+    let c = cell_of(live, n, own, v, m + 1);
     if c >= m {
         return Swift::Not;
     }
@@ -115,7 +115,7 @@ fn save(at: u32, live: usize, n: Counts, v: u32, store: &mut [i64], own: &Memory
     ensures { λ r. ⌜ Quickly (λ q. some (Instruction.DO (Act.store q (variable v)))) at live n r (now (store .entry)) (now (store .exit)) (now (own .entry)) ⌝ }
 {
     let m = n.cells;
-    let c = cell_of(live, n, own, v, 1);
+    let c = cell_of(live, n, own, v, m);
     if c + 1 >= m {
         return Swift::Not;
     }
@@ -249,7 +249,7 @@ fn upto(at: u32, live: usize, n: Counts, v: u32, store: &[i64], own: &Memory) ->
     ensures { λ r. ⌜ Quickly (λ q. some (Instruction.IF (Test.upto q (variable v)) (low v))) at live n r (now (store .entry)) (now (store .entry)) (now (own .entry)) ⌝ }
 {
     let m = n.cells;
-    let c = cell_of(live, n, own, v, 1);
+    let c = cell_of(live, n, own, v, m);
     if c + 1 >= m {
         return Swift::Not;
     }
@@ -280,7 +280,7 @@ fn sum(at: u32, live: usize, n: Counts, v: u32, store: &mut [i64], own: &Memory)
     ensures { λ r. ⌜ Quickly (λ q. some (Instruction.DO (Act.sum q (variable v)))) at live n r (now (store .entry)) (now (store .exit)) (now (own .entry)) ⌝ }
 {
     let m = n.cells;
-    let c = cell_of(live, n, own, v, 1);
+    let c = cell_of(live, n, own, v, m);
     if c + 1 >= m {
         return Swift::Not;
     }

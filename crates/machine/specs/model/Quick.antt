@@ -44,11 +44,11 @@ OnWholes (link t q ∷ l) = (t ≡ Wholes) × OnWholes l
 abbrev pub LeadsTo : ℕ → Target → Type 0
 LeadsTo c (to d l) = (c ≡ d) × OnWholes l
 
--- the variable v of the running activation a is such a cell, where c is in use, and k values are above the activation's first cell; l: the machine's
--- own memory
+-- the variable v of the running activation a is such a cell, where c is in use, and the activation's first cell is below k; l: the machine's own
+-- memory
 abbrev pub Spots : ℕ → ℕ → ℕ → Counts → ℕ → List ℕ → Type 0
 Spots c v k n a l =
-    c < n .cells → (base (framesOf l a) a + k ≤ n .cells) × ((m : Counts) (s i o : List ℤ) → LeadsTo c (targetIn (framesOf l a) (dataOf m (ownOf l a) s i o) (variable v)))
+    c < n .cells → (base (framesOf l a) a < k) × ((m : Counts) (s i o : List ℤ) → LeadsTo c (targetIn (framesOf l a) (dataOf m (ownOf l a) s i o) (variable v)))
 
 -- ---- instructions
 

@@ -35,7 +35,6 @@ cell-of-spec =
     (tie.spec
     (λ c κs. search needs)
     (λ c κs. search needs)
-    (λ c. search needs)
     returns
     (λ c κs. search needs)
     (λ c. search needs)
@@ -47,7 +46,6 @@ cell-of-spec =
     (λ c κs. search needs)
     (λ c. search needs)
     returns-4
-    (λ c. search needs)
     returns-5
     (λ c κs. search needs)
     (λ c κs. search needs)
