@@ -163,7 +163,8 @@ computed = refl
 all-hold : All rows
 all-hold = each rows computed
 
--- ---- two wrong machines, refuted: one that rounds a quotient down, one that touches the output behind the written part
+-- ---- three wrong machines, refuted: one that rounds a quotient down, one that touches the output behind the written part, one that leaves something in the
+-- store
 
 abbrev below : Outcome → ℕ
 below (Is (Truth b)) = 0
@@ -188,3 +189,12 @@ fourth (x ∷ y ∷ z ∷ negsuc n ∷ l) = 0
 touched : ¬ (afterwards (machine (12 ∷ 1 ∷ 12 ∷ 8 ∷ 19 ∷ 0 ∷ 1 ∷ 0 ∷ []) [] 1000 6 5) [] (pos 9 ∷ pos 9 ∷ pos 9 ∷ pos 9 ∷ pos 9 ∷ []) .output ≡ pos 0 ∷ pos 8 ∷ pos 0 ∷ pos 0 ∷ pos 9 ∷ [])
 unfolding afterwards machine finish run step obey exec workOut fetch withForm logical decode actOf unaryOf binaryOf work test picking openBlock closeBlock nameCell enter leave given newCells newest onValue back look put reading valued along outward inward heightened written onChannel hold unhold held foundIn find seeking input space rest spend taking writing lift guard check activationAt walk targetIn convert wholeOf entier whole real apply1 bothOf onNumbers onTruths cut quotient apply2 past pastR pastBy entryR addF subF mulF divF ltF leF eqF negF ofIntF toBitsF ofBitsF roundF
 touched h = let z : _≡_ {A = ℕ} 9 0 = ap fourth h in omega arith
+
+abbrev first : List ℤ → ℕ
+first [] = 0
+first (pos n ∷ l) = n
+first (negsuc n ∷ l) = 0
+
+left-dirty : ¬ (afterwards (machine (1 ∷ 0 ∷ []) [] 1000 1 0) (pos 7 ∷ pos 7 ∷ []) [] .store ≡ pos 7 ∷ pos 0 ∷ [])
+unfolding afterwards
+left-dirty h = let z : _≡_ {A = ℕ} 0 7 = ap first h in omega arith
