@@ -55,7 +55,7 @@ pub data Task : Type 0 where
   giveAll : List Mode → Expressions → Task
   -- a value becomes one of a type, 21 at a place
   turning : ℕ → Form → Task
-  -- the value of a whole-number arm, whose first symbol it is, becomes a real
+  -- the value of a whole-number arm becomes a real, which has no fault
   widening : Task
   -- give a name formal its cell, for the actual whose first symbol it is
   naming : ℕ → Task

@@ -33,39 +33,46 @@ use Rattle.translation.proofs.Fits.{FitsD, takes, gives, needs, holds, 
 
 -- ---- what is owed: instructions that no step has paid for yet. A statement owes the jump before a block's procedures, where the block's cells are too many
 
--- a choice that is no step: its test, and the jump at the end of the part chosen
-abbrev pub owesC : Choice → ℕ
-owesC (expressions u u' e f) = 3
-owesC (statements s t) = 3
-owesC (only s) = 3
-owesC (whiling x q e c l s) = 0
+-- of each task: what is owed before it, and what may be owed right after it. A choice that is no step owes its test, and the jump at the end of the
+-- part chosen
+abbrev pub debtC : Choice → ℕ × ℕ
+debtC (expressions u u' e f) = (3, 3)
+debtC (statements s t) = (3, 2)
+debtC (only s) = (3, 2)
+debtC (whiling x q e c l s) = (0, 2)
+
+abbrev pub debt : Task → ℕ × ℕ
+debt (evaluate e) = (0, 3)
+debt (giveAll m es) = (0, 0)
+debt (naming q) = (0, 3)
+debt widening = (0, 3)
+debt (turning q t) = (3, 3)
+debt (begin s) = (1, 2)
+debt (goThrough ss) = (1, 2)
+debt (stores x xs) = (0, 3)
+debt (loop x l s) = (2, 2)
+debt (act a) = (0, 3)
+debt unchanged = (0, 3)
+debt drop = (3, 2)
+debt (pick c) = debtC c
+debt (hold s) = (1, 2)
+debt (tested s) = (0, 2)
+debt (add s) = (0, 2)
+debt (trying s) = (0, 2)
+debt (summing s) = (0, 2)
+debt (settling c s) = (2, 2)
+debt (seek x q) = (0, 7)
+debt (find e q) = (1, 0)
+debt (receiving q y) = (1, 2)
+debt (invoke x es f) = (0, 3)
+debt (close n) = (0, 3)
+debt (return f x q b v) = (0, 3)
 
 abbrev pub owes : Task → ℕ
-owes (evaluate e) = 0
-owes (giveAll m es) = 0
-owes (naming q) = 0
-owes widening = 0
-owes (turning q t) = 3
-owes (begin s) = 1
-owes (goThrough ss) = 1
-owes (stores x xs) = 0
-owes (loop x l s) = 2
-owes (act a) = 0
-owes unchanged = 0
-owes drop = 3
-owes (pick c) = owesC c
-owes (hold s) = 1
-owes (tested s) = 0
-owes (add s) = 0
-owes (trying s) = 0
-owes (summing s) = 0
-owes (settling c s) = 2
-owes (seek x q) = 0
-owes (find e q) = 1
-owes (receiving q y) = 1
-owes (invoke x es f) = 0
-owes (close n) = 0
-owes (return f x q b v) = 0
+owes t = debt t .0
+
+abbrev pub slack : Task → ℕ
+slack t = debt t .1
 
 -- a conversion passes on what is owed after it: it is counted with the jumps
 abbrev pub passed : Task → ℕ → ℕ
@@ -99,41 +106,7 @@ abbrev pub owed : List Task → ℕ
 owed [] = 0
 owed (t ∷ k) = owes t + passed t (owed k)
 
--- what may be owed right after a task
-abbrev pub slackC : Choice → ℕ
-slackC (expressions u u' e f) = 3
-slackC (statements s t) = 2
-slackC (only s) = 2
-slackC (whiling x q e c l s) = 2
-
-abbrev pub slack : Task → ℕ
-slack (evaluate e) = 3
-slack (giveAll m es) = 0
-slack (naming q) = 3
-slack widening = 3
-slack (turning q t) = 3
-slack (begin s) = 2
-slack (goThrough ss) = 2
-slack (stores x xs) = 3
-slack (loop x l s) = 2
-slack (act a) = 3
-slack unchanged = 3
-slack drop = 2
-slack (pick c) = slackC c
-slack (hold s) = 2
-slack (tested s) = 2
-slack (add s) = 2
-slack (trying s) = 2
-slack (summing s) = 2
-slack (settling c s) = 2
-slack (seek x q) = 7
-slack (find e q) = 0
-slack (receiving q y) = 2
-slack (invoke x es f) = 3
-slack (close n) = 3
-slack (return f x q b v) = 3
-
-owesC-most : (c : Choice) → owesC c ≤ 3
+owesC-most : (c : Choice) → debtC c .0 ≤ 3
 owesC-most (expressions u u' e f) = omega arith
 owesC-most (statements s t) = omega arith
 owesC-most (only s) = omega arith
