@@ -21,25 +21,10 @@ first-rows d l h = go (ltb d 8192) refl
     go true e = refl
     go false e = take-all 32768 l (omega arith) ∙ sym (take-all (4 * d) l (omega (arith, ltb-false d 8192 e)))
 
-front-requires : tie.Need-front-requires
-front-requires c κs = search needs
-
-front-requires-2 : tie.Need-front-requires-2
-front-requires-2 c κs = search needs
-
-row-words-requires : tie.Need-row-words-requires
-row-words-requires c κs = search needs
-
-front-requires-3 : tie.Need-front-requires-3
-front-requires-3 c κs = search needs
-
 laid-out-requires : tie.Need-laid-out-requires
 laid-out-requires c κs =
     let a = c .before .before .before .before .before .before .before .before .before .before .before .args in
     omega (arith, ap length (c .before .before .before .before .before .before .before .before .front .ensures), length-take (a .n) (a .nodes .now), c .before .before .before .before .before .before .before .before .before .front-arg .given .0)
-
-same-length : tie.Need-same-length
-same-length c = search needs
 
 returns : tie.Need-returns
 returns c =
@@ -51,10 +36,10 @@ pub emit-spec : {M : Type 1} → statement M
 emit-spec =
     tie.close
     (tie.spec
-    front-requires
-    front-requires-2
-    row-words-requires
-    front-requires-3
+    (λ c κs. search needs)
+    (λ c κs. search needs)
+    (λ c κs. search needs)
+    (λ c κs. search needs)
     laid-out-requires
-    same-length
+    (λ c. search needs)
     returns)

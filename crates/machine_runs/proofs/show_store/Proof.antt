@@ -11,41 +11,17 @@ Inv-loop store i₀ i = i ≤ length store
 abbrev μ-loop : tie.MeasureT-loop
 μ-loop store i₀ i = length store - i
 
-loop-holds : tie.Need-loop-holds Inv-loop μ-loop
-loop-holds c = search needs
-
-mul-show-number : tie.Need-mul-show-number Inv-loop μ-loop
-mul-show-number c = search needs
-
-shared-slice-copy-out-show-number : tie.Need-shared-slice-copy-out-show-number Inv-loop μ-loop
-shared-slice-copy-out-show-number c = search needs
-
-show-number-requires : tie.Need-show-number-requires Inv-loop μ-loop
-show-number-requires c κs = search needs
-
-add-i : tie.Need-add-i Inv-loop μ-loop
-add-i c = search needs
-
-loop-less : tie.Need-loop-less Inv-loop μ-loop
-loop-less c = search needs
-
-loop-again : tie.Need-loop-again Inv-loop μ-loop
-loop-again c = search needs
-
-returns : tie.Need-returns Inv-loop μ-loop
-returns c = search needs
-
 pub show-store-spec : {M : Type 1} → statement M
 show-store-spec =
     tie.close
     (tie.spec
     Inv-loop
     μ-loop
-    loop-holds
-    mul-show-number
-    shared-slice-copy-out-show-number
-    show-number-requires
-    add-i
-    loop-less
-    loop-again
-    returns)
+    (λ c. search needs)
+    (λ c. search needs)
+    (λ c. search needs)
+    (λ c κs. search needs)
+    (λ c. search needs)
+    (λ c. search needs)
+    (λ c. search needs)
+    (λ c. search needs))

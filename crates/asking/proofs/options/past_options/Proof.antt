@@ -19,9 +19,6 @@ Inv-loop line from at₀ at = pastOptions (askedFrom line from) ≡ pastOptions 
 abbrev μ-loop : tie.MeasureT-loop
 μ-loop line from at₀ at = length line - at
 
-loop-holds : tie.Need-loop-holds Inv-loop μ-loop
-loop-holds c = refl
-
 returns : tie.Need-returns Inv-loop μ-loop
 returns c =
     let e = sym (c .before .is-option .ensures) ∙ not-true _ (c .if1 .taken) in
@@ -63,7 +60,7 @@ past-options-spec =
     (tie.spec
     Inv-loop
     μ-loop
-    loop-holds
+    (λ c. refl)
     (λ c κs. search needs)
     (λ c. search needs)
     (λ c. search needs)

@@ -17,11 +17,10 @@ Inv-loop line from name usual at₀ at = optionOf name usual (askedFrom line fro
 abbrev μ-loop : tie.MeasureT-loop
 μ-loop line from name usual at₀ at = length line - at
 
-loop-holds : tie.Need-loop-holds Inv-loop μ-loop
-loop-holds c = refl
-
 returns : tie.Need-returns Inv-loop μ-loop
-returns c = sym (c .before .before .before .loop .inv ∙ option-none (c .before .before .before .before .before .before .args .line .now) (c .before .before .before .loop .at) (c .before .next-word .result) (c .before .next-word .ensures) (c .before .before .before .before .before .before .args .name .now) (c .before .before .before .before .before .before .args .usual) (c .if1 .taken))
+returns c =
+    let args = c .before .before .before .before .before .before .args in
+    sym (c .before .before .before .loop .inv ∙ option-none (args .line .now) (c .before .before .before .loop .at) (c .before .next-word .result) (c .before .next-word .ensures) (args .name .now) (args .usual) (c .if1 .taken))
 
 returns-2 : tie.Need-returns-2 Inv-loop μ-loop
 returns-2 c =
@@ -44,7 +43,9 @@ loop-again c =
     c .before .before .before .before .before .loop .inv ∙ option-later (c .before .before .before .before .before .before .before .before .args .line .now) (c .before .before .before .before .before .loop .at) (c .before .before .before .next-word .result) h (c .before .before .before .before .before .before .before .before .args .name .now) (c .before .before .before .before .before .before .before .before .args .usual) (omega (arith, h .ordered)) e
 
 returns-3 : tie.Need-returns-3 Inv-loop μ-loop
-returns-3 c = sym (c .before .loop .inv ∙ option-nothing (c .before .before .before .before .args .line .now) (c .before .loop .at) (c .before .before .before .before .args .name .now) (c .before .before .before .before .args .usual) (c .loop-test .left))
+returns-3 c =
+    let args = c .before .before .before .before .args in
+    sym (c .before .loop .inv ∙ option-nothing (args .line .now) (c .before .loop .at) (args .name .now) (args .usual) (c .loop-test .left))
 
 pub option-spec : {M : Type 1} → statement M
 option-spec =
@@ -52,7 +53,7 @@ option-spec =
     (tie.spec
     Inv-loop
     μ-loop
-    loop-holds
+    (λ c. refl)
     (λ c κs. search needs)
     returns
     (λ c κs. search needs)

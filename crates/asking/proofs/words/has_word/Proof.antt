@@ -16,9 +16,6 @@ Inv-loop line from text at₀ at = has (wordsOf (drop from line)) text ≡ has (
 abbrev μ-loop : tie.MeasureT-loop
 μ-loop line from text at₀ at = length line - at
 
-loop-holds : tie.Need-loop-holds Inv-loop μ-loop
-loop-holds c = refl
-
 returns : tie.Need-returns Inv-loop μ-loop
 returns c = sym (c .before .before .before .loop .inv ∙ has-none (c .before .before .before .before .before .before .args .line .now) (c .before .before .before .loop .at) (c .before .word-from .result) (c .before .word-from .ensures) (c .before .before .before .before .before .before .args .text .now) (c .if1 .taken))
 
@@ -51,7 +48,7 @@ has-word-spec =
     (tie.spec
     Inv-loop
     μ-loop
-    loop-holds
+    (λ c. refl)
     (λ c κs. search needs)
     returns
     (λ c κs. search needs)

@@ -16,9 +16,6 @@ Inv-loop line at i₀ i = at + leadingZeros (drop at line) ≡ i + leadingZeros 
 abbrev μ-loop : tie.MeasureT-loop
 μ-loop line at i₀ i = length line - i
 
-loop-holds : tie.Need-loop-holds Inv-loop μ-loop
-loop-holds c = refl
-
 returns : tie.Need-returns Inv-loop μ-loop
 returns c = omega (arith, zeros-stop (c .before .before .before .before .args .line .now) (c .before .before .before .loop .i) (c .before .before .loop-test .taken) (c .if1 .taken))
 
@@ -34,7 +31,7 @@ zeros-end-spec =
     (tie.spec
     Inv-loop
     μ-loop
-    loop-holds
+    (λ c. refl)
     (λ c. search needs)
     returns
     (λ c. search needs)

@@ -38,21 +38,6 @@ returns c =
     let args = c .before .before .before .before .args in
     omega (arith, agreed-short (args .list .now) (drop (loop .i) (args .words .now)) (loop .i) (c .if1 .taken))
 
-mul-is-word : tie.Need-mul-is-word Inv-loop μ-loop
-mul-is-word c = search needs
-
-shared-slice-copy-out-is-word : tie.Need-shared-slice-copy-out-is-word Inv-loop μ-loop
-shared-slice-copy-out-is-word c = search needs
-
-mul-is-word-2 : tie.Need-mul-is-word-2 Inv-loop μ-loop
-mul-is-word-2 c = search needs
-
-shared-slice-read-is-word : tie.Need-shared-slice-read-is-word Inv-loop μ-loop
-shared-slice-read-is-word c = search needs
-
-is-word-requires : tie.Need-is-word-requires Inv-loop μ-loop
-is-word-requires c κs = search needs
-
 returns-2 : tie.Need-returns-2 Inv-loop μ-loop
 returns-2 c =
     let b = c .before .before .before .before .before .before in
@@ -61,12 +46,6 @@ returns-2 c =
     let f : isWord (getD (args .list .now) (loop .i) (pos 0)) (getD (args .words .now) (loop .i) 0) ≡ false =
     sent (args .list .now) (args .words .now) (loop .i) (c .before .before .before .is-word-arg .given) ∙ sym (c .before .is-word .ensures) ∙ not-true _ (c .if2 .taken) in
     omega (arith, agreed-stop (args .list .now) (args .words .now) (loop .i) (c .before .before .before .before .if1 .left) (c .before .before .before .before .before .loop-test .taken) (pos 0) f)
-
-add-i : tie.Need-add-i Inv-loop μ-loop
-add-i c = search needs
-
-loop-less : tie.Need-loop-less Inv-loop μ-loop
-loop-less c = omega arith
 
 loop-again : tie.Need-loop-again Inv-loop μ-loop
 loop-again c =
@@ -92,13 +71,13 @@ agreeing-spec =
     μ-loop
     loop-holds
     returns
-    mul-is-word
-    shared-slice-copy-out-is-word
-    mul-is-word-2
-    shared-slice-read-is-word
-    is-word-requires
+    (λ c. search needs)
+    (λ c. search needs)
+    (λ c. search needs)
+    (λ c. search needs)
+    (λ c κs. search needs)
     returns-2
-    add-i
-    loop-less
+    (λ c. search needs)
+    (λ c. omega arith)
     loop-again
     returns-3)

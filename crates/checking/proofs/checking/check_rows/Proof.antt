@@ -10,27 +10,9 @@ use borrow.Author.Needs.{needs}
 use Rattle.checking.proofs.checking.check_rows.Statement.{statement}
 use Rattle.checking.proofs.checking.check_rows.Tie as tie
 
-slice-aggregate-read : tie.Need-slice-aggregate-read
-slice-aggregate-read c = search needs
-
-read-requires : tie.Need-read-requires
-read-requires c κs = search needs
-
-enum-told : tie.Need-enum-told
-enum-told c = search needs
-
-slice-aggregate-compared : tie.Need-slice-aggregate-compared
-slice-aggregate-compared c = search needs
-
-lesser-requires : tie.Need-lesser-requires
-lesser-requires c κs = search needs
-
 compared-requires : tie.Need-compared-requires
 compared-requires c κs =
     (omega (arith, c .lesser .ensures), table-long (c .before .before .before .before .before .read .ensures) (c .before .before .enum-told .given .1))
-
-enum-known-r : tie.Need-enum-known-r
-enum-known-r c = search needs
 
 returns : tie.Need-returns
 returns c =
@@ -48,12 +30,12 @@ pub check-rows-spec : {M : Type 1} → statement M
 check-rows-spec =
     tie.close
     (tie.spec
-    slice-aggregate-read
-    read-requires
-    enum-told
-    slice-aggregate-compared
-    lesser-requires
+    (λ c. search needs)
+    (λ c κs. search needs)
+    (λ c. search needs)
+    (λ c. search needs)
+    (λ c κs. search needs)
     compared-requires
-    enum-known-r
+    (λ c. search needs)
     returns
     returns-2)

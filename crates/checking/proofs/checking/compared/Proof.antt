@@ -18,16 +18,10 @@ abbrev μ-loop : tie.MeasureT-loop
 slice-aggregate-agreeing : tie.Need-slice-aggregate-agreeing Inv-loop μ-loop
 slice-aggregate-agreeing c = sym (length-take-le 1 (c .before .before .args .table .now) (omega arith))
 
-agreeing-requires : tie.Need-agreeing-requires Inv-loop μ-loop
-agreeing-requires c κs = search needs
-
 returns : tie.Need-returns Inv-loop μ-loop
 returns c =
     let args = c .before .before .before .before .args in
     count-wrong (args .list .now) (args .table .now) (args .wide) (args .width) (omega (arith, c .before .before .before .before .pre .1)) (sym (c .before .agreeing .ensures) ∙ c .if1 .taken)
-
-word-requires : tie.Need-word-requires Inv-loop μ-loop
-word-requires c κs = search needs
 
 loop-holds : tie.Need-loop-holds Inv-loop μ-loop
 loop-holds c =
@@ -42,35 +36,11 @@ add-to c =
     let args = start .args in
     omega (arith, whole-row (args .list .now) (args .table .now) (args .wide) (args .width) (c .before .loop .inv) (c .loop-test .taken) (start .pre .0), start .good .1 .0)
 
-mul-agreeing : tie.Need-mul-agreeing Inv-loop μ-loop
-mul-agreeing c = search needs
-
-sub-agreeing : tie.Need-sub-agreeing Inv-loop μ-loop
-sub-agreeing c = search needs
-
-part-agreeing-start : tie.Need-part-agreeing-start Inv-loop μ-loop
-part-agreeing-start c = search needs
-
-part-agreeing-end : tie.Need-part-agreeing-end Inv-loop μ-loop
-part-agreeing-end c = search needs
-
-mul-agreeing-2 : tie.Need-mul-agreeing-2 Inv-loop μ-loop
-mul-agreeing-2 c = search needs
-
-sub-agreeing-2 : tie.Need-sub-agreeing-2 Inv-loop μ-loop
-sub-agreeing-2 c = search needs
-
-part-agreeing-start-2 : tie.Need-part-agreeing-start-2 Inv-loop μ-loop
-part-agreeing-start-2 c = search needs
-
 part-agreeing-end-2 : tie.Need-part-agreeing-end-2 Inv-loop μ-loop
 part-agreeing-end-2 c =
     let start = c .before .before .before .before .before .before .before .before in
     let args = start .args in
     omega (arith, start .pre .0, whole-row (args .list .now) (args .table .now) (args .wide) (args .width) (c .before .before .loop .inv) (c .before .loop-test .taken) (start .pre .0))
-
-agreeing-requires-2 : tie.Need-agreeing-requires-2 Inv-loop μ-loop
-agreeing-requires-2 c κs = search needs
 
 add-at : tie.Need-add-at Inv-loop μ-loop
 add-at c =
@@ -92,12 +62,6 @@ add-from c =
     let start = c .before .before .before .before .before .before .before .before .before .before .before in
     let args = start .args in
     omega (arith, whole-row (args .list .now) (args .table .now) (args .wide) (args .width) (loop .inv) (c .before .before .before .before .loop-test .taken) (start .pre .0))
-
-sub-left : tie.Need-sub-left Inv-loop μ-loop
-sub-left c = search needs
-
-loop-less : tie.Need-loop-less Inv-loop μ-loop
-loop-less c = search needs
 
 loop-again : tie.Need-loop-again Inv-loop μ-loop
 loop-again c =
@@ -124,25 +88,25 @@ compared-spec =
     Inv-loop
     μ-loop
     slice-aggregate-agreeing
-    agreeing-requires
+    (λ c κs. search needs)
     returns
-    word-requires
+    (λ c κs. search needs)
     loop-holds
     add-to
-    mul-agreeing
-    sub-agreeing
-    part-agreeing-start
-    part-agreeing-end
-    mul-agreeing-2
-    sub-agreeing-2
-    part-agreeing-start-2
+    (λ c. search needs)
+    (λ c. search needs)
+    (λ c. search needs)
+    (λ c. search needs)
+    (λ c. search needs)
+    (λ c. search needs)
+    (λ c. search needs)
     part-agreeing-end-2
-    agreeing-requires-2
+    (λ c κs. search needs)
     add-at
     returns-2
     add-from
-    sub-left
-    loop-less
+    (λ c. search needs)
+    (λ c. search needs)
     loop-again
     returns-3
     returns-4)

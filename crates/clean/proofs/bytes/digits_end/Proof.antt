@@ -16,9 +16,6 @@ Inv-loop source from i₀ i = from + reach digit (drop from source) ≡ i + reac
 abbrev μ-loop : tie.MeasureT-loop
 μ-loop source from i₀ i = length source - i
 
-loop-holds : tie.Need-loop-holds Inv-loop μ-loop
-loop-holds c = refl
-
 returns : tie.Need-returns Inv-loop μ-loop
 returns c =
     let l = c .before .before .before .before .loop in
@@ -38,4 +35,4 @@ returns-2 c =
     omega (arith, l .inv, r)
 
 pub digits-end-spec : {M : Type 1} → statement M
-digits-end-spec = tie.close (tie.spec Inv-loop μ-loop loop-holds (λ c. omega arith) (λ c κs. search needs) returns (λ c. omega arith) (λ c. omega arith) loop-again returns-2)
+digits-end-spec = tie.close (tie.spec Inv-loop μ-loop (λ c. refl) (λ c. omega arith) (λ c κs. search needs) returns (λ c. omega arith) (λ c. omega arith) loop-again returns-2)

@@ -19,12 +19,6 @@ abbrev μ-loop : tie.MeasureT-loop
 loop-holds : tie.Need-loop-holds Inv-loop μ-loop
 loop-holds c = none-put _ _ _
 
-shared-slice-read-b : tie.Need-shared-slice-read-b Inv-loop μ-loop
-shared-slice-read-b c = omega arith
-
-goes-on-requires : tie.Need-goes-on-requires Inv-loop μ-loop
-goes-on-requires c κs = search needs
-
 same-length : tie.Need-same-length Inv-loop μ-loop
 same-length c = c .before .before .before .before .loop .inv .puts .size
 
@@ -32,13 +26,9 @@ returns : tie.Need-returns Inv-loop μ-loop
 returns c = all-put (c .before .before .before .before .loop .inv) (letters-stop (sortOf (c .before .before .before .before .before .before .before .args .name)) (c .before .before .before .before .before .before .before .args .source .now) (c .before .before .before .before .loop .i) (omega arith) (sym (c .before .goes-on .ensures) ∙ not-true _ (c .if1 .taken)))
 
 put-one-requires : tie.Need-put-one-requires Inv-loop μ-loop
-put-one-requires c κs = omega (arith, left-over (c .before .before .before .before .before .loop .inv), run-short (sortOf (c .before .before .before .before .before .before .before .before .args .name)) (drop (c .before .before .before .before .before .before .before .before .args .from) (c .before .before .before .before .before .before .before .before .args .source .now)), length-drop (c .before .before .before .before .before .before .before .before .args .from) (c .before .before .before .before .before .before .before .before .args .source .now))
-
-add-i : tie.Need-add-i Inv-loop μ-loop
-add-i c = omega arith
-
-loop-less : tie.Need-loop-less Inv-loop μ-loop
-loop-less c = omega arith
+put-one-requires c κs =
+    let args = c .before .before .before .before .before .before .before .before .args in
+    omega (arith, left-over (c .before .before .before .before .before .loop .inv), run-short (sortOf (args .name)) (drop (args .from) (args .source .now)), length-drop (args .from) (args .source .now))
 
 loop-again : tie.Need-loop-again Inv-loop μ-loop
 loop-again c = more-put (c .before .before .before .before .before .before .before .before .loop .inv) (letters-next (sortOf (c .before .before .before .before .before .before .before .before .before .before .before .args .name)) (c .before .before .before .before .before .before .before .before .before .before .before .args .source .now) (c .before .before .before .before .before .before .before .before .loop .i) (omega arith) (sym (c .before .before .before .before .before .goes-on .ensures) ∙ not-false _ (c .before .before .before .before .if1 .left))) (c .before .before .put-one .ensures)
@@ -50,4 +40,4 @@ returns-2 : tie.Need-returns-2 Inv-loop μ-loop
 returns-2 c = all-put (c .before .loop .inv) (letters-end (sortOf (c .before .before .before .before .args .name)) (c .before .before .before .before .args .source .now) (c .before .loop .i) (omega arith))
 
 pub letters-spec : {M : Type 1} → statement M
-letters-spec = tie.close (tie.spec Inv-loop μ-loop loop-holds shared-slice-read-b goes-on-requires same-length returns put-one-requires add-i loop-less loop-again same-length-2 returns-2)
+letters-spec = tie.close (tie.spec Inv-loop μ-loop loop-holds (λ c. omega arith) (λ c κs. search needs) same-length returns put-one-requires (λ c. omega arith) (λ c. omega arith) loop-again same-length-2 returns-2)

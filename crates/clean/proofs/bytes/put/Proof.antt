@@ -10,7 +10,9 @@ returns : tie.Need-returns
 returns c = puts-over _ _ _ (c .if1 .taken)
 
 same-length : tie.Need-same-length
-same-length c = length-set (c .before .args .page .now) (c .before .args .at) (c .before .args .b)
+same-length c =
+    let args = c .before .args in
+    length-set (args .page .now) (args .at) (args .b)
 
 returns-2 : tie.Need-returns-2
 returns-2 c = puts-one _ _ _ (omega arith)

@@ -16,15 +16,6 @@ abbrev μ-loop : tie.MeasureT-loop
 loop-holds : tie.Need-loop-holds Inv-loop μ-loop
 loop-holds c = (omega arith, omega arith, left-as (none-put _ _ _) (times-all (c .before .args .times) (c .before .args .b)))
 
-put-requires : tie.Need-put-requires Inv-loop μ-loop
-put-requires c κs = omega arith
-
-add-i : tie.Need-add-i Inv-loop μ-loop
-add-i c = omega arith
-
-loop-less : tie.Need-loop-less Inv-loop μ-loop
-loop-less c = omega arith
-
 loop-again : tie.Need-loop-again Inv-loop μ-loop
 loop-again c = (omega arith, omega (arith, c .before .before .put .ensures .behind), more-put (c .before .before .before .before .before .loop .inv .2) (times-next (c .before .before .before .before .before .before .before .args .times) (c .before .before .before .before .before .loop .i) (c .before .before .before .before .before .before .before .args .b) (omega arith)) (c .before .before .put .ensures))
 
@@ -35,4 +26,4 @@ returns : tie.Need-returns Inv-loop μ-loop
 returns c = all-put (c .before .loop .inv .2) (times-none (c .before .before .before .args .times) (c .before .loop .i) (c .before .before .before .args .b) (omega arith))
 
 pub repeat-spec : {M : Type 1} → statement M
-repeat-spec = tie.close (tie.spec Inv-loop μ-loop loop-holds put-requires add-i loop-less loop-again same-length returns)
+repeat-spec = tie.close (tie.spec Inv-loop μ-loop loop-holds (λ c κs. omega arith) (λ c. omega arith) (λ c. omega arith) loop-again same-length returns)

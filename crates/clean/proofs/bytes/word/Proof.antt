@@ -16,18 +16,6 @@ abbrev μ-loop : tie.MeasureT-loop
 loop-holds : tie.Need-loop-holds Inv-loop μ-loop
 loop-holds c = (omega arith, omega arith, none-put _ _ _)
 
-shared-slice-read-put : tie.Need-shared-slice-read-put Inv-loop μ-loop
-shared-slice-read-put c = omega arith
-
-put-requires : tie.Need-put-requires Inv-loop μ-loop
-put-requires c κs = omega arith
-
-add-i : tie.Need-add-i Inv-loop μ-loop
-add-i c = omega arith
-
-loop-less : tie.Need-loop-less Inv-loop μ-loop
-loop-less c = omega arith
-
 loop-again : tie.Need-loop-again Inv-loop μ-loop
 loop-again c = (omega arith, omega (arith, c .before .before .put .ensures .behind), more-put (c .before .before .before .before .before .before .loop .inv .2) (word-next (c .before .before .before .before .before .before .before .before .before .args .w .now) (c .before .before .before .before .before .before .loop .i) (omega arith)) (c .before .before .put .ensures))
 
@@ -38,4 +26,4 @@ returns : tie.Need-returns Inv-loop μ-loop
 returns c = all-put (c .before .loop .inv .2) (word-none (c .before .before .before .before .args .w .now) (c .before .loop .i) (omega arith))
 
 pub word-spec : {M : Type 1} → statement M
-word-spec = tie.close (tie.spec Inv-loop μ-loop loop-holds shared-slice-read-put put-requires add-i loop-less loop-again same-length returns)
+word-spec = tie.close (tie.spec Inv-loop μ-loop loop-holds (λ c. omega arith) (λ c κs. omega arith) (λ c. omega arith) (λ c. omega arith) loop-again same-length returns)

@@ -15,14 +15,8 @@ Inv-loop source kinds places held₀ page₀ s₀ at₀ i₀ held page s at i = 
 abbrev μ-loop : tie.MeasureT-loop
 μ-loop source kinds places held₀ page₀ s₀ at₀ i₀ held page s at i = length kinds - i
 
-first-requires : tie.Need-first-requires Inv-loop μ-loop
-first-requires c κs = search needs
-
 loop-holds : tie.Need-loop-holds Inv-loop μ-loop
 loop-holds c = laying-first _ _ _ _ _ _ (c .first .ensures) (c .before .before .before .before .before .pre .2)
-
-shared-slice-read-kind : tie.Need-shared-slice-read-kind Inv-loop μ-loop
-shared-slice-read-kind c = omega arith
 
 early-requires : tie.Need-early-requires Inv-loop μ-loop
 early-requires c κs = (small-grown _ _ _ (omega (arith, c .before .before .before .before .before .before .before .before .before .pre .1)) (c .before .before .before .loop .inv .grows), omega (arith, c .before .before .before .loop .inv .grows .around, c .before .before .before .loop .inv .holds, c .before .before .before .before .before .before .before .before .before .pre .1))
@@ -42,17 +36,11 @@ spelled-requires c κs = (omega (arith, c .before .before .before .before .befor
 add-kind-at : tie.Need-add-kind-at Inv-loop μ-loop
 add-kind-at c = omega (arith, c .before .before .before .before .before .before .before .before .before .before .before .before .before .before .before .before .before .before .before .before .pre .1)
 
-kind-at-requires : tie.Need-kind-at-requires Inv-loop μ-loop
-kind-at-requires c κs = search needs
-
 late-requires : tie.Need-late-requires Inv-loop μ-loop
 late-requires c κs = (here-small (c .before .before .before .before .before .before .before .before .before .before .before .before .before .before .before .loop .inv) (c .before .before .before .before .before .before .before .before .before .before .before .before .before .before .before .before .before .before .before .before .before .pre .1) (c .before .before .before .before .before .before .before .before .before .before .before .before .before .before .before .before .before .before .before .before .before .pre .0) (omega arith) _ (c .before .before .before .before .before .before .before .before .before .before .before .early .ensures), omega (arith, here-around (c .before .before .before .before .before .before .before .before .before .before .before .before .before .before .before .loop .inv) (c .before .before .before .before .before .before .before .before .before .before .before .before .before .before .before .before .before .before .before .before .before .pre .1) (c .before .before .before .before .before .before .before .before .before .before .before .before .before .before .before .before .before .before .before .before .before .pre .0) (omega arith) _ (c .before .before .before .before .before .before .before .before .before .before .before .early .ensures), c .before .before .before .before .before .before .before .before .before .before .before .before .before .before .before .loop .inv .grows .around, c .before .before .before .before .before .before .before .before .before .before .before .before .before .before .before .loop .inv .holds, c .before .before .before .before .before .before .before .before .before .before .before .before .before .before .before .before .before .before .before .before .before .pre .1), here-low (c .before .before .before .before .before .before .before .before .before .before .before .before .before .before .before .loop .inv) (c .before .before .before .before .before .before .before .before .before .before .before .before .before .before .before .before .before .before .before .before .before .pre .1) (c .before .before .before .before .before .before .before .before .before .before .before .before .before .before .before .before .before .before .before .before .before .pre .0) (omega arith) _ (c .before .before .before .before .before .before .before .before .before .before .before .early .ensures))
 
 add-i : tie.Need-add-i Inv-loop μ-loop
 add-i c = omega (arith, c .before .before .before .before .before .before .before .before .before .before .before .before .before .before .before .before .before .before .before .before .before .before .before .before .pre .1)
-
-loop-less : tie.Need-loop-less Inv-loop μ-loop
-loop-less c = omega arith
 
 loop-again : tie.Need-loop-again Inv-loop μ-loop
 loop-again c = laying-next (c .before .before .before .before .before .before .before .before .before .before .before .before .before .before .before .before .before .before .loop .inv) (c .before .before .before .before .before .before .before .before .before .before .before .before .before .before .before .before .before .before .before .before .before .before .before .before .pre .1) (c .before .before .before .before .before .before .before .before .before .before .before .before .before .before .before .before .before .before .before .before .before .before .before .before .pre .0) (omega arith) _ _ _ (kind-in (c .before .before .before .before .before .before .before .before .before .before .before .before .before .before .before .before .before .before .before .before .before .before .before .before .args .kinds .now) (c .before .before .before .before .before .before .before .before .before .before .before .before .before .before .before .before .before .before .loop .i) (c .before .before .before .before .before .before .before .before .before .before .before .before .before .before .before .before .before .before .before .before .before .before .before .before .pre .3) (omega arith)) (c .before .before .before .before .before .before .before .before .before .before .before .before .before .before .early .ensures) (c .before .before .before .before .before .before .before .before .before .before .before .before .gap .ensures) (c .before .before .before .before .before .before .before .spelled .ensures) (c .before .before .before .kind-at .ensures) (c .before .before .late .ensures)
@@ -70,4 +58,4 @@ returns : tie.Need-returns Inv-loop μ-loop
 returns c = laying-done (c .before .before .before .before .before .loop .inv) (omega arith) (c .before .before .put .ensures)
 
 pub lay-out-spec : {M : Type 1} → statement M
-lay-out-spec = tie.close (tie.spec Inv-loop μ-loop first-requires loop-holds shared-slice-read-kind early-requires gap-requires mul-kind-at element-copy-out-kind-at spelled-requires add-kind-at kind-at-requires late-requires add-i loop-less loop-again put-requires same-length same-length-2 returns)
+lay-out-spec = tie.close (tie.spec Inv-loop μ-loop (λ c κs. search needs) loop-holds (λ c. omega arith) early-requires gap-requires mul-kind-at element-copy-out-kind-at spelled-requires add-kind-at (λ c κs. search needs) late-requires add-i (λ c. omega arith) loop-again put-requires same-length same-length-2 returns)

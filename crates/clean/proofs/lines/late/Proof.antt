@@ -21,7 +21,9 @@ top-requires : tie.Need-top-requires
 top-requires c κs = omega (arith, around-passed (c .before .before .before .before .args .s0) (c .before .before .before .before .args .kind) (c .before .before .passed .result) (c .before .before .passed .ensures), c .before .before .before .before .pre .1)
 
 separated-requires : tie.Need-separated-requires
-separated-requires c κs = (small-passed (c .before .before .before .before .args .s0) (c .before .before .before .before .args .kind) (c .before .before .passed .result) (c .before .before .passed .ensures) (c .before .before .before .before .pre .0), omega (arith, around-passed (c .before .before .before .before .args .s0) (c .before .before .before .before .args .kind) (c .before .before .passed .result) (c .before .before .passed .ensures), c .before .before .before .before .pre .1), subst (λ n. Low 4096 (stackOf n (c .before .before .before .before .args .held .now))) (sym (around-passed (c .before .before .before .before .args .s0) (c .before .before .before .before .args .kind) (c .before .before .passed .result) (c .before .before .passed .ensures))) (c .before .before .before .before .pre .2))
+separated-requires c κs =
+    let args = c .before .before .before .before .args in
+    (small-passed (args .s0) (args .kind) (c .before .before .passed .result) (c .before .before .passed .ensures) (c .before .before .before .before .pre .0), omega (arith, around-passed (args .s0) (args .kind) (c .before .before .passed .result) (c .before .before .passed .ensures), c .before .before .before .before .pre .1), subst (λ n. Low 4096 (stackOf n (args .held .now))) (sym (around-passed (args .s0) (args .kind) (c .before .before .passed .result) (c .before .before .passed .ensures))) (c .before .before .before .before .pre .2))
 
 waits-requires : tie.Need-waits-requires
 waits-requires c κs = small-passed (c .before .before .before .args .s0) (c .before .before .before .args .kind) (c .before .passed .result) (c .before .passed .ensures) (c .before .before .before .pre .0)

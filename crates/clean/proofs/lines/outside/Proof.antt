@@ -11,7 +11,9 @@ use Rattle.clean.proofs.lines.outside.Statement.{statement}
 use Rattle.clean.proofs.lines.outside.Tie as tie
 
 top-requires : tie.Need-top-requires
-top-requires c κs = omega (arith, ap (λ o. o .around) (c .out .ensures), out-around (c .before .before .args .s) (stackOf (c .before .before .args .s .around) (c .before .before .args .held .now)))
+top-requires c κs =
+    let args = c .before .before .args in
+    omega (arith, ap (λ o. o .around) (c .out .ensures), out-around (args .s) (stackOf (args .s .around) (args .held .now)))
 
 inward-requires : tie.Need-inward-requires
 inward-requires c κs =

@@ -7,30 +7,6 @@ use borrow.Author.Needs.{needs}
 use Rattle.emitting.proofs.actuals.begun.Statement.{statement}
 use Rattle.emitting.proofs.actuals.begun.Tie as tie
 
-add-formal-at : tie.Need-add-formal-at
-add-formal-at c = search needs
-
-add-formal-at-2 : tie.Need-add-formal-at-2
-add-formal-at-2 c = search needs
-
-formal-at-requires : tie.Need-formal-at-requires
-formal-at-requires c κs = search needs
-
-add-form-at : tie.Need-add-form-at
-add-form-at c = search needs
-
-add-form-at-2 : tie.Need-add-form-at-2
-add-form-at-2 c = search needs
-
-form-at-requires : tie.Need-form-at-requires
-form-at-requires c κs = search needs
-
-name-begun-requires : tie.Need-name-begun-requires
-name-begun-requires c κs = search needs
-
-same-length : tie.Need-same-length
-same-length c = search needs
-
 returns : tie.Need-returns
 unfolding begun
 returns c = λ vs ly es us ah en. simp (eq-eqb _ _ (sym (c .before .before .before .before .before .before .before .formal-at .ensures) ∙ c .before .before .before .before .before .before .if1 .taken)) (rw (c .before .before .before .before .before .form-at .ensures .0) at (c .before .before .name-begun .ensures vs ly es us ah en))
@@ -43,13 +19,13 @@ pub begun-spec : {M : Type 1} → statement M
 begun-spec =
     tie.close
     (tie.spec
-    add-formal-at
-    add-formal-at-2
-    formal-at-requires
-    add-form-at
-    add-form-at-2
-    form-at-requires
-    name-begun-requires
-    same-length
+    (λ c. search needs)
+    (λ c. search needs)
+    (λ c κs. search needs)
+    (λ c. search needs)
+    (λ c. search needs)
+    (λ c κs. search needs)
+    (λ c κs. search needs)
+    (λ c. search needs)
     returns
     returns-2)

@@ -6,25 +6,10 @@ use borrow.Author.Needs.{needs}
 use Rattle.emitting.proofs.actuals.ended.Statement.{statement}
 use Rattle.emitting.proofs.actuals.ended.Tie as tie
 
-put-requires : tie.Need-put-requires
-put-requires c κs = search needs
-
-same-length : tie.Need-same-length
-same-length c = search needs
-
 returns : tie.Need-returns
 returns c =
     let g = c .before .before .put .ensures .1 in
     (λ vs ly ks es us op en. simp (lt-ltb _ _ (c .before .before .before .before .if1 .taken)) (c .before .before .put .ensures .0 us op (c .before .before .before .before .before .before .before .before .args .next-ahead .now) en), (omega (arith, g .1), g .0 .slots, omega (arith, g .0 .level), g .2))
-
-name-ended-requires : tie.Need-name-ended-requires
-name-ended-requires c κs = search needs
-
-same-length-2 : tie.Need-same-length-2
-same-length-2 c = search needs
-
-same-length-3 : tie.Need-same-length-3
-same-length-3 c = search needs
 
 returns-2 : tie.Need-returns-2
 returns-2 c =
@@ -35,10 +20,10 @@ pub ended-spec : {M : Type 1} → statement M
 ended-spec =
     tie.close
     (tie.spec
-    put-requires
-    same-length
+    (λ c κs. search needs)
+    (λ c. search needs)
     returns
-    name-ended-requires
-    same-length-2
-    same-length-3
+    (λ c κs. search needs)
+    (λ c. search needs)
+    (λ c. search needs)
     returns-2)

@@ -9,21 +9,6 @@ use borrow.Author.Needs.{needs}
 use Rattle.emitting.proofs.actuals.given_in.Statement.{statement}
 use Rattle.emitting.proofs.actuals.given_in.Tie as tie
 
-given-turned-requires : tie.Need-given-turned-requires
-given-turned-requires c κs = search needs
-
-add-replace : tie.Need-add-replace
-add-replace c = search needs
-
-replace-requires : tie.Need-replace-requires
-replace-requires c κs = search needs
-
-awaited-requires : tie.Need-awaited-requires
-awaited-requires c κs = search needs
-
-same-length : tie.Need-same-length
-same-length c = search needs
-
 returns : tie.Need-returns
 unfolding withVariable withOpen replaced
 returns c =
@@ -36,9 +21,9 @@ pub given-in-spec : {M : Type 1} → statement M
 given-in-spec =
     tie.close
     (tie.spec
-    given-turned-requires
-    add-replace
-    replace-requires
-    awaited-requires
-    same-length
+    (λ c κs. search needs)
+    (λ c. search needs)
+    (λ c κs. search needs)
+    (λ c κs. search needs)
+    (λ c. search needs)
     returns)

@@ -12,24 +12,9 @@ returns : tie.Need-returns
 unfolding givenTurned
 returns c = (λ vs ly ks es us op ah en. simp (eq-eqb _ _ (c .before .before .if1 .taken), eq-eqb _ _ (c .if2 .taken)), (alike-same _, refl))
 
-given-form-requires : tie.Need-given-form-requires
-given-form-requires c κs = search needs
-
-put-requires : tie.Need-put-requires
-put-requires c κs = search needs
-
-same-length : tie.Need-same-length
-same-length c = search needs
-
 returns-2 : tie.Need-returns-2
 unfolding givenTurned
 returns-2 c = (λ vs ly ks es us op ah en. simp (eq-eqb _ _ (c .before .before .before .before .before .before .before .if1 .taken), ne-eqb _ _ (c .before .before .before .before .before .if2 .left)) (rw (c .before .before .before .given-form .ensures .0) at (c .before .before .put .ensures .0 us op ah en)), (c .before .before .put .ensures .1 .0, c .before .before .put .ensures .1 .2))
-
-put-requires-2 : tie.Need-put-requires-2
-put-requires-2 c κs = search needs
-
-same-length-2 : tie.Need-same-length-2
-same-length-2 c = search needs
 
 returns-3 : tie.Need-returns-3
 unfolding givenTurned
@@ -40,10 +25,10 @@ given-turned-spec =
     tie.close
     (tie.spec
     returns
-    given-form-requires
-    put-requires
-    same-length
+    (λ c κs. search needs)
+    (λ c κs. search needs)
+    (λ c. search needs)
     returns-2
-    put-requires-2
-    same-length-2
+    (λ c κs. search needs)
+    (λ c. search needs)
     returns-3)

@@ -9,29 +9,8 @@ use borrow.Author.Needs.{needs}
 use Rattle.emitting.proofs.actuals.name_begun.Statement.{statement}
 use Rattle.emitting.proofs.actuals.name_begun.Tie as tie
 
-opening-requires : tie.Need-opening-requires
-opening-requires c κs = search needs
-
-add-replace : tie.Need-add-replace
-add-replace c = search needs
-
-replace-requires : tie.Need-replace-requires
-replace-requires c κs = search needs
-
-add-r : tie.Need-add-r
-add-r c = search needs
-
-add-r-2 : tie.Need-add-r-2
-add-r-2 c = search needs
-
-add-r-3 : tie.Need-add-r-3
-add-r-3 c = search needs
-
 add-r-4 : tie.Need-add-r-4
 add-r-4 c = omega (arith, c .before .before .replace .ensures .1 .0 .level, c .before .before .before .before .before .before .before .opening .ensures .1 .0 .level, c .before .before .before .before .before .before .before .before .before .before .before .pre .2)
-
-same-length : tie.Need-same-length
-same-length c = search needs
 
 returns : tie.Need-returns
 unfolding nameBegun within withSlot replaced withOpen
@@ -44,12 +23,12 @@ pub name-begun-spec : {M : Type 1} → statement M
 name-begun-spec =
     tie.close
     (tie.spec
-    opening-requires
-    add-replace
-    replace-requires
-    add-r
-    add-r-2
-    add-r-3
+    (λ c κs. search needs)
+    (λ c. search needs)
+    (λ c κs. search needs)
+    (λ c. search needs)
+    (λ c. search needs)
+    (λ c. search needs)
     add-r-4
-    same-length
+    (λ c. search needs)
     returns)

@@ -10,47 +10,11 @@ use borrow.Author.Needs.{needs}
 use Rattle.emitting.proofs.actuals.name_ended.Statement.{statement}
 use Rattle.emitting.proofs.actuals.name_ended.Tie as tie
 
-less-requires : tie.Need-less-requires
-less-requires c κs = search needs
-
-add-t11 : tie.Need-add-t11
-add-t11 c = search needs
-
-add-t12 : tie.Need-add-t12
-add-t12 c = search needs
-
-add-set-word : tie.Need-add-set-word
-add-set-word c = search needs
-
-set-word-requires : tie.Need-set-word-requires
-set-word-requires c κs = search needs
-
-add-set-word-2 : tie.Need-add-set-word-2
-add-set-word-2 c = search needs
-
-set-word-requires-2 : tie.Need-set-word-requires-2
-set-word-requires-2 c κs = search needs
-
-going-to-requires : tie.Need-going-to-requires
-going-to-requires c κs = search needs
-
-set-word-requires-3 : tie.Need-set-word-requires-3
-set-word-requires-3 c κs = search needs
-
-put-requires : tie.Need-put-requires
-put-requires c κs = search needs
-
 put-requires-2 : tie.Need-put-requires-2
 put-requires-2 c κs = let p = c .before .before .before .put .ensures .1 .1 in let h = c .before .before .before .before .before .before .before .before .before .before .before .before .before .before .before .before .before .before .before .before .before .before .pre .0 .at in (omega arith, omega arith, omega arith)
 
-less-requires-2 : tie.Need-less-requires-2
-less-requires-2 c κs = search needs
-
 same-length : tie.Need-same-length
 same-length c = c .before .before .before .before .before .before .before .before .before .before .before .set-word3 .kept .0 ∙ c .before .before .before .before .before .before .before .before .before .before .before .before .before .before .before .before .set-word2 .kept .0 ∙ c .before .before .before .before .before .before .before .before .before .before .before .before .before .before .before .before .before .before .before .before .set-word .kept .0
-
-same-length-2 : tie.Need-same-length-2
-same-length-2 c = search needs
 
 returns : tie.Need-returns
 unfolding nameEnded noted within put
@@ -69,18 +33,18 @@ pub name-ended-spec : {M : Type 1} → statement M
 name-ended-spec =
     tie.close
     (tie.spec
-    less-requires
-    add-t11
-    add-t12
-    add-set-word
-    set-word-requires
-    add-set-word-2
-    set-word-requires-2
-    going-to-requires
-    set-word-requires-3
-    put-requires
+    (λ c κs. search needs)
+    (λ c. search needs)
+    (λ c. search needs)
+    (λ c. search needs)
+    (λ c κs. search needs)
+    (λ c. search needs)
+    (λ c κs. search needs)
+    (λ c κs. search needs)
+    (λ c κs. search needs)
+    (λ c κs. search needs)
     put-requires-2
-    less-requires-2
+    (λ c κs. search needs)
     same-length
-    same-length-2
+    (λ c. search needs)
     returns)

@@ -7,33 +7,6 @@ use borrow.Author.Needs.{needs}
 use Rattle.emitting.proofs.actuals.opening.Statement.{statement}
 use Rattle.emitting.proofs.actuals.opening.Tie as tie
 
-add-place-ahead : tie.Need-add-place-ahead
-add-place-ahead c = search needs
-
-place-ahead-requires : tie.Need-place-ahead-requires
-place-ahead-requires c κs = search needs
-
-word-at-requires : tie.Need-word-at-requires
-word-at-requires c κs = search needs
-
-put-requires : tie.Need-put-requires
-put-requires c κs = search needs
-
-add-word-at : tie.Need-add-word-at
-add-word-at c = search needs
-
-word-at-requires-2 : tie.Need-word-at-requires-2
-word-at-requires-2 c κs = search needs
-
-lending-requires : tie.Need-lending-requires
-lending-requires c κs = search needs
-
-put-requires-2 : tie.Need-put-requires-2
-put-requires-2 c κs = search needs
-
-same-length : tie.Need-same-length
-same-length c = search needs
-
 returns : tie.Need-returns
 unfolding aheadAt
 returns c =
@@ -47,13 +20,13 @@ pub opening-spec : {M : Type 1} → statement M
 opening-spec =
     tie.close
     (tie.spec
-    add-place-ahead
-    place-ahead-requires
-    word-at-requires
-    put-requires
-    add-word-at
-    word-at-requires-2
-    lending-requires
-    put-requires-2
-    same-length
+    (λ c. search needs)
+    (λ c κs. search needs)
+    (λ c κs. search needs)
+    (λ c κs. search needs)
+    (λ c. search needs)
+    (λ c κs. search needs)
+    (λ c κs. search needs)
+    (λ c κs. search needs)
+    (λ c. search needs)
     returns)

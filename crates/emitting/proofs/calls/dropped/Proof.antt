@@ -10,15 +10,9 @@ returns : tie.Need-returns
 unfolding dropped
 returns c = λ vs ly ks es us op ah en. simp (eq-eqb _ _ (c .if1 .taken))
 
-put-requires : tie.Need-put-requires
-put-requires c κs = search needs
-
-same-length : tie.Need-same-length
-same-length c = search needs
-
 returns-2 : tie.Need-returns-2
 unfolding dropped
 returns-2 c = λ vs ly ks es us op ah en. simp (ne-eqb _ _ (c .before .before .before .before .if1 .left)) (c .before .before .put .ensures .0 us op ah en)
 
 pub dropped-spec : {M : Type 1} → statement M
-dropped-spec = tie.close (tie.spec returns put-requires same-length returns-2)
+dropped-spec = tie.close (tie.spec returns (λ c κs. search needs) (λ c. search needs) returns-2)

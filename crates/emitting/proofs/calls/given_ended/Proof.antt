@@ -7,35 +7,11 @@ use borrow.Author.Needs.{needs}
 use Rattle.emitting.proofs.calls.given_ended.Statement.{statement}
 use Rattle.emitting.proofs.calls.given_ended.Tie as tie
 
-put-requires : tie.Need-put-requires
-put-requires c κs = search needs
-
-dropped-requires : tie.Need-dropped-requires
-dropped-requires c κs = search needs
-
-same-length : tie.Need-same-length
-same-length c = search needs
-
 returns : tie.Need-returns
 returns c = λ vs ly ks es us op ah en. simp (eq-eqb _ _ (c .before .before .before .before .before .before .before .before .if1 .taken)) (c .before .before .dropped .ensures vs ly ks es us op ah en ∙ ap (dropped vs ly ks es (c .before .before .before .before .before .before .before .before .before .before .before .args .u)) (c .before .before .before .before .before .before .put .ensures .0 us op ah en))
 
-taken-in-requires : tie.Need-taken-in-requires
-taken-in-requires c κs = search needs
-
-same-length-2 : tie.Need-same-length-2
-same-length-2 c = search needs
-
 returns-2 : tie.Need-returns-2
 returns-2 c = λ vs ly ks es us op ah en. simp (ne-eqb _ _ (c .before .before .before .before .before .before .if1 .left), eq-eqb _ _ (c .before .before .before .before .if2 .taken)) (c .before .before .taken-in .ensures vs ly ks es us op ah en)
-
-sending-requires : tie.Need-sending-requires
-sending-requires c κs = search needs
-
-put-requires-2 : tie.Need-put-requires-2
-put-requires-2 c κs = search needs
-
-same-length-3 : tie.Need-same-length-3
-same-length-3 c = search needs
 
 returns-3 : tie.Need-returns-3
 returns-3 c = λ vs ly ks es us op ah en. simp (ne-eqb _ _ (c .before .before .before .before .before .before .before .if1 .left), ne-eqb _ _ (c .before .before .before .before .before .if2 .left)) (rw (c .before .before .before .sending .ensures .0) at (c .before .before .put2 .ensures .0 us op ah en))
@@ -44,14 +20,14 @@ pub given-ended-spec : {M : Type 1} → statement M
 given-ended-spec =
     tie.close
     (tie.spec
-    put-requires
-    dropped-requires
-    same-length
+    (λ c κs. search needs)
+    (λ c κs. search needs)
+    (λ c. search needs)
     returns
-    taken-in-requires
-    same-length-2
+    (λ c κs. search needs)
+    (λ c. search needs)
     returns-2
-    sending-requires
-    put-requires-2
-    same-length-3
+    (λ c κs. search needs)
+    (λ c κs. search needs)
+    (λ c. search needs)
     returns-3)

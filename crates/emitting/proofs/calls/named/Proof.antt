@@ -7,50 +7,17 @@ use borrow.Author.Needs.{needs}
 use Rattle.emitting.proofs.calls.named.Statement.{statement}
 use Rattle.emitting.proofs.calls.named.Tie as tie
 
-put-requires : tie.Need-put-requires
-put-requires c κs = search needs
-
-dropped-requires : tie.Need-dropped-requires
-dropped-requires c κs = search needs
-
-same-length : tie.Need-same-length
-same-length c = search needs
-
 returns : tie.Need-returns
 unfolding named
 returns c =
     let a = c .before .before .before .before .before .before .before .before .before .before .before .before .args in
     λ vs ks us op ah en. simp (eq-eqb _ _ (c .before .before .before .before .before .before .before .before .if1 .taken)) (c .before .before .dropped .ensures vs (a .layout .now) ks (a .entries .now) us op ah en ∙ ap (dropped vs (a .layout .now) ks (a .entries .now) (a .u)) (c .before .before .before .before .before .before .put .ensures .0 us op ah en))
 
-result-for-requires : tie.Need-result-for-requires
-result-for-requires c κs = search needs
-
-called-with-requires : tie.Need-called-with-requires
-called-with-requires c κs = search needs
-
-same-length-2 : tie.Need-same-length-2
-same-length-2 c = search needs
-
 returns-2 : tie.Need-returns-2
 unfolding named
 returns-2 c =
     let a = c .before .before .before .before .before .before .before .before .before .before .before .before .before .args in
     λ vs ks us op ah en. simp (ne-eqb _ _ (c .before .before .before .before .before .before .before .before .before .if1 .left), eq-eqb _ _ (c .before .before .before .before .before .before .before .before .if2 .taken)) (c .before .before .called-with .ensures vs ks us op ah en ∙ ap (calledWith vs (a .layout .now) ks (a .entries .now) (a .k) (a .m) 0 (a .u) (a .place .at)) (c .before .before .before .before .before .before .result-for .ensures .0 vs ks (a .entries .now) us op ah en))
-
-cell-of-requires : tie.Need-cell-of-requires
-cell-of-requires c κs = search needs
-
-bare-requires : tie.Need-bare-requires
-bare-requires c κs = search needs
-
-reading-requires : tie.Need-reading-requires
-reading-requires c κs = search needs
-
-put-requires-2 : tie.Need-put-requires-2
-put-requires-2 c κs = search needs
-
-same-length-3 : tie.Need-same-length-3
-same-length-3 c = search needs
 
 returns-3 : tie.Need-returns-3
 unfolding named
@@ -62,17 +29,17 @@ pub named-spec : {M : Type 1} → statement M
 named-spec =
     tie.close
     (tie.spec
-    put-requires
-    dropped-requires
-    same-length
+    (λ c κs. search needs)
+    (λ c κs. search needs)
+    (λ c. search needs)
     returns
-    result-for-requires
-    called-with-requires
-    same-length-2
+    (λ c κs. search needs)
+    (λ c κs. search needs)
+    (λ c. search needs)
     returns-2
-    cell-of-requires
-    bare-requires
-    reading-requires
-    put-requires-2
-    same-length-3
+    (λ c κs. search needs)
+    (λ c κs. search needs)
+    (λ c κs. search needs)
+    (λ c κs. search needs)
+    (λ c. search needs)
     returns-3)

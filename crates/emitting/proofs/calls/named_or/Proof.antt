@@ -9,23 +9,11 @@ use borrow.Author.Needs.{needs}
 use Rattle.emitting.proofs.calls.named_or.Statement.{statement}
 use Rattle.emitting.proofs.calls.named_or.Tie as tie
 
-word-of-requires : tie.Need-word-of-requires
-word-of-requires c κs = search needs
-
-named-requires : tie.Need-named-requires
-named-requires c κs = search needs
-
-same-length : tie.Need-same-length
-same-length c = search needs
-
 returns : tie.Need-returns
 unfolding namedOr withVariable
 returns c =
     let a = c .before .before .before .before .before .before .before .before .before .before .args in
     λ vs ks us ah en. simp (eq-eqb _ _ (c .before .before .before .before .before .if1 .taken)) (ap (withVariable 0 (c .before .before .before .before .word-of .result)) (c .before .before .named .ensures vs ks us (a .things .now) ah en) ∙ ap (λ (v : ℕ). withVariable 0 v (named vs (a .layout .now) ks (a .entries .now) (a .k) (a .m) (a .u) (a .place .at) (a .form) (see (a .t) us (a .things .now) (a .code .now) ah en))) (c .before .before .before .before .word-of .ensures .0 vs ks (a .entries .now) us (a .code .now) ah en))
-
-cell-of-requires : tie.Need-cell-of-requires
-cell-of-requires c κs = search needs
 
 returns-2 : tie.Need-returns-2
 unfolding namedOr withVariable
@@ -34,4 +22,4 @@ returns-2 c = λ vs ks us ah en. simp (ne-eqb _ _ (c .before .if1 .left)) (rw (c
 pub named-or-spec : {M : Type 1} → statement M
 named-or-spec =
     tie.close
-    (tie.spec word-of-requires named-requires same-length returns cell-of-requires returns-2)
+    (tie.spec (λ c κs. search needs) (λ c κs. search needs) (λ c. search needs) returns (λ c κs. search needs) returns-2)

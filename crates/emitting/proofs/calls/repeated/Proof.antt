@@ -6,21 +6,9 @@ use borrow.Author.Needs.{needs}
 use Rattle.emitting.proofs.calls.repeated.Statement.{statement}
 use Rattle.emitting.proofs.calls.repeated.Tie as tie
 
-cell-of-requires : tie.Need-cell-of-requires
-cell-of-requires c κs = search needs
-
-cast-push : tie.Need-cast-push
-cast-push c = search needs
-
-push-requires : tie.Need-push-requires
-push-requires c κs = search needs
-
-slot-requires : tie.Need-slot-requires
-slot-requires c κs = search needs
-
 returns : tie.Need-returns
 unfolding repeated
 returns c = λ vs ks es us co ah en. rw (c .before .before .before .before .cell-of .ensures .0 vs ks es) at (c .slot .ensures us _ co ah en ∙ ap withSlot (c .before .push .ensures .0 us co ah en))
 
 pub repeated-spec : {M : Type 1} → statement M
-repeated-spec = tie.close (tie.spec cell-of-requires cast-push push-requires slot-requires returns)
+repeated-spec = tie.close (tie.spec (λ c κs. search needs) (λ c. search needs) (λ c κs. search needs) (λ c κs. search needs) returns)

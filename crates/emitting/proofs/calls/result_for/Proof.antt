@@ -9,18 +9,9 @@ use borrow.Author.Needs.{needs}
 use Rattle.emitting.proofs.calls.result_for.Statement.{statement}
 use Rattle.emitting.proofs.calls.result_for.Tie as tie
 
-result-of-requires : tie.Need-result-of-requires
-result-of-requires c κs = search needs
-
 returns : tie.Need-returns
 unfolding resultFor
 returns c = (λ vs ks es us op ah en. simp (eq-eqb _ _ (sym (c .before .result-of .ensures .0 vs ks es) ∙ c .if1 .taken)), (alike-same _, omega arith, refl))
-
-put-requires : tie.Need-put-requires
-put-requires c κs = search needs
-
-same-length : tie.Need-same-length
-same-length c = search needs
 
 returns-2 : tie.Need-returns-2
 unfolding resultFor
@@ -28,4 +19,4 @@ returns-2 c = (λ vs ks es us op ah en. simp (ne-eqb _ _ (λ e. c .before .befor
 
 pub result-for-spec : {M : Type 1} → statement M
 result-for-spec =
-    tie.close (tie.spec result-of-requires returns put-requires same-length returns-2)
+    tie.close (tie.spec (λ c κs. search needs) returns (λ c κs. search needs) (λ c. search needs) returns-2)

@@ -7,12 +7,6 @@ use borrow.Author.Needs.{needs}
 use Rattle.emitting.proofs.calls.result_of.Statement.{statement}
 use Rattle.emitting.proofs.calls.result_of.Tie as tie
 
-word-at-requires : tie.Need-word-at-requires
-word-at-requires c κs = search needs
-
-mid-requires : tie.Need-mid-requires
-mid-requires c κs = search needs
-
 returns : tie.Need-returns
 unfolding resultOf
 returns c = (λ vs ks es. rw (c .mid .ensures, c .before .word-at .ensures .0, eq-eqb _ _ (c .before .before .if1 .taken)), omega (arith, c .mid .ensures))
@@ -22,4 +16,4 @@ unfolding resultOf
 returns-2 c = (λ vs ks es. rw (ne-eqb _ _ (c .if1 .left)), omega arith)
 
 pub result-of-spec : {M : Type 1} → statement M
-result-of-spec = tie.close (tie.spec word-at-requires mid-requires returns returns-2)
+result-of-spec = tie.close (tie.spec (λ c κs. search needs) (λ c κs. search needs) returns returns-2)

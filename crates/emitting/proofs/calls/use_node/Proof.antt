@@ -8,30 +8,6 @@ use borrow.Author.Needs.{needs}
 use Rattle.emitting.proofs.calls.use_node.Statement.{statement}
 use Rattle.emitting.proofs.calls.use_node.Tie as tie
 
-next-requires : tie.Need-next-requires
-next-requires c κs = search needs
-
-passed-requires : tie.Need-passed-requires
-passed-requires c κs = search needs
-
-form-at-requires : tie.Need-form-at-requires
-form-at-requires c κs = search needs
-
-named-or-requires : tie.Need-named-or-requires
-named-or-requires c κs = search needs
-
-calling-requires : tie.Need-calling-requires
-calling-requires c κs = search needs
-
-left-part-requires : tie.Need-left-part-requires
-left-part-requires c κs = search needs
-
-repeated-requires : tie.Need-repeated-requires
-repeated-requires c κs = search needs
-
-same-length : tie.Need-same-length
-same-length c = search needs
-
 returns : tie.Need-returns
 unfolding useNode
 returns c =
@@ -39,9 +15,6 @@ returns c =
     let n = c .before .before .before .before .before .before .before .before .next .ensures .0 in
     let us = usesIn (a .rows .now) (a .uses .now) in
     λ vs ah en. simp (c .before .before .before .before .before .before .match .keys1) (rw (c .before .before .before .before .before .form-at .ensures .0, n .0, n .1) at (c .before .before .named-or .ensures vs (a .ahead .now) us ah en ∙ ap (namedOr vs (a .layout .now) (a .ahead .now) (a .entries .now) (c .before .before .before .before .before .before .before .before .next .result .kind) (c .before .before .before .before .before .before .before .before .next .result .means) (a .u) (a .place .at) (a .one) (c .before .before .before .before .before .form-at .result)) (c .before .before .before .before .before .before .before .passed .ensures .0 (a .rows .now) (a .things .now) (a .code .now) ah en)))
-
-same-length-2 : tie.Need-same-length-2
-same-length-2 c = search needs
 
 returns-2 : tie.Need-returns-2
 unfolding useNode
@@ -72,16 +45,16 @@ pub use-node-spec : {M : Type 1} → statement M
 use-node-spec =
     tie.close
     (tie.spec
-    next-requires
-    passed-requires
-    form-at-requires
-    named-or-requires
-    calling-requires
-    left-part-requires
-    repeated-requires
-    same-length
+    (λ c κs. search needs)
+    (λ c κs. search needs)
+    (λ c κs. search needs)
+    (λ c κs. search needs)
+    (λ c κs. search needs)
+    (λ c κs. search needs)
+    (λ c κs. search needs)
+    (λ c. search needs)
     returns
-    same-length-2
+    (λ c. search needs)
     returns-2
     returns-3
     returns-4)

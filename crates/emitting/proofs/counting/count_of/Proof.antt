@@ -23,53 +23,14 @@ abbrev μ-loop : tie.MeasureT-loop
 loop-holds : tie.Need-loop-holds Inv-loop μ-loop
 loop-holds c = (refl, omega arith, omega arith)
 
-mul-loop : tie.Need-mul-loop Inv-loop μ-loop
-mul-loop c = search needs
-
-add-loop : tie.Need-add-loop Inv-loop μ-loop
-add-loop c = search needs
-
-mul-at : tie.Need-mul-at Inv-loop μ-loop
-mul-at c = search needs
-
-mul-counted : tie.Need-mul-counted Inv-loop μ-loop
-mul-counted c = search needs
-
-shared-slice-read-counted : tie.Need-shared-slice-read-counted Inv-loop μ-loop
-shared-slice-read-counted c = search needs
-
-add-counted : tie.Need-add-counted Inv-loop μ-loop
-add-counted c = search needs
-
-mul-counted-2 : tie.Need-mul-counted-2 Inv-loop μ-loop
-mul-counted-2 c = search needs
-
-shared-slice-read-counted-2 : tie.Need-shared-slice-read-counted-2 Inv-loop μ-loop
-shared-slice-read-counted-2 c = search needs
-
 cast-counted : tie.Need-cast-counted Inv-loop μ-loop
 cast-counted c = omega (arith, c .before .before .before .before .shared-slice-known .given (4 * c .before .before .before .loop .i + 2))
-
-add-counted-2 : tie.Need-add-counted-2 Inv-loop μ-loop
-add-counted-2 c = search needs
-
-mul-counted-3 : tie.Need-mul-counted-3 Inv-loop μ-loop
-mul-counted-3 c = search needs
-
-shared-slice-read-counted-3 : tie.Need-shared-slice-read-counted-3 Inv-loop μ-loop
-shared-slice-read-counted-3 c = search needs
 
 cast-counted-2 : tie.Need-cast-counted-2 Inv-loop μ-loop
 cast-counted-2 c = omega (arith, c .before .before .before .before .before .shared-slice-known .given (4 * c .before .before .before .before .loop .i + 3))
 
 counted-requires : tie.Need-counted-requires Inv-loop μ-loop
 counted-requires c κs = let l = c .before .before .before .before .loop in let h = c .before .before .before .loop-test .taken in let i = l .inv .1 in let j = l .inv .2 in omega arith
-
-add-i : tie.Need-add-i Inv-loop μ-loop
-add-i c = search needs
-
-loop-less : tie.Need-loop-less Inv-loop μ-loop
-loop-less c = search needs
 
 loop-again : tie.Need-loop-again Inv-loop μ-loop
 unfolding counting
@@ -94,21 +55,21 @@ count-of-spec =
     Inv-loop
     μ-loop
     loop-holds
-    mul-loop
-    add-loop
-    mul-at
-    mul-counted
-    shared-slice-read-counted
-    add-counted
-    mul-counted-2
-    shared-slice-read-counted-2
+    (λ c. search needs)
+    (λ c. search needs)
+    (λ c. search needs)
+    (λ c. search needs)
+    (λ c. search needs)
+    (λ c. search needs)
+    (λ c. search needs)
+    (λ c. search needs)
     cast-counted
-    add-counted-2
-    mul-counted-3
-    shared-slice-read-counted-3
+    (λ c. search needs)
+    (λ c. search needs)
+    (λ c. search needs)
     cast-counted-2
     counted-requires
-    add-i
-    loop-less
+    (λ c. search needs)
+    (λ c. search needs)
     loop-again
     returns)

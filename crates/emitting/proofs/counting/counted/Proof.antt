@@ -7,12 +7,6 @@ use borrow.Author.Needs.{needs}
 use Rattle.emitting.proofs.counting.counted.Statement.{statement}
 use Rattle.emitting.proofs.counting.counted.Tie as tie
 
-is-of-requires : tie.Need-is-of-requires
-is-of-requires c κs = search needs
-
-add-result : tie.Need-add-result
-add-result c = search needs
-
 returns : tie.Need-returns
 unfolding counting
 returns c = (simp (sym (c .before .is-of .ensures) ∙ c .if1 .taken), omega arith)
@@ -22,4 +16,4 @@ unfolding counting
 returns-2 c = (simp (sym (c .before .is-of .ensures) ∙ c .if1 .left), omega arith)
 
 pub counted-spec : {M : Type 1} → statement M
-counted-spec = tie.close (tie.spec is-of-requires add-result returns returns-2)
+counted-spec = tie.close (tie.spec (λ c κs. search needs) (λ c. search needs) returns returns-2)

@@ -11,18 +11,9 @@ returns : tie.Need-returns
 unfolding firstFor
 returns c = (simp (eq-eqb _ _ (c .if1 .taken)), omega arith)
 
-count-of-requires : tie.Need-count-of-requires
-count-of-requires c κs = search needs
-
 returns-2 : tie.Need-returns-2
 unfolding firstFor
 returns-2 c = let h = c .before .count-of .ensures .1 in (simp (ne-eqb _ _ (c .before .before .if1 .left), eq-eqb _ _ (c .if2 .taken)) (c .before .count-of .ensures .0), omega arith)
-
-count-of-requires-2 : tie.Need-count-of-requires-2
-count-of-requires-2 c κs = search needs
-
-add-result : tie.Need-add-result
-add-result c = search needs
 
 returns-3 : tie.Need-returns-3
 unfolding firstFor
@@ -33,8 +24,8 @@ first-for-spec =
     tie.close
     (tie.spec
     returns
-    count-of-requires
+    (λ c κs. search needs)
     returns-2
-    count-of-requires-2
-    add-result
+    (λ c κs. search needs)
+    (λ c. search needs)
     returns-3)

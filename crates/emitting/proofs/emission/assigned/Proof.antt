@@ -10,15 +10,6 @@ use borrow.Author.Needs.{needs}
 use Rattle.emitting.proofs.emission.assigned.Statement.{statement}
 use Rattle.emitting.proofs.emission.assigned.Tie as tie
 
-stored-requires : tie.Need-stored-requires
-stored-requires c κs = search needs
-
-less-requires : tie.Need-less-requires
-less-requires c κs = search needs
-
-same-length : tie.Need-same-length
-same-length c = search needs
-
 returns : tie.Need-returns
 unfolding assigned withLefts withOpen
 returns c =
@@ -30,4 +21,4 @@ returns c =
     ∙ ap (λ (l : List Opened). withLefts 0 (withOpen l (stored vs ly ks es (leftsOf vs ly ks es n (thingsOf m s) []) (see (c .before .before .before .before .before .before .args .t) us s (c .before .before .before .before .before .before .args .code .now) ah en)))) (sym (behind-things vs ly ks es n m s)))
 
 pub assigned-spec : {M : Type 1} → statement M
-assigned-spec = tie.close (tie.spec stored-requires less-requires same-length returns)
+assigned-spec = tie.close (tie.spec (λ c κs. search needs) (λ c κs. search needs) (λ c. search needs) returns)

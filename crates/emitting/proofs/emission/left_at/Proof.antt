@@ -4,14 +4,8 @@ use borrow.Author.Needs.{needs}
 use Rattle.emitting.proofs.emission.left_at.Statement.{statement}
 use Rattle.emitting.proofs.emission.left_at.Tie as tie
 
-less-requires : tie.Need-less-requires
-less-requires c κs = search needs
-
-top-requires : tie.Need-top-requires
-top-requires c κs = search needs
-
 returns : tie.Need-returns
 returns c = rw (c .before .less .ensures) at (c .top .ensures)
 
 pub left-at-spec : {M : Type 1} → statement M
-left-at-spec = tie.close (tie.spec less-requires top-requires returns)
+left-at-spec = tie.close (tie.spec (λ c κs. search needs) (λ c κs. search needs) returns)

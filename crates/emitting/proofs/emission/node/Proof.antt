@@ -11,33 +11,25 @@ use borrow.Author.Needs.{needs}
 use Rattle.emitting.proofs.emission.node.Statement.{statement}
 use Rattle.emitting.proofs.emission.node.Tie as tie
 
-place-in-requires : tie.Need-place-in-requires
-place-in-requires c κs = search needs
-
-is-use-requires : tie.Need-is-use-requires
-is-use-requires c κs = search needs
-
 use-node-requires : tie.Need-use-node-requires
 use-node-requires c κs = let p = c .before .before .before .before .place-in .ensures .1 in let a = c .before .before .before .before .before .before .before .before .before .before .before .before .before .before .before .before .fits .one in let u = c .before .before .before .before .before .before .before .before .before .before .before .before .before .before .before .before .fits .two in (fit (c .before .before .before .before .before .before .before .before .before .before .before .before .before .before .before .before .args .t) (c .before .before .before .before .before .before .before .before .before .before .before .before .before .before .before .before .args .things .now) (c .before .before .before .before .before .before .before .before .before .before .before .before .before .before .before .before .pre), omega arith, omega arith, omega arith)
 
-same-length : tie.Need-same-length
-same-length c = search needs
-
 returns : tie.Need-returns
 unfolding codeNode
-returns c = simp (sym (c .before .before .before .before .before .before .is-use .ensures) ∙ c .before .before .before .before .before .if1 .taken) (rw (c .before .before .before .before .before .before .before .place-in .ensures .0) at (c .before .before .use-node .ensures (c .before .before .before .before .before .before .before .before .before .before .before .before .before .before .before .before .before .before .before .args .values .now) (c .before .before .before .before .before .before .before .before .before .before .before .before .before .before .before .before .before .before .before .args .next-ahead .now) (c .before .before .before .before .before .before .before .before .before .before .before .before .before .before .before .before .before .before .before .args .next-entries .now)))
+returns c =
+    let args = c .before .before .before .before .before .before .before .before .before .before .before .before .before .before .before .before .before .before .before .args in
+    simp (sym (c .before .before .before .before .before .before .is-use .ensures) ∙ c .before .before .before .before .before .if1 .taken) (rw (c .before .before .before .before .before .before .before .place-in .ensures .0) at (c .before .before .use-node .ensures (args .values .now) (args .next-ahead .now) (args .next-entries .now)))
 
 top-requires : tie.Need-top-requires
 top-requires c κs = let g = fit (c .before .before .before .before .before .before .before .before .before .before .before .before .before .before .before .before .args .t) (c .before .before .before .before .before .before .before .before .before .before .before .before .before .before .before .before .args .things .now) (c .before .before .before .before .before .before .before .before .before .before .before .before .before .before .before .before .pre) .open-ones in omega arith
 
 actual-in-requires : tie.Need-actual-in-requires
-actual-in-requires c κs = (fit (c .before .before .before .before .before .before .before .before .before .before .before .before .before .before .before .before .before .before .before .before .args .t) (c .before .before .before .before .before .before .before .before .before .before .before .before .before .before .before .before .before .before .before .before .args .things .now) (c .before .before .before .before .before .before .before .before .before .before .before .before .before .before .before .before .before .before .before .before .pre), subst (Slim 262143) (sym (c .before .before .before .top .ensures)) (slim-top 262143 (thingsOf (c .before .before .before .before .before .before .before .before .before .before .before .before .before .before .before .before .before .before .before .before .args .t .open) (c .before .before .before .before .before .before .before .before .before .before .before .before .before .before .before .before .before .before .before .before .args .things .now)) (c .before .before .before .before .before .before .before .before .before .before .before .before .before .before .before .before .before .before .before .before .pre .things)), c .before .before .before .before .before .before .before .before .place-in .ensures .1)
+actual-in-requires c κs =
+    let args = c .before .before .before .before .before .before .before .before .before .before .before .before .before .before .before .before .before .before .before .before .args in
+    (fit (args .t) (args .things .now) (c .before .before .before .before .before .before .before .before .before .before .before .before .before .before .before .before .before .before .before .before .pre), subst (Slim 262143) (sym (c .before .before .before .top .ensures)) (slim-top 262143 (thingsOf (args .t .open) (args .things .now)) (c .before .before .before .before .before .before .before .before .before .before .before .before .before .before .before .before .before .before .before .before .pre .things)), c .before .before .before .before .before .before .before .before .place-in .ensures .1)
 
 top-requires-2 : tie.Need-top-requires-2
 top-requires-2 c κs = let g = fit (c .before .before .before .before .before .before .before .before .before .before .before .before .before .before .before .before .args .t) (c .before .before .before .before .before .before .before .before .before .before .before .before .before .before .before .before .args .things .now) (c .before .before .before .before .before .before .before .before .before .before .before .before .before .before .before .before .pre) .open-ones in omega arith
-
-pop-requires : tie.Need-pop-requires
-pop-requires c κs = search needs
 
 call-ended-requires : tie.Need-call-ended-requires
 call-ended-requires c κs =
@@ -65,15 +57,6 @@ call-ended-requires c κs =
     let y = c .before .before .before .before .before .before .before .before .before .before .before .before .before .before .before .before .before .before .before .fits .two in
     (record { at = omega arith; slots = omega arith; level = omega arith; loops = omega arith; cells = omega arith; declared = omega arith; variable = omega arith; open-ones = omega arith }, subst (Slim 262143) (sym (c .before .before .top2 .ensures)) (slim-top 262143 (thingsOf (c .before .before .before .before .before .before .before .before .before .before .before .before .before .before .before .before .before .before .before .args .t .open) (c .before .before .before .before .before .before .before .before .before .before .before .before .before .before .before .before .before .before .before .args .things .now)) (c .before .before .before .before .before .before .before .before .before .before .before .before .before .before .before .before .before .before .before .pre .things)), omega arith, omega arith)
 
-rest-node-requires : tie.Need-rest-node-requires
-rest-node-requires c κs = search needs
-
-same-length-2 : tie.Need-same-length-2
-same-length-2 c = search needs
-
-same-length-3 : tie.Need-same-length-3
-same-length-3 c = search needs
-
 returns-2 : tie.Need-returns-2
 unfolding codeNode isUse
 returns-2 c =
@@ -82,9 +65,6 @@ returns-2 c =
     simp (c .before .before .before .before .before .before .before .before .before .before .match .keys1)
     (rw (c .before .before .before .before .before .before .before .before .before .before .before .before .before .place-in .ensures .0) at (c .before .before .before .before .actual-in .ensures (a .values .now) (a .layout .now) (a .entries .now) us (a .next-entries .now)
     ∙ ap (λ (f : Opened). actualIn (c .before .before .before .before .before .before .before .before .before .before .before .before .before .before .before .before .before .before .before .before .before .before .before .before .before .args .values .now) (c .before .before .before .before .before .before .before .before .before .before .before .before .before .before .before .before .before .before .before .before .before .before .before .before .before .args .layout .now) (c .before .before .before .before .before .before .before .before .before .before .before .before .before .before .before .before .before .before .before .before .before .before .before .before .before .args .ahead .now) (c .before .before .before .before .before .before .before .before .before .before .before .before .before .before .before .before .before .before .before .before .before .before .before .before .before .args .entries .now) (c .before .before .before .before .before .before .before .before .before .before .before .before .before .before .before .before .before .before .before .before .before .before .before .before .before .args .rows .now) f (c .before .before .before .before .before .before .before .before .before .before .before .before .before .place-in .result .at) (see (c .before .before .before .before .before .before .before .before .before .before .before .before .before .before .before .before .before .before .before .before .before .before .before .before .before .args .t) us (c .before .before .before .before .before .before .before .before .before .before .before .before .before .before .before .before .before .before .before .before .before .before .before .before .before .args .things .now) (c .before .before .before .before .before .before .before .before .before .before .before .before .before .before .before .before .before .before .before .before .before .before .before .before .before .args .code .now) (c .before .before .before .before .before .before .before .before .before .before .before .before .before .before .before .before .before .before .before .before .before .before .before .before .before .args .next-ahead .now) (c .before .before .before .before .before .before .before .before .before .before .before .before .before .before .before .before .before .before .before .before .before .before .before .before .before .args .next-entries .now))) (c .before .before .before .before .before .before .before .before .top .ensures)))
-
-same-length-4 : tie.Need-same-length-4
-same-length-4 c = search needs
 
 returns-3 : tie.Need-returns-3
 unfolding codeNode isUse
@@ -95,40 +75,33 @@ returns-3 c =
     ∙ ap (λ (z : State). callEnded (c .before .before .before .before .before .before .before .before .before .before .before .before .before .before .before .before .before .before .before .before .before .before .args .values .now) (c .before .before .before .before .before .before .before .before .before .before .before .before .before .before .before .before .before .before .before .before .before .before .args .layout .now) (c .before .before .before .before .before .before .before .before .before .before .before .before .before .before .before .before .before .before .before .before .before .before .args .ahead .now) (c .before .before .before .before .before .before .before .before .before .before .before .before .before .before .before .before .before .before .before .before .before .before .args .entries .now) g (c .before .before .before .before .before .before .before .before .before .before .place-in .result .at) (c .before .before .before .before .before .before .before .before .before .before .before .before .before .before .before .before .before .before .before .before .before .before .args .two) z) (c .before .before .before .before .pop .ensures .0 (usesIn (c .before .before .before .before .before .before .before .before .before .before .before .before .before .before .before .before .before .before .before .before .before .before .args .rows .now) (c .before .before .before .before .before .before .before .before .before .before .before .before .before .before .before .before .before .before .before .before .before .before .args .uses .now)) (c .before .before .before .before .before .before .before .before .before .before .before .before .before .before .before .before .before .before .before .before .before .before .args .things .now) (c .before .before .before .before .before .before .before .before .before .before .before .before .before .before .before .before .before .before .before .before .before .before .args .code .now) (c .before .before .before .before .before .before .before .before .before .before .before .before .before .before .before .before .before .before .before .before .before .before .args .next-ahead .now) (c .before .before .before .before .before .before .before .before .before .before .before .before .before .before .before .before .before .before .before .before .before .before .args .next-entries .now))
     ∙ ap (λ (f : Opened). callEnded (c .before .before .before .before .before .before .before .before .before .before .before .before .before .before .before .before .before .before .before .before .before .before .args .values .now) (c .before .before .before .before .before .before .before .before .before .before .before .before .before .before .before .before .before .before .before .before .before .before .args .layout .now) (c .before .before .before .before .before .before .before .before .before .before .before .before .before .before .before .before .before .before .before .before .before .before .args .ahead .now) (c .before .before .before .before .before .before .before .before .before .before .before .before .before .before .before .before .before .before .before .before .before .before .args .entries .now) f (c .before .before .before .before .before .before .before .before .before .before .place-in .result .at) (c .before .before .before .before .before .before .before .before .before .before .before .before .before .before .before .before .before .before .before .before .before .before .args .two) (popped (see (c .before .before .before .before .before .before .before .before .before .before .before .before .before .before .before .before .before .before .before .before .before .before .args .t) (usesIn (c .before .before .before .before .before .before .before .before .before .before .before .before .before .before .before .before .before .before .before .before .before .before .args .rows .now) (c .before .before .before .before .before .before .before .before .before .before .before .before .before .before .before .before .before .before .before .before .before .before .args .uses .now)) (c .before .before .before .before .before .before .before .before .before .before .before .before .before .before .before .before .before .before .before .before .before .before .args .things .now) (c .before .before .before .before .before .before .before .before .before .before .before .before .before .before .before .before .before .before .before .before .before .before .args .code .now) (c .before .before .before .before .before .before .before .before .before .before .before .before .before .before .before .before .before .before .before .before .before .before .args .next-ahead .now) (c .before .before .before .before .before .before .before .before .before .before .before .before .before .before .before .before .before .before .before .before .before .before .args .next-entries .now)))) (c .before .before .before .before .before .top2 .ensures)))
 
-same-length-5 : tie.Need-same-length-5
-same-length-5 c = search needs
-
-same-length-6 : tie.Need-same-length-6
-same-length-6 c = search needs
-
-same-length-7 : tie.Need-same-length-7
-same-length-7 c = search needs
-
 returns-4 : tie.Need-returns-4
 unfolding codeNode restNode
-returns-4 c = simp (sym (c .before .before .before .before .before .before .before .before .before .before .before .before .before .is-use .ensures) ∙ c .before .before .before .before .before .before .before .before .before .before .before .before .if1 .left, ne-eqb _ _ (c .before .before .before .before .before .before .before .before .before .before .before .match .rest .1), ne-eqb _ _ (c .before .before .before .before .before .before .before .before .before .before .before .match .rest .0 .1)) (rw (c .before .before .before .before .before .before .before .before .before .before .before .before .before .before .place-in .ensures .0) at (c .before .before .before .before .before .before .rest-node .ensures (c .before .before .before .before .before .before .before .before .before .before .before .before .before .before .before .before .before .before .before .before .before .before .before .before .before .before .args .layout .now) (c .before .before .before .before .before .before .before .before .before .before .before .before .before .before .before .before .before .before .before .before .before .before .before .before .before .before .args .entries .now) (usesIn (c .before .before .before .before .before .before .before .before .before .before .before .before .before .before .before .before .before .before .before .before .before .before .before .before .before .before .args .rows .now) (c .before .before .before .before .before .before .before .before .before .before .before .before .before .before .before .before .before .before .before .before .before .before .before .before .before .before .args .uses .now))))
+returns-4 c =
+    let args = c .before .before .before .before .before .before .before .before .before .before .before .before .before .before .before .before .before .before .before .before .before .before .before .before .before .before .args in
+    simp (sym (c .before .before .before .before .before .before .before .before .before .before .before .before .before .is-use .ensures) ∙ c .before .before .before .before .before .before .before .before .before .before .before .before .if1 .left, ne-eqb _ _ (c .before .before .before .before .before .before .before .before .before .before .before .match .rest .1), ne-eqb _ _ (c .before .before .before .before .before .before .before .before .before .before .before .match .rest .0 .1)) (rw (c .before .before .before .before .before .before .before .before .before .before .before .before .before .before .place-in .ensures .0) at (c .before .before .before .before .before .before .rest-node .ensures (args .layout .now) (args .entries .now) (usesIn (args .rows .now) (args .uses .now))))
 
 pub node-spec : {M : Type 1} → statement M
 node-spec =
     tie.close
     (tie.spec
-    place-in-requires
-    is-use-requires
+    (λ c κs. search needs)
+    (λ c κs. search needs)
     use-node-requires
-    same-length
+    (λ c. search needs)
     returns
     top-requires
     actual-in-requires
     top-requires-2
-    pop-requires
+    (λ c κs. search needs)
     call-ended-requires
-    rest-node-requires
-    same-length-2
-    same-length-3
+    (λ c κs. search needs)
+    (λ c. search needs)
+    (λ c. search needs)
     returns-2
-    same-length-4
+    (λ c. search needs)
     returns-3
-    same-length-5
-    same-length-6
-    same-length-7
+    (λ c. search needs)
+    (λ c. search needs)
+    (λ c. search needs)
     returns-4)

@@ -7,29 +7,17 @@ use borrow.Author.Needs.{needs}
 use Rattle.emitting.proofs.emission.operation_of.Statement.{statement}
 use Rattle.emitting.proofs.emission.operation_of.Tie as tie
 
-add-result : tie.Need-add-result
-add-result c = search needs
-
 returns : tie.Need-returns
 unfolding operationOf
 returns c = (simp (lt-ltb _ _ (c .if1 .taken)), omega arith)
-
-add-result-2 : tie.Need-add-result-2
-add-result-2 c = search needs
 
 returns-2 : tie.Need-returns-2
 unfolding operationOf
 returns-2 c = (simp (le-ltb _ _ (c .before .if1 .left), lt-ltb _ _ (c .if2 .taken)), omega arith)
 
-add-result-3 : tie.Need-add-result-3
-add-result-3 c = search needs
-
 returns-3 : tie.Need-returns-3
 unfolding operationOf
 returns-3 c = (simp (le-ltb _ _ (c .before .before .if1 .left), le-ltb _ _ (c .before .if2 .left), lt-ltb _ _ (c .if3 .taken)), omega arith)
-
-add-result-4 : tie.Need-add-result-4
-add-result-4 c = search needs
 
 returns-4 : tie.Need-returns-4
 unfolding operationOf
@@ -39,11 +27,11 @@ pub operation-of-spec : {M : Type 1} → statement M
 operation-of-spec =
     tie.close
     (tie.spec
-    add-result
+    (λ c. search needs)
     returns
-    add-result-2
+    (λ c. search needs)
     returns-2
-    add-result-3
+    (λ c. search needs)
     returns-3
-    add-result-4
+    (λ c. search needs)
     returns-4)

@@ -14,27 +14,6 @@ begins : (us : List Used) (n : ℕ) {c a e : List ℕ} → c ≡ replicate n 0 �
 begins us n {c = c} {a = a} {e = e} p q r =
     ap (λ (z : List ℕ). freshIn us z a e) p ∙ ap (λ (z : List ℕ). freshIn us (replicate n 0) z e) q ∙ ap (λ (z : List ℕ). freshIn us (replicate n 0) (replicate 8192 0) z) r
 
-clear-requires : tie.Need-clear-requires
-clear-requires c κs = search needs
-
-clear-requires-2 : tie.Need-clear-requires-2
-clear-requires-2 c κs = search needs
-
-clear-requires-3 : tie.Need-clear-requires-3
-clear-requires-3 c κs = search needs
-
-walk-requires : tie.Need-walk-requires
-walk-requires c κs = search needs
-
-same-length : tie.Need-same-length
-same-length c = search needs
-
-same-length-2 : tie.Need-same-length-2
-same-length-2 c = search needs
-
-same-length-3 : tie.Need-same-length-3
-same-length-3 c = search needs
-
 returns : tie.Need-returns
 unfolding emitted
 returns c =
@@ -51,11 +30,11 @@ pub pass-spec : {M : Type 1} → statement M
 pass-spec =
     tie.close
     (tie.spec
-    clear-requires
-    clear-requires-2
-    clear-requires-3
-    walk-requires
-    same-length
-    same-length-2
-    same-length-3
+    (λ c κs. search needs)
+    (λ c κs. search needs)
+    (λ c κs. search needs)
+    (λ c κs. search needs)
+    (λ c. search needs)
+    (λ c. search needs)
+    (λ c. search needs)
     returns)

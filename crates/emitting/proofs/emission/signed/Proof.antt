@@ -6,21 +6,9 @@ use borrow.Author.Needs.{needs}
 use Rattle.emitting.proofs.emission.signed.Statement.{statement}
 use Rattle.emitting.proofs.emission.signed.Tie as tie
 
-put-requires : tie.Need-put-requires
-put-requires c κs = search needs
-
-same-length : tie.Need-same-length
-same-length c = search needs
-
 returns : tie.Need-returns
 unfolding signed
 returns c = λ us op ah en. simp (eq-eqb _ _ (c .before .before .before .before .if1 .taken)) (c .before .before .put .ensures .0 us op ah en)
-
-put-requires-2 : tie.Need-put-requires-2
-put-requires-2 c κs = search needs
-
-same-length-2 : tie.Need-same-length-2
-same-length-2 c = search needs
 
 returns-2 : tie.Need-returns-2
 unfolding signed
@@ -33,4 +21,4 @@ returns-3 c = λ us op ah en. simp (ne-eqb _ _ (c .before .if1 .left), ne-eqb _ 
 pub signed-spec : {M : Type 1} → statement M
 signed-spec =
     tie.close
-    (tie.spec put-requires same-length returns put-requires-2 same-length-2 returns-2 returns-3)
+    (tie.spec (λ c κs. search needs) (λ c. search needs) returns (λ c κs. search needs) (λ c. search needs) returns-2 returns-3)

@@ -29,14 +29,8 @@ abbrev μ-loop : tie.MeasureT-loop
 loop-holds : tie.Need-loop-holds Inv-loop μ-loop
 loop-holds c = (omega arith, refl, omega arith, refl, λ vs ly ks es us ah en. refl)
 
-sub-n : tie.Need-sub-n Inv-loop μ-loop
-sub-n c = omega arith
-
 left-at-requires : tie.Need-left-at-requires Inv-loop μ-loop
 left-at-requires c κs = let e = c .before .loop .inv .1 in let h = c .before .before .before .pre .1 in omega arith
-
-storing-requires : tie.Need-storing-requires Inv-loop μ-loop
-storing-requires c κs = search needs
 
 on-cell-requires : tie.Need-on-cell-requires Inv-loop μ-loop
 on-cell-requires c κs =
@@ -51,9 +45,6 @@ on-cell-requires c κs =
     let d = c .storing .ensures .1 in
     let h = c .before .before .before .loop-test .taken in
     (omega arith, omega arith, omega arith, omega arith)
-
-loop-less : tie.Need-loop-less Inv-loop μ-loop
-loop-less c = omega arith
 
 loop-again : tie.Need-loop-again Inv-loop μ-loop
 loop-again c =
@@ -92,11 +83,11 @@ stored-spec =
     Inv-loop
     μ-loop
     loop-holds
-    sub-n
+    (λ c. omega arith)
     left-at-requires
-    storing-requires
+    (λ c κs. search needs)
     on-cell-requires
-    loop-less
+    (λ c. omega arith)
     loop-again
     same-length
     returns)

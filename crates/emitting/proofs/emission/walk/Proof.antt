@@ -30,48 +30,6 @@ loop-holds : tie.Need-loop-holds Inv-loop μ-loop
 unfolding thingsOf AllSlim
 loop-holds c = (record { at = omega arith; slots = omega arith; level = omega arith; loops = omega arith; cells = omega arith; declared = omega arith; variable = omega arith; many = omega arith; things = tt }, refl, omega arith, refl, refl, refl)
 
-mul-loop : tie.Need-mul-loop Inv-loop μ-loop
-mul-loop c = search needs
-
-add-loop : tie.Need-add-loop Inv-loop μ-loop
-add-loop c = search needs
-
-mul-at : tie.Need-mul-at Inv-loop μ-loop
-mul-at c = search needs
-
-mul-node : tie.Need-mul-node Inv-loop μ-loop
-mul-node c = search needs
-
-shared-slice-read-node : tie.Need-shared-slice-read-node Inv-loop μ-loop
-shared-slice-read-node c = search needs
-
-add-t19 : tie.Need-add-t19 Inv-loop μ-loop
-add-t19 c = search needs
-
-mul-t20 : tie.Need-mul-t20 Inv-loop μ-loop
-mul-t20 c = search needs
-
-shared-slice-read-t25 : tie.Need-shared-slice-read-t25 Inv-loop μ-loop
-shared-slice-read-t25 c = search needs
-
-add-node : tie.Need-add-node Inv-loop μ-loop
-add-node c = search needs
-
-mul-node-2 : tie.Need-mul-node-2 Inv-loop μ-loop
-mul-node-2 c = search needs
-
-shared-slice-read-node-2 : tie.Need-shared-slice-read-node-2 Inv-loop μ-loop
-shared-slice-read-node-2 c = search needs
-
-add-node-2 : tie.Need-add-node-2 Inv-loop μ-loop
-add-node-2 c = search needs
-
-mul-node-3 : tie.Need-mul-node-3 Inv-loop μ-loop
-mul-node-3 c = search needs
-
-shared-slice-read-node-3 : tie.Need-shared-slice-read-node-3 Inv-loop μ-loop
-shared-slice-read-node-3 c = search needs
-
 node-requires : tie.Need-node-requires Inv-loop μ-loop
 node-requires c κs =
     let l = c .before .before .before .before .before .before .before .before .before .loop in
@@ -135,20 +93,20 @@ walk-spec =
     Inv-loop
     μ-loop
     loop-holds
-    mul-loop
-    add-loop
-    mul-at
-    mul-node
-    shared-slice-read-node
-    add-t19
-    mul-t20
-    shared-slice-read-t25
-    add-node
-    mul-node-2
-    shared-slice-read-node-2
-    add-node-2
-    mul-node-3
-    shared-slice-read-node-3
+    (λ c. search needs)
+    (λ c. search needs)
+    (λ c. search needs)
+    (λ c. search needs)
+    (λ c. search needs)
+    (λ c. search needs)
+    (λ c. search needs)
+    (λ c. search needs)
+    (λ c. search needs)
+    (λ c. search needs)
+    (λ c. search needs)
+    (λ c. search needs)
+    (λ c. search needs)
+    (λ c. search needs)
     node-requires
     add-i
     loop-less

@@ -8,27 +8,6 @@ use borrow.Author.Needs.{needs}
 use Rattle.emitting.proofs.flow.begun.Statement.{statement}
 use Rattle.emitting.proofs.flow.begun.Tie as tie
 
-going-to-requires : tie.Need-going-to-requires
-going-to-requires c κs = search needs
-
-set-word-requires : tie.Need-set-word-requires
-set-word-requires c κs = search needs
-
-counts-for-requires : tie.Need-counts-for-requires
-counts-for-requires c κs = search needs
-
-put-requires : tie.Need-put-requires
-put-requires c κs = search needs
-
-replace-requires : tie.Need-replace-requires
-replace-requires c κs = search needs
-
-same-length : tie.Need-same-length
-same-length c = search needs
-
-same-length-2 : tie.Need-same-length-2
-same-length-2 c = search needs
-
 returns : tie.Need-returns
 unfolding opening noted replaced withOpen put
 returns c =
@@ -41,11 +20,11 @@ pub begun-spec : {M : Type 1} → statement M
 begun-spec =
     tie.close
     (tie.spec
-    going-to-requires
-    set-word-requires
-    counts-for-requires
-    put-requires
-    replace-requires
-    same-length
-    same-length-2
+    (λ c κs. search needs)
+    (λ c κs. search needs)
+    (λ c κs. search needs)
+    (λ c κs. search needs)
+    (λ c κs. search needs)
+    (λ c. search needs)
+    (λ c. search needs)
     returns)

@@ -6,31 +6,13 @@ use borrow.Author.Needs.{needs}
 use Rattle.emitting.proofs.flow.block_node.Statement.{statement}
 use Rattle.emitting.proofs.flow.block_node.Tie as tie
 
-entered-requires : tie.Need-entered-requires
-entered-requires c κs = search needs
-
-begun-requires : tie.Need-begun-requires
-begun-requires c κs = search needs
-
-left-requires : tie.Need-left-requires
-left-requires c κs = search needs
-
 returns : tie.Need-returns
 unfolding blockNode
 returns c = λ vs ly ks es us en. simp (c .before .before .match .keys1) (c .entered .ensures us (c .before .before .before .before .before .before .args .code .now) (c .before .before .before .before .before .before .args .next-ahead .now) en)
 
-same-length : tie.Need-same-length
-same-length c = search needs
-
-same-length-2 : tie.Need-same-length-2
-same-length-2 c = search needs
-
 returns-2 : tie.Need-returns-2
 unfolding blockNode
 returns-2 c = λ vs ly ks es us en. simp (c .before .before .before .before .before .before .before .before .match .keys2) (c .before .before .before .before .begun .ensures vs ly ks es us en)
-
-same-length-3 : tie.Need-same-length-3
-same-length-3 c = search needs
 
 returns-3 : tie.Need-returns-3
 unfolding blockNode
@@ -40,12 +22,12 @@ pub block-node-spec : {M : Type 1} → statement M
 block-node-spec =
     tie.close
     (tie.spec
-    entered-requires
-    begun-requires
-    left-requires
+    (λ c κs. search needs)
+    (λ c κs. search needs)
+    (λ c κs. search needs)
     returns
-    same-length
-    same-length-2
+    (λ c. search needs)
+    (λ c. search needs)
     returns-2
-    same-length-3
+    (λ c. search needs)
     returns-3)

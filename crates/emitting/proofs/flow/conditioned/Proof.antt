@@ -6,24 +6,6 @@ use borrow.Author.Needs.{needs}
 use Rattle.emitting.proofs.flow.conditioned.Statement.{statement}
 use Rattle.emitting.proofs.flow.conditioned.Tie as tie
 
-address-at-requires : tie.Need-address-at-requires
-address-at-requires c κs = search needs
-
-going-to-requires : tie.Need-going-to-requires
-going-to-requires c κs = search needs
-
-put-requires : tie.Need-put-requires
-put-requires c κs = search needs
-
-push-requires : tie.Need-push-requires
-push-requires c κs = search needs
-
-slot-requires : tie.Need-slot-requires
-slot-requires c κs = search needs
-
-same-length : tie.Need-same-length
-same-length c = search needs
-
 returns : tie.Need-returns
 unfolding aheadAt
 returns c =
@@ -34,10 +16,10 @@ pub conditioned-spec : {M : Type 1} → statement M
 conditioned-spec =
     tie.close
     (tie.spec
-    address-at-requires
-    going-to-requires
-    put-requires
-    push-requires
-    slot-requires
-    same-length
+    (λ c κs. search needs)
+    (λ c κs. search needs)
+    (λ c κs. search needs)
+    (λ c κs. search needs)
+    (λ c κs. search needs)
+    (λ c. search needs)
     returns)

@@ -8,21 +8,6 @@ use borrow.Author.Needs.{needs}
 use Rattle.emitting.proofs.flow.declared.Statement.{statement}
 use Rattle.emitting.proofs.flow.declared.Tie as tie
 
-set-entry-requires : tie.Need-set-entry-requires
-set-entry-requires c κs = search needs
-
-push-requires : tie.Need-push-requires
-push-requires c κs = search needs
-
-add-r : tie.Need-add-r
-add-r c = search needs
-
-add-r-2 : tie.Need-add-r-2
-add-r-2 c = search needs
-
-same-length : tie.Need-same-length
-same-length c = search needs
-
 returns : tie.Need-returns
 unfolding proceeding within pushed withOpen withCell withEntry
 returns c =
@@ -31,4 +16,4 @@ returns c =
 
 pub declared-spec : {M : Type 1} → statement M
 declared-spec =
-    tie.close (tie.spec set-entry-requires push-requires add-r add-r-2 same-length returns)
+    tie.close (tie.spec (λ c κs. search needs) (λ c κs. search needs) (λ c. search needs) (λ c. search needs) (λ c. search needs) returns)

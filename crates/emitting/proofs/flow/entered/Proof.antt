@@ -6,12 +6,6 @@ use borrow.Author.Needs.{needs}
 use Rattle.emitting.proofs.flow.entered.Statement.{statement}
 use Rattle.emitting.proofs.flow.entered.Tie as tie
 
-push-requires : tie.Need-push-requires
-push-requires c κs = search needs
-
-slot-requires : tie.Need-slot-requires
-slot-requires c κs = search needs
-
 returns : tie.Need-returns
 unfolding within withSlot withOpen pushed nameless withVariable
 returns c =
@@ -19,4 +13,4 @@ returns c =
     λ us co ah en. ap (λ (z : State). nameless (within (z .level) (z .loops) 0 z)) (c .slot .ensures us _ co ah en ∙ ap withSlot (c .before .push .ensures .0 us co ah en))
 
 pub entered-spec : {M : Type 1} → statement M
-entered-spec = tie.close (tie.spec push-requires slot-requires returns)
+entered-spec = tie.close (tie.spec (λ c κs. search needs) (λ c κs. search needs) returns)

@@ -8,18 +8,6 @@ use borrow.Author.Needs.{needs}
 use Rattle.emitting.proofs.flow.joined.Statement.{statement}
 use Rattle.emitting.proofs.flow.joined.Tie as tie
 
-going-to-requires : tie.Need-going-to-requires
-going-to-requires c κs = search needs
-
-set-word-requires : tie.Need-set-word-requires
-set-word-requires c κs = search needs
-
-pop-requires : tie.Need-pop-requires
-pop-requires c κs = search needs
-
-same-length : tie.Need-same-length
-same-length c = search needs
-
 returns : tie.Need-returns
 unfolding joined noted popped withOpen withVariable nameless
 returns c =
@@ -28,4 +16,4 @@ returns c =
 
 pub joined-spec : {M : Type 1} → statement M
 joined-spec =
-    tie.close (tie.spec going-to-requires set-word-requires pop-requires same-length returns)
+    tie.close (tie.spec (λ c κs. search needs) (λ c κs. search needs) (λ c κs. search needs) (λ c. search needs) returns)

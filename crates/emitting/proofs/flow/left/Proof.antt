@@ -6,22 +6,10 @@ use borrow.Author.Needs.{needs}
 use Rattle.emitting.proofs.flow.left.Statement.{statement}
 use Rattle.emitting.proofs.flow.left.Tie as tie
 
-packed-requires : tie.Need-packed-requires
-packed-requires c κs = search needs
-
-put-requires : tie.Need-put-requires
-put-requires c κs = search needs
-
-pop-requires : tie.Need-pop-requires
-pop-requires c κs = search needs
-
-same-length : tie.Need-same-length
-same-length c = search needs
-
 returns : tie.Need-returns
 unfolding within popped withOpen put
 returns c =
     λ us op ah en. rw (c .before .before .before .before .packed .ensures .0) at (ap (λ (z : State). within (z .level) (z .loops) (c .before .before .before .before .before .before .before .args .c .fourth) z) (c .pop .ensures .0 us op _ ah en ∙ ap popped (c .before .before .before .put .ensures .0 us op ah en)))
 
 pub left-spec : {M : Type 1} → statement M
-left-spec = tie.close (tie.spec packed-requires put-requires pop-requires same-length returns)
+left-spec = tie.close (tie.spec (λ c κs. search needs) (λ c κs. search needs) (λ c κs. search needs) (λ c. search needs) returns)

@@ -10,35 +10,8 @@ use borrow.Author.Needs.{needs}
 use Rattle.emitting.proofs.flow.otherwise.Statement.{statement}
 use Rattle.emitting.proofs.flow.otherwise.Tie as tie
 
-address-at-requires : tie.Need-address-at-requires
-address-at-requires c κs = search needs
-
-going-to-requires : tie.Need-going-to-requires
-going-to-requires c κs = search needs
-
-add-t11 : tie.Need-add-t11
-add-t11 c = search needs
-
-going-to-requires-2 : tie.Need-going-to-requires-2
-going-to-requires-2 c κs = search needs
-
-set-word-requires : tie.Need-set-word-requires
-set-word-requires c κs = search needs
-
-put-requires : tie.Need-put-requires
-put-requires c κs = search needs
-
-replace-requires : tie.Need-replace-requires
-replace-requires c κs = search needs
-
 slot-requires : tie.Need-slot-requires
 slot-requires c κs = let a = c .replace .ensures .1 .0 .slots in let b = c .before .before .before .before .put .ensures .1 .0 .slots in let d = c .before .before .before .before .before .before .before .before .before .before .before .before .before .before .before .before .before .pre .1 in omega arith
-
-same-length : tie.Need-same-length
-same-length c = search needs
-
-same-length-2 : tie.Need-same-length-2
-same-length-2 c = search needs
 
 returns : tie.Need-returns
 unfolding otherwise noted withSlot withOpen replaced put aheadAt
@@ -52,14 +25,14 @@ pub otherwise-spec : {M : Type 1} → statement M
 otherwise-spec =
     tie.close
     (tie.spec
-    address-at-requires
-    going-to-requires
-    add-t11
-    going-to-requires-2
-    set-word-requires
-    put-requires
-    replace-requires
+    (λ c κs. search needs)
+    (λ c κs. search needs)
+    (λ c. search needs)
+    (λ c κs. search needs)
+    (λ c κs. search needs)
+    (λ c κs. search needs)
+    (λ c κs. search needs)
     slot-requires
-    same-length
-    same-length-2
+    (λ c. search needs)
+    (λ c. search needs)
     returns)

@@ -7,29 +7,11 @@ use borrow.Author.Needs.{needs}
 use Rattle.emitting.proofs.flow.procedure_node.Statement.{statement}
 use Rattle.emitting.proofs.flow.procedure_node.Tie as tie
 
-skipped-requires : tie.Need-skipped-requires
-skipped-requires c κs = search needs
-
-declared-requires : tie.Need-declared-requires
-declared-requires c κs = search needs
-
-returned-requires : tie.Need-returned-requires
-returned-requires c κs = search needs
-
-same-length : tie.Need-same-length
-same-length c = search needs
-
-same-length-2 : tie.Need-same-length-2
-same-length-2 c = search needs
-
 returns : tie.Need-returns
 unfolding procedureNode
 returns c =
     let a = c .before .before .before .before .before .before .before .before .before .before .before .before .before .args in
     λ vs ly es us ah. simp (c .before .before .before .before .before .before .before .before .before .match .keys1) (c .before .before .declared .ensures vs ly (a .ahead .now) es us _ ah ∙ ap (proceeding vs ly (a .ahead .now) es) (c .before .before .before .before .before .before .before .skipped .ensures .0 vs ly es us (a .things .now) ah (a .next-entries .now)))
-
-same-length-3 : tie.Need-same-length-3
-same-length-3 c = search needs
 
 returns-2 : tie.Need-returns-2
 unfolding procedureNode
@@ -39,11 +21,11 @@ pub procedure-node-spec : {M : Type 1} → statement M
 procedure-node-spec =
     tie.close
     (tie.spec
-    skipped-requires
-    declared-requires
-    returned-requires
-    same-length
-    same-length-2
+    (λ c κs. search needs)
+    (λ c κs. search needs)
+    (λ c κs. search needs)
+    (λ c. search needs)
+    (λ c. search needs)
     returns
-    same-length-3
+    (λ c. search needs)
     returns-2)

@@ -7,22 +7,10 @@ use borrow.Author.Needs.{needs}
 use Rattle.emitting.proofs.flow.returned.Statement.{statement}
 use Rattle.emitting.proofs.flow.returned.Tie as tie
 
-put-requires : tie.Need-put-requires
-put-requires c κs = search needs
-
-pop-requires : tie.Need-pop-requires
-pop-requires c κs = search needs
-
-less-requires : tie.Need-less-requires
-less-requires c κs = search needs
-
-same-length : tie.Need-same-length
-same-length c = search needs
-
 returns : tie.Need-returns
 unfolding within popped withOpen put withVariable
 returns c =
     λ us op ah en. rw (c .less .ensures) (ap (λ (z : State). withVariable (z .awaits) 1 (within (c .before .before .before .before .before .before .before .args .t .level - 1) (c .before .before .before .before .before .before .before .args .c .first) (z .cells) z)) (c .before .pop .ensures .0 us op _ ah en ∙ ap popped (c .before .before .before .before .put .ensures .0 us op ah en)))
 
 pub returned-spec : {M : Type 1} → statement M
-returned-spec = tie.close (tie.spec put-requires pop-requires less-requires same-length returns)
+returned-spec = tie.close (tie.spec (λ c κs. search needs) (λ c κs. search needs) (λ c κs. search needs) (λ c. search needs) returns)

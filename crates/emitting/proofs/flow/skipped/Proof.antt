@@ -8,18 +8,6 @@ use borrow.Author.Needs.{needs}
 use Rattle.emitting.proofs.flow.skipped.Statement.{statement}
 use Rattle.emitting.proofs.flow.skipped.Tie as tie
 
-address-at-requires : tie.Need-address-at-requires
-address-at-requires c κs = search needs
-
-going-to-requires : tie.Need-going-to-requires
-going-to-requires c κs = search needs
-
-put-requires : tie.Need-put-requires
-put-requires c κs = search needs
-
-same-length : tie.Need-same-length
-same-length c = search needs
-
 returns : tie.Need-returns
 unfolding skipped aheadAt
 returns c = (λ vs ly es us op ah en. simp (eq-eqb _ _ (c .before .before .before .before .before .before .if1 .taken)) (rw (c .before .before .before .before .going-to .ensures .0, c .before .before .before .before .before .address-at .ensures) at (c .before .before .put .ensures .0 us op ah en)), (c .before .before .put .ensures .1 .0, c .before .before .put .ensures .1 .2))
@@ -31,4 +19,4 @@ returns-2 c = (λ vs ly es us op ah en. simp (ne-eqb _ _ (c .if1 .left)), (alike
 pub skipped-spec : {M : Type 1} → statement M
 skipped-spec =
     tie.close
-    (tie.spec address-at-requires going-to-requires put-requires same-length returns returns-2)
+    (tie.spec (λ c κs. search needs) (λ c κs. search needs) (λ c κs. search needs) (λ c. search needs) returns returns-2)

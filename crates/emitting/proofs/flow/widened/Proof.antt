@@ -9,12 +9,6 @@ use borrow.Author.Needs.{needs}
 use Rattle.emitting.proofs.flow.widened.Statement.{statement}
 use Rattle.emitting.proofs.flow.widened.Tie as tie
 
-put-requires : tie.Need-put-requires
-put-requires c κs = search needs
-
-same-length : tie.Need-same-length
-same-length c = search needs
-
 returns : tie.Need-returns
 unfolding widened
 returns c = (λ vs ly ks es us op ah en. simp (eq-eqb _ _ (c .before .before .before .before .if1 .taken)) (c .before .before .put .ensures .0 us op ah en), (c .before .before .put .ensures .1 .0, omega (arith, c .before .before .put .ensures .1 .1), c .before .before .put .ensures .1 .2))
@@ -24,4 +18,4 @@ unfolding widened
 returns-2 c = (λ vs ly ks es us op ah en. simp (ne-eqb _ _ (c .if1 .left)), (alike-same _, omega arith, refl))
 
 pub widened-spec : {M : Type 1} → statement M
-widened-spec = tie.close (tie.spec put-requires same-length returns returns-2)
+widened-spec = tie.close (tie.spec (λ c κs. search needs) (λ c. search needs) returns returns-2)

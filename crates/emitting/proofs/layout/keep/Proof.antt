@@ -5,17 +5,8 @@ use borrow.Author.Needs.{needs}
 use Rattle.emitting.proofs.layout.keep.Statement.{statement}
 use Rattle.emitting.proofs.layout.keep.Tie as tie
 
-mul-around : tie.Need-mul-around
-mul-around c = search needs
-
-slice-write-around : tie.Need-slice-write-around
-slice-write-around c = search needs
-
-same-length : tie.Need-same-length
-same-length c = search needs
-
 returns : tie.Need-returns
 returns c = opens-enter (c .args .n) (c .args .around .now) (c .args .reach) (c .pre)
 
 pub keep-spec : {M : Type 1} → statement M
-keep-spec = tie.close (tie.spec mul-around slice-write-around same-length returns)
+keep-spec = tie.close (tie.spec (λ c. search needs) (λ c. search needs) (λ c. search needs) returns)

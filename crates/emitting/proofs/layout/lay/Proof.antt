@@ -27,38 +27,8 @@ loop-holds : tie.Need-loop-holds Inv-loop μ-loop
 unfolding opensOf AllWithin
 loop-holds c = (record { level = omega arith; reach = omega arith; open-scopes = omega arith; declared = omega arith; outside = tt }, refl, omega arith, refl)
 
-mul-loop : tie.Need-mul-loop Inv-loop μ-loop
-mul-loop c = search needs
-
-add-loop : tie.Need-add-loop Inv-loop μ-loop
-add-loop c = search needs
-
-mul-at : tie.Need-mul-at Inv-loop μ-loop
-mul-at c = search needs
-
-mul-lay-node : tie.Need-mul-lay-node Inv-loop μ-loop
-mul-lay-node c = search needs
-
-shared-slice-read-lay-node : tie.Need-shared-slice-read-lay-node Inv-loop μ-loop
-shared-slice-read-lay-node c = search needs
-
-add-lay-node : tie.Need-add-lay-node Inv-loop μ-loop
-add-lay-node c = search needs
-
-mul-lay-node-2 : tie.Need-mul-lay-node-2 Inv-loop μ-loop
-mul-lay-node-2 c = search needs
-
-shared-slice-read-lay-node-2 : tie.Need-shared-slice-read-lay-node-2 Inv-loop μ-loop
-shared-slice-read-lay-node-2 c = search needs
-
 lay-node-requires : tie.Need-lay-node-requires Inv-loop μ-loop
 lay-node-requires c κs = let h = c .before .before .before .before .loop-test .taken in spread-up (c .before .before .before .before .before .loop .i) 8191 (lain (c .before .before .before .before .before .loop .t) (c .before .before .before .before .before .loop .around) (c .before .before .before .before .before .loop .table)) (omega arith) (c .before .before .before .before .before .loop .inv .0)
-
-add-i : tie.Need-add-i Inv-loop μ-loop
-add-i c = search needs
-
-loop-less : tie.Need-loop-less Inv-loop μ-loop
-loop-less c = search needs
 
 loop-again : tie.Need-loop-again Inv-loop μ-loop
 loop-again c =
@@ -88,17 +58,17 @@ lay-spec =
     Inv-loop
     μ-loop
     loop-holds
-    mul-loop
-    add-loop
-    mul-at
-    mul-lay-node
-    shared-slice-read-lay-node
-    add-lay-node
-    mul-lay-node-2
-    shared-slice-read-lay-node-2
+    (λ c. search needs)
+    (λ c. search needs)
+    (λ c. search needs)
+    (λ c. search needs)
+    (λ c. search needs)
+    (λ c. search needs)
+    (λ c. search needs)
+    (λ c. search needs)
     lay-node-requires
-    add-i
-    loop-less
+    (λ c. search needs)
+    (λ c. search needs)
     loop-again
     same-length
     returns)

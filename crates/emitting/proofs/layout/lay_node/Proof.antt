@@ -9,17 +9,11 @@ use borrow.Author.Needs.{needs}
 use Rattle.emitting.proofs.layout.lay_node.Statement.{statement}
 use Rattle.emitting.proofs.layout.lay_node.Tie as tie
 
-varied-requires : tie.Need-varied-requires
-varied-requires c κs = search needs
-
 celled-requires : tie.Need-celled-requires
 celled-requires c κs = let p = c .before .before .before .before .pre in let d = p .reach in let e = p .declared in (omega arith, omega arith)
 
 procedured-requires : tie.Need-procedured-requires
 procedured-requires c κs = let p = c .before .before .before .before .before .pre in let d = p .open-scopes in let e = length-opens (c .before .before .before .before .before .args .t .open) (c .before .before .before .before .before .args .around .now) in let l = p .level in let f = p .declared in (omega arith, omega arith, omega arith)
-
-less-requires : tie.Need-less-requires
-less-requires c κs = search needs
 
 closed-requires : tie.Need-closed-requires
 closed-requires c κs = let p = c .before .before .before .before .before .pre in let d = p .open-scopes in let e = length-opens (c .before .before .before .before .before .args .t .open) (c .before .before .before .before .before .args .around .now) in let l = p .level in omega arith
@@ -34,22 +28,13 @@ returns : tie.Need-returns
 unfolding layNode typed
 returns c = λ s b. simp (c .match .keys1)
 
-same-length : tie.Need-same-length
-same-length c = search needs
-
 returns-2 : tie.Need-returns-2
 unfolding layNode
 returns-2 c = λ s b. simp (c .before .before .before .before .before .match .keys2) (c .before .before .varied .ensures)
 
-same-length-2 : tie.Need-same-length-2
-same-length-2 c = search needs
-
 returns-3 : tie.Need-returns-3
 unfolding layNode
 returns-3 c = λ s b. simp (c .before .before .before .before .match .keys3) (c .before .before .celled .ensures (c .before .before .before .before .before .before .before .args .around .now))
-
-same-length-3 : tie.Need-same-length-3
-same-length-3 c = search needs
 
 returns-4 : tie.Need-returns-4
 unfolding layNode
@@ -77,19 +62,19 @@ pub lay-node-spec : {M : Type 1} → statement M
 lay-node-spec =
     tie.close
     (tie.spec
-    varied-requires
+    (λ c κs. search needs)
     celled-requires
     procedured-requires
-    less-requires
+    (λ c κs. search needs)
     closed-requires
     blocked-requires
     closed-requires-2
     returns
-    same-length
+    (λ c. search needs)
     returns-2
-    same-length-2
+    (λ c. search needs)
     returns-3
-    same-length-3
+    (λ c. search needs)
     returns-4
     returns-5
     returns-6

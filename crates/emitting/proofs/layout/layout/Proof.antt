@@ -11,12 +11,6 @@ use borrow.Author.Needs.{needs}
 use Rattle.emitting.proofs.layout.layout.Statement.{statement}
 use Rattle.emitting.proofs.layout.layout.Tie as tie
 
-clear-requires : tie.Need-clear-requires
-clear-requires c κs = search needs
-
-lay-requires : tie.Need-lay-requires
-lay-requires c κs = search needs
-
 returns : tie.Need-returns
 unfolding layoutOf
 returns c = c .lay .ensures ∙ ap (λ (w : List ℕ). foldNodes (layNode (c .before .before .before .before .before .before .before .args .rows .now)) (c .before .before .before .before .before .before .before .args .nodes .now) (unlaidIn w) .table) (c .before .before .before .clear .ensures ∙ ap (λ (n : ℕ). replicate n 0) (c .before .before .before .before .clear-arg .given .0 .1))
@@ -25,6 +19,6 @@ pub layout-spec : {M : Type 1} → statement M
 layout-spec =
     tie.close
     (tie.spec
-    clear-requires
-    lay-requires
+    (λ c κs. search needs)
+    (λ c κs. search needs)
     returns)

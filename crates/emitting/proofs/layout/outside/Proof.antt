@@ -11,17 +11,8 @@ returns : tie.Need-returns
 unfolding outermost opensOf
 returns c = rw (c .if1 .taken)
 
-sub-result : tie.Need-sub-result
-sub-result c = search needs
-
-mul-result : tie.Need-mul-result
-mul-result c = search needs
-
-element-copy-out-result : tie.Need-element-copy-out-result
-element-copy-out-result c = search needs
-
 returns-2 : tie.Need-returns-2
 returns-2 c = opens-outermost (c .before .before .args .t .open) (c .before .before .args .around .now) (c .before .if1 .left)
 
 pub outside-spec : {M : Type 1} → statement M
-outside-spec = tie.close (tie.spec returns sub-result mul-result element-copy-out-result returns-2)
+outside-spec = tie.close (tie.spec returns (λ c. search needs) (λ c. search needs) (λ c. search needs) returns-2)

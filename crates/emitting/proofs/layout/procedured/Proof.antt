@@ -9,27 +9,6 @@ use borrow.Author.Needs.{needs}
 use Rattle.emitting.proofs.layout.procedured.Statement.{statement}
 use Rattle.emitting.proofs.layout.procedured.Tie as tie
 
-one-of-requires : tie.Need-one-of-requires
-one-of-requires c κs = search needs
-
-packed-requires : tie.Need-packed-requires
-packed-requires c κs = search needs
-
-set-word-requires : tie.Need-set-word-requires
-set-word-requires c κs = search needs
-
-blocked-requires : tie.Need-blocked-requires
-blocked-requires c κs = search needs
-
-add-r : tie.Need-add-r
-add-r c = search needs
-
-add-r-2 : tie.Need-add-r-2
-add-r-2 c = search needs
-
-same-length : tie.Need-same-length
-same-length c = search needs
-
 returns : tie.Need-returns
 unfolding procedured blocked
 returns c =
@@ -42,11 +21,11 @@ pub procedured-spec : {M : Type 1} → statement M
 procedured-spec =
     tie.close
     (tie.spec
-    one-of-requires
-    packed-requires
-    set-word-requires
-    blocked-requires
-    add-r
-    add-r-2
-    same-length
+    (λ c κs. search needs)
+    (λ c κs. search needs)
+    (λ c κs. search needs)
+    (λ c κs. search needs)
+    (λ c. search needs)
+    (λ c. search needs)
+    (λ c. search needs)
     returns)

@@ -19,9 +19,6 @@ add-offset c = let p = outermost-within 8191 (opensOf (c .before .before .before
 celled-requires : tie.Need-celled-requires
 celled-requires c κs = let p = c .before .before .before .before .before .pre in let d = p .reach in let e = p .declared in (omega arith, omega arith)
 
-same-length : tie.Need-same-length
-same-length c = search needs
-
 returns : tie.Need-returns
 returns c = rw (c .before .before .before .before .before .outside .ensures, c .before .before .before .before .among-for .ensures .0) at (c .before .before .celled .ensures (c .before .before .before .before .before .before .before .before .args .around .now))
 
@@ -33,5 +30,5 @@ varied-spec =
     among-for-requires
     add-offset
     celled-requires
-    same-length
+    (λ c. search needs)
     returns)

@@ -8,15 +8,6 @@ use borrow.Author.Needs.{needs}
 use Rattle.emitting.proofs.loops.added.Statement.{statement}
 use Rattle.emitting.proofs.loops.added.Tie as tie
 
-on-cell-requires : tie.Need-on-cell-requires
-on-cell-requires c κs = search needs
-
-on-cell-requires-2 : tie.Need-on-cell-requires-2
-on-cell-requires-2 c κs = search needs
-
-same-length : tie.Need-same-length
-same-length c = search needs
-
 returns : tie.Need-returns
 unfolding added
 returns c =
@@ -27,4 +18,4 @@ returns c =
     (λ vs ly ks es us op ah en. c .before .before .on-cell2 .ensures .0 us op ah en ∙ ap (onCell 14 (c .before .before .before .before .before .before .before .before .before .args .f .third) (c .before .before .before .before .before .before .before .before .before .args .f .third) (c .before .before .before .before .before .before .before .before .before .args .f .second)) (c .before .before .before .before .before .before .on-cell .ensures .0 us op ah en), (alike-then (a .0) (b .0), omega arith, b .2 ∙ a .2))
 
 pub added-spec : {M : Type 1} → statement M
-added-spec = tie.close (tie.spec on-cell-requires on-cell-requires-2 same-length returns)
+added-spec = tie.close (tie.spec (λ c κs. search needs) (λ c κs. search needs) (λ c. search needs) returns)

@@ -9,24 +9,6 @@ use borrow.Author.Needs.{needs}
 use Rattle.emitting.proofs.loops.begun.Statement.{statement}
 use Rattle.emitting.proofs.loops.begun.Tie as tie
 
-going-to-requires : tie.Need-going-to-requires
-going-to-requires c κs = search needs
-
-set-word-requires : tie.Need-set-word-requires
-set-word-requires c κs = search needs
-
-less-requires : tie.Need-less-requires
-less-requires c κs = search needs
-
-replace-requires : tie.Need-replace-requires
-replace-requires c κs = search needs
-
-add-r : tie.Need-add-r
-add-r c = search needs
-
-same-length : tie.Need-same-length
-same-length c = search needs
-
 returns : tie.Need-returns
 unfolding within noted withOpen replaced
 returns c =
@@ -37,10 +19,10 @@ pub begun-spec : {M : Type 1} → statement M
 begun-spec =
     tie.close
     (tie.spec
-    going-to-requires
-    set-word-requires
-    less-requires
-    replace-requires
-    add-r
-    same-length
+    (λ c κs. search needs)
+    (λ c κs. search needs)
+    (λ c κs. search needs)
+    (λ c κs. search needs)
+    (λ c. search needs)
+    (λ c. search needs)
     returns)

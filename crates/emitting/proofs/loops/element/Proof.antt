@@ -8,24 +8,6 @@ use borrow.Author.Needs.{needs}
 use Rattle.emitting.proofs.loops.element.Statement.{statement}
 use Rattle.emitting.proofs.loops.element.Tie as tie
 
-going-to-requires : tie.Need-going-to-requires
-going-to-requires c κs = search needs
-
-set-word-requires : tie.Need-set-word-requires
-set-word-requires c κs = search needs
-
-cast-replace : tie.Need-cast-replace
-cast-replace c = search needs
-
-replace-requires : tie.Need-replace-requires
-replace-requires c κs = search needs
-
-slot-requires : tie.Need-slot-requires
-slot-requires c κs = search needs
-
-same-length : tie.Need-same-length
-same-length c = search needs
-
 returns : tie.Need-returns
 unfolding element noted withSlot withOpen replaced
 returns c =
@@ -36,10 +18,10 @@ pub element-spec : {M : Type 1} → statement M
 element-spec =
     tie.close
     (tie.spec
-    going-to-requires
-    set-word-requires
-    cast-replace
-    replace-requires
-    slot-requires
-    same-length
+    (λ c κs. search needs)
+    (λ c κs. search needs)
+    (λ c. search needs)
+    (λ c κs. search needs)
+    (λ c κs. search needs)
+    (λ c. search needs)
     returns)

@@ -9,33 +9,6 @@ use borrow.Author.Needs.{needs}
 use Rattle.emitting.proofs.loops.ended.Statement.{statement}
 use Rattle.emitting.proofs.loops.ended.Tie as tie
 
-less-requires : tie.Need-less-requires
-less-requires c κs = search needs
-
-packed-requires : tie.Need-packed-requires
-packed-requires c κs = search needs
-
-put-requires : tie.Need-put-requires
-put-requires c κs = search needs
-
-add-t12 : tie.Need-add-t12
-add-t12 c = search needs
-
-going-to-requires : tie.Need-going-to-requires
-going-to-requires c κs = search needs
-
-set-word-requires : tie.Need-set-word-requires
-set-word-requires c κs = search needs
-
-pop-requires : tie.Need-pop-requires
-pop-requires c κs = search needs
-
-same-length : tie.Need-same-length
-same-length c = search needs
-
-same-length-2 : tie.Need-same-length-2
-same-length-2 c = search needs
-
 returns : tie.Need-returns
 unfolding within noted popped withOpen put
 returns c =
@@ -47,13 +20,13 @@ pub ended-spec : {M : Type 1} → statement M
 ended-spec =
     tie.close
     (tie.spec
-    less-requires
-    packed-requires
-    put-requires
-    add-t12
-    going-to-requires
-    set-word-requires
-    pop-requires
-    same-length
-    same-length-2
+    (λ c κs. search needs)
+    (λ c κs. search needs)
+    (λ c κs. search needs)
+    (λ c. search needs)
+    (λ c κs. search needs)
+    (λ c κs. search needs)
+    (λ c κs. search needs)
+    (λ c. search needs)
+    (λ c. search needs)
     returns)

@@ -9,24 +9,6 @@ use borrow.Author.Needs.{needs}
 use Rattle.emitting.proofs.loops.tested.Statement.{statement}
 use Rattle.emitting.proofs.loops.tested.Tie as tie
 
-low-requires : tie.Need-low-requires
-low-requires c κs = search needs
-
-bare-requires : tie.Need-bare-requires
-bare-requires c κs = search needs
-
-put-requires : tie.Need-put-requires
-put-requires c κs = search needs
-
-operand-requires : tie.Need-operand-requires
-operand-requires c κs = search needs
-
-put-requires-2 : tie.Need-put-requires-2
-put-requires-2 c κs = search needs
-
-same-length : tie.Need-same-length
-same-length c = search needs
-
 returns : tie.Need-returns
 unfolding tested
 returns c =
@@ -35,21 +17,6 @@ returns c =
     let x = a .1 in
     let y = b .1 in
     (λ vs ly ks es us op ah en. simp (eq-eqb _ _ (sym (c .before .before .before .before .before .before .before .before .before .before .before .low .ensures) ∙ c .before .before .before .before .before .before .before .before .before .before .if1 .taken)) (rw (c .before .before .before .operand .ensures .0, c .before .before .before .before .before .before .before .before .bare .ensures .0) at (c .before .before .put2 .ensures .0 us op ah en ∙ ap (put 11 (c .before .before .before .before .before .before .before .before .before .before .before .before .before .args .f .third) (c .before .before .before .operand .result)) (c .before .before .before .before .before .before .before .put .ensures .0 us op ah en))), (alike-then (a .0) (b .0), omega arith, b .2 ∙ a .2))
-
-high-requires : tie.Need-high-requires
-high-requires c κs = search needs
-
-mid-requires : tie.Need-mid-requires
-mid-requires c κs = search needs
-
-operand-requires-2 : tie.Need-operand-requires-2
-operand-requires-2 c κs = search needs
-
-put-requires-3 : tie.Need-put-requires-3
-put-requires-3 c κs = search needs
-
-same-length-2 : tie.Need-same-length-2
-same-length-2 c = search needs
 
 returns-2 : tie.Need-returns-2
 unfolding tested
@@ -62,16 +29,16 @@ pub tested-spec : {M : Type 1} → statement M
 tested-spec =
     tie.close
     (tie.spec
-    low-requires
-    bare-requires
-    put-requires
-    operand-requires
-    put-requires-2
-    same-length
+    (λ c κs. search needs)
+    (λ c κs. search needs)
+    (λ c κs. search needs)
+    (λ c κs. search needs)
+    (λ c κs. search needs)
+    (λ c. search needs)
     returns
-    high-requires
-    mid-requires
-    operand-requires-2
-    put-requires-3
-    same-length-2
+    (λ c κs. search needs)
+    (λ c κs. search needs)
+    (λ c κs. search needs)
+    (λ c κs. search needs)
+    (λ c. search needs)
     returns-2)

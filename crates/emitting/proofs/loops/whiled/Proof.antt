@@ -8,29 +8,8 @@ use borrow.Author.Needs.{needs}
 use Rattle.emitting.proofs.loops.whiled.Statement.{statement}
 use Rattle.emitting.proofs.loops.whiled.Tie as tie
 
-address-at-requires : tie.Need-address-at-requires
-address-at-requires c κs = search needs
-
-going-to-requires : tie.Need-going-to-requires
-going-to-requires c κs = search needs
-
-put-requires : tie.Need-put-requires
-put-requires c κs = search needs
-
-element-at-requires : tie.Need-element-at-requires
-element-at-requires c κs = search needs
-
-bodied-requires : tie.Need-bodied-requires
-bodied-requires c κs = search needs
-
 element-requires : tie.Need-element-requires
 element-requires c κs = let a = c .before .before .before .before .bodied .ensures .1 .0 .slots in let b = c .before .before .before .before .bodied .ensures .1 .2 in let d = c .before .before .before .before .before .before .before .before .before .put .ensures .1 .0 .slots in let e = c .before .before .before .before .before .before .before .before .before .put .ensures .1 .2 in let p = c .before .before .before .before .before .before .before .before .before .before .before .before .before .before .before .before .pre .0 .slots in let q = c .before .before .before .before .before .before .before .before .before .before .before .before .before .before .before .before .pre .0 .open-ones in (omega arith, omega arith)
-
-same-length : tie.Need-same-length
-same-length c = search needs
-
-same-length-2 : tie.Need-same-length-2
-same-length-2 c = search needs
 
 returns : tie.Need-returns
 unfolding aheadAt
@@ -43,12 +22,12 @@ pub whiled-spec : {M : Type 1} → statement M
 whiled-spec =
     tie.close
     (tie.spec
-    address-at-requires
-    going-to-requires
-    put-requires
-    element-at-requires
-    bodied-requires
+    (λ c κs. search needs)
+    (λ c κs. search needs)
+    (λ c κs. search needs)
+    (λ c κs. search needs)
+    (λ c κs. search needs)
     element-requires
-    same-length
-    same-length-2
+    (λ c. search needs)
+    (λ c. search needs)
     returns)

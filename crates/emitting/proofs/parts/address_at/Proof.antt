@@ -6,17 +6,8 @@ use borrow.Author.Needs.{needs}
 use Rattle.emitting.proofs.parts.address_at.Statement.{statement}
 use Rattle.emitting.proofs.parts.address_at.Tie as tie
 
-mul-t5 : tie.Need-mul-t5
-mul-t5 c = search needs
-
-shared-slice-read-t7 : tie.Need-shared-slice-read-t7
-shared-slice-read-t7 c = search needs
-
-returns : tie.Need-returns
-returns c = search needs
-
 returns-2 : tie.Need-returns-2
 returns-2 c = sym (List·getD-eq-default (c .before .args .ahead .now) 0 (c .if1 .left))
 
 pub address-at-spec : {M : Type 1} → statement M
-address-at-spec = tie.close (tie.spec mul-t5 shared-slice-read-t7 returns returns-2)
+address-at-spec = tie.close (tie.spec (λ c. search needs) (λ c. search needs) (λ c. search needs) returns-2)

@@ -6,15 +6,6 @@ use borrow.Author.Needs.{needs}
 use Rattle.emitting.proofs.parts.mark_of.Statement.{statement}
 use Rattle.emitting.proofs.parts.mark_of.Tie as tie
 
-cast-s : tie.Need-cast-s
-cast-s c = search needs
-
-mul-result : tie.Need-mul-result
-mul-result c = search needs
-
-shared-slice-read-result : tie.Need-shared-slice-read-result
-shared-slice-read-result c = search needs
-
 cast-result : tie.Need-cast-result
 cast-result c = omega (arith, c .shared-slice-known .given (c .before .before .before .args .symbol .number))
 
@@ -26,4 +17,4 @@ returns-2 c = let e = List·getD-eq-default (c .before .before .args .marks .now
 
 pub mark-of-spec : {M : Type 1} → statement M
 mark-of-spec =
-    tie.close (tie.spec cast-s mul-result shared-slice-read-result cast-result returns returns-2)
+    tie.close (tie.spec (λ c. search needs) (λ c. search needs) (λ c. search needs) cast-result returns returns-2)

@@ -6,24 +6,11 @@ use borrow.Author.Needs.{needs}
 use Rattle.emitting.proofs.parts.set_word.Statement.{statement}
 use Rattle.emitting.proofs.parts.set_word.Tie as tie
 
-cast-words : tie.Need-cast-words
-cast-words c = search needs
-
-mul-words : tie.Need-mul-words
-mul-words c = search needs
-
-slice-write-words : tie.Need-slice-write-words
-slice-write-words c = search needs
-
-same-length : tie.Need-same-length
-same-length c = search needs
-
-returns : tie.Need-returns
-returns c = search needs
-
 returns-2 : tie.Need-returns-2
-returns-2 c = sym (set-out (c .before .args .words .now) (c .before .args .i) (c .before .args .v) (c .if1 .left))
+returns-2 c =
+    let args = c .before .args in
+    sym (set-out (args .words .now) (args .i) (args .v) (c .if1 .left))
 
 pub set-word-spec : {M : Type 1} → statement M
 set-word-spec =
-    tie.close (tie.spec cast-words mul-words slice-write-words same-length returns returns-2)
+    tie.close (tie.spec (λ c. search needs) (λ c. search needs) (λ c. search needs) (λ c. search needs) (λ c. search needs) returns-2)

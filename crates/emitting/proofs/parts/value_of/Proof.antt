@@ -6,20 +6,8 @@ use borrow.Author.Needs.{needs}
 use Rattle.emitting.proofs.parts.value_of.Statement.{statement}
 use Rattle.emitting.proofs.parts.value_of.Tie as tie
 
-cast-s : tie.Need-cast-s
-cast-s c = search needs
-
-mul-result : tie.Need-mul-result
-mul-result c = search needs
-
-shared-slice-read-result : tie.Need-shared-slice-read-result
-shared-slice-read-result c = search needs
-
-returns : tie.Need-returns
-returns c = refl
-
 returns-2 : tie.Need-returns-2
 returns-2 c = sym (List·getD-eq-default (c .before .before .args .values .now) 0 (c .if1 .left))
 
 pub value-of-spec : {M : Type 1} → statement M
-value-of-spec = tie.close (tie.spec cast-s mul-result shared-slice-read-result returns returns-2)
+value-of-spec = tie.close (tie.spec (λ c. search needs) (λ c. search needs) (λ c. search needs) (λ c. refl) returns-2)

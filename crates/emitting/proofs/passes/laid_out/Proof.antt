@@ -7,15 +7,6 @@ use borrow.Author.Needs.{needs}
 use Rattle.emitting.proofs.passes.laid_out.Statement.{statement}
 use Rattle.emitting.proofs.passes.laid_out.Tie as tie
 
-layout-requires : tie.Need-layout-requires
-layout-requires c κs = search needs
-
-twice-requires : tie.Need-twice-requires
-twice-requires c κs = search needs
-
-same-length : tie.Need-same-length
-same-length c = search needs
-
 returns : tie.Need-returns
 returns c =
     let a = c .before .before .before .before .before .before .before .before .before .before .before .before .before .before .args in
@@ -25,7 +16,7 @@ pub laid-out-spec : {M : Type 1} → statement M
 laid-out-spec =
     tie.close
     (tie.spec
-    layout-requires
-    twice-requires
-    same-length
+    (λ c κs. search needs)
+    (λ c κs. search needs)
+    (λ c. search needs)
     returns)

@@ -7,24 +7,6 @@ use borrow.Author.Needs.{needs}
 use Rattle.emitting.proofs.passes.twice.Statement.{statement}
 use Rattle.emitting.proofs.passes.twice.Tie as tie
 
-slice-aggregate-nothing : tie.Need-slice-aggregate-nothing
-slice-aggregate-nothing c = search needs
-
-slice-aggregate-pass : tie.Need-slice-aggregate-pass
-slice-aggregate-pass c = search needs
-
-slice-aggregate-pass-2 : tie.Need-slice-aggregate-pass-2
-slice-aggregate-pass-2 c = search needs
-
-pass-requires : tie.Need-pass-requires
-pass-requires c κs = search needs
-
-again-requires : tie.Need-again-requires
-again-requires c κs = search needs
-
-same-length : tie.Need-same-length
-same-length c = search needs
-
 returns : tie.Need-returns
 returns c =
     let a = c .before .before .before .before .before .before .before .before .before .before .before .before .before .before .before .before .before .before .before .before .before .before .before .before .args in
@@ -34,10 +16,10 @@ pub twice-spec : {M : Type 1} → statement M
 twice-spec =
     tie.close
     (tie.spec
-    slice-aggregate-nothing
-    slice-aggregate-pass
-    slice-aggregate-pass-2
-    pass-requires
-    again-requires
-    same-length
+    (λ c. search needs)
+    (λ c. search needs)
+    (λ c. search needs)
+    (λ c κs. search needs)
+    (λ c κs. search needs)
+    (λ c. search needs)
     returns)

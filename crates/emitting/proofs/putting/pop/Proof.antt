@@ -13,12 +13,9 @@ returns : tie.Need-returns
 unfolding popped withOpen below thingsOf
 returns c = (λ us op co ah en. rw (c .if1 .taken), (record { slots = refl; level = refl; loops = refl; cells = refl; lefts = refl; declared = refl }, refl, refl, omega arith, λ h. omega arith))
 
-sub-t : tie.Need-sub-t
-sub-t c = search needs
-
 returns-2 : tie.Need-returns-2
 unfolding popped withOpen
 returns-2 c = (λ us op co ah en. rw (things-below (c .before .before .before .args .t .open) op), (record { slots = refl; level = refl; loops = refl; cells = refl; lefts = refl; declared = refl }, refl, refl, omega arith, λ h. omega arith))
 
 pub pop-spec : {M : Type 1} → statement M
-pop-spec = tie.close (tie.spec returns sub-t returns-2)
+pop-spec = tie.close (tie.spec returns (λ c. search needs) returns-2)

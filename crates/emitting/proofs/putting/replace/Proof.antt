@@ -8,9 +8,6 @@ use borrow.Author.Needs.{needs}
 use Rattle.emitting.proofs.putting.replace.Statement.{statement}
 use Rattle.emitting.proofs.putting.replace.Tie as tie
 
-pop-requires : tie.Need-pop-requires
-pop-requires c κs = search needs
-
 push-requires : tie.Need-push-requires
 push-requires c κs = c .before .pop .ensures .1 .4 (c .before .before .pre)
 
@@ -24,4 +21,4 @@ returns c =
     (λ us co ah en. c .push .ensures .0 us co ah en ∙ ap (pushed (a .a) (a .b) (a .c) (a .d)) (c .before .before .pop .ensures .0 us (a .things .now) co ah en), (alike-then (g .0) (f .0), f .1 ∙ g .1, omega (arith, f .2, i)))
 
 pub replace-spec : {M : Type 1} → statement M
-replace-spec = tie.close (tie.spec pop-requires push-requires returns)
+replace-spec = tie.close (tie.spec (λ c κs. search needs) push-requires returns)

@@ -6,12 +6,9 @@ use borrow.Author.Needs.{needs}
 use Rattle.emitting.proofs.putting.slot.Statement.{statement}
 use Rattle.emitting.proofs.putting.slot.Tie as tie
 
-add-t : tie.Need-add-t
-add-t c = search needs
-
 returns : tie.Need-returns
 unfolding withSlot
 returns c = λ us op co ah en. refl
 
 pub slot-spec : {M : Type 1} → statement M
-slot-spec = tie.close (tie.spec add-t returns)
+slot-spec = tie.close (tie.spec (λ c. search needs) returns)

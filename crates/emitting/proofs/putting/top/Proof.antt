@@ -12,14 +12,8 @@ returns : tie.Need-returns
 unfolding top thingsOf
 returns c = rw (c .if1 .taken)
 
-sub-thing : tie.Need-sub-thing
-sub-thing c = search needs
-
-thing-requires : tie.Need-thing-requires
-thing-requires c κs = search needs
-
 returns-2 : tie.Need-returns-2
 returns-2 c = c .thing .ensures ∙ things-top (c .before .before .before .args .t .open) (c .before .before .before .args .things .now) (c .before .before .if1 .left)
 
 pub top-spec : {M : Type 1} → statement M
-top-spec = tie.close (tie.spec returns sub-thing thing-requires returns-2)
+top-spec = tie.close (tie.spec returns (λ c. search needs) (λ c κs. search needs) returns-2)

@@ -7,9 +7,6 @@ use borrow.Author.Needs.{needs}
 use Rattle.emitting.proofs.uses.passed.Statement.{statement}
 use Rattle.emitting.proofs.uses.passed.Tie as tie
 
-add-t : tie.Need-add-t
-add-t c = search needs
-
 returns : tie.Need-returns
 unfolding withUses
 returns c =
@@ -21,4 +18,4 @@ returns-2 c =
     (λ rows op co ah en. rw (← others-nowhere rows (c .before .args .uses .now) (c .before .args .t .uses) (c .if1 .left)), (record { slots = refl; level = refl; loops = refl; cells = refl; lefts = refl; declared = refl }, refl, refl))
 
 pub passed-spec : {M : Type 1} → statement M
-passed-spec = tie.close (tie.spec add-t returns returns-2)
+passed-spec = tie.close (tie.spec (λ c. search needs) returns returns-2)

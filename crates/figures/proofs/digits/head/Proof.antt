@@ -20,29 +20,17 @@ abbrev μ-loop : tie.MeasureT-loop
 loop-holds : tie.Need-loop-holds Inv-loop μ-loop
 loop-holds c = (omega arith, c .pre .1 .0, sym (none-left (c .args .a .now) 772 (c .pre .0 .size)))
 
-sub-i : tie.Need-sub-i Inv-loop μ-loop
-sub-i c = omega arith
-
 mul-h : tie.Need-mul-h Inv-loop μ-loop
 mul-h c =
     let s = c .before .before in
     let l = c .before .loop in
     omega (arith, head-fits (s .args .a .now) (s .args .j) (l .i) (omega (arith, s .pre .0 .size)) (c .loop-test .taken) (s .pre .0 .digits), l .inv .2, s .pre .1 .1)
 
-element-copy-out-wide : tie.Need-element-copy-out-wide Inv-loop μ-loop
-element-copy-out-wide c = omega arith
-
-wide-requires : tie.Need-wide-requires Inv-loop μ-loop
-wide-requires c κs = search needs
-
 add-h : tie.Need-add-h Inv-loop μ-loop
 add-h c =
     let s = c .before .before .before .before in
     let l = c .before .before .before .loop in
     omega (arith, head-fits (s .args .a .now) (s .args .j) (l .i) (omega (arith, s .pre .0 .size)) (c .before .before .loop-test .taken) (s .pre .0 .digits), l .inv .2, s .pre .1 .1, c .wide .ensures)
-
-loop-less : tie.Need-loop-less Inv-loop μ-loop
-loop-less c = omega arith
 
 loop-again : tie.Need-loop-again Inv-loop μ-loop
 loop-again c =
@@ -63,11 +51,11 @@ head-spec =
     Inv-loop
     μ-loop
     loop-holds
-    sub-i
+    (λ c. omega arith)
     mul-h
-    element-copy-out-wide
-    wide-requires
+    (λ c. omega arith)
+    (λ c κs. search needs)
     add-h
-    loop-less
+    (λ c. omega arith)
     loop-again
     returns)

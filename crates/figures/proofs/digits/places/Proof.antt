@@ -18,24 +18,12 @@ abbrev μ-loop : tie.MeasureT-loop
 loop-holds : tie.Need-loop-holds Inv-loop μ-loop
 loop-holds c = (omega arith, refl, none-left (c .args .a .now) 772 (c .pre .size))
 
-sub-if1 : tie.Need-sub-if1 Inv-loop μ-loop
-sub-if1 c = omega arith
-
-element-copy-out-if1 : tie.Need-element-copy-out-if1 Inv-loop μ-loop
-element-copy-out-if1 c = omega arith
-
 returns : tie.Need-returns Inv-loop μ-loop
 returns c =
     let s = c .before .before .before .before in
     let l = c .before .before .before .loop in
     let e : suc (l .t - 1) ≡ l .t = omega arith in
     sym (l .inv .1 ∙ ap (λ n. placesTo n (value (s .args .a .now))) (sym e) ∙ places-found (l .t - 1) (s .args .a .now) (omega (arith, s .pre .size)) (c .if1 .taken) ∙ e)
-
-sub-t : tie.Need-sub-t Inv-loop μ-loop
-sub-t c = omega arith
-
-loop-less : tie.Need-loop-less Inv-loop μ-loop
-loop-less c = omega arith
 
 loop-again : tie.Need-loop-again Inv-loop μ-loop
 loop-again c =
@@ -60,10 +48,10 @@ places-spec =
     Inv-loop
     μ-loop
     loop-holds
-    sub-if1
-    element-copy-out-if1
+    (λ c. omega arith)
+    (λ c. omega arith)
     returns
-    sub-t
-    loop-less
+    (λ c. omega arith)
+    (λ c. omega arith)
     loop-again
     returns-2)

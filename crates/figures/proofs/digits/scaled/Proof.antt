@@ -17,17 +17,11 @@ times-requires c κs =
     let h = c .before .pre in
     (record { size = length-replicate {A = ℕ} 772 0; digits = digits-zeros 772 }, (lit< tt, lt-trans (h .0) (lit< tt), first-fits (a .y) (a .n) (h .0) (h .1) (h .2) _ (value-zeros 772)))
 
-over-requires : tie.Need-over-requires
-over-requires c κs = search needs
-
 times-power-requires : tie.Need-times-power-requires
 times-power-requires c κs =
     let a = c .before .before .before .before .args in
     let h = c .before .before .before .before .pre in
     (c .before .before .times .ensures .number, (lit< tt, lit< tt, second-fits (a .y) (a .n) (h .0) (h .1) (h .2) _ _ (c .over .result) (value-zeros 772) (c .before .before .times .ensures .spelt) (c .over .ensures)))
-
-over-requires-2 : tie.Need-over-requires-2
-over-requires-2 c κs = search needs
 
 times-power-requires-2 : tie.Need-times-power-requires-2
 times-power-requires-2 c κs =
@@ -54,9 +48,9 @@ scaled-spec =
     tie.close
     (tie.spec
     times-requires
-    over-requires
+    (λ c κs. search needs)
     times-power-requires
-    over-requires-2
+    (λ c κs. search needs)
     times-power-requires-2
     times-requires-2
     returns)

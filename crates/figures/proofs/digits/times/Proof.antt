@@ -20,12 +20,6 @@ abbrev μ-loop : tie.MeasureT-loop
 loop-holds : tie.Need-loop-holds Inv-loop μ-loop
 loop-holds c = (omega arith, worked-none _ _ _ (c .pre .0 .digits))
 
-element-copy-out-wide : tie.Need-element-copy-out-wide Inv-loop μ-loop
-element-copy-out-wide c = omega arith
-
-wide-requires : tie.Need-wide-requires Inv-loop μ-loop
-wide-requires c κs = search needs
-
 mul-d : tie.Need-mul-d Inv-loop μ-loop
 mul-d c =
     let s = c .before .before .before .before in
@@ -37,18 +31,6 @@ add-d c =
     let s = c .before .before .before .before in
     let l = c .before .before .before .loop in
     omega (arith, product (getD (l .a) (l .i) 0) (s .args .k) (l .inv .1 .digits (l .i)) (s .pre .1 .0), ap (λ x. x * s .args .k) (c .wide .ensures), l .inv .1 .small, s .pre .1 .1)
-
-cast-a : tie.Need-cast-a Inv-loop μ-loop
-cast-a c = omega arith
-
-element-write-a : tie.Need-element-write-a Inv-loop μ-loop
-element-write-a c = omega arith
-
-add-i : tie.Need-add-i Inv-loop μ-loop
-add-i c = omega arith
-
-loop-less : tie.Need-loop-less Inv-loop μ-loop
-loop-less c = omega arith
 
 loop-again : tie.Need-loop-again Inv-loop μ-loop
 loop-again c =
@@ -73,13 +55,13 @@ times-spec =
     Inv-loop
     μ-loop
     loop-holds
-    element-copy-out-wide
-    wide-requires
+    (λ c. omega arith)
+    (λ c κs. search needs)
     mul-d
     add-d
-    cast-a
-    element-write-a
-    add-i
-    loop-less
+    (λ c. omega arith)
+    (λ c. omega arith)
+    (λ c. omega arith)
+    (λ c. omega arith)
     loop-again
     returns)

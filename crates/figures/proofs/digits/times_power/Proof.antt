@@ -25,12 +25,6 @@ times-requires c κs =
     let l = c .before .before .loop in
     (l .inv .1, (s .pre .1 .1, omega arith, factor-fits (value (s .args .a .now)) (s .args .k) (l .i) (s .args .count) (value (l .a)) (10 ^ 772) (s .pre .1 .0) (c .before .loop-test .taken) (s .pre .1 .2) (l .inv .2)))
 
-add-i : tie.Need-add-i Inv-loop μ-loop
-add-i c = omega arith
-
-loop-less : tie.Need-loop-less Inv-loop μ-loop
-loop-less c = omega arith
-
 loop-again : tie.Need-loop-again Inv-loop μ-loop
 loop-again c =
     let s = c .before .before .before .before in
@@ -51,4 +45,4 @@ returns c =
 pub times-power-spec : {M : Type 1} → statement M
 times-power-spec =
     tie.close
-    (tie.spec Inv-loop μ-loop loop-holds times-requires add-i loop-less loop-again returns)
+    (tie.spec Inv-loop μ-loop loop-holds times-requires (λ c. omega arith) (λ c. omega arith) loop-again returns)

@@ -9,36 +9,6 @@ use Rattle.figures.proofs.Sizes.{ready-of, decimal-is}
 use Rattle.figures.proofs.fewest.decimal_of.Statement.{statement}
 use Rattle.figures.proofs.fewest.decimal_of.Tie as tie
 
-mul-scaled : tie.Need-mul-scaled
-mul-scaled c = search needs
-
-scaled-requires : tie.Need-scaled-requires
-scaled-requires c κs = search needs
-
-mul-scaled-2 : tie.Need-mul-scaled-2
-mul-scaled-2 c = search needs
-
-sub-scaled : tie.Need-sub-scaled
-sub-scaled c = search needs
-
-scaled-requires-2 : tie.Need-scaled-requires-2
-scaled-requires-2 c κs = search needs
-
-mul-scaled-3 : tie.Need-mul-scaled-3
-mul-scaled-3 c = search needs
-
-add-scaled : tie.Need-add-scaled
-add-scaled c = search needs
-
-sub-scaled-2 : tie.Need-sub-scaled-2
-sub-scaled-2 c = search needs
-
-scaled-requires-3 : tie.Need-scaled-requires-3
-scaled-requires-3 c κs = search needs
-
-places-requires : tie.Need-places-requires
-places-requires c κs = search needs
-
 enough-requires : tie.Need-enough-requires
 enough-requires c κs =
     let a = c .before .before .before .before .before .before .before .before .args in
@@ -65,9 +35,6 @@ sub-trimmed c =
     let g = range-of _ _ _ _ (c .before .before .enough .result) (c .before .before .enough .ensures) in
     omega (arith, r .many, g .1)
 
-over-requires : tie.Need-over-requires
-over-requires c κs = search needs
-
 trimmed-requires : tie.Need-trimmed-requires
 trimmed-requires c κs =
     let a = c .before .before .before .before .before .before .before .before .before .before .before .before .args in
@@ -85,20 +52,20 @@ pub decimal-of-spec : {M : Type 1} → statement M
 decimal-of-spec =
     tie.close
     (tie.spec
-    mul-scaled
-    scaled-requires
-    mul-scaled-2
-    sub-scaled
-    scaled-requires-2
-    mul-scaled-3
-    add-scaled
-    sub-scaled-2
-    scaled-requires-3
-    places-requires
+    (λ c. search needs)
+    (λ c κs. search needs)
+    (λ c. search needs)
+    (λ c. search needs)
+    (λ c κs. search needs)
+    (λ c. search needs)
+    (λ c. search needs)
+    (λ c. search needs)
+    (λ c κs. search needs)
+    (λ c κs. search needs)
     enough-requires
     sub-nearest
     nearest-requires
     sub-trimmed
-    over-requires
+    (λ c κs. search needs)
     trimmed-requires
     returns)

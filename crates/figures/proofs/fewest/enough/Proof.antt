@@ -44,12 +44,6 @@ returns c =
     let e = ap (λ x. between (value (a .low .now)) (value (a .high .now)) (x * 10 ^ j)) (sym (c .before .before .nearest .ensures)) ∙ sym (c .before .gives-back .ensures) ∙ c .if1 .taken in
     sym (l .inv .2 ∙ enough-stop (value (a .v .now)) (value (a .low .now)) (value (a .high .now)) (a .t) (l .p) (c .before .before .before .loop-test .taken) e)
 
-add-p : tie.Need-add-p Inv-loop μ-loop
-add-p c = omega arith
-
-loop-less : tie.Need-loop-less Inv-loop μ-loop
-loop-less c = omega arith
-
 loop-again : tie.Need-loop-again Inv-loop μ-loop
 loop-again c =
     let a = c .before .before .before .before .before .args in
@@ -76,7 +70,7 @@ enough-spec =
     sub-gives-back
     gives-back-requires
     returns
-    add-p
-    loop-less
+    (λ c. omega arith)
+    (λ c. omega arith)
     loop-again
     returns-2)

@@ -24,7 +24,9 @@ decimal-of-requires-2 : tie.Need-decimal-of-requires-2
 decimal-of-requires-2 c κs = record { some = lit< tt; few = lit< tt; near = lit≤ tt; least = pos-of-ne-zero (c .before .before .if1 .left); most = omega (arith, c .before .before .before .pre .0); normal = inl (le-refl (2 ^ 52)) }
 
 returns-3 : tie.Need-returns-3
-returns-3 c = (c .decimal-of2 .ensures .0 ∙ power-is (c .before .before .before .before .args .x) (c .before .before .before .before .args .t) (c .before .before .before .if1 .left) (c .before .before .if3 .taken) (ltb-true 1 (c .before .before .before .before .args .x) (c .before .if4 .taken)), c .decimal-of2 .ensures .1)
+returns-3 c =
+    let args = c .before .before .before .before .args in
+    (c .decimal-of2 .ensures .0 ∙ power-is (args .x) (args .t) (c .before .before .before .if1 .left) (c .before .before .if3 .taken) (ltb-true 1 (args .x) (c .before .if4 .taken)), c .decimal-of2 .ensures .1)
 
 add-decimal-of : tie.Need-add-decimal-of
 add-decimal-of c = omega (arith, c .before .before .pre .1)

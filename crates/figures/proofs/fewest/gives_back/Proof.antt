@@ -8,16 +8,10 @@ use Rattle.figures.proofs.Rounding.{between-beyond, between-before}
 use Rattle.figures.proofs.fewest.gives_back.Statement.{statement}
 use Rattle.figures.proofs.fewest.gives_back.Tie as tie
 
-reaches-requires : tie.Need-reaches-requires
-reaches-requires c κs = search needs
-
 returns : tie.Need-returns
 returns c =
     let a = c .before .before .args in
     sym (between-beyond (value (a .low .now)) (value (a .high .now)) (a .c * 10 ^ a .j) (sym (c .before .reaches .ensures) ∙ c .if1 .taken))
-
-reaches-requires-2 : tie.Need-reaches-requires-2
-reaches-requires-2 c κs = search needs
 
 returns-2 : tie.Need-returns-2
 returns-2 c =
@@ -25,4 +19,4 @@ returns-2 c =
     c .reaches2 .ensures ∙ sym (between-before (value (a .low .now)) (value (a .high .now)) (a .c * 10 ^ a .j) (sym (c .before .before .reaches .ensures) ∙ c .before .if1 .left))
 
 pub gives-back-spec : {M : Type 1} → statement M
-gives-back-spec = tie.close (tie.spec reaches-requires returns reaches-requires-2 returns-2)
+gives-back-spec = tie.close (tie.spec (λ c κs. search needs) returns (λ c κs. search needs) returns-2)

@@ -8,38 +8,17 @@ use Rattle.figures.proofs.Rounding.{rounds-down, rounds-up, rounds-even
 use Rattle.figures.proofs.fewest.nearest.Statement.{statement}
 use Rattle.figures.proofs.fewest.nearest.Tie as tie
 
-sub-head : tie.Need-sub-head
-sub-head c = search needs
-
-head-requires : tie.Need-head-requires
-head-requires c κs = search needs
-
 returns : tie.Need-returns
 returns c = rounds-down (value (c .before .before .args .a .now)) (c .before .before .args .j) (c .before .head .result) (c .before .before .pre .1 .0) (c .before .head .ensures) (c .if1 .taken)
 
-add-result : tie.Need-add-result
-add-result c = search needs
-
 returns-2 : tie.Need-returns-2
 returns-2 c = rounds-up (value (c .before .before .before .args .a .now)) (c .before .before .before .args .j) (c .before .before .head .result) (c .before .before .before .pre .1 .0) (c .before .before .head .ensures) (c .if2 .taken)
-
-sub-clean : tie.Need-sub-clean
-sub-clean c = search needs
-
-clean-requires : tie.Need-clean-requires
-clean-requires c κs = search needs
-
-add-result-2 : tie.Need-add-result-2
-add-result-2 c = search needs
 
 returns-3 : tie.Need-returns-3
 returns-3 c =
     let s = c .before .before .before .before .before in
     let h = c .before .before .before .before .head in
     rounds-even (value (s .args .a .now)) (s .args .j) (h .result) (s .pre .1 .0) (h .ensures) (le-antisymm (c .before .before .if2 .left) (c .before .before .before .if1 .left)) (sym (c .before .clean .ensures) ∙ c .if3 .taken)
-
-add-result-3 : tie.Need-add-result-3
-add-result-3 c = search needs
 
 returns-4 : tie.Need-returns-4
 returns-4 c =
@@ -51,14 +30,14 @@ pub nearest-spec : {M : Type 1} → statement M
 nearest-spec =
     tie.close
     (tie.spec
-    sub-head
-    head-requires
+    (λ c. search needs)
+    (λ c κs. search needs)
     returns
-    add-result
+    (λ c. search needs)
     returns-2
-    sub-clean
-    clean-requires
-    add-result-2
+    (λ c. search needs)
+    (λ c κs. search needs)
+    (λ c. search needs)
     returns-3
-    add-result-3
+    (λ c. search needs)
     returns-4)

@@ -7,12 +7,6 @@ use Rattle.figures.proofs.Rounding.{reaches-at, reaches-aside}
 use Rattle.figures.proofs.fewest.reaches.Statement.{statement}
 use Rattle.figures.proofs.fewest.reaches.Tie as tie
 
-head-requires : tie.Need-head-requires
-head-requires c κs = search needs
-
-clean-requires : tie.Need-clean-requires
-clean-requires c κs = search needs
-
 returns : tie.Need-returns
 returns c =
     let s = c .before .before .before in
@@ -26,4 +20,4 @@ returns-2 c =
     reaches-aside (value (s .args .a .now)) (s .args .c) (s .args .j) (h .result) (h .ensures) (c .if1 .left)
 
 pub reaches-spec : {M : Type 1} → statement M
-reaches-spec = tie.close (tie.spec head-requires clean-requires returns returns-2)
+reaches-spec = tie.close (tie.spec (λ c κs. search needs) (λ c κs. search needs) returns returns-2)

@@ -8,9 +8,6 @@ use Rattle.figures.specs.Fewest.{trimmed}
 use Rattle.figures.proofs.fewest.trimmed.Statement.{statement}
 use Rattle.figures.proofs.fewest.trimmed.Tie as tie
 
-add-t7 : tie.Need-add-t7
-add-t7 c = search needs
-
 returns : tie.Need-returns
 unfolding trimmed
 returns c = (rw (eq-eqb (c .before .args .c % 10) 0 (c .if1 .taken)), record { figures = omega arith; up = omega arith; down = c .before .pre .2 })
@@ -22,4 +19,4 @@ returns-2 c =
     (rw (ne-eqb (c .before .args .c % 10) 0 (c .if1 .left)), record { figures = omega (arith, n); up = omega arith; down = c .before .pre .2 })
 
 pub trimmed-spec : {M : Type 1} → statement M
-trimmed-spec = tie.close (tie.spec add-t7 returns returns-2)
+trimmed-spec = tie.close (tie.spec (λ c. search needs) returns returns-2)

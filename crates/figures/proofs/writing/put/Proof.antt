@@ -6,17 +6,8 @@ use Rattle.figures.proofs.Rows.{puts-one}
 use Rattle.figures.proofs.writing.put.Statement.{statement}
 use Rattle.figures.proofs.writing.put.Tie as tie
 
-slice-write-row : tie.Need-slice-write-row
-slice-write-row c = search needs
-
-add-result : tie.Need-add-result
-add-result c = omega arith
-
-same-length : tie.Need-same-length
-same-length c = search needs
-
 returns : tie.Need-returns
 returns c = puts-one (c .args .row .now) (c .args .at) (c .args .b) (c .pre)
 
 pub put-spec : {M : Type 1} → statement M
-put-spec = tie.close (tie.spec slice-write-row add-result same-length returns)
+put-spec = tie.close (tie.spec (λ c. search needs) (λ c. omega arith) (λ c. search needs) returns)

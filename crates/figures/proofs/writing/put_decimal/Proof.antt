@@ -9,44 +9,23 @@ use Rattle.figures.proofs.Rows.{puts-as, text-large, text-small, text-p
 use Rattle.figures.proofs.writing.put_decimal.Statement.{statement}
 use Rattle.figures.proofs.writing.put_decimal.Tie as tie
 
-places-of-requires : tie.Need-places-of-requires
-places-of-requires c κs = search needs
-
-add-if1 : tie.Need-add-if1
-add-if1 c = search needs
-
 add-if1-2 : tie.Need-add-if1-2
 add-if1-2 c = omega (arith, c .before .before .places-of .ensures, places-few (c .before .before .before .before .args .d .figures) 20 17 (c .before .before .before .before .pre .2 .figures), c .before .before .before .before .pre .2 .up)
 
 put-scientific-requires : tie.Need-put-scientific-requires
 put-scientific-requires c κs = (c .before .before .before .before .before .before .pre .0, c .before .before .before .before .before .before .pre .1, c .before .before .before .before .before .before .pre .2, subst (λ x. x ≤ 17) (sym (c .before .before .before .before .places-of .ensures)) (places-few (c .before .before .before .before .before .before .args .d .figures) 20 17 (c .before .before .before .before .before .before .pre .2 .figures)))
 
-same-length : tie.Need-same-length
-same-length c = search needs
-
 returns : tie.Need-returns
 returns c = puts-as (text-large (c .before .before .before .before .before .before .before .before .before .args .d) (c .before .before .before .before .before .before .before .places-of .result) (c .before .before .before .before .before .before .before .places-of .ensures) (c .before .before .before .before .if1 .taken)) (c .before .before .put-scientific .ensures)
 
-add-if2 : tie.Need-add-if2
-add-if2 c = search needs
-
-add-if2-2 : tie.Need-add-if2-2
-add-if2-2 c = search needs
-
 put-scientific-requires-2 : tie.Need-put-scientific-requires-2
 put-scientific-requires-2 c κs = (c .before .before .before .before .before .before .before .before .before .pre .0, c .before .before .before .before .before .before .before .before .before .pre .1, c .before .before .before .before .before .before .before .before .before .pre .2, subst (λ x. x ≤ 17) (sym (c .before .before .before .before .before .before .before .places-of .ensures)) (places-few (c .before .before .before .before .before .before .before .before .before .args .d .figures) 20 17 (c .before .before .before .before .before .before .before .before .before .pre .2 .figures)))
-
-same-length-2 : tie.Need-same-length-2
-same-length-2 c = search needs
 
 returns-2 : tie.Need-returns-2
 returns-2 c = puts-as (text-small (c .before .before .before .before .before .before .before .before .before .before .before .before .args .d) (c .before .before .before .before .before .before .before .before .before .before .places-of .result) (c .before .before .before .before .before .before .before .before .before .before .places-of .ensures) (c .before .before .before .before .before .before .before .if1 .left) (c .before .before .before .before .if2 .taken)) (c .before .before .put-scientific2 .ensures)
 
 put-plain-requires : tie.Need-put-plain-requires
 put-plain-requires c κs = (c .before .before .before .before .before .before .before .before .before .pre .0, c .before .before .before .before .before .before .before .before .before .pre .1, plain-of (c .before .before .before .before .before .before .before .before .before .args .d) (c .before .before .before .before .before .before .before .places-of .result) (c .before .before .before .before .before .before .before .before .before .pre .2) (c .before .before .before .before .before .before .before .places-of .ensures) (c .before .before .before .before .if1 .left) (c .before .if2 .left))
-
-same-length-3 : tie.Need-same-length-3
-same-length-3 c = search needs
 
 returns-3 : tie.Need-returns-3
 returns-3 c = puts-as (text-plain (c .before .before .before .before .before .before .before .before .before .before .before .before .args .d) (c .before .before .before .before .before .before .before .before .before .before .places-of .result) (c .before .before .before .before .before .before .before .before .before .before .places-of .ensures) (c .before .before .before .before .before .before .before .if1 .left) (c .before .before .before .before .if2 .left)) (c .before .before .put-plain .ensures)
@@ -55,17 +34,17 @@ pub put-decimal-spec : {M : Type 1} → statement M
 put-decimal-spec =
     tie.close
     (tie.spec
-    places-of-requires
-    add-if1
+    (λ c κs. search needs)
+    (λ c. search needs)
     add-if1-2
     put-scientific-requires
-    same-length
+    (λ c. search needs)
     returns
-    add-if2
-    add-if2-2
+    (λ c. search needs)
+    (λ c. search needs)
     put-scientific-requires-2
-    same-length-2
+    (λ c. search needs)
     returns-2
     put-plain-requires
-    same-length-3
+    (λ c. search needs)
     returns-3)

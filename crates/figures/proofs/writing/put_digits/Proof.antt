@@ -14,35 +14,21 @@ abbrev μ-loop : tie.MeasureT-loop
 loop-holds : tie.Need-loop-holds Inv-loop μ-loop
 loop-holds c = left-all (c .args .row .now) (c .args .at) (c .args .n) (c .args .c)
 
-sub-i : tie.Need-sub-i Inv-loop μ-loop
-sub-i c = omega arith
-
-cast-row : tie.Need-cast-row Inv-loop μ-loop
-cast-row c = omega arith
-
-add-row : tie.Need-add-row Inv-loop μ-loop
-add-row c = omega arith
-
-add-row-2 : tie.Need-add-row-2 Inv-loop μ-loop
-add-row-2 c = omega arith
-
 slice-write-row : tie.Need-slice-write-row Inv-loop μ-loop
 slice-write-row c = omega (arith, c .before .loop .inv .fewer, c .before .loop .inv .size, c .before .before .pre)
 
-loop-less : tie.Need-loop-less Inv-loop μ-loop
-loop-less c = omega arith
-
 loop-again : tie.Need-loop-again Inv-loop μ-loop
-loop-again c = left-less (c .before .before .args .row .now) (c .before .before .args .at) (c .before .before .args .n) (c .before .before .args .c) (c .before .loop .row) (c .before .loop .rest) (c .before .loop .i) (c .before .before .pre) (c .loop-test .taken) (c .before .loop .inv)
-
-add-result : tie.Need-add-result Inv-loop μ-loop
-add-result c = omega arith
+loop-again c =
+    let args = c .before .before .args in
+    left-less (args .row .now) (args .at) (args .n) (args .c) (c .before .loop .row) (c .before .loop .rest) (c .before .loop .i) (c .before .before .pre) (c .loop-test .taken) (c .before .loop .inv)
 
 same-length : tie.Need-same-length Inv-loop μ-loop
 same-length c = c .before .loop .inv .size
 
 returns : tie.Need-returns Inv-loop μ-loop
-returns c = left-none (c .before .before .args .row .now) (c .before .before .args .at) (c .before .before .args .n) (c .before .before .args .c) (c .before .loop .row) (c .before .loop .rest) (c .before .loop .i) (c .loop-test .left) (c .before .loop .inv)
+returns c =
+    let args = c .before .before .args in
+    left-none (args .row .now) (args .at) (args .n) (args .c) (c .before .loop .row) (c .before .loop .rest) (c .before .loop .i) (c .loop-test .left) (c .before .loop .inv)
 
 pub put-digits-spec : {M : Type 1} → statement M
 put-digits-spec =
@@ -51,12 +37,12 @@ put-digits-spec =
     Inv-loop
     μ-loop
     loop-holds
-    sub-i
-    cast-row
-    add-row
-    add-row-2
+    (λ c. omega arith)
+    (λ c. omega arith)
+    (λ c. omega arith)
+    (λ c. omega arith)
     slice-write-row
-    loop-less
+    (λ c. omega arith)
     loop-again
-    add-result same-length
+    (λ c. omega arith) same-length
     returns)

@@ -10,12 +10,6 @@ use Rattle.figures.proofs.Rows.{puts-as, numeral-length, puts-then, poi
 use Rattle.figures.proofs.writing.put_pointed.Statement.{statement}
 use Rattle.figures.proofs.writing.put_pointed.Tie as tie
 
-without-requires : tie.Need-without-requires
-without-requires c κs = search needs
-
-width-requires : tie.Need-width-requires
-width-requires c κs = search needs
-
 put-digits-requires : tie.Need-put-digits-requires
 put-digits-requires c κs =
     let b = subst (λ x. x + c .before .before .before .before .args .f ≤ 23) (sym (c .before .width .ensures ∙ ap width (c .before .before .without .ensures))) (point-fits (c .before .before .before .before .args .c) (c .before .before .before .before .args .f) (c .before .before .before .before .pre .1) (c .before .before .before .before .pre .2)) in
@@ -49,8 +43,8 @@ pub put-pointed-spec : {M : Type 1} → statement M
 put-pointed-spec =
     tie.close
     (tie.spec
-    without-requires
-    width-requires
+    (λ c κs. search needs)
+    (λ c κs. search needs)
     put-digits-requires
     put-requires
     put-digits-requires-2

@@ -10,12 +10,6 @@ use Rattle.figures.proofs.Rows.{puts-as, puts-then, power-up, power-dow
 use Rattle.figures.proofs.writing.put_power.Statement.{statement}
 use Rattle.figures.proofs.writing.put_power.Tie as tie
 
-put-requires : tie.Need-put-requires
-put-requires c κs = search needs
-
-width-requires : tie.Need-width-requires
-width-requires c κs = search needs
-
 put-digits-requires : tie.Need-put-digits-requires
 put-digits-requires c κs =
     let a = c .before .before .before .before .before .before .before .before .args in
@@ -29,15 +23,6 @@ returns : tie.Need-returns
 returns c =
     let a = c .before .before .before .before .before .before .before .before .before .before .before .args in
     puts-as (power-up (a .a) (a .b) (c .before .before .before .before .width .result) (c .before .before .before .before .before .if1 .taken) (c .before .before .before .before .width .ensures)) (puts-then (c .before .before .before .before .before .before .before .before .put .ensures) (c .before .before .put-digits .ensures) (omega (arith, c .before .before .before .before .before .before .before .before .put .ensures .behind, c .before .before .before .before .before .before .before .before .before .before .before .pre .0, c .before .before .before .before .before .before .before .before .before .before .before .pre .3)))
-
-put-requires-2 : tie.Need-put-requires-2
-put-requires-2 c κs = search needs
-
-sub-n : tie.Need-sub-n
-sub-n c = search needs
-
-width-requires-2 : tie.Need-width-requires-2
-width-requires-2 c κs = search needs
 
 put-digits-requires-2 : tie.Need-put-digits-requires-2
 put-digits-requires-2 c κs =
@@ -58,14 +43,14 @@ pub put-power-spec : {M : Type 1} → statement M
 put-power-spec =
     tie.close
     (tie.spec
-    put-requires
-    width-requires
+    (λ c κs. search needs)
+    (λ c κs. search needs)
     put-digits-requires
     same-length
     returns
-    put-requires-2
-    sub-n
-    width-requires-2
+    (λ c κs. search needs)
+    (λ c. search needs)
+    (λ c κs. search needs)
     put-digits-requires-2
     same-length-2
     returns-2)

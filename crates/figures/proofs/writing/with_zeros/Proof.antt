@@ -22,12 +22,6 @@ loop-holds c = (omega arith, sym (mul-one (c .args .c)))
 mul-all : tie.Need-mul-all Inv-loop μ-loop
 mul-all c = omega (arith, factor-fits (c .before .before .args .c) 10 (c .before .loop .i) (c .before .before .args .k) (c .before .loop .all) (2 ^ 64) (lit< tt) (c .loop-test .taken) (c .before .before .pre) (c .before .loop .inv .1))
 
-add-i : tie.Need-add-i Inv-loop μ-loop
-add-i c = omega arith
-
-loop-less : tie.Need-loop-less Inv-loop μ-loop
-loop-less c = omega arith
-
 loop-again : tie.Need-loop-again Inv-loop μ-loop
 loop-again c =
     let a = c .before .before .args in
@@ -39,4 +33,4 @@ returns c = c .before .loop .inv .1 ∙ ap (λ x. c .before .before .args .c * 1
 
 pub with-zeros-spec : {M : Type 1} → statement M
 with-zeros-spec =
-    tie.close (tie.spec Inv-loop μ-loop loop-holds mul-all add-i loop-less loop-again returns)
+    tie.close (tie.spec Inv-loop μ-loop loop-holds mul-all (λ c. omega arith) (λ c. omega arith) loop-again returns)

@@ -17,12 +17,6 @@ abbrev μ-loop : tie.MeasureT-loop
 loop-holds : tie.Need-loop-holds Inv-loop μ-loop
 loop-holds c = (omega arith, sym (div-one (c .args .c)))
 
-add-i : tie.Need-add-i Inv-loop μ-loop
-add-i c = omega arith
-
-loop-less : tie.Need-loop-less Inv-loop μ-loop
-loop-less c = omega arith
-
 loop-again : tie.Need-loop-again Inv-loop μ-loop
 loop-again c =
     let a = c .before .before .args in
@@ -33,4 +27,4 @@ returns : tie.Need-returns Inv-loop μ-loop
 returns c = c .before .loop .inv .1 ∙ ap (λ x. c .before .before .args .c / 10 ^ x) (le-antisymm (c .before .loop .inv .0) (c .loop-test .left))
 
 pub without-spec : {M : Type 1} → statement M
-without-spec = tie.close (tie.spec Inv-loop μ-loop loop-holds add-i loop-less loop-again returns)
+without-spec = tie.close (tie.spec Inv-loop μ-loop loop-holds (λ c. omega arith) (λ c. omega arith) loop-again returns)

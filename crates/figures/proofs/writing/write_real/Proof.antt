@@ -14,28 +14,10 @@ returns c = row-short (c .before .before .args .row .now) (c .before .before .ar
 returns-2 : tie.Need-returns-2
 returns-2 c = row-none (c .before .before .before .args .row .now) (c .before .before .before .args .bits) (c .if2 .taken)
 
-figures-of-requires : tie.Need-figures-of-requires
-figures-of-requires c κs = search needs
-
-put-requires : tie.Need-put-requires
-put-requires c κs = search needs
-
-put-decimal-requires : tie.Need-put-decimal-requires
-put-decimal-requires c κs = search needs
-
-same-length : tie.Need-same-length
-same-length c = search needs
-
 returns-3 : tie.Need-returns-3
 returns-3 c =
     let a = c .before .before .before .before .before .before .before .before .before .before .before .before .before .args in
     row-negative (a .row .now) (a .bits) _ _ (c .before .before .before .before .before .before .before .before .before .before .before .if1 .left) (c .before .before .before .before .before .before .before .before .before .before .if2 .left) (c .before .before .before .before .before .before .before .before .if3 .taken) (puts-then (c .before .before .before .before .before .before .put .ensures) (puts-as (ap decimalText (c .before .before .before .before .before .before .before .before .before .figures-of .ensures .0)) (c .before .before .put-decimal .ensures)) (omega (arith, c .before .before .before .before .before .before .put .ensures .behind, c .before .before .before .before .before .before .before .before .before .before .before .if1 .left)))
-
-put-decimal-requires-2 : tie.Need-put-decimal-requires-2
-put-decimal-requires-2 c κs = search needs
-
-same-length-2 : tie.Need-same-length-2
-same-length-2 c = search needs
 
 returns-4 : tie.Need-returns-4
 returns-4 c =
@@ -48,11 +30,11 @@ write-real-spec =
     (tie.spec
     returns
     returns-2
-    figures-of-requires
-    put-requires
-    put-decimal-requires
-    same-length
+    (λ c κs. search needs)
+    (λ c κs. search needs)
+    (λ c κs. search needs)
+    (λ c. search needs)
     returns-3
-    put-decimal-requires-2
-    same-length-2
+    (λ c κs. search needs)
+    (λ c. search needs)
     returns-4)

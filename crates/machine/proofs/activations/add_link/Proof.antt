@@ -5,7 +5,9 @@ use Rattle.machine.proofs.activations.add_link.Statement.{statement}
 use Rattle.machine.proofs.activations.add_link.Tie as tie
 
 returns : tie.Need-returns
-returns c = linked-is (c .before .before .before .before .args .own .now) (c .before .before .before .before .args .f) (c .before .before .before .before .args .q) (c .before .before .word .ensures) (c .note .ensures)
+returns c =
+    let args = c .before .before .before .before .args in
+    linked-is (args .own .now) (args .f) (args .q) (c .before .before .word .ensures) (c .note .ensures)
 
 pub add-link-spec : {M : Type 1} → statement M
 add-link-spec =

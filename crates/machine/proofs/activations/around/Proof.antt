@@ -21,15 +21,6 @@ loop-holds c = (omega arith, refl)
 word-requires : tie.Need-word-requires Inv-loop μ-loop
 word-requires c κs = (omega (arith, c .before .before .pre .many), omega arith)
 
-cast-f : tie.Need-cast-f Inv-loop μ-loop
-cast-f c = search needs
-
-sub-u : tie.Need-sub-u Inv-loop μ-loop
-sub-u c = omega arith
-
-loop-less : tie.Need-loop-less Inv-loop μ-loop
-loop-less c = omega arith
-
 loop-again : tie.Need-loop-again Inv-loop μ-loop
 loop-again c =
     let v = c .before .before .loop .inv in
@@ -43,4 +34,4 @@ returns c = (c .before .loop .inv .0, walk-end _ (c .before .loop .f) (c .before
 pub around-spec : {M : Type 1} → statement M
 around-spec =
     tie.close
-    (tie.spec Inv-loop μ-loop loop-holds word-requires cast-f sub-u loop-less loop-again returns)
+    (tie.spec Inv-loop μ-loop loop-holds word-requires (λ c. search needs) (λ c. omega arith) (λ c. omega arith) loop-again returns)

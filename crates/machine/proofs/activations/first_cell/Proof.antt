@@ -10,14 +10,10 @@ use Rattle.machine.proofs.activations.first_cell.Tie as tie
 returns : tie.Need-returns
 returns c = (λ a h. simp (c .if1 .taken), omega arith)
 
-word-requires : tie.Need-word-requires
-word-requires c κs = search needs
-
-cast-result : tie.Need-cast-result
-cast-result c = search needs
-
 returns-2 : tie.Need-returns-2
-returns-2 c = (λ a h. c .word .ensures ∙ sym (base-at (c .before .before .args .own .now) a (c .before .before .args .i) (bits-pos (c .before .before .args .i) (c .before .if1 .left)) h), omega (arith, c .word .ok))
+returns-2 c =
+    let args = c .before .before .args in
+    (λ a h. c .word .ensures ∙ sym (base-at (args .own .now) a (args .i) (bits-pos (args .i) (c .before .if1 .left)) h), omega (arith, c .word .ok))
 
 pub first-cell-spec : {M : Type 1} → statement M
-first-cell-spec = tie.close (tie.spec returns word-requires cast-result returns-2)
+first-cell-spec = tie.close (tie.spec returns (λ c κs. search needs) (λ c. search needs) returns-2)

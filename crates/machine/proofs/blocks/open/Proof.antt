@@ -20,7 +20,9 @@ add-if1-2 : tie.Need-add-if1-2
 add-if1-2 c = omega (arith, c .before .pre .0 .room, c .before .pre .0 .few, c .in-all .ensures, c .before .pre .1)
 
 returns : tie.Need-returns
-returns c = (λ a i o. open-full (c .before .before .before .before .args .n) a (c .before .before .before .before .args .store .now) i o _ (counted (c .before .before .before .before .args .v)) (omega (arith, c .if1 .taken, c .before .room .ensures, c .before .before .before .in-all .ensures)), tt)
+returns c =
+    let args = c .before .before .before .before .args in
+    (λ a i o. open-full (args .n) a (args .store .now) i o _ (counted (args .v)) (omega (arith, c .if1 .taken, c .before .room .ensures, c .before .before .before .in-all .ensures)), tt)
 
 unassign-all-requires : tie.Need-unassign-all-requires
 unassign-all-requires c κs = (omega (arith, c .before .if1 .left, c .before .before .room .ensures, c .before .before .before .before .in-all .ensures), c .before .before .before .before .before .pre .1)

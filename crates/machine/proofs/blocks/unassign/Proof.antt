@@ -28,12 +28,6 @@ add-put-cell c = omega arith
 put-cell-requires : tie.Need-put-cell-requires Inv-loop μ-loop
 put-cell-requires c κs = omega (arith, c .before .before .loop .inv .2, c .before .before .before .pre)
 
-add-i : tie.Need-add-i Inv-loop μ-loop
-add-i c = omega arith
-
-loop-less : tie.Need-loop-less Inv-loop μ-loop
-loop-less c = omega arith
-
 loop-again : tie.Need-loop-again Inv-loop μ-loop
 loop-again c =
     let s = (c .before .before .before .before .before .args .store .now) in
@@ -56,8 +50,8 @@ unassign-spec =
     loop-holds
     add-put-cell
     put-cell-requires
-    add-i
-    loop-less
+    (λ c. omega arith)
+    (λ c. omega arith)
     loop-again
     same-length
     returns)

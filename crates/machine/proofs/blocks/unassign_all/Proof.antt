@@ -34,7 +34,9 @@ unassign-requires-3 c κs = rw (c .before .before .unassign2 .ensures, c .before
 
 returns : tie.Need-returns
 unfolding unassignedAll
-returns c = c .before .unassign3 .ensures ∙ ap (λ (z : List ℤ). unassigned Truths z (c .before .before .before .before .before .before .before .before .before .args .c + c .before .before .before .before .before .before .before .before .before .args .v % 1024 + c .before .before .before .before .before .before .before .before .before .args .v / 1024 % 1024) (c .before .before .before .before .before .before .before .before .before .args .v / 1024 / 1024)) (c .before .before .before .before .unassign2 .ensures ∙ ap (λ (z : List ℤ). unassigned Reals z (c .before .before .before .before .before .before .before .before .before .args .c + c .before .before .before .before .before .before .before .before .before .args .v % 1024) (c .before .before .before .before .before .before .before .before .before .args .v / 1024 % 1024)) (c .before .before .before .before .before .before .before .unassign .ensures))
+returns c =
+    let args = c .before .before .before .before .before .before .before .before .before .args in
+    c .before .unassign3 .ensures ∙ ap (λ (z : List ℤ). unassigned Truths z (args .c + args .v % 1024 + args .v / 1024 % 1024) (args .v / 1024 / 1024)) (c .before .before .before .before .unassign2 .ensures ∙ ap (λ (z : List ℤ). unassigned Reals z (args .c + args .v % 1024) (args .v / 1024 % 1024)) (c .before .before .before .before .before .before .before .unassign .ensures))
 
 pub unassign-all-spec : {M : Type 1} → statement M
 unassign-all-spec =

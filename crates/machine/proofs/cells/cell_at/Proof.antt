@@ -43,7 +43,9 @@ shared-slice-copy-out-load c = omega arith
 
 returns : tie.Need-returns
 unfolding cellAt
-returns c = c .decode .ensures ∙ ap₂ (λ (x y : ℤ). cellOf (ofZ w64 x) y) (read-back w64 (getD (c .before .before .before .args .store .now) (2 * c .before .before .before .args .c) (pos 0)) (c .before .before .kind .given)) (read-back w64 (getD (c .before .before .before .args .store .now) (2 * c .before .before .before .args .c + 1) (pos 0)) (c .before .load .given))
+returns c =
+    let args = c .before .before .before .args in
+    c .decode .ensures ∙ ap₂ (λ (x y : ℤ). cellOf (ofZ w64 x) y) (read-back w64 (getD (args .store .now) (2 * args .c) (pos 0)) (c .before .before .kind .given)) (read-back w64 (getD (args .store .now) (2 * args .c + 1) (pos 0)) (c .before .load .given))
 
 pub cell-at-spec : {M : Type 1} → statement M
 cell-at-spec =

@@ -8,10 +8,14 @@ use Rattle.machine.proofs.control.close.Statement.{statement}
 use Rattle.machine.proofs.control.close.Tie as tie
 
 returns : tie.Need-returns
-returns c = (λ s i o. strayed (c .stray .ensures) s _ i o ∙ leave-stray _ (c .before .before .before .before .args .at) _ _ _ (c .before .before .before .before .args .k) (room-no (c .before .before .before .before .args .n) (c .before .before .before .before .args .live) s i o (c .before .before .before .before .args .own .now) (c .before .before .before .first-cell .ensures .0 (c .before .before .before .before .args .live) (le-refl _)) (c .before .before .before .before .args .k) (c .before .if1 .taken)), λ s o g h. strayed-sound (c .stray .ensures) s _ o o refl)
+returns c =
+    let args = c .before .before .before .before .args in
+    (λ s i o. strayed (c .stray .ensures) s _ i o ∙ leave-stray _ (args .at) _ _ _ (args .k) (room-no (args .n) (args .live) s i o (args .own .now) (c .before .before .before .first-cell .ensures .0 (args .live) (le-refl _)) (args .k) (c .before .if1 .taken)), λ s o g h. strayed-sound (c .stray .ensures) s _ o o refl)
 
 returns-2 : tie.Need-returns-2
-returns-2 c = (λ s i o. c .lift .ensures .0 s i o (c .before .before .before .before .before .args .own .now) ∙ ap (lifted _ _) (c .before .close .ensures .0 (ownOf (c .before .before .before .before .before .args .own .now) (c .before .before .before .before .before .args .live)) s i o) ∙ lifted-next _ _ _ _ _ ∙ leave-lifted _ (c .before .before .before .before .before .args .at) _ _ _ (c .before .before .before .before .before .args .k) (room-yes (c .before .before .before .before .before .args .n) (c .before .before .before .before .before .args .live) s i o (c .before .before .before .before .before .args .own .now) (c .before .before .before .before .first-cell .ensures .0 (c .before .before .before .before .before .args .live) (le-refl _)) (c .before .before .before .before .before .args .k) (c .before .before .if1 .left)), λ s o g h. c .lift .ensures .1 s o o (c .before .before .before .before .before .args .own .now) (did-quiet (c .before .before .before .before .before .args .n) (c .before .close .result) s o (c .before .close .ensures .1 s g) h) (c .before .before .before .before .before .pre .0))
+returns-2 c =
+    let args = c .before .before .before .before .before .args in
+    (λ s i o. c .lift .ensures .0 s i o (args .own .now) ∙ ap (lifted _ _) (c .before .close .ensures .0 (ownOf (args .own .now) (args .live)) s i o) ∙ lifted-next _ _ _ _ _ ∙ leave-lifted _ (args .at) _ _ _ (args .k) (room-yes (args .n) (args .live) s i o (args .own .now) (c .before .before .before .before .first-cell .ensures .0 (args .live) (le-refl _)) (args .k) (c .before .before .if1 .left)), λ s o g h. c .lift .ensures .1 s o o (args .own .now) (did-quiet (args .n) (c .before .close .result) s o (c .before .close .ensures .1 s g) h) (c .before .before .before .before .before .pre .0))
 
 pub close-spec : {M : Type 1} → statement M
 close-spec =

@@ -12,16 +12,24 @@ use Rattle.machine.proofs.control.end.Statement.{statement}
 use Rattle.machine.proofs.control.end.Tie as tie
 
 returns : tie.Need-returns
-returns c = (λ i o. strayed (c .stray .ensures) _ _ i o ∙ return-none _ (c .before .before .args .at) _ (c .before .before .args .own .now) (c .before .before .args .live) _ _ (c .before .if1 .taken), λ o h. strayed-sound (c .stray .ensures) _ _ o o refl)
+returns c =
+    let args = c .before .before .args in
+    (λ i o. strayed (c .stray .ensures) _ _ i o ∙ return-none _ (args .at) _ (args .own .now) (args .live) _ _ (c .before .if1 .taken), λ o h. strayed-sound (c .stray .ensures) _ _ o o refl)
 
 add-link-requires : tie.Need-add-link-requires
-add-link-requires c κs = left-room (c .before .before .before .before .before .before .before .before .before .before .before .before .args .own .now) (c .before .before .before .before .before .before .before .before .before .before .before .before .args .live) (c .before .before .before .before .before .before .before .before .before .before .before .before .args .f) (c .before .before .before .before .before .before .before .before .before .before .before .before .args .place) (c .before .before .before .before .before .before .before .before .before .before .before .before .pre .1) (bits-pos _ (c .before .before .before .before .before .before .before .before .before .before .before .if1 .left)) (c .before .before .before .before .before .before .before .before .before .word .ensures) (c .before .if2 .taken)
+add-link-requires c κs =
+    let args = c .before .before .before .before .before .before .before .before .before .before .before .before .args in
+    left-room (args .own .now) (args .live) (args .f) (args .place) (c .before .before .before .before .before .before .before .before .before .before .before .before .pre .1) (bits-pos _ (c .before .before .before .before .before .before .before .before .before .before .before .if1 .left)) (c .before .before .before .before .before .before .before .before .before .word .ensures) (c .before .if2 .taken)
 
 returns-2 : tie.Need-returns-2
-returns-2 c = (λ i o. c .lift .ensures .0 (c .before .before .before .before .before .before .before .before .before .before .before .before .before .before .args .store .now) i o _ ∙ lifted-as _ _ (left-positions (c .before .before .before .before .before .before .before .before .before .before .before .before .before .before .args .own .now) (c .before .before .before .before .before .before .before .before .before .before .before .before .before .before .args .live) (c .before .before .before .before .before .before .before .before .before .before .before .before .before .before .args .f) (c .before .before .before .before .before .before .before .before .before .before .before .before .before .before .args .place) (c .before .before .before .before .before .before .before .before .before .before .before .before .before .before .pre .1) (bits-pos _ (c .before .before .before .before .before .before .before .before .before .before .before .before .before .if1 .left)) (c .before .before .before .before .before .before .before .before .before .before .before .word .ensures) (c .before .before .before .if2 .taken) (c .before .add-link .ensures)) (left-frames (c .before .before .before .before .before .before .before .before .before .before .before .before .before .before .args .own .now) (c .before .before .before .before .before .before .before .before .before .before .before .before .before .before .args .live) (c .before .before .before .before .before .before .before .before .before .before .before .before .before .before .args .f) (c .before .before .before .before .before .before .before .before .before .before .before .before .before .before .args .place) (c .before .before .before .before .before .before .before .before .before .before .before .before .before .before .pre .1) (bits-pos _ (c .before .before .before .before .before .before .before .before .before .before .before .before .before .if1 .left)) (c .before .before .before .before .before .before .before .before .before .before .before .word .ensures) (c .before .before .before .if2 .taken) (c .before .add-link .ensures)) _ ∙ ap (lifted _ _) (ap (λ (a : Own). seenD (c .before .before .before .before .leave .result) a (c .before .before .before .before .before .before .before .before .before .before .before .before .before .before .args .store .now) i o) (left-more (c .before .before .before .before .before .before .before .before .before .before .before .before .before .before .args .own .now) (c .before .before .before .before .before .before .before .before .before .before .before .before .before .before .args .live) (c .before .before .before .before .before .before .before .before .before .before .before .before .before .before .args .f) (c .before .before .before .before .before .before .before .before .before .before .before .before .before .before .args .place) (c .before .before .before .before .before .before .before .before .before .before .before .before .before .before .pre .1) (bits-pos _ (c .before .before .before .before .before .before .before .before .before .before .before .before .before .if1 .left)) (c .before .before .before .before .before .before .before .before .before .before .before .word .ensures) (c .before .before .before .if2 .taken) (c .before .add-link .ensures)) ∙ c .before .before .before .before .leave .ensures .0 (link (formOfWord (c .before .before .before .before .before .before .before .before .before .before .before .before .before .before .args .f)) (c .before .before .before .before .before .before .before .before .before .before .before .before .before .before .args .place)) (ownOf (c .before .before .before .before .before .before .before .before .before .before .before .before .before .before .args .own .now) (c .before .before .before .before .before .before .before .before .before .before .before .before .before .before .args .live)) i o) ∙ return-lifted _ (c .before .before .before .before .before .before .before .before .before .before .before .before .before .before .args .at) _ (c .before .before .before .before .before .before .before .before .before .before .before .before .before .before .args .own .now) (c .before .before .before .before .before .before .before .before .before .before .before .before .before .before .args .live) _ _ (bits-pos _ (c .before .before .before .before .before .before .before .before .before .before .before .before .before .if1 .left)) (c .before .before .before .before .before .word4 .ensures) (c .before .before .before .before .before .before .before .before .before .before .before .word .ensures) (c .before .before .before .before .before .before .before .before .before .word2 .ensures) (c .before .before .before .before .before .before .before .word3 .ensures), λ o h. c .lift .ensures .1 (c .before .before .before .before .before .before .before .before .before .before .before .before .before .before .args .store .now) o o _ (did-quiet (c .before .before .before .before .before .before .before .before .before .before .before .before .before .before .args .n) (c .before .before .before .before .leave .result) (c .before .before .before .before .before .before .before .before .before .before .before .before .before .before .args .store .now) o (c .before .before .before .before .leave .ensures .1) h) (left-lives (c .before .before .before .before .before .before .before .before .before .before .before .before .before .before .args .own .now) (c .before .before .before .before .before .before .before .before .before .before .before .before .before .before .args .live) (c .before .before .before .before .before .before .before .before .before .before .before .before .before .before .args .f) (c .before .before .before .before .before .before .before .before .before .before .before .before .before .before .args .place) (c .before .before .before .before .before .before .before .before .before .before .before .before .before .before .pre .1) (bits-pos _ (c .before .before .before .before .before .before .before .before .before .before .before .before .before .if1 .left)) (c .before .before .before .before .before .before .before .before .before .before .before .word .ensures) (c .before .before .before .if2 .taken) (c .before .add-link .ensures)))
+returns-2 c =
+    let args = c .before .before .before .before .before .before .before .before .before .before .before .before .before .before .args in
+    (λ i o. c .lift .ensures .0 (args .store .now) i o _ ∙ lifted-as _ _ (left-positions (args .own .now) (args .live) (args .f) (args .place) (c .before .before .before .before .before .before .before .before .before .before .before .before .before .before .pre .1) (bits-pos _ (c .before .before .before .before .before .before .before .before .before .before .before .before .before .if1 .left)) (c .before .before .before .before .before .before .before .before .before .before .before .word .ensures) (c .before .before .before .if2 .taken) (c .before .add-link .ensures)) (left-frames (args .own .now) (args .live) (args .f) (args .place) (c .before .before .before .before .before .before .before .before .before .before .before .before .before .before .pre .1) (bits-pos _ (c .before .before .before .before .before .before .before .before .before .before .before .before .before .if1 .left)) (c .before .before .before .before .before .before .before .before .before .before .before .word .ensures) (c .before .before .before .if2 .taken) (c .before .add-link .ensures)) _ ∙ ap (lifted _ _) (ap (λ (a : Own). seenD (c .before .before .before .before .leave .result) a (args .store .now) i o) (left-more (args .own .now) (args .live) (args .f) (args .place) (c .before .before .before .before .before .before .before .before .before .before .before .before .before .before .pre .1) (bits-pos _ (c .before .before .before .before .before .before .before .before .before .before .before .before .before .if1 .left)) (c .before .before .before .before .before .before .before .before .before .before .before .word .ensures) (c .before .before .before .if2 .taken) (c .before .add-link .ensures)) ∙ c .before .before .before .before .leave .ensures .0 (link (formOfWord (args .f)) (args .place)) (ownOf (args .own .now) (args .live)) i o) ∙ return-lifted _ (args .at) _ (args .own .now) (args .live) _ _ (bits-pos _ (c .before .before .before .before .before .before .before .before .before .before .before .before .before .if1 .left)) (c .before .before .before .before .before .word4 .ensures) (c .before .before .before .before .before .before .before .before .before .before .before .word .ensures) (c .before .before .before .before .before .before .before .before .before .word2 .ensures) (c .before .before .before .before .before .before .before .word3 .ensures), λ o h. c .lift .ensures .1 (args .store .now) o o _ (did-quiet (args .n) (c .before .before .before .before .leave .result) (args .store .now) o (c .before .before .before .before .leave .ensures .1) h) (left-lives (args .own .now) (args .live) (args .f) (args .place) (c .before .before .before .before .before .before .before .before .before .before .before .before .before .before .pre .1) (bits-pos _ (c .before .before .before .before .before .before .before .before .before .before .before .before .before .if1 .left)) (c .before .before .before .before .before .before .before .before .before .before .before .word .ensures) (c .before .before .before .if2 .taken) (c .before .add-link .ensures)))
 
 returns-3 : tie.Need-returns-3
-returns-3 c = (λ i o. c .lift2 .ensures .0 (c .before .before .before .before .before .before .before .before .before .before .before .before .args .store .now) i o (c .before .before .before .before .before .before .before .before .before .before .before .before .args .own .now) ∙ ap (lifted _ _) (ap (λ (a : Own). seenD (c .before .before .leave .result) a (c .before .before .before .before .before .before .before .before .before .before .before .before .args .store .now) i o) (left-same (c .before .before .before .before .before .before .before .before .before .before .before .before .args .own .now) (c .before .before .before .before .before .before .before .before .before .before .before .before .args .live) (c .before .before .before .before .before .before .before .before .before .word .result) (link (formOfWord (c .before .before .before .before .before .before .before .before .before .before .before .before .args .f)) (c .before .before .before .before .before .before .before .before .before .before .before .before .args .place)) (c .before .if2 .left)) ∙ c .before .before .leave .ensures .0 (link (formOfWord (c .before .before .before .before .before .before .before .before .before .before .before .before .args .f)) (c .before .before .before .before .before .before .before .before .before .before .before .before .args .place)) (ownOf (c .before .before .before .before .before .before .before .before .before .before .before .before .args .own .now) (c .before .before .before .before .before .before .before .before .before .before .before .before .args .live)) i o) ∙ return-lifted _ (c .before .before .before .before .before .before .before .before .before .before .before .before .args .at) _ (c .before .before .before .before .before .before .before .before .before .before .before .before .args .own .now) (c .before .before .before .before .before .before .before .before .before .before .before .before .args .live) _ _ (bits-pos _ (c .before .before .before .before .before .before .before .before .before .before .before .if1 .left)) (c .before .before .before .word4 .ensures) (c .before .before .before .before .before .before .before .before .before .word .ensures) (c .before .before .before .before .before .before .before .word2 .ensures) (c .before .before .before .before .before .word3 .ensures), λ o h. c .lift2 .ensures .1 (c .before .before .before .before .before .before .before .before .before .before .before .before .args .store .now) o o (c .before .before .before .before .before .before .before .before .before .before .before .before .args .own .now) (did-quiet (c .before .before .before .before .before .before .before .before .before .before .before .before .args .n) (c .before .before .leave .result) (c .before .before .before .before .before .before .before .before .before .before .before .before .args .store .now) o (c .before .before .leave .ensures .1) h) (lives-less (c .before .before .before .before .before .before .before .before .before .before .before .before .args .own .now) (c .before .before .before .before .before .before .before .before .before .before .before .before .args .live) _ (c .before .before .before .before .before .before .before .before .before .before .before .before .pre .1) (omega arith)))
+returns-3 c =
+    let args = c .before .before .before .before .before .before .before .before .before .before .before .before .args in
+    (λ i o. c .lift2 .ensures .0 (args .store .now) i o (args .own .now) ∙ ap (lifted _ _) (ap (λ (a : Own). seenD (c .before .before .leave .result) a (args .store .now) i o) (left-same (args .own .now) (args .live) (c .before .before .before .before .before .before .before .before .before .word .result) (link (formOfWord (args .f)) (args .place)) (c .before .if2 .left)) ∙ c .before .before .leave .ensures .0 (link (formOfWord (args .f)) (args .place)) (ownOf (args .own .now) (args .live)) i o) ∙ return-lifted _ (args .at) _ (args .own .now) (args .live) _ _ (bits-pos _ (c .before .before .before .before .before .before .before .before .before .before .before .if1 .left)) (c .before .before .before .word4 .ensures) (c .before .before .before .before .before .before .before .before .before .word .ensures) (c .before .before .before .before .before .before .before .word2 .ensures) (c .before .before .before .before .before .word3 .ensures), λ o h. c .lift2 .ensures .1 (args .store .now) o o (args .own .now) (did-quiet (args .n) (c .before .before .leave .result) (args .store .now) o (c .before .before .leave .ensures .1) h) (lives-less (args .own .now) (args .live) _ (c .before .before .before .before .before .before .before .before .before .before .before .before .pre .1) (omega arith)))
 
 pub end-spec : {M : Type 1} → statement M
 end-spec =

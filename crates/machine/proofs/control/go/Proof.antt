@@ -11,7 +11,9 @@ use Rattle.machine.proofs.control.go.Statement.{statement}
 use Rattle.machine.proofs.control.go.Tie as tie
 
 returns : tie.Need-returns
-returns c = (λ s i o. strayed (c .stray .ensures) s _ i o ∙ go-no (c .before .before .before .before .before .args .n) (c .before .before .before .before .before .args .live) s i o (c .before .before .before .before .before .args .own .now) (c .before .before .before .before .before .args .at) (high (c .before .before .before .before .before .args .v)) (c .before .before .word .ensures) (low (c .before .before .before .before .before .args .v)) (mid (c .before .before .before .before .before .args .v)) (rw (c .before .before .before .before .high .ensures) at (c .before .if1 .taken)), λ s o g h. strayed-sound (c .stray .ensures) s _ o o refl)
+returns c =
+    let args = c .before .before .before .before .before .args in
+    (λ s i o. strayed (c .stray .ensures) s _ i o ∙ go-no (args .n) (args .live) s i o (args .own .now) (args .at) (high (args .v)) (c .before .before .word .ensures) (low (args .v)) (mid (args .v)) (rw (c .before .before .before .before .high .ensures) at (c .before .if1 .taken)), λ s o g h. strayed-sound (c .stray .ensures) s _ o o refl)
 
 returns-2 : tie.Need-returns-2
 returns-2 c =

@@ -6,7 +6,9 @@ use Rattle.machine.proofs.control.lift.Statement.{statement}
 use Rattle.machine.proofs.control.lift.Tie as tie
 
 returns : tie.Need-returns
-returns c = (λ s i o l. lift-good _ (c .before .before .before .args .next) (c .before .before .before .args .live) s i o l (c .before .did .given .1), λ s o o' l g v. good-sound s o o' l g (c .before .before .before .args .next) (c .before .before .before .args .live) (c .before .did .given .1) v)
+returns c =
+    let args = c .before .before .before .args in
+    (λ s i o l. lift-good _ (args .next) (args .live) s i o l (c .before .did .given .1), λ s o o' l g v. good-sound s o o' l g (args .next) (args .live) (c .before .did .given .1) v)
 
 returns-2 : tie.Need-returns-2
 returns-2 c = (λ s i o l. lift-bad _ (c .before .before .before .args .next) (c .before .before .before .args .live) s i o l (c .before .did2 .given .1), λ s o o' l g v. bad-sound s o o' l g (c .before .did2 .given .1))

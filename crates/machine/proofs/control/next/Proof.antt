@@ -7,10 +7,14 @@ use Rattle.machine.proofs.control.next.Statement.{statement}
 use Rattle.machine.proofs.control.next.Tie as tie
 
 returns : tie.Need-returns
-returns c = (λ s i o. strayed (c .stray .ensures) s _ i o ∙ next-no (c .before .before .before .before .before .args .n) (c .before .before .before .before .before .args .live) s i o (c .before .before .before .before .before .args .own .now) (c .before .before .before .before .before .args .at) (high (c .before .before .before .before .before .args .v)) (c .before .before .word .ensures) (rw (c .before .before .before .before .high .ensures) at (c .before .if1 .taken)), λ s o g h. strayed-sound (c .stray .ensures) s _ o o refl)
+returns c =
+    let args = c .before .before .before .before .before .args in
+    (λ s i o. strayed (c .stray .ensures) s _ i o ∙ next-no (args .n) (args .live) s i o (args .own .now) (args .at) (high (args .v)) (c .before .before .word .ensures) (rw (c .before .before .before .before .high .ensures) at (c .before .if1 .taken)), λ s o g h. strayed-sound (c .stray .ensures) s _ o o refl)
 
 returns-2 : tie.Need-returns-2
-returns-2 c = rw (← c .before .before .before .before .before .before .before .high .ensures) (λ s i o. next-done (c .before .before .before .before .before .before .before .before .args .n) (c .before .before .before .before .before .before .before .before .args .live) s i o (c .before .before .before .before .before .before .before .before .args .own .now) (c .before .before .before .before .before .before .before .before .args .at) (c .before .before .before .before .before .before .before .high .result) (c .before .before .before .before .before .word .ensures) (c .before .before .before .before .before .before .before .before .pre) (c .before .before .before .before .if1 .left) (c .before .before .word2 .ensures) (c .note .ensures), λ s o g h. (g, next-lives (c .before .before .before .before .before .before .before .before .args .n) (c .before .before .before .before .before .before .before .before .args .live) s s o (c .before .before .before .before .before .before .before .before .args .own .now) (c .before .before .before .before .before .before .before .before .args .at) (c .before .before .before .before .before .before .before .high .result) (c .before .before .before .before .before .word .ensures) (c .before .before .before .before .before .before .before .before .pre) (c .before .before .before .before .if1 .left) (c .before .before .word2 .ensures) (c .note .ensures), h, refl))
+returns-2 c =
+    let args = c .before .before .before .before .before .before .before .before .args in
+    rw (← c .before .before .before .before .before .before .before .high .ensures) (λ s i o. next-done (args .n) (args .live) s i o (args .own .now) (args .at) (c .before .before .before .before .before .before .before .high .result) (c .before .before .before .before .before .word .ensures) (c .before .before .before .before .before .before .before .before .pre) (c .before .before .before .before .if1 .left) (c .before .before .word2 .ensures) (c .note .ensures), λ s o g h. (g, next-lives (args .n) (args .live) s s o (args .own .now) (args .at) (c .before .before .before .before .before .before .before .high .result) (c .before .before .before .before .before .word .ensures) (c .before .before .before .before .before .before .before .before .pre) (c .before .before .before .before .if1 .left) (c .before .before .word2 .ensures) (c .note .ensures), h, refl))
 
 pub next-spec : {M : Type 1} → statement M
 next-spec =

@@ -8,10 +8,14 @@ use Rattle.machine.proofs.control.refuse.Statement.{statement}
 use Rattle.machine.proofs.control.refuse.Tie as tie
 
 returns : tie.Need-returns
-returns c = (λ n s i o. strayed (c .stray .ensures) s _ i o ∙ refuse-none _ (c .before .before .args .at) _ (c .before .before .args .own .now) (c .before .before .args .live) _ (c .before .if1 .taken), λ s o. strayed-sound (c .stray .ensures) s _ o o refl)
+returns c =
+    let args = c .before .before .args in
+    (λ n s i o. strayed (c .stray .ensures) s _ i o ∙ refuse-none _ (args .at) _ (args .own .now) (args .live) _ (c .before .if1 .taken), λ s o. strayed-sound (c .stray .ensures) s _ o o refl)
 
 returns-2 : tie.Need-returns-2
-returns-2 c = (λ n s i o. refuse-done _ (c .before .before .args .at) _ (c .before .before .args .own .now) (c .before .before .args .live) _ (bits-pos _ (c .before .if1 .left)) (c .word .ensures), λ s o. refl)
+returns-2 c =
+    let args = c .before .before .args in
+    (λ n s i o. refuse-done _ (args .at) _ (args .own .now) (args .live) _ (bits-pos _ (c .before .if1 .left)) (c .word .ensures), λ s o. refl)
 
 pub refuse-spec : {M : Type 1} → statement M
 refuse-spec =

@@ -6,7 +6,9 @@ use Rattle.machine.proofs.loops.hold.Statement.{statement}
 use Rattle.machine.proofs.loops.hold.Tie as tie
 
 returns : tie.Need-returns
-returns c = (refl, hold-put (c .before .before .before .before .before .args .store .now) (c .before .before .before .room .result) (c .before .before .before .before .before .args .n .held) (c .before .before .before .before .before .args .v) (c .before .put-cell .ensures) (c .before .before .before .room .ensures))
+returns c =
+    let args = c .before .before .before .before .before .args in
+    (refl, hold-put (args .store .now) (c .before .before .before .room .result) (args .n .held) (args .v) (c .before .put-cell .ensures) (c .before .before .before .room .ensures))
 
 pub hold-spec : {M : Type 1} → statement M
 hold-spec =

@@ -12,22 +12,32 @@ newest-requires : tie.Need-newest-requires
 newest-requires c κs = c .before .pre .0
 
 returns : tie.Need-returns
-returns c = (λ a i o. assign-out _ _ (c .before .before .before .before .before .before .before .args .q) (c .before .before .before .before .before .before .before .args .c) _ (saw (c .before .before .before .before .before .before .before .args .n) a (c .before .before .before .before .before .before .before .args .store .now) i o (c .before .before .before .v .given .1) (c .before .before .before .before .before .newest .ensures .0 a i o)) (cell-out (c .before .before .before .v .given .0 .1 .0) a (c .before .before .before .before .before .before .before .args .store .now) i o (c .before .before .before .before .before .before .before .args .c) (c .if1 .taken)), tt)
+returns c =
+    let args = c .before .before .before .before .before .before .before .args in
+    (λ a i o. assign-out _ _ (args .q) (args .c) _ (saw (args .n) a (args .store .now) i o (c .before .before .before .v .given .1) (c .before .before .before .before .before .newest .ensures .0 a i o)) (cell-out (c .before .before .before .v .given .0 .1 .0) a (args .store .now) i o (args .c) (c .if1 .taken)), tt)
 
 cell-at-requires : tie.Need-cell-at-requires
 cell-at-requires c κs = omega (arith, c .before .before .if1 .left, (used-room (c .before .before .before .before .before .before .before .before .before .args .n) (c .before .before .before .before .before .v .given .1) (c .before .before .before .before .before .before .before .newest .ensures .1) (c .before .before .before .before .before .before .before .before .before .pre .0)))
 
 assign-through-requires : tie.Need-assign-through-requires
-assign-through-requires c κs = ((used-sound (c .before .before .before .before .before .before .before .before .before .before .before .before .before .before .before .args .n) (c .before .before .before .before .before .before .before .before .before .before .before .v .given .1) (c .before .before .before .before .before .before .before .before .before .before .before .before .before .newest .ensures .1) (c .before .before .before .before .before .before .before .before .before .before .before .before .before .before .before .pre .0)), c .before .before .before .before .before .before .before .before .if1 .left, c .before .before .before .before .before .before .before .before .before .before .before .before .before .before .before .pre .1, (used-fits (c .before .before .before .before .before .before .before .before .before .before .before .before .before .before .before .args .n) (c .before .before .before .before .before .before .before .before .before .before .before .v .given .1) (c .before .before .before .before .before .before .before .before .before .before .before .before .before .newest .ensures .1)), (used-room (c .before .before .before .before .before .before .before .before .before .before .before .before .before .before .before .args .n) (c .before .before .before .before .before .before .before .before .before .before .before .v .given .1) (c .before .before .before .before .before .before .before .before .before .before .before .before .before .newest .ensures .1) (c .before .before .before .before .before .before .before .before .before .before .before .before .before .before .before .pre .0)))
+assign-through-requires c κs =
+    let args = c .before .before .before .before .before .before .before .before .before .before .before .before .before .before .before .args in
+    ((used-sound (args .n) (c .before .before .before .before .before .before .before .before .before .before .before .v .given .1) (c .before .before .before .before .before .before .before .before .before .before .before .before .before .newest .ensures .1) (c .before .before .before .before .before .before .before .before .before .before .before .before .before .before .before .pre .0)), c .before .before .before .before .before .before .before .before .if1 .left, c .before .before .before .before .before .before .before .before .before .before .before .before .before .before .before .pre .1, (used-fits (args .n) (c .before .before .before .before .before .before .before .before .before .before .before .v .given .1) (c .before .before .before .before .before .before .before .before .before .before .before .before .before .newest .ensures .1)), (used-room (args .n) (c .before .before .before .before .before .before .before .before .before .before .before .v .given .1) (c .before .before .before .before .before .before .before .before .before .before .before .before .before .newest .ensures .1) (c .before .before .before .before .before .before .before .before .before .before .before .before .before .before .before .pre .0)))
 
 returns-2 : tie.Need-returns-2
-returns-2 c = (λ a i o. assign-none _ _ (c .before .before .before .before .args .q) (c .before .before .before .before .args .c) _ (saw-none (c .before .before .before .before .args .n) a (c .before .before .before .before .args .store .now) i o (c .enum-told .given .1) (c .before .before .newest .ensures .0 a i o)), tt)
+returns-2 c =
+    let args = c .before .before .before .before .args in
+    (λ a i o. assign-none _ _ (args .q) (args .c) _ (saw-none (args .n) a (args .store .now) i o (c .enum-told .given .1) (c .before .before .newest .ensures .0 a i o)), tt)
 
 returns-3 : tie.Need-returns-3
-returns-3 c = (λ a i o. c .before .assign-through .ensures .0 a i o ∙ assign-is _ _ (c .before .before .before .before .before .before .before .before .before .before .before .before .before .before .before .before .before .args .q) (c .before .before .before .before .before .before .before .before .before .before .before .before .before .before .before .before .before .args .c) _ (saw (c .before .before .before .before .before .before .before .before .before .before .before .before .before .before .before .before .before .args .n) a (c .before .before .before .before .before .before .before .before .before .before .before .before .before .before .before .before .before .args .store .now) i o (c .before .before .before .before .before .before .before .before .before .before .before .before .before .v .given .1) (c .before .before .before .before .before .before .before .before .before .before .before .before .before .before .before .newest .ensures .0 a i o)) (cell-in (c .before .before .before .before .before .before .before .before .before .before .before .before .before .v .given .0 .1 .0) a (c .before .before .before .before .before .before .before .before .before .before .before .before .before .before .before .before .before .args .store .now) i o (c .before .before .before .before .before .before .before .before .before .before .before .before .before .before .before .before .before .args .c) (c .before .before .before .before .before .before .before .before .before .before .if1 .left)) (look-data (c .before .before .before .before .before .before .before .before .before .before .before .before .before .v .given .0 .1 .0) a (c .before .before .before .before .before .before .before .before .before .before .before .before .before .before .before .before .before .args .store .now) i o (c .before .before .before .before .before .before .before .before .before .before .before .before .before .before .before .before .before .args .c) (c .before .before .before .before .before .before .before .before .before .before .if1 .left)) (reach-as _ (c .before .before .before .before .before .before .reach .ensures) (c .before .before .before .before .before .before .before .before .before .form-of .ensures) (c .before .before .before .before .before .before .before .cell-at .ensures) (c .before .before .before .before .form .given .1)) (reach-form _ _ _ (reach-as _ (c .before .before .before .before .before .before .reach .ensures) (c .before .before .before .before .before .before .before .before .before .form-of .ensures) (c .before .before .before .before .before .before .before .cell-at .ensures) (c .before .before .before .before .form .given .1))) (used-trace (c .before .before .before .before .before .before .before .before .before .before .before .before .before .before .before .before .before .args .n) (c .before .before .before .before .before .before .before .before .before .before .before .before .before .v .given .1) (c .before .before .before .before .before .before .before .before .before .before .before .before .before .before .before .newest .ensures .1) o), used-did (c .before .before .before .before .before .before .before .before .before .before .before .before .before .before .before .before .before .args .n) (c .before .before .before .before .before .before .before .before .before .before .before .before .before .v .given .1) (c .before .before .before .before .before .before .before .before .before .before .before .before .before .before .before .newest .ensures .1) (c .before .assign-through .result) (c .before .assign-through .last .1 .0) (c .before .assign-through .ensures .1))
+returns-3 c =
+    let args = c .before .before .before .before .before .before .before .before .before .before .before .before .before .before .before .before .before .args in
+    (λ a i o. c .before .assign-through .ensures .0 a i o ∙ assign-is _ _ (args .q) (args .c) _ (saw (args .n) a (args .store .now) i o (c .before .before .before .before .before .before .before .before .before .before .before .before .before .v .given .1) (c .before .before .before .before .before .before .before .before .before .before .before .before .before .before .before .newest .ensures .0 a i o)) (cell-in (c .before .before .before .before .before .before .before .before .before .before .before .before .before .v .given .0 .1 .0) a (args .store .now) i o (args .c) (c .before .before .before .before .before .before .before .before .before .before .if1 .left)) (look-data (c .before .before .before .before .before .before .before .before .before .before .before .before .before .v .given .0 .1 .0) a (args .store .now) i o (args .c) (c .before .before .before .before .before .before .before .before .before .before .if1 .left)) (reach-as _ (c .before .before .before .before .before .before .reach .ensures) (c .before .before .before .before .before .before .before .before .before .form-of .ensures) (c .before .before .before .before .before .before .before .cell-at .ensures) (c .before .before .before .before .form .given .1)) (reach-form _ _ _ (reach-as _ (c .before .before .before .before .before .before .reach .ensures) (c .before .before .before .before .before .before .before .before .before .form-of .ensures) (c .before .before .before .before .before .before .before .cell-at .ensures) (c .before .before .before .before .form .given .1))) (used-trace (args .n) (c .before .before .before .before .before .before .before .before .before .before .before .before .before .v .given .1) (c .before .before .before .before .before .before .before .before .before .before .before .before .before .before .before .newest .ensures .1) o), used-did (args .n) (c .before .before .before .before .before .before .before .before .before .before .before .before .before .v .given .1) (c .before .before .before .before .before .before .before .before .before .before .before .before .before .before .before .newest .ensures .1) (c .before .assign-through .result) (c .before .assign-through .last .1 .0) (c .before .assign-through .ensures .1))
 
 returns-4 : tie.Need-returns-4
-returns-4 c = (λ a i o. assign-not _ _ (c .before .before .before .before .before .before .before .before .before .before .before .before .before .args .q) (c .before .before .before .before .before .before .before .before .before .before .before .before .before .args .c) _ (saw (c .before .before .before .before .before .before .before .before .before .before .before .before .before .args .n) a (c .before .before .before .before .before .before .before .before .before .before .before .before .before .args .store .now) i o (c .before .before .before .before .before .before .before .before .before .v .given .1) (c .before .before .before .before .before .before .before .before .before .before .before .newest .ensures .0 a i o)) (cell-in (c .before .before .before .before .before .before .before .before .before .v .given .0 .1 .0) a (c .before .before .before .before .before .before .before .before .before .before .before .before .before .args .store .now) i o (c .before .before .before .before .before .before .before .before .before .before .before .before .before .args .c) (c .before .before .before .before .before .before .if1 .left)) (look-data (c .before .before .before .before .before .before .before .before .before .v .given .0 .1 .0) a (c .before .before .before .before .before .before .before .before .before .before .before .before .before .args .store .now) i o (c .before .before .before .before .before .before .before .before .before .before .before .before .before .args .c) (c .before .before .before .before .before .before .if1 .left)) (reach-as _ (c .before .before .reach .ensures) (c .before .before .before .before .before .form-of .ensures) (c .before .before .before .cell-at .ensures) (c .enum-told2 .given .1)), tt)
+returns-4 c =
+    let args = c .before .before .before .before .before .before .before .before .before .before .before .before .before .args in
+    (λ a i o. assign-not _ _ (args .q) (args .c) _ (saw (args .n) a (args .store .now) i o (c .before .before .before .before .before .before .before .before .before .v .given .1) (c .before .before .before .before .before .before .before .before .before .before .before .newest .ensures .0 a i o)) (cell-in (c .before .before .before .before .before .before .before .before .before .v .given .0 .1 .0) a (args .store .now) i o (args .c) (c .before .before .before .before .before .before .if1 .left)) (look-data (c .before .before .before .before .before .before .before .before .before .v .given .0 .1 .0) a (args .store .now) i o (args .c) (c .before .before .before .before .before .before .if1 .left)) (reach-as _ (c .before .before .reach .ensures) (c .before .before .before .before .before .form-of .ensures) (c .before .before .before .cell-at .ensures) (c .enum-told2 .given .1)), tt)
 
 pub assign-spec : {M : Type 1} → statement M
 assign-spec =

@@ -17,7 +17,9 @@ back-requires : tie.Need-back-requires
 back-requires c κs = (put-sound _ _ (c .before .before .put-cell .ensures) (c .before .before .before .before .before .before .before .before .pre .0) (c .before .before .before .before .before .before .before .before .pre .1), omega (arith, put-room _ _ (c .before .before .put-cell .ensures) (c .before .before .before .before .before .before .before .before .pre .0), c .before .before .before .before .before .before .before .before .pre .4), c .before .before .before .before .before .before .before .before .pre .3)
 
 returns : tie.Need-returns
-returns c = (λ a i o. c .before .back .ensures .0 a i o ∙ ap (λ (d : Data). fine (back (c .before .before .before .before .before .before .before .before .before .before .args .v) d) (traceOf (c .before .before .before .before .before .before .before .before .before .before .args .n) o)) (put-is (c .before .before .before .before .before .before .before .before .before .before .args .n) a (c .before .before .before .before .before .before .before .before .before .before .args .store .now) i o (c .before .before .before .before .before .before .before .u .given .0 .0) (c .before .before .before .before .put-cell .ensures) (turned-holds (c .before .before .before .before .before .before .before .before .before .inward .ensures) (c .before .before .before .before .before .before .before .u .given .1) (in-fits _ _ _ _ (c .before .before .before .before .before .before .before .before .before .before .pre .3))) (c .before .before .before .before .before .before .before .before .before .before .pre .1) (c .before .before .before .before .before .before .before .before .before .before .pre .0 .room)) ∙ turned-fine _ _ (sym (c .before .before .before .before .before .before .before .before .before .inward .ensures) ∙ c .before .before .before .before .before .before .before .u .given .1), c .before .back .ensures .1)
+returns c =
+    let args = c .before .before .before .before .before .before .before .before .before .before .args in
+    (λ a i o. c .before .back .ensures .0 a i o ∙ ap (λ (d : Data). fine (back (args .v) d) (traceOf (args .n) o)) (put-is (args .n) a (args .store .now) i o (c .before .before .before .before .before .before .before .u .given .0 .0) (c .before .before .before .before .put-cell .ensures) (turned-holds (c .before .before .before .before .before .before .before .before .before .inward .ensures) (c .before .before .before .before .before .before .before .u .given .1) (in-fits _ _ _ _ (c .before .before .before .before .before .before .before .before .before .before .pre .3))) (c .before .before .before .before .before .before .before .before .before .before .pre .1) (c .before .before .before .before .before .before .before .before .before .before .pre .0 .room)) ∙ turned-fine _ _ (sym (c .before .before .before .before .before .before .before .before .before .inward .ensures) ∙ c .before .before .before .before .before .before .before .u .given .1), c .before .back .ensures .1)
 
 returns-2 : tie.Need-returns-2
 returns-2 c = (λ a i o. turned-bad _ _ (sym (c .before .before .before .inward .ensures) ∙ c .before .a .given .1), tt)

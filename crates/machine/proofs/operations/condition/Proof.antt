@@ -6,13 +6,17 @@ use Rattle.machine.proofs.operations.condition.Statement.{statement}
 use Rattle.machine.proofs.operations.condition.Tie as tie
 
 returns : tie.Need-returns
-returns c = (λ a i o. condition-yes _ _ (saw (c .before .before .before .before .before .before .before .before .args .n) a (c .before .before .before .before .before .before .before .before .args .store .now) i o (c .before .before .before .before .before .v .given .1) (c .before .before .before .before .before .before .before .newest .ensures .0 a i o)) (used-trace (c .before .before .before .before .before .before .before .before .args .n) (c .before .before .before .before .before .v .given .1) (c .before .before .before .before .before .before .before .newest .ensures .1) o) (c .before .before .v2 .given .1) (c .if1 .taken), ((used-sound (c .before .before .before .before .before .before .before .before .args .n) (c .before .before .before .before .before .v .given .1) (c .before .before .before .before .before .before .before .newest .ensures .1) (c .before .before .before .before .before .before .before .before .pre)), used-written (c .before .before .before .before .before .before .before .before .args .n) (c .before .before .before .before .before .v .given .1) (c .before .before .before .before .before .before .before .newest .ensures .1)))
+returns c =
+    let args = c .before .before .before .before .before .before .before .before .args in
+    (λ a i o. condition-yes _ _ (saw (args .n) a (args .store .now) i o (c .before .before .before .before .before .v .given .1) (c .before .before .before .before .before .before .before .newest .ensures .0 a i o)) (used-trace (args .n) (c .before .before .before .before .before .v .given .1) (c .before .before .before .before .before .before .before .newest .ensures .1) o) (c .before .before .v2 .given .1) (c .if1 .taken), ((used-sound (args .n) (c .before .before .before .before .before .v .given .1) (c .before .before .before .before .before .before .before .newest .ensures .1) (c .before .before .before .before .before .before .before .before .pre)), used-written (args .n) (c .before .before .before .before .before .v .given .1) (c .before .before .before .before .before .before .before .newest .ensures .1)))
 
 returns-2 : tie.Need-returns-2
 returns-2 c = (λ a i o. condition-none _ _ (saw-none (c .before .before .before .args .n) a (c .before .before .before .args .store .now) i o (c .enum-told .given .1) (c .before .before .newest .ensures .0 a i o)), tt)
 
 returns-3 : tie.Need-returns-3
-returns-3 c = (λ a i o. condition-no _ _ (saw (c .before .before .before .before .before .before .before .before .args .n) a (c .before .before .before .before .before .before .before .before .args .store .now) i o (c .before .before .before .before .before .v .given .1) (c .before .before .before .before .before .before .before .newest .ensures .0 a i o)) (used-trace (c .before .before .before .before .before .before .before .before .args .n) (c .before .before .before .before .before .v .given .1) (c .before .before .before .before .before .before .before .newest .ensures .1) o) (c .before .before .v2 .given .1) (c .if1 .left), ((used-sound (c .before .before .before .before .before .before .before .before .args .n) (c .before .before .before .before .before .v .given .1) (c .before .before .before .before .before .before .before .newest .ensures .1) (c .before .before .before .before .before .before .before .before .pre)), used-written (c .before .before .before .before .before .before .before .before .args .n) (c .before .before .before .before .before .v .given .1) (c .before .before .before .before .before .before .before .newest .ensures .1)))
+returns-3 c =
+    let args = c .before .before .before .before .before .before .before .before .args in
+    (λ a i o. condition-no _ _ (saw (args .n) a (args .store .now) i o (c .before .before .before .before .before .v .given .1) (c .before .before .before .before .before .before .before .newest .ensures .0 a i o)) (used-trace (args .n) (c .before .before .before .before .before .v .given .1) (c .before .before .before .before .before .before .before .newest .ensures .1) o) (c .before .before .v2 .given .1) (c .if1 .left), ((used-sound (args .n) (c .before .before .before .before .before .v .given .1) (c .before .before .before .before .before .before .before .newest .ensures .1) (c .before .before .before .before .before .before .before .before .pre)), used-written (args .n) (c .before .before .before .before .before .v .given .1) (c .before .before .before .before .before .before .before .newest .ensures .1)))
 
 returns-4 : tie.Need-returns-4
 returns-4 c = (λ a i o. condition-whole _ _ (saw (c .before .before .before .before .before .before .args .n) a (c .before .before .before .before .before .before .args .store .now) i o (c .before .before .before .v .given .1) (c .before .before .before .before .before .newest .ensures .0 a i o)) (c .enum-told2 .given .1), tt)

@@ -9,7 +9,9 @@ returns : tie.Need-returns
 returns c = (λ a i o. forget-none _ _ (saw-none (c .before .before .before .args .n) a (c .before .before .before .args .store .now) i o (c .enum-told .given .1) (c .before .before .newest .ensures .0 a i o)), tt)
 
 returns-2 : tie.Need-returns-2
-returns-2 c = (λ a i o. forget-some _ _ (saw (c .before .before .before .before .args .n) a (c .before .before .before .before .args .store .now) i o (c .before .m .given .1) (c .before .before .before .newest .ensures .0 a i o)) (used-trace (c .before .before .before .before .args .n) (c .before .m .given .1) (c .before .before .before .newest .ensures .1) o), ((used-sound (c .before .before .before .before .args .n) (c .before .m .given .1) (c .before .before .before .newest .ensures .1) (c .before .before .before .before .pre)), used-written (c .before .before .before .before .args .n) (c .before .m .given .1) (c .before .before .before .newest .ensures .1)))
+returns-2 c =
+    let args = c .before .before .before .before .args in
+    (λ a i o. forget-some _ _ (saw (args .n) a (args .store .now) i o (c .before .m .given .1) (c .before .before .before .newest .ensures .0 a i o)) (used-trace (args .n) (c .before .m .given .1) (c .before .before .before .newest .ensures .1) o), ((used-sound (args .n) (c .before .m .given .1) (c .before .before .before .newest .ensures .1) (c .before .before .before .before .pre)), used-written (args .n) (c .before .m .given .1) (c .before .before .before .newest .ensures .1)))
 
 pub forget-spec : {M : Type 1} → statement M
 forget-spec =

@@ -9,13 +9,19 @@ use Rattle.machine.proofs.operations.unary.Statement.{statement}
 use Rattle.machine.proofs.operations.unary.Tie as tie
 
 give-requires : tie.Need-give-requires
-give-requires c κs = ((used-sound (c .before .before .before .before .before .before .before .args .n) (c .before .before .before .x .given .1) (c .before .before .before .before .before .newest .ensures .1) (c .before .before .before .before .before .before .before .pre)), (used-room (c .before .before .before .before .before .before .before .args .n) (c .before .before .before .x .given .1) (c .before .before .before .before .before .newest .ensures .1) (c .before .before .before .before .before .before .before .pre)), subst FittingO (sym (c .unary .ensures)) (unary-fits _ _ (used-fits (c .before .before .before .before .before .before .before .args .n) (c .before .before .before .x .given .1) (c .before .before .before .before .before .newest .ensures .1))))
+give-requires c κs =
+    let args = c .before .before .before .before .before .before .before .args in
+    ((used-sound (args .n) (c .before .before .before .x .given .1) (c .before .before .before .before .before .newest .ensures .1) (c .before .before .before .before .before .before .before .pre)), (used-room (args .n) (c .before .before .before .x .given .1) (c .before .before .before .before .before .newest .ensures .1) (c .before .before .before .before .before .before .before .pre)), subst FittingO (sym (c .unary .ensures)) (unary-fits _ _ (used-fits (args .n) (c .before .before .before .x .given .1) (c .before .before .before .before .before .newest .ensures .1))))
 
 returns : tie.Need-returns
-returns c = (λ a i o. unary-none _ _ (c .before .before .before .before .args .q) (c .before .before .before .before .args .op) (saw-none (c .before .before .before .before .args .n) a (c .before .before .before .before .args .store .now) i o (c .enum-told .given .1) (c .before .before .newest .ensures .0 a i o)), tt)
+returns c =
+    let args = c .before .before .before .before .args in
+    (λ a i o. unary-none _ _ (args .q) (args .op) (saw-none (args .n) a (args .store .now) i o (c .enum-told .given .1) (c .before .before .newest .ensures .0 a i o)), tt)
 
 returns-2 : tie.Need-returns-2
-returns-2 c = (λ a i o. c .before .give .ensures .0 a i o ∙ unary-some _ _ (c .before .before .before .before .before .before .before .before .before .args .q) (c .before .before .before .before .before .before .before .before .before .args .op) (saw (c .before .before .before .before .before .before .before .before .before .args .n) a (c .before .before .before .before .before .before .before .before .before .args .store .now) i o (c .before .before .before .before .before .x .given .1) (c .before .before .before .before .before .before .before .newest .ensures .0 a i o)) (used-trace (c .before .before .before .before .before .before .before .before .before .args .n) (c .before .before .before .before .before .x .given .1) (c .before .before .before .before .before .before .before .newest .ensures .1) o) (c .before .before .unary .ensures), used-did (c .before .before .before .before .before .before .before .before .before .args .n) (c .before .before .before .before .before .x .given .1) (c .before .before .before .before .before .before .before .newest .ensures .1) (c .before .give .result) (c .before .give .last .1 .0) (c .before .give .ensures .1))
+returns-2 c =
+    let args = c .before .before .before .before .before .before .before .before .before .args in
+    (λ a i o. c .before .give .ensures .0 a i o ∙ unary-some _ _ (args .q) (args .op) (saw (args .n) a (args .store .now) i o (c .before .before .before .before .before .x .given .1) (c .before .before .before .before .before .before .before .newest .ensures .0 a i o)) (used-trace (args .n) (c .before .before .before .before .before .x .given .1) (c .before .before .before .before .before .before .before .newest .ensures .1) o) (c .before .before .unary .ensures), used-did (args .n) (c .before .before .before .before .before .x .given .1) (c .before .before .before .before .before .before .before .newest .ensures .1) (c .before .give .result) (c .before .give .last .1 .0) (c .before .give .ensures .1))
 
 pub unary-spec : {M : Type 1} → statement M
 unary-spec =

@@ -21,7 +21,9 @@ sub-if1 : tie.Need-sub-if1
 sub-if1 c = c .pre
 
 returns : tie.Need-returns
-returns c = (λ a s i. writing-full _ _ (c .before .args .q) _ (space-none (c .before .args .n) a s i (c .before .args .output .now) (c .if1 .taken)), λ s g. refl)
+returns c =
+    let args = c .before .args in
+    (λ a s i. writing-full _ _ (args .q) _ (space-none (args .n) a s i (args .output .now) (c .if1 .taken)), λ s g. refl)
 
 slice-set-from-first : tie.Need-slice-set-from-first
 slice-set-from-first c = omega (arith, c .before .before .before .if1 .left, c .before .before .before .before .pre)

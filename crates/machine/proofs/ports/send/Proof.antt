@@ -14,13 +14,19 @@ speak-requires : tie.Need-speak-requires
 speak-requires c κs = omega (arith, pair-written (c .before .before .before .before .before .before .before .before .before .args .n) (c .before .before .before .before .before .before .k .given .1) (c .before .before .before .before .before .before .before .before .newest-two .ensures .1), c .before .before .before .before .before .before .before .before .before .pre .1)
 
 returns : tie.Need-returns
-returns c = (λ a i. send-none _ _ (c .before .before .before .args .q) (c .before .before .before .args .form) (saw-no-two (c .before .before .before .args .n) a (c .before .before .before .args .store .now) i (c .before .before .before .args .output .now) (c .enum-told .given .1) (c .before .before .newest-two .ensures .0 a i _)), refl)
+returns c =
+    let args = c .before .before .before .args in
+    (λ a i. send-none _ _ (args .q) (args .form) (saw-no-two (args .n) a (args .store .now) i (args .output .now) (c .enum-told .given .1) (c .before .before .newest-two .ensures .0 a i _)), refl)
 
 returns-2 : tie.Need-returns-2
-returns-2 c = (λ a i. c .before .speak .ensures .0 a (c .before .before .before .before .before .before .before .before .before .before .before .args .store .now) i ∙ send-some _ _ (c .before .before .before .before .before .before .before .before .before .before .before .args .q) (c .before .before .before .before .before .before .before .before .before .before .before .args .form) (c .before .before .before .before .before .before .entry-of .result) (saw-two (c .before .before .before .before .before .before .before .before .before .before .before .args .n) a (c .before .before .before .before .before .before .before .before .before .before .before .args .store .now) i (c .before .before .before .before .before .before .before .before .before .before .before .args .output .now) (c .before .before .before .before .before .before .before .before .k .given .1) (c .before .before .before .before .before .before .before .before .before .before .newest-two .ensures .0 a i _)) (pair-trace (c .before .before .before .before .before .before .before .before .before .before .before .args .n) (c .before .before .before .before .before .before .before .before .k .given .1) (c .before .before .before .before .before .before .before .before .before .before .newest-two .ensures .1) (c .before .before .before .before .before .before .before .before .before .before .before .args .output .now)) (c .before .before .before .before .before .before .entry-of .ensures) (c .before .before .before .before .e .given .1), c .before .speak .ensures .1 (c .before .before .before .before .before .before .before .before .before .before .before .args .store .now) (pair-sound (c .before .before .before .before .before .before .before .before .before .before .before .args .n) (c .before .before .before .before .before .before .before .before .k .given .1) (c .before .before .before .before .before .before .before .before .before .before .newest-two .ensures .1) (c .before .before .before .before .before .before .before .before .before .before .before .pre .0)))
+returns-2 c =
+    let args = c .before .before .before .before .before .before .before .before .before .before .before .args in
+    (λ a i. c .before .speak .ensures .0 a (args .store .now) i ∙ send-some _ _ (args .q) (args .form) (c .before .before .before .before .before .before .entry-of .result) (saw-two (args .n) a (args .store .now) i (args .output .now) (c .before .before .before .before .before .before .before .before .k .given .1) (c .before .before .before .before .before .before .before .before .before .before .newest-two .ensures .0 a i _)) (pair-trace (args .n) (c .before .before .before .before .before .before .before .before .k .given .1) (c .before .before .before .before .before .before .before .before .before .before .newest-two .ensures .1) (args .output .now)) (c .before .before .before .before .before .before .entry-of .ensures) (c .before .before .before .before .e .given .1), c .before .speak .ensures .1 (args .store .now) (pair-sound (args .n) (c .before .before .before .before .before .before .before .before .k .given .1) (c .before .before .before .before .before .before .before .before .before .before .newest-two .ensures .1) (c .before .before .before .before .before .before .before .before .before .before .before .pre .0)))
 
 returns-3 : tie.Need-returns-3
-returns-3 c = (λ a i. send-stray _ _ (c .before .before .before .before .before .before .before .args .q) (c .before .before .before .before .before .before .before .args .form) (c .before .before .entry-of .result) (saw-two (c .before .before .before .before .before .before .before .args .n) a (c .before .before .before .before .before .before .before .args .store .now) i (c .before .before .before .before .before .before .before .args .output .now) (c .before .before .before .before .k .given .1) (c .before .before .before .before .before .before .newest-two .ensures .0 a i _)) (pair-trace (c .before .before .before .before .before .before .before .args .n) (c .before .before .before .before .k .given .1) (c .before .before .before .before .before .before .newest-two .ensures .1) (c .before .before .before .before .before .before .before .args .output .now)) (c .before .before .entry-of .ensures) (c .enum-told2 .given .1), refl)
+returns-3 c =
+    let args = c .before .before .before .before .before .before .before .args in
+    (λ a i. send-stray _ _ (args .q) (args .form) (c .before .before .entry-of .result) (saw-two (args .n) a (args .store .now) i (args .output .now) (c .before .before .before .before .k .given .1) (c .before .before .before .before .before .before .newest-two .ensures .0 a i _)) (pair-trace (args .n) (c .before .before .before .before .k .given .1) (c .before .before .before .before .before .before .newest-two .ensures .1) (args .output .now)) (c .before .before .entry-of .ensures) (c .enum-told2 .given .1), refl)
 
 pub send-spec : {M : Type 1} → statement M
 send-spec =

@@ -14,13 +14,17 @@ use Rattle.machine.proofs.ports.take_in.Statement.{statement}
 use Rattle.machine.proofs.ports.take_in.Tie as tie
 
 returns : tie.Need-returns
-returns c = (λ a o. taking-ended _ (dataOf (c .before .args .n) a (c .before .args .store .now) (c .before .args .input .now) o) (c .before .args .q) (c .before .args .c) _ (input-none (c .before .args .n) a (c .before .args .store .now) (c .before .args .input .now) o (c .if1 .taken)), tt)
+returns c =
+    let args = c .before .args in
+    (λ a o. taking-ended _ (dataOf (args .n) a (args .store .now) (args .input .now) o) (args .q) (args .c) _ (input-none (args .n) a (args .store .now) (args .input .now) o (c .if1 .taken)), tt)
 
 put-through-requires : tie.Need-put-through-requires
 put-through-requires c κs = (took-sound _ _ (c .before .before .before .pre .0), c .before .before .before .pre .1, c .before .before .before .pre .2, again w32 (getD (c .before .before .before .args .input .now) (c .before .before .before .args .n .taken) (pos 0)) (c .before .z .given))
 
 returns-2 : tie.Need-returns-2
-returns-2 c = (λ a o. c .before .put-through .ensures .0 a (c .before .before .before .before .before .args .input .now) o ∙ taking-some _ (dataOf (c .before .before .before .before .before .args .n) a (c .before .before .before .before .before .args .store .now) (c .before .before .before .before .before .args .input .now) o) (c .before .before .before .before .before .args .q) (c .before .before .before .before .before .args .c) _ (input-some (c .before .before .before .before .before .args .n) a (c .before .before .before .before .before .args .store .now) (c .before .before .before .before .before .args .input .now) o (c .before .before .before .before .if1 .left)) (rest-data (c .before .before .before .before .before .args .n) a (c .before .before .before .before .before .args .store .now) (c .before .before .before .before .before .args .input .now) o) (cell-in (tookOne (c .before .before .before .before .before .args .n)) a (c .before .before .before .before .before .args .store .now) (c .before .before .before .before .before .args .input .now) o (c .before .before .before .before .before .args .c) (c .before .before .before .before .before .pre .1)) (look-data (tookOne (c .before .before .before .before .before .args .n)) a (c .before .before .before .before .before .args .store .now) (c .before .before .before .before .before .args .input .now) o (c .before .before .before .before .before .args .c) (c .before .before .before .before .before .pre .1)) (c .before .before .before .before .before .pre .3) (ap Whole (read-back w32 (getD (c .before .before .before .before .before .args .input .now) (c .before .before .before .before .before .args .n .taken) (pos 0)) (c .before .before .before .z .given))) refl, sound-as (c .before .before .before .before .before .args .n) (tookOne (c .before .before .before .before .before .args .n)) (c .before .put-through .result) (c .before .put-through .last .1 .0) refl (c .before .put-through .ensures .1))
+returns-2 c =
+    let args = c .before .before .before .before .before .args in
+    (λ a o. c .before .put-through .ensures .0 a (args .input .now) o ∙ taking-some _ (dataOf (args .n) a (args .store .now) (args .input .now) o) (args .q) (args .c) _ (input-some (args .n) a (args .store .now) (args .input .now) o (c .before .before .before .before .if1 .left)) (rest-data (args .n) a (args .store .now) (args .input .now) o) (cell-in (tookOne (args .n)) a (args .store .now) (args .input .now) o (args .c) (c .before .before .before .before .before .pre .1)) (look-data (tookOne (args .n)) a (args .store .now) (args .input .now) o (args .c) (c .before .before .before .before .before .pre .1)) (c .before .before .before .before .before .pre .3) (ap Whole (read-back w32 (getD (args .input .now) (args .n .taken) (pos 0)) (c .before .before .before .z .given))) refl, sound-as (args .n) (tookOne (args .n)) (c .before .put-through .result) (c .before .put-through .last .1 .0) refl (c .before .put-through .ensures .1))
 
 pub take-in-spec : {M : Type 1} → statement M
 take-in-spec =

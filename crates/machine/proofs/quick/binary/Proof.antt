@@ -7,7 +7,9 @@ use Rattle.machine.proofs.quick.binary.Statement.{statement}
 use Rattle.machine.proofs.quick.binary.Tie as tie
 
 returns-2 : tie.Need-returns-2
-returns-2 c = binary-quick (c .before .before .before .before .before .before .before .before .before .before .before .before .before .before .before .before .before .before .before .args .at) (c .before .before .before .before .before .before .before .before .before .before .before .before .before .before .before .before .before .before .before .args .live) (c .before .before .before .before .before .before .before .before .before .before .before .before .before .before .before .before .before .before .before .args .n) (c .before .before .before .before .before .before .before .before .before .before .before .before .before .before .before .before .before .before .before .args .store .now) (c .before .before .before .before .before .before .before .before .before .before .before .before .before .before .before .before .before .before .before .args .own .now) (c .before .before .before .before .before .before .before .before .before .before .before .before .before .before .before .before .before .before .before .pre .0) (c .before .before .before .before .before .before .before .before .before .before .before .before .before .before .before .before .before .before .before .args .op) (omega (arith, c .before .before .before .before .before .before .before .before .before .before .before .before .before .before .before .before .before .if1 .left, (c .before .before .before .before .before .before .before .before .before .before .before .before .before .before .before .before .before .before .first-cell .ensures .0 (c .before .before .before .before .before .before .before .before .before .before .before .before .before .before .before .before .before .before .before .args .live) (le-refl _)))) (c .before .before .before .before .before .before .before .before .before .before .before .before .before .y .given .1) (c .before .before .before .before .before .before .before .before .before .before .before .before .before .before .before .whole-at .ensures) (c .before .before .before .before .before .before .before .before .x .given .1) (c .before .before .before .before .before .before .before .before .before .before .whole-at2 .ensures) (c .before .before .before .before .before .before .wholes .ensures) (c .before .before .before .before .z .given .1) (c .before .put-cell .ensures)
+returns-2 c =
+    let args = c .before .before .before .before .before .before .before .before .before .before .before .before .before .before .before .before .before .before .before .args in
+    binary-quick (args .at) (args .live) (args .n) (args .store .now) (args .own .now) (c .before .before .before .before .before .before .before .before .before .before .before .before .before .before .before .before .before .before .before .pre .0) (args .op) (omega (arith, c .before .before .before .before .before .before .before .before .before .before .before .before .before .before .before .before .before .if1 .left, (c .before .before .before .before .before .before .before .before .before .before .before .before .before .before .before .before .before .before .first-cell .ensures .0 (args .live) (le-refl _)))) (c .before .before .before .before .before .before .before .before .before .before .before .before .before .y .given .1) (c .before .before .before .before .before .before .before .before .before .before .before .before .before .before .before .whole-at .ensures) (c .before .before .before .before .before .before .before .before .x .given .1) (c .before .before .before .before .before .before .before .before .before .before .whole-at2 .ensures) (c .before .before .before .before .before .before .wholes .ensures) (c .before .before .before .before .z .given .1) (c .before .put-cell .ensures)
 
 pub binary-spec : {M : Type 1} → statement M
 binary-spec =

@@ -6,7 +6,9 @@ use Rattle.machine.proofs.quick.load.Statement.{statement}
 use Rattle.machine.proofs.quick.load.Tie as tie
 
 returns-3 : tie.Need-returns-3
-returns-3 c = load-quick (c .before .before .before .before .before .before .before .before .before .before .before .before .before .before .args .at) (c .before .before .before .before .before .before .before .before .before .before .before .before .before .before .args .live) (c .before .before .before .before .before .before .before .before .before .before .before .before .before .before .args .n) (c .before .before .before .before .before .before .before .before .before .before .before .before .before .before .args .store .now) (c .before .before .before .before .before .before .before .before .before .before .before .before .before .before .args .own .now) (c .before .before .before .before .before .before .before .before .before .before .before .before .before .before .pre .0) (c .before .before .before .before .before .before .before .before .before .before .before .before .before .before .args .v) (c .before .before .before .before .before .before .before .before .before .before .before .before .before .cell-of .ensures .0) (c .before .before .before .before .before .before .before .before .before .before .before .before .if1 .left) (omega (arith, c .before .before .before .before .before .before .before .before .if2 .left, c .before .before .before .before .before .before .before .before .before .room .ensures)) (c .before .before .before .before .z .given .1) (c .before .before .before .before .before .before .whole-at .ensures) (c .before .put-cell .ensures)
+returns-3 c =
+    let args = c .before .before .before .before .before .before .before .before .before .before .before .before .before .before .args in
+    load-quick (args .at) (args .live) (args .n) (args .store .now) (args .own .now) (c .before .before .before .before .before .before .before .before .before .before .before .before .before .before .pre .0) (args .v) (c .before .before .before .before .before .before .before .before .before .before .before .before .before .cell-of .ensures .0) (c .before .before .before .before .before .before .before .before .before .before .before .before .if1 .left) (omega (arith, c .before .before .before .before .before .before .before .before .if2 .left, c .before .before .before .before .before .before .before .before .before .room .ensures)) (c .before .before .before .before .z .given .1) (c .before .before .before .before .before .before .whole-at .ensures) (c .before .put-cell .ensures)
 
 pub load-spec : {M : Type 1} → statement M
 load-spec =

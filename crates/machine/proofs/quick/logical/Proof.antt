@@ -12,7 +12,9 @@ use Rattle.machine.proofs.quick.logical.Statement.{statement}
 use Rattle.machine.proofs.quick.logical.Tie as tie
 
 returns-2 : tie.Need-returns-2
-returns-2 c = quick-as (c .before .before .before .before .before .args .at) (c .before .before .before .before .before .args .live) (c .before .before .before .before .before .args .n) (c .before .before .before .before .before .args .store .now) _ (c .before .before .before .before .before .args .own .now) (c .before .fill .result) (λ q. logical-is q (low (c .before .before .before .before .before .args .v)) (rw (c .before .before .before .before .low .ensures) at (c .before .before .before .if1 .left))) (c .before .fill .ensures (λ q. push q (Truth (eqb (low (c .before .before .before .before .before .args .v)) 1))) (fills-push (ap (λ (n : ℕ). Truth (eqb n 1)) (c .before .before .before .before .low .ensures))))
+returns-2 c =
+    let args = c .before .before .before .before .before .args in
+    quick-as (args .at) (args .live) (args .n) (args .store .now) _ (args .own .now) (c .before .fill .result) (λ q. logical-is q (low (args .v)) (rw (c .before .before .before .before .low .ensures) at (c .before .before .before .if1 .left))) (c .before .fill .ensures (λ q. push q (Truth (eqb (low (args .v)) 1))) (fills-push (ap (λ (n : ℕ). Truth (eqb n 1)) (c .before .before .before .before .low .ensures))))
 
 pub logical-spec : {M : Type 1} → statement M
 logical-spec =

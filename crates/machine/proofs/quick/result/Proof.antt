@@ -9,7 +9,9 @@ use Rattle.machine.proofs.quick.result.Statement.{statement}
 use Rattle.machine.proofs.quick.result.Tie as tie
 
 returns-2 : tie.Need-returns-2
-returns-2 c = quick-as (c .before .before .before .before .before .args .at) (c .before .before .before .before .before .args .live) (c .before .before .before .before .before .args .n) (c .before .before .before .before .before .args .store .now) _ (c .before .before .before .before .before .args .own .now) (c .before .fill .result) (λ q. form-whole (low (c .before .before .before .before .before .args .v)) (λ t. DO (reserve q t)) (omega (arith, c .before .before .before .before .low .ensures, c .before .before .before .if1 .left))) (c .before .fill .ensures (λ q. reserve q Wholes) (fills-reserve Wholes))
+returns-2 c =
+    let args = c .before .before .before .before .before .args in
+    quick-as (args .at) (args .live) (args .n) (args .store .now) _ (args .own .now) (c .before .fill .result) (λ q. form-whole (low (args .v)) (λ t. DO (reserve q t)) (omega (arith, c .before .before .before .before .low .ensures, c .before .before .before .if1 .left))) (c .before .fill .ensures (λ q. reserve q Wholes) (fills-reserve Wholes))
 
 pub result-spec : {M : Type 1} → statement M
 result-spec =

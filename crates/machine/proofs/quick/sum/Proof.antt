@@ -11,7 +11,9 @@ put-cell-requires-2 : tie.Need-put-cell-requires-2
 put-cell-requires-2 c κs = rw (c .before .before .put-cell .ensures, room-put _ _ _) (omega (arith, c .before .before .before .before .before .before .before .before .before .before .before .before .before .before .before .before .before .before .before .before .before .before .before .pre .0 .room, c .before .before .before .before .before .before .before .before .before .before .before .before .before .before .before .before .before .before .before .before .before .if1 .left))
 
 returns-3 : tie.Need-returns-3
-returns-3 c = sum-quick (c .before .before .before .before .before .before .before .before .before .before .before .before .before .before .before .before .before .before .before .before .before .before .before .before .before .args .at) (c .before .before .before .before .before .before .before .before .before .before .before .before .before .before .before .before .before .before .before .before .before .before .before .before .before .args .live) (c .before .before .before .before .before .before .before .before .before .before .before .before .before .before .before .before .before .before .before .before .before .before .before .before .before .args .n) (c .before .before .before .before .before .before .before .before .before .before .before .before .before .before .before .before .before .before .before .before .before .before .before .before .before .args .store .now) (c .before .before .before .before .before .before .before .before .before .before .before .before .before .before .before .before .before .before .before .before .before .before .before .before .before .args .own .now) (c .before .before .before .before .before .before .before .before .before .before .before .before .before .before .before .before .before .before .before .before .before .before .before .before .before .pre .0) (c .before .before .before .before .before .before .before .before .before .before .before .before .before .before .before .before .before .before .before .before .before .before .before .before .before .args .v) (c .before .before .before .before .before .before .before .before .before .before .before .before .before .before .before .before .before .before .before .before .before .before .before .before .cell-of .ensures .0) (c .before .before .before .before .before .before .before .before .before .before .before .before .before .before .before .before .before .before .before .before .before .before .before .if1 .left) (bits-pos _ (c .before .before .before .before .before .before .before .before .before .before .before .before .before .before .before .before .before .before .before .before .before .before .if2 .left)) (c .before .before .before .before .before .before .before .before .before .before .before .before .before .before .before .before .before .before .x .given .1) (c .before .before .before .before .before .before .before .before .before .before .before .before .before .before .before .before .before .before .before .before .whole-at .ensures) (c .before .before .before .before .before .before .before .before .before .before .before .before .before .z .given .1) (c .before .before .before .before .before .before .before .before .before .before .before .before .before .before .before .whole-at2 .ensures) (c .before .before .before .before .before .before .before .before .before .before .before .wholes .ensures) (c .before .before .before .before .before .before .before .before .before .u .given .1) (rw (c .before .before .before .before .before .before .room .ensures) at (c .before .before .before .before .put-cell .ensures)) (c .before .put-cell2 .ensures)
+returns-3 c =
+    let args = c .before .before .before .before .before .before .before .before .before .before .before .before .before .before .before .before .before .before .before .before .before .before .before .before .before .args in
+    sum-quick (args .at) (args .live) (args .n) (args .store .now) (args .own .now) (c .before .before .before .before .before .before .before .before .before .before .before .before .before .before .before .before .before .before .before .before .before .before .before .before .before .pre .0) (args .v) (c .before .before .before .before .before .before .before .before .before .before .before .before .before .before .before .before .before .before .before .before .before .before .before .before .cell-of .ensures .0) (c .before .before .before .before .before .before .before .before .before .before .before .before .before .before .before .before .before .before .before .before .before .before .before .if1 .left) (bits-pos _ (c .before .before .before .before .before .before .before .before .before .before .before .before .before .before .before .before .before .before .before .before .before .before .if2 .left)) (c .before .before .before .before .before .before .before .before .before .before .before .before .before .before .before .before .before .before .x .given .1) (c .before .before .before .before .before .before .before .before .before .before .before .before .before .before .before .before .before .before .before .before .whole-at .ensures) (c .before .before .before .before .before .before .before .before .before .before .before .before .before .z .given .1) (c .before .before .before .before .before .before .before .before .before .before .before .before .before .before .before .whole-at2 .ensures) (c .before .before .before .before .before .before .before .before .before .before .before .wholes .ensures) (c .before .before .before .before .before .before .before .before .before .u .given .1) (rw (c .before .before .before .before .before .before .room .ensures) at (c .before .before .before .before .put-cell .ensures)) (c .before .put-cell2 .ensures)
 
 pub sum-spec : {M : Type 1} → statement M
 sum-spec =

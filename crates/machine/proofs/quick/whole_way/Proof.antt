@@ -18,14 +18,8 @@ abbrev μ-loop : tie.MeasureT-loop
 loop-holds : tie.Need-loop-holds Inv-loop μ-loop
 loop-holds c = (omega arith, λ w. w)
 
-sub-j : tie.Need-sub-j Inv-loop μ-loop
-sub-j c = omega arith
-
 link-form-requires : tie.Need-link-form-requires Inv-loop μ-loop
 link-form-requires c κs = omega (arith, c .before .loop .inv .0, c .before .before .pre, c .loop-test .taken)
-
-loop-less : tie.Need-loop-less Inv-loop μ-loop
-loop-less c = omega arith
 
 loop-again : tie.Need-loop-again Inv-loop μ-loop
 loop-again c = (omega (arith, c .before .before .before .before .loop .inv .0), λ w. c .before .before .before .before .loop .inv .1 (way-more (c .before .before .before .before .before .args .own .now) (c .before .before .before .before .loop .j) (c .before .before .before .loop-test .taken) (c .before .before .link-form .ensures) (c .enum-told .given .1) w))
@@ -46,10 +40,10 @@ whole-way-spec =
     Inv-loop
     μ-loop
     loop-holds
-    sub-j
+    (λ c. omega arith)
     link-form-requires
     (λ c. search needs)
-    loop-less
+    (λ c. omega arith)
     loop-again
     (λ c. search needs)
     returns

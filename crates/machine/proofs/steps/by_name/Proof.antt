@@ -17,10 +17,14 @@ new-cell-requires : tie.Need-new-cell-requires
 new-cell-requires c κs = (c .before .before .before .pre .0, omega (arith, c .before .before .before .pre .2))
 
 returns : tie.Need-returns
-returns c = (λ i o. c .lift .ensures .0 (c .before .before .new-cell .last .1 .0) i o (c .before .before .before .before .before .before .args .own .now) ∙ ap (lifted _ _) (c .before .before .new-cell .ensures .0 (ownOf (c .before .before .before .before .before .before .args .own .now) (c .before .before .before .before .before .before .args .live)) i o ∙ name-is _ _ (c .before .before .before .before .before .before .args .q) ((c .before .before .before .before .before .before .args .at) + 1)) ∙ name-lifted _ (c .before .before .before .before .before .before .args .at) _ _ _ (c .before .before .before .before .before .before .args .q) (c .before .before .before .before .low .result) (add-one (c .before .before .before .before .before .before .args .at)) ∙ obeyed _ (c .before .before .before .before .before .before .args .at) _ _ _ (rw (c .before .before .before .before .low .ensures) (code-name (c .before .before .before .before .before .before .args .k) (c .before .before .before .before .before .before .args .q) (c .before .before .before .before .before .before .args .v) (c .before .before .before .before .before .if1 .taken))), λ o h. c .lift .ensures .1 (c .before .before .new-cell .last .1 .0) o o (c .before .before .before .before .before .before .args .own .now) (did-quiet (c .before .before .before .before .before .before .args .n) (c .before .before .new-cell .result) (c .before .before .new-cell .last .1 .0) o (c .before .before .new-cell .ensures .1) h) (c .before .before .before .before .before .before .pre .1))
+returns c =
+    let args = c .before .before .before .before .before .before .args in
+    (λ i o. c .lift .ensures .0 (c .before .before .new-cell .last .1 .0) i o (args .own .now) ∙ ap (lifted _ _) (c .before .before .new-cell .ensures .0 (ownOf (args .own .now) (args .live)) i o ∙ name-is _ _ (args .q) ((args .at) + 1)) ∙ name-lifted _ (args .at) _ _ _ (args .q) (c .before .before .before .before .low .result) (add-one (args .at)) ∙ obeyed _ (args .at) _ _ _ (rw (c .before .before .before .before .low .ensures) (code-name (args .k) (args .q) (args .v) (c .before .before .before .before .before .if1 .taken))), λ o h. c .lift .ensures .1 (c .before .before .new-cell .last .1 .0) o o (args .own .now) (did-quiet (args .n) (c .before .before .new-cell .result) (c .before .before .new-cell .last .1 .0) o (c .before .before .new-cell .ensures .1) h) (c .before .before .before .before .before .before .pre .1))
 
 returns-2 : tie.Need-returns-2
-returns-2 c = (λ i o. c .refuse .ensures .0 (c .before .before .before .args .n) (c .before .before .before .args .store .now) i o ∙ obeyed _ (c .before .before .before .args .at) _ _ _ (code-refuse (c .before .before .before .args .k) (c .before .before .before .args .q) (c .before .before .before .args .v) (c .before .if2 .taken)), λ o h. c .refuse .ensures .1 (c .before .before .before .args .store .now) o)
+returns-2 c =
+    let args = c .before .before .before .args in
+    (λ i o. c .refuse .ensures .0 (args .n) (args .store .now) i o ∙ obeyed _ (args .at) _ _ _ (code-refuse (args .k) (args .q) (args .v) (c .before .if2 .taken)), λ o h. c .refuse .ensures .1 (args .store .now) o)
 
 returns-3 : tie.Need-returns-3
 returns-3 c =

@@ -19,15 +19,6 @@ abbrev μ-loop : tie.MeasureT-loop
 loop-holds : tie.Need-loop-holds Inv-loop μ-loop
 loop-holds c = (omega arith, refl, refl)
 
-mul-store : tie.Need-mul-store Inv-loop μ-loop
-mul-store c = search needs
-
-slice-set-of-store : tie.Need-slice-set-of-store Inv-loop μ-loop
-slice-set-of-store c = omega arith
-
-add-i : tie.Need-add-i Inv-loop μ-loop
-add-i c = omega arith
-
 loop-less : tie.Need-loop-less Inv-loop μ-loop
 loop-less c = omega (arith, c .before .loop .inv .1)
 
@@ -47,9 +38,9 @@ clear-spec =
     Inv-loop
     μ-loop
     loop-holds
-    mul-store
-    slice-set-of-store
-    add-i
+    (λ c. search needs)
+    (λ c. omega arith)
+    (λ c. omega arith)
     loop-less
     loop-again
     same-length

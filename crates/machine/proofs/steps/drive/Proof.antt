@@ -14,22 +14,15 @@ abbrev μ-loop : tie.MeasureT-loop
 μ-loop code input limit store₀ output₀ own₀ at₀ live₀ n₀ done₀ store output own at live n done = limit - done
 
 loop-holds : tie.Need-loop-holds Inv-loop μ-loop
-loop-holds c = driving-start (c .before .args .code .now) (c .before .args .input .now) (c .before .args .limit) (c .before .args .store .now) (c .before .args .output .now) (c .before .args .own .now) (c .before .pre .1) (c .before .pre .2) (c .before .pre .3) (c .before .pre .4)
+loop-holds c =
+    let args = c .before .args in
+    driving-start (args .code .now) (args .input .now) (args .limit) (args .store .now) (args .output .now) (args .own .now) (c .before .pre .1) (c .before .pre .2) (c .before .pre .3) (c .before .pre .4)
 
 step-requires : tie.Need-step-requires Inv-loop μ-loop
 step-requires c κs = (c .before .before .before .before .loop .inv .sound, c .before .before .before .before .loop .inv .lives, c .before .before .before .before .loop .inv .wrote, c .before .before .before .before .before .before .pre .0)
 
-enum-known-a : tie.Need-enum-known-a Inv-loop μ-loop
-enum-known-a c = search needs
-
-enum-told : tie.Need-enum-told Inv-loop μ-loop
-enum-told c = search needs
-
 add-ended : tie.Need-add-ended Inv-loop μ-loop
 add-ended c = omega (arith, c .before .before .before .before .before .before .before .before .loop-test .taken)
-
-ended-requires : tie.Need-ended-requires Inv-loop μ-loop
-ended-requires c κs = search needs
 
 same-length : tie.Need-same-length Inv-loop μ-loop
 same-length c = c .before .before .before .before .before .step .kept .1 .1 .1 .1 .1 .0 ∙ c .before .before .before .before .before .before .before .before .before .before .loop .inv .long-store
@@ -40,17 +33,8 @@ same-length-2 c = c .before .before .before .before .before .step .kept .1 .1 .1
 returns : tie.Need-returns Inv-loop μ-loop
 returns c = rw (c .ended .ensures) (driven-stop (c .before .before .before .before .before .before .before .before .before .before .loop .inv) (c .before .before .before .before .before .before .before .before .before .loop-test .taken) (c .before .before .before .before .before .step .last .1 .1 .1 .1 .1 .0) (c .before .before .before .before .before .step .last .1 .1 .1 .1 .1 .1 .0) (c .before .before .before .before .before .step .last .1 .1 .1 .1 .1 .1 .1 .0) (c .before .before .before .before .before .step .ensures .0) (c .before .before .before .before .before .step .ensures .1) (c .before .enum-told .given .1) refl (λ k. k))
 
-enum-known-a-2 : tie.Need-enum-known-a-2 Inv-loop μ-loop
-enum-known-a-2 c = search needs
-
-new-requires : tie.Need-new-requires Inv-loop μ-loop
-new-requires c κs = search needs
-
 add-ended-2 : tie.Need-add-ended-2 Inv-loop μ-loop
 add-ended-2 c = omega (arith, c .before .before .before .before .before .before .before .before .before .before .loop-test .taken)
-
-ended-requires-2 : tie.Need-ended-requires-2 Inv-loop μ-loop
-ended-requires-2 c κs = search needs
 
 same-length-3 : tie.Need-same-length-3 Inv-loop μ-loop
 same-length-3 c = c .before .before .before .before .before .before .before .step .kept .1 .1 .1 .1 .1 .0 ∙ c .before .before .before .before .before .before .before .before .before .before .before .before .loop .inv .long-store
@@ -61,14 +45,8 @@ same-length-4 c = c .before .before .before .before .before .before .before .ste
 returns-2 : tie.Need-returns-2 Inv-loop μ-loop
 returns-2 c = rw (c .ended2 .ensures, c .before .new .ensures) (driven-stop (c .before .before .before .before .before .before .before .before .before .before .before .before .loop .inv) (c .before .before .before .before .before .before .before .before .before .before .before .loop-test .taken) (c .before .before .before .before .before .before .before .step .last .1 .1 .1 .1 .1 .0) (c .before .before .before .before .before .before .before .step .last .1 .1 .1 .1 .1 .1 .0) (c .before .before .before .before .before .before .before .step .last .1 .1 .1 .1 .1 .1 .1 .0) (c .before .before .before .before .before .before .before .step .ensures .0) (c .before .before .before .before .before .before .before .step .ensures .1) (c .before .before .before .a2 .given .1) refl (λ k. k))
 
-enum-known-c : tie.Need-enum-known-c Inv-loop μ-loop
-enum-known-c c = search needs
-
 add-ended-3 : tie.Need-add-ended-3 Inv-loop μ-loop
 add-ended-3 c = omega (arith, c .before .before .before .before .before .before .before .before .before .loop-test .taken)
-
-ended-requires-3 : tie.Need-ended-requires-3 Inv-loop μ-loop
-ended-requires-3 c κs = search needs
 
 same-length-5 : tie.Need-same-length-5 Inv-loop μ-loop
 same-length-5 c = c .before .before .before .before .before .before .step .kept .1 .1 .1 .1 .1 .0 ∙ c .before .before .before .before .before .before .before .before .before .before .before .loop .inv .long-store
@@ -88,9 +66,6 @@ loop-less c = omega (arith, c .before .before .before .before .before .before .b
 loop-again : tie.Need-loop-again Inv-loop μ-loop
 loop-again c = driving-on (c .before .before .before .before .before .before .before .before .before .before .loop .inv) (c .before .before .before .before .before .before .before .before .before .loop-test .taken) (c .before .before .before .before .before .step .last .1 .1 .1 .1 .1 .0) (c .before .before .before .before .before .step .last .1 .1 .1 .1 .1 .1 .0) (c .before .before .before .before .before .step .last .1 .1 .1 .1 .1 .1 .1 .0) (c .before .before .before .before .before .step .ensures .0) (c .before .before .before .before .before .step .ensures .1) (c .before .a .given .1) (c .before .before .before .before .before .step .kept .1 .1 .1 .1 .1 .0) (c .before .before .before .before .before .step .kept .1 .1 .1 .1 .1 .1 .0)
 
-ended-requires-4 : tie.Need-ended-requires-4 Inv-loop μ-loop
-ended-requires-4 c κs = search needs
-
 same-length-7 : tie.Need-same-length-7 Inv-loop μ-loop
 same-length-7 c = c .before .before .loop .inv .long-store
 
@@ -108,30 +83,30 @@ drive-spec =
     μ-loop
     loop-holds
     step-requires
-    enum-known-a
-    enum-told
+    (λ c. search needs)
+    (λ c. search needs)
     add-ended
-    ended-requires
+    (λ c κs. search needs)
     same-length
     same-length-2
     returns
-    enum-known-a-2
-    new-requires
+    (λ c. search needs)
+    (λ c κs. search needs)
     add-ended-2
-    ended-requires-2
+    (λ c κs. search needs)
     same-length-3
     same-length-4
     returns-2
-    enum-known-c
+    (λ c. search needs)
     add-ended-3
-    ended-requires-3
+    (λ c κs. search needs)
     same-length-5
     same-length-6
     returns-3
     add-done
     loop-less
     loop-again
-    ended-requires-4
+    (λ c κs. search needs)
     same-length-7
     same-length-8
     returns-4)

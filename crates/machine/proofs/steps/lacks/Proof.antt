@@ -11,10 +11,14 @@ add-if1 : tie.Need-add-if1
 add-if1 c = omega (arith, c .first-cell .ensures .1, c .before .pre .1)
 
 returns : tie.Need-returns
-returns c = λ s i o. sym (room-no (c .before .before .before .args .n) (c .before .before .before .args .live) s i o (c .before .before .before .args .own .now) (c .before .before .first-cell .ensures .0 (c .before .before .before .args .live) (le-refl _)) (c .before .before .before .args .k) (c .if1 .taken))
+returns c =
+    let args = c .before .before .before .args in
+    λ s i o. sym (room-no (args .n) (args .live) s i o (args .own .now) (c .before .before .first-cell .ensures .0 (args .live) (le-refl _)) (args .k) (c .if1 .taken))
 
 returns-2 : tie.Need-returns-2
-returns-2 c = λ s i o. sym (room-yes (c .before .before .before .args .n) (c .before .before .before .args .live) s i o (c .before .before .before .args .own .now) (c .before .before .first-cell .ensures .0 (c .before .before .before .args .live) (le-refl _)) (c .before .before .before .args .k) (c .if1 .left))
+returns-2 c =
+    let args = c .before .before .before .args in
+    λ s i o. sym (room-yes (args .n) (args .live) s i o (args .own .now) (c .before .before .first-cell .ensures .0 (args .live) (le-refl _)) (args .k) (c .if1 .left))
 
 pub lacks-spec : {M : Type 1} → statement M
 lacks-spec =

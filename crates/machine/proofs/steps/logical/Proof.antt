@@ -14,19 +14,25 @@ use Rattle.machine.proofs.steps.logical.Statement.{statement}
 use Rattle.machine.proofs.steps.logical.Tie as tie
 
 returns : tie.Need-returns
-returns c = (λ i o. strayed (c .stray .ensures) _ _ i o ∙ obeyed-none _ (c .before .before .before .args .at) _ _ _ (logical-none (c .before .before .before .args .q) (low (c .before .before .before .args .v)) (rw (c .before .before .low .ensures) at (c .before .if1 .taken))), λ o h. strayed-sound (c .stray .ensures) _ _ o o refl)
+returns c =
+    let args = c .before .before .before .args in
+    (λ i o. strayed (c .stray .ensures) _ _ i o ∙ obeyed-none _ (args .at) _ _ _ (logical-none (args .q) (low (args .v)) (rw (c .before .before .low .ensures) at (c .before .if1 .taken))), λ o h. strayed-sound (c .stray .ensures) _ _ o o refl)
 
 lacks-requires : tie.Need-lacks-requires
 lacks-requires c κs = (c .before .before .pre .1 .many, omega arith)
 
 returns-2 : tie.Need-returns-2
-returns-2 c = (λ i o. strayed (c .stray2 .ensures) _ _ i o ∙ do-stray _ (c .before .before .before .before .before .args .at) _ _ _ (push (c .before .before .before .before .before .args .q) (Truth (eqb (low (c .before .before .before .before .before .args .v)) 1))) (lacks-yes (c .before .before .lacks .ensures (c .before .before .before .before .before .args .store .now) i o) (c .before .if2 .taken)) ∙ obeyed _ (c .before .before .before .before .before .args .at) _ _ _ (logical-is (c .before .before .before .before .before .args .q) (low (c .before .before .before .before .before .args .v)) (rw (c .before .before .before .before .low .ensures) at (c .before .before .before .if1 .left))), λ o h. strayed-sound (c .stray2 .ensures) _ _ o o refl)
+returns-2 c =
+    let args = c .before .before .before .before .before .args in
+    (λ i o. strayed (c .stray2 .ensures) _ _ i o ∙ do-stray _ (args .at) _ _ _ (push (args .q) (Truth (eqb (low (args .v)) 1))) (lacks-yes (c .before .before .lacks .ensures (args .store .now) i o) (c .before .if2 .taken)) ∙ obeyed _ (args .at) _ _ _ (logical-is (args .q) (low (args .v)) (rw (c .before .before .before .before .low .ensures) at (c .before .before .before .if1 .left))), λ o h. strayed-sound (c .stray2 .ensures) _ _ o o refl)
 
 new-cell-requires : tie.Need-new-cell-requires
 new-cell-requires c κs = (c .before .before .before .before .before .pre .0, tt)
 
 returns-3 : tie.Need-returns-3
-returns-3 c = (λ i o. c .lift .ensures .0 (c .before .before .new-cell .last .1 .0) i o (c .before .before .before .before .before .before .before .before .args .own .now) ∙ ap (lifted _ _) (c .before .before .new-cell .ensures .0 (ownOf (c .before .before .before .before .before .before .before .before .args .own .now) (c .before .before .before .before .before .before .before .before .args .live)) i o ∙ push-is _ _ (c .before .before .before .before .before .before .before .before .args .q) (ap (λ (n : ℕ). Truth (eqb n 1)) (c .before .before .before .before .before .before .before .low .ensures))) ∙ plain-done _ (c .before .before .before .before .before .before .before .before .args .at) _ _ _ (push (c .before .before .before .before .before .before .before .before .args .q) (Truth (eqb (low (c .before .before .before .before .before .before .before .before .args .v)) 1))) (lacks-no (c .before .before .before .before .before .lacks .ensures (c .before .before .before .before .before .before .before .before .args .store .now) i o) (c .before .before .before .before .if2 .left)) refl ∙ obeyed _ (c .before .before .before .before .before .before .before .before .args .at) _ _ _ (logical-is (c .before .before .before .before .before .before .before .before .args .q) (low (c .before .before .before .before .before .before .before .before .args .v)) (rw (c .before .before .before .before .before .before .before .low .ensures) at (c .before .before .before .before .before .before .if1 .left))), λ o h. c .lift .ensures .1 (c .before .before .new-cell .last .1 .0) o o (c .before .before .before .before .before .before .before .before .args .own .now) (did-quiet (c .before .before .before .before .before .before .before .before .args .n) (c .before .before .new-cell .result) (c .before .before .new-cell .last .1 .0) o (c .before .before .new-cell .ensures .1) h) (c .before .before .before .before .before .before .before .before .pre .1))
+returns-3 c =
+    let args = c .before .before .before .before .before .before .before .before .args in
+    (λ i o. c .lift .ensures .0 (c .before .before .new-cell .last .1 .0) i o (args .own .now) ∙ ap (lifted _ _) (c .before .before .new-cell .ensures .0 (ownOf (args .own .now) (args .live)) i o ∙ push-is _ _ (args .q) (ap (λ (n : ℕ). Truth (eqb n 1)) (c .before .before .before .before .before .before .before .low .ensures))) ∙ plain-done _ (args .at) _ _ _ (push (args .q) (Truth (eqb (low (args .v)) 1))) (lacks-no (c .before .before .before .before .before .lacks .ensures (args .store .now) i o) (c .before .before .before .before .if2 .left)) refl ∙ obeyed _ (args .at) _ _ _ (logical-is (args .q) (low (args .v)) (rw (c .before .before .before .before .before .before .before .low .ensures) at (c .before .before .before .before .before .before .if1 .left))), λ o h. c .lift .ensures .1 (c .before .before .new-cell .last .1 .0) o o (args .own .now) (did-quiet (args .n) (c .before .before .new-cell .result) (c .before .before .new-cell .last .1 .0) o (c .before .before .new-cell .ensures .1) h) (c .before .before .before .before .before .before .before .before .pre .1))
 
 pub logical-spec : {M : Type 1} → statement M
 logical-spec =

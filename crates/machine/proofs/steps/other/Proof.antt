@@ -26,34 +26,54 @@ by-type-requires : tie.Need-by-type-requires
 by-type-requires c κs = (c .before .before .before .before .before .pre .0, c .before .before .before .before .before .pre .1, c .before .before .before .before .before .pre .2, c .before .before .before .before .before .pre .3, (⊎-elim (λ y. absurd (omega (arith, y .taken, c .before .before .if3 .left))) (λ x. x .1 .left) (c .before .before .before .if1 .came)))
 
 returns-2 : tie.Need-returns-2
-returns-2 c = (strayed (c .stray .ensures) _ _ _ _ ∙ obeyed-none _ (c .before .before .args .at) _ _ _ (code-0 (c .before .before .args .k) (c .before .before .args .q) (c .before .before .args .v) (c .before .match .keys1)), strayed-sound (c .stray .ensures) _ _ _ _ refl)
+returns-2 c =
+    let args = c .before .before .args in
+    (strayed (c .stray .ensures) _ _ _ _ ∙ obeyed-none _ (args .at) _ _ _ (code-0 (args .k) (args .q) (args .v) (c .before .match .keys1)), strayed-sound (c .stray .ensures) _ _ _ _ refl)
 
 returns-3 : tie.Need-returns-3
-returns-3 c = (end-halts _ (c .before .args .at) _ _ _ ∙ obeyed _ (c .before .args .at) _ _ _ (code-1 (c .before .args .k) (c .before .args .q) (c .before .args .v) (c .match .keys2)), refl)
+returns-3 c =
+    let args = c .before .args in
+    (end-halts _ (args .at) _ _ _ ∙ obeyed _ (args .at) _ _ _ (code-1 (args .k) (args .q) (args .v) (c .match .keys2)), refl)
 
 returns-4 : tie.Need-returns-4
-returns-4 c = rw (c .low .ensures) (jump-goes _ (c .before .before .args .at) _ _ _ (low (c .before .before .args .v)) ∙ obeyed _ (c .before .before .args .at) _ _ _ (code-2 (c .before .before .args .k) (c .before .before .args .q) (c .before .before .args .v) (c .before .match .keys3)), (c .before .before .pre .0, c .before .before .pre .1, c .before .before .pre .2, refl))
+returns-4 c =
+    let args = c .before .before .args in
+    rw (c .low .ensures) (jump-goes _ (args .at) _ _ _ (low (args .v)) ∙ obeyed _ (args .at) _ _ _ (code-2 (args .k) (args .q) (args .v) (c .before .match .keys3)), (c .before .before .pre .0, c .before .before .pre .1, c .before .before .pre .2, refl))
 
 returns-5 : tie.Need-returns-5
-returns-5 c = (c .lift .ensures .0 (c .before .before .«open» .last .1 .0) (c .before .before .before .before .before .args .input .now) (c .before .before .before .before .before .args .output .now) (c .before .before .before .before .before .args .own .now) ∙ ap (lifted _ _) (c .before .before .«open» .ensures .0 (ownOf (c .before .before .before .before .before .args .own .now) (c .before .before .before .before .before .args .live)) (c .before .before .before .before .before .args .input .now) (c .before .before .before .before .before .args .output .now)) ∙ lifted-next _ _ _ _ _ ∙ enter-lifted _ (c .before .before .before .before .before .args .at) _ _ _ (c .before .before .before .before .before .args .q) (counted (c .before .before .before .before .before .args .v)) ∙ obeyed _ (c .before .before .before .before .before .args .at) _ _ _ (code-3 (c .before .before .before .before .before .args .k) (c .before .before .before .before .before .args .q) (c .before .before .before .before .before .args .v) (c .before .before .before .before .match .keys4)), c .lift .ensures .1 (c .before .before .«open» .last .1 .0) (c .before .before .before .before .before .args .output .now) (c .before .before .before .before .before .args .output .now) (c .before .before .before .before .before .args .own .now) (did-quiet (c .before .before .before .before .before .args .n) (c .before .before .«open» .result) (c .before .before .«open» .last .1 .0) (c .before .before .before .before .before .args .output .now) (c .before .before .«open» .ensures .1) (c .before .before .before .before .before .pre .2)) (c .before .before .before .before .before .pre .1))
+returns-5 c =
+    let args = c .before .before .before .before .before .args in
+    (c .lift .ensures .0 (c .before .before .«open» .last .1 .0) (args .input .now) (args .output .now) (args .own .now) ∙ ap (lifted _ _) (c .before .before .«open» .ensures .0 (ownOf (args .own .now) (args .live)) (args .input .now) (args .output .now)) ∙ lifted-next _ _ _ _ _ ∙ enter-lifted _ (args .at) _ _ _ (args .q) (counted (args .v)) ∙ obeyed _ (args .at) _ _ _ (code-3 (args .k) (args .q) (args .v) (c .before .before .before .before .match .keys4)), c .lift .ensures .1 (c .before .before .«open» .last .1 .0) (args .output .now) (args .output .now) (args .own .now) (did-quiet (args .n) (c .before .before .«open» .result) (c .before .before .«open» .last .1 .0) (args .output .now) (c .before .before .«open» .ensures .1) (c .before .before .before .before .before .pre .2)) (c .before .before .before .before .before .pre .1))
 
 returns-6 : tie.Need-returns-6
-returns-6 c = (c .close .ensures .0 (c .before .before .before .args .store .now) (c .before .before .before .args .input .now) (c .before .before .before .args .output .now) ∙ obeyed _ (c .before .before .before .args .at) _ _ _ (rw (c .before .mid .ensures) (code-4 (c .before .before .before .args .k) (c .before .before .before .args .q) (c .before .before .before .args .v) (c .before .before .match .keys5))), c .close .ensures .1 (c .before .before .before .args .store .now) (c .before .before .before .args .output .now) (c .before .before .before .pre .0) (c .before .before .before .pre .2))
+returns-6 c =
+    let args = c .before .before .before .args in
+    (c .close .ensures .0 (args .store .now) (args .input .now) (args .output .now) ∙ obeyed _ (args .at) _ _ _ (rw (c .before .mid .ensures) (code-4 (args .k) (args .q) (args .v) (c .before .before .match .keys5))), c .close .ensures .1 (args .store .now) (args .output .now) (c .before .before .before .pre .0) (c .before .before .before .pre .2))
 
 returns-7 : tie.Need-returns-7
-returns-7 c = (c .upto .ensures .0 (c .before .before .before .args .input .now) (c .before .before .before .args .output .now) ∙ obeyed _ (c .before .before .before .args .at) _ _ _ (code-11 (c .before .before .before .args .k) (c .before .before .before .args .q) (c .before .before .before .args .v) (c .before .before .match .keys6)), c .upto .ensures .1 (c .before .before .before .args .output .now) (c .before .before .before .pre .2))
+returns-7 c =
+    let args = c .before .before .before .args in
+    (c .upto .ensures .0 (args .input .now) (args .output .now) ∙ obeyed _ (args .at) _ _ _ (code-11 (args .k) (args .q) (args .v) (c .before .before .match .keys6)), c .upto .ensures .1 (args .output .now) (c .before .before .before .pre .2))
 
 returns-8 : tie.Need-returns-8
-returns-8 c = (c .before .load .ensures .0 (c .before .before .before .before .args .input .now) (c .before .before .before .before .args .output .now) ∙ obeyed _ (c .before .before .before .before .args .at) _ _ _ (code-13 (c .before .before .before .before .args .k) (c .before .before .before .before .args .q) (c .before .before .before .before .args .v) (c .before .before .before .match .keys7)), c .before .load .ensures .1 (c .before .before .before .before .args .output .now) (c .before .before .before .before .pre .2))
+returns-8 c =
+    let args = c .before .before .before .before .args in
+    (c .before .load .ensures .0 (args .input .now) (args .output .now) ∙ obeyed _ (args .at) _ _ _ (code-13 (args .k) (args .q) (args .v) (c .before .before .before .match .keys7)), c .before .load .ensures .1 (args .output .now) (c .before .before .before .before .pre .2))
 
 returns-9 : tie.Need-returns-9
-returns-9 c = (c .before .save .ensures .0 (c .before .before .before .before .args .input .now) (c .before .before .before .before .args .output .now) ∙ obeyed _ (c .before .before .before .before .args .at) _ _ _ (code-14 (c .before .before .before .before .args .k) (c .before .before .before .before .args .q) (c .before .before .before .before .args .v) (c .before .before .before .match .keys8)), c .before .save .ensures .1 (c .before .before .before .before .args .output .now) (c .before .before .before .before .pre .2))
+returns-9 c =
+    let args = c .before .before .before .before .args in
+    (c .before .save .ensures .0 (args .input .now) (args .output .now) ∙ obeyed _ (args .at) _ _ _ (code-14 (args .k) (args .q) (args .v) (c .before .before .before .match .keys8)), c .before .save .ensures .1 (args .output .now) (c .before .before .before .before .pre .2))
 
 returns-10 : tie.Need-returns-10
-returns-10 c = (c .before .result .ensures .0 (c .before .before .before .before .args .input .now) (c .before .before .before .before .args .output .now) ∙ obeyed-as _ (c .before .before .before .before .args .at) _ _ _ (code-16 (c .before .before .before .before .args .k) (c .before .before .before .before .args .q) (c .before .before .before .before .args .v) (c .before .before .before .match .keys9)), c .before .result .ensures .1 (c .before .before .before .before .args .output .now) (c .before .before .before .before .pre .2))
+returns-10 c =
+    let args = c .before .before .before .before .args in
+    (c .before .result .ensures .0 (args .input .now) (args .output .now) ∙ obeyed-as _ (args .at) _ _ _ (code-16 (args .k) (args .q) (args .v) (c .before .before .before .match .keys9)), c .before .result .ensures .1 (args .output .now) (c .before .before .before .before .pre .2))
 
 returns-11 : tie.Need-returns-11
-returns-11 c = (c .before .by-name .ensures .0 (c .before .before .before .before .before .before .args .input .now) (c .before .before .before .before .before .before .args .output .now), c .before .by-name .ensures .1 (c .before .before .before .before .before .before .args .output .now) (c .before .before .before .before .before .before .pre .2))
+returns-11 c =
+    let args = c .before .before .before .before .before .before .args in
+    (c .before .by-name .ensures .0 (args .input .now) (args .output .now), c .before .by-name .ensures .1 (args .output .now) (c .before .before .before .before .before .before .pre .2))
 
 returns-12 : tie.Need-returns-12
 returns-12 c = (c .before .before .by-type .ensures .0 (c .before .before .before .before .before .before .before .before .args .input .now), c .before .before .by-type .ensures .1)

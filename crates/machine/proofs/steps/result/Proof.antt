@@ -14,16 +14,22 @@ lacks-requires : tie.Need-lacks-requires
 lacks-requires c κs = (c .before .before .before .before .before .pre .1 .many, omega arith)
 
 returns : tie.Need-returns
-returns c = (λ i o. strayed (c .stray2 .ensures) _ _ i o ∙ do-stray _ (c .before .before .before .before .before .before .before .before .args .at) _ _ _ (reserve (c .before .before .before .before .before .before .before .before .args .q) (c .before .before .before .before .form .given .0 .0)) (lacks-yes (c .before .before .lacks .ensures (c .before .before .before .before .before .before .before .before .args .store .now) i o) (c .before .if1 .taken)) ∙ obeyed _ (c .before .before .before .before .before .before .before .before .args .at) _ _ _ (form-is (low (c .before .before .before .before .before .before .before .before .args .v)) (λ t. DO (reserve (c .before .before .before .before .before .before .before .before .args .q) t)) (c .before .before .before .before .before .before .typed .ensures ∙ ap typedOf (c .before .before .before .before .before .before .before .low .ensures)) (c .before .before .before .before .form .given .1)), λ o h. strayed-sound (c .stray2 .ensures) _ _ o o refl)
+returns c =
+    let args = c .before .before .before .before .before .before .before .before .args in
+    (λ i o. strayed (c .stray2 .ensures) _ _ i o ∙ do-stray _ (args .at) _ _ _ (reserve (args .q) (c .before .before .before .before .form .given .0 .0)) (lacks-yes (c .before .before .lacks .ensures (args .store .now) i o) (c .before .if1 .taken)) ∙ obeyed _ (args .at) _ _ _ (form-is (low (args .v)) (λ t. DO (reserve (args .q) t)) (c .before .before .before .before .before .before .typed .ensures ∙ ap typedOf (c .before .before .before .before .before .before .before .low .ensures)) (c .before .before .before .before .form .given .1)), λ o h. strayed-sound (c .stray2 .ensures) _ _ o o refl)
 
 new-cell-requires : tie.Need-new-cell-requires
 new-cell-requires c κs = (c .before .before .before .before .before .before .before .before .pre .0, tt)
 
 returns-2 : tie.Need-returns-2
-returns-2 c = (λ i o. strayed (c .stray .ensures) _ _ i o ∙ obeyed-none _ (c .before .before .before .before .before .args .at) _ _ _ (form-not (low (c .before .before .before .before .before .args .v)) (λ t. DO (reserve (c .before .before .before .before .before .args .q) t)) (c .before .before .before .typed .ensures ∙ ap typedOf (c .before .before .before .before .low .ensures)) (c .before .enum-told .given .1)), λ o h. strayed-sound (c .stray .ensures) _ _ o o refl)
+returns-2 c =
+    let args = c .before .before .before .before .before .args in
+    (λ i o. strayed (c .stray .ensures) _ _ i o ∙ obeyed-none _ (args .at) _ _ _ (form-not (low (args .v)) (λ t. DO (reserve (args .q) t)) (c .before .before .before .typed .ensures ∙ ap typedOf (c .before .before .before .before .low .ensures)) (c .before .enum-told .given .1)), λ o h. strayed-sound (c .stray .ensures) _ _ o o refl)
 
 returns-3 : tie.Need-returns-3
-returns-3 c = (λ i o. c .lift .ensures .0 (c .before .before .new-cell .last .1 .0) i o (c .before .before .before .before .before .before .before .before .before .before .before .args .own .now) ∙ ap (lifted _ _) (c .before .before .new-cell .ensures .0 (ownOf (c .before .before .before .before .before .before .before .before .before .before .before .args .own .now) (c .before .before .before .before .before .before .before .before .before .before .before .args .live)) i o) ∙ ap (lifted _ _) (reserve-is _ _ (c .before .before .before .before .before .before .before .before .before .before .before .args .q) (c .before .before .before .before .before .before .before .form .given .0 .0)) ∙ plain-done _ (c .before .before .before .before .before .before .before .before .before .before .before .args .at) _ _ _ (reserve (c .before .before .before .before .before .before .before .before .before .before .before .args .q) (c .before .before .before .before .before .before .before .form .given .0 .0)) (lacks-no (c .before .before .before .before .before .lacks .ensures (c .before .before .before .before .before .before .before .before .before .before .before .args .store .now) i o) (c .before .before .before .before .if1 .left)) refl ∙ obeyed _ (c .before .before .before .before .before .before .before .before .before .before .before .args .at) _ _ _ (form-is (low (c .before .before .before .before .before .before .before .before .before .before .before .args .v)) (λ t. DO (reserve (c .before .before .before .before .before .before .before .before .before .before .before .args .q) t)) (c .before .before .before .before .before .before .before .before .before .typed .ensures ∙ ap typedOf (c .before .before .before .before .before .before .before .before .before .before .low .ensures)) (c .before .before .before .before .before .before .before .form .given .1)), λ o h. c .lift .ensures .1 (c .before .before .new-cell .last .1 .0) o o (c .before .before .before .before .before .before .before .before .before .before .before .args .own .now) (did-quiet (c .before .before .before .before .before .before .before .before .before .before .before .args .n) (c .before .before .new-cell .result) (c .before .before .new-cell .last .1 .0) o (c .before .before .new-cell .ensures .1) h) (c .before .before .before .before .before .before .before .before .before .before .before .pre .1))
+returns-3 c =
+    let args = c .before .before .before .before .before .before .before .before .before .before .before .args in
+    (λ i o. c .lift .ensures .0 (c .before .before .new-cell .last .1 .0) i o (args .own .now) ∙ ap (lifted _ _) (c .before .before .new-cell .ensures .0 (ownOf (args .own .now) (args .live)) i o) ∙ ap (lifted _ _) (reserve-is _ _ (args .q) (c .before .before .before .before .before .before .before .form .given .0 .0)) ∙ plain-done _ (args .at) _ _ _ (reserve (args .q) (c .before .before .before .before .before .before .before .form .given .0 .0)) (lacks-no (c .before .before .before .before .before .lacks .ensures (args .store .now) i o) (c .before .before .before .before .if1 .left)) refl ∙ obeyed _ (args .at) _ _ _ (form-is (low (args .v)) (λ t. DO (reserve (args .q) t)) (c .before .before .before .before .before .before .before .before .before .typed .ensures ∙ ap typedOf (c .before .before .before .before .before .before .before .before .before .before .low .ensures)) (c .before .before .before .before .before .before .before .form .given .1)), λ o h. c .lift .ensures .1 (c .before .before .new-cell .last .1 .0) o o (args .own .now) (did-quiet (args .n) (c .before .before .new-cell .result) (c .before .before .new-cell .last .1 .0) o (c .before .before .new-cell .ensures .1) h) (c .before .before .before .before .before .before .before .before .before .before .before .pre .1))
 
 pub result-spec : {M : Type 1} → statement M
 result-spec =

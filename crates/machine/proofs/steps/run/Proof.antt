@@ -19,7 +19,9 @@ used-requires : tie.Need-used-requires
 used-requires c κs = (taken-most 16384 (c .before .before .before .before .before .before .args .code .now) (c .before .before .before .before .at-most .ensures), store-most (c .before .before .before .before .before .before .args .store .now) (c .before .before .before .at-most2 .ensures) refl)
 
 returns : tie.Need-returns
-returns c = run-exit (c .before .before .before .before .before .before .before .before .before .args .code .now) (c .before .before .before .before .before .before .before .before .before .args .input .now) (c .before .before .before .before .before .before .before .before .before .args .limit) (c .before .before .before .before .before .before .before .before .before .args .store .now) (c .before .before .before .before .before .before .before .before .before .args .output .now) (c .before .before .before .before .before .before .before .at-most .ensures) (c .before .before .before .before .before .before .at-most2 .ensures) refl (c .before .before .used .ensures .0) (c .before .before .used .ensures .1)
+returns c =
+    let args = c .before .before .before .before .before .before .before .before .before .args in
+    run-exit (args .code .now) (args .input .now) (args .limit) (args .store .now) (args .output .now) (c .before .before .before .before .before .before .before .at-most .ensures) (c .before .before .before .before .before .before .at-most2 .ensures) refl (c .before .before .used .ensures .0) (c .before .before .used .ensures .1)
 
 pub run-spec : {M : Type 1} → statement M
 run-spec =

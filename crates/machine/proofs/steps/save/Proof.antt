@@ -10,7 +10,9 @@ use Rattle.machine.proofs.steps.save.Statement.{statement}
 use Rattle.machine.proofs.steps.save.Tie as tie
 
 returns : tie.Need-returns
-returns c = (λ i o. strayed (c .stray .ensures) _ _ i o ∙ do-stray _ (c .before .before .before .before .args .at) _ _ _ (store (c .before .before .before .before .args .q) (variable (c .before .before .before .before .args .v))) (room-no (c .before .before .before .before .args .n) (c .before .before .before .before .args .live) (c .before .before .before .before .args .store .now) i o (c .before .before .before .before .args .own .now) (c .before .before .before .first-cell .ensures .0 (c .before .before .before .before .args .live) (le-refl _)) 1 (c .before .if1 .taken)), λ o h. strayed-sound (c .stray .ensures) _ _ o o refl)
+returns c =
+    let args = c .before .before .before .before .args in
+    (λ i o. strayed (c .stray .ensures) _ _ i o ∙ do-stray _ (args .at) _ _ _ (store (args .q) (variable (args .v))) (room-no (args .n) (args .live) (args .store .now) i o (args .own .now) (c .before .before .before .first-cell .ensures .0 (args .live) (le-refl _)) 1 (c .before .if1 .taken)), λ o h. strayed-sound (c .stray .ensures) _ _ o o refl)
 
 way-of-requires : tie.Need-way-of-requires
 way-of-requires c κs = (c .before .before .before .pre .1, c .before .before .first-cell .ensures .0 (c .before .before .before .args .live) (le-refl _), c .before .before .first-cell .ensures .1)
@@ -19,7 +21,9 @@ save-requires : tie.Need-save-requires
 save-requires c κs = (c .before .before .before .before .before .pre .0, c .before .way-of .ensures .1)
 
 returns-2 : tie.Need-returns-2
-returns-2 c = (λ i o. c .lift .ensures .0 (c .before .before .save .last .1 .0) i o (c .before .before .before .before .before .before .before .before .args .own .now) ∙ ap (lifted _ _) (c .before .before .save .ensures .0 (ownOf (c .before .before .before .before .before .before .before .before .args .own .now) (c .before .before .before .before .before .before .before .before .args .live)) i o) ∙ store-done _ (c .before .before .before .before .before .before .before .before .args .at) _ _ _ (c .before .before .before .before .before .before .before .before .args .q) (c .before .before .before .before .before .before .before .before .args .v) (c .before .before .before .before .way-of .ensures .0 (c .before .before .before .before .before .before .before .before .args .n) (c .before .before .before .before .before .before .before .before .args .store .now) i o) (room-yes (c .before .before .before .before .before .before .before .before .args .n) (c .before .before .before .before .before .before .before .before .args .live) (c .before .before .before .before .before .before .before .before .args .store .now) i o (c .before .before .before .before .before .before .before .before .args .own .now) (c .before .before .before .before .before .before .before .first-cell .ensures .0 (c .before .before .before .before .before .before .before .before .args .live) (le-refl _)) 1 (c .before .before .before .before .before .if1 .left)), λ o h. c .lift .ensures .1 (c .before .before .save .last .1 .0) o o (c .before .before .before .before .before .before .before .before .args .own .now) (did-quiet (c .before .before .before .before .before .before .before .before .args .n) (c .before .before .save .result) (c .before .before .save .last .1 .0) o (c .before .before .save .ensures .1) h) (c .before .before .before .before .before .before .before .before .pre .1))
+returns-2 c =
+    let args = c .before .before .before .before .before .before .before .before .args in
+    (λ i o. c .lift .ensures .0 (c .before .before .save .last .1 .0) i o (args .own .now) ∙ ap (lifted _ _) (c .before .before .save .ensures .0 (ownOf (args .own .now) (args .live)) i o) ∙ store-done _ (args .at) _ _ _ (args .q) (args .v) (c .before .before .before .before .way-of .ensures .0 (args .n) (args .store .now) i o) (room-yes (args .n) (args .live) (args .store .now) i o (args .own .now) (c .before .before .before .before .before .before .before .first-cell .ensures .0 (args .live) (le-refl _)) 1 (c .before .before .before .before .before .if1 .left)), λ o h. c .lift .ensures .1 (c .before .before .save .last .1 .0) o o (args .own .now) (did-quiet (args .n) (c .before .before .save .result) (c .before .before .save .last .1 .0) o (c .before .before .save .ensures .1) h) (c .before .before .before .before .before .before .before .before .pre .1))
 
 pub save-spec : {M : Type 1} → statement M
 save-spec =

@@ -9,13 +9,19 @@ use Rattle.machine.proofs.steps.way_of.Statement.{statement}
 use Rattle.machine.proofs.steps.way_of.Tie as tie
 
 returns : tie.Need-returns
-returns c = (λ n s i o. cell-found (c .before .before .before .before .args .own .now) (c .before .before .before .before .args .live) (c .before .before .before .before .args .v) _ (sym (c .before .before .before .mid .ensures) ∙ c .before .before .if1 .taken) (c .before .word .ensures) (c .word2 .ensures) (sym (found-data n (c .before .before .before .before .args .own .now) (c .before .before .before .before .args .live) s i o)), omega (arith, c .word2 .ensures, c .before .before .before .before .pre .0 .way))
+returns c =
+    let args = c .before .before .before .before .args in
+    (λ n s i o. cell-found (args .own .now) (args .live) (args .v) _ (sym (c .before .before .before .mid .ensures) ∙ c .before .before .if1 .taken) (c .before .word .ensures) (c .word2 .ensures) (sym (found-data n (args .own .now) (args .live) s i o)), omega (arith, c .word2 .ensures, c .before .before .before .before .pre .0 .way))
 
 returns-2 : tie.Need-returns-2
-returns-2 c = (λ n s i o. cell-is (c .before .before .before .before .args .own .now) (c .before .before .before .before .args .live) (c .before .before .before .before .args .v) _ (λ e. c .before .before .if1 .left (c .before .before .before .mid .ensures ∙ e)) (walk-end _ (c .before .before .before .before .args .live) (high (c .before .before .before .before .args .v)) (omega (arith, c .before .high .ensures, c .if2 .taken))) (c .before .before .before .before .pre .1) (rw (c .before .before .before .mid .ensures)), omega arith)
+returns-2 c =
+    let args = c .before .before .before .before .args in
+    (λ n s i o. cell-is (args .own .now) (args .live) (args .v) _ (λ e. c .before .before .if1 .left (c .before .before .before .mid .ensures ∙ e)) (walk-end _ (args .live) (high (args .v)) (omega (arith, c .before .high .ensures, c .if2 .taken))) (c .before .before .before .before .pre .1) (rw (c .before .before .before .mid .ensures)), omega arith)
 
 returns-3 : tie.Need-returns-3
-returns-3 c = (λ n s i o. cell-is (c .before .before .before .before .before .before .args .own .now) (c .before .before .before .before .before .before .args .live) (c .before .before .before .before .before .before .args .v) _ (λ e. c .before .before .before .before .if1 .left (c .before .before .before .before .before .mid .ensures ∙ e)) (rw (c .before .before .before .high .ensures) at (c .before .around .ensures .1)) (c .first-cell .ensures .0 (c .before .before .before .before .before .before .args .live) (c .before .around .ensures .0)) (rw (c .before .before .before .before .before .mid .ensures)), omega arith)
+returns-3 c =
+    let args = c .before .before .before .before .before .before .args in
+    (λ n s i o. cell-is (args .own .now) (args .live) (args .v) _ (λ e. c .before .before .before .before .if1 .left (c .before .before .before .before .before .mid .ensures ∙ e)) (rw (c .before .before .before .high .ensures) at (c .before .around .ensures .1)) (c .first-cell .ensures .0 (args .live) (c .before .around .ensures .0)) (rw (c .before .before .before .before .before .mid .ensures)), omega arith)
 
 pub way-of-spec : {M : Type 1} → statement M
 way-of-spec =

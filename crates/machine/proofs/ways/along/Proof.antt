@@ -17,17 +17,11 @@ abbrev μ-loop : tie.MeasureT-loop
 loop-holds : tie.Need-loop-holds Inv-loop μ-loop
 loop-holds c = (omega arith, refl)
 
-sub-j : tie.Need-sub-j Inv-loop μ-loop
-sub-j c = omega arith
-
 link-form-requires : tie.Need-link-form-requires Inv-loop μ-loop
 link-form-requires c κs = omega (arith, c .before .loop .inv .0, c .before .before .pre, c .loop-test .taken)
 
 returns : tie.Need-returns Inv-loop μ-loop
 returns c = suit-fails (c .before .before .before .before .before .args .own .now) (c .before .before .before .before .before .args .form) (c .before .before .before .before .loop .j) (c .before .before .before .loop-test .taken) (c .before .before .link-form .ensures) (c .before .suits .ensures) (c .if1 .taken) ∙ c .before .before .before .before .loop .inv .1
-
-loop-less : tie.Need-loop-less Inv-loop μ-loop
-loop-less c = omega arith
 
 loop-again : tie.Need-loop-again Inv-loop μ-loop
 loop-again c = (omega (arith, c .before .before .before .before .loop .inv .0), suit-goes (c .before .before .before .before .before .args .own .now) (c .before .before .before .before .before .args .form) (c .before .before .before .before .loop .j) (c .before .before .before .loop-test .taken) (c .before .before .link-form .ensures) (c .before .suits .ensures) (c .if1 .left) ∙ c .before .before .before .before .loop .inv .1)
@@ -42,10 +36,10 @@ along-spec =
     Inv-loop
     μ-loop
     loop-holds
-    sub-j
+    (λ c. omega arith)
     link-form-requires
     (λ c κs. search needs)
     returns
-    loop-less
+    (λ c. omega arith)
     loop-again
     returns-2)

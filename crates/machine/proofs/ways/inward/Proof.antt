@@ -19,26 +19,28 @@ abbrev μ-loop : tie.MeasureT-loop
 loop-holds : tie.Need-loop-holds Inv-loop μ-loop
 loop-holds c = (omega arith, refl)
 
-sub-j : tie.Need-sub-j Inv-loop μ-loop
-sub-j c = omega arith
-
 link-form-requires : tie.Need-link-form-requires Inv-loop μ-loop
 link-form-requires c κs = omega (arith, c .before .loop .inv .0, c .before .before .pre, c .loop-test .taken)
 
-loop-less : tie.Need-loop-less Inv-loop μ-loop
-loop-less c = omega arith
-
 loop-again : tie.Need-loop-again Inv-loop μ-loop
-loop-again c = (omega (arith, c .before .before .before .before .before .before .loop .inv .0), ap (inwards _ (c .before .before .before .before .before .before .before .args .q)) (sym (c .before .w .given .1) ∙ c .before .before .before .convert .ensures ∙ ap (λ (f : Form). convert f (c .before .before .before .before .before .before .loop .u)) (c .before .before .before .before .link-form .ensures)) ∙ sym (in-more (c .before .before .before .before .before .before .before .args .own .now) (c .before .before .before .before .before .before .before .args .q) (c .before .before .before .before .before .before .before .args .form) (c .before .before .before .before .before .before .loop .u) (c .before .before .before .before .before .before .loop .j) (c .before .before .before .before .before .loop-test .taken)) ∙ c .before .before .before .before .before .before .loop .inv .1)
+loop-again c =
+    let args = c .before .before .before .before .before .before .before .args in
+    (omega (arith, c .before .before .before .before .before .before .loop .inv .0), ap (inwards _ (args .q)) (sym (c .before .w .given .1) ∙ c .before .before .before .convert .ensures ∙ ap (λ (f : Form). convert f (c .before .before .before .before .before .before .loop .u)) (c .before .before .before .before .link-form .ensures)) ∙ sym (in-more (args .own .now) (args .q) (args .form) (c .before .before .before .before .before .before .loop .u) (c .before .before .before .before .before .before .loop .j) (c .before .before .before .before .before .loop-test .taken)) ∙ c .before .before .before .before .before .before .loop .inv .1)
 
 returns : tie.Need-returns Inv-loop μ-loop
-returns c = ap (inwards _ (c .before .before .before .before .before .before .before .args .q)) (sym (c .before .a .given .1) ∙ c .before .before .before .convert .ensures ∙ ap (λ (f : Form). convert f (c .before .before .before .before .before .before .loop .u)) (c .before .before .before .before .link-form .ensures)) ∙ sym (in-more (c .before .before .before .before .before .before .before .args .own .now) (c .before .before .before .before .before .before .before .args .q) (c .before .before .before .before .before .before .before .args .form) (c .before .before .before .before .before .before .loop .u) (c .before .before .before .before .before .before .loop .j) (c .before .before .before .before .before .loop-test .taken)) ∙ c .before .before .before .before .before .before .loop .inv .1
+returns c =
+    let args = c .before .before .before .before .before .before .before .args in
+    ap (inwards _ (args .q)) (sym (c .before .a .given .1) ∙ c .before .before .before .convert .ensures ∙ ap (λ (f : Form). convert f (c .before .before .before .before .before .before .loop .u)) (c .before .before .before .before .link-form .ensures)) ∙ sym (in-more (args .own .now) (args .q) (args .form) (c .before .before .before .before .before .before .loop .u) (c .before .before .before .before .before .before .loop .j) (c .before .before .before .before .before .loop-test .taken)) ∙ c .before .before .before .before .before .before .loop .inv .1
 
 returns-2 : tie.Need-returns-2 Inv-loop μ-loop
-returns-2 c = ap (inwards _ (c .before .before .before .before .before .before .args .q)) (sym (c .enum-told .given .1) ∙ c .before .before .convert .ensures ∙ ap (λ (f : Form). convert f (c .before .before .before .before .before .loop .u)) (c .before .before .before .link-form .ensures)) ∙ sym (in-more (c .before .before .before .before .before .before .args .own .now) (c .before .before .before .before .before .before .args .q) (c .before .before .before .before .before .before .args .form) (c .before .before .before .before .before .loop .u) (c .before .before .before .before .before .loop .j) (c .before .before .before .before .loop-test .taken)) ∙ c .before .before .before .before .before .loop .inv .1
+returns-2 c =
+    let args = c .before .before .before .before .before .before .args in
+    ap (inwards _ (args .q)) (sym (c .enum-told .given .1) ∙ c .before .before .convert .ensures ∙ ap (λ (f : Form). convert f (c .before .before .before .before .before .loop .u)) (c .before .before .before .link-form .ensures)) ∙ sym (in-more (args .own .now) (args .q) (args .form) (c .before .before .before .before .before .loop .u) (c .before .before .before .before .before .loop .j) (c .before .before .before .before .loop-test .taken)) ∙ c .before .before .before .before .before .loop .inv .1
 
 returns-3 : tie.Need-returns-3 Inv-loop μ-loop
-returns-3 c = c .turned .ensures ∙ ap (turned (c .before .before .before .before .args .q)) (c .before .convert2 .ensures) ∙ sym (in-none (c .before .before .before .before .args .own .now) (c .before .before .before .before .args .q) (c .before .before .before .before .args .form) (c .before .before .before .loop .u) (c .before .before .before .loop .j) (c .before .before .loop-test .left)) ∙ c .before .before .before .loop .inv .1
+returns-3 c =
+    let args = c .before .before .before .before .args in
+    c .turned .ensures ∙ ap (turned (args .q)) (c .before .convert2 .ensures) ∙ sym (in-none (args .own .now) (args .q) (args .form) (c .before .before .before .loop .u) (c .before .before .before .loop .j) (c .before .before .loop-test .left)) ∙ c .before .before .before .loop .inv .1
 
 pub inward-spec : {M : Type 1} → statement M
 inward-spec =
@@ -47,11 +49,11 @@ inward-spec =
     Inv-loop
     μ-loop
     loop-holds
-    sub-j
+    (λ c. omega arith)
     link-form-requires
     (λ c κs. search needs)
     (λ c. search needs)
-    loop-less
+    (λ c. omega arith)
     loop-again
     (λ c. search needs)
     returns

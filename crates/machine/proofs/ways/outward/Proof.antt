@@ -26,20 +26,18 @@ link-form-requires c κs = omega (arith, c .before .before .pre, c .loop-test .t
 link-place-requires : tie.Need-link-place-requires Inv-loop μ-loop
 link-place-requires c κs = omega (arith, c .before .before .before .before .before .before .before .pre, c .before .before .before .before .before .loop-test .taken)
 
-cast-t12 : tie.Need-cast-t12 Inv-loop μ-loop
-cast-t12 c = search needs
-
 returns : tie.Need-returns Inv-loop μ-loop
-returns c = ap (λ (n : ℕ). BadV (c .before .before .a .given .0 .0) n) (c .link-place .ensures) ∙ sym (out-bad (c .before .before .before .before .before .before .before .before .args .own .now) _ (c .before .before .before .before .before .before .before .before .args .k) (c .before .before .before .before .before .before .before .loop .j + 1) (omega (arith, c .before .before .before .before .before .before .loop-test .taken)) (out-more (c .before .before .before .before .before .before .before .before .args .own .now) _ (c .before .before .before .before .before .before .before .loop .j) (c .before .before .before .before .before .before .before .loop .inv .1) (sym (c .before .before .a .given .1) ∙ c .before .before .before .before .convert .ensures ∙ ap (λ (f : Form). convert f (c .before .before .before .before .before .before .before .loop .u)) (c .before .before .before .before .before .link-form .ensures))))
+returns c =
+    let args = c .before .before .before .before .before .before .before .before .args in
+    ap (λ (n : ℕ). BadV (c .before .before .a .given .0 .0) n) (c .link-place .ensures) ∙ sym (out-bad (args .own .now) _ (args .k) (c .before .before .before .before .before .before .before .loop .j + 1) (omega (arith, c .before .before .before .before .before .before .loop-test .taken)) (out-more (args .own .now) _ (c .before .before .before .before .before .before .before .loop .j) (c .before .before .before .before .before .before .before .loop .inv .1) (sym (c .before .before .a .given .1) ∙ c .before .before .before .before .convert .ensures ∙ ap (λ (f : Form). convert f (c .before .before .before .before .before .before .before .loop .u)) (c .before .before .before .before .before .link-form .ensures))))
 
 returns-2 : tie.Need-returns-2 Inv-loop μ-loop
-returns-2 c = sym (out-stray (c .before .before .before .before .before .before .args .own .now) _ (c .before .before .before .before .before .before .args .k) (c .before .before .before .before .before .loop .j + 1) (omega (arith, c .before .before .before .before .loop-test .taken)) (out-more (c .before .before .before .before .before .before .args .own .now) _ (c .before .before .before .before .before .loop .j) (c .before .before .before .before .before .loop .inv .1) (sym (c .enum-told .given .1) ∙ c .before .before .convert .ensures ∙ ap (λ (f : Form). convert f (c .before .before .before .before .before .loop .u)) (c .before .before .before .link-form .ensures))))
+returns-2 c =
+    let args = c .before .before .before .before .before .before .args in
+    sym (out-stray (args .own .now) _ (args .k) (c .before .before .before .before .before .loop .j + 1) (omega (arith, c .before .before .before .before .loop-test .taken)) (out-more (args .own .now) _ (c .before .before .before .before .before .loop .j) (c .before .before .before .before .before .loop .inv .1) (sym (c .enum-told .given .1) ∙ c .before .before .convert .ensures ∙ ap (λ (f : Form). convert f (c .before .before .before .before .before .loop .u)) (c .before .before .before .link-form .ensures))))
 
 add-j : tie.Need-add-j Inv-loop μ-loop
 add-j c = omega (arith, c .before .before .before .before .before .before .before .pre, c .before .before .before .before .before .loop-test .taken)
-
-loop-less : tie.Need-loop-less Inv-loop μ-loop
-loop-less c = omega arith
 
 loop-again : tie.Need-loop-again Inv-loop μ-loop
 loop-again c = (omega (arith, c .before .before .before .before .before .loop-test .taken), out-more (c .before .before .before .before .before .before .before .args .own .now) _ (c .before .before .before .before .before .before .loop .j) (c .before .before .before .before .before .before .loop .inv .1) (sym (c .before .w .given .1) ∙ c .before .before .before .convert .ensures ∙ ap (λ (f : Form). convert f (c .before .before .before .before .before .before .loop .u)) (c .before .before .before .before .link-form .ensures)))
@@ -59,11 +57,11 @@ outward-spec =
     (λ c. search needs)
     (λ c. search needs)
     link-place-requires
-    cast-t12
+    (λ c. search needs)
     returns
     (λ c. search needs)
     returns-2
     add-j
-    loop-less
+    (λ c. omega arith)
     loop-again
     returns-3)

@@ -33,9 +33,6 @@ cast-t10 c = omega (arith, c .before .if1 .left)
 identity-requires : tie.Need-identity-requires Inv-loop μ-loop
 identity-requires c κs = (omega (arith, c .before .if1 .left), c .before .before .before .loop .inv .0, c .before .before .before .loop .inv .2)
 
-mul-ids : tie.Need-mul-ids Inv-loop μ-loop
-mul-ids c = omega arith
-
 slice-write-ids : tie.Need-slice-write-ids Inv-loop μ-loop
 slice-write-ids c = omega (arith, c .before .before .before .before .loop .inv .0, c .before .before .if1 .left)
 
@@ -68,7 +65,7 @@ fill-spec =
     returns
     cast-t10
     identity-requires
-    mul-ids
+    (λ c. omega arith)
     slice-write-ids
     (λ c. omega arith)
     (λ c. omega arith)

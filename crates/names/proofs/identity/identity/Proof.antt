@@ -16,9 +16,6 @@ Inv-loop source places ids symbol i g j₀ j = (j ≤ symbol .number) × NoneBel
 abbrev μ-loop : tie.MeasureT-loop
 μ-loop source places ids symbol i g j₀ j = symbol .number - j
 
-add-result : tie.Need-add-result Inv-loop μ-loop
-add-result c = omega arith
-
 returns : tie.Need-returns Inv-loop μ-loop
 returns c =
     let e = c .before .given .ensures in
@@ -77,7 +74,7 @@ identity-spec =
     (λ c. omega arith)
     (λ c. c .before .before .before .pre .0)
     (λ c κs. search needs)
-    add-result
+    (λ c. omega arith)
     returns
     loop-holds
     (λ c. omega arith)

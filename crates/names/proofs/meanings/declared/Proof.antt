@@ -5,9 +5,6 @@ use Rattle.names.specs.model.Rows.{meantNumber}
 use Rattle.names.proofs.meanings.declared.Statement.{statement}
 use Rattle.names.proofs.meanings.declared.Tie as tie
 
-cast-result : tie.Need-cast-result
-cast-result c = search needs
-
 returns : tie.Need-returns
 unfolding meantNumber
 returns c = rw (lt-ltb _ _ (c .if1 .taken))
@@ -17,4 +14,4 @@ unfolding meantNumber
 returns-2 c = rw (le-ltb _ _ (c .if1 .left))
 
 pub declared-spec : {M : Type 1} → statement M
-declared-spec = tie.close (tie.spec cast-result returns returns-2)
+declared-spec = tie.close (tie.spec (λ c. search needs) returns returns-2)

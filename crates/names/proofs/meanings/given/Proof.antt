@@ -5,9 +5,6 @@ use Rattle.names.specs.model.Rows.{meantNumber}
 use Rattle.names.proofs.meanings.given.Statement.{statement}
 use Rattle.names.proofs.meanings.given.Tie as tie
 
-add-result : tie.Need-add-result
-add-result c = search needs
-
 returns : tie.Need-returns
 unfolding meantNumber
 returns c = rw (lt-ltb _ _ (c .if1 .taken))
@@ -17,4 +14,4 @@ unfolding meantNumber
 returns-2 c = rw (le-ltb _ _ (c .if1 .left))
 
 pub given-spec : {M : Type 1} → statement M
-given-spec = tie.close (tie.spec add-result returns returns-2)
+given-spec = tie.close (tie.spec (λ c. search needs) returns returns-2)

@@ -6,19 +6,10 @@ use borrow.Author.Needs.{needs}
 use Rattle.names.proofs.outline.body.Statement.{statement}
 use Rattle.names.proofs.outline.body.Tie as tie
 
-here-requires : tie.Need-here-requires
-here-requires c κs = search needs
-
-missing-first-requires : tie.Need-missing-first-requires
-missing-first-requires c κs = search needs
-
-noted-if-requires : tie.Need-noted-if-requires
-noted-if-requires c κs = search needs
-
 returns : tie.Need-returns
 returns c =
     let a = c .before .before .before .before .args in
     (bodied-is (a .o) (a .rows .now) (a .stack .now) _ _ _ _ (c .before .before .before .here .ensures) (c .before .missing-first .ensures) (c .noted-if .ensures), (refl, refl))
 
 pub body-spec : {M : Type 1} → statement M
-body-spec = tie.close (tie.spec here-requires missing-first-requires noted-if-requires returns)
+body-spec = tie.close (tie.spec (λ c κs. search needs) (λ c κs. search needs) (λ c κs. search needs) returns)

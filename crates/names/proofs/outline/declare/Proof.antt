@@ -7,21 +7,6 @@ use borrow.Author.Needs.{needs}
 use Rattle.names.proofs.outline.declare.Statement.{statement}
 use Rattle.names.proofs.outline.declare.Tie as tie
 
-rows-here-requires : tie.Need-rows-here-requires
-rows-here-requires c κs = search needs
-
-has-first-requires : tie.Need-has-first-requires
-has-first-requires c κs = search needs
-
-noted-if-requires : tie.Need-noted-if-requires
-noted-if-requires c κs = search needs
-
-put-requires : tie.Need-put-requires
-put-requires c κs = search needs
-
-add-o : tie.Need-add-o
-add-o c = search needs
-
 returns : tie.Need-returns
 returns c =
     let a = c .before .before .before .before .before .before .before .before .args in (
@@ -32,4 +17,4 @@ returns c =
 pub declare-spec : {M : Type 1} → statement M
 declare-spec =
     tie.close
-    (tie.spec rows-here-requires has-first-requires noted-if-requires put-requires add-o returns)
+    (tie.spec (λ c κs. search needs) (λ c κs. search needs) (λ c κs. search needs) (λ c κs. search needs) (λ c. search needs) returns)

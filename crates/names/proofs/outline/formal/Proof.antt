@@ -5,21 +5,6 @@ use borrow.Author.Needs.{needs}
 use Rattle.names.proofs.outline.formal.Statement.{statement}
 use Rattle.names.proofs.outline.formal.Tie as tie
 
-declare-requires : tie.Need-declare-requires
-declare-requires c κs = search needs
-
-word-requires : tie.Need-word-requires
-word-requires c κs = search needs
-
-identity-of-requires : tie.Need-identity-of-requires
-identity-of-requires c κs = search needs
-
-identity-of-requires-2 : tie.Need-identity-of-requires-2
-identity-of-requires-2 c κs = search needs
-
-noted-if-requires : tie.Need-noted-if-requires
-noted-if-requires c κs = search needs
-
 returns : tie.Need-returns
 returns c =
     let a = c .before .before .before .before .before .before .args in
@@ -32,9 +17,9 @@ pub formal-spec : {M : Type 1} → statement M
 formal-spec =
     tie.close
     (tie.spec
-    word-requires
-    declare-requires
-    identity-of-requires
-    identity-of-requires-2
-    noted-if-requires
+    (λ c κs. search needs)
+    (λ c κs. search needs)
+    (λ c κs. search needs)
+    (λ c κs. search needs)
+    (λ c κs. search needs)
     returns)

@@ -5,17 +5,11 @@ use borrow.Author.Needs.{needs}
 use Rattle.names.proofs.outline.is_missing.Statement.{statement}
 use Rattle.names.proofs.outline.is_missing.Tie as tie
 
-row-requires : tie.Need-row-requires
-row-requires c κs = search needs
-
 returns : tie.Need-returns
 returns c = rw (← (c .before .before .row .ensures), ne-eqb _ _ (c .if1 .taken))
-
-sort-requires : tie.Need-sort-requires
-sort-requires c κs = search needs
 
 returns-2 : tie.Need-returns-2
 returns-2 c = rw (← (c .before .before .before .row .ensures), eq-eqb _ _ (c .before .if1 .left), ← (c .sort .ensures .0))
 
 pub is-missing-spec : {M : Type 1} → statement M
-is-missing-spec = tie.close (tie.spec row-requires returns sort-requires returns-2)
+is-missing-spec = tie.close (tie.spec (λ c κs. search needs) returns (λ c κs. search needs) returns-2)

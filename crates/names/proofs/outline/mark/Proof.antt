@@ -6,16 +6,10 @@ use Rattle.names.proofs.OutlineLaws.{again-is, said-is}
 use Rattle.names.proofs.outline.mark.Statement.{statement}
 use Rattle.names.proofs.outline.mark.Tie as tie
 
-noted-requires : tie.Need-noted-requires
-noted-requires c κs = search needs
-
 returns : tie.Need-returns
 returns c =
     let a = c .before .before .args in
     (λ stack. again-is (a .o) (a .rows .now) stack (a .ids .now) (a .want) (a .again) _ (a .word) (a .symbol .number) (c .before .if1 .taken) (c .noted .ensures), (refl, refl))
-
-say-requires : tie.Need-say-requires
-say-requires c κs = search needs
 
 returns-2 : tie.Need-returns-2
 returns-2 c =
@@ -23,4 +17,4 @@ returns-2 c =
     (λ stack. said-is (a .o) (a .rows .now) stack (a .ids .now) _ (a .want) (a .again) (a .word) (a .symbol .number) (c .before .before .if1 .left) (c .say .ensures), (refl, refl))
 
 pub mark-spec : {M : Type 1} → statement M
-mark-spec = tie.close (tie.spec noted-requires returns say-requires returns-2)
+mark-spec = tie.close (tie.spec (λ c κs. search needs) returns (λ c κs. search needs) returns-2)

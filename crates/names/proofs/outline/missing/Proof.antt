@@ -19,20 +19,11 @@ abbrev μ-loop : tie.MeasureT-loop
 loop-holds : tie.Need-loop-holds Inv-loop μ-loop
 loop-holds c = (omega arith, refl)
 
-is-missing-requires : tie.Need-is-missing-requires Inv-loop μ-loop
-is-missing-requires c κs = search needs
-
 returns : tie.Need-returns Inv-loop μ-loop
 returns c =
     let a = c .before .before .before .before .before .args in
     let l = c .before .before .before .loop in
     sym (missing-stop (a .scope) (a .rows .now) (l .j) (omega arith) (sym (c .before .is-missing .ensures) ∙ c .if1 .taken)) ∙ l .inv .1
-
-add-j : tie.Need-add-j Inv-loop μ-loop
-add-j c = omega arith
-
-loop-less : tie.Need-loop-less Inv-loop μ-loop
-loop-less c = omega arith
 
 loop-again : tie.Need-loop-again Inv-loop μ-loop
 loop-again c =
@@ -53,9 +44,9 @@ missing-spec =
     Inv-loop
     μ-loop
     loop-holds
-    is-missing-requires
+    (λ c κs. search needs)
     returns
-    add-j
-    loop-less
+    (λ c. omega arith)
+    (λ c. omega arith)
     loop-again
     returns-2)

@@ -7,30 +7,6 @@ use borrow.Author.Needs.{needs}
 use Rattle.names.proofs.outline.node.Statement.{statement}
 use Rattle.names.proofs.outline.node.Tie as tie
 
-enter-requires : tie.Need-enter-requires
-enter-requires c κs = search needs
-
-leave-requires : tie.Need-leave-requires
-leave-requires c κs = search needs
-
-declare-requires : tie.Need-declare-requires
-declare-requires c κs = search needs
-
-procedure-requires : tie.Need-procedure-requires
-procedure-requires c κs = search needs
-
-formal-requires : tie.Need-formal-requires
-formal-requires c κs = search needs
-
-value-requires : tie.Need-value-requires
-value-requires c κs = search needs
-
-specify-requires : tie.Need-specify-requires
-specify-requires c κs = search needs
-
-body-requires : tie.Need-body-requires
-body-requires c κs = search needs
-
 returns : tie.Need-returns
 returns c =
     let a = c .before .before .before .args in (
@@ -82,14 +58,14 @@ pub node-spec : {M : Type 1} → statement M
 node-spec =
     tie.close
     (tie.spec
-    enter-requires
-    leave-requires
-    declare-requires
-    procedure-requires
-    formal-requires
-    value-requires
-    specify-requires
-    body-requires
+    (λ c κs. search needs)
+    (λ c κs. search needs)
+    (λ c κs. search needs)
+    (λ c κs. search needs)
+    (λ c κs. search needs)
+    (λ c κs. search needs)
+    (λ c κs. search needs)
+    (λ c κs. search needs)
     returns
     returns-2
     returns-3

@@ -8,9 +8,6 @@ use borrow.Author.Needs.{needs}
 use Rattle.names.proofs.outline.procedure.Statement.{statement}
 use Rattle.names.proofs.outline.procedure.Tie as tie
 
-declare-requires : tie.Need-declare-requires
-declare-requires c κs = search needs
-
 enter-requires : tie.Need-enter-requires
 enter-requires c κs =
     let d = ap (λ (a : Open). a .depth) (c .before .declare .ensures .1 .1) in
@@ -34,4 +31,4 @@ returns c = (
 )
 
 pub procedure-spec : {M : Type 1} → statement M
-procedure-spec = tie.close (tie.spec declare-requires enter-requires returns)
+procedure-spec = tie.close (tie.spec (λ c κs. search needs) enter-requires returns)

@@ -4,14 +4,8 @@ use borrow.Author.Needs.{needs}
 use Rattle.names.proofs.outline.rows_here.Statement.{statement}
 use Rattle.names.proofs.outline.rows_here.Tie as tie
 
-here-requires : tie.Need-here-requires
-here-requires c κs = search needs
-
-identity-of-requires : tie.Need-identity-of-requires
-identity-of-requires c κs = search needs
-
 returns : tie.Need-returns
 returns c = rw (c .before .here .ensures, c .identity-of .ensures)
 
 pub rows-here-spec : {M : Type 1} → statement M
-rows-here-spec = tie.close (tie.spec here-requires identity-of-requires returns)
+rows-here-spec = tie.close (tie.spec (λ c κs. search needs) (λ c κs. search needs) returns)

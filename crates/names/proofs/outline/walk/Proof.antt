@@ -24,47 +24,8 @@ loop-holds : tie.Need-loop-holds Inv-loop μ-loop
 unfolding opensOf outlineOf
 loop-holds c = (omega arith, refl, record { rows = omega arith; around = record { deep = omega arith; many = omega arith } })
 
-mul-loop : tie.Need-mul-loop Inv-loop μ-loop
-mul-loop c = omega arith
-
-add-loop : tie.Need-add-loop Inv-loop μ-loop
-add-loop c = omega arith
-
-mul-at : tie.Need-mul-at Inv-loop μ-loop
-mul-at c = omega arith
-
-add-node : tie.Need-add-node Inv-loop μ-loop
-add-node c = omega arith
-
-mul-node : tie.Need-mul-node Inv-loop μ-loop
-mul-node c = omega arith
-
-shared-slice-read-node : tie.Need-shared-slice-read-node Inv-loop μ-loop
-shared-slice-read-node c = omega arith
-
-mul-node-2 : tie.Need-mul-node-2 Inv-loop μ-loop
-mul-node-2 c = omega arith
-
-shared-slice-read-node-2 : tie.Need-shared-slice-read-node-2 Inv-loop μ-loop
-shared-slice-read-node-2 c = omega arith
-
-add-node-2 : tie.Need-add-node-2 Inv-loop μ-loop
-add-node-2 c = omega arith
-
-mul-node-3 : tie.Need-mul-node-3 Inv-loop μ-loop
-mul-node-3 c = omega arith
-
-shared-slice-read-node-3 : tie.Need-shared-slice-read-node-3 Inv-loop μ-loop
-shared-slice-read-node-3 c = omega arith
-
 node-requires : tie.Need-node-requires Inv-loop μ-loop
 node-requires c κs = let l = c .before .before .before .before .before .before .loop in within-le (l .o) (l .i) 8191 (omega arith) (l .inv .2)
-
-add-i : tie.Need-add-i Inv-loop μ-loop
-add-i c = omega arith
-
-loop-less : tie.Need-loop-less Inv-loop μ-loop
-loop-less c = omega arith
 
 loop-again : tie.Need-loop-again Inv-loop μ-loop
 loop-again c =
@@ -90,19 +51,19 @@ walk-spec =
     Inv-loop
     μ-loop
     loop-holds
-    mul-loop
-    add-loop
-    mul-at
-    add-node
-    mul-node
-    shared-slice-read-node
-    mul-node-2
-    shared-slice-read-node-2
-    add-node-2
-    mul-node-3
-    shared-slice-read-node-3
+    (λ c. omega arith)
+    (λ c. omega arith)
+    (λ c. omega arith)
+    (λ c. omega arith)
+    (λ c. omega arith)
+    (λ c. omega arith)
+    (λ c. omega arith)
+    (λ c. omega arith)
+    (λ c. omega arith)
+    (λ c. omega arith)
+    (λ c. omega arith)
     node-requires
-    add-i
-    loop-less
+    (λ c. omega arith)
+    (λ c. omega arith)
     loop-again
     returns)

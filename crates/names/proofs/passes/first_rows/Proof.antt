@@ -8,12 +8,6 @@ use borrow.Author.Needs.{needs}
 use Rattle.names.proofs.passes.first_rows.Statement.{statement}
 use Rattle.names.proofs.passes.first_rows.Tie as tie
 
-mul-end : tie.Need-mul-end
-mul-end c = search needs
-
-front-requires : tie.Need-front-requires
-front-requires c κs = search needs
-
 returns : tie.Need-returns
 returns c = (c .front .ensures, rw (c .front .ensures) (simp length-take (omega (arith, c .before .front-arg .given .0))))
 
@@ -23,4 +17,4 @@ returns-2 c =
     (sym (take-all (4 * a .count) (a .rows .now) (omega arith)), omega arith)
 
 pub first-rows-spec : {M : Type 1} → statement M
-first-rows-spec = tie.close (tie.spec mul-end front-requires returns returns-2)
+first-rows-spec = tie.close (tie.spec (λ c. search needs) (λ c κs. search needs) returns returns-2)

@@ -5,9 +5,6 @@ use borrow.Author.Needs.{needs}
 use Rattle.names.proofs.passes.outline.Statement.{statement}
 use Rattle.names.proofs.passes.outline.Tie as tie
 
-front-requires : tie.Need-front-requires
-front-requires c κs = search needs
-
 outline-requires : tie.Need-outline-requires
 outline-requires c κs = rw (c .before .front .ensures) (simp length-take (omega (arith, c .before .before .front-arg .given .0)))
 
@@ -17,4 +14,4 @@ returns c =
     rw (← (c .before .before .front .ensures)) (record { rowed = o .0; least = o .1 .0; few = o .1 .1 .rows })
 
 pub outline-spec : {M : Type 1} → statement M
-outline-spec = tie.close (tie.spec front-requires outline-requires returns)
+outline-spec = tie.close (tie.spec (λ c κs. search needs) outline-requires returns)

@@ -5,12 +5,6 @@ use borrow.Author.Needs.{needs}
 use Rattle.names.proofs.passes.resolve.Statement.{statement}
 use Rattle.names.proofs.passes.resolve.Tie as tie
 
-front-requires : tie.Need-front-requires
-front-requires c κs = search needs
-
-first-rows-requires : tie.Need-first-rows-requires
-first-rows-requires c κs = search needs
-
 resolve-requires : tie.Need-resolve-requires
 resolve-requires c κs = (rw (c .before .before .front .ensures) (simp length-take (omega (arith, c .before .before .before .front-arg .given .0))), c .before .first-rows .ensures .1)
 
@@ -20,4 +14,4 @@ returns c =
     rw (← (c .before .before .before .front .ensures), ← (c .before .before .first-rows .ensures .0)) (record { used = u .0; least = u .1 .0; few = u .1 .1 .count })
 
 pub resolve-spec : {M : Type 1} → statement M
-resolve-spec = tie.close (tie.spec front-requires first-rows-requires resolve-requires returns)
+resolve-spec = tie.close (tie.spec (λ c κs. search needs) (λ c κs. search needs) resolve-requires returns)

@@ -5,11 +5,8 @@ use borrow.Author.Needs.{needs}
 use Rattle.names.proofs.rows.has.Statement.{statement}
 use Rattle.names.proofs.rows.has.Tie as tie
 
-find-requires : tie.Need-find-requires
-find-requires c κs = search needs
-
 returns : tie.Need-returns
 returns c = rw (c .before .find .ensures) (has-found (c .before .before .before .args .ids .now) (c .before .before .before .args .want) (c .before .before .before .args .rows .now))
 
 pub has-spec : {M : Type 1} → statement M
-has-spec = tie.close (tie.spec find-requires returns)
+has-spec = tie.close (tie.spec (λ c κs. search needs) returns)

@@ -7,17 +7,8 @@ use borrow.Author.Needs.{needs}
 use Rattle.names.proofs.rows.has_first.Statement.{statement}
 use Rattle.names.proofs.rows.has_first.Tie as tie
 
-mul-end : tie.Need-mul-end
-mul-end c = search needs
-
 slice-aggregate-has : tie.Need-slice-aggregate-has
 slice-aggregate-has c = sym (length-take-le (4 * c .before .before .args .n) (c .before .before .args .rows .now) (c .before .before .pre))
 
-has-requires : tie.Need-has-requires
-has-requires c κs = search needs
-
-returns : tie.Need-returns
-returns c = search needs
-
 pub has-first-spec : {M : Type 1} → statement M
-has-first-spec = tie.close (tie.spec mul-end slice-aggregate-has has-requires returns)
+has-first-spec = tie.close (tie.spec (λ c. search needs) slice-aggregate-has (λ c κs. search needs) (λ c. search needs))

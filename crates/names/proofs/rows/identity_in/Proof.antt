@@ -7,15 +7,6 @@ use borrow.Author.Needs.{needs}
 use Rattle.names.proofs.rows.identity_in.Statement.{statement}
 use Rattle.names.proofs.rows.identity_in.Tie as tie
 
-cast-s : tie.Need-cast-s
-cast-s c = search needs
-
-mul-result : tie.Need-mul-result
-mul-result c = search needs
-
-shared-slice-read-result : tie.Need-shared-slice-read-result
-shared-slice-read-result c = search needs
-
 returns : tie.Need-returns
 unfolding identityIn
 returns c = refl
@@ -25,4 +16,4 @@ unfolding identityIn
 returns-2 c = sym (List·getD-eq-default (c .before .before .args .ids .now) 0 (c .if1 .left))
 
 pub identity-in-spec : {M : Type 1} → statement M
-identity-in-spec = tie.close (tie.spec cast-s mul-result shared-slice-read-result returns returns-2)
+identity-in-spec = tie.close (tie.spec (λ c. search needs) (λ c. search needs) (λ c. search needs) returns returns-2)

@@ -5,17 +5,8 @@ use borrow.Author.Needs.{needs}
 use Rattle.names.proofs.rows.is_sought.Statement.{statement}
 use Rattle.names.proofs.rows.is_sought.Tie as tie
 
-row-requires : tie.Need-row-requires
-row-requires c κs = search needs
-
-identity-of-requires : tie.Need-identity-of-requires
-identity-of-requires c κs = search needs
-
-fits-requires : tie.Need-fits-requires
-fits-requires c κs = search needs
-
 returns : tie.Need-returns
 returns c = rw (← (c .before .before .row .ensures)) (c .fits2 .ensures _ (sym (c .before .identity-of .ensures)))
 
 pub is-sought-spec : {M : Type 1} → statement M
-is-sought-spec = tie.close (tie.spec row-requires identity-of-requires fits-requires returns)
+is-sought-spec = tie.close (tie.spec (λ c κs. search needs) (λ c κs. search needs) (λ c κs. search needs) returns)

@@ -7,12 +7,6 @@ use Rattle.names.proofs.RowLaws.{said-here, said-nowhere}
 use Rattle.names.proofs.rows.says.Statement.{statement}
 use Rattle.names.proofs.rows.says.Tie as tie
 
-find-requires : tie.Need-find-requires
-find-requires c κs = search needs
-
-row-requires : tie.Need-row-requires
-row-requires c κs = search needs
-
 returns : tie.Need-returns
 returns c =
     let a = c .before .before .before .before .before .args in
@@ -26,4 +20,4 @@ returns-2 c =
     said-nowhere (a .ids .now) (a .want) (a .rows .now) (f .result .number) (f .ensures) (c .if1 .left)
 
 pub says-spec : {M : Type 1} → statement M
-says-spec = tie.close (tie.spec find-requires row-requires returns returns-2)
+says-spec = tie.close (tie.spec (λ c κs. search needs) (λ c κs. search needs) returns returns-2)

@@ -7,17 +7,8 @@ use borrow.Author.Needs.{needs}
 use Rattle.names.proofs.rows.says_first.Statement.{statement}
 use Rattle.names.proofs.rows.says_first.Tie as tie
 
-mul-end : tie.Need-mul-end
-mul-end c = search needs
-
 slice-aggregate-says : tie.Need-slice-aggregate-says
 slice-aggregate-says c = sym (length-take-le (4 * c .before .before .args .n) (c .before .before .args .rows .now) (c .before .before .pre))
 
-says-requires : tie.Need-says-requires
-says-requires c κs = search needs
-
-returns : tie.Need-returns
-returns c = search needs
-
 pub says-first-spec : {M : Type 1} → statement M
-says-first-spec = tie.close (tie.spec mul-end slice-aggregate-says says-requires returns)
+says-first-spec = tie.close (tie.spec (λ c. search needs) slice-aggregate-says (λ c κs. search needs) (λ c. search needs))

@@ -12,11 +12,8 @@ returns : tie.Need-returns
 unfolding opensOf outward
 returns c = (λ s. rw (c .if1 .taken), (refl, omega arith))
 
-sub-t3 : tie.Need-sub-t3
-sub-t3 c = search needs
-
 returns-2 : tie.Need-returns-2
 returns-2 c = (λ s. opens-leave (c .before .before .before .args .o .depth) s, (refl, omega arith))
 
 pub leave-spec : {M : Type 1} → statement M
-leave-spec = tie.close (tie.spec returns sub-t3 returns-2)
+leave-spec = tie.close (tie.spec returns (λ c. search needs) returns-2)

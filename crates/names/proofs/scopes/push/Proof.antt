@@ -5,17 +5,8 @@ use borrow.Author.Needs.{needs}
 use Rattle.names.proofs.scopes.push.Statement.{statement}
 use Rattle.names.proofs.scopes.push.Tie as tie
 
-mul-stack : tie.Need-mul-stack
-mul-stack c = search needs
-
-slice-write-stack : tie.Need-slice-write-stack
-slice-write-stack c = search needs
-
-same-length : tie.Need-same-length
-same-length c = search needs
-
 returns : tie.Need-returns
 returns c = opens-enter (c .args .depth) (c .args .stack .now) (c .args .n) (c .pre)
 
 pub push-spec : {M : Type 1} → statement M
-push-spec = tie.close (tie.spec mul-stack slice-write-stack same-length returns)
+push-spec = tie.close (tie.spec (λ c. search needs) (λ c. search needs) (λ c. search needs) returns)

@@ -18,18 +18,6 @@ abbrev μ-loop : tie.MeasureT-loop
 loop-holds : tie.Need-loop-holds Inv-loop μ-loop
 loop-holds c = (omega arith, refl)
 
-sub-d : tie.Need-sub-d Inv-loop μ-loop
-sub-d c = omega arith
-
-mul-t10 : tie.Need-mul-t10 Inv-loop μ-loop
-mul-t10 c = omega arith
-
-element-copy-out-t13 : tie.Need-element-copy-out-t13 Inv-loop μ-loop
-element-copy-out-t13 c = omega arith
-
-find-requires : tie.Need-find-requires Inv-loop μ-loop
-find-requires c κs = search needs
-
 returns : tie.Need-returns Inv-loop μ-loop
 returns c =
     let a = c .before .before .before .before .before .before .before .args in
@@ -38,18 +26,12 @@ returns c =
     let t = c .if1 .taken in
     meant-here (a .ids .now) (a .rows .now) (a .stack .now) (l .d) (a .id) (f .result .number) (c .before .before .before .before .loop-test .taken) (f .ensures) t ∙ l .inv .1
 
-loop-less : tie.Need-loop-less Inv-loop μ-loop
-loop-less c = omega arith
-
 loop-again : tie.Need-loop-again Inv-loop μ-loop
 loop-again c =
     let a = c .before .before .before .before .before .before .before .args in
     let l = c .before .before .before .before .before .loop in
     let f = c .before .before .find in
     (omega arith, sym (meant-outward (a .ids .now) (a .rows .now) (a .stack .now) (l .d) (a .id) (f .result .number) (c .before .before .before .before .loop-test .taken) (f .ensures) (c .if1 .left)) ∙ l .inv .1)
-
-outside-requires : tie.Need-outside-requires Inv-loop μ-loop
-outside-requires c κs = search needs
 
 returns-2 : tie.Need-returns-2 Inv-loop μ-loop
 returns-2 c =
@@ -64,12 +46,12 @@ meaning-spec =
     Inv-loop
     μ-loop
     loop-holds
-    sub-d
-    mul-t10
-    element-copy-out-t13
-    find-requires
+    (λ c. omega arith)
+    (λ c. omega arith)
+    (λ c. omega arith)
+    (λ c κs. search needs)
     returns
-    loop-less
+    (λ c. omega arith)
     loop-again
-    outside-requires
+    (λ c κs. search needs)
     returns-2)

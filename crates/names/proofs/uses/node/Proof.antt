@@ -10,15 +10,6 @@ use Rattle.names.proofs.UseLaws.{uses-name, passes, node-opens, node-cl
 use Rattle.names.proofs.uses.node.Statement.{statement}
 use Rattle.names.proofs.uses.node.Tie as tie
 
-enter-requires : tie.Need-enter-requires
-enter-requires c κs = search needs
-
-leave-requires : tie.Need-leave-requires
-leave-requires c κs = search needs
-
-used-requires : tie.Need-used-requires
-used-requires c κs = search needs
-
 returns : tie.Need-returns
 returns c =
     let a = c .before .before .before .before .args in
@@ -54,9 +45,9 @@ pub node-spec : {M : Type 1} → statement M
 node-spec =
     tie.close
     (tie.spec
-    enter-requires
-    leave-requires
-    used-requires
+    (λ c κs. search needs)
+    (λ c κs. search needs)
+    (λ c κs. search needs)
     returns
     returns-2
     returns-3

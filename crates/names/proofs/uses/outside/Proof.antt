@@ -10,9 +10,6 @@ returns : tie.Need-returns
 unfolding outsideOf
 returns c = simp (lt-ltb _ _ (c .if1 .taken))
 
-add-if2 : tie.Need-add-if2
-add-if2 c = search needs
-
 returns-2 : tie.Need-returns-2
 unfolding outsideOf
 returns-2 c = simp (le-ltb _ _ (c .before .if1 .left), lt-ltb _ _ (c .if2 .taken))
@@ -22,4 +19,4 @@ unfolding outsideOf
 returns-3 c = simp (le-ltb _ _ (c .before .if1 .left), le-ltb _ _ (c .if2 .left))
 
 pub outside-spec : {M : Type 1} → statement M
-outside-spec = tie.close (tie.spec returns add-if2 returns-2 returns-3)
+outside-spec = tie.close (tie.spec returns (λ c. search needs) returns-2 returns-3)

@@ -6,13 +6,10 @@ use borrow.Author.Needs.{needs}
 use Rattle.names.proofs.uses.resolve.Statement.{statement}
 use Rattle.names.proofs.uses.resolve.Tie as tie
 
-walk-requires : tie.Need-walk-requires
-walk-requires c κs = search needs
-
 returns : tie.Need-returns
 returns c =
     let e = c .walk .ensures .0 in
     (ap (λ (f : Found). f .uses) e, (ap (λ (f : Found). f .least) e, c .walk .ensures .1))
 
 pub resolve-spec : {M : Type 1} → statement M
-resolve-spec = tie.close (tie.spec walk-requires returns)
+resolve-spec = tie.close (tie.spec (λ c κs. search needs) returns)

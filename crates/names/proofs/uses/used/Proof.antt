@@ -22,27 +22,6 @@ declares (Declared d) h = refl
 declares (Given e) h = refl
 declares Nothing h = absurd (⊎-elim (λ e. omega arith) (λ e. omega arith) h)
 
-identity-of-requires : tie.Need-identity-of-requires
-identity-of-requires c κs = search needs
-
-meaning-requires : tie.Need-meaning-requires
-meaning-requires c κs = search needs
-
-number-requires : tie.Need-number-requires
-number-requires c κs = search needs
-
-keep-requires : tie.Need-keep-requires
-keep-requires c κs = search needs
-
-add-u : tie.Need-add-u
-add-u c = search needs
-
-enum-told : tie.Need-enum-told
-enum-told c = search needs
-
-noted-requires : tie.Need-noted-requires
-noted-requires c κs = search needs
-
 returns : tie.Need-returns
 returns c =
     let a = c .before .before .before .before .before .before .before .before .before .before .args in
@@ -74,12 +53,12 @@ pub used-spec : {M : Type 1} → statement M
 used-spec =
     tie.close
     (tie.spec
-    identity-of-requires
-    meaning-requires
-    number-requires
-    keep-requires
-    add-u
-    enum-told
-    noted-requires
+    (λ c κs. search needs)
+    (λ c κs. search needs)
+    (λ c κs. search needs)
+    (λ c κs. search needs)
+    (λ c. search needs)
+    (λ c. search needs)
+    (λ c κs. search needs)
     returns
     returns-2)

@@ -21,38 +21,8 @@ loop-holds : tie.Need-loop-holds Inv-loop μ-loop
 unfolding usesOf opensOf
 loop-holds c = (omega arith, omega arith, refl)
 
-mul-loop : tie.Need-mul-loop Inv-loop μ-loop
-mul-loop c = omega arith
-
-add-loop : tie.Need-add-loop Inv-loop μ-loop
-add-loop c = omega arith
-
-mul-at : tie.Need-mul-at Inv-loop μ-loop
-mul-at c = omega arith
-
-add-node : tie.Need-add-node Inv-loop μ-loop
-add-node c = omega arith
-
-mul-node : tie.Need-mul-node Inv-loop μ-loop
-mul-node c = omega arith
-
-shared-slice-read-node : tie.Need-shared-slice-read-node Inv-loop μ-loop
-shared-slice-read-node c = omega arith
-
-mul-node-2 : tie.Need-mul-node-2 Inv-loop μ-loop
-mul-node-2 c = omega arith
-
-shared-slice-read-node-2 : tie.Need-shared-slice-read-node-2 Inv-loop μ-loop
-shared-slice-read-node-2 c = omega arith
-
 node-requires : tie.Need-node-requires Inv-loop μ-loop
 node-requires c κs = (omega arith, c .before .before .before .before .before .before .before .before .pre .1)
-
-add-i : tie.Need-add-i Inv-loop μ-loop
-add-i c = omega arith
-
-loop-less : tie.Need-loop-less Inv-loop μ-loop
-loop-less c = omega arith
 
 loop-again : tie.Need-loop-again Inv-loop μ-loop
 loop-again c =
@@ -78,16 +48,16 @@ walk-spec =
     Inv-loop
     μ-loop
     loop-holds
-    mul-loop
-    add-loop
-    mul-at
-    add-node
-    mul-node
-    shared-slice-read-node
-    mul-node-2
-    shared-slice-read-node-2
+    (λ c. omega arith)
+    (λ c. omega arith)
+    (λ c. omega arith)
+    (λ c. omega arith)
+    (λ c. omega arith)
+    (λ c. omega arith)
+    (λ c. omega arith)
+    (λ c. omega arith)
     node-requires
-    add-i
-    loop-less
+    (λ c. omega arith)
+    (λ c. omega arith)
     loop-again
     returns)

@@ -9,23 +9,11 @@ use borrow.Author.Needs.{needs}
 use Rattle.reading.proofs.finding.find.Statement.{statement}
 use Rattle.reading.proofs.finding.find.Tie as tie
 
-new-requires : tie.Need-new-requires
-new-requires c κs = search needs
-
 returns : tie.Need-returns
 returns c = refused _ (as-judged (ap Refused (c .new .ensures)) refl (too-long (c .before .if1 .taken)))
 
-scan-requires : tie.Need-scan-requires
-scan-requires c κs = search needs
-
-enum-known-n : tie.Need-enum-known-n
-enum-known-n c = search needs
-
 parsed-requires : tie.Need-parsed-requires
 parsed-requires c κs = stand (c .before .before .before .before .before .before .before .before .before .scan .ensures) (c .before .before .before .before .before .before .before .before .before .before .before .before .before .if1 .left) _ (c .before .before .before .before .before .before .before .n .given .1)
-
-enum-known-r : tie.Need-enum-known-r
-enum-known-r c = search needs
 
 returns-2 : tie.Need-returns-2
 returns-2 c =
@@ -39,11 +27,11 @@ pub find-spec : {M : Type 1} → statement M
 find-spec =
     tie.close
     (tie.spec
-    new-requires
+    (λ c κs. search needs)
     returns
-    scan-requires
-    enum-known-n
+    (λ c κs. search needs)
+    (λ c. search needs)
     parsed-requires
-    enum-known-r
+    (λ c. search needs)
     returns-2
     returns-3)

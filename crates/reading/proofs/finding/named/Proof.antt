@@ -5,9 +5,6 @@ use borrow.Author.Needs.{needs}
 use Rattle.reading.proofs.finding.named.Statement.{statement}
 use Rattle.reading.proofs.finding.named.Tie as tie
 
-identify-requires : tie.Need-identify-requires
-identify-requires c κs = search needs
-
 declared-requires : tie.Need-declared-requires
 declared-requires c κs = known (c .before .before .before .before .before .before .before .pre) (c .before .before .before .before .identify .ensures)
 
@@ -15,4 +12,4 @@ returns : tie.Need-returns
 returns c = onward (c .declared .ensures) (λ s h. record { ids = _; resolved = h })
 
 pub named-spec : {M : Type 1} → statement M
-named-spec = tie.close (tie.spec identify-requires declared-requires returns)
+named-spec = tie.close (tie.spec (λ c κs. search needs) declared-requires returns)

@@ -10,29 +10,11 @@ use borrow.Author.Needs.{needs}
 use Rattle.reading.proofs.finding.parsed.Statement.{statement}
 use Rattle.reading.proofs.finding.parsed.Tie as tie
 
-parse-requires : tie.Need-parse-requires
-parse-requires c κs = search needs
-
-enum-known-used : tie.Need-enum-known-used
-enum-known-used c = search needs
-
 named-requires : tie.Need-named-requires
 named-requires c κs = ready (c .before .before .before .before .before .before .before .before .before .before .pre) (c .before .before .before .before .before .before .before .parse .ensures) _ _ (c .before .before .before .before .before .used .given .1)
 
-enum-known-answer : tie.Need-enum-known-answer
-enum-known-answer c = search needs
-
 cast-t21 : tie.Need-cast-t21
 cast-t21 c = omega (arith, refused-at (c .before .before .before .before .before .before .pre) (c .before .before .before .parse .ensures) _ _ (c .before .answer .given .1))
-
-place-at-requires : tie.Need-place-at-requires
-place-at-requires c κs = search needs
-
-new-requires : tie.Need-new-requires
-new-requires c κs = search needs
-
-returns : tie.Need-returns
-returns c = search needs
 
 returns-2 : tie.Need-returns-2
 returns-2 c = refused _ (as-judged (ap Refused (c .new .ensures ∙ ap (refusal _) (c .before .place-at .ensures))) refl (refusals (c .before .before .before .before .before .before .before .before .pre) (c .before .before .before .before .before .parse .ensures) _ _ (c .before .before .before .answer .given .1)))
@@ -41,12 +23,12 @@ pub parsed-spec : {M : Type 1} → statement M
 parsed-spec =
     tie.close
     (tie.spec
-    parse-requires
-    enum-known-used
+    (λ c κs. search needs)
+    (λ c. search needs)
     named-requires
-    enum-known-answer
+    (λ c. search needs)
     cast-t21
-    place-at-requires
-    new-requires
-    returns
+    (λ c κs. search needs)
+    (λ c κs. search needs)
+    (λ c. search needs)
     returns-2)

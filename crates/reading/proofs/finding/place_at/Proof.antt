@@ -5,15 +5,6 @@ use borrow.Author.Needs.{needs}
 use Rattle.reading.proofs.finding.place_at.Statement.{statement}
 use Rattle.reading.proofs.finding.place_at.Tie as tie
 
-cast-s : tie.Need-cast-s
-cast-s c = search needs
-
-mul-t7 : tie.Need-mul-t7
-mul-t7 c = search needs
-
-element-copy-out-t10 : tie.Need-element-copy-out-t10
-element-copy-out-t10 c = search needs
-
 returns : tie.Need-returns
 returns c = c .before .before .before .pre .placed (c .before .before .before .args .symbol .number) (c .before .if1 .taken)
 
@@ -21,4 +12,4 @@ returns-2 : tie.Need-returns-2
 returns-2 c = sym (place-behind (c .before .before .pre) (c .before .before .args .symbol .number) (c .if1 .left))
 
 pub place-at-spec : {M : Type 1} → statement M
-place-at-spec = tie.close (tie.spec cast-s mul-t7 element-copy-out-t10 returns returns-2)
+place-at-spec = tie.close (tie.spec (λ c. search needs) (λ c. search needs) (λ c. search needs) returns returns-2)

@@ -9,17 +9,8 @@ use Rattle.reading.proofs.finding.refused.Tie as tie
 cast-t9 : tie.Need-cast-t9
 cast-t9 c = omega (arith, c .before .pre .1)
 
-place-at-requires : tie.Need-place-at-requires
-place-at-requires c κs = search needs
-
-cast-number : tie.Need-cast-number
-cast-number c = search needs
-
-new-requires : tie.Need-new-requires
-new-requires c κs = search needs
-
 returns : tie.Need-returns
 returns c = c .new .ensures ∙ ap (refusal _) (c .before .place-at .ensures)
 
 pub refused-spec : {M : Type 1} → statement M
-refused-spec = tie.close (tie.spec cast-t9 place-at-requires cast-number new-requires returns)
+refused-spec = tie.close (tie.spec cast-t9 (λ c κs. search needs) (λ c. search needs) (λ c κs. search needs) returns)

@@ -9,26 +9,11 @@ use borrow.Author.Needs.{needs}
 use Rattle.reading.proofs.finding.resolved.Statement.{statement}
 use Rattle.reading.proofs.finding.resolved.Tie as tie
 
-resolve-requires : tie.Need-resolve-requires
-resolve-requires c κs = search needs
-
-lesser-requires : tie.Need-lesser-requires
-lesser-requires c κs = search needs
-
-refused-requires : tie.Need-refused-requires
-refused-requires c κs = search needs
-
 returns : tie.Need-returns
 returns c = refused _ (stage-refused (c .before .before .before .before .before .before .pre .0) _ _ _ (c .before .before .before .before .before .before .pre .1) (c .before .before .before .resolve .ensures .least) (c .before .before .lesser .ensures) (c .before .if1 .taken) _ _ (ap Refused (c .refused .ensures)) refl)
 
 typed-requires : tie.Need-typed-requires
 typed-requires c κs = c .before .before .before .before .before .before .before .pre .0 .known .ready .places-in
-
-enum-told : tie.Need-enum-told
-enum-told c = search needs
-
-enum-known-r : tie.Need-enum-known-r
-enum-known-r c = search needs
 
 returns-2 : tie.Need-returns-2
 returns-2 c =
@@ -50,12 +35,12 @@ pub resolved-spec : {M : Type 1} → statement M
 resolved-spec =
     tie.close
     (tie.spec
-    resolve-requires
-    lesser-requires
-    refused-requires
+    (λ c κs. search needs)
+    (λ c κs. search needs)
+    (λ c κs. search needs)
     returns
     typed-requires
-    enum-told
-    enum-known-r
+    (λ c. search needs)
+    (λ c. search needs)
     returns-2
     returns-3)

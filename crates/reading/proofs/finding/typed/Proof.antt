@@ -8,12 +8,6 @@ use borrow.Author.Needs.{needs}
 use Rattle.reading.proofs.finding.typed.Statement.{statement}
 use Rattle.reading.proofs.finding.typed.Tie as tie
 
-check-requires : tie.Need-check-requires
-check-requires c κs = search needs
-
-refused-requires : tie.Need-refused-requires
-refused-requires c κs = search needs
-
 returns : tie.Need-returns
 returns c = (λ ids m. wrong _ (last-refused m _ (c .before .before .check .ensures .0) (c .before .if1 .taken) _ _ (ap Refused (c .refused .ensures)) refl), c .before .before .check .ensures .1)
 
@@ -21,4 +15,4 @@ returns-2 : tie.Need-returns-2
 returns-2 c = (λ ids m. right (last-right m _ (c .before .check .ensures .0) (λ l. omega (arith, l, c .if1 .left))), c .before .check .ensures .1)
 
 pub typed-spec : {M : Type 1} → statement M
-typed-spec = tie.close (tie.spec check-requires refused-requires returns returns-2)
+typed-spec = tie.close (tie.spec (λ c κs. search needs) (λ c κs. search needs) returns returns-2)

@@ -8,23 +8,14 @@ use borrow.Author.Needs.{needs}
 use Rattle.reading.proofs.reading.read.Statement.{statement}
 use Rattle.reading.proofs.reading.read.Tie as tie
 
-new-requires : tie.Need-new-requires
-new-requires c κs = search needs
-
 returns : tie.Need-returns
 returns c = as-short (c .before .if1 .taken) (c .new .ensures)
-
-slice-relend-prefix-judged : tie.Need-slice-relend-prefix-judged
-slice-relend-prefix-judged c = search needs
 
 slice-aggregate-judged : tie.Need-slice-aggregate-judged
 slice-aggregate-judged c = sym (length-take-le 32768 (c .before .before .before .before .args .table .now) (c .before .if1 .left))
 
 judged-requires : tie.Need-judged-requires
 judged-requires c κs = length-take-le 32768 (c .before .before .before .before .args .table .now) (c .before .if1 .left)
-
-same-length : tie.Need-same-length
-same-length c = search needs
 
 returns-2 : tie.Need-returns-2
 returns-2 c = enough (c .before .before .before .before .if1 .left) _ _ (c .before .before .judged .ensures)
@@ -33,10 +24,10 @@ pub read-spec : {M : Type 1} → statement M
 read-spec =
     tie.close
     (tie.spec
-    new-requires
+    (λ c κs. search needs)
     returns
-    slice-relend-prefix-judged
+    (λ c. search needs)
     slice-aggregate-judged
     judged-requires
-    same-length
+    (λ c. search needs)
     returns-2)

@@ -21,9 +21,6 @@ returns-2 c = too-fine (c .before .before .args .n) (c .before .before .args .k)
 int-to-float-result : tie.Need-int-to-float-result
 int-to-float-result c = exact (c .before .before .before .args .n) (omega (arith, c .before .before .if1 .left))
 
-power-requires : tie.Need-power-requires
-power-requires c κs = search needs
-
 int-to-float-result-2 : tie.Need-int-to-float-result-2
 int-to-float-result-2 c = exact (c .before .power .result) (subst (λ (p : ℕ). p ≤ 1000000000000000) (sym (c .before .power .ensures)) (ten-le (c .before .before .before .before .before .args .k) (c .before .before .before .if2 .left)))
 
@@ -38,4 +35,4 @@ returns-3 c =
 pub decimal-spec : {M : Type 1} → statement M
 decimal-spec =
     tie.close
-    (tie.spec returns returns-2 int-to-float-result power-requires int-to-float-result-2 returns-3)
+    (tie.spec returns returns-2 int-to-float-result (λ c κs. search needs) int-to-float-result-2 returns-3)

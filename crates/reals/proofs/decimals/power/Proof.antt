@@ -1,3 +1,4 @@
+-- After i turns the product is 10 to the i; with at most 15 it stays in its word.
 use mathlib.Core.Path.{_≡_, refl, sym, ap, _∙_}
 use Prim.Native.Nat.{_-_, _*_, _^_, _≤_}
 use native.Mathlib.Nat.{pow-suc, le-antisymm}

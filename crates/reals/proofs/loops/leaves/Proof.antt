@@ -1,3 +1,4 @@
+-- The pair says of which type the two are: whole numbers, whose words are read back, reals, or neither.
 use mathlib.Core.Path.{sym, ap, _∙_}
 use lib.IntN.{ℤ}
 use mir.Syntax.{w32}
@@ -9,27 +10,6 @@ use Rattle.reals.proofs.Signed.{read-back}
 use borrow.Author.Needs.{needs}
 use Rattle.reals.proofs.loops.leaves.Statement.{statement}
 use Rattle.reals.proofs.loops.leaves.Tie as tie
-
-paired-requires : tie.Need-paired-requires
-paired-requires c κs = search needs
-
-enum-known-a : tie.Need-enum-known-a
-enum-known-a c = search needs
-
-past-wholes-requires : tie.Need-past-wholes-requires
-past-wholes-requires c κs = search needs
-
-enum-known-a-2 : tie.Need-enum-known-a-2
-enum-known-a-2 c = search needs
-
-past-reals-requires : tie.Need-past-reals-requires
-past-reals-requires c κs = search needs
-
-enum-told : tie.Need-enum-told
-enum-told c = search needs
-
-enum-told-2 : tie.Need-enum-told-2
-enum-told-2 c = search needs
 
 returns : tie.Need-returns
 returns c =
@@ -54,13 +34,13 @@ pub leaves-spec : {M : Type 1} → statement M
 leaves-spec =
     tie.close
     (tie.spec
-    paired-requires
-    enum-known-a
-    past-wholes-requires
-    enum-known-a-2
-    past-reals-requires
-    enum-told
-    enum-told-2
+    (λ c κs. search needs)
+    (λ c. search needs)
+    (λ c κs. search needs)
+    (λ c. search needs)
+    (λ c κs. search needs)
+    (λ c. search needs)
+    (λ c. search needs)
     returns
     returns-2
     returns-3

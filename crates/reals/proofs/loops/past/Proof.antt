@@ -16,9 +16,6 @@ cast-result-2 c = wide-fits w32 w64 tt (c .fits .y)
 sub-result : tie.Need-sub-result
 sub-result c = rw (wide-same w32 w64 tt (c .fits .v), wide-same w32 w64 tt (c .fits .y)) (diff-fits w32 w64 tt (c .fits .v) (c .fits .y))
 
-sign-requires : tie.Need-sign-requires
-sign-requires c κs = search needs
-
 mul-result : tie.Need-mul-result
 mul-result c = simp (wide-same w32 w64 tt (c .before .fits .v), wide-same w32 w64 tt (c .before .fits .y), toZ-ofZ (diff-fits w32 w64 tt (c .before .fits .v) (c .before .fits .y)), simp (toZ-ofZ (c .before .fits .x)) at (c .sign .ensures), toZ-ofZ (sign-fits w64 (c .before .args .x))) (past-fits w32 w64 tt (c .before .fits .v) (c .before .fits .y) (c .before .args .x))
 
@@ -28,4 +25,4 @@ returns c = simp (wide-same w32 w64 tt (c .before .fits .v), wide-same w32 w64 t
 
 pub past-spec : {M : Type 1} → statement M
 past-spec =
-    tie.close (tie.spec cast-result cast-result-2 sub-result sign-requires mul-result returns)
+    tie.close (tie.spec cast-result cast-result-2 sub-result (λ c κs. search needs) mul-result returns)

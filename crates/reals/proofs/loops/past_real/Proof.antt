@@ -1,3 +1,4 @@
+-- A real is past by its sign: one line for each of the two tests.
 use lib.Ieee.{ofBits}
 use Rattle.reals.specs.Values.{pastR}
 use Rattle.reals.proofs.loops.past_real.Statement.{statement}

@@ -1,3 +1,4 @@
+-- The step's sign is that of a whole number or of a real, each by the law of `past_real`.
 use mathlib.Core.Path.{ap, _∙_}
 use mathlib.Core.Bool.{Bool}
 use lib.IntN.{ℤ}
@@ -10,24 +11,6 @@ use Rattle.reals.proofs.Signed.{read-back}
 use borrow.Author.Needs.{needs}
 use Rattle.reals.proofs.loops.past_reals.Statement.{statement}
 use Rattle.reals.proofs.loops.past_reals.Tie as tie
-
-enum-known-x : tie.Need-enum-known-x
-enum-known-x c = search needs
-
-int-to-float-past-real : tie.Need-int-to-float-past-real
-int-to-float-past-real c = search needs
-
-past-real-requires : tie.Need-past-real-requires
-past-real-requires c κs = search needs
-
-enum-known-x-2 : tie.Need-enum-known-x-2
-enum-known-x-2 c = search needs
-
-past-real-requires-2 : tie.Need-past-real-requires-2
-past-real-requires-2 c κs = search needs
-
-enum-told : tie.Need-enum-told
-enum-told c = search needs
 
 returns : tie.Need-returns
 unfolding pastBy
@@ -45,12 +28,12 @@ pub past-reals-spec : {M : Type 1} → statement M
 past-reals-spec =
     tie.close
     (tie.spec
-    enum-known-x
-    int-to-float-past-real
-    past-real-requires
-    enum-known-x-2
-    past-real-requires-2
-    enum-told
+    (λ c. search needs)
+    (λ c. search needs)
+    (λ c κs. search needs)
+    (λ c. search needs)
+    (λ c κs. search needs)
+    (λ c. search needs)
     returns
     returns-2
     returns-3)

@@ -1,3 +1,4 @@
+-- Whole numbers are compared in 64 bits, in which they are themselves.
 use mathlib.Core.Path.{ap, _∙_}
 use mathlib.Core.Bool.{Bool}
 use lib.IntN.{ℤ}
@@ -10,27 +11,6 @@ use Rattle.reals.proofs.Signed.{read-back}
 use borrow.Author.Needs.{needs}
 use Rattle.reals.proofs.loops.past_wholes.Statement.{statement}
 use Rattle.reals.proofs.loops.past_wholes.Tie as tie
-
-enum-known-x : tie.Need-enum-known-x
-enum-known-x c = search needs
-
-past-requires : tie.Need-past-requires
-past-requires c κs = search needs
-
-enum-known-x-2 : tie.Need-enum-known-x-2
-enum-known-x-2 c = search needs
-
-int-to-float-past-real : tie.Need-int-to-float-past-real
-int-to-float-past-real c = search needs
-
-int-to-float-past-real-2 : tie.Need-int-to-float-past-real-2
-int-to-float-past-real-2 c = search needs
-
-past-real-requires : tie.Need-past-real-requires
-past-real-requires c κs = search needs
-
-enum-told : tie.Need-enum-told
-enum-told c = search needs
 
 returns : tie.Need-returns
 unfolding pastBy
@@ -48,13 +28,13 @@ pub past-wholes-spec : {M : Type 1} → statement M
 past-wholes-spec =
     tie.close
     (tie.spec
-    enum-known-x
-    past-requires
-    enum-known-x-2
-    int-to-float-past-real
-    int-to-float-past-real-2
-    past-real-requires
-    enum-told
+    (λ c. search needs)
+    (λ c κs. search needs)
+    (λ c. search needs)
+    (λ c. search needs)
+    (λ c. search needs)
+    (λ c κs. search needs)
+    (λ c. search needs)
     returns
     returns-2
     returns-3)

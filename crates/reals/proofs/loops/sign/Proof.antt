@@ -1,3 +1,4 @@
+-- Below zero, zero, above it: the machine's tests on 32 bits are those on the number.
 use mir.Syntax.{w32}
 use mir.Facts.{toZ-ofZ}
 use Rattle.reals.proofs.Signed.{sign-below, sign-above, sign-zero, zero-yes, zero-no}

@@ -11,30 +11,6 @@ use borrow.Author.Needs.{needs}
 use Rattle.reals.proofs.operators.binary.Statement.{statement}
 use Rattle.reals.proofs.operators.binary.Tie as tie
 
-paired-requires : tie.Need-paired-requires
-paired-requires c κs = search needs
-
-enum-known-x : tie.Need-enum-known-x
-enum-known-x c = search needs
-
-wholes-requires : tie.Need-wholes-requires
-wholes-requires c κs = search needs
-
-enum-known-x-2 : tie.Need-enum-known-x-2
-enum-known-x-2 c = search needs
-
-reals-requires : tie.Need-reals-requires
-reals-requires c κs = search needs
-
-enum-known-x-3 : tie.Need-enum-known-x-3
-enum-known-x-3 c = search needs
-
-truths-requires : tie.Need-truths-requires
-truths-requires c κs = search needs
-
-enum-told : tie.Need-enum-told
-enum-told c = search needs
-
 returns : tie.Need-returns
 unfolding bothOf
 returns c =
@@ -59,14 +35,14 @@ pub binary-spec : {M : Type 1} → statement M
 binary-spec =
     tie.close
     (tie.spec
-    paired-requires
-    enum-known-x
-    wholes-requires
-    enum-known-x-2
-    reals-requires
-    enum-known-x-3
-    truths-requires
-    enum-told
+    (λ c κs. search needs)
+    (λ c. search needs)
+    (λ c κs. search needs)
+    (λ c. search needs)
+    (λ c κs. search needs)
+    (λ c. search needs)
+    (λ c κs. search needs)
+    (λ c. search needs)
     returns
     returns-2
     returns-3

@@ -20,12 +20,9 @@ cast-whole-2 c = wide-fits w32 w64 tt (c .before .fits .y)
 div-whole : tie.Need-div-whole
 div-whole c = (simp (toZ-ofZ (c .before .fits .y)) (bits-pos _ (not-zero-bits w64 (sfits-widen tt (c .before .fits .y)) (zero-no w32 (c .before .args .y) (c .if1 .left)))), rw (wide-same w32 w64 tt (c .before .fits .x), wide-same w32 w64 tt (c .before .fits .y)) (quot-fits w32 w64 tt (c .before .args .y) (c .before .fits .x)))
 
-whole-requires : tie.Need-whole-requires
-whole-requires c κs = search needs
-
 returns-2 : tie.Need-returns-2
 unfolding cut
 returns-2 c = simp (zero-no w32 (c .before .before .args .y) (c .before .if1 .left)) (simp (wide-same w32 w64 tt (c .before .before .fits .x), wide-same w32 w64 tt (c .before .before .fits .y), toZ-ofZ (quot-fits w32 w64 tt (c .before .before .args .y) (c .before .before .fits .x))) at (c .whole .ensures))
 
 pub cut-spec : {M : Type 1} → statement M
-cut-spec = tie.close (tie.spec returns cast-whole cast-whole-2 div-whole whole-requires returns-2)
+cut-spec = tie.close (tie.spec returns cast-whole cast-whole-2 div-whole (λ c κs. search needs) returns-2)

@@ -8,20 +8,11 @@ use borrow.Author.Needs.{needs}
 use Rattle.reals.proofs.operators.one_whole.Statement.{statement}
 use Rattle.reals.proofs.operators.one_whole.Tie as tie
 
-enum-told : tie.Need-enum-told
-enum-told c = search needs
-
 cast-whole : tie.Need-cast-whole
 cast-whole c = wide-fits w32 w64 tt (c .before .before .fits .x)
 
 sub-whole : tie.Need-sub-whole
 sub-whole c = rw (wide-same w32 w64 tt (c .before .before .fits .x), zero-minus (c .before .before .args .x)) (neg-fits w32 w64 tt (c .before .before .fits .x))
-
-whole-requires : tie.Need-whole-requires
-whole-requires c κs = search needs
-
-enum-told-2 : tie.Need-enum-told-2
-enum-told-2 c = search needs
 
 cast-whole-2 : tie.Need-cast-whole-2
 cast-whole-2 c = wide-fits w32 w64 tt (c .before .before .before .fits .x)
@@ -29,15 +20,9 @@ cast-whole-2 c = wide-fits w32 w64 tt (c .before .before .before .fits .x)
 sub-whole-2 : tie.Need-sub-whole-2
 sub-whole-2 c = rw (wide-same w32 w64 tt (c .before .before .before .fits .x), zero-minus (c .before .before .before .args .x)) (neg-fits w32 w64 tt (c .before .before .before .fits .x))
 
-whole-requires-2 : tie.Need-whole-requires-2
-whole-requires-2 c κs = search needs
-
 returns : tie.Need-returns
 unfolding apply1
 returns c = simp (c .before .before .enum-told2 .given .1, sym (absolute-below (c .before .before .before .before .args .x) (simp (toZ-ofZ (c .before .before .before .before .fits .x)) at (c .before .if1 .taken)))) (simp (wide-same w32 w64 tt (c .before .before .before .before .fits .x), zero-minus (c .before .before .before .before .args .x), toZ-ofZ (neg-fits w32 w64 tt (c .before .before .before .before .fits .x))) at (c .whole2 .ensures))
-
-enum-told-3 : tie.Need-enum-told-3
-enum-told-3 c = search needs
 
 returns-2 : tie.Need-returns-2
 unfolding apply1
@@ -55,16 +40,16 @@ pub one-whole-spec : {M : Type 1} → statement M
 one-whole-spec =
     tie.close
     (tie.spec
-    enum-told
+    (λ c. search needs)
     cast-whole
     sub-whole
-    whole-requires
-    enum-told-2
+    (λ c κs. search needs)
+    (λ c. search needs)
     cast-whole-2
     sub-whole-2
-    whole-requires-2
+    (λ c κs. search needs)
     returns
-    enum-told-3
+    (λ c. search needs)
     returns-2
     returns-3
     returns-4)

@@ -9,12 +9,9 @@ returns : tie.Need-returns
 unfolding quotient ofBits
 returns c = simp (c .if1 .taken)
 
-real-requires : tie.Need-real-requires
-real-requires c κs = search needs
-
 returns-2 : tie.Need-returns-2
 unfolding quotient ofBits
 returns-2 c = simp (c .before .if1 .left) (c .real .ensures)
 
 pub quotient-spec : {M : Type 1} → statement M
-quotient-spec = tie.close (tie.spec returns real-requires returns-2)
+quotient-spec = tie.close (tie.spec returns (λ c κs. search needs) returns-2)

@@ -7,98 +7,14 @@ use borrow.Author.Needs.{needs}
 use Rattle.reals.proofs.operators.wholes.Statement.{statement}
 use Rattle.reals.proofs.operators.wholes.Tie as tie
 
-enum-told : tie.Need-enum-told
-enum-told c = search needs
-
-cast-whole : tie.Need-cast-whole
-cast-whole c = wide-fits w32 w64 tt (c .before .before .fits .x)
-
-cast-whole-2 : tie.Need-cast-whole-2
-cast-whole-2 c = wide-fits w32 w64 tt (c .before .before .fits .y)
-
 add-whole : tie.Need-add-whole
 add-whole c = rw (wide-same w32 w64 tt (c .before .before .fits .x), wide-same w32 w64 tt (c .before .before .fits .y)) (sum-fits w32 w64 tt (c .before .before .fits .x) (c .before .before .fits .y))
-
-whole-requires : tie.Need-whole-requires
-whole-requires c κs = search needs
-
-enum-told-2 : tie.Need-enum-told-2
-enum-told-2 c = search needs
-
-cast-whole-3 : tie.Need-cast-whole-3
-cast-whole-3 c = wide-fits w32 w64 tt (c .before .before .fits .x)
-
-cast-whole-4 : tie.Need-cast-whole-4
-cast-whole-4 c = wide-fits w32 w64 tt (c .before .before .fits .y)
 
 sub-whole : tie.Need-sub-whole
 sub-whole c = rw (wide-same w32 w64 tt (c .before .before .fits .x), wide-same w32 w64 tt (c .before .before .fits .y)) (diff-fits w32 w64 tt (c .before .before .fits .x) (c .before .before .fits .y))
 
-whole-requires-2 : tie.Need-whole-requires-2
-whole-requires-2 c κs = search needs
-
-enum-told-3 : tie.Need-enum-told-3
-enum-told-3 c = search needs
-
-cast-whole-5 : tie.Need-cast-whole-5
-cast-whole-5 c = wide-fits w32 w64 tt (c .before .before .fits .x)
-
-cast-whole-6 : tie.Need-cast-whole-6
-cast-whole-6 c = wide-fits w32 w64 tt (c .before .before .fits .y)
-
 mul-whole : tie.Need-mul-whole
 mul-whole c = rw (wide-same w32 w64 tt (c .before .before .fits .x), wide-same w32 w64 tt (c .before .before .fits .y)) (prod-fits w32 w64 tt (c .before .before .fits .x) (c .before .before .fits .y))
-
-whole-requires-3 : tie.Need-whole-requires-3
-whole-requires-3 c κs = search needs
-
-enum-told-4 : tie.Need-enum-told-4
-enum-told-4 c = search needs
-
-cut-requires : tie.Need-cut-requires
-cut-requires c κs = search needs
-
-enum-told-5 : tie.Need-enum-told-5
-enum-told-5 c = search needs
-
-int-to-float-quotient : tie.Need-int-to-float-quotient
-int-to-float-quotient c = search needs
-
-int-to-float-quotient-2 : tie.Need-int-to-float-quotient-2
-int-to-float-quotient-2 c = search needs
-
-quotient-requires : tie.Need-quotient-requires
-quotient-requires c κs = search needs
-
-enum-told-6 : tie.Need-enum-told-6
-enum-told-6 c = search needs
-
-enum-told-7 : tie.Need-enum-told-7
-enum-told-7 c = search needs
-
-enum-told-8 : tie.Need-enum-told-8
-enum-told-8 c = search needs
-
-enum-told-9 : tie.Need-enum-told-9
-enum-told-9 c = search needs
-
-enum-told-10 : tie.Need-enum-told-10
-enum-told-10 c = search needs
-
-enum-told-11 : tie.Need-enum-told-11
-enum-told-11 c = search needs
-
-enum-told-12 : tie.Need-enum-told-12
-enum-told-12 c = search needs
-
-enum-told-13 : tie.Need-enum-told-13
-enum-told-13 c = search needs
-
-enum-told-14 : tie.Need-enum-told-14
-enum-told-14 c = search needs
-
-enum-told-15 : tie.Need-enum-told-15
-enum-told-15 c = search needs
 
 returns : tie.Need-returns
 unfolding apply2 onNumbers bothOf
@@ -144,57 +60,42 @@ returns-11 : tie.Need-returns-11
 unfolding apply2 onNumbers bothOf
 returns-11 c = simp (c .enum-told11 .given .1, same-bits w32 (c .before .before .fits .x) (c .before .before .fits .y))
 
-returns-12 : tie.Need-returns-12
-unfolding apply2 onTruths bothOf
-returns-12 c = simp (c .enum-told12 .given .1)
-
-returns-13 : tie.Need-returns-13
-unfolding apply2 onTruths bothOf
-returns-13 c = simp (c .enum-told13 .given .1)
-
-returns-14 : tie.Need-returns-14
-unfolding apply2 onTruths bothOf
-returns-14 c = simp (c .enum-told14 .given .1)
-
-returns-15 : tie.Need-returns-15
-unfolding apply2 onTruths bothOf
-returns-15 c = simp (c .enum-told15 .given .1)
-
 pub wholes-spec : {M : Type 1} → statement M
+unfolding apply2 onTruths bothOf
 wholes-spec =
     tie.close
     (tie.spec
-    enum-told
-    cast-whole
-    cast-whole-2
+    (λ c. search needs)
+    (λ c. wide-fits w32 w64 tt (c .before .before .fits .x))
+    (λ c. wide-fits w32 w64 tt (c .before .before .fits .y))
     add-whole
-    whole-requires
-    enum-told-2
-    cast-whole-3
-    cast-whole-4
+    (λ c κs. search needs)
+    (λ c. search needs)
+    (λ c. wide-fits w32 w64 tt (c .before .before .fits .x))
+    (λ c. wide-fits w32 w64 tt (c .before .before .fits .y))
     sub-whole
-    whole-requires-2
-    enum-told-3
-    cast-whole-5
-    cast-whole-6
+    (λ c κs. search needs)
+    (λ c. search needs)
+    (λ c. wide-fits w32 w64 tt (c .before .before .fits .x))
+    (λ c. wide-fits w32 w64 tt (c .before .before .fits .y))
     mul-whole
-    whole-requires-3
-    enum-told-4
-    cut-requires
-    enum-told-5
-    int-to-float-quotient
-    int-to-float-quotient-2
-    quotient-requires
-    enum-told-6
-    enum-told-7
-    enum-told-8
-    enum-told-9
-    enum-told-10
-    enum-told-11
-    enum-told-12
-    enum-told-13
-    enum-told-14
-    enum-told-15
+    (λ c κs. search needs)
+    (λ c. search needs)
+    (λ c κs. search needs)
+    (λ c. search needs)
+    (λ c. search needs)
+    (λ c. search needs)
+    (λ c κs. search needs)
+    (λ c. search needs)
+    (λ c. search needs)
+    (λ c. search needs)
+    (λ c. search needs)
+    (λ c. search needs)
+    (λ c. search needs)
+    (λ c. search needs)
+    (λ c. search needs)
+    (λ c. search needs)
+    (λ c. search needs)
     returns
     returns-2
     returns-3
@@ -206,7 +107,7 @@ wholes-spec =
     returns-9
     returns-10
     returns-11
-    returns-12
-    returns-13
-    returns-14
-    returns-15)
+    (λ c. simp (c .enum-told12 .given .1))
+    (λ c. simp (c .enum-told13 .given .1))
+    (λ c. simp (c .enum-told14 .given .1))
+    (λ c. simp (c .enum-told15 .given .1)))

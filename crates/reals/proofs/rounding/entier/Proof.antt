@@ -28,9 +28,6 @@ truncating-f64-to-u64-requires-2 : tie.Need-truncating-f64-to-u64-requires-2
 unfolding ofBits
 truncating-f64-to-u64-requires-2 c κs = cut-under (c .before .args .t) (in-range (c .before .args .t) (c .before .pre .0) (c .before .pre .1)) (c .if1 .left)
 
-nearest-u64-to-f64-requires : tie.Need-nearest-u64-to-f64-requires
-nearest-u64-to-f64-requires c κs = search needs
-
 cast-result-2 : tie.Need-cast-result-2
 cast-result-2 c = record { sfits = omega (arith, (subst (λ (u : ℕ). u ≤ 2147483648) (sym (c .before .before .truncating-f64-to-u642 .ensures)) (under-small (c .before .before .before .before .args .t) (in-range (c .before .before .before .before .args .t) (c .before .before .before .before .pre .0) (c .before .before .before .before .pre .1))))) }
 
@@ -69,7 +66,7 @@ entier-spec =
     cast-result
     returns
     truncating-f64-to-u64-requires-2
-    nearest-u64-to-f64-requires
+    (λ c κs. search needs)
     cast-result-2
     sub-result
     returns-2

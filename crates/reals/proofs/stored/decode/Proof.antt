@@ -11,21 +11,6 @@ use borrow.Author.Needs.{needs}
 use Rattle.reals.proofs.stored.decode.Statement.{statement}
 use Rattle.reals.proofs.stored.decode.Tie as tie
 
-whole-in-requires : tie.Need-whole-in-requires
-whole-in-requires c κs = search needs
-
-long-word-requires : tie.Need-long-word-requires
-long-word-requires c κs = search needs
-
-real-in-requires : tie.Need-real-in-requires
-real-in-requires c κs = search needs
-
-long-word-requires-2 : tie.Need-long-word-requires-2
-long-word-requires-2 c κs = search needs
-
-cast-t11 : tie.Need-cast-t11
-cast-t11 c = search needs
-
 returns : tie.Need-returns
 returns c = c .whole-in .ensures ∙ ap wholeIn (toZ-ofZ (c .before .before .fits .load)) ∙ of-4 (c .before .before .args .load) (c .before .match .keys1)
 
@@ -51,11 +36,11 @@ pub decode-spec : {M : Type 1} → statement M
 decode-spec =
     tie.close
     (tie.spec
-    whole-in-requires
-    long-word-requires
-    real-in-requires
-    long-word-requires-2
-    cast-t11
+    (λ c κs. search needs)
+    (λ c κs. search needs)
+    (λ c κs. search needs)
+    (λ c κs. search needs)
+    (λ c. search needs)
     returns
     returns-2
     returns-3

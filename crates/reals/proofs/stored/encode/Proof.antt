@@ -1,3 +1,4 @@
+-- One law an arm: a value, an unassigned cell by its type, a name formal by its number.
 use mathlib.Core.Path.{refl, ap, _∙_}
 use lib.IntN.{ℤ}
 use mir.Syntax.{w64}
@@ -7,24 +8,6 @@ use Rattle.reals.proofs.ReadBack.{kind-again, narrow}
 use borrow.Author.Needs.{needs}
 use Rattle.reals.proofs.stored.encode.Statement.{statement}
 use Rattle.reals.proofs.stored.encode.Tie as tie
-
-enum-known-x : tie.Need-enum-known-x
-enum-known-x c = search needs
-
-held-requires : tie.Need-held-requires
-held-requires c κs = search needs
-
-enum-known-x-2 : tie.Need-enum-known-x-2
-enum-known-x-2 c = search needs
-
-unset-requires : tie.Need-unset-requires
-unset-requires c κs = search needs
-
-enum-known-x-3 : tie.Need-enum-known-x-3
-enum-known-x-3 c = search needs
-
-cast-t7 : tie.Need-cast-t7
-cast-t7 c = search needs
 
 returns : tie.Need-returns
 returns c = simp (c .before .before .x .given .1) (c .held .ensures)
@@ -41,12 +24,12 @@ pub encode-spec : {M : Type 1} → statement M
 encode-spec =
     tie.close
     (tie.spec
-    enum-known-x
-    held-requires
-    enum-known-x-2
-    unset-requires
-    enum-known-x-3
-    cast-t7
+    (λ c. search needs)
+    (λ c κs. search needs)
+    (λ c. search needs)
+    (λ c κs. search needs)
+    (λ c. search needs)
+    (λ c. search needs)
     returns
     returns-2
     returns-3)

@@ -11,26 +11,8 @@ use borrow.Author.Needs.{needs}
 use Rattle.reals.proofs.stored.held.Statement.{statement}
 use Rattle.reals.proofs.stored.held.Tie as tie
 
-enum-known-v : tie.Need-enum-known-v
-enum-known-v c = search needs
-
 cast-t6 : tie.Need-cast-t6
 cast-t6 c = wide-fits w32 w64 tt {a = c .before .v .given .0 .0} (record { sfits = c .known-told .given .0 .1 })
-
-enum-known-v-2 : tie.Need-enum-known-v-2
-enum-known-v-2 c = search needs
-
-bits-of-requires : tie.Need-bits-of-requires
-bits-of-requires c κs = search needs
-
-long-number-requires : tie.Need-long-number-requires
-long-number-requires c κs = search needs
-
-enum-known-v-3 : tie.Need-enum-known-v-3
-enum-known-v-3 c = search needs
-
-truth-requires : tie.Need-truth-requires
-truth-requires c κs = search needs
 
 returns : tie.Need-returns
 unfolding kindOf loadOf
@@ -48,13 +30,13 @@ pub held-spec : {M : Type 1} → statement M
 held-spec =
     tie.close
     (tie.spec
-    enum-known-v
+    (λ c. search needs)
     cast-t6
-    enum-known-v-2
-    bits-of-requires
-    long-number-requires
-    enum-known-v-3
-    truth-requires
+    (λ c. search needs)
+    (λ c κs. search needs)
+    (λ c κs. search needs)
+    (λ c. search needs)
+    (λ c κs. search needs)
     returns
     returns-2
     returns-3)

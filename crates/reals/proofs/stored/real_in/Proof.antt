@@ -1,17 +1,9 @@
+-- The bits are those of a finite real or they are not; both as `cell-of-bits` says.
 use mathlib.Core.Path.{sym, ap, _∙_}
 use Rattle.reals.proofs.ReadBack.{asCell, cell-of-bits}
 use borrow.Author.Needs.{needs}
 use Rattle.reals.proofs.stored.real_in.Statement.{statement}
 use Rattle.reals.proofs.stored.real_in.Tie as tie
-
-bits-in-requires : tie.Need-bits-in-requires
-bits-in-requires c κs = search needs
-
-enum-known-x : tie.Need-enum-known-x
-enum-known-x c = search needs
-
-enum-told : tie.Need-enum-told
-enum-told c = search needs
 
 returns : tie.Need-returns
 returns c = ap asCell (sym (c .before .x .given .1) ∙ c .before .before .before .bits-in .ensures) ∙ cell-of-bits (c .before .before .before .before .args .b)
@@ -20,4 +12,4 @@ returns-2 : tie.Need-returns-2
 returns-2 c = ap asCell (sym (c .enum-told .given .1) ∙ c .before .before .bits-in .ensures) ∙ cell-of-bits (c .before .before .before .args .b)
 
 pub real-in-spec : {M : Type 1} → statement M
-real-in-spec = tie.close (tie.spec bits-in-requires enum-known-x enum-told returns returns-2)
+real-in-spec = tie.close (tie.spec (λ c κs. search needs) (λ c. search needs) (λ c. search needs) returns returns-2)

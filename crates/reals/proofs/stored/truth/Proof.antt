@@ -1,3 +1,4 @@
+-- One line a truth value.
 use Rattle.reals.specs.model.Stored.{loadOf}
 use Rattle.reals.proofs.stored.truth.Statement.{statement}
 use Rattle.reals.proofs.stored.truth.Tie as tie

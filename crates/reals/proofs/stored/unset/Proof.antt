@@ -1,16 +1,8 @@
+-- One line a type.
 use Rattle.reals.specs.model.Stored.{kindOf}
 use borrow.Author.Needs.{needs}
 use Rattle.reals.proofs.stored.unset.Statement.{statement}
 use Rattle.reals.proofs.stored.unset.Tie as tie
-
-enum-told : tie.Need-enum-told
-enum-told c = search needs
-
-enum-told-2 : tie.Need-enum-told-2
-enum-told-2 c = search needs
-
-enum-told-3 : tie.Need-enum-told-3
-enum-told-3 c = search needs
 
 returns : tie.Need-returns
 unfolding kindOf
@@ -25,4 +17,4 @@ unfolding kindOf
 returns-3 c = simp (c .enum-told3 .given .1)
 
 pub unset-spec : {M : Type 1} → statement M
-unset-spec = tie.close (tie.spec enum-told enum-told-2 enum-told-3 returns returns-2 returns-3)
+unset-spec = tie.close (tie.spec (λ c. search needs) (λ c. search needs) (λ c. search needs) returns returns-2 returns-3)

@@ -9,11 +9,8 @@ use Rattle.reals.proofs.words.bits_of.Tie as tie
 float-to-bits-result : tie.Need-float-to-bits-result
 float-to-bits-result c = subst T (sym (sym (number-test (c .before .args .x)) ∙ c .if1 .taken)) tt
 
-returns : tie.Need-returns
-returns c = search needs
-
 returns-2 : tie.Need-returns-2
 returns-2 c = no-number (c .before .args .x) (c .if1 .left)
 
 pub bits-of-spec : {M : Type 1} → statement M
-bits-of-spec = tie.close (tie.spec float-to-bits-result returns returns-2)
+bits-of-spec = tie.close (tie.spec float-to-bits-result (λ c. search needs) returns-2)

@@ -5,20 +5,8 @@ use borrow.Author.Needs.{needs}
 use Rattle.reals.proofs.words.long_number.Statement.{statement}
 use Rattle.reals.proofs.words.long_number.Tie as tie
 
-cast-result : tie.Need-cast-result
-cast-result c = search needs
-
-sub-result : tie.Need-sub-result
-sub-result c = search needs
-
-cast-result-2 : tie.Need-cast-result-2
-cast-result-2 c = search needs
-
 sub-result-2 : tie.Need-sub-result-2
 sub-result-2 c = rw (high (c .before .args .b) (c .if1 .left) (c .before .fits .b .fits)) (sfits-toZ (c .before .fits .b))
-
-returns : tie.Need-returns
-returns c = search needs
 
 returns-2 : tie.Need-returns-2
 returns-2 c =
@@ -27,4 +15,4 @@ returns-2 c =
 
 pub long-number-spec : {M : Type 1} → statement M
 long-number-spec =
-    tie.close (tie.spec cast-result sub-result cast-result-2 sub-result-2 returns returns-2)
+    tie.close (tie.spec (λ c. search needs) (λ c. search needs) (λ c. search needs) sub-result-2 (λ c. search needs) returns-2)

@@ -6,12 +6,6 @@ use borrow.Author.Needs.{needs}
 use Rattle.reals.proofs.words.number.Statement.{statement}
 use Rattle.reals.proofs.words.number.Tie as tie
 
-cast-result : tie.Need-cast-result
-cast-result c = search needs
-
-cast-result-2 : tie.Need-cast-result-2
-cast-result-2 c = search needs
-
 sub-result : tie.Need-sub-result
 sub-result c = rw (word-neg w32 w64 tt (c .before .args .w) (c .if1 .left) (c .before .fits .w .fits)) (sfits-widen {w = w32} tt (sfits-toZ (c .before .fits .w)))
 
@@ -20,9 +14,6 @@ cast-result-3 c =
     let h = sfits-toZ (c .before .fits .w) in
     rw (word-neg w32 w64 tt (c .before .args .w) (c .if1 .left) (c .before .fits .w .fits), toZ-ofZ (sfits-widen {w = w32} {w′ = w64} tt h)) h
 
-returns : tie.Need-returns
-returns c = search needs
-
 returns-2 : tie.Need-returns-2
 returns-2 c =
     let h = sfits-toZ (c .before .fits .w) in
@@ -30,4 +21,4 @@ returns-2 c =
 
 pub number-spec : {M : Type 1} → statement M
 number-spec =
-    tie.close (tie.spec cast-result cast-result-2 sub-result cast-result-3 returns returns-2)
+    tie.close (tie.spec (λ c. search needs) (λ c. search needs) sub-result cast-result-3 (λ c. search needs) returns-2)

@@ -14,24 +14,6 @@ Inv-loop text n at₀ i₀ at i = at ≤ length text
 abbrev μ-loop : tie.MeasureT-loop
 μ-loop text n at₀ i₀ at i = n - i
 
-loop-holds : tie.Need-loop-holds Inv-loop μ-loop
-loop-holds c = search needs
-
-add-at : tie.Need-add-at Inv-loop μ-loop
-add-at c = search needs
-
-loop-less : tie.Need-loop-less Inv-loop μ-loop
-loop-less c = search needs
-
-loop-again : tie.Need-loop-again Inv-loop μ-loop
-loop-again c = search needs
-
-sub-say : tie.Need-sub-say Inv-loop μ-loop
-sub-say c = search needs
-
-part-say-start : tie.Need-part-say-start Inv-loop μ-loop
-part-say-start c = search needs
-
 part-say-end : tie.Need-part-say-end Inv-loop μ-loop
 part-say-end c =
     let s = c .before .before .before .before .args .text .now in
@@ -44,16 +26,16 @@ say-nth-spec =
     (tie.spec
     Inv-loop
     μ-loop
-    loop-holds
+    (λ c. search needs)
     (λ c κs. search needs)
     (λ c. search needs)
-    add-at
     (λ c. search needs)
-    loop-less
-    loop-again
+    (λ c. search needs)
+    (λ c. search needs)
+    (λ c. search needs)
     (λ c κs. search needs)
-    sub-say
-    part-say-start
+    (λ c. search needs)
+    (λ c. search needs)
     part-say-end
     (λ c κs. search needs)
     (λ c. search needs))

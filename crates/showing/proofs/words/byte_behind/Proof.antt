@@ -19,9 +19,6 @@ Inv-loop source at i₀ i = at + reach inName (drop at source) ≡ i + reach inN
 abbrev μ-loop : tie.MeasureT-loop
 μ-loop source at i₀ i = length source - i
 
-loop-holds : tie.Need-loop-holds Inv-loop μ-loop
-loop-holds c = refl
-
 returns : tie.Need-returns Inv-loop μ-loop
 unfolding byteBehind
 returns c =
@@ -59,7 +56,7 @@ byte-behind-spec =
     (tie.spec
     Inv-loop
     μ-loop
-    loop-holds
+    (λ c. refl)
     (λ c. search needs)
     (λ c κs. search needs)
     (λ c κs. search needs)

@@ -17,9 +17,6 @@ Inv-loop source from i₀ i = from + gap (drop from source) ≡ i + gap (drop i 
 abbrev μ-loop : tie.MeasureT-loop
 μ-loop source from i₀ i = length source - i
 
-loop-holds : tie.Need-loop-holds Inv-loop μ-loop
-loop-holds c = refl
-
 returns : tie.Need-returns Inv-loop μ-loop
 returns c =
     let l = c .before .before .before .before .loop in
@@ -44,7 +41,7 @@ blanks-end-spec =
     (tie.spec
     Inv-loop
     μ-loop
-    loop-holds
+    (λ c. refl)
     (λ c. omega arith)
     (λ c κs. search needs)
     returns

@@ -16,9 +16,6 @@ Inv-loop source from q i₀ i = from + length (before q (drop from source)) ≡ 
 abbrev μ-loop : tie.MeasureT-loop
 μ-loop source from q i₀ i = length source - i
 
-loop-holds : tie.Need-loop-holds Inv-loop μ-loop
-loop-holds c = refl
-
 returns : tie.Need-returns Inv-loop μ-loop
 returns c =
     let l = c .before .before .before .loop in
@@ -43,7 +40,7 @@ find-spec =
     (tie.spec
     Inv-loop
     μ-loop
-    loop-holds
+    (λ c. refl)
     (λ c. omega arith)
     returns
     (λ c. omega arith)

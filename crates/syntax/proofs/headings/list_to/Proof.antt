@@ -1,5 +1,5 @@
 -- `syntax::headings::list_to` meets its contract: the list's answer, and then the symbol's. Assumes nothing.
-use mathlib.Core.Path.{_≡_, sym, ap, _∙_}
+use mathlib.Core.Path.{sym, ap, _∙_}
 use native.Mathlib.Omega.{arith}
 use Rattle.symbols.specs.declared.kinds.Stored.{Stored}
 use Rattle.grammar.proofs.Peeks.{inside}

@@ -8,35 +8,12 @@ use borrow.Author.Needs.{needs}
 use Rattle.syntax.proofs.operators.relational.Statement.{statement}
 use Rattle.syntax.proofs.operators.relational.Tie as tie
 
-returns : tie.Need-returns
-unfolding relationOf
-returns c = rw ((c .enum-told) .given .1) refl
-
-returns-2 : tie.Need-returns-2
-unfolding relationOf
-returns-2 c = rw ((c .enum-told2) .given .1) refl
-
-returns-3 : tie.Need-returns-3
-unfolding relationOf
-returns-3 c = rw ((c .enum-told3) .given .1) refl
-
-returns-4 : tie.Need-returns-4
-unfolding relationOf
-returns-4 c = rw ((c .enum-told4) .given .1) refl
-
-returns-5 : tie.Need-returns-5
-unfolding relationOf
-returns-5 c = rw ((c .enum-told5) .given .1) refl
-
-returns-6 : tie.Need-returns-6
-unfolding relationOf
-returns-6 c = rw ((c .enum-told6) .given .1) refl
-
 returns-7 : tie.Need-returns-7
 unfolding relationOf
 returns-7 c = (zero-one (is-not ((c .before .args) .s) refl (but (26 ∷ 27 ∷ 28 ∷ 29 ∷ 30 ∷ 31 ∷ [])) 26 refl ((c .match) .keys7)) (zero-one (is-not ((c .before .args) .s) refl (but (26 ∷ 27 ∷ 28 ∷ 29 ∷ 30 ∷ 31 ∷ [])) 27 refl ((c .match) .keys7)) (zero-one (is-not ((c .before .args) .s) refl (but (26 ∷ 27 ∷ 28 ∷ 29 ∷ 30 ∷ 31 ∷ [])) 28 refl ((c .match) .keys7)) (zero-one (is-not ((c .before .args) .s) refl (but (26 ∷ 27 ∷ 28 ∷ 29 ∷ 30 ∷ 31 ∷ [])) 29 refl ((c .match) .keys7)) (zero-one (is-not ((c .before .args) .s) refl (but (26 ∷ 27 ∷ 28 ∷ 29 ∷ 30 ∷ 31 ∷ [])) 30 refl ((c .match) .keys7)) (zero-one (is-not ((c .before .args) .s) refl (but (26 ∷ 27 ∷ 28 ∷ 29 ∷ 30 ∷ 31 ∷ [])) 31 refl ((c .match) .keys7)) refl))))))
 
 pub relational-spec : {M : Type 1} → statement M
+unfolding relationOf
 relational-spec =
     tie.close
     (tie.spec
@@ -46,10 +23,10 @@ relational-spec =
     (λ c. search needs)
     (λ c. search needs)
     (λ c. search needs)
-    returns
-    returns-2
-    returns-3
-    returns-4
-    returns-5
-    returns-6
+    (λ c. rw ((c .enum-told) .given .1) refl)
+    (λ c. rw ((c .enum-told2) .given .1) refl)
+    (λ c. rw ((c .enum-told3) .given .1) refl)
+    (λ c. rw ((c .enum-told4) .given .1) refl)
+    (λ c. rw ((c .enum-told5) .given .1) refl)
+    (λ c. rw ((c .enum-told6) .given .1) refl)
     returns-7)

@@ -23,11 +23,10 @@ module _ (place : ℕ → ℕ) (k : ℕ) where
   unfolding hasNone
   with-one h = simp (ne-eqb k 4 (λ e. h (inl e)), ne-eqb k 13 (λ e. h (inr (inl e))), ne-eqb k 17 (λ e. h (inr (inr (inl e)))), ne-eqb k 21 (λ e. h (inr (inr (inr e)))))
 
-place-word-requires : tie.Need-place-word-requires
-place-word-requires c κs = search needs
-
 returns : tie.Need-returns
-returns c = ap (λ b. cond b 0 (placeOf (c .before .args .places .now) (c .before .args .symbol .number))) (without (placeOf (c .before .args .places .now)) (c .before .args .kind) (c .match .keys1))
+returns c =
+    let args = c .before .args in
+    ap (λ b. cond b 0 (placeOf (args .places .now) (args .symbol .number))) (without (placeOf (args .places .now)) (args .kind) (c .match .keys1))
 
 returns-2 : tie.Need-returns-2
 returns-2 c =
@@ -35,4 +34,4 @@ returns-2 c =
     ∙ ap (λ b. cond b 0 (placeOf (c .before .before .args .places .now) (c .before .before .args .symbol .number))) (with-one (placeOf (c .before .before .args .places .now)) (c .before .before .args .kind) (c .before .match .rest .1))
 
 pub node-place-spec : {M : Type 1} → statement M
-node-place-spec = tie.close (tie.spec place-word-requires returns returns-2)
+node-place-spec = tie.close (tie.spec (λ c κs. search needs) returns returns-2)

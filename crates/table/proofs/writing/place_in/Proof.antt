@@ -6,21 +6,9 @@ use borrow.Author.Needs.{needs}
 use Rattle.table.proofs.writing.place_in.Statement.{statement}
 use Rattle.table.proofs.writing.place_in.Tie as tie
 
-mul-result : tie.Need-mul-result
-mul-result c = search needs
-
-shared-slice-read-result : tie.Need-shared-slice-read-result
-shared-slice-read-result c = search needs
-
-cast-result : tie.Need-cast-result
-cast-result c = search needs
-
-returns : tie.Need-returns
-returns c = search needs
-
 returns-2 : tie.Need-returns-2
 returns-2 c = sym (ap (λ x. x % 65536) (List·getD-eq-default (c .before .args .places .now) 0 (c .if1 .left)))
 
 pub place-in-spec : {M : Type 1} → statement M
 place-in-spec =
-    tie.close (tie.spec mul-result shared-slice-read-result cast-result returns returns-2)
+    tie.close (tie.spec (λ c. search needs) (λ c. search needs) (λ c. search needs) (λ c. search needs) returns-2)

@@ -5,17 +5,8 @@ use borrow.Author.Needs.{needs}
 use Rattle.table.proofs.writing.put.Statement.{statement}
 use Rattle.table.proofs.writing.put.Tie as tie
 
-mul-table : tie.Need-mul-table
-mul-table c = search needs
-
-slice-write-table : tie.Need-slice-write-table
-slice-write-table c = search needs
-
-same-length : tie.Need-same-length
-same-length c = search needs
-
 returns : tie.Need-returns
 returns c = wrote-one (c .args .table .now) (c .args .at) (c .args .word) (c .pre)
 
 pub put-spec : {M : Type 1} → statement M
-put-spec = tie.close (tie.spec mul-table slice-write-table same-length returns)
+put-spec = tie.close (tie.spec (λ c. search needs) (λ c. search needs) (λ c. search needs) returns)

@@ -16,13 +16,19 @@ add-word-at : tie.Need-add-word-at
 add-word-at c = let h = declared-small (c .before .before .before .before .before .before .before .before .before .before .args .word) (c .before .before .before .before .d .given .0 .0) (sym (c .before .before .before .before .before .before .meant .ensures) ∙ c .before .before .before .before .d .given .1) in omega arith
 
 returns : tie.Need-returns
-returns c = wrote-as (c .before .before .put-three .ensures) (declared-words (placeOf (c .before .before .before .before .before .before .before .before .before .before .before .before .before .before .before .before .args .places .now)) (c .before .before .before .before .before .before .before .before .before .before .before .before .before .before .before .before .args .rows .now) (c .before .before .before .before .before .before .before .before .before .before .before .before .before .before .before .before .args .symbol .number) (c .before .before .before .before .before .before .before .before .before .before .d .given .0 .0) (sym (c .before .before .before .before .before .before .before .before .before .before .before .before .meant .ensures) ∙ c .before .before .before .before .before .before .before .before .before .before .d .given .1) (c .before .before .before .before .before .before .before .before .before .before .before .before .before .place-word .ensures) (c .before .before .before .before .before .before .kind-number .ensures ∙ ap (λ z. z - 4) (c .before .before .before .before .before .before .before .word-at .ensures)) (c .before .before .before .before .place-word2 .ensures ∙ ap (placeOf (c .before .before .before .before .before .before .before .before .before .before .before .before .before .before .before .before .args .places .now)) (c .before .before .before .before .before .word-at2 .ensures)))
+returns c =
+    let args = c .before .before .before .before .before .before .before .before .before .before .before .before .before .before .before .before .args in
+    wrote-as (c .before .before .put-three .ensures) (declared-words (placeOf (args .places .now)) (args .rows .now) (args .symbol .number) (c .before .before .before .before .before .before .before .before .before .before .d .given .0 .0) (sym (c .before .before .before .before .before .before .before .before .before .before .before .before .meant .ensures) ∙ c .before .before .before .before .before .before .before .before .before .before .d .given .1) (c .before .before .before .before .before .before .before .before .before .before .before .before .before .place-word .ensures) (c .before .before .before .before .before .before .kind-number .ensures ∙ ap (λ z. z - 4) (c .before .before .before .before .before .before .before .word-at .ensures)) (c .before .before .before .before .place-word2 .ensures ∙ ap (placeOf (args .places .now)) (c .before .before .before .before .before .word-at2 .ensures)))
 
 returns-2 : tie.Need-returns-2
-returns-2 c = wrote-as (c .before .before .put-three2 .ensures) (given-words (placeOf (c .before .before .before .before .before .before .before .before .before .before .before .args .places .now)) (c .before .before .before .before .before .before .before .before .before .before .before .args .rows .now) (c .before .before .before .before .before .before .before .before .before .before .before .args .symbol .number) (c .before .before .before .before .before .e .given .0 .0) (sym (c .before .before .before .before .before .before .before .meant .ensures) ∙ c .before .before .before .before .before .e .given .1) (c .before .before .before .before .before .before .before .before .place-word .ensures))
+returns-2 c =
+    let args = c .before .before .before .before .before .before .before .before .before .before .before .args in
+    wrote-as (c .before .before .put-three2 .ensures) (given-words (placeOf (args .places .now)) (args .rows .now) (args .symbol .number) (c .before .before .before .before .before .e .given .0 .0) (sym (c .before .before .before .before .before .before .before .meant .ensures) ∙ c .before .before .before .before .before .e .given .1) (c .before .before .before .before .before .before .before .before .place-word .ensures))
 
 returns-3 : tie.Need-returns-3
-returns-3 c = wrote-as (c .before .before .put-three3 .ensures) (nothing-words (placeOf (c .before .before .before .before .before .before .before .before .before .before .args .places .now)) (c .before .before .before .before .before .before .before .before .before .before .args .rows .now) (c .before .before .before .before .before .before .before .before .before .before .args .symbol .number) (sym (c .before .before .before .before .before .before .meant .ensures) ∙ c .before .before .before .before .enum-told .given .1) (c .before .before .before .before .before .before .before .place-word .ensures))
+returns-3 c =
+    let args = c .before .before .before .before .before .before .before .before .before .before .args in
+    wrote-as (c .before .before .put-three3 .ensures) (nothing-words (placeOf (args .places .now)) (args .rows .now) (args .symbol .number) (sym (c .before .before .before .before .before .before .meant .ensures) ∙ c .before .before .before .before .enum-told .given .1) (c .before .before .before .before .before .before .before .place-word .ensures))
 
 pub put-use-spec : {M : Type 1} → statement M
 put-use-spec =

@@ -22,7 +22,9 @@ loop-holds : tie.Need-loop-holds Inv-loop μ-loop
 loop-holds c = (omega arith, omega arith, none-yet _ _ _)
 
 put-use-requires : tie.Need-put-use-requires Inv-loop μ-loop
-put-use-requires c κs = use-room (placeOf (c .before .before .before .before .before .before .before .before .before .before .before .before .args .places .now)) (c .before .before .before .before .before .before .before .before .before .before .before .before .args .rows .now) (c .before .before .before .before .before .before .before .before .before .before .before .before .args .nodes .now) (c .before .before .before .before .before .before .before .before .before .before .before .before .args .uses .now) (c .before .before .before .before .before .before .before .loop .i) (c .before .before .before .before .before .before .before .loop .u) (c .before .before .before .before .before .before .before .loop .inv .2) (c .before .before .before .before .before .before .before .before .before .before .before .before .pre) (omega arith) (sym (c .before .before .before .before .is-use .ensures) ∙ c .before .before .before .if1 .taken)
+put-use-requires c κs =
+    let args = c .before .before .before .before .before .before .before .before .before .before .before .before .args in
+    use-room (placeOf (args .places .now)) (args .rows .now) (args .nodes .now) (args .uses .now) (c .before .before .before .before .before .before .before .loop .i) (c .before .before .before .before .before .before .before .loop .u) (c .before .before .before .before .before .before .before .loop .inv .2) (c .before .before .before .before .before .before .before .before .before .before .before .before .pre) (omega arith) (sym (c .before .before .before .before .is-use .ensures) ∙ c .before .before .before .if1 .taken)
 
 add-at : tie.Need-add-at Inv-loop μ-loop
 add-at c = let r = use-room (placeOf (c .before .before .before .before .before .before .before .before .before .before .before .before .before .before .before .args .places .now)) (c .before .before .before .before .before .before .before .before .before .before .before .before .before .before .before .args .rows .now) (c .before .before .before .before .before .before .before .before .before .before .before .before .before .before .before .args .nodes .now) (c .before .before .before .before .before .before .before .before .before .before .before .before .before .before .before .args .uses .now) (c .before .before .before .before .before .before .before .before .before .before .loop .i) (c .before .before .before .before .before .before .before .before .before .before .loop .u) (c .before .before .before .before .before .before .before .before .before .before .loop .inv .2) (c .before .before .before .before .before .before .before .before .before .before .before .before .before .before .before .pre) (omega arith) (sym (c .before .before .before .before .before .before .before .is-use .ensures) ∙ c .before .before .before .before .before .before .if1 .taken) in omega (arith, c .before .before .before .before .before .before .before .before .before .before .loop .inv .2 .wrote .size)
@@ -38,7 +40,9 @@ same-length : tie.Need-same-length Inv-loop μ-loop
 same-length c = c .before .loop .inv .2 .wrote .size
 
 returns : tie.Need-returns Inv-loop μ-loop
-returns c = all-written (c .before .loop .inv .2) (uses-end (placeOf (c .before .before .before .before .before .before .args .places .now)) (c .before .before .before .before .before .before .args .rows .now) (c .before .before .before .before .before .before .args .nodes .now) (drop (c .before .loop .u) (c .before .before .before .before .before .before .args .uses .now)) (c .before .loop .i) (omega arith))
+returns c =
+    let args = c .before .before .before .before .before .before .args in
+    all-written (c .before .loop .inv .2) (uses-end (placeOf (args .places .now)) (args .rows .now) (args .nodes .now) (drop (c .before .loop .u) (args .uses .now)) (c .before .loop .i) (omega arith))
 
 pub put-uses-spec : {M : Type 1} → statement M
 put-uses-spec =

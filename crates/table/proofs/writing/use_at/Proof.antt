@@ -7,12 +7,6 @@ use borrow.Author.Needs.{needs}
 use Rattle.table.proofs.writing.use_at.Statement.{statement}
 use Rattle.table.proofs.writing.use_at.Tie as tie
 
-mul-result : tie.Need-mul-result
-mul-result c = search needs
-
-shared-slice-read-result : tie.Need-shared-slice-read-result
-shared-slice-read-result c = search needs
-
 returns : tie.Need-returns
 returns c = inside (c .before .before .args .uses .now) (c .before .before .args .u) 0 8197 (c .before .if1 .taken)
 
@@ -20,4 +14,4 @@ returns-2 : tie.Need-returns-2
 returns-2 c = sym (List·getD-eq-default (c .before .args .uses .now) 8197 (c .if1 .left))
 
 pub use-at-spec : {M : Type 1} → statement M
-use-at-spec = tie.close (tie.spec mul-result shared-slice-read-result returns returns-2)
+use-at-spec = tie.close (tie.spec (λ c. search needs) (λ c. search needs) returns returns-2)

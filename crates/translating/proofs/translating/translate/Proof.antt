@@ -9,25 +9,16 @@ use borrow.Author.Needs.{needs}
 use Rattle.translating.proofs.translating.translate.Statement.{statement}
 use Rattle.translating.proofs.translating.translate.Tie as tie
 
-new-requires : tie.Need-new-requires
-new-requires c κs = search needs
-
 returns : tie.Need-returns
 returns c =
     let w = as-short (c .before .if1 .taken) (c .new .ensures) in
     (w, faith w)
-
-slice-relend-prefix-judged : tie.Need-slice-relend-prefix-judged
-slice-relend-prefix-judged c = search needs
 
 slice-aggregate-judged : tie.Need-slice-aggregate-judged
 slice-aggregate-judged c = sym (length-take-le 16384 (c .before .before .before .before .args .code .now) (c .before .if1 .left))
 
 judged-requires : tie.Need-judged-requires
 judged-requires c κs = length-take-le 16384 (c .before .before .before .before .args .code .now) (c .before .if1 .left)
-
-same-length : tie.Need-same-length
-same-length c = search needs
 
 returns-2 : tie.Need-returns-2
 returns-2 c =
@@ -38,10 +29,10 @@ pub translate-spec : {M : Type 1} → statement M
 translate-spec =
     tie.close
     (tie.spec
-    new-requires
+    (λ c κs. search needs)
     returns
-    slice-relend-prefix-judged
+    (λ c. search needs)
     slice-aggregate-judged
     judged-requires
-    same-length
+    (λ c. search needs)
     returns-2)

@@ -8,27 +8,9 @@ use Rattle.types.specs.model.Passes.{judgement, sortIn, leftOf}
 use Rattle.types.proofs.meanings.as_left.Statement.{statement}
 use Rattle.types.proofs.meanings.as_left.Tie as tie
 
-enum-known-m : tie.Need-enum-known-m
-enum-known-m c = search needs
-
-row-requires : tie.Need-row-requires
-row-requires c κs = search needs
-
-own-result-requires : tie.Need-own-result-requires
-own-result-requires c κs = search needs
-
 returns : tie.Need-returns
 unfolding leftOf
 returns c = rw (c .before .before .before .before .before .m .given .1, ← (c .before .before .before .row .ensures), eq-eqb _ _ (c .before .if1 .taken)) (c .own-result .ensures)
-
-sort-requires : tie.Need-sort-requires
-sort-requires c κs = search needs
-
-enum-told : tie.Need-enum-told
-enum-told c = search needs
-
-enum-told-2 : tie.Need-enum-told-2
-enum-told-2 c = search needs
 
 returns-2 : tie.Need-returns-2
 unfolding leftOf sortIn
@@ -46,13 +28,13 @@ pub as-left-spec : {M : Type 1} → statement M
 as-left-spec =
     tie.close
     (tie.spec
-    enum-known-m
-    row-requires
-    own-result-requires
+    (λ c. search needs)
+    (λ c κs. search needs)
+    (λ c κs. search needs)
     returns
-    sort-requires
-    enum-told
-    enum-told-2
+    (λ c κs. search needs)
+    (λ c. search needs)
+    (λ c. search needs)
     returns-2
     returns-3
     returns-4)

@@ -21,31 +21,10 @@ loop-holds c =
     let e : c .before .args .d .number + 1 + 0 ≡ c .before .args .d .number + 1 = omega arith in
     (omega arith, rw e (omega arith))
 
-add-if1 : tie.Need-add-if1 Inv-loop μ-loop
-add-if1 c = search needs
-
-add-if1-2 : tie.Need-add-if1-2 Inv-loop μ-loop
-add-if1-2 c = search needs
-
-add-at : tie.Need-add-at Inv-loop μ-loop
-add-at c = search needs
-
-add-at-2 : tie.Need-add-at-2 Inv-loop μ-loop
-add-at-2 c = search needs
-
-is-kind-requires : tie.Need-is-kind-requires Inv-loop μ-loop
-is-kind-requires c κs = search needs
-
 returns : tie.Need-returns Inv-loop μ-loop
 returns c =
     let e = formals-other (c .before .before .before .before .before .before .before .args .rows .now) (c .before .before .before .before .before .before .before .args .d .number + 1 + c .before .before .before .before .before .loop .n) _ (omega arith) (c .before .is-kind .ensures) (c .if2 .taken) in
     (omega arith, omega arith)
-
-add-n : tie.Need-add-n Inv-loop μ-loop
-add-n c = search needs
-
-loop-less : tie.Need-loop-less Inv-loop μ-loop
-loop-less c = search needs
 
 loop-again : tie.Need-loop-again Inv-loop μ-loop
 loop-again c =
@@ -65,13 +44,13 @@ formals-spec =
     Inv-loop
     μ-loop
     loop-holds
-    add-if1
-    add-if1-2
-    add-at
-    add-at-2
-    is-kind-requires
+    (λ c. search needs)
+    (λ c. search needs)
+    (λ c. search needs)
+    (λ c. search needs)
+    (λ c κs. search needs)
     returns
-    add-n
-    loop-less
+    (λ c. search needs)
+    (λ c. search needs)
     loop-again
     returns-2)

@@ -6,11 +6,8 @@ use borrow.Author.Needs.{needs}
 use Rattle.types.proofs.meanings.is_kind.Statement.{statement}
 use Rattle.types.proofs.meanings.is_kind.Tie as tie
 
-row-requires : tie.Need-row-requires
-row-requires c κs = search needs
-
 returns : tie.Need-returns
 returns c = ap (λ (r : Row). eqb (r .kind) (c .before .before .before .args .kind)) (c .before .row .ensures)
 
 pub is-kind-spec : {M : Type 1} → statement M
-is-kind-spec = tie.close (tie.spec row-requires returns)
+is-kind-spec = tie.close (tie.spec (λ c κs. search needs) returns)

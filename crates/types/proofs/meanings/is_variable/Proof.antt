@@ -5,27 +5,9 @@ use Rattle.types.specs.model.Passes.{variableOf}
 use Rattle.types.proofs.meanings.is_variable.Statement.{statement}
 use Rattle.types.proofs.meanings.is_variable.Tie as tie
 
-enum-known-m : tie.Need-enum-known-m
-enum-known-m c = search needs
-
-is-kind-requires : tie.Need-is-kind-requires
-is-kind-requires c κs = search needs
-
 returns : tie.Need-returns
 unfolding variableOf
 returns c = simp (c .before .before .before .m .given .1, sym (c .before .is-kind .ensures) ∙ c .if1 .taken)
-
-sort-of-requires : tie.Need-sort-of-requires
-sort-of-requires c κs = search needs
-
-apart-requires : tie.Need-apart-requires
-apart-requires c κs = search needs
-
-enum-told : tie.Need-enum-told
-enum-told c = search needs
-
-enum-told-2 : tie.Need-enum-told-2
-enum-told-2 c = search needs
 
 returns-2 : tie.Need-returns-2
 unfolding variableOf
@@ -43,13 +25,13 @@ pub is-variable-spec : {M : Type 1} → statement M
 is-variable-spec =
     tie.close
     (tie.spec
-    enum-known-m
-    is-kind-requires
+    (λ c. search needs)
+    (λ c κs. search needs)
     returns
-    sort-of-requires
-    apart-requires
-    enum-told
-    enum-told-2
+    (λ c κs. search needs)
+    (λ c κs. search needs)
+    (λ c. search needs)
+    (λ c. search needs)
     returns-2
     returns-3
     returns-4)

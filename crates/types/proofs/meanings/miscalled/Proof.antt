@@ -7,27 +7,12 @@ use Rattle.types.specs.model.Arrays.{MeantWithin}
 use Rattle.types.proofs.meanings.miscalled.Statement.{statement}
 use Rattle.types.proofs.meanings.miscalled.Tie as tie
 
-enum-known-m : tie.Need-enum-known-m
-enum-known-m c = search needs
-
-is-kind-requires : tie.Need-is-kind-requires
-is-kind-requires c κs = search needs
-
 formals-requires : tie.Need-formals-requires
 formals-requires c κs = let h = subst MeantWithin (c .before .before .before .m .given .1) (c .before .before .before .before .before .before .pre .1) in (omega arith, omega arith)
 
 returns : tie.Need-returns
 unfolding miscalledOf
 returns c = simp (c .before .before .before .before .m .given .1, sym (c .before .before .is-kind .ensures) ∙ c .before .if1 .taken, c .formals .ensures .0)
-
-enum-known-m-2 : tie.Need-enum-known-m-2
-enum-known-m-2 c = search needs
-
-given-formals-requires : tie.Need-given-formals-requires
-given-formals-requires c κs = search needs
-
-enum-told : tie.Need-enum-told
-enum-told c = search needs
 
 returns-2 : tie.Need-returns-2
 unfolding miscalledOf
@@ -45,13 +30,13 @@ pub miscalled-spec : {M : Type 1} → statement M
 miscalled-spec =
     tie.close
     (tie.spec
-    enum-known-m
-    is-kind-requires
+    (λ c. search needs)
+    (λ c κs. search needs)
     formals-requires
     returns
-    enum-known-m-2
-    given-formals-requires
-    enum-told
+    (λ c. search needs)
+    (λ c κs. search needs)
+    (λ c. search needs)
     returns-2
     returns-3
     returns-4)

@@ -22,23 +22,8 @@ abbrev μ-loop : tie.MeasureT-loop
 loop-holds : tie.Need-loop-holds Inv-loop μ-loop
 loop-holds c = (omega arith, refl)
 
-sub-n : tie.Need-sub-n Inv-loop μ-loop
-sub-n c = search needs
-
-mul-t10 : tie.Need-mul-t10 Inv-loop μ-loop
-mul-t10 c = omega arith
-
-shared-slice-read-t12 : tie.Need-shared-slice-read-t12 Inv-loop μ-loop
-shared-slice-read-t12 c = omega arith
-
 cast-t13 : tie.Need-cast-t13 Inv-loop μ-loop
 cast-t13 c = omega (arith, c .shared-slice-known3 .given (c .before .before .loop .n - 1))
-
-row-requires : tie.Need-row-requires Inv-loop μ-loop
-row-requires c κs = search needs
-
-sort-requires : tie.Need-sort-requires Inv-loop μ-loop
-sort-requires c κs = search needs
 
 returns : tie.Need-returns Inv-loop μ-loop
 unfolding sortIn
@@ -49,9 +34,6 @@ returns c =
     ap (λ (t : ℕ). judgement t (eqb t 0)) (c .sort .ensures .0 ∙ ap (λ (x : Row). typeIn (x .sort)) r)
     ∙ sym (own-here (a .rows .now) (a .symbol .number) (a .bodies .now) (l .n) (c .before .before .before .before .before .before .loop-test .taken) (sym (ap (λ (x : Row). x .symbol .number) r) ∙ c .before .if1 .taken))
     ∙ l .inv .1
-
-loop-less : tie.Need-loop-less Inv-loop μ-loop
-loop-less c = omega arith
 
 loop-again : tie.Need-loop-again Inv-loop μ-loop
 loop-again c =
@@ -73,13 +55,13 @@ own-result-spec =
     Inv-loop
     μ-loop
     loop-holds
-    sub-n
-    mul-t10
-    shared-slice-read-t12
+    (λ c. search needs)
+    (λ c. omega arith)
+    (λ c. omega arith)
     cast-t13
-    row-requires
-    sort-requires
+    (λ c κs. search needs)
+    (λ c κs. search needs)
     returns
-    loop-less
+    (λ c. omega arith)
     loop-again
     returns-2)

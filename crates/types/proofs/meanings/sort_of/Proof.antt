@@ -7,15 +7,9 @@ use borrow.Author.Needs.{needs}
 use Rattle.types.proofs.meanings.sort_of.Statement.{statement}
 use Rattle.types.proofs.meanings.sort_of.Tie as tie
 
-row-requires : tie.Need-row-requires
-row-requires c κs = search needs
-
-sort-requires : tie.Need-sort-requires
-sort-requires c κs = search needs
-
 returns : tie.Need-returns
 unfolding sortIn
 returns c = c .sort .ensures .0 ∙ ap (λ (r : Row). typeIn (r .sort)) (c .before .row .ensures)
 
 pub sort-of-spec : {M : Type 1} → statement M
-sort-of-spec = tie.close (tie.spec row-requires sort-requires returns)
+sort-of-spec = tie.close (tie.spec (λ c κs. search needs) (λ c κs. search needs) returns)

@@ -10,12 +10,6 @@ use Rattle.types.specs.model.Arrays.{MeantWithin}
 use Rattle.types.proofs.meanings.wanted.Statement.{statement}
 use Rattle.types.proofs.meanings.wanted.Tie as tie
 
-enum-known-m : tie.Need-enum-known-m
-enum-known-m c = search needs
-
-is-kind-requires : tie.Need-is-kind-requires
-is-kind-requires c κs = search needs
-
 returns : tie.Need-returns
 unfolding wantOf
 returns c = simp (c .before .before .before .m .given .1, sym (from-not _ true (c .if1 .taken) ∙ c .before .is-kind .ensures))
@@ -33,18 +27,6 @@ add-at c = let h = subst MeantWithin (c .before .before .before .before .before 
 add-at-2 : tie.Need-add-at-2
 add-at-2 c = let h = subst MeantWithin (c .before .before .before .before .before .before .m .given .1) (c .before .before .before .before .before .before .before .before .before .pre .1) in omega arith
 
-sort-of-requires : tie.Need-sort-of-requires
-sort-of-requires c κs = search needs
-
-enum-known-m-2 : tie.Need-enum-known-m-2
-enum-known-m-2 c = search needs
-
-given-wants-requires : tie.Need-given-wants-requires
-given-wants-requires c κs = search needs
-
-enum-told : tie.Need-enum-told
-enum-told c = search needs
-
 returns-3 : tie.Need-returns-3
 unfolding wantOf
 returns-3 c = simp (c .before .before .before .before .before .before .before .m .given .1, sym (from-not _ false (c .before .before .before .before .if1 .left) ∙ c .before .before .before .before .before .is-kind .ensures), lt-leb _ _ (rw (c .before .before .before .formals .ensures .0) at (c .before .before .if2 .left)), c .sort-of .ensures)
@@ -61,17 +43,17 @@ pub wanted-spec : {M : Type 1} → statement M
 wanted-spec =
     tie.close
     (tie.spec
-    enum-known-m
-    is-kind-requires
+    (λ c. search needs)
+    (λ c κs. search needs)
     returns
     formals-requires
     returns-2
     add-at
     add-at-2
-    sort-of-requires
-    enum-known-m-2
-    given-wants-requires
-    enum-told
+    (λ c κs. search needs)
+    (λ c. search needs)
+    (λ c κs. search needs)
+    (λ c. search needs)
     returns-3
     returns-4
     returns-5)

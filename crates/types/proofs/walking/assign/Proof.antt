@@ -6,21 +6,9 @@ use borrow.Author.Needs.{needs}
 use Rattle.types.proofs.walking.assign.Statement.{statement}
 use Rattle.types.proofs.walking.assign.Tie as tie
 
-pop-requires : tie.Need-pop-requires
-pop-requires c κs = search needs
-
-top-requires : tie.Need-top-requires
-top-requires c κs = search needs
-
-apart-requires : tie.Need-apart-requires
-apart-requires c κs = search needs
-
-note-requires : tie.Need-note-requires
-note-requires c κs = search needs
-
 returns : tie.Need-returns
 unfolding assignedAs withLeft
 returns c = λ u d b. c .note .ensures .0 u _ d b ∙ noted-ap _ (c .before .apart .ensures ∙ both-ap apartOf refl (c .before .before .top .ensures)) (c .before .before .before .pop .ensures .0 u _ d b)
 
 pub assign-spec : {M : Type 1} → statement M
-assign-spec = tie.close (tie.spec pop-requires top-requires apart-requires note-requires returns)
+assign-spec = tie.close (tie.spec (λ c κs. search needs) (λ c κs. search needs) (λ c κs. search needs) (λ c κs. search needs) returns)

@@ -7,35 +7,8 @@ use borrow.Author.Needs.{needs}
 use Rattle.types.proofs.walking.begin.Statement.{statement}
 use Rattle.types.proofs.walking.begin.Tie as tie
 
-mul-first : tie.Need-mul-first
-mul-first c = search needs
-
-mul-calls : tie.Need-mul-calls
-mul-calls c = search needs
-
-slice-write-calls : tie.Need-slice-write-calls
-slice-write-calls c = search needs
-
-add-second : tie.Need-add-second
-add-second c = search needs
-
-mul-calls-2 : tie.Need-mul-calls-2
-mul-calls-2 c = search needs
-
 slice-write-calls-2 : tie.Need-slice-write-calls-2
 slice-write-calls-2 c = let e = length-set (c .args .calls .now) (3 * c .args .n) (c .args .meaning) in omega arith
-
-add-third : tie.Need-add-third
-add-third c = search needs
-
-mul-calls-3 : tie.Need-mul-calls-3
-mul-calls-3 c = search needs
-
-slice-write-calls-3 : tie.Need-slice-write-calls-3
-slice-write-calls-3 c = search needs
-
-same-length : tie.Need-same-length
-same-length c = search needs
 
 returns : tie.Need-returns
 returns c = calls-begin (c .args .n) (c .args .calls .now) (c .args .meaning) (c .args .depth) (c .pre .1)
@@ -44,14 +17,14 @@ pub begin-spec : {M : Type 1} → statement M
 begin-spec =
     tie.close
     (tie.spec
-    mul-first
-    mul-calls
-    slice-write-calls
-    add-second
-    mul-calls-2
+    (λ c. search needs)
+    (λ c. search needs)
+    (λ c. search needs)
+    (λ c. search needs)
+    (λ c. search needs)
     slice-write-calls-2
-    add-third
-    mul-calls-3
-    slice-write-calls-3
-    same-length
+    (λ c. search needs)
+    (λ c. search needs)
+    (λ c. search needs)
+    (λ c. search needs)
     returns)

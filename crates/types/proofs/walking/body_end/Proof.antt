@@ -10,12 +10,9 @@ returns : tie.Need-returns
 unfolding withBodies below opensOf
 returns c = λ u s d b. rw (c .if1 .taken)
 
-sub-t : tie.Need-sub-t
-sub-t c = search needs
-
 returns-2 : tie.Need-returns-2
 unfolding withBodies
 returns-2 c = λ u s d b. rw (opens-below (c .before .before .before .args .t .bodies) b)
 
 pub body-end-spec : {M : Type 1} → statement M
-body-end-spec = tie.close (tie.spec returns sub-t returns-2)
+body-end-spec = tie.close (tie.spec returns (λ c. search needs) returns-2)

@@ -12,31 +12,12 @@ use Rattle.types.proofs.walking.call_end.Statement.{statement}
 use Rattle.types.proofs.walking.call_end.Tie as tie
 
 returns : tie.Need-returns
-returns c = λ u b. sym (ended-none (c .before .before .before .args .rows .now) (c .before .before .before .args .t .calls) (c .before .before .before .args .calls .now) (c .before .before .before .args .symbol .number) (see (c .before .before .before .args .t) u (c .before .before .before .args .stack .now) (c .before .before .before .args .calls .now) b) (c .before .before .before .args .as-statement) (c .if1 .taken))
-
-sub-n : tie.Need-sub-n
-sub-n c = search needs
-
-mul-meant : tie.Need-mul-meant
-mul-meant c = search needs
-
-mul-meant-2 : tie.Need-mul-meant-2
-mul-meant-2 c = search needs
-
-element-copy-out-meant : tie.Need-element-copy-out-meant
-element-copy-out-meant c = search needs
-
-meant-requires : tie.Need-meant-requires
-meant-requires c κs = search needs
-
-actuals-requires : tie.Need-actuals-requires
-actuals-requires c κs = search needs
+returns c =
+    let args = c .before .before .before .args in
+    λ u b. sym (ended-none (args .rows .now) (args .t .calls) (args .calls .now) (args .symbol .number) (see (args .t) u (args .stack .now) (args .calls .now) b) (args .as-statement) (c .if1 .taken))
 
 miscalled-requires : tie.Need-miscalled-requires
 miscalled-requires c κs = (c .before .before .before .before .before .before .before .before .before .pre .2, subst MeantWithin (sym (c .before .before .before .meant .ensures)) (meant-within (getD (c .before .before .before .before .before .before .before .before .before .args .calls .now) (3 * (c .before .before .before .before .before .before .before .before .before .args .t .calls - 1)) 0)))
-
-note-requires : tie.Need-note-requires
-note-requires c κs = search needs
 
 returns-2 : tie.Need-returns-2
 unfolding withCalls
@@ -46,12 +27,6 @@ returns-2 c =
 
 in-expression-requires : tie.Need-in-expression-requires
 in-expression-requires c κs = (c .before .before .before .before .before .before .before .before .before .pre .2, subst MeantWithin (sym (c .before .before .before .meant .ensures)) (meant-within (getD (c .before .before .before .before .before .before .before .before .before .args .calls .now) (3 * (c .before .before .before .before .before .before .before .before .before .args .t .calls - 1)) 0)))
-
-note-requires-2 : tie.Need-note-requires-2
-note-requires-2 c κs = search needs
-
-push-requires : tie.Need-push-requires
-push-requires c κs = search needs
 
 returns-3 : tie.Need-returns-3
 unfolding judged withCalls
@@ -66,16 +41,16 @@ call-end-spec =
     tie.close
     (tie.spec
     returns
-    sub-n
-    mul-meant
-    mul-meant-2
-    element-copy-out-meant
-    meant-requires
-    actuals-requires
+    (λ c. search needs)
+    (λ c. search needs)
+    (λ c. search needs)
+    (λ c. search needs)
+    (λ c κs. search needs)
+    (λ c κs. search needs)
     miscalled-requires
-    note-requires
+    (λ c κs. search needs)
     returns-2
     in-expression-requires
-    note-requires-2
-    push-requires
+    (λ c κs. search needs)
+    (λ c κs. search needs)
     returns-3)

@@ -12,14 +12,8 @@ use borrow.Author.Needs.{needs}
 use Rattle.types.proofs.walking.left.Statement.{statement}
 use Rattle.types.proofs.walking.left.Tie as tie
 
-meant-requires : tie.Need-meant-requires
-meant-requires c κs = search needs
-
 as-left-requires : tie.Need-as-left-requires
 as-left-requires c κs = (c .before .before .before .pre .1, subst MeantWithin (sym (c .before .meant .ensures)) (meant-within (c .before .before .before .args .t .last)), let e = c .as-left-arg .given .0 in let p = c .before .before .before .pre .0 in omega arith)
-
-note-requires : tie.Need-note-requires
-note-requires c κs = search needs
 
 returns : tie.Need-returns
 returns c =
@@ -27,21 +21,12 @@ returns c =
     λ u s d. c .note .ensures .0 u s d _ ∙ noted-ap _ (or-true _ (sym (ap (λ (z : Judgement). z .wrong) j) ∙ c .before .if2 .taken)) refl
     ∙ sym (left-again (c .before .before .before .before .before .before .before .args .rows .now) (c .before .before .before .before .before .before .before .args .symbol .number) (see (c .before .before .before .before .before .before .before .args .t) u s d (c .before .before .before .before .before .before .before .args .bodies .now)) (c .before .before .if1 .taken))
 
-differ-requires : tie.Need-differ-requires
-differ-requires c κs = search needs
-
-note-requires-2 : tie.Need-note-requires-2
-note-requires-2 c κs = search needs
-
 returns-2 : tie.Need-returns-2
 returns-2 c =
     let j = c .before .before .before .before .as-left .ensures ∙ ap (λ (m : Meant). leftOf (c .before .before .before .before .before .before .before .before .args .rows .now) (opensOf (c .before .before .before .before .before .before .before .before .args .t .bodies) (c .before .before .before .before .before .before .before .before .args .bodies .now)) m) (c .before .before .before .before .before .before .meant .ensures) in
     λ u s d. c .note2 .ensures .0 u s d _
     ∙ noted-ap _ (or-false (sym (ap (λ (z : Judgement). z .wrong) j) ∙ c .before .before .if2 .left) (c .before .differ .ensures ∙ both-ap differOf refl (ap (λ (z : Judgement). z .sort) j))) refl
     ∙ sym (left-again (c .before .before .before .before .before .before .before .before .args .rows .now) (c .before .before .before .before .before .before .before .before .args .symbol .number) (see (c .before .before .before .before .before .before .before .before .args .t) u s d (c .before .before .before .before .before .before .before .before .args .bodies .now)) (c .before .before .before .if1 .taken))
-
-note-requires-3 : tie.Need-note-requires-3
-note-requires-3 c κs = search needs
 
 returns-3 : tie.Need-returns-3
 unfolding withLeft
@@ -55,12 +40,12 @@ pub left-spec : {M : Type 1} → statement M
 left-spec =
     tie.close
     (tie.spec
-    meant-requires
+    (λ c κs. search needs)
     as-left-requires
-    note-requires
+    (λ c κs. search needs)
     returns
-    differ-requires
-    note-requires-2
+    (λ c κs. search needs)
+    (λ c κs. search needs)
     returns-2
-    note-requires-3
+    (λ c κs. search needs)
     returns-3)

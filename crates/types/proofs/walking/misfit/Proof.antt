@@ -7,30 +7,12 @@ use borrow.Author.Needs.{needs}
 use Rattle.types.proofs.walking.misfit.Statement.{statement}
 use Rattle.types.proofs.walking.misfit.Tie as tie
 
-enum-known-wanted : tie.Need-enum-known-wanted
-enum-known-wanted c = search needs
-
-top-requires : tie.Need-top-requires
-top-requires c κs = search needs
-
-apart-requires : tie.Need-apart-requires
-apart-requires c κs = search needs
-
-enum-known-wanted-2 : tie.Need-enum-known-wanted-2
-enum-known-wanted-2 c = search needs
-
 returns : tie.Need-returns
 unfolding misfitOf
 returns c = simp (c .before .before .wanted2 .given .1, c .if1 .taken)
 
-meant-requires : tie.Need-meant-requires
-meant-requires c κs = search needs
-
 is-variable-requires : tie.Need-is-variable-requires
 is-variable-requires c κs = (c .before .before .before .before .before .before .pre .1, subst MeantWithin (sym (c .meant .ensures)) (meant-within (c .before .before .before .before .before .before .args .t .last)))
-
-enum-told : tie.Need-enum-told
-enum-told c = search needs
 
 returns-2 : tie.Need-returns-2
 unfolding misfitOf
@@ -48,14 +30,14 @@ pub misfit-spec : {M : Type 1} → statement M
 misfit-spec =
     tie.close
     (tie.spec
-    enum-known-wanted
-    top-requires
-    apart-requires
-    enum-known-wanted-2
+    (λ c. search needs)
+    (λ c κs. search needs)
+    (λ c κs. search needs)
+    (λ c. search needs)
     returns
-    meant-requires
+    (λ c κs. search needs)
     is-variable-requires
-    enum-told
+    (λ c. search needs)
     returns-2
     returns-3
     returns-4)

@@ -10,14 +10,8 @@ use borrow.Author.Needs.{needs}
 use Rattle.types.proofs.walking.name.Statement.{statement}
 use Rattle.types.proofs.walking.name.Tie as tie
 
-meant-requires : tie.Need-meant-requires
-meant-requires c κs = search needs
-
 miscalled-requires : tie.Need-miscalled-requires
 miscalled-requires c κs = (c .before .before .before .pre .1, subst MeantWithin (sym (c .before .meant .ensures)) (meant-within (c .before .before .before .args .t .last)))
-
-note-requires : tie.Need-note-requires
-note-requires c κs = search needs
 
 returns : tie.Need-returns
 unfolding namedAs
@@ -27,12 +21,6 @@ returns c =
 
 in-expression-requires : tie.Need-in-expression-requires
 in-expression-requires c κs = (c .before .before .before .pre .1, subst MeantWithin (sym (c .before .meant .ensures)) (meant-within (c .before .before .before .args .t .last)))
-
-note-requires-2 : tie.Need-note-requires-2
-note-requires-2 c κs = search needs
-
-push-requires : tie.Need-push-requires
-push-requires c κs = search needs
 
 returns-2 : tie.Need-returns-2
 unfolding namedAs judged withBare
@@ -46,11 +34,11 @@ pub name-spec : {M : Type 1} → statement M
 name-spec =
     tie.close
     (tie.spec
-    meant-requires
+    (λ c κs. search needs)
     miscalled-requires
-    note-requires
+    (λ c κs. search needs)
     returns
     in-expression-requires
-    note-requires-2
-    push-requires
+    (λ c κs. search needs)
+    (λ c κs. search needs)
     returns-2)

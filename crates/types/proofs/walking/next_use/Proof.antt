@@ -7,15 +7,6 @@ use borrow.Author.Needs.{needs}
 use Rattle.types.proofs.walking.next_use.Statement.{statement}
 use Rattle.types.proofs.walking.next_use.Tie as tie
 
-add-t : tie.Need-add-t
-add-t c = search needs
-
-mul-t : tie.Need-mul-t
-mul-t c = search needs
-
-shared-slice-read-t : tie.Need-shared-slice-read-t
-shared-slice-read-t c = search needs
-
 returns : tie.Need-returns
 unfolding nextUse withUse
 returns c = (λ s d b. rw (uses-on (c .before .before .args .uses .now) (c .before .before .args .t .uses) (c .before .if1 .taken)), (refl, refl, refl))
@@ -25,4 +16,4 @@ unfolding nextUse
 returns-2 c = (λ s d b. rw (drop-of-length-le (c .before .args .uses .now) (c .if1 .left)), (refl, refl, refl))
 
 pub next-use-spec : {M : Type 1} → statement M
-next-use-spec = tie.close (tie.spec add-t mul-t shared-slice-read-t returns returns-2)
+next-use-spec = tie.close (tie.spec (λ c. search needs) (λ c. search needs) (λ c. search needs) returns returns-2)

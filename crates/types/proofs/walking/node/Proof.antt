@@ -11,9 +11,6 @@ use borrow.Author.Needs.{needs}
 use Rattle.types.proofs.walking.node.Statement.{statement}
 use Rattle.types.proofs.walking.node.Tie as tie
 
-is-use-requires : tie.Need-is-use-requires
-is-use-requires c κs = search needs
-
 use-node-requires : tie.Need-use-node-requires
 use-node-requires c κs =
     let w = c .before .before .before .before .before .before .before .pre .0 in
@@ -58,9 +55,6 @@ body-requires c κs =
     let r = w .rows in
     (omega arith, omega arith)
 
-body-end-requires : tie.Need-body-end-requires
-body-end-requires c κs = search needs
-
 plain-requires : tie.Need-plain-requires
 plain-requires c κs =
     let d = c .before .before .before .before .before .before .pre .0 .depth in
@@ -77,15 +71,21 @@ returns-3 c = simp (c .before .before .before .match .keys2) (c .call-end .ensur
 
 returns-4 : tie.Need-returns-4
 unfolding withRows withBare
-returns-4 c = node-declared (c .before .before .before .before .before .before .args .rows .now) (c .before .before .before .before .before .before .args .kind) (c .before .before .before .before .before .before .args .symbol .number) (c .before .before .before .before .before .before .args .one) (c .before .before .before .before .before .before .args .two) (see (c .before .before .before .before .before .before .args .t) (c .before .before .before .before .before .before .args .uses .now) (c .before .before .before .before .before .before .args .stack .now) (c .before .before .before .before .before .before .args .calls .now) (c .before .before .before .before .before .before .args .bodies .now)) (c .before .match .keys3)
+returns-4 c =
+    let args = c .before .before .before .before .before .before .args in
+    node-declared (args .rows .now) (args .kind) (args .symbol .number) (args .one) (args .two) (see (args .t) (args .uses .now) (args .stack .now) (args .calls .now) (args .bodies .now)) (c .before .match .keys3)
 
 returns-5 : tie.Need-returns-5
 unfolding typeNode isUse withBare
-returns-5 c = simp (c .before .before .match .keys4) (c .body .ensures (c .before .before .before .before .before .before .before .args .uses .now) (c .before .before .before .before .before .before .before .args .stack .now) (c .before .before .before .before .before .before .before .args .calls .now))
+returns-5 c =
+    let args = c .before .before .before .before .before .before .before .args in
+    simp (c .before .before .match .keys4) (c .body .ensures (args .uses .now) (args .stack .now) (args .calls .now))
 
 returns-6 : tie.Need-returns-6
 unfolding typeNode isUse withBare
-returns-6 c = simp (c .before .match .keys5) (c .body-end .ensures (c .before .before .before .before .before .before .args .uses .now) (c .before .before .before .before .before .before .args .stack .now) (c .before .before .before .before .before .before .args .calls .now) (c .before .before .before .before .before .before .args .bodies .now))
+returns-6 c =
+    let args = c .before .before .before .before .before .before .args in
+    simp (c .before .match .keys5) (c .body-end .ensures (args .uses .now) (args .stack .now) (args .calls .now) (args .bodies .now))
 
 returns-7 : tie.Need-returns-7
 unfolding typeNode withBare
@@ -95,4 +95,4 @@ returns-7 c =
     (c .plain .ensures (c .before .before .before .before .before .before .before .args .uses .now) (c .before .before .before .before .before .before .before .args .calls .now) (c .before .before .before .before .before .before .before .args .bodies .now))
 
 pub node-spec : {M : Type 1} → statement M
-node-spec = tie.close (tie.spec is-use-requires use-node-requires returns actual-requires call-end-requires add-t body-requires body-end-requires plain-requires returns-2 returns-3 returns-4 returns-5 returns-6 returns-7)
+node-spec = tie.close (tie.spec (λ c κs. search needs) use-node-requires returns actual-requires call-end-requires add-t body-requires (λ c κs. search needs) plain-requires returns-2 returns-3 returns-4 returns-5 returns-6 returns-7)

@@ -5,9 +5,6 @@ use borrow.Author.Needs.{needs}
 use Rattle.types.proofs.walking.note.Statement.{statement}
 use Rattle.types.proofs.walking.note.Tie as tie
 
-noted-requires : tie.Need-noted-requires
-noted-requires c κs = search needs
-
 returns : tie.Need-returns
 unfolding noted
 returns c = (λ u s d b. simp (c .before .if1 .taken, c .noted .ensures), refl)
@@ -17,4 +14,4 @@ unfolding noted
 returns-2 c = (λ u s d b. simp (c .if1 .left), refl)
 
 pub note-spec : {M : Type 1} → statement M
-note-spec = tie.close (tie.spec noted-requires returns returns-2)
+note-spec = tie.close (tie.spec (λ c κs. search needs) returns returns-2)

@@ -8,49 +8,6 @@ use borrow.Author.Needs.{needs}
 use Rattle.types.proofs.walking.plain.Statement.{statement}
 use Rattle.types.proofs.walking.plain.Tie as tie
 
-returns : tie.Need-returns
-unfolding plainTyped
-returns c = λ u d b. simp (c .before .before .match .keys1) (c .push .ensures u d b)
-
-returns-2 : tie.Need-returns-2
-unfolding plainTyped
-returns-2 c = λ u d b. simp (c .before .before .match .keys2) (c .push2 .ensures u d b)
-
-returns-3 : tie.Need-returns-3
-unfolding plainTyped
-returns-3 c = λ u d b. simp (c .before .before .match .keys3) (c .push3 .ensures u d b)
-
-returns-4 : tie.Need-returns-4
-unfolding plainTyped
-returns-4 c = λ u d b. simp (c .before .before .match .keys4) (c .unary .ensures u d b)
-
-returns-5 : tie.Need-returns-5
-unfolding plainTyped
-returns-5 c = λ u d b. simp (c .before .before .match .keys5) (c .binary .ensures u d b)
-
-returns-6 : tie.Need-returns-6
-unfolding plainTyped
-returns-6 c = λ u d b. simp (c .before .before .match .keys6) (c .condition .ensures u d b)
-
-returns-7 : tie.Need-returns-7
-unfolding plainTyped
-returns-7 c = λ u d b. simp (c .before .before .match .keys7) (c .take .ensures .0 u d b)
-
-returns-8 : tie.Need-returns-8
-returns-8 c = λ u d b. c .take2 .ensures .0 u d b ∙ plain-integer _ _ _ _ (c .before .before .match .keys8)
-
-returns-9 : tie.Need-returns-9
-unfolding plainTyped
-returns-9 c = λ u d b. simp (c .before .match .keys9) (c .pop .ensures .0 u _ d b)
-
-returns-10 : tie.Need-returns-10
-unfolding plainTyped
-returns-10 c = λ u d b. simp (c .before .before .match .keys10) (c .conditional .ensures u d b)
-
-returns-11 : tie.Need-returns-11
-unfolding plainTyped
-returns-11 c = λ u d b. simp (c .before .before .match .keys11) (c .assign .ensures u d b)
-
 returns-12 : tie.Need-returns-12
 unfolding plainTyped
 returns-12 c =
@@ -58,6 +15,7 @@ returns-12 c =
     λ u d b. simp (ne-eqb _ _ (r .1), ne-eqb _ _ (r .0 .1), ne-eqb _ _ (r .0 .0 .1), ne-eqb _ _ (λ e. r .0 .0 .0 .1 (inl e)), ne-eqb _ _ (λ e. r .0 .0 .0 .1 (inr e)), ne-eqb _ _ (r .0 .0 .0 .0 .1), ne-eqb _ _ (r .0 .0 .0 .0 .0 .1), ne-eqb _ _ (r .0 .0 .0 .0 .0 .0 .1), ne-eqb _ _ (r .0 .0 .0 .0 .0 .0 .0 .1), ne-eqb _ _ (r .0 .0 .0 .0 .0 .0 .0 .0 .1), ne-eqb _ _ (r .0 .0 .0 .0 .0 .0 .0 .0 .0 .1), ne-eqb _ _ (r .0 .0 .0 .0 .0 .0 .0 .0 .0 .0 .1))
 
 pub plain-spec : {M : Type 1} → statement M
+unfolding plainTyped
 plain-spec =
     tie.close
     (tie.spec
@@ -72,15 +30,15 @@ plain-spec =
     (λ c κs. search needs)
     (λ c κs. search needs)
     (λ c κs. search needs)
-    returns
-    returns-2
-    returns-3
-    returns-4
-    returns-5
-    returns-6
-    returns-7
-    returns-8
-    returns-9
-    returns-10
-    returns-11
+    (λ c. λ u d b. simp (c .before .before .match .keys1) (c .push .ensures u d b))
+    (λ c. λ u d b. simp (c .before .before .match .keys2) (c .push2 .ensures u d b))
+    (λ c. λ u d b. simp (c .before .before .match .keys3) (c .push3 .ensures u d b))
+    (λ c. λ u d b. simp (c .before .before .match .keys4) (c .unary .ensures u d b))
+    (λ c. λ u d b. simp (c .before .before .match .keys5) (c .binary .ensures u d b))
+    (λ c. λ u d b. simp (c .before .before .match .keys6) (c .condition .ensures u d b))
+    (λ c. λ u d b. simp (c .before .before .match .keys7) (c .take .ensures .0 u d b))
+    (λ c. λ u d b. c .take2 .ensures .0 u d b ∙ plain-integer _ _ _ _ (c .before .before .match .keys8))
+    (λ c. λ u d b. simp (c .before .match .keys9) (c .pop .ensures .0 u _ d b))
+    (λ c. λ u d b. simp (c .before .before .match .keys10) (c .conditional .ensures u d b))
+    (λ c. λ u d b. simp (c .before .before .match .keys11) (c .assign .ensures u d b))
     returns-12)

@@ -11,12 +11,9 @@ returns : tie.Need-returns
 unfolding popped withStack below opensOf
 returns c = (λ u s d b. rw (c .if1 .taken), omega arith)
 
-sub-t : tie.Need-sub-t
-sub-t c = search needs
-
 returns-2 : tie.Need-returns-2
 unfolding popped withStack
 returns-2 c = (λ u s d b. rw (opens-below (c .before .before .before .args .t .depth) s), omega arith)
 
 pub pop-spec : {M : Type 1} → statement M
-pop-spec = tie.close (tie.spec returns sub-t returns-2)
+pop-spec = tie.close (tie.spec returns (λ c. search needs) returns-2)

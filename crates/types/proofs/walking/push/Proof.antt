@@ -4,15 +4,9 @@ use borrow.Author.Needs.{needs}
 use Rattle.types.proofs.walking.push.Statement.{statement}
 use Rattle.types.proofs.walking.push.Tie as tie
 
-put-requires : tie.Need-put-requires
-put-requires c κs = search needs
-
-add-t : tie.Need-add-t
-add-t c = search needs
-
 returns : tie.Need-returns
 unfolding pushed withStack
 returns c = λ u d b. rw (c .put .ensures)
 
 pub push-spec : {M : Type 1} → statement M
-push-spec = tie.close (tie.spec put-requires add-t returns)
+push-spec = tie.close (tie.spec (λ c κs. search needs) (λ c. search needs) returns)

@@ -7,18 +7,6 @@ use borrow.Author.Needs.{needs}
 use Rattle.types.proofs.walking.take.Statement.{statement}
 use Rattle.types.proofs.walking.take.Tie as tie
 
-pop-requires : tie.Need-pop-requires
-pop-requires c κs = search needs
-
-top-requires : tie.Need-top-requires
-top-requires c κs = search needs
-
-apart-requires : tie.Need-apart-requires
-apart-requires c κs = search needs
-
-note-requires : tie.Need-note-requires
-note-requires c κs = search needs
-
 returns : tie.Need-returns
 unfolding takenAs
 returns c = (
@@ -27,4 +15,4 @@ returns c = (
 )
 
 pub take-spec : {M : Type 1} → statement M
-take-spec = tie.close (tie.spec pop-requires top-requires apart-requires note-requires returns)
+take-spec = tie.close (tie.spec (λ c κs. search needs) (λ c κs. search needs) (λ c κs. search needs) (λ c κs. search needs) returns)

@@ -10,17 +10,8 @@ returns : tie.Need-returns
 unfolding opensOf topOf
 returns c = rw (c .if1 .taken)
 
-sub-result : tie.Need-sub-result
-sub-result c = search needs
-
-mul-result : tie.Need-mul-result
-mul-result c = search needs
-
-element-copy-out-result : tie.Need-element-copy-out-result
-element-copy-out-result c = search needs
-
 returns-2 : tie.Need-returns-2
 returns-2 c = opens-top (c .before .before .before .before .args .t .depth) (c .before .before .before .before .args .stack .now) (c .before .before .if1 .left)
 
 pub top-spec : {M : Type 1} → statement M
-top-spec = tie.close (tie.spec returns sub-result mul-result element-copy-out-result returns-2)
+top-spec = tie.close (tie.spec returns (λ c. search needs) (λ c. search needs) (λ c. search needs) returns-2)

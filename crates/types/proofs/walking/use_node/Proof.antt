@@ -11,26 +11,8 @@ use borrow.Author.Needs.{needs}
 use Rattle.types.proofs.walking.use_node.Statement.{statement}
 use Rattle.types.proofs.walking.use_node.Tie as tie
 
-next-use-requires : tie.Need-next-use-requires
-next-use-requires c κs = search needs
-
-name-requires : tie.Need-name-requires
-name-requires c κs = search needs
-
-call-requires : tie.Need-call-requires
-call-requires c κs = search needs
-
-left-requires : tie.Need-left-requires
-left-requires c κs = search needs
-
-meant-requires : tie.Need-meant-requires
-meant-requires c κs = search needs
-
 is-variable-requires : tie.Need-is-variable-requires
 is-variable-requires c κs = (c .before .before .before .before .before .pre .3, subst MeantWithin (sym (c .meant .ensures)) (meant-within (c .before .before .next-use .result .last)))
-
-note-requires : tie.Need-note-requires
-note-requires c κs = search needs
 
 returns : tie.Need-returns
 unfolding useTyped
@@ -56,13 +38,13 @@ pub use-node-spec : {M : Type 1} → statement M
 use-node-spec =
     tie.close
     (tie.spec
-    next-use-requires
-    name-requires
-    call-requires
-    left-requires
-    meant-requires
+    (λ c κs. search needs)
+    (λ c κs. search needs)
+    (λ c κs. search needs)
+    (λ c κs. search needs)
+    (λ c κs. search needs)
     is-variable-requires
-    note-requires
+    (λ c κs. search needs)
     returns
     returns-2
     returns-3

@@ -7,15 +7,6 @@ use borrow.Author.Needs.{needs}
 use Rattle.vectors.proofs.lists.compare.Statement.{statement}
 use Rattle.vectors.proofs.lists.compare.Tie as tie
 
-own-requires : tie.Need-own-requires
-own-requires c κs = search needs
-
-third-line-requires : tie.Need-third-line-requires
-third-line-requires c κs = search needs
-
-sent-requires : tie.Need-sent-requires
-sent-requires c κs = search needs
-
 returns : tie.Need-returns
 returns c =
     let a = c .before .before .before .before .before .before .before .args in
@@ -28,4 +19,4 @@ returns-2 c = own-alone (subst (λ n. length (c .before .before .before .before 
 
 pub compare-spec : {M : Type 1} → statement M
 compare-spec =
-    tie.close (tie.spec own-requires third-line-requires sent-requires returns returns-2)
+    tie.close (tie.spec (λ c κs. search needs) (λ c κs. search needs) (λ c κs. search needs) returns returns-2)

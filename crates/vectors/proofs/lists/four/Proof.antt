@@ -31,74 +31,20 @@ four-told : (source table : List ℕ) (l : List ℤ) (n : ℕ) {t a b d r : Tall
 four-told source table l n {a = a} {b} {d} e f g w s o h =
     record { first = a; second = b; third = d; whole = rw (e, f) at w; short = rw (e, f) at s; long = rw (e, f) at o; changed = rw (e, g, f) at h }
 
-slice-aggregate-words-into : tie.Need-slice-aggregate-words-into
-slice-aggregate-words-into c = search needs
-
-words-into-requires : tie.Need-words-into-requires
-words-into-requires c κs = search needs
-
-word-at-requires : tie.Need-word-at-requires
-word-at-requires c κs = search needs
-
-cast-clipped : tie.Need-cast-clipped
-cast-clipped c = search needs
-
-mul-clipped : tie.Need-mul-clipped
-mul-clipped c = search needs
-
-add-clipped : tie.Need-add-clipped
-add-clipped c = search needs
-
-clipped-requires : tie.Need-clipped-requires
-clipped-requires c κs = search needs
-
-array-share-prefix-list : tie.Need-array-share-prefix-list
-array-share-prefix-list c = search needs
-
 slice-aggregate-told : tie.Need-slice-aggregate-told
 slice-aggregate-told c =
     let l = c .before .before .before .before .words-into in
     sym (length-take-le (c .before .clipped .result) (l .last .1 .0) (omega (arith, c .before .clipped .ensures, all-words _ (l .last .1 .0) (l .ensures))))
-
-told-requires : tie.Need-told-requires
-told-requires c κs = search needs
-
-array-share-prefix-list-2 : tie.Need-array-share-prefix-list-2
-array-share-prefix-list-2 c = search needs
 
 slice-aggregate-told-2 : tie.Need-slice-aggregate-told-2
 slice-aggregate-told-2 c =
     let l = c .before .before .before .before .before .before .words-into in
     sym (length-take-le (c .before .before .before .clipped .result / 2) (l .last .1 .0) (omega (arith, c .before .before .before .clipped .ensures, all-words _ (l .last .1 .0) (l .ensures))))
 
-told-requires-2 : tie.Need-told-requires-2
-told-requires-2 c κs = search needs
-
-add-list : tie.Need-add-list
-add-list c = search needs
-
-array-share-prefix-list-3 : tie.Need-array-share-prefix-list-3
-array-share-prefix-list-3 c = search needs
-
 slice-aggregate-told-3 : tie.Need-slice-aggregate-told-3
 slice-aggregate-told-3 c =
     let l = c .before .before .before .before .before .before .before .before .words-into in
     sym (length-take-le (c .before .before .before .before .before .clipped .result + 1) (l .last .1 .0) (omega (arith, c .before .before .before .before .before .clipped .ensures, all-words _ (l .last .1 .0) (l .ensures))))
-
-told-requires-3 : tie.Need-told-requires-3
-told-requires-3 c κs = search needs
-
-word-at-requires-2 : tie.Need-word-at-requires-2
-word-at-requires-2 c κs = search needs
-
-raised-requires : tie.Need-raised-requires
-raised-requires c κs = search needs
-
-mul-list : tie.Need-mul-list
-mul-list c = search needs
-
-array-set-from-list : tie.Need-array-set-from-list
-array-set-from-list c = search needs
 
 array-share-prefix-list-4 : tie.Need-array-share-prefix-list-4
 array-share-prefix-list-4 c =
@@ -109,9 +55,6 @@ slice-aggregate-told-4 : tie.Need-slice-aggregate-told-4
 slice-aggregate-told-4 c =
     let l = c .before .before .before .before .before .before .before .before .before .before .before .before .words-into in
     sym (length-take-le (c .before .before .before .before .before .before .before .before .before .clipped .result) (set (l .last .1 .0) _ _) (simp length-set (omega (arith, c .before .before .before .before .before .before .before .before .before .clipped .ensures, all-words _ (l .last .1 .0) (l .ensures)))))
-
-told-requires-4 : tie.Need-told-requires-4
-told-requires-4 c κs = search needs
 
 returns : tie.Need-returns
 returns c =
@@ -127,28 +70,28 @@ pub four-spec : {M : Type 1} → statement M
 four-spec =
     tie.close
     (tie.spec
-    slice-aggregate-words-into
-    words-into-requires
-    word-at-requires
-    cast-clipped
-    mul-clipped
-    add-clipped
-    clipped-requires
-    array-share-prefix-list
+    (λ c. search needs)
+    (λ c κs. search needs)
+    (λ c κs. search needs)
+    (λ c. search needs)
+    (λ c. search needs)
+    (λ c. search needs)
+    (λ c κs. search needs)
+    (λ c. search needs)
     slice-aggregate-told
-    told-requires
-    array-share-prefix-list-2
+    (λ c κs. search needs)
+    (λ c. search needs)
     slice-aggregate-told-2
-    told-requires-2
-    add-list
-    array-share-prefix-list-3
+    (λ c κs. search needs)
+    (λ c. search needs)
+    (λ c. search needs)
     slice-aggregate-told-3
-    told-requires-3
-    word-at-requires-2
-    raised-requires
-    mul-list
-    array-set-from-list
+    (λ c κs. search needs)
+    (λ c κs. search needs)
+    (λ c κs. search needs)
+    (λ c. search needs)
+    (λ c. search needs)
     array-share-prefix-list-4
     slice-aggregate-told-4
-    told-requires-4
+    (λ c κs. search needs)
     returns)

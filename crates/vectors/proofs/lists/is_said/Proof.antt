@@ -27,31 +27,16 @@ module _ (c : Checked) (k n p a : ℕ) (kind : a ≡ kindOf c) where
         let f : numberOf c ≡ n = cc in
         rw (eq-eqb (kindOf c) k e, eq-eqb (numberOf c) n f, q)
 
-kind-requires : tie.Need-kind-requires
-kind-requires c κs = search needs
-
-cast-if1 : tie.Need-cast-if1
-cast-if1 c = search needs
-
 returns : tie.Need-returns
 returns c =
     let a = c .before .before .args in
     other-kind (a .c) (a .kind) (a .number) (a .place) (c .before .kind .result) (c .before .kind .ensures) (c .if1 .taken)
-
-number-requires : tie.Need-number-requires
-number-requires c κs = search needs
-
-cast-if2 : tie.Need-cast-if2
-cast-if2 c = search needs
 
 returns-2 : tie.Need-returns-2
 returns-2 c =
     let a = c .before .before .before .before .args in
     other-number (a .c) (a .kind) (a .number) (a .place) (c .before .before .before .kind .result) (c .before .before .before .kind .ensures) (c .before .before .if1 .left) (c .before .number .result)
     (c .before .number .ensures) (c .if2 .taken)
-
-place-requires : tie.Need-place-requires
-place-requires c κs = search needs
 
 returns-3 : tie.Need-returns-3
 returns-3 c =
@@ -63,11 +48,11 @@ pub is-said-spec : {M : Type 1} → statement M
 is-said-spec =
     tie.close
     (tie.spec
-    kind-requires
-    cast-if1
+    (λ c κs. search needs)
+    (λ c. search needs)
     returns
-    number-requires
-    cast-if2
+    (λ c κs. search needs)
+    (λ c. search needs)
     returns-2
-    place-requires
+    (λ c κs. search needs)
     returns-3)

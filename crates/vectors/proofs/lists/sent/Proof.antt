@@ -49,40 +49,10 @@ in-turn source text from t r x y z v w k n fresh l e1 e2 e3 e4 e5 e6 e7 e8 e9 h 
     let f = first text (w .next) k fresh l e8 (omega arith) e9 in
     rw (f, e6, e7, e8, e5, e4, e3, e2, e1) at h
 
-fresh-list-requires : tie.Need-fresh-list-requires
-fresh-list-requires c κs = search needs
-
-number-at-requires : tie.Need-number-at-requires
-number-at-requires c κs = search needs
-
-number-at-requires-2 : tie.Need-number-at-requires-2
-number-at-requires-2 c κs = search needs
-
-number-at-requires-3 : tie.Need-number-at-requires-3
-number-at-requires-3 c κs = search needs
-
-number-at-requires-4 : tie.Need-number-at-requires-4
-number-at-requires-4 c κs = search needs
-
-number-at-requires-5 : tie.Need-number-at-requires-5
-number-at-requires-5 c κs = search needs
-
-clipped-requires : tie.Need-clipped-requires
-clipped-requires c κs = search needs
-
-array-borrow-prefix-list : tie.Need-array-borrow-prefix-list
-array-borrow-prefix-list c = search needs
-
 slice-aggregate-numbers-into : tie.Need-slice-aggregate-numbers-into
 slice-aggregate-numbers-into c =
     let f = c .before .before .before .before .before .before .before .fresh-list in
     sym (length-take-le (c .before .clipped .result) (f .result) (omega (arith, c .before .clipped .ensures, fresh-long (f .ensures))))
-
-numbers-into-requires : tie.Need-numbers-into-requires
-numbers-into-requires c κs = search needs
-
-clipped-requires-2 : tie.Need-clipped-requires-2
-clipped-requires-2 c κs = search needs
 
 array-share-prefix-list : tie.Need-array-share-prefix-list
 array-share-prefix-list c =
@@ -98,9 +68,6 @@ slice-aggregate-told c =
     let i = c .before .before .before .numbers-into in
     sym (length-take-le (c .before .clipped2 .result) _ (omega (arith, c .before .clipped2 .ensures, all-long (c .before .before .before .before .before .before .before .before .before .before .before .before .before .before .before .args .text .now) (c .before .before .before .before .before .before .number-at5 .result .next) (k .result) (f .result) (i .last .1 .1 .0) (f .ensures) (omega (arith, k .ensures)) (i .ensures))))
 
-told-requires : tie.Need-told-requires
-told-requires c κs = search needs
-
 returns : tie.Need-returns
 returns c =
     let a = c .before .before .before .before .before .before .before .before .before .before .before .before .before .before .before .before .args in
@@ -115,18 +82,18 @@ pub sent-spec : {M : Type 1} → statement M
 sent-spec =
     tie.close
     (tie.spec
-    fresh-list-requires
-    number-at-requires
-    number-at-requires-2
-    number-at-requires-3
-    number-at-requires-4
-    number-at-requires-5
-    clipped-requires
-    array-borrow-prefix-list
+    (λ c κs. search needs)
+    (λ c κs. search needs)
+    (λ c κs. search needs)
+    (λ c κs. search needs)
+    (λ c κs. search needs)
+    (λ c κs. search needs)
+    (λ c κs. search needs)
+    (λ c. search needs)
     slice-aggregate-numbers-into
-    numbers-into-requires
-    clipped-requires-2
+    (λ c κs. search needs)
+    (λ c κs. search needs)
     array-share-prefix-list
     slice-aggregate-told
-    told-requires
+    (λ c κs. search needs)
     returns)

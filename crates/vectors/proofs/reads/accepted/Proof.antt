@@ -7,11 +7,8 @@ use borrow.Author.Needs.{needs}
 use Rattle.vectors.proofs.reads.accepted.Statement.{statement}
 use Rattle.vectors.proofs.reads.accepted.Tie as tie
 
-answer-requires : tie.Need-answer-requires
-answer-requires c κs = search needs
-
 returns : tie.Need-returns
 returns c = ap (λ (n : ℕ). eqb n 0) (c .before .answer .ensures)
 
 pub accepted-spec : {M : Type 1} → statement M
-accepted-spec = tie.close (tie.spec answer-requires returns)
+accepted-spec = tie.close (tie.spec (λ c κs. search needs) returns)

@@ -25,21 +25,6 @@ module _ (v : Verdict) (text : List ℕ) (a : ℕ) (n : Numeral) (answer : a ≡
       let k : eqb (numberOf v) (numberAt text 0 .value) ≡ false = ne-eqb (numberOf v) (numberAt text 0 .value) (λ e. h (cc)) in
       rw k (ne-eqb a (n .value) h)
 
-number-at-requires : tie.Need-number-at-requires
-number-at-requires c κs = search needs
-
-number-at-requires-2 : tie.Need-number-at-requires-2
-number-at-requires-2 c κs = search needs
-
-answer-requires : tie.Need-answer-requires
-answer-requires c κs = search needs
-
-cast-if1 : tie.Need-cast-if1
-cast-if1 c = search needs
-
-place-requires : tie.Need-place-requires
-place-requires c κs = search needs
-
 returns : tie.Need-returns
 returns c =
     let a = c .before .before .before .before .before .before .before .before .before .args in
@@ -55,10 +40,10 @@ pub answered-spec : {M : Type 1} → statement M
 answered-spec =
     tie.close
     (tie.spec
-    number-at-requires
-    number-at-requires-2
-    answer-requires
-    cast-if1
-    place-requires
+    (λ c κs. search needs)
+    (λ c κs. search needs)
+    (λ c κs. search needs)
+    (λ c. search needs)
+    (λ c κs. search needs)
     returns
     returns-2)

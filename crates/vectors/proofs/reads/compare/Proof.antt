@@ -18,36 +18,6 @@ module _ (v : Verdict) (table text : List ℕ) (t s : Tally) (a : Bool) (answer 
   after-refused : acceptedBy v ≡ false → s ≡ afterRead v table text t
   after-refused k = rw k (cc)
 
-slice-aggregate-read : tie.Need-slice-aggregate-read
-slice-aggregate-read c = search needs
-
-read-requires : tie.Need-read-requires
-read-requires c κs = search needs
-
-answered-requires : tie.Need-answered-requires
-answered-requires c κs = search needs
-
-slice-aggregate-check : tie.Need-slice-aggregate-check
-slice-aggregate-check c = search needs
-
-check-requires : tie.Need-check-requires
-check-requires c κs = search needs
-
-accepted-requires : tie.Need-accepted-requires
-accepted-requires c κs = search needs
-
-slice-aggregate-same-uses : tie.Need-slice-aggregate-same-uses
-slice-aggregate-same-uses c = search needs
-
-same-uses-requires : tie.Need-same-uses-requires
-same-uses-requires c κs = search needs
-
-slice-aggregate-check-2 : tie.Need-slice-aggregate-check-2
-slice-aggregate-check-2 c = search needs
-
-check-requires-2 : tie.Need-check-requires-2
-check-requires-2 c κs = search needs
-
 returns : tie.Need-returns
 returns c =
     let a = c .before .before .before .before .before .before .before .before .before .before .before .before .before .before .before .args in
@@ -62,15 +32,15 @@ pub compare-spec : {M : Type 1} → statement M
 compare-spec =
     tie.close
     (tie.spec
-    slice-aggregate-read
-    read-requires
-    answered-requires
-    slice-aggregate-check
-    check-requires
-    accepted-requires
-    slice-aggregate-same-uses
-    same-uses-requires
-    slice-aggregate-check-2
-    check-requires-2
+    (λ c. search needs)
+    (λ c κs. search needs)
+    (λ c κs. search needs)
+    (λ c. search needs)
+    (λ c κs. search needs)
+    (λ c κs. search needs)
+    (λ c. search needs)
+    (λ c κs. search needs)
+    (λ c. search needs)
+    (λ c κs. search needs)
     returns
     returns-2)

@@ -51,51 +51,15 @@ module _ (table text : List ℕ) (n : Numeral) (listed : n ≡ usesListed text) 
           let q : 3 * u + 1 - 1 ≡ useLength table = omega arith in
           rw (are-listed, are-there, k) (e ∙ rw (q, listed))
 
-number-at-requires : tie.Need-number-at-requires
-number-at-requires c κs = search needs
-
-number-at-requires-2 : tie.Need-number-at-requires-2
-number-at-requires-2 c κs = search needs
-
-number-at-requires-3 : tie.Need-number-at-requires-3
-number-at-requires-3 c κs = search needs
-
 returns : tie.Need-returns
 returns c =
     let t = third (c .before .before .before .before .before .before .before .args .text .now) (c .before .before .before .before .number-at .result) (c .before .before .before .number-at2 .result) (c .before .before .number-at3 .result) (c .before .before .before .before .number-at .ensures .1) (c .before .before .before .number-at2 .ensures .1) (c .before .before .number-at3 .ensures .1) in
     unlisted (c .before .before .before .before .before .before .before .args .table .now) (c .before .before .before .before .before .before .before .args .text .now) (c .before .before .number-at3 .result) t (c .if1 .taken)
 
-word-at-requires : tie.Need-word-at-requires
-word-at-requires c κs = search needs
-
-cast-end : tie.Need-cast-end
-cast-end c = search needs
-
-mul-end : tie.Need-mul-end
-mul-end c = search needs
-
-add-end : tie.Need-add-end
-add-end c = search needs
-
 returns-2 : tie.Need-returns-2
 returns-2 c =
     let t = third (c .before .before .before .before .before .before .before .before .before .args .text .now) (c .before .before .before .before .before .before .number-at .result) (c .before .before .before .before .before .number-at2 .result) (c .before .before .before .before .number-at3 .result) (c .before .before .before .before .before .before .number-at .ensures .1) (c .before .before .before .before .before .number-at2 .ensures .1) (c .before .before .before .before .number-at3 .ensures .1) in
     too-few (c .before .before .before .before .before .before .before .before .before .args .table .now) (c .before .before .before .before .before .before .before .before .before .args .text .now) (c .before .before .before .before .number-at3 .result) t (c .before .word-at .result) (c .before .word-at .ensures) (c .before .before .if1 .left) (c .if2 .taken)
-
-sub-if3 : tie.Need-sub-if3
-sub-if3 c = search needs
-
-sub-same-words : tie.Need-sub-same-words
-sub-same-words c = search needs
-
-part-same-words-start : tie.Need-part-same-words-start
-part-same-words-start c = search needs
-
-part-same-words-end : tie.Need-part-same-words-end
-part-same-words-end c = search needs
-
-same-words-requires : tie.Need-same-words-requires
-same-words-requires c κs = search needs
 
 returns-3 : tie.Need-returns-3
 returns-3 c =
@@ -112,19 +76,19 @@ pub same-uses-spec : {M : Type 1} → statement M
 same-uses-spec =
     tie.close
     (tie.spec
-    number-at-requires
-    number-at-requires-2
-    number-at-requires-3
+    (λ c κs. search needs)
+    (λ c κs. search needs)
+    (λ c κs. search needs)
     returns
-    word-at-requires
-    cast-end
-    mul-end
-    add-end
+    (λ c κs. search needs)
+    (λ c. search needs)
+    (λ c. search needs)
+    (λ c. search needs)
     returns-2
-    sub-if3
-    sub-same-words
-    part-same-words-start
-    part-same-words-end
-    same-words-requires
+    (λ c. search needs)
+    (λ c. search needs)
+    (λ c. search needs)
+    (λ c. search needs)
+    (λ c κs. search needs)
     returns-3
     returns-4)

@@ -40,32 +40,17 @@ Inv-loop words from to word i₀ i = allWords words from (to - from) word ≡ al
 abbrev μ-loop : tie.MeasureT-loop
 μ-loop words from to word i₀ i = to - i
 
-loop-holds : tie.Need-loop-holds Inv-loop μ-loop
-loop-holds c = refl
-
 returns : tie.Need-returns Inv-loop μ-loop
 returns c =
     let a = c .before .before .before .args in
     let l = c .before .before .loop in
     sym (l .inv ∙ words-short (a .words .now) (a .to) (a .word) (l .i) (c .before .loop-test .taken) (c .if1 .taken))
 
-mul-if2 : tie.Need-mul-if2 Inv-loop μ-loop
-mul-if2 c = search needs
-
-shared-slice-read-if2 : tie.Need-shared-slice-read-if2 Inv-loop μ-loop
-shared-slice-read-if2 c = search needs
-
 returns-2 : tie.Need-returns-2 Inv-loop μ-loop
 returns-2 c =
     let a = c .before .before .before .before .before .args in
     let l = c .before .before .before .before .loop in
     sym (l .inv ∙ words-other (a .words .now) (a .to) (a .word) (l .i) (c .before .before .before .loop-test .taken) (c .before .before .if1 .left) (c .if2 .taken))
-
-add-i : tie.Need-add-i Inv-loop μ-loop
-add-i c = search needs
-
-loop-less : tie.Need-loop-less Inv-loop μ-loop
-loop-less c = search needs
 
 loop-again : tie.Need-loop-again Inv-loop μ-loop
 loop-again c =
@@ -85,12 +70,12 @@ all-words-spec =
     (tie.spec
     Inv-loop
     μ-loop
-    loop-holds
+    (λ c. refl)
     returns
-    mul-if2
-    shared-slice-read-if2
+    (λ c. search needs)
+    (λ c. search needs)
     returns-2
-    add-i
-    loop-less
+    (λ c. search needs)
+    (λ c. search needs)
     loop-again
     returns-3)

@@ -32,31 +32,14 @@ module _ (done : ℕ) (steps : Numeral) (t : Tally) where
     too-large h = rw (listed, le-ltb (steps .value) 100000000 h)
 
 returns : tie.Need-returns
-returns c = unlisted (c .before .before .args .done) (c .before .before .args .steps) (c .before .before .args .t) (c .if1 .taken)
-
-mul-if3 : tie.Need-mul-if3
-mul-if3 c = search needs
-
-add-if3 : tie.Need-add-if3
-add-if3 c = search needs
-
-cast-most : tie.Need-cast-most
-cast-most c = search needs
-
-cast-most-2 : tie.Need-cast-most-2
-cast-most-2 c = search needs
-
-most-requires : tie.Need-most-requires
-most-requires c κs = search needs
+returns c =
+    let args = c .before .before .args in
+    unlisted (args .done) (args .steps) (args .t) (c .if1 .taken)
 
 returns-2 : tie.Need-returns-2
-returns-2 c = c .most .ensures ∙ few (c .before .before .before .before .before .args .done) (c .before .before .before .before .before .args .steps) (c .before .before .before .before .before .args .t) (c .before .before .before .if1 .left) (c .before .before .if2 .taken) (c .before .if3 .taken)
-
-slice-aggregate-check : tie.Need-slice-aggregate-check
-slice-aggregate-check c = search needs
-
-check-requires : tie.Need-check-requires
-check-requires c κs = search needs
+returns-2 c =
+    let args = c .before .before .before .before .before .args in
+    c .most .ensures ∙ few (args .done) (args .steps) (args .t) (c .before .before .before .if1 .left) (c .before .before .if2 .taken) (c .before .if3 .taken)
 
 returns-3 : tie.Need-returns-3
 returns-3 c =
@@ -68,12 +51,12 @@ counted-spec =
     tie.close
     (tie.spec
     returns
-    mul-if3
-    add-if3
-    cast-most
-    cast-most-2
-    most-requires
+    (λ c. search needs)
+    (λ c. search needs)
+    (λ c. search needs)
+    (λ c. search needs)
+    (λ c κs. search needs)
     returns-2
-    slice-aggregate-check
-    check-requires
+    (λ c. search needs)
+    (λ c κs. search needs)
     returns-3)

@@ -24,12 +24,6 @@ not-there : (x : ℤ) (s : List ℤ) (i : ℕ) → length s ≤ i → false ≡ 
 unfolding begins
 not-there x s i h = rw (drop-of-length-le s h)
 
-mul-result : tie.Need-mul-result
-mul-result c = search needs
-
-shared-slice-copy-out-result : tie.Need-shared-slice-copy-out-result
-shared-slice-copy-out-result c = search needs
-
 returns : tie.Need-returns
 returns c =
     let a = c .before .before .args in
@@ -42,4 +36,4 @@ returns-2 c =
     not-there (a .x) (a .output .now) (a .i) (c .if1 .left)
 
 pub holds-spec : {M : Type 1} → statement M
-holds-spec = tie.close (tie.spec mul-result shared-slice-copy-out-result returns returns-2)
+holds-spec = tie.close (tie.spec (λ c. search needs) (λ c. search needs) returns returns-2)

@@ -30,21 +30,6 @@ abbrev μ-loop : tie.MeasureT-loop
 loop-holds : tie.Need-loop-holds Inv-loop μ-loop
 loop-holds c = (search needs, refl, rw sub-zero, rw sub-zero)
 
-number-at-requires : tie.Need-number-at-requires Inv-loop μ-loop
-number-at-requires c κs = search needs
-
-whole-requires : tie.Need-whole-requires Inv-loop μ-loop
-whole-requires c κs = search needs
-
-mul-t7 : tie.Need-mul-t7 Inv-loop μ-loop
-mul-t7 c = search needs
-
-slice-set-from-input : tie.Need-slice-set-from-input Inv-loop μ-loop
-slice-set-from-input c = search needs
-
-add-i : tie.Need-add-i Inv-loop μ-loop
-add-i c = search needs
-
 loop-less : tie.Need-loop-less Inv-loop μ-loop
 loop-less c = simp length-set (omega arith)
 
@@ -61,9 +46,6 @@ loop-again c =
       l .inv .2 ∙ after-one (a .text .now) (length (a .input .now)) (l .i) (l .at) n (c .before .number-at .ensures .1) k,
       l .inv .3 ∙ stored-one (a .text .now) (length (a .input .now)) (l .i) (l .at) n (c .before .number-at .ensures .1) (l .input) (toZ w32 (ofZ w32 (c .whole .result))) k h x,
     )
-
-same-length : tie.Need-same-length Inv-loop μ-loop
-same-length c = search needs
 
 returns : tie.Need-returns Inv-loop μ-loop
 returns c =
@@ -82,12 +64,12 @@ inputs-at-spec =
     Inv-loop
     μ-loop
     loop-holds
-    number-at-requires
-    whole-requires
-    mul-t7
-    slice-set-from-input
-    add-i
+    (λ c κs. search needs)
+    (λ c κs. search needs)
+    (λ c. search needs)
+    (λ c. search needs)
+    (λ c. search needs)
     loop-less
     loop-again
-    same-length
+    (λ c. search needs)
     returns)

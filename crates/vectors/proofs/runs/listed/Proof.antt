@@ -22,23 +22,8 @@ in-turn : (code text : List ℕ) (from : ℕ) (t u : Tally) (n : Numeral) (k l :
 unfolding afterListed
 in-turn code text from t u n k l e1 e2 e3 e4 = cc
 
-fresh-input-requires : tie.Need-fresh-input-requires
-fresh-input-requires c κs = search needs
-
-number-at-requires : tie.Need-number-at-requires
-number-at-requires c κs = search needs
-
-clipped-requires : tie.Need-clipped-requires
-clipped-requires c κs = search needs
-
-array-borrow-prefix-input : tie.Need-array-borrow-prefix-input
-array-borrow-prefix-input c = search needs
-
 slice-aggregate-supplied : tie.Need-slice-aggregate-supplied
 slice-aggregate-supplied c = sym (length-take-le _ _ (search needs))
-
-supplied-requires : tie.Need-supplied-requires
-supplied-requires c κs = search needs
 
 returns : tie.Need-returns
 returns c =
@@ -50,10 +35,10 @@ pub listed-spec : {M : Type 1} → statement M
 listed-spec =
     tie.close
     (tie.spec
-    fresh-input-requires
-    number-at-requires
-    clipped-requires
-    array-borrow-prefix-input
+    (λ c κs. search needs)
+    (λ c κs. search needs)
+    (λ c κs. search needs)
+    (λ c. search needs)
     slice-aggregate-supplied
-    supplied-requires
+    (λ c κs. search needs)
     returns)

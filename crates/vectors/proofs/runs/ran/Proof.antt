@@ -20,27 +20,6 @@ compared e text from t k u r s o z e1 e2 e3 e4 =
     let f : u ≡ afterExit (exit r s o) text from t = cc in
     f ∙ ap (λ (x : Exit). afterExit x text from t) e1
 
-run-requires : tie.Need-run-requires
-run-requires c κs = search needs
-
-is-cleared-requires : tie.Need-is-cleared-requires
-is-cleared-requires c κs = search needs
-
-slice-aggregate-check : tie.Need-slice-aggregate-check
-slice-aggregate-check c = search needs
-
-check-requires : tie.Need-check-requires
-check-requires c κs = search needs
-
-stopped-requires : tie.Need-stopped-requires
-stopped-requires c κs = search needs
-
-same-length : tie.Need-same-length
-same-length c = search needs
-
-same-length-2 : tie.Need-same-length-2
-same-length-2 c = search needs
-
 returns : tie.Need-returns
 returns c =
     let a = c .before .before .before .before .before .before .before .before .before .before .before .before .before .before .args in
@@ -51,11 +30,11 @@ pub ran-spec : {M : Type 1} → statement M
 ran-spec =
     tie.close
     (tie.spec
-    run-requires
-    is-cleared-requires
-    slice-aggregate-check
-    check-requires
-    stopped-requires
-    same-length
-    same-length-2
+    (λ c κs. search needs)
+    (λ c κs. search needs)
+    (λ c. search needs)
+    (λ c κs. search needs)
+    (λ c κs. search needs)
+    (λ c. search needs)
+    (λ c. search needs)
     returns)

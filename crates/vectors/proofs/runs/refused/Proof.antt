@@ -17,27 +17,6 @@ both : (code : List ℕ) (t s r : Tally) (w b : Bool) → w ≡ allWords code 0 
 unfolding afterRefused
 both code t s r w b e f g h = cc
 
-all-words-requires : tie.Need-all-words-requires
-all-words-requires c κs = search needs
-
-slice-aggregate-check : tie.Need-slice-aggregate-check
-slice-aggregate-check c = search needs
-
-check-requires : tie.Need-check-requires
-check-requires c κs = search needs
-
-stray-requires : tie.Need-stray-requires
-stray-requires c κs = search needs
-
-stray-requires-2 : tie.Need-stray-requires-2
-stray-requires-2 c κs = search needs
-
-slice-aggregate-check-2 : tie.Need-slice-aggregate-check-2
-slice-aggregate-check-2 c = search needs
-
-check-requires-2 : tie.Need-check-requires-2
-check-requires-2 c κs = search needs
-
 returns : tie.Need-returns
 returns c =
     let a = c .before .before .before .before .before .before .before .before .before .args in
@@ -50,11 +29,11 @@ pub refused-spec : {M : Type 1} → statement M
 refused-spec =
     tie.close
     (tie.spec
-    all-words-requires
-    slice-aggregate-check
-    check-requires
-    stray-requires
-    stray-requires-2
-    slice-aggregate-check-2
-    check-requires-2
+    (λ c κs. search needs)
+    (λ c. search needs)
+    (λ c κs. search needs)
+    (λ c κs. search needs)
+    (λ c κs. search needs)
+    (λ c. search needs)
+    (λ c κs. search needs)
     returns)

@@ -30,39 +30,6 @@ in-turn : (r : Ran) (output : List ℤ) (text : List ℕ) (from : ℕ) (t s k u 
 unfolding afterStop afterPlace afterTaken
 in-turn r output text from t s k u n m q a b e1 e2 e3 e4 e5 e6 e7 e8 = cc
 
-number-at-requires : tie.Need-number-at-requires
-number-at-requires c κs = search needs
-
-number-at-requires-2 : tie.Need-number-at-requires-2
-number-at-requires-2 c κs = search needs
-
-number-at-requires-3 : tie.Need-number-at-requires-3
-number-at-requires-3 c κs = search needs
-
-answer-requires : tie.Need-answer-requires
-answer-requires c κs = search needs
-
-cast-if1 : tie.Need-cast-if1
-cast-if1 c = search needs
-
-place-requires : tie.Need-place-requires
-place-requires c κs = search needs
-
-slice-aggregate-check : tie.Need-slice-aggregate-check
-slice-aggregate-check c = search needs
-
-check-requires : tie.Need-check-requires
-check-requires c κs = search needs
-
-slice-aggregate-check-2 : tie.Need-slice-aggregate-check-2
-slice-aggregate-check-2 c = search needs
-
-check-requires-2 : tie.Need-check-requires-2
-check-requires-2 c κs = search needs
-
-written-requires : tie.Need-written-requires
-written-requires c κs = search needs
-
 returns : tie.Need-returns
 returns c =
     let a = c .before .before .before .before .before .before .before .before .before .before .before .before .before .args in
@@ -80,15 +47,15 @@ pub stopped-spec : {M : Type 1} → statement M
 stopped-spec =
     tie.close
     (tie.spec
-    number-at-requires
-    number-at-requires-2
-    number-at-requires-3
-    answer-requires
-    cast-if1
-    place-requires
-    slice-aggregate-check
-    check-requires
-    slice-aggregate-check-2
-    check-requires-2
-    written-requires
+    (λ c κs. search needs)
+    (λ c κs. search needs)
+    (λ c κs. search needs)
+    (λ c κs. search needs)
+    (λ c. search needs)
+    (λ c κs. search needs)
+    (λ c. search needs)
+    (λ c κs. search needs)
+    (λ c. search needs)
+    (λ c κs. search needs)
+    (λ c κs. search needs)
     returns)

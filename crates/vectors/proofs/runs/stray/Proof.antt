@@ -16,24 +16,6 @@ on-these : (code : List ℕ) (limit : ℕ) (r : Ran) (s o : List ℤ) → exit r
 unfolding strays
 on-these code limit r s o e = ap (λ (x : Exit). stoppedBy (x .ran .stop) 29 0) e
 
-slice-aggregate-run : tie.Need-slice-aggregate-run
-slice-aggregate-run c = search needs
-
-slice-aggregate-run-2 : tie.Need-slice-aggregate-run-2
-slice-aggregate-run-2 c = search needs
-
-slice-aggregate-run-3 : tie.Need-slice-aggregate-run-3
-slice-aggregate-run-3 c = search needs
-
-run-requires : tie.Need-run-requires
-run-requires c κs = search needs
-
-answer-requires : tie.Need-answer-requires
-answer-requires c κs = search needs
-
-place-requires : tie.Need-place-requires
-place-requires c κs = search needs
-
 returns : tie.Need-returns
 returns c =
     let a = c .before .before .before .before .before .before .before .before .before .before .before .args in
@@ -52,11 +34,11 @@ pub stray-spec : {M : Type 1} → statement M
 stray-spec =
     tie.close
     (tie.spec
-    slice-aggregate-run
-    slice-aggregate-run-2
-    slice-aggregate-run-3
-    run-requires
-    answer-requires
-    place-requires
+    (λ c. search needs)
+    (λ c. search needs)
+    (λ c. search needs)
+    (λ c κs. search needs)
+    (λ c κs. search needs)
+    (λ c κs. search needs)
     returns
     returns-2)

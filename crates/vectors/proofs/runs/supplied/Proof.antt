@@ -30,47 +30,11 @@ in-turn : (code text : List ℕ) (count from : ℕ) (t u : Tally) (next p q : �
 unfolding afterSupplied
 in-turn code text count from t u next p q input store output x y z e1 e2 e3 e4 e5 e6 e7 e8 e9 e10 = cc
 
-fresh-store-requires : tie.Need-fresh-store-requires
-fresh-store-requires c κs = search needs
-
-fresh-output-requires : tie.Need-fresh-output-requires
-fresh-output-requires c κs = search needs
-
-inputs-at-requires : tie.Need-inputs-at-requires
-inputs-at-requires c κs = search needs
-
-number-at-requires : tie.Need-number-at-requires
-number-at-requires c κs = search needs
-
-number-at-requires-2 : tie.Need-number-at-requires-2
-number-at-requires-2 c κs = search needs
-
-number-at-requires-3 : tie.Need-number-at-requires-3
-number-at-requires-3 c κs = search needs
-
-clipped-requires : tie.Need-clipped-requires
-clipped-requires c κs = search needs
-
-clipped-requires-2 : tie.Need-clipped-requires-2
-clipped-requires-2 c κs = search needs
-
-array-borrow-prefix-store : tie.Need-array-borrow-prefix-store
-array-borrow-prefix-store c = search needs
-
 slice-aggregate-ran : tie.Need-slice-aggregate-ran
 slice-aggregate-ran c = sym (length-take-le _ _ (search needs))
 
-array-borrow-prefix-output : tie.Need-array-borrow-prefix-output
-array-borrow-prefix-output c = search needs
-
 slice-aggregate-ran-2 : tie.Need-slice-aggregate-ran-2
 slice-aggregate-ran-2 c = sym (length-take-le _ _ (search needs))
-
-ran-requires : tie.Need-ran-requires
-ran-requires c κs = search needs
-
-same-length : tie.Need-same-length
-same-length c = search needs
 
 returns : tie.Need-returns
 returns c =
@@ -83,18 +47,18 @@ pub supplied-spec : {M : Type 1} → statement M
 supplied-spec =
     tie.close
     (tie.spec
-    fresh-store-requires
-    fresh-output-requires
-    inputs-at-requires
-    number-at-requires
-    number-at-requires-2
-    number-at-requires-3
-    clipped-requires
-    clipped-requires-2
-    array-borrow-prefix-store
+    (λ c κs. search needs)
+    (λ c κs. search needs)
+    (λ c κs. search needs)
+    (λ c κs. search needs)
+    (λ c κs. search needs)
+    (λ c κs. search needs)
+    (λ c κs. search needs)
+    (λ c κs. search needs)
+    (λ c. search needs)
     slice-aggregate-ran
-    array-borrow-prefix-output
+    (λ c. search needs)
     slice-aggregate-ran-2
-    ran-requires
-    same-length
+    (λ c κs. search needs)
+    (λ c. search needs)
     returns)

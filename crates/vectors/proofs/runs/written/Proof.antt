@@ -32,33 +32,6 @@ in-turn : (r : Ran) (output : List ℤ) (text : List ℕ) (from : ℕ) (t s k u 
 unfolding afterWritten
 in-turn r output text from t s k u n m o b a next e1 e2 e3 e4 e5 e6 e7 e8 e9 = cc
 
-number-at-requires : tie.Need-number-at-requires
-number-at-requires c κs = search needs
-
-same-outputs-requires : tie.Need-same-outputs-requires
-same-outputs-requires c κs = search needs
-
-slice-aggregate-check : tie.Need-slice-aggregate-check
-slice-aggregate-check c = search needs
-
-check-requires : tie.Need-check-requires
-check-requires c κs = search needs
-
-untouched-requires : tie.Need-untouched-requires
-untouched-requires c κs = search needs
-
-slice-aggregate-check-2 : tie.Need-slice-aggregate-check-2
-slice-aggregate-check-2 c = search needs
-
-check-requires-2 : tie.Need-check-requires-2
-check-requires-2 c κs = search needs
-
-number-at-requires-2 : tie.Need-number-at-requires-2
-number-at-requires-2 c κs = search needs
-
-counted-requires : tie.Need-counted-requires
-counted-requires c κs = search needs
-
 returns : tie.Need-returns
 returns c =
     let a = c .before .before .before .before .before .before .before .before .before .before .before .before .args in
@@ -73,13 +46,13 @@ pub written-spec : {M : Type 1} → statement M
 written-spec =
     tie.close
     (tie.spec
-    number-at-requires
-    same-outputs-requires
-    slice-aggregate-check
-    check-requires
-    untouched-requires
-    slice-aggregate-check-2
-    check-requires-2
-    number-at-requires-2
-    counted-requires
+    (λ c κs. search needs)
+    (λ c κs. search needs)
+    (λ c. search needs)
+    (λ c κs. search needs)
+    (λ c κs. search needs)
+    (λ c. search needs)
+    (λ c κs. search needs)
+    (λ c κs. search needs)
+    (λ c κs. search needs)
     returns)

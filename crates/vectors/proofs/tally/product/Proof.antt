@@ -13,8 +13,5 @@ below {a} {b} ha hb = lt-of-le-of-lt (mul-le-mul-left a (le-of-lt hb)) (mul-lt-m
 mul-result : tie.Need-mul-result
 mul-result c = record { fits = below (search needs) (search needs) }
 
-returns : tie.Need-returns
-returns c = search needs
-
 pub product-spec : {M : Type 1} → statement M
-product-spec = tie.close (tie.spec mul-result returns)
+product-spec = tie.close (tie.spec mul-result (λ c. search needs))

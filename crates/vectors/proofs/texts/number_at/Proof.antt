@@ -24,22 +24,10 @@ no-minus s i h = rw (ne-eqb (getD s i 0) 45 h)
 past : (s : List ℕ) (i : ℕ) → length s ≤ i → getD s i 0 ≡ 45 → ⊥
 past s i h e = omega (arith, List·getD-eq-default s 0 h)
 
-shared-slice-read-if2 : tie.Need-shared-slice-read-if2
-shared-slice-read-if2 c = search needs
-
-add-digits-at : tie.Need-add-digits-at
-add-digits-at c = search needs
-
-digits-at-requires : tie.Need-digits-at-requires
-digits-at-requires c κs = search needs
-
 returns : tie.Need-returns
 returns c =
     let a = c .before .before .before .before .before .args in
     (c .digits-at .ensures .0, c .digits-at .ensures .1 ∙ behind-minus (a .text .now) (a .from) (c .before .if2 .taken))
-
-digits-at-requires-2 : tie.Need-digits-at-requires-2
-digits-at-requires-2 c κs = search needs
 
 returns-2 : tie.Need-returns-2
 returns-2 c =
@@ -50,9 +38,9 @@ pub number-at-spec : {M : Type 1} → statement M
 number-at-spec =
     tie.close
     (tie.spec
-    shared-slice-read-if2
-    add-digits-at
-    digits-at-requires
+    (λ c. search needs)
+    (λ c. search needs)
+    (λ c κs. search needs)
     returns
-    digits-at-requires-2
+    (λ c κs. search needs)
     returns-2)

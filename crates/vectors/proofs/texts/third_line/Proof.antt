@@ -42,12 +42,6 @@ no-third s paged = rw paged
 told : (s : List ℕ) (a : ℕ) (x y : Bool) → a ≡ secondLine s → x ≡ pageAt s a → x ≡ y → pageAt s (secondLine s) ≡ y
 told s a x y e f g = ap (pageAt s) (sym e) ∙ sym f ∙ g
 
-second-line-requires : tie.Need-second-line-requires
-second-line-requires c κs = search needs
-
-page-at-requires : tie.Need-page-at-requires
-page-at-requires c κs = search needs
-
 returns : tie.Need-returns
 returns c =
     let second = c .before .before .second-line in
@@ -59,12 +53,6 @@ sub-second-line c = omega (arith, line-inside (c .before .before .before .before
 
 part-second-line-start : tie.Need-part-second-line-start
 part-second-line-start c = omega (arith, line-inside (c .before .before .before .before .args .text .now), c .before .before .second-line .ensures)
-
-part-second-line-end : tie.Need-part-second-line-end
-part-second-line-end c = search needs
-
-second-line-requires-2 : tie.Need-second-line-requires-2
-second-line-requires-2 c κs = search needs
 
 add-result : tie.Need-add-result
 add-result c =
@@ -83,12 +71,12 @@ pub third-line-spec : {M : Type 1} → statement M
 third-line-spec =
     tie.close
     (tie.spec
-    second-line-requires
-    page-at-requires
+    (λ c κs. search needs)
+    (λ c κs. search needs)
     returns
     sub-second-line
     part-second-line-start
-    part-second-line-end
-    second-line-requires-2
+    (λ c. search needs)
+    (λ c κs. search needs)
     add-result
     returns-2)

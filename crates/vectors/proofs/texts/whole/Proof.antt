@@ -74,10 +74,9 @@ narrowed n h =
     rw (toZ-ofZ f) (toZ-ofZ g ∙ rw e (+ℤ-idl (negℤ (pos n))))
 
 returns : tie.Need-returns
-returns c = is-none (c .before .args .n) (far-off (c .before .args .n .minus) (c .before .args .n .value) (c .if1 .taken))
-
-cast-result : tie.Need-cast-result
-cast-result c = search needs
+returns c =
+    let args = c .before .args in
+    is-none (args .n) (far-off (args .n .minus) (args .n .value) (c .if1 .taken))
 
 sub-result : tie.Need-sub-result
 sub-result c = record { sfits = omega (arith, less (c .before .before .args .n .value) (search needs)) }
@@ -93,9 +92,6 @@ returns-2 c =
 returns-3 : tie.Need-returns-3
 returns-3 c = too-large (c .before .before .before .args .n) (c .before .if2 .left) (c .if3 .taken)
 
-cast-result-3 : tie.Need-cast-result-3
-cast-result-3 c = search needs
-
 returns-4 : tie.Need-returns-4
 returns-4 c =
     let n = c .before .before .before .args .n in
@@ -107,10 +103,10 @@ whole-spec =
     tie.close
     (tie.spec
     returns
-    cast-result
+    (λ c. search needs)
     sub-result
     cast-result-2
     returns-2
     returns-3
-    cast-result-3
+    (λ c. search needs)
     returns-4)

@@ -36,13 +36,19 @@ module _ (a b : List ℕ) (at k l : ℕ) (first : k ≡ getD a (at + 1) 0) (seco
         rw (kinds, z, p, q, one, two)
 
 returns : tie.Need-returns
-returns c = other-kind (c .before .before .before .before .before .args .a .now) (c .before .before .before .before .before .args .b .now) (c .before .before .before .before .before .args .at) (c .before .before .word .result) (c .before .word2 .result) (c .before .before .word .ensures .0) (c .before .word2 .ensures .0) (c .if1 .taken)
+returns c =
+    let args = c .before .before .before .before .before .args in
+    other-kind (args .a .now) (args .b .now) (args .at) (c .before .before .word .result) (c .before .word2 .result) (c .before .before .word .ensures .0) (c .before .word2 .ensures .0) (c .if1 .taken)
 
 returns-2 : tie.Need-returns-2
-returns-2 c = of-environment (c .before .before .before .before .before .before .before .before .args .a .now) (c .before .before .before .before .before .before .before .before .args .b .now) (c .before .before .before .before .before .before .before .before .args .at) (c .before .before .before .before .before .word .result) (c .before .before .before .before .word2 .result) (c .before .before .before .before .before .word .ensures .0) (c .before .before .before .before .word2 .ensures .0) (c .before .before .before .if1 .left) (c .before .before .word3 .result) (c .before .word4 .result) (c .before .before .word3 .ensures .0) (c .before .word4 .ensures .0) (c .if2 .taken)
+returns-2 c =
+    let args = c .before .before .before .before .before .before .before .before .args in
+    of-environment (args .a .now) (args .b .now) (args .at) (c .before .before .before .before .before .word .result) (c .before .before .before .before .word2 .result) (c .before .before .before .before .before .word .ensures .0) (c .before .before .before .before .word2 .ensures .0) (c .before .before .before .if1 .left) (c .before .before .word3 .result) (c .before .word4 .result) (c .before .before .word3 .ensures .0) (c .before .word4 .ensures .0) (c .if2 .taken)
 
 returns-3 : tie.Need-returns-3
-returns-3 c = of-declaration (c .before .before .before .before .before .before .before .before .before .before .args .a .now) (c .before .before .before .before .before .before .before .before .before .before .args .b .now) (c .before .before .before .before .before .before .before .before .before .before .args .at) (c .before .before .before .before .before .before .before .word .result) (c .before .before .before .before .before .before .word2 .result) (c .before .before .before .before .before .before .before .word .ensures .0) (c .before .before .before .before .before .before .word2 .ensures .0) (c .before .before .before .before .before .if1 .left) (c .before .before .before .before .word3 .result) (c .before .before .before .word4 .result) (c .before .before .before .before .word3 .ensures .0) (c .before .before .before .word4 .ensures .0) (c .before .before .if2 .left) (c .before .declaration-at .result) (c .declaration-at2 .result) (c .before .declaration-at .ensures) (c .declaration-at2 .ensures)
+returns-3 c =
+    let args = c .before .before .before .before .before .before .before .before .before .before .args in
+    of-declaration (args .a .now) (args .b .now) (args .at) (c .before .before .before .before .before .before .before .word .result) (c .before .before .before .before .before .before .word2 .result) (c .before .before .before .before .before .before .before .word .ensures .0) (c .before .before .before .before .before .before .word2 .ensures .0) (c .before .before .before .before .before .if1 .left) (c .before .before .before .before .word3 .result) (c .before .before .before .word4 .result) (c .before .before .before .before .word3 .ensures .0) (c .before .before .before .word4 .ensures .0) (c .before .before .if2 .left) (c .before .declaration-at .result) (c .declaration-at2 .result) (c .before .declaration-at .ensures) (c .declaration-at2 .ensures)
 
 pub alike-at-spec : {M : Type 1} → statement M
 alike-at-spec =

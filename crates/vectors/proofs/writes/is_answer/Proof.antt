@@ -24,10 +24,14 @@ module _ (w : Written) (a n m : ℕ) (number : a ≡ numberOf w) where
       rw k (ne-eqb a n h)
 
 returns : tie.Need-returns
-returns c = same-number (c .before .before .before .before .args .w) (c .before .before .before .answer .result .number) (c .before .before .before .before .args .answer) (c .before .before .before .before .args .place) (c .before .before .before .answer .ensures) (c .place .result) (c .before .if1 .taken) (c .place .ensures)
+returns c =
+    let args = c .before .before .before .before .args in
+    same-number (args .w) (c .before .before .before .answer .result .number) (args .answer) (args .place) (c .before .before .before .answer .ensures) (c .place .result) (c .before .if1 .taken) (c .place .ensures)
 
 returns-2 : tie.Need-returns-2
-returns-2 c = other-number (c .before .before .before .args .w) (c .before .before .answer .result .number) (c .before .before .before .args .answer) (c .before .before .before .args .place) (c .before .before .answer .ensures) (c .if1 .left)
+returns-2 c =
+    let args = c .before .before .before .args in
+    other-number (args .w) (c .before .before .answer .result .number) (args .answer) (args .place) (c .before .before .answer .ensures) (c .if1 .left)
 
 pub is-answer-spec : {M : Type 1} → statement M
 is-answer-spec =

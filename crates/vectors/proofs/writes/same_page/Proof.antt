@@ -28,16 +28,22 @@ module _ (room page : List ℕ) (n : ℕ) where
     same-bytes e r f = rw (le-leb n (length room) inside, e) f
 
 returns : tie.Need-returns
-returns c = outside (c .before .before .before .args .room .now) (c .before .before .before .args .page .now) (c .before .before .before .args .n) (c .if1 .taken)
+returns c =
+    let args = c .before .before .before .args in
+    outside (args .room .now) (args .page .now) (args .n) (c .if1 .taken)
 
 slice-aggregate-same-bytes : tie.Need-slice-aggregate-same-bytes
 slice-aggregate-same-bytes c = sym (length-take-le _ _ (c .before .if1 .left))
 
 returns-2 : tie.Need-returns-2
-returns-2 c = same-bytes (c .before .before .before .before .before .before .before .args .room .now) (c .before .before .before .before .before .before .before .args .page .now) (c .before .before .before .before .before .before .before .args .n) (c .before .before .before .before .if1 .left) (sym (c .before .before .same-bytes .ensures) ∙ c .before .if2 .taken) (c .untouched .result) (c .untouched .ensures)
+returns-2 c =
+    let args = c .before .before .before .before .before .before .before .args in
+    same-bytes (args .room .now) (args .page .now) (args .n) (c .before .before .before .before .if1 .left) (sym (c .before .before .same-bytes .ensures) ∙ c .before .if2 .taken) (c .untouched .result) (c .untouched .ensures)
 
 returns-3 : tie.Need-returns-3
-returns-3 c = c .if2 .left ∙ other-bytes (c .before .before .before .before .before .before .args .room .now) (c .before .before .before .before .before .before .args .page .now) (c .before .before .before .before .before .before .args .n) (c .before .before .before .if1 .left) (sym (c .before .same-bytes .ensures) ∙ c .if2 .left)
+returns-3 c =
+    let args = c .before .before .before .before .before .before .args in
+    c .if2 .left ∙ other-bytes (args .room .now) (args .page .now) (args .n) (c .before .before .before .if1 .left) (sym (c .before .same-bytes .ensures) ∙ c .if2 .left)
 
 pub same-page-spec : {M : Type 1} → statement M
 same-page-spec =

@@ -8,12 +8,6 @@ use borrow.Author.Needs.{needs}
 use Rattle.vectors.proofs.tally.Tally.most.Statement.{statement}
 use Rattle.vectors.proofs.tally.Tally.most.Tie as tie
 
-product-requires : tie.Need-product-requires
-product-requires c κs = search needs
-
-product-requires-2 : tie.Need-product-requires-2
-product-requires-2 c κs = search needs
-
 returns : tie.Need-returns
 unfolding mostOf
 returns c =
@@ -29,4 +23,4 @@ returns-2 c =
     rw (le-ltb _ _ h)
 
 pub most-spec : {M : Type 1} → statement M
-most-spec = tie.close (tie.spec product-requires product-requires-2 returns returns-2)
+most-spec = tie.close (tie.spec (λ c κs. search needs) (λ c κs. search needs) returns returns-2)

@@ -4,11 +4,8 @@ use borrow.Author.Needs.{needs}
 use Rattle.vectors.proofs.tally.Tally.run.Statement.{statement}
 use Rattle.vectors.proofs.tally.Tally.run.Tie as tie
 
-more-requires : tie.Need-more-requires
-more-requires c κs = search needs
-
 returns : tie.Need-returns
 returns c = rw (c .more .ensures)
 
 pub run-spec : {M : Type 1} → statement M
-run-spec = tie.close (tie.spec more-requires returns)
+run-spec = tie.close (tie.spec (λ c κs. search needs) returns)

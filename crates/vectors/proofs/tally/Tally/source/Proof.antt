@@ -4,11 +4,8 @@ use borrow.Author.Needs.{needs}
 use Rattle.vectors.proofs.tally.Tally.source.Statement.{statement}
 use Rattle.vectors.proofs.tally.Tally.source.Tie as tie
 
-more-requires : tie.Need-more-requires
-more-requires c κs = search needs
-
 returns : tie.Need-returns
 returns c = rw (c .more .ensures)
 
 pub source-spec : {M : Type 1} → statement M
-source-spec = tie.close (tie.spec more-requires returns)
+source-spec = tie.close (tie.spec (λ c κs. search needs) returns)
