@@ -17,7 +17,7 @@ use Rattle.clean.specs.model.Lines.{topLevel, below, base, peek, headed,
 use Rattle.clean.specs.model.Bytes.{spellingAt}
 use Rattle.clean.specs.model.Pen.{lineOf, inwardOf, openOf, levelOf, headOf, openedOf, passedOf, topOf, earlyOf, lateOf, stackAfter, gapOf, writtenFrom}
 use Rattle.clean.specs.declared.lines.State.{State}
-use Rattle.reading.proofs.Stages.{same-kind}
+use Rattle.symbols.proofs.Stored.{same-kind}
 
 -- ---- a kind is one that does something, or none of these
 

@@ -15,7 +15,7 @@ use Rattle.symbols.specs.Scan.{Found, kindsOf}
 use Rattle.symbols.specs.declared.Symbol.{Symbol}
 use Rattle.symbols.specs.declared.Symbol.the-variants.{Colon}
 use Rattle.symbols.specs.Spelling.{wordFor, signFor, spell, withDecimals, readOff}
-use Rattle.reading.proofs.Stages.{same-kind}
+use Rattle.symbols.proofs.Stored.{same-kind}
 use Rattle.clean.specs.model.Bytes.{sortOf, spellingAt, wordAt, AllKinds}
 use Rattle.clean.proofs.Putting.{run-short}
 

@@ -14,11 +14,9 @@ use Rattle.answers.specs.declared.Answer.{Answer}
 use Rattle.answers.specs.declared.Refusal.{Refusal}
 use Rattle.answers.specs.declared.Verdict.the-variants.{Refused}
 use Rattle.symbols.specs.Symbols.{kind, valueOf}
-use Rattle.symbols.specs.model.Kinds.{symbolOf}
 use Rattle.symbols.specs.Scan.{Found, Scan, scan, kindsOf, placesOf, valuesOf}
 use Rattle.symbols.specs.model.Steps.{answerOf, over, Filled}
-use Rattle.symbols.specs.declared.Symbol.{Symbol}
-use Rattle.symbols.specs.declared.Symbol.the-variants.{Begin, End, If, Then, Else, For, Do, Step, Until, While, Comment, Integer, Boolean, Procedure, Value, True, False, And, Or, Not, Impl, Equiv, Plus, Minus, Times, Divide, Less, LessEqual, Equal, GreaterEqual, Greater, NotEqual, Comma, Colon, Becomes, Semicolon, Open, Close, Name, Number, Real, Slash, Decimal}
+use Rattle.symbols.proofs.Stored.{same-kind}
 use Rattle.symbols.specs.declared.Scanned.{Scanned as Told}
 use Rattle.symbols.specs.declared.Scanned.the-variants.{Read as Symbols-read, Refused as Symbols-refused}
 use Rattle.grammar.specs.model.Text.{text}
@@ -33,53 +31,7 @@ use Rattle.names.specs.model.Identity.{Identified}
 use Rattle.reading.specs.model.Stages.{Placed, Symbols, Ready, Known}
 use Rattle.reading.proofs.Places.{few-symbols}
 
--- ---- a stored kind gives itself
-
-pub same-kind : (s : Symbol) → kind (symbolOf (kind s) 0) ≡ kind s
-unfolding symbolOf
-same-kind Begin = refl
-same-kind End = refl
-same-kind If = refl
-same-kind Then = refl
-same-kind Else = refl
-same-kind For = refl
-same-kind Do = refl
-same-kind Step = refl
-same-kind Until = refl
-same-kind While = refl
-same-kind Comment = refl
-same-kind Integer = refl
-same-kind Boolean = refl
-same-kind Procedure = refl
-same-kind Value = refl
-same-kind True = refl
-same-kind False = refl
-same-kind And = refl
-same-kind Or = refl
-same-kind Not = refl
-same-kind Impl = refl
-same-kind Equiv = refl
-same-kind Plus = refl
-same-kind Minus = refl
-same-kind Times = refl
-same-kind Divide = refl
-same-kind Less = refl
-same-kind LessEqual = refl
-same-kind Equal = refl
-same-kind GreaterEqual = refl
-same-kind Greater = refl
-same-kind NotEqual = refl
-same-kind Comma = refl
-same-kind Colon = refl
-same-kind Becomes = refl
-same-kind Semicolon = refl
-same-kind Open = refl
-same-kind Close = refl
-same-kind Name = refl
-same-kind (Number v) = refl
-same-kind Real = refl
-same-kind Slash = refl
-same-kind (Decimal v) = refl
+-- ---- the text of the stored kinds
 
 pub text-is : (l : List Found) → text (kindsOf l) ≡ kindsOf l
 unfolding text

@@ -1,9 +1,10 @@
 -- What is stored of a symbol gives the symbol back, and a number with a point has its digits back.
 use Prim.Native.Nat.{ℕ, zero, suc, _+_, _*_, _/_, _%_, _≤_, _<_}
-use mathlib.Core.Path.{_≡_, refl}
+use mathlib.Core.Path.{_≡_, refl, sym, ap, _∙_}
 use native.Mathlib.Omega.{arith}
+use lib.ListN.{List·getD-map}
 use Rattle.symbols.specs.Symbols.{kind, packed, valueOf}
-use Rattle.symbols.specs.model.Kinds.{symbolOf, unpacked}
+use Rattle.symbols.specs.model.Kinds.{symbolOf, ordered, unpacked}
 use Rattle.symbols.specs.declared.Symbol.{Symbol}
 use Rattle.symbols.specs.declared.Symbol.the-variants.{Begin, End, If, Then, Else, For, Do, Step, Until, While, Comment, Integer, Boolean, Procedure, Value, True, False, And, Or, Not, Impl, Equiv, Plus, Minus, Times, Divide, Less, LessEqual, Equal, GreaterEqual, Greater, NotEqual, Comma, Colon, Becomes, Semicolon, Open, Close, Name, Number, Real, Slash, Decimal}
 
@@ -53,50 +54,14 @@ given-back Real = refl
 given-back Slash = refl
 given-back (Decimal w) = refl
 
-pub kind-small : (s : Symbol) → kind s < 43
-kind-small Begin = omega arith
-kind-small End = omega arith
-kind-small If = omega arith
-kind-small Then = omega arith
-kind-small Else = omega arith
-kind-small For = omega arith
-kind-small Do = omega arith
-kind-small Step = omega arith
-kind-small Until = omega arith
-kind-small While = omega arith
-kind-small Comment = omega arith
-kind-small Integer = omega arith
-kind-small Boolean = omega arith
-kind-small Procedure = omega arith
-kind-small Value = omega arith
-kind-small True = omega arith
-kind-small False = omega arith
-kind-small And = omega arith
-kind-small Or = omega arith
-kind-small Not = omega arith
-kind-small Impl = omega arith
-kind-small Equiv = omega arith
-kind-small Plus = omega arith
-kind-small Minus = omega arith
-kind-small Times = omega arith
-kind-small Divide = omega arith
-kind-small Less = omega arith
-kind-small LessEqual = omega arith
-kind-small Equal = omega arith
-kind-small GreaterEqual = omega arith
-kind-small Greater = omega arith
-kind-small NotEqual = omega arith
-kind-small Comma = omega arith
-kind-small Colon = omega arith
-kind-small Becomes = omega arith
-kind-small Semicolon = omega arith
-kind-small Open = omega arith
-kind-small Close = omega arith
-kind-small Name = omega arith
-kind-small (Number v) = omega arith
-kind-small Real = omega arith
-kind-small Slash = omega arith
-kind-small (Decimal w) = omega arith
+-- of which kind the stored symbol is does not hang on its value
+any-value : (k v w : ℕ) → kind (symbolOf k v) ≡ kind (symbolOf k w)
+unfolding symbolOf
+any-value k v w = sym (List·getD-map kind (ordered v) k Colon) ∙ List·getD-map kind (ordered w) k Colon
+
+-- a stored kind gives itself
+pub same-kind : (s : Symbol) → kind (symbolOf (kind s) 0) ≡ kind s
+same-kind s = any-value (kind s) 0 (valueOf s) ∙ ap kind (given-back s)
 
 -- a number with a point has at most 15 digits behind it, and reads back
 pub unpack-packed : (n k : ℕ) → k < 16 → unpacked (packed n k) ≡ record { digits = n; behind = k }

@@ -15,7 +15,7 @@ use Rattle.symbols.specs.declared.Symbol.{Symbol}
 use Rattle.symbols.specs.declared.Symbol.the-variants.{Begin, End, If, Then, Else, For, Do, Step, Until, While, Comment, Integer, Boolean, Procedure, Value, True, False, And, Or, Not, Impl, Equiv, Plus, Minus, Times, Divide, Less, LessEqual, Equal, GreaterEqual, Greater, NotEqual, Comma, Colon, Becomes, Semicolon, Open, Close, Name, Number, Real, Slash, Decimal}
 
 -- the compiler's numbers are the kinds
-tag-kind : (s : Symbol) → tagOf the-type s ≡ kind s
+pub tag-kind : (s : Symbol) → tagOf the-type s ≡ kind s
 tag-kind Begin = refl
 tag-kind End = refl
 tag-kind If = refl
@@ -99,17 +99,17 @@ neither x y z a b d p q r = rw (p, q, r)
 nor : (x y z : Bool) → x ≡ false → y ≡ false → z ≡ false → (x || y || z) ≡ false
 nor x y z p q r = rw (p, q, r)
 
-pub behind-other : (s : Symbol) → OneOf (others (35 ∷ 0 ∷ 1 ∷ [])) (tagOf the-type s) → behind s ≡ Plain
+pub behind-other : (s : Symbol) → OneOf (others (kind Semicolon ∷ kind Begin ∷ kind End ∷ [])) (tagOf the-type s) → behind s ≡ Plain
 unfolding behind
 behind-other s o =
-    let ks = others (35 ∷ 0 ∷ 1 ∷ []) in
-    neither (eqb (kind s) 35) (eqb (kind s) 0) (eqb (kind s) 1) Opens Remark Plain (no-kind ks s 35 o refl) (no-kind ks s 0 o refl) (no-kind ks s 1 o refl)
+    let ks = others (kind Semicolon ∷ kind Begin ∷ kind End ∷ []) in
+    neither (eqb (kind s) (kind Semicolon)) (eqb (kind s) (kind Begin)) (eqb (kind s) (kind End)) Opens Remark Plain (no-kind ks s (kind Semicolon) o refl) (no-kind ks s (kind Begin) o refl) (no-kind ks s (kind End) o refl)
 
-pub remark-other : (s : Symbol) → OneOf (others (35 ∷ 4 ∷ 1 ∷ [])) (tagOf the-type s) → endsRemark s ≡ false
+pub remark-other : (s : Symbol) → OneOf (others (kind Semicolon ∷ kind Else ∷ kind End ∷ [])) (tagOf the-type s) → endsRemark s ≡ false
 unfolding endsRemark
 remark-other s o =
-    let ks = others (35 ∷ 4 ∷ 1 ∷ []) in
-    nor (eqb (kind s) 1) (eqb (kind s) 4) (eqb (kind s) 35) (no-kind ks s 1 o refl) (no-kind ks s 4 o refl) (no-kind ks s 35 o refl)
+    let ks = others (kind Semicolon ∷ kind Else ∷ kind End ∷ []) in
+    nor (eqb (kind s) (kind End)) (eqb (kind s) (kind Else)) (eqb (kind s) (kind Semicolon)) (no-kind ks s (kind End) o refl) (no-kind ks s (kind Else) o refl) (no-kind ks s (kind Semicolon) o refl)
 
-pub comment-other : (s : Symbol) → OneOf (others (10 ∷ [])) (tagOf the-type s) → is s Comment ≡ false
-comment-other s o = no-kind (others (10 ∷ [])) s 10 o refl
+pub comment-other : (s : Symbol) → OneOf (others (kind Comment ∷ [])) (tagOf the-type s) → is s Comment ≡ false
+comment-other s o = no-kind (others (kind Comment ∷ [])) s (kind Comment) o refl

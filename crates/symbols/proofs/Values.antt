@@ -24,13 +24,13 @@ pub record Pointed (w : ℕ) : Type 0 where
   pub some : 0 < unpacked w .behind
   pub few : unpacked w .behind ≤ 15
 
-number-proper : (s : Symbol) (l : List ℕ) → Proper s l → kind s ≡ 39 → valueOf s ≤ 2147483647
+number-proper : (s : Symbol) (l : List ℕ) → Proper s l → kind s ≡ kind (Number 0) → valueOf s ≤ 2147483647
 number-proper s l (S.name h f k) e = absurd (omega (arith, e))
 number-proper s l (S.number h f v k) e = k
 number-proper s l (S.decimal ds es q a c o n v) e = absurd (omega (arith, e))
-number-proper s l (S.other h k j) e = absurd (eqb-false (kind s) 39 k e)
+number-proper s l (S.other h k j) e = absurd (eqb-false (kind s) (kind (Number 0)) k e)
 
-decimal-proper : (s : Symbol) (l : List ℕ) → Proper s l → kind s ≡ 42 → Pointed (valueOf s)
+decimal-proper : (s : Symbol) (l : List ℕ) → Proper s l → kind s ≡ kind (Decimal 0) → Pointed (valueOf s)
 decimal-proper s l (S.name h f k) e = absurd (omega (arith, e))
 decimal-proper s l (S.number h f v k) e = absurd (omega (arith, e))
 decimal-proper s l (S.decimal ds es q a c o n v) e =
@@ -38,16 +38,16 @@ decimal-proper s l (S.decimal ds es q a c o n v) e =
     let u = ap unpacked (sym v) ∙ unpack-packed (valueFrom 0 (ds ++ es)) (length es) m in
     let b = value-small (ds ++ es) (all-both digit ds es a c) n in
     record { digits = rw u b; some = rw u o; few = rw u (omega (arith, m)) }
-decimal-proper s l (S.other h k j) e = absurd (eqb-false (kind s) 42 j e)
+decimal-proper s l (S.other h k j) e = absurd (eqb-false (kind s) (kind (Decimal 0)) j e)
 
 module _ (source : List ℕ) where
-  number-in : (l : List Found) → AllProper (map (tokenAt source) l) → (k : ℕ) → getD (kindsOf l) k 0 ≡ 39 → getD (valuesOf l) k 0 ≤ 2147483647
+  number-in : (l : List Found) → AllProper (map (tokenAt source) l) → (k : ℕ) → getD (kindsOf l) k 0 ≡ kind (Number 0) → getD (valuesOf l) k 0 ≤ 2147483647
   number-in [] p zero e = absurd (omega (arith, e))
   number-in [] p (suc k) e = absurd (omega (arith, e))
   number-in (f ∷ l) p zero e = number-proper (f .symbol) _ (p .0) e
   number-in (f ∷ l) p (suc k) e = number-in l (p .1) k e
 
-  decimal-in : (l : List Found) → AllProper (map (tokenAt source) l) → (k : ℕ) → getD (kindsOf l) k 0 ≡ 42 → Pointed (getD (valuesOf l) k 0)
+  decimal-in : (l : List Found) → AllProper (map (tokenAt source) l) → (k : ℕ) → getD (kindsOf l) k 0 ≡ kind (Decimal 0) → Pointed (getD (valuesOf l) k 0)
   decimal-in [] p zero e = absurd (omega (arith, e))
   decimal-in [] p (suc k) e = absurd (omega (arith, e))
   decimal-in (f ∷ l) p zero e = decimal-proper (f .symbol) _ (p .0) e

@@ -13,6 +13,8 @@ use symbols::Symbol;
 ghost use mathlib.Core.Path.{_≡_};
 ghost use mathlib.Core.List.{[], _∷_};
 ghost use Prim.Native.Nat.{_+_};
+ghost use Rattle.symbols.specs.Symbols.{kind};
+ghost use Rattle.symbols.specs.declared.Symbol.the-variants.{If};
 ghost use Rattle.grammar.specs.Grammar.{part, deeper, level as a-level, operand as an-operand, expression as an-expression, a-condition, otherwise as an-otherwise, chain as a-chain, more as the-more, negation as a-negation, relation as a-relation, comparison as a-comparison, primary as a-primary, actuals as the-actuals, actual as an-actual, further-actuals};
 ghost use Rattle.grammar.specs.model.Marked.{useNumber};
 ghost use Rattle.grammar.specs.declared.Level.the-variants.{Sum, Equivalence};
@@ -31,7 +33,7 @@ pub fn expression(kinds: &[u8], pos: usize, depth: u16, nodes: &mut [u16], free:
 
 // A conditional expression, from its 'if' on.
 fn condition(kinds: &[u8], pos: usize, depth: u16, nodes: &mut [u16], free: usize) -> Parsed
-    requires { ⌜ (Room (text (now kinds)) (now nodes) pos free) × (kindAt (text (now kinds)) pos ≡ 2) ⌝ }
+    requires { ⌜ (Room (text (now kinds)) (now nodes) pos free) × (kindAt (text (now kinds)) pos ≡ kind If) ⌝ }
     ensures { λ r. ⌜ TellsOf (text (now (kinds .entry))) (now (nodes .entry)) (now (nodes .exit)) depth a-condition pos free r ⌝ }
 {
     let one = nested(kinds, pos + 1, depth, nodes, free);

@@ -18,7 +18,7 @@ ghost use mathlib.Core.List.{[], _∷_};
 ghost use mathlib.Core.Bool.{true, false};
 ghost use Prim.Native.Nat.{_+_};
 ghost use Rattle.symbols.specs.Symbols.{kind};
-ghost use Rattle.symbols.specs.declared.Symbol.the-variants.{End, Semicolon};
+ghost use Rattle.symbols.specs.declared.Symbol.the-variants.{End, If, Semicolon};
 ghost use Rattle.grammar.specs.Grammar.{part, deeper, block as a-block, inner as an-inner, head as a-head, tail as a-tail, declarations as the-declarations, declaration as a-declaration, declared as a-declared, procedure as a-procedure, statements as the-statements, statement as a-statement, conditional as a-conditional, consequence as a-consequence, alternative as an-alternative, repetition as a-repetition, unconditional as an-unconditional};
 ghost use Rattle.grammar.specs.model.Text.{text, kindAt};
 ghost use Rattle.syntax.specs.model.Says.{behind, Room, Behind, Tells, Says, SaysOf};
@@ -241,7 +241,7 @@ fn conditional(
     free: usize,
     ends: bool,
 ) -> Parsed
-    requires { ⌜ (Room (text (now kinds)) (now nodes) pos free) × (kindAt (text (now kinds)) pos ≡ 2) ⌝ }
+    requires { ⌜ (Room (text (now kinds)) (now nodes) pos free) × (kindAt (text (now kinds)) pos ≡ kind If) ⌝ }
     ensures { λ r. ⌜ SaysOf (text (now (kinds .entry))) (now (nodes .entry)) (now (nodes .exit)) depth pos (behind ends) a-conditional pos free r ⌝ }
 {
     let one = expression(kinds, pos + 1, depth, nodes, free);
