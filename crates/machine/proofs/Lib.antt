@@ -11,3 +11,4 @@ pub mod Execs
 pub mod Numbers
 pub mod Named
 pub mod Limits
+pub mod Downs

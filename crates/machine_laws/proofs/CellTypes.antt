@@ -28,6 +28,7 @@ use Rattle.reals.specs.Values.{formOf, whole, wholeOf, convert, apply1, apply2,
 use Rattle.machine.specs.Run.{quiet, took, Out, halt, next}
 use Rattle.machine.specs.Data.{Link, link, Target, to, Lent, Data, contents, cells, Result, bad, wrong, good, lift, guard, check, newCells, newest, onValue, one, back, look, plain, formIn, put, counting, suits, input, readFrom, reading, valued, along, reaching, outward, inward, saving, hold, unhold, held, find, seeking, rest, spend, taking, writing, written, onChannel, heightened, Act, push, heighten, load, store, assign, reserve, forget, receive, send, keep, unary, binary, lend, channel, sum, turn, actOn, work, downs, Two, yea, nay, either, Test, condition, upto, testOn, picking, test, downsT, Counted, unset, openBlock, closeBlock, nameCell, enter, Fate, kept, gone, stored, stays, given, leave}
 use Rattle.machine.specs.Instructions.{Instruction, END, DO, IF, JUMP, ENTER, LEAVE, CALL, RETURN, GO, NEXT, NAME, WORK, SEEK, PASS, REFUSE, fetch}
+use Rattle.machine.proofs.Downs.{downs-on, downsT-on}
 use Rattle.machine.specs.Machine.{Activation, activation, Running, running, stray, targetIn, begins, workOut, exec, obey, step}
 
 -- ---- types of cells
@@ -407,28 +408,6 @@ lifted Q P s k f (bad a q) h g = tt
 lifted Q P s k f wrong h g = tt
 lifted Q P s k f (good e x) h g = g x h
 
-acts-down : {X Y : Type 0} (f : X → Y) (a : Act X) → downs (actOn f a) ≡ downs a
-acts-down f (push q v) = refl
-acts-down f (heighten h) = refl
-acts-down f (load q x) = refl
-acts-down f (store q x) = refl
-acts-down f (assign q x) = refl
-acts-down f (reserve q t) = refl
-acts-down f forget = refl
-acts-down f (receive q x) = refl
-acts-down f (send q t) = refl
-acts-down f keep = refl
-acts-down f (unary q o) = refl
-acts-down f (binary q o) = refl
-acts-down f (lend x) = refl
-acts-down f (channel q) = refl
-acts-down f (sum q x) = refl
-acts-down f (turn q t) = refl
-
-tests-down : {X Y : Type 0} (f : X → Y) (t : Test X) → downsT (testOn f t) ≡ downsT t
-tests-down f condition = refl
-tests-down f (upto q x) = refl
-
 both-ways : (n : ℕ) (w : List Cell) (f g : Data → Running) → ((d : Data) → Keeps n w d → KeepsM n w (f d)) → ((d : Data) → Keeps n w d → KeepsM n w (g d)) → (x : Two) → KeepsT n w x → KeepsM n w (either f g x)
 both-ways n w f g i j (yea d) h = i d h
 both-ways n w f g i j (nay d) h = j d h
@@ -457,11 +436,11 @@ unfolding exec
 instructions END pc ps fs w h a l = tt
 instructions (DO x) pc ps fs w h a l =
     let y : Act Target = actOn (targetIn fs (contents w h a l)) x in
-    let k : All (Keeps (downs x) w) (work y (contents w h a l)) = rw (acts-down (targetIn fs (contents w h a l)) x) at (works y w h a l) in
+    let k : All (Keeps (downs x) w) (work y (contents w h a l)) = rw (downs-on (targetIn fs (contents w h a l)) x) at (works y w h a l) in
     lifted (KeepsM (downs x) w) (Keeps (downs x) w) _ 1 _ _ (guarded (Keeps (downs x) w) _ _ (λ e. k)) (λ d k. k)
 instructions (IF t n) pc ps fs w h a l =
     let y : Test Target = testOn (targetIn fs (contents w h a l)) t in
-    let k : All (KeepsT (downsT t) w) (test y (contents w h a l)) = rw (tests-down (targetIn fs (contents w h a l)) t) at (tests y w h a l) in
+    let k : All (KeepsT (downsT t) w) (test y (contents w h a l)) = rw (downsT-on (targetIn fs (contents w h a l)) t) at (tests y w h a l) in
     lifted (KeepsM (downsT t) w) (KeepsT (downsT t) w) _ 1 _ _ (guarded (KeepsT (downsT t) w) _ _ (λ e. k)) (both-ways (downsT t) w _ _ (λ d k. k) (λ d k. k))
 instructions (JUMP n) pc ps fs w h a l = here w h a l
 instructions (ENTER q n) pc ps fs w h a l = lifted (KeepsM 0 w) (Keeps 0 w) _ 1 _ _ (opens q n w h a l) (λ d k. k)

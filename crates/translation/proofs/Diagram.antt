@@ -32,7 +32,8 @@ use Rattle.translation.specs.model.Listed.{instructionAt, stepIn}
 use Rattle.translation.proofs.Sim as Sim
 use Rattle.translation.proofs.Sim.{Agree, hop, free, both, stop}
 use Rattle.translation.proofs.CellKinds.{Kind, val, any, nam, Plain, plain-eq, kindAt}
-use Rattle.translation.proofs.Fits.{FitsD, Fits2, All, takes, gives, takesT, needs, holds, needsT, taken-length, takes-on, gives-on, takesT-length, takesT-on, downs-on, downsT-on, fits-cells, look-named, more-plain, guard-yes, Usable, works, works-test, name-fits, open-fits, close-fits, enter-fits, seek-fits, before, left, leave-fits, work-fits, left-on, cellFound, Found, found-level, found-below, leave-found, lend-found}
+use Rattle.machine.proofs.Downs.{downs-on, downsT-on}
+use Rattle.translation.proofs.Fits.{FitsD, Fits2, All, takes, gives, takesT, needs, holds, needsT, taken-length, takes-on, gives-on, takesT-length, takesT-on, fits-cells, look-named, more-plain, guard-yes, Usable, works, works-test, name-fits, open-fits, close-fits, enter-fits, seek-fits, before, left, leave-fits, work-fits, left-on, cellFound, Found, found-level, found-below, leave-found, lend-found}
 use Rattle.translation.proofs.Blank.{blank, blank2, onRes, cells-blank, found-blank, seeking-blank, work-blank, test-blank, name-blank, open-blank, close-blank, enter-blank, leave-blank}
 use Rattle.translation.proofs.Stands.{CodeAt, past-jump, pastE, pastEs, past-way, pastL, pastS, pastSs, pastDs, whole, past-wide}
 use Rattle.translation.proofs.Chain.{Vars, VarsT, Clear, OkSpot, NamedAs, worked-named, sought-named, Chain, root, inner, at-newest, chain-outer, chain-cut, chain-more, chain-as, chain-scopes, found, found-under, same-act, same-test, Stood, stood, stands-for, chain-new, chain-work, callee}

@@ -1,6 +1,6 @@
 -- The quick way of an instruction that uses whole numbers alone: a model that the contracts of the inner functions need, and no part of what `run`
 -- promises.
-use Prim.Native.Nat.{ℕ, _+_, _≤_, _<_}
+use Prim.Native.Nat.{ℕ, _<_}
 use mathlib.Core.Path.{_≡_}
 use mathlib.Core.List.{List, [], _∷_}
 use mathlib.Core.Option.{Option}
