@@ -16,11 +16,11 @@ use Rattle.symbols.specs.Symbols.{kind}
 use Rattle.symbols.specs.model.Kinds.{unpacked}
 use Rattle.symbols.specs.declared.Symbol.the-variants.{Number, Decimal}
 use Rattle.names.specs.Program as P
-use Rattle.names.specs.Program.{Name, Sort, Expression, Expressions, Element, Statement, Statements, Declarations, Procedure}
+use Rattle.names.specs.Program.{Name, Sort, Expression, Expressions, Statement, Declarations}
 use Rattle.names.specs.ReadOff.{Sem, operandOf, operatorOf, signOf, applied, nameAt, build, programOf}
 use Rattle.names.specs.Every.{AnyName, AnyDecimal, EveryE, EveryEs, EveryL, EveryLs, EveryS, EverySs, EveryD, EveryP}
 use Rattle.names.proofs.Weaken.{weaken, any-names, any-specified}
-use Rattle.translation.specs.model.Sizes.{SmallE, SmallEs, SmallL, SmallS, SmallSs, SmallDs, SmallP}
+use Rattle.translation.specs.model.Sizes.{Bits32}
 use Rattle.translating.proofs.Built.{Fits, built}
 
 -- ---- that all numbers are so, of what a part of a class gives
@@ -174,57 +174,6 @@ Worth worth kinds m q n = (n ≡ worth q) × (q < m) × (kinds q ≡ kind (Numbe
 abbrev pub WorthD : (worth : ℕ → ℕ) → ℕ → ℕ → ℕ → ℕ → Type 0
 WorthD worth m q n k = (n ≡ unpacked (worth q) .digits) × (k ≡ unpacked (worth q) .behind) × (q < m)
 
--- "number over 2,147,483,647" is refused
-abbrev Bits32 : ℕ → ℕ → Type 0
-Bits32 q n = n < 2147483648
-
--- ---- that every number is small, as the translation has it
-
-mutual
-  smallE : (e : Expression) → EveryE AnyName Bits32 AnyDecimal e → SmallE e
-  smallE (P.number q v) h = h
-  smallE (P.decimal q n k) h = tt
-  smallE (P.logical q b) h = tt
-  smallE (P.name x) h = tt
-  smallE (P.call x e es) h = (smallE e (h .1), smallEs es (h .2))
-  smallE (P.signed q o e) h = smallE e h
-  smallE (P.operated q o e f) h = (smallE e (h .0), smallE f (h .1))
-  smallE (P.chosen q r c e f) h = (smallE c (h .0), smallE e (h .1), smallE f (h .2))
-  smallE (P.nested q e) h = smallE e h
-
-  smallEs : (es : Expressions) → EveryEs AnyName Bits32 AnyDecimal es → SmallEs es
-  smallEs P.done h = tt
-  smallEs (P.then e es) h = (smallE e (h .0), smallEs es (h .1))
-
-smallL : (l : List Element) → EveryLs AnyName Bits32 AnyDecimal l → SmallL l
-smallL [] h = tt
-smallL (P.value e ∷ l) h = (smallE e (h .0), smallL l (h .1))
-smallL (P.while q e c ∷ l) h = (smallE e (h .0 .0), smallE c (h .0 .1), smallL l (h .1))
-smallL (P.step q e f g ∷ l) h = (smallE e (h .0 .0), smallE f (h .0 .1), smallE g (h .0 .2), smallL l (h .1))
-
-mutual
-  smallS : (s : Statement) → EveryS AnyName Bits32 AnyDecimal s → SmallS s
-  smallS P.dummy h = tt
-  smallS (P.assignment x xs q e) h = smallE e (h .2)
-  smallS (P.procedure x es) h = smallEs es (h .1)
-  smallS (P.when q c s) h = (smallE c (h .0), smallS s (h .1))
-  smallS (P.either q c s t) h = (smallE c (h .0), smallS s (h .1), smallS t (h .2))
-  smallS (P.repeat x l ls s) h = (smallL (l ∷ ls) (h .1, h .2), smallS s (h .3))
-  smallS (P.compound ss) h = smallSs ss h
-  smallS (P.block q ds ss) h = (smallDs ds (h .0), smallSs ss (h .1))
-
-  smallSs : (ss : Statements) → EverySs AnyName Bits32 AnyDecimal ss → SmallSs ss
-  smallSs (P.last s) h = smallS s h
-  smallSs (P.first s ss) h = (smallS s (h .0), smallSs ss (h .1))
-
-  smallDs : (ds : Declarations) → EveryD AnyName Bits32 AnyDecimal ds → SmallDs ds
-  smallDs P.none h = tt
-  smallDs (P.variables t xs ds) h = smallDs ds (h .1)
-  smallDs (P.declare p ds) h = (smallP p (h .0), smallDs ds (h .1))
-
-  smallP : (p : Procedure) → EveryP AnyName Bits32 AnyDecimal p → SmallP p
-  smallP (P.heading t f xs vs ss s) h = smallS s (h .4)
-
 module _ (worth : ℕ → ℕ) (letters : ℕ → List ℕ) (t : Syn program) where
   pub numbers : EveryS AnyName (Worth worth (kindAt (yield t)) (length (yield t))) (WorthD worth (length (yield t))) (programOf worth letters t)
   numbers =
@@ -232,8 +181,7 @@ module _ (worth : ℕ → ℕ) (letters : ℕ → List ℕ) (t : Syn program) wh
       let D : ℕ → ℕ → ℕ → Type 0 = WorthD worth (length (yield t)) in
       built worth letters (Of worth Q D) (λ X i j. All Q D X) (λ X p. fits worth letters Q D p) t (λ i h. (λ e. (refl, h, e), λ e. (refl, refl, h)))
 
-  pub small : ((k : ℕ) → kindAt (yield t) k ≡ kind (Number 0) → worth k < 2147483648) → SmallS (programOf worth letters t)
+  pub small : ((k : ℕ) → kindAt (yield t) k ≡ kind (Number 0) → worth k < 2147483648) → EveryS AnyName Bits32 AnyDecimal (programOf worth letters t)
   small h =
-      smallS (programOf worth letters t)
-      (weaken {A = AnyName} {B = AnyName} {Q = Worth worth (kindAt (yield t)) (length (yield t))} {R = Bits32} {D = WorthD worth (length (yield t))} {F = AnyDecimal}
-      (programOf worth letters t) (λ x k. k) (λ q n k. subst (λ (x : ℕ). x < 2147483648) (sym (k .0)) (h q (k .2))) (λ q n i k. tt) numbers)
+      weaken {A = AnyName} {B = AnyName} {Q = Worth worth (kindAt (yield t)) (length (yield t))} {R = Bits32} {D = WorthD worth (length (yield t))} {F = AnyDecimal}
+      (programOf worth letters t) (λ x k. k) (λ q n k. subst (λ (x : ℕ). x < 2147483648) (sym (k .0)) (h q (k .2))) (λ q n i k. tt) numbers

@@ -12,6 +12,7 @@ use Rattle.machine.specs.Data.{Act}
 use Rattle.machine.specs.Instructions.{Location, Instruction, END}
 use Rattle.names.specs.Program.{integer, decimal, Name, Sort, Sign, positive, negative, negation, Expression, number, logical, name, call, signed, operated, chosen, nested, Expressions, done, then, count, Element, value, while, step, Statement, dummy, assignment, procedure, when, either, repeat, compound, block, Statements, last, first, Declarations, none as no-more, variables, declare, Procedure, heading}
 use Rattle.names.specs.Scopes.{Mode, byValue, byName, findIn, Thing, variable, routine, formal, by-name, modesOf, Declared, Scope, ofBlock, ofBody, inBlock, inBody, variablesIn, formalsOf, nameOf, sortOf, same, Meaning, declared, given, nothing, meaning}
+use Rattle.names.specs.Every.{AnyName, AnyDecimal, EveryE, EveryEs, EveryLs, EveryS, EverySs, EveryD, EveryP}
 use Rattle.types.specs.Types.{widens}
 use Rattle.rules.specs.Entered.{typed, variablesOf, typedBefore, amongTyped, placeOf, cellsOf, total, oneIf, cellsIn, before, declaring, bodyOfThis}
 use Rattle.rules.specs.Calls.{Primary, held, worked, function, absolute, greatest, no-primary, primary, Command, routine-of, absolute-of, greatest-of, input-to, output-of, no-command, command, Way, direct, sought, way}
@@ -22,7 +23,7 @@ use Rattle.rules.proofs.Declarations.{typed-total, first-most, formals-cells}
 use Rattle.translation.proofs.Constants.{lower, upper}
 use Rattle.translation.proofs.Commands.{told}
 use Rattle.translation.proofs.Sizes.{sign-size, wide-size, jump-size, way-size, sum-size, take-size, symbolsC, few, actuals-most, size-stores, sizeE, sizeEs, sizeL, sizeS, sizeSs, sizeDs, sizeP}
-use Rattle.translation.specs.model.Sizes.{symbolsE, symbolsEs, symbolsL, listed, symbolsS, symbolsSs, symbolsDs, symbolsP, deepE, deepEs, deepA, deepL, deepS, deepSs, deepDs, deepP, SmallE, SmallEs, SmallL, SmallS, SmallSs, SmallDs, SmallP, Whole, Limited}
+use Rattle.translation.specs.model.Sizes.{symbolsE, symbolsEs, symbolsL, listed, symbolsS, symbolsSs, symbolsDs, symbolsP, deepE, deepEs, deepA, deepL, deepS, deepSs, deepDs, deepP, Bits32, Whole, Limited}
 use Rattle.machine.specs.model.Words.{LocFits, ActFits, InstrFits, CodeFits}
 
 -- ---- what the translator knows of the scopes around is in range
@@ -194,14 +195,14 @@ sent-fits q Reals h = tt
 
 abbrev SmallC : Command → Type 0
 SmallC (routine-of p) = Unit {0}
-SmallC (absolute-of e) = SmallE e
+SmallC (absolute-of e) = EveryE AnyName Bits32 AnyDecimal e
 SmallC greatest-of = Unit {0}
-SmallC (input-to e y) = SmallE e
-SmallC (output-of t e f) = Sent t × SmallE e × SmallE f
+SmallC (input-to e y) = EveryE AnyName Bits32 AnyDecimal e
+SmallC (output-of t e f) = Sent t × EveryE AnyName Bits32 AnyDecimal e × EveryE AnyName Bits32 AnyDecimal f
 SmallC no-command = Unit {0}
 
-small-command : (m : Meaning) (es : Expressions) → SmallEs es → SmallC (command m es)
-small-command = told (λ c es. SmallEs es → SmallC c) (λ p es s. tt) (λ e s. s .0) (λ s. tt) (λ e f y s. s .0) (λ t n e f s. (n, s .0, s .1 .0)) (λ es s. tt)
+small-command : (m : Meaning) (es : Expressions) → EveryEs AnyName Bits32 AnyDecimal es → SmallC (command m es)
+small-command = told (λ c es. EveryEs AnyName Bits32 AnyDecimal es → SmallC c) (λ p es s. tt) (λ e s. s .0) (λ s. tt) (λ e f y s. s .0) (λ t n e f s. (n, s .0, s .1 .0)) (λ es s. tt)
 
 onward-most : (l : List Element) (a n : ℕ) → a < 8192 → n < 8192 → onward l a n < 8192
 onward-most [] a n h h' = h'
@@ -287,12 +288,12 @@ module _ (place : ℕ → ℕ) where
   mutual
     unfolding endE codeE symbolsE deepE deepA count
 
-    fitsE : (g : List Around) (e : Expression) (b : ℕ) (r : List Instruction) → Reaches g → owns g + deepE e < 64 → SmallE e → symbolsE e < 8192 → endE (scopes g) e b < 8192 → CodeFits r → CodeFits (codeE place g e b r)
+    fitsE : (g : List Around) (e : Expression) (b : ℕ) (r : List Instruction) → Reaches g → owns g + deepE e < 64 → EveryE AnyName Bits32 AnyDecimal e → symbolsE e < 8192 → endE (scopes g) e b < 8192 → CodeFits r → CodeFits (codeE place g e b r)
     fitsE g (number q n) b r h w s i e z = (s, z)
     fitsE g (decimal q n j) b r h w s i e z = (lower n j, (upper n j, z))
     fitsE g (logical q t) b r h w s i e z = (tt, z)
     fitsE g (name x) b r h w s i e z = fits-name (primary (meaning (scopes g) x) done) g x 0 (λ m b. b) (λ m b r. r) (λ m b r e z. z) b r h (omega arith) (omega arith) e z
-    fitsE g (call x y ys) b r h w s i e z = fits-name (primary (meaning (scopes g) x) (then y ys)) g x (suc (count ys)) (λ m b. endThen m (λ b. endE (scopes g) y b) (λ m b. endEs (scopes g) m ys b) b) (λ m b r. codeThen place m g y (λ b. endE (scopes g) y b) (λ g b r. codeE place g y b r) (λ m b r. codeEs place g m ys b r) b r) (λ m b r e z. fits-then m g y (λ b. endE (scopes g) y b) (λ m b. endEs (scopes g) m ys b) (λ g b r. codeE place g y b r) (λ m b r. codeEs place g m ys b r) (λ m b. sizeEs (scopes g) m ys b .0) (λ b r e z. fitsE g y b r h (omega arith) (s .0) (omega arith) e z) (λ b r e z. fitsE (anActual ∷ g) y b r h (omega arith) (s .0) (omega arith) e z) (λ m b r e z. fitsEs g m ys b r h (omega (arith, deep-most ys)) (s .1) (omega arith) e z) b r h (omega arith) e z) b r h (omega arith) (omega (arith, count-most ys)) e z
+    fitsE g (call x y ys) b r h w s i e z = fits-name (primary (meaning (scopes g) x) (then y ys)) g x (suc (count ys)) (λ m b. endThen m (λ b. endE (scopes g) y b) (λ m b. endEs (scopes g) m ys b) b) (λ m b r. codeThen place m g y (λ b. endE (scopes g) y b) (λ g b r. codeE place g y b r) (λ m b r. codeEs place g m ys b r) b r) (λ m b r e z. fits-then m g y (λ b. endE (scopes g) y b) (λ m b. endEs (scopes g) m ys b) (λ g b r. codeE place g y b r) (λ m b r. codeEs place g m ys b r) (λ m b. sizeEs (scopes g) m ys b .0) (λ b r e z. fitsE g y b r h (omega arith) (s .1) (omega arith) e z) (λ b r e z. fitsE (anActual ∷ g) y b r h (omega arith) (s .1) (omega arith) e z) (λ m b r e z. fitsEs g m ys b r h (omega (arith, deep-most ys)) (s .2) (omega arith) e z) b r h (omega arith) e z) b r h (omega arith) (omega (arith, count-most ys)) e z
     fitsE g (signed q o y) b r h w s i e z = fitsE g y b _ h w s (omega arith) (omega (arith, sign-size o (endE (scopes g) y b))) (fits-sign q o r z)
     fitsE g (operated q o y y') b r h w s i e z = fitsE g y b _ h (omega arith) (s .0) (omega arith) (omega (arith, sizeE (scopes g) y' (endE (scopes g) y b))) (fitsE g y' (endE (scopes g) y b) _ h (omega arith) (s .1) (omega arith) (omega arith) (tt, z))
     fitsE g (chosen q q' c y y') b r h w s i e z =
@@ -307,7 +308,7 @@ module _ (place : ℕ → ℕ) where
         fitsE g c b _ h (omega arith) (s .0) (omega arith) (omega arith) ((tt, omega arith), fitsE g y (suc m) _ h (omega arith) (s .1) (omega arith) (omega arith) (fits-wide u _ (e, fitsE g y' (suc n) _ h (omega arith) (s .2) (omega arith) (omega arith) (fits-wide u' r z))))
     fitsE g (nested q y) b r h w s i e z = fitsE g y b r h w s (omega arith) e z
 
-    fitsEs : (g : List Around) (m : List Mode) (es : Expressions) (b : ℕ) (r : List Instruction) → Reaches g → owns g + deepA es < 64 → SmallEs es → symbolsEs es < 8192 → endEs (scopes g) m es b < 8192 → CodeFits r → CodeFits (codeEs place g m es b r)
+    fitsEs : (g : List Around) (m : List Mode) (es : Expressions) (b : ℕ) (r : List Instruction) → Reaches g → owns g + deepA es < 64 → EveryEs AnyName Bits32 AnyDecimal es → symbolsEs es < 8192 → endEs (scopes g) m es b < 8192 → CodeFits r → CodeFits (codeEs place g m es b r)
     fitsEs g m done b r h w s i e z = z
     fitsEs g m (then y ys) b r h w s i e z = fits-then m g y (λ b. endE (scopes g) y b) (λ m b. endEs (scopes g) m ys b) (λ g b r. codeE place g y b r) (λ m b r. codeEs place g m ys b r) (λ m b. sizeEs (scopes g) m ys b .0) (λ b r e z. fitsE g y b r h (omega arith) (s .0) (omega arith) e z) (λ b r e z. fitsE (anActual ∷ g) y b r h (omega arith) (s .0) (omega arith) e z) (λ m b r e z. fitsEs g m ys b r h (omega (arith, deep-most ys)) (s .1) (omega arith) e z) b r h (omega arith) e z
 
@@ -335,7 +336,7 @@ module _ (place : ℕ → ℕ) where
   fits-take direct g q y r h w z = (loc-fits g y h w, z)
   fits-take sought g q y r h w z = (tt, (formal-fits g y h w, (tt, z)))
 
-  fitsL : (g : List Around) (m : ℕ) (x : Name) (l : List Element) (s n b : ℕ) (r : List Instruction) → Reaches g → owns g + deepL l < 64 → m < 64 → s < 8192 → n < 8192 → SmallL l → symbolsL l < 8192 → endL (scopes g) x l b < 8192 → CodeFits r → CodeFits (codeL place g m x l s n b r)
+  fitsL : (g : List Around) (m : ℕ) (x : Name) (l : List Element) (s n b : ℕ) (r : List Instruction) → Reaches g → owns g + deepL l < 64 → m < 64 → s < 8192 → n < 8192 → EveryLs AnyName Bits32 AnyDecimal l → symbolsL l < 8192 → endL (scopes g) x l b < 8192 → CodeFits r → CodeFits (codeL place g m x l s n b r)
   unfolding endL codeL symbolsL deepL
   fitsL g m x [] s n b r h w hm hs hn v i e z = z
   fitsL g m x (value y ∷ l) s n b r h w hm hs hn v i e z =
@@ -352,7 +353,7 @@ module _ (place : ℕ → ℕ) where
       let u₁ = sizeE (scopes g) c a in
       let u₂ = sizeE (scopes g) y b in
       let u₃ = way-size wy (endE (scopes g) y b) in
-      fitsE g y b _ h (omega arith) (v .0) (omega arith) (omega arith) (fits-way wy g x (λ c. Act.store (at place x) (spot g c)) _ (λ c. spot-fits g c h (omega arith)) h (omega arith) (fitsE g c a _ h (omega arith) (v .1) (omega arith) (omega arith) ((tt, onward-most l k n (omega arith) hn), ((hm, hs, omega arith), fitsL g m x l s n k r h (omega arith) hm hs hn (v .2) (omega arith) e z))))
+      fitsE g y b _ h (omega arith) (v .0 .0) (omega arith) (omega arith) (fits-way wy g x (λ c. Act.store (at place x) (spot g c)) _ (λ c. spot-fits g c h (omega arith)) h (omega arith) (fitsE g c a _ h (omega arith) (v .0 .1) (omega arith) (omega arith) ((tt, onward-most l k n (omega arith) hn), ((hm, hs, omega arith), fitsL g m x l s n k r h (omega arith) hm hs hn (v .1) (omega arith) e z))))
   fitsL g m x (step q y y' y'' ∷ l) s n b r h w hm hs hn v i e z =
       let wy = way (meaning (scopes g) x) in
       let a = endWay wy (endE (scopes g) y b) in
@@ -366,18 +367,18 @@ module _ (place : ℕ → ℕ) where
       let u₃ = way-size wy (endE (scopes g) y b) in
       let u₄ = way-size wy j in
       let u₅ = sum-size wy (suc (suc t)) in
-      fitsE g y b _ h (omega arith) (v .0) (omega arith) (omega arith) (fits-way wy g x (λ c. Act.store (at place x) (spot g c)) _ (λ c. spot-fits g c h (omega arith)) h (omega arith) ((hm, omega arith, omega arith), fitsE g y' (suc a) _ h (omega arith) (v .1) (omega arith) (omega arith) (hm, (tt, fitsE g y'' (suc i') _ h (omega arith) (v .2) (omega arith) (omega arith) (fits-test wy g x (onward l k n) _ h (omega arith) (onward-most l k n (omega arith) hn) ((hm, hs, omega arith), ((hm, omega arith, omega arith), fits-sum wy g q x _ h (omega arith) (omega arith, fitsL g m x l s n k r h (omega arith) hm hs hn (v .3) (omega arith) e z))))))))
+      fitsE g y b _ h (omega arith) (v .0 .0) (omega arith) (omega arith) (fits-way wy g x (λ c. Act.store (at place x) (spot g c)) _ (λ c. spot-fits g c h (omega arith)) h (omega arith) ((hm, omega arith, omega arith), fitsE g y' (suc a) _ h (omega arith) (v .0 .1) (omega arith) (omega arith) (hm, (tt, fitsE g y'' (suc i') _ h (omega arith) (v .0 .2) (omega arith) (omega arith) (fits-test wy g x (onward l k n) _ h (omega arith) (onward-most l k n (omega arith) hn) ((hm, hs, omega arith), ((hm, omega arith, omega arith), fits-sum wy g q x _ h (omega arith) (omega arith, fitsL g m x l s n k r h (omega arith) hm hs hn (v .1) (omega arith) e z))))))))
 
   fits-stores : (g : List Around) (x : Name) (xs : List Name) (r : List Instruction) → Reaches g → owns g < 64 → CodeFits r → CodeFits (codeStores place g x xs r)
   unfolding codeStores
   fits-stores g x [] r h w z = fits-way (way (meaning (scopes g) x)) g x (λ c. Act.store (at place x) (spot g c)) r (λ c. spot-fits g c h w) h w z
   fits-stores g x (y ∷ ys) r h w z = fits-way (way (meaning (scopes g) x)) g x (λ c. Act.assign (at place x) (spot g c)) _ (λ c. spot-fits g c h w) h w (fits-stores g y ys r h w z)
 
-  fits-call : (g : List Around) (t : Option Sort) (m : List Mode) (x : Name) (es : Expressions) (b : ℕ) (r : List Instruction) → Reaches g → owns g + deepA es < 64 → SmallEs es → symbolsEs es + 1 < 8192 → endCall (scopes g) t m es b < 8192 → CodeFits r → CodeFits (codeCall place g t m x es b r)
+  fits-call : (g : List Around) (t : Option Sort) (m : List Mode) (x : Name) (es : Expressions) (b : ℕ) (r : List Instruction) → Reaches g → owns g + deepA es < 64 → EveryEs AnyName Bits32 AnyDecimal es → symbolsEs es + 1 < 8192 → endCall (scopes g) t m es b < 8192 → CodeFits r → CodeFits (codeCall place g t m x es b r)
   fits-call g none m x es b r h w s i e z = fitsEs g m es b _ h w s (omega arith) (omega arith) ((target-most (declaring x) x g h, omega (arith, levels-most (declaring x) g), omega (arith, count-most es)), z)
   fits-call g (some t) m x es b r h w s i e z = (tt, fitsEs g m es (suc b) _ h w s (omega arith) (omega arith) ((target-most (declaring x) x g h, omega (arith, levels-most (declaring x) g), omega (arith, count-most es)), z))
 
-  fits-command : (c : Command) (g : List Around) (x : Name) (es : Expressions) (b : ℕ) (r : List Instruction) → Reaches g → owns g + deepA es < 64 → SmallEs es → SmallC c → symbolsC c ≤ symbolsEs es → deepC c ≤ deepEs es → symbolsEs es + 1 < 8192 → endCommand (scopes g) c es b < 8192 → CodeFits r → CodeFits (codeCommand place c g x es b r)
+  fits-command : (c : Command) (g : List Around) (x : Name) (es : Expressions) (b : ℕ) (r : List Instruction) → Reaches g → owns g + deepA es < 64 → EveryEs AnyName Bits32 AnyDecimal es → SmallC c → symbolsC c ≤ symbolsEs es → deepC c ≤ deepEs es → symbolsEs es + 1 < 8192 → endCommand (scopes g) c es b < 8192 → CodeFits r → CodeFits (codeCommand place c g x es b r)
   fits-command (routine-of p) g x es b r h w s v j dp i e z = fits-call g (sortOf p) (modesOf p) x es b r h w s i e z
   fits-command (absolute-of y) g x es b r h w s v j dp i e z = fitsE g y b _ h (omega (arith, deep-least es)) v (omega arith) (omega arith) (tt, (tt, (tt, z)))
   fits-command greatest-of g x es b r h w s v j dp i e z = (omega arith, (tt, z))
@@ -390,10 +391,10 @@ module _ (place : ℕ → ℕ) where
   mutual
     unfolding endS codeS symbolsS deepS
 
-    fitsS : (g : List Around) (m : ℕ) (s : Statement) (b : ℕ) (r : List Instruction) → Reaches g → owns g + deepS s < 64 → m + deepS s < 64 → reach g + symbolsS s < 2049 → SmallS s → endS (scopes g) s b < 8191 → CodeFits r → CodeFits (codeS place g m s b r)
+    fitsS : (g : List Around) (m : ℕ) (s : Statement) (b : ℕ) (r : List Instruction) → Reaches g → owns g + deepS s < 64 → m + deepS s < 64 → reach g + symbolsS s < 2049 → EveryS AnyName Bits32 AnyDecimal s → endS (scopes g) s b < 8191 → CodeFits r → CodeFits (codeS place g m s b r)
     fitsS g m dummy b r h w n i v e z = z
-    fitsS g m (assignment x xs q y) b r h w n i v e z = fitsE g y b _ h (omega arith) v (omega arith) (omega (arith, size-stores (scopes g) x xs (endE (scopes g) y b))) (fits-stores g x xs r h (omega arith) z)
-    fitsS g m (procedure x es) b r h w n i v e z = fits-command (command (meaning (scopes g) x) es) g x es b r h (omega arith) v (small-command (meaning (scopes g) x) es v) (few (meaning (scopes g) x) es) (deep-command (meaning (scopes g) x) es) (omega (arith, actuals-most es)) (omega arith) z
+    fitsS g m (assignment x xs q y) b r h w n i v e z = fitsE g y b _ h (omega arith) (v .2) (omega arith) (omega (arith, size-stores (scopes g) x xs (endE (scopes g) y b))) (fits-stores g x xs r h (omega arith) z)
+    fitsS g m (procedure x es) b r h w n i v e z = fits-command (command (meaning (scopes g) x) es) g x es b r h (omega arith) (v .1) (small-command (meaning (scopes g) x) es (v .1)) (few (meaning (scopes g) x) es) (deep-command (meaning (scopes g) x) es) (omega (arith, actuals-most es)) (omega arith) z
     fitsS g m (when q c s) b r h w n i v e z =
         let a = suc (endE (scopes g) c b) in
         let u = sizeS (scopes g) s a in
@@ -407,7 +408,7 @@ module _ (place : ℕ → ℕ) where
     fitsS g m (repeat x l ls s) b r h w n i v e z =
         let a = endL (scopes g) x (l ∷ ls) b in
         let u = sizeS (scopes g) s a in
-        fitsL g m x (l ∷ ls) a (suc (endS (scopes g) s a)) b _ h (omega arith) (omega arith) (omega arith) (omega arith) (v .0) (omega arith) (omega arith) (fitsS g (suc m) s a _ h (omega arith) (omega arith) (omega arith) (v .1) (omega arith) (omega arith, z))
+        fitsL g m x (l ∷ ls) a (suc (endS (scopes g) s a)) b _ h (omega arith) (omega arith) (omega arith) (omega arith) (v .1, v .2) (omega arith) (omega arith) (fitsS g (suc m) s a _ h (omega arith) (omega arith) (omega arith) (v .3) (omega arith) (omega arith, z))
     fitsS g m (compound ss) b r h w n i v e z = fitsSs g m ss b r h (omega arith) (omega arith) (omega arith) v e z
     fitsS g m (block q ds ss) b r h w n i v e z =
         let p = endHead ds b in
@@ -419,20 +420,20 @@ module _ (place : ℕ → ℕ) where
         let h' : Reaches g' = (omega arith, omega arith, h) in
         fits-jump (routines ds) a _ (omega arith) (fitsDs g' ds p _ h' (omega arith) (omega arith) (v .0) (omega arith) ((omega arith, omega arith, omega arith), fitsSs g' m ss (suc a) _ h' (omega arith) (omega arith) (omega arith) (v .1) (omega arith) (omega arith, z)))
 
-    fitsSs : (g : List Around) (m : ℕ) (ss : Statements) (b : ℕ) (r : List Instruction) → Reaches g → owns g + deepSs ss < 64 → m + deepSs ss < 64 → reach g + symbolsSs ss < 2049 → SmallSs ss → endSs (scopes g) ss b < 8191 → CodeFits r → CodeFits (codeSs place g m ss b r)
+    fitsSs : (g : List Around) (m : ℕ) (ss : Statements) (b : ℕ) (r : List Instruction) → Reaches g → owns g + deepSs ss < 64 → m + deepSs ss < 64 → reach g + symbolsSs ss < 2049 → EverySs AnyName Bits32 AnyDecimal ss → endSs (scopes g) ss b < 8191 → CodeFits r → CodeFits (codeSs place g m ss b r)
     fitsSs g m (last s) b r h w n i v e z = fitsS g m s b r h w n (omega arith) v e z
     fitsSs g m (first s ss) b r h w n i v e z = fitsS g m s b _ h (omega arith) (omega arith) (omega arith) (v .0) (omega (arith, sizeSs (scopes g) ss (endS (scopes g) s b))) (fitsSs g m ss (endS (scopes g) s b) r h (omega arith) (omega arith) (omega arith) (v .1) e z)
 
-    fitsDs : (g : List Around) (ds : Declarations) (b : ℕ) (r : List Instruction) → Reaches g → owns g + deepDs ds < 63 → symbolsDs ds < 2049 → SmallDs ds → endDs (scopes g) ds b < 8191 → CodeFits r → CodeFits (codeDs place g ds b r)
+    fitsDs : (g : List Around) (ds : Declarations) (b : ℕ) (r : List Instruction) → Reaches g → owns g + deepDs ds < 63 → symbolsDs ds < 2049 → EveryD AnyName Bits32 AnyDecimal ds → endDs (scopes g) ds b < 8191 → CodeFits r → CodeFits (codeDs place g ds b r)
     fitsDs g no-more b r h w i v e z = z
-    fitsDs g (variables t xs ds) b r h w i v e z = fitsDs g ds b r h w (omega arith) v e z
+    fitsDs g (variables t xs ds) b r h w i v e z = fitsDs g ds b r h w (omega arith) (v .1) e z
     fitsDs g (declare p ds) b r h w i v e z = fitsP g p b _ h (omega arith) (omega arith) (v .0) (omega (arith, sizeDs (scopes g) ds (endP (scopes g) p b))) (fitsDs g ds (endP (scopes g) p b) r h (omega arith) (omega arith) (v .1) e z)
 
-    fitsP : (g : List Around) (p : Procedure) (b : ℕ) (r : List Instruction) → Reaches g → owns g + deepP p < 63 → symbolsP p < 2049 → SmallP p → endP (scopes g) p b < 8191 → CodeFits r → CodeFits (codeP place g p b r)
+    fitsP : (g : List Around) (p : Procedure) (b : ℕ) (r : List Instruction) → Reaches g → owns g + deepP p < 63 → symbolsP p < 2049 → EveryP AnyName Bits32 AnyDecimal p → endP (scopes g) p b < 8191 → CodeFits r → CodeFits (codeP place g p b r)
     fitsP g (heading t f xs vs ss s) b r h w i v e z =
         let k = body-cells (heading t f xs vs ss s) in
         let k' = listed-most xs in
-        fitsS (aBody (heading t f xs vs ss s) ∷ g) 0 s b _ (omega arith, h) (omega arith) (omega arith) (omega arith) v (omega arith) (tt, z)
+        fitsS (aBody (heading t f xs vs ss s) ∷ g) 0 s b _ (omega arith, h) (omega arith) (omega arith) (omega arith) (v .4) (omega arith) (tt, z)
 
   -- ---- whole programs
 

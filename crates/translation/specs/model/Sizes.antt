@@ -3,6 +3,7 @@ use Prim.Native.Nat.{ℕ, suc, _+_, _*_, _≤_, _<_, max}
 use mathlib.Core.List.{List, [], _∷_}
 use lib.ListN.{length}
 use Rattle.names.specs.Program.{Name, Expression, number, decimal, logical, name, call, signed, operated, chosen, nested, Expressions, done, then, Element, value, while, step, Specification, Statement, dummy, assignment, procedure, when, either, repeat, compound, block, Statements, last, first, Declarations, none as no-more, variables, declare, Procedure, heading}
+use Rattle.names.specs.Every.{AnyName, AnyDecimal, EveryS}
 use Rattle.rules.specs.Entered.{oneIf}
 
 -- each actual with the comma or the `)` behind it
@@ -122,50 +123,8 @@ unfoldable mutual
   deepP (heading t f xs vs ss s) = deepS s
 
 -- "number over 2,147,483,647" is refused
-abbrev mutual
-  pub SmallE : Expression → Type 0
-  SmallE (number q n) = n < 2147483648
-  SmallE (decimal q n i) = Unit {0}
-  SmallE (logical q b) = Unit {0}
-  SmallE (name x) = Unit {0}
-  SmallE (call x e es) = SmallE e × SmallEs es
-  SmallE (signed q o e) = SmallE e
-  SmallE (operated q o e f) = SmallE e × SmallE f
-  SmallE (chosen q r c e f) = SmallE c × SmallE e × SmallE f
-  SmallE (nested q e) = SmallE e
-
-  pub SmallEs : Expressions → Type 0
-  SmallEs done = Unit {0}
-  SmallEs (then e es) = SmallE e × SmallEs es
-
-abbrev pub SmallL : List Element → Type 0
-SmallL [] = Unit {0}
-SmallL (value e ∷ l) = SmallE e × SmallL l
-SmallL (while q e c ∷ l) = SmallE e × SmallE c × SmallL l
-SmallL (step q e f h ∷ l) = SmallE e × SmallE f × SmallE h × SmallL l
-
-abbrev mutual
-  pub SmallS : Statement → Type 0
-  SmallS dummy = Unit {0}
-  SmallS (assignment x xs q e) = SmallE e
-  SmallS (procedure x es) = SmallEs es
-  SmallS (when q c s) = SmallE c × SmallS s
-  SmallS (either q c s t) = SmallE c × SmallS s × SmallS t
-  SmallS (repeat x l ls s) = SmallL (l ∷ ls) × SmallS s
-  SmallS (compound ss) = SmallSs ss
-  SmallS (block q ds ss) = SmallDs ds × SmallSs ss
-
-  pub SmallSs : Statements → Type 0
-  SmallSs (last s) = SmallS s
-  SmallSs (first s ss) = SmallS s × SmallSs ss
-
-  pub SmallDs : Declarations → Type 0
-  SmallDs no-more = Unit {0}
-  SmallDs (variables t xs ds) = SmallDs ds
-  SmallDs (declare p ds) = SmallP p × SmallDs ds
-
-  pub SmallP : Procedure → Type 0
-  SmallP (heading t f xs vs ss s) = SmallS s
+abbrev pub Bits32 : ℕ → ℕ → Type 0
+Bits32 q n = n < 2147483648
 
 -- "A program is one block or compound statement"
 abbrev pub Whole : Statement → Type 0
@@ -183,4 +142,4 @@ pub record Limited (s : Statement) : Type 0 where
   pub whole : Whole s
   pub symbols : symbolsS s ≤ 2048
   pub depth : deepS s ≤ 63
-  pub numbers : SmallS s
+  pub numbers : EveryS AnyName Bits32 AnyDecimal s
