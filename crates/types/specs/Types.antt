@@ -114,7 +114,7 @@ wantedBy (declared d g) = thingWants (d .thing)
 wantedBy (given k e) = e .actuals
 wantedBy nothing = []
 
--- "integer variable or formal", for the type given
+-- "integer variable or formal", for the type given; with request 6 an integer and a real go for each other (4.6.3, 4.7.3.2)
 abbrev pub thingOf : Sort → Thing → Bool
 thingOf t (variable s) = mixes s t
 thingOf t (formal none) = true
@@ -128,7 +128,7 @@ isVariable t (declared d g) = thingOf t (d .thing)
 isVariable t (given k e) = false
 isVariable t nothing = true
 
--- "The second actual of ininteger is an integer variable or formal alone."
+-- "The second actual of ininteger is an integer variable or formal alone"; with request 6 it may be real
 unfoldable pub isName : List Scope → Sort → Expression → Bool
 isName g t (number q v) = false
 isName g t (decimal q v i) = false
@@ -311,7 +311,7 @@ unfoldable mutual
   faultsS g (procedure x es) = when-so (miscalled (meaning g x) (count es)) (x .symbol) ++ (misfits g (wantedBy (meaning g x)) es ++ faultsEs g es)
   faultsS g (when q c s) = when-so (unlike (sortE g c) boolean) q ++ (faultsE g c ++ faultsS g s)
   faultsS g (either q c s t) = when-so (unlike (sortE g c) boolean) q ++ (faultsE g c ++ (faultsS g s ++ faultsS g t))
-  -- "a controlled variable that is no integer variable or formal, at the name"
+  -- "a controlled variable that is no integer variable or formal, at the name"; with request 6 it may be real
   faultsS g (repeat x l ls s) = when-so (not (isVariable integer (meaning g x))) (x .symbol) ++ (faultsL g (l ∷ ls) ++ faultsS g s)
   faultsS g (compound ss) = faultsSs g ss
   faultsS g (block q d ss) = faultsD (ofBlock d ∷ g) d ++ faultsSs (ofBlock d ∷ g) ss
