@@ -49,25 +49,13 @@ fn all_words(words: &[u32], from: usize, to: usize, word: u32) -> bool
     true
 }
 
-fn all_zero(store: &[i64]) -> bool
-    ensures { λ r. ⌜ r ≡ allAre (pos 0) (now (store .entry)) ⌝ }
-{
-    let mut i = 0;
-    while i < store.len() {
-        if store[i] != 0 {
-            return false;
-        }
-        i += 1;
-    }
-    true
-}
-
-fn unused(store: &[i64], from: usize) -> bool
-    ensures { λ r. ⌜ r ≡ allAre (pos 7) (drop from (now (store .entry))) ⌝ }
+// Whether each number from `from` on is x.
+fn all_are(store: &[i64], from: usize, x: i64) -> bool
+    ensures { λ r. ⌜ r ≡ allAre x (drop from (now (store .entry))) ⌝ }
 {
     let mut i = from;
     while i < store.len() {
-        if store[i] != UNUSED {
+        if store[i] != x {
             return false;
         }
         i += 1;
@@ -80,7 +68,7 @@ fn is_cleared(store: &[i64]) -> bool
     ensures { λ r. ⌜ r ≡ cleared (now (store .entry)) ⌝ }
 {
     let n = 2 * clipped((store.len() / 2) as u64, 8192);
-    all_zero(&store[..n]) && unused(store, n)
+    all_are(&store[..n], 0, 0) && all_are(store, n, UNUSED)
 }
 
 fn untouched(output: &[i32], from: usize) -> bool

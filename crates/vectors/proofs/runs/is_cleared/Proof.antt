@@ -31,39 +31,30 @@ module _ (store : List ℤ) (k : ℕ) (cells : k ≡ min (length store / 2) 8192
       let g : r ≡ allAre (pos 7) (drop (2 * min (length store / 2) 8192) store) = rw cells at h in
       rw f g
 
-clipped-requires : tie.Need-clipped-requires
-clipped-requires c κs = search needs
-
 mul-n : tie.Need-mul-n
 mul-n c = omega (arith, c .clipped .ensures)
 
-slice-aggregate-all-zero : tie.Need-slice-aggregate-all-zero
-slice-aggregate-all-zero c = sym (length-take-le _ _ (inside (c .before .before .args .store .now) (c .before .clipped .result) (c .before .clipped .ensures)))
-
-all-zero-requires : tie.Need-all-zero-requires
-all-zero-requires c κs = search needs
-
-unused-requires : tie.Need-unused-requires
-unused-requires c κs = search needs
+slice-aggregate-all-are : tie.Need-slice-aggregate-all-are
+slice-aggregate-all-are c = sym (length-take-le _ _ (inside (c .before .before .args .store .now) (c .before .clipped .result) (c .before .clipped .ensures)))
 
 returns : tie.Need-returns
 returns c =
     let k = c .before .before .before .before .clipped in
-    zero-cells (c .before .before .before .before .before .args .store .now) (k .result) (k .ensures) (sym (c .before .before .all-zero .ensures) ∙ c .before .if1 .taken) (c .unused .result) (c .unused .ensures)
+    zero-cells (c .before .before .before .before .before .args .store .now) (k .result) (k .ensures) (sym (c .before .before .all-are .ensures) ∙ c .before .if1 .taken) (c .all-are2 .result) (c .all-are2 .ensures)
 
 returns-2 : tie.Need-returns-2
 returns-2 c =
     let k = c .before .before .before .clipped in
-    c .if1 .left ∙ other-cell (c .before .before .before .before .args .store .now) (k .result) (k .ensures) (sym (c .before .all-zero .ensures) ∙ c .if1 .left)
+    c .if1 .left ∙ other-cell (c .before .before .before .before .args .store .now) (k .result) (k .ensures) (sym (c .before .all-are .ensures) ∙ c .if1 .left)
 
 pub is-cleared-spec : {M : Type 1} → statement M
 is-cleared-spec =
     tie.close
     (tie.spec
-    clipped-requires
+    (λ c κs. search needs)
     mul-n
-    slice-aggregate-all-zero
-    all-zero-requires
-    unused-requires
+    slice-aggregate-all-are
+    (λ c κs. search needs)
+    (λ c κs. search needs)
     returns
     returns-2)
