@@ -59,7 +59,7 @@ abbrev pub formAs : Option Sort → Form
 formAs none = Wholes
 formAs (some t) = formFor t
 
--- ---- a name's place among the cells of the scope that declares it
+-- ---- a name's cell among those of the scope that declares it
 
 -- 1 where the two are one type, or else 0
 abbrev pub oneType : Sort → Sort → ℕ
@@ -104,9 +104,9 @@ amongTyped l (formal t) x = 0
 amongTyped l (by-name t) x = 0
 amongTyped l (routine p) x = 0
 
-abbrev pub placeOf : List Declared → Option Declared → Name → ℕ
-placeOf l none x = 0
-placeOf l (some d) x = amongTyped l (d .thing) x
+abbrev pub amongDeclared : List Declared → Option Declared → Name → ℕ
+amongDeclared l none x = 0
+amongDeclared l (some d) x = amongTyped l (d .thing) x
 
 -- how many cells of a list stand before a name's
 unfoldable pub before : List Declared → Name → ℕ
@@ -114,9 +114,9 @@ before [] x = 0
 before (d ∷ l) x = cond (same (d .name) x) 0 (cellsOf (d .thing) + before l x)
 
 -- of a body the result cell comes first, then the formals in their order
-abbrev pub placeIn : Scope → Name → ℕ
-placeIn (ofBlock d) x = placeOf (inBlock d) (findIn (inBlock d) x) x
-placeIn (ofBody p) x = oneIf (sortOf p) + before (inBody p) x
+abbrev pub amongCells : Scope → Name → ℕ
+amongCells (ofBlock d) x = amongDeclared (inBlock d) (findIn (inBlock d) x) x
+amongCells (ofBody p) x = oneIf (sortOf p) + before (inBody p) x
 
 -- ---- outward to a scope
 
@@ -143,8 +143,8 @@ bodyOfThis p (ofBody p') = eqb (nameOf p' .symbol) (nameOf p .symbol)
 
 abbrev pub among : ℕ → Env → Name → ℕ
 among n outside x = n
-among n (entered ds c v) x = c + placeIn (ofBlock ds) x
-among n (called p c es v' v) x = c + placeIn (ofBody p) x
+among n (entered ds c v) x = c + amongCells (ofBlock ds) x
+among n (called p c es v' v) x = c + amongCells (ofBody p) x
 
 abbrev pub firstOr : ℕ → Env → ℕ
 firstOr n outside = n

@@ -27,7 +27,7 @@ use Rattle.reading.specs.Reading.{symbols, placeIn, Grammatical}
 use Rattle.reading.proofs.Answers.{none-empty}
 use Rattle.reading.proofs.Places.{few-symbols, place-inside as place-by-end, place-within}
 use Rattle.table.proofs.SamePlaces.{SymbolsBelow, fours-below}
-use Rattle.translation.specs.Faithful.{Accepted}
+use Rattle.translation.specs.Faithful.{Faultless}
 use Rattle.translation.specs.model.Scoped.{Scoped}
 use Rattle.translation.specs.model.Sizes.{Limited}
 use Rattle.translation.proofs.Accepted.{accepted-scoped}
@@ -123,7 +123,7 @@ module _ {source : List ℕ} (p : Grammatical source) where
       (numbers worth (λ k. lettersAt source (placeIn source k)) (p .tree))
 
   module _ (named : least (nameFaults (itsProgram p)) ≡ none) where
-    pub accepted : typeFault (itsProgram p) ≡ none → Accepted (itsProgram p)
+    pub accepted : typeFault (itsProgram p) ≡ none → Faultless (itsProgram p)
     unfolding typeFault
     accepted typed = (
       none-empty (nameFaults (itsProgram p)) named,

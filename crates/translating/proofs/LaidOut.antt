@@ -15,7 +15,7 @@ use Rattle.names.specs.Program.{Name, Sort, Specification, Statement, dummy, as
 use Rattle.names.specs.Scopes.{same, has, Thing, variable, routine, formal, by-name, formalAs, Declared, specified, variablesIn, ofBlock, ofBody, inBlock, inBody, findIn}
 use Rattle.names.specs.Nodes.{sortNumber, nodesS}
 use Rattle.names.specs.Outline.{sizeP, rowsN, rowsS, rowsD}
-use Rattle.rules.specs.Entered.{cellsOf, total, oneIf, cellsIn, oneType, typed, variablesOf, typedBefore, firstOf, amongTyped, placeOf, before}
+use Rattle.rules.specs.Entered.{cellsOf, total, oneIf, cellsIn, oneType, typed, variablesOf, typedBefore, firstOf, amongTyped, amongDeclared, before}
 use Rattle.emitting.specs.model.Layout.{packed, layoutOf}
 use Rattle.translation.specs.model.Sizes.{symbolsS, symbolsSs, symbolsDs, symbolsP, deepS, deepSs, deepDs, deepP, Limited}
 use Rattle.rules.proofs.Declarations.{own-type, first-most}
@@ -127,7 +127,7 @@ module _ (key : ℕ → ℕ) (L : List ℕ) where
   block-lies : (u o : ℕ) (ds : Declarations) → ByType u o (inBlock ds) (λ t. 0) (inBlock ds) → Lies key L u o (ofBlock ds)
   block-lies u o ds h x d e =
       let l = inBlock ds in
-      as-far u (d .thing) (d .name .symbol) (ap (λ (n : ℕ). o + n) (placed-is l (d .thing) x ∙ ap (λ (f : Option Declared). placeOf l f x) (sym e))) (by-type u o l l (λ t. 0) x d h e)
+      as-far u (d .thing) (d .name .symbol) (ap (λ (n : ℕ). o + n) (placed-is l (d .thing) x ∙ ap (λ (f : Option Declared). amongDeclared l f x) (sym e))) (by-type u o l l (λ t. 0) x d h e)
 
   module _ (rows : List ℕ) (u o q : ℕ) (all : List Declared) (shallow : u < 64) (few : o + total all ≤ 8192) where
     -- no more than the block has

@@ -13,7 +13,7 @@ use borrow.Author.Tests.{eqb-true}
 use Rattle.machine.specs.Instructions.{Location, located, pack, high, mid, low}
 use Rattle.names.specs.Program.{Name, Sort, Declarations, none as no-more, variables, declare, Procedure}
 use Rattle.names.specs.Scopes.{Thing, variable, routine, formal, by-name, Declared, Scope, ofBlock, ofBody, declares, variablesIn, inBlock, inBody, nameOf, sortOf, same, findIn, environment, foundElse, Meaning, declared, given, nothing, meaning}
-use Rattle.rules.specs.Entered.{placeIn, oneIf, isSome, declaring, bodyOfThis}
+use Rattle.rules.specs.Entered.{amongCells, oneIf, isSome, declaring, bodyOfThis}
 use Rattle.translation.specs.model.Translate.{Around, aBlock, aBody, anActual, scopes, cutG, levels, amongG, offsetOf, locFor, locAs, loc, entry, target}
 use Rattle.translation.specs.model.Scoped.{nearest, HasCell, CellAs, OkV}
 use Rattle.machine.specs.model.Words.{beside, LocFits}
@@ -106,7 +106,7 @@ module _ (key : ℕ → ℕ) (L : List ℕ) where
           record { level = w .level; out = rw i (omega (arith, w .out)); lies = rw i (w .lies) }
       go (some d') i f e =
           let i' : findIn (inBody p) x ≡ some d = cc in
-          let y = subst (λ (n : ℕ). Lying key L (suc (owns g)) n (d .thing) (d .name .symbol)) (zero-add (placeIn (ofBody p) x)) (k .0 x d i') in
+          let y = subst (λ (n : ℕ). Lying key L (suc (owns g)) n (d .thing) (d .name .symbol)) (zero-add (amongCells (ofBody p) x)) (k .0 x d i') in
           record { level = suc (owns g); out = rw i (omega arith); lies = rw i y }
   stands (anActual ∷ g) x d h k e =
       let w = stands g x d h k e in

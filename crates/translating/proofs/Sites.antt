@@ -10,7 +10,7 @@ use lib.ListN.{getD}
 use Rattle.machine.specs.Instructions.{pack}
 use Rattle.names.specs.Program.{Name, Statement, dummy, assignment, procedure, when, either, repeat, compound, block, Statements, last, first, Declarations, none as no-more, variables, declare, Procedure, heading}
 use Rattle.names.specs.Scopes.{Thing, variable, routine, formal, by-name, Declared, Scope, ofBlock, ofBody, declares, findIn, sortOf}
-use Rattle.rules.specs.Entered.{cellsIn, placeIn, oneIf}
+use Rattle.rules.specs.Entered.{cellsIn, amongCells, oneIf}
 
 -- a declaration's number: of the row with its name's symbol
 unfoldable pub numberOf : List ℕ → ℕ → ℕ
@@ -31,7 +31,7 @@ module _ (key : ℕ → ℕ) (L : List ℕ) where
 
   -- a scope at a level, whose first cell is at the offset o
   abbrev pub Lies : ℕ → ℕ → Scope → Type 0
-  Lies level o s = (x : Name) (d : Declared) → findIn (declares s) x ≡ some d → Lying level (o + placeIn s x) (d .thing) (d .name .symbol)
+  Lies level o s = (x : Name) (d : Declared) → findIn (declares s) x ≡ some d → Lying level (o + amongCells s x) (d .thing) (d .name .symbol)
 
   -- every scope of a tree: level, the activations around; reach, the cells of the running one's scopes around
   abbrev mutual

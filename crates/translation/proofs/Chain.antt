@@ -13,7 +13,7 @@ use Rattle.machine.specs.Instructions.{Instruction, Location, located, cellFoun
 use Rattle.machine.specs.Machine.{Activation, activation, activationAt, linkOf, baseOf, base, walk, targetIn}
 use Rattle.names.specs.Program.{Name, Sort, Specification, Declarations, Procedure, Expression, Expressions, done, then, firstSymbol}
 use Rattle.names.specs.Scopes.{Thing, variable, routine, formal, by-name, formalAs, has, sortOf, valuesOf, Declared, Scope, ofBlock, ofBody, inBlock, inBody, specified, specificationsOf, formalsOf, same, findIn, Meaning, declared, given, nothing, foundElse, meaning, Mode, byValue, byName, modeAs}
-use Rattle.rules.specs.Entered.{amongTyped, Env, outside, entered, called, scopesOf, cellsOf, total, oneIf, cellsIn, before, placeIn, cut, isSome, declaring, bodyOfThis, among, firstOr, cellFor, cellAs, cellOf, actual, actualOf, standsIn, formAs}
+use Rattle.rules.specs.Entered.{amongTyped, Env, outside, entered, called, scopesOf, cellsOf, total, oneIf, cellsIn, before, amongCells, cut, isSome, declaring, bodyOfThis, among, firstOr, cellFor, cellAs, cellOf, actual, actualOf, standsIn, formAs}
 use Rattle.rules.specs.Calls.{Primary, held, worked, function, absolute, greatest, no-primary, primary, givenAs, withType, alone, thingAs, thingWay, Way, direct, sought, way}
 use Rattle.rules.specs.Rules.{Spot, here, there, targetAt}
 use Rattle.rules.proofs.KindLists.{kindFrom, kind-on, kind-top}
@@ -65,7 +65,7 @@ valued-one (by-name t) h = absurd h
 valued-one (routine p) h = absurd h
 
 -- a variable's place is one of its block's
-block-bound : (ds : Declarations) (x : Name) (d : Declared) → findIn (inBlock ds) x ≡ some d → Valued (d .thing) → placeIn (ofBlock ds) x < cellsIn (ofBlock ds)
+block-bound : (ds : Declarations) (x : Name) (d : Declared) → findIn (inBlock ds) x ≡ some d → Valued (d .thing) → amongCells (ofBlock ds) x < cellsIn (ofBlock ds)
 block-bound ds x d e h = rw e (go (d .thing) refl (omega (arith, bound (inBlock ds) x d e (valued-one (d .thing) h))))
   where
     go : (t : Thing) → d .thing ≡ t → 0 < total (inBlock ds) → amongTyped (inBlock ds) t x < 0 + total (inBlock ds)
@@ -342,7 +342,7 @@ module _ (place : ℕ → ℕ) (P : List Instruction) where
   chain-cell fs n x d root e h = absurd e
   chain-cell fs n x d {K} (inner {f = f} {o = o} {ds = ds} r k i w p c) e h =
       let u = block-bound ds x d e h in
-      (omega arith, omega arith, p (placeIn (ofBlock ds) x) (omega arith))
+      (omega arith, omega arith, p (amongCells (ofBlock ds) x) (omega arith))
   chain-cell fs n x d {K} (link {f = f} {p = p} {es = es} {g' = g'} k w y a c' c) e h =
       let u = bound (inBody p) x d e (valued-one (d .thing) h) in
       let b = baseOf (activationAt fs f) in

@@ -18,7 +18,7 @@ use Rattle.rules.proofs.Accepted.{accepted-runs}
 use Rattle.translation.specs.model.Translate.{code}
 use Rattle.translation.specs.model.Scoped.{Scoped}
 use Rattle.translation.specs.model.Listed.{stepIn, machineIn}
-use Rattle.translation.specs.Faithful.{IsBeginning, Tells, Ordinary, AsRules, Accepted, Runner, Faithful}
+use Rattle.translation.specs.Faithful.{IsBeginning, Tells, Ordinary, AsRules, Faultless, Runner, Faithful}
 use Rattle.translation.proofs.Sim as Sim
 use Rattle.translation.proofs.Sim.{Mistyped, Agree}
 use Rattle.translation.proofs.Rel.{Rel}
@@ -135,7 +135,7 @@ abbrev pub translated : Runner
 translated place s = machineIn (code place s)
 
 -- an accepted program has a type for everything, so no run of it comes to 29
-settled : (place : ℕ → ℕ) (s : Statement) → Accepted s → Settled place s
+settled : (place : ℕ → ℕ) (s : Statement) → Faultless s → Settled place s
 settled place s ok input cellsLent space t n q o e = go q (source-answers place s (accepted-scoped s (ok .0) (ok .1)) input cellsLent space t n q o e) (accepted-runs place s (ok .0) (ok .1) input cellsLent space t n q o e)
   where
     go : (q : Stop) → Ordinary q ⊎ Mistyped q → Answered q → Ordinary q
@@ -150,8 +150,8 @@ pub faithful : Faithful translated
 faithful place s ok input cellsLent space = follows place s (accepted-scoped s (ok .0) (ok .1)) input cellsLent space (settled place s ok)
 
 -- how a run of an accepted program stops: 0, 21 to 28 or 30, by the source rules; and by the machine, or it is stopped by its limit
-pub accepted-source : (place : ℕ → ℕ) (s : Statement) → Accepted s → (input : List ℤ) (cellsLent space t n : ℕ) (q : Stop) (o : Trace) → source place s input cellsLent space t ≡ done q n o → Ordinary q
+pub accepted-source : (place : ℕ → ℕ) (s : Statement) → Faultless s → (input : List ℤ) (cellsLent space t n : ℕ) (q : Stop) (o : Trace) → source place s input cellsLent space t ≡ done q n o → Ordinary q
 accepted-source = settled
 
-pub accepted-machine : (place : ℕ → ℕ) (s : Statement) → Accepted s → (input : List ℤ) (cellsLent space limit : ℕ) → Ordinary (translated place s input limit cellsLent space .stop) ⊎ (translated place s input limit cellsLent space .stop ≡ Limit)
+pub accepted-machine : (place : ℕ → ℕ) (s : Statement) → Faultless s → (input : List ℤ) (cellsLent space limit : ℕ) → Ordinary (translated place s input limit cellsLent space .stop) ⊎ (translated place s input limit cellsLent space .stop ≡ Limit)
 accepted-machine place s ok input cellsLent space = machine-answers place s (accepted-scoped s (ok .0) (ok .1)) input cellsLent space (settled place s ok)

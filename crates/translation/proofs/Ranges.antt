@@ -14,7 +14,7 @@ use Rattle.names.specs.Program.{integer, decimal, Name, Sort, Sign, positive, n
 use Rattle.names.specs.Scopes.{Mode, byValue, byName, findIn, Thing, variable, routine, formal, by-name, modesOf, Declared, Scope, ofBlock, ofBody, inBlock, inBody, variablesIn, formalsOf, nameOf, sortOf, same, Meaning, declared, given, nothing, meaning}
 use Rattle.names.specs.Every.{AnyName, AnyDecimal, EveryE, EveryEs, EveryLs, EveryS, EverySs, EveryD, EveryP}
 use Rattle.types.specs.Types.{widens}
-use Rattle.rules.specs.Entered.{typed, variablesOf, typedBefore, amongTyped, placeOf, cellsOf, total, oneIf, cellsIn, before, declaring, bodyOfThis}
+use Rattle.rules.specs.Entered.{typed, variablesOf, typedBefore, amongTyped, amongDeclared, cellsOf, total, oneIf, cellsIn, before, declaring, bodyOfThis}
 use Rattle.rules.specs.Calls.{Primary, held, worked, function, absolute, greatest, no-primary, primary, Command, routine-of, absolute-of, greatest-of, input-to, output-of, no-command, command, Way, direct, sought, way}
 use Rattle.rules.specs.Rules.{Spot, here, there, at}
 use Rattle.translation.specs.model.Translate.{endWide, codeWide, routines, codeJump, endHead, Around, aBlock, aBody, anActual, scopes, spot, reach, cutG, levels, amongG, offsetOf, locFor, locAs, loc, endName, endActual, endThen, endE, endEs, endWay, endSum, endL, onward, endCall, endCommand, endS, endSs, endDs, endP, entry, target, storeName, storePart, codeName, codeActual, codeThen, codeSign, codeE, codeEs, codeWay, codeTest, codeSum, codeL, codeStores, codeCall, codeTake, codeCommand, codeS, codeSs, codeDs, codeP, code}
@@ -46,7 +46,7 @@ typed-most t (d ∷ l) x = go (same (d .name) x) (typed-most t l x)
     go true h = omega arith
     go false h = omega arith
 
-place-most : (l : List Declared) (o : Option Declared) (x : Name) → placeOf l o x ≤ total l
+place-most : (l : List Declared) (o : Option Declared) (x : Name) → amongDeclared l o x ≤ total l
 place-most l none x = omega arith
 place-most l (some d) x = go (d .thing)
   where

@@ -51,12 +51,12 @@ abbrev pub Follows : Machine → (ℕ → ℕ) → Statement → Type 0
 Follows m place s = (input : List ℤ) (cellsLent space limit : ℕ) → AsRules place s input cellsLent space limit (m input limit cellsLent space)
 
 -- a program that names and types refuse nothing of
-abbrev pub Accepted : Statement → Type 0
-Accepted s = (nameFaults s ≡ []) × (typeFaults s ≡ [])
+abbrev pub Faultless : Statement → Type 0
+Faultless s = (nameFaults s ≡ []) × (typeFaults s ≡ [])
 
 -- a machine for each program and its places
 abbrev pub Runner : Type 0
 Runner = (ℕ → ℕ) → Statement → Machine
 
 abbrev pub Faithful : Runner → Type 0
-Faithful m = (place : ℕ → ℕ) (s : Statement) → Accepted s → Follows (m place s) place s
+Faithful m = (place : ℕ → ℕ) (s : Statement) → Faultless s → Follows (m place s) place s

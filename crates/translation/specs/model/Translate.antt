@@ -18,7 +18,7 @@ use Rattle.machine.specs.Instructions.{Location, located, cellFound, Instructio
 use Rattle.names.specs.Program.{Name, Sort, integer, Sign, positive, negative, negation, Expression, number, decimal, logical, name, call, signed, operated, chosen, nested, Expressions, done, then, count, firstSymbol, Element, value, while, step, Statement, dummy, assignment, procedure, when, either, repeat, compound, block, Statements, last, first, Declarations, none as no-more, variables, declare, Procedure, heading}
 use Rattle.names.specs.Scopes.{Thing, variable, routine, formal, by-name, Scope, ofBlock, ofBody, inBlock, Mode, byValue, byName, nameOf, sortOf, modesOf, same, Meaning, declared, given, nothing, meaning}
 use Rattle.types.specs.Types.{widens}
-use Rattle.rules.specs.Entered.{formFor, formAs, counted, cellsIn, placeIn, declaring, bodyOfThis}
+use Rattle.rules.specs.Entered.{formFor, formAs, counted, cellsIn, amongCells, declaring, bodyOfThis}
 use Rattle.rules.specs.Calls.{Primary, held, worked, function, absolute, greatest, no-primary, primary, Command, routine-of, absolute-of, greatest-of, input-to, output-of, no-command, command, Way, direct, sought, way}
 use Rattle.rules.specs.Rules.{binaryOf, maxint, at, Spot, here, there}
 
@@ -59,8 +59,8 @@ levels t (anActual ∷ g) = suc (levels t g)
 
 abbrev pub amongG : List Around → Name → ℕ
 amongG [] x = 0
-amongG (aBlock o ds b ∷ g) x = o + placeIn (ofBlock ds) x
-amongG (aBody p ∷ g) x = placeIn (ofBody p) x
+amongG (aBlock o ds b ∷ g) x = o + amongCells (ofBlock ds) x
+amongG (aBody p ∷ g) x = amongCells (ofBody p) x
 amongG (anActual ∷ g) x = 0
 
 abbrev pub offsetOf : List Around → ℕ
