@@ -7,7 +7,7 @@ use mathlib.Core.Bool.{true, false}
 use mathlib.Core.List.{List, [], _∷_}
 use borrow.Author.Tests.{eq-eqb}
 use Rattle.symbols.specs.Text.{bytes}
-use Rattle.symbols.specs.Names.{blank, letter, digit, inName, these, reach, valueFrom, decimals, equal}
+use Rattle.symbols.specs.Names.{blank, letter, digit, inName, these, reach, valueFrom, decimals, equal, folded, sameName}
 use Rattle.symbols.specs.Scan.{before, closed, spelled, named, word, gap, followed, sign, sized, name, valued, pointed, withPoint, number, point, lexeme, behind, endsRemark, note, counted, judged, turn, scanFrom, scan, kindsOf}
 use Rattle.grammar.specs.Grammar as G
 use Rattle.grammar.specs.Grammar.{Prod, rhs, program}
@@ -119,7 +119,7 @@ pub record Pages : Type 0 where
   pub two-assignments : Page "'begin' 'integer' a; a:=1; a:=1 'end'" assignments "'begin'\n  'integer' a;\n  a := 1;\n  a := 1\n'end'\n"
 
 pub pages : Pages
-unfolding page house gaps laid yield tight closes endsOperand opensCall beginsSum text dress spelling spell wordFor signFor readOff withDecimals scan scanFrom turn judged counted note lexeme point number decimals withPoint pointed valued name sized sign followed gap word named spelled closed before behind endsRemark blank letter digit inName these reach valueFrom equal
+unfolding page house gaps laid yield tight closes endsOperand opensCall beginsSum text dress spelling spell wordFor signFor readOff withDecimals scan scanFrom turn judged counted note lexeme point number decimals withPoint pointed valued name sized sign followed gap word named spelled closed before behind endsRemark blank letter digit inName these reach valueFrom equal folded sameName
 pages =
     record {
       empty-page = record { tree = refl; is = refl };

@@ -1,4 +1,4 @@
-// When two symbols are the same name: each symbol gets an identity, and those with the same letters get the same.
+// When two symbols are the same name: each symbol gets an identity, and those with the same letters, case aside, get the same.
 use crate::rows::OUTSIDE;
 use answers::Environment;
 use answers::Ordinal;
@@ -33,7 +33,7 @@ fn given(source: &[u8], place: Place) -> u16
     5
 }
 
-// The identity of a symbol, where those before it have theirs: that of the first one with the same letters.
+// The identity of a symbol, where those before it have theirs: that of the first one that is the same name.
 fn identity(source: &[u8], places: &[usize; 2048], ids: &[u16], symbol: Ordinal) -> u16
     requires { ⌜ (symbol .number < 2048) × (length (now ids) ≡ 2048) × Standing (now source) (now places) (now ids) (symbol .number) ⌝ }
     ensures { λ r. ⌜ StandsFor (now (source .entry)) (now (places .entry)) (symbol .number) r ⌝ }

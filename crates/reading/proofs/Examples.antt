@@ -9,7 +9,7 @@ use borrow.Author.Tests.{leb-true}
 use Rattle.answers.specs.declared.Verdict.{Verdict}
 use Rattle.answers.specs.declared.Verdict.the-variants.{Accepted}
 use Rattle.symbols.specs.Text.{bytes}
-use Rattle.symbols.specs.Names.{blank, letter, digit, inName, these, reach, valueFrom, decimals, equal, sameName}
+use Rattle.symbols.specs.Names.{blank, letter, digit, inName, these, reach, valueFrom, decimals, equal, folded, sameName}
 use Rattle.symbols.specs.Scan.{before, closed, spelled, named, word, gap, followed, sign, sized, name, valued, pointed, withPoint, number as numberLexeme, point, lexeme, behind, endsRemark, note, counted, judged, turn, scanFrom, scan}
 use Rattle.grammar.specs.declared.Level.the-variants.{Product, Sum, Conjunction, Disjunction, Implication, Equivalence}
 use Rattle.grammar.specs.declared.Entry.the-variants.{Variable}
@@ -72,11 +72,11 @@ S2 = bytes "'begin' 'integer' a; 'begin' 'integer' a; a := 2 'end'; a := 1 'end'
 -- ---- that they are read
 
 unfoldable p1 : Grammatical S1
-unfolding blank letter digit inName these reach valueFrom decimals equal before closed spelled named word gap followed sign sized name valued pointed withPoint numberLexeme point lexeme behind endsRemark note counted judged turn scanFrom scan yield trip
+unfolding blank letter digit inName these reach valueFrom decimals equal folded sameName before closed spelled named word gap followed sign sized name valued pointed withPoint numberLexeme point lexeme behind endsRemark note counted judged turn scanFrom scan yield trip
 p1 = record { scanned = record { short = leb-true (length S1) 16384 refl; whole = refl }; tree = S1t; keeps = clear-keeps S1t 8 refl refl }
 
 unfoldable p2 : Grammatical S2
-unfolding blank letter digit inName these reach valueFrom decimals equal before closed spelled named word gap followed sign sized name valued pointed withPoint numberLexeme point lexeme behind endsRemark note counted judged turn scanFrom scan yield trip
+unfolding blank letter digit inName these reach valueFrom decimals equal folded sameName before closed spelled named word gap followed sign sized name valued pointed withPoint numberLexeme point lexeme behind endsRemark note counted judged turn scanFrom scan yield trip
 p2 = record { scanned = record { short = leb-true (length S2) 16384 refl; whole = refl }; tree = S2t; keeps = clear-keeps S2t 17 refl refl }
 
 -- uses, declarations (place, kind, scope, type) and nodes
@@ -96,11 +96,11 @@ table2 =
     23 ∷ 56 ∷ 2 ∷ 0 ∷ 28 ∷ 61 ∷ 0 ∷ 0 ∷ 24 ∷ 58 ∷ 0 ∷ 0 ∷ 3 ∷ 0 ∷ 0 ∷ 0 ∷ []
 
 is1 : (least (nameFaults (itsProgram p1)) ≡ none) × (typeFault (itsProgram p1) ≡ none) × (tableOf (placeIn S1) (itsProgram p1) ≡ table1)
-unfolding blank letter digit inName these reach valueFrom decimals equal before closed spelled named word gap followed sign sized name valued pointed withPoint numberLexeme point lexeme behind endsRemark note counted judged turn scanFrom scan sameName read build programOf has variablesIn inBlock findIn findGiven meaning usesE usesS usesSs usesD scopesS scopesSs scopesD each twiceIn headingIn joined nameFaults least useRows yield asLeft faultsE faultsLeft sortE faultsS faultsSs faultsD typeFaults typeFault nodesE nodesN nodesLeft nodesS nodesSs nodesD sizeS sizeSs sizeD rowsN rowsS rowsSs rowsD declarations fours useWords declarationWords hasNone nodeWords tableOf p1
+unfolding blank letter digit inName these reach valueFrom decimals equal folded sameName before closed spelled named word gap followed sign sized name valued pointed withPoint numberLexeme point lexeme behind endsRemark note counted judged turn scanFrom scan read build programOf has variablesIn inBlock findIn findGiven meaning usesE usesS usesSs usesD scopesS scopesSs scopesD each twiceIn headingIn joined nameFaults least useRows yield asLeft faultsE faultsLeft sortE faultsS faultsSs faultsD typeFaults typeFault nodesE nodesN nodesLeft nodesS nodesSs nodesD sizeS sizeSs sizeD rowsN rowsS rowsSs rowsD declarations fours useWords declarationWords hasNone nodeWords tableOf p1
 is1 = (refl, refl, refl)
 
 is2 : (least (nameFaults (itsProgram p2)) ≡ none) × (typeFault (itsProgram p2) ≡ none) × (tableOf (placeIn S2) (itsProgram p2) ≡ table2)
-unfolding blank letter digit inName these reach valueFrom decimals equal before closed spelled named word gap followed sign sized name valued pointed withPoint numberLexeme point lexeme behind endsRemark note counted judged turn scanFrom scan sameName read build programOf has variablesIn inBlock findIn findGiven meaning usesE usesS usesSs usesD scopesS scopesSs scopesD each twiceIn headingIn joined nameFaults least useRows yield asLeft faultsE faultsLeft sortE faultsS faultsSs faultsD typeFaults typeFault nodesE nodesN nodesLeft nodesS nodesSs nodesD sizeS sizeSs sizeD rowsN rowsS rowsSs rowsD declarations fours useWords declarationWords hasNone nodeWords tableOf p2
+unfolding blank letter digit inName these reach valueFrom decimals equal folded sameName before closed spelled named word gap followed sign sized name valued pointed withPoint numberLexeme point lexeme behind endsRemark note counted judged turn scanFrom scan read build programOf has variablesIn inBlock findIn findGiven meaning usesE usesS usesSs usesD scopesS scopesSs scopesD each twiceIn headingIn joined nameFaults least useRows yield asLeft faultsE faultsLeft sortE faultsS faultsSs faultsD typeFaults typeFault nodesE nodesN nodesLeft nodesS nodesSs nodesD sizeS sizeSs sizeD rowsN rowsS rowsSs rowsD declarations fours useWords declarationWords hasNone nodeWords tableOf p2
 is2 = (refl, refl, refl)
 
 pub s1 : Judged S1 Accepted (filled table1)

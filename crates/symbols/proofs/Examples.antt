@@ -10,10 +10,10 @@ use lib.ListN.{length}
 use Rattle.answers.specs.Answers.{refusal}
 use Rattle.symbols.specs.Text.{bytes}
 use Rattle.symbols.specs.Symbols.{packed}
-use Rattle.symbols.specs.Names.{blank, letter, digit, inName, these, reach, valueFrom, decimals, equal}
+use Rattle.symbols.specs.Names.{blank, letter, digit, inName, these, reach, valueFrom, decimals, equal, folded, sameName}
 use Rattle.symbols.specs.Scan.{before, closed, spelled, named, word, gap, followed, sign, sized, name, valued, pointed, withPoint, number, point, lexeme, behind, endsRemark, note, counted, judged, turn, scanFrom, scan, Found, Scan}
 use Rattle.symbols.specs.declared.Symbol.{Symbol}
-use Rattle.symbols.specs.declared.Symbol.the-variants.{Name, Comment, Begin, End, Then, True, Semicolon, LessEqual, Number, Equal, Colon, Becomes, Greater, Minus, Comma, Real, Slash, Decimal}
+use Rattle.symbols.specs.declared.Symbol.the-variants.{Name, Comment, Begin, End, Else, Boolean, Then, True, Semicolon, LessEqual, Number, Equal, Colon, Becomes, Greater, Minus, Comma, Real, Slash, Decimal}
 
 abbrev at : Symbol → ℕ → Found
 at s p = record { symbol = s; place = p }
@@ -79,6 +79,11 @@ rows =
     -- 6.e: in a remark a point alone is no symbol, and sizes are not tested
     fails 2048 "'end' of the deed." (at End 0 ∷ []) 3 17 ∷
     reads 2048 "'end' clause 1.55555555555555555" (at End 0 ∷ []) ∷
+    -- request 8: delimiter words in any case, 'comment' and what ends a remark too; nothing else is forgiven
+    reads 2048 "'BEGIN' 'bOOLEAN' 'eNd'" (at Begin 0 ∷ at Boolean 8 ∷ at End 18 ∷ []) ∷
+    reads 2048 "'Begin' 'COMMENT' Any; 'END' Of it 'ELSE'" (at Begin 0 ∷ at End 23 ∷ at Else 35 ∷ []) ∷
+    fails 2048 "'BE GIN'" [] 3 0 ∷
+    fails 2048 "'THUE'" [] 3 0 ∷
     []
 
 abbrev Right : List Row → Type 0
@@ -86,15 +91,15 @@ Right [] = Unit {0}
 Right (r ∷ l) = (scan (r .limit) (bytes (r .source)) ≡ r .expected) × Right l
 
 pub readings : Right rows
-unfolding scan scanFrom turn judged counted note lexeme point number decimals withPoint pointed valued name sized sign followed gap word named spelled closed before behind endsRemark blank letter digit inName these reach valueFrom equal
-readings = (refl, (refl, (refl, (refl, (refl, (refl, (refl, (refl, (refl, (refl, (refl, (refl, (refl, (refl, (refl, (refl, (refl, (refl, (refl, (refl, (refl, (refl, (refl, (refl, (refl, (refl, (refl, (refl, (refl, tt)))))))))))))))))))))))))))))
+unfolding scan scanFrom turn judged counted note lexeme point number decimals withPoint pointed valued name sized sign followed gap word named spelled closed before behind endsRemark blank letter digit inName these reach valueFrom equal folded sameName
+readings = (refl, (refl, (refl, (refl, (refl, (refl, (refl, (refl, (refl, (refl, (refl, (refl, (refl, (refl, (refl, (refl, (refl, (refl, (refl, (refl, (refl, (refl, (refl, (refl, (refl, (refl, (refl, (refl, (refl, (refl, (refl, (refl, (refl, tt)))))))))))))))))))))))))))))))))
 
 -- a remark that ran on past 'else' would leave one symbol here; there are three
 pub not-past-else : length (scan 2048 (bytes "'end' a remark 'else' b") .found) ≡ 1 → ⊥
-unfolding scan scanFrom turn judged counted note lexeme point number decimals withPoint pointed valued name sized sign followed gap word named spelled closed before behind endsRemark blank letter digit inName these reach valueFrom equal
+unfolding scan scanFrom turn judged counted note lexeme point number decimals withPoint pointed valued name sized sign followed gap word named spelled closed before behind endsRemark blank letter digit inName these reach valueFrom equal folded sameName
 not-past-else e = omega arith
 
 -- a word told by its length and first letter alone would be read here, as 'then' or as 'true'; there is none
 pub not-by-key-alone : length (scan 2048 (bytes "'thue'") .found) ≡ 1 → ⊥
-unfolding scan scanFrom turn judged counted note lexeme point number decimals withPoint pointed valued name sized sign followed gap word named spelled closed before behind endsRemark blank letter digit inName these reach valueFrom equal
+unfolding scan scanFrom turn judged counted note lexeme point number decimals withPoint pointed valued name sized sign followed gap word named spelled closed before behind endsRemark blank letter digit inName these reach valueFrom equal folded sameName
 not-by-key-alone e = omega arith

@@ -9,7 +9,7 @@ use lib.Dec.{eqb, ltb, leb}
 use lib.ListN.{length, getD, take, drop, drop-of-length-le}
 use lib.Seq.{drop-cons}
 use borrow.Author.Tests.{ltb-true, ltb-false, leb-true, leb-false, lt-ltb, le-ltb, eq-eqb, ne-eqb}
-use Rattle.symbols.specs.Names.{blank, letter, digit, inName, these, reach, letters, valueFrom, equal}
+use Rattle.symbols.specs.Names.{blank, letter, digit, inName, these, reach, letters, valueFrom, equal, folded, sameName}
 use Rattle.answers.specs.Numbers.{noSymbol, tooLarge}
 use Rattle.answers.specs.Answers.{answer}
 use Rattle.symbols.specs.declared.Turn.the-variants.{Keep, Refuse}
@@ -212,24 +212,24 @@ before-take q (b ∷ bs) = go (eqb b q) (before-take q bs)
 
 -- ---- two names
 
-pub rests-apart : (s : List ℕ) (i j : ℕ) → i < length s → length s ≤ j → equal (restAt s i) (restAt s j) ≡ false
-unfolding equal
+pub rests-apart : (s : List ℕ) (i j : ℕ) → i < length s → length s ≤ j → sameName (restAt s i) (restAt s j) ≡ false
+unfolding sameName equal
 rests-apart s i j h k = rw (rest-on s i h, rest-off s j k)
 
-pub rests-differ : (s : List ℕ) (i j : ℕ) → i < length s → j < length s → (getD s i 0 ≡ getD s j 0 → ⊥) → equal (restAt s i) (restAt s j) ≡ false
-unfolding equal
-rests-differ s i j h k n = rw (rest-on s i h, rest-on s j k, ne-eqb (getD s i 0) (getD s j 0) n)
+pub rests-differ : (s : List ℕ) (i j : ℕ) → i < length s → j < length s → eqb (folded (getD s i 0)) (folded (getD s j 0)) ≡ false → sameName (restAt s i) (restAt s j) ≡ false
+unfolding sameName equal
+rests-differ s i j h k n = rw (rest-on s i h, rest-on s j k, n)
 
-pub rests-on : (s : List ℕ) (i j i' j' : ℕ) → i < length s → j < length s → getD s i 0 ≡ getD s j 0
-    → letters (drop (i + 1) s) ≡ restAt s i' → letters (drop (j + 1) s) ≡ restAt s j' → equal (restAt s i) (restAt s j) ≡ equal (restAt s i') (restAt s j')
-unfolding equal
-rests-on s i j i' j' h k e p q = rw (rest-on s i h, rest-on s j k, eq-eqb (getD s i 0) (getD s j 0) e, p, q)
+pub rests-on : (s : List ℕ) (i j i' j' : ℕ) → i < length s → j < length s → eqb (folded (getD s i 0)) (folded (getD s j 0)) ≡ true
+    → letters (drop (i + 1) s) ≡ restAt s i' → letters (drop (j + 1) s) ≡ restAt s j' → sameName (restAt s i) (restAt s j) ≡ sameName (restAt s i') (restAt s j')
+unfolding sameName equal
+rests-on s i j i' j' h k e p q = rw (rest-on s i h, rest-on s j k, e, p, q)
 
-pub rests-end : (s : List ℕ) (i j : ℕ) → length s ≤ i → equal (restAt s i) (restAt s j) ≡ leb (length s) j
-unfolding equal
+pub rests-end : (s : List ℕ) (i j : ℕ) → length s ≤ i → sameName (restAt s i) (restAt s j) ≡ leb (length s) j
+unfolding sameName equal
 rests-end s i j h = rw (rest-off s i h) (go (leb (length s) j) refl)
   where
-    go : (t : Bool) → leb (length s) j ≡ t → equal [] (restAt s j) ≡ t
+    go : (t : Bool) → leb (length s) j ≡ t → sameName [] (restAt s j) ≡ t
     go true e = rw (rest-off s j (leb-true (length s) j e))
     go false e = rw (rest-on s j (leb-false (length s) j e))
 

@@ -1,4 +1,5 @@
 pub mod Laws
+pub mod LetterCase
 pub mod Keyed
 pub mod Stored
 pub mod Tags
@@ -16,3 +17,4 @@ pub mod Written
 pub mod OwnSymbols
 pub mod WrittenAgain
 pub mod Values
+pub mod AnyCase

@@ -99,7 +99,7 @@ unfolding spelled plain-words
 spelled-as [] w h = tt
 spelled-as (x ∷ l) w h =
     let k = both (plain (x .symbol)) (plain-words l) h in
-    go (Rattle.symbols.specs.Names.equal w (Rattle.symbols.specs.Text.bytes (x .spelling))) (k .0) (spelled-as l w (k .1))
+    go (Rattle.symbols.specs.Names.sameName w (Rattle.symbols.specs.Text.bytes (x .spelling))) (k .0) (spelled-as l w (k .1))
   where
     go : (t : Bool) → plain (x .symbol) ≡ true → SpelledAs (spelled l w) → SpelledAs (cond t (Word (x .symbol)) (spelled l w))
     go true a r = a

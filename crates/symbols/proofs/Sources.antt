@@ -19,7 +19,7 @@ use Rattle.symbols.proofs.Resume.{skip}
 use Rattle.symbols.proofs.Within.{Fits}
 use Rattle.symbols.proofs.Follows.{Bare, Spent, blanks, dot, Quiet, Tail, tail, tail-large, Grown, grows, grows-large, Alike, same, unclosed, grown, Joint, joint-same, joint-open, joint-grown, Calm, calm-point, lexeme-dot, point-joint, blank-no-digit, before-closed, closed-on, lexeme-alike}
 use Rattle.symbols.specs.Text.{bytes}
-use Rattle.symbols.specs.Names.{blank, letter, digit, these, equal}
+use Rattle.symbols.specs.Names.{blank, letter, digit, these, equal, folded, sameName}
 use Rattle.symbols.specs.Symbols.{is}
 use Rattle.symbols.specs.Scan.{before, closed, spelled, named, word, withPoint, point, lexeme, behind, endsRemark, note, counted, judged, turn, Found, Scan, kept, then, scanFrom, scan}
 use Rattle.symbols.specs.declared.Symbol.{Symbol}
@@ -439,7 +439,7 @@ before-free [] ys h = refl
 before-free (x ∷ t) ys h = rw (h .0) (ap (λ (l : List ℕ). x ∷ l) (before-free t ys (h .1)))
 
 comment-word : (rest : List ℕ) → word (bytes "comment'" ++ rest) ≡ Is Comment 8
-unfolding word closed before named spelled equal
+unfolding word closed before named spelled sameName equal folded
 comment-word rest =
     let h : 7 < length (bytes "comment'" ++ rest) = omega arith in
     rw (lt-ltb 7 (length (bytes "comment'" ++ rest)) h)

@@ -12,7 +12,7 @@ use Rattle.symbols.proofs.Follows.{blank-no-name, blank-no-digit, lexem
 use Rattle.symbols.proofs.Laws.{both, digit-range, digit-first}
 use Rattle.symbols.proofs.Resume.{skip}
 use Rattle.symbols.specs.Text.{bytes}
-use Rattle.symbols.specs.Names.{blank, letter, digit, inName, these, reach, letters, valueFrom, value, decimals, equal}
+use Rattle.symbols.specs.Names.{blank, letter, digit, inName, these, reach, letters, valueFrom, value, decimals, equal, folded, sameName}
 use Rattle.symbols.specs.Symbols.{is, packed}
 use Rattle.symbols.specs.Scan.{spelled, named, gap, followed, sign, sized, name, valued, pointed, withPoint, number, point, lexeme, scanFrom}
 use Rattle.symbols.specs.declared.Context.{Context}
@@ -255,7 +255,7 @@ more b bs zs s e = record {
 
 lexes-other : (s : Symbol) (h : is s Name ≡ false) (k : is s (Number 0) ≡ false) (j : is s (Decimal 0) ≡ false) (zs : List ℕ) → blocks s zs ≡ false
     → lexeme (starts-other s h k j .first) (starts-other s h k j .rest ++ zs) ≡ Is s (length (starts-other s h k j .rest))
-unfolding starts-other lexeme letter digit sign blocks spelled equal followed gap blank
+unfolding starts-other lexeme letter digit sign blocks spelled sameName equal folded followed gap blank
 lexes-other Begin h k j zs a = word-closed (bytes "begin") Begin ((refl, (refl, (refl, (refl, (refl, tt)))))) refl zs
 lexes-other End h k j zs a = word-closed (bytes "end") End ((refl, (refl, (refl, tt)))) refl zs
 lexes-other If h k j zs a = word-closed (bytes "if") If ((refl, (refl, tt))) refl zs

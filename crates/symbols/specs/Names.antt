@@ -2,7 +2,7 @@
 use Prim.Native.Nat.{ℕ, suc, _+_, _-_, _*_}
 use Prim.Native.Char.{code}
 use mathlib.Core.Bool.{Bool, true, false, cond, _&&_, _||_}
-use mathlib.Core.List.{List, [], _∷_}
+use mathlib.Core.List.{List, [], _∷_, map}
 use lib.ListN.{drop}
 use lib.Dec.{eqb, leb}
 
@@ -10,7 +10,7 @@ use lib.Dec.{eqb, leb}
 unfoldable pub blank : ℕ → Bool
 blank b = eqb b 32 || eqb b 9 || eqb b 13 || eqb b 10
 
--- "a letter, then letters and digits; case counts"
+-- "a letter, then letters and digits"
 unfoldable pub letter : ℕ → Bool
 letter b = (leb (code "a") b && leb b (code "z")) || (leb (code "A") b && leb b (code "Z"))
 
@@ -56,6 +56,10 @@ equal [] (c ∷ cs) = false
 equal (b ∷ bs) [] = false
 equal (b ∷ bs) (c ∷ cs) = eqb b c && equal bs cs
 
--- the letters of two names make them the same: "case counts"
+-- request 8, letter case: a capital as its small letter; every other byte as it is
+unfoldable pub folded : ℕ → ℕ
+folded b = cond (leb (code "A") b && leb b (code "Z")) (b + 32) b
+
+-- request 8: "Two names are to be the same when they differ only in letter case."
 unfoldable pub sameName : List ℕ → List ℕ → Bool
-sameName a b = equal a b
+sameName a b = equal (map folded a) (map folded b)

@@ -11,7 +11,7 @@ use Rattle.answers.specs.Answers.{answer, refusal}
 use Rattle.answers.specs.declared.Answer.{Answer}
 use Rattle.answers.specs.declared.Refusal.{Refusal}
 use Rattle.symbols.specs.Text.{bytes}
-use Rattle.symbols.specs.Names.{blank, letter, digit, inName, these, reach, letters, valueFrom, value, decimals, equal}
+use Rattle.symbols.specs.Names.{blank, letter, digit, inName, these, reach, letters, valueFrom, value, decimals, sameName}
 use Rattle.symbols.specs.Symbols.{Delimiter, words, Sign, one, two, signs, kind, is, packed, valueOf}
 use Rattle.symbols.specs.declared.Context.{Context}
 use Rattle.symbols.specs.declared.Context.the-variants.{Opens, Plain, Remark}
@@ -37,10 +37,11 @@ before q (b ∷ bs) = cond (eqb b q) [] (b ∷ before q bs)
 unfoldable pub closed : ℕ → List ℕ → Bool
 closed q bs = ltb (length (before q bs)) (length bs)
 
--- "Delimiter words stand between apostrophes, spelled exactly"; "A blank inside the apostrophes spoils the word."
+-- "Delimiter words stand between apostrophes"; "A blank inside the apostrophes spoils the word."; request 8: "Delimiter words then match in any
+-- case too."
 unfoldable pub spelled : List Delimiter → List ℕ → Spelled
 spelled [] w = Unknown
-spelled (x ∷ l) w = cond (equal w (bytes (x .spelling))) (Word (x .symbol)) (spelled l w)
+spelled (x ∷ l) w = cond (sameName w (bytes (x .spelling))) (Word (x .symbol)) (spelled l w)
 
 unfoldable pub named : Spelled → ℕ → Lexeme
 named Unknown k = Nothing

@@ -8,7 +8,7 @@ use lib.Dec.{eqb}
 use Rattle.symbols.specs.declared.Symbol.{Symbol}
 use Rattle.symbols.specs.declared.Symbol.the-variants.{Begin, End, If, Then, Else, For, Do, Step, Until, While, Comment, Integer, Boolean, Procedure, Value, True, False, And, Or, Not, Impl, Equiv, Plus, Minus, Times, Divide, Less, LessEqual, Equal, GreaterEqual, Greater, NotEqual, Comma, Colon, Becomes, Semicolon, Open, Close, Name, Number, Real, Slash, Decimal}
 
--- ---- "Delimiter words stand between apostrophes, spelled exactly"
+-- ---- "Delimiter words stand between apostrophes", each in its house spelling
 
 pub record Delimiter : Type 0 where
   pub spelling : String

@@ -1,6 +1,7 @@
-// When two names are the same.
+// When two names are the same: letter case aside.
 use crate::text::is_blank;
 use crate::text::is_name_byte;
+use crate::text::same_letter;
 use answers::Place;
 ghost use mathlib.Core.Path.{_≡_};
 ghost use Rattle.symbols.specs.Names.{lettersAt, sameName};
@@ -34,7 +35,7 @@ pub fn same_name(source: &[u8], a: Place, b: Place) -> bool
         if source.len() <= j {
             return false;
         }
-        if source[i] != source[j] {
+        if !same_letter(source[i], source[j]) {
             return false;
         }
         i = next_letter(source, i + 1);
@@ -53,7 +54,7 @@ pub fn spells(source: &[u8], a: Place, word: &[u8]) -> bool
         if source.len() <= j {
             return false;
         }
-        if word[i] != source[j] {
+        if !same_letter(word[i], source[j]) {
             return false;
         }
         i += 1;

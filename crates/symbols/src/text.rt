@@ -2,7 +2,8 @@
 ghost use mathlib.Core.Path.{_≡_};
 ghost use Prim.Native.Nat.{_+_};
 ghost use lib.ListN.{length, drop};
-ghost use Rattle.symbols.specs.Names.{blank, letter, digit, inName, equal};
+ghost use lib.Dec.{eqb};
+ghost use Rattle.symbols.specs.Names.{blank, letter, digit, inName, equal, folded, sameName};
 ghost use Rattle.symbols.specs.Scan.{before, gap};
 
 pub fn is_blank(b: u8) -> bool
@@ -89,6 +90,43 @@ pub fn same_bytes(a: &[u8], b: &[u8]) -> bool
     let mut i = 0;
     while i < a.len() {
         if a[i] != b[i] {
+            return false;
+        }
+        i += 1;
+    }
+    true
+}
+
+// A capital as its small letter; every other byte as it is.
+pub fn fold(b: u8) -> u8
+    ensures { λ r. ⌜ r ≡ folded b ⌝ }
+{
+    if b < 65 {
+        return b;
+    }
+    if 90 < b {
+        return b;
+    }
+    b + 32
+}
+
+// Two bytes are the same but for letter case.
+pub fn same_letter(a: u8, b: u8) -> bool
+    ensures { λ r. ⌜ r ≡ eqb (folded a) (folded b) ⌝ }
+{
+    fold(a) == fold(b)
+}
+
+// Two runs of bytes are the same but for letter case.
+pub fn same_letters(a: &[u8], b: &[u8]) -> bool
+    ensures { λ r. ⌜ r ≡ sameName (now (a .entry)) (now (b .entry)) ⌝ }
+{
+    if a.len() != b.len() {
+        return false;
+    }
+    let mut i = 0;
+    while i < a.len() {
+        if !same_letter(a[i], b[i]) {
             return false;
         }
         i += 1;

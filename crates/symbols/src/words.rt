@@ -1,9 +1,10 @@
-// Delimiter words: each is a fixed byte string, compared with the bytes between two apostrophes.
+// Delimiter words: each is a fixed byte string, compared with the bytes between two apostrophes, letter case aside.
 use crate::Symbol;
-use crate::text::same_bytes;
+use crate::text::fold;
+use crate::text::same_letters;
 ghost use mathlib.Core.Path.{_≡_};
 ghost use mathlib.Core.Bool.{cond};
-ghost use Rattle.symbols.specs.Names.{equal};
+ghost use Rattle.symbols.specs.Names.{sameName};
 ghost use Rattle.symbols.specs.Scan.{spelled};
 ghost use Rattle.symbols.specs.Symbols.{words};
 
@@ -15,9 +16,9 @@ pub enum Spelled {
 
 // The one word that these bytes may be, or none. Bytes of another length are told before any is compared.
 fn only(w: &[u8], word: &[u8], s: Symbol) -> Spelled
-    ensures { λ r. ⌜ r ≡ cond (equal (now (w .entry)) (now (word .entry))) (Spelled.Word s) Spelled.Unknown ⌝ }
+    ensures { λ r. ⌜ r ≡ cond (sameName (now (w .entry)) (now (word .entry))) (Spelled.Word s) Spelled.Unknown ⌝ }
 {
-    if same_bytes(w, word) {
+    if same_letters(w, word) {
         return Spelled::Word(s);
     }
     Spelled::Unknown
@@ -25,9 +26,9 @@ fn only(w: &[u8], word: &[u8], s: Symbol) -> Spelled
 
 // The first of two words that these bytes may be, or what is said of the other.
 fn either(w: &[u8], one: &[u8], s: Symbol, other: &[u8], t: Symbol) -> Spelled
-    ensures { λ r. ⌜ r ≡ cond (equal (now (w .entry)) (now (one .entry))) (Spelled.Word s) (cond (equal (now (w .entry)) (now (other .entry))) (Spelled.Word t) Spelled.Unknown) ⌝ }
+    ensures { λ r. ⌜ r ≡ cond (sameName (now (w .entry)) (now (one .entry))) (Spelled.Word s) (cond (sameName (now (w .entry)) (now (other .entry))) (Spelled.Word t) Spelled.Unknown) ⌝ }
 {
-    if same_bytes(w, one) {
+    if same_letters(w, one) {
         return Spelled::Word(s);
     }
     only(w, other, t)
@@ -41,10 +42,13 @@ pub fn spelled_word(w: &[u8]) -> Spelled
     if w.len() == 0 {
         return Spelled::Unknown;
     }
-    match w[0] {
+    let first = fold(w[0]);
+    match first {
         b'a' => only(w, b"and", Symbol::And),
-        b'b' => only(w, b"begin", Symbol::Begin),
-        b'B' => only(w, b"Boolean", Symbol::Boolean),
+        b'b' => match w.len() {
+            5 => only(w, b"begin", Symbol::Begin),
+            _ => only(w, b"Boolean", Symbol::Boolean),
+        },
         b'c' => only(w, b"comment", Symbol::Comment),
         b'd' => only(w, b"do", Symbol::Do),
         b'e' => match w.len() {

@@ -1,12 +1,13 @@
--- `names::identity::identity` meets its contract. No symbol below j has the letters of the symbol.
+-- `names::identity::identity` meets its contract. No symbol below j is the same name as the symbol.
 -- Assumes nothing.
 use mathlib.Core.Path.{refl, sym, ap, _∙_}
 use Prim.Native.Nat.{ℕ, _+_, _-_, _≤_}
 use mathlib.Core.Logic.{⊎-elim}
 use native.Mathlib.Omega.{arith}
 use borrow.Author.Needs.{needs}
+use Rattle.symbols.proofs.LetterCase.{same-folded}
 use Rattle.names.specs.model.Rows.{identityIn}
-use Rattle.names.proofs.Identities.{NoneBelow, same-letters, not-first, not-same, first-as}
+use Rattle.names.proofs.Identities.{NoneBelow, not-first, not-same, first-as}
 use Rattle.names.proofs.identity.identity.Statement.{statement}
 use Rattle.names.proofs.identity.identity.Tie as tie
 
@@ -40,7 +41,7 @@ returns-2 c =
     first-as (a .source .now) (a .places .now) (a .ids .now) (a .symbol .number) (l .j)
     (omega (arith, c .before .before .before .before .before .before .before .before .before .given .ensures, c .before .before .before .before .before .before .before .before .if1 .left))
     (l .inv .0)
-    (same-letters _ _ (sym (c .before .same-name .ensures) ∙ c .if3 .taken))
+    (same-folded _ _ (sym (c .before .same-name .ensures) ∙ c .if3 .taken))
     (l .inv .1)
 
 loop-again : tie.Need-loop-again Inv-loop μ-loop
