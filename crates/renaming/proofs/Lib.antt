@@ -1,0 +1,14 @@
+pub mod Lists
+pub mod Sameness
+pub mod Told
+pub mod NamesKept
+pub mod Relabelled
+pub mod Passes
+pub mod Identified
+pub mod Two
+pub mod Everywhere
+pub mod Case
+pub mod AnyCase
+pub mod SmallRuns
+pub mod PagesCase
+pub mod RefutedCase

@@ -1,0 +1,1 @@
+// Names with other letters: definitions and laws alone.
