@@ -7,6 +7,9 @@ use crate::text::tell_number;
 use crate::text::tell_place;
 use crate::text::tell_spot;
 use libc::STDOUT_FILENO;
+use symbols::Lexeme;
+use symbols::Symbol;
+use symbols::lexemes::lexeme;
 use symbols::text::is_blank;
 use symbols::text::is_digit;
 use symbols::text::is_letter;
@@ -64,35 +67,23 @@ fn tell_grammar(to: i32, ended: bool) {
     }
 }
 
-// A type fault at a delimiter word, by its first two letters.
-fn tell_type_of_word(to: i32, a: u8, b: u8) {
-    match a {
-        b'w' => tell(to, b"the condition is not Boolean"),
-        b'i' => {
-            if b == b'f' {
-                tell(
-                    to,
-                    b"the condition is not Boolean, or a wrong actual or for expression begins here",
-                );
-            } else {
-                tell(to, b"an operand is of the wrong type");
-            }
-        }
-        b'e' => {
-            if b == b'l' {
-                tell(
-                    to,
-                    b"of the 'then' part and the 'else' part one is Boolean and the other is not",
-                );
-            } else {
-                tell(to, b"an operand is of the wrong type");
-            }
-        }
-        b'n' => tell(
+// A type fault at a delimiter word, by what it is.
+fn tell_type_of_word(to: i32, word: Symbol) {
+    match word {
+        Symbol::While => tell(to, b"the condition is not Boolean"),
+        Symbol::If => tell(
+            to,
+            b"the condition is not Boolean, or a wrong actual or for expression begins here",
+        ),
+        Symbol::Else => tell(
+            to,
+            b"of the 'then' part and the 'else' part one is Boolean and the other is not",
+        ),
+        Symbol::Not => tell(
             to,
             b"the operand is of the wrong type, or a wrong actual or for expression begins here",
         ),
-        b't' | b'f' => tell(to, b"a wrong actual or for expression begins here"),
+        Symbol::True | Symbol::False => tell(to, b"a wrong actual or for expression begins here"),
         _ => tell(to, b"an operand is of the wrong type"),
     }
 }
@@ -150,8 +141,9 @@ fn tell_type(to: i32, source: &[u8], place: usize) {
             )
         }
         b'\'' => {
-            if place < source.len() {
-                tell_type_of_word(to, byte_at(source, place + 1), byte_at(source, place + 2));
+            let l = lexeme(source, place);
+            if let Lexeme::Is(word, _) = l {
+                tell_type_of_word(to, word);
             }
         }
         b'(' | b'.' | b'0'..=b'9' => tell(to, b"a wrong actual or for expression begins here"),
