@@ -44,13 +44,13 @@ static void show_text(void)
     printf("\n");
 }
 
-/* The letters and digits of the name at a place. */
+/* The letters, in small, and digits of the name at a place. */
 static size_t letters_at(size_t at, uint8_t *letters)
 {
     size_t n = 0;
     for (size_t i = at; i < text.length && n < 33; i++) {
         if (own_letter(text.byte[i]) || own_digit(text.byte[i]))
-            letters[n++] = text.byte[i];
+            letters[n++] = own_small(text.byte[i]);
         else if (!own_blank(text.byte[i]))
             break;
     }
@@ -75,7 +75,7 @@ static int is_symbol(size_t at)
     return 0;
 }
 
-/* Each use of an accepted source is a name, in order, and what it names is spelled as it is. */
+/* Each use of an accepted source is a name, in order, and what it names is spelled as it is, letter case aside. */
 static const char *wrong_uses(const uint16_t *words)
 {
     static const char *const environment[] = {"iabs", "maxint", "ininteger", "outinteger", "outreal"};

@@ -27,19 +27,39 @@ static int own_letter(uint8_t b) { return ('a' <= b && b <= 'z') || ('A' <= b &&
 
 enum own_kind { OWN_NONE, OWN_NAME, OWN_NUMBER, OWN_SIGN, OWN_SEMICOLON, OWN_BEGIN, OWN_END, OWN_ELSE, OWN_COMMENT, OWN_WORD };
 
-/* The word between two apostrophes. */
-static enum own_kind own_word(const uint8_t *w, size_t n)
+/* A letter in small; any other byte as it is. */
+static uint8_t own_small(uint8_t b) { return 'A' <= b && b <= 'Z' ? (uint8_t)(b - 'A' + 'a') : b; }
+
+/* Whether n bytes are this text, letter case aside (request 8). */
+static int own_same(const uint8_t *s, const char *text, size_t n)
 {
-    static const struct { const char *text; enum own_kind kind; } words[] = {
+    for (size_t i = 0; i < n; i++)
+        if (own_small(s[i]) != own_small((uint8_t)text[i]))
+            return 0;
+    return 1;
+}
+
+struct own_delimiter { const char *text; enum own_kind kind; };
+
+/* The word between two apostrophes, in the house's spelling; NULL where it is none. */
+static const struct own_delimiter *own_delimiter(const uint8_t *w, size_t n)
+{
+    static const struct own_delimiter words[] = {
         {"begin", OWN_BEGIN}, {"end", OWN_END}, {"else", OWN_ELSE}, {"comment", OWN_COMMENT}, {"if", OWN_WORD}, {"then", OWN_WORD},
         {"for", OWN_WORD}, {"do", OWN_WORD}, {"step", OWN_WORD}, {"until", OWN_WORD}, {"while", OWN_WORD}, {"integer", OWN_WORD},
         {"real", OWN_WORD}, {"Boolean", OWN_WORD}, {"procedure", OWN_WORD}, {"value", OWN_WORD}, {"true", OWN_WORD}, {"false", OWN_WORD}, {"and", OWN_WORD},
         {"or", OWN_WORD}, {"not", OWN_WORD}, {"impl", OWN_WORD}, {"equiv", OWN_WORD},
     };
     for (size_t i = 0; i < sizeof words / sizeof words[0]; i++)
-        if (strlen(words[i].text) == n && memcmp(words[i].text, w, n) == 0)
-            return words[i].kind;
-    return OWN_NONE;
+        if (strlen(words[i].text) == n && own_same(w, words[i].text, n))
+            return &words[i];
+    return NULL;
+}
+
+static enum own_kind own_word(const uint8_t *w, size_t n)
+{
+    const struct own_delimiter *d = own_delimiter(w, n);
+    return d == NULL ? OWN_NONE : d->kind;
 }
 
 /* The first byte from i on that is no blank, or n. */

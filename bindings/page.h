@@ -32,7 +32,7 @@ static void page_put(uint8_t b)
 static int page_is(size_t k, const char *symbol)
 {
     size_t n = strlen(symbol);
-    return k < page.scan->count && page.scan->at[k] + n <= page.length && memcmp(page.source + page.scan->at[k], symbol, n) == 0;
+    return k < page.scan->count && page.scan->at[k] + n <= page.length && own_same(page.source + page.scan->at[k], symbol, n);
 }
 
 static int page_one_of(size_t k, const char *const *symbols)
@@ -63,15 +63,21 @@ static int page_tight(size_t k)
 /* Whether a name, or a number, goes on with this byte. In an accepted source no number stands behind another. */
 static int page_goes_on(int name, uint8_t b) { return own_digit(b) || (name ? own_letter(b) : b == '.'); }
 
-/* A symbol without the blanks in it. */
+/* A symbol without the blanks in it: a delimiter word in the house's spelling, a name in its own. */
 static void page_spell(size_t i)
 {
     uint8_t first = page.source[i];
     page_put(first);
     i++;
     if (first == '\'') {
-        while (page.source[i] != '\'')
-            page_put(page.source[i++]);
+        size_t n = 0;
+        while (page.source[i + n] != '\'')
+            n++;
+        const struct own_delimiter *d = own_delimiter(page.source + i, n);
+        if (d == NULL)
+            abort();
+        for (size_t k = 0; k < n; k++)
+            page_put((uint8_t)d->text[k]);
         page_put('\'');
     } else if (own_letter(first) || own_digit(first) || first == '.') {
         for (; i < page.length && (own_blank(page.source[i]) || page_goes_on(own_letter(first), page.source[i])); i++)

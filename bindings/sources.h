@@ -97,15 +97,23 @@ static const char *const words[] = {
     "'procedure'", "'value'", "'true'", "'false'", "'and'", "'or'", "'not'", "'impl'", "'equiv'",
 };
 static const char *const signs[] = {"+", "-", "*", "/", "%", "<", "<=", "=", ">=", ">", "#", ",", ":", ":=", ";", "(", ")", "< =", ": =", "> \n="};
-static const char *const wrong[] = {"'", "''", "'Begin'", "'begin '", "' end'", "'boolean'", "'go to'", "'reals'", "'Real'", "'ends'", "'en'", "!",
+static const char *const wrong[] = {"'", "''", "'Begins'", "'begin '", "' END'", "'boolea'", "'go to'", "'reals'", "'Rea1'", "'ends'", "'En'", "!",
                                     "\"", "\\", "_", "~", "\f", "\v", "\x80", "\xff", "'end", "."};
+
+/* A word, now and then in capitals here and there. */
+static void put_word(struct text *t, const char *s)
+{
+    unsigned capitals = once_in(4);
+    for (; *s != 0; s++)
+        put_byte(t, (uint8_t)(capitals && 'a' <= *s && *s <= 'z' && once_in(2) ? *s - 'a' + 'A' : *s));
+}
 
 /* One symbol, or now and then something that is none. */
 static void put_symbol(struct text *t, unsigned faults)
 {
     switch (below(12)) {
     case 0: case 1: case 2:
-        put_text(t, words[below(23)]);
+        put_word(t, words[below(23)]);
         break;
     case 3: case 4: case 5:
         put_text(t, signs[below(20)]);
