@@ -2,4 +2,5 @@ pub mod Listed
 pub mod Pages
 pub mod Ended
 pub mod Sent
+pub mod Capitals
 pub mod Counted

@@ -1,5 +1,7 @@
-// Reads, translates, runs and writes the sources that the file `index` lists, checks lists for them, and compares with what is listed: a line for
-// each difference, and at the end how many sources, runs, lists, differences and pages, and the most instructions that a run did for its steps.
+// Reads, translates, runs and writes the sources that the file `index` lists, checks lists for them, and compares with what is listed; and does so, but for
+// pages and lists, with each source in capitals: a line for each difference, and at the end how many sources, runs, lists, differences and pages, the most
+// instructions that a run did for its steps, and how many sources, runs and differences in capitals.
+mod capitals; // the jobs read, translate and run, of a source in capitals
 mod lists; // the job check_list
 mod reads; // the job read
 mod rows; // the rows of the index

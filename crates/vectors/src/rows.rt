@@ -1,7 +1,9 @@
 // The rows of `index`: each names a source and the text with what is to come of it.
+use crate::capitals;
 use crate::lists;
 use crate::reads;
 use crate::runs;
+use crate::tally::Tallies;
 use crate::tally::Tally;
 use crate::tally::print;
 use crate::writes;
@@ -9,7 +11,8 @@ ghost use mathlib.Core.List.{List};
 ghost use mathlib.Core.Path.{_≡_};
 ghost use Prim.Native.Nat.{ℕ, _+_, _/_, _≤_};
 ghost use lib.ListN.{length};
-ghost use Rattle.vectors.specs.Counted.{RowTold, Rows};
+ghost use Rattle.vectors.specs.Capitals.{CapitalsTold};
+ghost use Rattle.vectors.specs.Counted.{RowTold, Rows, CapitalRows};
 
 // A row: the two names, 24 bytes each, and the line's end.
 const ROW: usize = 49;
@@ -61,10 +64,10 @@ fn compare(t: Tally, name: &[u8], source: &[u8], text: &[u8]) -> Tally
     lists::compare(paged, name, source, text)
 }
 
-// The row at `from`.
-fn row(t: Tally, index: &[u8], from: usize) -> Tally
+// The row at `from`: its source as it is, and in capitals.
+fn row(t: Tallies, index: &[u8], from: usize) -> Tallies
     requires { ⌜ from + 49 ≤ length (now index) ⌝ }
-    ensures { λ r. ⌜ ((source text : List ℕ) × RowTold source text t r) ⌝ }
+    ensures { λ r. ⌜ ((source text : List ℕ) × RowTold source text (t .plain) (r .plain) × CapitalsTold source text (t .capitals) (r .capitals)) ⌝ }
 {
     let mut source = buffer();
     let mut text = buffer();
@@ -72,14 +75,18 @@ fn row(t: Tally, index: &[u8], from: usize) -> Tally
     let n = load(&index[from..end], &mut source);
     let last = name_end(index, from + 24);
     let m = load(&index[from + 24..last], &mut text);
-    compare(t, &index[from..end], &source[..n], &text[..m])
+    let counted = t.plain;
+    let plain = compare(counted, &index[from..end], &source[..n], &text[..m]);
+    let tried = t.capitals;
+    let capitals = capitals::compare(tried, &index[from..end], &source[..n], &text[..m]);
+    Tallies { plain, capitals }
 }
 
 // Every row counts, whatever its files hold.
-pub fn rows(index: &[u8]) -> Tally
-    ensures { λ r. ⌜ Rows (length (now (index .entry)) / 49) r ⌝ }
+pub fn rows(index: &[u8]) -> Tallies
+    ensures { λ r. ⌜ Rows (length (now (index .entry)) / 49) (r .plain) × CapitalRows (length (now (index .entry)) / 49) (r .capitals) ⌝ }
 {
-    let mut t = Tally::new();
+    let mut t = Tallies::new();
     let mut at: usize = 0;
     while ROW <= index.len() - at {
         t = row(t, index, at);

@@ -127,6 +127,17 @@ impl Tally {
         self
     }
 
+    // Of sources in capitals.
+    fn show_capitals(self) {
+        print(b"in capitals: ");
+        print_count(self.sources);
+        print(b" sources, ");
+        print_count(self.runs);
+        print(b" runs, ");
+        print_count(self.differences);
+        print(b" differences\n");
+    }
+
     pub fn show(self) {
         print_count(self.sources);
         print(b" sources, ");
@@ -146,5 +157,28 @@ impl Tally {
         print(b" instructions for ");
         print_count(self.steps);
         print(b" steps\n");
+    }
+}
+
+// Of the sources as they are, and of the same sources in capitals.
+pub struct Tallies {
+    pub plain: Tally,
+    pub capitals: Tally,
+}
+
+impl Tallies {
+    pub fn new() -> Tallies
+        ensures { λ r. ⌜ (r .plain ≡ nothing) × (r .capitals ≡ nothing) ⌝ }
+    {
+        let plain = Tally::new();
+        let capitals = Tally::new();
+        Tallies { plain, capitals }
+    }
+
+    pub fn show(self) {
+        let plain = self.plain;
+        plain.show();
+        let capitals = self.capitals;
+        capitals.show_capitals();
     }
 }
