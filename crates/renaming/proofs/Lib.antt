@@ -9,6 +9,5 @@ pub mod Two
 pub mod Everywhere
 pub mod Case
 pub mod AnyCase
-pub mod SmallRuns
 pub mod PagesCase
 pub mod RefutedCase

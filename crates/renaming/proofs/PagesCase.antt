@@ -17,7 +17,7 @@ use Rattle.symbols.specs.Spelling.{Token, wordFor, signFor, spell, spelling, Pi
 use Rattle.symbols.specs.declared.Symbol.{Symbol}
 use Rattle.symbols.specs.declared.Symbol.the-variants.{Name, Number, Decimal}
 use Rattle.symbols.proofs.LetterCase.{folded-digit, folded-length, same-folded, folded-same, same-self}
-use Rattle.symbols.proofs.AnyCase.{same-scan, letters-small}
+use Rattle.symbols.proofs.AnyCase.{reach-small, digits-small, decimals-small, drop-small, same-scan, letters-small}
 use Rattle.grammar.proofs.Unique.{unique}
 use Rattle.names.specs.Uses.{nameFaults, least}
 use Rattle.types.specs.Types.{typeFault}
@@ -30,7 +30,6 @@ use Rattle.clean.specs.declared.Written.{Written}
 use Rattle.clean.specs.declared.Written.the-variants.{Text}
 use Rattle.clean.proofs.Promises.{only}
 use Rattle.renaming.proofs.AnyCase.{case-means-nothing}
-use Rattle.renaming.proofs.SmallRuns.{reach-small, digits-small, decimals-small, drop-small}
 
 abbrev small : List ℕ → List ℕ
 small = map folded

@@ -3,8 +3,9 @@ ghost use mathlib.Core.Path.{_≡_};
 ghost use Prim.Native.Nat.{_+_};
 ghost use lib.ListN.{length, drop};
 ghost use lib.Dec.{eqb};
-ghost use Rattle.symbols.specs.Names.{blank, letter, digit, inName, equal, folded, sameName};
+ghost use Rattle.symbols.specs.Names.{blank, letter, digit, inName, equal, folded};
 ghost use Rattle.symbols.specs.Scan.{before, gap};
+ghost use Rattle.symbols.specs.model.Steps.{OtherCase};
 
 pub fn is_blank(b: u8) -> bool
     ensures { λ r. ⌜ r ≡ blank b ⌝ }
@@ -110,26 +111,31 @@ pub fn fold(b: u8) -> u8
     b + 32
 }
 
-// Two bytes are the same but for letter case.
+// A letter in the other case; every other byte as it is.
+fn other_case(b: u8) -> u8
+    ensures { λ r. ⌜ OtherCase b r ⌝ }
+{
+    if b < 65 {
+        return b;
+    }
+    if b <= 90 {
+        return b + 32;
+    }
+    if b < 97 {
+        return b;
+    }
+    if b <= 122 {
+        return b - 32;
+    }
+    b
+}
+
+// Two bytes are the same but for letter case. Most that are compared are equal, or no letters.
 pub fn same_letter(a: u8, b: u8) -> bool
     ensures { λ r. ⌜ r ≡ eqb (folded a) (folded b) ⌝ }
 {
-    fold(a) == fold(b)
-}
-
-// Two runs of bytes are the same but for letter case.
-pub fn same_letters(a: &[u8], b: &[u8]) -> bool
-    ensures { λ r. ⌜ r ≡ sameName (now (a .entry)) (now (b .entry)) ⌝ }
-{
-    if a.len() != b.len() {
-        return false;
+    if a == b {
+        return true;
     }
-    let mut i = 0;
-    while i < a.len() {
-        if !same_letter(a[i], b[i]) {
-            return false;
-        }
-        i += 1;
-    }
-    true
+    a == other_case(b)
 }

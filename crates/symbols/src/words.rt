@@ -1,10 +1,13 @@
-// Delimiter words: each is a fixed byte string, compared with the bytes between two apostrophes, letter case aside.
+// Delimiter words: each is a fixed byte string in small letters, compared with the bytes between two apostrophes, letter case aside.
 use crate::Symbol;
 use crate::text::fold;
-use crate::text::same_letters;
 ghost use mathlib.Core.Path.{_≡_};
 ghost use mathlib.Core.Bool.{cond};
+ghost use Prim.Native.Nat.{_+_};
+ghost use mathlib.Core.Bool.{true, _||_};
+ghost use lib.Dec.{eqb};
 ghost use Rattle.symbols.specs.Names.{sameName};
+ghost use Rattle.symbols.specs.model.Steps.{allSmall};
 ghost use Rattle.symbols.specs.Scan.{spelled};
 ghost use Rattle.symbols.specs.Symbols.{words};
 
@@ -14,11 +17,40 @@ pub enum Spelled {
     Unknown,
 }
 
+// Whether a byte is this one, or stands 32 below it as a capital below its small letter.
+fn is_or_below(b: u8, x: u8) -> bool
+    ensures { λ r. ⌜ r ≡ (eqb b x || eqb (b + 32) x) ⌝ }
+{
+    if b == x {
+        return true;
+    }
+    b as u32 + 32 == x as u32
+}
+
+// Whether bytes are a word of small letters, letter case aside.
+fn is_word(w: &[u8], word: &[u8]) -> bool
+    requires { ⌜ allSmall (now word) ≡ true ⌝ }
+    ensures { λ r. ⌜ r ≡ sameName (now (w .entry)) (now (word .entry)) ⌝ }
+{
+    if w.len() != word.len() {
+        return false;
+    }
+    let mut i = 0;
+    while i < w.len() {
+        if !is_or_below(w[i], word[i]) {
+            return false;
+        }
+        i += 1;
+    }
+    true
+}
+
 // The one word that these bytes may be, or none. Bytes of another length are told before any is compared.
 fn only(w: &[u8], word: &[u8], s: Symbol) -> Spelled
+    requires { ⌜ allSmall (now word) ≡ true ⌝ }
     ensures { λ r. ⌜ r ≡ cond (sameName (now (w .entry)) (now (word .entry))) (Spelled.Word s) Spelled.Unknown ⌝ }
 {
-    if same_letters(w, word) {
+    if is_word(w, word) {
         return Spelled::Word(s);
     }
     Spelled::Unknown
@@ -26,9 +58,11 @@ fn only(w: &[u8], word: &[u8], s: Symbol) -> Spelled
 
 // The first of two words that these bytes may be, or what is said of the other.
 fn either(w: &[u8], one: &[u8], s: Symbol, other: &[u8], t: Symbol) -> Spelled
+    requires { ⌜ allSmall (now one) ≡ true ⌝ }
+    requires { ⌜ allSmall (now other) ≡ true ⌝ }
     ensures { λ r. ⌜ r ≡ cond (sameName (now (w .entry)) (now (one .entry))) (Spelled.Word s) (cond (sameName (now (w .entry)) (now (other .entry))) (Spelled.Word t) Spelled.Unknown) ⌝ }
 {
-    if same_letters(w, one) {
+    if is_word(w, one) {
         return Spelled::Word(s);
     }
     only(w, other, t)
@@ -47,7 +81,7 @@ pub fn spelled_word(w: &[u8]) -> Spelled
         b'a' => only(w, b"and", Symbol::And),
         b'b' => match w.len() {
             5 => only(w, b"begin", Symbol::Begin),
-            _ => only(w, b"Boolean", Symbol::Boolean),
+            _ => only(w, b"boolean", Symbol::Boolean),
         },
         b'c' => only(w, b"comment", Symbol::Comment),
         b'd' => only(w, b"do", Symbol::Do),

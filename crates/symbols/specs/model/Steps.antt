@@ -3,15 +3,15 @@
 use Prim.Native.Nat.{ℕ, _+_, _≤_, min}
 use mathlib.Core.Path.{_≡_}
 use Prim.Native.Char.{code}
-use mathlib.Core.Bool.{cond}
+use mathlib.Core.Bool.{Bool, true, cond, _&&_}
 use mathlib.Core.List.{List, [], _∷_, _++_}
 use mathlib.Core.Option.{Option, none, some}
 use lib.ListN.{length, getD, drop}
-use lib.Dec.{ltb}
+use lib.Dec.{ltb, leb}
 use Rattle.answers.specs.Numbers.{noSymbol}
 use Rattle.answers.specs.Answers.{answer, refusal}
 use Rattle.answers.specs.declared.Refusal.{Refusal}
-use Rattle.symbols.specs.Names.{digit, these, reach, letters, valueFrom}
+use Rattle.symbols.specs.Names.{digit, these, reach, letters, valueFrom, folded}
 use Rattle.symbols.specs.Scan.{gap, followed, withPoint, lexeme, turn, Scan, scan}
 -- passed on: what the lent arrays hold is said by these
 pub use Rattle.symbols.specs.Scan.{kindsOf, placesOf, valuesOf}
@@ -50,6 +50,16 @@ pointedAt source at plain =
 -- a sign that may be joined with `=`
 unfoldable pub joinedOf : Symbol → Symbol → List ℕ → Lexeme
 joinedOf alone both bs = cond (followed (code "=") bs) (Is both (gap bs + 1)) (Is alone 0)
+
+-- a byte in the other letter case: no third is the same but for letter case
+pub record OtherCase (b r : ℕ) : Type 0 where
+  pub same : folded r ≡ folded b
+  pub only : (a : ℕ) → folded a ≡ folded b → (a ≡ b → ⊥) → a ≡ r
+
+-- all bytes are small letters
+abbrev pub allSmall : List ℕ → Bool
+allSmall [] = true
+allSmall (x ∷ l) = (leb 97 x && leb x 122) && allSmall l
 
 -- what is left of a name where its next letter or digit stands at i
 unfoldable pub restAt : List ℕ → ℕ → List ℕ

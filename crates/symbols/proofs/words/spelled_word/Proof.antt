@@ -2,14 +2,24 @@
 -- it are computed, and are those that the arm compares.
 -- Assumes nothing.
 use borrow.Author.Needs.{needs}
-use mathlib.Core.Path.{refl, sym, _∙_}
+use mathlib.Core.Path.{_≡_, refl, sym, ap, _∙_}
+use mathlib.Core.Bool.{Bool, cond}
+use mathlib.Core.List.{List}
+use Prim.Native.Nat.{ℕ}
 use Rattle.symbols.specs.Text.{bytes}
-use Rattle.symbols.specs.Names.{folded}
+use Rattle.symbols.specs.Names.{folded, sameName}
 use Rattle.symbols.specs.Symbols.{words}
 use Rattle.symbols.specs.Scan.{spelled}
+use Rattle.symbols.specs.declared.Symbol.the-variants.{Boolean}
+use Rattle.symbols.specs.declared.words.Spelled.the-variants.{Word, Unknown}
 use Rattle.symbols.proofs.Keyed.{by-letter, by-length, of-length, of-another, of-neither, elsewhere}
 use Rattle.symbols.proofs.words.spelled_word.Statement.{statement}
 use Rattle.symbols.proofs.words.spelled_word.Tie as tie
+
+-- the one word that the table does not have in small letters alone
+in-small : (w : List ℕ) → sameName w (bytes "boolean") ≡ sameName w (bytes "Boolean")
+unfolding sameName folded
+in-small w = refl
 
 -- b
 returns-3 : tie.Need-returns-3
@@ -18,7 +28,7 @@ returns-3 c = c .only2 .ensures ∙ sym (of-length words _ 98 (sym (c .before .b
 
 returns-4 : tie.Need-returns-4
 unfolding spelled folded
-returns-4 c = c .only3 .ensures ∙ sym (of-another words _ 98 (sym (c .before .before .before .before .fold .ensures) ∙ c .before .before .before .match .keys2) 5 (c .before .before .match2 .rest .1))
+returns-4 c = c .only3 .ensures ∙ ap (λ (t : Bool). cond t (Word Boolean) Unknown) (in-small _) ∙ sym (of-another words _ 98 (sym (c .before .before .before .before .fold .ensures) ∙ c .before .before .before .match .keys2) 5 (c .before .before .match2 .rest .1))
 
 -- e
 returns-7 : tie.Need-returns-7
