@@ -1,8 +1,8 @@
 // A source once more, every small letter a capital: against the same text as the source itself, and its table against the source's. Case means nothing.
 use crate::reads;
-use crate::rows::buffer;
 use crate::runs;
 use crate::tally::Tally;
+use crate::texts::buffer;
 use crate::texts::clipped;
 use reading::reading::read;
 ghost use mathlib.Core.Path.{_≡_};

@@ -7,11 +7,11 @@ mod reads; // the job read
 mod rows; // the rows of the index
 mod runs; // the jobs translate and run
 mod tally; // counts and lines
-mod texts; // numbers in a text
+mod texts; // room for a text, and numbers in it
 mod writes; // the job write
 
 fn main() {
-    let mut buf = rows::buffer();
+    let mut buf = texts::buffer();
     let n = rows::load(b"index", &mut buf);
     rows::rows(&buf[..n]).show();
 }

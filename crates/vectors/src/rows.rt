@@ -6,6 +6,7 @@ use crate::runs;
 use crate::tally::Tallies;
 use crate::tally::Tally;
 use crate::tally::print;
+use crate::texts::buffer;
 use crate::writes;
 ghost use mathlib.Core.List.{List};
 ghost use mathlib.Core.Path.{_≡_};
@@ -30,13 +31,6 @@ fn name_end(text: &[u8], from: usize) -> usize
         i += 1;
     }
     i
-}
-
-// Room for the bytes of a file, of which the index has the most.
-pub fn buffer() -> [u8; 131072]
-    ensures { λ r. ⌜ 131072 ≡ length r ⌝ }
-{
-    [0; 131072]
 }
 
 // The bytes of a file; none, and a word about it, where it is missing.

@@ -1,8 +1,16 @@
-// Numbers in a text: digits, behind a minus sign or none, and one byte between two numbers.
+// Room for a text; and numbers in it: digits, behind a minus sign or none, and one byte between two numbers.
 ghost use mathlib.Core.Path.{_≡_};
 ghost use Prim.Native.Nat.{_<_, min};
+ghost use lib.ListN.{length};
 ghost use Rattle.symbols.specs.Names.{digit};
 ghost use Rattle.vectors.specs.Listed.{digitsAt, numberAt, wholeOf, secondLine, pageAt, thirdLine};
+
+// Room for the bytes of a file, of which the index has the most.
+pub fn buffer() -> [u8; 131072]
+    ensures { λ r. ⌜ 131072 ≡ length r ⌝ }
+{
+    [0; 131072]
+}
 
 // A number, and where the next one begins.
 pub struct Numeral {
