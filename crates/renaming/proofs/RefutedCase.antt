@@ -13,9 +13,9 @@ use lib.Dec.{eqb}
 use Rattle.answers.specs.Numbers.{twice, undeclared, heading as badHeading}
 use Rattle.symbols.specs.Text.{bytes}
 use Rattle.symbols.specs.Names.{sameName, equal, folded}
-use Rattle.names.specs.Program.{Name, integer, Statement, number, assignment, dummy, block, last, variables, declare, heading, none as no-more}
+use Rattle.names.specs.Program.{Name, integer, Statement, number, done, then, assignment, procedure, dummy, compound, block, last, variables, declare, heading, none as no-more}
 use Rattle.names.specs.Scopes.{has, specified, variablesIn, inBlock, inBody, findIn, findGiven, meaning}
-use Rattle.names.specs.Uses.{Fault, usesE, usesS, usesSs, usesD, usesP, scopesS, scopesSs, scopesD, scopesP, each, twiceIn, allNames, missing, headingIn, joined, nameFaults, least}
+use Rattle.names.specs.Uses.{Fault, usesE, usesEs, usesS, usesSs, usesD, usesP, scopesS, scopesSs, scopesD, scopesP, each, twiceIn, allNames, missing, headingIn, joined, nameFaults, least, Row, useRows}
 use Rattle.renaming.specs.Relabel.{exprR, stmtR, stmtsR, declsR, procR}
 
 -- ---- rules
@@ -101,3 +101,26 @@ not-words-alone = (refl, refl, refl)
 pub not-but-in-value-parts : (answer valued ≡ none) × (answer (seen by-case valued) ≡ none) × (answer (seen but-in-value-parts valued) ≡ fault badHeading 8)
 unfolding exprR stmtR stmtsR declsR procR sameName equal folded has specified variablesIn inBlock inBody findIn findGiven meaning usesE usesS usesSs usesD usesP scopesS scopesSs scopesD scopesP each twiceIn allNames missing headingIn joined nameFaults least
 not-but-in-value-parts = (refl, refl, refl)
+
+-- ---- and of the environment
+
+abbrev row : ℕ → ℕ → ℕ → Row
+row a b c = record { symbol = a; kind = b; means = c }
+
+-- 'begin' OutInteger(1, 2) 'end'
+abbrev OutInteger : Statement
+OutInteger = compound (last (procedure (n 1 "OutInteger") (then (number 3 1) (then (number 5 2) done))))
+
+-- 'begin' 'integer' ININTEGER; ininteger := 1 'end'
+abbrev ININTEGER : Statement
+ININTEGER = block 0 (variables integer (n 2 "ININTEGER" ∷ []) no-more) (last (assignment (n 4 "ininteger") [] 5 (number 6 1)))
+
+-- its names are found in any case
+pub of-the-environment : (useRows OutInteger ≡ row 1 0 3 ∷ []) × (answer OutInteger ≡ none)
+unfolding sameName equal folded has variablesIn inBlock findIn findGiven meaning usesE usesEs usesS usesSs usesD scopesS scopesSs scopesD each twiceIn headingIn joined nameFaults least useRows
+of-the-environment = (refl, refl)
+
+-- and hidden in any case
+pub hidden : (useRows ININTEGER ≡ row 4 1 2 ∷ []) × (answer ININTEGER ≡ none)
+unfolding sameName equal folded has variablesIn inBlock findIn findGiven meaning usesE usesS usesSs usesD scopesS scopesSs scopesD each twiceIn headingIn joined nameFaults least useRows
+hidden = (refl, refl)
