@@ -3,7 +3,7 @@
  * ratio of the two machines means something. With an earlier library (BEFORE, see `bindings/run`) loops over whole numbers are translated and run,
  * and each source is read, by both, one after the other in each round.
  * bench INSTRUCTIONS library, bench INSTRUCTIONS own: the first loop once, in one of the two, and nothing else (`bindings/run count` counts what it
- * takes of the processor's instructions). */
+ * takes of the processor's instructions). bench INSTRUCTIONS now LOOP, bench INSTRUCTIONS before LOOP: so one of the loops for both libraries. */
 #define _POSIX_C_SOURCE 199309L
 #include <stdio.h>
 #include <stdlib.h>
@@ -210,50 +210,92 @@ typedef uint16_t runner(const uint32_t *, size_t, const int32_t *, size_t, uint6
 translator before_deed_translate;
 runner before_deed_run;
 
-/* The time in milliseconds of a run to its end, and its instructions. */
-static double running_time(translator *translate, runner *run, const char *text, uint64_t *done)
+/* A source's code run, by one of the two libraries; the time in milliseconds, and its instructions. */
+static double running_time(translator *translate, runner *run, const char *text, uint64_t limit, uint64_t *done)
 {
     static uint32_t words[DEED_CODE];
     size_t place, taken, written;
     if (translate((const uint8_t *)text, strlen(text), words, DEED_CODE, &place) != DEED_ACCEPTED)
         printf("a loop is refused\n");
     double t0 = seconds();
-    if (run(words, DEED_CODE, output, 0, UINT64_MAX, store, DEED_STORE, output, DEED_ENTRY, &place, done, &taken, &written) != DEED_ENDED)
-        printf("a loop does not end\n");
+    uint16_t answer = run(words, DEED_CODE, output, 0, limit, store, DEED_STORE, output, DEED_ENTRY, &place, done, &taken, &written);
+    if (answer != (limit == UINT64_MAX ? DEED_ENDED : DEED_LIMIT))
+        printf("a loop does not end as it should\n");
     return (seconds() - t0) * 1e3;
 }
 
-static void time_loop(const char *name, const char *source, unsigned number, int rounds)
+/* A loop on a variable of the program, in a procedure so many levels in: each is declared in the one before it. */
+static void lay_far(char *text, size_t room, unsigned levels, unsigned number)
 {
-    char text[400];
+    size_t n = (size_t)snprintf(text, room, "'begin' 'integer' x; ");
+    for (unsigned i = 1; i <= levels; i++)
+        n += (size_t)snprintf(text + n, room - n, "'procedure' p%u; 'begin' ", i);
+    n += (size_t)snprintf(text + n, room - n, "'integer' i; 'for' i := 1 'step' 1 'until' %u 'do' x := i - x", number);
+    for (unsigned i = levels; i != 0; i--)
+        n += (size_t)snprintf(text + n, room - n, " 'end'; %sp%u", i == 1 ? "x := 0; " : "", i);
+    snprintf(text + n, room - n, " 'end'");
+}
+
+enum { LOOPS = 6, TEXT = 2000 };
+static const char *const loop_names[LOOPS] = {"an assignment", "'step' 'until'", "'while'", "calls", "a series summed by name", "a variable 30 levels out"};
+
+/* The source of a loop that takes at least so many instructions. */
+static void lay_loop(unsigned k, uint64_t limit, char *text)
+{
+    static const char *const sources[] = {
+        "'begin' 'integer' i, s, a; s := 0; a := 3; 'for' i := 1 'step' 1 'until' %u 'do' s := (a * i + s - i) %% a 'end'",
+        "'begin' 'integer' i, s; s := 0; 'for' i := 1 'step' 1 'until' %u 'do' s := i - s 'end'",
+        "'begin' 'integer' i; i := 0; 'for' i := i + 1 'while' i < %u 'do' 'end'",
+        "'begin' 'integer' 'procedure' f(n); 'value' n; 'integer' n; f := 'if' n < 2 'then' n 'else' f(n - 1) + f(n - 2); outinteger(1, f(%u)) 'end'",
+        summed,
+    };
+    static const unsigned each[LOOPS] = {20, 14, 10, 0, 25, 14}; /* instructions a pass */
+    unsigned n = 1;
+    if (k != 3)
+        n = (unsigned)(limit / each[k] + 1);
+    else
+        for (uint64_t f = 1, g = 1, h; 15 * (f + g) < limit && n < 40; n++, f = g, g = h) /* f(n) takes some 15 instructions a call */
+            h = f + g;
+    if (k == 5)
+        lay_far(text, TEXT, 30, n);
+    else
+        snprintf(text, TEXT, sources[k], n);
+}
+
+static void time_loop(unsigned k, uint64_t limit, int rounds)
+{
+    char text[TEXT];
     double now[50], earlier[50], ratio[50];
     uint64_t done = 0, earlier_done = 0;
-    snprintf(text, sizeof text, source, number);
+    lay_loop(k, limit, text);
     for (int i = 0; i < rounds; i++) {
-        earlier[i] = running_time(before_deed_translate, before_deed_run, text, &earlier_done);
-        now[i] = running_time(deed_translate, deed_run, text, &done);
+        earlier[i] = running_time(before_deed_translate, before_deed_run, text, UINT64_MAX, &earlier_done);
+        now[i] = running_time(deed_translate, deed_run, text, UINT64_MAX, &done);
         ratio[i] = now[i] / earlier[i];
     }
     qsort(now, (size_t)rounds, sizeof now[0], by_size);
     qsort(earlier, (size_t)rounds, sizeof earlier[0], by_size);
     qsort(ratio, (size_t)rounds, sizeof ratio[0], by_size);
-    printf("loop %-24s before %9.1f milliseconds (%llu instructions), now %9.1f (%llu), now by before %.2f (%.2f to %.2f)\n", name, earlier[rounds / 2],
-           (unsigned long long)earlier_done, now[rounds / 2], (unsigned long long)done, ratio[rounds / 2], ratio[0], ratio[rounds - 1]);
+    printf("loop %-24s before %9.1f milliseconds (%llu instructions), now %9.1f (%llu), now by before %.2f (%.2f to %.2f)\n", loop_names[k],
+           earlier[rounds / 2], (unsigned long long)earlier_done, now[rounds / 2], (unsigned long long)done, ratio[rounds / 2], ratio[0], ratio[rounds - 1]);
 }
 
-static void time_loops(uint64_t limit, int rounds)
+/* A loop cut at the limit, by one of the two libraries; without a loop's number, the names of all. */
+static int run_loop(uint64_t limit, const char *which, const char *loop)
 {
-    unsigned n = 1;
-    for (uint64_t f = 1, g = 1, h; 30 * (f + g) < limit && n < 40; n++, f = g, g = h) /* f(n) takes some 15 instructions a call */
-        h = f + g;
-    time_loop("an assignment", "'begin' 'integer' i, s, a; s := 0; a := 3; 'for' i := 1 'step' 1 'until' %u 'do' s := (a * i + s - i) %% a 'end'",
-              (unsigned)(limit / 25 + 1), rounds);
-    time_loop("'step' 'until'", "'begin' 'integer' i, s; s := 0; 'for' i := 1 'step' 1 'until' %u 'do' s := i - s 'end'", (unsigned)(limit / 14 + 1), rounds);
-    time_loop("'while'", "'begin' 'integer' i; i := 0; 'for' i := i + 1 'while' i < %u 'do' 'end'", (unsigned)(limit / 10 + 1), rounds);
-    time_loop("calls",
-              "'begin' 'integer' 'procedure' f(n); 'value' n; 'integer' n; f := 'if' n < 2 'then' n 'else' f(n - 1) + f(n - 2); outinteger(1, f(%u)) 'end'",
-              n, rounds);
-    time_loop("a series summed by name", summed, (unsigned)(limit / 25 + 1), rounds);
+    char text[TEXT];
+    uint64_t done;
+    if (loop == NULL) {
+        for (unsigned i = 0; i < LOOPS; i++)
+            printf("%u %s\n", i, loop_names[i]);
+        return 0;
+    }
+    lay_loop((unsigned)atoi(loop) % LOOPS, 4 * limit, text);
+    if (which[0] == 'b')
+        running_time(before_deed_translate, before_deed_run, text, limit, &done);
+    else
+        running_time(deed_translate, deed_run, text, limit, &done);
+    return done == limit ? 0 : 1;
 }
 #endif
 
@@ -461,6 +503,10 @@ int main(int argc, char **argv)
         loads_adds_stores_jumps(limit);
         return (argv[2][0] == 'l' ? through_library(limit) : through_own(limit)).number == DEED_LIMIT ? 0 : 1;
     }
+#if defined BEFORE && defined DEED_TRANSLATE
+    if (argc > 2 && (strcmp(argv[2], "before") == 0 || strcmp(argv[2], "now") == 0))
+        return run_loop(limit, argv[2], argc > 3 ? argv[3] : NULL);
+#endif
     int rounds = argc > 2 ? atoi(argv[2]) : 5;
     if (limit == 0 || rounds < 1 || rounds > 50) {
         fprintf(stderr, "usage: bench [INSTRUCTIONS [ROUNDS]]\n");
@@ -474,7 +520,8 @@ int main(int argc, char **argv)
     time_code("a series summed by name", series, limit, rounds);
     time_code("a series of reals", real_series, limit, rounds);
 #ifdef BEFORE
-    time_loops(limit, rounds);
+    for (unsigned k = 0; k < LOOPS; k++)
+        time_loop(k, limit, rounds);
 #endif
 #endif
     time_source("delimiter words", delimiter_words);
