@@ -1,18 +1,20 @@
 -- Laws of Options: what a line asks from a place on, by its next word and what it asks behind that.
 use mathlib.Core.Path.{_≡_, refl, sym, ap, _∙_}
-use mathlib.Core.Bool.{Bool, true, false, cond, _||_, and-false, or-true, true≢false, false≢true}
+use mathlib.Core.Bool.{Bool, true, false, cond, _||_, and-false, or-true, or-false, false≢true}
 use mathlib.Core.List.{List, [], _∷_}
 use mathlib.Core.Option.{none, some}
 use Prim.Native.Nat.{ℕ, _-_, _≤_, _<_}
 use native.Mathlib.Omega.{arith}
-use lib.Dec.{leb}
-use lib.ListN.{length, drop-of-length-le}
-use borrow.Author.Tests.{le-leb, lt-leb, leb-true, leb-false}
-use Rattle.symbols.specs.Text.{bytes}
+use lib.Dec.{eqb, leb}
+use lib.ListN.{length, drop, drop-of-length-le}
+use borrow.Author.Tests.{eq-eqb, ne-eqb, le-leb, lt-leb, leb-true, leb-false}
 use Rattle.symbols.specs.Names.{equal}
 use Rattle.asking.specs.Numerals.{naturalOf}
-use Rattle.asking.specs.Words.{ended, cut, asked, askedFrom, part, isPart, First}
-use Rattle.asking.specs.Options.{isOption, isAside, firstNumber, optionOf, together, others, pastOptions, numbersIn, numbersFrom}
+use Rattle.asking.specs.Words.{ended, cut, wordsOf, part, isPart, First}
+use Rattle.asking.specs.Sorts.{isOption, those, askedFrom}
+use Rattle.asking.specs.Options.{firstNumber, optionOf, together, others, operandsIn, operandsFrom}
+use Rattle.asking.specs.Table.{rows, tableText, firstRow, rowIn, rowOf, matched}
+use Rattle.asking.specs.declared.sorts.Sort.the-variants.{Named}
 use Rattle.asking.specs.declared.words.Word.{Word}
 use Rattle.asking.specs.declared.sizes.Asked.the-variants.{Are, Not}
 use Rattle.asking.proofs.Spelling.{natural-none}
@@ -21,7 +23,7 @@ use Rattle.asking.proofs.Lines.{part-here}
 -- ---- nothing is asked behind the end, and no byte stands between a place and one before it
 
 pub asked-nothing : (line : List ℕ) (at : ℕ) → length line ≤ at → askedFrom line at ≡ []
-unfolding asked cut ended
+unfolding those cut ended
 asked-nothing line at h = rw (drop-of-length-le line h)
 
 pub part-empty : (line : List ℕ) (from to : ℕ) → to ≤ from → part line from to ≡ []
@@ -72,52 +74,27 @@ pub sizes-are : (l c o : ℕ) → c ≤ 8192 → o ≤ 196608 → together (some
 unfolding together
 sizes-are l c o h k = rw (le-leb c 8192 h, le-leb o 196608 k)
 
--- ---- words behind options
-
-pub past-option : (w : List ℕ) (ws : List (List ℕ)) → isOption w ≡ true → pastOptions (w ∷ ws) ≡ pastOptions (others ws)
-unfolding pastOptions others
-past-option w [] e = rw e
-past-option w (v ∷ ws) e = rw e
-
-past-other : (w : List ℕ) (ws : List (List ℕ)) → isOption w ≡ false → pastOptions (w ∷ ws) ≡ w ∷ ws
-unfolding pastOptions
-past-other w [] e = rw e
-past-other w (v ∷ ws) e = rw e
-
--- ---- a run's numbers
-
-pub option-aside : (w : List ℕ) → isOption w ≡ true → isAside w ≡ true
-unfolding isAside
-option-aside w e = rw (e, or-true (equal w (bytes "-")))
+-- ---- words that are no option
 
 -- behind an option its number is passed
-numbers-skip : (ws : List (List ℕ)) → numbersIn true ws ≡ numbersIn false (others ws)
-unfolding numbersIn others
-numbers-skip [] = refl
-numbers-skip (w ∷ ws) = refl
+operands-skip : (ws : List (List ℕ)) → operandsIn true ws ≡ operandsIn false (others ws)
+unfolding operandsIn others
+operands-skip [] = refl
+operands-skip (w ∷ ws) = refl
 
-pub numbers-aside : (w : List ℕ) (ws us : List (List ℕ)) → isAside w ≡ true → us ≡ cond (isOption w) (others ws) ws → numbersIn false (w ∷ ws) ≡ numbersIn false us
-unfolding numbersIn isAside
-numbers-aside w ws us a e = go (isOption w) (equal w (bytes "-")) a e
-  where
-    go : (t u : Bool) → (u || t) ≡ true → us ≡ cond t (others ws) ws
-        → cond t (numbersIn true ws) (cond u (numbersIn false ws) (w ∷ numbersIn false ws)) ≡ numbersIn false us
-    go true u a e = numbers-skip ws ∙ ap (numbersIn false) (sym e)
-    go false true a e = ap (numbersIn false) (sym e)
-    go false false a e = absurd (false≢true a)
+pub operands-passed : (w : List ℕ) (ws us : List (List ℕ)) → isOption w ≡ true → us ≡ cond (isOption w) (others ws) ws → operandsIn false (w ∷ ws) ≡ operandsIn false us
+unfolding operandsIn
+operands-passed w ws us a e =
+    let k : us ≡ others ws = e ∙ ap (λ (t : Bool). cond t (others ws) ws) a in
+    ap (λ (t : Bool). cond t (operandsIn true ws) (w ∷ operandsIn false ws)) a ∙ operands-skip ws ∙ ap (operandsIn false) (sym k)
 
-numbers-one : (w : List ℕ) (ws : List (List ℕ)) → isAside w ≡ false → numbersIn false (w ∷ ws) ≡ w ∷ numbersIn false ws
-unfolding numbersIn isAside
-numbers-one w ws a = go (isOption w) (equal w (bytes "-")) a
-  where
-    go : (t u : Bool) → (u || t) ≡ false → cond t (numbersIn true ws) (cond u (numbersIn false ws) (w ∷ numbersIn false ws)) ≡ w ∷ numbersIn false ws
-    go t true a = absurd (true≢false a)
-    go true false a = absurd (true≢false a)
-    go false false a = refl
+operands-one : (w : List ℕ) (ws : List (List ℕ)) → isOption w ≡ false → operandsIn false (w ∷ ws) ≡ w ∷ operandsIn false ws
+unfolding operandsIn
+operands-one w ws a = rw a
 
-none-aside : isAside [] ≡ false
-unfolding isAside isOption equal
-none-aside = refl
+no-option : isOption [] ≡ false
+unfolding isOption equal
+no-option = refl
 
 module _ (line : List ℕ) (at : ℕ) (w : Word) (h : First (askedFrom line) line at w) where
   -- behind the next word the others are asked
@@ -132,29 +109,65 @@ module _ (line : List ℕ) (at : ℕ) (w : Word) (h : First (askedFrom line) lin
           rw (h .none k) (asked-nothing line (w .to) (omega (arith, h .end k)))
       go false e = rw (h .first (leb-false (w .to) (w .from) e))
 
-  -- what is aside is no empty word
-  pub aside-long : isAside (part line (w .from) (w .to)) ≡ true → w .from < w .to
-  aside-long e = go (leb (w .to) (w .from)) refl
+  -- an option is no empty word
+  pub option-long : isOption (part line (w .from) (w .to)) ≡ true → w .from < w .to
+  option-long e = go (leb (w .to) (w .from)) refl
     where
       go : (t : Bool) → leb (w .to) (w .from) ≡ t → w .from < w .to
-      go true f = absurd (false≢true (sym none-aside ∙ ap isAside (sym (part-empty line (w .from) (w .to) (leb-true (w .to) (w .from) f))) ∙ e))
+      go true f = absurd (false≢true (sym no-option ∙ ap isOption (sym (part-empty line (w .from) (w .to) (leb-true (w .to) (w .from) f))) ∙ e))
       go false f = leb-false (w .to) (w .from) f
 
-  -- where no option stands first, what is asked is behind those that do
-  pub past-here : isOption (part line (w .from) (w .to)) ≡ false → pastOptions (askedFrom line at) ≡ askedFrom line at
-  unfolding pastOptions
-  past-here e = go (leb (w .to) (w .from)) refl
-    where
-      go : (t : Bool) → leb (w .to) (w .from) ≡ t → pastOptions (askedFrom line at) ≡ askedFrom line at
-      go true f =
-          let l = leb-true (w .to) (w .from) f in
-          let k : w .from ≡ w .to = omega (arith, h .ordered) in
-          rw (h .none k)
-      go false f = rw (h .first (leb-false (w .to) (w .from) f)) (past-other (part line (w .from) (w .to)) (askedFrom line (w .to)) e)
+  pub operands-none : w .from ≡ w .to → operandsFrom line at ≡ []
+  unfolding operandsIn
+  operands-none e = rw (h .none e)
 
-  pub numbers-none : w .from ≡ w .to → numbersFrom line at ≡ []
-  unfolding numbersIn
-  numbers-none e = rw (h .none e)
+  pub operands-first : isOption (part line (w .from) (w .to)) ≡ false → w .from < w .to → operandsFrom line at ≡ part line (w .from) (w .to) ∷ operandsFrom line (w .to)
+  operands-first a l = ap (operandsIn false) (h .first l) ∙ operands-one (part line (w .from) (w .to)) (askedFrom line (w .to)) a
 
-  pub numbers-first : isAside (part line (w .from) (w .to)) ≡ false → w .from < w .to → numbersFrom line at ≡ part line (w .from) (w .to) ∷ numbersFrom line (w .to)
-  numbers-first a l = ap (numbersIn false) (h .first l) ∙ numbers-one (part line (w .from) (w .to)) (askedFrom line (w .to)) a
+-- ---- words for names
+
+-- no name is left: no word is, or more are welcome
+pub matched-end : (free : Bool) (us : List (List ℕ)) (line : List ℕ) (at : ℕ) (w : Word) → First (operandsFrom line) line at w → us ≡ []
+    → matched us free (operandsFrom line at) ≡ (free || eqb (w .from) (w .to))
+unfolding matched
+matched-end free us line at w h e = go (leb (w .to) (w .from)) refl
+  where
+    go : (t : Bool) → leb (w .to) (w .from) ≡ t → matched us free (operandsFrom line at) ≡ (free || eqb (w .from) (w .to))
+    go true b =
+        let l = leb-true (w .to) (w .from) b in
+        let k : w .from ≡ w .to = omega (arith, h .ordered) in
+        rw (e, h .none k, eq-eqb (w .from) (w .to) k, or-true free)
+    go false b =
+        let l = leb-false (w .to) (w .from) b in
+        let n : w .from ≡ w .to → ⊥ = λ k. omega (arith, k, l) in
+        rw (e, h .first l, ne-eqb (w .from) (w .to) n, or-false free)
+
+pub matched-short : (n : List ℕ) (ns us ws : List (List ℕ)) (free : Bool) → us ≡ n ∷ ns → ws ≡ [] → matched us free ws ≡ false
+unfolding matched
+matched-short n ns us ws free e k = rw (e, k)
+
+pub matched-on : (n w : List ℕ) (ns us ws vs : List (List ℕ)) (free : Bool) → us ≡ n ∷ ns → vs ≡ w ∷ ws → matched us free vs ≡ matched ns free ws
+unfolding matched
+matched-on n w ns us ws vs free e k = rw (e, k)
+
+-- ---- the row of a word
+
+pub row-found : (table w : List ℕ) (x : Word) → First (λ (p : ℕ). those Named w (wordsOf (drop p table))) table 0 x → part table (x .from) (x .to) ≡ rowIn (wordsOf table) w
+unfolding rowIn firstRow
+row-found table w x h = go (leb (x .to) (x .from)) refl
+  where
+    go : (t : Bool) → leb (x .to) (x .from) ≡ t → part table (x .from) (x .to) ≡ firstRow (those Named w (wordsOf table))
+    go true b =
+        let l = leb-true (x .to) (x .from) b in
+        let k : x .from ≡ x .to = omega (arith, h .ordered) in
+        part-empty table (x .from) (x .to) l ∙ sym (ap firstRow (h .none k))
+    go false b = let l = leb-false (x .to) (x .from) b in sym (ap firstRow (h .first l))
+
+-- the rows are the words of the table
+table-rows : wordsOf tableText ≡ rows
+unfolding cut ended
+table-rows = refl
+
+pub row-of-table : (w : List ℕ) → rowOf w ≡ rowIn (wordsOf tableText) w
+unfolding rowOf
+row-of-table w = ap (λ (rs : List (List ℕ)). rowIn rs w) (sym table-rows)

@@ -10,13 +10,15 @@ use lib.IntN.{ℤ, pos, negsuc}
 use native.Mathlib.Omega.{arith}
 use Rattle.symbols.specs.Text.{bytes}
 use Rattle.symbols.specs.Names.{blank, digit, valueFrom, equal}
+use Rattle.symbols.specs.Scan.{before}
 use Rattle.asking.specs.Numerals.{digits, spelled, numberOf, naturalOf, counted, negated, within, integerOf, wholeOf}
-use Rattle.asking.specs.Words.{ended, cut, wordsOf, has, plain, asked, unblanked, separates, unlisted}
-use Rattle.asking.specs.Jobs.{jobIn, jobOf}
-use Rattle.asking.specs.Options.{isOption, firstNumber, optionOf, together, sizesOf, pastOptions, numbersIn}
+use Rattle.asking.specs.Words.{ended, cut, wordsOf, has, plain, unblanked, separates, unlisted}
+use Rattle.asking.specs.Sorts.{looks, isOption, isFlag, isNamed, isMisfit, isTwice, isCapital, those, asked}
+use Rattle.asking.specs.Options.{firstNumber, optionOf, together, sizesOf, operandsIn}
+use Rattle.asking.specs.Table.{firstRow, rowIn, rowOf, names, matched}
 use Rattle.asking.specs.Lists.{listWords, sent, standing, sentOf, inFront, leading, listedIn}
 use Rattle.asking.specs.declared.lists.Listed.the-variants.{Are, Not as NoNumber, Full}
-use Rattle.asking.specs.declared.jobs.Job.the-variants.{Run, Other}
+use Rattle.asking.specs.declared.sorts.Sort.the-variants.{Misfit, Twice}
 use Rattle.asking.specs.declared.sizes.Asked.{Asked}
 use Rattle.asking.specs.declared.sizes.Asked.the-variants.{Are, Not}
 
@@ -90,10 +92,10 @@ pub no-words : wordsOf (line "   ") ≡ []
 unfolding cut ended unblanked blank
 no-words = refl
 
--- every --plain is passed over, and no part of a word is one
-pub plain-passed-over : asked (wordsOf (line "--plain run --plain --plain a --plainer")) ≡ bytes "run" ∷ bytes "a" ∷ bytes "--plainer" ∷ []
-unfolding asked equal cut ended unblanked blank
-plain-passed-over = refl
+-- every flag is passed over, and no number, no - and no option with a number is one
+pub flags-passed-over : asked (wordsOf (line "--plain run --list a - -5 -l 3 --x")) ≡ bytes "run" ∷ bytes "a" ∷ bytes "-" ∷ bytes "-5" ∷ bytes "-l" ∷ bytes "3" ∷ []
+unfolding those isFlag isOption looks digit equal cut ended unblanked blank
+flags-passed-over = refl
 
 pub plain-is-there : has (wordsOf (line "run a --plain")) plain ≡ true
 unfolding has equal cut ended unblanked blank
@@ -103,42 +105,57 @@ pub plain-is-not-there : has (wordsOf (line "run a --plai n")) plain ≡ false
 unfolding has equal cut ended unblanked blank
 plain-is-not-there = refl
 
--- ---- jobs and options
+-- ---- rows and options
 
-pub job-run : jobOf (bytes "run") ≡ Run
-unfolding jobOf jobIn equal
-job-run = refl
+pub row-of-write : rowOf (bytes "write") ≡ bytes "write FILE --plain"
+unfolding rowOf rowIn firstRow those isNamed before equal
+row-of-write = refl
 
-pub job-other : jobOf (bytes "Run") ≡ Other
-unfolding jobOf jobIn equal
-job-other = refl
+-- no beginning of a command's word is one, and no word of another case
+pub no-row : (rowOf (bytes "wri") ≡ []) × (rowOf (bytes "Run") ≡ []) × (rowOf [] ≡ [])
+unfolding rowOf rowIn firstRow those isNamed before equal
+no-row = (refl, refl, refl)
+
+pub names-of-check : names (wordsOf (line "check FILE LIST --plain")) ≡ bytes "FILE" ∷ bytes "LIST" ∷ []
+unfolding those isCapital cut ended unblanked blank
+names-of-check = refl
+
+-- what is not a number is one's name's, and a second one where none is welcome is wrong
+pub words-for-names : (matched (bytes "FILE" ∷ []) false (bytes "a" ∷ []) ≡ true) × (matched (bytes "FILE" ∷ []) false [] ≡ false)
+    × (matched (bytes "FILE" ∷ []) false (bytes "a" ∷ bytes "b" ∷ []) ≡ false) × (matched (bytes "FILE" ∷ []) true (bytes "a" ∷ bytes "b" ∷ []) ≡ true)
+unfolding matched
+words-for-names = (refl, refl, refl, refl)
+
+pub misfits : those Misfit (line "read FILE --plain") (wordsOf (line "read --json a --plain -5 -x")) ≡ bytes "--json" ∷ bytes "-x" ∷ []
+unfolding those isMisfit looks digit has equal cut ended unblanked blank
+misfits = refl
+
+pub twice : those Twice [] (wordsOf (line "run -l 5 a 5 5 -l 6 --plain")) ≡ bytes "-l" ∷ []
+unfolding those isTwice looks digit has equal cut ended unblanked blank
+twice = refl
 
 abbrev sizesIn : String → Asked
 sizesIn t = sizesOf (asked (wordsOf (line t)))
 
 pub usual-sizes : sizesIn "a 1200 25" ≡ Are (record { limit = 1000000; cells = 8192; room = 196608 })
-unfolding sizesOf together optionOf firstNumber naturalOf spelled digits digit valueFrom asked equal cut ended unblanked blank
+unfolding sizesOf together optionOf firstNumber naturalOf spelled digits digit valueFrom those isFlag isOption looks equal cut ended unblanked blank
 usual-sizes = refl
 
 pub asked-sizes : sizesIn "-o 0 a -l --plain 7 1200 -c 8192 -l 8" ≡ Are (record { limit = 7; cells = 8192; room = 0 })
-unfolding sizesOf together optionOf firstNumber naturalOf spelled digits digit valueFrom asked equal cut ended unblanked blank
+unfolding sizesOf together optionOf firstNumber naturalOf spelled digits digit valueFrom those isFlag isOption looks equal cut ended unblanked blank
 asked-sizes = refl
 
 pub too-many-cells : sizesIn "a -c 8193" ≡ Not
-unfolding sizesOf together optionOf firstNumber naturalOf spelled digits digit valueFrom asked equal cut ended unblanked blank
+unfolding sizesOf together optionOf firstNumber naturalOf spelled digits digit valueFrom those isFlag isOption looks equal cut ended unblanked blank
 too-many-cells = refl
 
 pub missing-limit : sizesIn "a -l" ≡ Not
-unfolding sizesOf together optionOf firstNumber naturalOf spelled digits digit valueFrom asked equal cut ended unblanked blank
+unfolding sizesOf together optionOf firstNumber naturalOf spelled digits digit valueFrom those isFlag isOption looks equal cut ended unblanked blank
 missing-limit = refl
 
-pub file-behind-options : pastOptions (wordsOf (line "-o 1 -l 5 a 1200 -c 3")) ≡ bytes "a" ∷ bytes "1200" ∷ bytes "-c" ∷ bytes "3" ∷ []
-unfolding pastOptions isOption equal cut ended unblanked blank
-file-behind-options = refl
-
-pub numbers-of-run : numbersIn false (wordsOf (line "1200 -c 3 - 25 -o -l 2")) ≡ bytes "1200" ∷ bytes "25" ∷ bytes "2" ∷ []
-unfolding numbersIn isOption equal cut ended unblanked blank
-numbers-of-run = refl
+pub words-but-options : operandsIn false (wordsOf (line "-o 1 a 1200 -c 3 - 25 -o -l 2")) ≡ bytes "a" ∷ bytes "1200" ∷ bytes "-" ∷ bytes "25" ∷ bytes "2" ∷ []
+unfolding operandsIn isOption equal cut ended unblanked blank
+words-but-options = refl
 
 -- ---- lists
 

@@ -1,6 +1,6 @@
 -- Laws of Words: where the next word of a line stands, by the words of what is left of the line.
 use mathlib.Core.Path.{_≡_, refl, sym, ap, _∙_}
-use mathlib.Core.Bool.{Bool, true, false, cond, and-false, false≢true}
+use mathlib.Core.Bool.{Bool, true, false, cond, and-false}
 use mathlib.Core.List.{List, [], _∷_, _++_, map, append-nil, append-assoc}
 use Prim.Native.Nat.{ℕ, suc, _+_, _-_, _≤_, _<_}
 use native.Mathlib.Omega.{arith}
@@ -11,8 +11,10 @@ use lib.Seq.{drop-drop, drop-nil, length-take-le, take-suc, set-at, append-snoc}
 use borrow.Author.Tests.{eq-eqb, ne-eqb, le-leb, lt-leb, leb-true, leb-false}
 use Rattle.symbols.specs.Names.{equal}
 use Rattle.symbols.specs.Scan.{before}
-use Rattle.symbols.proofs.Laws.{peel, before-take, equal-length}
-use Rattle.asking.specs.Words.{ended, cut, wordsOf, has, plain, asked, askedFrom, part, isPart, leadingZeros, WordFrom}
+use Rattle.symbols.proofs.Laws.{peel, before-take}
+use Rattle.asking.specs.Words.{ended, cut, wordsOf, has, part, isPart, leadingZeros, WordFrom}
+use Rattle.asking.specs.Sorts.{ofSort, those}
+use Rattle.asking.specs.declared.sorts.Sort.{Sort}
 use Rattle.asking.specs.declared.words.Word.{Word}
 
 -- ---- zeros from a place on
@@ -166,31 +168,25 @@ pub has-nothing : (line text : List ℕ) (at : ℕ) → length line ≤ at → h
 unfolding has cut ended
 has-nothing line text at h = rw (drop-of-length-le line h)
 
--- ---- words but --plain
+-- ---- words of a sort
 
-module _ (line : List ℕ) (at : ℕ) (w : Word) (h : WordFrom line at w) where
-  pub plain-long : isPart line (w .from) (w .to) plain ≡ true → w .from < w .to
-  plain-long e = go (leb (w .to) (w .from)) refl
-    where
-      go : (t : Bool) → leb (w .to) (w .from) ≡ t → w .from < w .to
-      go true f =
-          let l = leb-true (w .to) (w .from) f in
-          let n : length (part line (w .from) (w .to)) ≡ 7 → ⊥ = λ q. omega (arith, run-long line at w h, q) in
-          absurd (false≢true (sym (equal-length (part line (w .from) (w .to)) plain n) ∙ sym (part-here line (w .from) (w .to) plain (h .ordered) (h .inside)) ∙ e))
-      go false f = leb-false (w .to) (w .from) f
+module _ (q : Sort) (arg line : List ℕ) where
+  abbrev found : ℕ → List (List ℕ)
+  found p = those q arg (wordsOf (drop p line))
 
-  pub plain-passed : isPart line (w .from) (w .to) plain ≡ true → askedFrom line at ≡ askedFrom line (w .to)
-  unfolding asked
-  plain-passed e = rw (word-first line at w h (plain-long e), sym (part-here line (w .from) (w .to) plain (h .ordered) (h .inside)) ∙ e)
+  module _ (at : ℕ) (w : Word) (h : WordFrom line at w) where
+    pub none-found : w .from ≡ w .to → found at ≡ []
+    unfolding those
+    none-found e = rw (word-none line at w h e)
 
-  pub asked-none : w .from ≡ w .to → askedFrom line at ≡ []
-  unfolding asked
-  asked-none e = rw (word-none line at w h e)
+    pub found-here : w .from < w .to → ofSort q arg (part line (w .from) (w .to)) (wordsOf (drop (w .to) line)) ≡ true
+        → found at ≡ part line (w .from) (w .to) ∷ found (w .to)
+    unfolding those
+    found-here l e = rw (word-first line at w h l, e)
 
-  pub asked-first : isPart line (w .from) (w .to) plain ≡ false → w .from < w .to
-      → askedFrom line at ≡ part line (w .from) (w .to) ∷ askedFrom line (w .to)
-  unfolding asked
-  asked-first e l = rw (word-first line at w h l, sym (part-here line (w .from) (w .to) plain (h .ordered) (h .inside)) ∙ e)
+    pub found-later : w .from < w .to → ofSort q arg (part line (w .from) (w .to)) (wordsOf (drop (w .to) line)) ≡ false → found at ≡ found (w .to)
+    unfolding those
+    found-later l e = rw (word-first line at w h l, e)
 
 -- ---- a text as a line: one byte more of it is put into the row
 

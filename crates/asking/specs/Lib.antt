@@ -1,5 +1,6 @@
 pub mod Numerals
 pub mod Words
-pub mod Jobs
+pub mod Sorts
 pub mod Options
+pub mod Table
 pub mod Lists

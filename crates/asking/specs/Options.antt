@@ -1,7 +1,7 @@
--- The options of a run: each is a word with a number behind it. These definitions are over the words that a line asks, among which is no --plain.
+-- Options that have a number behind them, and the words that are no option. These definitions are over the words that a line asks, among which is no flag.
 use Prim.Native.Nat.{ℕ, _≤_}
 use mathlib.Core.Path.{_≡_}
-use mathlib.Core.Bool.{Bool, true, false, cond, _&&_, _||_}
+use mathlib.Core.Bool.{Bool, true, false, cond, _&&_}
 use mathlib.Core.List.{List, [], _∷_}
 use mathlib.Core.Option.{Option, none, some}
 use lib.ListN.{length}
@@ -9,18 +9,10 @@ use lib.Dec.{leb}
 use Rattle.symbols.specs.Text.{bytes}
 use Rattle.symbols.specs.Names.{equal}
 use Rattle.asking.specs.Numerals.{naturalOf}
-use Rattle.asking.specs.Words.{part, askedFrom}
+use Rattle.asking.specs.Words.{part}
+use Rattle.asking.specs.Sorts.{isOption, askedFrom}
 use Rattle.asking.specs.declared.sizes.Asked.{Asked}
 use Rattle.asking.specs.declared.sizes.Asked.the-variants.{Are, Not}
-
--- ---- which words are options
-
-unfoldable pub isOption : List ℕ → Bool
-isOption w = equal w (bytes "-l") || equal w (bytes "-c") || equal w (bytes "-o")
-
--- the words of a run's command that are none of its numbers; - asks for those of standard input
-unfoldable pub isAside : List ℕ → Bool
-isAside w = equal w (bytes "-") || isOption w
 
 -- ---- the number of an option
 
@@ -46,37 +38,27 @@ together (some l) (some c) (some o) = cond (leb c 8192 && leb o 196608) (Are (re
 unfoldable pub sizesOf : List (List ℕ) → Asked
 sizesOf ws = together (optionOf (bytes "-l") 1000000 ws) (optionOf (bytes "-c") 8192 ws) (optionOf (bytes "-o") 196608 ws)
 
--- ---- words behind options
+-- ---- words that are no option
 
 -- the words without the first, if there is one
 unfoldable pub others : List (List ℕ) → List (List ℕ)
 others [] = []
 others (w ∷ ws) = ws
 
--- the words behind the options that stand first, each with the word behind it
-unfoldable pub pastOptions : List (List ℕ) → List (List ℕ)
-pastOptions [] = []
-pastOptions (w ∷ []) = cond (isOption w) [] (w ∷ [])
-pastOptions (w ∷ v ∷ ws) = cond (isOption w) (pastOptions ws) (w ∷ v ∷ ws)
+-- neither an option nor the word behind one. The Bool says that an option stands just before
+unfoldable pub operandsIn : Bool → List (List ℕ) → List (List ℕ)
+operandsIn option [] = []
+operandsIn true (w ∷ ws) = operandsIn false ws
+operandsIn false (w ∷ ws) = cond (isOption w) (operandsIn true ws) (w ∷ operandsIn false ws)
 
--- the words that are a run's numbers: neither -, nor an option, nor the word behind one. The Bool says that an option stands just before
-unfoldable pub numbersIn : Bool → List (List ℕ) → List (List ℕ)
-numbersIn option [] = []
-numbersIn true (w ∷ ws) = numbersIn false ws
-numbersIn false (w ∷ ws) = cond (isOption w) (numbersIn true ws) (cond (equal w (bytes "-")) (numbersIn false ws) (w ∷ numbersIn false ws))
+abbrev pub operands : List (List ℕ) → List (List ℕ)
+operands ws = operandsIn false ws
 
-abbrev pub numbersFrom : List ℕ → ℕ → List (List ℕ)
-numbersFrom line at = numbersIn false (askedFrom line at)
-
--- ---- places of a line
+abbrev pub operandsFrom : List ℕ → ℕ → List (List ℕ)
+operandsFrom line at = operands (askedFrom line at)
 
 -- r is behind the word from `from` up to `to`, and where that is an option, behind its number
 pub record Behind (line : List ℕ) (from to r : ℕ) : Type 0 where
   pub words : askedFrom line r ≡ cond (isOption (part line from to)) (others (askedFrom line to)) (askedFrom line to)
   pub onward : to ≤ r
-  pub inside : r ≤ length line
-
--- r is behind the options that stand first from `from` on
-pub record Past (line : List ℕ) (from r : ℕ) : Type 0 where
-  pub words : askedFrom line r ≡ pastOptions (askedFrom line from)
   pub inside : r ≤ length line

@@ -32,17 +32,8 @@ unfoldable pub has : List (List ℕ) → List ℕ → Bool
 has [] t = false
 has (w ∷ ws) t = equal w t || has ws t
 
--- the word --plain, and the words that are not it
 abbrev pub plain : List ℕ
 plain = bytes "--plain"
-
-unfoldable pub asked : List (List ℕ) → List (List ℕ)
-asked [] = []
-asked (w ∷ ws) = cond (equal w plain) (asked ws) (w ∷ asked ws)
-
--- what a line asks from a place on: its words but --plain
-abbrev pub askedFrom : List ℕ → ℕ → List (List ℕ)
-askedFrom line at = asked (wordsOf (drop at line))
 
 -- ---- where words stand
 

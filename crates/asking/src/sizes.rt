@@ -1,11 +1,11 @@
 // How large a run may be, as its options ask.
 use crate::numerals::Natural;
 use crate::numerals::natural_in;
+use crate::sorts::next_word;
 use crate::words::is_word;
-use crate::words::next_word;
 ghost use mathlib.Core.Path.{_≡_};
 ghost use Rattle.asking.specs.Numerals.{naturalIs};
-ghost use Rattle.asking.specs.Words.{askedFrom};
+ghost use Rattle.asking.specs.Sorts.{askedFrom};
 ghost use Rattle.asking.specs.Options.{firstNumber, optionOf, together, sizesOf};
 
 // Instructions at most, cells and room for numbers written, three an entry, where nothing else is asked. No more cells and no more room

@@ -5,7 +5,7 @@ use symbols::text::same_bytes;
 ghost use mathlib.Core.Path.{_≡_};
 ghost use Prim.Native.Nat.{_+_};
 ghost use lib.ListN.{drop};
-ghost use Rattle.asking.specs.Words.{wordsOf, leadingZeros, has, plain, askedFrom, isPart, unblanked, separates, unlisted, laidAs, WordFrom, First, LineBy, LineOf};
+ghost use Rattle.asking.specs.Words.{wordsOf, leadingZeros, has, plain, isPart, unblanked, separates, unlisted, laidAs, WordFrom, LineBy, LineOf};
 ghost use Rattle.asking.specs.Lists.{ListLine};
 
 // A word of a line: its first byte, and the byte behind it. Where there is none, both are the line's end.
@@ -81,29 +81,6 @@ pub fn is_plain(line: &[u8]) -> bool
     ensures { λ r. ⌜ r ≡ has (wordsOf (now (line .entry))) plain ⌝ }
 {
     has_word(line, 0, b"--plain")
-}
-
-// Whether the bytes from `from` up to `to` are --plain.
-fn is_plain_word(line: &[u8], from: usize, to: usize) -> bool
-    ensures { λ r. ⌜ r ≡ isPart (now (line .entry)) from to plain ⌝ }
-{
-    is_word(line, from, to, b"--plain")
-}
-
-// The next word from `at` on that is not --plain.
-pub fn next_word(line: &[u8], at: usize) -> Word
-    ensures { λ r. ⌜ First (askedFrom (now (line .entry))) (now (line .entry)) at r ⌝ }
-{
-    let mut i = at;
-    loop {
-        let w = word_from(line, i);
-        let a = w.from;
-        let b = w.to;
-        if !is_plain_word(line, a, b) {
-            return w;
-        }
-        i = b;
-    }
 }
 
 // A byte of a text whose words are ended by blanks, as one of a line.

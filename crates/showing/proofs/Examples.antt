@@ -5,8 +5,8 @@ use mathlib.Core.List.{List, [], _∷_, _++_}
 use native.Mathlib.Omega.{arith}
 use Rattle.symbols.specs.Text.{bytes}
 use Rattle.symbols.specs.Names.{blank, letter, digit, inName, these, lettersAt}
-use Rattle.symbols.specs.Scan.{before}
-use Rattle.showing.specs.Pages.{startOf, lineOf, columnOf, Fills, shownByte, shownFrom, goesOn, underByte, under, marksFrom}
+use Rattle.showing.specs.Characters.{two, startsThree, hidden, three, startsFour, four, widthOf, widthAt, begunBefore, inside}
+use Rattle.showing.specs.Pages.{startOf, lineOf, columnOf, Fills, shownByte, shownAt, shownIn, shownFrom, underByte, underIn, marksFrom}
 use Rattle.table.specs.Sections.{rowsAt, nodesAt}
 
 -- ---- places
@@ -27,9 +27,9 @@ abbrev is : ℕ → ℕ → ℕ → Spot
 is l c s = record { line = l; column = c; start = s }
 
 -- the second letter of the second line
-pub inside : at 4 ≡ is 2 2 3
+pub in-line : at 4 ≡ is 2 2 3
 unfolding lineOf columnOf startOf
-inside = refl
+in-line = refl
 
 -- a newline is the last of its line, and the place right behind it is column 1 of the next
 pub on-newline : at 2 ≡ is 1 3 0
@@ -70,12 +70,22 @@ cut = record { counted = refl; stands = refl }
 
 -- a line up to its newline: a carriage return as a blank, a bell as a question mark
 pub line : shownFrom (bytes "a" ++ (7 ∷ bytes "b") ++ (13 ∷ 10 ∷ bytes "c")) 0 ≡ bytes "a?b "
-unfolding shownFrom shownByte before
+unfolding shownFrom shownIn shownAt shownByte inside begunBefore widthAt widthOf four startsFour three hidden startsThree two
 line = refl
 
--- before the mark under the last of a tab, a letter, a letter of two bytes, and a letter
-pub mark : marksFrom (9 ∷ 97 ∷ 195 ∷ 169 ∷ 98 ∷ []) 0 4 ≡ 9 ∷ 32 ∷ 32 ∷ []
-unfolding marksFrom under goesOn underByte
+-- characters of two, three and four bytes stand as they are
+pub characters : shownFrom (194 ∷ 163 ∷ 226 ∷ 130 ∷ 172 ∷ 240 ∷ 157 ∷ 132 ∷ 158 ∷ []) 0 ≡ 194 ∷ 163 ∷ 226 ∷ 130 ∷ 172 ∷ 240 ∷ 157 ∷ 132 ∷ 158 ∷ []
+unfolding shownFrom shownIn shownAt shownByte inside begunBefore widthAt widthOf four startsFour three hidden startsThree two
+characters = refl
+
+-- what controls a terminal or turns the writing round does not: escape, the byte 9B, U+009B, U+202E, U+2066, U+061C, and a character that is cut
+pub unsafe : shownFrom (27 ∷ 155 ∷ 194 ∷ 155 ∷ 226 ∷ 128 ∷ 174 ∷ 226 ∷ 129 ∷ 166 ∷ 216 ∷ 156 ∷ 195 ∷ []) 0 ≡ bytes "?????????????"
+unfolding shownFrom shownIn shownAt shownByte inside begunBefore widthAt widthOf four startsFour three hidden startsThree two
+unsafe = refl
+
+-- before the mark under the last of a tab, a letter, a letter of two bytes, a byte that is none, and a letter
+pub mark : marksFrom (9 ∷ 97 ∷ 195 ∷ 169 ∷ 155 ∷ 98 ∷ []) 0 5 ≡ 9 ∷ 32 ∷ 32 ∷ 32 ∷ []
+unfolding marksFrom underIn underByte inside begunBefore widthAt widthOf four startsFour three hidden startsThree two
 mark = refl
 
 -- ---- sections: one use, no declaration, two nodes

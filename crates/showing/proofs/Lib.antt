@@ -1,3 +1,4 @@
 pub mod Lines
 pub mod Rows
+pub mod Wide
 pub mod Examples

@@ -3,11 +3,11 @@
 use Prim.Native.Nat.{ℕ, zero, suc, _+_, _-_, min}
 use mathlib.Core.Path.{_≡_}
 use mathlib.Core.Bool.{Bool, cond, _&&_, _||_}
-use mathlib.Core.List.{List, [], _∷_, _++_, map}
+use mathlib.Core.List.{List, [], _∷_, _++_}
 use lib.Dec.{eqb, leb, ltb}
 use lib.ListN.{length, getD, take, drop}
 use Rattle.symbols.specs.Names.{inName, reach}
-use Rattle.symbols.specs.Scan.{before}
+use Rattle.showing.specs.Characters.{widthAt, inside}
 use Rattle.grammar.specs.NodeKinds.{n-block, n-block-end, n-procedure, n-procedure-end}
 
 -- ---- lines and columns
@@ -45,26 +45,31 @@ shownByte b = cond (eqb b 9) 9 (cond (eqb b 13) 32 (cond (leb b 31 || eqb b 127)
 unfoldable pub shownStart : ℕ → ℕ → ℕ
 shownStart start place = cond (ltb (place - start) 80) start (place - 60)
 
+-- the byte of a place as it is shown: from 128 on as it stands if it is part of a character that is shown
+unfoldable pub shownAt : List ℕ → ℕ → ℕ
+shownAt source p = cond (leb 128 (getD source p 0)) (cond (inside source p || ltb 1 (widthAt source p)) (getD source p 0) 63) (shownByte (getD source p 0))
+
+-- what is shown of these bytes of a source, the first of which stands at p, up to a newline
+unfoldable pub shownIn : List ℕ → ℕ → List ℕ → List ℕ
+shownIn source p [] = []
+shownIn source p (b ∷ bs) = cond (eqb b 10) [] (shownAt source p ∷ shownIn source (suc p) bs)
+
 -- what is shown of a line from a place on
 unfoldable pub shownFrom : List ℕ → ℕ → List ℕ
-shownFrom source p = map shownByte (before 10 (drop p source))
+shownFrom source p = shownIn source p (drop p source)
 
--- a byte that only goes on with a character: in UTF-8 each but its first
-unfoldable pub goesOn : ℕ → Bool
-goesOn b = leb 128 b && leb b 191
-
--- what stands under any other: a tab under a tab, or else a blank
+-- what stands under a character: a tab under a tab, or else a blank
 unfoldable pub underByte : ℕ → ℕ
 underByte b = cond (eqb b 9) 9 32
 
--- what stands under bytes
-unfoldable pub under : List ℕ → List ℕ
-under [] = []
-under (b ∷ bs) = cond (goesOn b) (under bs) (underByte b ∷ under bs)
+-- what stands under bytes, the first of which stands at p; nothing under one that is inside a character
+unfoldable pub underIn : List ℕ → ℕ → List ℕ → List ℕ
+underIn source p [] = []
+underIn source p (b ∷ bs) = cond (inside source p) (underIn source (suc p) bs) (underByte b ∷ underIn source (suc p) bs)
 
 -- what stands before the mark under a place, below what is shown of its line from p on
 unfoldable pub marksFrom : List ℕ → ℕ → ℕ → List ℕ
-marksFrom source p place = under (take (place - p) (drop p source))
+marksFrom source p place = underIn source p (take (place - p) (drop p source))
 
 -- ---- levels
 

@@ -1,15 +1,24 @@
 // A source as people see it: lines and columns, a line with a mark under a place, the letters of a name. And what is
 // printed: to standard output what was asked for, to standard error what was wrong with the asking.
+use crate::characters::beginning;
+use crate::characters::is_inside;
+use crate::characters::whole;
+use crate::characters::width;
+use crate::taken::put;
+use crate::taken::put_number;
 use libc::STDERR_FILENO;
 use libc::STDOUT_FILENO;
 use symbols::text::find;
 use symbols::text::is_blank;
 use symbols::text::is_name_byte;
+use symbols::text::same_bytes;
 ghost use mathlib.Core.Path.{_≡_};
 ghost use mathlib.Core.Bool.{cond};
-ghost use Prim.Native.Nat.{_≤_, min};
+ghost use Prim.Native.Nat.{_<_, _≤_, min};
+ghost use lib.ListN.{length, getD};
 ghost use Rattle.io.specs.Counts.{Counts};
-ghost use Rattle.showing.specs.Pages.{lineOf, columnOf, startOf, Fills, shownByte, shownStart, shownFrom, goesOn, underByte, marksFrom};
+ghost use Rattle.showing.specs.Characters.{inside};
+ghost use Rattle.showing.specs.Pages.{lineOf, columnOf, startOf, Fills, shownByte, shownStart, shownAt, shownFrom, underByte, marksFrom};
 ghost use Rattle.symbols.specs.Names.{lettersAt};
 
 // No source is longer than the room that it is read into.
@@ -23,11 +32,11 @@ const BEFORE: usize = 60;
 
 // A text to a descriptor: a refusal is said to standard output where it was asked for, and to standard error where a page was.
 pub fn tell(to: i32, text: &[u8]) {
-    io::write_all(to, text);
+    put(to, text);
 }
 
 pub fn tell_number(to: i32, n: u64) {
-    io::print_decimal(to, n);
+    put_number(to, n);
 }
 
 pub fn say(text: &[u8]) {
@@ -50,6 +59,29 @@ pub fn say_whole(x: i64) {
 
 pub fn complain(text: &[u8]) {
     tell(STDERR_FILENO, text);
+}
+
+// A text that somebody typed, byte by byte as it is shown.
+pub fn tell_typed(to: i32, text: &[u8]) {
+    let mut i: usize = 0;
+    while i < text.len() {
+        let row = [shown_at(text, i)];
+        tell(to, &row);
+        i += 1;
+    }
+}
+
+// A file, as people know it.
+pub fn tell_file(to: i32, name: &[u8]) {
+    if same_bytes(name, b"-") {
+        tell(to, b"standard input");
+    } else {
+        tell_typed(to, name);
+    }
+}
+
+pub fn say_file(name: &[u8]) {
+    tell_file(STDOUT_FILENO, name);
 }
 
 // The least of two.
@@ -131,6 +163,24 @@ fn shown(b: u8) -> u8
     }
 }
 
+// The byte of a place as it is shown: from 128 on as it stands if it is part of a character that is shown.
+fn shown_at(source: &[u8], i: usize) -> u8
+    requires { ⌜ i < length (now source) ⌝ }
+    ensures { λ r. ⌜ r ≡ shownAt (now (source .entry)) i ⌝ }
+{
+    let b = source[i];
+    if b < 128 {
+        return shown(b);
+    }
+    if is_inside(source, i) {
+        return b;
+    }
+    if 1 < width(source, i) {
+        return b;
+    }
+    63
+}
+
 // The bytes of a line from a place on, as many as the row takes; gives how many.
 fn line_row(source: &[u8], from: usize, row: &mut [u8]) -> usize
     ensures { λ r. ⌜ Fills (shownFrom (now (source .entry)) from) (now (row .entry)) (now (row .exit)) r ⌝ }
@@ -145,23 +195,25 @@ fn line_row(source: &[u8], from: usize, row: &mut [u8]) -> usize
         if source[i] == b'\n' {
             return n;
         }
-        row[n] = shown(source[i]);
+        row[n] = shown_at(source, i);
         n += 1;
         i += 1;
     }
     n
 }
 
-// What stands under a byte before the mark: a tab under a tab, a blank under anything else, and nothing under a byte
-// that only goes on with a character.
-fn under(b: u8) -> u8
-    ensures { λ r. ⌜ r ≡ cond (goesOn b) 0 (underByte b) ⌝ }
+// What stands under a place before the mark: a tab under a tab, a blank under anything else, and nothing inside a character.
+fn under(source: &[u8], i: usize) -> u8
+    requires { ⌜ i < length (now source) ⌝ }
+    ensures { λ r. ⌜ r ≡ cond (inside (now (source .entry)) i) 0 (underByte (getD (now (source .entry)) i 0)) ⌝ }
 {
-    match b {
-        9 => 9,
-        128..=191 => 0,
-        _ => 32,
+    if is_inside(source, i) {
+        return 0;
     }
+    if source[i] == 9 {
+        return 9;
+    }
+    32
 }
 
 // What stands before the mark, as many bytes as the row takes; gives how many.
@@ -178,7 +230,7 @@ fn mark_row(source: &[u8], from: usize, place: usize, row: &mut [u8]) -> usize
         if row.len() <= n {
             return n;
         }
-        let b = under(source[i]);
+        let b = under(source, i);
         if b != 0 {
             row[n] = b;
             n += 1;
@@ -191,7 +243,8 @@ fn mark_row(source: &[u8], from: usize, place: usize, row: &mut [u8]) -> usize
 fn tell_line(to: i32, source: &[u8], from: usize) {
     let mut row = [0u8; 100];
     let n = line_row(source, from, &mut row);
-    tell(to, &row[..n]);
+    let k = whole(source, from, n);
+    tell(to, &row[..k]);
     tell(to, b"\n");
 }
 
@@ -207,7 +260,7 @@ fn tell_mark(to: i32, source: &[u8], from: usize, place: usize) {
 pub fn tell_place(to: i32, source: &[u8], place: usize) {
     let s = spot_of(source, place);
     let start = s.start;
-    let from = shown_from(start, place);
+    let from = beginning(source, shown_from(start, place));
     if start < from {
         tell(to, b" .. ");
     } else {

@@ -1,8 +1,7 @@
 // Paper 01's words for its numbered answers, in one sentence each. Where a number has several cases, what stands at the
 // place tells which ones it can be.
-use crate::text::say;
-use crate::text::say_number;
 use crate::text::tell;
+use crate::text::tell_file;
 use crate::text::tell_number;
 use crate::text::tell_place;
 use crate::text::tell_spot;
@@ -237,7 +236,7 @@ pub fn say_answer(number: u16, source: &[u8], place: usize) {
 // An answer as people want it: file, line and column, how it was given, number, sentence, and the line with a mark under
 // the place.
 pub fn tell_answer(to: i32, name: &[u8], source: &[u8], how: &[u8], number: u16, place: usize) {
-    tell(to, name);
+    tell_file(to, name);
     tell(to, b":");
     tell_spot(to, source, place);
     tell(to, how);
@@ -253,11 +252,11 @@ pub fn show_answer(name: &[u8], source: &[u8], how: &[u8], number: u16, place: u
 }
 
 // A run's answer that has no place in the source.
-pub fn show_placeless(name: &[u8], how: &[u8], number: u16) {
-    say(name);
-    say(how);
-    say_number(number as u64);
-    say(b": ");
-    tell_run(STDOUT_FILENO, number);
-    say(b"\n");
+pub fn tell_placeless(to: i32, name: &[u8], how: &[u8], number: u16) {
+    tell_file(to, name);
+    tell(to, how);
+    tell_number(to, number as u64);
+    tell(to, b": ");
+    tell_run(to, number);
+    tell(to, b"\n");
 }

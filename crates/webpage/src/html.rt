@@ -1,4 +1,5 @@
 // Bytes as HTML shows them. Any byte has its own look: what is no text is shown as its two hexadecimal digits.
+use showing::characters::width;
 use showing::text::least;
 use showing::text::say;
 ghost use Prim.Native.Nat.{_<_, _≤_, _-_, max};
@@ -30,6 +31,8 @@ a { color: #00449e; text-decoration: none; border-bottom: 1px dotted }
 a[href^=\"#e\"] { color: #6b3d00 }
 b { border-bottom: 2px solid #00449e }
 sub { font: bold 10px/0 sans-serif; color: #a00; vertical-align: -.4em; margin-left: 1px }
+sub::before { content: attr(data-n) }
+.page .n, .page .v, .page .r { user-select: none }
 .x { font-size: 80%; border: 1px solid #888; padding: 0 2px; margin: 0 1px }
 mark { background: #ffd2d2; color: #000; outline: 2px solid #a00 }
 :target { background: #ffe680 }
@@ -45,69 +48,6 @@ mark { background: #ffd2d2; color: #000; outline: 2px solid #a00 }
 
 pub fn end() {
     say(b"</body>\n</html>\n");
-}
-
-// The byte k behind a place; 0 behind the end, which goes on with no character.
-fn byte_at(text: &[u8], at: usize, k: usize) -> u8
-    requires { ⌜ at < length (now text) ⌝ }
-{
-    if k < text.len() - at { text[at + k] } else { 0 }
-}
-
-// How many bytes a character has in UTF-8 that begins with this one.
-fn size(a: u8) -> usize
-    ensures { λ r. ⌜ (0 < r) × (r < 5) ⌝ }
-{
-    match a {
-        194..=223 => 2,
-        224..=239 => 3,
-        240..=244 => 4,
-        _ => 1,
-    }
-}
-
-fn between(b: u8, low: u8, high: u8) -> bool {
-    low <= b && b <= high
-}
-
-// Whether a second byte goes on with it.
-fn goes_on(a: u8, b: u8) -> bool {
-    match a {
-        194 | 224 => between(b, 160, 191),
-        237 => between(b, 128, 159),
-        240 => between(b, 144, 191),
-        244 => between(b, 128, 143),
-        _ => between(b, 128, 191),
-    }
-}
-
-// Characters that show nothing or turn the writing round: a page shows their bytes.
-fn hides(a: u8, b: u8, c: u8) -> bool {
-    if a == 226 && b == 128 {
-        return between(c, 139, 143) || between(c, 168, 174);
-    }
-    if a == 226 && b == 129 {
-        return between(c, 160, 175);
-    }
-    a == 239 && b == 187 && c == 191
-}
-
-// How many bytes of a text are shown together from a place on: a character, or one byte.
-fn width(text: &[u8], at: usize) -> usize
-    requires { ⌜ at < length (now text) ⌝ }
-    ensures { λ r. ⌜ (0 < r) × (r < 5) ⌝ }
-{
-    let a = byte_at(text, at, 0);
-    let b = byte_at(text, at, 1);
-    let c = byte_at(text, at, 2);
-    let n = size(a);
-    if !goes_on(a, b) || hides(a, b, c) || 2 < n && !between(c, 128, 191) {
-        return 1;
-    }
-    if 3 < n && !between(byte_at(text, at, 3), 128, 191) {
-        return 1;
-    }
-    n
 }
 
 fn digit(d: u8) -> u8

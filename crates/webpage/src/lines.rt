@@ -63,13 +63,13 @@ fn close_tag(look: u32) {
     );
 }
 
-// The number of the declaration that a name means, behind the name.
+// The number of the declaration that a name means, behind the name. The browser makes its figures, so that who copies the program copies none.
 fn say_sub(look: u32) {
     match looks::style_of(look) {
         looks::DECLARED | looks::USE | looks::LISTED => {
-            say(b"<sub>");
+            say(b"<sub data-n=\"");
             say_number(looks::about_of(look));
-            say(b"</sub>");
+            say(b"\"></sub>");
         }
         _ => {}
     }

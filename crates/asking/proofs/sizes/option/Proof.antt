@@ -5,7 +5,7 @@ use Prim.Native.Nat.{_-_}
 use native.Mathlib.Omega.{arith}
 use lib.ListN.{length}
 use borrow.Author.Needs.{needs}
-use Rattle.asking.specs.Words.{askedFrom}
+use Rattle.asking.specs.Sorts.{askedFrom}
 use Rattle.asking.specs.Options.{optionOf}
 use Rattle.asking.proofs.Choices.{option-none, option-here, option-later, option-nothing}
 use Rattle.asking.proofs.sizes.option.Statement.{statement}

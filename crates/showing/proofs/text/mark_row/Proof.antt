@@ -2,6 +2,7 @@
 -- Assumes nothing.
 use Prim.Native.Nat.{ℕ, suc, _+_, _-_, _≤_, _<_}
 use native.Mathlib.Omega.{arith}
+use native.Mathlib.Numerals.{add-one}
 use mathlib.Core.Path.{_≡_, refl, sym, ap, _∙_}
 use mathlib.Core.Bool.{Bool, true, false, cond}
 use mathlib.Core.List.{List, [], _∷_}
@@ -10,10 +11,11 @@ use lib.Dec.{eqb}
 use lib.ListN.{length, getD, take, drop, drop-of-length-le}
 use lib.Seq.{take-nil}
 use Rattle.io.proofs.Counting.{counts}
-use borrow.Author.Needs.{needs}
 use Rattle.symbols.proofs.Laws.{peel}
-use Rattle.showing.specs.Pages.{goesOn, underByte, under, marksFrom}
+use Rattle.showing.specs.Characters.{inside}
+use Rattle.showing.specs.Pages.{underByte, underIn, marksFrom}
 use Rattle.showing.proofs.Rows.{Filled, first, full, ended, passed, put}
+use borrow.Author.Needs.{needs}
 use Rattle.showing.proofs.text.mark_row.Statement.{statement}
 use Rattle.showing.proofs.text.mark_row.Tie as tie
 
@@ -37,25 +39,23 @@ nothing false x r l p e n = absurd (p (sym e ∙ n))
 
 module _ (s : List ℕ) (i place : ℕ) where
   marks-stop : place ≤ i → marksFrom s i place ≡ []
-  unfolding marksFrom under
+  unfolding marksFrom underIn
   marks-stop h = let z : place - i ≡ 0 = omega arith in rw z
 
   marks-end : length s ≤ i → marksFrom s i place ≡ []
-  unfolding marksFrom under
+  unfolding marksFrom underIn
   marks-end h = rw (drop-of-length-le s h, take-nil)
 
   module _ (h : i < length s) (k : i < place) where
-    next : marksFrom s i place ≡ under (getD s i 0 ∷ take (place - (i + 1)) (drop (i + 1) s))
-    unfolding marksFrom
-    next = let z : place - i ≡ suc (place - (i + 1)) = omega arith in rw (z, peel s i h)
+    next : marksFrom s i place ≡ cond (inside s i) (marksFrom s (i + 1) place) (underByte (getD s i 0) ∷ marksFrom s (i + 1) place)
+    unfolding marksFrom underIn
+    next = let z : place - i ≡ suc (place - (i + 1)) = omega arith in rw (z, peel s i h, add-one i)
 
-    marks-on : (r : ℕ) → r ≡ cond (goesOn (getD s i 0)) 0 (underByte (getD s i 0)) → (r ≡ 0 → ⊥) → marksFrom s i place ≡ r ∷ marksFrom s (i + 1) place
-    unfolding marksFrom under
-    marks-on r e n = next ∙ one (goesOn (getD s i 0)) (underByte (getD s i 0)) r (marksFrom s (i + 1) place) e n
+    marks-on : (r : ℕ) → r ≡ cond (inside s i) 0 (underByte (getD s i 0)) → (r ≡ 0 → ⊥) → marksFrom s i place ≡ r ∷ marksFrom s (i + 1) place
+    marks-on r e n = next ∙ one (inside s i) (underByte (getD s i 0)) r (marksFrom s (i + 1) place) e n
 
-    marks-pass : (r : ℕ) → r ≡ cond (goesOn (getD s i 0)) 0 (underByte (getD s i 0)) → r ≡ 0 → marksFrom s i place ≡ marksFrom s (i + 1) place
-    unfolding marksFrom under
-    marks-pass r e n = next ∙ nothing (goesOn (getD s i 0)) (underByte (getD s i 0)) r (marksFrom s (i + 1) place) (stands (getD s i 0)) e n
+    marks-pass : (r : ℕ) → r ≡ cond (inside s i) 0 (underByte (getD s i 0)) → r ≡ 0 → marksFrom s i place ≡ marksFrom s (i + 1) place
+    marks-pass r e n = next ∙ nothing (inside s i) (underByte (getD s i 0)) r (marksFrom s (i + 1) place) (stands (getD s i 0)) e n
 
 -- ---- the answers
 
@@ -70,30 +70,30 @@ loop-holds c = first _ _
 
 returns : tie.Need-returns Inv-loop μ-loop
 returns c =
-    let a = c .before .before .before .before .before .args in
-    let l = c .before .before .loop in
-    (ended (l .inv) (marks-end (a .source .now) (l .i) (a .place) (c .if1 .taken)), counts _ _ (search needs))
+    let a = (c .before .before .before .before .before .args) in
+    let l = (c .before .before .loop) in
+    (ended (l .inv) (marks-end (a .source .now) (l .i) (a .place) ((c .if1) .taken)), counts _ _ (search needs))
 
 returns-2 : tie.Need-returns-2 Inv-loop μ-loop
-returns-2 c = (full (c .before .before .before .loop .inv) (c .if2 .taken), counts _ _ (search needs))
+returns-2 c = (full ((c .before .before .before .loop) .inv) ((c .if2) .taken), counts _ _ (search needs))
 
 loop-again : tie.Need-loop-again Inv-loop μ-loop
 loop-again c =
-    let a = c .before .before .before .before .before .before .before .before .before .args in
-    let l = c .before .before .before .before .before .before .loop in
-    let h = c .before .before .before .before .if1 .left in
-    let k = c .before .before .before .before .before .loop-test .taken in
-    let u = c .before .under in
+    let a = (c .before .before .before .before .before .before .before .before .args) in
+    let l = (c .before .before .before .before .before .loop) in
+    let h = (c .before .before .before .if1) .left in
+    let k = (c .before .before .before .before .loop-test) .taken in
+    let u = (c .before .under) in
     ⊎-elim
-    (λ w. rw (w .1, w .2) (put (l .inv) (u .result) _ (marks-on (a .source .now) (l .i) (a .place) h k (u .result) (u .ensures) (w .0 .taken)) (c .before .before .before .if2 .left)))
+    (λ w. rw (w .1, w .2) (put (l .inv) (u .result) _ (marks-on (a .source .now) (l .i) (a .place) h k (u .result) (u .ensures) (w .0 .taken)) ((c .before .before .if2) .left)))
     (λ w. rw (w .1, w .2) (passed (l .inv) _ (marks-pass (a .source .now) (l .i) (a .place) h k (u .result) (u .ensures) (w .0 .left))))
-    (c .if3 .came)
+    ((c .if3) .came)
 
 returns-3 : tie.Need-returns-3 Inv-loop μ-loop
 returns-3 c =
-    let a = c .before .before .before .before .args in
-    let l = c .before .loop in
-    (ended (l .inv) (marks-stop (a .source .now) (l .i) (a .place) (c .loop-test .left)), counts _ _ (search needs))
+    let a = (c .before .before .before .before .args) in
+    let l = (c .before .loop) in
+    (ended (l .inv) (marks-stop (a .source .now) (l .i) (a .place) ((c .loop-test) .left)), counts _ _ (search needs))
 
 pub mark-row-spec : {M : Type 1} → statement M
 mark-row-spec =
@@ -106,7 +106,6 @@ mark-row-spec =
     returns
     (λ c. search needs)
     returns-2
-    (λ c. search needs)
     (λ c κs. search needs)
     (λ c. search needs)
     (λ c. search needs)

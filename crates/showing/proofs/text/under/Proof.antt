@@ -1,32 +1,30 @@
--- `showing::text::under` meets its contract. Each arm has told the byte: a tab, one that goes on, one below those and one above.
+-- `showing::text::under` meets its contract. The place is inside a character, or a tab stands there, or anything else.
 -- Assumes nothing.
-use native.Mathlib.Omega.{arith}
-use borrow.Author.Tests.{ne-eqb, le-leb, lt-leb}
-use Rattle.showing.specs.Pages.{goesOn, underByte}
+use mathlib.Core.Path.{sym, _∙_}
+use borrow.Author.Tests.{eq-eqb, ne-eqb}
+use Rattle.showing.specs.Pages.{underByte}
+use borrow.Author.Needs.{needs}
 use Rattle.showing.proofs.text.under.Statement.{statement}
 use Rattle.showing.proofs.text.under.Tie as tie
 
 returns : tie.Need-returns
-unfolding goesOn underByte
-returns c = simp (c .match .keys1)
+unfolding underByte
+returns c = simp (sym ((c .before .is-inside) .ensures) ∙ (c .if1) .taken)
 
 returns-2 : tie.Need-returns-2
-unfolding goesOn underByte
-returns-2 c =
-    let b = c .before .before .before .args .b in
-    simp (le-leb 128 b (c .before .if1 .left), le-leb b 191 (omega (arith, c .if2 .taken)))
+unfolding underByte
+returns-2 c = simp (sym ((c .before .before .before .is-inside) .ensures) ∙ (c .before .before .if1) .left, eq-eqb _ _ ((c .if2) .taken))
 
 returns-3 : tie.Need-returns-3
-unfolding goesOn underByte
-returns-3 c =
-    let b = c .before .before .args .b in
-    simp (lt-leb 128 b (c .if1 .taken), ne-eqb b 9 (c .before .match .rest .1))
-
-returns-4 : tie.Need-returns-4
-unfolding goesOn underByte
-returns-4 c =
-    let b = c .before .before .before .args .b in
-    simp (le-leb 128 b (c .before .if1 .left), lt-leb b 191 (omega (arith, c .if2 .left)), ne-eqb b 9 (c .before .before .match .rest .1))
+unfolding underByte
+returns-3 c = simp (sym ((c .before .before .before .is-inside) .ensures) ∙ (c .before .before .if1) .left, ne-eqb _ _ ((c .if2) .left))
 
 pub under-spec : {M : Type 1} → statement M
-under-spec = tie.close (tie.spec returns returns-2 returns-3 returns-4)
+under-spec =
+    tie.close
+    (tie.spec
+    (λ c κs. search needs)
+    returns
+    (λ c. search needs)
+    returns-2
+    returns-3)
