@@ -1,237 +1,159 @@
--- Laws of Commands: what a line's words decide, by where its next word stands. Each return of the functions that obey a line is one of them; what the
--- last arm of a match tells is that the job is one of those left.
+-- Laws of Commands: what a line's words decide, by what the functions that look at them tell. The row that is found stands in its line as the definition
+-- has it; a command that has none has no row.
 use mathlib.Core.Path.{_≡_, refl, sym, ap, _∙_}
-use mathlib.Core.Bool.{Bool, true, false, and-false, false≢true}
-use mathlib.Core.List.{List, [], _∷_}
-use mathlib.Core.Logic.{_⊎_, ⊎-elim}
+use mathlib.Core.Bool.{Bool, true, false, cond}
+use mathlib.Core.List.{List, [], _∷_, map}
+use mathlib.Core.Option.{Option, some}
 use Prim.Native.Nat.{ℕ, _≤_, _<_}
 use native.Mathlib.Omega.{arith}
 use lib.Dec.{leb}
+use lib.ListN.{length, take, drop, length-map}
+use lib.Seq.{length-take-le, take-all, take-at}
 use borrow.Author.Tests.{leb-true, leb-false}
-use types.Run.{OneOf, miss}
-use denote.Enum.Declared.{tagOf}
-use Rattle.symbols.specs.Text.{bytes}
 use Rattle.symbols.specs.Names.{equal}
-use Rattle.asking.specs.Jobs.{jobIn, jobOf}
-use Rattle.asking.specs.Words.{askedFrom, part, isPart, First}
-use Rattle.asking.specs.Options.{sizesOf, pastOptions}
+use Rattle.symbols.specs.Scan.{before}
+use Rattle.asking.specs.Words.{wordsOf, part, unblanked, First, LineOf}
+use Rattle.asking.specs.Sorts.{isNamed, those, asked, askedFrom}
+use Rattle.asking.specs.Table.{firstRow, rowIn, rowOf}
 use Rattle.asking.specs.declared.words.Word.{Word}
-use Rattle.asking.specs.declared.jobs.Job.{Job}
-use Rattle.asking.specs.declared.jobs.Job.the-variants.{Read, Uses, List as Section, Levels, Page, Code, Write, Check, Run, Help, Other}
-use Rattle.asking.specs.declared.sizes.Sizes.{Sizes}
-use Rattle.asking.specs.declared.sizes.Asked.{Asked}
-use Rattle.asking.specs.declared.sizes.Asked.the-variants.{Are, Not}
-use Rattle.asking.proofs.jobs.Job.{the-type}
+use Rattle.asking.specs.declared.sorts.Sort.{Sort}
 use Rattle.asking.proofs.Choices.{part-empty}
-use Rattle.asking.proofs.Lines.{part-here}
 use Rattle.deed.specs.Status.{good, nothing}
-use Rattle.deed.specs.Commands.{oneFile, fileAndList, aRun, takesPlain, shown, aUse, byJob, decided, Keeps}
+use Rattle.deed.specs.Commands.{isNone, helps, rowLine, settled, wellAsked, byRow, commanded, decided, Keeps}
 
--- ---- the tags of jobs
+-- ---- words of a sort
 
-pub plain-taken : (j : Job) → OneOf (0 ∷ 1 ∷ 6 ∷ 7 ∷ 8 ∷ []) (tagOf the-type j) → true ≡ takesPlain j
-plain-taken Read h = refl
-plain-taken Uses h = refl
-plain-taken Section h = absurd (miss (0 ∷ 1 ∷ 6 ∷ 7 ∷ 8 ∷ []) 2 tt h)
-plain-taken Levels h = absurd (miss (0 ∷ 1 ∷ 6 ∷ 7 ∷ 8 ∷ []) 3 tt h)
-plain-taken Page h = absurd (miss (0 ∷ 1 ∷ 6 ∷ 7 ∷ 8 ∷ []) 4 tt h)
-plain-taken Code h = absurd (miss (0 ∷ 1 ∷ 6 ∷ 7 ∷ 8 ∷ []) 5 tt h)
-plain-taken Write h = refl
-plain-taken Check h = refl
-plain-taken Run h = refl
-plain-taken Help h = absurd (miss (0 ∷ 1 ∷ 6 ∷ 7 ∷ 8 ∷ []) 9 tt h)
-plain-taken Other h = absurd (miss (0 ∷ 1 ∷ 6 ∷ 7 ∷ 8 ∷ []) 10 tt h)
+module _ (q : Sort) (arg line : List ℕ) (w : Word) (h : First (λ (p : ℕ). those q arg (wordsOf (drop p line))) line 0 w) where
+  pub some-found : w .from < w .to → isNone (those q arg (wordsOf line)) ≡ false
+  some-found l = ap isNone (h .first l)
 
-pub plain-refused : (j : Job) → OneOf (2 ∷ 3 ∷ 4 ∷ 5 ∷ 9 ∷ 10 ∷ []) (tagOf the-type j) → false ≡ takesPlain j
-plain-refused Read h = absurd (miss (2 ∷ 3 ∷ 4 ∷ 5 ∷ 9 ∷ 10 ∷ []) 0 tt h)
-plain-refused Uses h = absurd (miss (2 ∷ 3 ∷ 4 ∷ 5 ∷ 9 ∷ 10 ∷ []) 1 tt h)
-plain-refused Section h = refl
-plain-refused Levels h = refl
-plain-refused Page h = refl
-plain-refused Code h = refl
-plain-refused Write h = absurd (miss (2 ∷ 3 ∷ 4 ∷ 5 ∷ 9 ∷ 10 ∷ []) 6 tt h)
-plain-refused Check h = absurd (miss (2 ∷ 3 ∷ 4 ∷ 5 ∷ 9 ∷ 10 ∷ []) 7 tt h)
-plain-refused Run h = absurd (miss (2 ∷ 3 ∷ 4 ∷ 5 ∷ 9 ∷ 10 ∷ []) 8 tt h)
-plain-refused Help h = refl
-plain-refused Other h = refl
+  pub none-found : w .to ≤ w .from → isNone (those q arg (wordsOf line)) ≡ true
+  none-found l = let e : w .from ≡ w .to = omega (arith, h .ordered) in ap isNone (h .none e)
 
--- ---- one file
+-- ---- a row in its line
 
--- a word that is not empty
-stands : (w : Word) → w .from ≤ w .to → (w .from ≡ w .to → ⊥) → w .from < w .to
-stands w o there = go (leb (w .to) (w .from)) refl
-  where
-    go : (t : Bool) → leb (w .to) (w .from) ≡ t → w .from < w .to
-    go true e = let l = leb-true (w .to) (w .from) e in absurd (there (omega arith))
-    go false e = leb-false (w .to) (w .from) e
+length-none : {A : Type 0} (l : List A) → length l ≡ 0 → l ≡ []
+length-none [] e = refl
+length-none (b ∷ l) e = absurd (omega arith)
 
-module _ (line : List ℕ) (at : ℕ) (w : Word) (h : First (askedFrom line) line at w) where
-  pub file-missing : w .from ≡ w .to → Keeps (oneFile (askedFrom line at)) nothing
-  unfolding oneFile
-  file-missing e = rw (h .none e) refl
-
-  module _ (there : w .from ≡ w .to → ⊥) (v : Word) (k : First (askedFrom line) line (w .to) v) where
-    pub one-too-many : v .from < v .to → Keeps (oneFile (askedFrom line at)) nothing
-    unfolding oneFile
-    one-too-many l = rw (h .first (stands w (h .ordered) there), k .first l) refl
-
-    pub one-file : v .to ≤ v .from → (s : ℕ) → s ≤ nothing → Keeps (oneFile (askedFrom line at)) s
-    unfolding oneFile
-    one-file l s b = let e : v .from ≡ v .to = omega (arith, k .ordered) in rw (h .first (stands w (h .ordered) there), k .none e) b
-
--- ---- a file and a list
-
-module _ (line : List ℕ) (at : ℕ) (w : Word) (h : First (askedFrom line) line at w) where
-  pub checked-missing : w .from ≡ w .to → Keeps (fileAndList (askedFrom line at)) nothing
-  unfolding fileAndList
-  checked-missing e = rw (h .none e) refl
-
-  module _ (there : w .from ≡ w .to → ⊥) (v : Word) (k : First (askedFrom line) line (w .to) v) where
-    pub list-missing : v .from ≡ v .to → Keeps (fileAndList (askedFrom line at)) nothing
-    unfolding fileAndList
-    list-missing e = rw (h .first (stands w (h .ordered) there), k .none e) refl
-
-    module _ (there₂ : v .from ≡ v .to → ⊥) (u : Word) (i : First (askedFrom line) line (v .to) u) where
-      pub list-and-more : u .from < u .to → Keeps (fileAndList (askedFrom line at)) nothing
-      unfolding fileAndList
-      list-and-more l = rw (h .first (stands w (h .ordered) there), k .first (stands v (k .ordered) there₂), i .first l) refl
-
-      pub file-and-list : u .to ≤ u .from → (s : ℕ) → s ≤ nothing → Keeps (fileAndList (askedFrom line at)) s
-      unfolding fileAndList
-      file-and-list l s b =
-          let e : u .from ≡ u .to = omega (arith, i .ordered) in
-          rw (h .first (stands w (h .ordered) there), k .first (stands v (k .ordered) there₂), i .none e) b
-
--- ---- a run
-
-pub sizes-wrong : (a : Asked) (ws : List (List ℕ)) → a ≡ Not → Keeps (aRun a ws) nothing
-unfolding aRun
-sizes-wrong a ws e = rw e refl
-
-module _ (line : List ℕ) (p : ℕ) (w : Word) (h : First (askedFrom line) line p w) (a : Asked) (z : Sizes) (sized : a ≡ Are z) (ws : List (List ℕ)) (behind : askedFrom line p ≡ ws) where
-  pub run-missing : w .from ≡ w .to → Keeps (aRun a ws) nothing
-  unfolding aRun
-  run-missing e = rw (sized, sym behind ∙ h .none e) refl
-
-  pub run-file : (w .from ≡ w .to → ⊥) → (s : ℕ) → s ≤ nothing → Keeps (aRun a ws) s
-  unfolding aRun
-  run-file there s b = rw (sized, sym behind ∙ h .first (stands w (h .ordered) there)) b
-
--- ---- a job that shows a source
-
-module _ (plain : Bool) (j : Job) (ws : List (List ℕ)) where
-  pub plain-misused : plain ≡ true → takesPlain j ≡ false → Keeps (shown plain j ws) nothing
-  unfolding shown
-  plain-misused p t = rw (p, t) refl
-
-  pub shows-file : (plain ≡ false) ⊎ (takesPlain j ≡ true) → (s : ℕ) → Keeps (oneFile ws) s → Keeps (shown plain j ws) s
-  unfolding shown
-  shows-file o s k = ⊎-elim (λ p. unplain p) (λ t. taken t) o
+module _ (w row row′ : List ℕ) (n : ℕ) (h : LineOf (rowOf w) row n row′) (room : length row ≡ 256) where
+  pub row-stands : take n row′ ≡ rowLine w
+  unfolding rowLine
+  row-stands =
+      let m = map unblanked (rowOf w) in
+      let k : n ≤ length m = omega (arith, h .many, length-map (rowOf w) unblanked) in
+      ap (take n) (h .holds) ∙ take-at (take n m) (drop n row) n (length-take-le n m k) ∙ cut (leb (length m) 256) refl
     where
-      unplain : plain ≡ false → Keeps (shown plain j ws) s
-      unplain p = rw p k
+      cut : (t : Bool) → leb (length (map unblanked (rowOf w))) 256 ≡ t → take n (map unblanked (rowOf w)) ≡ take 256 (map unblanked (rowOf w))
+      cut true e =
+          let m = map unblanked (rowOf w) in
+          let l = leb-true (length m) 256 e in
+          let k : length m ≤ n = omega (arith, h .many, length-map (rowOf w) unblanked) in
+          take-all n m k ∙ sym (take-all 256 m l)
+      cut false e =
+          let m = map unblanked (rowOf w) in
+          let l = leb-false (length m) 256 e in
+          let k : n ≡ 256 = omega (arith, h .many, length-map (rowOf w) unblanked) in
+          ap (λ (x : ℕ). take x m) k
 
-      taken : takesPlain j ≡ true → Keeps (shown plain j ws) s
-      taken t = rw (t, and-false) k
+  pub no-row : n ≡ 0 → rowLine w ≡ []
+  no-row e = sym row-stands ∙ ap (λ (x : ℕ). take x row′) e
 
--- the uses of one: --list stands first, or it does not
-
-no-option : equal [] (bytes "--list") ≡ false
-unfolding equal
-no-option = refl
-
-module _ (plain : Bool) where
-  use-none : aUse plain [] ≡ shown plain Uses []
-  unfolding aUse
-  use-none = refl
-
-  use-other : (w : List ℕ) (ws : List (List ℕ)) → equal w (bytes "--list") ≡ false → aUse plain (w ∷ ws) ≡ shown plain Uses (w ∷ ws)
-  unfolding aUse
-  use-other w ws e = rw e
-
-module _ (plain : Bool) (line : List ℕ) (at : ℕ) (w : Word) (h : First (askedFrom line) line at w) where
-  is-it : isPart line (w .from) (w .to) (bytes "--list") ≡ equal (part line (w .from) (w .to)) (bytes "--list")
-  is-it = part-here line (w .from) (w .to) (bytes "--list") (h .ordered) (h .inside)
-
-  list-stands : isPart line (w .from) (w .to) (bytes "--list") ≡ true → w .from < w .to
-  list-stands e = go (leb (w .to) (w .from)) refl
+  pub row-long : (n ≡ 0 → ⊥) → 0 < length (rowLine w)
+  row-long e =
+      let k : n ≤ length row′ = h .inside in
+      let l : length (take n row′) ≡ n = length-take-le n row′ k in
+      let m : length (rowLine w) ≡ n = ap length (sym row-stands) ∙ l in
+      positive m
     where
-      go : (t : Bool) → leb (w .to) (w .from) ≡ t → w .from < w .to
-      go true b = absurd (false≢true (sym no-option ∙ ap (λ (p : List ℕ). equal p (bytes "--list")) (sym (part-empty line (w .from) (w .to) (leb-true (w .to) (w .from) b))) ∙ sym is-it ∙ e))
-      go false b = leb-false (w .to) (w .from) b
+      positive : length (rowLine w) ≡ n → 0 < length (rowLine w)
+      positive m = go (length (rowLine w)) m
+        where
+          go : (x : ℕ) → x ≡ n → 0 < x
+          go x m = go₂ (leb x 0) refl
+            where
+              go₂ : (t : Bool) → leb x 0 ≡ t → 0 < x
+              go₂ true b = let l = leb-true x 0 b in absurd (e (omega arith))
+              go₂ false b = leb-false x 0 b
 
-  pub list-asked : isPart line (w .from) (w .to) (bytes "--list") ≡ true → (s : ℕ) → Keeps (shown plain Section (askedFrom line (w .to))) s
-      → Keeps (aUse plain (askedFrom line at)) s
-  unfolding aUse
-  list-asked e s k = rw (h .first (list-stands e), sym is-it ∙ e) k
-
-  no-list : isPart line (w .from) (w .to) (bytes "--list") ≡ false → aUse plain (askedFrom line at) ≡ shown plain Uses (askedFrom line at)
-  no-list e = go (leb (w .to) (w .from)) refl
-    where
-      go : (t : Bool) → leb (w .to) (w .from) ≡ t → aUse plain (askedFrom line at) ≡ shown plain Uses (askedFrom line at)
-      go true b =
-          let l = leb-true (w .to) (w .from) b in
-          let o : w .from ≡ w .to = omega (arith, h .ordered) in
-          rw (h .none o) (use-none plain)
-      go false b = rw (h .first (leb-false (w .to) (w .from) b)) (use-other plain (part line (w .from) (w .to)) (askedFrom line (w .to)) (sym is-it ∙ e))
-
-  pub uses-asked : isPart line (w .from) (w .to) (bytes "--list") ≡ false → (s : ℕ) → Keeps (shown plain Uses (askedFrom line at)) s
-      → Keeps (aUse plain (askedFrom line at)) s
-  uses-asked e s k = rw (no-list e) k
+-- the word that is none has no row
+no-word : rowOf [] ≡ []
+unfolding rowOf rowIn firstRow those isNamed before equal
+no-word = refl
 
 -- ---- a line
 
--- no word asks for no job
-no-job : jobOf [] ≡ Other
-unfolding jobOf jobIn equal
-no-job = refl
+by-none : (row : List ℕ) (s : Option ℕ) → byRow row s false ≡ some nothing
+unfolding byRow
+by-none [] s = refl
+by-none (b ∷ row) s = refl
 
-module _ (plain : Bool) (line : List ℕ) (w : Word) (h : First (askedFrom line) line 0 w) (j : Job) (e : j ≡ jobOf (part line (w .from) (w .to))) where
-  by-job : decided plain (askedFrom line 0) ≡ byJob plain j (askedFrom line (w .to))
-  unfolding decided byJob
-  by-job = go (leb (w .to) (w .from)) refl
-    where
-      go : (t : Bool) → leb (w .to) (w .from) ≡ t → decided plain (askedFrom line 0) ≡ byJob plain j (askedFrom line (w .to))
-      go true b =
-          let l = leb-true (w .to) (w .from) b in
-          let k : w .from ≡ w .to = omega (arith, h .ordered) in
-          let o : j ≡ Other = e ∙ ap jobOf (part-empty line (w .from) (w .to) l) ∙ no-job in
-          rw (h .none k, o) refl
-      go false b = rw (h .first (leb-false (w .to) (w .from) b), e) refl
+by-some : (row : List ℕ) (s : Option ℕ) → 0 < length row → byRow row s true ≡ s
+unfolding byRow
+by-some [] s h = absurd (omega arith)
+by-some (b ∷ row) s h = refl
 
-  pub helped : j ≡ Help → Keeps (decided plain (askedFrom line 0)) good
-  unfolding byJob
-  helped i = rw (by-job, i) refl
+empty-row : (s : Option ℕ) (t : Bool) → byRow [] s t ≡ some nothing
+unfolding byRow
+empty-row s t = refl
 
-  pub not-known : j ≡ Other → Keeps (decided plain (askedFrom line 0)) nothing
-  unfolding byJob
-  not-known i = rw (by-job, i) refl
+module _ (line : List ℕ) where
+  pub helped : helps (wordsOf line) ≡ true → Keeps (decided (wordsOf line)) good
+  unfolding decided
+  helped e = rw e refl
 
-  pub ran : j ≡ Run → (s : ℕ) → Keeps (aRun (sizesOf (askedFrom line (w .to))) (pastOptions (askedFrom line (w .to)))) s → Keeps (decided plain (askedFrom line 0)) s
-  unfolding byJob
-  ran i s k = rw (by-job, i) k
+  module _ (plainly : helps (wordsOf line) ≡ false) (w : Word) (h : First (askedFrom line) line 0 w) where
+    abbrev word : List ℕ
+    word = part line (w .from) (w .to)
 
-  pub checks : j ≡ Check → (s : ℕ) → Keeps (fileAndList (askedFrom line (w .to))) s → Keeps (decided plain (askedFrom line 0)) s
-  unfolding byJob
-  checks i s k = rw (by-job, i) k
+    unhelped : decided (wordsOf line) ≡ commanded (wordsOf line) (asked (wordsOf line))
+    unfolding decided
+    unhelped = rw plainly
 
-  pub uses : j ≡ Uses → (s : ℕ) → Keeps (aUse plain (askedFrom line (w .to))) s → Keeps (decided plain (askedFrom line 0)) s
-  unfolding byJob
-  uses i s k = rw (by-job, i) k
+    -- there is no word, or it is the command's
+    by-word : w .from < w .to → decided (wordsOf line) ≡ byRow (rowLine word) (settled word) (wellAsked (rowLine word) (wordsOf line) (askedFrom line (w .to)))
+    unfolding commanded
+    by-word l = unhelped ∙ ap (commanded (wordsOf line)) (h .first l)
 
-  pub shows : OneOf (0 ∷ 2 ∷ 3 ∷ 4 ∷ 5 ∷ 6 ∷ []) (tagOf the-type j) → (s : ℕ) → Keeps (shown plain j (askedFrom line (w .to))) s → Keeps (decided plain (askedFrom line 0)) s
-  unfolding byJob
-  shows i s k = rw (by-job ∙ go j i) k
-    where
-      go : (x : Job) → OneOf (0 ∷ 2 ∷ 3 ∷ 4 ∷ 5 ∷ 6 ∷ []) (tagOf the-type x) → byJob plain x (askedFrom line (w .to)) ≡ shown plain x (askedFrom line (w .to))
-      go Read o = refl
-      go Uses o = absurd (miss (0 ∷ 2 ∷ 3 ∷ 4 ∷ 5 ∷ 6 ∷ []) 1 tt o)
-      go Section o = refl
-      go Levels o = refl
-      go Page o = refl
-      go Code o = refl
-      go Write o = refl
-      go Check o = absurd (miss (0 ∷ 2 ∷ 3 ∷ 4 ∷ 5 ∷ 6 ∷ []) 7 tt o)
-      go Run o = absurd (miss (0 ∷ 2 ∷ 3 ∷ 4 ∷ 5 ∷ 6 ∷ []) 8 tt o)
-      go Help o = absurd (miss (0 ∷ 2 ∷ 3 ∷ 4 ∷ 5 ∷ 6 ∷ []) 9 tt o)
-      go Other o = absurd (miss (0 ∷ 2 ∷ 3 ∷ 4 ∷ 5 ∷ 6 ∷ []) 10 tt o)
+    by-nothing : w .from ≡ w .to → decided (wordsOf line) ≡ some nothing
+    unfolding commanded
+    by-nothing e = unhelped ∙ ap (commanded (wordsOf line)) (h .none e)
+
+    stands : (t : Bool) → leb (w .to) (w .from) ≡ t → (P : Option ℕ → Type 0) → P (some nothing)
+        → (w .from < w .to → P (decided (wordsOf line))) → P (decided (wordsOf line))
+    stands true e P p f =
+        let l = leb-true (w .to) (w .from) e in
+        let k : w .from ≡ w .to = omega (arith, h .ordered) in
+        rw (by-nothing k) p
+    stands false e P p f = f (leb-false (w .to) (w .from) e)
+
+    pub not-known : rowLine word ≡ [] → Keeps (decided (wordsOf line)) nothing
+    not-known e = stands (leb (w .to) (w .from)) refl (λ (o : Option ℕ). Keeps o nothing) refl (λ l. unrowed l)
+      where
+        unrowed : w .from < w .to → Keeps (decided (wordsOf line)) nothing
+        unrowed l =
+            let k : decided (wordsOf line) ≡ some nothing = by-word l ∙ ap (λ (r : List ℕ). byRow r (settled word) (wellAsked (rowLine word) (wordsOf line) (askedFrom line (w .to)))) e ∙ empty-row _ _ in
+            rw k refl
+
+    pub ill-asked : wellAsked (rowLine word) (wordsOf line) (askedFrom line (w .to)) ≡ false → Keeps (decided (wordsOf line)) nothing
+    ill-asked e = stands (leb (w .to) (w .from)) refl (λ (o : Option ℕ). Keeps o nothing) refl (λ l. unasked l)
+      where
+        unasked : w .from < w .to → Keeps (decided (wordsOf line)) nothing
+        unasked l =
+            let k : decided (wordsOf line) ≡ some nothing = by-word l ∙ ap (byRow (rowLine word) (settled word)) e ∙ by-none (rowLine word) (settled word) in
+            rw k refl
+
+    pub well-settled : 0 < length (rowLine word) → wellAsked (rowLine word) (wordsOf line) (askedFrom line (w .to)) ≡ true → (s : ℕ) → Keeps (settled word) s
+        → Keeps (decided (wordsOf line)) s
+    unfolding rowLine
+    well-settled long e s k = go (leb (w .to) (w .from)) refl
+      where
+        go : (t : Bool) → leb (w .to) (w .from) ≡ t → Keeps (decided (wordsOf line)) s
+        go true b =
+            let l = leb-true (w .to) (w .from) b in
+            let z : rowOf word ≡ [] = ap rowOf (part-empty line (w .from) (w .to) l) ∙ no-word in
+            let o : length (rowLine word) ≡ 0 = ap (λ (r : List ℕ). length (take 256 (map unblanked r))) z in
+            absurd (omega arith)
+        go false b =
+            let l = leb-false (w .to) (w .from) b in
+            rw (by-word l ∙ ap (byRow (rowLine word) (settled word)) e ∙ by-some (rowLine word) (settled word) long) k

@@ -1,19 +1,21 @@
-// A list that somebody sent, held against the uses of a source.
+// deed check: a list that somebody sent, held against the uses of a source.
 use crate::files::Loaded;
+use crate::files::is_standard;
 use crate::files::load;
 use crate::files::nothing;
-use crate::files::take_in;
+use crate::help::misused;
 use crate::help::see_help;
 use crate::status;
 use asking::lists::Listed;
 use asking::lists::list_in;
+use asking::options::next_operand;
 use asking::words::Word;
+use asking::words::is_plain;
 use asking::words::list_line;
 use asking::words::word_from;
 use checking::Checked;
 use checking::checking::check_list;
 use libc::STDERR_FILENO;
-use libc::STDIN_FILENO;
 use libc::STDOUT_FILENO;
 use reading::reading::read;
 use showing::text::complain;
@@ -21,10 +23,11 @@ use showing::text::least;
 use showing::text::say;
 use showing::text::say_number;
 use showing::text::tell;
+use showing::text::tell_file;
 use showing::text::tell_place;
 use showing::text::tell_spot;
+use showing::text::tell_typed;
 use showing::words::show_answer;
-use symbols::text::same_bytes;
 use table::sections::word;
 ghost use Prim.Native.Nat.{_≤_};
 ghost use lib.ListN.{length};
@@ -34,45 +37,21 @@ ghost use Rattle.deed.specs.Status.{nothing as undone, CheckStatus, Sent
 // How much of a number that somebody typed is shown.
 const SHOWN: usize = 40;
 
-// Whether the list is standard input.
-fn is_standard(list: &[u8]) -> bool {
-    same_bytes(list, b"-")
-}
-
-// The list, as people know it.
-fn tell_list(to: i32, list: &[u8]) {
-    if is_standard(list) {
-        tell(to, b"standard input");
-    } else {
-        tell(to, list);
-    }
-}
-
 // LIST:LINE:COLUMN.
 fn tell_where(to: i32, list: &[u8], text: &[u8], place: usize) {
-    tell_list(to, list);
+    tell_file(to, list);
     tell(to, b":");
     tell_spot(to, text, place);
-}
-
-// The first bytes of a list, as many as there is room for.
-fn bring_in(list: &[u8], room: &mut [u8]) -> Loaded
-    ensures { λ r. ⌜ Counts (r .count) (now (room .exit)) ⌝ }
-{
-    if is_standard(list) {
-        return take_in(STDIN_FILENO, b"standard input", room);
-    }
-    load(list, room)
 }
 
 // The bytes of a list. What fills the room may go on behind it, and none of it is taken.
 fn load_list(list: &[u8], room: &mut [u8]) -> Loaded
     ensures { λ r. ⌜ Counts (r .count) (now (room .exit)) ⌝ }
 {
-    let got = bring_in(list, room);
+    let got = load(list, room);
     if 65536 <= got.count {
         complain(b"deed: ");
-        tell_list(STDERR_FILENO, list);
+        tell_file(STDERR_FILENO, list);
         complain(b": a LIST has under 65,536 bytes\n");
         return nothing();
     }
@@ -96,7 +75,7 @@ fn nth_word(line: &[u8], k: usize) -> Word
 // A word as it was typed, or its beginning.
 fn show_typed(typed: &[u8]) {
     let n = least(typed.len(), SHOWN);
-    say(&typed[..n]);
+    tell_typed(STDOUT_FILENO, &typed[..n]);
     if n < typed.len() {
         say(b" ..");
     }
@@ -126,7 +105,7 @@ fn show_wrong(list: &[u8], text: &[u8], typed: &[u8], place: usize, table: &[u16
 
 // A list that ends too soon.
 fn show_short(list: &[u8], table: &[u16], i: usize) {
-    tell_list(STDOUT_FILENO, list);
+    tell_file(STDOUT_FILENO, list);
     say(b": wrong, word ");
     say_number(i as u64);
     say(b": the list ends too soon, and ");
@@ -149,9 +128,9 @@ fn show_difference(source: &[u8], list: &[u8], text: &[u8], line: &[u8], i: usiz
 }
 
 fn show_yes(name: &[u8], list: &[u8]) {
-    tell_list(STDOUT_FILENO, list);
+    tell_file(STDOUT_FILENO, list);
     say(b": yes, the uses of ");
-    say(name);
+    tell_file(STDOUT_FILENO, name);
     say(b"\n");
 }
 
@@ -236,7 +215,7 @@ fn check_text(name: &[u8], source: &[u8], list: &[u8], text: &[u8], plain: bool)
 }
 
 // A list that a file holds, or standard input, held against the source of another file.
-pub fn check_file(name: &[u8], list: &[u8], plain: bool) -> u8
+fn check_file(name: &[u8], list: &[u8], plain: bool) -> u8
     ensures { λ r. ⌜ r ≤ undone ⌝ }
 {
     let mut room = io::large_buffer();
@@ -254,4 +233,23 @@ pub fn check_file(name: &[u8], list: &[u8], plain: bool) -> u8
     let n = got.count;
     let k = sent.count;
     check_text(name, &room[..n], list, &text[..k], plain)
+}
+
+// Standard input is one of the two, or none.
+pub fn obey(line: &[u8], at: usize) -> u8
+    ensures { λ r. ⌜ r ≤ undone ⌝ }
+{
+    let w = next_operand(line, at);
+    let a = w.from;
+    let b = w.to;
+    let v = next_operand(line, b);
+    let c = v.from;
+    let d = v.to;
+    if is_standard(&line[a..b]) {
+        if is_standard(&line[c..d]) {
+            misused(b"standard input is the FILE or the LIST, and not both", b"");
+            return status::NOTHING;
+        }
+    }
+    check_file(&line[a..b], &line[c..d], is_plain(line))
 }

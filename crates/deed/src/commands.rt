@@ -1,326 +1,226 @@
-// Does what a line asks: the proved jobs' answers are shown, to people and, with --plain, to other programs.
-use crate::comparing::check_file;
-use crate::files::load;
-use crate::given::put_input;
+// Chooses what a line asks, by the table of commands, and says what is wrong with its words.
+use crate::check;
+use crate::code;
 use crate::help::help;
 use crate::help::misused;
-use crate::help::see_help;
 use crate::help::usage;
-use crate::running::run_source;
+use crate::levels;
+use crate::page;
+use crate::read;
+use crate::run;
 use crate::status;
-use crate::writing::tell_text;
-use answers::Verdict;
-use asking::jobs::Job;
-use asking::jobs::job_of;
-use asking::options::past_options;
+use crate::uses;
+use crate::write;
 use asking::sizes::Asked;
-use asking::sizes::Sizes;
 use asking::sizes::sizes_of;
+use asking::sorts::Sort;
+use asking::sorts::first;
+use asking::sorts::next_word;
+use asking::table::fits;
+use asking::table::row_line;
+use asking::words::has_word;
 use asking::words::is_plain;
-use asking::words::is_word;
-use asking::words::next_word;
 use libc::STDERR_FILENO;
-use reading::reading::read;
-use showing::code::show_code;
-use showing::levels::show_levels;
 use showing::text::complain;
-use showing::text::say;
-use showing::text::say_number;
-use showing::uses::say_use_words;
-use showing::uses::show_section;
-use showing::uses::show_uses;
-use showing::words::show_answer;
-use showing::words::tell_answer;
-use translating::translating::translate;
-use webpage::show_page;
+use showing::text::tell_typed;
+use symbols::text::same_bytes;
 ghost use mathlib.Core.Path.{_≡_};
 ghost use Prim.Native.Nat.{_≤_};
 ghost use lib.ListN.{length};
-ghost use Rattle.asking.specs.Words.{wordsOf, has, plain, askedFrom};
-ghost use Rattle.asking.specs.Options.{sizesOf, pastOptions};
-ghost use Rattle.deed.specs.Status.{nothing, ReadStatus, CodeStatus};
-ghost use Rattle.deed.specs.Commands.{oneFile, fileAndList, aRun, takesPlain, shown, aUse, decided, Keeps};
+ghost use Rattle.asking.specs.Words.{wordsOf, part};
+ghost use Rattle.asking.specs.Sorts.{askedFrom};
+ghost use Rattle.deed.specs.Status.{nothing};
+ghost use Rattle.deed.specs.Commands.{helps, fitting, once, clash, full, sized, wellAsked, settled, decided, Keeps};
 
-// What reading found, as one line of numbers.
-fn show_plain(v: Verdict, table: &[u16], uses: bool) {
-    say_number(v.answer().number as u64);
-    say(b" ");
-    say_number(v.place() as u64);
-    if uses {
-        say_use_words(table);
-    }
-    say(b"\n");
-}
-
-// An accepted source.
-fn show_accepted(name: &[u8], source: &[u8], table: &[u16], job: Job) {
-    match job {
-        Job::Uses => show_uses(source, table),
-        Job::Levels => show_levels(source, table),
-        _ => {
-            say(name);
-            say(b": accepted\n");
-        }
-    }
-}
-
-fn is_uses(job: Job) -> bool {
-    match job {
-        Job::Uses => true,
-        _ => false,
-    }
-}
-
-fn tell(name: &[u8], source: &[u8], plain: bool, job: Job) -> u8
-    ensures { λ r. ⌜ ReadStatus (now (source .entry)) r ⌝ }
+// Whether a line asks for help, whatever else it says.
+fn asks_help(line: &[u8]) -> bool
+    ensures { λ r. ⌜ r ≡ helps (wordsOf (now (line .entry))) ⌝ }
 {
-    let mut table = [0u16; 32768];
-    let v = read(source, &mut table);
-    let ended = status::of_verdict(v);
-    if plain {
-        show_plain(v, &table, is_uses(job));
-        return ended;
+    if has_word(line, 0, b"--help") {
+        return true;
     }
-    match v {
-        Verdict::Accepted => show_accepted(name, source, &table, job),
-        Verdict::Refused(r) => {
-            show_answer(name, source, b": refused, ", r.answer.number, r.place.at)
-        }
-    }
-    ended
+    has_word(line, 0, b"-h")
 }
 
-// The use section of a source. After a refusal standard output has nothing, so that what a shell hands on is a list or is empty.
-fn tell_section(name: &[u8], source: &[u8]) -> u8
-    ensures { λ r. ⌜ ReadStatus (now (source .entry)) r ⌝ }
+// Whether each option of a line is one of its command's; the first that is not is blamed.
+fn options_fit(line: &[u8], row: &[u8]) -> bool
+    ensures { λ r. ⌜ r ≡ fitting (now (row .entry)) (wordsOf (now (line .entry))) ⌝ }
 {
-    let mut table = [0u16; 32768];
-    let v = read(source, &mut table);
-    let ended = status::of_verdict(v);
-    match v {
-        Verdict::Accepted => show_section(&table),
-        Verdict::Refused(r) => tell_answer(
-            STDERR_FILENO,
-            name,
-            source,
-            b": refused, ",
-            r.answer.number,
-            r.place.at,
-        ),
+    let w = first(line, 0, Sort::Misfit, row);
+    let a = w.from;
+    let b = w.to;
+    if a < b {
+        misused(b"this command has no such option: ", &line[a..b]);
+        return false;
     }
-    ended
+    true
 }
 
-// The translation of a source.
-fn tell_code(name: &[u8], source: &[u8]) -> u8
-    ensures { λ r. ⌜ CodeStatus (now (source .entry)) r ⌝ }
+// Whether no option of a line stands twice.
+fn options_once(line: &[u8]) -> bool
+    ensures { λ r. ⌜ r ≡ once (wordsOf (now (line .entry))) ⌝ }
 {
-    let mut code = [0u32; 16384];
-    let v = translate(source, &mut code);
-    let ended = status::of_verdict(v);
-    match v {
-        Verdict::Accepted => show_code(source, &code),
-        Verdict::Refused(r) => {
-            show_answer(name, source, b": refused, ", r.answer.number, r.place.at)
-        }
+    let w = first(line, 0, Sort::Twice, b"");
+    let a = w.from;
+    let b = w.to;
+    if a < b {
+        misused(b"this option stands twice: ", &line[a..b]);
+        return false;
     }
-    ended
+    true
 }
 
-// The page of a source, accepted or refused.
-fn tell_page(name: &[u8], source: &[u8]) -> u8
-    ensures { λ r. ⌜ ReadStatus (now (source .entry)) r ⌝ }
+// Whether a line asks for one line of numbers and for something else too.
+fn is_clash(line: &[u8]) -> bool
+    ensures { λ r. ⌜ r ≡ clash (wordsOf (now (line .entry))) ⌝ }
 {
-    let mut table = [0u16; 32768];
-    let v = read(source, &mut table);
-    show_page(name, source, v, &table);
-    status::of_verdict(v)
+    if !is_plain(line) {
+        return false;
+    }
+    if has_word(line, 0, b"--list") {
+        return true;
+    }
+    has_word(line, 0, b"--values")
 }
 
-fn on_file(name: &[u8], plain: bool, job: Job) -> u8
-    ensures { λ r. ⌜ r ≤ nothing ⌝ }
+// Whether the words behind a command's are those that it wants; the first that is missing or one too many is blamed.
+fn words_fit(line: &[u8], at: usize, row: &[u8]) -> bool
+    ensures { λ r. ⌜ r ≡ full (now (row .entry)) (askedFrom (now (line .entry)) at) ⌝ }
 {
-    let mut room = io::large_buffer();
-    let got = load(name, &mut room);
-    if !got.good {
-        see_help();
-        return status::NOTHING;
+    let f = fits(row, line, at);
+    if f.good {
+        return true;
     }
-    let n = got.count;
-    match job {
-        Job::Code => tell_code(name, &room[..n]),
-        Job::Page => tell_page(name, &room[..n]),
-        Job::Write => tell_text(name, &room[..n], plain),
-        Job::List => tell_section(name, &room[..n]),
-        _ => tell(name, &room[..n], plain, job),
+    let a = f.missing.from;
+    let b = f.missing.to;
+    if a < b {
+        misused(b"a word is missing: ", &row[a..b]);
+        return false;
     }
+    let c = f.extra.from;
+    let d = f.extra.to;
+    misused(b"this word is one too many: ", &line[c..d]);
+    false
 }
 
-// A run of the file that a word of the line names, on the numbers behind it.
-fn run_file(line: &[u8], from: usize, to: usize, sizes: Sizes) -> u8
-    requires { ⌜ (from ≤ to) × (to ≤ length (now line)) ⌝ }
-    ensures { λ r. ⌜ r ≤ nothing ⌝ }
+// Whether the sizes that a line asks for can be had.
+fn sizes_fit(line: &[u8], at: usize) -> bool
+    ensures { λ r. ⌜ r ≡ sized (askedFrom (now (line .entry)) at) ⌝ }
 {
-    let mut input = [0i32; 32768];
-    let mut room = io::large_buffer();
-    let put = put_input(line, to, &mut input);
-    if !put.good {
-        see_help();
-        return status::NOTHING;
-    }
-    let got = load(&line[from..to], &mut room);
-    if !got.good {
-        see_help();
-        return status::NOTHING;
-    }
-    let n = got.count;
-    run_source(
-        &line[from..to],
-        &room[..n],
-        is_plain(line),
-        &input,
-        put.count,
-        sizes,
-    )
-}
-
-// A run of the file that the next word but options names.
-fn run_next(line: &[u8], at: usize) -> u8
-    ensures { λ r. ⌜ Keeps (aRun (sizesOf (askedFrom (now (line .entry)) at)) (pastOptions (askedFrom (now (line .entry)) at))) r ⌝ }
-{
-    let Asked::Are(sizes) = sizes_of(line, at) else {
+    let Asked::Are(_) = sizes_of(line, at) else {
         misused(
             b"-l, -c and -o want a number, -c at most 8192, -o at most 196608",
             b"",
         );
-        return status::NOTHING;
+        return false;
     };
-    let w = next_word(line, past_options(line, at));
-    let from = w.from;
-    let to = w.to;
-    if from == to {
-        misused(b"a FILE is missing", b"");
-        return status::NOTHING;
-    }
-    run_file(line, from, to, sizes)
+    true
 }
 
-// A job on the file that the next word names, and on nothing else.
-fn on_next(line: &[u8], at: usize, job: Job) -> u8
-    ensures { λ r. ⌜ Keeps (oneFile (askedFrom (now (line .entry)) at)) r ⌝ }
+// Whether a line is well asked, by the row of its command, whose word ends at `at`; if not, why is said.
+pub fn well_asked(line: &[u8], at: usize, row: &[u8]) -> bool
+    ensures { λ r. ⌜ r ≡ wellAsked (now (row .entry)) (wordsOf (now (line .entry))) (askedFrom (now (line .entry)) at) ⌝ }
 {
-    let w = next_word(line, at);
-    let from = w.from;
-    let to = w.to;
-    if from == to {
-        misused(b"a FILE is missing", b"");
-        return status::NOTHING;
+    if !options_fit(line, row) {
+        return false;
     }
-    let more = next_word(line, to);
-    let a = more.from;
-    let b = more.to;
-    if a < b {
-        misused(b"this word is one too many: ", &line[a..b]);
-        return status::NOTHING;
+    if !options_once(line) {
+        return false;
     }
-    on_file(&line[from..to], is_plain(line), job)
+    if is_clash(line) {
+        misused(b"--plain goes with neither --list nor --values", b"");
+        return false;
+    }
+    if !words_fit(line, at, row) {
+        return false;
+    }
+    sizes_fit(line, at)
 }
 
-// A list that the second word names, held against the file that the first one names.
-fn check_next(line: &[u8], at: usize) -> u8
-    ensures { λ r. ⌜ Keeps (fileAndList (askedFrom (now (line .entry)) at)) r ⌝ }
+// The command whose word stands there, one that shows a source.
+fn shows(line: &[u8], from: usize, at: usize) -> u8
+    requires { ⌜ (from ≤ at) × (at ≤ length (now line)) ⌝ }
+    ensures { λ r. ⌜ r ≤ nothing ⌝ }
 {
-    let w = next_word(line, at);
-    let from = w.from;
-    let to = w.to;
-    if from == to {
-        misused(b"a FILE is missing", b"");
-        return status::NOTHING;
+    if same_bytes(&line[from..at], b"read") {
+        return read::obey(line, at);
     }
-    let list = next_word(line, to);
-    let a = list.from;
-    let b = list.to;
-    if a == b {
-        misused(
-            b"a LIST is missing: a file of numbers, or - for standard input",
-            b"",
-        );
-        return status::NOTHING;
+    if same_bytes(&line[from..at], b"uses") {
+        return uses::obey(line, at);
     }
-    let more = next_word(line, b);
-    let c = more.from;
-    let d = more.to;
-    if c < d {
-        misused(b"this word is one too many: ", &line[c..d]);
-        return status::NOTHING;
+    if same_bytes(&line[from..at], b"levels") {
+        return levels::obey(line, at);
     }
-    check_file(&line[from..to], &line[a..b], is_plain(line))
+    if same_bytes(&line[from..at], b"page") {
+        return page::obey(line, at);
+    }
+    if same_bytes(&line[from..at], b"code") {
+        return code::obey(line, at);
+    }
+    write::obey(line, at)
 }
 
-// Whether a job has an answer for other programs.
-fn takes_plain(job: Job) -> bool
-    ensures { λ r. ⌜ r ≡ takesPlain job ⌝ }
+// The command whose word stands there.
+fn does(line: &[u8], from: usize, at: usize) -> u8
+    requires { ⌜ (from ≤ at) × (at ≤ length (now line)) ⌝ }
+    ensures { λ r. ⌜ r ≤ nothing ⌝ }
 {
-    match job {
-        Job::Read | Job::Uses | Job::Write | Job::Check | Job::Run => true,
-        _ => false,
+    if same_bytes(&line[from..at], b"check") {
+        return check::obey(line, at);
     }
-}
-
-// A job that shows a file.
-fn shown_next(line: &[u8], at: usize, job: Job) -> u8
-    ensures { λ r. ⌜ Keeps (shown (has (wordsOf (now (line .entry))) plain) job (askedFrom (now (line .entry)) at)) r ⌝ }
-{
-    if is_plain(line) && !takes_plain(job) {
-        misused(
-            b"--plain goes with read, uses, write, check and run, and not with --list",
-            b"",
-        );
+    if same_bytes(&line[from..at], b"run") {
+        return run::obey(line, at);
+    }
+    if same_bytes(&line[from..at], b"do") {
+        misused(b"a file of commands has no do in it", b"");
         return status::NOTHING;
     }
-    on_next(line, at, job)
+    shows(line, from, at)
 }
 
-// The uses of a file; --list asks for them as a list.
-fn uses_next(line: &[u8], at: usize) -> u8
-    ensures { λ r. ⌜ Keeps (aUse (has (wordsOf (now (line .entry))) plain) (askedFrom (now (line .entry)) at)) r ⌝ }
+// What a line asks that is well asked.
+fn settle(line: &[u8], from: usize, at: usize) -> u8
+    requires { ⌜ (from ≤ at) × (at ≤ length (now line)) ⌝ }
+    ensures { λ r. ⌜ Keeps (settled (part (now (line .entry)) from at)) r ⌝ }
 {
-    let w = next_word(line, at);
-    let to = w.to;
-    if is_word(line, w.from, to, b"--list") {
-        return shown_next(line, to, Job::List);
+    if same_bytes(&line[from..at], b"help") {
+        help();
+        return status::GOOD;
     }
-    shown_next(line, at, Job::Uses)
+    does(line, from, at)
 }
 
-// A word that is no command: the commands are shown.
+// A word that is no command, or none at all: the commands are shown.
 fn unknown(word: &[u8]) {
-    complain(b"deed: there is no such command: ");
-    complain(word);
-    complain(b"\n");
+    if word.len() == 0 {
+        complain(b"deed: a command is missing\n");
+    } else {
+        complain(b"deed: there is no such command: ");
+        tell_typed(STDERR_FILENO, word);
+        complain(b"\n");
+    }
     usage();
 }
 
 // Does what a line asks.
 pub fn obey(line: &[u8]) -> u8
-    ensures { λ r. ⌜ Keeps (decided (has (wordsOf (now (line .entry))) plain) (askedFrom (now (line .entry)) 0)) r ⌝ }
+    ensures { λ r. ⌜ Keeps (decided (wordsOf (now (line .entry)))) r ⌝ }
 {
+    if asks_help(line) {
+        help();
+        return status::GOOD;
+    }
     let w = next_word(line, 0);
     let from = w.from;
     let to = w.to;
-    let job = job_of(&line[from..to]);
-    match job {
-        Job::Help => {
-            help();
-            status::GOOD
-        }
-        Job::Other => {
-            unknown(&line[from..to]);
-            status::NOTHING
-        }
-        Job::Run => run_next(line, to),
-        Job::Check => check_next(line, to),
-        Job::Uses => uses_next(line, to),
-        _ => shown_next(line, to, job),
+    let mut row = [0u8; 256];
+    let n = row_line(&line[from..to], &mut row);
+    if n == 0 {
+        unknown(&line[from..to]);
+        return status::NOTHING;
     }
+    if !well_asked(line, to, &row[..n]) {
+        return status::NOTHING;
+    }
+    settle(line, from, to)
 }

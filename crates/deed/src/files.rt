@@ -1,5 +1,9 @@
 // Files and arguments, brought in whole or not at all.
+use libc::STDERR_FILENO;
+use libc::STDIN_FILENO;
 use showing::text::complain;
+use showing::text::tell_file;
+use symbols::text::same_bytes;
 ghost use mathlib.Core.Path.{_≡_};
 ghost use Prim.Native.Nat.{_+_, _≤_};
 ghost use Rattle.io.specs.Counts.{Counts};
@@ -23,7 +27,8 @@ pub fn nothing() -> Loaded
 // Says why a file cannot be had.
 fn fail(name: &[u8]) {
     complain(b"deed: ");
-    os::fail(name);
+    tell_file(STDERR_FILENO, name);
+    os::fail(b"");
 }
 
 // The rest of a file of which the first n bytes are there.
@@ -51,10 +56,18 @@ pub fn take_in(fd: i32, name: &[u8], room: &mut [u8]) -> Loaded
     rest(fd, room, n)
 }
 
-// The first bytes of a file, as many as there is room for.
+// Whether a file is standard input.
+pub fn is_standard(name: &[u8]) -> bool {
+    same_bytes(name, b"-")
+}
+
+// The first bytes of a file, or of standard input, as many as there is room for.
 pub fn load(name: &[u8], room: &mut [u8]) -> Loaded
     ensures { λ r. ⌜ Counts (r .count) (now (room .exit)) ⌝ }
 {
+    if is_standard(name) {
+        return take_in(STDIN_FILENO, b"standard input", room);
+    }
     let fd = os::open_read(name);
     if fd < 0 {
         fail(name);

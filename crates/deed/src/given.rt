@@ -1,30 +1,39 @@
 // The numbers that a run is given.
 use crate::files::Loaded;
+use crate::files::is_standard;
 use crate::files::nothing;
 use crate::files::take_in;
 use asking::numerals::Whole;
 use asking::numerals::whole_in;
-use asking::options::next_number;
+use asking::options::next_operand;
 use asking::words::Word;
 use asking::words::has_word;
 use asking::words::line_of;
 use asking::words::word_from;
+use libc::STDERR_FILENO;
 use libc::STDIN_FILENO;
 use showing::text::complain;
+use showing::text::tell_typed;
 ghost use mathlib.Core.Path.{_≡_};
 ghost use Prim.Native.Nat.{_≤_, min};
 ghost use lib.ListN.{length};
 
 fn misspelled(text: &[u8]) {
     complain(b"deed: this is no whole number from -2147483648 to 2147483647: ");
-    complain(text);
+    tell_typed(STDERR_FILENO, text);
     complain(b"\n");
 }
 
-// Puts the number that a text spells behind n others.
-fn put_number(text: &[u8], input: &mut [i32], n: usize) -> Loaded
+// Puts the number that a text spells behind n others. In a command - is none, and stands for those of standard input.
+fn put_number(text: &[u8], command: bool, input: &mut [i32], n: usize) -> Loaded
     ensures { λ _. ⌜ length (now (input .exit)) ≡ length (now (input .entry)) ⌝ }
 {
+    if command && is_standard(text) {
+        return Loaded {
+            good: true,
+            count: n,
+        };
+    }
     let Whole::Is(x) = whole_in(text) else {
         misspelled(text);
         return nothing();
@@ -45,7 +54,7 @@ fn number_word(line: &[u8], at: usize, command: bool) -> Word
     ensures { λ r. ⌜ (min at (length (now (line .entry))) ≤ r .from) × (r .from ≤ r .to) × (r .to ≤ length (now (line .entry))) ⌝ }
 {
     if command {
-        return next_number(line, at);
+        return next_operand(line, at);
     }
     word_from(line, at)
 }
@@ -63,7 +72,7 @@ fn put_numbers(line: &[u8], from: usize, command: bool, input: &mut [i32], n: us
         if a == b {
             return Loaded { good: true, count };
         }
-        let put = put_number(&line[a..b], input, count);
+        let put = put_number(&line[a..b], command, input, count);
         if !put.good {
             return put;
         }

@@ -1,43 +1,95 @@
-// A run of a source, and its answer shown.
+// deed run: a run of a source, and its answer shown.
+use crate::files::is_standard;
+use crate::files::load;
+use crate::given::put_input;
+use crate::help::misused;
+use crate::help::see_help;
 use crate::outputs::say_numbers;
 use crate::outputs::show_entries;
 use crate::status;
 use answers::Stop;
 use answers::Verdict;
+use asking::options::next_operand;
+use asking::sizes::Asked;
 use asking::sizes::Sizes;
+use asking::sizes::sizes_of;
+use asking::words::has_word;
+use asking::words::is_plain;
+use libc::STDERR_FILENO;
+use libc::STDOUT_FILENO;
 use machine::Ran;
 use machine::bounds::CELLS;
+use showing::text::complain;
 use showing::text::least;
 use showing::text::say;
 use showing::text::say_number;
-use showing::words::show_answer;
-use showing::words::show_placeless;
+use showing::text::tell;
+use showing::text::tell_file;
+use showing::text::tell_number;
+use showing::words::tell_answer;
+use showing::words::tell_placeless;
 use translating::translating::translate;
 ghost use mathlib.Core.Path.{_≡_};
-ghost use Prim.Native.Nat.{_*_, _/_, min};
+ghost use mathlib.Core.Bool.{_&&_};
+ghost use Prim.Native.Nat.{_*_, _/_, _≤_, min};
+ghost use lib.Dec.{ltb};
 ghost use lib.ListN.{length, take};
 ghost use Rattle.machine.specs.Machine.{onCode};
-ghost use Rattle.deed.specs.Status.{ofStop, RunStatus};
+ghost use Rattle.deed.specs.Status.{nothing, ofEnd, ofFinish, RanAs, RunStatus};
 
-fn show_counts(ran: Ran) {
-    say(b"instructions done: ");
-    say_number(ran.done);
-    say(b", numbers taken: ");
-    say_number(ran.taken as u64);
-    say(b", numbers written: ");
-    say_number(ran.written as u64);
-    say(b"\n");
+// What is asked of a run: one line of numbers; status 1 where a number is not taken; the outputs alone on standard output.
+pub struct How {
+    pub plain: bool,
+    pub strict: bool,
+    pub values: bool,
+}
+
+// Where what is no output is told.
+fn aside(values: bool) -> i32 {
+    if values { STDERR_FILENO } else { STDOUT_FILENO }
+}
+
+fn tell_counts(to: i32, ran: Ran, given: usize) {
+    tell(to, b"instructions done: ");
+    tell_number(to, ran.done);
+    tell(to, b", numbers given: ");
+    tell_number(to, given as u64);
+    tell(to, b", taken: ");
+    tell_number(to, ran.taken as u64);
+    tell(to, b", numbers written: ");
+    tell_number(to, ran.written as u64);
+    tell(to, b"\n");
 }
 
 // How a run stopped, for people.
-fn show_end(name: &[u8], source: &[u8], stop: Stop) {
+fn tell_end(to: i32, name: &[u8], source: &[u8], stop: Stop) {
     match stop {
         Stop::Ended => {
-            say(name);
-            say(b": ended\n");
+            tell_file(to, name);
+            tell(to, b": ended\n");
         }
-        Stop::Fault(r) => show_answer(name, source, b": stopped, ", r.answer.number, r.place.at),
-        _ => show_placeless(name, b": stopped, ", stop.answer().number),
+        Stop::Fault(r) => tell_answer(
+            to,
+            name,
+            source,
+            b": stopped, ",
+            r.answer.number,
+            r.place.at,
+        ),
+        _ => tell_placeless(to, name, b": stopped, ", stop.answer().number),
+    }
+}
+
+// A run that ended and left numbers may have been given those of another rule.
+fn warn(stop: Stop, given: usize, taken: usize) {
+    if let Stop::Ended = stop {
+        if taken < given {
+            complain(b"deed: warning: the run ended and took ");
+            tell_number(STDERR_FILENO, taken as u64);
+            complain(b" of the ");
+            tell_number(STDERR_FILENO, given as u64);
+            complain(b" numbers given\n");
+        }
     }
 }
 
@@ -56,29 +108,54 @@ fn show_plain(answer: u16, place: usize, done: u64, taken: usize, written: usize
     say(b"\n");
 }
 
-// What a run gave; its outputs are the first of these.
-fn show_ran(name: &[u8], source: &[u8], plain: bool, ran: Ran, output: &[i32]) -> u8
-    ensures { λ r. ⌜ r ≡ ofStop (ran .stop) ⌝ }
-{
+// What a run gave, for people; its outputs are the first of these. Where the outputs are for a script, it has those of a good run alone.
+fn show_run(
+    name: &[u8],
+    source: &[u8],
+    values: bool,
+    good: bool,
+    ran: Ran,
+    given: usize,
+    output: &[i32],
+) {
+    let to = aside(values);
     let stop = ran.stop;
     let n = least(ran.written, output.len());
-    let wrote = &output[0..n];
-    if plain {
-        let answer = stop.answer().number;
+    if good || !values {
+        show_entries(&output[0..n]);
+    }
+    tell_end(to, name, source, stop);
+    tell_counts(to, ran, given);
+    warn(stop, given, ran.taken);
+}
+
+fn show_ran(name: &[u8], source: &[u8], how: How, ran: Ran, given: usize, output: &[i32]) -> u8
+    ensures { λ r. ⌜ r ≡ ofEnd (how .strict && ltb (ran .taken) given) (ran .stop) ⌝ }
+{
+    let stop = ran.stop;
+    let ended = status::of_end(status::is_left(how.strict, given, ran.taken), stop);
+    if how.plain {
+        let n = least(ran.written, output.len());
         show_plain(
-            answer,
+            stop.answer().number,
             stop.place(),
             ran.done,
             ran.taken,
             ran.written,
-            wrote,
+            &output[0..n],
         );
-        return status::of_stop(stop);
+    } else {
+        show_run(
+            name,
+            source,
+            how.values,
+            ended == status::GOOD,
+            ran,
+            given,
+            output,
+        );
     }
-    show_entries(wrote);
-    show_end(name, source, stop);
-    show_counts(ran);
-    status::of_stop(stop)
+    ended
 }
 
 // How many numbers of a store are lent for so many cells, which take two each, where there are no more than `all`.
@@ -97,7 +174,7 @@ fn run_within(
     store: &mut [i64],
     output: &mut [i32],
 ) -> Ran
-    ensures { λ r. ⌜ r .stop ≡ onCode (now (code .entry)) (take count (now (input .entry))) (sizes .limit) (min 8192 (min (sizes .cells) (length (now (store .entry)) / 2))) (min (sizes .room) (length (now (output .entry)))) .stop ⌝ }
+    ensures { λ r. ⌜ RanAs r (onCode (now (code .entry)) (take count (now (input .entry))) (sizes .limit) (min 8192 (min (sizes .cells) (length (now (store .entry)) / 2))) (min (sizes .room) (length (now (output .entry))))) ⌝ }
 {
     let taken = least(count, input.len());
     let numbers = numbers_for(sizes.cells, store.len());
@@ -114,41 +191,99 @@ fn run_within(
 fn run_code(
     name: &[u8],
     source: &[u8],
-    plain: bool,
+    how: How,
     code: &[u32],
     input: &[i32],
     count: usize,
     sizes: Sizes,
 ) -> u8
-    ensures { λ r. ⌜ r ≡ ofStop (onCode (now (code .entry)) (take count (now (input .entry))) (sizes .limit) (min (sizes .cells) 8192) (min (sizes .room) 196608) .stop) ⌝ }
+    ensures { λ r. ⌜ r ≡ ofFinish (how .strict) (length (take count (now (input .entry)))) (onCode (now (code .entry)) (take count (now (input .entry))) (sizes .limit) (min (sizes .cells) 8192) (min (sizes .room) 196608)) ⌝ }
 {
     let mut store = [0i64; 16384];
     let mut output = [0i32; 196608];
     let ran = run_within(code, input, count, sizes, &mut store, &mut output);
-    show_ran(name, source, plain, ran, &output)
+    show_ran(name, source, how, ran, least(count, input.len()), &output)
+}
+
+// A source that is refused: nothing is run.
+fn show_refused(name: &[u8], source: &[u8], how: How, number: u16, place: usize) {
+    if how.plain {
+        let none = [0i32; 0];
+        show_plain(number, place, 0, 0, 0, &none);
+    } else {
+        tell_answer(
+            aside(how.values),
+            name,
+            source,
+            b": refused, ",
+            number,
+            place,
+        );
+    }
 }
 
 // Translates a source and runs it on the first of some numbers.
-pub fn run_source(
-    name: &[u8],
-    source: &[u8],
-    plain: bool,
-    input: &[i32],
-    count: usize,
-    sizes: Sizes,
-) -> u8
-    ensures { λ r. ⌜ RunStatus (now (source .entry)) (take count (now (input .entry))) (sizes .limit) (min (sizes .cells) 8192) (min (sizes .room) 196608) r ⌝ }
+fn run_source(name: &[u8], source: &[u8], how: How, input: &[i32], count: usize, sizes: Sizes) -> u8
+    ensures { λ r. ⌜ RunStatus (how .strict) (now (source .entry)) (take count (now (input .entry))) (sizes .limit) (min (sizes .cells) 8192) (min (sizes .room) 196608) r ⌝ }
 {
     let mut code = [0u32; 16384];
     match translate(source, &mut code) {
-        Verdict::Accepted => run_code(name, source, plain, &code, input, count, sizes),
+        Verdict::Accepted => run_code(name, source, how, &code, input, count, sizes),
         Verdict::Refused(r) => {
-            if plain {
-                show_plain(r.answer.number, r.place.at, 0, 0, 0, &input[0..0]);
-            } else {
-                show_answer(name, source, b": refused, ", r.answer.number, r.place.at);
-            }
+            show_refused(name, source, how, r.answer.number, r.place.at);
             status::BAD
         }
     }
+}
+
+// A run of the file that a word of the line names, on the numbers behind it.
+fn run_file(line: &[u8], from: usize, to: usize, how: How, sizes: Sizes) -> u8
+    requires { ⌜ (from ≤ to) × (to ≤ length (now line)) ⌝ }
+    ensures { λ r. ⌜ r ≤ nothing ⌝ }
+{
+    let mut input = [0i32; 32768];
+    let mut room = io::large_buffer();
+    let put = put_input(line, to, &mut input);
+    if !put.good {
+        see_help();
+        return status::NOTHING;
+    }
+    let got = load(&line[from..to], &mut room);
+    if !got.good {
+        see_help();
+        return status::NOTHING;
+    }
+    let n = got.count;
+    run_source(&line[from..to], &room[..n], how, &input, put.count, sizes)
+}
+
+// What the options of a line ask of a run.
+fn how_of(line: &[u8]) -> How {
+    How {
+        plain: is_plain(line),
+        strict: has_word(line, 0, b"--strict"),
+        values: has_word(line, 0, b"--values"),
+    }
+}
+
+// Standard input is the FILE, or has numbers, or neither. The sizes can be had: that was looked at.
+pub fn obey(line: &[u8], at: usize) -> u8
+    ensures { λ r. ⌜ r ≤ nothing ⌝ }
+{
+    let Asked::Are(sizes) = sizes_of(line, at) else {
+        return status::NOTHING;
+    };
+    let w = next_operand(line, at);
+    let from = w.from;
+    let to = w.to;
+    if is_standard(&line[from..to]) {
+        if has_word(line, to, b"-") {
+            misused(
+                b"standard input is the FILE or has numbers, and not both",
+                b"",
+            );
+            return status::NOTHING;
+        }
+    }
+    run_file(line, from, to, how_of(line), sizes)
 }

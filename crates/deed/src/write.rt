@@ -1,15 +1,21 @@
-// A source in the house layout. After a refusal standard output has nothing, so that what a shell puts into a file from there is a page or is empty.
+// deed write: a source in the house layout. After a refusal standard output has nothing, so that what a shell puts into a file from there is a page or is empty.
+use crate::files::load;
+use crate::help::see_help;
 use crate::status;
 use answers::Answer;
 use answers::Refusal;
+use asking::options::next_operand;
+use asking::words::is_plain;
 use clean::Written;
 use clean::writing::write;
 use libc::STDERR_FILENO;
 use showing::text::complain;
 use showing::text::say;
 use showing::text::say_number;
+use showing::text::tell_file;
 use showing::words::tell_answer;
-ghost use Rattle.deed.specs.Status.{WriteStatus};
+ghost use Prim.Native.Nat.{_≤_};
+ghost use Rattle.deed.specs.Status.{nothing, WriteStatus};
 
 // The answer, its place and the length of the text, as one line of numbers; the text is to stand behind it.
 fn show_plain(w: Written) {
@@ -25,7 +31,7 @@ fn show_plain(w: Written) {
 fn complain_of(name: &[u8], source: &[u8], r: Refusal) {
     if r.answer.number == Answer::LONG.number {
         if source.len() <= 16384 {
-            complain(name);
+            tell_file(STDERR_FILENO, name);
             complain(b": refused, 2: the text in the house layout is over 16,384 bytes\n");
             return;
         }
@@ -41,7 +47,7 @@ fn complain_of(name: &[u8], source: &[u8], r: Refusal) {
 }
 
 // No text is longer than a source may be.
-pub fn tell_text(name: &[u8], source: &[u8], plain: bool) -> u8
+fn tell_text(name: &[u8], source: &[u8], plain: bool) -> u8
     ensures { λ r. ⌜ WriteStatus (now (source .entry)) r ⌝ }
 {
     let mut room = [0u8; 16384];
@@ -55,4 +61,20 @@ pub fn tell_text(name: &[u8], source: &[u8], plain: bool) -> u8
     }
     say(&room[..n]);
     ended
+}
+
+pub fn obey(line: &[u8], at: usize) -> u8
+    ensures { λ r. ⌜ r ≤ nothing ⌝ }
+{
+    let mut room = io::large_buffer();
+    let w = next_operand(line, at);
+    let a = w.from;
+    let b = w.to;
+    let got = load(&line[a..b], &mut room);
+    if !got.good {
+        see_help();
+        return status::NOTHING;
+    }
+    let n = got.count;
+    tell_text(&line[a..b], &room[..n], is_plain(line))
 }

@@ -1,4 +1,4 @@
--- `deed::comparing::check_text` meets its contract. Its words are those of the line, and all are numbers, or one is none, or there are too many.
+-- `deed::check::check_text` meets its contract. Its words are those of the line, and all are numbers, or one is none, or there are too many.
 -- Assumes nothing.
 use mathlib.Core.Path.{sym}
 use native.Mathlib.Omega.{arith}
@@ -7,8 +7,8 @@ use lib.ListN.{length-replicate}
 use lib.Seq.{length-take-le}
 use Rattle.deed.proofs.Sent.{words-sent, sent-are, sent-not, sent-full, inside-room}
 use borrow.Author.Needs.{needs}
-use Rattle.deed.proofs.comparing.check_text.Statement.{statement}
-use Rattle.deed.proofs.comparing.check_text.Tie as tie
+use Rattle.deed.proofs.check.check_text.Statement.{statement}
+use Rattle.deed.proofs.check.check_text.Tie as tie
 
 array-share-prefix-numbers : tie.Need-array-share-prefix-numbers
 array-share-prefix-numbers c = omega (arith, inside-room (c .before .before .before .before .before .list-in .ensures) (c .before .before .k .given .1), length-replicate {A = ℤ} 32768 (pos 0))

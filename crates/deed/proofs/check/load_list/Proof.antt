@@ -1,9 +1,9 @@
--- `deed::comparing::load_list` meets its contract. Nothing is brought in, or what `bring_in` counts.
+-- `deed::check::load_list` meets its contract. Nothing is brought in, or what `bring_in` counts.
 -- Assumes nothing.
 use Rattle.io.proofs.Counting.{counts}
 use borrow.Author.Needs.{needs}
-use Rattle.deed.proofs.comparing.load_list.Statement.{statement}
-use Rattle.deed.proofs.comparing.load_list.Tie as tie
+use Rattle.deed.proofs.check.load_list.Statement.{statement}
+use Rattle.deed.proofs.check.load_list.Tie as tie
 
 returns : tie.Need-returns
 returns c = counts _ _ (search needs)

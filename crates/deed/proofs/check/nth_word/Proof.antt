@@ -1,8 +1,8 @@
--- `deed::comparing::nth_word` meets its contract. The count falls; the last word stands within the line.
+-- `deed::check::nth_word` meets its contract. The count falls; the last word stands within the line.
 -- Assumes nothing.
 use borrow.Author.Needs.{needs}
-use Rattle.deed.proofs.comparing.nth_word.Statement.{statement}
-use Rattle.deed.proofs.comparing.nth_word.Tie as tie
+use Rattle.deed.proofs.check.nth_word.Statement.{statement}
+use Rattle.deed.proofs.check.nth_word.Tie as tie
 
 abbrev Inv-loop : tie.InvT-loop
 Inv-loop line k at₀ left₀ at left = Unit {0}

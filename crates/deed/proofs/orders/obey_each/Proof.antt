@@ -1,12 +1,12 @@
--- `deed::obey_each` meets its contract. A line ends within the text, and the next one begins behind it.
+-- `deed::orders::obey_each` meets its contract. A line ends within the text, and the next one begins behind it.
 -- Assumes nothing.
 use Prim.Native.Nat.{_-_, _≤_}
 use native.Mathlib.Omega.{arith}
 use borrow.Author.Needs.{needs}
 use lib.ListN.{length, drop, length-drop}
 use Rattle.symbols.proofs.Laws.{before-most}
-use Rattle.deed.proofs.obey_each.Statement.{statement}
-use Rattle.deed.proofs.obey_each.Tie as tie
+use Rattle.deed.proofs.orders.obey_each.Statement.{statement}
+use Rattle.deed.proofs.orders.obey_each.Tie as tie
 
 abbrev Inv-loop : tie.InvT-loop
 Inv-loop text most₀ at₀ most at = Unit {0}

@@ -1,35 +1,26 @@
--- `deed::running::run_source` meets its contract. The source is refused, or the words that translate left are run.
+-- `deed::run::run_source` meets its contract. The source is refused, or the words that translate left are run.
 -- Assumes nothing.
 use Rattle.deed.proofs.Statuses.{accepted-told, refused-told}
 use borrow.Author.Needs.{needs}
-use Rattle.deed.proofs.running.run_source.Statement.{statement}
-use Rattle.deed.proofs.running.run_source.Tie as tie
+use Rattle.deed.proofs.run.run_source.Statement.{statement}
+use Rattle.deed.proofs.run.run_source.Tie as tie
 
 returns : tie.Need-returns
 returns c =
     record {
-      verdict = c .before .before .before .before .before .translate .result;
-      words = c .before .before .before .before .before .translate .last .1 .0;
-      translates = c .before .before .before .before .before .translate .ensures .0;
-      told = accepted-told (c .before .before .before .before .before .translate .result) _ (c .before .before .enum-told .given .1) (c .run-code .result) (c .run-code .ensures);
+      verdict = (c .before .before .before .before .before .translate) .result;
+      words = (c .before .before .before .before .before .translate) .last .1 .0;
+      translates = (c .before .before .before .before .before .translate) .ensures .0;
+      told = accepted-told _ _ ((c .before .before .before .before .before .translate) .result) _ ((c .before .before .enum-told) .given .1) ((c .run-code) .result) ((c .run-code) .ensures);
     }
 
 returns-2 : tie.Need-returns-2
 returns-2 c =
     record {
-      verdict = c .before .before .before .before .before .before .before .translate .result;
-      words = c .before .before .before .before .before .before .before .translate .last .1 .0;
-      translates = c .before .before .before .before .before .before .before .translate .ensures .0;
-      told = refused-told (c .before .before .before .before .before .before .before .translate .result) _ _ (c .before .before .before .before .r .given .1);
-    }
-
-returns-3 : tie.Need-returns-3
-returns-3 c =
-    record {
-      verdict = c .before .before .before .before .before .before .before .translate .result;
-      words = c .before .before .before .before .before .before .before .translate .last .1 .0;
-      translates = c .before .before .before .before .before .before .before .translate .ensures .0;
-      told = refused-told (c .before .before .before .before .before .before .before .translate .result) _ _ (c .before .before .before .before .r .given .1);
+      verdict = (c .before .before .before .before .before .translate) .result;
+      words = (c .before .before .before .before .before .translate) .last .1 .0;
+      translates = (c .before .before .before .before .before .translate) .ensures .0;
+      told = refused-told _ _ ((c .before .before .before .before .before .translate) .result) _ _ ((c .before .before .r) .given .1);
     }
 
 pub run-source-spec : {M : Type 1} → statement M
@@ -42,12 +33,6 @@ run-source-spec =
     (λ c. search needs)
     (λ c κs. search needs)
     (λ c. search needs)
-    (λ c. search needs)
-    (λ c. search needs)
-    (λ c. search needs)
-    (λ c κs. search needs)
-    (λ c. search needs)
     (λ c κs. search needs)
     returns
-    returns-2
-    returns-3)
+    returns-2)

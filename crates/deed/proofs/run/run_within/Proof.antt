@@ -1,11 +1,11 @@
--- `deed::running::run_within` meets its contract. The machine is lent the first of each.
+-- `deed::run::run_within` meets its contract. The machine is lent the first of each.
 -- Assumes nothing.
 use mathlib.Core.Path.{sym}
 use lib.Seq.{length-take-le}
-use Rattle.deed.proofs.Statuses.{ran-stop}
+use Rattle.deed.proofs.Statuses.{ran-as}
 use borrow.Author.Needs.{needs}
-use Rattle.deed.proofs.running.run_within.Statement.{statement}
-use Rattle.deed.proofs.running.run_within.Tie as tie
+use Rattle.deed.proofs.run.run_within.Statement.{statement}
+use Rattle.deed.proofs.run.run_within.Tie as tie
 
 slice-aggregate-run : tie.Need-slice-aggregate-run
 slice-aggregate-run c = sym (length-take-le _ _ (search needs))
@@ -18,8 +18,8 @@ slice-aggregate-run-3 c = sym (length-take-le _ _ (search needs))
 
 returns : tie.Need-returns
 returns c =
-    let a = c .before .before .before .before .before .before .before .before .before .before .args in
-    ran-stop (a .code .now) (a .input .now) (a .store .now) (a .output .now) (a .count) (a .sizes .limit) (a .sizes .cells) (a .sizes .room) _ _ _ _ _ _ (c .before .before .before .before .before .before .before .before .least .ensures) (c .before .before .before .before .before .before .before .numbers-for .ensures) (c .before .before .before .before .before .before .least2 .ensures) (c .before .before .run .ensures)
+    let a = (c .before .before .before .before .before .before .before .before .before .before .args) in
+    ran-as (a .code .now) (a .input .now) (a .store .now) (a .output .now) (a .count) (a .sizes .limit) (a .sizes .cells) (a .sizes .room) _ _ _ ((c .before .before .before .before .before .before .before .before .least) .ensures) ((c .before .before .before .before .before .before .before .numbers-for) .ensures) ((c .before .before .before .before .before .before .least2) .ensures) _ _ _ ((c .before .before .run) .ensures)
 
 pub run-within-spec : {M : Type 1} → statement M
 run-within-spec =
