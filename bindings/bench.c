@@ -129,7 +129,6 @@ static void calls(uint64_t limit)
     put(&code, END, 0);
 }
 
-#ifdef DEED_TRANSLATE
 /* A source with a number in it as code. */
 static void translated(const char *source, unsigned number)
 {
@@ -156,7 +155,6 @@ static void real_series(uint64_t limit)
                "outreal(1, sum(x, 1, %u, 1 / x)) 'end'",
                (unsigned)(limit / 20 + 1));
 }
-#endif
 
 static struct own_ran through_library(uint64_t limit)
 {
@@ -201,7 +199,7 @@ static void time_code(const char *name, void (*lay)(uint64_t), uint64_t limit, i
            (unsigned long long)l.done, l.number, library[rounds / 2], own[rounds / 2], ratio[rounds / 2], ratio[0], ratio[rounds - 1]);
 }
 
-#if defined BEFORE && defined DEED_TRANSLATE
+#ifdef BEFORE
 /* ---- loops over whole numbers, by both libraries: each translates the source and runs its own code to the end */
 
 typedef uint16_t translator(const uint8_t *, size_t, uint32_t *, size_t, size_t *);
@@ -486,14 +484,12 @@ static void time_source(const char *name, void (*make)(void))
 #ifdef BEFORE
     time_both(name);
 #endif
-#ifdef DEED_TRANSLATE
     static uint32_t words[DEED_CODE];
     unsigned times = 0;
     double t0 = seconds(), t1 = t0;
     for (; t1 - t0 < 0.5; t1 = seconds(), times++)
         answer = deed_translate(source, length, words, DEED_CODE, &place);
     printf("translate %-11s %5zu bytes, answer %u at %zu:              %9.1f microseconds\n", name, length, answer, place, (t1 - t0) / times * 1e6);
-#endif
 }
 
 int main(int argc, char **argv)
@@ -516,13 +512,11 @@ int main(int argc, char **argv)
     time_code("'step' 'until'", step_until, limit, rounds);
     time_code("calls", calls, limit, rounds);
     time_code("reals", reals, limit, rounds);
-#ifdef DEED_TRANSLATE
     time_code("a series summed by name", series, limit, rounds);
     time_code("a series of reals", real_series, limit, rounds);
 #ifdef BEFORE
     for (unsigned k = 0; k < LOOPS; k++)
         time_loop(k, limit, rounds);
-#endif
 #endif
     time_source("delimiter words", delimiter_words);
     time_source("plain", plain);

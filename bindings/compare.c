@@ -214,7 +214,6 @@ static void compare_code(unsigned long k)
             compare_run(k, inputs, i, lent, outputs);
 }
 
-#ifdef DEED_TRANSLATE
 /* ---- translations: answered as read answers, and run alike by both machines */
 
 enum { CODE = DEED_CODE + 64 };
@@ -261,7 +260,6 @@ static void compare_translation(unsigned long k)
         show_text();
     }
 }
-#endif
 
 /* ---- numbers: one operator, one conversion or one number with a point, against what numbers.h works out */
 
@@ -291,7 +289,6 @@ static void compare_numbers(unsigned long k)
     code.length = 0;
     struct due due = number_code(&code);
     compare_number(k, "an operator or a conversion", due);
-#ifdef DEED_TRANSLATE
     char source[100];
     size_t place;
     due = decimal_source(source, sizeof source);
@@ -302,7 +299,6 @@ static void compare_numbers(unsigned long k)
     }
     code.length = DEED_CODE;
     compare_number(k, source, due);
-#endif
 }
 
 /* ---- pages */
@@ -347,14 +343,12 @@ static const char *wrong_again(size_t size)
         return "uses and declarations are not paired alike";
     if (deed_write(room + MARGIN, size, again, DEED_SOURCE, &place, &length) != 0 || place != 0 || length != size || memcmp(again, room + MARGIN, size) != 0)
         return "the page is written otherwise";
-#ifdef DEED_TRANSLATE
     static uint32_t code_of_source[DEED_CODE], code_of_page[DEED_CODE];
     deed_translate(text.byte, text.length, code_of_source, DEED_CODE, &place);
     deed_translate(room + MARGIN, size, code_of_page, DEED_CODE, &place);
     for (unsigned i = 0; i < DEED_CODE; i += 2) /* operation, and behind it the place */
         if ((code_of_source[i] & 63) != (code_of_page[i] & 63) || code_of_source[i + 1] != code_of_page[i + 1])
             return "the page has another translation";
-#endif
     return NULL;
 }
 
@@ -502,13 +496,11 @@ int main(int argc, char **argv)
     show_seen("sources compared", sources_seen);
     for (unsigned long k = 0; k < count; k++)
         compare_code(k);
-#ifdef DEED_TRANSLATE
     for (size_t i = 0; i < sizeof words_before / sizeof words_before[0]; i++)
         words_before[i] = random_word();
     for (unsigned long k = 0; k < count; k++)
         compare_translation(k);
     show_seen("translations compared", translations_seen);
-#endif
     show_seen("runs compared", runs_seen);
     for (unsigned long k = 0; k < count; k++)
         compare_numbers(k);

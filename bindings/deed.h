@@ -82,13 +82,11 @@ uint16_t deed_read(const uint8_t *source, size_t source_length,
                    uint16_t *table, size_t table_length,
                    size_t *place);
 
-#ifdef DEED_TRANSLATE
 /* Source to code. 0 to 10, as deed_read has them. The code's words are laid down in docs/MACHINE.md; after a refusal but 1 the first
  * DEED_CODE are zero. */
 uint16_t deed_translate(const uint8_t *source, size_t source_length,
                         uint32_t *code, size_t code_length,
                         size_t *place);
-#endif
 
 /* Source to its text in the house layout. 0 to 10, as deed_read has them but for 1 and 2: 1 where the room is shorter than the text, 2 also where
  * the text is over DEED_SOURCE bytes. The first *length bytes of the room are the text, and behind it they are as they were; after a refusal
