@@ -15,9 +15,19 @@ ghost use Rattle.asking.specs.Words.{wordsOf, has, LineOf};
 ghost use Rattle.asking.specs.Options.{operandsFrom};
 ghost use Rattle.asking.specs.Table.{rowIn, rowOf, names, more, matched};
 
-// Each row is ended by a zero.
-pub const ROWS: [u8; 211] =
-    *b"read FILE --plain\0uses FILE --list --plain\0levels FILE\0page FILE\0code FILE\0write FILE --plain\0check FILE LIST --plain\0run FILE [-] [NUMBER ..] --strict --values --plain -l =LIMIT -c =CELLS -o =ROOM\0do FILE\0help\0";
+// Each row is ended by a zero; its line goes on with the next.
+pub const ROWS: [u8; 211] = *b"\
+read FILE --plain\0\
+uses FILE --list --plain\0\
+levels FILE\0\
+page FILE\0\
+code FILE\0\
+write FILE --plain\0\
+check FILE LIST --plain\0\
+run FILE [-] [NUMBER ..] --strict --values --plain -l =LIMIT -c =CELLS -o =ROOM\0\
+do FILE\0\
+help\0\
+";
 
 // The row of a word in a table, as a line of words; nothing where no row has that word.
 fn row_in(table: &[u8], word: &[u8], row: &mut [u8]) -> usize
