@@ -1,0 +1,10 @@
+pub mod WordLaws
+pub mod RecordLaws
+pub mod RunFacts
+pub mod ReplayLaws
+pub mod Signs
+pub mod Scanned
+pub mod Replays
+pub mod Keeps
+pub mod RunRecords
+pub mod Examples
