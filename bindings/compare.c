@@ -1,13 +1,14 @@
 /* compare COUNT [FILE..]: COUNT random sources, and COUNT random codes with their input, store and output, each handed to the library and to the
  * scanner and machine of own.h; COUNT operators and conversions on random numbers, and COUNT numbers with a point, against the arithmetic of
- * numbers.h; COUNT random sources to the writer of page.h; and COUNT lists for sources, against a comparison of its own. Shows each difference, and
- * how many were compared. The files are sources that are changed at random. The seed is fixed. Ends with 1 where something differs. */
+ * numbers.h; COUNT random sources to the writer of page.h; COUNT lists for sources, against a comparison of its own; and COUNT records of runs,
+ * most of them changed at random, to the replay of months.h. Shows each difference, and how many were compared. The files are sources that are changed at random. The seed is fixed. Ends with 1 where something differs. */
 #include <stdio.h>
 #include <stdlib.h>
 #include <string.h>
 
 #include "codes.h"
 #include "deed.h"
+#include "months.h"
 #include "numbers.h"
 #include "own.h"
 #include "page.h"
@@ -463,6 +464,94 @@ static void compare_list(unsigned long k)
     }
 }
 
+/* ---- records: of a run by the own machine, with words changed, missing or added, replayed by both */
+
+enum { KEPT = 11 + INPUTS + OUTPUTS + 8 };
+
+static unsigned long records_seen[ANSWERS];
+static int32_t kept[KEPT];
+
+/* Changes a record at random, or leaves it; its length then. */
+static size_t changed_record(size_t length, size_t inputs)
+{
+    static const int32_t edges[] = {0, 1, 2, -1, 19, 20, 26, 30, 31, 3, 1000, INT32_MAX, INT32_MIN};
+    switch (below(8)) {
+    case 0:
+        kept[below((uint32_t)length)] = edges[below(13)];
+        return length;
+    case 1:
+        kept[inputs + 2 + below((uint32_t)(length - inputs - 2))] += 1;
+        return length;
+    case 2:
+        return below((uint32_t)length);
+    case 3:
+        kept[length] = edges[below(13)];
+        return length + 1 + below(4);
+    case 4: /* an entry less, or one more */
+        if (once_in(2)) {
+            kept[inputs + 10]++;
+            kept[length] = (int32_t)below(2);
+            kept[length + 1] = (int32_t)below(9);
+            kept[length + 2] = 0;
+            return length + 3;
+        }
+        if (kept[inputs + 10] > 0) {
+            kept[inputs + 10]--;
+            return length - 3;
+        }
+        return length;
+    default:
+        return length;
+    }
+}
+
+static const char *wrong_replay(unsigned kind, unsigned number, size_t place, struct own_replayed o)
+{
+    if (kind != o.kind || number != o.number || place != o.place)
+        return "another answer or place";
+    if (memcmp(output, own_output, sizeof output) != 0)
+        return "another output";
+    for (size_t i = 0; i < o.cleared; i++)
+        if (store[MARGIN + i] != 0)
+            return "a store number that is not zero";
+    if (memcmp(store, store_before, MARGIN * sizeof store[0]) != 0
+        || memcmp(store + MARGIN + o.cleared, store_before + MARGIN + o.cleared, sizeof store - (MARGIN + o.cleared) * sizeof store[0]) != 0)
+        return "a store number that is not the run's has changed";
+    return NULL;
+}
+
+static void compare_record(unsigned long k)
+{
+    size_t inputs = below(INPUTS + 1), out = below(once_in(3) ? 9 : OUTPUTS + 1), lent = once_in(4) ? below(48) : below(800), place = 99999;
+    uint64_t limit = once_in(8) ? below(40) : 1000 + below(20000);
+    uint16_t number = 999;
+    random_code(&code);
+    for (size_t i = 0; i < INPUTS; i++)
+        input[i] = (int32_t)below(20);
+    struct own_ran ran = own_run(code.word, code.length, input, inputs, limit, lent, own_output, out);
+    memset(kept, 0, sizeof kept);
+    size_t length = changed_record(own_keep(kept, input, inputs, limit, lent, out, ran, own_output), inputs);
+    struct own_record r = own_record(kept, length);
+    if (r.bad == SIZE_MAX && r.limit > 1000000) /* a run that does not end by itself is to end soon */
+        kept[r.inputs + 3] = 0, kept[r.inputs + 2] = 1000;
+    for (size_t i = 0; i < OUTPUTS + 2 * MARGIN; i++)
+        output[i] = own_output[i] = (int32_t)random_word();
+    memcpy(store, store_before, sizeof store);
+    size_t store_lent = once_in(10) ? below((uint32_t)lent + 1) : lent + below(100), output_lent = once_in(10) ? below((uint32_t)out + 1) : out + below((uint32_t)(OUTPUTS - out + 1));
+    unsigned kind = deed_replay(code.word, code.length, kept, length, store + MARGIN, store_lent, output + MARGIN, output_lent, &number, &place);
+    struct own_replayed o = own_replay(code.word, code.length, kept, length, store_lent, own_output + MARGIN, output_lent);
+    const char *wrong = wrong_replay(kind, number, place, o);
+    if (kind < ANSWERS)
+        records_seen[kind]++;
+    if (wrong != NULL) {
+        differs("record", k);
+        printf("%s: library %u, %u at %zu, own %u, %u at %zu; store %zu, output %zu; %zu words:", wrong, kind, number, place, o.kind, o.number, o.place, store_lent, output_lent, length);
+        for (size_t i = 0; i < length; i++)
+            printf(" %ld", (long)kept[i]);
+        printf("\n");
+    }
+}
+
 /* ---- the whole */
 
 static void show_seen(const char *what, const unsigned long *seen)
@@ -513,6 +602,9 @@ int main(int argc, char **argv)
     for (unsigned long k = 0; k < count; k++)
         compare_list(k);
     show_seen("lists compared", lists_seen);
+    for (unsigned long k = 0; k < count; k++)
+        compare_record(k);
+    show_seen("records compared", records_seen);
     printf("%lu differ\n", differences);
     return differences == 0 ? 0 : 1;
 }

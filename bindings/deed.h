@@ -119,6 +119,26 @@ uint16_t deed_run(const uint32_t *code, size_t code_length,
                   int32_t *output, size_t output_length,
                   size_t *place, uint64_t *done, size_t *taken, size_t *written);
 
+/* What deed_replay says. */
+enum {
+    DEED_AGREES = 0,
+    DEED_DIFFERS = 1,
+    DEED_BAD_WORD = 2,
+    DEED_TOO_SHORT = 3
+};
+
+/* Code and the record of a run: six sections, each after its count: the input numbers; the limit, as its low and its high half; how many numbers the
+ * store has; how many the output has; the answer; the output entries, three numbers each (DECISIONS.md, "Records"). DEED_AGREES where a fresh run gives
+ * the same answer and entries; DEED_DIFFERS with the first entry that differs for the place, 0 the answer and j the j-th output entry; DEED_BAD_WORD with
+ * the index, from 0, of the first bad word: of a record that ends too soon its length; DEED_TOO_SHORT where the store or the output is shorter than the
+ * record says, with the number DEED_SHORT. Else the number is 0. The run is deed_run's on as many of the store's and the output's first numbers as the
+ * record says; the others are as they were, and so is everything after DEED_BAD_WORD and DEED_TOO_SHORT. */
+uint16_t deed_replay(const uint32_t *code, size_t code_length,
+                     const int32_t *record, size_t record_length,
+                     int64_t *store, size_t store_length,
+                     int32_t *output, size_t output_length,
+                     uint16_t *number, size_t *place);
+
 #ifdef __cplusplus
 }
 #endif

@@ -1,4 +1,4 @@
--- What run's contract says, number by number; that C's numbers, too, are one for each source and what is lent; and demand 3 in them.
+-- What the contracts of run and replay say, number by number; that C's numbers, too, are one for each source and what is lent; and demand 3 in them.
 -- Assumes nothing.
 use Prim.Native.Nat.{ℕ}
 use mathlib.Core.Path.{_≡_, refl, sym, ap, _∙_}
@@ -18,7 +18,10 @@ use Rattle.reading.specs.Reading.{Grammatical, Reads}
 use Rattle.reading.proofs.Only.{only}
 use Rattle.translating.specs.Job.{Translates, Deed}
 use Rattle.translating.proofs.Promised.{only as only-translation, deed}
-use Rattle.jobs.specs.Jobs.{Answers, Pages, Says, Given, given, exitOf}
+use Rattle.records.specs.declared.Replayed.{Replayed}
+use Rattle.records.specs.Numbers.{kindOf as replayedKind, numberOf as replayedNumber, placeOf as replayedPlace}
+use Rattle.records.specs.Replay.{Done, done as wentOn}
+use Rattle.jobs.specs.Jobs.{Answers, Pages, Says, Given, given, exitOf, Gone, gone, replayedOf}
 
 pub given-exit : {n p : ℕ} (r : Ran) (s o : List ℤ) {e : Exit} → exit r s o ≡ e → n ≡ stopNumber (r .stop) → p ≡ stopPlace (r .stop)
     → given n p (r .done) (r .taken) (r .written) s o ≡ exitOf e
@@ -26,6 +29,12 @@ unfolding exitOf
 given-exit {n} {p} r s o h a b =
     ap (λ k. given k p (r .done) (r .taken) (r .written) s o) a ∙ ap (λ k. given (stopNumber (r .stop)) k (r .done) (r .taken) (r .written) s o) b
     ∙ ap exitOf h
+
+pub gone-done : {k n p : ℕ} (a : Replayed) (s o : List ℤ) {d : Done} → wentOn a s o ≡ d → k ≡ replayedKind a → n ≡ replayedNumber a → p ≡ replayedPlace a
+    → gone k n p s o ≡ replayedOf d
+unfolding replayedOf
+gone-done {k} {n} {p} a s o h x y z =
+    ap (λ i. gone i n p s o) x ∙ ap (λ i. gone (replayedKind a) i p s o) y ∙ ap (λ i. gone (replayedKind a) (replayedNumber a) i s o) z ∙ ap replayedOf h
 
 -- of a job R that has one verdict and leaves one list of words
 pub one-answer : {R : Verdict → List ℕ → Type 0} {w w₂ : List ℕ} {n p n₂ p₂ : ℕ} → ((v v₂ : Verdict) (w w₂ : List ℕ) → R v w → R v₂ w₂ → (v ≡ v₂) × (w ≡ w₂))

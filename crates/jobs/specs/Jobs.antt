@@ -10,6 +10,8 @@ use Rattle.clean.specs.Numbers.{numberOf as pageNumber, placeOf as pagePlace, l
 use Rattle.checking.specs.Numbers.{kindOf, numberOf as checkedNumber, placeOf as checkedPlace}
 use Rattle.checking.specs.declared.Checked.{Checked}
 use Rattle.machine.specs.Machine.{Exit}
+use Rattle.records.specs.Numbers.{kindOf as replayedKind, numberOf as replayedNumber, placeOf as replayedPlace}
+use Rattle.records.specs.Replay.{Done}
 
 -- read and translate: the number and the place are those of a verdict of which P holds
 pub record Answers (P : Verdict → Type 0) (number place : ℕ) : Type 0 where
@@ -50,3 +52,17 @@ given n p d t w s o = record { number = n; place = p; done = d; taken = t; writt
 unfoldable pub exitOf : Exit → Given
 exitOf e =
     given (stopNumber (e .ran .stop)) (stopPlace (e .ran .stop)) (e .ran .done) (e .ran .taken) (e .ran .written) (e .store) (e .output)
+
+-- replay: which case it is, its number and place, and what the store and the output hold afterwards
+pub record Gone : Type 0 where
+  pub kind : ℕ
+  pub number : ℕ
+  pub place : ℕ
+  pub store : List ℤ
+  pub output : List ℤ
+
+abbrev pub gone : ℕ → ℕ → ℕ → List ℤ → List ℤ → Gone
+gone k n p s o = record { kind = k; number = n; place = p; store = s; output = o }
+
+unfoldable pub replayedOf : Done → Gone
+replayedOf d = gone (replayedKind (d .answer)) (replayedNumber (d .answer)) (replayedPlace (d .answer)) (d .store) (d .output)

@@ -4,13 +4,15 @@ use checking::checking::check_list;
 use clean::writing::write;
 use machine::run;
 use reading::reading::read;
+use records::replaying::replay;
 use translating::translating::translate;
 ghost use mathlib.Core.Path.{_≡_};
 ghost use Rattle.checking.specs.Checking.{Checks};
 ghost use Rattle.clean.specs.Job.{Writes};
 ghost use Rattle.machine.specs.Machine.{job};
-ghost use Rattle.jobs.specs.Jobs.{Answers, Pages, Says, exitOf, given};
+ghost use Rattle.jobs.specs.Jobs.{Answers, Pages, Says, exitOf, given, replayedOf, gone};
 ghost use Rattle.reading.specs.Reading.{Reads};
+ghost use Rattle.records.specs.Replay.{replay as replayOf};
 ghost use Rattle.translating.specs.Job.{Translates};
 
 // Source to table: the answer's number, and its place.
@@ -89,4 +91,23 @@ pub extern "C" fn deed_check(
     *number = checked.number();
     *place = checked.place();
     checked.kind()
+}
+
+// Code and a record: 0 where a fresh run agrees; 1 where it differs, with the first entry that does for the place; 2 where a word is bad, with its
+// index; 3 where the store or the output is shorter than the record's, with the answer's number.
+#[no_mangle]
+pub extern "C" fn deed_replay(
+    code: &[u32],
+    kept: &[i32],
+    store: &mut [i64],
+    output: &mut [i32],
+    number: &mut u16,
+    place: &mut usize,
+) -> u16
+    ensures { λ r. ⌜ gone r (now (number .exit)) (now (place .exit)) (now (store .exit)) (now (output .exit)) ≡ replayedOf (replayOf (now (code .entry)) (now (kept .entry)) (now (store .entry)) (now (output .entry))) ⌝ }
+{
+    let replayed = replay(code, kept, store, output);
+    *number = replayed.number();
+    *place = replayed.place();
+    replayed.kind()
 }
