@@ -4,3 +4,4 @@ pub mod Ended
 pub mod Sent
 pub mod Capitals
 pub mod Counted
+pub mod Months

@@ -16,10 +16,10 @@ ghost use Rattle.vectors.specs.Capitals.{CapitalsTold};
 ghost use Rattle.vectors.specs.Counted.{RowTold, Rows, CapitalRows};
 
 // A row: the two names, 24 bytes each, and the line's end.
-const ROW: usize = 49;
+pub const ROW: usize = 49;
 
 // Where the name in the row that starts at `from` ends.
-fn name_end(text: &[u8], from: usize) -> usize
+pub fn name_end(text: &[u8], from: usize) -> usize
     requires { ⌜ from ≤ length (now text) ⌝ }
     ensures { λ r. ⌜ (from ≤ r) × (r ≤ length (now (text .entry))) ⌝ }
 {

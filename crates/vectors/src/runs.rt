@@ -113,7 +113,7 @@ fn refused(t: Tally, name: &[u8], code: &[u32]) -> Tally
 }
 
 // The numbers from `from` on, as many as there is room for; and where the next one begins.
-fn inputs_at(text: &[u8], from: usize, input: &mut [i32]) -> usize
+pub fn inputs_at(text: &[u8], from: usize, input: &mut [i32]) -> usize
     ensures { λ r. ⌜ r ≡ after (now (text .entry)) (length (now (input .entry))) from ⌝ }
     ensures { λ _. ⌜ now (input .exit) ≡ numbers (now (text .entry)) (length (now (input .entry))) from ⌝ }
 {
@@ -249,13 +249,13 @@ fn fresh_input() -> [i32; 128]
     [0; 128]
 }
 
-fn fresh_store() -> [i64; 16386]
+pub fn fresh_store() -> [i64; 16386]
     ensures { λ r. ⌜ r ≡ freshStore ⌝ }
 {
     [UNUSED; 16386]
 }
 
-fn fresh_output() -> [i32; 1536]
+pub fn fresh_output() -> [i32; 1536]
     ensures { λ r. ⌜ r ≡ freshOutput ⌝ }
 {
     [UNWRITTEN; 1536]

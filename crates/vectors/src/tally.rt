@@ -8,7 +8,7 @@ pub fn print(text: &[u8]) {
     io::write_all(STDOUT_FILENO, text);
 }
 
-fn print_count(n: u32) {
+pub fn print_count(n: u32) {
     io::print_decimal(STDOUT_FILENO, n as u64);
 }
 
@@ -27,7 +27,7 @@ pub struct Tally {
 }
 
 // One more; the greatest number stays.
-fn more(n: u32) -> u32
+pub fn more(n: u32) -> u32
     ensures { λ r. ⌜ r ≡ moreOf n ⌝ }
 {
     if n < 4294967295 {

@@ -22,4 +22,5 @@ main-spec =
     slice-aggregate-rows
     (λ c κs. search needs)
     (λ c κs. search needs)
+    (λ c κs. search needs)
     (λ c. search needs))
