@@ -3,7 +3,6 @@
 // many words there are, and these.
 use crate::reads::accepted;
 use crate::rows::ROW;
-use crate::rows::buffer;
 use crate::rows::load;
 use crate::rows::name_end;
 use crate::runs::fresh_output;
@@ -12,6 +11,7 @@ use crate::runs::inputs_at;
 use crate::tally::more;
 use crate::tally::print;
 use crate::tally::print_count;
+use crate::texts::buffer;
 use crate::texts::clipped;
 use crate::texts::number_at;
 use crate::texts::page_at;
