@@ -16,7 +16,7 @@
  *   - code made by an earlier deed_translate is to be made again: some operands have another meaning, and there are five more operations.
  * A table is as before, with a type 3 (real), a node 34 (a number with a point) and the environment's number 4 (outreal).
  *
- * Version 8 (change request 8, capitals) asks nothing of callers of version 6. Two names that differ in letter case alone are one name, and delimiter
+ * Change request 8 (capitals) asks nothing of callers. Two names that differ in letter case alone are one name, and delimiter
  * words match in any case, so a source that has such names or words may be answered otherwise; every other source is answered as before.
  */
 #ifndef DEED_H
@@ -29,8 +29,8 @@
 extern "C" {
 #endif
 
-/* The change request up to which this library goes. */
-enum { DEED_VERSION = 8 };
+/* The greatest change request up to which all are in. Besides, 8 (capitals), 9 (the display, which no caller sees) and of 11 deed_replay are in. */
+enum { DEED_VERSION = 6 };
 
 /* The lengths that the jobs want or use. */
 enum {
