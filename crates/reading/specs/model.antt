@@ -1,1 +1,3 @@
 pub mod Stages
+pub mod Moves
+pub mod Preluding

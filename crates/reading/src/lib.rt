@@ -2,6 +2,8 @@
 use answers::Refusal;
 
 pub mod finding; // the front end, for every job that takes a source
+pub mod moving; // a prelude and a scheme brought together
+pub mod preluding; // a prelude by itself, to its nodes
 pub mod reading; // the job
 
 // How much of the lent arrays an accepted source fills: symbols, words of nodes, rows of four words, uses.

@@ -9,7 +9,7 @@ use lib.Dec.{eqb}
 use borrow.Author.Tests.{ne-eqb, eq-eqb}
 use Rattle.symbols.specs.Symbols.{kind}
 use Rattle.grammar.specs.Grammar.{Op, times, over, divide, plus, minus, and, or, implies, equals, opSymbol, Relation, less, lessEqual, equal, greaterEqual, greater, notEqual, relationSymbol}
-use Rattle.grammar.specs.Grammar.{operand}
+use Rattle.grammar.specs.Grammar.{operand, prelude, no-procedure}
 use Rattle.grammar.specs.Grammar.{inner, declarations, declaration, declared, type, formals, values, specifications, others, statements, statement, consequence, alternative, further, progress, unconditional, named, right, expression, level, more, negation, comparison, primary, actuals, further-actuals}
 use Rattle.grammar.specs.Grammar.{a-compound, no-declaration, typed, variables, no-formals, no-values, no-specification, no-other, no-statement, plain, then-plain, no-else, no-element, once, dummy, call, left, value, simple, chain, signed, again, no-more, no-not, compare, no-comparison, number, bare, no-actual}
 use Rattle.grammar.specs.declared.Entry.{Entry}
@@ -34,6 +34,9 @@ module _ {c : ℕ} where
 
   pub else-declarations : (c ≡ 11 → ⊥) → (c ≡ 12 → ⊥) → (c ≡ 13 → ⊥) → (c ≡ 40 → ⊥) → choose declarations c 0 ≡ some no-declaration
   else-declarations p0 p1 p2 p3 = simp (ne-eqb _ _ p0, ne-eqb _ _ p1, ne-eqb _ _ p2, ne-eqb _ _ p3)
+
+  pub else-prelude : (c ≡ 11 → ⊥) → (c ≡ 12 → ⊥) → (c ≡ 40 → ⊥) → (c ≡ 13 → ⊥) → choose prelude c 0 ≡ some no-procedure
+  else-prelude p0 p1 p2 p3 = simp (ne-eqb _ _ p0, ne-eqb _ _ p1, ne-eqb _ _ p2, ne-eqb _ _ p3)
 
   pub else-declaration : (c ≡ 13 → ⊥) → choose declaration c 0 ≡ some typed
   else-declaration p0 = simp (ne-eqb _ _ p0)

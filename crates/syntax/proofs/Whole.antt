@@ -34,7 +34,7 @@ taken {ks} {F = F} B {j = j} (rd-got {p = begin-end} {t = t} level h v end) q n 
 the-program : {ks old mid : List ℕ} {B : ℕ} {F : List ℕ} {j b : ℕ} → Got ks old mid 1 B F (unmarked (rd false block ∷ [])) 0 0 j b → Program ks mid F j b
 the-program {B = B} g = taken B (g .run) refl (omega (arith, g .num)) (g .wrote)
 
-cleared : {mid new : List ℕ} → Clear mid new 0 → length mid ≡ node-words → new ≡ zeros node-words
+pub cleared : {mid new : List ℕ} → Clear mid new 0 → length mid ≡ node-words → new ≡ zeros node-words
 cleared {mid} c size = c .words ∙ ap (λ (n : ℕ). zeros n) none
   where
     none : length mid - 0 ≡ node-words

@@ -1,2 +1,3 @@
 pub mod Operators
 pub mod Says
+pub mod Preludes

@@ -6,12 +6,14 @@ ghost use lib.ListN.{length, take};
 ghost use Prim.Native.Nat.{_≤_};
 ghost use Rattle.grammar.specs.model.Text.{text};
 ghost use Rattle.grammar.specs.model.Parsing.{node-words, ParseSays};
+ghost use Rattle.syntax.specs.model.Preludes.{PreludeSays};
 
 mod clauses; // what begins with a name, and for clauses
 mod expressions; // expressions
 mod headings; // types, lists of names, procedure headings
 mod limits; // what is said where something too deep would begin
 mod operators; // operators by their level
+mod preludes; // preludes
 mod statements; // statements, blocks and declarations
 mod text; // the symbols
 mod writing; // the words of the nodes
@@ -22,6 +24,13 @@ pub fn parse(kinds: &[u8; 2048], count: usize, nodes: &mut [u16; 32768]) -> Pars
     ensures { λ r. ⌜ ParseSays (text (take count (now (kinds .entry)))) (now (nodes .exit)) r ⌝ }
 {
     front(kinds, count, nodes)
+}
+
+// Reads the first count symbols as a prelude; the nodes of one that is accepted stand in the first words, and all other words are zero.
+pub fn parse_prelude(kinds: &[u8; 2048], count: usize, nodes: &mut [u16; 32768]) -> Parsed
+    ensures { λ r. ⌜ PreludeSays (text (take count (now (kinds .entry)))) (now (nodes .exit)) r ⌝ }
+{
+    preludes::first(kinds, count, nodes)
 }
 
 // The first symbols of those that are lent.

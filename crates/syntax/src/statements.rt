@@ -149,7 +149,7 @@ fn declared(kinds: &[u8], pos: usize, depth: u16, nodes: &mut [u16], free: usize
 }
 
 // A procedure's heading and body.
-fn procedure(kinds: &[u8], pos: usize, depth: u16, nodes: &mut [u16], free: usize) -> Parsed
+pub fn procedure(kinds: &[u8], pos: usize, depth: u16, nodes: &mut [u16], free: usize) -> Parsed
     requires { ⌜ Room (text (now kinds)) (now nodes) pos free ⌝ }
     ensures { λ r. ⌜ Says (text (now (kinds .entry))) (now (nodes .entry)) (now (nodes .exit)) depth pos (kind Semicolon ∷ []) (part a-procedure ∷ []) pos free r ⌝ }
 {
