@@ -10,7 +10,7 @@ ghost use lib.ListN.{length, getD};
 ghost use Rattle.names.specs.model.Rows.{isUse, meantOf};
 ghost use mathlib.Core.Bool.{cond};
 ghost use Rattle.table.specs.Table.{hasNone, declarationWords, nodeWords};
-ghost use Rattle.table.specs.model.Writing.{Wrote, Enters, Writes, among, placeOf, meantWords, useModel, tableModel};
+ghost use Rattle.table.specs.model.Writing.{Wrote, Enters, Writes, among, placeOf, meantWords, useModel, tableModel, tableBehind, fourthKind, fourths as the-fourths};
 
 // The place of a symbol, as the table holds it.
 fn place_word(places: &[usize; 2048], symbol: Ordinal) -> u16
@@ -197,15 +197,22 @@ fn put_nodes(table: &mut [u16], from: usize, nodes: &[u16], places: &[usize; 204
     at
 }
 
-// The three sections, each after its count.
-fn put_all(table: &mut [u16], nodes: &[u16], uses: &[u16], rows: &[u16], places: &[usize; 2048])
-    requires { ⌜ (length (tableModel (placeOf (now places)) (now rows) (now nodes) (now uses)) ≤ length (now table)) × (length (now nodes) ≤ 32768) × (length (now rows) ≤ 32768) × (length (now uses) ≤ 8192) ⌝ }
-    ensures { λ _. ⌜ Wrote (now (table .entry)) (now (table .exit)) 0 (tableModel (placeOf (now (places .entry))) (now (rows .entry)) (now (nodes .entry)) (now (uses .entry))) ⌝ }
+// The three sections, each after its count. The rows of `own` are listed; those of `rows` tell what a use means.
+fn put_all(
+    table: &mut [u16],
+    nodes: &[u16],
+    uses: &[u16],
+    rows: &[u16],
+    own: &[u16],
+    places: &[usize; 2048],
+)
+    requires { ⌜ (length (tableBehind (placeOf (now places)) (now rows) (now own) (now nodes) (now uses)) ≤ length (now table)) × (length (now nodes) ≤ 32768) × (length (now own) ≤ 32768) × (length (now uses) ≤ 8192) ⌝ }
+    ensures { λ _. ⌜ Wrote (now (table .entry)) (now (table .exit)) 0 (tableBehind (placeOf (now (places .entry))) (now (rows .entry)) (now (own .entry)) (now (nodes .entry)) (now (uses .entry))) ⌝ }
 {
     put(table, 0, uses.len() as u16);
     let a = put_uses(table, 1, nodes, uses, rows, places);
-    put(table, a, (rows.len() / 4) as u16);
-    let b = put_declarations(table, a + 1, rows, places);
+    put(table, a, (own.len() / 4) as u16);
+    let b = put_declarations(table, a + 1, own, places);
     put(table, b, (nodes.len() / 4) as u16);
     put_nodes(table, b + 1, nodes, places);
 }
@@ -229,15 +236,43 @@ fn uses_among(nodes: &[u16]) -> usize
 }
 
 // How many words the table of some arrays has.
-fn needed(nodes: &[u16], rows: &[u16]) -> usize
-    requires { ⌜ (length (now nodes) ≤ 32768) × (length (now rows) ≤ 32768) ⌝ }
-    ensures { λ r. ⌜ ((place : ℕ → ℕ) (uses : List ℕ) → r ≡ length (tableModel place (now (rows .entry)) (now (nodes .entry)) uses)) ⌝ }
+fn needed(nodes: &[u16], own: &[u16]) -> usize
+    requires { ⌜ (length (now nodes) ≤ 32768) × (length (now own) ≤ 32768) ⌝ }
+    ensures { λ r. ⌜ ((place : ℕ → ℕ) (rows uses : List ℕ) → r ≡ length (tableBehind place rows (now (own .entry)) (now (nodes .entry)) uses)) ⌝ }
 {
-    3 + 3 * uses_among(nodes) + 4 * (rows.len() / 4) + 4 * (nodes.len() / 4)
+    3 + 3 * uses_among(nodes) + 4 * (own.len() / 4) + 4 * (nodes.len() / 4)
 }
 
 // The table of some arrays, written over the front of the one that is lent; where they are longer than a front end's, or the
-// table is too short for them, nothing is written. Says whether it was.
+// table is too short for them, nothing is written. Says whether it was. The rows of `own` are listed; those of `rows`, which are
+// more where a program stands behind a prelude, tell what a use means.
+pub fn write_behind(
+    table: &mut [u16],
+    nodes: &[u16],
+    uses: &[u16],
+    rows: &[u16],
+    own: &[u16],
+    places: &[usize; 2048],
+) -> bool
+    ensures { λ r. ⌜ Writes (Enters (now (nodes .entry)) (now (uses .entry)) (now (own .entry)) (now (table .entry)) (tableBehind (placeOf (now (places .entry))) (now (rows .entry)) (now (own .entry)) (now (nodes .entry)) (now (uses .entry)))) (now (table .entry)) (now (table .exit)) (tableBehind (placeOf (now (places .entry))) (now (rows .entry)) (now (own .entry)) (now (nodes .entry)) (now (uses .entry))) r ⌝ }
+{
+    if 32768 < nodes.len() {
+        return false;
+    }
+    if 32768 < own.len() {
+        return false;
+    }
+    if 8192 < uses.len() {
+        return false;
+    }
+    if table.len() < needed(nodes, own) {
+        return false;
+    }
+    put_all(table, nodes, uses, rows, own, places);
+    true
+}
+
+// The table of a program by itself.
 pub fn write(
     table: &mut [u16],
     nodes: &[u16],
@@ -247,18 +282,29 @@ pub fn write(
 ) -> bool
     ensures { λ r. ⌜ Writes (Enters (now (nodes .entry)) (now (uses .entry)) (now (rows .entry)) (now (table .entry)) (tableModel (placeOf (now (places .entry))) (now (rows .entry)) (now (nodes .entry)) (now (uses .entry)))) (now (table .entry)) (now (table .exit)) (tableModel (placeOf (now (places .entry))) (now (rows .entry)) (now (nodes .entry)) (now (uses .entry))) r ⌝ }
 {
-    if 32768 < nodes.len() {
-        return false;
+    write_behind(table, nodes, uses, rows, rows, places)
+}
+
+// The kind of a use that means a name at a place: 4 for one of a prelude's.
+fn fourth_kind(kind: u16, place: u16) -> u16
+    ensures { λ r. ⌜ r ≡ fourthKind kind place ⌝ }
+{
+    if kind == 0 {
+        return 0;
     }
-    if 32768 < rows.len() {
-        return false;
+    if place < 32768 { kind } else { 4 }
+}
+
+// Of uses, three words each: those that mean a name of a prelude, whose places are from 32,768 on, get kind 4.
+pub fn fourths(words: &mut [u16])
+    ensures { λ _. ⌜ now (words .exit) ≡ the-fourths (now (words .entry)) ⌝ }
+{
+    let mut i = 0;
+    while 3 * i + 2 < words.len() {
+        let k = 3 * i;
+        let kind = fourth_kind(words[k + 1], words[k + 2]);
+        let second = k + 1;
+        words[second] = kind;
+        i += 1;
     }
-    if 8192 < uses.len() {
-        return false;
-    }
-    if table.len() < needed(nodes, rows) {
-        return false;
-    }
-    put_all(table, nodes, uses, rows, places);
-    true
 }

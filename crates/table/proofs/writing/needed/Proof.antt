@@ -6,7 +6,7 @@ use Rattle.table.proofs.writing.needed.Statement.{statement}
 use Rattle.table.proofs.writing.needed.Tie as tie
 
 returns : tie.Need-returns
-returns c = λ place uses. omega (arith, c .uses-among .ensures .0, table-size place (c .before .before .before .args .rows .now) (c .before .before .before .args .nodes .now) uses)
+returns c = λ place rows uses. omega (arith, c .uses-among .ensures .0, table-size place rows (c .before .before .before .args .own .now) (c .before .before .before .args .nodes .now) uses)
 
 pub needed-spec : {M : Type 1} → statement M
 needed-spec =
