@@ -22,17 +22,13 @@ use Rattle.names.proofs.Bridge.{bridge-prelude, bridge-behind}
 use Rattle.reading.specs.Judging as any
 use Rattle.reading.specs.Two.{beyond, symbols, countOf, left, placeWith}
 use Rattle.reading.specs.model.Moves.{page, shift, marked, firstRaised, PlacedWith}
+use Rattle.reading.specs.model.Preluding.{depthWith}
 use Rattle.reading.proofs.Moves.{raised-below, length-raised}
 use Rattle.reading.proofs.Page.{scheme-letters, prelude-letters}
 use Rattle.reading.proofs.Places.{place-inside}
 use Rattle.reading.proofs.Shifted.{shifted}
 
--- the depth of the one program: 0 where there is a block around it
-abbrev pub depthWith : List Procedure → ℕ
-depthWith [] = 1
-depthWith (p ∷ ps) = 0
-
-marked-is : (q : ℕ) (ps : List Procedure) (s : Statement) → marked q (nodesD 0 (declarationsOf ps)) (nodesS 1 s) ≡ nodesS (depthWith ps) (withPrelude q ps s)
+pub marked-is : (q : ℕ) (ps : List Procedure) (s : Statement) → marked q (nodesD 0 (declarationsOf ps)) (nodesS 1 s) ≡ nodesS (depthWith ps) (withPrelude q ps s)
 unfolding nodesS nodesD nodesP
 marked-is q [] s = refl
 marked-is q (heading t f xs vs ss b ∷ ps) s = refl

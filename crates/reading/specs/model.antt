@@ -1,3 +1,4 @@
+pub mod Passing
 pub mod Stages
 pub mod Moves
 pub mod Preluding

@@ -6,7 +6,6 @@ use answers::Answer;
 use answers::Ordinal;
 use answers::Place;
 use answers::Refusal;
-use answers::Verdict;
 use grammar::Parsed;
 use names::faults;
 use names::passes::identify;
@@ -17,14 +16,11 @@ use symbols::scanning::scan;
 use syntax::parse;
 use types::check;
 ghost use mathlib.Core.Path.{_≡_};
-ghost use mathlib.Core.List.{List};
-ghost use Prim.Native.Nat.{ℕ, _*_, _<_, min};
+ghost use Prim.Native.Nat.{_<_, min};
 ghost use lib.ListN.{take};
-ghost use Rattle.answers.specs.Answers.{refusal};
-ghost use Rattle.names.specs.model.Rows.{faultOf, noFault, outlineOf};
-ghost use Rattle.types.specs.model.Passes.{marksOf};
-ghost use Rattle.reading.specs.Reading.{placeIn};
-ghost use Rattle.reading.specs.model.Stages.{Placed, Symbols, Ready, Known, Outlined, Named, Typed, Tells, Resolved, Declared, Finds};
+ghost use Rattle.names.specs.model.Rows.{noFault};
+ghost use Rattle.reading.specs.model.Passing.{placeFrom, refusedFor, Passes};
+ghost use Rattle.reading.specs.model.Stages.{Symbols, Tells, Declared, Finds};
 
 // The least of two.
 fn lesser(a: usize, b: usize) -> usize
@@ -33,134 +29,37 @@ fn lesser(a: usize, b: usize) -> usize
     if a < b { a } else { b }
 }
 
-// The place of a symbol; behind the last one, the source's length.
-fn place_at(source: &[u8], places: &[usize; 2048], count: usize, symbol: Ordinal) -> Place
-    requires { ⌜ Placed (now source) (now places) count ⌝ }
-    ensures { λ r. ⌜ r .at ≡ placeIn (now (source .entry)) (symbol .number) ⌝ }
+// The place of a symbol; behind the last one, the end that is handed in.
+pub fn place_at(end: usize, places: &[usize; 2048], count: usize, symbol: Ordinal) -> Place
+    ensures { λ r. ⌜ r .at ≡ placeFrom (now (places .entry)) count end (symbol .number) ⌝ }
 {
     let s = symbol.number as usize;
     if s < count {
-        return Place { at: places[s] };
+        if s < 2048 {
+            return Place { at: places[s] };
+        }
     }
-    Place { at: source.len() }
+    Place { at: end }
 }
 
 // The refusal at a fault's symbol.
-fn refused(fault: usize, source: &[u8], places: &[usize; 2048], count: usize) -> Refusal
-    requires { ⌜ Placed (now source) (now places) count × (fault < noFault) ⌝ }
-    ensures { λ r. ⌜ r ≡ refusal (faultOf fault .answer) (placeIn (now (source .entry)) (faultOf fault .symbol)) ⌝ }
+fn refused(fault: usize, end: usize, places: &[usize; 2048], count: usize) -> Refusal
+    requires { ⌜ fault < noFault ⌝ }
+    ensures { λ r. ⌜ r ≡ refusedFor (placeFrom (now (places .entry)) count end) fault ⌝ }
 {
     let symbol = Ordinal {
         number: (fault / 16) as u16,
     };
-    let place = place_at(source, places, count, symbol);
+    let place = place_at(end, places, count, symbol);
     let number = (fault % 16) as u16;
     Refusal::new(Answer { number }, place.at)
 }
 
-// A program whose names are without a fault: 10, or none.
-fn typed(
-    source: &[u8],
-    places: &[usize; 2048],
-    count: usize,
-    nodes: &[u16; 32768],
-    words: usize,
-    rows: &[u16; 32768],
-    declared: usize,
-    uses: &[u16; 8192],
-    used: usize,
-    marks: &mut [u16; 2048],
-) -> Verdict
-    requires { ⌜ Placed (now source) (now places) count ⌝ }
-    ensures { λ r. ⌜ ((ids : List ℕ) (m : Named (now (source .entry)) (now (places .entry)) (take words (now (nodes .entry))) ids (take (4 * declared) (now (rows .entry))) (take used (now (uses .entry))) count) → Typed m r) ⌝ }
-    ensures { λ _. ⌜ now (marks .exit) ≡ marksOf (take (4 * declared) (now (rows .entry))) (take used (now (uses .entry))) (take words (now (nodes .entry))) (now (marks .entry)) ⌝ }
-{
-    let fault = check(nodes, words, uses, used, rows, declared, marks);
-    if fault < faults::NONE {
-        return Verdict::Refused(refused(fault, source, places, count));
-    }
-    Verdict::Accepted
-}
-
-// A program whose declarations are known: 7 to 9, or on.
-fn resolved(
-    source: &[u8],
-    places: &[usize; 2048],
-    count: usize,
-    nodes: &[u16; 32768],
-    words: usize,
-    ids: &[u16; 2048],
-    rows: &[u16; 32768],
-    declared: usize,
-    least: usize,
-    uses: &mut [u16; 8192],
-    marks: &mut [u16; 2048],
-) -> Found
-    requires { ⌜ Outlined (now source) (now places) (take words (now nodes)) (now ids) (take (4 * declared) (now rows)) count × (least ≡ outlineOf (now ids) (take words (now nodes)) .least) ⌝ }
-    ensures { λ r. ⌜ Tells (now (source .entry)) (Resolved (now (source .entry)) (now (places .entry)) (now (nodes .entry)) (now (ids .entry)) (now (rows .entry)) (now (uses .exit)) (now (marks .entry)) (now (marks .exit)) count) r ⌝ }
-{
-    let u = resolve(nodes, words, rows, declared, ids, uses);
-    let fault = lesser(least, u.least);
-    if fault < faults::NONE {
-        return Found::Refused(refused(fault, source, places, count));
-    }
-    let used = u.count;
-    match typed(
-        source,
-        places,
-        count,
-        nodes,
-        words,
-        rows,
-        declared,
-        uses,
-        used,
-        marks,
-    ) {
-        Verdict::Accepted => Found::Program(Sizes {
-            symbols: count,
-            nodes: words,
-            rows: declared,
-            uses: used,
-        }),
-        Verdict::Refused(r) => Found::Refused(r),
-    }
-}
-
-// A program whose symbols have identities.
-fn declared(
-    source: &[u8],
-    places: &[usize; 2048],
-    count: usize,
-    nodes: &[u16; 32768],
-    words: usize,
-    ids: &[u16; 2048],
-    rows: &mut [u16; 32768],
-    uses: &mut [u16; 8192],
-    marks: &mut [u16; 2048],
-) -> Found
-    requires { ⌜ Known (now source) (now places) (take words (now nodes)) (now ids) count ⌝ }
-    ensures { λ r. ⌜ Tells (now (source .entry)) (Resolved (now (source .entry)) (now (places .entry)) (now (nodes .entry)) (now (ids .entry)) (now (rows .exit)) (now (uses .exit)) (now (marks .entry)) (now (marks .exit)) count) r ⌝ }
-{
-    let o = outline(nodes, words, ids, rows);
-    resolved(
-        source,
-        places,
-        count,
-        nodes,
-        words,
-        ids,
-        rows,
-        o.count,
-        o.least,
-        uses,
-        marks,
-    )
-}
-
-// A program, of which the nodes are lent.
-fn named(
-    source: &[u8],
+// Names and types, over nodes and the page on which their names stand: 7 to 10, or rows, uses and marks. A program by itself, a prelude, and both as one
+// program take this.
+pub fn passed(
+    page: &[u8],
+    end: usize,
     places: &[usize; 2048],
     count: usize,
     nodes: &[u16; 32768],
@@ -169,12 +68,28 @@ fn named(
     uses: &mut [u16; 8192],
     marks: &mut [u16; 2048],
 ) -> Found
-    requires { ⌜ Ready (now source) (now places) (take words (now nodes)) count ⌝ }
-    ensures { λ r. ⌜ Tells (now (source .entry)) (Declared (now (source .entry)) (now (places .entry)) (now (nodes .entry)) (now (rows .exit)) (now (uses .exit)) (now (marks .entry)) (now (marks .exit)) count) r ⌝ }
+    ensures { λ r. ⌜ Passes (now (page .entry)) (now (places .entry)) (take words (now (nodes .entry))) (now (rows .exit)) (now (uses .exit)) (now (marks .entry)) (now (marks .exit)) count end words r ⌝ }
 {
     let mut ids = [0u16; 2048];
-    identify(source, places, count, &mut ids);
-    declared(source, places, count, nodes, words, &ids, rows, uses, marks)
+    identify(page, places, count, &mut ids);
+    let o = outline(nodes, words, &ids, rows);
+    let declared = o.count;
+    let u = resolve(nodes, words, rows, declared, &ids, uses);
+    let used = u.count;
+    let fault = lesser(o.least, u.least);
+    if fault < faults::NONE {
+        return Found::Refused(refused(fault, end, places, count));
+    }
+    let mistake = check(nodes, words, uses, used, rows, declared, marks);
+    if mistake < faults::NONE {
+        return Found::Refused(refused(mistake, end, places, count));
+    }
+    Found::Program(Sizes {
+        symbols: count,
+        nodes: words,
+        rows: declared,
+        uses: used,
+    })
 }
 
 // The symbols of a source: 5 or 6, or on.
@@ -192,8 +107,9 @@ fn parsed(
     ensures { λ r. ⌜ Tells (now (source .entry)) (Declared (now (source .entry)) (now (places .entry)) (now (nodes .exit)) (now (rows .exit)) (now (uses .exit)) (now (marks .entry)) (now (marks .exit)) count) r ⌝ }
 {
     match parse(kinds, count, nodes) {
-        Parsed::Read { next: _, used } => named(
+        Parsed::Read { next: _, used } => passed(
             source,
+            source.len(),
             places,
             count,
             nodes,
@@ -204,7 +120,7 @@ fn parsed(
         ),
         Parsed::Refused { answer, at } => {
             let symbol = Ordinal { number: at as u16 };
-            let place = place_at(source, places, count, symbol);
+            let place = place_at(source.len(), places, count, symbol);
             Found::Refused(Refusal::new(answer, place.at))
         }
     }

@@ -1,6 +1,4 @@
 // Request 7: a prelude and a scheme brought together. Their texts stand on one page; the scheme's symbols and nodes stand behind the prelude's.
-use answers::Ordinal;
-use answers::Place;
 use grammar::nodes;
 ghost use mathlib.Core.Path.{_≡_};
 ghost use mathlib.Core.Bool.{cond};
@@ -9,8 +7,8 @@ ghost use Prim.Native.Nat.{ℕ, _+_, _*_, _<_, _≤_};
 ghost use lib.ListN.{length, take, getD};
 ghost use Rattle.grammar.specs.model.Parsing.{zeros};
 ghost use Rattle.names.specs.Nodes.{mark as the-mark};
-ghost use Rattle.reading.specs.Two.{beyond as the-beyond, placeWith};
-ghost use Rattle.reading.specs.model.Moves.{laid, firstRaised, page as the-page, without, firstShifted, Symbols, marked, PlacedWith};
+ghost use Rattle.reading.specs.Two.{beyond as the-beyond};
+ghost use Rattle.reading.specs.model.Moves.{laid, firstRaised, page as the-page, without, firstShifted, Symbols, marked};
 
 // Lays the first bytes of those lent over others, from a place on.
 pub fn bytes(words: &mut [u8], at: usize, own: &[u8], count: usize)
@@ -124,23 +122,19 @@ pub fn shift(nodes: &mut [u16], count: usize, m: u16)
     }
 }
 
-// A scheme's n symbols behind a prelude's m: kinds, places and values.
+// A scheme's n symbols behind a prelude's m: places and values.
 pub fn symbols(
-    kinds: &mut [u8; 2048],
     places: &mut [usize; 2048],
     values: &mut [u64; 2048],
     m: usize,
-    ownkinds: &[u8; 2048],
     ownplaces: &[usize; 2048],
     ownvalues: &[u64; 2048],
     n: usize,
 )
     requires { ⌜ m + n ≤ 2048 ⌝ }
-    ensures { λ _. ⌜ take (m + n) (now (kinds .exit)) ≡ take m (now (kinds .entry)) ++ take n (now (ownkinds .entry)) ⌝ }
     ensures { λ _. ⌜ take (m + n) (now (places .exit)) ≡ take m (now (places .entry)) ++ take n (now (ownplaces .entry)) ⌝ }
     ensures { λ _. ⌜ take (m + n) (now (values .exit)) ≡ take m (now (values .entry)) ++ take n (now (ownvalues .entry)) ⌝ }
 {
-    bytes(kinds, m, ownkinds, n);
     place_words(places, m, ownplaces, n);
     value_words(values, m, ownvalues, n);
 }
@@ -179,16 +173,4 @@ pub fn around(
     words(out, p + 8, own, n);
     mark(out, p + n + 8, nodes::BLOCK_END, symbol);
     p + n + 12
-}
-
-// The place of a symbol of both; behind the last one, the scheme's length, which is handed in.
-pub fn place_with(end: usize, places: &[usize; 2048], count: usize, symbol: Ordinal) -> Place
-    requires { ⌜ count ≤ 2048 ⌝ }
-    ensures { λ r. ⌜ ((prelude scheme : List ℕ) → PlacedWith prelude scheme (now (places .entry)) count → end ≡ length scheme → r .at ≡ placeWith prelude scheme (symbol .number)) ⌝ }
-{
-    let s = symbol.number as usize;
-    if s < count {
-        return Place { at: places[s] };
-    }
-    Place { at: end }
 }

@@ -18,7 +18,7 @@ ghost use Rattle.reading.specs.Reading.{cleared, Judged, Reads};
 ghost use Rattle.reading.specs.model.Stages.{Holds};
 
 // Sets every word to zero.
-fn clear(words: &mut [u16])
+pub fn clear(words: &mut [u16])
     ensures { λ _. ⌜ now (words .exit) ≡ zeros (length (now (words .entry))) ⌝ }
 {
     let mut i = 0;

@@ -5,18 +5,15 @@ use mathlib.Core.List.{List}
 use mathlib.Core.Option.{none}
 use lib.ListN.{length, getD, take}
 use Rattle.grammar.specs.model.Marked.{nodesOf}
-use Rattle.names.specs.model.Identity.{Identified}
-use Rattle.names.specs.Program.{Statement}
 use Rattle.types.specs.Types.{typeFault}
 use Rattle.types.specs.model.Passes.{marksOf}
 use Rattle.symbols.specs.Scan.{scan, valuesOf}
 use Rattle.answers.specs.declared.Refusal.{Refusal}
-use Rattle.answers.specs.declared.Verdict.{Verdict}
-use Rattle.answers.specs.declared.Verdict.the-variants.{Accepted, Refused as NotAccepted}
-use Rattle.names.specs.model.Rows.{outlineOf, usesOf}
+use Rattle.answers.specs.declared.Verdict.the-variants.{Refused as NotAccepted}
 use Rattle.names.specs.Uses.{nameFaults, least}
 use Rattle.reading.specs.Judging.{itsProgram}
 use Rattle.reading.specs.Reading.{symbols, kindsIn, placeIn, cleared, Scanned, Grammatical, Judged}
+use Rattle.reading.specs.model.Passing.{Kept}
 use Rattle.reading.specs.declared.Sizes.{Sizes}
 use Rattle.reading.specs.declared.Found.{Found}
 use Rattle.reading.specs.declared.Found.the-variants.{Program, Refused}
@@ -41,48 +38,22 @@ pub record Ready (source places nodes : List ℕ) (n : ℕ) : Type 0 where
   pub places-in : Placed source places n
   pub words : nodes ≡ nodesOf (program .tree)
 
--- and the identities of its symbols
-pub record Known (source places nodes ids : List ℕ) (n : ℕ) : Type 0 where
-  pub ready : Ready source places nodes n
-  pub identified : Identified source places ids n
-
--- and its declarations
-pub record Outlined (source places nodes ids rows : List ℕ) (n : ℕ) : Type 0 where
-  pub known : Known source places nodes ids n
-  pub rowed : rows ≡ outlineOf ids nodes .rows
-
--- and its uses, and no name is at fault
-pub record Named (source places nodes ids rows uses : List ℕ) (n : ℕ) : Type 0 where
-  pub outlined : Outlined source places nodes ids rows n
-  pub used : uses ≡ usesOf ids rows nodes .uses
-  pub faultless : least (nameFaults (itsProgram (outlined .known .ready .program))) ≡ none
-
 -- ---- what each stage of the front end gives back: the refusal of the source, or what stands
-
-abbrev pub programOf : {source places nodes ids rows uses : List ℕ} {n : ℕ} → Named source places nodes ids rows uses n → Statement
-programOf m = itsProgram (m .outlined .known .ready .program)
-
--- 10, or no type is at fault
-pub data Typed {source places nodes ids rows uses : List ℕ} {n : ℕ} (m : Named source places nodes ids rows uses n) : Verdict → Type 0 where
-  right : typeFault (programOf m) ≡ none → Typed m Accepted
-  wrong : (r : Refusal) → Judged source (NotAccepted r) cleared → Typed m (NotAccepted r)
 
 -- what is found is the source's refusal, or its sizes are told with what stands then
 pub data Tells (source : List ℕ) (P : Sizes → Type 0) : Found → Type 0 where
   program : (s : Sizes) → P s → Tells source P (Program s)
   refused : (r : Refusal) → Judged source (NotAccepted r) cleared → Tells source P (Refused r)
 
--- the nodes, rows and uses are the first of those that are lent; the marks, which were others before, are those of the type pass
-pub record Resolved (source places nodes ids rows uses was marks : List ℕ) (n : ℕ) (s : Sizes) : Type 0 where
-  pub named : Named source places (take (s .nodes) nodes) ids (take (4 * s .rows) rows) (take (s .uses) uses) n
-  pub typed : typeFault (programOf named) ≡ none
-  pub count : s .symbols ≡ n
-  pub few : s .uses ≤ 8192
-  pub marked : marks ≡ marksOf (take (4 * s .rows) rows) (take (s .uses) uses) (take (s .nodes) nodes) was
-
+-- the nodes, rows and uses are the first of those that are lent, and no name or type is at fault; the marks, which were others before, are those of the type
+-- pass
 pub record Declared (source places nodes rows uses was marks : List ℕ) (n : ℕ) (s : Sizes) : Type 0 where
-  pub ids : List ℕ
-  pub resolved : Resolved source places nodes ids rows uses was marks n s
+  pub ready : Ready source places (take (s .nodes) nodes) n
+  pub kept : Kept source places (take (s .nodes) nodes) rows uses n (s .rows) (s .uses)
+  pub faultless : least (nameFaults (itsProgram (ready .program))) ≡ none
+  pub typed : typeFault (itsProgram (ready .program)) ≡ none
+  pub count : s .symbols ≡ n
+  pub marked : marks ≡ marksOf (take (4 * s .rows) rows) (take (s .uses) uses) (take (s .nodes) nodes) was
 
 -- and so are the kinds and the values of the symbols: this is what every job that takes a source is told
 pub record Holds (source kinds places values nodes rows uses was marks : List ℕ) (s : Sizes) : Type 0 where

@@ -18,7 +18,7 @@ parsed-requires c κs = stand (c .before .before .before .before .before .before
 returns-2 : tie.Need-returns-2
 returns-2 c =
     let told = c .before .before .before .before .before .before .before .before .n .given .1 in
-    onward (c .parsed .ensures) (symbols-first (stand (c .before .before .before .before .before .before .before .before .before .before .scan .ensures) (c .before .before .before .before .before .before .before .before .before .before .before .before .before .before .if1 .left) _ told .kinded) (values-stand (c .before .before .before .before .before .before .before .before .before .before .scan .ensures) _ told))
+    onward (c .parsed .ensures) (symbols-first (stand (c .before .before .before .before .before .before .before .before .before .before .scan .ensures) (c .before .before .before .before .before .before .before .before .before .before .before .before .before .before .if1 .left) _ told .kinded) (values-stand (c .before .before .before .before .before .before .before .before .before .before .scan .ensures) (c .before .before .before .before .before .before .before .before .before .before .before .before .before .before .if1 .left) _ told))
 
 returns-3 : tie.Need-returns-3
 returns-3 c = refused _ (unread (c .before .before .before .scan .ensures) (c .before .before .before .before .before .before .before .if1 .left) _ (c .before .r .given .1))

@@ -10,14 +10,13 @@ use Rattle.reading.proofs.reading.written.Tie as tie
 returns : tie.Need-returns
 returns c = λ source kinds values was marks h.
     let start = c .before .before .before .before .before .before .before .before .before .before in
-    let named = h .declared .resolved .named in
-    table-judged named (h .declared .resolved .typed) _ _ (start .pre .1)
+    table-judged (h .declared) _ _ (start .pre .1)
     (entered
     (record {
-      few-nodes = nodes-short (named .outlined);
-      few-rows = rows-short (named .outlined);
-      few-uses = omega (arith, h .declared .resolved .few, length-take (start .args .s .uses) (start .args .uses .now));
-      room = table-enters named _ (start .pre .1);
+      few-nodes = nodes-short (h .declared);
+      few-rows = rows-short (h .declared);
+      few-uses = omega (arith, h .declared .kept .few, length-take (start .args .s .uses) (start .args .uses .now));
+      room = table-enters (h .declared) _ (start .pre .1);
     })
     (rw (c .before .before .before .before .before .before .front .ensures, c .before .before .before .before .front2 .ensures, c .before .before .before .first-rows .ensures .0) at (c .before .before .write .ensures)))
 
