@@ -13,9 +13,9 @@ use Rattle.names.specs.Uses.{usesS}
 use Rattle.names.specs.Outline.{rowsS}
 use Rattle.names.proofs.Resolved.{Matches}
 use Rattle.translation.specs.model.Translate.{Around, codeS, code, endS}
-use Rattle.machine.specs.model.Words.{words}
+use Rattle.machine.specs.model.Words.{words, CodeFits}
 use Rattle.translation.specs.model.Scoped.{Scoped}
-use Rattle.translation.specs.model.Sizes.{Limited}
+use Rattle.translation.specs.model.Sizes.{symbolsS}
 use Rattle.emitting.specs.model.Emission.{Used, State, put, fresh, emitted, codeOf}
 use Rattle.names.specs.Every.{AnyName, EveryS}
 use Rattle.translating.proofs.Accepting.{Valued, Pointed}
@@ -26,8 +26,6 @@ use Rattle.translating.proofs.ToldCalls.{Asked, ToldS, toldS}
 use Rattle.translating.proofs.ActualWords.{wordIn}
 use Rattle.translating.proofs.Rising.{RowsRise}
 use Rattle.translating.proofs.Sites.{numberOf, LaidS}
-use Rattle.translation.proofs.Ranges.{ends, in-range}
-use Rattle.translation.proofs.Lengths.{fits-words}
 use Rattle.translating.proofs.Shown.{shown, shown-none, shown-whole}
 use Rattle.translating.proofs.SlotLists.{more-slots, aheadS, fewS}
 use Rattle.translating.proofs.EntryTables.{enteredS, RightS, right-entries}
@@ -48,7 +46,7 @@ begun s = record { uses = usesS [] s; at = 0; variable = 0; code = []; slots = [
 fresh-is : (key : ℕ → ℕ) (s : Statement) → fresh 16384 (usesAs key (usesS [] s)) ≡ real key outermost (begun s)
 fresh-is key s = rw (shown-none 16384, shown-none 8192, shown-none 2048)
 
-module _ (place key : ℕ → ℕ) (small : (q : ℕ) → place q < 65536) (values layout rows marks : List ℕ) (s : Statement) (ok : Scoped s)
+module _ (place key : ℕ → ℕ) (small : (q : ℕ) → place q < 65536) (values layout rows marks : List ℕ) (d : ℕ) (s : Statement) (ok : Scoped s)
     (calls : ToldS (Valued values) (Pointed values) (Marked marks) (Asked key rows) [] s) (laid : LaidS key layout 0 0 s) (counts : CountsS rows 0 s) where
   abbrev told : List ℕ → List ℕ → Tables
   told ahead entries = record { place = place; key = key; values = values; layout = layout; ahead = ahead; entries = entries; rows = rows; marks = marks; small = small }
@@ -62,25 +60,25 @@ module _ (place key : ℕ → ℕ) (small : (q : ℕ) → place q < 65536) (valu
 
   -- a pass over all nodes
   whole : (R : Type 0) (ahead entries : List ℕ) → (R → RightS key entries [] s 0)
-      → Passed (told ahead entries) R outermost outermost (nodesS 1 s) [] (endS [] s 0) (before [] s 0) (enteredS [] s 0) (codeS place [] 0 s 0) (begun s)
+      → Passed (told ahead entries) R outermost outermost (nodesS d s) [] (endS [] s 0) (before [] s 0) (enteredS [] s 0) (codeS place [] 0 s 0) (begun s)
   whole R ahead entries right =
-      emitsS (told ahead entries) R [] 0 s 1 0 0 (λ z. tt) right tt ok calls laid counts .pass [] outermost (begun s) (record { level = refl; loops = refl; lefts = refl; awaits = refl }) (sym (append-nil (usesS [] s))) refl refl
+      emitsS (told ahead entries) R [] 0 s d 0 0 (λ z. tt) right tt ok calls laid counts .pass [] outermost (begun s) (record { level = refl; loops = refl; lefts = refl; awaits = refl }) (sym (append-nil (usesS [] s))) refl refl
 
   ran : (R : Type 0) (ahead entries : List ℕ) (right : R → RightS key entries [] s 0)
-      → emitted values layout ahead entries rows marks 16384 place (nodesS 1 s) uses ≡ real key outermost (wrote 1 0 0 (whole R ahead entries right .next))
+      → emitted values layout ahead entries rows marks 16384 place (nodesS d s) uses ≡ real key outermost (wrote 1 0 0 (whole R ahead entries right .next))
   unfolding emitted step foldNodes
   ran R ahead entries right =
       let tb = told ahead entries in
       let p = whole R ahead entries right in
       ap (put 1 0 0)
-      (ap (run tb (nodesS 1 s)) (fresh-is key s)
-      ∙ ap (λ (l : List ℕ). run tb l (real key outermost (begun s))) (sym (append-nil (nodesS 1 s)))
+      (ap (run tb (nodesS d s)) (fresh-is key s)
+      ∙ ap (λ (l : List ℕ). run tb l (real key outermost (begun s))) (sym (append-nil (nodesS d s)))
       ∙ p .goes .so [])
       ∙ put-real key 1 0 0 outermost (p .next)
 
   -- ---- the first run: its tables
 
-  first : Passed (told [] []) ⊥ outermost outermost (nodesS 1 s) [] (endS [] s 0) (before [] s 0) (enteredS [] s 0) (codeS place [] 0 s 0) (begun s)
+  first : Passed (told [] []) ⊥ outermost outermost (nodesS d s) [] (endS [] s 0) (before [] s 0) (enteredS [] s 0) (codeS place [] 0 s 0) (begun s)
   first = whole ⊥ [] [] (λ z. absurd z)
 
   abbrev slots : List ℕ
@@ -92,39 +90,46 @@ module _ (place key : ℕ → ℕ) (small : (q : ℕ) → place q < 65536) (valu
   -- ---- the second
 
   second : RightS key entries [] s 0
-      → Passed (told (shown 8192 slots) entries) (Unit {0}) outermost outermost (nodesS 1 s) [] (endS [] s 0) (before [] s 0) (enteredS [] s 0) (codeS place [] 0 s 0) (begun s)
+      → Passed (told (shown 8192 slots) entries) (Unit {0}) outermost outermost (nodesS d s) [] (endS [] s 0) (before [] s 0) (enteredS [] s 0) (codeS place [] 0 s 0) (begun s)
   second right = whole (Unit {0}) (shown 8192 slots) entries (λ z. right)
 
-  twice : (right : RightS key entries [] s 0) → codeOf 16384 place values layout rows marks (nodesS 1 s) uses ≡ shown 16384 (second right .next .code ++ (1 ∷ 0 ∷ []))
+  twice : (right : RightS key entries [] s 0) → codeOf 16384 place values layout rows marks (nodesS d s) uses ≡ shown 16384 (second right .next .code ++ (1 ∷ 0 ∷ []))
   unfolding codeOf first second
   twice right =
-      let nodes = nodesS 1 s in
+      let nodes = nodesS d s in
       ap (λ (st : State). emitted values layout (st .ahead) (st .entries) rows marks 16384 place nodes uses .code) (ran ⊥ [] [] (λ z. absurd z))
       ∙ ap (λ (l : List ℕ). emitted values layout (shown 8192 slots) (shown 2048 l) rows marks 16384 place nodes uses .code) (first .enters)
       ∙ ap (λ (st : State). st .code) (ran (Unit {0}) (shown 8192 slots) entries (λ z. right))
 
   -- the table of what lies ahead is right
-  few-slots : Limited s → length slots ≤ 8192
-  few-slots l = omega (arith, ap length (more-slots (first .fills)), fewS place (wordIn key layout) [] s 0 [], ends place s (l .whole) (l .symbols))
+  few-slots : endS [] s 0 < 8191 → length slots ≤ 8192
+  few-slots l = omega (arith, ap length (more-slots (first .fills)), fewS place (wordIn key layout) [] s 0 [], l)
 
-  ahead-right : Limited s → shown 8192 slots ≡ before [] s 0 (replicate (8192 - length slots) 0)
+  ahead-right : endS [] s 0 < 8191 → shown 8192 slots ≡ before [] s 0 (replicate (8192 - length slots) 0)
   ahead-right l = shown-whole 8192 slots (few-slots l) ∙ first .fills .so (replicate (8192 - length slots) 0)
 
-  written : Limited s → (right : RightS key entries [] s 0) → second right .next .code ++ (1 ∷ 0 ∷ []) ≡ words (code place s)
+  written : endS [] s 0 < 8191 → CodeFits (code place s) → (right : RightS key entries [] s 0) → second right .next .code ++ (1 ∷ 0 ∷ []) ≡ words (code place s)
   unfolding code words
-  written l right = second right .right tt (replicate (8192 - length slots) 0) (END ∷ []) (ahead-right l) (in-range place s l) .0
+  written l i right = second right .right tt (replicate (8192 - length slots) 0) (END ∷ []) (ahead-right l) i .0
 
--- the words of the pass are the words of the translation, and zeros behind them
-pub emitted-code : (place : ℕ → ℕ) → ((q : ℕ) → place q < 65536) → (n : ℕ) (values layout marks : List ℕ) (s : Statement) → n ≤ 2048 → RowsRise 0 n (rowsS 0 0 s) → Scoped s → Limited s
+-- what has room: no more symbols than may come, and the code in its words
+pub record Roomy (place : ℕ → ℕ) (s : Statement) : Type 0 where
+  pub symbols : symbolsS s ≤ 2048
+  pub ended : endS [] s 0 < 8191
+  pub ranged : CodeFits (code place s)
+  pub fits : length (words (code place s)) ≤ 16384
+
+-- the words of the pass are the words of the translation, and zeros behind them; at any depth
+pub emitted-code : (place : ℕ → ℕ) → ((q : ℕ) → place q < 65536) → (n : ℕ) (values layout marks : List ℕ) (d : ℕ) (s : Statement) → n ≤ 2048 → RowsRise 0 n (rowsS 0 0 s) → Scoped s → Roomy place s
     → HeadedS s → EveryS AnyName (Valued values) (Pointed values) s → StandS (Marked marks) [] s → LaidS (numberOf (rowsS 0 0 s)) layout 0 0 s
     → (words-of : List ℕ) → Matches (rowsS 0 0 s) words-of (usesS [] s)
-    → codeOf 16384 place values layout (rowsS 0 0 s) marks (nodesS 1 s) (usesAs (numberOf (rowsS 0 0 s)) (usesS [] s)) ≡ words (code place s) ++ replicate (16384 - length (words (code place s))) 0
-emitted-code place small n values layout marks s few rising ok limited headed numbers stand laid ws used =
+    → codeOf 16384 place values layout (rowsS 0 0 s) marks (nodesS d s) (usesAs (numberOf (rowsS 0 0 s)) (usesS [] s)) ≡ words (code place s) ++ replicate (16384 - length (words (code place s))) 0
+emitted-code place small n values layout marks d s few rising ok roomy headed numbers stand laid ws used =
     let rows = rowsS 0 0 s in
     let key = numberOf rows in
     let right = right-entries n few s rising in
     let calls = toldS (Valued values) (Pointed values) (Marked marks) n rows rising [] s numbers stand (ws, used) in
-    let counted = counts s headed (limited .symbols) in
-    twice place key small values layout rows marks s ok calls laid counted right
-    ∙ ap (shown 16384) (written place key small values layout rows marks s ok calls laid counted limited right)
-    ∙ shown-whole 16384 (words (code place s)) (fits-words place s limited)
+    let counted = counts s headed (roomy .symbols) in
+    twice place key small values layout rows marks d s ok calls laid counted right
+    ∙ ap (shown 16384) (written place key small values layout rows marks d s ok calls laid counted (roomy .ended) (roomy .ranged) right)
+    ∙ shown-whole 16384 (words (code place s)) (roomy .fits)

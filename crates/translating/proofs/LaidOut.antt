@@ -1,15 +1,13 @@
 -- The law of the first pass: its table has, for every declaration by its number, the level and offset that Translate gives it. Formals' words stand one after
--- the other as their cells do, and the variables of a block lie by type; levels are below the depth of the tree and cells fewer than its symbols, so that
--- nothing is cut off where a word is packed.
+-- the other as their cells do, and the variables of a block lie by type; cells are fewer than the symbols of the tree, so that no offset is cut off where a word
+-- is packed.
 use Prim.Native.Nat.{ℕ, suc, _+_, _≤_, _<_}
 use native.Mathlib.Omega.{arith}
-use native.Mathlib.Nat.{mod-eq-of-lt}
 use mathlib.Core.Path.{_≡_, refl, sym, ap, subst, _∙_}
 use mathlib.Core.Bool.{Bool, true, false, cond}
 use mathlib.Core.List.{List, [], _∷_, _++_, map}
 use mathlib.Core.Option.{Option, some, Option·none-ne-some}
 use lib.ListN.{length, getD}
-use Rattle.machine.specs.Instructions.{pack}
 use Rattle.grammar.specs.NodeKinds.{n-variable}
 use Rattle.names.specs.Program.{Name, Sort, Specification, Statement, dummy, assignment, procedure, when, either, repeat, compound, block, Statements, last, first, Declarations, none as no-more, variables, declare, Procedure, heading}
 use Rattle.names.specs.Scopes.{same, has, Thing, variable, routine, formal, by-name, formalAs, Declared, specified, variablesIn, ofBlock, ofBody, inBlock, inBody, findIn}
@@ -17,7 +15,7 @@ use Rattle.names.specs.Nodes.{sortNumber, nodesS}
 use Rattle.names.specs.Outline.{sizeP, rowsN, rowsS, rowsD}
 use Rattle.rules.specs.Entered.{cellsOf, total, oneIf, cellsIn, oneType, typed, variablesOf, typedBefore, firstOf, amongTyped, amongDeclared, before}
 use Rattle.emitting.specs.model.Layout.{packed, layoutOf}
-use Rattle.translation.specs.model.Sizes.{symbolsS, symbolsSs, symbolsDs, symbolsP, deepS, deepSs, deepDs, deepP, Limited}
+use Rattle.translation.specs.model.Sizes.{symbolsS, symbolsSs, symbolsDs, symbolsP}
 use Rattle.rules.proofs.Declarations.{own-type, first-most}
 use Rattle.translation.proofs.Ranges.{one-most, listed-most, block-cells, body-cells}
 use Rattle.translating.proofs.Rising.{RowsRise}
@@ -26,10 +24,6 @@ use Rattle.translating.proofs.Counts.{manyS, manyDs, manyP}
 use Rattle.translating.proofs.BlockRows.{variables-append, Among, among-is, next-variable, past-variables, next-procedure, BlockAt, AtS, AtSs, AtDs, AtP, at}
 use Rattle.translating.proofs.LaidWords.{writtenN, writtenV, writtenS, writtenSs, writtenD, writtenP, Found, found-split, found}
 use Rattle.translating.proofs.LayoutPass.{layout-writes}
-
--- in range, nothing is cut off
-whole-word : (u o : ℕ) → u < 64 → o < 8192 → packed u o 0 ≡ pack u o 0
-whole-word u o h k = rw (mod-eq-of-lt h, mod-eq-of-lt k)
 
 module _ (key : ℕ → ℕ) (L : List ℕ) where
   -- ---- the formals of a body, one after the other: the first cell is at the offset o
@@ -58,18 +52,18 @@ module _ (key : ℕ → ℕ) (L : List ℕ) where
       here-or-later u o (cellsOf (c .thing)) (before l x) (same (c .name) x) c d (findIn l x) (h .0) (in-turn u l (o + cellsOf (c .thing)) x d (h .1)) e
 
   -- a formal lies so, however it is called
-  formal-lies : (u o k : ℕ) (b : Bool) (t : Option Sort) → getD L (key k) 0 ≡ pack u o 0 → o < 8192 → Lying key L u o (formalAs b t) k
+  formal-lies : (u o k : ℕ) (b : Bool) (t : Option Sort) → getD L (key k) 0 ≡ packed u o 0 → o < 8192 → Lying key L u o (formalAs b t) k
   formal-lies u o k true t e h = (e, h)
   formal-lies u o k false t e h = (e, h)
 
-  formals-turn : (u o : ℕ) (vs : List Name) (ss : List Specification) (xs : List Name) → Found key L (writtenN u o xs) → u < 64 → o + length xs ≤ 8192
+  formals-turn : (u o : ℕ) (vs : List Name) (ss : List Specification) (xs : List Name) → Found key L (writtenN u o xs) → o + length xs ≤ 8192
       → InTurn u o (map (λ y. record { name = y; thing = formalAs (has vs y) (specified ss y) }) xs)
   unfolding writtenN
-  formals-turn u o vs ss [] h i j = tt
-  formals-turn u o vs ss (x ∷ xs) h i j = (
-    formal-lies u o (x .symbol) (has vs x) (specified ss x) (h .0 ∙ whole-word u o i (omega arith)) (omega arith),
+  formals-turn u o vs ss [] h j = tt
+  formals-turn u o vs ss (x ∷ xs) h j = (
+    formal-lies u o (x .symbol) (has vs x) (specified ss x) (h .0) (omega arith),
     subst (λ (n : ℕ). InTurn u n (map (λ y. record { name = y; thing = formalAs (has vs y) (specified ss y) }) xs)) (cells-one (has vs x) (specified ss x) o)
-        (formals-turn u (o + 1) vs ss xs (h .1) i (omega arith)),
+        (formals-turn u (o + 1) vs ss xs (h .1) (omega arith)),
   )
     where
       cells-one : (b : Bool) (t : Option Sort) (o : ℕ) → o + 1 ≡ o + cellsOf (formalAs b t)
@@ -129,7 +123,7 @@ module _ (key : ℕ → ℕ) (L : List ℕ) where
       let l = inBlock ds in
       as-far u (d .thing) (d .name .symbol) (ap (λ (n : ℕ). o + n) (placed-is l (d .thing) x ∙ ap (λ (f : Option Declared). amongDeclared l f x) (sym e))) (by-type u o l l (λ t. 0) x d h e)
 
-  module _ (rows : List ℕ) (u o q : ℕ) (all : List Declared) (shallow : u < 64) (few : o + total all ≤ 8192) where
+  module _ (rows : List ℕ) (u o q : ℕ) (all : List Declared) (few : o + total all ≤ 8192) where
     -- no more than the block has
     abbrev Room : (Sort → ℕ) → List Declared → Type 0
     Room k l = (t : Sort) → k t + variablesOf t l ≤ variablesOf t all
@@ -141,7 +135,7 @@ module _ (key : ℕ → ℕ) (L : List ℕ) where
     variables-lie t [] l k n w h a r b = typed-as u o all l (λ s. omega arith) b
     variables-lie t (x ∷ xs) l k n w h a r b =
         let i : o + (firstOf t all + k t) < 8192 = omega (arith, first-most t all, r t, own-type t) in (
-          (h .0 ∙ ap (λ (m : ℕ). packed u (o + m) 0) (among-is (x .symbol) t a) ∙ whole-word u (o + (firstOf t all + k t)) shallow i, i),
+          (h .0 ∙ ap (λ (m : ℕ). packed u (o + m) 0) (among-is (x .symbol) t a), i),
           variables-lie t xs l (λ s. k s + oneType s t) (n + 1) w (h .1) (next-variable (x .symbol) t a) (λ s. omega (arith, r s)) (typed-as u o all l (λ s. omega arith) b),
         )
 
@@ -158,74 +152,73 @@ module _ (key : ℕ → ℕ) (L : List ℕ) where
     declarations-lie c (declare (heading t f xs vs ss s) ds) k n p i h a r =
         let g : Procedure = heading t f xs vs ss s in
         let z = found-split key L (writtenP rows u n g) (writtenD rows u o (n + manyP g) ds) h in (
-          z .0 .0 ∙ whole-word u (oneIf t) shallow (omega (arith, one-most t)),
+          z .0 .0,
           declarations-lie (c + sizeP g) ds (λ s. k s + 0) (n + manyP g) p (omega arith) (z .1) (next-procedure c g p i a) (λ s. omega (arith, r s)),
         )
 
   module _ (rows : List ℕ) where
     -- the first cell of a block at o, n declarations and formals before
-    block-laid : (u o n : ℕ) (ds : Declarations) → BlockAt rows n ds → Found key L (writtenD rows u o n ds) → u < 64 → o + total (inBlock ds) ≤ 8192 → Lies key L u o (ofBlock ds)
-    block-laid u o n ds b h i j =
-        block-lies u o ds (declarations-lie rows u o (b .scope) (inBlock ds) i j (b .scopes) ds (λ t. 0) n (b .some) (b .known) h (b .stands) (λ t. omega arith))
+    block-laid : (u o n : ℕ) (ds : Declarations) → BlockAt rows n ds → Found key L (writtenD rows u o n ds) → o + total (inBlock ds) ≤ 8192 → Lies key L u o (ofBlock ds)
+    block-laid u o n ds b h j =
+        block-lies u o ds (declarations-lie rows u o (b .scope) (inBlock ds) j (b .scopes) ds (λ t. 0) n (b .some) (b .known) h (b .stands) (λ t. omega arith))
 
     mutual
-      unfolding writtenS symbolsS deepS inBody
+      unfolding writtenS symbolsS inBody
 
-      laidS : (u o n : ℕ) (s : Statement) → AtS rows n s → Found key L (writtenS rows u o n s) → u + deepS s ≤ 63 → o + symbolsS s ≤ 8191 → LaidS key L u o s
-      laidS u o n dummy a h i j = tt
-      laidS u o n (assignment x xs q e) a h i j = tt
-      laidS u o n (procedure x es) a h i j = tt
-      laidS u o n (when q c s) a h i j = laidS u o n s a h (omega arith) (omega arith)
-      laidS u o n (either q c s t) a h i j =
+      laidS : (u o n : ℕ) (s : Statement) → AtS rows n s → Found key L (writtenS rows u o n s) → o + symbolsS s ≤ 8191 → LaidS key L u o s
+      laidS u o n dummy a h j = tt
+      laidS u o n (assignment x xs q e) a h j = tt
+      laidS u o n (procedure x es) a h j = tt
+      laidS u o n (when q c s) a h j = laidS u o n s a h (omega arith)
+      laidS u o n (either q c s t) a h j =
           let m = n + manyS s in
           let r = found-split key L (writtenS rows u o n s) (writtenS rows u o m t) h in
-          (laidS u o n s (a .0) (r .0) (omega arith) (omega arith), laidS u o m t (a .1) (r .1) (omega arith) (omega arith))
-      laidS u o n (repeat x l ls s) a h i j = laidS u o n s a h (omega arith) (omega arith)
-      laidS u o n (compound ss) a h i j = laidSs u o n ss a h (omega arith) (omega arith)
-      laidS u o n (block q ds ss) a h i j =
+          (laidS u o n s (a .0) (r .0) (omega arith), laidS u o m t (a .1) (r .1) (omega arith))
+      laidS u o n (repeat x l ls s) a h j = laidS u o n s a h (omega arith)
+      laidS u o n (compound ss) a h j = laidSs u o n ss a h (omega arith)
+      laidS u o n (block q ds ss) a h j =
           let m = n + manyDs ds in
           let k = o + cellsIn (ofBlock ds) in
           let r = found-split key L (writtenD rows u o n ds) (writtenSs rows u k m ss) h in
           let z = block-cells ds in (
-            block-laid u o n ds (a .0) (r .0) (omega arith) (omega arith),
-            laidDs u o n ds (a .1) (r .0) (omega arith) (omega arith),
-            laidSs u k m ss (a .2) (r .1) (omega arith) (omega arith),
+            block-laid u o n ds (a .0) (r .0) (omega arith),
+            laidDs u o n ds (a .1) (r .0) (omega arith),
+            laidSs u k m ss (a .2) (r .1) (omega arith),
           )
 
-      laidSs : (u o n : ℕ) (ss : Statements) → AtSs rows n ss → Found key L (writtenSs rows u o n ss) → u + deepSs ss ≤ 63 → o + symbolsSs ss ≤ 8191 → LaidSs key L u o ss
-      laidSs u o n (last s) a h i j = laidS u o n s a h i (omega arith)
-      laidSs u o n (first s ss) a h i j =
+      laidSs : (u o n : ℕ) (ss : Statements) → AtSs rows n ss → Found key L (writtenSs rows u o n ss) → o + symbolsSs ss ≤ 8191 → LaidSs key L u o ss
+      laidSs u o n (last s) a h j = laidS u o n s a h (omega arith)
+      laidSs u o n (first s ss) a h j =
           let m = n + manyS s in
           let r = found-split key L (writtenS rows u o n s) (writtenSs rows u o m ss) h in
-          (laidS u o n s (a .0) (r .0) (omega arith) (omega arith), laidSs u o m ss (a .1) (r .1) (omega arith) (omega arith))
+          (laidS u o n s (a .0) (r .0) (omega arith), laidSs u o m ss (a .1) (r .1) (omega arith))
 
-      laidDs : (u o n : ℕ) (ds : Declarations) → AtDs rows n ds → Found key L (writtenD rows u o n ds) → u + deepDs ds ≤ 62 → symbolsDs ds ≤ 8191 → LaidDs key L u ds
-      laidDs u o n no-more a h i j = tt
-      laidDs u o n (variables t xs ds) a h i j =
+      laidDs : (u o n : ℕ) (ds : Declarations) → AtDs rows n ds → Found key L (writtenD rows u o n ds) → symbolsDs ds ≤ 8191 → LaidDs key L u ds
+      laidDs u o n no-more a h j = tt
+      laidDs u o n (variables t xs ds) a h j =
           let m = n + length xs in
-          laidDs u o m ds a (found-split key L (writtenV rows u o n xs) (writtenD rows u o m ds) h .1) i (omega arith)
-      laidDs u o n (declare p ds) a h i j =
+          laidDs u o m ds a (found-split key L (writtenV rows u o n xs) (writtenD rows u o m ds) h .1) (omega arith)
+      laidDs u o n (declare p ds) a h j =
           let m = n + manyP p in
           let r = found-split key L (writtenP rows u n p) (writtenD rows u o m ds) h in
-          (laidP u n p (a .0) (r .0) (omega arith) (omega arith), laidDs u o m ds (a .1) (r .1) (omega arith) (omega arith))
+          (laidP u n p (a .0) (r .0) (omega arith), laidDs u o m ds (a .1) (r .1) (omega arith))
 
-      laidP : (u n : ℕ) (p : Procedure) → AtP rows n p → Found key L (writtenP rows u n p) → u + deepP p ≤ 62 → symbolsP p ≤ 8191 → LaidP key L u p
-      laidP u n (heading t f xs vs ss s) a h i j =
+      laidP : (u n : ℕ) (p : Procedure) → AtP rows n p → Found key L (writtenP rows u n p) → symbolsP p ≤ 8191 → LaidP key L u p
+      laidP u n (heading t f xs vs ss s) a h j =
           let c = cellsIn (ofBody (heading t f xs vs ss s)) in
           let r = found-split key L (writtenN (suc u) (oneIf t) xs) (writtenS rows (suc u) c (n + 1 + length xs) s) (h .1) in
           let k = body-cells (heading t f xs vs ss s) in
           let k' = listed-most xs in
           let k'' = one-most t in (
-            omega arith,
-            h .0 ∙ whole-word u (oneIf t) (omega arith) (omega arith),
+            h .0,
             λ x d e.
                 as-far (suc u) (d .thing) (d .name .symbol) (omega arith)
-                (in-turn (suc u) (inBody (heading t f xs vs ss s)) (oneIf t) x d (formals-turn (suc u) (oneIf t) vs ss xs (r .0) (omega arith) (omega arith)) e),
-            laidS (suc u) c (n + 1 + length xs) s a (r .1) (omega arith) (omega arith),
+                (in-turn (suc u) (inBody (heading t f xs vs ss s)) (oneIf t) x d (formals-turn (suc u) (oneIf t) vs ss xs (r .0) (omega arith)) e),
+            laidS (suc u) c (n + 1 + length xs) s a (r .1) (omega arith),
           )
 
--- of a whole program
-pub laid : (n : ℕ) → n ≤ 2048 → (s : Statement) → RowsRise 0 n (rowsS 0 0 s) → Limited s → LaidS (numberOf (rowsS 0 0 s)) (layoutOf (rowsS 0 0 s) (nodesS 1 s)) 0 0 s
-laid n h s r l =
+-- of a whole program, at any depth
+pub laid : (n : ℕ) → n ≤ 2048 → (d : ℕ) (s : Statement) → RowsRise 0 n (rowsS 0 0 s) → symbolsS s ≤ 2048 → LaidS (numberOf (rowsS 0 0 s)) (layoutOf (rowsS 0 0 s) (nodesS d s)) 0 0 s
+laid n h d s r l =
     let rows = rowsS 0 0 s in
-    rw (layout-writes rows s) (laidS (numberOf rows) _ rows 0 0 0 s (at s) (found n h s r) (omega (arith, l .depth)) (omega (arith, l .symbols)))
+    rw (layout-writes rows d s) (laidS (numberOf rows) _ rows 0 0 0 s (at s) (found n h s r) (omega arith))

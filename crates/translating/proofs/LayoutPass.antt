@@ -305,11 +305,11 @@ module _ (rows : List ℕ) where
 
   -- ---- a whole program
 
-  pub layout-writes : (s : Statement) → layoutOf rows (nodesS 1 s) ≡ shown 2048 (wordsOf (writtenS rows 0 0 0 s))
+  pub layout-writes : (d : ℕ) (s : Statement) → layoutOf rows (nodesS d s) ≡ shown 2048 (wordsOf (writtenS rows 0 0 0 s))
   unfolding layoutOf foldNodes
-  layout-writes s =
+  layout-writes d s =
       ap (λ (st : Laying). st .table)
-      (ap (λ (T : List ℕ). run (nodesS 1 s) (record { sort = 0; level = 0; reach = 0; around = []; declared = 0; table = T })) (sym (shown-none 2048))
-      ∙ ap (λ (ws : List ℕ). run ws (state 0 0 0 [] [])) (sym (append-nil (nodesS 1 s)))
-      ∙ laysS 1 s 0 0 0 [] .goes 0 [] [] refl)
+      (ap (λ (T : List ℕ). run (nodesS d s) (record { sort = 0; level = 0; reach = 0; around = []; declared = 0; table = T })) (sym (shown-none 2048))
+      ∙ ap (λ (ws : List ℕ). run ws (state 0 0 0 [] [])) (sym (append-nil (nodesS d s)))
+      ∙ laysS d s 0 0 0 [] .goes 0 [] [] refl)
       ∙ ap (shown 2048) (writes-are [] (writtenS rows 0 0 0 s))

@@ -7,7 +7,7 @@ use mathlib.Core.List.{List, [], _∷_}
 use mathlib.Core.Option.{some}
 use lib.Dec.{eqb}
 use lib.ListN.{getD}
-use Rattle.machine.specs.Instructions.{pack}
+use Rattle.machine.specs.Instructions.{packed}
 use Rattle.names.specs.Program.{Name, Statement, dummy, assignment, procedure, when, either, repeat, compound, block, Statements, last, first, Declarations, none as no-more, variables, declare, Procedure, heading}
 use Rattle.names.specs.Scopes.{Thing, variable, routine, formal, by-name, Declared, Scope, ofBlock, ofBody, declares, findIn, sortOf}
 use Rattle.rules.specs.Entered.{cellsIn, amongCells, oneIf}
@@ -22,12 +22,12 @@ numberOf (k ∷ s ∷ q ∷ t ∷ ws) x = cond (eqb s x) 0 (suc (numberOf ws x))
 
 -- key: the numbers of declarations, by their names' symbols
 module _ (key : ℕ → ℕ) (L : List ℕ) where
-  -- the word of a declaring name: of a cell, its level and offset; of a procedure the level of its declaration, and 1 where it has a result
+  -- the word of a declaring name, in which a level is cut to six bits (with a prelude there may be one more level): of a cell, its level and offset; of a procedure the level of its declaration, and 1 where it has a result
   abbrev pub Lying : ℕ → ℕ → Thing → ℕ → Type 0
-  Lying level o (variable t) k = (getD L (key k) 0 ≡ pack level o 0) × (o < 8192)
-  Lying level o (formal t) k = (getD L (key k) 0 ≡ pack level o 0) × (o < 8192)
-  Lying level o (by-name t) k = (getD L (key k) 0 ≡ pack level o 0) × (o < 8192)
-  Lying level o (routine p) k = getD L (key k) 0 ≡ pack level (oneIf (sortOf p)) 0
+  Lying level o (variable t) k = (getD L (key k) 0 ≡ packed level o 0) × (o < 8192)
+  Lying level o (formal t) k = (getD L (key k) 0 ≡ packed level o 0) × (o < 8192)
+  Lying level o (by-name t) k = (getD L (key k) 0 ≡ packed level o 0) × (o < 8192)
+  Lying level o (routine p) k = getD L (key k) 0 ≡ packed level (oneIf (sortOf p)) 0
 
   -- a scope at a level, whose first cell is at the offset o
   abbrev pub Lies : ℕ → ℕ → Scope → Type 0
@@ -57,7 +57,6 @@ module _ (key : ℕ → ℕ) (L : List ℕ) where
     -- the level of a procedure's declaration; its body is one further in
     pub LaidP : ℕ → Procedure → Type 0
     LaidP level (heading t f xs vs ss s) =
-        (suc level < 64)
-        × (getD L (key (f .symbol)) 0 ≡ pack level (oneIf t) 0)
+        (getD L (key (f .symbol)) 0 ≡ packed level (oneIf t) 0)
         × Lies (suc level) 0 (ofBody (heading t f xs vs ss s))
         × LaidS (suc level) (cellsIn (ofBody (heading t f xs vs ss s))) s

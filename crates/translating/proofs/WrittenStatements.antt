@@ -184,4 +184,4 @@ module _ (tb : Tables) where
         → Known (tb .key) (tb .layout) g → OkP (scopes g) p → ToldP (Numbered tb) (Pointed tb) (Marked tb) (Moded tb) (scopes g) p → LaidP (tb .key) (tb .layout) (owns g) p → CountsP (tb .rows) n p → IsP R g m j p d b n
     emitsP R g m j (heading t f xs vs ss s) d b n rt rs known ok told laid cs =
         let g' : List Around = aBody (heading t f xs vs ss s) ∷ g in
-        procedure-part R g m j t f xs vs ss s d b n (emitsS R g' 0 s (d + 1) (endJump j b) (n + 1 + length xs) rt (λ z. rs z .1) (laid .2, laid .1, known) ok told (laid .3) cs)
+        procedure-part R g m j t f xs vs ss s d b n (emitsS R g' 0 s (d + 1) (endJump j b) (n + 1 + length xs) rt (λ z. rs z .1) (laid .1, laid .0, known) ok told (laid .2) cs)

@@ -11,7 +11,7 @@ use Rattle.translating.proofs.translating.judged.Tie as tie
 returns : tie.Need-returns
 returns c =
     let h = told-program (c .before .before .before .before .before .before .before .before .before .before .before .before .before .find .ensures) _ (c .before .before .before .before .before .before .before .before .before .before .before .s .given .1) in
-    as-accepted (program h) (lent h refl) (h .declared .resolved .named .faultless) (h .declared .resolved .typed) (c .before .before .before .before .before .before .before .before .before .before .before .before .before .before .before .before .before .before .before .before .before .before .before .pre) (c .before .before .emit .ensures)
+    as-accepted (program h) (lent h refl) (h .declared .faultless) (h .declared .typed) (c .before .before .before .before .before .before .before .before .before .before .before .before .before .before .before .before .before .before .before .before .before .before .before .pre) (c .before .before .emit .ensures)
 
 returns-2 : tie.Need-returns-2
 returns-2 c = as-refused _ _ (told-refused (c .before .before .before .before .before .before .before .find .ensures) _ (c .before .before .before .before .before .r .given .1)) (c .before .before .clear .ensures) (c .before .before .before .before .before .before .before .before .before .before .before .before .before .before .before .before .before .pre)
