@@ -40,10 +40,10 @@ page-passed n source t e place h =
 
 module _ {source kinds places values nodes rows uses was marks : List ℕ} {s : Sizes} (h : Holds source kinds places values nodes rows uses was marks s) where
   abbrev pub programOf : Grammatical source
-  programOf = h .declared .resolved .named .outlined .known .ready .program
+  programOf = h .declared .ready .program
 
   count : length (scan symbols source .found) ≡ s .symbols
-  count = sym (h .declared .resolved .named .outlined .known .ready .places-in .count ∙ length-map (scan symbols source .found) (λ f. kind (f .symbol)))
+  count = sym (h .declared .ready .places-in .count ∙ length-map (scan symbols source .found) (λ f. kind (f .symbol)))
 
   kinds-long : length (take (s .symbols) kinds) ≡ s .symbols
   kinds-long = ap length (h .kinded) ∙ length-map (scan symbols source .found) (λ f. kind (f .symbol)) ∙ count
@@ -61,19 +61,19 @@ module _ {source kinds places values nodes rows uses was marks : List ℕ} {s : 
       ap (writtenFrom source (λ j. getD places j 0) firstOf [] 0) (h .kinded)
       ∙ sym (page-passed symbols source (programOf .tree) (programOf .keeps .spelled) (λ j. getD places j 0)
       (λ j l.
-      h .declared .resolved .named .outlined .known .ready .places-in .placed j (omega (arith, count))
+      h .declared .ready .places-in .placed j (omega (arith, count))
       ∙ inside (placesOf F) j (length source) 0 (omega (arith, length-map F (λ f. f .place)))))
 
   pub lendable : Lendable source (take (s .symbols) kinds)
   lendable = record {
     short = programOf .scanned .short;
-    few = omega (arith, ap length (h .kinded), length-map (scan symbols source .found) (λ f. kind (f .symbol)), count, h .declared .resolved .named .outlined .known .ready .places-in .few);
+    few = omega (arith, ap length (h .kinded), length-map (scan symbols source .found) (λ f. kind (f .symbol)), count, h .declared .ready .places-in .few);
     all-kinds = subst Rattle.clean.specs.model.Bytes.AllKinds (sym (h .kinded)) (all-kinds (scan symbols source .found));
   }
 
   pub writes : {room room' : List ℕ} {w : Written} → Fits (writtenOf source places (take (s .symbols) kinds)) room w room' → Writes source room w room'
   writes {room} {room'} {w} f =
-      accepted programOf (h .declared .resolved .named .faultless) (h .declared .resolved .typed) w room' (subst (λ t. Fits t room w room') page-is f)
+      accepted programOf (h .declared .faultless) (h .declared .typed) w room' (subst (λ t. Fits t room w room') page-is f)
 
 -- ---- the room
 

@@ -20,6 +20,16 @@ pub record Answers (P : Verdict → Type 0) (number place : ℕ) : Type 0 where
   pub numbered : number ≡ numberOf verdict
   pub placed : place ≡ placeOf verdict
 
+-- read_two: the same of two verdicts
+pub record AnswersTwo (P : Verdict → Verdict → Type 0) (number place other there : ℕ) : Type 0 where
+  pub first : Verdict
+  pub second : Verdict
+  pub holds : P first second
+  pub numbered : number ≡ numberOf first
+  pub placed : place ≡ placeOf first
+  pub other-numbered : other ≡ numberOf second
+  pub other-placed : there ≡ placeOf second
+
 -- write: the number, the place and the length are those of an answer of which P holds
 pub record Pages (P : Written → Type 0) (number place length : ℕ) : Type 0 where
   pub written : Written

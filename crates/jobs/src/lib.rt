@@ -4,16 +4,20 @@ use checking::checking::check_list;
 use clean::writing::write;
 use machine::run;
 use reading::reading::read;
+use reading::schemes::read_two;
 use records::replaying::replay;
+use translating::schemes::translate_scheme;
 use translating::translating::translate;
 ghost use mathlib.Core.Path.{_≡_};
 ghost use Rattle.checking.specs.Checking.{Checks};
 ghost use Rattle.clean.specs.Job.{Writes};
 ghost use Rattle.machine.specs.Machine.{job};
-ghost use Rattle.jobs.specs.Jobs.{Answers, Pages, Says, exitOf, given, replayedOf, gone};
+ghost use Rattle.jobs.specs.Jobs.{Answers, AnswersTwo, Pages, Says, exitOf, given, replayedOf, gone};
 ghost use Rattle.reading.specs.Reading.{Reads};
+ghost use Rattle.reading.specs.Two.{ReadsTwo};
 ghost use Rattle.records.specs.Replay.{replay as replayOf};
 ghost use Rattle.translating.specs.Job.{Translates};
+ghost use Rattle.translating.specs.With.{TranslatesWith};
 
 // Source to table: the answer's number, and its place.
 #[no_mangle]
@@ -25,12 +29,49 @@ pub extern "C" fn deed_read(source: &[u8], table: &mut [u16], place: &mut usize)
     verdict.answer().number
 }
 
+// A prelude and two schemes to the two halves of a table: the number of the first scheme's answer, and its place; the same of the second.
+#[no_mangle]
+pub extern "C" fn deed_read_two(
+    prelude: &[u8],
+    first: &[u8],
+    second: &[u8],
+    table: &mut [u16],
+    place: &mut usize,
+    other: &mut u16,
+    there: &mut usize,
+) -> u16
+    ensures { λ r. ⌜ AnswersTwo (λ v w. ReadsTwo (now (prelude .entry)) (now (first .entry)) (now (second .entry)) (now (table .entry)) v w (now (table .exit))) r (now (place .exit)) (now (other .exit)) (now (there .exit)) ⌝ }
+{
+    let two = read_two(prelude, first, second, table);
+    let a = two.first;
+    let b = two.second;
+    *place = a.place();
+    *other = b.answer().number;
+    *there = b.place();
+    a.answer().number
+}
+
 // Source to code: the answer's number, and its place.
 #[no_mangle]
 pub extern "C" fn deed_translate(source: &[u8], code: &mut [u32], place: &mut usize) -> u16
     ensures { λ r. ⌜ Answers (λ v. Translates (now (source .entry)) (now (code .entry)) v (now (code .exit))) r (now (place .exit)) ⌝ }
 {
     let verdict = translate(source, code);
+    *place = verdict.place();
+    verdict.answer().number
+}
+
+// A prelude and a scheme to code: the answer's number, and its place.
+#[no_mangle]
+pub extern "C" fn deed_translate_scheme(
+    prelude: &[u8],
+    scheme: &[u8],
+    code: &mut [u32],
+    place: &mut usize,
+) -> u16
+    ensures { λ r. ⌜ Answers (λ v. TranslatesWith (now (prelude .entry)) (now (scheme .entry)) (now (code .entry)) v (now (code .exit))) r (now (place .exit)) ⌝ }
+{
+    let verdict = translate_scheme(prelude, scheme, code);
     *place = verdict.place();
     verdict.answer().number
 }
