@@ -36,6 +36,8 @@ enum { DEED_VERSION = 6 };
 enum {
     DEED_SOURCE = 16384, /* bytes of a source, at most */
     DEED_TABLE = 32768,  /* words of a table, at least */
+    DEED_HALF = 16384,   /* .. of which each scheme of deed_read_two has its half */
+    DEED_BEYOND = 32768, /* added to the places of a prelude */
     DEED_CODE = 16384,   /* words of code, at least for translate, at most for run */
     DEED_CELLS = 8192,   /* cells that a run uses, at most */
     DEED_CELL = 2,       /* numbers of the store that a cell takes */
@@ -87,6 +89,26 @@ uint16_t deed_read(const uint8_t *source, size_t source_length,
 uint16_t deed_translate(const uint8_t *source, size_t source_length,
                         uint32_t *code, size_t code_length,
                         size_t *place);
+
+/* A prelude and two schemes, each read behind it. Gives back the first scheme's answer, 0 to 10, and writes its place; the second's go to *other and *there.
+ * 1 for both where the table has less than DEED_TABLE words; a refusal of the prelude, its place with DEED_BEYOND added, is the answer to both; otherwise
+ * each scheme has its own, and is refused by 4 where it and the prelude have more than 1,024 symbols. The first DEED_HALF words are the first scheme's uses,
+ * declarations and nodes (docs/TABLE.md), the next DEED_HALF the second's, and words beyond are as they were; after a refusal but 1 a half is zero. What is left
+ * of a scheme depends on the prelude and on that scheme alone; nothing is kept of a prelude, so that after a change of it both schemes are read again. */
+uint16_t deed_read_two(const uint8_t *prelude, size_t prelude_length,
+                       const uint8_t *first, size_t first_length,
+                       const uint8_t *second, size_t second_length,
+                       uint16_t *table, size_t table_length,
+                       size_t *place, uint16_t *other, size_t *there);
+
+#ifdef DEED_TRANSLATE
+/* A scheme behind a prelude to code. 0 to 10, as deed_read_two has them for that scheme but for 1, which is as deed_translate has it; the code's words are as
+ * deed_translate leaves them. Faults of a run inside the prelude have places with DEED_BEYOND added. */
+uint16_t deed_translate_scheme(const uint8_t *prelude, size_t prelude_length,
+                               const uint8_t *scheme, size_t scheme_length,
+                               uint32_t *code, size_t code_length,
+                               size_t *place);
+#endif
 
 /* Source to its text in the house layout. 0 to 10, as deed_read has them but for 1 and 2: 1 where the room is shorter than the text, 2 also where
  * the text is over DEED_SOURCE bytes. The first *length bytes of the room are the text, and behind it they are as they were; after a refusal
