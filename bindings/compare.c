@@ -1,7 +1,7 @@
 /* compare COUNT [FILE..]: COUNT random sources, and COUNT random codes with their input, store and output, each handed to the library and to the
  * scanner and machine of own.h; COUNT operators and conversions on random numbers, and COUNT numbers with a point, against the arithmetic of
- * numbers.h; COUNT random sources to the writer of page.h; COUNT lists for sources, against a comparison of its own; and COUNT records of runs,
- * most of them changed at random, to the replay of months.h. Shows each difference, and how many were compared. The files are sources that are changed at random. The seed is fixed. Ends with 1 where something differs. */
+ * numbers.h; COUNT random sources to the writer of page.h; COUNT lists for sources, against a comparison of its own; COUNT records of runs, most of
+ * them changed at random, to the replay of months.h; and COUNT preludes with two schemes, each against the one program that they are together. Shows each difference, and how many were compared. The files are sources that are changed at random. The seed is fixed. Ends with 1 where something differs. */
 #include <stdio.h>
 #include <stdlib.h>
 #include <string.h>
@@ -554,6 +554,145 @@ static void compare_record(unsigned long k)
 
 /* ---- the whole */
 
+/* ---- pairs: two schemes behind a prelude. A scheme behind a prelude is the program 'begin' PRELUDE SCHEME 'end', a block deeper; an empty prelude is none */
+
+static unsigned long pairs_seen[ANSWERS];
+static struct text prelude, schemes[2], whole;
+static uint16_t halves[TABLE + 2 * MARGIN], swapped[TABLE + 2 * MARGIN], together[DEED_TABLE];
+
+static void put_all(struct text *t, const struct text *piece)
+{
+    for (size_t i = 0; i < piece->length; i++)
+        put_byte(t, piece->byte[i]);
+}
+
+/* Some procedures, of which a few have a fault or are changed. */
+static void random_prelude(struct text *t)
+{
+    static const char *const procedures[] = {"'integer' 'procedure' a; a := 1;", "'integer' 'procedure' b(x); 'value' x; 'integer' x; b := x + 1;",
+                                             "'procedure' p; outinteger(1, 2);", "'real' 'procedure' r; r := 2.5;", "'procedure' q(x); 'integer' x; x := x + 1;",
+                                             "'procedure' twice; 'begin' 'integer' a; a := 3; outinteger(1, a) 'end';", "'integer' 'procedure' none; none := other;"};
+    t->length = 0;
+    if (once_in(5)) {
+        put_blanks(t);
+        return;
+    }
+    for (unsigned i = 0; i < 6; i++)
+        if (once_in(2)) {
+            put_text(t, procedures[i]);
+            put_blanks(t);
+        }
+    if (once_in(10))
+        put_text(t, procedures[below(7)]);
+    if (once_in(6))
+        change(t, 1 + below(2));
+}
+
+static int is_empty(const struct text *t)
+{
+    for (size_t i = 0; i < t->length; i++)
+        if (!own_blank(t->byte[i]))
+            return 0;
+    return 1;
+}
+
+/* The uses of an accepted scheme, against those of the one program: the prelude begins at 7, the scheme a byte behind it. */
+static const char *wrong_half(const struct text *scheme, const uint16_t *half)
+{
+    size_t place = 0, at = 7 + prelude.length + 1;
+    unsigned skipped = 0;
+    whole.length = 0;
+    put_text(&whole, "'begin'");
+    put_all(&whole, &prelude);
+    put_text(&whole, " ");
+    put_all(&whole, scheme);
+    put_text(&whole, " 'end'");
+    unsigned number = deed_read(whole.byte, whole.length, together, DEED_TABLE, &place);
+    if (number != 0) /* one block deeper, and longer */
+        return number == DEED_DEPTH || (number == DEED_LONG && whole.length > DEED_SOURCE) ? NULL : "the one program is refused";
+    while (skipped < together[0] && together[1 + 3 * skipped] < at)
+        skipped++;
+    if (together[0] - skipped != half[0])
+        return "the one program has another number of uses";
+    for (unsigned i = 0; i < half[0]; i++) {
+        const uint16_t *due = together + 1 + 3 * (skipped + i), *use = half + 1 + 3 * i;
+        int before_it = due[1] != 0 && due[2] < at;
+        size_t declared = due[1] == 0 ? due[2] : before_it ? due[2] - 7 + (size_t)DEED_BEYOND : due[2] - at;
+        if (use[0] != due[0] - at || use[1] != (before_it ? 4 : due[1]) || use[2] != declared)
+            return "a use is not the one program's";
+    }
+    return NULL;
+}
+
+static const char *wrong_pair(size_t lent, const unsigned *number, const size_t *place)
+{
+    static const uint16_t zeros[DEED_HALF];
+    const uint16_t *words = halves + MARGIN;
+    if (lent < DEED_TABLE)
+        return number[0] != 1 || number[1] != 1 || place[0] != 0 || place[1] != 0 ? "1 at 0 is due"
+            : memcmp(halves, before, sizeof halves) != 0 ? "the table has changed" : NULL;
+    if (memcmp(halves, before, MARGIN * sizeof halves[0]) != 0
+        || memcmp(words + DEED_TABLE, before + MARGIN + DEED_TABLE, (TABLE + MARGIN - DEED_TABLE) * sizeof halves[0]) != 0)
+        return "words outside the halves have changed";
+    for (int i = 0; i < 2; i++) {
+        const uint16_t *half = words + (size_t)i * DEED_HALF;
+        if (number[i] != 0 && memcmp(half, zeros, sizeof zeros) != 0)
+            return "a word of a refused scheme's half is not zero";
+        if (number[i] != 0 && place[i] >= DEED_BEYOND && (number[1 - i] != number[i] || place[1 - i] != place[i]))
+            return "a refusal of the prelude is not both's";
+        size_t read_place = 0;
+        unsigned read = deed_read(schemes[i].byte, schemes[i].length, together, DEED_TABLE, &read_place);
+        if (is_empty(&prelude) && number[i] != 4 && (number[i] != read || place[i] != read_place || memcmp(half, together, DEED_HALF * sizeof half[0]) != 0))
+            return "behind an empty prelude a scheme is otherwise";
+        const char *wrong = number[i] == 0 && !is_empty(&prelude) ? wrong_half(&schemes[i], half) : NULL;
+        if (wrong != NULL)
+            return wrong;
+    }
+    return NULL;
+}
+
+/* The schemes in the other order: each has the same answer and the same words. */
+static const char *wrong_order(const unsigned *number, const size_t *place)
+{
+    size_t first = 0, second = 0;
+    uint16_t other = 0;
+    unsigned one = deed_read_two(prelude.byte, prelude.length, schemes[1].byte, schemes[1].length, schemes[0].byte, schemes[0].length,
+                                 swapped + MARGIN, DEED_TABLE, &first, &other, &second);
+    const uint16_t *words = halves + MARGIN, *turned = swapped + MARGIN;
+    return one != number[1] || first != place[1] || other != number[0] || second != place[0]
+            || memcmp(words, turned + DEED_HALF, DEED_HALF * sizeof words[0]) != 0 || memcmp(words + DEED_HALF, turned, DEED_HALF * sizeof words[0]) != 0
+        ? "in the other order they are otherwise" : NULL;
+}
+
+static void compare_pair(unsigned long k)
+{
+    size_t lent = once_in(30) ? below(DEED_TABLE) : DEED_TABLE + below(TABLE - DEED_TABLE), place[2] = {99999, 99999};
+    uint16_t other = 99;
+    random_prelude(&prelude);
+    for (int i = 0; i < 2; i++)
+        if (once_in(3))
+            random_source(&schemes[i]);
+        else
+            random_likely(&schemes[i]);
+    memcpy(halves, before, sizeof halves);
+    unsigned number[2];
+    number[0] = deed_read_two(prelude.byte, prelude.length, schemes[0].byte, schemes[0].length, schemes[1].byte, schemes[1].length,
+                              halves + MARGIN, lent, &place[0], &other, &place[1]);
+    number[1] = other;
+    for (int i = 0; i < 2; i++)
+        if (number[i] < ANSWERS)
+            pairs_seen[number[i]]++;
+    const char *wrong = wrong_pair(lent, number, place);
+    if (wrong == NULL && lent >= DEED_TABLE)
+        wrong = wrong_order(number, place);
+    if (wrong != NULL) {
+        differs("pair", k);
+        printf("%s: %u at %zu, %u at %zu", wrong, number[0], place[0], number[1], place[1]);
+        text = prelude;
+        show_text();
+    }
+}
+
 static void show_seen(const char *what, const unsigned long *seen)
 {
     unsigned long sum = 0;
@@ -605,6 +744,9 @@ int main(int argc, char **argv)
     for (unsigned long k = 0; k < count; k++)
         compare_record(k);
     show_seen("records compared", records_seen);
+    for (unsigned long k = 0; k < count; k++)
+        compare_pair(k);
+    show_seen("halves compared", pairs_seen);
     printf("%lu differ\n", differences);
     return differences == 0 ? 0 : 1;
 }
