@@ -32,19 +32,19 @@ pub record Kept (t r : Tally) : Type 0 where
   pub below : r .differences ≤ 4294967295
   pub no-less : t .differences ≤ r .differences
 
-keep : (t : Tally) → t .differences ≤ 4294967295 → Kept t t
+pub keep : (t : Tally) → t .differences ≤ 4294967295 → Kept t t
 keep t h = record { below = h; no-less = omega arith }
 
-then : {t s r : Tally} → Kept t s → Kept s r → Kept t r
+pub then : {t s r : Tally} → Kept t s → Kept s r → Kept t r
 then a b = record { below = b .below; no-less = omega (arith, a .no-less, b .no-less) }
 
 -- ---- each part keeps the count
 
-check-keeps : (b : Bool) (t : Tally) → t .differences ≤ 4294967295 → Kept t (checked b t)
+pub check-keeps : (b : Bool) (t : Tally) → t .differences ≤ 4294967295 → Kept t (checked b t)
 check-keeps true t h = keep t h
 check-keeps false t h = record { below = omega arith; no-less = omega arith }
 
-either-keeps : (b : Bool) {t r s : Tally} → Kept t r → Kept t s → Kept t (cond b r s)
+pub either-keeps : (b : Bool) {t r s : Tally} → Kept t r → Kept t s → Kept t (cond b r s)
 either-keeps true a b = a
 either-keeps false a b = b
 
@@ -131,7 +131,7 @@ module _ (v : Verdict) (text : List ℕ) (t : Tally) (h : t .differences ≤ 429
       let a = check-keeps (answeredBy v text) t h in
       either-keeps (acceptedBy v) (check-keeps (sameUses table text) _ (a .below)) (keep _ (a .below))
 
-  translate-keeps : (code : List ℕ) → Kept (checked (answeredBy v text) t) (afterTranslate v code text t)
+  pub translate-keeps : (code : List ℕ) → Kept (checked (answeredBy v text) t) (afterTranslate v code text t)
   unfolding afterTranslate
   translate-keeps code =
       let a = check-keeps (answeredBy v text) t h in
@@ -208,10 +208,10 @@ rows-small (more rs source text r row) = row-keeps row (rows-small rs) .below
 -- ---- no difference: each thing that was compared is as it should be
 
 -- where nothing is counted in the end, nothing was counted before
-none-before : {t r : Tally} → Kept t r → r .differences ≡ 0 → t .differences ≡ 0
+pub none-before : {t r : Tally} → Kept t r → r .differences ≡ 0 → t .differences ≡ 0
 none-before k e = omega (arith, k .no-less)
 
-right-check : (b : Bool) (t : Tally) → checked b t .differences ≡ 0 → b ≡ true
+pub right-check : (b : Bool) (t : Tally) → checked b t .differences ≡ 0 → b ≡ true
 right-check true t e = refl
 right-check false t e = absurd (omega arith)
 

@@ -5,3 +5,4 @@ pub mod Sent
 pub mod Capitals
 pub mod Counted
 pub mod Months
+pub mod Twos

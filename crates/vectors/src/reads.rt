@@ -39,7 +39,7 @@ fn same_words(words: &[u16], text: &[u8], from: usize) -> bool
 }
 
 // Whether the uses of an accepted source are those listed behind the answer and the place.
-fn same_uses(table: &[u16], text: &[u8]) -> bool
+pub fn same_uses(table: &[u16], text: &[u8]) -> bool
     ensures { λ r. ⌜ r ≡ sameUses (now (table .entry)) (now (text .entry)) ⌝ }
 {
     let place = number_at(text, number_at(text, 0).next);

@@ -11,6 +11,7 @@ use crate::texts::number_at;
 use crate::texts::page_at;
 use crate::texts::second_line;
 use crate::texts::whole;
+use answers::Verdict;
 use machine::Ran;
 use machine::run;
 use translating::translating::translate;
@@ -20,7 +21,7 @@ ghost use lib.IntN.{pos};
 ghost use lib.ListN.{length, drop};
 ghost use mathlib.Core.List.{[], _∷_};
 ghost use Rattle.machine.specs.Machine.{job};
-ghost use Rattle.vectors.specs.Ended.{numbers, after, begins, allAre, cleared, allWords, afterSteps, afterWritten, afterStop, afterExit, freshStore, freshOutput, afterSupplied, afterListed, strays, afterRefused, TranslateTold};
+ghost use Rattle.vectors.specs.Ended.{numbers, after, begins, allAre, cleared, allWords, afterSteps, afterWritten, afterStop, afterExit, freshStore, freshOutput, afterSupplied, afterListed, strays, afterRefused, afterTranslate, TranslateTold};
 ghost use Rattle.vectors.specs.Listed.{numberAt};
 
 // The words that are lent hold this before, and the words behind the first 16,384 afterwards.
@@ -303,30 +304,37 @@ fn listed(t: Tally, name: &[u8], code: &[u32], text: &[u8], from: usize) -> Tall
     supplied(t, name, code, &mut input[..inputs], text, count.next)
 }
 
-// A source translated, and compared; and run, where a run is listed.
-pub fn compare(t: Tally, name: &[u8], source: &[u8], text: &[u8]) -> Tally
-    ensures { λ r. ⌜ TranslateTold (now (source .entry)) (now (text .entry)) t r ⌝ }
+// The code of a source that was answered so, compared; and run, where a run is listed.
+pub fn coded(t: Tally, name: &[u8], verdict: Verdict, code: &[u32], text: &[u8]) -> Tally
+    ensures { λ r. ⌜ r ≡ afterTranslate verdict (now (code .entry)) (now (text .entry)) t ⌝ }
 {
-    let mut code = [BEFORE; 16386];
-    let verdict = translate(source, &mut code);
     let told = t.check(
         answered(verdict, text),
         name,
         b"translate answers otherwise",
     );
     let kept = told.check(
-        all_words(&code, 16384, 16386, BEFORE),
+        all_words(code, 16384, 16386, BEFORE),
         name,
         b"a word behind the code is not as before",
     );
     if !accepted(verdict) {
-        return refused(kept, name, &code);
+        return refused(kept, name, code);
     }
     let from = second_line(text);
     if from < text.len() {
         if !page_at(text, from) {
-            return listed(kept.run(), name, &code, text, from);
+            return listed(kept.run(), name, code, text, from);
         }
     }
     kept
+}
+
+// A source translated, and compared.
+pub fn compare(t: Tally, name: &[u8], source: &[u8], text: &[u8]) -> Tally
+    ensures { λ r. ⌜ TranslateTold (now (source .entry)) (now (text .entry)) t r ⌝ }
+{
+    let mut code = [BEFORE; 16386];
+    let verdict = translate(source, &mut code);
+    coded(t, name, verdict, &code, text)
 }
