@@ -29,7 +29,8 @@
 extern "C" {
 #endif
 
-/* The greatest change request up to which all are in. Besides, 8 (capitals), 9 (the display, which no caller sees) and of 11 deed_replay are in. */
+/* The greatest change request up to which all are in. Besides, 8 (capitals) and 9 (the display, which no
+ * caller sees) are in, of 7 deed_read_two and deed_translate_scheme, and of 11 deed_replay. */
 enum { DEED_VERSION = 6 };
 
 /* The lengths that the jobs want or use. */
