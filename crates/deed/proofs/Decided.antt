@@ -3,7 +3,7 @@
 use mathlib.Core.Path.{_≡_, refl, sym, ap, _∙_}
 use mathlib.Core.Bool.{Bool, true, false, cond}
 use mathlib.Core.List.{List, [], _∷_, map}
-use mathlib.Core.Option.{Option, some}
+use mathlib.Core.Option.{Option, none, some}
 use Prim.Native.Nat.{ℕ, _≤_, _<_}
 use native.Mathlib.Omega.{arith}
 use lib.Dec.{leb}
@@ -157,3 +157,43 @@ module _ (line : List ℕ) where
         go false b =
             let l = leb-false (w .to) (w .from) b in
             rw (by-word l ∙ ap (byRow (rowLine word) (settled word)) e ∙ by-some (rowLine word) (settled word) long) k
+
+-- ---- whatever is decided, the status is one of the three
+
+abbrev Small : Option ℕ → Type 0
+Small (some d) = d ≤ nothing
+Small none = Unit {0}
+
+small-settled : (w : List ℕ) → Small (settled w)
+unfolding settled
+small-settled w = go (equal w _)
+  where
+    go : (t : Bool) → Small (cond t (some good) none)
+    go true = omega arith
+    go false = tt
+
+small-row : (row : List ℕ) (s : Option ℕ) (well : Bool) → Small s → Small (byRow row s well)
+unfolding byRow
+small-row [] s well h = omega arith
+small-row (b ∷ row) s true h = h
+small-row (b ∷ row) s false h = omega arith
+
+small-commanded : (all ws : List (List ℕ)) → Small (commanded all ws)
+unfolding commanded
+small-commanded all [] = omega arith
+small-commanded all (w ∷ ws) = small-row (rowLine w) (settled w) (wellAsked (rowLine w) all ws) (small-settled w)
+
+small-decided : (all : List (List ℕ)) → Small (decided all)
+unfolding decided
+small-decided all = go (helps all)
+  where
+    go : (t : Bool) → Small (cond t (some good) (commanded all (asked all)))
+    go true = omega arith
+    go false = small-commanded all (asked all)
+
+kept-small : (o : Option ℕ) (s : ℕ) → Small o → Keeps o s → s ≤ nothing
+kept-small (some d) s h k = omega arith
+kept-small none s h k = k
+
+pub one-of-three : (all : List (List ℕ)) (s : ℕ) → Keeps (decided all) s → s ≤ nothing
+one-of-three all s k = kept-small (decided all) s (small-decided all) k

@@ -8,6 +8,8 @@ ghost use mathlib.Core.Path.{_≡_};
 ghost use Prim.Native.Nat.{_+_, _≤_};
 ghost use Rattle.io.specs.Counts.{Counts};
 ghost use lib.ListN.{length};
+ghost use Rattle.symbols.specs.Text.{bytes};
+ghost use Rattle.symbols.specs.Names.{equal};
 
 // What was brought in: whether it is good, and how many bytes.
 pub struct Loaded {
@@ -57,7 +59,9 @@ pub fn take_in(fd: i32, name: &[u8], room: &mut [u8]) -> Loaded
 }
 
 // Whether a file is standard input.
-pub fn is_standard(name: &[u8]) -> bool {
+pub fn is_standard(name: &[u8]) -> bool
+    ensures { λ r. ⌜ r ≡ equal (now (name .entry)) (bytes "-") ⌝ }
+{
     same_bytes(name, b"-")
 }
 

@@ -13,6 +13,8 @@ use showing::text::complain;
 use showing::text::say;
 use showing::text::tell_typed;
 use symbols::text::find;
+ghost use Prim.Native.Nat.{_≤_};
+ghost use Rattle.deed.specs.Status.{nothing};
 
 // Whether a line of words is no command: it is empty, or begins with #.
 fn is_note(line: &[u8]) -> bool {
@@ -25,7 +27,9 @@ fn is_note(line: &[u8]) -> bool {
 }
 
 // One line of a file of commands.
-fn obey_text(text: &[u8]) -> u8 {
+fn obey_text(text: &[u8]) -> u8
+    ensures { λ r. ⌜ r ≤ nothing ⌝ }
+{
     let mut row = io::large_buffer();
     let n = line_of(text, &mut row);
     if is_note(&row[..n]) {
@@ -38,7 +42,9 @@ fn obey_text(text: &[u8]) -> u8 {
 }
 
 // The greatest status of the commands.
-fn obey_each(text: &[u8]) -> u8 {
+fn obey_each(text: &[u8]) -> u8
+    ensures { λ r. ⌜ r ≤ nothing ⌝ }
+{
     let mut most = status::GOOD;
     let mut at: usize = 0;
     while at < text.len() {
@@ -50,7 +56,9 @@ fn obey_each(text: &[u8]) -> u8 {
 }
 
 // The commands of a file. One that fills the room may go on behind it, and no part of it is done.
-fn obey_file(name: &[u8]) -> u8 {
+fn obey_file(name: &[u8]) -> u8
+    ensures { λ r. ⌜ r ≤ nothing ⌝ }
+{
     let mut room = io::large_buffer();
     let got = load(name, &mut room);
     let n = got.count;
@@ -66,7 +74,9 @@ fn obey_file(name: &[u8]) -> u8 {
 }
 
 // The file that a line names, whose command's word ends at `at`.
-pub fn obey(line: &[u8], at: usize) -> u8 {
+pub fn obey(line: &[u8], at: usize) -> u8
+    ensures { λ r. ⌜ r ≤ nothing ⌝ }
+{
     let mut row = [0u8; 256];
     let n = row_line(b"do", &mut row);
     if !well_asked(line, at, &row[..n]) {

@@ -9,7 +9,7 @@ use Rattle.deed.proofs.orders.obey_each.Statement.{statement}
 use Rattle.deed.proofs.orders.obey_each.Tie as tie
 
 abbrev Inv-loop : tie.InvT-loop
-Inv-loop text most₀ at₀ most at = Unit {0}
+Inv-loop text most₀ at₀ most at = most ≤ 2
 
 abbrev μ-loop : tie.MeasureT-loop
 μ-loop text most₀ at₀ most at = length text - at
