@@ -18,7 +18,7 @@ use Rattle.asking.specs.Table.{firstRow, rowIn, rowOf}
 use Rattle.asking.specs.declared.words.Word.{Word}
 use Rattle.asking.specs.declared.sorts.Sort.{Sort}
 use Rattle.asking.proofs.Choices.{part-empty}
-use Rattle.deed.specs.Status.{good, nothing}
+use Rattle.desk.specs.Status.{good, nothing}
 use Rattle.deed.specs.Commands.{isNone, helps, rowLine, settled, wellAsked, byRow, commanded, decided, Keeps}
 
 -- ---- words of a sort

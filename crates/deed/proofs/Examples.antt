@@ -14,7 +14,7 @@ use Rattle.asking.specs.Words.{ended, cut, wordsOf, has, unblanked}
 use Rattle.asking.specs.Sorts.{looks, isOption, isFlag, isNamed, isMisfit, isTwice, isCapital, those}
 use Rattle.asking.specs.Options.{firstNumber, optionOf, together, sizesOf, operandsIn}
 use Rattle.asking.specs.Table.{firstRow, rowIn, rowOf, matched}
-use Rattle.deed.specs.Status.{good, bad, nothing, ofTaken}
+use Rattle.desk.specs.Status.{good, bad, nothing, ofTaken}
 use Rattle.deed.specs.Commands.{helps, rowLine, fitting, once, clash, full, sized, wellAsked, settled, byRow, commanded, decided, Keeps}
 
 -- what the words of a text decide

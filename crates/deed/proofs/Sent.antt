@@ -23,7 +23,8 @@ use Rattle.checking.specs.declared.Checked.{Checked}
 use Rattle.checking.specs.declared.Checked.the-variants.{Yes, Refused as Unchecked, Wrong as WrongAt}
 use Rattle.checking.proofs.FromTables.{Accepts}
 use Rattle.checking.proofs.Promises.{usesIn, one-answer, yes-exactly}
-use Rattle.deed.specs.Status.{good, nothing, ofChecked, CheckStatus, ByWords, SentStatus}
+use Rattle.desk.specs.Status.{good, nothing}
+use Rattle.deed.specs.Status.{ofChecked, CheckStatus, ByWords, SentStatus}
 
 -- ---- a list as a line of words
 

@@ -15,7 +15,7 @@ use Rattle.asking.specs.Table.{rowOf, names, more, matched}
 use Rattle.asking.specs.declared.sorts.Sort.the-variants.{Misfit, Twice}
 use Rattle.asking.specs.declared.sizes.Asked.{Asked}
 use Rattle.asking.specs.declared.sizes.Asked.the-variants.{Are, Not}
-use Rattle.deed.specs.Status.{good, nothing}
+use Rattle.desk.specs.Status.{good, nothing}
 
 abbrev pub isNone : List (List ℕ) → Bool
 isNone [] = true

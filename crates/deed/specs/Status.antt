@@ -1,17 +1,10 @@
--- The exit status of the tool: "0 where the source was accepted, the run ended or the list is right, 1 where it was refused, stopped or wrong, and 2 where
--- nothing was done or where not all of the output could be written; of do the greatest of its commands". These are definitions of the tool and no part of
--- the paper.
+-- The exit status of each command that shows, writes or checks. These are definitions of the tool and no part of the paper.
 use Prim.Native.Nat.{ℕ}
 use mathlib.Core.Path.{_≡_}
-use mathlib.Core.Bool.{Bool, cond, _&&_}
 use mathlib.Core.List.{List}
-use lib.Dec.{ltb}
 use lib.IntN.{ℤ}
-use lib.ListN.{length, replicate}
+use lib.ListN.{replicate}
 use Rattle.answers.specs.declared.Verdict.{Verdict}
-use Rattle.answers.specs.declared.Verdict.the-variants.{Accepted, Refused}
-use Rattle.answers.specs.declared.Stop.{Stop}
-use Rattle.answers.specs.declared.Stop.the-variants.{Ended, Limit, Fault, Wrong}
 use Rattle.asking.specs.Lists.{listWords, leading, listedIn}
 use Rattle.asking.specs.declared.lists.Listed.{Listed}
 use Rattle.asking.specs.declared.lists.Listed.the-variants.{Are, Not, Full}
@@ -21,24 +14,9 @@ use Rattle.checking.specs.Checking.{Checks}
 use Rattle.clean.specs.declared.Written.{Written}
 use Rattle.clean.specs.declared.Written.the-variants.{Text, Refused as Unwritten}
 use Rattle.clean.specs.Job.{Writes}
-use Rattle.machine.specs.Machine.{Finish, onCode}
-use Rattle.machine.specs.declared.Ran.{Ran}
 use Rattle.reading.specs.Reading.{Reads}
 use Rattle.translating.specs.Job.{codeWords, Translates}
-
-abbrev pub good : ℕ
-good = 0
-
-abbrev pub bad : ℕ
-bad = 1
-
-abbrev pub nothing : ℕ
-nothing = 2
-
--- of an answer to a source
-abbrev pub ofVerdict : Verdict → ℕ
-ofVerdict Accepted = good
-ofVerdict (Refused r) = bad
+use Rattle.desk.specs.Status.{good, bad, nothing, ofVerdict}
 
 -- of a source that is written
 abbrev pub ofWritten : Written → ℕ
@@ -50,31 +28,6 @@ abbrev pub ofChecked : Checked → ℕ
 ofChecked Yes = good
 ofChecked (Unchecked r) = bad
 ofChecked (WrongAt i) = bad
-
--- of a run, and whether it left numbers that it was to take
-abbrev pub ofEnd : Bool → Stop → ℕ
-ofEnd left Ended = cond left bad good
-ofEnd left Limit = bad
-ofEnd left (Fault r) = bad
-ofEnd left (Wrong a) = bad
-
--- of a run that was given so many numbers: with --strict it is to take them all
-abbrev pub ofFinish : Bool → ℕ → Finish → ℕ
-ofFinish strict given f = ofEnd (strict && ltb (f .taken) given) (f .stop)
-
--- of a source that is run if it is accepted
-abbrev pub ofRun : Bool → ℕ → Verdict → Finish → ℕ
-ofRun strict given Accepted f = ofFinish strict given f
-ofRun strict given (Refused r) f = bad
-
--- of what was done, and whether all that was written was taken: 0 only if it was
-unfoldable pub ofTaken : Bool → ℕ → ℕ
-ofTaken taken s = cond taken s nothing
-
--- what a run gives back is as the machine finishes
-pub record RanAs (r : Ran) (f : Finish) : Type 0 where
-  pub stopped : r .stop ≡ f .stop
-  pub took : r .taken ≡ f .taken
 
 -- s is the status of an answer of which P holds
 pub record Told (P : Verdict → Type 0) (s : ℕ) : Type 0 where
@@ -111,11 +64,3 @@ ByWords text numbers Full s = s ≡ nothing
 -- s is the status of a source and of a list as it was sent, of which 32,768 numbers are taken at most
 pub record SentStatus (text list : List ℕ) (s : ℕ) : Type 0 where
   pub by-words : ByWords text (leading (listWords list)) (listedIn 32768 (listWords list)) s
-
--- s is the status of a source's run on this input, under this limit, with so many cells and so much space for output: of what `translate` answers, and
--- of how the machine finishes on the words that it leaves
-pub record RunStatus (strict : Bool) (text : List ℕ) (input : List ℤ) (limit cells space s : ℕ) : Type 0 where
-  pub verdict : Verdict
-  pub words : List ℕ
-  pub translates : Translates text (replicate codeWords 0) verdict words
-  pub told : s ≡ ofRun strict (length input) verdict (onCode words input limit cells space)

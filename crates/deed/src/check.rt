@@ -1,11 +1,4 @@
 // deed check: a list that somebody sent, held against the uses of a source.
-use crate::files::Loaded;
-use crate::files::is_standard;
-use crate::files::load;
-use crate::files::nothing;
-use crate::help::misused;
-use crate::help::see_help;
-use crate::status;
 use asking::lists::Listed;
 use asking::lists::list_in;
 use asking::options::next_operand;
@@ -15,6 +8,13 @@ use asking::words::list_line;
 use asking::words::word_from;
 use checking::Checked;
 use checking::checking::check_list;
+use desk::files::Loaded;
+use desk::files::is_standard;
+use desk::files::load;
+use desk::files::nothing;
+use desk::misuse::misused;
+use desk::misuse::see_help;
+use desk::status;
 use libc::STDERR_FILENO;
 use libc::STDOUT_FILENO;
 use reading::reading::read;
@@ -32,7 +32,9 @@ use table::sections::word;
 ghost use Prim.Native.Nat.{_≤_};
 ghost use lib.ListN.{length};
 ghost use Rattle.io.specs.Counts.{Counts};
-ghost use Rattle.deed.specs.Status.{nothing as undone, CheckStatus, SentStatus};
+ghost use mathlib.Core.Path.{_≡_};
+ghost use Rattle.desk.specs.Status.{nothing as undone};
+ghost use Rattle.deed.specs.Status.{ofChecked, CheckStatus, SentStatus};
 
 // How much of a number that somebody typed is shown.
 const SHOWN: usize = 40;
@@ -153,6 +155,16 @@ fn show_plain(c: Checked) {
     }
 }
 
+fn of_checked(c: Checked) -> u8
+    ensures { λ r. ⌜ r ≡ ofChecked c ⌝ }
+{
+    match c {
+        Checked::Yes => status::GOOD,
+        Checked::Refused(_) => status::BAD,
+        Checked::Wrong(_) => status::BAD,
+    }
+}
+
 // What is said of a source and the numbers of a list, whose words stand in `line`.
 fn tell_checked(
     name: &[u8],
@@ -166,7 +178,7 @@ fn tell_checked(
     ensures { λ r. ⌜ CheckStatus (now (source .entry)) (now (numbers .entry)) r ⌝ }
 {
     let c = check_list(source, numbers);
-    let ended = status::of_checked(c);
+    let ended = of_checked(c);
     if plain {
         show_plain(c);
         return ended;

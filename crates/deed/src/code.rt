@@ -1,14 +1,15 @@
 // deed code: the translation of a source.
-use crate::files::load;
-use crate::help::see_help;
-use crate::status;
 use answers::Verdict;
 use asking::options::next_operand;
+use desk::files::load;
+use desk::misuse::see_help;
+use desk::status;
 use showing::code::show_code;
 use showing::words::show_answer;
 use translating::translating::translate;
 ghost use Prim.Native.Nat.{_≤_};
-ghost use Rattle.deed.specs.Status.{nothing, CodeStatus};
+ghost use Rattle.desk.specs.Status.{nothing};
+ghost use Rattle.deed.specs.Status.{CodeStatus};
 
 fn tell(name: &[u8], source: &[u8]) -> u8
     ensures { λ r. ⌜ CodeStatus (now (source .entry)) r ⌝ }

@@ -2,13 +2,10 @@
 use crate::check;
 use crate::code;
 use crate::help::help;
-use crate::help::misused;
 use crate::help::usage;
 use crate::levels;
 use crate::page;
 use crate::read;
-use crate::run;
-use crate::status;
 use crate::uses;
 use crate::write;
 use asking::sizes::Asked;
@@ -20,7 +17,10 @@ use asking::table::fits;
 use asking::table::row_line;
 use asking::words::has_word;
 use asking::words::is_plain;
+use desk::misuse::misused;
+use desk::status;
 use libc::STDERR_FILENO;
+use paying::run;
 use showing::text::complain;
 use showing::text::tell_typed;
 use symbols::text::same_bytes;
@@ -29,7 +29,7 @@ ghost use Prim.Native.Nat.{_≤_};
 ghost use lib.ListN.{length};
 ghost use Rattle.asking.specs.Words.{wordsOf, part};
 ghost use Rattle.asking.specs.Sorts.{askedFrom};
-ghost use Rattle.deed.specs.Status.{nothing};
+ghost use Rattle.desk.specs.Status.{nothing};
 ghost use Rattle.deed.specs.Commands.{helps, fitting, once, clash, full, sized, wellAsked, settled, decided, Keeps};
 
 // Whether a line asks for help, whatever else it says.

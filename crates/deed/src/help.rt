@@ -8,7 +8,6 @@ use libc::STDOUT_FILENO;
 use showing::text::complain;
 use showing::text::say;
 use showing::text::tell;
-use showing::text::tell_typed;
 
 // What each command does, a paragraph a row of the table, ended by a zero.
 const ABOUT: [u8; 1620] =
@@ -131,19 +130,6 @@ fn tell_table(to: i32, long: bool, rows: &[u8], about: &[u8]) {
 pub fn usage() {
     complain(b"usage:\n");
     tell_table(STDERR_FILENO, false, &ROWS, &ABOUT);
-}
-
-// What is wrong with the words of a command, and where to look.
-pub fn misused(what: &[u8], word: &[u8]) {
-    complain(b"deed: ");
-    complain(what);
-    tell_typed(STDERR_FILENO, word);
-    complain(b"\n");
-    see_help();
-}
-
-pub fn see_help() {
-    complain(b"see ./deed help\n");
 }
 
 pub fn help() {

@@ -1,14 +1,15 @@
 // deed levels: the levels of a source.
-use crate::files::load;
-use crate::help::see_help;
-use crate::status;
 use answers::Verdict;
 use asking::options::next_operand;
+use desk::files::load;
+use desk::misuse::see_help;
+use desk::status;
 use reading::reading::read;
 use showing::levels::show_levels;
 use showing::words::show_answer;
 ghost use Prim.Native.Nat.{_≤_};
-ghost use Rattle.deed.specs.Status.{nothing, ReadStatus};
+ghost use Rattle.desk.specs.Status.{nothing};
+ghost use Rattle.deed.specs.Status.{ReadStatus};
 
 fn tell(name: &[u8], source: &[u8]) -> u8
     ensures { λ r. ⌜ ReadStatus (now (source .entry)) r ⌝ }

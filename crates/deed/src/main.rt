@@ -3,9 +3,10 @@
 use asking::sorts::next_word;
 use asking::words::is_word;
 use commands::obey;
-use files::arguments;
+use desk::files::arguments;
+use desk::misuse::see_help;
+use desk::status;
 use help::help;
-use help::see_help;
 use libc::STDERR_FILENO;
 use showing::taken::all_taken;
 use showing::taken::is_open;
@@ -13,16 +14,11 @@ use showing::taken::is_open;
 mod check; // deed check
 mod code; // deed code
 mod commands; // what a line asks
-mod files; // files and arguments
-mod given; // the numbers of a run
 mod help; // what the tool says of itself
 mod levels; // deed levels
 mod orders; // deed do
-mod outputs; // what a run wrote
 mod page; // deed page
 mod read; // deed read
-mod run; // deed run
-mod status; // how it ended, for a script
 mod uses; // deed uses
 mod write; // deed write
 

@@ -1,20 +1,20 @@
 // deed do: the commands of a file, one a line.
 use crate::commands;
 use crate::commands::well_asked;
-use crate::files::load;
-use crate::help::see_help;
-use crate::status;
 use asking::options::next_operand;
 use asking::table::row_line;
 use asking::words::line_of;
 use asking::words::word_from;
+use desk::files::load;
+use desk::misuse::see_help;
+use desk::status;
 use libc::STDOUT_FILENO;
 use showing::text::complain;
 use showing::text::say;
 use showing::text::tell_typed;
 use symbols::text::find;
 ghost use Prim.Native.Nat.{_≤_};
-ghost use Rattle.deed.specs.Status.{nothing};
+ghost use Rattle.desk.specs.Status.{nothing};
 
 // Whether a line of words is no command: it is empty, or begins with #.
 fn is_note(line: &[u8]) -> bool {

@@ -1,12 +1,13 @@
 // deed page: the page of a source, accepted or refused.
-use crate::files::load;
-use crate::help::see_help;
-use crate::status;
 use asking::options::next_operand;
+use desk::files::load;
+use desk::misuse::see_help;
+use desk::status;
 use reading::reading::read;
 use webpage::show_page;
 ghost use Prim.Native.Nat.{_≤_};
-ghost use Rattle.deed.specs.Status.{nothing, ReadStatus};
+ghost use Rattle.desk.specs.Status.{nothing};
+ghost use Rattle.deed.specs.Status.{ReadStatus};
 
 fn tell(name: &[u8], source: &[u8]) -> u8
     ensures { λ r. ⌜ ReadStatus (now (source .entry)) r ⌝ }

@@ -1,17 +1,18 @@
 // deed read: whether a source is accepted.
-use crate::files::load;
-use crate::help::see_help;
-use crate::status;
 use answers::Verdict;
 use asking::options::next_operand;
 use asking::words::is_plain;
+use desk::files::load;
+use desk::misuse::see_help;
+use desk::status;
 use reading::reading::read;
 use showing::text::say;
 use showing::text::say_file;
 use showing::text::say_number;
 use showing::words::show_answer;
 ghost use Prim.Native.Nat.{_≤_};
-ghost use Rattle.deed.specs.Status.{nothing, ReadStatus};
+ghost use Rattle.desk.specs.Status.{nothing};
+ghost use Rattle.deed.specs.Status.{ReadStatus};
 
 // The answer and its place, as one line of numbers.
 fn show_plain(v: Verdict) {

@@ -1,11 +1,11 @@
 // deed uses: the uses of a source, for people, as a list, or as one line of numbers.
-use crate::files::load;
-use crate::help::see_help;
-use crate::status;
 use answers::Verdict;
 use asking::options::next_operand;
 use asking::words::has_word;
 use asking::words::is_plain;
+use desk::files::load;
+use desk::misuse::see_help;
+use desk::status;
 use libc::STDERR_FILENO;
 use libc::STDOUT_FILENO;
 use reading::reading::read;
@@ -16,7 +16,8 @@ use showing::uses::show_section;
 use showing::uses::show_uses;
 use showing::words::tell_answer;
 ghost use Prim.Native.Nat.{_≤_};
-ghost use Rattle.deed.specs.Status.{nothing, ReadStatus};
+ghost use Rattle.desk.specs.Status.{nothing};
+ghost use Rattle.deed.specs.Status.{ReadStatus};
 
 // What is shown of the uses.
 enum Way {

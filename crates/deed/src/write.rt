@@ -1,13 +1,13 @@
 // deed write: a source in the house layout. After a refusal standard output has nothing, so that what a shell puts into a file from there is a page or is empty.
-use crate::files::load;
-use crate::help::see_help;
-use crate::status;
 use answers::Answer;
 use answers::Refusal;
 use asking::options::next_operand;
 use asking::words::is_plain;
 use clean::Written;
 use clean::writing::write;
+use desk::files::load;
+use desk::misuse::see_help;
+use desk::status;
 use libc::STDERR_FILENO;
 use showing::text::complain;
 use showing::text::say;
@@ -15,7 +15,9 @@ use showing::text::say_number;
 use showing::text::tell_file;
 use showing::words::tell_answer;
 ghost use Prim.Native.Nat.{_≤_};
-ghost use Rattle.deed.specs.Status.{nothing, WriteStatus};
+ghost use mathlib.Core.Path.{_≡_};
+ghost use Rattle.desk.specs.Status.{nothing};
+ghost use Rattle.deed.specs.Status.{ofWritten, WriteStatus};
 
 // The answer, its place and the length of the text, as one line of numbers; the text is to stand behind it.
 fn show_plain(w: Written) {
@@ -46,6 +48,15 @@ fn complain_of(name: &[u8], source: &[u8], r: Refusal) {
     );
 }
 
+fn of_written(w: Written) -> u8
+    ensures { λ r. ⌜ r ≡ ofWritten w ⌝ }
+{
+    match w {
+        Written::Text(_) => status::GOOD,
+        Written::Refused(_) => status::BAD,
+    }
+}
+
 // No text is longer than a source may be.
 fn tell_text(name: &[u8], source: &[u8], plain: bool) -> u8
     ensures { λ r. ⌜ WriteStatus (now (source .entry)) r ⌝ }
@@ -53,7 +64,7 @@ fn tell_text(name: &[u8], source: &[u8], plain: bool) -> u8
     let mut room = [0u8; 16384];
     let w = write(source, &mut room);
     let n = w.length();
-    let ended = status::of_written(w);
+    let ended = of_written(w);
     if plain {
         show_plain(w);
     } else if let Written::Refused(r) = w {
