@@ -94,6 +94,10 @@ noInstruction = 29
 abbrev pub noVariable : ℕ
 noVariable = 30
 
+-- 31, paper 02, request 12: "More than 65,535 sets is new answer 31"
+abbrev pub tooManySets : ℕ
+tooManySets = 31
+
 -- ---- the environment: "The environment holds iabs (0), maxint (1), ininteger (2), outinteger (3)"
 
 abbrev pub iabs : ℕ

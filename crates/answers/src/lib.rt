@@ -1,7 +1,7 @@
 // The numbers of paper 01, "Numbered answers", and what carries them. Places, symbols, declarations and code addresses
 // are types of their own, so that none is taken for another; answer and environment numbers are constants of their types.
 ghost use mathlib.Core.Path.{_≡_};
-ghost use Rattle.answers.specs.Numbers.{accepted, ended, short, long, noSymbol, tooLarge, grammar, depth, twice, undeclared, heading, types, limit, range, zeroDivisor, unassigned, inputEnded, outputFull, cells, activations, channel, noInstruction, noVariable, iabs, maxint, ininteger, outinteger, outreal};
+ghost use Rattle.answers.specs.Numbers.{accepted, ended, short, long, noSymbol, tooLarge, grammar, depth, twice, undeclared, heading, types, limit, range, zeroDivisor, unassigned, inputEnded, outputFull, cells, activations, channel, noInstruction, noVariable, tooManySets, iabs, maxint, ininteger, outinteger, outreal};
 ghost use Rattle.answers.specs.Answers.{answer, environment, refusal, numberOf, placeOf, stopNumber, stopPlace};
 
 // A byte of the source, counted from 0.
@@ -81,6 +81,8 @@ impl Answer {
     pub const NO_INSTRUCTION: Answer = Answer { number: 29 };
     // A store to a name formal whose actual is no variable.
     pub const NO_VARIABLE: Answer = Answer { number: 30 };
+    // More sets of input than a report takes.
+    pub const TOO_MANY_SETS: Answer = Answer { number: 31 };
 
     pub fn accepted() -> Answer
         ensures { λ r. ⌜ r ≡ answer accepted ⌝ }
@@ -218,6 +220,12 @@ impl Answer {
         ensures { λ r. ⌜ r ≡ answer noVariable ⌝ }
     {
         Answer::NO_VARIABLE
+    }
+
+    pub fn too_many_sets() -> Answer
+        ensures { λ r. ⌜ r ≡ answer tooManySets ⌝ }
+    {
+        Answer::TOO_MANY_SETS
     }
 }
 
