@@ -1,2 +1,4 @@
 pub mod Computed
+pub mod Halves
+pub mod Judging
 pub mod Parsing
