@@ -1,9 +1,11 @@
--- What the texts come to, computed in the prover: by the right rule, and by the wrong ones.
+-- The texts that refute the wrong rules of request 7: a prelude, and schemes behind it; and what they come to by the right rule and by the wrong ones, computed in the
+-- prover.
 use Prim.Native.Nat.{ℕ}
 use mathlib.Core.Path.{_≡_, refl}
-use mathlib.Core.List.{List, [], _∷_}
+use mathlib.Core.List.{List, [], _∷_, _++_}
 use Rattle.answers.specs.Answers.{refusal}
 use Rattle.answers.specs.declared.Verdict.the-variants.{Accepted, Refused}
+use Rattle.symbols.specs.Text.{bytes}
 use Rattle.symbols.specs.Names.{blank, letter, digit, inName, these, reach, valueFrom, equal as equalBytes, folded, sameName, decimals}
 use Rattle.symbols.specs.Scan.{before, closed, spelled, named, word, gap, followed, sign, sized, name, valued, number, lexeme, behind, endsRemark, note, counted, judged, turn, scanFrom, scan, pointed, withPoint, point}
 use Rattle.grammar.specs.Trees.{yield}
@@ -20,13 +22,40 @@ use Rattle.names.specs.Program.{Procedure}
 use Rattle.reading.specs.Judges.{Judge}
 use Rattle.reading.specs.Two.{schemeJudge}
 use Rattle.marks.specs.Marks.{copies}
-use Rattle.marks.specs.Texts.{prelude, declaring, borrowing, calling, hiding, deepest, longest}
-use Rattle.marks.specs.WrongTwo.{deeper, joining, listing, counting}
+use Rattle.marks.proofs.WrongTwo.{deeper, joining, listing, counting}
 use Rattle.marks.specs.model.Parsing.{among, parse}
-use Rattle.marks.specs.model.Judging.{judgedOf}
-use Rattle.marks.specs.model.Halves.{Left, leaves, halfOf, seenOf}
+use Rattle.marks.specs.model.Judging.{judgedOf, Left, leaves}
+use Rattle.marks.proofs.Halves.{halfOf, seenOf}
 
--- enough for the longest
+-- a prelude of 8 symbols, with one use in it
+abbrev pub prelude : List ℕ
+prelude = bytes "'integer' 'procedure' f; f := 1;"
+
+-- one that declares a, and one that uses an a and declares none
+abbrev pub declaring : List ℕ
+declaring = bytes "'begin' 'integer' a; a := 1 'end'"
+
+abbrev pub borrowing : List ℕ
+borrowing = bytes "'begin' a := 1 'end'"
+
+-- one that uses the prelude's f
+abbrev pub calling : List ℕ
+calling = bytes "'begin' 'integer' a; a := f 'end'"
+
+-- one with an f of its own; and one with a dummy statement at depth 64
+abbrev pub hiding : List ℕ
+hiding = bytes "'begin' 'integer' f; f := 1 'end'"
+
+abbrev pub deepest : List ℕ
+deepest = copies 63 "'begin'" ++ copies 63 "'end'"
+
+-- one of 1,017 symbols, with the prelude's 1,025; the last is the 'end' at 1,022
+abbrev pub longest : List ℕ
+longest = bytes "'begin'" ++ (copies 1015 ";" ++ bytes "'end'")
+
+-- ---- what they come to
+
+-- fuel enough for the longest
 abbrev pub fuel : ℕ
 fuel = 5000
 
@@ -38,13 +67,18 @@ wrong judge scheme = halfOf (judge prelude) prelude scheme fuel
 
 -- the words of `declaring` and of `hiding`; of `borrowing` by the wrong rule; of `calling`, behind its uses
 abbrev pub declared : List ℕ
-declared = 1 ∷ 21 ∷ 1 ∷ 18 ∷ 1 ∷ 18 ∷ 1 ∷ 3 ∷ 1 ∷ 8 ∷ 1 ∷ 0 ∷ 0 ∷ 0 ∷ 4 ∷ 0 ∷ 1 ∷ 0 ∷ 5 ∷ 18 ∷ 0 ∷ 0 ∷ 2 ∷ 0 ∷ 0 ∷ 0 ∷ 23 ∷ 21 ∷ 2 ∷ 0 ∷ 28 ∷ 26 ∷ 0 ∷ 0 ∷ 24 ∷ 23 ∷ 0 ∷ 0 ∷ 3 ∷ 0 ∷ 0 ∷ 0 ∷ []
+declared =
+    1 ∷ 21 ∷ 1 ∷ 18 ∷
+    1 ∷ 18 ∷ 1 ∷ 3 ∷ 1 ∷
+    8 ∷ 1 ∷ 0 ∷ 0 ∷ 0 ∷ 4 ∷ 0 ∷ 1 ∷ 0 ∷ 5 ∷ 18 ∷ 0 ∷ 0 ∷ 2 ∷ 0 ∷ 0 ∷ 0 ∷ 23 ∷ 21 ∷ 2 ∷ 0 ∷ 28 ∷ 26 ∷ 0 ∷ 0 ∷ 24 ∷ 23 ∷ 0 ∷ 0 ∷ 3 ∷ 0 ∷ 0 ∷ 0 ∷ []
 
 abbrev pub borrowed : List ℕ
 borrowed = 0 ∷ 0 ∷ 3 ∷ 23 ∷ 8 ∷ 2 ∷ 0 ∷ 28 ∷ 13 ∷ 0 ∷ 0 ∷ 24 ∷ 10 ∷ 0 ∷ 0 ∷ []
 
 abbrev pub called : List ℕ
-called = 1 ∷ 18 ∷ 1 ∷ 3 ∷ 1 ∷ 8 ∷ 1 ∷ 0 ∷ 0 ∷ 0 ∷ 4 ∷ 0 ∷ 1 ∷ 0 ∷ 5 ∷ 18 ∷ 0 ∷ 0 ∷ 2 ∷ 0 ∷ 0 ∷ 0 ∷ 23 ∷ 21 ∷ 2 ∷ 0 ∷ 30 ∷ 26 ∷ 2 ∷ 0 ∷ 24 ∷ 23 ∷ 0 ∷ 0 ∷ 3 ∷ 0 ∷ 0 ∷ 0 ∷ []
+called =
+    1 ∷ 18 ∷ 1 ∷ 3 ∷ 1 ∷
+    8 ∷ 1 ∷ 0 ∷ 0 ∷ 0 ∷ 4 ∷ 0 ∷ 1 ∷ 0 ∷ 5 ∷ 18 ∷ 0 ∷ 0 ∷ 2 ∷ 0 ∷ 0 ∷ 0 ∷ 23 ∷ 21 ∷ 2 ∷ 0 ∷ 30 ∷ 26 ∷ 2 ∷ 0 ∷ 24 ∷ 23 ∷ 0 ∷ 0 ∷ 3 ∷ 0 ∷ 0 ∷ 0 ∷ []
 
 -- by the right rule
 pub rightly :

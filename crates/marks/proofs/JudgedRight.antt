@@ -1,7 +1,7 @@
--- What the model answers to a text for any judge, where its fuel reaches, is what that judge says of it (`judged-right`): as Answered, over what is read and its own
--- depth.
-use Prim.Native.Nat.{ℕ, _+_, _-_, _<_, _≤_}
-use mathlib.Core.Path.{_≡_, refl, ap}
+-- What the model answers to a text for any judge, where its fuel reaches, is what that judge says of it (`judged-right`): each stage of the model with the paper's
+-- definition of that stage. The parser's answer is the relation's (Parses), and what the relation says of a list of symbols is in proofs/Final of crate `grammar`.
+use Prim.Native.Nat.{ℕ, _-_, _<_}
+use mathlib.Core.Path.{_≡_, refl, ap, subst, _∙_}
 use mathlib.Core.Bool.{Bool, true, false}
 use mathlib.Core.List.{List, [], _∷_}
 use mathlib.Core.Option.{Option, none, some}
@@ -12,7 +12,8 @@ use lib.ListN.{length}
 use borrow.Author.Tests.{eqb-true, eqb-false, leb-true, leb-false}
 use Rattle.answers.specs.Answers.{refusal}
 use Rattle.answers.specs.declared.Refusal.{Refusal}
-use Rattle.answers.specs.declared.Verdict.the-variants.{Refused}
+use Rattle.answers.specs.declared.Verdict.{Verdict}
+use Rattle.answers.specs.declared.Verdict.the-variants.{Accepted, Refused}
 use Rattle.symbols.specs.Scan.{scan}
 use Rattle.grammar.specs.Program.{greatest}
 use Rattle.grammar.specs.Trees.{Syn}
@@ -21,10 +22,10 @@ use Rattle.grammar.specs.model.Text.{kindAt}
 use Rattle.grammar.specs.model.Run.{Res, got, bad, Run}
 use Rattle.grammar.proofs.Final.{Start, got-all-in, got-over-in, j-within-in, bad-wrong-in, bad-deep-in, bad-number-in}
 use Rattle.names.specs.Uses.{Fault}
-use Rattle.reading.specs.Judging.{kindsIn}
-use Rattle.reading.specs.Judges.{Judge, ScannedBy, GrammaticalBy, JudgedBy, too-long, unreadable, ungrammatical, too-deep, misnamed, mistyped}
+use Rattle.reading.specs.Judging.{kindsIn, filled}
+use Rattle.reading.specs.Judges.{Judge, ScannedBy, GrammaticalBy, JudgedBy, too-long, unreadable, ungrammatical, too-deep, misnamed, mistyped, accepted as judged-accepted}
 use Rattle.marks.specs.model.Parsing.{parse}
-use Rattle.marks.specs.model.Judging.{Came, refused, accepted, byTypes, byNames, byEnd, byTree, bySymbols, byLength, judgedOf}
+use Rattle.marks.specs.model.Judging.{Came, refused, accepted, byTypes, byNames, byEnd, byTree, bySymbols, byLength, judgedOf, leaves, worded}
 use Rattle.marks.proofs.Parses.{Right, runs}
 
 -- a text whose tree is t, without a fault
@@ -98,3 +99,18 @@ module _ (j : Judge) (ok : Start (j .start)) (text : List ℕ) where
   pub judged-right : (fuel : ℕ) → Told (judgedOf j text fuel)
   unfolding judgedOf
   judged-right fuel = by-length fuel (leb (length text) 16384) refl
+
+-- ---- with the words
+pub worded-right : (j : Judge) (ok : Start (j .start)) (text : List ℕ) {v : Verdict} {w : List ℕ} (o : Option (Came (j .start))) → Told j ok text o → worded j text o ≡ leaves v w → JudgedBy j text v (filled (j .room) w)
+worded-right j ok text none h e = absurd (let z : _≡_ {A = ℕ} 0 1 = cc in omega arith)
+worded-right j ok text {v} {w} (some (refused r)) h e =
+    let a : Refused r ≡ v = cc in
+    let b : [] ≡ w = cc in
+    let z : j .room ≡ j .room - 0 = omega arith in
+    subst (λ (x : Verdict). JudgedBy j text x (filled (j .room) w)) a
+    (subst (λ (x : List ℕ). JudgedBy j text (Refused r) (filled (j .room) x)) b (subst (λ (n : ℕ). JudgedBy j text (Refused r) (zeros n)) z h))
+worded-right j ok text {v} {w} (some (accepted t)) h e =
+    let a : Accepted ≡ v = cc in
+    let b : j .words text t ≡ w = cc in
+    subst (λ (x : Verdict). JudgedBy j text x (filled (j .room) w)) a
+    (subst (λ (x : List ℕ). JudgedBy j text Accepted (filled (j .room) x)) (ap (j .words text) (h .same) ∙ b) (judged-accepted (h .read) (h .named) (h .typed)))

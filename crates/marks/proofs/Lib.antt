@@ -1,9 +1,9 @@
 pub mod Parses
-pub mod Answered
 pub mod JudgedRight
-pub mod HalvesRight
-pub mod ComputedTwo
-pub mod RefutedTwo
 pub mod Ran
 pub mod Computed
 pub mod Table
+pub mod WrongTwo
+pub mod Halves
+pub mod ComputedTwo
+pub mod RefutedTwo

@@ -1,4 +1,3 @@
 pub mod Computed
-pub mod Halves
 pub mod Judging
 pub mod Parsing

@@ -1,4 +1,4 @@
--- What the prover computes of a text for any judge: a prelude, a scheme, and a scheme by a wrong judge (request 7). With so much fuel; none where the fuel does not
+-- What the prover computes of a text for any judge: a source, a prelude, a scheme, and a scheme by a wrong judge. With so much fuel; none where the fuel does not
 -- reach. No part of the paper.
 use Prim.Native.Nat.{ℕ, _+_, _-_}
 use mathlib.Core.Bool.{Bool, true, false}
@@ -9,6 +9,8 @@ use lib.ListN.{length}
 use Rattle.answers.specs.Numbers.{long, grammar}
 use Rattle.answers.specs.Answers.{refusal}
 use Rattle.answers.specs.declared.Refusal.{Refusal}
+use Rattle.answers.specs.declared.Verdict.{Verdict}
+use Rattle.answers.specs.declared.Verdict.the-variants.{Accepted, Refused}
 use Rattle.symbols.specs.Symbols.{kind}
 use Rattle.symbols.specs.Scan.{scan}
 use Rattle.symbols.specs.declared.Symbol.the-variants.{Colon}
@@ -59,3 +61,13 @@ module _ (j : Judge) (text : List ℕ) where
 
   unfoldable pub judgedOf : ℕ → Option (Came (j .start))
   judgedOf fuel = byLength fuel (leb (length text) 16384)
+
+-- the answer, and the words before their zeros
+pub data Left : Type 0 where
+  nowhere : Left
+  leaves : Verdict → List ℕ → Left
+
+abbrev pub worded : (j : Judge) (text : List ℕ) → Option (Came (j .start)) → Left
+worded j text none = nowhere
+worded j text (some (refused r)) = leaves (Refused r) []
+worded j text (some (accepted t)) = leaves Accepted (j .words text t)

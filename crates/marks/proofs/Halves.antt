@@ -1,40 +1,52 @@
--- What the model computes of a prelude and a scheme is the half by that judge (`half-right`); by `schemeJudge` it is `Half`.
-use Prim.Native.Nat.{ℕ, _-_}
-use mathlib.Core.Path.{_≡_, refl, sym, ap, subst, _∙_}
+-- A prelude and a scheme behind it, by any judge of the scheme: the answer, and the half's words before its zeros, as the prover computes them; and that this is the half
+-- by that judge (`half-right`), by `schemeJudge` therefore `Half`.
+use Prim.Native.Nat.{ℕ}
+use mathlib.Core.Path.{_≡_, refl, sym, subst}
 use mathlib.Core.List.{List, []}
 use mathlib.Core.Option.{Option, none, some}
 use native.Mathlib.Omega.{arith}
 use Rattle.answers.specs.declared.Verdict.{Verdict}
-use Rattle.answers.specs.declared.Verdict.the-variants.{Accepted, Refused}
+use Rattle.answers.specs.declared.Verdict.the-variants.{Refused}
 use Rattle.grammar.specs.Grammar.{program, preludes}
 use Rattle.grammar.specs.Trees.{Syn}
-use Rattle.grammar.specs.model.Parsing.{zeros}
 use Rattle.grammar.proofs.Final.{Start, a-program}
 use Rattle.grammar.proofs.Preludes.{a-prelude}
 use Rattle.names.specs.Program.{Procedure}
 use Rattle.reading.specs.Judging.{filled}
-use Rattle.reading.specs.Judges.{Judge, JudgedBy, accepted as judged-accepted}
+use Rattle.reading.specs.Judges.{Judge, JudgedBy}
 use Rattle.reading.specs.Two as two
 use Rattle.reading.specs.Two.{halfWords, preludeJudge, proceduresIn, Prelude, schemeIn, schemeJudge}
-use Rattle.marks.specs.WrongTwo.{HalfBy, no-prelude, behind, outermost, seeingJudge, Sees, sees}
-use Rattle.marks.specs.model.Judging.{Came, refused, accepted, judgedOf}
-use Rattle.marks.specs.model.Halves.{Left, nowhere, leaves, worded, byPrelude, halfOf, seenBy, seenBehind, seenOf}
-use Rattle.marks.proofs.JudgedRight.{Clean, Told, judged-right}
+use Rattle.marks.specs.model.Judging.{Came, refused, accepted, judgedOf, Left, leaves, nowhere, worded}
+use Rattle.marks.proofs.WrongTwo.{HalfBy, no-prelude, behind, outermost, seeingJudge, Sees, sees}
+use Rattle.marks.proofs.JudgedRight.{Clean, Told, judged-right, worded-right}
 
--- a text and its words
-pub worded-right : (j : Judge) (ok : Start (j .start)) (text : List ℕ) {v : Verdict} {w : List ℕ} (o : Option (Came (j .start))) → Told j ok text o → worded j text o ≡ leaves v w → JudgedBy j text v (filled (j .room) w)
-worded-right j ok text none h e = absurd (let z : _≡_ {A = ℕ} 0 1 = cc in omega arith)
-worded-right j ok text {v} {w} (some (refused r)) h e =
-    let a : Refused r ≡ v = cc in
-    let b : [] ≡ w = cc in
-    let z : j .room ≡ j .room - 0 = omega arith in
-    subst (λ (x : Verdict). JudgedBy j text x (filled (j .room) w)) a
-    (subst (λ (x : List ℕ). JudgedBy j text (Refused r) (filled (j .room) x)) b (subst (λ (n : ℕ). JudgedBy j text (Refused r) (zeros n)) z h))
-worded-right j ok text {v} {w} (some (accepted t)) h e =
-    let a : Accepted ≡ v = cc in
-    let b : j .words text t ≡ w = cc in
-    subst (λ (x : Verdict). JudgedBy j text x (filled (j .room) w)) a
-    (subst (λ (x : List ℕ). JudgedBy j text Accepted (filled (j .room) x)) (ap (j .words text) (h .same) ∙ b) (judged-accepted (h .read) (h .named) (h .typed)))
+-- ---- computed
+
+module _ (judge : List Procedure → Judge) (prelude scheme : List ℕ) (fuel : ℕ) where
+  abbrev pub byPrelude : Option (Came preludes) → Left
+  byPrelude none = nowhere
+  byPrelude (some (refused r)) = leaves (Refused r) []
+  byPrelude (some (accepted t)) = worded (judge (proceduresIn prelude t)) scheme (judgedOf (judge (proceduresIn prelude t)) scheme fuel)
+
+  abbrev pub halfOf : Left
+  halfOf = byPrelude (judgedOf preludeJudge prelude fuel)
+
+-- of the second scheme, with the first one's names
+module _ (prelude a b : List ℕ) (fuel : ℕ) where
+  abbrev pub seenBy : List Procedure → Option (Came program) → Left
+  seenBy ps none = nowhere
+  seenBy ps (some (refused r)) = nowhere
+  seenBy ps (some (accepted t)) = let j : Judge = seeingJudge prelude (outermost (schemeIn prelude a t)) ps in worded j b (judgedOf j b fuel)
+
+  abbrev pub seenBehind : Option (Came preludes) → Left
+  seenBehind none = nowhere
+  seenBehind (some (refused r)) = nowhere
+  seenBehind (some (accepted t)) = let ps = proceduresIn prelude t in seenBy ps (judgedOf (schemeJudge prelude ps) a fuel)
+
+  abbrev pub seenOf : Left
+  seenOf = seenBehind (judgedOf preludeJudge prelude fuel)
+
+-- ---- the laws
 
 -- a prelude without a fault
 abbrev pub taken : {prelude : List ℕ} {t : Syn preludes} → Clean preludeJudge prelude t → Prelude prelude
@@ -50,8 +62,8 @@ module _ (judge : List Procedure → Judge) (ok : (ps : List Procedure) → Star
   by-prelude {v} {w} (some (accepted t)) h e =
       let j : Judge = judge (proceduresIn prelude t) in
       let k : JudgedBy j scheme v (filled halfWords w) =
-          subst (λ n. JudgedBy j scheme v (filled n w)) (room (proceduresIn prelude t))
-          (worded-right j (ok (proceduresIn prelude t)) scheme (judgedOf j scheme fuel) (judged-right j (ok (proceduresIn prelude t)) scheme fuel) e) in
+      subst (λ n. JudgedBy j scheme v (filled n w)) (room (proceduresIn prelude t))
+      (worded-right j (ok (proceduresIn prelude t)) scheme (judgedOf j scheme fuel) (judged-right j (ok (proceduresIn prelude t)) scheme fuel) e) in
       behind (taken h) v _ (subst (λ (t : Syn preludes). JudgedBy (judge (proceduresIn prelude t)) scheme v (filled halfWords w)) (sym (h .same)) k)
 
   pub half-right : {v : Verdict} {w : List ℕ} → halfOf judge prelude scheme fuel ≡ leaves v w → HalfBy judge prelude scheme v (filled halfWords w)
@@ -64,7 +76,7 @@ is-half (behind p v w k) = two.behind p v w k
 pub right-half : (prelude scheme : List ℕ) (fuel : ℕ) {v : Verdict} {w : List ℕ} → halfOf (schemeJudge prelude) prelude scheme fuel ≡ leaves v w → two.Half prelude scheme v (filled halfWords w)
 right-half prelude scheme fuel e = is-half (half-right (schemeJudge prelude) (λ ps. a-program) (λ ps. refl) prelude scheme fuel e)
 
--- ---- the second scheme, with the first one's names
+-- of the second scheme, with the first one's names
 module _ (prelude a b : List ℕ) (fuel : ℕ) where
   seen-by : (p : Prelude prelude) {v : Verdict} {w : List ℕ} (o : Option (Came program)) → Told (schemeJudge prelude (two.procedures p)) a-program a o → seenBy prelude a b fuel (two.procedures p) o ≡ leaves v w
       → Sees prelude a b v (filled halfWords w)

@@ -1,5 +1,5 @@
--- Request 7: rules that `read_two` does not follow, each as a definition beside `ReadsTwo`, to be refuted (proofs/RefutedTwo). Where a rule is wrong of a scheme alone, it
--- is a wrong judge of it: what differs from `schemeJudge` is said above each.
+-- Request 7: rules that `read_two` does not follow, each as a definition beside `ReadsTwo` (RefutedTwo has the texts on which they differ). Where a rule is wrong of a
+-- scheme alone, it is a wrong judge of the scheme.
 use Prim.Native.Nat.{ℕ, _+_, _-_, _<_, _≤_}
 use mathlib.Core.Bool.{cond}
 use mathlib.Core.List.{List, [], _∷_, _++_, map}
