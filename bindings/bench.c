@@ -2,6 +2,8 @@
  * round; then the time of reading (and translating) the largest sources. Times are of this process on this processor: under an emulator only the
  * ratio of the two machines means something. With an earlier library (BEFORE, see `bindings/run`) loops over whole numbers are translated and run,
  * and each source is read, by both, one after the other in each round.
+ * Then members a second of a report over the most sets that it takes, with the whole store lent and with a small one: what is between the two is the
+ * clearing of the store.
  * bench INSTRUCTIONS library, bench INSTRUCTIONS own: the first loop once, in one of the two, and nothing else (`bindings/run count` counts what it
  * takes of the processor's instructions). bench INSTRUCTIONS now LOOP, bench INSTRUCTIONS before LOOP: so one of the loops for both libraries. */
 #define _POSIX_C_SOURCE 199309L
@@ -492,6 +494,50 @@ static void time_source(const char *name, void (*make)(void))
     printf("translate %-11s %5zu bytes, answer %u at %zu:              %9.1f microseconds\n", name, length, answer, place, (t1 - t0) / times * 1e6);
 }
 
+#ifdef DEED_TRANSLATE
+/* ---- a report over many members, by the rule of examples/widow.alg */
+
+static const char widow[] =
+    "'begin' 'integer' pay, years, children, rate; 'integer' 'procedure' shared(left, n); 'value' left, n; 'integer' left, n; 'if' n = 0 'then' "
+    "shared := 0 'else' 'begin' 'integer' rate; rate := left % 6; shared := rate + shared(left - rate, n - 1) 'end'; ininteger(1, pay); "
+    "ininteger(1, years); ininteger(1, children); rate := 'if' years > 40 'then' 40 'else' years; outinteger(1, pay * rate % 80 % 2); "
+    "outinteger(1, shared(pay * rate % 80 - pay * rate % 80 % 2, children)) 'end'";
+
+/* The time of a report over DEED_SETS members with so many numbers of the store lent. */
+static double report_time(const uint32_t *words, const int32_t *sets, size_t length, size_t lent, int64_t *figures)
+{
+    static int64_t cells[DEED_STORE];
+    static int32_t entries[60];
+    uint16_t number;
+    size_t place;
+    double t0 = seconds();
+    deed_report(words, DEED_CODE, sets, length, 100000, cells, lent, entries, 60, figures, DEED_FIGURES, &number, &place);
+    return seconds() - t0;
+}
+
+static void time_report(int rounds)
+{
+    static uint32_t words[DEED_CODE];
+    static int32_t sets[1 + 4 * DEED_SETS];
+    static const size_t lent[] = {DEED_STORE, 256};
+    int64_t figures[DEED_FIGURES];
+    size_t place, n = 0;
+    deed_translate((const uint8_t *)widow, sizeof widow - 1, words, DEED_CODE, &place);
+    sets[n++] = DEED_SETS;
+    for (int32_t i = 0; i < DEED_SETS; i++)
+        sets[n++] = 3, sets[n++] = 1000 + i, sets[n++] = i % 50, sets[n++] = i % 7;
+    for (int k = 0; k < 2; k++) {
+        double best = report_time(words, sets, n, lent[k], figures);
+        for (int i = 1; i < rounds; i++) {
+            double t = report_time(words, sets, n, lent[k], figures);
+            best = t < best ? t : best;
+        }
+        printf("report, %d members, %5zu numbers of store: %9.0f members a second, %5.2f microseconds each; ended %lld, sum %lld\n", DEED_SETS, lent[k],
+               DEED_SETS / best, best / DEED_SETS * 1e6, (long long)figures[0], (long long)figures[15]);
+    }
+}
+#endif
+
 int main(int argc, char **argv)
 {
     uint64_t limit = argc > 1 ? strtoul(argv[1], NULL, 10) : 100000000;
@@ -514,6 +560,7 @@ int main(int argc, char **argv)
     time_code("reals", reals, limit, rounds);
     time_code("a series summed by name", series, limit, rounds);
     time_code("a series of reals", real_series, limit, rounds);
+    time_report(rounds);
 #ifdef BEFORE
     for (unsigned k = 0; k < LOOPS; k++)
         time_loop(k, limit, rounds);

@@ -1,7 +1,7 @@
 /* compare COUNT [FILE..]: COUNT random sources, and COUNT random codes with their input, store and output, each handed to the library and to the
  * scanner and machine of own.h; COUNT operators and conversions on random numbers, and COUNT numbers with a point, against the arithmetic of
  * numbers.h; COUNT random sources to the writer of page.h; COUNT lists for sources, against a comparison of its own; COUNT records of runs, most of
- * them changed at random, to the replay of months.h; and COUNT preludes with two schemes, each against the one program that they are together. Shows each difference, and how many were compared. The files are sources that are changed at random. The seed is fixed. Ends with 1 where something differs. */
+ * them changed at random, and COUNT lists of sets, to the replay and the report of months.h; and COUNT preludes with two schemes, each against the one program that they are together. Shows each difference, and how many were compared. The files are sources that are changed at random. The seed is fixed. Ends with 1 where something differs. */
 #include <stdio.h>
 #include <stdlib.h>
 #include <string.h>
@@ -19,7 +19,7 @@ enum { MARGIN = 16 };
 
 static unsigned long differences;
 /* One more than the greatest answer. */
-enum { ANSWERS = 31 };
+enum { ANSWERS = 32 };
 
 static unsigned long sources_seen[ANSWERS], runs_seen[ANSWERS];
 
@@ -552,6 +552,71 @@ static void compare_record(unsigned long k)
     }
 }
 
+/* ---- sets of input, some with words changed, missing or added, reported by both */
+
+enum { SETS = 200 };
+
+static unsigned long reports_seen[ANSWERS];
+static int32_t sets[SETS];
+
+/* Sets at random; how many words. */
+static size_t random_sets(void)
+{
+    static const int32_t edges[] = {0, 1, -1, 5, 65535, 65536, INT32_MAX, INT32_MIN};
+    size_t n = 1;
+    sets[0] = (int32_t)below(12);
+    for (int32_t i = 0; i < sets[0]; i++) {
+        int32_t m = sets[n++] = (int32_t)below(INPUTS);
+        for (int32_t j = 0; j < m; j++)
+            sets[n++] = once_in(4) ? edges[below(8)] : (int32_t)below(20);
+    }
+    switch (below(8)) {
+    case 0:
+        sets[below((uint32_t)n)] = edges[below(8)];
+        return n;
+    case 1:
+        return below((uint32_t)n + 1);
+    case 2:
+        sets[n] = (int32_t)below(3);
+        return n + 1;
+    default:
+        return n;
+    }
+}
+
+static void compare_report(unsigned long k)
+{
+    size_t out = below(once_in(3) ? 9 : OUTPUTS + 1), lent = once_in(4) ? below(48) : below(800), place = 99999, length, most = below(DEED_FIGURES + 3);
+    uint64_t limit = once_in(8) ? below(40) : 1000 + below(5000);
+    uint16_t number = 999;
+    int64_t figures[DEED_FIGURES + 2], due[DEED_FIGURES + 2];
+    random_code(&code);
+    memset(sets, 0, sizeof sets);
+    length = random_sets();
+    for (size_t i = 0; i < OUTPUTS + 2 * MARGIN; i++)
+        output[i] = own_output[i] = (int32_t)random_word();
+    for (size_t i = 0; i < DEED_FIGURES + 2; i++)
+        figures[i] = due[i] = random_word();
+    memcpy(store, store_before, sizeof store);
+    unsigned kind = deed_report(code.word, code.length, sets, length, limit, store + MARGIN, lent, output + MARGIN, out, figures, most, &number, &place);
+    struct own_reported o = own_report(code.word, code.length, sets, length, limit, lent, own_output + MARGIN, out);
+    for (size_t i = 0; o.kind == DEED_REPORT && i < most && i < DEED_FIGURES; i++)
+        due[i] = o.figure[i];
+    struct own_replayed r = {o.kind, o.number, o.place, o.runs == 0 ? 0 : lent < DEED_STORE ? lent / DEED_CELL * DEED_CELL : DEED_STORE};
+    const char *wrong = wrong_replay(kind, number, place, r);
+    if (wrong == NULL && memcmp(figures, due, sizeof due) != 0)
+        wrong = "other figures";
+    if (kind < ANSWERS)
+        reports_seen[kind]++;
+    if (wrong != NULL) {
+        differs("report", k);
+        printf("%s: library %u, %u at %zu, own %u, %u at %zu; store %zu, output %zu; %zu words:", wrong, kind, number, place, o.kind, o.number, o.place, lent, out, length);
+        for (size_t i = 0; i < length; i++)
+            printf(" %ld", (long)sets[i]);
+        printf("\n");
+    }
+}
+
 /* ---- the whole */
 
 /* ---- pairs: two schemes behind a prelude. A scheme behind a prelude is the program 'begin' PRELUDE SCHEME 'end', a block deeper; an empty prelude is none */
@@ -747,6 +812,9 @@ int main(int argc, char **argv)
     for (unsigned long k = 0; k < count; k++)
         compare_pair(k);
     show_seen("halves compared", pairs_seen);
+    for (unsigned long k = 0; k < count; k++)
+        compare_report(k);
+    show_seen("reports compared", reports_seen);
     printf("%lu differ\n", differences);
     return differences == 0 ? 0 : 1;
 }

@@ -77,7 +77,8 @@ enum {
     DEED_ACTIVATIONS = 27,
     DEED_CHANNEL = 28,
     DEED_NO_INSTRUCTION = 29,
-    DEED_NO_VARIABLE = 30
+    DEED_NO_VARIABLE = 30,
+    DEED_TOO_MANY_SETS = 31
 };
 
 /* Source to table. 0 to 10. The table's words are laid down in docs/TABLE.md; after a refusal but 1 the first DEED_TABLE are zero. */
@@ -160,6 +161,29 @@ uint16_t deed_replay(const uint32_t *code, size_t code_length,
                      const int32_t *record, size_t record_length,
                      int64_t *store, size_t store_length,
                      int32_t *output, size_t output_length,
+                     uint16_t *number, size_t *place);
+
+/* What deed_report says, the most sets that it takes, and how many figures a report has. */
+enum {
+    DEED_REPORT = 0,
+    DEED_TOO_MANY = 1,
+    DEED_BAD_SET = 2,
+    DEED_SETS = 65535,
+    DEED_FIGURES = 16
+};
+
+/* Code and sets of input: their number, and for each set how many numbers it has and these. Each set has a run of its own, as deed_run does it, in the
+ * whole store and output that are lent and with the same limit. DEED_REPORT with the figures: how many runs ended with each answer, 0 and 20 to 30; how
+ * many ended without a whole-number output; and of the first whole-number output of the others that ended the least, the greatest and the sum, 0 where
+ * there are none. They go into the first DEED_FIGURES numbers of `figures`, or as many as are lent. DEED_TOO_MANY where the sets are more than DEED_SETS,
+ * with the number DEED_TOO_MANY_SETS; DEED_BAD_SET with the index, from 0, of the first bad word for the place, as deed_replay has it. Else the number
+ * is 0. After a report the whole output is zero, and the store is as a run leaves it; else nothing has changed. */
+uint16_t deed_report(const uint32_t *code, size_t code_length,
+                     const int32_t *sets, size_t sets_length,
+                     uint64_t limit,
+                     int64_t *store, size_t store_length,
+                     int32_t *output, size_t output_length,
+                     int64_t *figures, size_t figures_length,
                      uint16_t *number, size_t *place);
 
 #ifdef __cplusplus

@@ -1,6 +1,9 @@
-/* Records of runs and a replay, written apart from the library (paper 02, request 11): the words of a record are taken from the left. */
+/* Records of runs and a replay, and a report over sets of input, written apart from the library (paper 02, requests 11 and 12): words are taken from
+ * the left. */
 #ifndef MONTHS_H
 #define MONTHS_H
+
+#include <string.h>
 
 #include "deed.h"
 #include "own.h"
@@ -119,6 +122,68 @@ static size_t own_keep(int32_t *words, const int32_t *input, size_t inputs, uint
     for (size_t i = 0; i < ran.written; i++)
         words[n++] = output[i];
     return n;
+}
+
+/* ---- a report */
+
+/* The counts' places among the figures: 0, then 20 to 30. */
+static size_t own_counted(unsigned number) { return number == DEED_ENDED ? 0 : number - DEED_LIMIT + 1; }
+
+enum { OWN_WITHOUT = 12, OWN_LEAST, OWN_GREATEST, OWN_SUM };
+
+struct own_reported {
+    unsigned kind, number;
+    size_t place, runs;
+    int64_t figure[DEED_FIGURES];
+};
+
+/* One run more, of which this was written; `values` counts the runs with a value. */
+static void own_tally(struct own_reported *r, unsigned number, const int32_t *output, size_t written, size_t *values)
+{
+    size_t i = 0;
+    r->runs++;
+    r->figure[own_counted(number)]++;
+    if (number != DEED_ENDED)
+        return;
+    while (i < written && output[i] != DEED_WHOLE)
+        i += DEED_ENTRY;
+    if (i >= written) {
+        r->figure[OWN_WITHOUT]++;
+        return;
+    }
+    int64_t x = output[i + 1];
+    if (*values == 0 || x < r->figure[OWN_LEAST])
+        r->figure[OWN_LEAST] = x;
+    if (*values == 0 || x > r->figure[OWN_GREATEST])
+        r->figure[OWN_GREATEST] = x;
+    r->figure[OWN_SUM] += x;
+    (*values)++;
+}
+
+static struct own_reported own_report(const uint32_t *code, size_t words, const int32_t *sets, size_t length, uint64_t limit, size_t lent, int32_t *output, size_t room)
+{
+    struct own_words w = {sets, length, 0, 0};
+    struct own_reported r = {DEED_REPORT, 0, 0, 0, {0}};
+    size_t values = 0;
+    if (length > 0 && sets[0] > DEED_SETS) {
+        r.kind = DEED_TOO_MANY, r.number = DEED_TOO_MANY_SETS;
+        return r;
+    }
+    size_t count = (size_t)own_count(&w);
+    for (size_t i = 0; i < count && !w.bad; i++)
+        for (size_t j = (size_t)own_count(&w); j > 0 && !w.bad; j--)
+            own_any(&w);
+    own_end(&w);
+    if (w.bad) {
+        r.kind = DEED_BAD_SET, r.place = w.at;
+        return r;
+    }
+    for (size_t i = 0, at = 1; i < count; at += 1 + (size_t)sets[at], i++) {
+        struct own_ran ran = own_run(code, words, sets + at + 1, (size_t)sets[at], limit, lent, output, room);
+        own_tally(&r, ran.number, output, ran.written, &values);
+    }
+    memset(output, 0, room * sizeof output[0]);
+    return r;
 }
 
 #endif

@@ -1,4 +1,4 @@
--- What the contracts of run and replay say, number by number; that C's numbers, too, are one for each source and what is lent; and demand 3 in them.
+-- What the contracts of run, replay and report say, number by number; that C's numbers, too, are one for each source and what is lent; and demand 3 in them.
 -- Assumes nothing.
 use Prim.Native.Nat.{ℕ}
 use mathlib.Core.Path.{_≡_, refl, sym, ap, _∙_}
@@ -21,7 +21,10 @@ use Rattle.translating.proofs.Promised.{only as only-translation, deed}
 use Rattle.records.specs.declared.Replayed.{Replayed}
 use Rattle.records.specs.Numbers.{kindOf as replayedKind, numberOf as replayedNumber, placeOf as replayedPlace}
 use Rattle.records.specs.Replay.{Done, done as wentOn}
-use Rattle.jobs.specs.Jobs.{Answers, Pages, Says, Given, given, exitOf, Gone, gone, replayedOf}
+use Rattle.reporting.specs.declared.Reported.{Reported}
+use Rattle.reporting.specs.Numbers.{kindOf as reportedKind, numberOf as reportedNumber, placeOf as reportedPlace, figuresAfter}
+use Rattle.reporting.specs.Report.{Done as Reports, done as reported}
+use Rattle.jobs.specs.Jobs.{Answers, Pages, Says, Given, given, exitOf, Gone, gone, replayedOf, Gathered, gathered, reportedOf}
 
 pub given-exit : {n p : ℕ} (r : Ran) (s o : List ℤ) {e : Exit} → exit r s o ≡ e → n ≡ stopNumber (r .stop) → p ≡ stopPlace (r .stop)
     → given n p (r .done) (r .taken) (r .written) s o ≡ exitOf e
@@ -35,6 +38,13 @@ pub gone-done : {k n p : ℕ} (a : Replayed) (s o : List ℤ) {d : Done} → wen
 unfolding replayedOf
 gone-done {k} {n} {p} a s o h x y z =
     ap (λ i. gone i n p s o) x ∙ ap (λ i. gone (replayedKind a) i p s o) y ∙ ap (λ i. gone (replayedKind a) (replayedNumber a) i s o) z ∙ ap replayedOf h
+
+pub gathered-done : {k n p : ℕ} {f : List ℤ} (a : Reported) (figures s o : List ℤ) {d : Reports} → reported a s o ≡ d → k ≡ reportedKind a → n ≡ reportedNumber a → p ≡ reportedPlace a
+    → f ≡ figuresAfter a figures → gathered k n p f s o ≡ reportedOf d figures
+unfolding reportedOf
+gathered-done {k} {n} {p} {f} a figures s o h x y z w =
+    ap (λ i. gathered i n p f s o) x ∙ ap (λ i. gathered (reportedKind a) i p f s o) y ∙ ap (λ i. gathered (reportedKind a) (reportedNumber a) i f s o) z
+    ∙ ap (λ l. gathered (reportedKind a) (reportedNumber a) (reportedPlace a) l s o) w ∙ ap (λ e. reportedOf e figures) h
 
 -- of a job R that has one verdict and leaves one list of words
 pub one-answer : {R : Verdict → List ℕ → Type 0} {w w₂ : List ℕ} {n p n₂ p₂ : ℕ} → ((v v₂ : Verdict) (w w₂ : List ℕ) → R v w → R v₂ w₂ → (v ≡ v₂) × (w ≡ w₂))

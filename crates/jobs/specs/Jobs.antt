@@ -12,6 +12,8 @@ use Rattle.checking.specs.declared.Checked.{Checked}
 use Rattle.machine.specs.Machine.{Exit}
 use Rattle.records.specs.Numbers.{kindOf as replayedKind, numberOf as replayedNumber, placeOf as replayedPlace}
 use Rattle.records.specs.Replay.{Done}
+use Rattle.reporting.specs.Numbers.{kindOf as reportedKind, numberOf as reportedNumber, placeOf as reportedPlace, figuresAfter}
+use Rattle.reporting.specs.Report.{Done as Reported}
 
 -- read and translate: the number and the place are those of a verdict of which P holds
 pub record Answers (P : Verdict → Type 0) (number place : ℕ) : Type 0 where
@@ -76,3 +78,19 @@ gone k n p s o = record { kind = k; number = n; place = p; store = s; output = o
 
 unfoldable pub replayedOf : Done → Gone
 replayedOf d = gone (replayedKind (d .answer)) (replayedNumber (d .answer)) (replayedPlace (d .answer)) (d .store) (d .output)
+
+-- report: which case it is, its number and place, and what the figures, the store and the output hold afterwards
+pub record Gathered : Type 0 where
+  pub kind : ℕ
+  pub number : ℕ
+  pub place : ℕ
+  pub figures : List ℤ
+  pub store : List ℤ
+  pub output : List ℤ
+
+abbrev pub gathered : ℕ → ℕ → ℕ → List ℤ → List ℤ → List ℤ → Gathered
+gathered k n p f s o = record { kind = k; number = n; place = p; figures = f; store = s; output = o }
+
+unfoldable pub reportedOf : Reported → List ℤ → Gathered
+reportedOf d figures =
+    gathered (reportedKind (d .answer)) (reportedNumber (d .answer)) (reportedPlace (d .answer)) (figuresAfter (d .answer) figures) (d .store) (d .output)

@@ -6,16 +6,19 @@ use machine::run;
 use reading::reading::read;
 use reading::schemes::read_two;
 use records::replaying::replay;
+use reporting::numbers::reported_into;
+use reporting::reporting::report;
 use translating::schemes::translate_scheme;
 use translating::translating::translate;
 ghost use mathlib.Core.Path.{_≡_};
 ghost use Rattle.checking.specs.Checking.{Checks};
 ghost use Rattle.clean.specs.Job.{Writes};
 ghost use Rattle.machine.specs.Machine.{job};
-ghost use Rattle.jobs.specs.Jobs.{Answers, AnswersTwo, Pages, Says, exitOf, given, replayedOf, gone};
+ghost use Rattle.jobs.specs.Jobs.{Answers, AnswersTwo, Pages, Says, exitOf, given, replayedOf, gone, reportedOf, gathered};
 ghost use Rattle.reading.specs.Reading.{Reads};
 ghost use Rattle.reading.specs.Two.{ReadsTwo};
 ghost use Rattle.records.specs.Replay.{replay as replayOf};
+ghost use Rattle.reporting.specs.Report.{report as reportOf};
 ghost use Rattle.translating.specs.Job.{Translates};
 ghost use Rattle.translating.specs.With.{TranslatesWith};
 
@@ -151,4 +154,26 @@ pub extern "C" fn deed_replay(
     *number = replayed.number();
     *place = replayed.place();
     replayed.kind()
+}
+
+// Code and sets of input: 0 where they were run, with the figures of the report; 1 where there are more than 65,535 sets, with the answer's number; 2
+// where a word is bad, with its index for the place.
+#[no_mangle]
+pub extern "C" fn deed_report(
+    code: &[u32],
+    sets: &[i32],
+    limit: u64,
+    store: &mut [i64],
+    output: &mut [i32],
+    figures: &mut [i64],
+    number: &mut u16,
+    place: &mut usize,
+) -> u16
+    ensures { λ r. ⌜ gathered r (now (number .exit)) (now (place .exit)) (now (figures .exit)) (now (store .exit)) (now (output .exit)) ≡ reportedOf (reportOf (now (code .entry)) (now (sets .entry)) limit (now (store .entry)) (now (output .entry))) (now (figures .entry)) ⌝ }
+{
+    let reported = report(code, sets, limit, store, output);
+    *number = reported.number();
+    *place = reported.place();
+    reported_into(reported, figures);
+    reported.kind()
 }
