@@ -3,13 +3,10 @@ use Prim.Native.Nat.{ℕ, min}
 use mathlib.Core.List.{List, [], _∷_, _++_}
 use lib.IntN.{ℤ, pos}
 use lib.ListN.{length, take, drop}
+use Rattle.answers.specs.Numbers.{tooManySets}
 use Rattle.reporting.specs.declared.Report.{Report as Gathered}
 use Rattle.reporting.specs.declared.Reported.{Reported}
 use Rattle.reporting.specs.declared.Reported.the-variants.{Report, TooMany, Bad}
-
--- 31: to stand among the numbers of `answers`
-abbrev pub tooManySets : ℕ
-tooManySets = 31
 
 abbrev pub kindOf : Reported → ℕ
 kindOf (Report r) = 0

@@ -1,4 +1,5 @@
 // A report over many runs of one program.
+use answers::Answer;
 ghost use mathlib.Core.Path.{_≡_};
 ghost use Rattle.reporting.specs.Numbers.{kindOf, numberOf, placeOf};
 
@@ -57,7 +58,7 @@ impl Reported {
     {
         match self {
             Reported::Report(_) => 0,
-            Reported::TooMany => 31,
+            Reported::TooMany => Answer::too_many_sets().number,
             Reported::Bad(_) => 0,
         }
     }
