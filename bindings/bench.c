@@ -494,7 +494,6 @@ static void time_source(const char *name, void (*make)(void))
     printf("translate %-11s %5zu bytes, answer %u at %zu:              %9.1f microseconds\n", name, length, answer, place, (t1 - t0) / times * 1e6);
 }
 
-#ifdef DEED_TRANSLATE
 /* ---- a report over many members, by the rule of examples/widow.alg */
 
 static const char widow[] =
@@ -536,7 +535,6 @@ static void time_report(int rounds)
                DEED_SETS / best, best / DEED_SETS * 1e6, (long long)figures[0], (long long)figures[15]);
     }
 }
-#endif
 
 int main(int argc, char **argv)
 {
@@ -545,7 +543,7 @@ int main(int argc, char **argv)
         loads_adds_stores_jumps(limit);
         return (argv[2][0] == 'l' ? through_library(limit) : through_own(limit)).number == DEED_LIMIT ? 0 : 1;
     }
-#if defined BEFORE && defined DEED_TRANSLATE
+#ifdef BEFORE
     if (argc > 2 && (strcmp(argv[2], "before") == 0 || strcmp(argv[2], "now") == 0))
         return run_loop(limit, argv[2], argc > 3 ? argv[3] : NULL);
 #endif

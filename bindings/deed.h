@@ -103,14 +103,12 @@ uint16_t deed_read_two(const uint8_t *prelude, size_t prelude_length,
                        uint16_t *table, size_t table_length,
                        size_t *place, uint16_t *other, size_t *there);
 
-#ifdef DEED_TRANSLATE
 /* A scheme behind a prelude to code. 0 to 10, as deed_read_two has them for that scheme but for 1, which is as deed_translate has it; the code's words are as
  * deed_translate leaves them. Faults of a run inside the prelude have places with DEED_BEYOND added. */
 uint16_t deed_translate_scheme(const uint8_t *prelude, size_t prelude_length,
                                const uint8_t *scheme, size_t scheme_length,
                                uint32_t *code, size_t code_length,
                                size_t *place);
-#endif
 
 /* Source to its text in the house layout. 0 to 10, as deed_read has them but for 1 and 2: 1 where the room is shorter than the text, 2 also where
  * the text is over DEED_SOURCE bytes. The first *length bytes of the room are the text, and behind it they are as they were; after a refusal
