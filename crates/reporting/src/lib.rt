@@ -1,5 +1,6 @@
 // A report over many runs of one program.
 use answers::Answer;
+use machine::Ran;
 ghost use mathlib.Core.Path.{_≡_};
 ghost use Rattle.reporting.specs.Numbers.{kindOf, numberOf, placeOf};
 
@@ -73,6 +74,26 @@ impl Reported {
             Reported::Bad(i) => i,
         }
     }
+}
+
+// What sets are before a run begins: so many; more than are taken; or the index of the first bad word.
+pub enum Begun {
+    Ready(usize),
+    TooMany,
+    Bad(usize),
+}
+
+// How far a report is: what is gathered, how many sets are left, and where the words of the next one begin.
+pub struct Going {
+    pub report: Report,
+    pub left: usize,
+    pub at: usize,
+}
+
+// A member's run, and how far the report is with it.
+pub struct Member {
+    pub going: Going,
+    pub ran: Ran,
 }
 
 // The first whole number among output entries, or that there is none.
