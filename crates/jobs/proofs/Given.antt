@@ -12,6 +12,9 @@ use Rattle.checking.proofs.Promises.{one-answer as one-said}
 use Rattle.clean.specs.Numbers.{numberOf as pageNumber, placeOf as pagePlace, lengthOf}
 use Rattle.clean.specs.Job.{Writes}
 use Rattle.clean.proofs.Promises.{only as only-page}
+use Rattle.comparing.specs.Comparing.{Compares}
+use Rattle.comparing.specs.Numbers.{kindOf as comparedKind, numberOf as comparedNumber, placeOf as comparedPlace}
+use Rattle.comparing.proofs.Promises.{one-result}
 use Rattle.machine.specs.Machine.{Exit, exit, job}
 use Rattle.machine.specs.declared.Ran.{Ran}
 use Rattle.reading.specs.Reading.{Grammatical, Reads}
@@ -24,7 +27,7 @@ use Rattle.records.specs.Replay.{Done, done as wentOn}
 use Rattle.reporting.specs.declared.Reported.{Reported}
 use Rattle.reporting.specs.Numbers.{kindOf as reportedKind, numberOf as reportedNumber, placeOf as reportedPlace, figuresAfter}
 use Rattle.reporting.specs.Report.{Done as Reports, done as reported}
-use Rattle.jobs.specs.Jobs.{Answers, Pages, Says, Given, given, exitOf, Gone, gone, replayedOf, Gathered, gathered, reportedOf}
+use Rattle.jobs.specs.Jobs.{Answers, Pages, Says, Given, given, exitOf, Gone, gone, replayedOf, Gathered, gathered, reportedOf, Lists}
 
 pub given-exit : {n p : ℕ} (r : Ran) (s o : List ℤ) {e : Exit} → exit r s o ≡ e → n ≡ stopNumber (r .stop) → p ≡ stopPlace (r .stop)
     → given n p (r .done) (r .taken) (r .written) s o ≡ exitOf e
@@ -77,6 +80,17 @@ pub one-check : {source : List ℕ} {list : List ℤ} {k n p k₂ n₂ p₂ : �
 one-check a b =
     let e = one-said (a .holds) (b .holds) in
     (a .of-kind ∙ ap kindOf e ∙ sym (b .of-kind), a .numbered ∙ ap checkedNumber e ∙ sym (b .numbered), a .placed ∙ ap checkedPlace e ∙ sym (b .placed))
+
+-- .. and those of two editions, and what the room holds
+pub one-compare : {first second room r r₂ : List ℕ} {k n p k₂ n₂ p₂ : ℕ} → Lists (λ c. Compares first second room c r) k n p → Lists (λ c. Compares first second room c r₂) k₂ n₂ p₂
+    → (k ≡ k₂) × (n ≡ n₂) × (p ≡ p₂) × (r ≡ r₂)
+one-compare a b =
+    let e = one-result (a .holds) (b .holds) in (
+      a .of-kind ∙ ap comparedKind (e .0) ∙ sym (b .of-kind),
+      a .numbered ∙ ap comparedNumber (e .0) ∙ sym (b .numbered),
+      a .placed ∙ ap comparedPlace (e .0) ∙ sym (b .placed),
+      e .1,
+    )
 
 -- demand 3 of the two jobs one after the other: where the first answers 0, the second gives what a run leaves that did what the source rules say
 pub given-deed : {text old new : List ℕ} {n place : ℕ} → Answers (λ v. Translates text old v new) n place → n ≡ 0 → (p : Grammatical text) (input : List ℤ) (limit : ℕ) (store output : List ℤ)

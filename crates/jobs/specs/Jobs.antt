@@ -9,6 +9,8 @@ use Rattle.clean.specs.declared.Written.{Written}
 use Rattle.clean.specs.Numbers.{numberOf as pageNumber, placeOf as pagePlace, lengthOf}
 use Rattle.checking.specs.Numbers.{kindOf, numberOf as checkedNumber, placeOf as checkedPlace}
 use Rattle.checking.specs.declared.Checked.{Checked}
+use Rattle.comparing.specs.Numbers.{kindOf as comparedKind, numberOf as comparedNumber, placeOf as comparedPlace}
+use Rattle.comparing.specs.declared.Compared.{Compared}
 use Rattle.machine.specs.Machine.{Exit}
 use Rattle.records.specs.Numbers.{kindOf as replayedKind, numberOf as replayedNumber, placeOf as replayedPlace}
 use Rattle.records.specs.Replay.{Done}
@@ -47,6 +49,14 @@ pub record Says (P : Checked → Type 0) (kind number place : ℕ) : Type 0 wher
   pub of-kind : kind ≡ kindOf checked
   pub numbered : number ≡ checkedNumber checked
   pub placed : place ≡ checkedPlace checked
+
+-- compare: .. and of what is said of two editions
+pub record Lists (P : Compared → Type 0) (kind number place : ℕ) : Type 0 where
+  pub compared : Compared
+  pub holds : P compared
+  pub of-kind : kind ≡ comparedKind compared
+  pub numbered : number ≡ comparedNumber compared
+  pub placed : place ≡ comparedPlace compared
 
 -- run: the numbers, and what the store and the output hold afterwards
 pub record Given : Type 0 where

@@ -2,6 +2,7 @@
 // result behind the answer's number goes to where a reference points.
 use checking::checking::check_list;
 use clean::writing::write;
+use comparing::comparing::compare;
 use machine::run;
 use reading::reading::read;
 use reading::schemes::read_two;
@@ -13,8 +14,9 @@ use translating::translating::translate;
 ghost use mathlib.Core.Path.{_≡_};
 ghost use Rattle.checking.specs.Checking.{Checks};
 ghost use Rattle.clean.specs.Job.{Writes};
+ghost use Rattle.comparing.specs.Comparing.{Compares};
 ghost use Rattle.machine.specs.Machine.{job};
-ghost use Rattle.jobs.specs.Jobs.{Answers, AnswersTwo, Pages, Says, exitOf, given, replayedOf, gone, reportedOf, gathered};
+ghost use Rattle.jobs.specs.Jobs.{Answers, AnswersTwo, Pages, Says, exitOf, given, replayedOf, gone, reportedOf, gathered, Lists};
 ghost use Rattle.reading.specs.Reading.{Reads};
 ghost use Rattle.reading.specs.Two.{ReadsTwo};
 ghost use Rattle.records.specs.Replay.{replay as replayOf};
@@ -135,6 +137,24 @@ pub extern "C" fn deed_check(
     *number = checked.number();
     *place = checked.place();
     checked.kind()
+}
+
+// Two editions: 0 where the numbers of the uses that differ are in the room, with how many there are for the place; 1 where the first is refused, 2 where the
+// second is, with the answer's number and its place; 3 where the room is too short, with the answer's number.
+#[no_mangle]
+pub extern "C" fn deed_compare(
+    first: &[u8],
+    second: &[u8],
+    room: &mut [u16],
+    number: &mut u16,
+    place: &mut usize,
+) -> u16
+    ensures { λ r. ⌜ Lists (λ c. Compares (now (first .entry)) (now (second .entry)) (now (room .entry)) c (now (room .exit))) r (now (number .exit)) (now (place .exit)) ⌝ }
+{
+    let compared = compare(first, second, room);
+    *number = compared.number();
+    *place = compared.place();
+    compared.kind()
 }
 
 // Code and a record: 0 where a fresh run agrees; 1 where it differs, with the first entry that does for the place; 2 where a word is bad, with its
