@@ -2,6 +2,8 @@
  * scanner and machine of own.h; COUNT operators and conversions on random numbers, and COUNT numbers with a point, against the arithmetic of
  * numbers.h; COUNT random sources to the writer of page.h; COUNT lists for sources, against a comparison of its own; COUNT records of runs, most of
  * them changed at random, and COUNT lists of sets, to the replay and the report of months.h; and COUNT preludes with two schemes, each against the one program that they are together. Shows each difference, and how many were compared. The files are sources that are changed at random. The seed is fixed. Ends with 1 where something differs. */
+ * numbers.h; COUNT random sources to the writer of page.h; COUNT lists for sources, and COUNT pairs of editions, against comparisons of their own; COUNT records of runs, most of
+ * them changed at random, to the replay of months.h; and COUNT preludes with two schemes, each against the one program that they are together. Shows each difference, and how many were compared. The files are sources that are changed at random. The seed is fixed. Ends with 1 where something differs. */
 #include <stdio.h>
 #include <stdlib.h>
 #include <string.h>
@@ -320,17 +322,20 @@ static unsigned declaration_at(const uint16_t *words, uint16_t at)
     return j;
 }
 
-/* Whether two use sections pair uses with declarations alike: kind, and declaration number or environment number. */
+/* Whether use i means the same in two tables: kind, and declaration number or environment number. */
+static int meant_alike(const uint16_t *a, const uint16_t *b, unsigned i)
+{
+    const uint16_t *x = a + 1 + 3 * i, *y = b + 1 + 3 * i;
+    return x[1] == y[1] && (x[1] == 0 ? x[2] == y[2] : declaration_at(a, x[2]) == declaration_at(b, y[2]));
+}
+
+/* Whether two use sections pair uses with declarations alike. */
 static int paired_alike(const uint16_t *a, const uint16_t *b)
 {
-    if (a[0] != b[0])
-        return 0;
-    for (unsigned i = 0; i < a[0]; i++) {
-        const uint16_t *x = a + 1 + 3 * i, *y = b + 1 + 3 * i;
-        if (x[1] != y[1] || (x[1] == 0 ? x[2] != y[2] : declaration_at(a, x[2]) != declaration_at(b, y[2])))
-            return 0;
-    }
-    return 1;
+    unsigned i = 0;
+    while (i < a[0] && i < b[0] && meant_alike(a, b, i))
+        i++;
+    return i == a[0] && i == b[0];
 }
 
 /* What is wrong with the page, read and written again: `size` bytes, of the source whose words are in `table`. */
@@ -460,6 +465,76 @@ static void compare_list(unsigned long k)
     if (kind != own_kind || number != (own_kind == DEED_REFUSED ? read : 0) || place != own_place || memcmp(list, list_before, sizeof list) != 0) {
         differs("list", k);
         printf("library %u, %u at %zu, own %u, %u at %zu; %zu words", kind, number, place, own_kind, read, own_place, length);
+        show_text();
+    }
+}
+
+/* ---- editions: two sources, most of them alike, against a comparison of their tables, use by use */
+
+enum { CHANGES = 2048 };
+
+static unsigned long editions_seen[ANSWERS];
+static struct text edition;
+static uint16_t changes[CHANGES + 2 * MARGIN], changes_due[CHANGES + 2 * MARGIN];
+
+static void random_editions(void)
+{
+    if (once_in(4))
+        random_source(&text);
+    else
+        random_likely(&text);
+    if (once_in(8)) {
+        random_likely(&edition);
+        return;
+    }
+    edition = text;
+    if (!once_in(4))
+        change(&edition, 1 + below(2));
+}
+
+/* The numbers of the uses that differ, by the two tables; how many. */
+static size_t own_changes(const uint16_t *a, const uint16_t *b, uint16_t *due)
+{
+    size_t n = 0;
+    for (unsigned i = 0; i < a[0] || i < b[0]; i++)
+        if (i >= a[0] || i >= b[0] || !meant_alike(a, b, i))
+            due[n++] = (uint16_t)i;
+    return n;
+}
+
+static void compare_edition(unsigned long k)
+{
+    size_t first_place = 0, second_place = 0, place = 99999, lent = below(CHANGES + 1), due_place;
+    uint16_t number = 999;
+    unsigned kind, own_kind = DEED_LISTED, due_number = 0;
+    random_editions();
+    unsigned first = deed_read(text.byte, text.length, table + MARGIN, TABLE, &first_place);
+    unsigned second = deed_read(edition.byte, edition.length, table_again, TABLE, &second_place);
+    memcpy(changes, before, sizeof changes);
+    memcpy(changes_due, before, sizeof changes);
+    if (first != 0 || second != 0) {
+        own_kind = first != 0 ? DEED_FIRST_REFUSED : DEED_SECOND_REFUSED;
+        due_number = first != 0 ? first : second;
+        due_place = first != 0 ? first_place : second_place;
+    } else {
+        due_place = own_changes(table + MARGIN, table_again, changes_due + MARGIN);
+        if (once_in(3))
+            lent = once_in(2) || due_place == 0 ? due_place : due_place - 1;
+        if (lent < due_place) {
+            own_kind = DEED_NO_ROOM;
+            due_number = DEED_SHORT;
+            due_place = 0;
+            memcpy(changes_due, before, sizeof changes);
+        }
+    }
+    kind = deed_compare(text.byte, text.length, edition.byte, edition.length, changes + MARGIN, lent, &number, &place);
+    if (kind < ANSWERS)
+        editions_seen[kind]++;
+    if (kind != own_kind || number != due_number || place != due_place || memcmp(changes, changes_due, sizeof changes) != 0) {
+        differs("edition", k);
+        printf("library %u, %u at %zu, own %u, %u at %zu; room %zu", kind, number, place, own_kind, due_number, due_place, lent);
+        show_text();
+        text = edition;
         show_text();
     }
 }
@@ -806,6 +881,9 @@ int main(int argc, char **argv)
     for (unsigned long k = 0; k < count; k++)
         compare_list(k);
     show_seen("lists compared", lists_seen);
+    for (unsigned long k = 0; k < count; k++)
+        compare_edition(k);
+    show_seen("editions compared", editions_seen);
     for (unsigned long k = 0; k < count; k++)
         compare_record(k);
     show_seen("records compared", records_seen);

@@ -30,7 +30,7 @@ extern "C" {
 #endif
 
 /* The greatest change request up to which all are in. Besides, 8 (capitals) and 9 (the display, which no
- * caller sees) are in, of 7 deed_read_two and deed_translate_scheme, and of 11 deed_replay. */
+ * caller sees) are in, of 7 deed_read_two and deed_translate_scheme, of 11 deed_replay, and of 13 deed_compare. */
 enum { DEED_VERSION = 6 };
 
 /* The lengths that the jobs want or use. */
@@ -130,6 +130,24 @@ enum {
 uint16_t deed_check(const uint8_t *source, size_t source_length,
                     const int64_t *list, size_t list_length,
                     uint16_t *number, size_t *place);
+
+/* What deed_compare says. */
+enum {
+    DEED_LISTED = 0,
+    DEED_FIRST_REFUSED = 1,
+    DEED_SECOND_REFUSED = 2,
+    DEED_NO_ROOM = 3
+};
+
+/* Two editions of a deed. DEED_LISTED where the room has the numbers, from 0 in source order, of the uses that do not mean the same in both, rising, the
+ * extra uses of either edition last; *place is how many they are. A use means the same if its kind is the same and the number, in source order, of the
+ * declaring name, or the environment's number: letters and places are not compared, nor types, nor value or name. DEED_FIRST_REFUSED or DEED_SECOND_REFUSED with
+ * the answer's number (2 to 10) and place; DEED_NO_ROOM where the room is shorter than the list, with the number DEED_SHORT. As many words as the edition
+ * with more uses has uses are always enough. Words behind the list are as they were, and all are after any other answer. */
+uint16_t deed_compare(const uint8_t *first, size_t first_length,
+                      const uint8_t *second, size_t second_length,
+                      uint16_t *room, size_t room_length,
+                      uint16_t *number, size_t *place);
 
 /* Code to a run. 0 or 20 to 30. The numbers of the first DEED_CELLS cells of the store, or of fewer if fewer were lent, are zero afterwards, and
  * the others as they were; the output holds what was written, entry behind entry, and behind it what it held. *done counts instructions, *taken
