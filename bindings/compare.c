@@ -1,9 +1,9 @@
 /* compare COUNT [FILE..]: COUNT random sources, and COUNT random codes with their input, store and output, each handed to the library and to the
  * scanner and machine of own.h; COUNT operators and conversions on random numbers, and COUNT numbers with a point, against the arithmetic of
- * numbers.h; COUNT random sources to the writer of page.h; COUNT lists for sources, against a comparison of its own; COUNT records of runs, most of
- * them changed at random, and COUNT lists of sets, to the replay and the report of months.h; and COUNT preludes with two schemes, each against the one program that they are together. Shows each difference, and how many were compared. The files are sources that are changed at random. The seed is fixed. Ends with 1 where something differs. */
- * numbers.h; COUNT random sources to the writer of page.h; COUNT lists for sources, and COUNT pairs of editions, against comparisons of their own; COUNT records of runs, most of
- * them changed at random, to the replay of months.h; and COUNT preludes with two schemes, each against the one program that they are together. Shows each difference, and how many were compared. The files are sources that are changed at random. The seed is fixed. Ends with 1 where something differs. */
+ * numbers.h; COUNT random sources to the writer of page.h; COUNT lists for sources, and COUNT pairs of editions, against comparisons of their own; COUNT
+ * records of runs, most of them changed at random, and COUNT lists of sets, to the replay and the report of months.h; and COUNT preludes with two schemes, each
+ * against the one program that they are together. Shows each difference, and how many were compared. The files are sources that are changed at random. The
+ * seed is fixed. Ends with 1 where something differs. */
 #include <stdio.h>
 #include <stdlib.h>
 #include <string.h>

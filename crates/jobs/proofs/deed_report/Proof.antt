@@ -7,7 +7,7 @@ use Rattle.jobs.proofs.deed_report.Tie as tie
 
 returns : tie.Need-returns
 returns c =
-    gathered-done _ (c .before .before .before .before .before .before .before .before .before .args .figures .now) _ _ (c .before .before .before .before .before .before .before .report .ensures) (c .kind .ensures) (c .before .before .before .before .number .ensures) (c .before .before .before .place .ensures) (c .before .before .reported-into .ensures)
+    gathered-done _ (c .before .before .before .before .before .before .before .before .before .before .before .before .args .figures .now) _ _ (c .before .before .before .before .before .before .before .before .report .ensures) (c .kind .ensures) (c .before .before .before .before .before .number .ensures) (c .before .before .before .before .place .ensures) (c .before .before .reported-into .ensures)
 
 pub deed-report-spec : {M : Type 1} → statement M
 deed-report-spec =
