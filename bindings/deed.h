@@ -30,7 +30,7 @@ extern "C" {
 #endif
 
 /* The greatest change request up to which all are in. Besides, 8 (capitals) and 9 (the display, which no
- * caller sees) are in, of 7 deed_read_two and deed_translate_scheme, of 11 deed_replay, and of 13 deed_compare. */
+ * caller sees) are in, of 7 deed_read_two and deed_translate_scheme, of 11 deed_replay, of 12 deed_report, and of 13 deed_compare. */
 enum { DEED_VERSION = 6 };
 
 /* The lengths that the jobs want or use. */
