@@ -1,9 +1,9 @@
 /* compare COUNT [FILE..]: COUNT random sources, and COUNT random codes with their input, store and output, each handed to the library and to the
  * scanner and machine of own.h; COUNT operators and conversions on random numbers, and COUNT numbers with a point, against the arithmetic of
  * numbers.h; COUNT random sources to the writer of page.h; COUNT lists for sources, and COUNT pairs of editions, against comparisons of their own; COUNT
- * records of runs, most of them changed at random, and COUNT lists of sets, to the replay and the report of months.h; COUNT preludes with two schemes, each
- * against the one program that they are together; and COUNT sources with a name to rename, against renaming.h. Shows each difference, and how many were
- * compared. The files are sources that are changed at random. The seed is fixed. Ends with 1 where something differs. */
+ * records of runs, most of them changed at random, and COUNT lists of sets, to the replay and the report of months.h; and COUNT preludes with two schemes, each
+ * against the one program that they are together. Shows each difference, and how many were compared. The files are sources that are changed at random. The
+ * seed is fixed. Ends with 1 where something differs. */
 #include <stdio.h>
 #include <stdlib.h>
 #include <string.h>
@@ -14,7 +14,6 @@
 #include "numbers.h"
 #include "own.h"
 #include "page.h"
-#include "renaming.h"
 #include "sources.h"
 
 /* Stands around what is lent: the library must leave it alone. */
@@ -85,11 +84,9 @@ static const char *wrong_uses(const uint16_t *words)
     static const char *const environment[] = {"iabs", "maxint", "ininteger", "outinteger", "outreal"};
     uint8_t used[34], named[34];
     for (unsigned i = 0; i < words[0]; i++) {
-        const uint16_t *use = words + 1 + DEED_USE * i;
-        if (!is_name(use[0]) || (i > 0 && use[0] <= use[-DEED_USE]))
+        const uint16_t *use = words + 1 + 3 * i;
+        if (!is_name(use[0]) || (i > 0 && use[0] <= use[-3]))
             return "a use is no name, or not in order";
-        if (use[3] < 2 || use[3] > 64)
-            return "a use is at no depth that a statement or expression of a program has";
         letters_at(use[0], used);
         if (use[1] == 0) {
             if (use[2] > 4 || strcmp(environment[use[2]], (char *)used) != 0)
@@ -318,7 +315,7 @@ static uint16_t table_again[TABLE];
 /* The number of the declaration at a place, by its row. */
 static unsigned declaration_at(const uint16_t *words, uint16_t at)
 {
-    const uint16_t *rows = words + 1 + DEED_USE * words[0];
+    const uint16_t *rows = words + 1 + 3 * words[0];
     unsigned j = 0;
     while (j < rows[0] && rows[1 + 4 * j] != at)
         j++;
@@ -328,15 +325,15 @@ static unsigned declaration_at(const uint16_t *words, uint16_t at)
 /* Whether use i means the same in two tables: kind, and declaration number or environment number. */
 static int meant_alike(const uint16_t *a, const uint16_t *b, unsigned i)
 {
-    const uint16_t *x = a + 1 + DEED_USE * i, *y = b + 1 + DEED_USE * i;
+    const uint16_t *x = a + 1 + 3 * i, *y = b + 1 + 3 * i;
     return x[1] == y[1] && (x[1] == 0 ? x[2] == y[2] : declaration_at(a, x[2]) == declaration_at(b, y[2]));
 }
 
-/* Whether two use sections pair uses with declarations alike, at the same depths. */
+/* Whether two use sections pair uses with declarations alike. */
 static int paired_alike(const uint16_t *a, const uint16_t *b)
 {
     unsigned i = 0;
-    while (i < a[0] && i < b[0] && meant_alike(a, b, i) && a[4 + DEED_USE * i] == b[4 + DEED_USE * i])
+    while (i < a[0] && i < b[0] && meant_alike(a, b, i))
         i++;
     return i == a[0] && i == b[0];
 }
@@ -399,26 +396,21 @@ static void compare_page(unsigned long k)
     }
 }
 
-/* ---- lists: a source's uses in one of the two forms, with words changed, missing or added, against a comparison word by word */
+/* ---- lists: a source's uses, with words changed, missing or added, against a comparison word by word */
 
-enum { LIST = DEED_USE * 4096 };
+enum { LIST = 3 * 4096 };
 
-static unsigned long lists_seen[ANSWERS], moves_seen[ANSWERS];
+static unsigned long lists_seen[ANSWERS];
 static int64_t list[LIST], list_before[LIST];
-static uint16_t made[LIST], made_due[LIST], made_before[LIST];
 
-/* The uses as `read` has them, so many words of each, and how many words in all; 0 where there is no room. */
-static size_t own_list(uint16_t *words, size_t width)
+/* The uses as `read` has them, and how many words. */
+static size_t honest_list(void)
 {
-    const uint16_t *uses = table + MARGIN;
-    size_t length = 1 + width * (size_t)uses[0];
-    if (length + 8 >= LIST)
-        return 0;
-    words[0] = uses[0];
-    for (size_t i = 0; i < uses[0]; i++)
-        for (size_t j = 0; j < width; j++)
-            words[1 + width * i + j] = uses[1 + DEED_USE * i + j];
-    return length;
+    const uint16_t *words = table + MARGIN;
+    size_t length = 1 + 3 * (size_t)words[0];
+    for (size_t i = 0; i < length && i < LIST; i++)
+        list[i] = words[i];
+    return length < LIST ? length : LIST;
 }
 
 /* Changes a list at random, or leaves it; its length then. */
@@ -450,52 +442,22 @@ static size_t own_first_wrong(size_t length, const uint16_t *words, size_t due)
     return i;
 }
 
-/* The same list moved to the other form, in as much room as is lent: what is due is the list in that form, or else the room as it was. */
-static void compare_move(unsigned long k, size_t width, size_t length, unsigned own_kind, unsigned own_number, size_t own_place)
-{
-    size_t other = width == DEED_USE ? DEED_OLD_USE : DEED_USE, place = 99999, lent = 0;
-    uint16_t number = 999;
-    memcpy(made, made_before, sizeof made);
-    memcpy(made_due, made_before, sizeof made);
-    if (own_kind == DEED_IS_LIST) {
-        own_place = own_list(made_due, other);
-        if (own_place == 0)
-            return;
-        lent = once_in(3) ? below((uint32_t)own_place) : own_place + below(8);
-        if (lent < own_place) {
-            memcpy(made_due, made_before, sizeof made);
-            own_kind = DEED_NO_ROOM, own_number = DEED_SHORT, own_place = 0;
-        }
-    }
-    unsigned kind = (width == DEED_USE ? deed_narrow : deed_widen)(text.byte, text.length, list, length, made, lent, &number, &place);
-    if (kind < ANSWERS)
-        moves_seen[kind]++;
-    if (kind != own_kind || number != own_number || place != own_place || memcmp(made, made_due, sizeof made) != 0 || memcmp(list, list_before, sizeof list) != 0) {
-        differs("move", k);
-        printf("library %u, %u at %zu, own %u, %u at %zu; %zu words in %zu", kind, number, place, own_kind, own_number, own_place, length, lent);
-        show_text();
-    }
-}
-
 static void compare_list(unsigned long k)
 {
-    static uint16_t words[LIST];
-    size_t read_place = 0, place = 99999, due = 0, length = below(20), width = once_in(2) ? DEED_USE : DEED_OLD_USE;
+    size_t read_place = 0, place = 99999, due = 0, length = below(20);
     uint16_t number = 999;
     random_source(&text);
     unsigned read = deed_read(text.byte, text.length, table + MARGIN, TABLE, &read_place);
     memset(list, 0, sizeof list);
     if (read == 0) {
-        due = own_list(words, width);
-        if (due == 0)
+        due = honest_list();
+        if (due + 8 >= LIST)
             return;
-        for (size_t i = 0; i < due; i++)
-            list[i] = words[i];
         length = changed_list(due);
     }
     memcpy(list_before, list, sizeof list);
-    unsigned kind = (width == DEED_USE ? deed_check : deed_check_old)(text.byte, text.length, list, length, &number, &place);
-    size_t wrong = own_first_wrong(length, words, due);
+    unsigned kind = deed_check(text.byte, text.length, list, length, &number, &place);
+    size_t wrong = own_first_wrong(length, table + MARGIN, due);
     unsigned own_kind = read != 0 ? DEED_REFUSED : wrong < length || wrong < due ? DEED_WRONG_WORD : DEED_IS_LIST;
     size_t own_place = own_kind == DEED_REFUSED ? read_place : own_kind == DEED_WRONG_WORD ? wrong : 0;
     if (kind < ANSWERS)
@@ -505,7 +467,6 @@ static void compare_list(unsigned long k)
         printf("library %u, %u at %zu, own %u, %u at %zu; %zu words", kind, number, place, own_kind, read, own_place, length);
         show_text();
     }
-    compare_move(k, width, length, own_kind, own_kind == DEED_REFUSED ? read : 0, own_place);
 }
 
 /* ---- editions: two sources, most of them alike, against a comparison of their tables, use by use */
@@ -789,16 +750,15 @@ static const char *wrong_half(const struct text *scheme, const uint16_t *half)
     unsigned number = deed_read(whole.byte, whole.length, together, DEED_TABLE, &place);
     if (number != 0) /* one block deeper, and longer */
         return number == DEED_DEPTH || (number == DEED_LONG && whole.length > DEED_SOURCE) ? NULL : "the one program is refused";
-    while (skipped < together[0] && together[1 + DEED_USE * skipped] < at)
+    while (skipped < together[0] && together[1 + 3 * skipped] < at)
         skipped++;
     if (together[0] - skipped != half[0])
         return "the one program has another number of uses";
     for (unsigned i = 0; i < half[0]; i++) {
-        const uint16_t *due = together + 1 + DEED_USE * (skipped + i), *use = half + 1 + DEED_USE * i;
+        const uint16_t *due = together + 1 + 3 * (skipped + i), *use = half + 1 + 3 * i;
         int before_it = due[1] != 0 && due[2] < at;
         size_t declared = due[1] == 0 ? due[2] : before_it ? due[2] - 7 + (size_t)DEED_BEYOND : due[2] - at;
-        if (use[0] != due[0] - at || use[1] != (before_it ? 4 : due[1]) || use[2] != declared
-            || use[3] + 1 != due[3]) /* the one program is a block around the scheme */
+        if (use[0] != due[0] - at || use[1] != (before_it ? 4 : due[1]) || use[2] != declared)
             return "a use is not the one program's";
     }
     return NULL;
@@ -873,115 +833,6 @@ static void compare_pair(unsigned long k)
     }
 }
 
-/* ---- sources with a declared name renamed */
-
-static unsigned long changes_seen[ANSWERS];
-static struct own_renamed due_change;
-static uint8_t new_name[DEED_SOURCE + 64];
-
-/* A name to rename to: most often one that no source has; else one of the source, the environment's, one too long, or none. */
-static size_t random_name(void)
-{
-    static const char *const others[] = {"Iabs", "MAXINT", "inInteger", "outinteger", "OutReal", "", "9a", "a b", "a_b", "x'", "zz zz"};
-    size_t size = 2 + below(30);
-    if (once_in(6)) {
-        const char *other = others[below(sizeof others / sizeof others[0])];
-        memcpy(new_name, other, strlen(other));
-        return strlen(other);
-    }
-    if (once_in(6) && scan.count > 0) {
-        size_t at = scan.at[below(scan.count)];
-        size = letters_at(at, new_name);
-        if (size > 0 && once_in(2) && own_letter(new_name[0]))
-            new_name[0] = (uint8_t)(new_name[0] ^ 32);
-        return size;
-    }
-    if (once_in(8))
-        size = 30 + below(6);
-    if (once_in(20))
-        size = below(sizeof new_name);
-    for (size_t i = 0; i < size; i++)
-        new_name[i] = "zqjkZQJK0189"[below(i < 2 ? 8 : 12)];
-    return size;
-}
-
-/* The place of a declared name, or near one, or any. */
-static size_t random_place(void)
-{
-    const uint16_t *rows = own_rows(table + MARGIN), *words = table + MARGIN;
-    if (once_in(12))
-        return below(text.length + 2);
-    if (once_in(2) && words[0] > 0)
-        return words[1 + DEED_USE * below(words[0])];
-    if (once_in(3) && scan.count > 0)
-        return scan.at[below(scan.count)];
-    return rows[0] > 0 ? rows[1 + 4 * below(rows[0])] + (once_in(20) ? 1u : 0u) : 0;
-}
-
-/* What is wrong with the renamed text: `size` bytes, of the source whose words are in `table`. */
-static const char *wrong_change(size_t size)
-{
-    static uint32_t old_code[DEED_CODE], new_code[DEED_CODE];
-    static int64_t cells[DEED_STORE];
-    static int32_t old_output[OUTPUTS], new_output[OUTPUTS];
-    size_t place = 99999, taken[2], written[2];
-    uint64_t done[2];
-    if (deed_read(room + MARGIN, size, table_again, TABLE, &place) != 0 || place != 0)
-        return "the renamed text is not accepted";
-    if (!paired_alike(table + MARGIN, table_again))
-        return "uses and declarations are not paired alike";
-    deed_translate(text.byte, text.length, old_code, DEED_CODE, &place);
-    deed_translate(room + MARGIN, size, new_code, DEED_CODE, &place);
-    for (size_t i = 0; i < INPUTS; i++)
-        input[i] = (int32_t)below(20) - 5;
-    memset(old_output, 0, sizeof old_output);
-    memset(new_output, 0, sizeof new_output);
-    unsigned old = deed_run(old_code, DEED_CODE, input, INPUTS, 20000, cells, DEED_STORE, old_output, OUTPUTS, &place, done, taken, written);
-    unsigned new = deed_run(new_code, DEED_CODE, input, INPUTS, 20000, cells, DEED_STORE, new_output, OUTPUTS, &place, done + 1, taken + 1, written + 1);
-    if (old != new || done[0] != done[1] || taken[0] != taken[1] || written[0] != written[1] || memcmp(old_output, new_output, sizeof old_output) != 0)
-        return "the renamed text runs otherwise";
-    return NULL;
-}
-
-static void compare_change(unsigned long k)
-{
-    size_t lent = once_in(6) ? below(ROOM) : DEED_SOURCE + below(ROOM - DEED_SOURCE), due_place = 0, place = 99999, length = 99999;
-    uint16_t number = 9999;
-    if (once_in(8))
-        random_source(&text);
-    else
-        random_likely(&text);
-    unsigned refusal = deed_read(text.byte, text.length, table + MARGIN, TABLE, &due_place);
-    scan.count = 0;
-    if (refusal == 0)
-        own_scan(text.byte, text.length, &scan);
-    size_t size = random_name(), from = refusal == 0 ? random_place() : below(text.length + 1);
-    struct own_renamed *due = &due_change;
-    if (refusal == 0)
-        own_rename(text.byte, text.length, table + MARGIN, &scan, from, new_name, size, lent, due);
-    else {
-        due->kind = DEED_REFUSED;
-        due->number = refusal;
-        due->place = due_place;
-        due->size = 0;
-    }
-    memcpy(room, room_before, sizeof room);
-    memcpy(room_due, room_before, sizeof room);
-    memcpy(room_due + MARGIN, due->byte, due->size);
-    unsigned kind = deed_rename(text.byte, text.length, from, new_name, size, room + MARGIN, lent, &number, &place, &length);
-    const char *wrong = kind != due->kind || number != due->number || place != due->place || length != due->size ? "the own renaming has another answer"
-        : memcmp(room, room_due, sizeof room) != 0 ? "the own renaming has another text, or what is around it has changed"
-        : kind == DEED_RENAMED ? wrong_change(length) : NULL;
-    if (kind < ANSWERS)
-        changes_seen[kind]++;
-    if (wrong != NULL) {
-        differs("renaming", k);
-        printf("%s: library %u, %u at %zu, %zu bytes, own %u, %u at %zu, %zu bytes; from %zu to %.*s in %zu", wrong, kind, number, place, length, due->kind, due->number, due->place,
-               due->size, from, (int)(size < 40 ? size : 40), (char *)new_name, lent);
-        show_text();
-    }
-}
-
 static void show_seen(const char *what, const unsigned long *seen)
 {
     unsigned long sum = 0;
@@ -1027,12 +878,9 @@ int main(int argc, char **argv)
     for (unsigned long k = 0; k < count; k++)
         compare_page(k);
     show_seen("pages compared", pages_seen);
-    for (size_t i = 0; i < LIST; i++)
-        made_before[i] = (uint16_t)random_word();
     for (unsigned long k = 0; k < count; k++)
         compare_list(k);
     show_seen("lists compared", lists_seen);
-    show_seen("moves compared", moves_seen);
     for (unsigned long k = 0; k < count; k++)
         compare_edition(k);
     show_seen("editions compared", editions_seen);
@@ -1045,9 +893,6 @@ int main(int argc, char **argv)
     for (unsigned long k = 0; k < count; k++)
         compare_report(k);
     show_seen("reports compared", reports_seen);
-    for (unsigned long k = 0; k < count; k++)
-        compare_change(k);
-    show_seen("renamings compared", changes_seen);
     printf("%lu differ\n", differences);
     return differences == 0 ? 0 : 1;
 }

@@ -7,9 +7,7 @@
  * Nothing else: any bytes, any words, any lengths and any limit are answered. No memory is kept from one call to the next, so that any number
  * of threads may call.
  *
- * Each function gives back the answer's number (paper 01, "Numbered answers") and writes its place, but for those that say which of several cases it is
- * (deed_check, deed_replay and others, each with its own names below) and write the number beside the place; docs/PROMISES.md has what is promised.
- * A real's text, with the fewest digits, is no part of this library: deed_real of `rt staticlib figures`, as bindings/figures.c declares it.
+ * Each function gives back the answer's number (paper 01, "Numbered answers") and writes its place; docs/PROMISES.md has what is promised.
  *
  * Version 6 (change request 6, reals) asks this of callers of version 5; the declarations of the functions are the same:
  *   - a cell takes two of the store's numbers: lend DEED_STORE numbers, or twice as many as before, for as many cells; an odd last one is not used;
@@ -20,10 +18,6 @@
  *
  * Change request 8 (capitals) asks nothing of callers. Two names that differ in letter case alone are one name, and delimiter
  * words match in any case, so a source that has such names or words may be answered otherwise; every other source is answered as before.
- *
- * Change request 10 (rows with depth) asks this of callers: a use has DEED_USE words in a table, its depth last, so what stands behind the uses stands
- * further on, and deed_check takes lists of four words a use. Stored lists of three are checked by deed_check_old and moved by deed_widen; code that
- * wants three has them from deed_narrow.
  */
 #ifndef DEED_H
 #define DEED_H
@@ -35,8 +29,9 @@
 extern "C" {
 #endif
 
-/* The greatest change request up to which all are in. Besides, of 11 deed_replay is in, of 12 deed_report, of 13 deed_compare, and of 14 deed_rename. */
-enum { DEED_VERSION = 10 };
+/* The greatest change request up to which all are in. Besides, 8 (capitals) and 9 (the display, which no
+ * caller sees) are in, of 7 deed_read_two and deed_translate_scheme, of 11 deed_replay, of 12 deed_report, and of 13 deed_compare. */
+enum { DEED_VERSION = 6 };
 
 /* The lengths that the jobs want or use. */
 enum {
@@ -44,8 +39,6 @@ enum {
     DEED_TABLE = 32768,  /* words of a table, at least */
     DEED_HALF = 16384,   /* .. of which each scheme of deed_read_two has its half */
     DEED_BEYOND = 32768, /* added to the places of a prelude */
-    DEED_USE = 4,        /* words of a use in a table, and in a list */
-    DEED_OLD_USE = 3,    /* .. in lists that were stored before change request 10 */
     DEED_CODE = 16384,   /* words of code, at least for translate, at most for run */
     DEED_CELLS = 8192,   /* cells that a run uses, at most */
     DEED_CELL = 2,       /* numbers of the store that a cell takes */
@@ -124,28 +117,6 @@ uint16_t deed_write(const uint8_t *source, size_t source_length,
                     uint8_t *room, size_t room_length,
                     size_t *place, size_t *length);
 
-/* What deed_rename says; 1 is DEED_REFUSED. */
-enum {
-    DEED_RENAMED = 0,
-    DEED_NO_NAME = 2,
-    DEED_NOT_DECLARED = 3,
-    DEED_TAKEN = 4,
-    DEED_NEW_REFUSED = 5,
-    DEED_NEW_SHORT = 6
-};
-
-/* Source with one declared name changed at each of its occurrences: at its declaration, in a formal's value part and specifications, and at exactly the uses that
- * mean it. `from` is the first byte of any occurrence. DEED_RENAMED, and the first *length bytes of the room are the new text; DEED_REFUSED where the source is refused,
- * with the answer's number (2 to 10) and place; DEED_NO_NAME where the new name is not a letter and then letters and digits; DEED_NOT_DECLARED where no declared name
- * stands at `from`; DEED_TAKEN where the new name, letter case aside, is a name of the source, with the first place where it is, or with 0 where it is the environment's;
- * DEED_NEW_REFUSED where the new text would be refused, with 2 at DEED_SOURCE or 4 at the first occurrence; DEED_NEW_SHORT where the room is shorter than the text,
- * with the number DEED_SHORT. Else the number is 0. Where *length is 0 the room is as it was, and so it is behind the text. */
-uint16_t deed_rename(const uint8_t *source, size_t source_length,
-                     size_t from,
-                     const uint8_t *name, size_t name_length,
-                     uint8_t *room, size_t room_length,
-                     uint16_t *number, size_t *place, size_t *length);
-
 /* What deed_check says. */
 enum {
     DEED_IS_LIST = 0,
@@ -153,43 +124,19 @@ enum {
     DEED_WRONG_WORD = 2
 };
 
-/* A source, and a list of numbers that somebody sent as its uses: their count, then four words for each (docs/TABLE.md). DEED_IS_LIST where the
+/* A source, and a list of numbers that somebody sent as its uses: their count, then three words for each (docs/TABLE.md). DEED_IS_LIST where the
  * list is that; DEED_REFUSED where the source is refused, with the answer's number (2 to 10) and place; DEED_WRONG_WORD with the index, from 0, of
  * the first wrong word for the place: of a short list its length. Where there is no refusal the number is 0. */
 uint16_t deed_check(const uint8_t *source, size_t source_length,
                     const int64_t *list, size_t list_length,
                     uint16_t *number, size_t *place);
 
-/* The same of a list in the form that was stored before change request 10: three words for each use. */
-uint16_t deed_check_old(const uint8_t *source, size_t source_length,
-                        const int64_t *list, size_t list_length,
-                        uint16_t *number, size_t *place);
-
-/* What deed_widen and deed_narrow say besides DEED_REFUSED and DEED_WRONG_WORD; DEED_NO_ROOM is deed_compare's too. */
-enum {
-    DEED_MOVED = 0,
-    DEED_NO_ROOM = 3
-};
-
-/* A source, and a list of its uses of three words each: the list of four words at the room's front. DEED_REFUSED and DEED_WRONG_WORD as deed_check_old has
- * them; then DEED_NO_ROOM, with the number DEED_SHORT and the place 0, where the room has less than 1 + 4 n words for n uses; in all of these the room is as
- * it was. DEED_MOVED with how many words were written for the place; what lies behind them is as it was. */
-uint16_t deed_widen(const uint8_t *source, size_t source_length,
-                    const int64_t *list, size_t list_length,
-                    uint16_t *room, size_t room_length,
-                    uint16_t *number, size_t *place);
-
-/* Back: a list of four words a use, as deed_check takes it, to one of three; the room has at least 1 + 3 n words. */
-uint16_t deed_narrow(const uint8_t *source, size_t source_length,
-                     const int64_t *list, size_t list_length,
-                     uint16_t *room, size_t room_length,
-                     uint16_t *number, size_t *place);
-
-/* What deed_compare says besides DEED_NO_ROOM. */
+/* What deed_compare says. */
 enum {
     DEED_LISTED = 0,
     DEED_FIRST_REFUSED = 1,
-    DEED_SECOND_REFUSED = 2
+    DEED_SECOND_REFUSED = 2,
+    DEED_NO_ROOM = 3
 };
 
 /* Two editions of a deed. DEED_LISTED where the room has the numbers, from 0 in source order, of the uses that do not mean the same in both, rising, the

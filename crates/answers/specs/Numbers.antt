@@ -23,8 +23,8 @@ abbrev pub no_symbol : ℕ
 no_symbol = 3
 
 -- 4: "number over 2,147,483,647; name over 32 characters; symbol 2,049 (notes and remarks not counted)"
-abbrev pub too_large_lem : ℕ
-too_large_lem = 4
+abbrev pub too_large : ℕ
+too_large = 4
 
 -- 5: "grammar: the first symbol that no program can have there, or the source's end where none can end"
 abbrev pub grammar : ℕ

@@ -1,7 +1,7 @@
 // The numbers of paper 01, "Numbered answers", and what carries them. Places, symbols, declarations and code addresses
 // are types of their own, so that none is taken for another; answer and environment numbers are constants of their types.
 ghost use Rattle.std.specs.Prelude.{◌≡◌};
-ghost use Rattle.answers.specs.Numbers.{accepted, ended, short, long, no_symbol, too_large_lem, grammar, depth, twice, undeclared, heading, types, limit, range, zero_divisor, unassigned, input_ended, output_full, cells, activations, channel, no_instruction, no_variable, too_many_sets, iabs, maxint, ininteger, outinteger, outreal};
+ghost use Rattle.answers.specs.Numbers.{accepted, ended, short, long, no_symbol, too_large, grammar, depth, twice, undeclared, heading, types, limit, range, zero_divisor, unassigned, input_ended, output_full, cells, activations, channel, no_instruction, no_variable, too_many_sets, iabs, maxint, ininteger, outinteger, outreal};
 ghost use Rattle.answers.specs.Answers.{answer, environment, refusal, number_of, place_of, stop_number, stop_place};
 
 // A byte of the source, counted from 0.
@@ -121,7 +121,7 @@ impl Answer {
     }
 
     pub fn too_large() -> Answer
-        ensures { result ≡ answer too_large_lem }
+        ensures { result ≡ answer too_large }
     {
         Answer::TOO_LARGE
     }

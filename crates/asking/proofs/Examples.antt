@@ -16,10 +16,8 @@ use Rattle.asking.specs.Words.{ended, cut, words_of, has, plain, unblanked, sepa
 use Rattle.asking.specs.Sorts.{looks, is_option, is_flag, IsNamed, is_misfit, is_twice, is_capital, those, asked}
 use Rattle.asking.specs.Options.{first_number, option_of, together, sizes_of, operands_in}
 use Rattle.asking.specs.Table.{first_row, row_in, row_of, names, matched}
-use Rattle.asking.specs.Texts.{text_words, meaning, in_front, leading, one_more, within as inside, listed_in}
-use Rattle.asking.specs.declared.typing.Range.TheVariants.{Uses, Whole}
-use Rattle.asking.specs.declared.typing.Meant.TheVariants.{Is, Outside}
-use Rattle.asking.specs.declared.texts.Listed.TheVariants.{Are as AreNumbers, Not as NoNumber, Full}
+use Rattle.asking.specs.Lists.{list_words, sent, standing, sent_of, in_front, leading, listed_in}
+use Rattle.asking.specs.declared.lists.Listed.TheVariants.{Are, Not as NoNumber, Full}
 use Rattle.asking.specs.declared.sorts.Sort.TheVariants.{Misfit, Twice}
 use Rattle.asking.specs.declared.sizes.Asked.{Asked}
 use Rattle.asking.specs.declared.sizes.Asked.TheVariants.{Are, Not}
@@ -159,42 +157,36 @@ pub words_but_options : operands_in false (words_of (line "-o 1 a 1200 -c 3 - 25
 unfolding operands_in is_option equal cut ended unblanked blank
 words_but_options = refl
 
--- ---- texts of numbers
+-- ---- lists
 
 abbrev numbers : String → List ℤ
-numbers t = leading Uses (text_words (bytes t))
+numbers t = leading (list_words (bytes t))
 
 pub list_numbers : numbers "1, 21 ,1,,18" ≡ pos 1 ∷ pos 21 ∷ pos 1 ∷ pos 18 ∷ []
-unfolding listed_in leading in_front inside one_more meaning integer_of negated counted number_of spelled digits digit value_from cut ended unlisted separates blank
+unfolding leading in_front sent_of standing sent integer_of negated counted number_of spelled digits digit value_from cut ended unlisted separates blank
 list_numbers = refl
 
 -- a line end separates as a blank does
-pub list_lines : leading Uses (text_words (49 ∷ 13 ∷ 10 ∷ 50 ∷ 9 ∷ 51 ∷ 10 ∷ [])) ≡ pos 1 ∷ pos 2 ∷ pos 3 ∷ []
-unfolding listed_in leading in_front inside one_more meaning integer_of negated counted number_of spelled digits digit value_from cut ended unlisted separates blank
+pub list_lines : leading (list_words (49 ∷ 13 ∷ 10 ∷ 50 ∷ 9 ∷ 51 ∷ 10 ∷ [])) ≡ pos 1 ∷ pos 2 ∷ pos 3 ∷ []
+unfolding leading in_front sent_of standing sent integer_of negated counted number_of spelled digits digit value_from cut ended unlisted separates blank
 list_lines = refl
 
 -- below 0, past 16 bits, past 64 bits: none comes round to a word
 pub list_outside : numbers "65535 65536 65537 -1 -0 18446744073709551617 -18446744073709551615"
     ≡ pos 65535 ∷ negsuc 0 ∷ negsuc 0 ∷ negsuc 0 ∷ pos 0 ∷ negsuc 0 ∷ negsuc 0 ∷ []
-unfolding listed_in leading in_front inside one_more meaning integer_of negated counted number_of spelled digits digit value_from cut ended unlisted separates blank
+unfolding leading in_front sent_of standing sent integer_of negated counted number_of spelled digits digit value_from cut ended unlisted separates blank
 list_outside = refl
 
--- the whole numbers of 32 bits, and the first outside them: the index is that of 2,147,483,648
-pub wholes_outside : listed_in Whole 9 (text_words (bytes "-2147483648 2147483647 2147483648 -2147483649")) ≡ AreNumbers 4 2
-unfolding listed_in leading in_front inside one_more meaning integer_of negated counted number_of spelled digits digit value_from cut ended unlisted separates blank
-wholes_outside = refl
-
-pub list_or_not : (listed_in Uses 3 (text_words (bytes "1 2 3")) ≡ AreNumbers 3 3) × (listed_in Uses 3 (text_words (bytes "1 12x 3")) ≡ NoNumber 1)
-    × (listed_in Uses 2 (text_words (bytes "1 2 3")) ≡ Full)
-unfolding listed_in leading in_front inside one_more meaning integer_of negated counted number_of spelled digits digit value_from cut ended unlisted separates blank
+pub list_or_not : (listed_in 3 (list_words (bytes "1 2 3")) ≡ Are 3) × (listed_in 3 (list_words (bytes "1 12x 3")) ≡ NoNumber 1) × (listed_in 2 (list_words (bytes "1 2 3")) ≡ Full)
+unfolding listed_in leading in_front sent_of standing sent integer_of negated counted number_of spelled digits digit value_from cut ended unlisted separates blank
 list_or_not = (refl, refl, refl)
 
 -- a reader that keeps the last 16 bits of a number
-pub not_kept_low : meaning Uses (integer_of (bytes "65537")) ≡ Is (pos 1) → ⊥
-unfolding listed_in leading in_front inside one_more meaning integer_of negated counted number_of spelled digits digit value_from cut ended unlisted separates blank
+pub not_kept_low : sent_of (bytes "65537") ≡ some (pos 1) → ⊥
+unfolding sent_of standing sent integer_of negated counted number_of spelled digits digit value_from
 not_kept_low e = let z : ◌≡◌ {A = ℕ} 0 1 = cc in omega arith
 
 -- one that stops at the first byte that is no digit, and takes what it has
-pub not_begun : meaning Uses (integer_of (bytes "12x")) ≡ Is (pos 12) → ⊥
-unfolding listed_in leading in_front inside one_more meaning integer_of negated counted number_of spelled digits digit value_from cut ended unlisted separates blank
+pub not_begun : sent_of (bytes "12x") ≡ some (pos 12) → ⊥
+unfolding sent_of standing sent integer_of negated counted number_of spelled digits digit value_from
 not_begun e = let z : ◌≡◌ {A = ℕ} 0 1 = cc in omega arith

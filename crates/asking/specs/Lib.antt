@@ -3,5 +3,4 @@ pub mod Words
 pub mod Sorts
 pub mod Options
 pub mod Table
-pub mod Texts
-pub mod model
+pub mod Lists

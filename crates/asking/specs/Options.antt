@@ -1,4 +1,4 @@
--- Options that have a word behind them, and the words that are no option. These definitions are over the words that a line asks, among which is no flag.
+-- Options that have a number behind them, and the words that are no option. These definitions are over the words that a line asks, among which is no flag.
 use Rattle.std.specs.Prelude.{ℕ, ◌≤◌, ◌≡◌, Bool, true, false, cond, ◌&&◌, List, [], ◌∷◌, length, leb}
 use Rattle.std.proofs.Math.Option.{Option, none, some}
 use Rattle.symbols.specs.Text.{bytes}
@@ -52,7 +52,7 @@ operands ws = operands_in false ws
 abbrev pub operands_from : List ℕ → ℕ → List (List ℕ)
 operands_from line at = operands (asked_from line at)
 
--- r is behind the word from `from` up to `to`, and where that is an option, behind its word
+-- r is behind the word from `from` up to `to`, and where that is an option, behind its number
 pub record Behind (line : List ℕ) (from to r : ℕ) : Type 0 where
   pub words : asked_from line r ≡ cond (is_option (part line from to)) (others (asked_from line to)) (asked_from line to)
   pub onward : to ≤ r

@@ -13,9 +13,9 @@ use Rattle.asking.specs.declared.sorts.Sort.TheVariants.{Asked, Named, Misfit, T
 unfoldable pub looks : List ℕ → Bool
 looks w = leb 2 (length w) && eqb (get_or w 0 0) 45 && not (digit (get_or w 1 0))
 
--- those that have a word behind them: a number, or the name of a file
+-- those that have a number behind them
 unfoldable pub is_option : List ℕ → Bool
-is_option w = equal w (bytes "-l") || equal w (bytes "-c") || equal w (bytes "-o") || equal w (bytes "--prelude") || equal w (bytes "--record")
+is_option w = equal w (bytes "-l") || equal w (bytes "-c") || equal w (bytes "-o")
 
 -- and those that stand for themselves
 unfoldable pub is_flag : List ℕ → Bool

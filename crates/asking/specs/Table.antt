@@ -1,6 +1,6 @@
 -- The commands of the tool: a row each, which is its word, the names of the words that it wants, and its options; = stands before what an option has
 -- behind it.
-use Rattle.std.specs.Prelude.{ℕ, Bool, true, false, ◌||◌, List, [], ◌∷◌, ◌++◌}
+use Rattle.std.specs.Prelude.{ℕ, Bool, true, false, List, [], ◌∷◌, ◌++◌}
 use Rattle.symbols.specs.Text.{bytes}
 use Rattle.asking.specs.Words.{has}
 use Rattle.asking.specs.Sorts.{those}
@@ -8,22 +8,14 @@ use Rattle.asking.specs.declared.sorts.Sort.TheVariants.{Named, Capital}
 
 abbrev pub rows : List (List ℕ)
 rows =
-    bytes "read FILE --plain --prelude =PRELUDE" ∷
-    bytes "uses FILE --list --old --plain --prelude =PRELUDE" ∷
-    bytes "levels FILE --prelude =PRELUDE" ∷
-    bytes "page FILE [SECOND] --prelude =PRELUDE" ∷
-    bytes "code FILE --prelude =PRELUDE" ∷
-    bytes "two PRELUDE FIRST SECOND --plain" ∷
-    bytes "write FILE --head --plain" ∷
-    bytes "rename FILE PLACE NAME --plain" ∷
-    bytes "check FILE LIST --old --plain" ∷
-    bytes "move FILE LIST --back --plain" ∷
-    bytes "compare FIRST SECOND --plain" ∷
-    bytes "run FILE [-] [NUMBER ..] --strict --values --plain --prelude =PRELUDE --record =RECORD -l =LIMIT -c =CELLS -o =ROOM" ∷
-    bytes "replay FILE RECORD --plain --prelude =PRELUDE" ∷
-    bytes "report SOURCE SETS --each --plain -l =LIMIT -c =CELLS -o =ROOM" ∷
-    bytes "explain NUMBER" ∷
-    bytes "version" ∷
+    bytes "read FILE --plain" ∷
+    bytes "uses FILE --list --plain" ∷
+    bytes "levels FILE" ∷
+    bytes "page FILE" ∷
+    bytes "code FILE" ∷
+    bytes "write FILE --plain" ∷
+    bytes "check FILE LIST --plain" ∷
+    bytes "run FILE [-] [NUMBER ..] --strict --values --plain -l =LIMIT -c =CELLS -o =ROOM" ∷
     bytes "do FILE" ∷
     bytes "help" ∷
     []
@@ -48,12 +40,12 @@ row_in rs w = first_row (those Named w rs)
 unfoldable pub row_of : List ℕ → List ℕ
 row_of w = row_in rows w
 
--- the names of the words that a row wants, and whether more are welcome: any number, or a second file
+-- the names of the words that a row wants, and whether more are welcome
 abbrev pub names : List (List ℕ) → List (List ℕ)
 names row = those Capital [] row
 
 abbrev pub more : List (List ℕ) → Bool
-more row = has row (bytes "..]") || has row (bytes "[SECOND]")
+more row = has row (bytes "..]")
 
 -- a word for each name, and no other unless more are welcome
 unfoldable pub matched : List (List ℕ) → Bool → List (List ℕ) → Bool

@@ -93,6 +93,3 @@ pub record LineBy (f : ℕ → ℕ) (text row : List ℕ) (n : ℕ) (row' : List
 
 abbrev pub LineOf : List ℕ → List ℕ → ℕ → List ℕ → Type 0
 LineOf = LineBy unblanked
-
-abbrev pub ListLine : List ℕ → List ℕ → ℕ → List ℕ → Type 0
-ListLine = LineBy unlisted

@@ -5,5 +5,4 @@ pub mod sorts; // sorts of words
 pub mod options; // options, and the words that are none
 pub mod table; // the commands
 pub mod sizes; // how large a run may be
-pub mod typing; // a number as it is typed, byte by byte
-pub mod texts; // the numbers of a text
+pub mod lists; // the numbers of a list that somebody sent

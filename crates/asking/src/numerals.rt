@@ -43,7 +43,7 @@ pub fn natural_in(text: &[u8]) -> Natural
 }
 
 // A magnitude with the sign -.
-pub fn negative(n: Natural) -> Whole
+fn negative(n: Natural) -> Whole
     ensures { whole_is result ≡ within (negated (natural_is n)) }
 {
     match n {
@@ -58,7 +58,7 @@ pub fn negative(n: Natural) -> Whole
 }
 
 // A magnitude with the sign + or with none.
-pub fn positive(n: Natural) -> Whole
+fn positive(n: Natural) -> Whole
     ensures { whole_is result ≡ within (counted (natural_is n)) }
 {
     match n {

@@ -29,7 +29,7 @@ fn looks_so(word: &[u8]) -> bool
     !is_digit(word[1])
 }
 
-// Whether an option has a word behind it: a number, or the name of a file.
+// Whether an option has a number behind it.
 pub fn is_option(word: &[u8]) -> bool
     ensures { result ≡ is_option word.now }
 {
@@ -39,13 +39,7 @@ pub fn is_option(word: &[u8]) -> bool
     if same_bytes(word, b"-c") {
         return true;
     }
-    if same_bytes(word, b"-o") {
-        return true;
-    }
-    if same_bytes(word, b"--prelude") {
-        return true;
-    }
-    same_bytes(word, b"--record")
+    same_bytes(word, b"-o")
 }
 
 // Whether a word is an option that stands for itself.

@@ -10,23 +10,15 @@ use crate::sorts::{Sort, first};
 use crate::words::{Word, has_word, line_of};
 
 // Each row is ended by a zero; its line goes on with the next.
-pub const ROWS: [u8; 625] = *b"\
-read FILE --plain --prelude =PRELUDE\0\
-uses FILE --list --old --plain --prelude =PRELUDE\0\
-levels FILE --prelude =PRELUDE\0\
-page FILE [SECOND] --prelude =PRELUDE\0\
-code FILE --prelude =PRELUDE\0\
-two PRELUDE FIRST SECOND --plain\0\
-write FILE --head --plain\0\
-rename FILE PLACE NAME --plain\0\
-check FILE LIST --old --plain\0\
-move FILE LIST --back --plain\0\
-compare FIRST SECOND --plain\0\
-run FILE [-] [NUMBER ..] --strict --values --plain --prelude =PRELUDE --record =RECORD -l =LIMIT -c =CELLS -o =ROOM\0\
-replay FILE RECORD --plain --prelude =PRELUDE\0\
-report SOURCE SETS --each --plain -l =LIMIT -c =CELLS -o =ROOM\0\
-explain NUMBER\0\
-version\0\
+pub const ROWS: [u8; 211] = *b"\
+read FILE --plain\0\
+uses FILE --list --plain\0\
+levels FILE\0\
+page FILE\0\
+code FILE\0\
+write FILE --plain\0\
+check FILE LIST --plain\0\
+run FILE [-] [NUMBER ..] --strict --values --plain -l =LIMIT -c =CELLS -o =ROOM\0\
 do FILE\0\
 help\0\
 ";
@@ -66,23 +58,13 @@ fn ends(more: bool, from: usize, to: usize) -> bool
     from == to
 }
 
-// Whether words are welcome behind those that a row wants: any number of them, or a second file.
-fn is_open(row: &[u8]) -> bool
-    ensures { result ≡ more (words_of row.now) }
-{
-    if has_word(row, 0, b"..]") {
-        return true;
-    }
-    has_word(row, 0, b"[SECOND]")
-}
-
 // How the words of a line from `at` on fit a row.
 pub fn fits(row: &[u8], line: &[u8], at: usize) -> Fit
     ensures good { result.good ≡ matched (names (words_of row.now)) (more (words_of row.now)) (operands_from line.now at) }
     ensures missing { (result.missing.from ≤ result.missing.to) × (result.missing.to ≤ length row.now) }
     ensures extra { (result.extra.from ≤ result.extra.to) × (result.extra.to ≤ length line.now) }
 {
-    let open = is_open(row);
+    let open = has_word(row, 0, b"..]");
     let mut i: usize = 0;
     let mut p = at;
     loop {

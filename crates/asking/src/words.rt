@@ -1,6 +1,7 @@
 // A line of words, each ended by a zero, so that a word can hold blanks. An empty word is none.
 ghost use Rattle.std.specs.Prelude.{◌≡◌, ◌+◌, drop};
-ghost use Rattle.asking.specs.Words.{words_of, leading_zeros, has, plain, is_part, unblanked, separates, unlisted, laid_as, WordFrom, LineBy, LineOf, ListLine};
+ghost use Rattle.asking.specs.Words.{words_of, leading_zeros, has, plain, is_part, unblanked, separates, unlisted, laid_as, WordFrom, LineBy, LineOf};
+ghost use Rattle.asking.specs.Lists.{ListLine};
 
 use symbols::text::{find, is_blank, same_bytes};
 
@@ -88,7 +89,7 @@ fn unblank(b: u8) -> u8
 }
 
 // Whether a byte stands between numbers.
-pub fn is_between(b: u8) -> bool
+fn is_between(b: u8) -> bool
     ensures { result ≡ separates b }
 {
     if is_blank(b) {

@@ -17,13 +17,12 @@ use Rattle.answers.specs.declared.Verdict.TheVariants.{Accepted, Refused as Refu
 use Rattle.names.specs.Program.{Statement}
 use Rattle.names.specs.Uses.{Row, name_faults, least, joined, use_rows}
 use Rattle.types.specs.Types.{type_fault}
-use Rattle.table.specs.Depths.{depth_in}
-use Rattle.table.specs.Table.{use_wide, use_words}
-use Rattle.table.proofs.Fits.{all_words}
+use Rattle.table.specs.Table.{use_words}
+use Rattle.table.proofs.Fits.{three_words_lem}
 use Rattle.reading.specs.Judging.{its_program, too_long, unreadable, ungrammatical, too_deep, misnamed, mistyped, accepted}
 use Rattle.reading.specs.Reading.{place_in, table_words, cleared, Grammatical, Judged, Reads, too_short, enough}
 use Rattle.reading.proofs.Promises.{rows_first}
-use Rattle.checking.specs.Checking.{use_list, list_of, first_wrong, answer_of, ChecksRows, accepted as judged-list}
+use Rattle.checking.specs.Checking.{three, use_list, first_wrong, answer_of, ChecksRows, accepted as judged-list}
 use Rattle.checking.specs.model.Comparing.{narrow, section}
 use Rattle.checking.specs.declared.Checked.{Checked}
 
@@ -86,49 +85,49 @@ no_more n m l h = by (leb n m) refl
         ap (λ i. take i l) k
     by false e = take_all (min n m) l (omega (arith, leb-false n m e)) ∙ sym (take_all n l (omega (arith, leb-false n m e)))
 
-module _ (place depth : ℕ → ℕ) where
-  use_long : (r : Row) → length (use_words place depth r) ≡ use_wide
+module _ (place : ℕ → ℕ) where
+  use_long : (r : Row) → length (use_words place r) ≡ three
   unfolding use_words
   use_long r = refl
 
   -- a row has no more than its words
-  at_most : (width : ℕ) (l : List Row) → joined (λ r. take (min width use_wide) (use_words place depth r)) l ≡ joined (λ r. take width (use_words place depth r)) l
+  at_most : (width : ℕ) (l : List Row) → joined (λ r. take (min width three) (use_words place r)) l ≡ joined (λ r. take width (use_words place r)) l
   unfolding joined
   at_most width [] = refl
   at_most width (r ∷ l) =
-      ap (λ ws. ws ++ joined (λ r. take (min width use_wide) (use_words place depth r)) l) (no_more width use_wide (use_words place depth r) (omega (arith, use_long r)))
-      ∙ ap (λ ws. take width (use_words place depth r) ++ ws) (at_most width l)
+      ap (λ ws. ws ++ joined (λ r. take (min width three) (use_words place r)) l) (no_more width three (use_words place r) (omega (arith, use_long r)))
+      ∙ ap (λ ws. take width (use_words place r) ++ ws) (at_most width l)
 
   -- the first words of a table
   pub section_is : (width : ℕ) (s : Statement) (rest : List ℕ)
-      → section (min width use_wide) use_wide ((length (use_rows s) ∷ joined (use_words place depth) (use_rows s)) ++ rest) ≡ use_list width place depth s
+      → section (min width three) three ((length (use_rows s) ∷ joined (use_words place) (use_rows s)) ++ rest) ≡ use_list width place s
   unfolding section use_list
   section_is width s rest =
-      ap (λ ws. length (use_rows s) ∷ ws) (narrowed (use_words place depth) use_wide (min width use_wide) use_long (omega arith) (use_rows s) rest ∙ at_most width (use_rows s))
+      ap (λ ws. length (use_rows s) ∷ ws) (narrowed (use_words place) three (min width three) use_long (omega arith) (use_rows s) rest ∙ at_most width (use_rows s))
 
   pub section_long : (s : Statement) (rest : List ℕ)
-      → 1 + get_or ((length (use_rows s) ∷ joined (use_words place depth) (use_rows s)) ++ rest) 0 0 * use_wide ≤ length ((length (use_rows s) ∷ joined (use_words place depth) (use_rows s)) ++ rest)
-  section_long s rest = omega (arith, length-append (joined (use_words place depth) (use_rows s)) rest, all_words place depth (use_rows s))
+      → 1 + get_or ((length (use_rows s) ∷ joined (use_words place) (use_rows s)) ++ rest) 0 0 * three ≤ length ((length (use_rows s) ∷ joined (use_words place) (use_rows s)) ++ rest)
+  section_long s rest = omega (arith, length-append (joined (use_words place) (use_rows s)) rest, three_words_lem place (use_rows s))
 
 -- ---- of what `read` leaves
 
 module _ {source table new : List ℕ} {v : Verdict} (r : Reads source table v new) (e : v ≡ Accepted) where
   -- the program of the source, and the list of its uses in front
-  pub begins : (a : Accepts source) → (rest : List ℕ) × (new ≡ (length (use_rows (its_program a.program)) ∷ joined (use_words (place_in source) (depth_in a.program.tree)) (use_rows (its_program a.program))) ++ rest)
+  pub begins : (a : Accepts source) → (rest : List ℕ) × (new ≡ (length (use_rows (its_program a.program)) ∷ joined (use_words (place_in source)) (use_rows (its_program a.program))) ++ rest)
   begins a = rows_first r (ap number_of e) a.program
 
-  pub table_long : 1 + get_or new 0 0 * use_wide ≤ length new
+  pub table_long : 1 + get_or new 0 0 * three ≤ length new
   table_long =
       let b = begins (read_accepts r e) in
-      subst (λ (t : List ℕ). 1 + get_or t 0 0 * use_wide ≤ length t) (sym b.1) (section_long (place_in source) (depth_in (read_accepts r e).program.tree) (its_program (read_accepts r e).program) b.0)
+      subst (λ (t : List ℕ). 1 + get_or t 0 0 * three ≤ length t) (sym b.1) (section_long (place_in source) (its_program (read_accepts r e).program) b.0)
 
-  pub table_section : (width : ℕ) (a : Accepts source) → section (min width use_wide) use_wide new ≡ list_of width a.program
+  pub table_section : (width : ℕ) (a : Accepts source) → section (min width three) three new ≡ use_list width (place_in source) (its_program a.program)
   table_section width a =
       let b = begins a in
-      ap (section (min width use_wide) use_wide) b.1 ∙ section_is (place_in source) (depth_in a.program.tree) width (its_program a.program) b.0
+      ap (section (min width three) three) b.1 ∙ section_is (place_in source) width (its_program a.program) b.0
 
   -- so the answer to the list is that of the comparison
-  pub answers : (width : ℕ) (list : List ℤ) {c : Checked} → c ≡ answer_of (first_wrong list (section (min width use_wide) use_wide new)) → ChecksRows width source list c
+  pub answers : (width : ℕ) (list : List ℤ) {c : Checked} → c ≡ answer_of (first_wrong list (section (min width three) three new)) → ChecksRows width source list c
   answers width list q =
       let a = read_accepts r e in
       subst (ChecksRows width source list) (sym (q ∙ ap (λ (ws : List ℕ). answer_of (first_wrong list ws)) (table_section width a))) (judged-list a.program a.named a.typed)

@@ -6,26 +6,22 @@ use mathlib.Core.Logic.{◌↔◌}
 use mathlib.Core.Bool.{Bool, true, false, cond}
 use mathlib.Core.List.{List, [], ◌∷◌, ◌++◌, map}
 use mathlib.Core.Option.{Option, none, some}
-use native.Mathlib.Nat.{zero-mul, suc-mul}
 use native.Mathlib.Omega.{arith}
 use lib.IntN.{ℤ, pos, negsuc}
-use lib.ListN.{length, get_or, take, set, get_elem?, length-append, length-map, get_or-map}
-use lib.Seq.{take_at, length-take-le}
+use lib.ListN.{length, get_or, take, set, get_elem?, length-map, get_or-map}
+use lib.Seq.{take_at}
 use borrow.Author.Tests.{eqb-true, eq-eqb}
 use Rattle.answers.specs.declared.Refusal.{Refusal}
 use Rattle.answers.specs.declared.Verdict.{Verdict}
 use Rattle.answers.specs.declared.Verdict.TheVariants.{Accepted, Refused as Refuses}
 use Rattle.names.specs.Program.{Statement}
 use Rattle.names.specs.Uses.{Row, joined, use_rows}
-use Rattle.grammar.specs.Grammar.{program}
-use Rattle.grammar.specs.Trees.{Syn}
-use Rattle.table.specs.Depths.{depth_in}
-use Rattle.table.specs.Table.{use_wide, use_words}
-use Rattle.table.proofs.Fits.{all_words}
+use Rattle.table.specs.Table.{use_words}
+use Rattle.table.proofs.Fits.{three_words_lem}
 use Rattle.reading.specs.Judging.{its_program, accepted as judged-accepted}
-use Rattle.reading.specs.Reading.{Grammatical, place_in, program_in, table_words, cleared, Judged, Reads, enough}
-use Rattle.reading.proofs.Only.{one_tree, one_judgement, only}
-use Rattle.checking.specs.Checking.{three, use_list, list_of, is_word, next, first_wrong, answer_of, ChecksRows, Checks, refused, accepted}
+use Rattle.reading.specs.Reading.{place_in, table_words, cleared, Judged, Reads, enough}
+use Rattle.reading.proofs.Only.{one_program, one_judgement, only}
+use Rattle.checking.specs.Checking.{three, use_list, is_word, next, first_wrong, answer_of, ChecksRows, Checks, refused, accepted}
 use Rattle.checking.specs.declared.Checked.{Checked}
 use Rattle.checking.specs.declared.Checked.TheVariants.{Yes, Refused, Wrong}
 use Rattle.checking.proofs.FromTables.{Accepts, read_accepts, begins}
@@ -153,14 +149,11 @@ extra (w ∷ ws) x xs = goes_on w (map pos ws ++ (x ∷ xs)) ws ∙ ap next (ext
 -- ---- 2. one answer for each source and list, exactly these three
 
 abbrev pub uses_in : ℕ → {source : List ℕ} → Accepts source → List ℕ
-uses_in width a = list_of width a.program
+uses_in width {source} a = use_list width (place_in source) (its_program a.program)
 
 -- the uses of a source are one list
-pub one_list_of : (width : ℕ) {source : List ℕ} (p p₂ : Grammatical source) → list_of width p ≡ list_of width p₂
-one_list_of width {source} p p₂ = ap (λ (t : Syn program). use_list width (place_in source) (depth_in t) (program_in source t)) (one_tree p p₂)
-
 pub one_list : (width : ℕ) {source : List ℕ} (a a₂ : Accepts source) → uses_in width a ≡ uses_in width a₂
-one_list width a a₂ = one_list_of width a.program a₂.program
+one_list width {source} a a₂ = ap (use_list width (place_in source)) (one_program a.program a₂.program)
 
 -- an accepted source is not refused
 not_both : {source : List ℕ} {r : Refusal} → Judged source (Refuses r) cleared → Accepts source → ⊥
@@ -177,7 +170,7 @@ module _ {width : ℕ} {source : List ℕ} {list : List ℤ} where
   one_answer (refused r j) (refused s k) = one_refusal j k
   one_answer (refused r j) (accepted p n t) = absurd (not_both j (record { program = p; named = n; typed = t }))
   one_answer (accepted p n t) (refused r j) = absurd (not_both j (record { program = p; named = n; typed = t }))
-  one_answer (accepted p n t) (accepted p₂ n₂ t₂) = ap (λ ws. answer_of (first_wrong list ws)) (one_list_of width p p₂)
+  one_answer (accepted p n t) (accepted p₂ n₂ t₂) = ap (λ s. answer_of (first_wrong list (use_list width (place_in source) s))) (one_program p p₂)
 
   -- of an accepted source it is the comparison's
   pub compares : (a : Accepts source) → ChecksRows width source list (answer_of (first_wrong list (uses_in width a)))
@@ -207,7 +200,7 @@ module _ {width : ℕ} {source : List ℕ} {list : List ℤ} where
 
       go : {c : Checked} → ChecksRows width source list c → c ≡ Refused r → Judged source (Refuses r) cleared
       go (refused s j) e = let q : s ≡ r = cc in subst (λ x. Judged source (Refuses x) cleared) q j
-      go (accepted p n t) e = absurd (not_refused (first_wrong list (list_of width p)) e)
+      go (accepted p n t) e = absurd (not_refused (first_wrong list (use_list width (place_in source) (its_program p))) e)
 
   -- "or the index, from 0, of the first wrong word"
   pub wrong_exactly : (i : ℕ) → ChecksRows width source list (Wrong i) ↔ ((a : Accepts source) × WrongAt list (uses_in width a) i)
@@ -262,51 +255,40 @@ module _ {width : ℕ} {source : List ℕ} {list : List ℤ} (passes : ChecksRow
 
 -- ---- 4. the list that `read` leaves
 
-whole_words : (place depth : ℕ → ℕ) (l : List Row) → joined (λ r. take use_wide (use_words place depth r)) l ≡ joined (use_words place depth) l
+all_words : (place : ℕ → ℕ) (l : List Row) → joined (λ r. take three (use_words place r)) l ≡ joined (use_words place) l
 unfolding joined use_words
-whole_words place depth [] = refl
-whole_words place depth (r ∷ l) = ap (λ ws. use_words place depth r ++ ws) (whole_words place depth l)
+all_words place [] = refl
+all_words place (r ∷ l) = ap (λ ws. use_words place r ++ ws) (all_words place l)
 
--- in the use section's form
-pub section_words_lem : (place depth : ℕ → ℕ) (s : Statement) → use_list use_wide place depth s ≡ length (use_rows s) ∷ joined (use_words place depth) (use_rows s)
+-- in the use section's form: 1 + 3 n words
+pub section_words_lem : (place : ℕ → ℕ) (s : Statement) → use_list three place s ≡ length (use_rows s) ∷ joined (use_words place) (use_rows s)
 unfolding use_list
-section_words_lem place depth s = ap (λ ws. length (use_rows s) ∷ ws) (whole_words place depth (use_rows s))
+section_words_lem place s = ap (λ ws. length (use_rows s) ∷ ws) (all_words place (use_rows s))
 
--- 1 + 4 n words; and 1 + 3 n in the old form
-rows_length : (width : ℕ) (place depth : ℕ → ℕ) → width ≤ use_wide → (l : List Row) → length (joined (λ r. take width (use_words place depth r)) l) ≡ length l * width
-unfolding joined use_words
-rows_length width place depth h [] = sym (zero-mul width)
-rows_length width place depth h (r ∷ l) =
-    let w = use_words place depth r in
-    length-append (take width w) (joined (λ r. take width (use_words place depth r)) l)
-    ∙ omega (arith, length-take-le width w h, rows_length width place depth h l, suc-mul (length l) width)
+pub section_length : (place : ℕ → ℕ) (s : Statement) → length (use_list three place s) ≡ 1 + 3 * length (use_rows s)
+section_length place s = ap length (section_words_lem place s) ∙ omega (arith, three_words_lem place (use_rows s))
 
-pub list_length : (width : ℕ) (place depth : ℕ → ℕ) (s : Statement) → width ≤ use_wide → length (use_list width place depth s) ≡ 1 + length (use_rows s) * width
-unfolding use_list
-list_length width place depth s h = omega (arith, rows_length width place depth h (use_rows s))
-
--- so an index is at most 1 + 4 n, and of an old list 1 + 3 n
-pub index_bound : {width : ℕ} {source : List ℕ} {list : List ℤ} {i : ℕ} → width ≤ use_wide → ChecksRows width source list (Wrong i) → (a : Accepts source)
-    → i ≤ 1 + length (use_rows (its_program a.program)) * width
-index_bound {width} {source} {list} {i} w c a =
+-- so an index is at most 1 + 3 n
+pub index_bound : {source : List ℕ} {list : List ℤ} {i : ℕ} → Checks source list (Wrong i) → (a : Accepts source) → i ≤ 1 + 3 * length (use_rows (its_program a.program))
+index_bound {source} {list} {i} c a =
     let h = (wrong_exactly i).0 c in
-    let e = (inside list (uses_in width h.0) i (at_wrong list (uses_in width h.0) i h.1)).1 in
-    omega (arith, ap length (one_list width h.0 a), list_length width (place_in source) (depth_in a.program.tree) (its_program a.program) w)
+    let e = (inside list (uses_in three h.0) i (at_wrong list (uses_in three h.0) i h.1)).1 in
+    omega (arith, ap length (one_list three h.0 a), section_length (place_in source) (its_program a.program))
 
 -- "An honest list must always pass": the count that `read` leaves, and its rows
-pub honest : {source table new : List ℕ} → Reads source table Accepted new → Checks source (map pos (take (1 + use_wide * get_or new 0 0) new)) Yes
+pub honest : {source table new : List ℕ} → Reads source table Accepted new → Checks source (map pos (take (1 + 3 * get_or new 0 0) new)) Yes
 honest {source} {table} {new} r =
     let a = read_accepts r refl in
     let s = its_program a.program in
     let b = begins r refl a in
-    let u : List ℕ = length (use_rows s) ∷ joined (use_words (place_in source) (depth_in a.program.tree)) (use_rows s) in
+    let u : List ℕ = length (use_rows s) ∷ joined (use_words (place_in source)) (use_rows s) in
     let n : get_or new 0 0 ≡ length (use_rows s) = ap (λ t. get_or t 0 0) b.1 in
-    let l : length u ≡ 1 + use_wide * get_or new 0 0 = omega (arith, n, all_words (place_in source) (depth_in a.program.tree) (use_rows s)) in
-    let t : take (1 + use_wide * get_or new 0 0) new ≡ u = ap (take (1 + use_wide * get_or new 0 0)) b.1 ∙ take_at u b.0 (1 + use_wide * get_or new 0 0) l in
-    yes_exactly.1 (a, ap (map pos) (t ∙ sym (section_words_lem (place_in source) (depth_in a.program.tree) s)))
+    let l : length u ≡ 1 + 3 * get_or new 0 0 = omega (arith, n, three_words_lem (place_in source) (use_rows s)) in
+    let t : take (1 + 3 * get_or new 0 0) new ≡ u = ap (take (1 + 3 * get_or new 0 0)) b.1 ∙ take_at u b.0 (1 + 3 * get_or new 0 0) l in
+    yes_exactly.1 (a, ap (map pos) (t ∙ sym (section_words_lem (place_in source) s)))
 
 -- and that is so of every accepted source, whatever the table held that was lent
 pub always_honest : {source table new : List ℕ} {v : Verdict} → Accepts source → table_words ≤ length table → Reads source table v new
-    → Checks source (map pos (take (1 + use_wide * get_or new 0 0) new)) Yes
+    → Checks source (map pos (take (1 + 3 * get_or new 0 0) new)) Yes
 always_honest {source} {table} {new} a l r =
     honest (subst (λ v. Reads source table v new) (only r (enough l Accepted _ (judged-accepted a.program a.named a.typed))).0 r)

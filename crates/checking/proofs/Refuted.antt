@@ -1,4 +1,4 @@
--- S1, `'begin' 'integer' a; a := 1 'end'`, whose uses are 1, 21, 1, 18, 2: what is answered to lists for it, computed, and checkers that this rules out.
+-- S1, `'begin' 'integer' a; a := 1 'end'`, whose uses are 1, 21, 1, 18: what is answered to lists for it, computed, and checkers that this rules out.
 use Prim.Native.Nat.{ℕ}
 use mathlib.Core.Path.{◌≡◌, refl, sym, subst, ◌∙◌}
 use mathlib.Core.List.{List, [], ◌∷◌, ◌++◌, map}
@@ -7,10 +7,10 @@ use lib.IntN.{ℤ, pos, negsuc}
 use lib.ListN.{drop, replicate, length-replicate}
 use Rattle.answers.specs.declared.Verdict.TheVariants.{Accepted}
 use Rattle.symbols.specs.Text.{bytes}
-use Rattle.table.specs.Table.{use_wide}
-use Rattle.reading.specs.Reading.{table_words, Reads, enough}
+use Rattle.reading.specs.Judging.{its_program}
+use Rattle.reading.specs.Reading.{place_in, table_words, Reads, enough}
 use Rattle.reading.proofs.Examples.{s1}
-use Rattle.checking.specs.Checking.{list_of, is_word, next, first_wrong, answer_of, Checks}
+use Rattle.checking.specs.Checking.{three, use_list, is_word, next, first_wrong, answer_of, Checks}
 use Rattle.checking.specs.model.Comparing.{narrow, section}
 use Rattle.checking.specs.declared.Checked.{Checked}
 use Rattle.checking.specs.declared.Checked.TheVariants.{Yes, Wrong}
@@ -21,7 +21,7 @@ abbrev pub S1 : List ℕ
 S1 = bytes "'begin' 'integer' a; a := 1 'end'"
 
 abbrev pub uses : List ℕ
-uses = 1 ∷ 21 ∷ 1 ∷ 18 ∷ 2 ∷ []
+uses = 1 ∷ 21 ∷ 1 ∷ 18 ∷ []
 
 -- what `read` leaves of it, over zeros
 abbrev reads : (new : List ℕ) × Reads S1 (replicate table_words 0) Accepted new
@@ -30,9 +30,9 @@ reads = (_, enough (omega (arith, length-replicate {A = ℕ} table_words 0)) Acc
 abbrev taken : Accepts S1
 taken = read_accepts reads.1 refl
 
-words : list_of use_wide taken.program ≡ uses
+words : use_list three (place_in S1) (its_program taken.program) ≡ uses
 unfolding section narrow
-words = sym (table_section reads.1 refl use_wide taken)
+words = sym (table_section reads.1 refl three taken)
 
 pub answered : {list : List ℤ} {c : Checked} → Checks S1 list c → c ≡ answer_of (first_wrong list uses)
 answered {list} k = one_answer k (subst (λ ws. Checks S1 list (answer_of (first_wrong list ws))) words (compares taken))
@@ -53,15 +53,15 @@ sent l c = record { list = map pos l; answer = c }
 
 abbrev pub samples : List Said
 samples =
-    sent (1 ∷ 21 ∷ 1 ∷ 18 ∷ 2 ∷ []) Yes
-    ∷ sent (1 ∷ 21 ∷ 1 ∷ 19 ∷ 2 ∷ []) (Wrong 3)
+    sent (1 ∷ 21 ∷ 1 ∷ 18 ∷ []) Yes
+    ∷ sent (1 ∷ 21 ∷ 1 ∷ 19 ∷ []) (Wrong 3)
     ∷ sent [] (Wrong 0)
-    ∷ sent (1 ∷ 21 ∷ 1 ∷ 18 ∷ []) (Wrong 4)
-    ∷ sent (1 ∷ 21 ∷ 1 ∷ 18 ∷ 2 ∷ 0 ∷ []) (Wrong 5)
-    ∷ sent (2 ∷ 21 ∷ 1 ∷ 18 ∷ 2 ∷ []) (Wrong 0)
-    ∷ sent (21 ∷ 1 ∷ 18 ∷ 2 ∷ []) (Wrong 0)
-    ∷ sent (1 ∷ 65557 ∷ 1 ∷ 18 ∷ 2 ∷ []) (Wrong 1)
-    ∷ record { list = pos 1 ∷ negsuc 65514 ∷ pos 1 ∷ pos 18 ∷ pos 2 ∷ []; answer = Wrong 1 }
+    ∷ sent (1 ∷ 21 ∷ 1 ∷ []) (Wrong 3)
+    ∷ sent (1 ∷ 21 ∷ 1 ∷ 18 ∷ 0 ∷ []) (Wrong 4)
+    ∷ sent (2 ∷ 21 ∷ 1 ∷ 18 ∷ []) (Wrong 0)
+    ∷ sent (21 ∷ 1 ∷ 18 ∷ []) (Wrong 0)
+    ∷ sent (1 ∷ 65557 ∷ 1 ∷ 18 ∷ []) (Wrong 1)
+    ∷ record { list = pos 1 ∷ negsuc 65514 ∷ pos 1 ∷ pos 18 ∷ []; answer = Wrong 1 }
     ∷ []
 
 -- each is answered so
@@ -96,8 +96,7 @@ unfoldable pub middles : List ℤ → List ℤ
 middles [] = []
 middles (p ∷ []) = []
 middles (p ∷ k ∷ []) = k ∷ []
-middles (p ∷ k ∷ d ∷ []) = k ∷ []
-middles (p ∷ k ∷ d ∷ e ∷ l) = k ∷ middles l
+middles (p ∷ k ∷ d ∷ l) = k ∷ middles l
 
 abbrev pub kinds : List ℤ → List ℤ
 kinds l = middles (drop 1 l)
@@ -107,7 +106,7 @@ pub kinds_alone : (check : List ℕ → List ℤ → Checked) → Meets check
     → ((source : List ℕ) (list list₂ : List ℤ) → kinds list ≡ kinds list₂ → check source list ≡ check source list₂) → ⊥
 unfolding first_wrong next is_word middles
 kinds_alone check meets alike =
-    let other : List ℤ = pos 1 ∷ pos 21 ∷ pos 1 ∷ pos 19 ∷ pos 2 ∷ [] in
+    let other : List ℤ = pos 1 ∷ pos 21 ∷ pos 1 ∷ pos 19 ∷ [] in
     wrong_yes {i = 3} (sym (answered (meets S1 other)) ∙ alike S1 other (map pos uses) refl ∙ answered (meets S1 (map pos uses)))
 
 -- one that stops at the list's end: what passes, passes cut short
@@ -115,5 +114,5 @@ pub stops_early : (check : List ℕ → List ℤ → Checked) → Meets check
     → ((source : List ℕ) (list rest : List ℤ) → check source (list ++ rest) ≡ Yes → check source list ≡ Yes) → ⊥
 unfolding first_wrong next is_word
 stops_early check meets cut =
-    let part : List ℤ = pos 1 ∷ pos 21 ∷ pos 1 ∷ pos 18 ∷ [] in
-    wrong_yes {i = 4} (sym (answered (meets S1 part)) ∙ cut S1 part (pos 2 ∷ []) (answered (meets S1 (map pos uses))))
+    let part : List ℤ = pos 1 ∷ pos 21 ∷ pos 1 ∷ [] in
+    wrong_yes {i = 3} (sym (answered (meets S1 part)) ∙ cut S1 part (pos 18 ∷ []) (answered (meets S1 (map pos uses))))

@@ -140,13 +140,13 @@ lent list table at from width =
     let b : from + width - from ≡ width = omega arith in
     ap (λ (l : List ℤ). agreed l (take (from + width - from) (drop from table))) a ∙ ap (λ (n : ℕ). agreed (drop at list) (take n (drop from table))) b
 
-pub one_row : (n wide : ℕ) → 0 < n → n * wide ≡ wide + (n - 1) * wide
+one_row : (n wide : ℕ) → 0 < n → n * wide ≡ wide + (n - 1) * wide
 one_row zero wide h = absurd (omega arith)
 one_row (suc m) wide h =
     let e : suc m - 1 ≡ m = omega arith in
     omega (arith, suc-mul m wide, ap (λ (k : ℕ). k * wide) e)
 
-pub next_row : (width wide n : ℕ) (ws : List ℕ) → 0 < n → narrow width wide n ws ≡ take width ws ++ narrow width wide (n - 1) (drop wide ws)
+next_row : (width wide n : ℕ) (ws : List ℕ) → 0 < n → narrow width wide n ws ≡ take width ws ++ narrow width wide (n - 1) (drop wide ws)
 unfolding narrow
 next_row width wide zero ws h = absurd (omega arith)
 next_row width wide (suc m) ws h =
@@ -154,7 +154,7 @@ next_row width wide (suc m) ws h =
     ap (λ (k : ℕ). take width ws ++ narrow width wide k (drop wide ws)) (sym e)
 
 -- the count stands first
-pub count_first : (width wide : ℕ) (table : List ℕ) → 0 < length table → section width wide table ≡ take 1 table ++ narrow width wide (get_or table 0 0) (drop 1 table)
+count_first : (width wide : ℕ) (table : List ℕ) → 0 < length table → section width wide table ≡ take 1 table ++ narrow width wide (get_or table 0 0) (drop 1 table)
 unfolding section
 count_first width wide [] h = absurd (omega arith)
 count_first width wide (t ∷ ts) h = refl

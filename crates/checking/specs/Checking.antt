@@ -7,8 +7,7 @@ use Rattle.answers.specs.declared.Verdict.TheVariants.{Refused as Refuses}
 use Rattle.names.specs.Program.{Statement}
 use Rattle.names.specs.Uses.{name_faults, least, joined, use_rows}
 use Rattle.types.specs.Types.{type_fault}
-use Rattle.table.specs.Depths.{depth_in}
-use Rattle.table.specs.Table.{use_wide, use_words}
+use Rattle.table.specs.Table.{use_words}
 use Rattle.reading.specs.Judging.{its_program}
 use Rattle.reading.specs.Reading.{place_in, cleared, Grammatical, Judged}
 use Rattle.checking.specs.declared.Checked.{Checked}
@@ -17,14 +16,10 @@ use Rattle.checking.specs.declared.Checked.TheVariants.{Yes, Refused, Wrong}
 -- ---- the words of a list
 
 -- "in the use section's form": the count of the uses, then a row for each, in source order. A row is the first `width` words of the use's
-unfoldable pub use_list : ℕ → (ℕ → ℕ) → (ℕ → ℕ) → Statement → List ℕ
-use_list width place depth s = length (use_rows s) ∷ joined (λ r. take width (use_words place depth r)) (use_rows s)
+unfoldable pub use_list : ℕ → (ℕ → ℕ) → Statement → List ℕ
+use_list width place s = length (use_rows s) ∷ joined (λ r. take width (use_words place r)) (use_rows s)
 
--- the list of a source
-abbrev pub list_of : ℕ → {source : List ℕ} → Grammatical source → List ℕ
-list_of width {source} p = use_list width (place_in source) (depth_in p.tree) (its_program p)
-
--- "A use is three words": so it was before request 10, and stored lists are. "rows become four words" (`use_wide`)
+-- "A use is three words"
 abbrev pub three : ℕ
 three = 3
 
@@ -57,11 +52,7 @@ pub data ChecksRows (width : ℕ) (source : List ℕ) (list : List ℤ) : Checke
   refused : (r : Refusal) → Judged source (Refuses r) cleared → ChecksRows width source list (Refused r)
   -- "yes exactly if the source is accepted and the list is its uses", or else the first wrong word
   accepted : (p : Grammatical source) → least (name_faults (its_program p)) ≡ none → type_fault (its_program p) ≡ none
-      → ChecksRows width source list (answer_of (first_wrong list (list_of width p)))
+      → ChecksRows width source list (answer_of (first_wrong list (use_list width (place_in source) (its_program p))))
 
 abbrev pub Checks : List ℕ → List ℤ → Checked → Type 0
-Checks = ChecksRows use_wide
-
--- of stored lists, by the move's first test
-abbrev pub ChecksOld : List ℕ → List ℤ → Checked → Type 0
-ChecksOld = ChecksRows three
+Checks = ChecksRows three

@@ -1,4 +1,3 @@
 pub mod Checking
-pub mod Moving
 pub mod Numbers
 pub mod model

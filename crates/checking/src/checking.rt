@@ -1,12 +1,15 @@
 // The job `check_list`: a source and a list that somebody sent. It asks nothing of either, and changes nothing that is lent.
 ghost use Rattle.std.specs.Prelude.{◌≡◌, ◌+◌, ◌*◌, ◌≤◌, min, length, get_or};
-ghost use Rattle.checking.specs.Checking.{is_word, first_wrong, answer_of, ChecksRows, Checks, ChecksOld};
+ghost use Rattle.checking.specs.Checking.{is_word, first_wrong, answer_of, ChecksRows, Checks};
 ghost use Rattle.checking.specs.model.Comparing.{agreed, section};
 
 use crate::Checked;
 use answers::Verdict;
 use reading::reading::read;
-use table::sections::{OLD_WORDS, USE_WORDS, word};
+use table::sections::word;
+
+// How many words a use has in the table.
+const WIDE: usize = 3;
 
 // Whether a number of a list is this word: one below 0 or past 16 bits is none.
 fn is_word(number: i64, word: u16) -> bool
@@ -36,7 +39,7 @@ fn agreeing(list: &[i64], words: &[u16]) -> usize
 }
 
 // A list against the use section of a table whose rows are `wide` words: of each row the first `width` stand in the list.
-pub fn compared(list: &[i64], table: &[u16], wide: usize, width: usize) -> Checked
+fn compared(list: &[i64], table: &[u16], wide: usize, width: usize) -> Checked
     requires { (width ≤ wide) × (1 + get_or table.now 0 0 * wide ≤ length table.now) }
     ensures { result ≡ answer_of (first_wrong list.now (section width wide table.now)) }
 {
@@ -63,7 +66,7 @@ pub fn compared(list: &[i64], table: &[u16], wide: usize, width: usize) -> Check
 }
 
 // The least of two.
-pub fn lesser(a: usize, b: usize) -> usize
+fn lesser(a: usize, b: usize) -> usize
     ensures { result ≡ min a b }
 {
     if a < b { a } else { b }
@@ -75,7 +78,7 @@ pub fn check_rows(source: &[u8], list: &[i64], width: usize) -> Checked
 {
     let mut table = [0u16; 32768];
     match read(source, &mut table) {
-        Verdict::Accepted => compared(list, &table, USE_WORDS, lesser(width, USE_WORDS)),
+        Verdict::Accepted => compared(list, &table, WIDE, lesser(width, WIDE)),
         Verdict::Refused(r) => Checked::Refused(r),
     }
 }
@@ -84,12 +87,5 @@ pub fn check_rows(source: &[u8], list: &[i64], width: usize) -> Checked
 pub fn check_list(source: &[u8], list: &[i64]) -> Checked
     ensures { Checks source.now list.now result }
 {
-    check_rows(source, list, USE_WORDS)
-}
-
-// Lists in the form of three words a use.
-pub fn check_old_list(source: &[u8], list: &[i64]) -> Checked
-    ensures { ChecksOld source.now list.now result }
-{
-    check_rows(source, list, OLD_WORDS)
+    check_rows(source, list, WIDE)
 }

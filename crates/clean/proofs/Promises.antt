@@ -17,7 +17,6 @@ use Rattle.names.specs.Program.{Statement}
 use Rattle.names.specs.Outline.{declarations}
 use Rattle.names.specs.Uses.{name_faults, least, use_rows}
 use Rattle.types.specs.Types.{type_fault}
-use Rattle.table.specs.Depths.{depth_in}
 use Rattle.table.specs.Table.{table_of}
 use Rattle.machine.specs.Machine.{Finish, on_code}
 use Rattle.translation.specs.Places.{numbered, placing, Alike, finish_p}
@@ -61,10 +60,10 @@ module _ {source : List ℕ} (p : Grammatical source) (short : length (page_of p
   same_program p' = one_program p' clean_parsed ∙ page_program symbols source p.tree p.keeps.spelled
 
   -- it is accepted, and its table is made of the same program: only places move
-  pub read_back : least (name_faults (its_program p)) ≡ none → type_fault (its_program p) ≡ none → Judged clean Accepted (filled (table_of (place_in clean) (depth_in p.tree) (its_program p)))
+  pub read_back : least (name_faults (its_program p)) ≡ none → type_fault (its_program p) ≡ none → Judged clean Accepted (filled (table_of (place_in clean) (its_program p)))
   read_back n t =
       let e = same_program clean_parsed in
-      subst (λ (s : Statement). Judged clean Accepted (filled (table_of (place_in clean) (depth_in p.tree) s))) e
+      subst (λ (s : Statement). Judged clean Accepted (filled (table_of (place_in clean) s))) e
       (J.accepted clean_parsed (ap (λ (s : Statement). least (name_faults s)) e ∙ n) (ap type_fault e ∙ t))
 
   -- "with uses and declarations paired alike though places move": use k has the same symbol, kind and declaring symbol or environment number, and the

@@ -43,8 +43,6 @@ rows =
     open_to "check a - --plain" ∷
     open_to "uses a --list" ∷
     open_to "run -l 5 a 1 -2 - --strict" ∷
-    open_to "read --prelude p a" ∷
-    open_to "two p a b" ∷
     right "help" ∷
     right "run --help" ∷
     right "-h" ∷
@@ -64,9 +62,6 @@ rows =
     wrong "run a -c 8193" ∷
     wrong "run a -l" ∷
     wrong "read -l 5 a" ∷
-    wrong "read --prelude a" ∷
-    wrong "write --prelude p a" ∷
-    wrong "two p a" ∷
     []
 
 abbrev Right : List Row → Type 0
@@ -75,7 +70,7 @@ Right (r ∷ l) = (of r.text ≡ r.is) × Right l
 
 pub commands : Right rows
 unfolding decided commanded by_row settled well_asked sized full clash once fitting row_line helps matched row_of row_in first_row sizes_of together option_of first_number operands_in those is_capital is_twice is_misfit IsNamed is_flag is_option looks has unblanked cut ended natural_of spelled digits before equal value_from digit blank
-commands = (refl, (refl, (refl, (refl, (refl, (refl, (refl, (refl, (refl, (refl, (refl, (refl, (refl, (refl, (refl, (refl, (refl, (refl, (refl, (refl, (refl, (refl, (refl, (refl, (refl, (refl, (refl, (refl, (refl, (refl, tt))))))))))))))))))))))))))))))
+commands = (refl, (refl, (refl, (refl, (refl, (refl, (refl, (refl, (refl, (refl, (refl, (refl, (refl, (refl, (refl, (refl, (refl, (refl, (refl, (refl, (refl, (refl, (refl, (refl, (refl, tt)))))))))))))))))))))))))
 
 -- a second FILE passed over, and the first one refused
 pub not_passed_over : Keeps (of "read a b") bad → ⊥

@@ -1,5 +1,5 @@
 pub mod Decided
 pub mod Statuses
-pub mod AsSent
+pub mod Sent
 pub mod Good
 pub mod Examples

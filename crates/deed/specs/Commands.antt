@@ -17,9 +17,9 @@ abbrev pub is_none : List (List ℕ) → Bool
 is_none [] = true
 is_none (w ∷ ws) = false
 
--- a line asks for help or for the version, whatever else it says
+-- a line asks for help, whatever else it says
 unfoldable pub helps : List (List ℕ) → Bool
-helps ws = has ws (bytes "--help") || has ws (bytes "-h") || has ws (bytes "--version")
+helps ws = has ws (bytes "--help") || has ws (bytes "-h")
 
 -- the row of a word as a line, of which 256 bytes are taken
 unfoldable pub row_line : List ℕ → List ℕ
@@ -35,7 +35,7 @@ once ws = is_none (those Twice [] ws)
 
 -- one line of numbers is asked for, and something else too
 unfoldable pub clash : List (List ℕ) → Bool
-clash ws = has ws plain && (has ws (bytes "--list") || (has ws (bytes "--values") || has ws (bytes "--each")))
+clash ws = has ws plain && (has ws (bytes "--list") || has ws (bytes "--values"))
 
 -- of the words behind the command's: one for each name of the row, and no other unless more are welcome
 unfoldable pub full : List ℕ → List (List ℕ) → Bool

@@ -1,21 +1,44 @@
 // deed code: the translation of a source.
+ghost use Rattle.std.specs.Prelude.{◌≤◌};
+ghost use Rattle.desk.specs.Status.{nothing};
 ghost use Rattle.deed.specs.Status.{CodeStatus};
 
 use answers::Verdict;
-use desk::sources::{tell_refused, translate_source};
+use asking::options::next_operand;
+use desk::files::load;
+use desk::misuse::see_help;
 use desk::status;
-use libc::STDOUT_FILENO;
 use showing::code::show_code;
+use showing::words::show_answer;
+use translating::translating::translate;
 
-pub fn tell(name: &[u8], source: &[u8], shared: &[u8], prelude: &[u8]) -> u8
-    ensures { CodeStatus shared.now prelude.now source.now result }
+fn tell(name: &[u8], source: &[u8]) -> u8
+    ensures { CodeStatus source.now result }
 {
     let mut code = [0u32; 16384];
-    let v = translate_source(source, shared, prelude, &mut code);
+    let v = translate(source, &mut code);
     let ended = status::of_verdict(v);
     match v {
-        Verdict::Accepted => show_code(source, shared, prelude, &code),
-        Verdict::Refused(r) => { tell_refused(STDOUT_FILENO, name, source, shared, prelude, r) }
+        Verdict::Accepted => show_code(source, &code),
+        Verdict::Refused(r) => {
+            show_answer(name, source, b": refused, ", r.answer.number, r.place.at)
+        }
     }
     ended
+}
+
+pub fn obey(line: &[u8], at: usize) -> u8
+    ensures { result ≤ nothing }
+{
+    let mut room = io::large_buffer();
+    let w = next_operand(line, at);
+    let a = w.from;
+    let b = w.to;
+    let got = load(&line[a..b], &mut room);
+    if !got.good {
+        see_help();
+        return status::NOTHING;
+    }
+    let n = got.count;
+    tell(&line[a..b], &room[..n])
 }

@@ -5,8 +5,8 @@ ghost use Rattle.asking.specs.Sorts.{asked_from};
 ghost use Rattle.desk.specs.Status.{nothing};
 ghost use Rattle.deed.specs.Commands.{helps, fitting, once, clash, full, sized, well_asked, settled, decided, Keeps};
 
-use crate::help::{help, usage, version};
-use crate::{code, compare, explain, page, rename, sent, shows, two, write};
+use crate::help::{help, usage};
+use crate::{check, code, levels, page, read, uses, write};
 use asking::sizes::{Asked, sizes_of};
 use asking::sorts::{Sort, first, next_word};
 use asking::table::{fits, row_line};
@@ -14,43 +14,18 @@ use asking::words::{has_word, is_plain};
 use desk::misuse::misused;
 use desk::status;
 use libc::STDERR_FILENO;
-use members::report;
-use paying::{replay, run};
+use paying::run;
 use showing::text::{complain, tell_typed};
 use symbols::text::same_bytes;
 
-// Whether a line asks for help or for the version, whatever else it says.
+// Whether a line asks for help, whatever else it says.
 fn asks_help(line: &[u8]) -> bool
     ensures { result ≡ helps (words_of line.now) }
 {
     if has_word(line, 0, b"--help") {
         return true;
     }
-    if has_word(line, 0, b"-h") {
-        return true;
-    }
-    has_word(line, 0, b"--version")
-}
-
-// The one that it asks for.
-fn tell_itself(line: &[u8]) {
-    if has_word(line, 0, b"--version") {
-        version();
-    } else {
-        help();
-    }
-}
-
-// An option that is none of a command's. Of a prelude it is said why: some commands judge a source alone.
-fn misfit(word: &[u8], row: &[u8]) {
-    if same_bytes(word, b"--prelude") && !has_word(row, 0, b"PRELUDE") {
-        misused(
-            b"this command takes no prelude: it judges a source alone",
-            b"",
-        );
-    } else {
-        misused(b"this command has no such option: ", word);
-    }
+    has_word(line, 0, b"-h")
 }
 
 // Whether each option of a line is one of its command's; the first that is not is blamed.
@@ -61,7 +36,7 @@ fn options_fit(line: &[u8], row: &[u8]) -> bool
     let a = w.from;
     let b = w.to;
     if a < b {
-        misfit(&line[a..b], row);
+        misused(b"this command has no such option: ", &line[a..b]);
         return false;
     }
     true
@@ -91,10 +66,7 @@ fn is_clash(line: &[u8]) -> bool
     if has_word(line, 0, b"--list") {
         return true;
     }
-    if has_word(line, 0, b"--values") {
-        return true;
-    }
-    has_word(line, 0, b"--each")
+    has_word(line, 0, b"--values")
 }
 
 // Whether the words behind a command's are those that it wants; the first that is missing or one too many is blamed.
@@ -142,10 +114,7 @@ pub fn well_asked(line: &[u8], at: usize, row: &[u8]) -> bool
         return false;
     }
     if is_clash(line) {
-        misused(
-            b"--plain goes with none of --list, --values and --each",
-            b"",
-        );
+        misused(b"--plain goes with neither --list nor --values", b"");
         return false;
     }
     if !words_fit(line, at, row) {
@@ -154,53 +123,45 @@ pub fn well_asked(line: &[u8], at: usize, row: &[u8]) -> bool
     sizes_fit(line, at)
 }
 
+// The command whose word stands there, one that shows a source.
+fn shows(line: &[u8], from: usize, at: usize) -> u8
+    requires { (from ≤ at) × (at ≤ length line.now) }
+    ensures { result ≤ nothing }
+{
+    if same_bytes(&line[from..at], b"read") {
+        return read::obey(line, at);
+    }
+    if same_bytes(&line[from..at], b"uses") {
+        return uses::obey(line, at);
+    }
+    if same_bytes(&line[from..at], b"levels") {
+        return levels::obey(line, at);
+    }
+    if same_bytes(&line[from..at], b"page") {
+        return page::obey(line, at);
+    }
+    if same_bytes(&line[from..at], b"code") {
+        return code::obey(line, at);
+    }
+    write::obey(line, at)
+}
+
 // The command whose word stands there.
 fn does(line: &[u8], from: usize, at: usize) -> u8
     requires { (from ≤ at) × (at ≤ length line.now) }
     ensures { result ≤ nothing }
 {
-    if same_bytes(&line[from..at], b"rename") {
-        return rename::obey(line, at);
-    }
     if same_bytes(&line[from..at], b"check") {
-        return sent::check(line, at);
-    }
-    if same_bytes(&line[from..at], b"move") {
-        return sent::shift(line, at);
-    }
-    if same_bytes(&line[from..at], b"compare") {
-        return compare::obey(line, at);
+        return check::obey(line, at);
     }
     if same_bytes(&line[from..at], b"run") {
         return run::obey(line, at);
-    }
-    if same_bytes(&line[from..at], b"explain") {
-        return explain::obey(line, at);
-    }
-    if same_bytes(&line[from..at], b"version") {
-        version();
-        return status::GOOD;
-    }
-    if same_bytes(&line[from..at], b"replay") {
-        return replay::obey(line, at);
-    }
-    if same_bytes(&line[from..at], b"write") {
-        return write::obey(line, at);
-    }
-    if same_bytes(&line[from..at], b"two") {
-        return two::obey(line, at);
-    }
-    if same_bytes(&line[from..at], b"page") {
-        return page::obey(line, from, at);
-    }
-    if same_bytes(&line[from..at], b"report") {
-        return report::obey(line, at);
     }
     if same_bytes(&line[from..at], b"do") {
         misused(b"a file of commands has no do in it", b"");
         return status::NOTHING;
     }
-    shows::obey(line, from, at)
+    shows(line, from, at)
 }
 
 // What a line asks that is well asked.
@@ -232,7 +193,7 @@ pub fn obey(line: &[u8]) -> u8
     ensures { Keeps (decided (words_of line.now)) result }
 {
     if asks_help(line) {
-        tell_itself(line);
+        help();
         return status::GOOD;
     }
     let w = next_word(line, 0);

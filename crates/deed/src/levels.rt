@@ -1,21 +1,44 @@
 // deed levels: the levels of a source.
+ghost use Rattle.std.specs.Prelude.{◌≤◌};
+ghost use Rattle.desk.specs.Status.{nothing};
 ghost use Rattle.deed.specs.Status.{ReadStatus};
 
 use answers::Verdict;
-use desk::sources::{read_source, tell_refused};
+use asking::options::next_operand;
+use desk::files::load;
+use desk::misuse::see_help;
 use desk::status;
-use libc::STDOUT_FILENO;
+use reading::reading::read;
 use showing::levels::show_levels;
+use showing::words::show_answer;
 
-pub fn tell(name: &[u8], source: &[u8], shared: &[u8], prelude: &[u8]) -> u8
-    ensures { ReadStatus shared.now prelude.now source.now result }
+fn tell(name: &[u8], source: &[u8]) -> u8
+    ensures { ReadStatus source.now result }
 {
     let mut table = [0u16; 32768];
-    let v = read_source(source, shared, prelude, &mut table);
+    let v = read(source, &mut table);
     let ended = status::of_verdict(v);
     match v {
         Verdict::Accepted => show_levels(source, &table),
-        Verdict::Refused(r) => { tell_refused(STDOUT_FILENO, name, source, shared, prelude, r) }
+        Verdict::Refused(r) => {
+            show_answer(name, source, b": refused, ", r.answer.number, r.place.at)
+        }
     }
     ended
+}
+
+pub fn obey(line: &[u8], at: usize) -> u8
+    ensures { result ≤ nothing }
+{
+    let mut room = io::large_buffer();
+    let w = next_operand(line, at);
+    let a = w.from;
+    let b = w.to;
+    let got = load(&line[a..b], &mut room);
+    if !got.good {
+        see_help();
+        return status::NOTHING;
+    }
+    let n = got.count;
+    tell(&line[a..b], &room[..n])
 }

@@ -10,22 +10,14 @@ use help::help;
 use libc::STDERR_FILENO;
 use showing::taken::{all_taken, is_open};
 
-mod check; // what a list is told that is checked
+mod check; // deed check
 mod code; // deed code
 mod commands; // what a line asks
-mod compare; // deed compare
-mod explain; // deed explain
 mod help; // what the tool says of itself
 mod levels; // deed levels
-mod lists; // what is said of the words of a list
-mod moving; // what comes of a list that is moved
 mod orders; // deed do
 mod page; // deed page
 mod read; // deed read
-mod rename; // deed rename
-mod sent; // deed check and deed move
-mod shows; // the commands that show a source
-mod two; // deed two
 mod uses; // deed uses
 mod write; // deed write
 

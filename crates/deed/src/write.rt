@@ -5,16 +5,15 @@ ghost use Rattle.deed.specs.Status.{of_written, WriteStatus};
 
 use answers::{Answer, Refusal};
 use asking::options::next_operand;
-use asking::words::{has_word, is_plain};
+use asking::words::is_plain;
 use clean::Written;
 use clean::writing::write;
 use desk::files::load;
 use desk::misuse::see_help;
 use desk::status;
-use edition::tell_edition;
 use libc::STDERR_FILENO;
 use showing::text::{complain, say, say_number, tell_file};
-use slips::words::tell_answer;
+use showing::words::tell_answer;
 
 // The answer, its place and the length of the text, as one line of numbers; the text is to stand behind it.
 fn show_plain(w: Written) {
@@ -54,14 +53,6 @@ fn of_written(w: Written) -> u8
     }
 }
 
-// Which source it is, and which tool.
-fn tell_head(name: &[u8], source: &[u8]) {
-    tell_file(STDERR_FILENO, name);
-    complain(b": ");
-    tell_edition(STDERR_FILENO, source);
-    complain(b"\n");
-}
-
 // No text is longer than a source may be.
 fn tell_text(name: &[u8], source: &[u8], plain: bool) -> u8
     ensures { WriteStatus source.now result }
@@ -79,15 +70,6 @@ fn tell_text(name: &[u8], source: &[u8], plain: bool) -> u8
     ended
 }
 
-fn tell(name: &[u8], source: &[u8], head: bool, plain: bool) -> u8
-    ensures { WriteStatus source.now result }
-{
-    if head {
-        tell_head(name, source);
-    }
-    tell_text(name, source, plain)
-}
-
 pub fn obey(line: &[u8], at: usize) -> u8
     ensures { result ≤ nothing }
 {
@@ -101,6 +83,5 @@ pub fn obey(line: &[u8], at: usize) -> u8
         return status::NOTHING;
     }
     let n = got.count;
-    let head = has_word(line, 0, b"--head");
-    tell(&line[a..b], &room[..n], head, is_plain(line))
+    tell_text(&line[a..b], &room[..n], is_plain(line))
 }

@@ -1,4 +1,2 @@
 pub mod Statuses
-pub mod Judged
 pub mod Good
-pub mod Widened

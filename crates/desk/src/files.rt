@@ -4,9 +4,8 @@ ghost use Rattle.io.specs.Counts.{IsPrefixLen};
 ghost use Rattle.symbols.specs.Text.{bytes};
 ghost use Rattle.symbols.specs.Names.{equal};
 
-use asking::options::next_operand;
 use libc::{STDERR_FILENO, STDIN_FILENO};
-use showing::text::{complain, least, tell_file};
+use showing::text::{complain, tell_file};
 use symbols::text::same_bytes;
 
 // What was brought in: whether it is good, and how many bytes.
@@ -26,7 +25,7 @@ pub fn nothing() -> Loaded
 }
 
 // Says why a file cannot be had.
-pub fn fail(name: &[u8]) {
+fn fail(name: &[u8]) {
     complain(b"deed: ");
     tell_file(STDERR_FILENO, name);
     os::fail(b"");
@@ -62,27 +61,6 @@ pub fn is_standard(name: &[u8]) -> bool
     ensures { result ≡ equal name.now (bytes "-") }
 {
     same_bytes(name, b"-")
-}
-
-// How often the words of a line from `at` on that are no option ask for standard input; 2 where they do oftener.
-pub fn standards(line: &[u8], at: usize) -> usize
-    ensures { result ≤ 2 }
-{
-    let mut i = at;
-    let mut n: usize = 0;
-    while i < line.len() {
-        let w = next_operand(line, i);
-        let a = w.from;
-        let b = w.to;
-        if a == b {
-            return n;
-        }
-        if is_standard(&line[a..b]) {
-            n = least(n, 1) + 1;
-        }
-        i = b;
-    }
-    n
 }
 
 // The first bytes of a file, or of standard input, as many as there is room for.

@@ -1,13 +1,12 @@
 // The numbers that a run is given.
 ghost use Rattle.std.specs.Prelude.{◌≡◌, ◌≤◌, min, length};
 
-use crate::files::{Loaded, is_standard, nothing, standards};
-use crate::numbers::{Got, numbers_of};
+use crate::files::{Loaded, is_standard, nothing, take_in};
 use asking::numerals::{Whole, whole_in};
 use asking::options::next_operand;
-use asking::typing::Range;
-use libc::STDERR_FILENO;
-use showing::text::{complain, least, tell_number, tell_typed};
+use asking::words::{Word, has_word, line_of, word_from};
+use libc::{STDERR_FILENO, STDIN_FILENO};
+use showing::text::{complain, tell_typed};
 
 fn misspelled(text: &[u8]) {
     complain(b"deed: this is no whole number from -2147483648 to 2147483647: ");
@@ -15,11 +14,11 @@ fn misspelled(text: &[u8]) {
     complain(b"\n");
 }
 
-// Puts the number that a word spells behind n others. - is none, and stands for those of standard input.
-fn put_number(text: &[u8], input: &mut [i32], n: usize) -> Loaded
+// Puts the number that a text spells behind n others. In a command - is none, and stands for those of standard input.
+fn put_number(text: &[u8], command: bool, input: &mut [i32], n: usize) -> Loaded
     ensures { length input.new ≡ length input.old }
 {
-    if is_standard(text) {
+    if command && is_standard(text) {
         return Loaded {
             good: true,
             count: n,
@@ -40,20 +39,30 @@ fn put_number(text: &[u8], input: &mut [i32], n: usize) -> Loaded
     }
 }
 
-// Puts the numbers of a line, from `from` on.
-fn put_numbers(line: &[u8], from: usize, input: &mut [i32]) -> Loaded
+// The next word of a line that is to be a number. In a command some words are something else.
+fn number_word(line: &[u8], at: usize, command: bool) -> Word
+    ensures { (min at (length line.now) ≤ result.from) × (result.from ≤ result.to) × (result.to ≤ length line.now) }
+{
+    if command {
+        return next_operand(line, at);
+    }
+    word_from(line, at)
+}
+
+// Puts the numbers of a line, from `from` on, behind n others.
+fn put_numbers(line: &[u8], from: usize, command: bool, input: &mut [i32], n: usize) -> Loaded
     ensures { length input.new ≡ length input.old }
 {
     let mut at = from;
-    let mut count: usize = 0;
+    let mut count = n;
     while at < line.len() {
-        let w = next_operand(line, at);
+        let w = number_word(line, at, command);
         let a = w.from;
         let b = w.to;
         if a == b {
             return Loaded { good: true, count };
         }
-        let put = put_number(&line[a..b], input, count);
+        let put = put_number(&line[a..b], command, input, count);
         if !put.good {
             return put;
         }
@@ -63,45 +72,31 @@ fn put_numbers(line: &[u8], from: usize, input: &mut [i32]) -> Loaded
     Loaded { good: true, count }
 }
 
-// A number of standard input that has more than 32 bits; its word is counted from 0.
-fn outside(i: usize) -> Loaded {
-    complain(b"deed: standard input: word ");
-    tell_number(STDERR_FILENO, i as u64);
-    complain(b" is no whole number from -2147483648 to 2147483647\n");
-    nothing()
-}
-
-// Puts the numbers of standard input behind n others.
+// Puts the numbers of standard input behind n others. What fills the room may go on behind it, and none of it is taken.
 fn put_standard(input: &mut [i32], n: usize) -> Loaded
     ensures { length input.new ≡ length input.old }
 {
-    let from = least(n, input.len());
-    let room = input.len() - from;
-    let got = numbers_of(
-        b"-",
-        Range::Whole,
-        b"this is no whole number from -2147483648 to 2147483647",
-        b"there are too many numbers",
-        &mut input[from..],
-    );
-    let Got::Are(m, k) = got else {
+    let mut room = io::large_buffer();
+    let mut row = io::large_buffer();
+    let got = take_in(STDIN_FILENO, b"standard input", &mut room);
+    let k = got.count;
+    if !got.good {
+        return got;
+    }
+    if 65536 <= k {
+        complain(b"deed: standard input has under 65,536 bytes\n");
         return nothing();
-    };
-    if k < m {
-        return outside(k);
     }
-    Loaded {
-        good: true,
-        count: from + least(m, room),
-    }
+    let m = line_of(&room[..k], &mut row);
+    put_numbers(&row[..m], 0, false, input, n)
 }
 
 // Puts the numbers that a command asks for from `from` on: its own, and where it says - those of standard input.
 pub fn put_input(line: &[u8], from: usize, input: &mut [i32]) -> Loaded
     ensures { length input.new ≡ length input.old }
 {
-    let put = put_numbers(line, from, input);
-    if put.good && 0 < standards(line, from) {
+    let put = put_numbers(line, from, true, input, 0);
+    if put.good && has_word(line, from, b"-") {
         return put_standard(input, put.count);
     }
     put

@@ -14,8 +14,8 @@ fn number_at(output: &[i32], i: usize) -> i64
     output[i] as i64
 }
 
-// 64 bits, as those of a real, of the 32 bits of their two halves.
-pub fn bits_of(low: i64, high: i64) -> u64
+// The bits of a real, of the 32 bits of its two halves.
+fn bits_of(low: i64, high: i64) -> u64
     ensures { result ≡ of_z w64 high % 4294967296 * 4294967296 + of_z w64 low % 4294967296 }
 {
     long_word(high) % 4294967296 * 4294967296 + long_word(low) % 4294967296
@@ -39,15 +39,6 @@ fn show_entry(output: &[i32], at: usize)
         say_real(second, number_at(output, at + 2));
     }
     say(b"\n");
-}
-
-// Output k; nothing where there are not so many.
-pub fn show_output(output: &[i32], k: usize) {
-    if k < output.len() / 3 {
-        show_entry(output, 3 * k);
-    } else {
-        say(b"nothing\n");
-    }
 }
 
 // The outputs, for people.

@@ -6,17 +6,15 @@ use mathlib.Core.List.{List}
 use lib.IntN.{ℤ}
 use Rattle.answers.specs.Answers.{number_of, place_of, stop_number, stop_place}
 use Rattle.answers.specs.declared.Verdict.{Verdict}
-use Rattle.checking.specs.Checking.{ChecksRows}
-use Rattle.checking.specs.Moving.{Moves}
-use Rattle.checking.specs.Numbers.{kind_of, number_of as checkedNumber, place_of as checkedPlace, moved_kind, moved_number, moved_place}
+use Rattle.checking.specs.Checking.{Checks}
+use Rattle.checking.specs.Numbers.{kind_of, number_of as checkedNumber, place_of as checkedPlace}
 use Rattle.checking.proofs.Promises.{one_answer as one-said}
-use Rattle.checking.proofs.ThereAndBack.{one_result}
 use Rattle.clean.specs.Numbers.{number_of as pageNumber, place_of as pagePlace, length_of}
 use Rattle.clean.specs.Job.{Writes}
 use Rattle.clean.proofs.Promises.{only as only-page}
 use Rattle.comparing.specs.Comparing.{Compares}
 use Rattle.comparing.specs.Numbers.{kind_of as comparedKind, number_of as comparedNumber, place_of as comparedPlace}
-use Rattle.comparing.proofs.Promises.{one_result as one_list}
+use Rattle.comparing.proofs.Promises.{one_result}
 use Rattle.machine.specs.Machine.{Exit, exit, job}
 use Rattle.machine.specs.declared.Ran.{Ran}
 use Rattle.reading.specs.Reading.{Grammatical, Reads}
@@ -26,13 +24,10 @@ use Rattle.translating.proofs.Promised.{only as only-translation, deed}
 use Rattle.records.specs.declared.Replayed.{Replayed}
 use Rattle.records.specs.Numbers.{kind_of as replayedKind, number_of as replayedNumber, place_of as replayedPlace}
 use Rattle.records.specs.Replay.{Done, done as wentOn}
-use Rattle.jobs.specs.Jobs.{Answers, Pages, Says, Tells, Given, given, exit_of, Gone, gone, replayed_of, Gathered, gathered, reported_of, Lists, Changes}
 use Rattle.reporting.specs.declared.Reported.{Reported}
 use Rattle.reporting.specs.Numbers.{kind_of as reportedKind, number_of as reportedNumber, place_of as reportedPlace, figures_after}
 use Rattle.reporting.specs.Report.{Done as Reports, done as reported}
-use Rattle.renames.specs.Numbers.{case_of, number_of as renamedNumber, place_of as renamedPlace, length_of as renamedLength}
-use Rattle.renames.specs.Job.{Renames}
-use Rattle.renames.proofs.OneAnswer.{only as only-change}
+use Rattle.jobs.specs.Jobs.{Answers, Pages, Says, Given, given, exit_of, Gone, gone, replayed_of, Gathered, gathered, reported_of, Lists}
 
 pub given_exit : {n p : ℕ} (r : Ran) (s o : List ℤ) {e : Exit} → exit r s o ≡ e → n ≡ stop_number r.stop → p ≡ stop_place r.stop
     → given n p r.done r.taken r.written s o ≡ exit_of e
@@ -80,44 +75,20 @@ one_page_lem a b =
       e.1,
     )
 
--- .. and those of what is said of a list, in either form
-pub one_check : {width : ℕ} {source : List ℕ} {list : List ℤ} {k n p k₂ n₂ p₂ : ℕ} → Says (ChecksRows width source list) k n p → Says (ChecksRows width source list) k₂ n₂ p₂
-    → (k ≡ k₂) × (n ≡ n₂) × (p ≡ p₂)
+-- .. and those of what is said of a list
+pub one_check : {source : List ℕ} {list : List ℤ} {k n p k₂ n₂ p₂ : ℕ} → Says (Checks source list) k n p → Says (Checks source list) k₂ n₂ p₂ → (k ≡ k₂) × (n ≡ n₂) × (p ≡ p₂)
 one_check a b =
     let e = one-said a.holds b.holds in
     (a.of_kind ∙ ap kind_of e ∙ sym b.of_kind, a.numbered ∙ ap checkedNumber e ∙ sym b.numbered, a.placed ∙ ap checkedPlace e ∙ sym b.placed)
-
--- .. and those of a move, either way, and what the room holds
-pub one_move : {from to : ℕ} {source : List ℕ} {list : List ℤ} {room r r₂ : List ℕ} {k n p k₂ n₂ p₂ : ℕ} → Tells (λ m. Moves from to source list room m r) k n p
-    → Tells (λ m. Moves from to source list room m r₂) k₂ n₂ p₂ → (k ≡ k₂) × (n ≡ n₂) × (p ≡ p₂) × (r ≡ r₂)
-one_move a b =
-    let e = one_result a.holds b.holds in (
-      a.of_kind ∙ ap moved_kind e.0 ∙ sym b.of_kind,
-      a.numbered ∙ ap moved_number e.0 ∙ sym b.numbered,
-      a.placed ∙ ap moved_place e.0 ∙ sym b.placed,
-      e.1,
-    )
 
 -- .. and those of two editions, and what the room holds
 pub one_compare : {first second room r r₂ : List ℕ} {k n p k₂ n₂ p₂ : ℕ} → Lists (λ c. Compares first second room c r) k n p → Lists (λ c. Compares first second room c r₂) k₂ n₂ p₂
     → (k ≡ k₂) × (n ≡ n₂) × (p ≡ p₂) × (r ≡ r₂)
 one_compare a b =
-    let e = one_list a.holds b.holds in (
+    let e = one_result a.holds b.holds in (
       a.of_kind ∙ ap comparedKind e.0 ∙ sym b.of_kind,
       a.numbered ∙ ap comparedNumber e.0 ∙ sym b.numbered,
       a.placed ∙ ap comparedPlace e.0 ∙ sym b.placed,
-      e.1,
-    )
-
--- .. and those of a renamed source
-pub one_change : {source name room r r₂ : List ℕ} {from k n p l k₂ n₂ p₂ l₂ : ℕ} → Changes (λ a. Renames source from name room a r) k n p l → Changes (λ a. Renames source from name room a r₂) k₂ n₂ p₂ l₂
-    → (k ≡ k₂) × (n ≡ n₂) × (p ≡ p₂) × (l ≡ l₂) × (r ≡ r₂)
-one_change a b =
-    let e = only-change a.holds b.holds in (
-      a.of_case ∙ ap case_of e.0 ∙ sym b.of_case,
-      a.numbered ∙ ap renamedNumber e.0 ∙ sym b.numbered,
-      a.placed ∙ ap renamedPlace e.0 ∙ sym b.placed,
-      a.sized ∙ ap renamedLength e.0 ∙ sym b.sized,
       e.1,
     )
 

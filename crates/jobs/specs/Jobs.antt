@@ -4,9 +4,8 @@ use Rattle.answers.specs.Answers.{number_of, place_of, stop_number, stop_place}
 use Rattle.answers.specs.declared.Verdict.{Verdict}
 use Rattle.clean.specs.declared.Written.{Written}
 use Rattle.clean.specs.Numbers.{number_of as pageNumber, place_of as pagePlace, length_of}
-use Rattle.checking.specs.Numbers.{kind_of, number_of as checkedNumber, place_of as checkedPlace, moved_kind, moved_number, moved_place}
+use Rattle.checking.specs.Numbers.{kind_of, number_of as checkedNumber, place_of as checkedPlace}
 use Rattle.checking.specs.declared.Checked.{Checked}
-use Rattle.checking.specs.declared.Moved.{Moved}
 use Rattle.comparing.specs.Numbers.{kind_of as comparedKind, number_of as comparedNumber, place_of as comparedPlace}
 use Rattle.comparing.specs.declared.Compared.{Compared}
 use Rattle.machine.specs.Machine.{Exit}
@@ -14,8 +13,6 @@ use Rattle.records.specs.Numbers.{kind_of as replayedKind, number_of as replayed
 use Rattle.records.specs.Replay.{Done}
 use Rattle.reporting.specs.Numbers.{kind_of as reportedKind, number_of as reportedNumber, place_of as reportedPlace, figures_after}
 use Rattle.reporting.specs.Report.{Done as Reported}
-use Rattle.renames.specs.Numbers.{case_of, number_of as renamedNumber, place_of as renamedPlace, length_of as renamedLength}
-use Rattle.renames.specs.declared.Renamed.{Renamed}
 
 -- read and translate: the number and the place are those of a verdict of which P holds
 pub record Answers (P : Verdict → Type 0) (number place : ℕ) : Type 0 where
@@ -50,14 +47,6 @@ pub record Says (P : Checked → Type 0) (kind number place : ℕ) : Type 0 wher
   pub numbered : number ≡ checkedNumber checked
   pub placed : place ≡ checkedPlace checked
 
--- widen and narrow: so are these, of what is said of a move
-pub record Tells (P : Moved → Type 0) (kind number place : ℕ) : Type 0 where
-  pub moved : Moved
-  pub holds : P moved
-  pub of_kind : kind ≡ moved_kind moved
-  pub numbered : number ≡ moved_number moved
-  pub placed : place ≡ moved_place moved
-
 -- compare: .. and of what is said of two editions
 pub record Lists (P : Compared → Type 0) (kind number place : ℕ) : Type 0 where
   pub compared : Compared
@@ -65,15 +54,6 @@ pub record Lists (P : Compared → Type 0) (kind number place : ℕ) : Type 0 wh
   pub of_kind : kind ≡ comparedKind compared
   pub numbered : number ≡ comparedNumber compared
   pub placed : place ≡ comparedPlace compared
-
--- rename: the case, the number, the place and the length are those of an answer of which P holds
-pub record Changes (P : Renamed → Type 0) (case number place length : ℕ) : Type 0 where
-  pub renamed : Renamed
-  pub holds : P renamed
-  pub of_case : case ≡ case_of renamed
-  pub numbered : number ≡ renamedNumber renamed
-  pub placed : place ≡ renamedPlace renamed
-  pub sized : length ≡ renamedLength renamed
 
 -- run: the numbers, and what the store and the output hold afterwards
 pub record Given : Type 0 where

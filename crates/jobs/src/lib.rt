@@ -1,29 +1,25 @@
 // The jobs as C functions, for programs in other languages: `bindings/deed.h` declares them. A slice comes as a pointer and a length, and each
 // result behind the answer's number goes to where a reference points.
 ghost use Rattle.std.specs.Prelude.{◌≡◌};
-ghost use Rattle.checking.specs.Checking.{Checks, ChecksOld};
-ghost use Rattle.checking.specs.Moving.{Widens, Narrows};
+ghost use Rattle.checking.specs.Checking.{Checks};
 ghost use Rattle.clean.specs.Job.{Writes};
 ghost use Rattle.comparing.specs.Comparing.{Compares};
 ghost use Rattle.machine.specs.Machine.{job};
-ghost use Rattle.jobs.specs.Jobs.{Answers, AnswersTwo, Pages, Says, Tells, exit_of, given, replayed_of, gone, reported_of, gathered, Lists, Changes};
+ghost use Rattle.jobs.specs.Jobs.{Answers, AnswersTwo, Pages, Says, exit_of, given, replayed_of, gone, reported_of, gathered, Lists};
 ghost use Rattle.reading.specs.Reading.{Reads};
 ghost use Rattle.reading.specs.Two.{ReadsTwo};
 ghost use Rattle.records.specs.Replay.{replay as replayOf};
 ghost use Rattle.reporting.specs.Report.{report as reportOf};
-ghost use Rattle.renames.specs.Job.{Renames};
 ghost use Rattle.translating.specs.Job.{Translates};
 ghost use Rattle.translating.specs.With.{TranslatesWith};
 
-use checking::checking::{check_list, check_old_list};
-use checking::moving::{narrow, widen};
+use checking::checking::check_list;
 use clean::writing::write;
 use comparing::comparing::compare;
 use machine::run;
 use reading::reading::read;
 use reading::schemes::read_two;
 use records::replaying::replay;
-use renames::naming::rename;
 use reporting::numbers::reported_into;
 use reporting::reporting::report;
 use translating::schemes::translate_scheme;
@@ -144,57 +140,6 @@ pub extern "C" fn deed_check(
     checked.kind()
 }
 
-// The same of a list in the form of three words a use.
-#[unsafe(no_mangle)]
-pub extern "C" fn deed_check_old(
-    source: &[u8],
-    list: &[i64],
-    number: &mut u16,
-    place: &mut usize,
-) -> u16
-    ensures { Says (ChecksOld source.now list.now) result number.new place.new }
-{
-    let checked = check_old_list(source, list);
-    *number = checked.number();
-    *place = checked.place();
-    checked.kind()
-}
-
-// Source, list of three words a use and room: 0 where the list of four is made, with how many words it has for the place; 1 and 2 as of a list that is
-// checked; 3 where the room is too short, with the answer's number.
-#[unsafe(no_mangle)]
-pub extern "C" fn deed_widen(
-    source: &[u8],
-    list: &[i64],
-    room: &mut [u16],
-    number: &mut u16,
-    place: &mut usize,
-) -> u16
-    ensures { Tells (λ m. Widens source.now list.now room.old m room.new) result number.new place.new }
-{
-    let moved = widen(source, list, room);
-    *number = moved.number();
-    *place = moved.place();
-    moved.kind()
-}
-
-// And back: from four words a use to three.
-#[unsafe(no_mangle)]
-pub extern "C" fn deed_narrow(
-    source: &[u8],
-    list: &[i64],
-    room: &mut [u16],
-    number: &mut u16,
-    place: &mut usize,
-) -> u16
-    ensures { Tells (λ m. Narrows source.now list.now room.old m room.new) result number.new place.new }
-{
-    let moved = narrow(source, list, room);
-    *number = moved.number();
-    *place = moved.place();
-    moved.kind()
-}
-
 // Two editions: 0 where the numbers of the uses that differ are in the room, with how many there are for the place; 1 where the first is refused, 2 where the
 // second is, with the answer's number and its place; 3 where the room is too short, with the answer's number.
 #[unsafe(no_mangle)]
@@ -252,26 +197,4 @@ pub extern "C" fn deed_report(
     *place = reported.place();
     reported_into(reported, figures);
     reported.kind()
-}
-
-// Source, the place of a declared name and another name to the renamed text: 0 with how many bytes it has; 1 where the source is refused, with the answer's number and
-// its place; 2 where the name is none; 3 where no declared name stands there; 4 where the name is taken, with its place, or 0 where it is the environment's; 5 where the
-// text would be refused, with the answer's number and its place; 6 where the room is too short, with the answer's number.
-#[unsafe(no_mangle)]
-pub extern "C" fn deed_rename(
-    source: &[u8],
-    from: usize,
-    name: &[u8],
-    room: &mut [u8],
-    number: &mut u16,
-    place: &mut usize,
-    length: &mut usize,
-) -> u16
-    ensures { Changes (λ a. Renames source.now from name.now room.old a room.new) result number.new place.new length.new }
-{
-    let renamed = rename(source, from, name, room);
-    *number = renamed.answer().number;
-    *place = renamed.place();
-    *length = renamed.length();
-    renamed.case()
 }

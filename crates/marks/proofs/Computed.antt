@@ -18,7 +18,6 @@ use Rattle.names.specs.Uses.{uses_e, uses_l, uses_s, scopes_s, each, twice_in, a
 use Rattle.names.specs.Nodes.{nodes_e, nodes_n, nodes_left, nodes_s}
 use Rattle.names.specs.Outline.{size_s, rows_n, rows_s, declarations}
 use Rattle.types.specs.Types.{in_expression, wants, wanted_by, is_variable, is_name, own_sort, misfit, misfits, miscalled, as_left, faults_e, faults_left, faults_l, sort_e, faults_s, type_faults, type_fault, widens}
-use Rattle.table.specs.Depths.{depths, depth_in}
 use Rattle.table.specs.Table.{fours, use_words, declaration_words, has_none, node_words, table_of}
 use Rattle.rules.specs.Entered.{total, before, cut, declaring, body_of_this, cell_of, variables_of, typed_before, actual_of}
 use Rattle.rules.specs.Calls.{primary, command, way}
@@ -31,5 +30,5 @@ use Rattle.marks.specs.model.Computed.{comes, says}
 use Rattle.marks.specs.Marks.{copies, marks}
 
 pub computed : map comes marks ≡ map says marks
-unfolding blank letter digit in_name these reach value_from equalBytes folded same_name beforeByte closed spelled named word gap followed sign sized name valuedLexeme numberLexeme lexeme behind ends_remark note counted judged turn scan_from scan yield kind_at whole apply1 apply2 past run lift guard check new_cells newest on_value back look put reading valued hold unhold held input space rest spend taking writing work test open_block close_block enter given leave find unary_of binary_of act_of decode fetch finish activation_at walk exec obey step count first_symbol build read program_of has modes specified variables_in in_block in_body find_in find_given meaning uses_e uses_l uses_s scopes_s each twice_in all_names missing heading_in joined name_faults least use_rows nodes_e nodes_n nodes_left nodes_s size_s rows_n rows_s declarations in_expression wants wanted_by is_variable is_name own_sort misfit misfits miscalled as_left faults_e faults_left faults_l sort_e faults_s type_faults type_fault fours use_words declaration_words has_none node_words table_of total before cut declaring body_of_this cell_of primary command way storing taking_in passing adding evaluates perform calling rule end_way end_sum end_take code_way code_test code_sum code_take cut_g levels distance loc end_e end_l end_stores end_s entry code_e code_l code_stores code_s code words among parse judged_of copies marks decimals pointed with_point point convert both_of on_numbers on_truths cut-values past_by along outward inward found_in seeking written on_channel picking name_cell with_form logical target_in work_out widens variables_of typed_before actual_of widened reads seeks finds end_wide end_jump code_wide code_jump depths depth_in
+unfolding blank letter digit in_name these reach value_from equalBytes folded same_name beforeByte closed spelled named word gap followed sign sized name valuedLexeme numberLexeme lexeme behind ends_remark note counted judged turn scan_from scan yield kind_at whole apply1 apply2 past run lift guard check new_cells newest on_value back look put reading valued hold unhold held input space rest spend taking writing work test open_block close_block enter given leave find unary_of binary_of act_of decode fetch finish activation_at walk exec obey step count first_symbol build read program_of has modes specified variables_in in_block in_body find_in find_given meaning uses_e uses_l uses_s scopes_s each twice_in all_names missing heading_in joined name_faults least use_rows nodes_e nodes_n nodes_left nodes_s size_s rows_n rows_s declarations in_expression wants wanted_by is_variable is_name own_sort misfit misfits miscalled as_left faults_e faults_left faults_l sort_e faults_s type_faults type_fault fours use_words declaration_words has_none node_words table_of total before cut declaring body_of_this cell_of primary command way storing taking_in passing adding evaluates perform calling rule end_way end_sum end_take code_way code_test code_sum code_take cut_g levels distance loc end_e end_l end_stores end_s entry code_e code_l code_stores code_s code words among parse judged_of copies marks decimals pointed with_point point convert both_of on_numbers on_truths cut-values past_by along outward inward found_in seeking written on_channel picking name_cell with_form logical target_in work_out widens variables_of typed_before actual_of widened reads seeks finds end_wide end_jump code_wide code_jump
 computed = refl

@@ -17,7 +17,6 @@ use Rattle.names.specs.Nodes.{nodes_e, nodes_n, nodes_left, nodes_s, nodes_ss, n
 use Rattle.names.specs.Outline.{size_s, size_ss, size_d, size_p, rows_n, rows_s, rows_ss, rows_d}
 use Rattle.names.specs.Prelude.{name_faults_with, rows_with, declarations_with}
 use Rattle.types.specs.Types.{in_expression, own_sort, as_left, faults_e, faults_left, sort_e, faults_s, faults_ss, faults_d, faults_p, type_faults, type_fault, type_fault_in}
-use Rattle.table.specs.Depths.{depths, depth_in}
 use Rattle.table.specs.Table.{fours, use_words, declaration_words, has_none, node_words, table_with}
 use Rattle.names.specs.Program.{Procedure}
 use Rattle.reading.specs.Judges.{Judge}
@@ -69,7 +68,7 @@ wrong judge scheme = half_of (judge prelude) prelude scheme fuel
 -- the words of `declaring` and of `hiding`; of `borrowing` by the wrong rule; of `calling`, behind its uses
 abbrev pub declared : List ℕ
 declared =
-    1 ∷ 21 ∷ 1 ∷ 18 ∷ 2 ∷
+    1 ∷ 21 ∷ 1 ∷ 18 ∷
     1 ∷ 18 ∷ 1 ∷ 3 ∷ 1 ∷
     8 ∷ 1 ∷ 0 ∷ 0 ∷ 0 ∷ 4 ∷ 0 ∷ 1 ∷ 0 ∷ 5 ∷ 18 ∷ 0 ∷ 0 ∷ 2 ∷ 0 ∷ 0 ∷ 0 ∷ 23 ∷ 21 ∷ 2 ∷ 0 ∷ 28 ∷ 26 ∷ 0 ∷ 0 ∷ 24 ∷ 23 ∷ 0 ∷ 0 ∷ 3 ∷ 0 ∷ 0 ∷ 0 ∷ []
 
@@ -85,19 +84,19 @@ called =
 pub rightly :
     (right borrowing ≡ leaves (Refused (refusal 8 8)) [])
     × (right declaring ≡ leaves Accepted declared)
-    × (right calling ≡ leaves Accepted (2 ∷ 21 ∷ 1 ∷ 18 ∷ 2 ∷ 26 ∷ 4 ∷ 32790 ∷ 2 ∷ called))
+    × (right calling ≡ leaves Accepted (2 ∷ 21 ∷ 1 ∷ 18 ∷ 26 ∷ 4 ∷ 32790 ∷ called))
     × (right hiding ≡ leaves Accepted declared)
     × (right deepest ≡ leaves Accepted (0 ∷ 0 ∷ 0 ∷ []))
     × (right longest ≡ leaves (Refused (refusal 4 1022)) [])
-unfolding blank letter digit in_name these reach value_from equalBytes folded same_name decimals before closed spelled named word gap followed sign sized name valued number lexeme behind ends_remark note counted judged turn scan_from scan pointed with_point point yield kind_at build read program_from prelude_of has modes specified variables_in in_block in_body find_in find_given meaning uses_e uses_l uses_s uses_ss uses_d uses_p scopes_s scopes_ss scopes_d scopes_p each twice_in all_names missing heading_in joined name_faults least use_rows nodes_e nodes_n nodes_left nodes_s nodes_ss nodes_d size_s size_ss size_d size_p rows_n rows_s rows_ss rows_d name_faults_with rows_with declarations_with in_expression own_sort as_left faults_e faults_left sort_e faults_s faults_ss faults_d faults_p type_faults type_fault type_fault_in fours use_words declaration_words has_none node_words table_with copies among parse judged_of depths depth_in
+unfolding blank letter digit in_name these reach value_from equalBytes folded same_name decimals before closed spelled named word gap followed sign sized name valued number lexeme behind ends_remark note counted judged turn scan_from scan pointed with_point point yield kind_at build read program_from prelude_of has modes specified variables_in in_block in_body find_in find_given meaning uses_e uses_l uses_s uses_ss uses_d uses_p scopes_s scopes_ss scopes_d scopes_p each twice_in all_names missing heading_in joined name_faults least use_rows nodes_e nodes_n nodes_left nodes_s nodes_ss nodes_d size_s size_ss size_d size_p rows_n rows_s rows_ss rows_d name_faults_with rows_with declarations_with in_expression own_sort as_left faults_e faults_left sort_e faults_s faults_ss faults_d faults_p type_faults type_fault type_fault_in fours use_words declaration_words has_none node_words table_with copies among parse judged_of
 rightly = (refl, refl, refl, refl, refl, refl)
 
 -- by the wrong ones
 pub wrongly :
     (seen_of prelude declaring borrowing fuel ≡ leaves Accepted borrowed)
-    × (wrong listing calling ≡ leaves Accepted (3 ∷ 32793 ∷ 4 ∷ 32790 ∷ 1 ∷ 21 ∷ 1 ∷ 18 ∷ 2 ∷ 26 ∷ 4 ∷ 32790 ∷ 2 ∷ called))
+    × (wrong listing calling ≡ leaves Accepted (3 ∷ 32793 ∷ 4 ∷ 32790 ∷ 21 ∷ 1 ∷ 18 ∷ 26 ∷ 4 ∷ 32790 ∷ called))
     × (wrong joining hiding ≡ leaves (Refused (refusal 7 18)) [])
     × (wrong deeper deepest ≡ leaves (Refused (refusal 6 441)) [])
     × (wrong counting longest ≡ leaves Accepted (0 ∷ 0 ∷ 0 ∷ []))
-unfolding blank letter digit in_name these reach value_from equalBytes folded same_name decimals before closed spelled named word gap followed sign sized name valued number lexeme behind ends_remark note counted judged turn scan_from scan pointed with_point point yield kind_at build read program_from prelude_of has modes specified variables_in in_block in_body find_in find_given meaning uses_e uses_l uses_s uses_ss uses_d uses_p scopes_s scopes_ss scopes_d scopes_p each twice_in all_names missing heading_in joined name_faults least use_rows nodes_e nodes_n nodes_left nodes_s nodes_ss nodes_d size_s size_ss size_d size_p rows_n rows_s rows_ss rows_d name_faults_with rows_with declarations_with in_expression own_sort as_left faults_e faults_left sort_e faults_s faults_ss faults_d faults_p type_faults type_fault type_fault_in fours use_words declaration_words has_none node_words table_with copies among parse judged_of depths depth_in
+unfolding blank letter digit in_name these reach value_from equalBytes folded same_name decimals before closed spelled named word gap followed sign sized name valued number lexeme behind ends_remark note counted judged turn scan_from scan pointed with_point point yield kind_at build read program_from prelude_of has modes specified variables_in in_block in_body find_in find_given meaning uses_e uses_l uses_s uses_ss uses_d uses_p scopes_s scopes_ss scopes_d scopes_p each twice_in all_names missing heading_in joined name_faults least use_rows nodes_e nodes_n nodes_left nodes_s nodes_ss nodes_d size_s size_ss size_d size_p rows_n rows_s rows_ss rows_d name_faults_with rows_with declarations_with in_expression own_sort as_left faults_e faults_left sort_e faults_s faults_ss faults_d faults_p type_faults type_fault type_fault_in fours use_words declaration_words has_none node_words table_with copies among parse judged_of
 wrongly = (refl, refl, refl, refl, refl)

@@ -23,7 +23,6 @@ use Rattle.names.specs.Uses.{Fault, joined, scopes_s, uses_s, faults_here, unmea
 use Rattle.names.specs.Nodes.{nodes_s}
 use Rattle.names.specs.Prelude.{around_it, with_prelude, fourth, name_faults_with, declarations_with}
 use Rattle.types.specs.Types.{type_fault_in}
-use Rattle.table.specs.Depths.{depth_behind}
 use Rattle.table.specs.Table.{use_words, declaration_words, node_words, fours, table_with}
 use Rattle.reading.specs.Judging as any
 use Rattle.reading.specs.Judges.{Judge, GrammaticalBy, JudgedBy}
@@ -128,17 +127,16 @@ leaving prelude a b table = TwoBy (Leaves (take half_words table) prelude a) (Le
 
 -- ---- the prelude's uses listed: the first section has the uses of both
 
-abbrev pub listed : List ℕ → List Procedure → List ℕ → Syn program → List ℕ
-listed prelude ps scheme t =
-    let s = scheme_in prelude scheme t in
+abbrev pub listed : List ℕ → List Procedure → List ℕ → Statement → List ℕ
+listed prelude ps scheme s =
     let place = place_with prelude scheme in
     let rows = map (fourth (count_of prelude)) (use_rows (with_prelude (count_of prelude) ps s)) in
-    (length rows ∷ joined (use_words place (depth_behind (count_of prelude) t)) rows)
+    (length rows ∷ joined (use_words place) rows)
     ++ ((fours (declarations_with ps s) ∷ declaration_words place (declarations_with ps s))
     ++ (fours (nodes_s 1 s) ∷ node_words place (nodes_s 1 s)))
 
 abbrev pub listing : List ℕ → List Procedure → Judge
-listing prelude ps = let j : Judge = scheme_judge prelude ps in scheme_but prelude 1 j.name_fault j.type_fault (λ scheme t. listed prelude ps scheme t)
+listing prelude ps = let j : Judge = scheme_judge prelude ps in scheme_but prelude 1 j.name_fault j.type_fault (λ scheme t. listed prelude ps scheme (scheme_in prelude scheme t))
 
 -- ---- one count of 2,048 symbols, prelude included
 
@@ -162,6 +160,6 @@ counting prelude ps = record {
   type_fault = λ scheme t. type_fault_in (around_it ps) (program_in prelude scheme t);
   place = λ scheme k. any.place_in (most prelude) scheme k;
   fault_place = place_in prelude;
-  words = λ scheme t. table_with (place_in prelude scheme) (depth_behind (count_of prelude) t) (count_of prelude) ps (program_in prelude scheme t);
+  words = λ scheme t. table_with (place_in prelude scheme) (count_of prelude) ps (program_in prelude scheme t);
   room = half_words;
 }

@@ -33,11 +33,11 @@ marks =
     run "'begin' 'integer' i; 'for' i := 3 'step' -1 'until' 1 'do' outinteger(1, i) 'end'" Ended 36 60 (pos 0 ∷ pos 3 ∷ pos 0 ∷ pos 0 ∷ pos 2 ∷ pos 0 ∷ pos 0 ∷ pos 1 ∷ pos 0 ∷ []) ∷
     -- M8 and M9: S1 and S2
     reads (bytes "'begin' 'integer' a; a := 1 'end'") Accepted
-    (1 ∷ 21 ∷ 1 ∷ 18 ∷ 2 ∷
+    (1 ∷ 21 ∷ 1 ∷ 18 ∷
     1 ∷ 18 ∷ 1 ∷ 1 ∷ 1 ∷
     8 ∷ 1 ∷ 0 ∷ 0 ∷ 0 ∷ 4 ∷ 0 ∷ 1 ∷ 0 ∷ 5 ∷ 18 ∷ 0 ∷ 0 ∷ 2 ∷ 0 ∷ 0 ∷ 0 ∷ 23 ∷ 21 ∷ 2 ∷ 0 ∷ 28 ∷ 26 ∷ 0 ∷ 0 ∷ 24 ∷ 23 ∷ 0 ∷ 0 ∷ 3 ∷ 0 ∷ 0 ∷ 0 ∷ []) ∷
     reads (bytes "'begin' 'integer' a; 'begin' 'integer' a; a := 2 'end'; a := 1 'end'") Accepted
-    (2 ∷ 42 ∷ 1 ∷ 39 ∷ 3 ∷ 56 ∷ 1 ∷ 18 ∷ 2 ∷
+    (2 ∷ 42 ∷ 1 ∷ 39 ∷ 56 ∷ 1 ∷ 18 ∷
     2 ∷ 18 ∷ 1 ∷ 1 ∷ 1 ∷ 39 ∷ 1 ∷ 2 ∷ 1 ∷
     16 ∷ 1 ∷ 0 ∷ 0 ∷ 0 ∷ 4 ∷ 0 ∷ 1 ∷ 0 ∷ 5 ∷ 18 ∷ 0 ∷ 0 ∷ 2 ∷ 0 ∷ 0 ∷ 0 ∷
     1 ∷ 21 ∷ 0 ∷ 0 ∷ 4 ∷ 0 ∷ 1 ∷ 0 ∷ 5 ∷ 39 ∷ 0 ∷ 0 ∷ 2 ∷ 21 ∷ 0 ∷ 0 ∷ 23 ∷ 42 ∷ 3 ∷ 0 ∷ 28 ∷ 47 ∷ 0 ∷ 0 ∷ 24 ∷ 44 ∷ 0 ∷ 0 ∷ 3 ∷ 21 ∷ 0 ∷ 0 ∷

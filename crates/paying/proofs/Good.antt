@@ -1,6 +1,6 @@
--- A source, alone or behind a prelude, has one status for each input and what is lent, and what the status 0 of a run says: the source is accepted, and its
--- program ended as the source rules say.
-use Prim.Native.Nat.{ℕ, ◌<◌, ◌≤◌}
+-- A source has one status for each input and what is lent, and what the status 0 of a run says: the source is accepted, and its program ended as the
+-- source rules say.
+use Prim.Native.Nat.{ℕ, ◌≤◌}
 use mathlib.Core.Path.{◌≡◌, refl, sym, ap, ◌∙◌}
 use mathlib.Core.Bool.{Bool, true, false, ◌&&◌}
 use mathlib.Core.List.{List}
@@ -16,21 +16,16 @@ use Rattle.answers.specs.declared.Stop.TheVariants.{Ended}
 use Rattle.machine.specs.Machine.{Finish, on_code}
 use Rattle.reading.specs.Judging.{its_program}
 use Rattle.reading.specs.Reading.{place_in, Grammatical}
-use Rattle.reading.specs.Two.{Prelude, procedures, place_with}
-use Rattle.rules.specs.Entered.{preluded}
-use Rattle.translation.specs.Faithful.{AsRulesIn, AsRules}
-use Rattle.translating.specs.With.{Scheme, its_scheme}
-use Rattle.translating.proofs.Promised.{faith}
-use Rattle.translating.proofs.Preluded.{faith_with}
+use Rattle.translation.specs.Faithful.{AsRules}
+use Rattle.translating.proofs.Promised.{only, faith}
 use Rattle.desk.specs.Status.{good}
-use Rattle.desk.proofs.Judged.{by_itself, with_prelude_lem, one_code}
 use Rattle.desk.proofs.Good.{good_end}
 use Rattle.paying.specs.Running.{of_run, RunStatus}
 
-pub one_status : {strict : Bool} {shared prelude text : List ℕ} {input : List ℤ} {limit cells space s s₂ : ℕ} → RunStatus strict shared prelude text input limit cells space s
-    → RunStatus strict shared prelude text input limit cells space s₂ → s ≡ s₂
+pub one_status : {strict : Bool} {text : List ℕ} {input : List ℤ} {limit cells space s s₂ : ℕ} → RunStatus strict text input limit cells space s
+    → RunStatus strict text input limit cells space s₂ → s ≡ s₂
 one_status {strict = strict} {input = input} {limit = limit} {cells = cells} {space = space} a b =
-    let e = one_code a.translates b.translates in
+    let e = only a.translates b.translates in
     a.told ∙ ap (λ (v : Verdict). of_run strict (length input) v (on_code a.words input limit cells space)) e.0
     ∙ ap (λ (w : List ℕ). of_run strict (length input) b.verdict (on_code w input limit cells space)) e.1 ∙ sym b.told
 
@@ -39,24 +34,15 @@ good_run : (strict : Bool) (given : ℕ) (v : Verdict) (f : Finish) → good ≡
 good_run strict given Accepted f h = let g = good_end (strict && ltb f.taken given) f.stop h in (refl, g.0, g.1)
 good_run strict given (Refused r) f h = absurd (omega arith)
 
--- alone
-pub good_ended : {strict : Bool} {shared prelude text : List ℕ} {input : List ℤ} {limit cells space : ℕ} → RunStatus strict shared prelude text input limit cells space good → length shared ≡ 0 → (p : Grammatical text)
+pub good_ended : {strict : Bool} {text : List ℕ} {input : List ℤ} {limit cells space : ℕ} → RunStatus strict text input limit cells space good → (p : Grammatical text)
     → (f : Finish) × (f.stop ≡ Ended) × AsRules (place_in text) (its_program p) input cells space limit f
-good_ended {strict = strict} {input = input} {limit = limit} {cells = cells} {space = space} t e p =
+good_ended {strict = strict} {input = input} {limit = limit} {cells = cells} {space = space} t p =
     let f = on_code t.words input limit cells space in
     let g = good_run strict (length input) t.verdict f t.told in
-    (f, g.1, faith (by_itself t.translates e) (ap number_of g.0) p input cells space limit)
-
--- behind a prelude, in whose block the source rules run it
-pub good_behind : {strict : Bool} {shared prelude text : List ℕ} {input : List ℤ} {limit cells space : ℕ} → RunStatus strict shared prelude text input limit cells space good
-    → 0 < length shared → (p : Prelude prelude) (q : Scheme p text) → (f : Finish) × (f.stop ≡ Ended) × AsRulesIn (place_with prelude text) (preluded (procedures p)) (its_scheme p q) input cells space limit f
-good_behind {strict = strict} {input = input} {limit = limit} {cells = cells} {space = space} t l p q =
-    let f = on_code t.words input limit cells space in
-    let g = good_run strict (length input) t.verdict f t.told in
-    (f, g.1, faith_with (with_prelude_lem t.translates l) g.0 p q input cells space limit)
+    (f, g.1, faith t.translates (ap number_of g.0) p input cells space limit)
 
 -- with --strict each number was taken
-pub good_strict : {shared prelude text : List ℕ} {input : List ℤ} {limit cells space : ℕ} (t : RunStatus true shared prelude text input limit cells space good)
+pub good_strict : {text : List ℕ} {input : List ℤ} {limit cells space : ℕ} (t : RunStatus true text input limit cells space good)
     → length input ≤ (on_code t.words input limit cells space).taken
 good_strict {input = input} {limit = limit} {cells = cells} {space = space} t =
     let f = on_code t.words input limit cells space in

@@ -81,7 +81,7 @@ module _ (code : List ℕ) (input store output : List ℤ) (count limit cells sp
       ∙ ap (λ (x : ℕ). of_finish strict (length input) (on_code code input limit x (min space (length output)))) f
       ∙ ap (λ (x : ℕ). of_finish strict (length input) (on_code code input limit (min cells 8192) x)) k
 
--- ---- what the translation answered
+-- ---- what translate answered
 
 module _ (strict : Bool) (given : ℕ) (v : Verdict) (f : Finish) where
   pub accepted_told : v ≡ Accepted → (s : ℕ) → s ≡ of_finish strict given f → s ≡ of_run strict given v f
@@ -96,5 +96,5 @@ most_run : (strict : Bool) (given : ℕ) (v : Verdict) (f : Finish) → of_run s
 most_run strict given Accepted f = most_end (strict && ltb f.taken given) f.stop
 most_run strict given (Refused r) f = omega arith
 
-pub run_most : {strict : Bool} {shared prelude text : List ℕ} {input : List ℤ} {limit cells space s : ℕ} → RunStatus strict shared prelude text input limit cells space s → s ≤ nothing
+pub run_most : {strict : Bool} {text : List ℕ} {input : List ℤ} {limit cells space s : ℕ} → RunStatus strict text input limit cells space s → s ≤ nothing
 run_most {strict = strict} {input = input} {limit = limit} {cells = cells} {space = space} t = rw t.told (most_run strict (length input) t.verdict (on_code t.words input limit cells space))

@@ -4,9 +4,8 @@ use Rattle.answers.specs.declared.Verdict.{Verdict}
 use Rattle.answers.specs.declared.Verdict.TheVariants.{Accepted, Refused}
 use Rattle.machine.specs.Machine.{Finish, on_code}
 use Rattle.machine.specs.declared.Ran.{Ran}
-use Rattle.translating.specs.Job.{code_words}
+use Rattle.translating.specs.Job.{code_words, Translates}
 use Rattle.desk.specs.Status.{bad, of_end}
-use Rattle.desk.specs.Sources.{CodeBy}
 
 -- of a run that was given so many numbers: with --strict it is to take them all
 abbrev pub of_finish : Bool → ℕ → Finish → ℕ
@@ -22,10 +21,10 @@ pub record RanAs (r : Ran) (f : Finish) : Type 0 where
   pub stopped : r.stop ≡ f.stop
   pub took : r.taken ≡ f.taken
 
--- s is the status of the run of a source, alone or behind a prelude, on this input, under this limit, with so many cells and so much space for output: of
--- what the translation answers, and of how the machine finishes on the words that it leaves
-pub record RunStatus (strict : Bool) (shared prelude text : List ℕ) (input : List ℤ) (limit cells space s : ℕ) : Type 0 where
+-- s is the status of a source's run on this input, under this limit, with so many cells and so much space for output: of what `translate` answers, and
+-- of how the machine finishes on the words that it leaves
+pub record RunStatus (strict : Bool) (text : List ℕ) (input : List ℤ) (limit cells space s : ℕ) : Type 0 where
   pub verdict : Verdict
   pub words : List ℕ
-  pub translates : CodeBy shared prelude text (replicate code_words 0) verdict words
+  pub translates : Translates text (replicate code_words 0) verdict words
   pub told : s ≡ of_run strict (length input) verdict (on_code words input limit cells space)

@@ -1,35 +1,24 @@
-// deed run: a run of a source, its answer shown, and its record kept.
+// deed run: a run of a source, and its answer shown.
 ghost use Rattle.std.specs.Prelude.{◌≡◌, ◌&&◌, ◌*◌, ◌/◌, ◌≤◌, min, ltb, length, take};
 ghost use Rattle.machine.specs.Machine.{on_code};
 ghost use Rattle.desk.specs.Status.{nothing, of_end};
-ghost use Rattle.paying.specs.Running.{of_finish, RanAs};
-ghost use Rattle.paying.specs.Replaying.{words_in, Replayable, RunKept};
+ghost use Rattle.paying.specs.Running.{of_finish, RanAs, RunStatus};
 
-use crate::keeping::write_record;
-use answers::{Refusal, Stop, Verdict};
-use asking::options::word_behind;
+use answers::{Stop, Verdict};
+use asking::options::next_operand;
 use asking::sizes::{Asked, Sizes, sizes_of};
 use asking::words::{has_word, is_plain};
-use desk::files::is_standard;
+use desk::files::{is_standard, load};
 use desk::given::put_input;
 use desk::misuse::{misused, see_help};
 use desk::outputs::{say_numbers, show_entries};
-use desk::sources::{load_texts, tell_refused, translate_source};
 use desk::status;
 use libc::{STDERR_FILENO, STDOUT_FILENO};
 use machine::Ran;
 use machine::bounds::CELLS;
-use records::keeping::run_kept;
-use records::{Filled, Kept};
 use showing::text::{complain, least, say, say_number, tell, tell_file, tell_number};
-use slips::words::{tell_either, tell_placeless};
-
-// The status of a run, and how many words its record has.
-#[derive(Drop)]
-pub struct Told {
-    pub status: u8,
-    pub words: usize,
-}
+use showing::words::{tell_answer, tell_placeless};
+use translating::translating::translate;
 
 // What is asked of a run: one line of numbers; status 1 where a number is not taken; the outputs alone on standard output.
 #[derive(Drop)]
@@ -57,31 +46,21 @@ fn tell_counts(to: i32, ran: Ran, given: usize) {
 }
 
 // How a run stopped, for people.
-fn tell_end(
-    to: i32,
-    name: &[u8],
-    source: &[u8],
-    shared: &[u8],
-    prelude: &[u8],
-    stop: Stop,
-    done: u64,
-) {
+fn tell_end(to: i32, name: &[u8], source: &[u8], stop: Stop) {
     match stop {
         Stop::Ended => {
             tell_file(to, name);
             tell(to, b": ended\n");
         }
-        Stop::Fault(r) => tell_either(
+        Stop::Fault(r) => tell_answer(
             to,
             name,
             source,
-            shared,
-            prelude,
             b": stopped, ",
             r.answer.number,
             r.place.at,
         ),
-        _ => tell_placeless(to, name, b": stopped, ", stop.answer().number, done),
+        _ => tell_placeless(to, name, b": stopped, ", stop.answer().number),
     }
 }
 
@@ -117,8 +96,6 @@ fn show_plain(answer: u16, place: usize, done: u64, taken: usize, written: usize
 fn show_run(
     name: &[u8],
     source: &[u8],
-    shared: &[u8],
-    prelude: &[u8],
     values: bool,
     good: bool,
     ran: Ran,
@@ -131,21 +108,12 @@ fn show_run(
     if good || !values {
         show_entries(&output[0..n]);
     }
-    tell_end(to, name, source, shared, prelude, stop, ran.done);
+    tell_end(to, name, source, stop);
     tell_counts(to, ran, given);
     warn(stop, given, ran.taken);
 }
 
-fn show_ran(
-    name: &[u8],
-    source: &[u8],
-    shared: &[u8],
-    prelude: &[u8],
-    how: How,
-    ran: Ran,
-    given: usize,
-    output: &[i32],
-) -> u8
+fn show_ran(name: &[u8], source: &[u8], how: How, ran: Ran, given: usize, output: &[i32]) -> u8
     ensures { result ≡ of_end (how.strict && ltb ran.taken given) ran.stop }
 {
     let stop = ran.stop;
@@ -164,8 +132,6 @@ fn show_ran(
         show_run(
             name,
             source,
-            shared,
-            prelude,
             how.values,
             ended == status::GOOD,
             ran,
@@ -183,7 +149,7 @@ fn numbers_for(cells: usize, all: usize) -> usize
     least(2 * least(cells, CELLS), all)
 }
 
-// Runs code on the first of some numbers, in no more cells and with no more room than asked, and writes its record where there is space for it.
+// Runs code on the first of some numbers, in no more cells and with no more room than asked.
 fn run_within(
     code: &[u32],
     input: &[i32],
@@ -191,169 +157,88 @@ fn run_within(
     sizes: Sizes,
     store: &mut [i64],
     output: &mut [i32],
-    space: &mut [i32],
-) -> Kept
-    ensures ran_as { RanAs result.ran (on_code code.now (take count input.now) sizes.limit (min 8192 (min sizes.cells (length store.old / 2))) (min sizes.room (length output.old))) }
-    ensures replayable { length output.old ≤ 196608 → Replayable code.now (words_in result.filled) space.new }
+) -> Ran
+    ensures { RanAs result (on_code code.now (take count input.now) sizes.limit (min 8192 (min sizes.cells (length store.old / 2))) (min sizes.room (length output.old))) }
 {
     let taken = least(count, input.len());
     let numbers = numbers_for(sizes.cells, store.len());
     let room = least(sizes.room, output.len());
-    run_kept(
+    machine::run(
         code,
         &input[..taken],
         sizes.limit,
         &mut store[..numbers],
         &mut output[..room],
-        space,
     )
-}
-
-// How many words a record took; none where there was no space for it.
-fn words_in(f: Filled) -> usize
-    ensures { result ≡ words_in f }
-{
-    match f {
-        Filled::Words(n) => n,
-        Filled::Not => 0,
-    }
 }
 
 fn run_code(
     name: &[u8],
     source: &[u8],
-    shared: &[u8],
-    prelude: &[u8],
     how: How,
     code: &[u32],
     input: &[i32],
     count: usize,
     sizes: Sizes,
-    space: &mut [i32],
-) -> Told
-    ensures status_value { result.status ≡ of_finish how.strict (length (take count input.now)) (on_code code.now (take count input.now) sizes.limit (min sizes.cells 8192) (min sizes.room 196608)) }
-    ensures replayable { Replayable code.now result.words space.new }
+) -> u8
+    ensures { result ≡ of_finish how.strict (length (take count input.now)) (on_code code.now (take count input.now) sizes.limit (min sizes.cells 8192) (min sizes.room 196608)) }
 {
     let mut store = [0i64; 16384];
     let mut output = [0i32; 196608];
-    let kept = run_within(code, input, count, sizes, &mut store, &mut output, space);
-    let filled = kept.filled;
-    let words = words_in(filled);
-    let status = show_ran(
-        name,
-        source,
-        shared,
-        prelude,
-        how,
-        kept.ran,
-        least(count, input.len()),
-        &output,
-    );
-    Told { status, words }
+    let ran = run_within(code, input, count, sizes, &mut store, &mut output);
+    show_ran(name, source, how, ran, least(count, input.len()), &output)
 }
 
 // A source that is refused: nothing is run.
-fn show_refused(name: &[u8], source: &[u8], shared: &[u8], prelude: &[u8], how: How, r: Refusal) {
+fn show_refused(name: &[u8], source: &[u8], how: How, number: u16, place: usize) {
     if how.plain {
         let none = [0i32; 0];
-        show_plain(r.answer.number, r.place.at, 0, 0, 0, &none);
+        show_plain(number, place, 0, 0, 0, &none);
     } else {
-        tell_refused(aside(how.values), name, source, shared, prelude, r);
+        tell_answer(
+            aside(how.values),
+            name,
+            source,
+            b": refused, ",
+            number,
+            place,
+        );
     }
 }
 
-// Translates a source, alone or behind its prelude, and runs it on the first of some numbers.
-fn run_source(
-    name: &[u8],
-    source: &[u8],
-    shared: &[u8],
-    prelude: &[u8],
-    how: How,
-    input: &[i32],
-    count: usize,
-    sizes: Sizes,
-    space: &mut [i32],
-) -> Told
-    ensures { RunKept how.strict shared.now prelude.now source.now (take count input.now) sizes.limit (min sizes.cells 8192) (min sizes.room 196608) result.status result.words space.new }
+// Translates a source and runs it on the first of some numbers.
+fn run_source(name: &[u8], source: &[u8], how: How, input: &[i32], count: usize, sizes: Sizes) -> u8
+    ensures { RunStatus how.strict source.now (take count input.now) sizes.limit (min sizes.cells 8192) (min sizes.room 196608) result }
 {
     let mut code = [0u32; 16384];
-    match translate_source(source, shared, prelude, &mut code) {
-        Verdict::Accepted => {
-            run_code(
-                name, source, shared, prelude, how, &code, input, count, sizes, space,
-            )
-        }
+    match translate(source, &mut code) {
+        Verdict::Accepted => run_code(name, source, how, &code, input, count, sizes),
         Verdict::Refused(r) => {
-            show_refused(name, source, shared, prelude, how, r);
-            Told {
-                status: status::BAD,
-                words: 0,
-            }
+            show_refused(name, source, how, r.answer.number, r.place.at);
+            status::BAD
         }
     }
 }
 
-// How much space a record takes at most: 11 words, 32,768 numbers of input and 196,608 of output; none is lent where none is asked for.
-fn space_for(asked: bool) -> usize
-    ensures { result ≤ 229387 }
-{
-    if asked { 229387 } else { 0 }
-}
-
-// The status of a run whose record may have been asked for: 2 where that could not be written whole. A source that is refused has none.
-fn kept(record: &[u8], told: Told, space: &[i32]) -> u8
-    requires { told.status ≤ nothing }
-    ensures { result ≤ nothing }
-{
-    let n = least(told.words, space.len());
-    if n == 0 {
-        return told.status;
-    }
-    if write_record(record, &space[..n]) {
-        return told.status;
-    }
-    status::NOTHING
-}
-
-// A run of the source that a line names first from `at` on, on the numbers behind it.
-fn run_file(line: &[u8], at: usize, how: How, sizes: Sizes) -> u8
+// A run of the file that a word of the line names, on the numbers behind it.
+fn run_file(line: &[u8], from: usize, to: usize, how: How, sizes: Sizes) -> u8
+    requires { (from ≤ to) × (to ≤ length line.now) }
     ensures { result ≤ nothing }
 {
     let mut input = [0i32; 32768];
-    let mut source = io::large_buffer();
-    let mut prelude = io::large_buffer();
-    let t = load_texts(line, at, &mut source, &mut prelude);
-    if !t.good {
-        return status::NOTHING;
-    }
-    let a = t.name.from;
-    let b = t.name.to;
-    let c = t.shared.from;
-    let d = t.shared.to;
-    let n = t.source;
-    let m = t.prelude;
-    let put = put_input(line, b, &mut input);
+    let mut room = io::large_buffer();
+    let put = put_input(line, to, &mut input);
     if !put.good {
         see_help();
         return status::NOTHING;
     }
-    let w = word_behind(line, b"--record");
-    let from = w.from;
-    let to = w.to;
-    let mut space = [0i32; 229387];
-    let k = space_for(from < to);
-    let told = run_source(
-        &line[a..b],
-        &source[..n],
-        &line[c..d],
-        &prelude[..m],
-        how,
-        &input,
-        put.count,
-        sizes,
-        &mut space[..k],
-    );
-    kept(&line[from..to], told, &space)
+    let got = load(&line[from..to], &mut room);
+    if !got.good {
+        see_help();
+        return status::NOTHING;
+    }
+    let n = got.count;
+    run_source(&line[from..to], &room[..n], how, &input, put.count, sizes)
 }
 
 // What the options of a line ask of a run.
@@ -365,30 +250,24 @@ fn how_of(line: &[u8]) -> How {
     }
 }
 
-// Whether a record that is asked for has a file to go to.
-fn record_fits(line: &[u8]) -> bool {
-    if !has_word(line, 0, b"--record") {
-        return true;
-    }
-    let w = word_behind(line, b"--record");
-    let a = w.from;
-    let b = w.to;
-    if a < b && !is_standard(&line[a..b]) {
-        return true;
-    }
-    misused(b"--record wants a file to write to", b"");
-    false
-}
-
-// The sizes can be had: that was looked at.
+// Standard input is the FILE, or has numbers, or neither. The sizes can be had: that was looked at.
 pub fn obey(line: &[u8], at: usize) -> u8
     ensures { result ≤ nothing }
 {
     let Asked::Are(sizes) = sizes_of(line, at) else {
         return status::NOTHING;
     };
-    if !record_fits(line) {
-        return status::NOTHING;
+    let w = next_operand(line, at);
+    let from = w.from;
+    let to = w.to;
+    if is_standard(&line[from..to]) {
+        if has_word(line, to, b"-") {
+            misused(
+                b"standard input is the FILE or has numbers, and not both",
+                b"",
+            );
+            return status::NOTHING;
+        }
     }
-    run_file(line, at, how_of(line), sizes)
+    run_file(line, from, to, how_of(line), sizes)
 }

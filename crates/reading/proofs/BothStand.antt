@@ -209,7 +209,7 @@ module _ {prelude scheme places values places' values' first second : List ℕ} 
   m_is = a.before.count
 
   n_is : n ≡ length (any.kinds_in (left prelude) scheme)
-  n_is = a.behind.symbols_in_lem.count
+  n_is = a.behind.symbols_in.count
 
   pub few_both : m + n ≤ 1024
   few_both = omega (arith, few_all a.whole a.behind.read, m_is, n_is)
@@ -254,10 +254,10 @@ module _ {prelude scheme places values places' values' first second : List ℕ} 
         go (said (both_stands a.whole a.behind.read placed (joined_is nodes w y)) (subst (λ t. Passes t new (take w nodes) rows uses was marks (m + n) (length scheme) w r) i x))
       where
         placed : PlacedWith prelude scheme new (m + n)
-        placed = places_both prelude scheme places places' m n a.before.placed a.behind.symbols_in_lem.placed m_is n_is a.before.long a.behind.symbols_in_lem.long g
+        placed = places_both prelude scheme places places' m n a.before.placed a.behind.symbols_in.placed m_is n_is a.before.long a.behind.symbols_in.long g
 
         valued : take (m + n) values₁ ≡ values_of (scan symbols prelude).found ++ values_of (scan (left prelude) scheme).found
-        valued = v ∙ ap (λ (z : List ℕ). z ++ take n values') a.before.valued ∙ ap (λ (z : List ℕ). values_of (scan symbols prelude).found ++ z) a.behind.symbols_in_lem.valued
+        valued = v ∙ ap (λ (z : List ℕ). z ++ take n values') a.before.valued ∙ ap (λ (z : List ℕ). values_of (scan symbols prelude).found ++ z) a.behind.symbols_in.valued
 
         go : {r : Found} → Said (page scheme prelude) new (take w nodes) rows uses was marks (m + n) (length scheme) w (both a.whole a.behind.read) r → JoinTold prelude scheme new values₁ nodes moved rows uses was marks a.whole a.behind.read c r
         go (at_names f h z d) =

@@ -1,4 +1,4 @@
--- S1 and S2: "A count of uses, then its" rows. Their trees are written down; that they spell the sources, and what the table holds, is computed.
+-- S1 and S2: "A count of uses, then its triples". Their trees are written down; that they spell the sources, and what the table holds, is computed.
 use Prim.Native.Nat.{ℕ, ◌≤◌}
 use mathlib.Core.Path.{◌≡◌, refl, sym, ap, subst, ◌∙◌}
 use mathlib.Core.List.{List, [], ◌∷◌, ◌++◌}
@@ -23,9 +23,8 @@ use Rattle.names.specs.Uses.{uses_e, uses_s, uses_ss, uses_d, scopes_s, scopes_s
 use Rattle.names.specs.Nodes.{nodes_e, nodes_n, nodes_left, nodes_s, nodes_ss, nodes_d}
 use Rattle.names.specs.Outline.{size_s, size_ss, size_d, rows_n, rows_s, rows_ss, rows_d, declarations}
 use Rattle.types.specs.Types.{as_left, faults_e, faults_left, sort_e, faults_s, faults_ss, faults_d, type_faults, type_fault}
-use Rattle.table.specs.Depths.{depths, depth_in}
 use Rattle.table.specs.Table.{fours, use_words, declaration_words, has_none, node_words, table_of}
-use Rattle.reading.specs.Judging.{its_program, its_table, accepted}
+use Rattle.reading.specs.Judging.{its_program, accepted}
 use Rattle.reading.specs.Reading.{place_in, table_words, filled, Grammatical, Judged, Reads, enough}
 use Rattle.reading.proofs.Only.{only}
 
@@ -83,25 +82,25 @@ p2 = record { scanned = record { short = leb-true (length S2) 16384 refl; whole 
 -- uses, declarations (place, kind, scope, type) and nodes
 abbrev table1 : List ℕ
 table1 =
-    1 ∷ 21 ∷ 1 ∷ 18 ∷ 2 ∷
+    1 ∷ 21 ∷ 1 ∷ 18 ∷
     1 ∷ 18 ∷ 1 ∷ 1 ∷ 1 ∷
     8 ∷ 1 ∷ 0 ∷ 0 ∷ 0 ∷ 4 ∷ 0 ∷ 1 ∷ 0 ∷ 5 ∷ 18 ∷ 0 ∷ 0 ∷ 2 ∷ 0 ∷ 0 ∷ 0 ∷ 23 ∷ 21 ∷ 2 ∷ 0 ∷ 28 ∷ 26 ∷ 0 ∷ 0 ∷ 24 ∷ 23 ∷ 0 ∷ 0 ∷ 3 ∷ 0 ∷ 0 ∷ 0 ∷ []
 
 -- of S2 the uses and the declarations; then the nodes
 abbrev table2 : List ℕ
 table2 =
-    2 ∷ 42 ∷ 1 ∷ 39 ∷ 3 ∷ 56 ∷ 1 ∷ 18 ∷ 2 ∷
+    2 ∷ 42 ∷ 1 ∷ 39 ∷ 56 ∷ 1 ∷ 18 ∷
     2 ∷ 18 ∷ 1 ∷ 1 ∷ 1 ∷ 39 ∷ 1 ∷ 2 ∷ 1 ∷
     16 ∷ 1 ∷ 0 ∷ 0 ∷ 0 ∷ 4 ∷ 0 ∷ 1 ∷ 0 ∷ 5 ∷ 18 ∷ 0 ∷ 0 ∷ 2 ∷ 0 ∷ 0 ∷ 0 ∷
     1 ∷ 21 ∷ 0 ∷ 0 ∷ 4 ∷ 0 ∷ 1 ∷ 0 ∷ 5 ∷ 39 ∷ 0 ∷ 0 ∷ 2 ∷ 21 ∷ 0 ∷ 0 ∷ 23 ∷ 42 ∷ 3 ∷ 0 ∷ 28 ∷ 47 ∷ 0 ∷ 0 ∷ 24 ∷ 44 ∷ 0 ∷ 0 ∷ 3 ∷ 21 ∷ 0 ∷ 0 ∷
     23 ∷ 56 ∷ 2 ∷ 0 ∷ 28 ∷ 61 ∷ 0 ∷ 0 ∷ 24 ∷ 58 ∷ 0 ∷ 0 ∷ 3 ∷ 0 ∷ 0 ∷ 0 ∷ []
 
-is1 : (least (name_faults (its_program p1)) ≡ none) × (type_fault (its_program p1) ≡ none) × (its_table p1 ≡ table1)
-unfolding blank letter digit in_name these reach value_from decimals equal folded same_name before closed spelled named word gap followed sign sized name valued pointed with_point numberLexeme point lexeme behind ends_remark note counted judged turn scan_from scan read build program_of has variables_in in_block find_in find_given meaning uses_e uses_s uses_ss uses_d scopes_s scopes_ss scopes_d each twice_in heading_in joined name_faults least use_rows yield as_left faults_e faults_left sort_e faults_s faults_ss faults_d type_faults type_fault nodes_e nodes_n nodes_left nodes_s nodes_ss nodes_d size_s size_ss size_d rows_n rows_s rows_ss rows_d declarations fours use_words declaration_words has_none node_words table_of p1 depths depth_in
+is1 : (least (name_faults (its_program p1)) ≡ none) × (type_fault (its_program p1) ≡ none) × (table_of (place_in S1) (its_program p1) ≡ table1)
+unfolding blank letter digit in_name these reach value_from decimals equal folded same_name before closed spelled named word gap followed sign sized name valued pointed with_point numberLexeme point lexeme behind ends_remark note counted judged turn scan_from scan read build program_of has variables_in in_block find_in find_given meaning uses_e uses_s uses_ss uses_d scopes_s scopes_ss scopes_d each twice_in heading_in joined name_faults least use_rows yield as_left faults_e faults_left sort_e faults_s faults_ss faults_d type_faults type_fault nodes_e nodes_n nodes_left nodes_s nodes_ss nodes_d size_s size_ss size_d rows_n rows_s rows_ss rows_d declarations fours use_words declaration_words has_none node_words table_of p1
 is1 = (refl, refl, refl)
 
-is2 : (least (name_faults (its_program p2)) ≡ none) × (type_fault (its_program p2) ≡ none) × (its_table p2 ≡ table2)
-unfolding blank letter digit in_name these reach value_from decimals equal folded same_name before closed spelled named word gap followed sign sized name valued pointed with_point numberLexeme point lexeme behind ends_remark note counted judged turn scan_from scan read build program_of has variables_in in_block find_in find_given meaning uses_e uses_s uses_ss uses_d scopes_s scopes_ss scopes_d each twice_in heading_in joined name_faults least use_rows yield as_left faults_e faults_left sort_e faults_s faults_ss faults_d type_faults type_fault nodes_e nodes_n nodes_left nodes_s nodes_ss nodes_d size_s size_ss size_d rows_n rows_s rows_ss rows_d declarations fours use_words declaration_words has_none node_words table_of p2 depths depth_in
+is2 : (least (name_faults (its_program p2)) ≡ none) × (type_fault (its_program p2) ≡ none) × (table_of (place_in S2) (its_program p2) ≡ table2)
+unfolding blank letter digit in_name these reach value_from decimals equal folded same_name before closed spelled named word gap followed sign sized name valued pointed with_point numberLexeme point lexeme behind ends_remark note counted judged turn scan_from scan read build program_of has variables_in in_block find_in find_given meaning uses_e uses_s uses_ss uses_d scopes_s scopes_ss scopes_d each twice_in heading_in joined name_faults least use_rows yield as_left faults_e faults_left sort_e faults_s faults_ss faults_d type_faults type_fault nodes_e nodes_n nodes_left nodes_s nodes_ss nodes_d size_s size_ss size_d rows_n rows_s rows_ss rows_d declarations fours use_words declaration_words has_none node_words table_of p2
 is2 = (refl, refl, refl)
 
 pub s1 : Judged S1 Accepted (filled table1)

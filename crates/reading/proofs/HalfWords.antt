@@ -28,10 +28,9 @@ use Rattle.names.proofs.Behind.{declared_behind}
 use Rattle.names.proofs.Fours.{fours_weaken}
 use Rattle.names.proofs.Least.{none_empty}
 use Rattle.names.proofs.Resolved.{Matches, matches_length, matches_split}
-use Rattle.table.specs.Depths.{depth_behind}
-use Rattle.table.specs.Table.{fours, use_wide, use_words, declaration_words, node_words, table_with}
+use Rattle.table.specs.Table.{fours, use_words, declaration_words, node_words, table_with}
 use Rattle.table.specs.model.Writing.{Wrote, Enters, place_of, table_behind, fourths}
-use Rattle.table.proofs.Fits.{all_words}
+use Rattle.table.proofs.Fits.{three_words_lem}
 use Rattle.table.proofs.Fourths.{fourth_rows, fourths_length}
 use Rattle.table.proofs.SamePlaces.{SymbolsBelow, fours_below}
 use Rattle.table.proofs.TableWords.{rows_behind, behind_words}
@@ -44,7 +43,6 @@ use Rattle.reading.specs.model.Moves.{page}
 use Rattle.reading.specs.model.Preluding.{depth_with, as_scheme, BothFill}
 use Rattle.reading.proofs.Answers.{wrote-filled, length_zeros}
 use Rattle.reading.proofs.BothStand.{both, own as scheme-of, both_stands, early_names, late_names, own_within, some_own, both_before_end, own_few, weaken_d}
-use Rattle.reading.proofs.HalfDepths.{half_depths}
 use Rattle.reading.proofs.Independent.{half_fits, half_length}
 use Rattle.reading.proofs.Passed.{Stands, rows_here_lem, uses_here}
 use Rattle.reading.proofs.Places.{place_inside}
@@ -81,13 +79,13 @@ small_place prelude scheme l l' k = go (dec_lt k (count_of prelude))
 -- ---- the words
 
 -- of words whose second part are the uses: these get their kinds
-fourths_in : (x : ℕ) (U rest Z : List ℕ) (k : ℕ) → length U ≡ use_wide * k
-    → take 1 (((x ∷ U) ++ rest) ++ Z) ++ (fourths (take (use_wide * k + 1 - 1) (drop 1 (((x ∷ U) ++ rest) ++ Z))) ++ drop (use_wide * k + 1 - 1) (drop 1 (((x ∷ U) ++ rest) ++ Z))) ≡ ((x ∷ fourths U) ++ rest) ++ Z
+fourths_in : (x : ℕ) (U rest Z : List ℕ) (k : ℕ) → length U ≡ 3 * k
+    → take 1 (((x ∷ U) ++ rest) ++ Z) ++ (fourths (take (3 * k + 1 - 1) (drop 1 (((x ∷ U) ++ rest) ++ Z))) ++ drop (3 * k + 1 - 1) (drop 1 (((x ∷ U) ++ rest) ++ Z))) ≡ ((x ∷ fourths U) ++ rest) ++ Z
 fourths_in x U rest Z k e =
-    let h : length U ≡ use_wide * k + 1 - 1 = omega arith in
-    let a : take (use_wide * k + 1 - 1) ((U ++ rest) ++ Z) ≡ U = ap (take (use_wide * k + 1 - 1)) (append_assoc U rest Z) ∙ take_at U (rest ++ Z) (use_wide * k + 1 - 1) h in
-    let d : drop (use_wide * k + 1 - 1) ((U ++ rest) ++ Z) ≡ rest ++ Z = ap (drop (use_wide * k + 1 - 1)) (append_assoc U rest Z) ∙ drop_at U (rest ++ Z) (use_wide * k + 1 - 1) h in
-    ap (λ (w : List ℕ). x ∷ (fourths w ++ drop (use_wide * k + 1 - 1) ((U ++ rest) ++ Z))) a ∙ ap (λ (w : List ℕ). x ∷ (fourths U ++ w)) d ∙ ap (λ (w : List ℕ). x ∷ w) (sym (append_assoc (fourths U) rest Z))
+    let h : length U ≡ 3 * k + 1 - 1 = omega arith in
+    let a : take (3 * k + 1 - 1) ((U ++ rest) ++ Z) ≡ U = ap (take (3 * k + 1 - 1)) (append_assoc U rest Z) ∙ take_at U (rest ++ Z) (3 * k + 1 - 1) h in
+    let d : drop (3 * k + 1 - 1) ((U ++ rest) ++ Z) ≡ rest ++ Z = ap (drop (3 * k + 1 - 1)) (append_assoc U rest Z) ∙ drop_at U (rest ++ Z) (3 * k + 1 - 1) h in
+    ap (λ (w : List ℕ). x ∷ (fourths w ++ drop (3 * k + 1 - 1) ((U ++ rest) ++ Z))) a ∙ ap (λ (w : List ℕ). x ∷ (fourths U ++ w)) d ∙ ap (λ (w : List ℕ). x ∷ w) (sym (append_assoc (fourths U) rest Z))
 
 module _ {prelude scheme places values nodes own rows uses was marks : List ℕ} {b : Both} (h : BothFill prelude scheme places values nodes own rows uses was marks b) where
   abbrev ps : List Procedure
@@ -179,11 +177,8 @@ module _ {prelude scheme places values nodes own rows uses was marks : List ℕ}
   abbrev g : ℕ → ℕ
   g = place_with prelude scheme
 
-  abbrev e : ℕ → ℕ
-  e = depth_behind (count_of prelude) h.read.tree
-
   abbrev U : List ℕ
-  U = joined (use_words g e) (rows_behind ps s)
+  U = joined (use_words g) (rows_behind ps s)
 
   abbrev rest : List ℕ
   rest = (fours (declarations_with ps s) ∷ declaration_words g (declarations_with ps s)) ++ (fours (nodes_s 1 s) ∷ node_words g (nodes_s 1 s))
@@ -194,12 +189,12 @@ module _ {prelude scheme places values nodes own rows uses was marks : List ℕ}
       ap (λ (r : List ℕ). table_behind (place_of places) r rows_own (take b.own own) uses_own) rows_all
       ∙ ap (λ (r : List ℕ). table_behind (place_of places) (rows_s 0 0 whole) r (take b.own own) uses_own) rows_are
       ∙ ap (λ (r : List ℕ). table_behind (place_of places) (rows_s 0 0 whole) (declarations_with ps s) r uses_own) h.joined.owned
-      ∙ behind_words (rows_s 0 0 whole) uses_own b.all.symbols (place_of places) g e agree ps s early late low (half_depths prelude scheme ps (as_scheme prelude scheme ps h.read)) uses_match all_mean
+      ∙ behind_words (rows_s 0 0 whole) uses_own b.all.symbols (place_of places) g agree ps s early late low uses_match all_mean
 
-  table_is : (length (rows_behind ps s) ∷ fourths U) ++ rest ≡ table_with g e (count_of prelude) ps s
+  table_is : (length (rows_behind ps s) ∷ fourths U) ++ rest ≡ table_with g (count_of prelude) ps s
   unfolding table_with rows_with
   table_is =
-      (λ i. ((sym (length-map (rows_behind ps s) (fourth (count_of prelude))) i) ∷ fourth_rows g e (count_of prelude) (apart prelude scheme h.read.scanned.short) (rows_behind ps s) i) ++ rest)
+      (λ i. ((sym (length-map (rows_behind ps s) (fourth (count_of prelude))) i) ∷ fourth_rows g (count_of prelude) (apart prelude scheme h.read.scanned.short) (rows_behind ps s) i) ++ rest)
 
   fits : length ((length (rows_behind ps s) ∷ fourths U) ++ rest) ≤ half_words
   fits = subst (λ (w : List ℕ). length w ≤ half_words) (sym table_is) (half_fits prelude scheme ps (as_scheme prelude scheme ps h.read))
@@ -215,11 +210,11 @@ module _ {prelude scheme places values nodes own rows uses was marks : List ℕ}
       sym (words_length (rows_s 0 0 whole) uses_own (uses_s (around_it ps) s) uses_match all_mean)
       ∙ matches_length (rows_s 0 0 whole) uses_own (uses_s (around_it ps) s) uses_match ∙ omega (arith, uses_length)
 
-  u_length : length U ≡ use_wide * (length uses_kept - b.before.uses)
-  u_length = omega (arith, all_words g e (rows_behind ps s), many)
+  u_length : length U ≡ 3 * (length uses_kept - b.before.uses)
+  u_length = omega (arith, three_words_lem g (rows_behind ps s), many)
 
   -- the uses end inside the half
-  pub uses_inside : use_wide * (length uses_kept - b.before.uses) + 1 ≤ half_words
+  pub uses_inside : 3 * (length uses_kept - b.before.uses) + 1 ≤ half_words
   uses_inside = omega (arith, model-fits, length-append (length (rows_behind ps s) ∷ U) rest, u_length)
 
   -- there is room for what is written
@@ -235,19 +230,19 @@ module _ {prelude scheme places values nodes own rows uses was marks : List ℕ}
   -- written over zeros, and the kinds of the prelude's
   pub half_words_lem : {old mid ys : List ℕ} {k : ℕ} → old ≡ zeros half_words → k ≡ length uses_kept - b.before.uses
       → Wrote old mid 0 (table_behind (place_of places) rows_kept rows_own (take b.own own) uses_own)
-      → ys ≡ fourths (take (use_wide * k + 1 - 1) (drop 1 mid)) → Half prelude scheme Accepted (take 1 mid ++ (ys ++ drop (use_wide * k + 1 - 1) (drop 1 mid)))
-  half_words_lem {old} {mid} {ys} {k} z q w f =
+      → ys ≡ fourths (take (3 * k + 1 - 1) (drop 1 mid)) → Half prelude scheme Accepted (take 1 mid ++ (ys ++ drop (3 * k + 1 - 1) (drop 1 mid)))
+  half_words_lem {old} {mid} {ys} {k} z q w e =
       let T = (length (rows_behind ps s) ∷ U) ++ rest in
       let W = (length (rows_behind ps s) ∷ fourths U) ++ rest in
-      let l : length U ≡ use_wide * k = omega (arith, u_length, q) in
+      let l : length U ≡ 3 * k = omega (arith, u_length, q) in
       let m : mid ≡ T ++ zeros (half_words - length T) = wrote-filled half_words mid T (subst (λ (x : List ℕ). Wrote x mid 0 T) z (subst (λ (x : List ℕ). Wrote old mid 0 x) model_is w)) in
-      let new = take 1 mid ++ (ys ++ drop (use_wide * k + 1 - 1) (drop 1 mid)) in
+      let new = take 1 mid ++ (ys ++ drop (3 * k + 1 - 1) (drop 1 mid)) in
       let n : new ≡ W ++ zeros (half_words - length T) =
-      ap (λ (x : List ℕ). take 1 mid ++ (x ++ drop (use_wide * k + 1 - 1) (drop 1 mid))) f
-      ∙ ap (λ (x : List ℕ). take 1 x ++ (fourths (take (use_wide * k + 1 - 1) (drop 1 x)) ++ drop (use_wide * k + 1 - 1) (drop 1 x))) m ∙ fourths_in (length (rows_behind ps s)) U rest (zeros (half_words - length T)) k l in
-      let same : new ≡ any.filled half_words (table_with g e (count_of prelude) ps s) =
+      ap (λ (x : List ℕ). take 1 mid ++ (x ++ drop (3 * k + 1 - 1) (drop 1 mid))) e
+      ∙ ap (λ (x : List ℕ). take 1 x ++ (fourths (take (3 * k + 1 - 1) (drop 1 x)) ++ drop (3 * k + 1 - 1) (drop 1 x))) m ∙ fourths_in (length (rows_behind ps s)) U rest (zeros (half_words - length T)) k l in
+      let f : new ≡ any.filled half_words (table_with g (count_of prelude) ps s) =
       n ∙ ap (λ (j : ℕ). W ++ zeros (half_words - j)) same_length ∙ ap (λ (x : List ℕ). x ++ zeros (half_words - length x)) table_is in
-      subst (Half prelude scheme Accepted) (sym same) (behind h.whole Accepted _ (accepted (as_scheme prelude scheme ps h.read) h.joined.named h.joined.typed))
+      subst (Half prelude scheme Accepted) (sym f) (behind h.whole Accepted _ (accepted (as_scheme prelude scheme ps h.read) h.joined.named h.joined.typed))
 
 -- ---- two halves
 

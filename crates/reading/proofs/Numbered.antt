@@ -7,7 +7,7 @@ use mathlib.Core.List.{List, [], ◌∷◌, ◌++◌}
 use mathlib.Core.Option.{none, some}
 use native.Mathlib.Omega.{arith}
 use lib.ListN.{length, get_or, take, drop}
-use Rattle.answers.specs.Numbers.{accepted as zeroth, short, long, no_symbol, too_large_lem, grammar, depth, twice, undeclared, heading, types}
+use Rattle.answers.specs.Numbers.{accepted as zeroth, short, long, no_symbol, too_large, grammar, depth, twice, undeclared, heading, types}
 use Rattle.answers.specs.Answers.{refusal, number_of, place_of}
 use Rattle.answers.specs.declared.Refusal.{Refusal}
 use Rattle.answers.specs.declared.Verdict.{Verdict}
@@ -18,7 +18,8 @@ use Rattle.symbols.proofs.FirstFault.{Why, no_symbol_lem, open-note, over, one_t
 use Rattle.grammar.specs.Program.{GrammarFault, DepthFault}
 use Rattle.names.specs.Uses.{Fault, name_faults, least}
 use Rattle.types.specs.Types.{type_fault}
-use Rattle.reading.specs.Judging.{its_program, its_table, too_long, unreadable, ungrammatical, too_deep, misnamed, mistyped, accepted}
+use Rattle.table.specs.Table.{table_of}
+use Rattle.reading.specs.Judging.{its_program, too_long, unreadable, ungrammatical, too_deep, misnamed, mistyped, accepted}
 use Rattle.reading.specs.Reading.{symbols, kinds_in, place_in, table_words, filled, cleared, Scanned, Grammatical, Judged, Reads, too_short, enough, Answered}
 use Rattle.reading.proofs.Only.{only}
 use Rattle.reading.proofs.Places.{few_symbols}
@@ -71,7 +72,7 @@ module _ (source table : List ℕ) where
       Short ∷
       Long ∷
       Unread no_symbol ∷
-      Unread too_large_lem ∷
+      Unread too_large ∷
       Ungrammatical ∷
       Deep ∷
       Misnamed twice ∷
@@ -92,9 +93,9 @@ module _ (source table : List ℕ) where
       here : (n : ℕ) → r.answer.number ≡ n → Unread n r.place.at
       here n q = (l, h, e ∙ ap (λ k. some (refusal k r.place.at)) q)
 
-      go : (r.answer.number ≡ no_symbol) ⊎ (r.answer.number ≡ too_large_lem) → Given r.answer.number r.place.at
+      go : (r.answer.number ≡ no_symbol) ⊎ (r.answer.number ≡ too_large) → Given r.answer.number r.place.at
       go (inl q) = subst (λ n. Given n r.place.at) (sym q) (here no_symbol q)
-      go (inr q) = subst (λ n. Given n r.place.at) (sym q) (here too_large_lem q)
+      go (inr q) = subst (λ n. Given n r.place.at) (sym q) (here too_large q)
 
   named : (p : Grammatical source) (f : Fault) → table_words ≤ length table → least (name_faults (its_program p)) ≡ some f → Given f.answer (place_in source f.symbol)
   named p f l e = go (seven_to_nine (its_program p) f (least_among (name_faults (its_program p)) f e))
@@ -137,7 +138,7 @@ module _ (source table : List ℕ) where
   answered v words l j q e = (v, words ++ drop table_words table, enough l v words j, refl, sym e)
 
   taken : (q : ℕ) → Taken q → Answered source table zeroth q
-  taken q h = answered Accepted (filled (its_table h.1)) h.0 (accepted h.1 h.2 h.3) q h.4
+  taken q h = answered Accepted (filled (table_of (place_in source) (its_program h.1))) h.0 (accepted h.1 h.2 h.3) q h.4
 
   not_enough : (q : ℕ) → Short q → Answered source table short q
   not_enough q h = (Refused (refusal short 0), table, too_short h.0, refl, sym h.1)
@@ -168,7 +169,7 @@ module _ (source table : List ℕ) where
       also not_enough
       also too_much
       also not_read no_symbol
-      also not_read too_large_lem
+      also not_read too_large
       also not_parsed
       also not_shallow
       also not_named twice
@@ -207,16 +208,16 @@ module _ (source table : List ℕ) where
 
   -- ---- 3 and 4: nothing before the place is at fault
 
-  pub smallest_place : {v : Verdict} {new : List ℕ} → Reads source table v new → (number_of v ≡ no_symbol) ⊎ (number_of v ≡ too_large_lem)
+  pub smallest_place : {v : Verdict} {new : List ℕ} → Reads source table v new → (number_of v ≡ no_symbol) ⊎ (number_of v ≡ too_large)
       → FirstFault symbols source (refusal (number_of v) (place_of v))
   smallest_place {v} r h = first_fault symbols source (refusal (number_of v) (place_of v)) (go h)
     where
-      go : (number_of v ≡ no_symbol) ⊎ (number_of v ≡ too_large_lem) → (scan symbols source).refused ≡ some (refusal (number_of v) (place_of v))
+      go : (number_of v ≡ no_symbol) ⊎ (number_of v ≡ too_large) → (scan symbols source).refused ≡ some (refusal (number_of v) (place_of v))
       go (inl e) = let g : Unread no_symbol (place_of v) = subst (λ k. Given k (place_of v)) e (in_row r) in g.2 ∙ ap (λ k. some (refusal k (place_of v))) (sym e)
-      go (inr e) = let g : Unread too_large_lem (place_of v) = subst (λ k. Given k (place_of v)) e (in_row r) in g.2 ∙ ap (λ k. some (refusal k (place_of v))) (sym e)
+      go (inr e) = let g : Unread too_large (place_of v) = subst (λ k. Given k (place_of v)) e (in_row r) in g.2 ∙ ap (λ k. some (refusal k (place_of v))) (sym e)
 
   -- a 4 at what is not over its own limit is at symbol 2,049: 2,048 stand before it
-  pub at_the_limit : {v : Verdict} {new : List ℕ} → Reads source table v new → number_of v ≡ too_large_lem
+  pub at_the_limit : {v : Verdict} {new : List ℕ} → Reads source table v new → number_of v ≡ too_large
       → ((k : ℕ) × (lexeme (get_or source (place_of v) 0) (drop (place_of v + 1) source) ≡ Large k)) ⊎ (length (scan symbols (take (place_of v) source)).found ≡ symbols)
   at_the_limit {v} r e = go first.why e
     where
@@ -226,7 +227,7 @@ module _ (source table : List ℕ) where
       full : symbols - length (scan symbols source).found ≡ 0 → length (scan symbols (take (place_of v) source)).found ≡ symbols
       full z = omega (arith, ap (λ (x : Scan). length x.found) first.read_before, few_symbols symbols source)
 
-      go : {m : ℕ} → Why (symbols - length (scan symbols source).found) (get_or source (place_of v) 0) (drop (place_of v + 1) source) m → m ≡ too_large_lem
+      go : {m : ℕ} → Why (symbols - length (scan symbols source).found) (get_or source (place_of v) 0) (drop (place_of v + 1) source) m → m ≡ too_large
           → ((k : ℕ) × (lexeme (get_or source (place_of v) 0) (drop (place_of v + 1) source) ≡ Large k)) ⊎ (length (scan symbols (take (place_of v) source)).found ≡ symbols)
       go (no_symbol_lem x) q = absurd (omega arith)
       go (open-note s k x w o) q = absurd (omega arith)

@@ -98,7 +98,7 @@ module _ (kinds : List ℕ) {prelude places values : List ℕ} {n : ℕ} (s : Sy
   words_stand j b q =
       let w : WholePrelude (any.kinds_in symbols prelude) new j b = subst (λ ks. WholePrelude ks new j b) kinds_are (v.accepted j b q) in
       record {
-        symbols_in_lem = s;
+        symbols_in = s;
         read = record { scanned = record { short = s.scanned.short; whole = s.scanned.whole }; tree = w.tree; keeps = w.keeps };
         words = ap (take b) w.wrote ∙ ap (λ m. take m (prelude_nodes w.tree ++ zeros (32768 - b))) w.words ∙ take-append_seam (prelude_nodes w.tree) (zeros (32768 - b));
         many = w.words;
@@ -208,10 +208,10 @@ module _ {prelude places values nodes : List ℕ} {n b : ℕ} (x : PreludeNodes 
   alone = with_prelude 0 ps dummy
 
   spelled : length (yield x.read.tree) ≡ n
-  spelled = ap length x.read.keeps.spelled ∙ sym x.symbols_in_lem.count
+  spelled = ap length x.read.keeps.spelled ∙ sym x.symbols_in.count
 
   short : length (yield x.read.tree) ≤ 1024
-  short = omega (arith, spelled, x.symbols_in_lem.few)
+  short = omega (arith, spelled, x.symbols_in.few)
 
   pub nodes_few : b ≤ 16384
   nodes_few = omega (arith, x.many, prelude_room x.read.tree, short)
@@ -231,21 +231,21 @@ module _ {prelude places values nodes : List ℕ} {n b : ℕ} (x : PreludeNodes 
         depth = depth_with ps;
         there = there_with 0 ps dummy;
         noded = alone_words new w e;
-        few = omega (arith, x.symbols_in_lem.few);
-        named = map_all alone (λ y h. (h.0 ∙ ap (letters_at prelude) (sym (x.symbols_in_lem.placed y.symbol h.1)), h.1)) g;
+        few = omega (arith, x.symbols_in.few);
+        named = map_all alone (λ y h. (h.0 ∙ ap (letters_at prelude) (sym (x.symbols_in.placed y.symbol h.1)), h.1)) g;
         within = subst (SymbolsWithin n) (sym (e ∙ ap (λ (z : List ℕ). marked 0 z []) x.words)) (within_marked n 0 (prelude_nodes x.read.tree) [] (omega arith) (fours_weaken (λ s h. omega (arith, spelled)) (prelude_near x.read.tree)) no-four);
         room = omega arith;
       }
 
   placed : (k : ℕ) → place_from places n (length prelude) k ≡ any.place_in symbols prelude k
-  placed = place_in symbols (omega arith) x.symbols_in_lem
+  placed = place_in symbols (omega arith) x.symbols_in
 
   -- 7 to 10
   refused_for_lem : (i : Fault) (z : Refusal) → z ≡ refusal i.answer (place_from places n (length prelude) i.symbol)
       → JudgedBy prelude_judge prelude (NotAccepted (refusal i.answer (prelude_place prelude i.symbol))) (zeros 0) → PreludeTold prelude places values nodes (Refused z)
   refused_for_lem i z q j =
       let v : z ≡ refusal i.answer (any.place_in symbols prelude i.symbol) = q ∙ ap (refusal i.answer) (placed i.symbol) in
-      prelude_refused z (omega (arith, ap (λ z. z.place.at) v, place_small x.symbols_in_lem i.symbol))
+      prelude_refused z (omega (arith, ap (λ z. z.place.at) v, place_small x.symbols_in i.symbol))
       (subst (λ z. JudgedBy prelude_judge prelude (NotAccepted (further beyond z)) (zeros 0)) (sym v) j)
 
   module _ (new : List ℕ) {rows uses was marks : List ℕ} (w : ℕ) (e : take w new ≡ marked 0 (take b nodes) []) where
@@ -265,7 +265,7 @@ module _ {prelude places values nodes : List ℕ} {n b : ℕ} (x : PreludeNodes 
         let l = alone_four ps in
         (prelude_stands _ (record {
           whole = record { read = x.read; named = ap least (alone_named ps) ∙ h; typed = alone_type ps ∙ k };
-          symbols_in_lem = x.symbols_in_lem;
+          symbols_in = x.symbols_in;
           words = x.words;
           many = x.many;
           rows = four_times _ (length A) (declarations (prelude_alone ps)) (ap length R) l;

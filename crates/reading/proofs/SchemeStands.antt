@@ -65,7 +65,7 @@ refused_within most kinds {scheme} {n = n} l s h v a k q = omega (arith, refused
 
 module _ (prelude kinds : List ℕ) {scheme places values : List ℕ} {n : ℕ} (s : SymbolsIn (left prelude) scheme places values n) (h : take n kinds ≡ any.kinds_in (left prelude) scheme) {new : List ℕ} {r : Outcome} (v : ParseSays (text (take n kinds)) new r) where
   pub scheme_nodes : (j b : ℕ) → r ≡ Program-read j b → SchemeTold prelude scheme places values new (Program (record { symbols = n; nodes = b; rows = 0; uses = 0 }))
-  scheme_nodes j b q = let g = nodes_in_lem (left prelude) scheme kinds n h v s.scanned j b q in scheme_stands _ (record { symbols_in_lem = s; read = g.0; words = g.1; many = g.2 })
+  scheme_nodes j b q = let g = nodes_in_lem (left prelude) scheme kinds n h v s.scanned j b q in scheme_stands _ (record { symbols_in = s; read = g.0; words = g.1; many = g.2 })
 
   fault_of_lem : (a : Answer) (k : ℕ) → r ≡ Program-refused a k → (ps : List Procedure) → JudgedBy (scheme_judge prelude ps) scheme (NotAccepted (refusal a.number (any.place_in (left prelude) scheme k))) (zeros half_words)
   fault_of_lem a k q ps =
@@ -96,7 +96,7 @@ module _ {prelude scheme places values first : List ℕ} {p : Sizes} (f : Prelud
 
   module _ (z : Sizes) (e : t ≡ Program z) where
     abbrev pub apart : Apart prelude scheme places values places' values' first own p.symbols z.symbols p.nodes z.nodes
-    apart = record { whole = f.whole; before = f.symbols_in_lem; behind = told_nodes told z e; words = f.words; many = f.many }
+    apart = record { whole = f.whole; before = f.symbols_in; behind = told_nodes told z e; words = f.words; many = f.many }
 
     module _ {places₁ values₁ nodes own₁ rows uses was marks : List ℕ} {r : Found}
         (j : (a : Apart prelude scheme places values places' values' first own p.symbols z.symbols p.nodes z.nodes) → JoinTold prelude scheme places₁ values₁ nodes own₁ rows uses was marks a.whole a.behind.read z.nodes r) where

@@ -29,7 +29,6 @@ use Rattle.names.specs.Nodes.{nodes_e, nodes_n, nodes_left, nodes_s, nodes_ss, n
 use Rattle.names.specs.Outline.{size_s, size_ss, size_d, size_p, rows_n, rows_s, rows_ss, rows_d}
 use Rattle.names.specs.Prelude.{name_faults_with, rows_with, declarations_with}
 use Rattle.types.specs.Types.{as_left, own_sort, in_expression, faults_e, faults_left, sort_e, faults_s, faults_ss, faults_d, faults_p, type_faults, type_fault, type_fault_in}
-use Rattle.table.specs.Depths.{depths, depth_in}
 use Rattle.table.specs.Table.{fours, use_words, declaration_words, has_none, node_words, table_with}
 use Rattle.reading.specs.Judging.{filled}
 use Rattle.reading.specs.Judges.{GrammaticalBy, JudgedBy, misnamed, accepted}
@@ -102,23 +101,23 @@ q_b = record { scanned = record { short = leb-true (length B) 16384 refl; whole 
 -- a's place is 18, f's is 22 and 32,768 added; the scope of a is the third, behind the prelude's block and the body of f
 abbrev table_a : List ℕ
 table_a =
-    2 ∷ 21 ∷ 1 ∷ 18 ∷ 2 ∷ 26 ∷ 4 ∷ 32790 ∷ 2 ∷
+    2 ∷ 21 ∷ 1 ∷ 18 ∷ 26 ∷ 4 ∷ 32790 ∷
     1 ∷ 18 ∷ 1 ∷ 3 ∷ 1 ∷
     8 ∷ 1 ∷ 0 ∷ 0 ∷ 0 ∷ 4 ∷ 0 ∷ 1 ∷ 0 ∷ 5 ∷ 18 ∷ 0 ∷ 0 ∷ 2 ∷ 0 ∷ 0 ∷ 0 ∷ 23 ∷ 21 ∷ 2 ∷ 0 ∷ 30 ∷ 26 ∷ 2 ∷ 0 ∷ 24 ∷ 23 ∷ 0 ∷ 0 ∷ 3 ∷ 0 ∷ 0 ∷ 0 ∷ []
 
 -- the scheme's own f hides the prelude's
 abbrev table_b : List ℕ
 table_b =
-    1 ∷ 21 ∷ 1 ∷ 18 ∷ 2 ∷
+    1 ∷ 21 ∷ 1 ∷ 18 ∷
     1 ∷ 18 ∷ 1 ∷ 3 ∷ 1 ∷
     8 ∷ 1 ∷ 0 ∷ 0 ∷ 0 ∷ 4 ∷ 0 ∷ 1 ∷ 0 ∷ 5 ∷ 18 ∷ 0 ∷ 0 ∷ 2 ∷ 0 ∷ 0 ∷ 0 ∷ 23 ∷ 21 ∷ 2 ∷ 0 ∷ 28 ∷ 26 ∷ 0 ∷ 0 ∷ 24 ∷ 23 ∷ 0 ∷ 0 ∷ 3 ∷ 0 ∷ 0 ∷ 0 ∷ []
 
 is_a : ((scheme_judge P (procedures the_prelude)).name_fault A q_a.tree ≡ none) × ((scheme_judge P (procedures the_prelude)).type_fault A q_a.tree ≡ none) × ((scheme_judge P (procedures the_prelude)).words A q_a.tree ≡ table_a)
-unfolding blank letter digit in_name these reach value_from decimals equal before closed spelled named word gap followed sign sized name valued pointed with_point numberLexeme point lexeme behind ends_remark note counted judged turn scan_from scan same_name read build prelude_of program_from has variables_in in_block in_body find_in find_given meaning uses_e uses_s uses_ss uses_d uses_p scopes_s scopes_ss scopes_d scopes_p each twice_in heading_in all_names missing joined name_faults name_faults_with least rows_with yield as_left own_sort in_expression faults_e faults_left sort_e faults_s faults_ss faults_d faults_p type_faults type_fault type_fault_in nodes_e nodes_n nodes_left nodes_s nodes_ss nodes_d size_s size_ss size_d size_p rows_n rows_s rows_ss rows_d declarations_with fours use_words declaration_words has_none node_words table_with p_p the_prelude q_a folded depths depth_in
+unfolding blank letter digit in_name these reach value_from decimals equal before closed spelled named word gap followed sign sized name valued pointed with_point numberLexeme point lexeme behind ends_remark note counted judged turn scan_from scan same_name read build prelude_of program_from has variables_in in_block in_body find_in find_given meaning uses_e uses_s uses_ss uses_d uses_p scopes_s scopes_ss scopes_d scopes_p each twice_in heading_in all_names missing joined name_faults name_faults_with least rows_with yield as_left own_sort in_expression faults_e faults_left sort_e faults_s faults_ss faults_d faults_p type_faults type_fault type_fault_in nodes_e nodes_n nodes_left nodes_s nodes_ss nodes_d size_s size_ss size_d size_p rows_n rows_s rows_ss rows_d declarations_with fours use_words declaration_words has_none node_words table_with p_p the_prelude q_a folded
 is_a = (refl, refl, refl)
 
 is_b : ((scheme_judge P (procedures the_prelude)).name_fault B q_b.tree ≡ none) × ((scheme_judge P (procedures the_prelude)).type_fault B q_b.tree ≡ none) × ((scheme_judge P (procedures the_prelude)).words B q_b.tree ≡ table_b)
-unfolding blank letter digit in_name these reach value_from decimals equal before closed spelled named word gap followed sign sized name valued pointed with_point numberLexeme point lexeme behind ends_remark note counted judged turn scan_from scan same_name read build prelude_of program_from has variables_in in_block in_body find_in find_given meaning uses_e uses_s uses_ss uses_d uses_p scopes_s scopes_ss scopes_d scopes_p each twice_in heading_in all_names missing joined name_faults name_faults_with least rows_with yield as_left own_sort in_expression faults_e faults_left sort_e faults_s faults_ss faults_d faults_p type_faults type_fault type_fault_in nodes_e nodes_n nodes_left nodes_s nodes_ss nodes_d size_s size_ss size_d size_p rows_n rows_s rows_ss rows_d declarations_with fours use_words declaration_words has_none node_words table_with p_p the_prelude q_b folded depths depth_in
+unfolding blank letter digit in_name these reach value_from decimals equal before closed spelled named word gap followed sign sized name valued pointed with_point numberLexeme point lexeme behind ends_remark note counted judged turn scan_from scan same_name read build prelude_of program_from has variables_in in_block in_body find_in find_given meaning uses_e uses_s uses_ss uses_d uses_p scopes_s scopes_ss scopes_d scopes_p each twice_in heading_in all_names missing joined name_faults name_faults_with least rows_with yield as_left own_sort in_expression faults_e faults_left sort_e faults_s faults_ss faults_d faults_p type_faults type_fault type_fault_in nodes_e nodes_n nodes_left nodes_s nodes_ss nodes_d size_s size_ss size_d size_p rows_n rows_s rows_ss rows_d declarations_with fours use_words declaration_words has_none node_words table_with p_p the_prelude q_b folded
 is_b = (refl, refl, refl)
 
 pub half_a : Half P A Accepted (filled half_words table_a)

@@ -10,7 +10,6 @@ use crate::reading::clear;
 use crate::{Both, FoundBoth, TwoAnswers};
 use answers::{Answer, Refusal, Verdict};
 use names::passes::{first_rows, front};
-use table::sections::USE_WORDS;
 use table::writing::{fourths, write_behind};
 
 // A part of some words.
@@ -45,7 +44,7 @@ fn listed(
         part(declared, r, declared.len()),
         places,
     );
-    let end = USE_WORDS * (used.len() - u) + 1;
+    let end = 3 * (used.len() - u) + 1;
     fourths(&mut words[1..end]);
 }
 

@@ -16,7 +16,7 @@ use Rattle.symbols.specs.Names.{same_name, equal, folded}
 use Rattle.names.specs.Program.{Name, integer, Statement, number, done, then, assignment, procedure, dummy, compound, block, last, variables, declare, heading, none as no_more}
 use Rattle.names.specs.Scopes.{has, specified, variables_in, in_block, in_body, find_in, find_given, meaning}
 use Rattle.names.specs.Uses.{Fault, uses_e, uses_es, uses_s, uses_ss, uses_d, uses_p, scopes_s, scopes_ss, scopes_d, scopes_p, each, twice_in, all_names, missing, heading_in, joined, name_faults, least, Row, use_rows}
-use Rattle.renaming.specs.model.Relabel.{expr_r, stmt_r, stmts_r, decls_r, proc_r}
+use Rattle.renaming.specs.Relabel.{expr_r, stmt_r, stmts_r, decls_r, proc_r}
 
 -- ---- rules
 

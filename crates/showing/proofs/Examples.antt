@@ -89,6 +89,6 @@ unfolding marks_from under_in under_byte inside begun_before width_at width_of f
 mark = refl
 
 -- ---- sections: one use, no declaration, two nodes
-pub sections : (rows_at (1 ∷ 21 ∷ 1 ∷ 18 ∷ 2 ∷ 0 ∷ 2 ∷ []) ≡ 5) × (nodes_at (1 ∷ 21 ∷ 1 ∷ 18 ∷ 2 ∷ 0 ∷ 2 ∷ []) ≡ 6)
+pub sections : (rows_at (1 ∷ 21 ∷ 1 ∷ 18 ∷ 0 ∷ 2 ∷ []) ≡ 4) × (nodes_at (1 ∷ 21 ∷ 1 ∷ 18 ∷ 0 ∷ 2 ∷ []) ≡ 5)
 unfolding rows_at nodes_at
 sections = (refl, refl)

@@ -1,6 +1,7 @@
 -- What the tool shows of a source and of a table: lines and columns as people count them, rows of bytes, sections, levels. These are definitions of
 -- the tool and no part of the paper.
 use Rattle.std.specs.Prelude.{ℕ, zero, suc, ◌+◌, ◌-◌, min, ◌≡◌, Bool, cond, ◌&&◌, ◌||◌, List, [], ◌∷◌, ◌++◌, eqb, leb, ltb, length, get_or, take, drop}
+use Rattle.symbols.specs.Names.{in_name, reach}
 use Rattle.showing.specs.Characters.{width_at, inside}
 use Rattle.grammar.specs.NodeKinds.{n_block, n_block_end, n_procedure, n_procedure_end}
 
@@ -77,3 +78,9 @@ closes kind = eqb kind n_block_end || eqb kind n_procedure_end
 -- the level behind a node: one less where it closes a scope, one more where it opens one
 unfoldable pub level_behind : ℕ → ℕ → ℕ
 level_behind kind level = cond (closes kind) (level - 1) (level + cond (opens kind) 1 0)
+
+-- ---- names
+
+-- the byte behind the name at a place and the blanks behind it; 0 where the source ends
+unfoldable pub byte_behind : List ℕ → ℕ → ℕ
+byte_behind source p = get_or source (p + reach in_name (drop p source)) 0

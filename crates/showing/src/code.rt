@@ -1,8 +1,7 @@
 // The translation, instruction by instruction, in the words of docs/MACHINE.md.
 ghost use Rattle.std.specs.Prelude.{◌≡◌};
 
-use crate::preludes::{is_shared, own, say_place};
-use crate::text::{least, say, say_blanks, say_file, say_nth, say_number, say_numbered, spot_of};
+use crate::text::{least, say, say_blanks, say_nth, say_number, say_spot};
 use machine::operands::{FOUND_OFFSET, TEN_BITS, high, low, mid};
 use machine::{bounds, codes};
 
@@ -190,64 +189,9 @@ fn wide(n: u32) -> usize
     n as usize
 }
 
-// The source line that stands above the instructions before, from 1 on, and whether it is the prelude's; line 0 where none does yet.
-#[derive(Drop)]
-struct Above {
-    line: u64,
-    shared: bool,
-}
-
-// The line of a place, where another one stands above the instructions before; gives which one does now.
-fn show_line(source: &[u8], shared: &[u8], prelude: &[u8], place: usize, last: Above) -> Above {
-    if is_shared(place) {
-        let s = spot_of(prelude, own(place));
-        if last.line != s.line || !last.shared {
-            say_file(shared);
-            say(b", ");
-            say_numbered(prelude, s.line, s.start);
-        }
-        return Above {
-            line: s.line,
-            shared: true,
-        };
-    }
-    let s = spot_of(source, place);
-    if last.line != s.line || last.shared {
-        say_numbered(source, s.line, s.start);
-    }
-    Above {
-        line: s.line,
-        shared: false,
-    }
-}
-
-// That of an instruction: one without a place stands under the line of the one before.
-fn show_above(
-    source: &[u8],
-    shared: &[u8],
-    prelude: &[u8],
-    operation: u32,
-    place: usize,
-    last: Above,
-) -> Above {
-    if placed(operation, place) {
-        return show_line(source, shared, prelude, place, last);
-    }
-    last
-}
-
-fn show_instruction(
-    source: &[u8],
-    shared: &[u8],
-    prelude: &[u8],
-    address: usize,
-    first: u32,
-    second: u32,
-    last: Above,
-) -> Above {
+fn show_instruction(source: &[u8], address: usize, first: u32, second: u32) {
     let operation = first % codes::BASE;
     let place = wide(first / codes::BASE);
-    let above = show_above(source, shared, prelude, operation, place, last);
     say_indent(address);
     say_number(address as u64);
     say(b"  ");
@@ -255,18 +199,13 @@ fn show_instruction(
     say_operands(operation, place, second);
     if placed(operation, place) {
         say(b"  at ");
-        say_place(source, shared, prelude, place);
+        say_spot(source, place);
     }
     say(b"\n");
-    above
 }
 
-// The instructions, up to the first word that is none, of a source behind the prelude of a file, or alone, each line above those that it comes to.
-pub fn show_code(source: &[u8], shared: &[u8], prelude: &[u8], code: &[u32]) {
-    let mut last = Above {
-        line: 0,
-        shared: false,
-    };
+// The instructions, up to the first word that is none.
+pub fn show_code(source: &[u8], code: &[u32]) {
     let mut k: usize = 0;
     while k < bounds::WORDS / 2 {
         let at = 2 * k;
@@ -276,7 +215,7 @@ pub fn show_code(source: &[u8], shared: &[u8], prelude: &[u8], code: &[u32]) {
         if code[at] % codes::BASE == codes::NONE {
             return;
         }
-        last = show_instruction(source, shared, prelude, k, code[at], code[at + 1], last);
+        show_instruction(source, k, code[at], code[at + 1]);
         k += 1;
     }
 }

@@ -124,24 +124,11 @@ fn level_behind(kind: u16, level: usize) -> usize
     level + opened(kind)
 }
 
-// How many scopes are counted before the first one: none of a source alone, those of the prelude of one behind a prelude. The first scope is a
-// block, and the first declaration is one of its own.
-fn scopes_before(table: &[u16]) -> usize
-    ensures { result < 65536 }
-{
-    let s = sections_of(table);
-    let first = word(table, s.declarations + 3);
-    if first == 0 || word(table, s.declarations) == 0 {
-        return 0;
-    }
-    first - 1
-}
-
 pub fn show_levels(source: &[u8], table: &[u16]) {
     let s = sections_of(table);
     let n = word(table, s.nodes);
     let mut level: usize = 0;
-    let mut scope = scopes_before(table);
+    let mut scope: usize = 0;
     let mut k: usize = 0;
     while k < n {
         let node = s.nodes + 1 + 4 * k;

@@ -2,7 +2,7 @@
 pub mod taken; // what is written, and whether it was taken
 pub mod characters; // characters of UTF-8
 pub mod text; // lines, columns, printing
-pub mod preludes; // places of a prelude
+pub mod words; // sentences for answers
 pub mod uses; // what each name means
 pub mod levels; // the scopes
 pub mod code; // instructions

@@ -261,16 +261,8 @@ pub fn tell_place(to: i32, source: &[u8], place: usize) {
     tell_mark(to, source, from, place);
 }
 
-// The line that begins at a place, behind its number.
-pub fn say_numbered(source: &[u8], line: u64, start: usize) {
-    say(b"line ");
-    say_number(line);
-    say(b": ");
-    tell_line(STDOUT_FILENO, source, start);
-}
-
 // The letters and digits of the name at a place, as many as the row takes; gives how many.
-pub fn name_row(source: &[u8], at: usize, row: &mut [u8]) -> usize
+fn name_row(source: &[u8], at: usize, row: &mut [u8]) -> usize
     ensures fills { Fills (letters_at source.now at) row.old row.new result }
     ensures prefix_len { IsPrefixLen result row.new }
 {
@@ -293,14 +285,10 @@ pub fn name_row(source: &[u8], at: usize, row: &mut [u8]) -> usize
 }
 
 // The name at a place, without the blanks in it.
-pub fn tell_name(to: i32, source: &[u8], at: usize) {
+pub fn say_name(source: &[u8], at: usize) {
     let mut row = [0u8; 32];
     let n = name_row(source, at, &mut row);
-    tell(to, &row[..n]);
-}
-
-pub fn say_name(source: &[u8], at: usize) {
-    tell_name(STDOUT_FILENO, source, at);
+    say(&row[..n]);
 }
 
 // Line n of a text, from 0 on; nothing behind the last one.

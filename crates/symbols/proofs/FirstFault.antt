@@ -12,7 +12,7 @@ use lib.Dec.{eqb, ltb}
 use lib.ListN.{length, get_or, take, drop, length-drop, length-take, take-append-drop, get_or-eq_default, get_or-append, drop_of_length-le}
 use lib.Seq.{drop-append-le, drop-append-add, get_or-append-add}
 use borrow.Author.Tests.{ltb-false, le-ltb, eqb-true}
-use Rattle.answers.specs.Numbers.{no_symbol, too_large_lem}
+use Rattle.answers.specs.Numbers.{no_symbol, too_large}
 use Rattle.answers.specs.Answers.{answer}
 use Rattle.answers.specs.declared.Refusal.{Refusal}
 use Rattle.symbols.specs.Names.{blank, letter, digit, in_name, these, reach, value_from, decimals}
@@ -413,9 +413,9 @@ pub data Why (n b : ℕ) (bs : List ℕ) : ℕ → Type 0 where
   -- 3: "note without `;`"
   open-note : (s : Symbol) (k : ℕ) → lexeme b bs ≡ Is s k → is s Comment ≡ true → closed (code ";") (drop k bs) ≡ false → Why n b bs no_symbol
   -- 4: "number over 2,147,483,647; name over 32 characters"; a number with a point and more than 15 digits
-  over : (k : ℕ) → lexeme b bs ≡ Large k → Why n b bs too_large_lem
+  over : (k : ℕ) → lexeme b bs ≡ Large k → Why n b bs too_large
   -- 4: "symbol 2,049"
-  one_too_many : (s : Symbol) (k : ℕ) → lexeme b bs ≡ Is s k → n ≡ 0 → Why n b bs too_large_lem
+  one_too_many : (s : Symbol) (k : ℕ) → lexeme b bs ≡ Is s k → n ≡ 0 → Why n b bs too_large
 
 abbrev Because : ℕ → ℕ → List ℕ → Turn → Type 0
 Because n b bs (Pass c k) = Unit {0}
@@ -492,10 +492,10 @@ first_fault n source r q =
     }
 
 -- so the answer is 3 or 4
-pub three_or_four : (n : ℕ) (source : List ℕ) (r : Refusal) → (scan n source).refused ≡ some r → (r.answer.number ≡ no_symbol) ⊎ (r.answer.number ≡ too_large_lem)
+pub three_or_four : (n : ℕ) (source : List ℕ) (r : Refusal) → (scan n source).refused ≡ some r → (r.answer.number ≡ no_symbol) ⊎ (r.answer.number ≡ too_large)
 three_or_four n source r q = go (first_fault n source r q).why
   where
-    go : {m k b : ℕ} {bs : List ℕ} → Why k b bs m → (m ≡ no_symbol) ⊎ (m ≡ too_large_lem)
+    go : {m k b : ℕ} {bs : List ℕ} → Why k b bs m → (m ≡ no_symbol) ⊎ (m ≡ too_large)
     go (no_symbol_lem e) = inl refl
     go (open-note s k e w o) = inl refl
     go (over k e) = inr refl

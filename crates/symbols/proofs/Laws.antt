@@ -10,7 +10,7 @@ use lib.ListN.{length, get_or, take, drop, drop_of_length-le}
 use lib.Seq.{drop-cons}
 use borrow.Author.Tests.{ltb-true, ltb-false, leb-true, leb-false, lt-ltb, le-ltb, eq-eqb, ne_eqb}
 use Rattle.symbols.specs.Names.{blank, letter, digit, in_name, these, reach, letters, value_from, equal, folded, same_name}
-use Rattle.answers.specs.Numbers.{no_symbol, too_large_lem}
+use Rattle.answers.specs.Numbers.{no_symbol, too_large}
 use Rattle.answers.specs.Answers.{answer}
 use Rattle.symbols.specs.declared.Turn.TheVariants.{Keep, Refuse}
 use Rattle.symbols.specs.declared.Lexeme.TheVariants.{Large, Nothing}
@@ -235,7 +235,7 @@ rests_end s i j h = rw (rest_off s i h) (go (leb (length s) j) refl)
 
 -- ---- counting
 
-pub counted_none : (n : ℕ) (s : Symbol) (k : ℕ) → n ≡ 0 → counted n s k ≡ Refuse (answer too_large_lem)
+pub counted_none : (n : ℕ) (s : Symbol) (k : ℕ) → n ≡ 0 → counted n s k ≡ Refuse (answer too_large)
 unfolding counted
 counted_none n s k e = rw e
 

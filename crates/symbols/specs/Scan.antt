@@ -2,7 +2,7 @@
 use Rattle.std.specs.Prelude.{ℕ, zero, suc, pred, ◌+◌, Bool, cond, ◌&&◌, ◌||◌, List, [], ◌∷◌, ◌++◌, map, length, get_or, drop, eqb, ltb}
 use Prim.Native.Char.{code}
 use Rattle.std.proofs.Math.Option.{Option, none, some}
-use Rattle.answers.specs.Numbers.{no_symbol, too_large_lem}
+use Rattle.answers.specs.Numbers.{no_symbol, too_large}
 use Rattle.answers.specs.Answers.{answer, refusal}
 use Rattle.answers.specs.declared.Answer.{Answer}
 use Rattle.answers.specs.declared.Refusal.{Refusal}
@@ -128,7 +128,7 @@ note k bs =
 
 -- a symbol counts where n more may come; 4 is for one too many
 unfoldable pub counted : ℕ → Symbol → ℕ → Turn
-counted zero s k = Refuse (answer too_large_lem)
+counted zero s k = Refuse (answer too_large)
 counted (suc n) s k = Keep s (behind s) k
 
 -- "Inside it no note opens, sizes are not tested, but what is no symbol is still refused."
@@ -136,8 +136,8 @@ unfoldable pub judged : ℕ → Context → Lexeme → List ℕ → Turn
 judged n Opens (Is s k) bs = cond (is s Comment) (note k bs) (counted n s k)
 judged n Plain (Is s k) bs = counted n s k
 judged n Remark (Is s k) bs = cond (ends_remark s) (counted n s k) (Pass Remark k)
-judged n Opens (Large k) bs = Refuse (answer too_large_lem)
-judged n Plain (Large k) bs = Refuse (answer too_large_lem)
+judged n Opens (Large k) bs = Refuse (answer too_large)
+judged n Plain (Large k) bs = Refuse (answer too_large)
 judged n Remark (Large k) bs = Pass Remark k
 judged n Opens Nothing bs = Refuse (answer no_symbol)
 judged n Plain Nothing bs = Refuse (answer no_symbol)

@@ -1,12 +1,6 @@
 // The table's words, and where its sections begin. docs/TABLE.md has the table.
-ghost use Rattle.std.specs.Prelude.{◌≡◌, ◌<◌, min, get_or};
-ghost use Rattle.table.specs.Sections.{use_at, rows_at, nodes_at};
-
-// How many words a use has.
-pub const USE_WORDS: usize = 4;
-
-// How many it had before request 10, and has in lists that were stored then.
-pub const OLD_WORDS: usize = 3;
+ghost use Rattle.std.specs.Prelude.{◌≡◌, ◌<◌, get_or};
+ghost use Rattle.table.specs.Sections.{rows_at, nodes_at};
 
 fn wide(word: u16) -> usize
     ensures value { result ≡ word }
@@ -26,26 +20,6 @@ pub fn word(table: &[u16], at: usize) -> usize
     0
 }
 
-// Where the words of use k begin; where the uses end, if there are no more than k.
-pub fn use_at(table: &[u16], k: usize) -> usize
-    ensures value { result ≡ use_at (min k (get_or table.now 0 0)) }
-    ensures upper_bound { result < 262144 }
-{
-    let n = word(table, 0);
-    if k < n {
-        return USE_WORDS * k + 1;
-    }
-    USE_WORDS * n + 1
-}
-
-// Where the uses end, and the count of the declarations stands.
-pub fn uses_end(table: &[u16]) -> usize
-    ensures value { result ≡ rows_at table.now }
-    ensures upper_bound { result < 262144 }
-{
-    USE_WORDS * word(table, 0) + 1
-}
-
 // Where the counts of the declarations and of the nodes stand.
 #[derive(Drop)]
 pub struct Sections {
@@ -59,7 +33,7 @@ pub fn sections_of(table: &[u16]) -> Sections
     ensures declarations_bound { result.declarations < 262144 }
     ensures nodes_bound { result.nodes < 524288 }
 {
-    let declarations = uses_end(table);
+    let declarations = 3 * word(table, 0) + 1;
     let nodes = declarations + 4 * word(table, declarations) + 1;
     Sections {
         declarations,

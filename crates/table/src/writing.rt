@@ -4,7 +4,6 @@ ghost use Rattle.names.specs.model.Rows.{is_use, meant_of};
 ghost use Rattle.table.specs.Table.{has_none, declaration_words, node_words};
 ghost use Rattle.table.specs.model.Writing.{Wrote, Enters, Writes, among, place_of, meant_words, use_model, table_model, table_behind, fourth_kind, fourths as the-fourths};
 
-use crate::sections::USE_WORDS;
 use answers::Ordinal;
 use grammar::nodes;
 use names::Meant;
@@ -68,18 +67,17 @@ fn kind_number(kind: u16) -> u16
     if kind < 4 { 0 } else { kind - 4 }
 }
 
-// A use: its place, its kind, the place of the declaring name or the environment number, and its depth.
+// A use: its place, its kind, and the place of the declaring name or the environment number.
 fn put_use(
     table: &mut [u16],
     at: usize,
     symbol: Ordinal,
-    depth: u16,
     word: u16,
     rows: &[u16],
     places: &[usize; 2048],
 )
-    requires { at + 4 ≤ length table.old }
-    ensures { Wrote table.old table.new at (meant_words (place_of places.now) rows.now symbol.number depth (meant_of word)) }
+    requires { at + 3 ≤ length table.old }
+    ensures { Wrote table.old table.new at (meant_words (place_of places.now) rows.now symbol.number (meant_of word)) }
 {
     let p = place_word(places, symbol);
     match meant(word) {
@@ -88,10 +86,10 @@ fn put_use(
             let kind = kind_number(word_at(rows, r));
             let symbol = word_at(rows, r + 1);
             let declared = place_word(places, Ordinal { number: symbol });
-            put_four(table, at, p, kind, declared, depth)
+            put_three(table, at, p, kind, declared)
         }
-        Meant::Given(e) => put_four(table, at, p, 0, e.number, depth),
-        Meant::Nothing => put_four(table, at, p, 0, 0, depth),
+        Meant::Given(e) => put_three(table, at, p, 0, e.number),
+        Meant::Nothing => put_three(table, at, p, 0, 0),
     }
 }
 
@@ -134,16 +132,8 @@ fn put_uses(
             let symbol = Ordinal {
                 number: nodes[k + 1],
             };
-            put_use(
-                table,
-                at,
-                symbol,
-                nodes[k + 2],
-                use_at(uses, u),
-                rows,
-                places,
-            );
-            at += USE_WORDS;
+            put_use(table, at, symbol, use_at(uses, u), rows, places);
+            at += 3;
             u += 1;
         }
         i += 1;
@@ -247,7 +237,7 @@ fn needed(nodes: &[u16], own: &[u16]) -> usize
     requires { (length nodes.now ≤ 32768) × (length own.now ≤ 32768) }
     ensures { (place : ℕ → ℕ) (rows uses : List ℕ) → result ≡ length (table_behind place rows own.now nodes.now uses) }
 {
-    3 + USE_WORDS * uses_among(nodes) + 4 * (own.len() / 4) + 4 * (nodes.len() / 4)
+    3 + 3 * uses_among(nodes) + 4 * (own.len() / 4) + 4 * (nodes.len() / 4)
 }
 
 // The table of some arrays, written over the front of the one that is lent; where they are longer than a front end's, or the
@@ -302,13 +292,13 @@ fn fourth_kind(kind: u16, place: u16) -> u16
     if place < 32768 { kind } else { 4 }
 }
 
-// Of uses: those that mean a name of a prelude, whose places are from 32,768 on, get kind 4.
+// Of uses, three words each: those that mean a name of a prelude, whose places are from 32,768 on, get kind 4.
 pub fn fourths(words: &mut [u16])
     ensures { words.new ≡ the-fourths words.old }
 {
     let mut i = 0;
-    while USE_WORDS * i + 3 < words.len() {
-        let k = USE_WORDS * i;
+    while 3 * i + 2 < words.len() {
+        let k = 3 * i;
         let kind = fourth_kind(words[k + 1], words[k + 2]);
         let second = k + 1;
         words[second] = kind;

@@ -237,8 +237,8 @@ module _ (tb : Tables) where
   Opens R s i = R × (get_or tb.ahead s 0 ≡ there i)
 
   -- where a procedure begins
-  pub begins_at_lem : (j : Bool) (s b : ℕ) (fl : Flow) → fl.at ≡ b → (wrote_all (jump_parts tb j s) fl).at ≡ end_jump j b
-  begins_at_lem j s b fl i = (wrote_all_lem (jump_parts tb j s) b fl i).at ∙ jump_past j s b
+  pub begins_at : (j : Bool) (s b : ℕ) (fl : Flow) → fl.at ≡ b → (wrote_all (jump_parts tb j s) fl).at ≡ end_jump j b
+  begins_at j s b fl i = (wrote_all_lem (jump_parts tb j s) b fl i).at ∙ jump_past j s b
 
   -- what stands there
   pub entry_uses : (j : Bool) (s b : ℕ) (fl : Flow) → (entry_flow tb j s b fl).uses ≡ fl.uses
@@ -259,7 +259,7 @@ module _ {tb : Tables} {R : Type 0} {ws : List ℕ} {us : List Use} {e : ℕ} {A
       let k = wrote_all_lem (jump_parts tb j s) b fl h in
       let on =
       goes_then (goes_node n_type 0 a 0 (type_idle tb 0 a fr fl))
-      (goes_then (goes_node n_procedure f 0 0 (procedure_step tb j f s (end_jump j b) fr fl o v (begins_at_lem tb j s b fl h)))
+      (goes_then (goes_node n_procedure f 0 0 (procedure_step tb j f s (end_jump j b) fr fl o v (begins_at tb j s b fl h)))
       (goes_then y.goes (goes_node n_procedure_end f 0 0 (return_step tb f fr y.next)))) in (
         record {
           next = varied 1 (wrote 7 0 0 y.next);

@@ -31,7 +31,7 @@ use Rattle.translating.proofs.ActualWords.{word_in}
 use Rattle.translating.proofs.WrittenAssignments.{assignment_part}
 use Rattle.translating.proofs.WrittenCommands.{command_part}
 use Rattle.translating.proofs.WrittenLoops.{loop_part}
-use Rattle.translating.proofs.WrittenBlocks.{in_block, with_cells, in_procedure, block_flow, opened_flow, flag, entry_flow, Opens, begins_at_lem, entry_uses, entry_many, cells_behind, declared_passed, nothing_part, heading_part, procedure_passed, block_passed}
+use Rattle.translating.proofs.WrittenBlocks.{in_block, with_cells, in_procedure, block_flow, opened_flow, flag, entry_flow, Opens, begins_at, entry_uses, entry_many, cells_behind, declared_passed, nothing_part, heading_part, procedure_passed, block_passed}
 use Rattle.translation.proofs.Ranges.{owns, total_variables}
 
 -- ---- the cells of declarations
@@ -111,7 +111,7 @@ module _ (tb : Tables) where
   unfolding nodes_s uses_s end_s ahead_s entered_s code_s
   procedure_part R g m j t f xs vs ss s d b n x o i us fr fl w u a k e v =
       let y =
-      (heading_part (n + 1) f.symbol xs vs ss x).pass us (in_procedure fr) (entry_flow tb j o (end_jump j b) fl) (record { level = ap suc w.level; loops = refl; lefts = w.lefts; awaits = w.awaits }) (entry_uses tb j o (end_jump j b) fl ∙ u) (begins_at_lem tb j o b fl a) (entry_many tb j o (end_jump j b) n fl k) in
+      (heading_part (n + 1) f.symbol xs vs ss x).pass us (in_procedure fr) (entry_flow tb j o (end_jump j b) fl) (record { level = ap suc w.level; loops = refl; lefts = w.lefts; awaits = w.awaits }) (entry_uses tb j o (end_jump j b) fl ∙ u) (begins_at tb j o b fl a) (entry_many tb j o (end_jump j b) n fl k) in
       procedure_passed j (sort_number t) f.symbol o i b (nodes_p d (heading t f xs vs ss s)) (simp append_assoc) e v a y
 
   none_part : (R : Type 0) (g : List Around) (m : ℕ) (j : Bool) (d b n : ℕ) → IsD R g m j no_more d b n

@@ -3,7 +3,7 @@
 -- Assumes nothing.
 use mathlib.Core.Path.{◌≡◌, refl, ap}
 use mathlib.Core.Bool.{Bool, true, false, cond, ◌&&◌, ◌||◌, true≢false}
-use mathlib.Core.List.{List, ◌++◌}
+use mathlib.Core.List.{List}
 use Prim.Native.Nat.{ℕ, ◌+◌, ◌*◌, ◌≤◌, min}
 use native.Mathlib.Omega.{arith}
 use lib.Dec.{eqb, ltb, leb}
@@ -15,7 +15,6 @@ use Rattle.answers.specs.declared.Verdict.TheVariants.{Refused}
 use Rattle.answers.specs.Numbers.{accepted}
 use Rattle.clean.specs.declared.Written.{Written}
 use Rattle.clean.specs.Numbers.{number_of as pageNumber, length_of}
-use Rattle.checking.specs.declared.Moved.{Moved}
 use Rattle.symbols.specs.Names.{digit, value_from}
 use Rattle.symbols.specs.Text.{bytes}
 use Rattle.machine.specs.Machine.{Exit}
@@ -25,9 +24,7 @@ use Rattle.vectors.specs.declared.tally.Tally.{Tally}
 use Rattle.vectors.specs.Listed.{digits, behind, digits_at, number_at, second_line, run_listed, nothing, one_run, one_source, one_page, one_list, one_difference, checked, most_of, answered_by, accepted_by, same_uses, after_read}
 use Rattle.vectors.specs.Pages.{all, same_page, same_meanings, numbered, written_by, BackTold, AgainTold, after_page, Turned, unwritten, turned, after_lent, room_listed, ListedTold, unlisted, listed, WriteTold}
 use Rattle.vectors.specs.Ended.{begins, numbers, after, all_are, cleared, all_words, stopped_by, strays, after_steps, after_written, after_taken, after_place, after_stop, after_exit, after_supplied, after_listed, after_refused, after_accepted, after_translate}
-use Rattle.vectors.specs.Sent.{said_by, ListTold, FourTold, OwnTold, refused, accepted as own-accepted, answered_so, OldTold, DoneTold, is_checked, is_old, is_moved, ListsTold, own_alone, and_sent}
-use Rattle.vectors.specs.Moving.{moved_so, same_room, lent_in, due_in, after_move, MoveTold}
-use Rattle.vectors.specs.Twos.{fresh_table}
+use Rattle.vectors.specs.Sent.{said_by, ListTold, FourTold, OwnTold, refused, accepted as own-accepted, ListsTold, own_alone, and_sent}
 use Rattle.vectors.specs.Counted.{RowTold, Rows, none, more}
 
 -- the count of 32 bits, and that it does not fall
@@ -159,32 +156,10 @@ module _ {source text : List ℕ} {t r : Tally} (w : WriteTold source text t r) 
 
 -- ---- so do the lists of a source
 
-list_keeps : {old : Bool} {source : List ℕ} {list : List ℤ} {kind number place : ℕ} {t r : Tally} → ListTold old source list kind number place t r → t.differences ≤ 4294967295 → Kept t r
+list_keeps : {source : List ℕ} {list : List ℤ} {kind number place : ℕ} {t r : Tally} → ListTold source list kind number place t r → t.differences ≤ 4294967295 → Kept t r
 list_keeps {t = t} l h =
     let k = check_keeps (said_by l.answer _ _ _) (one_list t) h in
     rw l.told (record { below = k.below; no_less = k.no_less })
-
-old_keeps : {source : List ℕ} {list : List ℤ} {kind number place : ℕ} {t r : Tally} → OldTold source list kind number place t r → t.differences ≤ 4294967295 → Kept t r
-old_keeps o h =
-    let a = list_keeps o.was_checked h in
-    let b = check_keeps (answered_so o.answer _ _ _) o.between a.below in
-    rw o.told (record { below = b.below; no_less = omega (arith, a.no_less, b.no_less) })
-
-said_keeps : (text : List ℕ) (kind number place : ℕ) (m : Moved) (room : List ℕ) (t : Tally) → t.differences ≤ 4294967295 → Kept (checked (moved_so m kind number place) (one_list t)) (after_move m room text kind number place t)
-said_keeps text kind number place m room t h =
-    let a = check_keeps (moved_so m kind number place) (one_list t) h in
-    check_keeps (same_room room text (due_in text).next (min (due_in text).value 40003)) _ a.below
-
-move_keeps : {back : Bool} {source text : List ℕ} {list : List ℤ} {kind number place : ℕ} {t r : Tally} → MoveTold back source text list kind number place t r → t.differences ≤ 4294967295 → Kept t r
-move_keeps {text = text} {kind = kind} {number = number} {place = place} {t = t} m h =
-    let a = check_keeps (moved_so m.answer kind number place) (one_list t) h in
-    let b = said_keeps text kind number place m.answer (m.room ++ drop (min (lent_in text).value 40002) fresh_table) t h in
-    rw m.told (record { below = b.below; no_less = omega (arith, a.no_less, b.no_less) })
-
-pub done_keeps : {job : ℕ} {source text : List ℕ} {list : List ℤ} {kind number place : ℕ} {t r : Tally} → DoneTold job source text list kind number place t r → t.differences ≤ 4294967295 → Kept t r
-done_keeps (is_checked e l) h = list_keeps l h
-done_keeps (is_old e o) h = old_keeps o h
-done_keeps (is_moved m) h = move_keeps m h
 
 four_keeps : {source table : List ℕ} {t r : Tally} → FourTold source table t r → t.differences ≤ 4294967295 → Kept t r
 four_keeps l h =
@@ -201,7 +176,7 @@ lists_keep : {source text : List ℕ} {t r : Tally} → ListsTold source text t 
 lists_keep (own_alone l o) h = own_keeps o h
 lists_keep (and_sent l o s) h =
     let a = own_keeps o h in
-    then a (done_keeps s a.below)
+    then a (list_keeps s a.below)
 
 -- ---- the rows
 
@@ -284,23 +259,8 @@ turned_right {t = t} (turned e s r b a) h z =
     (right_either _ _ (one_page t) (rw b.told at y), right_either _ _ s (rw a.told at z))
 
 -- a list was answered as is due
-abbrev pub ListRight : {old : Bool} {source : List ℕ} {list : List ℤ} {kind number place : ℕ} {t r : Tally} → ListTold old source list kind number place t r → Type 0
+abbrev pub ListRight : {source : List ℕ} {list : List ℤ} {kind number place : ℕ} {t r : Tally} → ListTold source list kind number place t r → Type 0
 ListRight {kind = kind} {number = number} {place = place} l = said_by l.answer kind number place ≡ true
-
--- .. checked, and moved so
-abbrev pub OldRight : {source : List ℕ} {list : List ℤ} {kind number place : ℕ} {t r : Tally} → OldTold source list kind number place t r → Type 0
-OldRight {kind = kind} {number = number} {place = place} o = ListRight o.was_checked × (answered_so o.answer kind number place ≡ true)
-
--- .. moved so, and the room holds what is listed and behind it what it held
-abbrev pub MoveRight : {back : Bool} {source text : List ℕ} {list : List ℤ} {kind number place : ℕ} {t r : Tally} → MoveTold back source text list kind number place t r → Type 0
-MoveRight {text = text} {kind = kind} {number = number} {place = place} m =
-    (moved_so m.answer kind number place ≡ true)
-    × (same_room (m.room ++ drop (min (lent_in text).value 40002) fresh_table) text (due_in text).next (min (due_in text).value 40003) ≡ true)
-
-unfoldable pub DoneRight : {job : ℕ} {source text : List ℕ} {list : List ℤ} {kind number place : ℕ} {t r : Tally} → DoneTold job source text list kind number place t r → Type 0
-DoneRight (is_checked e l) = ListRight l
-DoneRight (is_old e o) = OldRight o
-DoneRight (is_moved m) = MoveRight m
 
 unfoldable pub OwnRight : {source : List ℕ} {t r : Tally} → OwnTold source t r → Type 0
 OwnRight (refused q e) = Unit {0}
@@ -308,21 +268,10 @@ OwnRight (own-accepted q e l) = ListRight l.whole × ListRight l.short × ListRi
 
 unfoldable pub ListsRight : {source text : List ℕ} {t r : Tally} → ListsTold source text t r → Type 0
 ListsRight (own_alone h o) = OwnRight o
-ListsRight (and_sent h o s) = OwnRight o × DoneRight s
+ListsRight (and_sent h o s) = OwnRight o × ListRight s
 
-list_right : {old : Bool} {source : List ℕ} {list : List ℤ} {kind number place : ℕ} {t r : Tally} (l : ListTold old source list kind number place t r) → r.differences ≡ 0 → ListRight l
+list_right : {source : List ℕ} {list : List ℤ} {kind number place : ℕ} {t r : Tally} (l : ListTold source list kind number place t r) → r.differences ≡ 0 → ListRight l
 list_right {t = t} l z = right_check _ (one_list t) (rw l.told at z)
-
-pub done_right : {job : ℕ} {source text : List ℕ} {list : List ℤ} {kind number place : ℕ} {t r : Tally} (d : DoneTold job source text list kind number place t r)
-    → t.differences ≤ 4294967295 → r.differences ≡ 0 → DoneRight d
-unfolding DoneRight
-done_right (is_checked e l) h z = list_right l z
-done_right (is_old e o) h z =
-    let y = rw o.told at z in
-    (list_right o.was_checked (none_before (check_keeps (answered_so o.answer _ _ _) o.between (list_keeps o.was_checked h).below) y), right_check _ o.between y)
-done_right {text = text} {kind = kind} {number = number} {place = place} {t = t} (is_moved m) h z =
-    let y = rw m.told at z in
-    (right_check _ (one_list t) (none_before (said_keeps text kind number place m.answer (m.room ++ drop (min (lent_in text).value 40002) fresh_table) t h) y), right_check _ _ y)
 
 own_right : {source : List ℕ} {t r : Tally} (o : OwnTold source t r) → t.differences ≤ 4294967295 → r.differences ≡ 0 → OwnRight o
 unfolding OwnRight
@@ -338,9 +287,7 @@ own_right (own-accepted q e l) h z =
 lists_right : {source text : List ℕ} {t r : Tally} (l : ListsTold source text t r) → t.differences ≤ 4294967295 → r.differences ≡ 0 → ListsRight l
 unfolding ListsRight
 lists_right (own_alone l o) h z = own_right o h z
-lists_right (and_sent l o s) h z =
-    let k = (own_keeps o h).below in
-    (own_right o h (none_before (done_keeps s k) z), done_right s k z)
+lists_right (and_sent l o s) h z = (own_right o h (none_before (list_keeps s (own_keeps o h).below) z), list_right s z)
 
 -- each row was answered as is listed, by read, by translate and by write, its pages were right, and its lists were answered as is due
 unfoldable pub Right : {n : ℕ} {t : Tally} → Rows n t → Type 0

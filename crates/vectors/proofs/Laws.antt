@@ -6,7 +6,7 @@ use Prim.Native.Nat.{ℕ, zero, suc, ◌+◌, ◌-◌, ◌≤◌, ◌<◌}
 use native.Mathlib.Omega.{arith}
 use native.Mathlib.Numerals.{add-one}
 use lib.IntN.{ℤ, pos}
-use lib.ListN.{length, get_or, take, drop, set, replicate, drop_of_length-le, length-replicate}
+use lib.ListN.{length, get_or, take, drop, set, drop_of_length-le}
 use lib.Seq.{drop-cons, drop-drop, take-suc-set}
 use lib.Dec.{eqb}
 use mir.Syntax.{Width}
@@ -23,7 +23,6 @@ use Rattle.vectors.specs.declared.texts.Numeral.{Numeral}
 use Rattle.vectors.specs.Listed.{number_at, whole_of}
 use Rattle.vectors.specs.Pages.{fresh_room}
 use Rattle.vectors.specs.Ended.{stopped_by, numbers, after, begins, all_are}
-use Rattle.vectors.specs.Sent.{words_from, own_words}
 
 -- ---- tests in a row
 
@@ -157,16 +156,3 @@ module _ (text : List ℕ) (count i at : ℕ) (n : Numeral) (next : n ≡ number
       let f : take (i + 1) (set s i x) ≡ take i s ++ (x ∷ []) = rw add-one (take-suc-set s i x k) in
       let g : numbers text (count - i) at ≡ x ∷ numbers text (count - (i + 1)) n.next = numbers_on text count i at h ∙ rw (e, next) in
       rw (f, g) (sym (append_assoc (take i s) (x ∷ []) (numbers text (count - (i + 1)) n.next)))
-
--- ---- the words of a table as a list of 32,768 numbers
-
-pub length_words : (table : List ℕ) (k at : ℕ) → length (words_from table k at) ≡ k
-unfolding words_from
-length_words table zero at = refl
-length_words table (suc k) at = ap suc (length_words table k (at + 1))
-
-pub own_words_lem : (table : List ℕ) (l : List ℤ) → l ≡ words_from table (length (replicate {A = ℤ} 32768 (pos 0))) 0 → l ≡ own_words table
-own_words_lem table l e = e ∙ ap (λ (k : ℕ). words_from table k 0) (length-replicate {A = ℤ} 32768 (pos 0))
-
-pub all_words : (table : List ℕ) (l : List ℤ) → l ≡ words_from table (length (replicate {A = ℤ} 32768 (pos 0))) 0 → length l ≡ 32768
-all_words table l e = ap length (own_words_lem table l e) ∙ length_words table 32768 0

@@ -8,7 +8,6 @@ use native.Mathlib.Omega.{arith}
 use lib.Dec.{ltb}
 use lib.ListN.{length, get_or, take, drop}
 use Rattle.answers.specs.declared.Verdict.{Verdict}
-use Rattle.table.specs.Sections.{rows_at}
 use Rattle.vectors.specs.declared.tally.Tally.{Tally}
 use Rattle.vectors.specs.Listed.{one_source, checked, answered_by, accepted_by}
 use Rattle.vectors.specs.Pages.{all}
@@ -148,7 +147,7 @@ behind_right {table = table} {n = n} {t = t} b h z = after_behind_right b.verdic
 unfoldable pub SourceRight : {source : List ℕ} {named : Bool} {t r : Tally} → SourceTold source named t r → Type 0
 SourceRight (not-read q e) = Unit {0}
 SourceRight (alone-so {table = table} q e d b) = BehindRight b.verdict b.verdict' b.words table 16384
-SourceRight (uses-so {table = table} q e d b) = BehindRight b.verdict b.verdict' b.words table (min (rows_at table) 16384)
+SourceRight (uses-so {table = table} q e d b) = BehindRight b.verdict b.verdict' b.words table (min (3 * get_or table 0 0 + 1) 16384)
 
 source_right : {source : List ℕ} {named : Bool} {t r : Tally} (s : SourceTold source named t r) → t.differences ≤ 4294967295 → r.differences ≡ 0 → SourceRight s
 unfolding SourceRight

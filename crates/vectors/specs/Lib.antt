@@ -1,12 +1,8 @@
 pub mod Listed
 pub mod Pages
 pub mod Ended
-pub mod Moving
 pub mod Sent
-pub mod Stored
 pub mod Capitals
 pub mod Counted
 pub mod Months
 pub mod Twos
-pub mod Editions
-pub mod Renamed

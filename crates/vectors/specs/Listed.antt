@@ -1,15 +1,12 @@
 -- What is listed of a source, and what a tally of differences comes to. No part of the paper.
-use Rattle.std.specs.Prelude.{ℕ, zero, suc, ◌+◌, ◌*◌, ◌/◌, ◌%◌, min, ◌≡◌, Bool, true, false, cond, not, ◌&&◌, ◌||◌, List, [], ◌∷◌, eqb, ltb, leb, ℤ, pos, neg_ℤ, length, get_or, take, drop, replicate}
+use Rattle.std.specs.Prelude.{ℕ, ◌+◌, ◌*◌, ◌%◌, min, ◌≡◌, Bool, true, false, cond, not, ◌&&◌, ◌||◌, List, [], ◌∷◌, eqb, ltb, leb, ℤ, pos, neg_ℤ, length, get_or, take, drop, replicate}
 use Prim.Native.Char.{code}
 use Rattle.std.specs.Int.Signed.{mag}
 use Rattle.answers.specs.Numbers.{accepted}
 use Rattle.answers.specs.Answers.{number_of, place_of}
 use Rattle.answers.specs.declared.Verdict.{Verdict}
 use Rattle.symbols.specs.Names.{digit, value_from}
-use Rattle.table.specs.Sections.{rows_at}
-use Rattle.table.specs.Table.{use_wide}
 use Rattle.reading.specs.Reading.{Reads}
-use Rattle.checking.specs.Checking.{three}
 use Rattle.vectors.specs.declared.texts.Numeral.{Numeral}
 use Rattle.vectors.specs.declared.tally.Tally.{Tally}
 
@@ -69,39 +66,35 @@ more n = min (n + 1) 4294967295
 
 -- nothing is counted yet
 abbrev pub nothing : Tally
-nothing = record { sources = 0; runs = 0; pages = 0; back = 0; again = 0; lists = 0; old = 0; differences = 0; done = 0; steps = 1 }
+nothing = record { sources = 0; runs = 0; pages = 0; back = 0; again = 0; lists = 0; differences = 0; done = 0; steps = 1 }
 
 -- one source more
 abbrev pub one_source : Tally → Tally
-one_source t = record { sources = more t.sources; runs = t.runs; pages = t.pages; back = t.back; again = t.again; lists = t.lists; old = t.old; differences = t.differences; done = t.done; steps = t.steps }
+one_source t = record { sources = more t.sources; runs = t.runs; pages = t.pages; back = t.back; again = t.again; lists = t.lists; differences = t.differences; done = t.done; steps = t.steps }
 
 -- one run more
 abbrev pub one_run : Tally → Tally
-one_run t = record { sources = t.sources; runs = more t.runs; pages = t.pages; back = t.back; again = t.again; lists = t.lists; old = t.old; differences = t.differences; done = t.done; steps = t.steps }
+one_run t = record { sources = t.sources; runs = more t.runs; pages = t.pages; back = t.back; again = t.again; lists = t.lists; differences = t.differences; done = t.done; steps = t.steps }
 
 -- one page more
 abbrev pub one_page : Tally → Tally
-one_page t = record { sources = t.sources; runs = t.runs; pages = more t.pages; back = t.back; again = t.again; lists = t.lists; old = t.old; differences = t.differences; done = t.done; steps = t.steps }
+one_page t = record { sources = t.sources; runs = t.runs; pages = more t.pages; back = t.back; again = t.again; lists = t.lists; differences = t.differences; done = t.done; steps = t.steps }
 
 -- one more that was read back as the same program
 abbrev pub one_back : Tally → Tally
-one_back t = record { sources = t.sources; runs = t.runs; pages = t.pages; back = more t.back; again = t.again; lists = t.lists; old = t.old; differences = t.differences; done = t.done; steps = t.steps }
+one_back t = record { sources = t.sources; runs = t.runs; pages = t.pages; back = more t.back; again = t.again; lists = t.lists; differences = t.differences; done = t.done; steps = t.steps }
 
 -- one more that was written again as the same bytes
 abbrev pub one_again : Tally → Tally
-one_again t = record { sources = t.sources; runs = t.runs; pages = t.pages; back = t.back; again = more t.again; lists = t.lists; old = t.old; differences = t.differences; done = t.done; steps = t.steps }
+one_again t = record { sources = t.sources; runs = t.runs; pages = t.pages; back = t.back; again = more t.again; lists = t.lists; differences = t.differences; done = t.done; steps = t.steps }
 
 -- one list more
 abbrev pub one_list : Tally → Tally
-one_list t = record { sources = t.sources; runs = t.runs; pages = t.pages; back = t.back; again = t.again; lists = more t.lists; old = t.old; differences = t.differences; done = t.done; steps = t.steps }
-
--- one more of them in the form of three words a use
-abbrev pub one_old : Tally → Tally
-one_old t = record { sources = t.sources; runs = t.runs; pages = t.pages; back = t.back; again = t.again; lists = t.lists; old = more t.old; differences = t.differences; done = t.done; steps = t.steps }
+one_list t = record { sources = t.sources; runs = t.runs; pages = t.pages; back = t.back; again = t.again; lists = more t.lists; differences = t.differences; done = t.done; steps = t.steps }
 
 -- one difference more
 abbrev pub one_difference : Tally → Tally
-one_difference t = record { sources = t.sources; runs = t.runs; pages = t.pages; back = t.back; again = t.again; lists = t.lists; old = t.old; differences = more t.differences; done = t.done; steps = t.steps }
+one_difference t = record { sources = t.sources; runs = t.runs; pages = t.pages; back = t.back; again = t.again; lists = t.lists; differences = more t.differences; done = t.done; steps = t.steps }
 
 -- something that was found, and whether it is what is listed
 abbrev pub checked : Bool → Tally → Tally
@@ -112,7 +105,7 @@ checked false t = one_difference t
 unfoldable pub most_of : ℕ → ℕ → Tally → Tally
 most_of done steps t =
     cond (ltb (t.done * steps) (done * t.steps))
-    (record { sources = t.sources; runs = t.runs; pages = t.pages; back = t.back; again = t.again; lists = t.lists; old = t.old; differences = t.differences; done = done; steps = steps })
+    (record { sources = t.sources; runs = t.runs; pages = t.pages; back = t.back; again = t.again; lists = t.lists; differences = t.differences; done = done; steps = steps })
     t
 
 -- ---- read, against the first line: the answer, its place, and how many words the uses have, with these words
@@ -133,23 +126,17 @@ unfoldable pub same_words : List ℕ → List ℕ → ℕ → Bool
 same_words [] text from = true
 same_words (w ∷ ws) text from = eqb (number_at text from).value w && same_words ws text (number_at text from).next
 
--- how many words of a use are listed, where so many are of n uses: three, as a use had before request 10, or four
-abbrev pub width_of : ℕ → ℕ → ℕ
-width_of listed n = cond (eqb listed (three * n)) three use_wide
-
--- whether the numbers from a place on are k words of a table's uses, from the i-th on, of each use the first `width`
-unfoldable pub same_rows : List ℕ → ℕ → ℕ → ℕ → List ℕ → ℕ → Bool
-same_rows table width i zero text from = true
-same_rows table width i (suc k) text from =
-    eqb (number_at text from).value (get_or table (use_wide * (i / width) + i % width + 1) 0) && same_rows table width (i + 1) k text (number_at text from).next
+-- how many words the uses of a table have: three for each
+abbrev pub use_length : List ℕ → ℕ
+use_length table = 3 * get_or table 0 0
 
 -- whether the uses of a table, which stand behind their number, are those listed
 unfoldable pub same_uses : List ℕ → List ℕ → Bool
 same_uses table text =
-    let listed : Numeral = uses_listed text in
-    let n : ℕ = get_or table 0 0 in
-    let width : ℕ = width_of listed.value n in
-    eqb listed.value 99999 || (leb (rows_at table) (length table) && (eqb listed.value (n * width) && same_rows table width 0 (n * width) text listed.next))
+    eqb (uses_listed text).value 99999
+    || (leb (use_length table + 1) (length table)
+    && (eqb (uses_listed text).value (use_length table)
+    && same_words (take (use_length table) (drop 1 table)) text (uses_listed text).next))
 
 -- the tally after a source was read with this answer and this table
 abbrev pub after_read : Verdict → List ℕ → List ℕ → Tally → Tally

@@ -4,7 +4,7 @@ use Rattle.std.specs.Prelude.{ℕ, zero, suc, ◌+◌, ◌*◌, min, ◌≡◌, 
 use Rattle.answers.specs.Numbers.{accepted, long}
 use Rattle.answers.specs.declared.Verdict.{Verdict}
 use Rattle.symbols.specs.Names.{equal}
-use Rattle.table.specs.Sections.{use_at, rows_at}
+use Rattle.table.specs.Sections.{rows_at}
 use Rattle.reading.specs.Reading.{Reads}
 use Rattle.clean.specs.declared.Written.{Written}
 use Rattle.clean.specs.Numbers.{number_of, place_of, length_of}
@@ -50,7 +50,7 @@ alike_at a b at =
 -- .. of n uses from number k on
 unfoldable pub alike_from : List ℕ → List ℕ → ℕ → ℕ → Bool
 alike_from a b k zero = true
-alike_from a b k (suc n) = alike_at a b (use_at k) && alike_from a b (k + 1) n
+alike_from a b k (suc n) = alike_at a b (3 * k + 1) && alike_from a b (k + 1) n
 
 -- "with uses and declarations paired alike though places move"
 unfoldable pub same_meanings : List ℕ → List ℕ → Bool

@@ -1,31 +1,25 @@
 -- What `check_list` says of lists of a source, against what is due, as a tally. Of an accepted source these are its own uses as `read` leaves them, a
--- part of them, one word more, and one word changed; and the third line of a text may have a list that was sent, of three words a use: the kind of the answer,
--- its number and place, how many words the list has, and of how many of them the text has the numbers, with these; the others are 0. So has the second line of
--- a text of `moves`.
-use Rattle.std.specs.Prelude.{ℕ, zero, suc, ◌+◌, ◌/◌, ◌≤◌, ◌<◌, min, ◌≡◌, Bool, true, false, cond, ◌&&◌, ◌||◌, List, [], ◌∷◌, ◌++◌, eqb, ℤ, pos, length, get_or, take, drop, set, replicate}
+-- part of them, one word more, and one word changed; and the third line of a text may have a list that was sent: the kind of the answer, its number and
+-- place, how many words the list has, and of how many of them the text has the numbers, with these; the others are 0.
+use Rattle.std.specs.Prelude.{ℕ, zero, suc, ◌+◌, ◌*◌, ◌/◌, ◌≤◌, ◌<◌, min, ◌≡◌, Bool, true, false, ◌&&◌, List, [], ◌∷◌, ◌++◌, eqb, ℤ, pos, length, get_or, take, drop, set, replicate}
 use Rattle.answers.specs.declared.Verdict.{Verdict}
-use Rattle.table.specs.Sections.{rows_at}
 use Rattle.reading.specs.Reading.{Reads}
-use Rattle.table.specs.Table.{use_wide}
-use Rattle.checking.specs.Checking.{three, ChecksRows}
-use Rattle.checking.specs.Moving.{Widens}
-use Rattle.checking.specs.Numbers.{kind_of, number_of, place_of, moved_kind, moved_number, moved_place}
+use Rattle.checking.specs.Checking.{Checks}
+use Rattle.checking.specs.Numbers.{kind_of, number_of, place_of}
 use Rattle.checking.specs.declared.Checked.{Checked}
-use Rattle.checking.specs.declared.Moved.{Moved}
 use Rattle.vectors.specs.declared.texts.Numeral.{Numeral}
 use Rattle.vectors.specs.declared.tally.Tally.{Tally}
-use Rattle.vectors.specs.Listed.{number_at, third_line, one_list, one_old, checked, accepted_by}
+use Rattle.vectors.specs.Listed.{number_at, third_line, one_list, checked, accepted_by}
 use Rattle.vectors.specs.Ended.{numbers}
-use Rattle.vectors.specs.Moving.{MoveTold}
 
 -- whether an answer has this kind, number and place
 abbrev pub said_by : Checked → ℕ → ℕ → ℕ → Bool
 said_by c kind number place = eqb (kind_of c) kind && (eqb (number_of c) number && eqb (place_of c) place)
 
--- the tally of one list more, in one of the two forms
-pub record ListTold (old : Bool) (source : List ℕ) (list : List ℤ) (kind number place : ℕ) (t r : Tally) : Type 0 where
+-- the tally of one list more
+pub record ListTold (source : List ℕ) (list : List ℤ) (kind number place : ℕ) (t r : Tally) : Type 0 where
   pub answer : Checked
-  pub checks : ChecksRows (cond old three use_wide) source list answer
+  pub checks : Checks source list answer
   pub told : r ≡ checked (said_by answer kind number place) (one_list t)
 
 -- ---- a source's own lists
@@ -37,7 +31,7 @@ words_from table (suc k) at = pos (get_or table at 0) ∷ words_from table k (at
 
 -- how many words its uses have with their count, and an index among them
 abbrev pub own_length : List ℕ → ℕ
-own_length table = min (rows_at table) 32767
+own_length table = min (3 * get_or table 0 0 + 1) 32767
 
 abbrev pub own_index : List ℕ → ℕ
 own_index table = own_length table / 2
@@ -51,10 +45,10 @@ pub record FourTold (source table : List ℕ) (t r : Tally) : Type 0 where
   pub first : Tally
   pub second : Tally
   pub third : Tally
-  pub whole : ListTold false source (take (own_length table) (own_words table)) 0 0 0 t first
-  pub short : ListTold false source (take (own_index table) (own_words table)) 2 0 (own_index table) first second
-  pub long : ListTold false source (take (own_length table + 1) (own_words table)) 2 0 (own_length table) second third
-  pub changed : ListTold false source (take (own_length table) (set (own_words table) (own_index table) (pos (get_or table (own_index table) 0 + 1)))) 2 0 (own_index table) third r
+  pub whole : ListTold source (take (own_length table) (own_words table)) 0 0 0 t first
+  pub short : ListTold source (take (own_index table) (own_words table)) 2 0 (own_index table) first second
+  pub long : ListTold source (take (own_length table + 1) (own_words table)) 2 0 (own_length table) second third
+  pub changed : ListTold source (take (own_length table) (set (own_words table) (own_index table) (pos (get_or table (own_index table) 0 + 1)))) 2 0 (own_index table) third r
 
 pub data OwnTold (source : List ℕ) (t : Tally) : Tally → Type 0 where
   refused : {v : Verdict} {table : List ℕ} → Reads source (replicate 32768 0) v table → accepted_by v ≡ false → OwnTold source t t
@@ -89,32 +83,13 @@ sent_words text h =
     let k : ℕ = min h.some.value 70016 in
     take (min h.all.value 70016) (numbers text k h.some.next ++ drop k fresh_list)
 
--- whether this is said of a move: the kind of the answer, its number and, unless a list is made, its place
-abbrev pub answered_so : Moved → ℕ → ℕ → ℕ → Bool
-answered_so m kind number place = eqb (moved_kind m) kind && (eqb (moved_number m) number && (eqb kind 0 || eqb (moved_place m) place))
-
--- the tally of one list more of three words a use: it is checked, and moved into a room that is long enough
-pub record OldTold (source : List ℕ) (list : List ℤ) (kind number place : ℕ) (t r : Tally) : Type 0 where
-  pub between : Tally
-  pub was_checked : ListTold true source list kind number place (one_old t) between
-  pub answer : Moved
-  pub room : List ℕ
-  pub widens : Widens source list (replicate 32768 0) answer room
-  pub told : r ≡ checked (answered_so answer kind number place) between
-
--- what is done with a list by the numbers of jobs in `moves`: 0, it is checked; 3, as an old one; else it is moved, by 2 back
-pub data DoneTold (job : ℕ) (source text : List ℕ) (list : List ℤ) (kind number place : ℕ) (t r : Tally) : Type 0 where
-  is_checked : job ≡ 0 → ListTold false source list kind number place t r → DoneTold job source text list kind number place t r
-  is_old : job ≡ 3 → OldTold source list kind number place t r → DoneTold job source text list kind number place t r
-  is_moved : MoveTold (eqb job 2) source text list kind number place t r → DoneTold job source text list kind number place t r
-
-abbrev pub SentTold : ℕ → List ℕ → List ℕ → ℕ → Tally → Tally → Type 0
-SentTold job source text from t r =
+abbrev pub SentTold : List ℕ → List ℕ → ℕ → Tally → Tally → Type 0
+SentTold source text from t r =
     let h : Head = head_at text from in
-    DoneTold job source text (sent_words text h) h.kind.value h.number.value h.place.value t r
+    ListTold source (sent_words text h) h.kind.value h.number.value h.place.value t r
 
 -- ---- the lists of a row
 
 pub data ListsTold (source text : List ℕ) (t : Tally) : Tally → Type 0 where
   own_alone : length text ≤ third_line text → {r : Tally} → OwnTold source t r → ListsTold source text t r
-  and_sent : third_line text < length text → {s r : Tally} → OwnTold source t s → SentTold 3 source text (third_line text) s r → ListsTold source text t r
+  and_sent : third_line text < length text → {s r : Tally} → OwnTold source t s → SentTold source text (third_line text) s r → ListsTold source text t r

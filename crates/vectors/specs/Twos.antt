@@ -1,11 +1,10 @@
 -- What `read_two` and `translate_scheme` answer and leave, against what is listed of a prelude and two schemes, each of which has a text as a source has; and
 -- what `read_two` leaves of an accepted source behind a prelude that it does not use, against what `read` leaves of it. As a tally.
-use Rattle.std.specs.Prelude.{ℕ, zero, suc, ◌+◌, ◌<◌, ◌≤◌, min, ◌≡◌, Bool, true, false, cond, ◌&&◌, List, [], ◌∷◌, eqb, ltb, length, get_or, take, drop, replicate}
-use Rattle.answers.specs.Numbers.{too_large_lem}
+use Rattle.std.specs.Prelude.{ℕ, zero, suc, ◌+◌, ◌*◌, ◌<◌, ◌≤◌, min, ◌≡◌, Bool, true, false, cond, ◌&&◌, List, [], ◌∷◌, eqb, ltb, length, get_or, take, drop, replicate}
+use Rattle.answers.specs.Numbers.{too_large}
 use Rattle.answers.specs.Answers.{number_of}
 use Rattle.answers.specs.declared.Verdict.{Verdict}
 use Rattle.symbols.specs.Text.{bytes}
-use Rattle.table.specs.Sections.{rows_at}
 use Rattle.reading.specs.Reading.{Reads}
 use Rattle.reading.specs.Two.{ReadsTwo}
 use Rattle.translating.specs.With.{TranslatesWith}
@@ -83,7 +82,7 @@ same_from a b from at (suc k) = eqb (get_or a at 0) (get_or b (from + at) 0) && 
 
 -- both are refused by 4
 abbrev pub over_by : Verdict → Verdict → Bool
-over_by v v' = eqb (number_of v) too_large_lem && eqb (number_of v') too_large_lem
+over_by v v' = eqb (number_of v) too_large && eqb (number_of v') too_large
 
 -- refused by 4 alone; else the first n words of both halves are those that `read` left
 unfoldable pub after_behind : Verdict → Verdict → List ℕ → List ℕ → ℕ → Tally → Tally
@@ -109,7 +108,7 @@ pub data SourceTold (source : List ℕ) (named : Bool) (t : Tally) : Tally → T
   alone : {v : Verdict} {table : List ℕ} → Reads source (replicate 32768 0) v table → accepted_by v ≡ true → named ≡ false → {r : Tally} → BehindTold [] source table 16384 t r
       → SourceTold source named t r
   uses : {v : Verdict} {table : List ℕ} → Reads source (replicate 32768 0) v table → accepted_by v ≡ true → named ≡ true → {r : Tally}
-      → BehindTold procedures source table (min (rows_at table) 16384) t r → SourceTold source named t r
+      → BehindTold procedures source table (min (3 * get_or table 0 0 + 1) 16384) t r → SourceTold source named t r
 
 -- the tally of so many rows of the index
 pub data Sources : ℕ → Bool → Tally → Type 0 where

@@ -1,18 +1,12 @@
 // Reads, translates, runs and writes the sources that the file `index` lists, checks lists for them, and compares with what is listed; and does so, but for
 // pages and lists, with each source in capitals: a line for each difference, and at the end how many sources, runs, lists, differences and pages, the most
 // instructions that a run did for its steps, and how many sources, runs and differences in capitals. Then it records each of these runs and replays it,
-// with the records that the file `replays` lists, makes the reports that the file `reports` lists, reads and translates the pairs of schemes that the file
-// `twos` lists, and reads each accepted source behind preludes, and says how many. Then it moves the lists that the file `moves` lists, and each accepted
-// source's own there and back, compares the editions that the file `editions` lists, and each accepted source with itself and with its clean page. Last it
-// renames what the file `renames` lists, and one declared name of each accepted source.
+// with the records that the file `replays` lists, and says how many. Last it reads and translates the pairs of schemes that the file `twos` lists, and reads
+// each accepted source behind preludes, and says how many.
 mod capitals; // the jobs read, translate and run, of a source in capitals
-mod editions; // the job compare
-mod lists; // the jobs check_list and check_old_list
-mod moves; // the jobs widen and narrow
+mod lists; // the job check_list
 mod reads; // the job read
-mod renamings; // the job rename
 mod replays; // runs recorded, and the job replay
-mod reports; // the job report
 mod rows; // the rows of the index
 mod runs; // the jobs translate and run
 mod tally; // counts and lines
@@ -25,9 +19,5 @@ fn main() {
     let n = rows::load(b"index", &mut buf);
     rows::rows(&buf[..n]).show();
     replays::all();
-    reports::all();
     twos::all();
-    moves::all();
-    editions::all();
-    renamings::all();
 }

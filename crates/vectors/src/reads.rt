@@ -1,13 +1,11 @@
-// What `read` answers, against the first line of a text: the answer, its place, and the words of the uses behind their number: four for each, or the
-// three that a use had before request 10.
-ghost use Rattle.std.specs.Prelude.{◌≡◌, ◌<◌, ◌≤◌, get_or};
-ghost use Rattle.vectors.specs.Listed.{same_words, width_of, same_rows, same_uses, answered_by, accepted_by, ReadTold};
+// What `read` answers, against the first line of a text: the answer, its place, and the words of the uses behind their number.
+ghost use Rattle.std.specs.Prelude.{◌≡◌, get_or};
+ghost use Rattle.vectors.specs.Listed.{same_words, same_uses, answered_by, accepted_by, ReadTold};
 
 use crate::tally::Tally;
 use crate::texts::number_at;
 use answers::Verdict;
 use reading::reading::read;
-use table::sections::{OLD_WORDS, USE_WORDS, uses_end, word};
 
 // Stands for the number of words of uses where they are not listed.
 const UNLISTED: u64 = 99999;
@@ -23,7 +21,7 @@ pub fn word_at(words: &[u16], i: usize) -> u16
 }
 
 // Whether the numbers from `from` on are these words.
-pub fn same_words(words: &[u16], text: &[u8], from: usize) -> bool
+fn same_words(words: &[u16], text: &[u8], from: usize) -> bool
     ensures { result ≡ same_words words.now text.now from }
 {
     let mut at = from;
@@ -31,36 +29,6 @@ pub fn same_words(words: &[u16], text: &[u8], from: usize) -> bool
     while i < words.len() {
         let listed = number_at(text, at);
         let word = word_at(words, i);
-        if listed.value != word as u64 {
-            return false;
-        }
-        at = listed.next;
-        i += 1;
-    }
-    true
-}
-
-// How many words of a use are listed, where so many are of n uses.
-fn width_of(listed: u64, n: usize) -> usize
-    requires { n < 65536 }
-    ensures { result ≡ width_of listed n }
-{
-    if listed == (OLD_WORDS * n) as u64 {
-        return OLD_WORDS;
-    }
-    USE_WORDS
-}
-
-// Whether the numbers from `from` on are the words of a table's uses, so many in all and of each use the first `width`.
-fn same_rows(table: &[u16], width: usize, count: usize, text: &[u8], from: usize) -> bool
-    requires { (0 < width) × (width ≤ 4) × (count ≤ 262144) }
-    ensures { result ≡ same_rows table.now width 0 count text.now from }
-{
-    let mut at = from;
-    let mut i = 0;
-    while i < count {
-        let listed = number_at(text, at);
-        let word = word_at(table, USE_WORDS * (i / width) + i % width + 1);
         if listed.value != word as u64 {
             return false;
         }
@@ -79,13 +47,12 @@ pub fn same_uses(table: &[u16], text: &[u8]) -> bool
     if listed.value == UNLISTED {
         return true;
     }
-    if table.len() < uses_end(table) {
+    let uses = word_at(table, 0);
+    let end = 3 * uses as usize + 1;
+    if table.len() < end {
         return false;
     }
-    let n = word(table, 0);
-    let width = width_of(listed.value, n);
-    let count = n * width;
-    listed.value == count as u64 && same_rows(table, width, count, text, listed.next)
+    listed.value == (end - 1) as u64 && same_words(&table[1..end], text, listed.next)
 }
 
 // Whether an answer and its place are those listed.

@@ -131,7 +131,7 @@ fn other(x: i32) -> i32 {
 }
 
 // A count as a word; 0 where it is none.
-pub fn as_word(n: usize) -> i32 {
+fn as_word(n: usize) -> i32 {
     if 2147483647 < n {
         return 0;
     }
@@ -218,7 +218,7 @@ fn fresh_words() -> [i32; 1680]
 }
 
 // The first n of some numbers are read from a text; and where the next one begins.
-pub fn read_into(text: &[u8], from: usize, words: &mut [i32], n: usize) -> usize {
+fn read_into(text: &[u8], from: usize, words: &mut [i32], n: usize) -> usize {
     let k = clipped(n as u64, words.len());
     inputs_at(text, from, &mut words[..k])
 }

@@ -1,6 +1,6 @@
 // What the sources and their runs came to, counted, and a line for each difference.
 ghost use Rattle.std.specs.Prelude.{◌≡◌, ◌*◌};
-ghost use Rattle.vectors.specs.Listed.{more as moreOf, nothing, one_source, one_run, one_page, one_back, one_again, one_list, one_old, checked, most_of};
+ghost use Rattle.vectors.specs.Listed.{more as moreOf, nothing, one_source, one_run, one_page, one_back, one_again, one_list, checked, most_of};
 
 use libc::STDOUT_FILENO;
 
@@ -12,7 +12,7 @@ pub fn print_count(n: u32) {
     io::print_decimal(STDOUT_FILENO, n as u64);
 }
 
-// The sources, the runs, the pages, those of them that were read back and those written again, the lists, those of them in the form of three words a use, and the differences so far; and of the
+// The sources, the runs, the pages, those of them that were read back and those written again, the lists and the differences so far; and of the
 // run with the most instructions for its steps, how many of each.
 #[derive(Drop)]
 pub struct Tally {
@@ -22,7 +22,6 @@ pub struct Tally {
     pub back: u32,
     pub again: u32,
     pub lists: u32,
-    pub old: u32,
     pub differences: u32,
     pub done: u32,
     pub steps: u32,
@@ -55,7 +54,6 @@ impl Tally {
             back: 0,
             again: 0,
             lists: 0,
-            old: 0,
             differences: 0,
             done: 0,
             steps: 1,
@@ -104,13 +102,6 @@ impl Tally {
         self
     }
 
-    pub fn old(mut self) -> Tally
-        ensures { result ≡ one_old self }
-    {
-        self.old = more(self.old);
-        self
-    }
-
     // Where what was found is not what is listed, a line that says of what source, and of what.
     pub fn check(mut self, same: bool, name: &[u8], what: &[u8]) -> Tally
         ensures { result ≡ checked same self }
@@ -155,8 +146,6 @@ impl Tally {
         print(b" runs, ");
         print_count(self.lists);
         print(b" lists, ");
-        print_count(self.old);
-        print(b" of them of three words a use, ");
         print_count(self.differences);
         print(b" differences\n");
         print_count(self.pages);

@@ -12,7 +12,6 @@ use crate::texts::{buffer, clipped, number_at};
 use answers::Verdict;
 use reading::reading::read;
 use reading::schemes::read_two;
-use table::sections::uses_end;
 use translating::schemes::translate_scheme;
 
 // The words of a table that is lent hold this before.
@@ -22,7 +21,7 @@ const BEFORE: u16 = 7;
 const PAIR: usize = 128;
 
 // Whether each word from `from` on is this one.
-pub fn all_words(words: &[u16], from: usize, word: u16) -> bool
+fn all_words(words: &[u16], from: usize, word: u16) -> bool
     ensures { result ≡ all word (drop from words.now) }
 {
     let mut i = from;
@@ -135,7 +134,7 @@ fn schemes(
     scheme(one, name, prelude, second, other)
 }
 
-pub fn fresh_table() -> [u16; 40002]
+fn fresh_table() -> [u16; 40002]
     ensures { result ≡ fresh_table }
 {
     [BEFORE; 40002]
@@ -170,7 +169,7 @@ fn pair(
 }
 
 // The bytes of the file whose name begins at `from`.
-pub fn loaded(index: &[u8], from: usize, buf: &mut [u8; 131072]) -> usize
+fn loaded(index: &[u8], from: usize, buf: &mut [u8; 131072]) -> usize
     requires { from ≤ length index.now }
     ensures { result ≤ length buf.new }
 {
@@ -221,7 +220,7 @@ fn pairs(index: &[u8]) -> Tally
 }
 
 // Whether the first n words of a are those of b from `from` on.
-pub fn same_front(a: &[u16], b: &[u16], from: usize, n: usize) -> bool
+fn same_front(a: &[u16], b: &[u16], from: usize, n: usize) -> bool
     requires { from + n ≤ 32768 }
     ensures { result ≡ same_from a.now b.now from 0 n }
 {
@@ -298,7 +297,7 @@ fn compare(t: Tally, name: &[u8], source: &[u8], named: bool) -> Tally
         return t;
     }
     if named {
-        let n = clipped(uses_end(&table) as u64, 16384);
+        let n = clipped(3 * word_at(&table, 0) as u64 + 1, 16384);
         return behind(
             t,
             name,
@@ -335,7 +334,7 @@ fn sources(index: &[u8], named: bool) -> Tally
     t
 }
 
-pub fn show(t: Tally, what: &[u8]) {
+fn show(t: Tally, what: &[u8]) {
     print_count(t.sources);
     print(what);
     print_count(t.differences);

@@ -11,13 +11,13 @@ use clean::Written;
 use clean::writing::write;
 use reading::reading::read;
 use symbols::text::same_bytes;
-use table::sections::{sections_of, use_at, word};
+use table::sections::{sections_of, word};
 
 // The bytes that are lent hold this before, and those behind a page afterwards.
 const BEFORE: u8 = 7;
 
 // Whether each byte from `from` on is as before.
-pub fn untouched(room: &[u8], from: usize) -> bool
+fn untouched(room: &[u8], from: usize) -> bool
     ensures { result ≡ all 7 (drop from room.now) }
 {
     let mut i = from;
@@ -31,7 +31,7 @@ pub fn untouched(room: &[u8], from: usize) -> bool
 }
 
 // Whether the room has this page in its first n bytes, and behind them what it had.
-pub fn same_page(room: &[u8], n: usize, page: &[u8]) -> bool
+fn same_page(room: &[u8], n: usize, page: &[u8]) -> bool
     ensures { result ≡ same_page room.now n page.now }
 {
     if room.len() < n {
@@ -74,7 +74,7 @@ fn alike_at(a: &[u16], b: &[u16], at: usize) -> bool
 }
 
 // Whether two tables have as many uses, each paired with its declaration alike.
-pub fn same_meanings(a: &[u16], b: &[u16]) -> bool
+fn same_meanings(a: &[u16], b: &[u16]) -> bool
     ensures { result ≡ same_meanings a.now b.now }
 {
     let count = word(a, 0);
@@ -83,7 +83,7 @@ pub fn same_meanings(a: &[u16], b: &[u16]) -> bool
     }
     let mut k: usize = 0;
     while k < count {
-        if !alike_at(a, b, use_at(a, k)) {
+        if !alike_at(a, b, 3 * k + 1) {
             return false;
         }
         k += 1;
@@ -91,7 +91,7 @@ pub fn same_meanings(a: &[u16], b: &[u16]) -> bool
     true
 }
 
-pub fn fresh_room() -> [u8; 16386]
+fn fresh_room() -> [u8; 16386]
     ensures { result ≡ fresh_room }
 {
     [BEFORE; 16386]

@@ -10,13 +10,9 @@ pub record Painted (from to x : ℕ) (row after : List ℕ) : Type 0 where
 abbrev pub Behind : ℕ → List ℕ → List ℕ → Type 0
 Behind n row after = (i : ℕ) → n ≤ i → get_or after i 0 ≡ get_or row i 0
 
--- the words are as they were, but for the tint of some
-pub record Tinted (row after : List ℕ) : Type 0 where
-  pub under : (i : ℕ) → get_or after i 0 % 16777216 ≡ get_or row i 0 % 16777216
-
 -- of a look: it marks nothing as refused
 abbrev pub Unmarked : ℕ → Type 0
-Unmarked x = x % 16 < 9
+Unmarked x = x % 8 < 7
 
 -- the words from a place on are as they were, and none before it is marked that was not
 pub record Unmarking (n : ℕ) (row after : List ℕ) : Type 0 where
@@ -30,5 +26,5 @@ pub record Clean (n : ℕ) (row after : List ℕ) : Type 0 where
 
 -- of a refused one: the place is marked, and what lies behind it, but for the place, is as it was
 pub record Marked (n place : ℕ) (row after : List ℕ) : Type 0 where
-  pub marked : place < length row → get_or after place 0 ≡ 9
+  pub marked : place < length row → get_or after place 0 ≡ 7
   pub behind : (i : ℕ) → n ≤ i → (i ≡ place → ⊥) → get_or after i 0 ≡ get_or row i 0

@@ -6,9 +6,7 @@ use showing::text::{least, say};
 
 // The head of the file: how it looks on a screen and, in black and white, on paper.
 pub fn begin(name: &[u8]) {
-    say(
-        b"<!doctype html>\n<html lang=\"en\">\n<head>\n<meta charset=\"utf-8\">\n<meta name=\"viewport\" content=\"width=device-width, initial-scale=1\">\n<title>",
-    );
+    say(b"<!doctype html>\n<html lang=\"en\">\n<head>\n<meta charset=\"utf-8\">\n<title>");
     say_text(name);
     say(
         b"</title>
@@ -21,29 +19,25 @@ tr { break-inside: avoid }
 pre { margin: 0; font: 13px/1.7 monospace; white-space: pre-wrap; overflow-wrap: anywhere; tab-size: 8; unicode-bidi: bidi-override }
 .page { width: 100%; border: 1px solid #888 }
 .page td { vertical-align: top; padding: 0 .5em; height: 22px }
-.page pre { padding-left: calc(var(--h, 2) * 1ch); text-indent: calc(var(--h, 2) * -1ch) }
 .page .n, .page .v { font: 12px/22px monospace; text-align: right; width: 2.2em; color: #666 }
 .page .v { color: #000; font-weight: bold }
 .page .r { position: relative; white-space: nowrap; padding: 0 3px; width: 1px }
 .r i { display: inline-block; width: 7px }
-.r i:nth-child(n + 9) { width: 3px } .r i:nth-child(n + 25) { display: none }
 .r i::before { content: \"\"; position: absolute; top: 0; bottom: 0; border-left: 2px solid #555 }
 .k2 { background: #f3efe6 } .k3 { background: #e3eee3 }
 .w { font-weight: bold } .o { color: #666; font-style: italic }
 a { color: #00449e; text-decoration: none; border-bottom: 1px dotted }
 a[href^=\"#e\"] { color: #6b3d00 }
-a[href^=\"#p\"] { color: #00582e }
 b { border-bottom: 2px solid #00449e }
 sub { font: bold 10px/0 sans-serif; color: #a00; vertical-align: -.4em; margin-left: 1px }
 sub::before { content: attr(data-n) }
 .page .n, .page .v, .page .r { user-select: none }
 .x { font-size: 80%; border: 1px solid #888; padding: 0 2px; margin: 0 1px }
 mark { background: #ffd2d2; color: #000; outline: 2px solid #a00 }
-a[data-changed] { background: #ffe0a8; outline: 2px solid #b35900; margin-right: 3px }
-:target, a[data-changed]:target, tr:target > td { background: #ffe680; outline: 1px solid #a60 }
+:target { background: #ffe680 }
 .list td, .list th { border: 1px solid #888; padding: .15em .6em; text-align: left; font-size: 13.5px; vertical-align: top }
 .text { font-size: 12px; line-height: 1.4 }
-@media print { body { margin: 0; max-width: none; padding: 0 } a, a[href^=\"#e\"], a[href^=\"#p\"], sub, .o, .page td { color: #000 } :target, tr:target > td { background: none; outline: none } b, mark { border-color: #000; outline-color: #000 } }
+@media print { body { margin: 0; max-width: none; padding: 0 } a, a[href^=\"#e\"], sub, .o, .page td { color: #000 } b, mark { border-color: #000; outline-color: #000 } }
 </style>
 </head>
 <body>

@@ -31,11 +31,6 @@ fn push(open: usize, stack: &mut [u32; 2048], thing: u32) -> usize {
     n
 }
 
-// Whether the name of a procedure comes next that stands in no other and in no block, as those of a prelude do.
-pub fn names_outermost(open: usize, stack: &[u32; 2048]) -> bool {
-    open == 1 && style_of(at(stack, open)) == NAMING
-}
-
 fn pop(open: usize) -> usize {
     if open == 0 { 0 } else { open - 1 }
 }

@@ -1,21 +1,20 @@
-// Behind the source: its declarations with the places that use them, what it uses of the prelude and of the environment, and both tables as text.
+// Behind the source: its declarations with the places that use them, what it uses of the environment, and both tables as text.
 ghost use Rattle.std.specs.Prelude.{◌<◌};
 
 use crate::looks;
 use showing::levels::show_levels;
-use showing::preludes::ADDED;
-use showing::text::{least, say, say_name, say_nth, say_number, say_spot};
+use showing::text::{say, say_name, say_nth, say_number, say_spot, spot_of};
 use showing::uses::show_uses;
-use table::sections::{sections_of, use_at, word};
+use table::sections::{sections_of, word};
 
-// A place as a link to the name there, which has this letter and number, after a comma where others come before it.
-fn say_link(source: &[u8], place: usize, letter: &[u8], number: u64, more: bool) {
+// A place as a link to its line, after a comma where others come before it.
+fn say_link(source: &[u8], place: usize, more: bool) {
+    let s = spot_of(source, place);
     if more {
         say(b", ");
     }
-    say(b"<a href=\"#");
-    say(letter);
-    say_number(number);
+    say(b"<a href=\"#l");
+    say_number(s.line);
     say(b"\">");
     say_spot(source, place);
     say(b"</a>");
@@ -25,13 +24,12 @@ fn say_link(source: &[u8], place: usize, letter: &[u8], number: u64, more: bool)
 fn show_use(source: &[u8], table: &[u16], k: usize, declared: bool, what: usize, more: bool) -> bool
     requires { k < 65536 }
 {
-    let at = use_at(table, k);
+    let at = 1 + 3 * k;
     let of = 0 < word(table, at + 1);
     if of != declared || word(table, at + 2) != what {
         return more;
     }
-    let place = word(table, at);
-    say_link(source, place, b"u", place as u64, more);
+    say_link(source, word(table, at), more);
     true
 }
 
@@ -59,11 +57,10 @@ fn show_declaration(source: &[u8], table: &[u16], levels: &[u32], d: usize)
     let row = s.declarations + 1 + 4 * d;
     let place = word(table, row);
     let sort = word(table, row + 3);
-    let number = d as u64 + 1;
     say(b"<tr><td><a href=\"#d");
-    say_number(number);
+    say_number(d as u64 + 1);
     say(b"\">");
-    say_number(number);
+    say_number(d as u64 + 1);
     say(b"</a></td><td>");
     say_name(source, place);
     next_column();
@@ -76,7 +73,7 @@ fn show_declaration(source: &[u8], table: &[u16], levels: &[u32], d: usize)
     next_column();
     say_number(looks::at(levels, place) as u64);
     next_column();
-    say_link(source, place, b"d", number, false);
+    say_link(source, place, false);
     next_column();
     show_used(source, table, true, place);
     say(b"</td></tr>\n");
@@ -92,48 +89,6 @@ fn show_declarations(source: &[u8], table: &[u16], levels: &[u32]) {
     }
 }
 
-// The procedure of the prelude with a number, whose name stands at a place there.
-fn show_offered(source: &[u8], prelude: &[u8], table: &[u16], number: u64, place: usize) {
-    say(b"<tr><td><a href=\"#p");
-    say_number(number);
-    say(b"\">p");
-    say_number(number);
-    say(b"</a></td><td>");
-    say_name(prelude, place);
-    next_column();
-    say_link(prelude, place, b"p", number, false);
-    next_column();
-    show_used(source, table, true, least(place, ADDED) + ADDED);
-    say(b"</td></tr>\n");
-}
-
-// The procedures of the prelude, by the looks of its text: their numbers rise.
-fn show_procedures(source: &[u8], prelude: &[u8], table: &[u16], offered: &[u32]) {
-    let mut last: u64 = 0;
-    let mut i: usize = 0;
-    while i < prelude.len() {
-        let look = looks::at(offered, i);
-        let number = looks::about_of(look);
-        if looks::style_of(look) == looks::OFFERED && last < number {
-            show_offered(source, prelude, table, number, i);
-            last = number;
-        }
-        i += 1;
-    }
-}
-
-// Nothing where there is no prelude.
-fn show_prelude(source: &[u8], shared: &[u8], prelude: &[u8], table: &[u16], offered: &[u32]) {
-    if shared.len() == 0 {
-        return;
-    }
-    say(
-        b"<h2>Procedures of the prelude</h2>\n<table class=\"list\">\n<tr><th>no.</th><th>name</th><th>declared at</th><th>used at</th></tr>\n",
-    );
-    show_procedures(source, prelude, table, offered);
-    say(b"</table>\n");
-}
-
 // What the environment gives under a number, and where it is used.
 fn show_given(source: &[u8], table: &[u16], number: usize, name: &[u8], kind: &[u8]) {
     say(b"<tr><td id=\"e");
@@ -147,31 +102,13 @@ fn show_given(source: &[u8], table: &[u16], number: usize, name: &[u8], kind: &[
     say(b"</td></tr>\n");
 }
 
-// What the environment gives, where it is not said who uses it: names lead here.
-pub fn show_environment() {
-    say(
-        b"<h2>The environment</h2>
-<p><span id=\"e0\">iabs</span>, <span id=\"e1\">maxint</span>, <span id=\"e2\">ininteger</span>, <span id=\"e3\">outinteger</span>, <span id=\"e4\">outreal</span></p>
-",
-    );
-}
-
-pub fn show_lists(
-    source: &[u8],
-    shared: &[u8],
-    prelude: &[u8],
-    table: &[u16],
-    levels: &[u32],
-    offered: &[u32],
-) {
+pub fn show_lists(source: &[u8], table: &[u16], levels: &[u32]) {
     say(
         b"<h2>Declarations</h2>\n<table class=\"list\">\n<tr><th>no.</th><th>name</th><th>kind</th><th>type</th><th>level</th><th>declared at</th><th>used at</th></tr>\n",
     );
     show_declarations(source, table, levels);
-    say(b"</table>\n");
-    show_prelude(source, shared, prelude, table, offered);
     say(
-        b"<h2>The environment</h2>\n<table class=\"list\">\n<tr><th>name</th><th>kind</th><th>used at</th></tr>\n",
+        b"</table>\n<h2>The environment</h2>\n<table class=\"list\">\n<tr><th>name</th><th>kind</th><th>used at</th></tr>\n",
     );
     show_given(source, table, 0, b"iabs", b"integer procedure");
     show_given(source, table, 1, b"maxint", b"integer procedure");
@@ -179,7 +116,7 @@ pub fn show_lists(
     show_given(source, table, 3, b"outinteger", b"procedure");
     show_given(source, table, 4, b"outreal", b"procedure");
     say(b"</table>\n<h2>Uses</h2>\n<pre class=\"text\">");
-    show_uses(source, shared, prelude, table);
+    show_uses(source, table);
     say(b"</pre>\n<h2>Levels</h2>\n<pre class=\"text\">");
     show_levels(source, table);
     say(b"</pre>\n");

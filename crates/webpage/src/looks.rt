@@ -1,7 +1,7 @@
 // What is to be seen of a byte, as one number: its style, and the number that it is about. Two things next to each other never look the
 // same, as between two names there is always another symbol.
-ghost use Rattle.std.specs.Prelude.{◌≡◌, ◌+◌, ◌*◌, ◌/◌, ◌%◌, ◌<◌, ◌≤◌, min, length, get_or, leb};
-ghost use Rattle.webpage.specs.Looks.{Painted, Behind, Tinted};
+ghost use Rattle.std.specs.Prelude.{◌≡◌, ◌+◌, ◌*◌, ◌/◌, ◌%◌, ◌<◌, ◌≤◌, min, length, get_or};
+ghost use Rattle.webpage.specs.Looks.{Painted, Behind};
 
 use showing::text::least;
 
@@ -18,58 +18,30 @@ pub const USE: u32 = 4;
 pub const GIVEN: u32 = 5;
 // A name of a value part or specification, about its formal's number.
 pub const LISTED: u32 = 6;
-// A use of a procedure of the prelude, about its number there.
-pub const SHARED: u32 = 7;
-// The declaring name of a procedure of the prelude, about its number.
-pub const OFFERED: u32 = 8;
 // What is refused.
-pub const MARKED: u32 = 9;
-// Added to the look of a use that changed between two editions.
-const TINT: u32 = 16777216;
+pub const MARKED: u32 = 7;
 
 pub fn look(style: u32, about: usize) -> u32
-    ensures value { about < 65536 → result ≡ about * 16 + style % 16 }
-    ensures result_bound { result % 16 ≤ style }
+    ensures value { about < 65536 → result ≡ about * 8 + style % 8 }
+    ensures result_bound { result % 8 ≤ style }
 {
     if about < 65536 {
-        (about as u32) * 16 + style % 16
+        (about as u32) * 8 + style % 8
     } else {
         PLAIN
     }
 }
 
 pub fn style_of(look: u32) -> u32
-    ensures { result ≡ look % 16 }
+    ensures { result ≡ look % 8 }
 {
-    look % 16
+    look % 8
 }
 
 pub fn about_of(look: u32) -> u64
-    ensures { result ≡ look % 16777216 / 16 }
+    ensures { result ≡ look / 8 }
 {
-    (look % TINT) as u64 / 16
-}
-
-// Whether a look is that of a use that changed.
-pub fn is_tinted(look: u32) -> bool
-    ensures { result ≡ leb 16777216 look }
-{
-    TINT <= look
-}
-
-// The look at a place, and at those behind it that have the same one, becomes that of a use that changed.
-pub fn tint(row: &mut [u32], from: usize)
-    ensures { Tinted row.old row.new }
-{
-    let x = at(row, from);
-    let mut i = from;
-    while i < row.len() {
-        if row[i] != x {
-            return;
-        }
-        row[i] = x % TINT + TINT;
-        i += 1;
-    }
+    look as u64 / 8
 }
 
 // Gives a look, or a level, to the bytes from `from` up to `to`.

@@ -1,10 +1,6 @@
 -- How the code compares. No part of the paper.
-use Rattle.std.specs.Prelude.{ℕ, zero, suc, ◌≡◌, cond, List, [], ◌∷◌, ◌++◌, ℤ, get_or, take, drop}
-use Rattle.std.proofs.Math.Option.{Option, none, some}
+use Rattle.std.specs.Prelude.{ℕ, zero, suc, cond, List, [], ◌∷◌, ◌++◌, ℤ, get_or, take, drop}
 use Rattle.checking.specs.Checking.{is_word}
-use Rattle.checking.specs.Moving.{Gives}
-use Rattle.checking.specs.declared.Moved.{Moved}
-use Rattle.checking.specs.declared.Moved.TheVariants.{Wrong}
 
 -- how many words of a list are the ones that should stand there, before the first that is not
 unfoldable pub agreed : List ℤ → List ℕ → ℕ
@@ -20,8 +16,3 @@ narrow width wide (suc n) ws = take width ws ++ narrow width wide n (drop wide w
 -- the count that stands first in a table, and its rows
 unfoldable pub section : ℕ → ℕ → List ℕ → List ℕ
 section width wide table = get_or table 0 0 ∷ narrow width wide (get_or table 0 0) (drop 1 table)
-
--- what is said of a move, by the first wrong word and the list that is made
-pub data Says (o : Option ℕ) (list room : List ℕ) : Moved → List ℕ → Type 0 where
-  wrong : (i : ℕ) → o ≡ some i → Says o list room (Wrong i) room
-  right : o ≡ none → {c : Moved} {new : List ℕ} → Gives list room c new → Says o list room c new

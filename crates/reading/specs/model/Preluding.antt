@@ -39,7 +39,7 @@ pub record SymbolsIn (most : ℕ) (source places values : List ℕ) (n : ℕ) : 
 
 pub record PreludeFills (prelude places values nodes : List ℕ) (z : Sizes) : Type 0 where
   pub whole : Prelude prelude
-  pub symbols_in_lem : SymbolsIn symbols prelude places values z.symbols
+  pub symbols_in : SymbolsIn symbols prelude places values z.symbols
   pub words : take z.nodes nodes ≡ prelude_nodes whole.read.tree
   pub many : z.nodes ≡ length (prelude_nodes whole.read.tree)
   pub rows : 4 * z.rows ≡ length (declarations (prelude_alone (procedures whole)))
@@ -56,7 +56,7 @@ pub data PreludeFound (prelude places values nodes : List ℕ) : Found → Type 
 
 -- it keeps the grammar, and its nodes stand
 pub record PreludeNodes (prelude places values nodes : List ℕ) (n b : ℕ) : Type 0 where
-  pub symbols_in_lem : SymbolsIn symbols prelude places values n
+  pub symbols_in : SymbolsIn symbols prelude places values n
   pub read : GrammaticalBy prelude_judge prelude
   pub words : take b nodes ≡ prelude_nodes read.tree
   pub many : b ≡ length (prelude_nodes read.tree)
@@ -64,7 +64,7 @@ pub record PreludeNodes (prelude places values nodes : List ℕ) (n b : ℕ) : T
 -- ---- a scheme behind it, by itself: 2 to 6, whatever the prelude's procedures are; or its symbols and nodes stand
 
 pub record SchemeNodes (prelude scheme places values nodes : List ℕ) (n b : ℕ) : Type 0 where
-  pub symbols_in_lem : SymbolsIn (left prelude) scheme places values n
+  pub symbols_in : SymbolsIn (left prelude) scheme places values n
   pub read : any.Grammatical (left prelude) scheme
   pub words : take b nodes ≡ nodes_of read.tree
   pub many : b ≡ length (nodes_of read.tree)

@@ -16,15 +16,7 @@ returns-2 c = simp (sym c.before.before.before.before.same_bytes.ensures ∙ c.b
 
 returns-3 : tie.Need-returns-3
 unfolding is_option
-returns-3 c = simp (sym c.before.before.before.before.before.before.before.same_bytes.ensures ∙ c.before.before.before.before.before.before.if1.false, sym c.before.before.before.before.same-bytes2.ensures ∙ c.before.before.before.if2.false, sym c.before.same-bytes3.ensures ∙ c.if3.true)
-
-returns-4 : tie.Need-returns-4
-unfolding is_option
-returns-4 c = simp (sym c.before.before.before.before.before.before.before.before.before.before.same_bytes.ensures ∙ c.before.before.before.before.before.before.before.before.before.if1.false, sym c.before.before.before.before.before.before.before.same-bytes2.ensures ∙ c.before.before.before.before.before.before.if2.false, sym c.before.before.before.before.same-bytes3.ensures ∙ c.before.before.before.if3.false, sym c.before.same-bytes4.ensures ∙ c.if4.true)
-
-returns-5 : tie.Need-returns-5
-unfolding is_option
-returns-5 c = simp (sym c.before.before.before.before.before.before.before.before.before.before.before.before.same_bytes.ensures ∙ c.before.before.before.before.before.before.before.before.before.before.before.if1.false, sym c.before.before.before.before.before.before.before.before.before.same-bytes2.ensures ∙ c.before.before.before.before.before.before.before.before.if2.false, sym c.before.before.before.before.before.before.same-bytes3.ensures ∙ c.before.before.before.before.before.if3.false, sym c.before.before.before.same-bytes4.ensures ∙ c.before.before.if4.false) c.same-bytes5.ensures
+returns-3 c = simp (sym c.before.before.before.before.before.before.same_bytes.ensures ∙ c.before.before.before.before.before.if1.false, sym c.before.before.before.same-bytes2.ensures ∙ c.before.before.if2.false) c.same-bytes3.ensures
 
 pub is-option-spec : {M : Type 1} → statement M
 is-option-spec =
@@ -38,10 +30,4 @@ is-option-spec =
     returns-2
     (λ c. search rules)
     (λ c κs. search rules)
-    returns-3
-    (λ c. search rules)
-    (λ c κs. search rules)
-    returns-4
-    (λ c. search rules)
-    (λ c κs. search rules)
-    returns-5)
+    returns-3)

@@ -28,11 +28,11 @@ loop-holds c = refl
 
 returns : tie.Need-returns invariant-loop decreases-loop
 returns c =
-    let a = c.before.before.before.before.before.before.before.before.before.before.args in
+    let a = c.before.before.before.before.before.before.before.before.before.before.before.args in
     let l = c.before.before.before.before.before.before.loop in
     let n = c.before.before.before.before.first.ensures in
     let w = c.before.before.before.next-operand.ensures in
-    let f : c.before.before.before.before.before.before.before.is_open.result ≡ more (words_of a.row.now) = c.before.before.before.before.before.before.before.is_open.ensures in (
+    let f : c.before.before.before.before.before.before.before.Has-word.result ≡ more (words_of a.row.now) = c.before.before.before.before.before.before.before.Has-word.ensures in (
       c.ends.ensures ∙ ap (λ (t : Bool). t || eqb c.before.before.before.next-operand.result.from c.before.before.before.next-operand.result.to) f
           ∙ sym (l.invariant ∙ matched_end (more (words_of a.row.now)) _ a.line.now l.p c.before.before.before.next-operand.result w (n.none c.before.if1.true)),
       ((n.ordered, n.inside), (w.ordered, w.inside)),
@@ -40,7 +40,7 @@ returns c =
 
 returns-2 : tie.Need-returns-2 invariant-loop decreases-loop
 returns-2 c =
-    let a = c.before.before.before.before.before.before.before.before.before.before.before.args in
+    let a = c.before.before.before.before.before.before.before.before.before.before.before.before.args in
     let l = c.before.before.before.before.before.before.before.loop in
     let n = c.before.before.before.before.before.first.ensures in
     let w = c.before.before.before.before.next-operand.ensures in
@@ -56,7 +56,7 @@ loop-less c =
 
 loop-again : tie.Need-loop-preserved invariant-loop decreases-loop
 loop-again c =
-    let a = c.before.before.before.before.before.before.before.before.before.before.before.args in
+    let a = c.before.before.before.before.before.before.before.before.before.before.before.before.args in
     let l = c.before.before.before.before.before.before.before.loop in
     let n = c.before.before.before.before.before.first.ensures in
     let w = c.before.before.before.before.next-operand.ensures in
@@ -72,6 +72,7 @@ fits-spec =
     (tie.spec
     invariant-loop
     decreases-loop
+    (λ c. search rules)
     (λ c κs. search rules)
     loop-holds
     (λ c. search rules)

@@ -3,8 +3,7 @@ use Prim.Native.Nat.{ℕ}
 use mathlib.Core.Path.{ap, ◌∙◌}
 use native.Mathlib.Omega.{arith}
 use lib.ListN.{length-replicate}
-use Rattle.table.specs.Table.{use_wide}
-use Rattle.checking.specs.Checking.{first_wrong, answer_of, refused}
+use Rattle.checking.specs.Checking.{three, first_wrong, answer_of, refused}
 use Rattle.checking.specs.model.Comparing.{section}
 use Rattle.checking.proofs.FromTables.{read_refuses, table_long, answers}
 use borrow.Author.Rules.{rules}
@@ -21,7 +20,7 @@ returns c =
     let told = c.before.before.before.enum_told.given.1 in
     let args = c.before.before.before.before.before.before.before.before.before.args in
     answers read.ensures told args.width args.list.now
-    (c.compared.ensures ∙ ap (λ (w : ℕ). answer_of (first_wrong args.list.now (section w use_wide read.new.1.0))) c.before.lesser.ensures)
+    (c.compared.ensures ∙ ap (λ (w : ℕ). answer_of (first_wrong args.list.now (section w three read.new.1.0))) c.before.lesser.ensures)
 
 returns-2 : tie.Need-returns-2
 returns-2 c =

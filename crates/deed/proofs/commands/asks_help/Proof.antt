@@ -1,4 +1,4 @@
--- `deed::commands::asks_help` meets its contract. By the three words.
+-- `deed::commands::asks_help` meets its contract. By the two words.
 -- Assumes nothing.
 use mathlib.Core.Path.{◌≡◌, sym, ◌∙◌}
 use mathlib.Core.Bool.{true, false}
@@ -18,18 +18,8 @@ returns c =
 returns-2 : tie.Need-returns-2
 unfolding helps
 returns-2 c =
-    let ws = words_of c.before.before.before.before.before.before.before.args.line.now in
-    let e : has ws (bytes "--help") ≡ false = sym c.before.before.before.before.Has-word.ensures ∙ c.before.before.before.if1.false in
-    let f : has ws (bytes "-h") ≡ true = sym c.before.has-word2.ensures ∙ c.if2.true in
-    simp (e, f)
-
-returns-3 : tie.Need-returns-3
-unfolding helps
-returns-3 c =
-    let ws = words_of c.before.before.before.before.before.before.before.before.before.args.line.now in
-    let e : has ws (bytes "--help") ≡ false = sym c.before.before.before.before.before.before.Has-word.ensures ∙ c.before.before.before.before.before.if1.false in
-    let f : has ws (bytes "-h") ≡ false = sym c.before.before.before.has-word2.ensures ∙ c.before.before.if2.false in
-    simp (e, f) c.has-word3.ensures
+    let e : has (words_of c.before.before.before.before.before.before.args.line.now) (bytes "--help") ≡ false = sym c.before.before.before.Has-word.ensures ∙ c.before.before.if1.false in
+    simp e c.has-word2.ensures
 
 pub asks-help-spec : {M : Type 1} → statement M
 asks-help-spec =
@@ -40,7 +30,4 @@ asks-help-spec =
     returns
     (λ c. search rules)
     (λ c κs. search rules)
-    returns-2
-    (λ c. search rules)
-    (λ c κs. search rules)
-    returns-3)
+    returns-2)

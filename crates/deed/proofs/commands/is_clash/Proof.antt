@@ -1,4 +1,4 @@
--- `deed::commands::is_clash` meets its contract. By the four words.
+-- `deed::commands::is_clash` meets its contract. By the three words.
 -- Assumes nothing.
 use mathlib.Core.Path.{◌≡◌, sym, ◌∙◌}
 use mathlib.Core.Bool.{true, false}
@@ -23,16 +23,8 @@ returns-2 c =
 returns-3 : tie.Need-returns-3
 unfolding clash
 returns-3 c =
-    let e : has (words_of c.before.before.before.before.before.before.before.before.before.args.line.now) (bytes "--list") ≡ false = sym c.before.before.before.before.Has-word.ensures ∙ c.before.before.before.if2.false in
-    let f : has (words_of c.before.before.before.before.before.before.before.before.before.args.line.now) (bytes "--values") ≡ true = sym c.before.has-word2.ensures ∙ c.if3.true in
-    simp (sym c.before.before.before.before.before.before.before.is_plain.ensures ∙ not-false _ c.before.before.before.before.before.before.if1.false, e, f)
-
-returns-4 : tie.Need-returns-4
-unfolding clash
-returns-4 c =
-    let e : has (words_of c.before.before.before.before.before.before.before.before.before.before.before.args.line.now) (bytes "--list") ≡ false = sym c.before.before.before.before.before.before.Has-word.ensures ∙ c.before.before.before.before.before.if2.false in
-    let f : has (words_of c.before.before.before.before.before.before.before.before.before.before.before.args.line.now) (bytes "--values") ≡ false = sym c.before.before.before.has-word2.ensures ∙ c.before.before.if3.false in
-    simp (sym c.before.before.before.before.before.before.before.before.before.is_plain.ensures ∙ not-false _ c.before.before.before.before.before.before.before.before.if1.false, e, f) c.has-word3.ensures
+    let e : has (words_of c.before.before.before.before.before.before.before.before.args.line.now) (bytes "--list") ≡ false = sym c.before.before.before.Has-word.ensures ∙ c.before.before.if2.false in
+    simp (sym c.before.before.before.before.before.before.is_plain.ensures ∙ not-false _ c.before.before.before.before.before.if1.false, e) c.has-word2.ensures
 
 pub is-clash-spec : {M : Type 1} → statement M
 is-clash-spec =
@@ -45,7 +37,4 @@ is-clash-spec =
     returns-2
     (λ c. search rules)
     (λ c κs. search rules)
-    returns-3
-    (λ c. search rules)
-    (λ c κs. search rules)
-    returns-4)
+    returns-3)

@@ -10,7 +10,7 @@ use Rattle.deed.proofs.commands.options_fit.Tie as tie
 
 returns : tie.Need-returns
 unfolding fitting
-returns c = sym (some_found Misfit c.before.before.before.before.before.before.args.row.now c.before.before.before.before.before.before.args.line.now c.before.before.before.first.result c.before.before.before.first.ensures c.before.before.if1.true)
+returns c = sym (some_found Misfit c.before.before.before.before.before.before.before.args.row.now c.before.before.before.before.before.before.before.args.line.now c.before.before.before.before.first.result c.before.before.before.before.first.ensures c.before.before.before.if1.true)
 
 returns-2 : tie.Need-returns-2
 unfolding fitting
@@ -21,6 +21,7 @@ options-fit-spec =
     tie.close
     (tie.spec
     (λ c κs. search rules)
+    (λ c. search rules)
     (λ c. search rules)
     (λ c. search rules)
     (λ c. search rules)

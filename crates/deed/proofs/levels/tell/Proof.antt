@@ -1,4 +1,4 @@
--- `deed::levels::tell` meets its contract. The status is of what is answered, whatever is shown.
+-- `deed::levels::tell` meets its contract. The status is of what read answers, whatever is shown.
 -- Assumes nothing.
 use borrow.Author.Rules.{rules}
 use Rattle.deed.proofs.levels.tell.Statement.{statement}
@@ -7,17 +7,17 @@ use Rattle.deed.proofs.levels.tell.Tie as tie
 returns : tie.Need-returns
 returns c =
     record {
-      verdict = c.before.before.before.before.before.before.read-source.result;
-      holds = (c.before.before.before.before.before.before.read-source.new.1.1.1.0, c.before.before.before.before.before.before.read-source.ensures);
+      verdict = c.before.before.before.before.before.before.read.result;
+      holds = (c.before.before.before.before.before.before.read.new.1.0, c.before.before.before.before.before.before.read.ensures);
       told = c.before.before.before.before.of-verdict.ensures;
     }
 
 returns-2 : tie.Need-returns-2
 returns-2 c =
     record {
-      verdict = c.before.before.before.before.before.before.read-source.result;
-      holds = (c.before.before.before.before.before.before.read-source.new.1.1.1.0, c.before.before.before.before.before.before.read-source.ensures);
-      told = c.before.before.before.before.of-verdict.ensures;
+      verdict = c.before.before.before.before.before.before.before.read.result;
+      holds = (c.before.before.before.before.before.before.before.read.new.1.0, c.before.before.before.before.before.before.before.read.ensures);
+      told = c.before.before.before.before.before.of-verdict.ensures;
     }
 
 pub tell-spec : {M : Type 1} → statement M
@@ -30,6 +30,7 @@ tell-spec =
     (λ c. search rules)
     (λ c. search rules)
     (λ c κs. search rules)
+    (λ c. search rules)
     (λ c. search rules)
     (λ c κs. search rules)
     returns

@@ -1,4 +1,4 @@
--- `deed::uses::obey` meets its contract. The words are wrong, or the status is that of an answer.
+-- `deed::uses::obey` meets its contract. There is no file, or its status is that of an answer.
 -- Assumes nothing.
 use Rattle.deed.proofs.Statuses.{told_most}
 use borrow.Author.Rules.{rules}
@@ -13,9 +13,18 @@ obey-spec =
     tie.close
     (tie.spec
     (λ c κs. search rules)
+    (λ c κs. search rules)
+    (λ c. search rules)
+    (λ c. search rules)
     (λ c. search rules)
     (λ c. search rules)
     (λ c κs. search rules)
+    (λ c κs. search rules)
+    (λ c. search rules)
+    (λ c. search rules)
+    (λ c. search rules)
+    (λ c. search rules)
+    (λ c. search rules)
     (λ c. search rules)
     (λ c κs. search rules)
     (λ c κs. search rules)

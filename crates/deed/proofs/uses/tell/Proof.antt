@@ -1,4 +1,4 @@
--- `deed::uses::tell` meets its contract. The status is of what is answered, whatever is shown.
+-- `deed::uses::tell` meets its contract. The status is of what read answers, whatever is shown.
 -- Assumes nothing.
 use borrow.Author.Rules.{rules}
 use Rattle.deed.proofs.uses.tell.Statement.{statement}
@@ -7,8 +7,8 @@ use Rattle.deed.proofs.uses.tell.Tie as tie
 returns : tie.Need-returns
 returns c =
     record {
-      verdict = c.before.before.before.read-source.result;
-      holds = (c.before.before.before.read-source.new.1.1.1.0, c.before.before.before.read-source.ensures);
+      verdict = c.before.before.before.read.result;
+      holds = (c.before.before.before.read.new.1.0, c.before.before.before.read.ensures);
       told = c.of-verdict.ensures;
     }
 
@@ -16,9 +16,6 @@ pub tell-spec : {M : Type 1} → statement M
 tell-spec =
     tie.close
     (tie.spec
-    (λ c. search rules)
-    (λ c κs. search rules)
-    (λ c. search rules)
     (λ c. search rules)
     (λ c κs. search rules)
     (λ c. search rules)

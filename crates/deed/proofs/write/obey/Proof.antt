@@ -6,7 +6,7 @@ use Rattle.deed.proofs.write.obey.Statement.{statement}
 use Rattle.deed.proofs.write.obey.Tie as tie
 
 returns-2 : tie.Need-returns-2
-returns-2 c = write_most c.tell.ensures
+returns-2 c = write_most c.tell-text.ensures
 
 pub obey-spec : {M : Type 1} → statement M
 obey-spec =
@@ -21,8 +21,6 @@ obey-spec =
     (λ c κs. search rules)
     (λ c κs. search rules)
     (λ c. search rules)
-    (λ c. search rules)
-    (λ c κs. search rules)
     (λ c. search rules)
     (λ c. search rules)
     (λ c. search rules)

@@ -8,10 +8,10 @@ use Rattle.desk.proofs.given.put_numbers.Statement.{statement}
 use Rattle.desk.proofs.given.put_numbers.Tie as tie
 
 abbrev invariant-loop : tie.invariant-loop
-invariant-loop line from input₀ at₀ count₀ input at count = length input ≡ length input₀
+invariant-loop line from command input₀ n at₀ count₀ input at count = length input ≡ length input₀
 
 abbrev decreases-loop : tie.decreases-loop
-decreases-loop line from input₀ at₀ count₀ input at count = length line - at
+decreases-loop line from command input₀ n at₀ count₀ input at count = length line - at
 
 pub put-numbers-spec : {M : Type 1} → statement M
 put-numbers-spec =

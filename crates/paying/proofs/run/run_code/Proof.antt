@@ -10,7 +10,7 @@ use Rattle.paying.proofs.run.run_code.Tie as tie
 
 returns : tie.Need-returns
 returns c =
-    let a = c.before.before.before.before.before.before.before.before.before.before.before.before.before.args in
+    let a = c.before.before.before.before.before.before.before.before.before.before.before.args in
     run_told a.code.now (take a.count a.input.now) (replicate 16384 (pos 0)) (replicate 196608 (pos 0)) a.count a.sizes.limit a.sizes.cells a.sizes.room a.how.strict _ c.show-ran.result c.before.before.before.before.before.run-within.result (length-replicate 16384 (pos 0)) (length-replicate 196608 (pos 0)) (c.before.before.least.ensures ∙ sym (length_taken a.count a.input.now)) c.show-ran.ensures c.before.before.before.before.before.run-within.ensures
 
 pub run-code-spec : {M : Type 1} → statement M

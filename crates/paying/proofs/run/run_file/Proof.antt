@@ -1,4 +1,4 @@
--- `paying::run::run_file` meets its contract. There is no file or no input, or its status is that of a run.
+-- `paying::run::run_file` meets its contract. There is no input or no file, or its status is that of a run.
 -- Assumes nothing.
 use Rattle.paying.proofs.Running.{run_most}
 use borrow.Author.Rules.{rules}
@@ -13,11 +13,6 @@ run-file-spec =
     tie.close
     (tie.spec
     (λ c κs. search rules)
-    (λ c κs. search rules)
-    (λ c. search rules)
-    (λ c. search rules)
-    (λ c κs. search rules)
-    (λ c. search rules)
     (λ c. search rules)
     (λ c κs. search rules)
     (λ c κs. search rules)
@@ -26,6 +21,8 @@ run-file-spec =
     (λ c. search rules)
     (λ c. search rules)
     (λ c. search rules)
+    (λ c κs. search rules)
+    (λ c κs. search rules)
     (λ c. search rules)
     (λ c. search rules)
     (λ c. search rules)

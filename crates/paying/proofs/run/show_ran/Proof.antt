@@ -8,10 +8,10 @@ use Rattle.paying.proofs.run.show_ran.Statement.{statement}
 use Rattle.paying.proofs.run.show_ran.Tie as tie
 
 returns : tie.Need-returns
-returns c = c.before.before.before.before.before.before.of-end.ensures ∙ ap (λ (t : Bool). of_end t c.before.before.before.before.before.before.before.before.before.before.before.before.args.ran.stop) c.before.before.before.before.before.before.before.is-left.ensures
+returns c = c.before.before.before.before.before.before.of-end.ensures ∙ ap (λ (t : Bool). of_end t c.before.before.before.before.before.before.before.before.before.before.args.ran.stop) c.before.before.before.before.before.before.before.is-left.ensures
 
 returns-2 : tie.Need-returns-2
-returns-2 c = c.before.before.of-end.ensures ∙ ap (λ (t : Bool). of_end t c.before.before.before.before.before.before.before.before.args.ran.stop) c.before.before.before.is-left.ensures
+returns-2 c = c.before.before.of-end.ensures ∙ ap (λ (t : Bool). of_end t c.before.before.before.before.before.before.args.ran.stop) c.before.before.before.is-left.ensures
 
 pub show-ran-spec : {M : Type 1} → statement M
 show-ran-spec =

@@ -20,10 +20,10 @@ around-requires : tie.Need-around-requires
 around-requires c κs = (omega (arith, nodes_enough c.before.before.before.before.before.before.before.before.before.before.before.before.before.requires), omega (arith, nodes_enough c.before.before.before.before.before.before.before.before.before.before.before.before.before.requires), omega (arith, nodes_enough c.before.before.before.before.before.before.before.before.before.before.before.before.before.requires))
 
 page-requires : tie.Need-page-requires
-page-requires c κs = (c.before.before.before.before.before.before.before.before.before.before.before.before.before.before.before.requires.behind.symbols_in_lem.scanned.short, c.before.before.before.before.before.before.before.before.before.before.before.before.before.before.before.requires.before.scanned.short)
+page-requires c κs = (c.before.before.before.before.before.before.before.before.before.before.before.before.before.before.before.requires.behind.symbols_in.scanned.short, c.before.before.before.before.before.before.before.before.before.before.before.before.before.before.before.requires.before.scanned.short)
 
 slice-aggregate-passed : tie.Need-slice-aggregate-passed
-slice-aggregate-passed c = sym (ap length c.before.page.ensures ∙ page_length c.before.before.before.before.before.before.before.before.before.before.before.before.before.before.before.before.before.args.scheme.now c.before.before.before.before.before.before.before.before.before.before.before.before.before.before.before.before.before.args.prelude.now c.before.before.before.before.before.before.before.before.before.before.before.before.before.before.before.before.before.requires.behind.symbols_in_lem.scanned.short c.before.before.before.before.before.before.before.before.before.before.before.before.before.before.before.before.before.requires.before.scanned.short)
+slice-aggregate-passed c = sym (ap length c.before.page.ensures ∙ page_length c.before.before.before.before.before.before.before.before.before.before.before.before.before.before.before.before.before.args.scheme.now c.before.before.before.before.before.before.before.before.before.before.before.before.before.before.before.before.before.args.prelude.now c.before.before.before.before.before.before.before.before.before.before.before.before.before.before.before.before.before.requires.behind.symbols_in.scanned.short c.before.before.before.before.before.before.before.before.before.before.before.before.before.before.before.before.before.requires.before.scanned.short)
 
 add-passed : tie.Need-overflow-add-passed
 add-passed c = omega (arith, few_both c.before.before.before.before.before.before.before.before.before.before.before.before.before.before.before.before.before.before.requires)

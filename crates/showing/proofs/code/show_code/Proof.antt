@@ -6,10 +6,10 @@ use Rattle.showing.proofs.code.show_code.Statement.{statement}
 use Rattle.showing.proofs.code.show_code.Tie as tie
 
 abbrev invariant-loop : tie.invariant-loop
-invariant-loop source shared prelude code last₀ k₀ last k = k ≤ 8192
+invariant-loop source code k₀ k = k ≤ 8192
 
 abbrev decreases-loop : tie.decreases-loop
-decreases-loop source shared prelude code last₀ k₀ last k = 8192 - k
+decreases-loop source code k₀ k = 8192 - k
 
 pub show-code-spec : {M : Type 1} → statement M
 show-code-spec =

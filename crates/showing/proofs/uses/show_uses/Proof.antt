@@ -6,10 +6,10 @@ use Rattle.showing.proofs.uses.show_uses.Statement.{statement}
 use Rattle.showing.proofs.uses.show_uses.Tie as tie
 
 abbrev invariant-loop : tie.invariant-loop
-invariant-loop source shared prelude table n k₀ k = k ≤ n
+invariant-loop source table n k₀ k = k ≤ n
 
 abbrev decreases-loop : tie.decreases-loop
-decreases-loop source shared prelude table n k₀ k = n - k
+decreases-loop source table n k₀ k = n - k
 
 pub show-uses-spec : {M : Type 1} → statement M
 show-uses-spec =
@@ -19,7 +19,8 @@ show-uses-spec =
     decreases-loop
     (λ c κs. search rules)
     (λ c. search rules)
-    (λ c κs. search rules)
+    (λ c. search rules)
+    (λ c. search rules)
     (λ c κs. search rules)
     (λ c. search rules)
     (λ c. search rules)

@@ -8,7 +8,7 @@ use Rattle.grammar.specs.model.Tables.{choose, some}
 use Rattle.grammar.specs.model.Run.{now}
 use Rattle.grammar.specs.model.Text.{text}
 use Rattle.grammar.proofs.Sets.{all_in}
-use Rattle.grammar.proofs.Peeks.{inside, inside_in, is_at, is_in_lem, is_not, but}
+use Rattle.grammar.proofs.Peeks.{inside, inside_in, is_at, is_in, is_not, but}
 use Rattle.syntax.proofs.Lemmas.{space, s_end, s_sy, s_no, s_prod, s_part, s_bad, s_last}
 use Rattle.grammar.specs.Grammar as G
 use Rattle.syntax.proofs.Choices as C
@@ -51,14 +51,14 @@ specifications-type-symbol-requires : (t : ℕ) → specifications-lts.Need-type
 specifications-type-symbol-requires t c κs =
     let μ = c.before.before.before.before.before.requires.0 in
     let r = c.before.before.before.before.before.requires.1 in
-    let i1 = inside_in _ _ (11 ∷ 12 ∷ 40 ∷ []) refl (is_in_lem c.before.before.peek.result c.before.before.peek.ensures (11 ∷ 12 ∷ 40 ∷ []) c.before.match.keys1) in
+    let i1 = inside_in _ _ (11 ∷ 12 ∷ 40 ∷ []) refl (is_in c.before.before.peek.result c.before.before.peek.ensures (11 ∷ 12 ∷ 40 ∷ []) c.before.match.keys1) in
     record { inside = omega arith; short = omega arith; size = omega arith; room = omega arith }
 
 specifications-list-requires : (t : ℕ) → specifications-lts.Need-list-requires (specifications-calls t) (specifications-at t) specifications.Post
 specifications-list-requires t c κs =
     let μ = c.before.before.before.before.before.before.before.before.before.before.before.before.requires.0 in
     let r = c.before.before.before.before.before.before.before.before.before.before.before.before.requires.1 in
-    let i1 = inside_in _ _ (11 ∷ 12 ∷ 40 ∷ []) refl (is_in_lem c.before.before.before.before.before.before.before.before.before.peek.result c.before.before.before.before.before.before.before.before.before.peek.ensures (11 ∷ 12 ∷ 40 ∷ []) c.before.before.before.before.before.before.before.before.match.keys1) in
+    let i1 = inside_in _ _ (11 ∷ 12 ∷ 40 ∷ []) refl (is_in c.before.before.before.before.before.before.before.before.before.peek.result c.before.before.before.before.before.before.before.before.before.peek.ensures (11 ∷ 12 ∷ 40 ∷ []) c.before.before.before.before.before.before.before.before.match.keys1) in
     let l1 = c.before.before.before.before.before.before.type-symbol.auto.1.1.0 in
     let g1 = (c.before.before.before.before.before.before.type-symbol.ensures 0 []).read _ _ c.before.before.one2.given.1 in let s1 = space g1 in
     record { inside = omega arith; short = omega arith; size = omega arith; room = omega arith }
@@ -67,7 +67,7 @@ specifications-add-specifications : (t : ℕ) → specifications-lts.Need-overfl
 specifications-add-specifications t c =
     let μ = c.before.before.before.before.before.before.before.before.before.before.before.before.before.before.before.before.before.before.before.before.before.requires.0 in
     let r = c.before.before.before.before.before.before.before.before.before.before.before.before.before.before.before.before.before.before.before.before.before.requires.1 in
-    let i1 = inside_in _ _ (11 ∷ 12 ∷ 40 ∷ []) refl (is_in_lem c.before.before.before.before.before.before.before.before.before.before.before.before.before.before.before.before.before.before.peek.result c.before.before.before.before.before.before.before.before.before.before.before.before.before.before.before.before.before.before.peek.ensures (11 ∷ 12 ∷ 40 ∷ []) c.before.before.before.before.before.before.before.before.before.before.before.before.before.before.before.before.before.match.keys1) in
+    let i1 = inside_in _ _ (11 ∷ 12 ∷ 40 ∷ []) refl (is_in c.before.before.before.before.before.before.before.before.before.before.before.before.before.before.before.before.before.before.peek.result c.before.before.before.before.before.before.before.before.before.before.before.before.before.before.before.before.before.before.peek.ensures (11 ∷ 12 ∷ 40 ∷ []) c.before.before.before.before.before.before.before.before.before.before.before.before.before.before.before.before.before.match.keys1) in
     let l1 = c.before.before.before.before.before.before.before.before.before.before.before.before.before.before.before.type-symbol.auto.1.1.0 in
     let g1 = (c.before.before.before.before.before.before.before.before.before.before.before.before.before.before.before.type-symbol.ensures 0 []).read _ _ c.before.before.before.before.before.before.before.before.before.before.before.one2.given.1 in let s1 = space g1 in
     let l2 = c.before.before.before.before.before.before.before.before.list.auto.1.1.0 in
@@ -79,7 +79,7 @@ specifications-specifications-requires : (t : ℕ) → specifications-lts.Need-s
 specifications-specifications-requires t c κs =
     let μ = c.before.before.before.before.before.before.before.before.before.before.before.before.before.before.before.before.before.before.before.before.before.before.requires.0 in
     let r = c.before.before.before.before.before.before.before.before.before.before.before.before.before.before.before.before.before.before.before.before.before.before.requires.1 in
-    let i1 = inside_in _ _ (11 ∷ 12 ∷ 40 ∷ []) refl (is_in_lem c.before.before.before.before.before.before.before.before.before.before.before.before.before.before.before.before.before.before.before.peek.result c.before.before.before.before.before.before.before.before.before.before.before.before.before.before.before.before.before.before.before.peek.ensures (11 ∷ 12 ∷ 40 ∷ []) c.before.before.before.before.before.before.before.before.before.before.before.before.before.before.before.before.before.before.match.keys1) in
+    let i1 = inside_in _ _ (11 ∷ 12 ∷ 40 ∷ []) refl (is_in c.before.before.before.before.before.before.before.before.before.before.before.before.before.before.before.before.before.before.before.peek.result c.before.before.before.before.before.before.before.before.before.before.before.before.before.before.before.before.before.before.before.peek.ensures (11 ∷ 12 ∷ 40 ∷ []) c.before.before.before.before.before.before.before.before.before.before.before.before.before.before.before.before.before.before.match.keys1) in
     let l1 = c.before.before.before.before.before.before.before.before.before.before.before.before.before.before.before.before.type-symbol.auto.1.1.0 in
     let g1 = (c.before.before.before.before.before.before.before.before.before.before.before.before.before.before.before.before.type-symbol.ensures 0 []).read _ _ c.before.before.before.before.before.before.before.before.before.before.before.before.one2.given.1 in let s1 = space g1 in
     let l2 = c.before.before.before.before.before.before.before.before.before.list.auto.1.1.0 in
@@ -91,31 +91,31 @@ specifications-same-length : (t : ℕ) → specifications-lts.Need-same-length (
 specifications-same-length t c =
     let μ = c.before.before.before.before.before.before.before.before.before.before.before.requires.0 in
     let r = c.before.before.before.before.before.before.before.before.before.before.before.requires.1 in
-    let i1 = inside_in _ _ (11 ∷ 12 ∷ 40 ∷ []) refl (is_in_lem c.before.before.before.before.before.before.before.before.peek.result c.before.before.before.before.before.before.before.before.peek.ensures (11 ∷ 12 ∷ 40 ∷ []) c.before.before.before.before.before.before.before.match.keys1) in
+    let i1 = inside_in _ _ (11 ∷ 12 ∷ 40 ∷ []) refl (is_in c.before.before.before.before.before.before.before.before.peek.result c.before.before.before.before.before.before.before.before.peek.ensures (11 ∷ 12 ∷ 40 ∷ []) c.before.before.before.before.before.before.before.match.keys1) in
     let l1 = c.before.before.before.before.before.type-symbol.auto.1.1.0 in
     omega arith
 
 specifications-returns : (t : ℕ) → specifications-lts.Need-returns (specifications-calls t) (specifications-at t) specifications.Post
-specifications-returns t c = λ d F. s_prod G.a_specification (all_in (λ (z : ℕ). choose G.specifications z 0 ≡ some G.a_specification) (is_in_lem c.before.before.before.before.before.before.before.before.peek.result c.before.before.before.before.before.before.before.before.peek.ensures (11 ∷ 12 ∷ 40 ∷ []) c.before.before.before.before.before.before.before.match.keys1) (refl, (refl, (refl, tt)))) (s_bad _ ((c.before.before.before.before.before.type-symbol.ensures _ _).refused _ _ c.before.one.given.1))
+specifications-returns t c = λ d F. s_prod G.a_specification (all_in (λ (z : ℕ). choose G.specifications z 0 ≡ some G.a_specification) (is_in c.before.before.before.before.before.before.before.before.peek.result c.before.before.before.before.before.before.before.before.peek.ensures (11 ∷ 12 ∷ 40 ∷ []) c.before.before.before.before.before.before.before.match.keys1) (refl, (refl, (refl, tt)))) (s_bad _ ((c.before.before.before.before.before.type-symbol.ensures _ _).refused _ _ c.before.one.given.1))
 
 specifications-same-length-2 : (t : ℕ) → specifications-lts.Need-same-length-2 (specifications-calls t) (specifications-at t) specifications.Post
 specifications-same-length-2 t c =
     let μ = c.before.before.before.before.before.before.before.before.before.before.before.before.before.before.before.before.before.before.requires.0 in
     let r = c.before.before.before.before.before.before.before.before.before.before.before.before.before.before.before.before.before.before.requires.1 in
-    let i1 = inside_in _ _ (11 ∷ 12 ∷ 40 ∷ []) refl (is_in_lem c.before.before.before.before.before.before.before.before.before.before.before.before.before.before.before.peek.result c.before.before.before.before.before.before.before.before.before.before.before.before.before.before.before.peek.ensures (11 ∷ 12 ∷ 40 ∷ []) c.before.before.before.before.before.before.before.before.before.before.before.before.before.before.match.keys1) in
+    let i1 = inside_in _ _ (11 ∷ 12 ∷ 40 ∷ []) refl (is_in c.before.before.before.before.before.before.before.before.before.before.before.before.before.before.before.peek.result c.before.before.before.before.before.before.before.before.before.before.before.before.before.before.before.peek.ensures (11 ∷ 12 ∷ 40 ∷ []) c.before.before.before.before.before.before.before.before.before.before.before.before.before.before.match.keys1) in
     let l1 = c.before.before.before.before.before.before.before.before.before.before.before.before.type-symbol.auto.1.1.0 in
     let g1 = (c.before.before.before.before.before.before.before.before.before.before.before.before.type-symbol.ensures 0 []).read _ _ c.before.before.before.before.before.before.before.before.one2.given.1 in let s1 = space g1 in
     let l2 = c.before.before.before.before.before.list.auto.1.1.0 in
     omega arith
 
 specifications-returns-2 : (t : ℕ) → specifications-lts.Need-returns-2 (specifications-calls t) (specifications-at t) specifications.Post
-specifications-returns-2 t c = λ d F. s_prod G.a_specification (all_in (λ (z : ℕ). choose G.specifications z 0 ≡ some G.a_specification) (is_in_lem c.before.before.before.before.before.before.before.before.before.before.before.before.before.before.before.peek.result c.before.before.before.before.before.before.before.before.before.before.before.before.before.before.before.peek.ensures (11 ∷ 12 ∷ 40 ∷ []) c.before.before.before.before.before.before.before.before.before.before.before.before.before.before.match.keys1) (refl, (refl, (refl, tt)))) (s_part _ ((c.before.before.before.before.before.before.before.before.before.before.before.before.type-symbol.ensures _ _).read _ _ c.before.before.before.before.before.before.before.before.one2.given.1) (s_bad _ ((c.before.before.before.before.before.list.ensures _ _).refused _ _ c.before.two.given.1)))
+specifications-returns-2 t c = λ d F. s_prod G.a_specification (all_in (λ (z : ℕ). choose G.specifications z 0 ≡ some G.a_specification) (is_in c.before.before.before.before.before.before.before.before.before.before.before.before.before.before.before.peek.result c.before.before.before.before.before.before.before.before.before.before.before.before.before.before.before.peek.ensures (11 ∷ 12 ∷ 40 ∷ []) c.before.before.before.before.before.before.before.before.before.before.before.before.before.before.match.keys1) (refl, (refl, (refl, tt)))) (s_part _ ((c.before.before.before.before.before.before.before.before.before.before.before.before.type-symbol.ensures _ _).read _ _ c.before.before.before.before.before.before.before.before.one2.given.1) (s_bad _ ((c.before.before.before.before.before.list.ensures _ _).refused _ _ c.before.two.given.1)))
 
 specifications-same-length-3 : (t : ℕ) → specifications-lts.Need-same-length-3 (specifications-calls t) (specifications-at t) specifications.Post
 specifications-same-length-3 t c =
     let μ = c.before.before.before.before.before.before.before.before.before.before.before.before.before.before.before.before.before.before.before.before.before.before.before.before.before.requires.0 in
     let r = c.before.before.before.before.before.before.before.before.before.before.before.before.before.before.before.before.before.before.before.before.before.before.before.before.before.requires.1 in
-    let i1 = inside_in _ _ (11 ∷ 12 ∷ 40 ∷ []) refl (is_in_lem c.before.before.before.before.before.before.before.before.before.before.before.before.before.before.before.before.before.before.before.before.before.before.peek.result c.before.before.before.before.before.before.before.before.before.before.before.before.before.before.before.before.before.before.before.before.before.before.peek.ensures (11 ∷ 12 ∷ 40 ∷ []) c.before.before.before.before.before.before.before.before.before.before.before.before.before.before.before.before.before.before.before.before.before.match.keys1) in
+    let i1 = inside_in _ _ (11 ∷ 12 ∷ 40 ∷ []) refl (is_in c.before.before.before.before.before.before.before.before.before.before.before.before.before.before.before.before.before.before.before.before.before.before.peek.result c.before.before.before.before.before.before.before.before.before.before.before.before.before.before.before.before.before.before.before.before.before.before.peek.ensures (11 ∷ 12 ∷ 40 ∷ []) c.before.before.before.before.before.before.before.before.before.before.before.before.before.before.before.before.before.before.before.before.before.match.keys1) in
     let l1 = c.before.before.before.before.before.before.before.before.before.before.before.before.before.before.before.before.before.before.before.type-symbol.auto.1.1.0 in
     let g1 = (c.before.before.before.before.before.before.before.before.before.before.before.before.before.before.before.before.before.before.before.type-symbol.ensures 0 []).read _ _ c.before.before.before.before.before.before.before.before.before.before.before.before.before.before.before.one2.given.1 in let s1 = space g1 in
     let l2 = c.before.before.before.before.before.before.before.before.before.before.before.before.list.auto.1.1.0 in
@@ -125,13 +125,13 @@ specifications-same-length-3 t c =
     omega arith
 
 specifications-returns-3 : (t : ℕ) → specifications-lts.Need-returns-3 (specifications-calls t) (specifications-at t) specifications.Post
-specifications-returns-3 t c = λ d F. s_prod G.a_specification (all_in (λ (z : ℕ). choose G.specifications z 0 ≡ some G.a_specification) (is_in_lem c.before.before.before.before.before.before.before.before.before.before.before.before.before.before.before.before.before.before.before.before.before.before.peek.result c.before.before.before.before.before.before.before.before.before.before.before.before.before.before.before.before.before.before.before.before.before.before.peek.ensures (11 ∷ 12 ∷ 40 ∷ []) c.before.before.before.before.before.before.before.before.before.before.before.before.before.before.before.before.before.before.before.before.before.match.keys1) (refl, (refl, (refl, tt)))) (s_part _ ((c.before.before.before.before.before.before.before.before.before.before.before.before.before.before.before.before.before.before.before.type-symbol.ensures _ _).read _ _ c.before.before.before.before.before.before.before.before.before.before.before.before.before.before.before.one2.given.1) (s_part _ ((c.before.before.before.before.before.before.before.before.before.before.before.before.list.ensures _ _).read _ _ c.before.before.before.before.before.before.before.before.two2.given.1) (s_sy (is_at c.before.before.before.before.before.before.peek2.result c.before.before.before.before.before.before.peek2.ensures c.before.before.before.before.before.match4.keys1) (s_last (c.before.before.specifications.ensures _ _)))))
+specifications-returns-3 t c = λ d F. s_prod G.a_specification (all_in (λ (z : ℕ). choose G.specifications z 0 ≡ some G.a_specification) (is_in c.before.before.before.before.before.before.before.before.before.before.before.before.before.before.before.before.before.before.before.before.before.before.peek.result c.before.before.before.before.before.before.before.before.before.before.before.before.before.before.before.before.before.before.before.before.before.before.peek.ensures (11 ∷ 12 ∷ 40 ∷ []) c.before.before.before.before.before.before.before.before.before.before.before.before.before.before.before.before.before.before.before.before.before.match.keys1) (refl, (refl, (refl, tt)))) (s_part _ ((c.before.before.before.before.before.before.before.before.before.before.before.before.before.before.before.before.before.before.before.type-symbol.ensures _ _).read _ _ c.before.before.before.before.before.before.before.before.before.before.before.before.before.before.before.one2.given.1) (s_part _ ((c.before.before.before.before.before.before.before.before.before.before.before.before.list.ensures _ _).read _ _ c.before.before.before.before.before.before.before.before.two2.given.1) (s_sy (is_at c.before.before.before.before.before.before.peek2.result c.before.before.before.before.before.before.peek2.ensures c.before.before.before.before.before.match4.keys1) (s_last (c.before.before.specifications.ensures _ _)))))
 
 specifications-same-length-4 : (t : ℕ) → specifications-lts.Need-same-length-4 (specifications-calls t) (specifications-at t) specifications.Post
 specifications-same-length-4 t c =
     let μ = c.before.before.before.before.before.before.before.before.before.before.before.before.before.before.before.before.before.before.before.before.requires.0 in
     let r = c.before.before.before.before.before.before.before.before.before.before.before.before.before.before.before.before.before.before.before.before.requires.1 in
-    let i1 = inside_in _ _ (11 ∷ 12 ∷ 40 ∷ []) refl (is_in_lem c.before.before.before.before.before.before.before.before.before.before.before.before.before.before.before.before.before.peek.result c.before.before.before.before.before.before.before.before.before.before.before.before.before.before.before.before.before.peek.ensures (11 ∷ 12 ∷ 40 ∷ []) c.before.before.before.before.before.before.before.before.before.before.before.before.before.before.before.before.match.keys1) in
+    let i1 = inside_in _ _ (11 ∷ 12 ∷ 40 ∷ []) refl (is_in c.before.before.before.before.before.before.before.before.before.before.before.before.before.before.before.before.before.peek.result c.before.before.before.before.before.before.before.before.before.before.before.before.before.before.before.before.before.peek.ensures (11 ∷ 12 ∷ 40 ∷ []) c.before.before.before.before.before.before.before.before.before.before.before.before.before.before.before.before.match.keys1) in
     let l1 = c.before.before.before.before.before.before.before.before.before.before.before.before.before.before.type-symbol.auto.1.1.0 in
     let g1 = (c.before.before.before.before.before.before.before.before.before.before.before.before.before.before.type-symbol.ensures 0 []).read _ _ c.before.before.before.before.before.before.before.before.before.before.one2.given.1 in let s1 = space g1 in
     let l2 = c.before.before.before.before.before.before.before.list.auto.1.1.0 in
@@ -139,7 +139,7 @@ specifications-same-length-4 t c =
     omega arith
 
 specifications-returns-4 : (t : ℕ) → specifications-lts.Need-returns-4 (specifications-calls t) (specifications-at t) specifications.Post
-specifications-returns-4 t c = λ d F. s_prod G.a_specification (all_in (λ (z : ℕ). choose G.specifications z 0 ≡ some G.a_specification) (is_in_lem c.before.before.before.before.before.before.before.before.before.before.before.before.before.before.before.before.before.peek.result c.before.before.before.before.before.before.before.before.before.before.before.before.before.before.before.before.before.peek.ensures (11 ∷ 12 ∷ 40 ∷ []) c.before.before.before.before.before.before.before.before.before.before.before.before.before.before.before.before.match.keys1) (refl, (refl, (refl, tt)))) (s_part _ ((c.before.before.before.before.before.before.before.before.before.before.before.before.before.before.type-symbol.ensures _ _).read _ _ c.before.before.before.before.before.before.before.before.before.before.one2.given.1) (s_part _ ((c.before.before.before.before.before.before.before.list.ensures _ _).read _ _ c.before.before.before.two2.given.1) (s_no (is_not c.before.peek2.result c.before.peek2.ensures (but (35 ∷ [])) 35 refl c.match4.keys2))))
+specifications-returns-4 t c = λ d F. s_prod G.a_specification (all_in (λ (z : ℕ). choose G.specifications z 0 ≡ some G.a_specification) (is_in c.before.before.before.before.before.before.before.before.before.before.before.before.before.before.before.before.before.peek.result c.before.before.before.before.before.before.before.before.before.before.before.before.before.before.before.before.before.peek.ensures (11 ∷ 12 ∷ 40 ∷ []) c.before.before.before.before.before.before.before.before.before.before.before.before.before.before.before.before.match.keys1) (refl, (refl, (refl, tt)))) (s_part _ ((c.before.before.before.before.before.before.before.before.before.before.before.before.before.before.type-symbol.ensures _ _).read _ _ c.before.before.before.before.before.before.before.before.before.before.one2.given.1) (s_part _ ((c.before.before.before.before.before.before.before.list.ensures _ _).read _ _ c.before.before.before.two2.given.1) (s_no (is_not c.before.peek2.result c.before.peek2.ensures (but (35 ∷ [])) 35 refl c.match4.keys2))))
 
 specifications-returns-5 : (t : ℕ) → specifications-lts.Need-returns-5 (specifications-calls t) (specifications-at t) specifications.Post
 specifications-returns-5 t c =

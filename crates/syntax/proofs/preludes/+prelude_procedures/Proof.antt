@@ -7,7 +7,7 @@ use Rattle.grammar.specs.model.Tables.{choose, some}
 use Rattle.grammar.specs.model.Run.{now}
 use Rattle.grammar.specs.model.Text.{text}
 use Rattle.grammar.proofs.Sets.{all_in}
-use Rattle.grammar.proofs.Peeks.{inside, inside_in, is_at, is_in_lem, is_not, but}
+use Rattle.grammar.proofs.Peeks.{inside, inside_in, is_at, is_in, is_not, but}
 use Rattle.syntax.specs.model.Says.{left}
 use Rattle.syntax.proofs.Lemmas.{space, s_end, s_sy, s_no, s_put, s_prod, s_part, s_bad, s_last}
 use Rattle.grammar.specs.Grammar as G
@@ -83,7 +83,7 @@ prelude-type-symbol-requires t c κs = let μ = c.before.before.before.before.be
 prelude-add-procedures-2 : (t : ℕ) → prelude-lts.Need-overflow-add-procedures-2 (prelude-calls t) (prelude-at t) prelude.Post
 prelude-add-procedures-2 t c = let μ = c.before.before.before.before.before.before.before.before.before.before.before.before.before.before.requires.0 in
     let r = c.before.before.before.before.before.before.before.before.before.before.before.before.before.before.requires.1 in
-    let i1 = inside_in _ _ (11 ∷ 12 ∷ 40 ∷ []) refl (is_in_lem c.before.before.before.before.before.before.before.before.before.before.before.peek.result c.before.before.before.before.before.before.before.before.before.before.before.peek.ensures (11 ∷ 12 ∷ 40 ∷ []) c.before.before.before.before.before.before.before.before.before.before.match.keys2) in
+    let i1 = inside_in _ _ (11 ∷ 12 ∷ 40 ∷ []) refl (is_in c.before.before.before.before.before.before.before.before.before.before.before.peek.result c.before.before.before.before.before.before.before.before.before.before.before.peek.ensures (11 ∷ 12 ∷ 40 ∷ []) c.before.before.before.before.before.before.before.before.before.before.match.keys2) in
     let l1 = c.before.before.before.before.before.before.before.before.type-symbol.auto.1.1.0 in
     let g1 = (c.before.before.before.before.before.before.before.before.type-symbol.ensures 0 []).read _ _ c.before.before.before.before.one2.given.1 in let s1 = space g1 in
     let i2 = inside _ _ (is_at c.before.before.peek2.result c.before.before.peek2.ensures c.before.match3.keys1) (λ h. omega arith) in
@@ -92,7 +92,7 @@ prelude-add-procedures-2 t c = let μ = c.before.before.before.before.before.bef
 prelude-procedures-requires-2 : (t : ℕ) → prelude-lts.Need-procedures-requires-2 (prelude-calls t) (prelude-at t) prelude.Post
 prelude-procedures-requires-2 t c κs = let μ = c.before.before.before.before.before.before.before.before.before.before.before.before.before.before.before.requires.0 in
     let r = c.before.before.before.before.before.before.before.before.before.before.before.before.before.before.before.requires.1 in
-    let i1 = inside_in _ _ (11 ∷ 12 ∷ 40 ∷ []) refl (is_in_lem c.before.before.before.before.before.before.before.before.before.before.before.before.peek.result c.before.before.before.before.before.before.before.before.before.before.before.before.peek.ensures (11 ∷ 12 ∷ 40 ∷ []) c.before.before.before.before.before.before.before.before.before.before.before.match.keys2) in
+    let i1 = inside_in _ _ (11 ∷ 12 ∷ 40 ∷ []) refl (is_in c.before.before.before.before.before.before.before.before.before.before.before.before.peek.result c.before.before.before.before.before.before.before.before.before.before.before.before.peek.ensures (11 ∷ 12 ∷ 40 ∷ []) c.before.before.before.before.before.before.before.before.before.before.before.match.keys2) in
     let l1 = c.before.before.before.before.before.before.before.before.before.type-symbol.auto.1.1.0 in
     let g1 = (c.before.before.before.before.before.before.before.before.before.type-symbol.ensures 0 []).read _ _ c.before.before.before.before.before.one2.given.1 in let s1 = space g1 in
     let i2 = inside _ _ (is_at c.before.before.before.peek2.result c.before.before.before.peek2.ensures c.before.before.match3.keys1) (λ h. omega arith) in
@@ -116,12 +116,12 @@ prelude-same-length-2 t c = let μ = c.before.before.before.before.before.before
     omega arith
 
 prelude-returns-2 : (t : ℕ) → prelude-lts.Need-returns-2 (prelude-calls t) (prelude-at t) prelude.Post
-prelude-returns-2 t c = λ F. s_prod G.typed_procedure (all_in (λ (z : ℕ). choose G.prelude z 0 ≡ some G.typed_procedure) (is_in_lem c.before.before.before.before.before.before.before.before.peek.result c.before.before.before.before.before.before.before.before.peek.ensures (11 ∷ 12 ∷ 40 ∷ []) c.before.before.before.before.before.before.before.match.keys2) (refl, (refl, (refl, tt)))) (s_bad _ ((c.before.before.before.before.before.type-symbol.ensures 0 _).refused _ _ c.before.one.given.1))
+prelude-returns-2 t c = λ F. s_prod G.typed_procedure (all_in (λ (z : ℕ). choose G.prelude z 0 ≡ some G.typed_procedure) (is_in c.before.before.before.before.before.before.before.before.peek.result c.before.before.before.before.before.before.before.before.peek.ensures (11 ∷ 12 ∷ 40 ∷ []) c.before.before.before.before.before.before.before.match.keys2) (refl, (refl, (refl, tt)))) (s_bad _ ((c.before.before.before.before.before.type-symbol.ensures 0 _).refused _ _ c.before.one.given.1))
 
 prelude-same-length-3 : (t : ℕ) → prelude-lts.Need-same-length-3 (prelude-calls t) (prelude-at t) prelude.Post
 prelude-same-length-3 t c = let μ = c.before.before.before.before.before.before.before.before.before.before.before.before.before.before.before.before.before.before.requires.0 in
     let r = c.before.before.before.before.before.before.before.before.before.before.before.before.before.before.before.before.before.before.requires.1 in
-    let i1 = inside_in _ _ (11 ∷ 12 ∷ 40 ∷ []) refl (is_in_lem c.before.before.before.before.before.before.before.before.before.before.before.before.before.before.before.peek.result c.before.before.before.before.before.before.before.before.before.before.before.before.before.before.before.peek.ensures (11 ∷ 12 ∷ 40 ∷ []) c.before.before.before.before.before.before.before.before.before.before.before.before.before.before.match.keys2) in
+    let i1 = inside_in _ _ (11 ∷ 12 ∷ 40 ∷ []) refl (is_in c.before.before.before.before.before.before.before.before.before.before.before.before.before.before.before.peek.result c.before.before.before.before.before.before.before.before.before.before.before.before.before.before.before.peek.ensures (11 ∷ 12 ∷ 40 ∷ []) c.before.before.before.before.before.before.before.before.before.before.before.before.before.before.match.keys2) in
     let l1 = c.before.before.before.before.before.before.before.before.before.before.before.before.type-symbol.auto.1.1.0 in
     let g1 = (c.before.before.before.before.before.before.before.before.before.before.before.before.type-symbol.ensures 0 []).read _ _ c.before.before.before.before.before.before.before.before.one2.given.1 in let s1 = space g1 in
     let i2 = inside _ _ (is_at c.before.before.before.before.before.before.peek2.result c.before.before.before.before.before.before.peek2.ensures c.before.before.before.before.before.match3.keys1) (λ h. omega arith) in
@@ -129,7 +129,7 @@ prelude-same-length-3 t c = let μ = c.before.before.before.before.before.before
     omega arith
 
 prelude-returns-3 : (t : ℕ) → prelude-lts.Need-returns-3 (prelude-calls t) (prelude-at t) prelude.Post
-prelude-returns-3 t c = λ F. s_prod G.typed_procedure (all_in (λ (z : ℕ). choose G.prelude z 0 ≡ some G.typed_procedure) (is_in_lem c.before.before.before.before.before.before.before.before.before.before.before.before.before.before.before.peek.result c.before.before.before.before.before.before.before.before.before.before.before.before.before.before.before.peek.ensures (11 ∷ 12 ∷ 40 ∷ []) c.before.before.before.before.before.before.before.before.before.before.before.before.before.before.match.keys2) (refl, (refl, (refl, tt)))) (s_part _ ((c.before.before.before.before.before.before.before.before.before.before.before.before.type-symbol.ensures _ _).read _ _ c.before.before.before.before.before.before.before.before.one2.given.1) (s_sy (is_at c.before.before.before.before.before.before.peek2.result c.before.before.before.before.before.before.peek2.ensures c.before.before.before.before.before.match3.keys1) (s_last (c.before.before.procedures2.ensures _))))
+prelude-returns-3 t c = λ F. s_prod G.typed_procedure (all_in (λ (z : ℕ). choose G.prelude z 0 ≡ some G.typed_procedure) (is_in c.before.before.before.before.before.before.before.before.before.before.before.before.before.before.before.peek.result c.before.before.before.before.before.before.before.before.before.before.before.before.before.before.before.peek.ensures (11 ∷ 12 ∷ 40 ∷ []) c.before.before.before.before.before.before.before.before.before.before.before.before.before.before.match.keys2) (refl, (refl, (refl, tt)))) (s_part _ ((c.before.before.before.before.before.before.before.before.before.before.before.before.type-symbol.ensures _ _).read _ _ c.before.before.before.before.before.before.before.before.one2.given.1) (s_sy (is_at c.before.before.before.before.before.before.peek2.result c.before.before.before.before.before.before.peek2.ensures c.before.before.before.before.before.match3.keys1) (s_last (c.before.before.procedures2.ensures _))))
 
 prelude-same-length-4 : (t : ℕ) → prelude-lts.Need-same-length-4 (prelude-calls t) (prelude-at t) prelude.Post
 prelude-same-length-4 t c = let μ = c.before.before.before.before.before.before.before.before.before.before.before.before.before.requires.0 in
@@ -138,7 +138,7 @@ prelude-same-length-4 t c = let μ = c.before.before.before.before.before.before
     omega arith
 
 prelude-returns-4 : (t : ℕ) → prelude-lts.Need-returns-4 (prelude-calls t) (prelude-at t) prelude.Post
-prelude-returns-4 t c = λ F. s_prod G.typed_procedure (all_in (λ (z : ℕ). choose G.prelude z 0 ≡ some G.typed_procedure) (is_in_lem c.before.before.before.before.before.before.before.before.before.before.peek.result c.before.before.before.before.before.before.before.before.before.before.peek.ensures (11 ∷ 12 ∷ 40 ∷ []) c.before.before.before.before.before.before.before.before.before.match.keys2) (refl, (refl, (refl, tt)))) (s_part _ ((c.before.before.before.before.before.before.before.type-symbol.ensures _ _).read _ _ c.before.before.before.one2.given.1) (s_no (is_not c.before.peek2.result c.before.peek2.ensures (but (13 ∷ [])) 13 refl c.match3.keys2)))
+prelude-returns-4 t c = λ F. s_prod G.typed_procedure (all_in (λ (z : ℕ). choose G.prelude z 0 ≡ some G.typed_procedure) (is_in c.before.before.before.before.before.before.before.before.before.before.peek.result c.before.before.before.before.before.before.before.before.before.before.peek.ensures (11 ∷ 12 ∷ 40 ∷ []) c.before.before.before.before.before.before.before.before.before.match.keys2) (refl, (refl, (refl, tt)))) (s_part _ ((c.before.before.before.before.before.before.before.type-symbol.ensures _ _).read _ _ c.before.before.before.one2.given.1) (s_no (is_not c.before.peek2.result c.before.peek2.ensures (but (13 ∷ [])) 13 refl c.match3.keys2)))
 
 prelude-returns-5 : (t : ℕ) → prelude-lts.Need-returns-5 (prelude-calls t) (prelude-at t) prelude.Post
 prelude-returns-5 t c = let μ = c.before.before.before.before.requires.0 in

@@ -10,7 +10,7 @@ use Rattle.grammar.specs.model.Run.{now}
 use Rattle.grammar.specs.model.Text.{text}
 use Rattle.syntax.specs.model.Says.{left}
 use Rattle.grammar.proofs.Sets.{all_in}
-use Rattle.grammar.proofs.Peeks.{inside, inside_in, is_at, is_in_lem, is_not, but}
+use Rattle.grammar.proofs.Peeks.{inside, inside_in, is_at, is_in, is_not, but}
 use Rattle.syntax.proofs.Lemmas.{says_limit, space, s_end, s_sy, s_no, s_put, s_prod, s_part, s_bad, s_last, deep_got, deep_bad, s_deeper}
 use Rattle.grammar.specs.Grammar as G
 use Rattle.syntax.proofs.Choices as C
@@ -694,19 +694,19 @@ declarations-head-requires : (t : ℕ) → declarations-lts.Need-head-requires (
 declarations-head-requires t c κs =
     let μ = c.before.before.before.before.before.requires.0 in
     let r = c.before.before.before.before.before.requires.1 in
-    let i1 = inside_in _ _ (11 ∷ 12 ∷ 13 ∷ 40 ∷ []) refl (is_in_lem c.before.before.peek.result c.before.before.peek.ensures (11 ∷ 12 ∷ 13 ∷ 40 ∷ []) c.before.match.keys1) in
+    let i1 = inside_in _ _ (11 ∷ 12 ∷ 13 ∷ 40 ∷ []) refl (is_in c.before.before.peek.result c.before.before.peek.ensures (11 ∷ 12 ∷ 13 ∷ 40 ∷ []) c.before.match.keys1) in
     (omega arith, record { inside = omega arith; short = omega arith; size = omega arith; room = omega arith })
 
 declarations-same-length : (t : ℕ) → declarations-lts.Need-same-length (declarations-calls t) (declarations-at t) declarations.Post
 declarations-same-length t c =
     let μ = c.before.before.before.before.before.before.before.before.requires.0 in
     let r = c.before.before.before.before.before.before.before.before.requires.1 in
-    let i1 = inside_in _ _ (11 ∷ 12 ∷ 13 ∷ 40 ∷ []) refl (is_in_lem c.before.before.before.before.before.peek.result c.before.before.before.before.before.peek.ensures (11 ∷ 12 ∷ 13 ∷ 40 ∷ []) c.before.before.before.before.match.keys1) in
+    let i1 = inside_in _ _ (11 ∷ 12 ∷ 13 ∷ 40 ∷ []) refl (is_in c.before.before.before.before.before.peek.result c.before.before.before.before.before.peek.ensures (11 ∷ 12 ∷ 13 ∷ 40 ∷ []) c.before.before.before.before.match.keys1) in
     let l1 = c.before.before.head.auto.1.1.1.0 in
     omega arith
 
 declarations-returns : (t : ℕ) → declarations-lts.Need-returns (declarations-calls t) (declarations-at t) declarations.Post
-declarations-returns t c = λ F. s_prod G.some_declarations (all_in (λ (z : ℕ). choose G.declarations z 0 ≡ some G.some_declarations) (is_in_lem c.before.before.before.before.before.peek.result c.before.before.before.before.before.peek.ensures (11 ∷ 12 ∷ 13 ∷ 40 ∷ []) c.before.before.before.before.match.keys1) (refl, (refl, (refl, (refl, tt))))) (s_last (c.before.before.head.ensures _))
+declarations-returns t c = λ F. s_prod G.some_declarations (all_in (λ (z : ℕ). choose G.declarations z 0 ≡ some G.some_declarations) (is_in c.before.before.before.before.before.peek.result c.before.before.before.before.before.peek.ensures (11 ∷ 12 ∷ 13 ∷ 40 ∷ []) c.before.before.before.before.match.keys1) (refl, (refl, (refl, (refl, tt))))) (s_last (c.before.before.head.ensures _))
 
 declarations-returns-2 : (t : ℕ) → declarations-lts.Need-returns-2 (declarations-calls t) (declarations-at t) declarations.Post
 declarations-returns-2 t c =
@@ -823,14 +823,14 @@ inner-put-requires : (t : ℕ) → inner-lts.Need-put-requires (inner-calls t) (
 inner-put-requires t c κs =
     let μ = c.before.before.before.before.before.requires.0 in
     let r = c.before.before.before.before.before.requires.1 in
-    let i1 = inside_in _ _ (11 ∷ 12 ∷ 13 ∷ 40 ∷ []) refl (is_in_lem c.before.before.peek.result c.before.before.peek.ensures (11 ∷ 12 ∷ 13 ∷ 40 ∷ []) c.before.match.keys1) in
+    let i1 = inside_in _ _ (11 ∷ 12 ∷ 13 ∷ 40 ∷ []) refl (is_in c.before.before.peek.result c.before.before.peek.ensures (11 ∷ 12 ∷ 13 ∷ 40 ∷ []) c.before.match.keys1) in
     (omega arith, omega arith)
 
 inner-add-head : (t : ℕ) → inner-lts.Need-overflow-add-head (inner-calls t) (inner-at t) inner.Post
 inner-add-head t c =
     let μ = c.before.before.before.before.before.before.before.before.requires.0 in
     let r = c.before.before.before.before.before.before.before.before.requires.1 in
-    let i1 = inside_in _ _ (11 ∷ 12 ∷ 13 ∷ 40 ∷ []) refl (is_in_lem c.before.before.before.before.before.peek.result c.before.before.before.before.before.peek.ensures (11 ∷ 12 ∷ 13 ∷ 40 ∷ []) c.before.before.before.before.match.keys1) in
+    let i1 = inside_in _ _ (11 ∷ 12 ∷ 13 ∷ 40 ∷ []) refl (is_in c.before.before.before.before.before.peek.result c.before.before.before.before.before.peek.ensures (11 ∷ 12 ∷ 13 ∷ 40 ∷ []) c.before.before.before.before.match.keys1) in
     let p1 = c.before.before.put.ensures in let k1 = c.before.before.put.auto.0 in
     omega arith
 
@@ -838,7 +838,7 @@ inner-head-requires : (t : ℕ) → inner-lts.Need-head-requires (inner-calls t)
 inner-head-requires t c κs =
     let μ = c.before.before.before.before.before.before.before.before.before.requires.0 in
     let r = c.before.before.before.before.before.before.before.before.before.requires.1 in
-    let i1 = inside_in _ _ (11 ∷ 12 ∷ 13 ∷ 40 ∷ []) refl (is_in_lem c.before.before.before.before.before.before.peek.result c.before.before.before.before.before.before.peek.ensures (11 ∷ 12 ∷ 13 ∷ 40 ∷ []) c.before.before.before.before.before.match.keys1) in
+    let i1 = inside_in _ _ (11 ∷ 12 ∷ 13 ∷ 40 ∷ []) refl (is_in c.before.before.before.before.before.before.peek.result c.before.before.before.before.before.before.peek.ensures (11 ∷ 12 ∷ 13 ∷ 40 ∷ []) c.before.before.before.before.before.match.keys1) in
     let p1 = c.before.before.before.put.ensures in let k1 = c.before.before.before.put.auto.0 in
     (omega arith, record { inside = omega arith; short = omega arith; size = omega arith; room = omega arith })
 
@@ -846,7 +846,7 @@ inner-put-requires-2 : (t : ℕ) → inner-lts.Need-put-requires-2 (inner-calls 
 inner-put-requires-2 t c κs =
     let μ = c.before.before.before.before.before.before.before.before.before.before.before.before.before.before.before.before.requires.0 in
     let r = c.before.before.before.before.before.before.before.before.before.before.before.before.before.before.before.before.requires.1 in
-    let i1 = inside_in _ _ (11 ∷ 12 ∷ 13 ∷ 40 ∷ []) refl (is_in_lem c.before.before.before.before.before.before.before.before.before.before.before.before.before.peek.result c.before.before.before.before.before.before.before.before.before.before.before.before.before.peek.ensures (11 ∷ 12 ∷ 13 ∷ 40 ∷ []) c.before.before.before.before.before.before.before.before.before.before.before.before.match.keys1) in
+    let i1 = inside_in _ _ (11 ∷ 12 ∷ 13 ∷ 40 ∷ []) refl (is_in c.before.before.before.before.before.before.before.before.before.before.before.before.before.peek.result c.before.before.before.before.before.before.before.before.before.before.before.before.before.peek.ensures (11 ∷ 12 ∷ 13 ∷ 40 ∷ []) c.before.before.before.before.before.before.before.before.before.before.before.before.match.keys1) in
     let p1 = c.before.before.before.before.before.before.before.before.before.before.put.ensures in let k1 = c.before.before.before.before.before.before.before.before.before.before.put.auto.0 in
     let l1 = c.before.before.before.before.before.before.head.auto.1.1.1.0 in
     let g1 = (c.before.before.before.before.before.before.head.ensures []).read _ _ c.before.before.one2.given.1 in let s1 = space g1 in
@@ -856,7 +856,7 @@ inner-tail-requires : (t : ℕ) → inner-lts.Need-tail-requires (inner-calls t)
 inner-tail-requires t c κs =
     let μ = c.before.before.before.before.before.before.before.before.before.before.before.before.before.before.before.before.before.before.before.before.requires.0 in
     let r = c.before.before.before.before.before.before.before.before.before.before.before.before.before.before.before.before.before.before.before.before.requires.1 in
-    let i1 = inside_in _ _ (11 ∷ 12 ∷ 13 ∷ 40 ∷ []) refl (is_in_lem c.before.before.before.before.before.before.before.before.before.before.before.before.before.before.before.before.before.peek.result c.before.before.before.before.before.before.before.before.before.before.before.before.before.before.before.before.before.peek.ensures (11 ∷ 12 ∷ 13 ∷ 40 ∷ []) c.before.before.before.before.before.before.before.before.before.before.before.before.before.before.before.before.match.keys1) in
+    let i1 = inside_in _ _ (11 ∷ 12 ∷ 13 ∷ 40 ∷ []) refl (is_in c.before.before.before.before.before.before.before.before.before.before.before.before.before.before.before.before.before.peek.result c.before.before.before.before.before.before.before.before.before.before.before.before.before.before.before.before.before.peek.ensures (11 ∷ 12 ∷ 13 ∷ 40 ∷ []) c.before.before.before.before.before.before.before.before.before.before.before.before.before.before.before.before.match.keys1) in
     let p1 = c.before.before.before.before.before.before.before.before.before.before.before.before.before.before.put.ensures in let k1 = c.before.before.before.before.before.before.before.before.before.before.before.before.before.before.put.auto.0 in
     let l1 = c.before.before.before.before.before.before.before.before.before.before.head.auto.1.1.1.0 in
     let g1 = (c.before.before.before.before.before.before.before.before.before.before.head.ensures []).read _ _ c.before.before.before.before.before.before.one2.given.1 in let s1 = space g1 in
@@ -867,7 +867,7 @@ inner-put-requires-3 : (t : ℕ) → inner-lts.Need-put-requires-3 (inner-calls 
 inner-put-requires-3 t c κs =
     let μ = c.before.before.before.before.before.before.before.before.before.before.before.before.before.before.before.before.before.before.before.before.before.before.before.before.before.before.before.requires.0 in
     let r = c.before.before.before.before.before.before.before.before.before.before.before.before.before.before.before.before.before.before.before.before.before.before.before.before.before.before.before.requires.1 in
-    let i1 = inside_in _ _ (11 ∷ 12 ∷ 13 ∷ 40 ∷ []) refl (is_in_lem c.before.before.before.before.before.before.before.before.before.before.before.before.before.before.before.before.before.before.before.before.before.before.before.before.peek.result c.before.before.before.before.before.before.before.before.before.before.before.before.before.before.before.before.before.before.before.before.before.before.before.before.peek.ensures (11 ∷ 12 ∷ 13 ∷ 40 ∷ []) c.before.before.before.before.before.before.before.before.before.before.before.before.before.before.before.before.before.before.before.before.before.before.before.match.keys1) in
+    let i1 = inside_in _ _ (11 ∷ 12 ∷ 13 ∷ 40 ∷ []) refl (is_in c.before.before.before.before.before.before.before.before.before.before.before.before.before.before.before.before.before.before.before.before.before.before.before.before.peek.result c.before.before.before.before.before.before.before.before.before.before.before.before.before.before.before.before.before.before.before.before.before.before.before.before.peek.ensures (11 ∷ 12 ∷ 13 ∷ 40 ∷ []) c.before.before.before.before.before.before.before.before.before.before.before.before.before.before.before.before.before.before.before.before.before.before.before.match.keys1) in
     let p1 = c.before.before.before.before.before.before.before.before.before.before.before.before.before.before.before.before.before.before.before.before.before.put.ensures in let k1 = c.before.before.before.before.before.before.before.before.before.before.before.before.before.before.before.before.before.before.before.before.before.put.auto.0 in
     let l1 = c.before.before.before.before.before.before.before.before.before.before.before.before.before.before.before.before.before.head.auto.1.1.1.0 in
     let g1 = (c.before.before.before.before.before.before.before.before.before.before.before.before.before.before.before.before.before.head.ensures []).read _ _ c.before.before.before.before.before.before.before.before.before.before.before.before.before.one2.given.1 in let s1 = space g1 in
@@ -892,19 +892,19 @@ inner-same-length : (t : ℕ) → inner-lts.Need-same-length (inner-calls t) (in
 inner-same-length t c =
     let μ = c.before.before.before.before.before.before.before.before.before.before.before.before.before.before.before.requires.0 in
     let r = c.before.before.before.before.before.before.before.before.before.before.before.before.before.before.before.requires.1 in
-    let i1 = inside_in _ _ (11 ∷ 12 ∷ 13 ∷ 40 ∷ []) refl (is_in_lem c.before.before.before.before.before.before.before.before.before.before.before.before.peek.result c.before.before.before.before.before.before.before.before.before.before.before.before.peek.ensures (11 ∷ 12 ∷ 13 ∷ 40 ∷ []) c.before.before.before.before.before.before.before.before.before.before.before.match.keys1) in
+    let i1 = inside_in _ _ (11 ∷ 12 ∷ 13 ∷ 40 ∷ []) refl (is_in c.before.before.before.before.before.before.before.before.before.before.before.before.peek.result c.before.before.before.before.before.before.before.before.before.before.before.before.peek.ensures (11 ∷ 12 ∷ 13 ∷ 40 ∷ []) c.before.before.before.before.before.before.before.before.before.before.before.match.keys1) in
     let p1 = c.before.before.before.before.before.before.before.before.before.put.ensures in let k1 = c.before.before.before.before.before.before.before.before.before.put.auto.0 in
     let l1 = c.before.before.before.before.before.head.auto.1.1.1.0 in
     omega arith
 
 inner-returns : (t : ℕ) → inner-lts.Need-returns (inner-calls t) (inner-at t) inner.Post
-inner-returns t c = s_prod G.a_block (all_in (λ (z : ℕ). choose G.inner z 0 ≡ some G.a_block) (is_in_lem c.before.before.before.before.before.before.before.before.before.before.before.before.peek.result c.before.before.before.before.before.before.before.before.before.before.before.before.peek.ensures (11 ∷ 12 ∷ 13 ∷ 40 ∷ []) c.before.before.before.before.before.before.before.before.before.before.before.match.keys1) (refl, (refl, (refl, (refl, tt))))) (s_put c.before.before.before.before.before.before.before.before.before.put.ensures (omega arith) (omega arith) (omega arith) (s_bad _ ((c.before.before.before.before.before.head.ensures _).refused _ _ c.before.one.given.1)))
+inner-returns t c = s_prod G.a_block (all_in (λ (z : ℕ). choose G.inner z 0 ≡ some G.a_block) (is_in c.before.before.before.before.before.before.before.before.before.before.before.before.peek.result c.before.before.before.before.before.before.before.before.before.before.before.before.peek.ensures (11 ∷ 12 ∷ 13 ∷ 40 ∷ []) c.before.before.before.before.before.before.before.before.before.before.before.match.keys1) (refl, (refl, (refl, (refl, tt))))) (s_put c.before.before.before.before.before.before.before.before.before.put.ensures (omega arith) (omega arith) (omega arith) (s_bad _ ((c.before.before.before.before.before.head.ensures _).refused _ _ c.before.one.given.1)))
 
 inner-same-length-2 : (t : ℕ) → inner-lts.Need-same-length-2 (inner-calls t) (inner-at t) inner.Post
 inner-same-length-2 t c =
     let μ = c.before.before.before.before.before.before.before.before.before.before.before.before.before.before.before.before.before.before.before.before.before.before.before.before.before.before.requires.0 in
     let r = c.before.before.before.before.before.before.before.before.before.before.before.before.before.before.before.before.before.before.before.before.before.before.before.before.before.before.requires.1 in
-    let i1 = inside_in _ _ (11 ∷ 12 ∷ 13 ∷ 40 ∷ []) refl (is_in_lem c.before.before.before.before.before.before.before.before.before.before.before.before.before.before.before.before.before.before.before.before.before.before.before.peek.result c.before.before.before.before.before.before.before.before.before.before.before.before.before.before.before.before.before.before.before.before.before.before.before.peek.ensures (11 ∷ 12 ∷ 13 ∷ 40 ∷ []) c.before.before.before.before.before.before.before.before.before.before.before.before.before.before.before.before.before.before.before.before.before.before.match.keys1) in
+    let i1 = inside_in _ _ (11 ∷ 12 ∷ 13 ∷ 40 ∷ []) refl (is_in c.before.before.before.before.before.before.before.before.before.before.before.before.before.before.before.before.before.before.before.before.before.before.before.peek.result c.before.before.before.before.before.before.before.before.before.before.before.before.before.before.before.before.before.before.before.before.before.before.before.peek.ensures (11 ∷ 12 ∷ 13 ∷ 40 ∷ []) c.before.before.before.before.before.before.before.before.before.before.before.before.before.before.before.before.before.before.before.before.before.before.match.keys1) in
     let p1 = c.before.before.before.before.before.before.before.before.before.before.before.before.before.before.before.before.before.before.before.before.put.ensures in let k1 = c.before.before.before.before.before.before.before.before.before.before.before.before.before.before.before.before.before.before.before.before.put.auto.0 in
     let l1 = c.before.before.before.before.before.before.before.before.before.before.before.before.before.before.before.before.head.auto.1.1.1.0 in
     let g1 = (c.before.before.before.before.before.before.before.before.before.before.before.before.before.before.before.before.head.ensures []).read _ _ c.before.before.before.before.before.before.before.before.before.before.before.before.one2.given.1 in let s1 = space g1 in
@@ -913,13 +913,13 @@ inner-same-length-2 t c =
     omega arith
 
 inner-returns-2 : (t : ℕ) → inner-lts.Need-returns-2 (inner-calls t) (inner-at t) inner.Post
-inner-returns-2 t c = s_prod G.a_block (all_in (λ (z : ℕ). choose G.inner z 0 ≡ some G.a_block) (is_in_lem c.before.before.before.before.before.before.before.before.before.before.before.before.before.before.before.before.before.before.before.before.before.before.before.peek.result c.before.before.before.before.before.before.before.before.before.before.before.before.before.before.before.before.before.before.before.before.before.before.before.peek.ensures (11 ∷ 12 ∷ 13 ∷ 40 ∷ []) c.before.before.before.before.before.before.before.before.before.before.before.before.before.before.before.before.before.before.before.before.before.before.match.keys1) (refl, (refl, (refl, (refl, tt))))) (s_put c.before.before.before.before.before.before.before.before.before.before.before.before.before.before.before.before.before.before.before.before.put.ensures (omega arith) (omega arith) (omega arith) (s_part _ ((c.before.before.before.before.before.before.before.before.before.before.before.before.before.before.before.before.head.ensures _).read _ _ c.before.before.before.before.before.before.before.before.before.before.before.before.one2.given.1) (s_put c.before.before.before.before.before.before.before.before.before.put2.ensures (omega arith) (omega arith) (omega arith) (s_bad _ (c.before.before.before.before.before.tail.ensures.refused _ _ c.before.two.given.1)))))
+inner-returns-2 t c = s_prod G.a_block (all_in (λ (z : ℕ). choose G.inner z 0 ≡ some G.a_block) (is_in c.before.before.before.before.before.before.before.before.before.before.before.before.before.before.before.before.before.before.before.before.before.before.before.peek.result c.before.before.before.before.before.before.before.before.before.before.before.before.before.before.before.before.before.before.before.before.before.before.before.peek.ensures (11 ∷ 12 ∷ 13 ∷ 40 ∷ []) c.before.before.before.before.before.before.before.before.before.before.before.before.before.before.before.before.before.before.before.before.before.before.match.keys1) (refl, (refl, (refl, (refl, tt))))) (s_put c.before.before.before.before.before.before.before.before.before.before.before.before.before.before.before.before.before.before.before.before.put.ensures (omega arith) (omega arith) (omega arith) (s_part _ ((c.before.before.before.before.before.before.before.before.before.before.before.before.before.before.before.before.head.ensures _).read _ _ c.before.before.before.before.before.before.before.before.before.before.before.before.one2.given.1) (s_put c.before.before.before.before.before.before.before.before.before.put2.ensures (omega arith) (omega arith) (omega arith) (s_bad _ (c.before.before.before.before.before.tail.ensures.refused _ _ c.before.two.given.1)))))
 
 inner-same-length-3 : (t : ℕ) → inner-lts.Need-same-length-3 (inner-calls t) (inner-at t) inner.Post
 inner-same-length-3 t c =
     let μ = c.before.before.before.before.before.before.before.before.before.before.before.before.before.before.before.before.before.before.before.before.before.before.before.before.before.before.before.before.before.before.requires.0 in
     let r = c.before.before.before.before.before.before.before.before.before.before.before.before.before.before.before.before.before.before.before.before.before.before.before.before.before.before.before.before.before.before.requires.1 in
-    let i1 = inside_in _ _ (11 ∷ 12 ∷ 13 ∷ 40 ∷ []) refl (is_in_lem c.before.before.before.before.before.before.before.before.before.before.before.before.before.before.before.before.before.before.before.before.before.before.before.before.before.before.before.peek.result c.before.before.before.before.before.before.before.before.before.before.before.before.before.before.before.before.before.before.before.before.before.before.before.before.before.before.before.peek.ensures (11 ∷ 12 ∷ 13 ∷ 40 ∷ []) c.before.before.before.before.before.before.before.before.before.before.before.before.before.before.before.before.before.before.before.before.before.before.before.before.before.before.match.keys1) in
+    let i1 = inside_in _ _ (11 ∷ 12 ∷ 13 ∷ 40 ∷ []) refl (is_in c.before.before.before.before.before.before.before.before.before.before.before.before.before.before.before.before.before.before.before.before.before.before.before.before.before.before.before.peek.result c.before.before.before.before.before.before.before.before.before.before.before.before.before.before.before.before.before.before.before.before.before.before.before.before.before.before.before.peek.ensures (11 ∷ 12 ∷ 13 ∷ 40 ∷ []) c.before.before.before.before.before.before.before.before.before.before.before.before.before.before.before.before.before.before.before.before.before.before.before.before.before.before.match.keys1) in
     let p1 = c.before.before.before.before.before.before.before.before.before.before.before.before.before.before.before.before.before.before.before.before.before.before.before.before.put.ensures in let k1 = c.before.before.before.before.before.before.before.before.before.before.before.before.before.before.before.before.before.before.before.before.before.before.before.before.put.auto.0 in
     let l1 = c.before.before.before.before.before.before.before.before.before.before.before.before.before.before.before.before.before.before.before.before.head.auto.1.1.1.0 in
     let g1 = (c.before.before.before.before.before.before.before.before.before.before.before.before.before.before.before.before.before.before.before.before.head.ensures []).read _ _ c.before.before.before.before.before.before.before.before.before.before.before.before.before.before.before.before.one2.given.1 in let s1 = space g1 in
@@ -933,7 +933,7 @@ inner-returns-3 : (t : ℕ) → inner-lts.Need-returns-3 (inner-calls t) (inner-
 inner-returns-3 t c =
     let μ = c.before.before.before.before.before.before.before.before.before.before.before.before.before.before.before.before.before.before.before.before.before.before.before.before.before.before.before.before.before.before.requires.0 in
     let r = c.before.before.before.before.before.before.before.before.before.before.before.before.before.before.before.before.before.before.before.before.before.before.before.before.before.before.before.before.before.before.requires.1 in
-    let i1 = inside_in _ _ (11 ∷ 12 ∷ 13 ∷ 40 ∷ []) refl (is_in_lem c.before.before.before.before.before.before.before.before.before.before.before.before.before.before.before.before.before.before.before.before.before.before.before.before.before.before.before.peek.result c.before.before.before.before.before.before.before.before.before.before.before.before.before.before.before.before.before.before.before.before.before.before.before.before.before.before.before.peek.ensures (11 ∷ 12 ∷ 13 ∷ 40 ∷ []) c.before.before.before.before.before.before.before.before.before.before.before.before.before.before.before.before.before.before.before.before.before.before.before.before.before.before.match.keys1) in
+    let i1 = inside_in _ _ (11 ∷ 12 ∷ 13 ∷ 40 ∷ []) refl (is_in c.before.before.before.before.before.before.before.before.before.before.before.before.before.before.before.before.before.before.before.before.before.before.before.before.before.before.before.peek.result c.before.before.before.before.before.before.before.before.before.before.before.before.before.before.before.before.before.before.before.before.before.before.before.before.before.before.before.peek.ensures (11 ∷ 12 ∷ 13 ∷ 40 ∷ []) c.before.before.before.before.before.before.before.before.before.before.before.before.before.before.before.before.before.before.before.before.before.before.before.before.before.before.match.keys1) in
     let p1 = c.before.before.before.before.before.before.before.before.before.before.before.before.before.before.before.before.before.before.before.before.before.before.before.before.put.ensures in let k1 = c.before.before.before.before.before.before.before.before.before.before.before.before.before.before.before.before.before.before.before.before.before.before.before.before.put.auto.0 in
     let l1 = c.before.before.before.before.before.before.before.before.before.before.before.before.before.before.before.before.before.before.before.before.head.auto.1.1.1.0 in
     let g1 = (c.before.before.before.before.before.before.before.before.before.before.before.before.before.before.before.before.before.before.before.before.head.ensures []).read _ _ c.before.before.before.before.before.before.before.before.before.before.before.before.before.before.before.before.one2.given.1 in let s1 = space g1 in
@@ -941,7 +941,7 @@ inner-returns-3 t c =
     let l2 = c.before.before.before.before.before.before.before.before.before.tail.auto.1.1.1.0 in
     let g2 = c.before.before.before.before.before.before.before.before.before.tail.ensures.read _ _ c.before.before.before.before.before.two2.given.1 in let s2 = space g2 in
     let p3 = c.before.before.put3.ensures in let k3 = c.before.before.put3.auto.0 in
-    s_prod G.a_block (all_in (λ (z : ℕ). choose G.inner z 0 ≡ some G.a_block) (is_in_lem c.before.before.before.before.before.before.before.before.before.before.before.before.before.before.before.before.before.before.before.before.before.before.before.before.before.before.before.peek.result c.before.before.before.before.before.before.before.before.before.before.before.before.before.before.before.before.before.before.before.before.before.before.before.before.before.before.before.peek.ensures (11 ∷ 12 ∷ 13 ∷ 40 ∷ []) c.before.before.before.before.before.before.before.before.before.before.before.before.before.before.before.before.before.before.before.before.before.before.before.before.before.before.match.keys1) (refl, (refl, (refl, (refl, tt))))) (s_put c.before.before.before.before.before.before.before.before.before.before.before.before.before.before.before.before.before.before.before.before.before.before.before.before.put.ensures (omega arith) (omega arith) (omega arith) (s_part _ ((c.before.before.before.before.before.before.before.before.before.before.before.before.before.before.before.before.before.before.before.before.head.ensures _).read _ _ c.before.before.before.before.before.before.before.before.before.before.before.before.before.before.before.before.one2.given.1) (s_put c.before.before.before.before.before.before.before.before.before.before.before.before.before.put2.ensures (omega arith) (omega arith) (omega arith) (s_part _ (c.before.before.before.before.before.before.before.before.before.tail.ensures.read _ _ c.before.before.before.before.before.two2.given.1) (s_put c.before.before.put3.ensures (omega arith) (omega arith) (omega arith) (s_end (omega arith)))))))
+    s_prod G.a_block (all_in (λ (z : ℕ). choose G.inner z 0 ≡ some G.a_block) (is_in c.before.before.before.before.before.before.before.before.before.before.before.before.before.before.before.before.before.before.before.before.before.before.before.before.before.before.before.peek.result c.before.before.before.before.before.before.before.before.before.before.before.before.before.before.before.before.before.before.before.before.before.before.before.before.before.before.before.peek.ensures (11 ∷ 12 ∷ 13 ∷ 40 ∷ []) c.before.before.before.before.before.before.before.before.before.before.before.before.before.before.before.before.before.before.before.before.before.before.before.before.before.before.match.keys1) (refl, (refl, (refl, (refl, tt))))) (s_put c.before.before.before.before.before.before.before.before.before.before.before.before.before.before.before.before.before.before.before.before.before.before.before.before.put.ensures (omega arith) (omega arith) (omega arith) (s_part _ ((c.before.before.before.before.before.before.before.before.before.before.before.before.before.before.before.before.before.before.before.before.head.ensures _).read _ _ c.before.before.before.before.before.before.before.before.before.before.before.before.before.before.before.before.one2.given.1) (s_put c.before.before.before.before.before.before.before.before.before.before.before.before.before.put2.ensures (omega arith) (omega arith) (omega arith) (s_part _ (c.before.before.before.before.before.before.before.before.before.tail.ensures.read _ _ c.before.before.before.before.before.two2.given.1) (s_put c.before.before.put3.ensures (omega arith) (omega arith) (omega arith) (s_end (omega arith)))))))
 
 inner-same-length-4 : (t : ℕ) → inner-lts.Need-same-length-4 (inner-calls t) (inner-at t) inner.Post
 inner-same-length-4 t c =

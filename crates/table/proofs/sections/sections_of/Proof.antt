@@ -1,4 +1,4 @@
--- `table::sections::sections_of` meets its contract: the declarations begin where the uses end, and have four words each.
+-- `table::sections::sections_of` meets its contract: a use has three words, a declaration four.
 -- Assumes nothing.
 use Prim.Native.Nat.{◌+◌, ◌*◌}
 use native.Mathlib.Omega.{arith}
@@ -10,11 +10,12 @@ use Rattle.table.proofs.sections.sections_of.Statement.{statement}
 use Rattle.table.proofs.sections.sections_of.Tie as tie
 
 returns : tie.Need-returns
-unfolding nodes_at
+unfolding rows_at nodes_at
 returns c =
     let t = c.before.before.before.args.table.now in
-    let e = c.before.uses-end.ensures.0 in
-    let f : c.word.result ≡ get_or t (rows_at t) 0 = c.word.ensures.0 ∙ ap (λ k. get_or t k 0) e in
+    let first = c.before.word.result in
+    let e : 3 * first + 1 ≡ rows_at t = omega (arith, c.before.word.ensures.0) in
+    let f : c.word2.result ≡ get_or t (rows_at t) 0 = c.word2.ensures.0 ∙ ap (λ k. get_or t k 0) e in
     (e, (omega (arith, e, f), search rules))
 
 pub sections-of-spec : {M : Type 1} → statement M
@@ -22,6 +23,8 @@ sections-of-spec =
     tie.close
     (tie.spec
     (λ c κs. search rules)
+    (λ c. search rules)
+    (λ c. search rules)
     (λ c κs. search rules)
     (λ c. search rules)
     (λ c. search rules)

@@ -8,7 +8,7 @@ use Rattle.table.proofs.writing.fourths.Statement.{statement}
 use Rattle.table.proofs.writing.fourths.Tie as tie
 
 abbrev invariant-loop : tie.invariant-loop
-invariant-loop words₀ i₀ words i = (4 * i ≤ length words) × Kinded words₀ words i
+invariant-loop words₀ i₀ words i = (3 * i ≤ length words) × Kinded words₀ words i
 
 abbrev decreases-loop : tie.decreases-loop
 decreases-loop words₀ i₀ words i = length words - i

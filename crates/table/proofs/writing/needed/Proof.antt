@@ -1,4 +1,4 @@
--- `table::writing::needed` meets its contract: four words for a use, for a row and for a node, and three counts. Assumes nothing.
+-- `table::writing::needed` meets its contract: three words for a use, four for a row and for a node, and three counts. Assumes nothing.
 use native.Mathlib.Omega.{arith}
 use borrow.Author.Rules.{rules}
 use Rattle.table.proofs.Written.{table_size}

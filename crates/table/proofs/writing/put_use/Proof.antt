@@ -1,4 +1,4 @@
--- `table::writing::put_use` meets its contract. What the use means says which words are written; a declaration's number is small, so its row's place fits.
+-- `table::writing::put_use` meets its contract. What the use means says which three words are written; a declaration's number is small, so its row's place fits.
 -- Assumes nothing.
 use mathlib.Core.Path.{sym, ap, ◌∙◌}
 use Prim.Native.Nat.{◌-◌}
@@ -18,17 +18,17 @@ add-word-at c = let h = declared_small c.before.before.before.before.before.befo
 returns : tie.Need-returns
 returns c =
     let args = c.before.before.before.before.before.before.before.before.before.before.before.before.before.before.before.before.args in
-    wrote_as c.before.before.put_four.ensures (declared_words (place_of args.places.now) args.rows.now args.symbol.number c.before.before.before.before.before.before.before.before.before.before.d.given.0.0 (sym c.before.before.before.before.before.before.before.before.before.before.before.before.meant.ensures ∙ c.before.before.before.before.before.before.before.before.before.before.d.given.1) c.before.before.before.before.before.before.before.before.before.before.before.before.before.place-word.ensures (c.before.before.before.before.before.before.kind-number.ensures ∙ ap (λ z. z - 4) c.before.before.before.before.before.before.before.word_at.ensures) (c.before.before.before.before.place-word2.ensures ∙ ap (place_of args.places.now) c.before.before.before.before.before.word-at2.ensures))
+    wrote_as c.before.before.put_three.ensures (declared_words (place_of args.places.now) args.rows.now args.symbol.number c.before.before.before.before.before.before.before.before.before.before.d.given.0.0 (sym c.before.before.before.before.before.before.before.before.before.before.before.before.meant.ensures ∙ c.before.before.before.before.before.before.before.before.before.before.d.given.1) c.before.before.before.before.before.before.before.before.before.before.before.before.before.place-word.ensures (c.before.before.before.before.before.before.kind-number.ensures ∙ ap (λ z. z - 4) c.before.before.before.before.before.before.before.word_at.ensures) (c.before.before.before.before.place-word2.ensures ∙ ap (place_of args.places.now) c.before.before.before.before.before.word-at2.ensures))
 
 returns-2 : tie.Need-returns-2
 returns-2 c =
     let args = c.before.before.before.before.before.before.before.before.before.before.before.args in
-    wrote_as c.before.before.put-four2.ensures (given_words (place_of args.places.now) args.rows.now args.symbol.number c.before.before.before.before.before.e.given.0.0 (sym c.before.before.before.before.before.before.before.meant.ensures ∙ c.before.before.before.before.before.e.given.1) c.before.before.before.before.before.before.before.before.place-word.ensures)
+    wrote_as c.before.before.put-three2.ensures (given_words (place_of args.places.now) args.rows.now args.symbol.number c.before.before.before.before.before.e.given.0.0 (sym c.before.before.before.before.before.before.before.meant.ensures ∙ c.before.before.before.before.before.e.given.1) c.before.before.before.before.before.before.before.before.place-word.ensures)
 
 returns-3 : tie.Need-returns-3
 returns-3 c =
     let args = c.before.before.before.before.before.before.before.before.before.before.args in
-    wrote_as c.before.before.put-four3.ensures (nothing_words (place_of args.places.now) args.rows.now args.symbol.number (sym c.before.before.before.before.before.before.meant.ensures ∙ c.before.before.before.before.enum_told.given.1) c.before.before.before.before.before.before.before.place-word.ensures)
+    wrote_as c.before.before.put-three3.ensures (nothing_words (place_of args.places.now) args.rows.now args.symbol.number (sym c.before.before.before.before.before.before.meant.ensures ∙ c.before.before.before.before.enum_told.given.1) c.before.before.before.before.before.before.before.place-word.ensures)
 
 pub put-use-spec : {M : Type 1} → statement M
 put-use-spec =

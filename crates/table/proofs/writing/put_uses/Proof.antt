@@ -23,16 +23,16 @@ loop-holds c = (omega arith, omega arith, none_yet _ _ _)
 
 put-use-requires : tie.Need-put-use-requires invariant-loop decreases-loop
 put-use-requires c κs =
-    let args = c.before.before.before.before.before.before.before.before.before.before.before.before.before.args in
-    use_room (place_of args.places.now) args.rows.now args.nodes.now args.uses.now c.before.before.before.before.before.before.before.before.loop.i c.before.before.before.before.before.before.before.before.loop.u c.before.before.before.before.before.before.before.before.loop.invariant.2 c.before.before.before.before.before.before.before.before.before.before.before.before.before.requires (omega arith) (sym c.before.before.before.before.before.is-use.ensures ∙ c.before.before.before.before.if1.true)
+    let args = c.before.before.before.before.before.before.before.before.before.before.before.before.args in
+    use_room (place_of args.places.now) args.rows.now args.nodes.now args.uses.now c.before.before.before.before.before.before.before.loop.i c.before.before.before.before.before.before.before.loop.u c.before.before.before.before.before.before.before.loop.invariant.2 c.before.before.before.before.before.before.before.before.before.before.before.before.requires (omega arith) (sym c.before.before.before.before.is-use.ensures ∙ c.before.before.before.if1.true)
 
 add_at : tie.Need-overflow-add-at invariant-loop decreases-loop
-add_at c = let r = use_room (place_of c.before.before.before.before.before.before.before.before.before.before.before.before.before.before.before.before.args.places.now) c.before.before.before.before.before.before.before.before.before.before.before.before.before.before.before.before.args.rows.now c.before.before.before.before.before.before.before.before.before.before.before.before.before.before.before.before.args.nodes.now c.before.before.before.before.before.before.before.before.before.before.before.before.before.before.before.before.args.uses.now c.before.before.before.before.before.before.before.before.before.before.before.loop.i c.before.before.before.before.before.before.before.before.before.before.before.loop.u c.before.before.before.before.before.before.before.before.before.before.before.loop.invariant.2 c.before.before.before.before.before.before.before.before.before.before.before.before.before.before.before.before.requires (omega arith) (sym c.before.before.before.before.before.before.before.before.is-use.ensures ∙ c.before.before.before.before.before.before.before.if1.true) in omega (arith, c.before.before.before.before.before.before.before.before.before.before.before.loop.invariant.2.wrote.size)
+add_at c = let r = use_room (place_of c.before.before.before.before.before.before.before.before.before.before.before.before.before.before.before.args.places.now) c.before.before.before.before.before.before.before.before.before.before.before.before.before.before.before.args.rows.now c.before.before.before.before.before.before.before.before.before.before.before.before.before.before.before.args.nodes.now c.before.before.before.before.before.before.before.before.before.before.before.before.before.before.before.args.uses.now c.before.before.before.before.before.before.before.before.before.before.loop.i c.before.before.before.before.before.before.before.before.before.before.loop.u c.before.before.before.before.before.before.before.before.before.before.loop.invariant.2 c.before.before.before.before.before.before.before.before.before.before.before.before.before.before.before.requires (omega arith) (sym c.before.before.before.before.before.before.before.is-use.ensures ∙ c.before.before.before.before.before.before.if1.true) in omega (arith, c.before.before.before.before.before.before.before.before.before.before.loop.invariant.2.wrote.size)
 
 loop-again : tie.Need-loop-preserved invariant-loop decreases-loop
 loop-again c =
     ⊎_elim
-    (λ h. (omega arith, omega (arith, h.10), use_put (place_of c.before.before.before.before.before.before.before.before.before.args.places.now) c.before.before.before.before.before.before.before.before.before.args.rows.now c.before.before.before.before.before.before.before.before.before.args.nodes.now c.before.before.before.before.before.before.before.before.before.args.uses.now c.before.before.before.before.loop.i c.before.before.before.before.loop.u c.if1.u _ c.before.before.before.before.loop.invariant.2 (omega arith) (sym c.before.is-use.ensures ∙ h.0.taken) h.4.ensures h.5.ensures h.8 h.9 h.10))
+    (λ h. (omega arith, omega (arith, h.9), use_put (place_of c.before.before.before.before.before.before.before.before.before.args.places.now) c.before.before.before.before.before.before.before.before.before.args.rows.now c.before.before.before.before.before.before.before.before.before.args.nodes.now c.before.before.before.before.before.before.before.before.before.args.uses.now c.before.before.before.before.loop.i c.before.before.before.before.loop.u c.if1.u _ c.before.before.before.before.loop.invariant.2 (omega arith) (sym c.before.is-use.ensures ∙ h.0.taken) h.3.ensures h.4.ensures h.7 h.8 h.9))
     (λ h. (omega arith, omega (arith, h.3), use_past (place_of c.before.before.before.before.before.before.before.before.before.args.places.now) c.before.before.before.before.before.before.before.before.before.args.rows.now c.before.before.before.before.before.before.before.before.before.args.nodes.now c.before.before.before.before.before.before.before.before.before.args.uses.now c.before.before.before.before.loop.i c.before.before.before.before.loop.u c.if1.u c.before.before.before.before.loop.invariant.2 (omega arith) (sym c.before.is-use.ensures ∙ h.0.left) h.1 h.2 h.3))
     c.if1.branch
 
@@ -57,9 +57,6 @@ put-uses-spec =
     (λ c. search rules)
     (λ c. search rules)
     (λ c κs. search rules)
-    (λ c. search rules)
-    (λ c. search rules)
-    (λ c. search rules)
     (λ c. search rules)
     (λ c. search rules)
     (λ c. search rules)

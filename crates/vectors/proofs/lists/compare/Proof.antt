@@ -12,7 +12,7 @@ returns c =
     let a = c.before.before.before.before.before.before.before.args in
     let e = c.before.before.third-line.ensures in
     and_sent (subst (λ n. n < length a.text.now) e c.before.if1.true) c.before.before.before.own.ensures
-    (subst (λ n. SentTold 3 a.source.now a.text.now n c.before.before.before.own.result c.sent.result) e c.sent.ensures)
+    (subst (λ n. SentTold a.source.now a.text.now n c.before.before.before.own.result c.sent.result) e c.sent.ensures)
 
 returns-2 : tie.Need-returns-2
 returns-2 c = own_alone (subst (λ n. length c.before.before.before.before.before.before.args.text.now ≤ n) c.before.third-line.ensures c.if1.false) c.before.before.own.ensures

@@ -10,7 +10,7 @@ use Rattle.vectors.specs.declared.texts.Numeral.{Numeral}
 use Rattle.vectors.specs.declared.tally.Tally.{Tally}
 use Rattle.vectors.specs.Listed.{number_at}
 use Rattle.vectors.specs.Ended.{numbers}
-use Rattle.vectors.specs.Sent.{DoneTold, head_at, fresh_list, SentTold}
+use Rattle.vectors.specs.Sent.{ListTold, head_at, fresh_list, SentTold}
 use borrow.Author.Rules.{rules}
 use Rattle.vectors.proofs.lists.sent.Statement.{statement}
 use Rattle.vectors.proofs.lists.sent.Tie as tie
@@ -32,7 +32,7 @@ module _ (text : List ℕ) (at k : ℕ) (fresh l : List ℤ) (all : fresh ≡ fr
   all-long : length (l ++ drop k fresh) ≡ 70016
   all-long = omega (arith, length-append l (drop k fresh), length-drop k fresh, fresh-long all, ap length first, length-numbers text k at)
 
-in-turn : (job : ℕ) (source text : List ℕ) (from : ℕ) (t r : Tally) (x y z v w : Numeral) (k n : ℕ) (fresh l : List ℤ)
+in-turn : (source text : List ℕ) (from : ℕ) (t r : Tally) (x y z v w : Numeral) (k n : ℕ) (fresh l : List ℤ)
     → x ≡ number_at text from
     → y ≡ number_at text x.next
     → z ≡ number_at text y.next
@@ -42,10 +42,10 @@ in-turn : (job : ℕ) (source text : List ℕ) (from : ℕ) (t r : Tally) (x y z
     → n ≡ min v.value 70016
     → fresh ≡ fresh_list
     → l ≡ numbers text (length (take k fresh)) w.next
-    → DoneTold job source text (take n (l ++ drop k fresh)) x.value y.value z.value t r
-    → SentTold job source text from t r
+    → ListTold source (take n (l ++ drop k fresh)) x.value y.value z.value t r
+    → SentTold source text from t r
 unfolding head_at
-in-turn job source text from t r x y z v w k n fresh l e1 e2 e3 e4 e5 e6 e7 e8 e9 h =
+in-turn source text from t r x y z v w k n fresh l e1 e2 e3 e4 e5 e6 e7 e8 e9 h =
     let f = first text w.next k fresh l e8 (omega arith) e9 in
     rw (f, e6, e7, e8, e5, e4, e3, e2, e1) at h
 
@@ -61,8 +61,8 @@ array-share-prefix-list c =
     let i = c.before.before.numbers-into in
     omega (arith, c.clipped2.ensures, all-long c.before.before.before.before.before.before.before.before.before.before.before.before.before.before.args.text.now c.before.before.before.before.before.number-at5.result.next k.result f.result i.new.1.1.0 f.ensures (omega (arith, k.ensures)) i.ensures)
 
-slice-aggregate-done : tie.Need-slice-aggregate-done
-slice-aggregate-done c =
+slice-aggregate-told : tie.Need-slice-aggregate-told
+slice-aggregate-told c =
     let f = c.before.before.before.before.before.before.before.before.before.before.before.fresh-list in
     let k = c.before.before.before.before.before.clipped in
     let i = c.before.before.before.numbers-into in
@@ -74,9 +74,9 @@ returns c =
     let f = c.before.before.before.before.before.before.before.before.before.before.before.before.fresh-list in
     let k = c.before.before.before.before.before.before.clipped in
     let i = c.before.before.before.before.numbers-into in
-    in-turn a.job a.source.now a.text.now a.from a.t c.done.result c.before.before.before.before.before.before.before.before.before.before.before.number-at.result c.before.before.before.before.before.before.before.before.before.before.number-at2.result c.before.before.before.before.before.before.before.before.before.number-at3.result c.before.before.before.before.before.before.before.before.number-at4.result
+    in-turn a.source.now a.text.now a.from a.t c.told.result c.before.before.before.before.before.before.before.before.before.before.before.number-at.result c.before.before.before.before.before.before.before.before.before.before.number-at2.result c.before.before.before.before.before.before.before.before.before.number-at3.result c.before.before.before.before.before.before.before.before.number-at4.result
     c.before.before.before.before.before.before.before.number-at5.result k.result c.before.before.clipped2.result f.result i.new.1.1.0 c.before.before.before.before.before.before.before.before.before.before.before.number-at.ensures.1 c.before.before.before.before.before.before.before.before.before.before.number-at2.ensures.1 c.before.before.before.before.before.before.before.before.before.number-at3.ensures.1
-    c.before.before.before.before.before.before.before.before.number-at4.ensures.1 c.before.before.before.before.before.before.before.number-at5.ensures.1 k.ensures c.before.before.clipped2.ensures f.ensures i.ensures c.done.ensures
+    c.before.before.before.before.before.before.before.before.number-at4.ensures.1 c.before.before.before.before.before.before.before.number-at5.ensures.1 k.ensures c.before.before.clipped2.ensures f.ensures i.ensures c.told.ensures
 
 pub sent-spec : {M : Type 1} → statement M
 sent-spec =
@@ -94,6 +94,6 @@ sent-spec =
     (λ c κs. search rules)
     (λ c κs. search rules)
     array-share-prefix-list
-    slice-aggregate-done
+    slice-aggregate-told
     (λ c κs. search rules)
     returns)

@@ -7,7 +7,7 @@ use Rattle.vectors.proofs.lists.told.Tie as tie
 
 returns : tie.Need-returns
 returns c =
-    let l = c.before.before.before.before.checked in
+    let l = c.before.before.before.before.check-list in
     record { answer = l.result; checks = l.ensures; told = c.check.ensures ∙ ap (λ s. checked c.before.before.before.is_said.result s) c.before.before.list.ensures ∙ ap (λ b. checked b (one_list c.before.before.before.before.before.before.before.args.t)) c.before.before.before.is_said.ensures }
 
 pub told-spec : {M : Type 1} → statement M

@@ -2,17 +2,17 @@
 -- Assumes nothing.
 use mathlib.Core.Path.{◌≡◌, refl, sym, ◌∙◌}
 use mathlib.Core.List.{List}
-use Prim.Native.Nat.{ℕ, min}
+use Prim.Native.Nat.{ℕ, ◌+◌, ◌*◌, min}
+use lib.ListN.{get_or}
 use borrow.Author.Tests.{not-true, not-false}
-use Rattle.table.specs.Sections.{rows_at}
 use Rattle.vectors.specs.declared.tally.Tally.{Tally}
 use Rattle.vectors.specs.Twos.{BehindTold, procedures, refused, alone, uses}
 use borrow.Author.Rules.{rules}
 use Rattle.vectors.proofs.twos.compare.Statement.{statement}
 use Rattle.vectors.proofs.twos.compare.Tie as tie
 
-uses-so : (prelude source table : List ℕ) (w n : ℕ) {t : Tally} (r : Tally) → w ≡ rows_at table → n ≡ min w 16384 → BehindTold prelude source table n t r
-    → BehindTold prelude source table (min (rows_at table) 16384) t r
+uses-so : (prelude source table : List ℕ) (w n : ℕ) {t : Tally} (r : Tally) → w ≡ get_or table 0 0 → n ≡ min (3 * w + 1) 16384 → BehindTold prelude source table n t r
+    → BehindTold prelude source table (min (3 * get_or table 0 0 + 1) 16384) t r
 uses-so prelude source table w n r e f h = rw e at (rw f at h)
 
 returns : tie.Need-returns
@@ -21,7 +21,7 @@ returns c = refused c.before.before.before.read.ensures (sym c.before.accepted.e
 returns-2 : tie.Need-returns-2
 unfolding procedures
 returns-2 c =
-    uses c.before.before.before.before.before.before.before.before.before.before.read.ensures (sym c.before.before.before.before.before.before.before.before.accepted.ensures ∙ not-false _ c.before.before.before.before.before.before.before.if1.false) c.before.before.before.before.before.before.if2.true (uses-so _ _ _ _ _ _ c.before.before.before.before.uses-end.ensures.0 c.before.before.before.clipped.ensures c.behind.ensures)
+    uses c.before.before.before.before.before.before.before.before.before.before.read.ensures (sym c.before.before.before.before.before.before.before.before.accepted.ensures ∙ not-false _ c.before.before.before.before.before.before.before.if1.false) c.before.before.before.before.before.before.if2.true (uses-so _ _ _ _ _ _ c.before.before.before.before.word_at.ensures c.before.before.before.clipped.ensures c.behind.ensures)
 
 returns-3 : tie.Need-returns-3
 returns-3 c =
@@ -37,6 +37,9 @@ compare-spec =
     returns
     (λ c. search rules)
     (λ c κs. search rules)
+    (λ c. search rules)
+    (λ c. search rules)
+    (λ c. search rules)
     (λ c κs. search rules)
     (λ c. search rules)
     (λ c. search rules)

@@ -1,14 +1,13 @@
 -- `vectors::writes::same_meanings` meets its contract. The uses from k on are those that are left to compare.
 -- Assumes nothing.
-use mathlib.Core.Path.{◌≡◌, sym, ap, ◌∙◌}
+use mathlib.Core.Path.{◌≡◌, sym, ◌∙◌}
 use mathlib.Core.Bool.{true, false}
 use mathlib.Core.List.{List}
-use Prim.Native.Nat.{ℕ, zero, suc, ◌+◌, ◌-◌, ◌≤◌, ◌<◌, min}
+use Prim.Native.Nat.{ℕ, zero, suc, ◌+◌, ◌-◌, ◌*◌, ◌≤◌, ◌<◌}
 use native.Mathlib.Omega.{arith}
 use lib.Dec.{eqb}
 use lib.ListN.{get_or}
 use borrow.Author.Tests.{eq-eqb, ne_eqb, not-true, not-false}
-use Rattle.table.specs.Sections.{use_at}
 use Rattle.vectors.specs.Pages.{alike_at, alike_from, same_meanings}
 use borrow.Author.Rules.{rules}
 use Rattle.vectors.proofs.writes.same_meanings.Statement.{statement}
@@ -32,21 +31,17 @@ module _ (a b : List ℕ) (count : ℕ) where
   start = let f : count - 0 ≡ count = omega arith in rw f
 
   module _ (k : ℕ) where
-    on : k < count → alike_at a b (use_at k) ≡ true → alike_from a b k (count - k) ≡ alike_from a b (k + 1) (count - (k + 1))
+    on : k < count → alike_at a b (3 * k + 1) ≡ true → alike_from a b k (count - k) ≡ alike_from a b (k + 1) (count - (k + 1))
     unfolding alike_from
     on h e =
         let l : count - k ≡ suc (count - (k + 1)) = omega arith in
         rw (l, e)
 
-    off : k < count → alike_at a b (use_at k) ≡ false → alike_from a b k (count - k) ≡ false
+    off : k < count → alike_at a b (3 * k + 1) ≡ false → alike_from a b k (count - k) ≡ false
     unfolding alike_from
     off h e =
         let l : count - k ≡ suc (count - (k + 1)) = omega arith in
         rw (l, e)
-
-    -- use k is there
-    at-use : (at : ℕ) → count ≡ get_or a 0 0 → at ≡ use_at (min k (get_or a 0 0)) → k < count → alike_at a b at ≡ alike_at a b (use_at k)
-    at-use at e f h = let q : at ≡ use_at k = omega arith in ap (alike_at a b) q
 
     end : count ≤ k → alike_from a b k (count - k) ≡ true
     unfolding alike_from
@@ -66,27 +61,22 @@ returns c = other-count c.before.before.before.before.before.args.a.now c.before
 loop-holds : tie.Need-loop-init invariant-loop decreases-loop
 loop-holds c = start c.before.before.before.before.before.args.a.now c.before.before.before.before.before.args.b.now c.before.before.word.result
 
+mul-alike-at : tie.Need-overflow-mul-alike-at invariant-loop decreases-loop
+mul-alike-at c = omega (arith, c.before.before.before.before.word.ensures.1, c.loop-test.true)
+
+add-alike-at : tie.Need-overflow-add-alike-at invariant-loop decreases-loop
+add-alike-at c = omega (arith, c.before.before.before.before.word.ensures.1, c.loop-test.true)
+
 alike-at-requires : tie.Need-alike-at-requires invariant-loop decreases-loop
-alike-at-requires c κs = c.use-at.ensures.1
+alike-at-requires c κs = omega (arith, c.before.before.before.before.word.ensures.1, c.loop-test.true)
 
 returns-2 : tie.Need-returns-2 invariant-loop decreases-loop
 returns-2 c =
-    let u = c.before.before in
-    let l = u.before.before in
-    let a = l.before.before.before.before.before.before.args in
-    let n = l.before.before.before.word in
-    let e = at-use a.a.now a.b.now n.result l.loop.k u.use-at.result n.ensures.0 u.use-at.ensures.0 u.before.loop-test.true in
-    sym (same_count a.a.now a.b.now n.result l.before.before.word2.result n.ensures.0 l.before.before.word2.ensures.0 l.before.if1.false ∙ l.loop.invariant
-    ∙ off a.a.now a.b.now n.result l.loop.k u.before.loop-test.true (sym e ∙ sym c.before.Alike-at.ensures ∙ not-true _ c.if2.true))
+    let a = c.before.before.before.before.before.before.before.before.before.args in
+    sym (same_count a.a.now a.b.now c.before.before.before.before.before.before.word.result c.before.before.before.before.before.word2.result c.before.before.before.before.before.before.word.ensures.0 c.before.before.before.before.before.word2.ensures.0 c.before.before.before.before.if1.false ∙ c.before.before.before.loop.invariant ∙ off a.a.now a.b.now c.before.before.before.before.before.before.word.result c.before.before.before.loop.k c.before.before.loop-test.true (sym c.before.Alike-at.ensures ∙ not-true _ c.if2.true))
 
 loop-again : tie.Need-loop-preserved invariant-loop decreases-loop
-loop-again c =
-    let u = c.before.before in
-    let l = u.before.before in
-    let a = l.before.before.before.before.before.before.args in
-    let n = l.before.before.before.word in
-    let e = at-use a.a.now a.b.now n.result l.loop.k u.use-at.result n.ensures.0 u.use-at.ensures.0 u.before.loop-test.true in
-    l.loop.invariant ∙ on a.a.now a.b.now n.result l.loop.k u.before.loop-test.true (sym e ∙ sym c.before.Alike-at.ensures ∙ not-false _ c.if2.false)
+loop-again c = c.before.before.before.loop.invariant ∙ on c.before.before.before.before.before.before.before.before.before.args.a.now c.before.before.before.before.before.before.before.before.before.args.b.now c.before.before.before.before.before.before.word.result c.before.before.before.loop.k c.before.before.loop-test.true (sym c.before.Alike-at.ensures ∙ not-false _ c.if2.false)
 
 returns-3 : tie.Need-returns-3 invariant-loop decreases-loop
 returns-3 c =
@@ -103,7 +93,8 @@ same-meanings-spec =
     (λ c κs. search rules)
     returns
     loop-holds
-    (λ c κs. search rules)
+    mul-alike-at
+    add-alike-at
     alike-at-requires
     returns-2
     (λ c. search rules)

@@ -7,10 +7,10 @@ use Rattle.webpage.proofs.lines.show_lines.Statement.{statement}
 use Rattle.webpage.proofs.lines.show_lines.Tie as tie
 
 abbrev invariant-loop : tie.invariant-loop
-invariant-loop source table text row levels p₀ i₀ p i = i ≤ length source
+invariant-loop source row levels p₀ i₀ p i = i ≤ length source
 
 abbrev decreases-loop : tie.decreases-loop
-decreases-loop source table text row levels p₀ i₀ p i = length source - i
+decreases-loop source row levels p₀ i₀ p i = length source - i
 
 pub show-lines-spec : {M : Type 1} → statement M
 show-lines-spec =
@@ -22,12 +22,12 @@ show-lines-spec =
     (λ c κs. search rules)
     (λ c κs. search rules)
     (λ c κs. search rules)
-    (λ c κs. search rules)
     (λ c. search rules)
     (λ c κs. search rules)
     (λ c κs. search rules)
     (λ c. search rules)
     (λ c. search rules)
+    (λ c κs. search rules)
     (λ c κs. search rules)
     (λ c. search rules)
     (λ c. search rules)

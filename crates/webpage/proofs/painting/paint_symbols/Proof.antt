@@ -1,6 +1,6 @@
 -- `webpage::painting::paint_symbols` meets its contract: what a symbol is painted with marks nothing, and lies in the source.
 -- Assumes nothing.
-use Prim.Native.Nat.{ℕ, ◌+◌, ◌-◌, ◌≤◌, min}
+use Prim.Native.Nat.{ℕ, ◌+◌, ◌*◌, ◌-◌, ◌≤◌, min}
 use mathlib.Core.Path.{◌≡◌, refl, ◌∙◌}
 use mathlib.Core.List.{List}
 use mathlib.Core.Logic.{⊎_elim}
@@ -22,41 +22,34 @@ more {from = from} {to = to} u p l m = record {
 }
 
 abbrev invariant-loop : tie.invariant-loop
-invariant-loop source table shared offers looks₀ levels₀ kinds places stack₀ open₀ count₀ next₀ k₀ looks levels stack «open» count next k =
-    (k ≤ 2048) × (next ≤ k) × (count ≤ k) × (length looks ≡ length looks₀) × (length levels ≡ length levels₀) × Unmarking (length source) looks₀ looks × Behind (length source) levels₀ levels
+invariant-loop source table looks₀ levels₀ kinds places stack₀ open₀ row₀ k₀ looks levels stack «open» row k =
+    (k ≤ 2048) × (row ≤ 3 * k + 1) × (length looks ≡ length looks₀) × (length levels ≡ length levels₀) × Unmarking (length source) looks₀ looks × Behind (length source) levels₀ levels
 
 abbrev decreases-loop : tie.decreases-loop
-decreases-loop source table shared offers looks₀ levels₀ kinds places stack₀ open₀ count₀ next₀ k₀ looks levels stack «open» count next k = 2048 - k
+decreases-loop source table looks₀ levels₀ kinds places stack₀ open₀ row₀ k₀ looks levels stack «open» row k = 2048 - k
 
 loop-holds : tie.Need-loop-init invariant-loop decreases-loop
-loop-holds c = (omega arith, omega arith, omega arith, refl, refl, record { behind = λ i h. refl; kept = λ i g. g }, λ i h. refl)
-
-add-k : tie.Need-overflow-add-k invariant-loop decreases-loop
-add-k c = omega (arith, c.before.before.before.before.before.before.before.before.before.before.before.before.before.before.before.before.before.before.before.before.before.loop-test.true)
-
-loop-less : tie.Need-loop-smaller invariant-loop decreases-loop
-loop-less c = omega (arith, c.before.before.before.before.before.before.before.before.before.before.before.before.before.before.before.before.before.before.before.before.before.loop-test.true)
+loop-holds c = (omega arith, omega arith, refl, refl, record { behind = λ i h. refl; kept = λ i g. g }, λ i h. refl)
 
 loop-again : tie.Need-loop-preserved invariant-loop decreases-loop
 loop-again c =
-    let p = c.before.before.before.before in
+    let p = c.before.before.before in
     let q = p.before.before.before.before.before.before in
-    let t = q.before.before.before.before.before.before.before.before.before.before.before in
+    let t = q.before.before.before.before.before.before.before.before.before in
     let l = t.before.loop in (
       omega (arith, t.loop-test.true),
       omega (arith, l.invariant.1),
-      omega (arith, l.invariant.2),
-      p.paint.auto.0 ∙ l.invariant.3,
-      q.pass.auto.1.1.1.1.0 ∙ l.invariant.4,
-      more l.invariant.5 p.paint.ensures.0 (omega arith) (omega arith),
-      λ i h. q.pass.ensures i (omega (arith, q.before.before.before.before.before.before.place-at2.ensures)) ∙ l.invariant.6 i h,
+      p.paint.auto.0 ∙ l.invariant.2,
+      q.pass.auto.1.1.1.1.0 ∙ l.invariant.3,
+      more l.invariant.4 p.paint.ensures.0 (omega arith) (omega arith),
+      λ i h. q.pass.ensures i (omega arith) ∙ l.invariant.5 i h,
     )
 
 returns : tie.Need-returns invariant-loop decreases-loop
-returns c = (c.before.before.before.before.loop.invariant.5, c.before.before.before.before.loop.invariant.6)
+returns c = (c.before.before.before.before.loop.invariant.4, c.before.before.before.before.loop.invariant.5)
 
 returns-2 : tie.Need-returns-2 invariant-loop decreases-loop
-returns-2 c = (c.before.loop.invariant.5, c.before.loop.invariant.6)
+returns-2 c = (c.before.loop.invariant.4, c.before.loop.invariant.5)
 
 pub paint-symbols-spec : {M : Type 1} → statement M
 paint-symbols-spec =
@@ -77,10 +70,8 @@ paint-symbols-spec =
     (λ c κs. search rules)
     (λ c κs. search rules)
     (λ c κs. search rules)
-    (λ c κs. search rules)
-    (λ c κs. search rules)
-    add-k
-    loop-less
+    (λ c. search rules)
+    (λ c. search rules)
     loop-again
     (λ c. search rules)
     (λ c. search rules)

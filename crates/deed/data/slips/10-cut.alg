@@ -1,3 +1,0 @@
-'begin' 'integer' i, j, k; 'real' x, y; 'Boolean' b, c;
-i := 7.0 % 2
-'end'

@@ -1,3 +1,0 @@
-'begin' 'integer' i, j, k; 'real' x, y; 'Boolean' b, c;
-'integer' 'procedure' p; p := 1; ininteger(1, p)
-'end'

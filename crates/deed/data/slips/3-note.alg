@@ -1,1 +1,0 @@
-'begin' 'comment' a note without its end 'end'

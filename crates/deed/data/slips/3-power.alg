@@ -1,3 +1,0 @@
-'begin' 'integer' i, j, k; 'real' x, y; 'Boolean' b, c;
-x := y ↑ 2
-'end'

@@ -1,1 +1,0 @@
-'begin' outinteger(1, 5) 'end';

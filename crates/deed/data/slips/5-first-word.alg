@@ -1,1 +1,0 @@
-outinteger(1, 5)

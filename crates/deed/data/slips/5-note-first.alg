@@ -1,1 +1,0 @@
-'comment' The rule; 'begin' outinteger(1, 5) 'end'

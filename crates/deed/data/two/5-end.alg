@@ -1,3 +1,0 @@
-'integer' 'procedure' half(n);
-  'value' n; 'integer' n;
-  half := n % 2

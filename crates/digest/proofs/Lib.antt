@@ -1,3 +1,0 @@
-pub mod Padded
-pub mod States
-pub mod Examples

@@ -1,4 +1,0 @@
-pub mod Words
-pub mod Padding
-pub mod Digest
-pub mod samples

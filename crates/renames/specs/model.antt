@@ -1,3 +1,0 @@
-pub mod Owners
-pub mod Arrays
-pub mod Marks

@@ -1,3 +1,0 @@
-pub mod Relabel
-pub mod Renaming
-pub mod Letters

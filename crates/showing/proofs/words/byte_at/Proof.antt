@@ -1,0 +1,13 @@
+-- `showing::words::byte_at` meets its contract: behind the last byte there is none.
+-- Assumes nothing.
+use mathlib.Core.Path.{sym}
+use lib.ListN.{get_or-eq_default}
+use borrow.Author.Rules.{rules}
+use Rattle.showing.proofs.words.byte_at.Statement.{statement}
+use Rattle.showing.proofs.words.byte_at.Tie as tie
+
+returns-2 : tie.Need-returns-2
+returns-2 c = sym (get_or-eq_default c.before.args.source.now 0 {n = c.before.args.at} c.if1.false)
+
+pub byte-at-spec : {M : Type 1} → statement M
+byte-at-spec = tie.close (tie.spec (λ c. search rules) (λ c. search rules) returns-2)

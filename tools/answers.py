@@ -1,0 +1,357 @@
+#!/usr/bin/env python3
+"""Turns proofs that walk the code (Proof.antt over a function's Tie) into Invariants.antt and Answers.antt.
+
+usage: python3 tools/answers.py NAMES CRATE [FUNCTION ..]
+
+NAMES is the names.json that 'rt check --generated DIR --old-names' writes in the folder of the crate; CRATE is that folder.
+Each goal gets the name that it has today, and each step that an answer cites too. An answer that was a bare search is left
+out, since the check tries that itself. What it cannot turn it says, with the path; such a file keeps its name with .old
+behind it for reading, and is no part of the crate.
+"""
+
+import json
+import os
+import re
+import sys
+
+NAME = r"[^\s(){}.;,@\"«»]+"
+PLAIN = {"args", "ranges", "requires", "utf8", "well_formed", "type_inv", "auto"}
+
+
+def norm(name):
+    return re.sub(r"[-_]", "_", name)
+
+
+def split_terms(text):
+    """The arguments of a call, at the top level of parentheses."""
+    out, depth, now = [], 0, ""
+    for ch in text:
+        if ch in "([{":
+            depth += 1
+        if ch in ")]}":
+            depth -= 1
+            if depth < 0:
+                break
+        if ch.isspace() and depth == 0:
+            if now:
+                out.append(now)
+            now = ""
+        else:
+            now += ch
+    if now:
+        out.append(now)
+    return out
+
+
+def declarations(text):
+    """(comment, head line, body lines) of each declaration of a file, its uses and its first comment."""
+    uses, decls, head = [], [], []
+    now = None
+    pending = []
+    for line in text.split("\n"):
+        if line.startswith("use "):
+            if not uses:
+                head += pending
+            uses.append(line)
+            pending = []
+            continue
+        if not line.strip():
+            if pending and now is None and not uses and not decls:
+                head += pending
+                pending = []
+            continue
+        if line.startswith("--"):
+            pending.append(line)
+            continue
+        m = re.match(r"(?:abbrev |unfoldable )?(?:pub )?(?:abbrev |unfoldable )?(" + NAME + r"(?: \{[^}]*\})*) : ", line)
+        if m and not line.startswith(" "):
+            now = {"name": m.group(1).split(" ")[0], "lines": [line], "comment": pending}
+            decls.append(now)
+            pending = []
+            continue
+        if now is None:
+            head.append(line)
+            continue
+        if pending and line.startswith(" "):
+            now["lines"] += pending
+            pending = []
+        now["lines"].append(line)
+    if pending and not decls:
+        head += pending
+    return head, uses, decls
+
+
+class Function:
+    def __init__(self, crate, folder, info, labels):
+        self.crate, self.folder, self.info, self.labels = crate, folder, info, labels
+        self.said = []
+        self.places = {p[0]: (i, p) for i, p in enumerate(info["places"])}
+
+    def chain(self, place):
+        """The steps before a place, the newest first: (index, old step, new step, callee)."""
+        out = []
+        while place in self.places:
+            i, p = self.places[place]
+            if p[2][0]:
+                out.append((i, p[2][0], p[2][1], p[3]))
+            place = p[1]
+            if place is None:
+                break
+        return out
+
+    def turn_paths(self, text, place, var="c"):
+        steps = self.chain(place)
+
+        def one(m):
+            befores, step, rest = m.group(1).count(".before"), m.group(2), m.group(3)
+            if step in PLAIN:
+                return f"{var}.{step}{rest}"
+            arm = self.arm(steps, step, rest)
+            if arm:
+                return f"{var}.{arm}"
+            fits = [s for s in steps if norm(s[1]) == norm(step)]
+            if not fits:
+                bare = re.sub(r"\d+$", "", norm(step))
+                self.said.append(f"no step {step} before {place}")
+                return f"{var}.{step}{rest}"
+            it = fits[0]
+            return f"{var}.{it[2]}{self.clause(it[3], rest)}"
+
+        pattern = r"(?<![^\s(){};,←])" + re.escape(var) + r"((?:\.before)*)\.(?!before)(" + NAME + r")((?:\.[^\s(){}.;,@\"«»]+)*)"
+        return re.sub(pattern, one, text)
+
+    def arm(self, steps, step, rest):
+        parts = rest.strip(".").split(".") if rest else []
+        for i, *_ in steps:
+            arms = self.info["arms"]
+            if i < len(arms) and arms[i]:
+                new, _, fields = arms[i]
+                for field, old, path in fields:
+                    if norm(old) == norm(step) and parts[: len(path)] == path and path:
+                        more = parts[len(path) :]
+                        return ".".join([new, field] + more)
+        return None
+
+    def clause(self, callee, rest):
+        m = re.match(r"\.(ensures|requires)\.(\d+)(.*)", rest)
+        if m and callee:
+            labels = self.labels.get(callee.split("::")[-1], {}).get(m.group(1), [])
+            k = int(m.group(2))
+            if k < len(labels) and labels[k]:
+                return f".{m.group(1)}.{labels[k]}{m.group(3)}"
+        return rest
+
+    def turn(self, text):
+        head, uses, decls = declarations(text)
+        info = self.info
+        spec = [d for d in decls if d["name"].endswith(("-spec", "_spec")) or "statement M" in d["lines"][0]]
+        if not spec or "tie.spec" not in "\n".join(spec[0]["lines"]):
+            return None
+        body = "\n".join(spec[0]["lines"][1:])
+        at = body.index("tie.spec") + len("tie.spec")
+        args = split_terms(body[at:])
+        needs = info["needs"]
+        first = len(args) - len(needs)
+        by_name = {d["name"]: d for d in decls if d is not spec[0]}
+        loops = info["loops"]
+        used = set()
+        inv_out, ans_out = [], []
+
+        # invariants and measures
+        for d in decls:
+            m = re.match(r"abbrev (?:pub )?(\S+) : tie\.(invariant|decreases|InvT|MeasureT)-?(\S*)", d["lines"][0])
+            if not m:
+                continue
+            kind = "invariant" if m.group(2) in ("invariant", "InvT") else "decreases"
+            which = m.group(3)
+            fits = [j for j, it in enumerate(loops) if norm(it[0][0]) == norm(which)]
+            used.add(d["name"])
+            if not fits:
+                self.said.append(f"no loop {which}")
+                continue
+            j = fits[0]
+            new = loops[j][0][1]
+            names, changed = loops[j][1], info["changed"][j]
+            slots = [(f"l.initial.{v}" if ch else f"l.{v}") for v, ch in zip(names, changed)] + [f"l.{v}" for v, ch in zip(names, changed) if ch]
+            eq = "\n".join(d["lines"][1:])
+            lhs, rhs = eq.split("=", 1)
+            params = lhs.split()[1:]
+            if len(params) != len(slots):
+                self.said.append(f"the invariant of {which} has {len(params)} names, and the loop {len(slots)}: {names} {changed}")
+            sub = dict(zip(params, slots))
+            rhs = re.sub(NAME, lambda m: sub.get(m.group(0), m.group(0)) if not rhs[: m.start()].endswith(".") else m.group(0), rhs)
+            label = f"{kind}-{new}"
+            if kind == "invariant" and re.fullmatch(r"\s*Unit(?: \{0\})?\s*", rhs):
+                continue
+            inv_out.append(d["comment"] + [f"abbrev pub {label} : goal.{label}", f"{label} l ={rhs}"])
+
+        # answers by position
+        done = {}
+        if first < 0:
+            self.said.append(f"{len(args)} arguments for {len(needs)} goals: matched by name")
+        named = {norm(o): n for o, n in needs}
+
+        def goal_of(decl):
+            m = re.search(r" : tie\.Need-(\S+)", decl["lines"][0])
+            if not m:
+                return None
+            old = norm(m.group(1))
+            for o, n in needs:
+                if norm(o) == old or norm("overflow-" + o) == old:
+                    return n
+            return None
+
+        for k, (old, new) in enumerate(needs):
+            arg = args[first + k] if first >= 0 and first + k < len(args) else None
+            if arg is None:
+                continue
+            if re.fullmatch(r"\(λ c(?: κs)?\. search rules\)", arg) or arg in ("(λ c. search)",):
+                continue
+            place = info["asked_at"][k][0] if k < len(info["asked_at"]) else None
+            m = re.fullmatch(r"\(λ (c|_)( κs)?\. (.*)\)", arg, re.S)
+            if m:
+                done[new] = (None, place, f"{new} c = {m.group(3)}", "κs" in m.group(3))
+                continue
+            if arg in by_name:
+                d = by_name[arg]
+                if arg in used and d["lines"][0].find("tie.Need") < 0:
+                    continue
+                own = goal_of(d)
+                target = new
+                if own and own != new and own in {n for _, n in needs}:
+                    target = own
+                    place = info["asked_at"][[n for _, n in needs].index(own)][0]
+                if " : tie.Need-" in d["lines"][0]:
+                    used.add(arg)
+                done[target] = (d, place, None, False)
+                continue
+            done[new] = (None, place, f"{new} c = {arg} c", False)
+        # those that the positions did not reach
+        for d in decls:
+            if d is spec[0] or d["name"] in used or " : tie.Need-" not in d["lines"][0]:
+                continue
+            own = goal_of(d)
+            if own and own not in done:
+                k = [n for _, n in needs].index(own)
+                done[own] = (d, info["asked_at"][k][0], None, False)
+                used.add(d["name"])
+            elif not own:
+                self.said.append(f"no goal for {d['name']}: {d['lines'][0]}")
+                used.add(d["name"])
+                ans_out.append(["-- left: " + l for l in d["lines"]])
+        # helpers stay, in their order, above
+        helpers = []
+        for d in decls:
+            if d is spec[0] or d["name"] in used or any(x[0] is d for x in done.values()):
+                continue
+            if re.match(r"abbrev (?:pub )?\S+ : tie\.", d["lines"][0]):
+                continue
+            if "tie." in "\n".join(d["lines"]):
+                self.said.append(f"the helper {d['name']} speaks of tie")
+            helpers.append(d["comment"] + d["lines"])
+        order = [n for _, n in needs]
+        for new in sorted(done, key=lambda n: order.index(n) if n in order else 999):
+            d, place, line, ks = done[new]
+            if d is None:
+                lines = [line]
+                sign = [f"pub {new} : goal.{new}"]
+            else:
+                eqs = d["lines"][1:]
+                sign = d["comment"] + [f"pub {new} : goal.{new}"]
+                lines = []
+                for l in eqs:
+                    l = re.sub(r"^(" + re.escape(d["name"]) + r" (?:c|_)) κs(?= )", r"\1", l)
+                    lines.append(l)
+                ks = any("κs" in l for l in lines)
+            if ks:
+                self.said.append(f"{new} uses κs")
+            text_ = "\n".join(lines)
+            # other goals of this function that an answer cites keep their new names
+            to = {x[0]["name"]: n for n, x in done.items() if x[0] is not None}
+            if d is not None:
+                to[d["name"]] = new
+            text_ = re.sub(r"(?<![^\s(){},;])" + NAME + r"(?![^\s(){},;])", lambda m: to.get(m.group(0), m.group(0)), text_)
+            if place:
+                text_ = self.turn_paths(text_, place)
+            if re.search(r"c(?:\.before)+(?![.\w])", text_):
+                self.said.append(f"{new} passes on a whole record")
+            if ".branch" in text_:
+                self.said.append(f"{new} goes by a branch")
+            ans_out.append(sign + text_.split("\n"))
+        path = "Rattle." + os.path.basename(self.crate) + ".proofs." + self.folder.replace("/", ".")
+        uses = [u for u in uses if not re.search(r"\.Statement\.\{statement\}|\.Tie as tie", u)]
+        out = {}
+        if inv_out:
+            out["Invariants.antt"] = head + uses + [f"use {path}.Given as goal"] + [l for d in inv_out for l in [""] + d]
+        if ans_out or helpers:
+            out["Answers.antt"] = head + uses + [f"use {path}.Goals as goal"] + [l for d in helpers + ans_out for l in [""] + d]
+        return out
+
+
+def labels_of(crate):
+    """The names of the clauses of each function, in their order."""
+    found = {}
+    for top in [os.path.join(os.path.dirname(crate.rstrip("/")), c) for c in os.listdir(os.path.dirname(crate.rstrip("/")))]:
+        for folder, _, files in os.walk(os.path.join(top, "src")):
+            for f in files:
+                if not f.endswith(".rt"):
+                    continue
+                text = open(os.path.join(folder, f), encoding="utf-8").read()
+                for m in re.finditer(r"\bfn (\w+)[^;{]*?(?=\{|;|requires|ensures)", text):
+                    rest = text[m.end() : m.end() + 6000]
+                    stop = re.search(r"\n\s*\{\s*\n", "\n" + rest)
+                    clauses = rest[: stop.start() if stop else 0]
+                    it = {"ensures": [], "requires": []}
+                    for k, label in re.findall(r"(?m)^\s*(ensures|requires)(?:\s+(\w+))?\s*\{", "\n" + clauses):
+                        it[k].append(label)
+                    found.setdefault(m.group(1), it)
+    return found
+
+
+def main(words):
+    if len(words) < 2:
+        print(__doc__)
+        return 2
+    names = json.load(open(words[0], encoding="utf-8"))
+    crate = words[1].rstrip("/")
+    only = set(words[2:])
+    labels = labels_of(os.path.abspath(crate))
+    turned = left = 0
+    base = os.path.join(crate, "proofs")
+    for folder, dirs, files in os.walk(base):
+        if "Proof.antt" not in files:
+            continue
+        rel = os.path.relpath(folder, base)
+        if only and rel not in only and rel.split("/")[-1] not in only:
+            continue
+        key = f"Rattle-{os.path.basename(os.path.abspath(crate))}-proofs." + rel.replace("/", ".") + ".Lts"
+        path = os.path.join(folder, "Proof.antt")
+        text = open(path, encoding="utf-8").read()
+        if key not in names:
+            print(f"left: {rel}: names.json has no such function")
+            left += 1
+            continue
+        f = Function(os.path.abspath(crate), rel, names[key], labels)
+        try:
+            out = f.turn(text)
+        except Exception as e:  # what cannot be read is said, and left as it is
+            print(f"left: {rel}: {type(e).__name__} {e}")
+            left += 1
+            continue
+        if out is None:
+            print(f"left: {rel}: no call of tie.spec")
+            left += 1
+            continue
+        for s in dict.fromkeys(f.said):
+            print(f"look: {rel}: {s}")
+        for name, lines in out.items():
+            with open(os.path.join(folder, name), "w", encoding="utf-8") as it:
+                it.write("\n".join(lines).rstrip("\n") + "\n")
+        os.rename(path, path + ".old")
+        turned += 1
+    print(f"answers: {turned} turned, {left} left")
+    return 0
+
+
+if __name__ == "__main__":
+    raise SystemExit(main(sys.argv[1:]))
