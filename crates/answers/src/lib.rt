@@ -1,41 +1,43 @@
 // The numbers of paper 01, "Numbered answers", and what carries them. Places, symbols, declarations and code addresses
 // are types of their own, so that none is taken for another; answer and environment numbers are constants of their types.
+#![tactic(auto)]
+
 ghost use Rattle.std.specs.Prelude.{◌≡◌};
 ghost use Rattle.answers.specs.Numbers.{accepted, ended, short, long, no_symbol, too_large, grammar, depth, twice, undeclared, heading, types, limit, range, zero_divisor, unassigned, input_ended, output_full, cells, activations, channel, no_instruction, no_variable, too_many_sets, iabs, maxint, ininteger, outinteger, outreal};
 ghost use Rattle.answers.specs.Answers.{answer, environment, refusal, number_of, place_of, stop_number, stop_place};
 
 // A byte of the source, counted from 0.
-#[derive(Drop)]
+#[derive(Clone, Copy)]
 pub struct Place {
     pub at: usize,
 }
 
 // A symbol of the source, counted from 0: which one it is, where a `Place` says at which byte.
-#[derive(Drop)]
+#[derive(Clone, Copy)]
 pub struct Ordinal {
     pub number: u16,
 }
 
 // A declaration or formal, counted from 0 in source order.
-#[derive(Drop)]
+#[derive(Clone, Copy)]
 pub struct Declaration {
     pub number: usize,
 }
 
 // An instruction of the code, counted from 0.
-#[derive(Drop)]
+#[derive(Clone, Copy)]
 pub struct Address {
     pub at: u32,
 }
 
 // An answer's number.
-#[derive(Drop)]
+#[derive(Clone, Copy)]
 pub struct Answer {
     pub number: u16,
 }
 
 // A number of the environment.
-#[derive(Drop)]
+#[derive(Clone, Copy)]
 pub struct Environment {
     pub number: u16,
 }
@@ -279,7 +281,7 @@ impl Environment {
 }
 
 // A refusal, or a run's fault: its number and its place in the source.
-#[derive(Drop)]
+#[derive(Clone, Copy)]
 pub struct Refusal {
     pub answer: Answer,
     pub place: Place,
@@ -297,7 +299,7 @@ impl Refusal {
 }
 
 // What reading or translating a source answers.
-#[derive(Drop)]
+#[derive(Clone, Copy)]
 pub enum Verdict {
     Accepted,
     Refused(Refusal),
@@ -325,7 +327,7 @@ impl Verdict {
 
 // How a run stopped: at its end, at its limit, with a fault of the program at a place in the source, or at words that
 // are no instruction, at their counter.
-#[derive(Drop)]
+#[derive(Clone, Copy)]
 pub enum Stop {
     Ended,
     Limit,

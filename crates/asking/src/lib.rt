@@ -1,4 +1,6 @@
 // What a command line asks: the numbers and words that people type, with what each function gives back.
+#![tactic(auto)]
+
 pub mod numerals; // numbers as digits
 pub mod words; // a line of words
 pub mod sorts; // sorts of words

@@ -15,14 +15,14 @@ const MOST: u64 = 65535;
 const NONE: i64 = -1;
 
 // What a text stands for in a list: a number, or it spells none.
-#[derive(Drop)]
+#[derive(Clone, Copy)]
 pub enum Sent {
     Is(i64),
     Not,
 }
 
 // What the words of a list are: so many numbers; or the index of the first that is no number; or there are more numbers than the room takes.
-#[derive(Drop)]
+#[derive(Clone, Copy)]
 pub enum Listed {
     Are(usize),
     Not(usize),

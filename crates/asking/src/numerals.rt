@@ -5,14 +5,14 @@ ghost use Rattle.asking.specs.Numerals.{natural_is, natural_of, whole_is, whole_
 use symbols::text::is_digit;
 
 // What a text spells: a number from 0 on that 64 bits hold, or none.
-#[derive(Drop)]
+#[derive(Clone, Copy)]
 pub enum Natural {
     Is(u64),
     Not,
 }
 
 // What a text spells: a whole number of 32 bits, or none.
-#[derive(Drop)]
+#[derive(Clone, Copy)]
 pub enum Whole {
     Is(i32),
     Not,

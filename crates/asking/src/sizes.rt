@@ -16,7 +16,7 @@ const CELLS: u64 = 8192;
 
 const ROOM: u64 = 196608;
 
-#[derive(Drop)]
+#[derive(Clone, Copy)]
 pub struct Sizes {
     pub limit: u64,
     pub cells: usize,
@@ -24,7 +24,7 @@ pub struct Sizes {
 }
 
 // What a line asks of a run's size, where that can be had.
-#[derive(Drop)]
+#[derive(Clone, Copy)]
 pub enum Asked {
     Are(Sizes),
     Not,

@@ -7,7 +7,7 @@ use crate::words::{Word, has_word, word_from};
 use symbols::text::{find, is_digit, same_bytes};
 
 // What is looked for, of the words of a line and of the rows of a table.
-#[derive(Drop)]
+#[derive(Clone, Copy)]
 pub enum Sort {
     Asked, // no flag
     Named, // a row whose first word is this one

@@ -41,7 +41,7 @@ pub fn row_line(word: &[u8], row: &mut [u8]) -> usize
 }
 
 // How the words of a command fit its row: well; or the word of the row for which there is none; or the word that is one too many.
-#[derive(Drop)]
+#[derive(Clone, Copy)]
 pub struct Fit {
     pub good: bool,
     pub missing: Word,

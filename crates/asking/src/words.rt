@@ -6,7 +6,7 @@ ghost use Rattle.asking.specs.Lists.{ListLine};
 use symbols::text::{find, is_blank, same_bytes};
 
 // A word of a line: its first byte, and the byte behind it. Where there is none, both are the line's end.
-#[derive(Drop)]
+#[derive(Clone, Copy)]
 pub struct Word {
     pub from: usize,
     pub to: usize,

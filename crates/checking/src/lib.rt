@@ -1,4 +1,6 @@
 // Other people's cross-reference lists, checked: whether a list is the uses of a source.
+#![tactic(auto)]
+
 ghost use Rattle.std.specs.Prelude.{◌≡◌};
 ghost use Rattle.checking.specs.Numbers.{kind_of, number_of, place_of};
 
@@ -8,7 +10,7 @@ pub mod checking; // the job
 
 // What is said of a list: that it is the uses of the source; the source's refusal, with its number and place; or the index, from 0, of its first
 // wrong word.
-#[derive(Drop)]
+#[derive(Clone, Copy)]
 pub enum Checked {
     Yes,
     Refused(Refusal),

@@ -1,4 +1,6 @@
 // Paper 02, request 2: an accepted source written out in the house layout, or its refusal.
+#![tactic(auto)]
+
 ghost use Rattle.std.specs.Prelude.{◌≡◌};
 ghost use Rattle.clean.specs.Numbers.{number_of, place_of, length_of};
 
@@ -11,7 +13,7 @@ mod layout; // a page
 pub mod writing; // the job
 
 // What writing a source answers: how many bytes its text has, or a refusal.
-#[derive(Drop)]
+#[derive(Clone, Copy)]
 pub enum Written {
     Text(usize),
     Refused(Refusal),

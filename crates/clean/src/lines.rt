@@ -6,7 +6,7 @@ ghost use Rattle.clean.specs.model.Pen.{Small, Low, first_of, parted_of, line_of
 
 use symbols::kinds;
 
-#[derive(Drop)]
+#[derive(Clone, Copy)]
 pub struct State {
     pub level: usize, // of the statement or declaration that is written
     pub around: usize, // how many blocks and bodies are open

@@ -1,5 +1,7 @@
 // The tool `deed`: it asks the proved jobs and shows their answers. Its arguments are one command; `deed do FILE` takes
 // the commands of a file, one a line.
+#![tactic(auto)]
+
 use asking::sorts::next_word;
 use asking::words::is_word;
 use commands::obey;

@@ -16,7 +16,7 @@ use showing::uses::{say_use_words, show_section, show_uses};
 use showing::words::tell_answer;
 
 // What is shown of the uses.
-#[derive(Drop)]
+#[derive(Clone, Copy)]
 enum Way {
     People,
     List,

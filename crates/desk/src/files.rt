@@ -9,7 +9,7 @@ use showing::text::{complain, tell_file};
 use symbols::text::same_bytes;
 
 // What was brought in: whether it is good, and how many bytes.
-#[derive(Drop)]
+#[derive(Clone, Copy)]
 pub struct Loaded {
     pub good: bool,
     pub count: usize,

@@ -1,4 +1,6 @@
 // What the commands of the tool share: what comes in, what goes out, and how it ended.
+#![tactic(auto)]
+
 pub mod files; // files and arguments, brought in whole or not at all
 pub mod given; // the numbers that a run is given
 pub mod outputs; // what a run wrote

@@ -1,5 +1,7 @@
 // The passes that write a program's code from what the front end fills: where cells lie, then the instructions. `emit` is
 // for others, with any words lent to it; `clear` leaves no code.
+#![tactic(auto)]
+
 mod codes; // the operations' numbers
 mod parts; // the parts of an operand, and words in lent arrays
 mod uses; // what a use means
@@ -22,7 +24,7 @@ use answers::Address;
 
 // What a use means: its kind (0 environment, 1 variable, 2 procedure, 3 formal called by value, 4 formal called by name), and
 // the declaration's number or the environment's.
-#[derive(Drop)]
+#[derive(Clone, Copy)]
 pub struct Named {
     pub kind: usize,
     pub means: usize,
@@ -30,7 +32,7 @@ pub struct Named {
 
 // What is known behind some nodes of where cells lie: the type before; the activations around; the cells of the running
 // activation's scopes; how many scopes are open; how many declarations and formals there were.
-#[derive(Drop)]
+#[derive(Clone, Copy)]
 pub struct Laid {
     pub sort: usize,
     pub level: usize,
@@ -44,7 +46,7 @@ pub struct Laid {
 // the block so far; the left parts before; 1 where a name stands that a number is taken to; the word of the name that was the
 // last node, 0 where it was no such name, and among declarations 1 behind a procedure; how many declarations and formals there
 // were; how much is open.
-#[derive(Drop)]
+#[derive(Clone, Copy)]
 pub struct Writing {
     pub uses: usize,
     pub here: Address,
@@ -60,7 +62,7 @@ pub struct Writing {
 }
 
 // Something open, or a left part.
-#[derive(Drop)]
+#[derive(Clone, Copy)]
 pub struct Thing {
     pub first: usize,
     pub second: usize,

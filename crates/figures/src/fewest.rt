@@ -6,7 +6,7 @@ ghost use Rattle.figures.specs.Fewest.{near, between, least, trimmed as trimmedO
 use crate::digits::{clean, head, over, places, scaled};
 
 // figures · 10^up / 10^down.
-#[derive(Drop)]
+#[derive(Clone, Copy)]
 pub struct Decimal {
     pub figures: u64,
     pub up: usize,

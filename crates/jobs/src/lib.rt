@@ -1,5 +1,7 @@
 // The jobs as C functions, for programs in other languages: `bindings/deed.h` declares them. A slice comes as a pointer and a length, and each
 // result behind the answer's number goes to where a reference points.
+#![tactic(auto)]
+
 ghost use Rattle.std.specs.Prelude.{◌≡◌};
 ghost use Rattle.checking.specs.Checking.{Checks};
 ghost use Rattle.clean.specs.Job.{Writes};

@@ -1,5 +1,7 @@
 // The machine: it runs code words, any words at all, and stops by itself at its limit. docs/MACHINE.md has its instructions, and specs/ what
 // they do.
+#![tactic(auto)]
+
 use answers::{Answer, Stop};
 use reals::{Entry, Form, Value};
 
@@ -21,7 +23,7 @@ mod ways;
 pub use steps::run;
 
 // How many cells are in use and how many are held, and how many numbers were taken and written.
-#[derive(Drop)]
+#[derive(Clone, Copy)]
 pub struct Counts {
     pub cells: usize,
     pub held: usize,
@@ -30,28 +32,28 @@ pub struct Counts {
 }
 
 // A variable's cell, and how many name formals are on the way to it.
-#[derive(Drop)]
+#[derive(Clone, Copy)]
 pub struct Way {
     pub cell: usize,
     pub links: usize,
 }
 
 // A type, or none.
-#[derive(Drop)]
+#[derive(Clone, Copy)]
 pub enum Typed {
     Is(Form),
     Not,
 }
 
 // A whole number, or something else.
-#[derive(Drop)]
+#[derive(Clone, Copy)]
 pub enum Number {
     Is(i32),
     Not,
 }
 
 // What a value has become on its way: a value, a fault and its place, or that it is of another type than is taken there.
-#[derive(Drop)]
+#[derive(Clone, Copy)]
 pub enum Turned {
     Is(Value),
     Bad(Answer, usize),
@@ -59,7 +61,7 @@ pub enum Turned {
 }
 
 // A channel's number: 1, another one, or no whole number.
-#[derive(Drop)]
+#[derive(Clone, Copy)]
 pub enum Line {
     One,
     Other,
@@ -67,28 +69,28 @@ pub enum Line {
 }
 
 // An output entry, or that the value has none there.
-#[derive(Drop)]
+#[derive(Clone, Copy)]
 pub enum Entered {
     Is(Entry),
     Not,
 }
 
 // A value used, with the counts after it.
-#[derive(Drop)]
+#[derive(Clone, Copy)]
 pub enum Used {
     Value(Value, Counts),
     Nothing,
 }
 
 // Two values used, the older one first, with the counts after them.
-#[derive(Drop)]
+#[derive(Clone, Copy)]
 pub enum Pair {
     Values(Value, Value, Counts),
     Nothing,
 }
 
 // What an operation on the data came to: it is done, or its fault and the place, or it found no value or no such cell.
-#[derive(Drop)]
+#[derive(Clone, Copy)]
 pub enum Did {
     Good(Counts),
     Bad(Answer, usize),
@@ -96,7 +98,7 @@ pub enum Did {
 }
 
 // What a test came to.
-#[derive(Drop)]
+#[derive(Clone, Copy)]
 pub enum Chosen {
     Yes(Counts),
     No(Counts),
@@ -106,7 +108,7 @@ pub enum Chosen {
 
 // What an instruction came to: the next counter, the live activations and the counts; or a stop: the end, a fault and its place, or 29 at
 // the counter.
-#[derive(Drop)]
+#[derive(Clone, Copy)]
 pub enum Outcome {
     Goes(u32, usize, Counts),
     Ends,
@@ -115,21 +117,21 @@ pub enum Outcome {
 }
 
 // What an instruction on whole numbers alone came to: the next counter and how many cells are in use; or it is no such one, and nothing was done.
-#[derive(Drop)]
+#[derive(Clone, Copy)]
 pub enum Swift {
     Goes(u32, usize),
     Not,
 }
 
 // What an instruction of control came to, or that it is another one.
-#[derive(Drop)]
+#[derive(Clone, Copy)]
 pub enum Moved {
     Is(Outcome),
     Not,
 }
 
 // What a run answers.
-#[derive(Drop)]
+#[derive(Clone, Copy)]
 pub struct Ran {
     pub stop: Stop,
     pub done: u64,

@@ -2,6 +2,8 @@
 // each store number is 7 and each output number 9. The runs stand in the file `rows`, one a line: a label and a colon, the limit, the lengths of
 // store (two numbers a cell) and output (three an entry), how many inputs (one or none), the input, and the words of the code. A line that begins
 // with # is a remark; it names the instructions, operation @ place and operands.
+#![tactic(auto)]
+
 ghost use Rattle.std.specs.Prelude.{◌≤◌};
 
 use asking::numerals::{Natural, natural_in};

@@ -1,4 +1,6 @@
 // Paper 01, "Names and types": which declaration each name means, and the faults that names have.
+#![tactic(auto)]
+
 use answers::{Declaration, Environment, Ordinal};
 
 pub mod faults; // the least fault
@@ -15,7 +17,7 @@ pub use modes::{mode, sort};
 pub use rows::row as row_at;
 
 // A row: of a declaration or formal its kind, its name's symbol, the number of its scope, and its type with how a formal is called.
-#[derive(Drop)]
+#[derive(Clone, Copy)]
 pub struct Row {
     pub kind: u16,
     pub symbol: Ordinal,
@@ -24,7 +26,7 @@ pub struct Row {
 }
 
 // What is looked for among rows: kinds from low to high, in a scope, with an identity.
-#[derive(Drop)]
+#[derive(Clone, Copy)]
 pub struct Sought {
     pub low: u16,
     pub high: u16,
@@ -33,7 +35,7 @@ pub struct Sought {
 }
 
 // What a name means: a declaration or formal, something of the environment, or nothing.
-#[derive(Drop)]
+#[derive(Clone, Copy)]
 pub enum Meant {
     Declared(Declaration),
     Given(Environment),
@@ -41,7 +43,7 @@ pub enum Meant {
 }
 
 // The scopes that are open, and how many were opened.
-#[derive(Drop)]
+#[derive(Clone, Copy)]
 pub struct Open {
     pub depth: usize,
     pub scopes: u16,
@@ -49,7 +51,7 @@ pub struct Open {
 
 // What is known of the declarations behind some nodes: how many declarations and formals there are; the open scopes; the
 // type read last; the procedure whose heading was read last; the least fault.
-#[derive(Drop)]
+#[derive(Clone, Copy)]
 pub struct Declaring {
     pub rows: usize,
     pub around: Open,
@@ -59,14 +61,14 @@ pub struct Declaring {
 }
 
 // What a pass left: how many rows or uses, and the least fault.
-#[derive(Drop)]
+#[derive(Clone, Copy)]
 pub struct Passed {
     pub count: usize,
     pub least: usize,
 }
 
 // What is known of the uses behind some nodes: how many there are, the open scopes, the least fault.
-#[derive(Drop)]
+#[derive(Clone, Copy)]
 pub struct Using {
     pub count: usize,
     pub around: Open,

@@ -1,5 +1,7 @@
 // Shows the symbols of the source that its argument names, and whether they are a program, or the refusal. With no
 // argument it runs the sources that the file `index` lists and says which answers differ from those listed.
+#![tactic(auto)]
+
 ghost use Rattle.std.specs.Prelude.{◌+◌, ◌<◌, ◌≤◌, length};
 
 use grammar::Parsed;
@@ -96,7 +98,7 @@ fn show_symbols(
 }
 
 // An answer and a place or count.
-#[derive(Drop)]
+#[derive(Clone, Copy)]
 pub struct Told {
     pub answer: u16,
     pub number: usize,

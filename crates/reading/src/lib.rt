@@ -1,4 +1,6 @@
 // What is found of a source, and the job `read`: a source to its table, or a numbered refusal with its place.
+#![tactic(auto)]
+
 use answers::{Refusal, Verdict};
 
 pub mod finding; // the front end, for every job that takes a source
@@ -9,7 +11,7 @@ pub mod schemes; // the job that takes a prelude and two schemes
 pub mod reading; // the job
 
 // How much of the lent arrays an accepted source fills: symbols, words of nodes, rows of four words, uses.
-#[derive(Drop)]
+#[derive(Clone, Copy)]
 pub struct Sizes {
     pub symbols: usize,
     pub nodes: usize,
@@ -18,14 +20,14 @@ pub struct Sizes {
 }
 
 // What the front end finds: a program, or a refusal with its number and place.
-#[derive(Drop)]
+#[derive(Clone, Copy)]
 pub enum Found {
     Program(Sizes),
     Refused(Refusal),
 }
 
 // What a prelude and a scheme fill: both as one program, the prelude by itself, and how many words of nodes the scheme has by itself.
-#[derive(Drop)]
+#[derive(Clone, Copy)]
 pub struct Both {
     pub all: Sizes,
     pub before: Sizes,
@@ -33,14 +35,14 @@ pub struct Both {
 }
 
 // What the front end finds of a prelude and a scheme.
-#[derive(Drop)]
+#[derive(Clone, Copy)]
 pub enum FoundBoth {
     Program(Both),
     Refused(Refusal),
 }
 
 // The answers to two schemes.
-#[derive(Drop)]
+#[derive(Clone, Copy)]
 pub struct TwoAnswers {
     pub first: Verdict,
     pub second: Verdict,

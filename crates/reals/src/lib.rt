@@ -1,5 +1,7 @@
 // Values that carry their type: logical values, whole numbers of 32 bits and reals of 64. The operators on them, the
 // conversions, and the two numbers of the store that a cell is kept in.
+#![tactic(auto)]
+
 use answers::Answer;
 
 pub mod conversions; // a value as one of another type
@@ -13,14 +15,14 @@ pub mod stored; // the two numbers of a cell
 pub mod words; // bits as numbers
 
 // The type of a value, or of a cell.
-#[derive(Drop)]
+#[derive(Clone, Copy)]
 pub enum Form {
     Truths,
     Wholes,
     Reals,
 }
 
-#[derive(Drop)]
+#[derive(Clone, Copy)]
 pub enum Value {
     Truth(bool),
     Whole(i32),
@@ -28,7 +30,7 @@ pub enum Value {
 }
 
 // What an operator gives: a value, its fault, or that a value was of another type than it takes.
-#[derive(Drop)]
+#[derive(Clone, Copy)]
 pub enum Outcome {
     Is(Value),
     Fault(Answer),
@@ -36,7 +38,7 @@ pub enum Outcome {
 }
 
 // Two values as an operator takes them: a whole number beside a real has become one.
-#[derive(Drop)]
+#[derive(Clone, Copy)]
 pub enum Both {
     Truths(bool, bool),
     Wholes(i32, i32),
@@ -45,7 +47,7 @@ pub enum Both {
 }
 
 // The operators on one value: the sign -, 'not' and iabs.
-#[derive(Drop)]
+#[derive(Clone, Copy)]
 pub enum Unary {
     Minus,
     Negation,
@@ -53,7 +55,7 @@ pub enum Unary {
 }
 
 // The operators on two values, in the order of the paper's signs and words.
-#[derive(Drop)]
+#[derive(Clone, Copy)]
 pub enum Binary {
     Plus,
     Less,
@@ -73,7 +75,7 @@ pub enum Binary {
 }
 
 // What a cell holds: nothing yet, but it has its type; a value; or where the code of a name formal's actual is.
-#[derive(Drop)]
+#[derive(Clone, Copy)]
 pub enum Cell {
     Unset(Form),
     Holds(Value),
@@ -81,14 +83,14 @@ pub enum Cell {
 }
 
 // The two numbers of the store that a cell is kept in.
-#[derive(Drop)]
+#[derive(Clone, Copy)]
 pub struct Two {
     pub kind: i64,
     pub load: i64,
 }
 
 // An output entry.
-#[derive(Drop)]
+#[derive(Clone, Copy)]
 pub struct Entry {
     pub first: i32,
     pub second: i32,
@@ -96,14 +98,14 @@ pub struct Entry {
 }
 
 // The two halves of a real's bits.
-#[derive(Drop)]
+#[derive(Clone, Copy)]
 pub struct Halves {
     pub low: u32,
     pub high: u32,
 }
 
 // The real that 64 bits stand for, or that they stand for no finite number.
-#[derive(Drop)]
+#[derive(Clone, Copy)]
 pub enum Bits {
     Is(f64),
     Not,

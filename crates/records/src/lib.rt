@@ -1,4 +1,6 @@
 // Recorded runs: the words of a record, each with its range; a run with its record; and a record held against a fresh run.
+#![tactic(auto)]
+
 ghost use Rattle.std.specs.Prelude.{◌≡◌};
 ghost use Rattle.records.specs.Numbers.{kind_of, number_of, place_of};
 
@@ -10,7 +12,7 @@ pub mod replaying; // the job
 pub mod scanning; // the first bad word
 
 // What a word may be.
-#[derive(Drop)]
+#[derive(Clone, Copy)]
 pub enum Range {
     Any, // a number of 32 bits
     Natural, // from 0 on: a count, a length
@@ -21,7 +23,7 @@ pub enum Range {
 }
 
 // A section, by what its entries are.
-#[derive(Drop)]
+#[derive(Clone, Copy)]
 pub enum Section {
     Numbers, // any numbers
     Limit, // two halves
@@ -31,21 +33,21 @@ pub enum Section {
 }
 
 // What stands in turn: a record's six sections, or sets of numbers.
-#[derive(Drop)]
+#[derive(Clone, Copy)]
 pub enum Table {
     Record,
     Sets,
 }
 
 // A word as a number from 0 on, or below 0.
-#[derive(Drop)]
+#[derive(Clone, Copy)]
 pub enum Amount {
     Is(usize),
     Below,
 }
 
 // Where words end that are all in their ranges, or the index of the first bad word.
-#[derive(Drop)]
+#[derive(Clone, Copy)]
 pub enum Spot {
     Behind(usize),
     Bad(usize),
@@ -53,7 +55,7 @@ pub enum Spot {
 
 // What a replay answers: all entries agree; the first that differs, from 0; the index of the first bad word; or the store or output that is lent is
 // shorter than the record's.
-#[derive(Drop)]
+#[derive(Clone, Copy)]
 pub enum Replayed {
     Agrees,
     Differs(usize),
@@ -100,14 +102,14 @@ impl Replayed {
 }
 
 // How many words a record took, or that a length is no word or the room too short.
-#[derive(Drop)]
+#[derive(Clone, Copy)]
 pub enum Filled {
     Words(usize),
     Not,
 }
 
 // What a run came to, and what became of its record.
-#[derive(Drop)]
+#[derive(Clone, Copy)]
 pub struct Kept {
     pub ran: Ran,
     pub filled: Filled,

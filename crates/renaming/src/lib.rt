@@ -1,1 +1,3 @@
 // Names with other letters: definitions and laws alone.
+
+#![tactic(auto)]

@@ -1,4 +1,6 @@
 // A report over many runs of one program.
+#![tactic(auto)]
+
 ghost use Rattle.std.specs.Prelude.{◌≡◌};
 ghost use Rattle.reporting.specs.Numbers.{kind_of, number_of, place_of};
 
@@ -10,7 +12,7 @@ pub mod reporting; // the job
 pub mod tallies; // what is counted and gathered
 
 // How many runs ended with each answer.
-#[derive(Drop)]
+#[derive(Clone, Copy)]
 pub struct Counts {
     pub ended: u32,
     pub limit: u32,
@@ -28,7 +30,7 @@ pub struct Counts {
 
 // The counts; how many ended without a whole-number output; and the least, the greatest and the sum of the first whole-number outputs of those
 // that ended with one.
-#[derive(Drop)]
+#[derive(Clone, Copy)]
 pub struct Report {
     pub counts: Counts,
     pub without: u32,
@@ -38,7 +40,7 @@ pub struct Report {
 }
 
 // What is answered: the report; more than 65,535 sets; or the index of the first bad word.
-#[derive(Drop)]
+#[derive(Clone, Copy)]
 pub enum Reported {
     Report(Report),
     TooMany,
@@ -81,7 +83,7 @@ impl Reported {
 }
 
 // What sets are before a run begins: so many; more than are taken; or the index of the first bad word.
-#[derive(Drop)]
+#[derive(Clone, Copy)]
 pub enum Begun {
     Ready(usize),
     TooMany,
@@ -89,7 +91,7 @@ pub enum Begun {
 }
 
 // How far a report is: what is gathered, how many sets are left, and where the words of the next one begin.
-#[derive(Drop)]
+#[derive(Clone, Copy)]
 pub struct Going {
     pub report: Report,
     pub left: usize,
@@ -97,14 +99,14 @@ pub struct Going {
 }
 
 // A member's run, and how far the report is with it.
-#[derive(Drop)]
+#[derive(Clone, Copy)]
 pub struct Member {
     pub going: Going,
     pub ran: Ran,
 }
 
 // The first whole number among output entries, or that there is none.
-#[derive(Drop)]
+#[derive(Clone, Copy)]
 pub enum First {
     Is(i32),
     Not,

@@ -82,7 +82,7 @@ pub fn least(a: usize, b: usize) -> usize
 }
 
 // A place as people count: line and column from 1, and the byte at which its line begins.
-#[derive(Drop)]
+#[derive(Clone, Copy)]
 pub struct Spot {
     pub line: u64,
     pub column: u64,

@@ -9,7 +9,7 @@ use crate::Symbol;
 use crate::text::fold;
 
 // A delimiter word, or none.
-#[derive(Drop)]
+#[derive(Clone, Copy)]
 pub enum Spelled {
     Word(Symbol),
     Unknown,

@@ -1,4 +1,6 @@
 // Paper 01, "Symbols to program".
+#![tactic(auto)]
+
 ghost use Rattle.std.specs.Prelude.{◌≡◌, length, take, ◌≤◌};
 ghost use Rattle.grammar.specs.model.Text.{text};
 ghost use Rattle.grammar.specs.model.Parsing.{node_words_lem, ParseSays};

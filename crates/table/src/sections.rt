@@ -21,7 +21,7 @@ pub fn word(table: &[u16], at: usize) -> usize
 }
 
 // Where the counts of the declarations and of the nodes stand.
-#[derive(Drop)]
+#[derive(Clone, Copy)]
 pub struct Sections {
     pub declarations: usize,
     pub nodes: usize,

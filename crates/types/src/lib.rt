@@ -1,4 +1,6 @@
 // Paper 01, "Names and types": the type faults of a program.
+#![tactic(auto)]
+
 ghost use Rattle.std.specs.Prelude.{◌≡◌, ◌*◌, take};
 ghost use Rattle.types.specs.model.Passes.{typed_of, marks_of};
 
@@ -9,14 +11,14 @@ mod meanings; // what a name that means something is used as
 mod walking; // the nodes with a stack of types
 
 // A type, 0 where it has none, and whether the name is at fault.
-#[derive(Drop)]
+#[derive(Clone, Copy)]
 pub struct Judgement {
     pub sort: u16,
     pub wrong: bool,
 }
 
 // What an actual must be: an expression of a type, a variable or formal of it alone, or nothing is asked.
-#[derive(Drop)]
+#[derive(Clone, Copy)]
 pub enum Want {
     An(u16),
     Variable(u16),
@@ -26,7 +28,7 @@ pub enum Want {
 // What is known behind some nodes: how many uses and declarations there were; how many types are on the stack; how many
 // calls and bodies are open; whether left parts stand before, and the first one's type; the depth of a name that was the
 // last node, and what it means; the least fault.
-#[derive(Drop)]
+#[derive(Clone, Copy)]
 pub struct Seen {
     pub uses: usize,
     pub rows: usize,

@@ -3,6 +3,8 @@
 // instructions that a run did for its steps, and how many sources, runs and differences in capitals. Then it records each of these runs and replays it,
 // with the records that the file `replays` lists, and says how many. Last it reads and translates the pairs of schemes that the file `twos` lists, and reads
 // each accepted source behind preludes, and says how many.
+#![tactic(auto)]
+
 mod capitals; // the jobs read, translate and run, of a source in capitals
 mod lists; // the job check_list
 mod reads; // the job read

@@ -22,7 +22,7 @@ const ENTRIES: usize = 10;
 const VALUE: usize = 9;
 
 // The runs that were recorded, the replays, how many of them were listed, and the differences.
-#[derive(Drop)]
+#[derive(Clone, Copy)]
 pub struct Count {
     pub records: u32,
     pub replays: u32,

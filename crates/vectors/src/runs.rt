@@ -120,7 +120,7 @@ pub fn inputs_at(text: &[u8], from: usize, input: &mut [i32]) -> usize
 }
 
 // Whether numbers are the listed ones, and where the next one begins.
-#[derive(Drop)]
+#[derive(Clone, Copy)]
 pub struct Same {
     pub same: bool,
     pub next: usize,

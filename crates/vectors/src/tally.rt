@@ -14,7 +14,7 @@ pub fn print_count(n: u32) {
 
 // The sources, the runs, the pages, those of them that were read back and those written again, the lists and the differences so far; and of the
 // run with the most instructions for its steps, how many of each.
-#[derive(Drop)]
+#[derive(Clone, Copy)]
 pub struct Tally {
     pub sources: u32,
     pub runs: u32,
@@ -162,7 +162,7 @@ impl Tally {
 }
 
 // Of the sources as they are, and of the same sources in capitals.
-#[derive(Drop)]
+#[derive(Clone, Copy)]
 pub struct Tallies {
     pub plain: Tally,
     pub capitals: Tally,

@@ -11,7 +11,7 @@ pub fn buffer() -> [u8; 131072]
 }
 
 // A number, and where the next one begins.
-#[derive(Drop)]
+#[derive(Clone, Copy)]
 pub struct Numeral {
     pub minus: bool,
     pub value: u64,

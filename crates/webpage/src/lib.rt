@@ -1,4 +1,6 @@
 // The page with its answer on it: one HTML file of a source, with each name tied to the declaration that it means. It only prints.
+#![tactic(auto)]
+
 use answers::Verdict;
 
 mod html; // bytes as HTML shows them

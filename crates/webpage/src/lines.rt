@@ -5,7 +5,7 @@ use showing::words::say_answer;
 use symbols::text::{blanks_end, is_blank};
 
 // The look of what is drawn at the moment, whether it goes on from the line before, and the line's number.
-#[derive(Drop)]
+#[derive(Clone, Copy)]
 struct Pen {
     look: u32,
     again: bool,
