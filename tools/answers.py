@@ -43,6 +43,93 @@ def split_terms(text):
     return out
 
 
+def nested(labels, parts):
+    """Clause and rest of a path into pairs that nest to the right: 0 is the first, 1.0 the second, 1.1 the last of three."""
+    k, n = 0, len(labels)
+    parts = list(parts)
+    while k < n - 1:
+        if not parts or parts[0] not in ("0", "1"):
+            return None
+        first = parts.pop(0)
+        if first == "0":
+            return labels[k], parts
+        k += 1
+    return labels[k], parts
+
+
+def commas(text):
+    """The parts between commas at the top level of a tuple's inside."""
+    out, depth, now = [], 0, ""
+    for ch in text:
+        if ch in "([{":
+            depth += 1
+        if ch in ")]}":
+            depth -= 1
+        if ch == "," and depth == 0:
+            out.append(now)
+            now = ""
+        else:
+            now += ch
+    if now.strip():
+        out.append(now)
+    return [x.strip() for x in out]
+
+
+def last_tuple(text):
+    """Where the parentheses that end a text begin."""
+    text = text.rstrip()
+    if not text.endswith(")"):
+        return None
+    depth = 0
+    for i in range(len(text) - 1, -1, -1):
+        if text[i] in ")]}":
+            depth += 1
+        if text[i] in "([{":
+            depth -= 1
+            if depth == 0:
+                return i
+    return None
+
+
+def as_record(text, labels):
+    """An answer that ends in a tuple, as a record of the clauses with these names."""
+    at = last_tuple(text)
+    if at is None:
+        return None
+    before = text[:at].rstrip()
+    if not (before.endswith("=") or re.search(r"(?:^|\s)in$", before)):
+        return None
+    items = commas(text.rstrip()[at + 1 : -1])
+    n = len(labels)
+    while len(items) == 2 and len(items) < n or (1 < len(items) < n):
+        inner = items[-1]
+        if not (inner.startswith("(") and last_tuple(inner) == 0):
+            return None
+        more = commas(inner[1:-1])
+        if len(more) < 2:
+            return None
+        items = items[:-1] + more
+    if len(items) < n:
+        return None
+    if len(items) > n:
+        items = items[: n - 1] + ["(" + ", ".join(items[n - 1 :]) + ")"]
+    fields = "; ".join(f"{a} = {b}" for a, b in zip(labels, items))
+    return text[:at] + "record { " + fields + " }"
+
+
+def open_lets(text):
+    """A name for an earlier record of facts, as in 'let s = c.before.before in', goes: its facts are c's."""
+    while True:
+        m = re.search(r"let (\w+) = (c(?:\.before)+) in\s*", text)
+        if not m:
+            return text
+        name, rest = m.group(1), text[m.end() :]
+        if re.search(r"(?<![\w.\-])" + name + r"(?![\w.\-])", rest):
+            return text
+        rest = re.sub(r"(?<![\w.\-])" + name + r"(?=\.)", m.group(2), rest)
+        text = text[: m.start()] + rest
+
+
 def declarations(text):
     """(comment, head line, body lines) of each declaration of a file, its uses and its first comment."""
     uses, decls, head = [], [], []
@@ -104,6 +191,12 @@ class Function:
 
         def one(m):
             befores, step, rest = m.group(1).count(".before"), m.group(2), m.group(3)
+            if step == "requires":
+                own = (self.info.get("pre") or {}).get("fields") or []
+                if len(own) > 1 and all(own) and rest:
+                    to = nested(own, rest.strip(".").split("."))
+                    if to:
+                        return ".".join([var, step, to[0]] + to[1])
             if step in PLAIN:
                 return f"{var}.{step}{rest}"
             arm = self.arm(steps, step, rest)
@@ -136,10 +229,21 @@ class Function:
         m = re.match(r"\.(ensures|requires)\.(\d+)(.*)", rest)
         if m and callee:
             labels = self.labels.get(callee.split("::")[-1], {}).get(m.group(1), [])
-            k = int(m.group(2))
-            if k < len(labels) and labels[k]:
-                return f".{m.group(1)}.{labels[k]}{m.group(3)}"
+            if len(labels) > 1 and all(labels):
+                to = nested(labels, [m.group(2)] + [x for x in m.group(3).split(".") if x])
+                if to:
+                    return "." + ".".join([m.group(1), to[0]] + to[1])
         return rest
+
+    def asked_of(self, new):
+        """The names of the clauses that a goal asks, where they have names."""
+        old = next((o for o, n in self.info["needs"] if n == new), None)
+        by = self.info.get("asked") or {}
+        if old in by or new in by:
+            return by.get(old) or by.get(new) or []
+        if re.match(r"returns(-|$)", new):
+            return self.labels.get(self.folder.split("/")[-1].lstrip("+"), {}).get("ensures", [])
+        return []
 
     def turn(self, text):
         head, uses, decls = declarations(text)
@@ -271,8 +375,12 @@ class Function:
             if d is not None:
                 to[d["name"]] = new
             text_ = re.sub(r"(?<![^\s(){},;])" + NAME + r"(?![^\s(){},;])", lambda m: to.get(m.group(0), m.group(0)), text_)
+            text_ = open_lets(text_)
             if place:
                 text_ = self.turn_paths(text_, place)
+            asked = self.asked_of(new)
+            if len(asked) > 1 and all(asked):
+                text_ = as_record(text_, asked) or text_
             if re.search(r"c(?:\.before)+(?![.\w])", text_):
                 self.said.append(f"{new} passes on a whole record")
             if ".branch" in text_:
