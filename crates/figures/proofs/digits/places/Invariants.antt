@@ -1,0 +1,15 @@
+-- `figures::digits::places` meets its contract: the digits from t on are all 0.
+-- Assumes nothing.
+use mathlib.Core.Path.{◌≡◌, refl, sym, ap, ◌∙◌}
+use Prim.Native.Nat.{◌-◌, ◌≤◌, suc}
+use native.Mathlib.Omega.{arith}
+use lib.ListN.{drop}
+use Rattle.figures.specs.Digits.{value, places_to}
+use Rattle.figures.proofs.Spelling.{none_left, places_found, places_less}
+use Rattle.figures.proofs.digits.places.Given as goal
+
+abbrev pub invariant-loop-t : goal.invariant-loop-t
+invariant-loop-t l = (l.t ≤ 772) × (places_to 772 (value l.a) ≡ places_to l.t (value l.a)) × (value (drop l.t l.a) ≡ 0)
+
+abbrev pub decreases-loop-t : goal.decreases-loop-t
+decreases-loop-t l = l.t

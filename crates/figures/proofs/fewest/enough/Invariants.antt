@@ -1,0 +1,16 @@
+-- `figures::fewest::enough` meets its contract: what is left to try from p on gives what there was from 1 on.
+-- Assumes nothing.
+use mathlib.Core.Path.{◌≡◌, refl, sym, ap, ◌∙◌}
+use Prim.Native.Nat.{◌-◌, ◌≤◌, ◌*◌, ◌^◌}
+use native.Mathlib.Omega.{arith}
+use native.Mathlib.Nat.{le_antisymm}
+use Rattle.figures.specs.Digits.{value}
+use Rattle.figures.specs.Fewest.{least, least_from, between}
+use Rattle.figures.proofs.Rounding.{nearest_fits, back_fits, enough_stop, enough_on, enough_end}
+use Rattle.figures.proofs.fewest.enough.Given as goal
+
+abbrev pub invariant-loop-p : goal.invariant-loop-p
+invariant-loop-p l = (1 ≤ l.p) × (l.p ≤ 17) × (least (value l.v) (value l.low) (value l.high) l.t ≡ least_from (value l.v) (value l.low) (value l.high) l.t (17 - l.p) l.p)
+
+abbrev pub decreases-loop-p : goal.decreases-loop-p
+decreases-loop-p l = 17 - l.p

@@ -1,0 +1,24 @@
+-- `figures::writing::write_real` meets its contract: by the length of the row, the exponent's field and the sign.
+-- Assumes nothing.
+use mathlib.Core.Path.{ap}
+use native.Mathlib.Omega.{arith}
+use borrow.Author.Rules.{rules}
+use Rattle.figures.specs.Written.{decimal_text}
+use Rattle.figures.proofs.Rows.{puts_then, puts_as, row_short, row_none, row_negative, row_positive}
+use Rattle.figures.proofs.writing.write_real.Goals as goal
+
+pub returns-then-row-lt32 : goal.returns-then-row-lt32
+returns-then-row-lt32 c = row_short c.args.row.now c.args.bits c.if-row-lt32.true
+
+pub returns-then-x-eq2047 : goal.returns-then-x-eq2047
+returns-then-x-eq2047 c = row_none c.args.row.now c.args.bits c.if-x-eq2047.true
+
+pub returns-then-bits-ge9223372036854775808 : goal.returns-then-bits-ge9223372036854775808
+returns-then-bits-ge9223372036854775808 c =
+    let a = c.args in
+    row_negative a.row.now a.bits _ _ c.if-row-lt32.false c.if-x-eq2047.false c.if-bits-ge9223372036854775808.true (puts_then c.put-at.ensures (puts_as (ap decimal_text c.figures_of-d.ensures.is) c.put_decimal.ensures) (omega (arith, c.put-at.ensures.behind, c.if-row-lt32.false)))
+
+pub returns : goal.returns
+returns c =
+    let a = c.args in
+    row_positive a.row.now a.bits _ _ c.if-row-lt32.false c.if-x-eq2047.false c.if-bits-ge9223372036854775808.false (puts_as (ap decimal_text c.figures_of-d.ensures.is) c.put_decimal-2.ensures)
