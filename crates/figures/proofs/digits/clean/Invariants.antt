@@ -1,13 +1,9 @@
 -- `figures::digits::clean` meets its contract: the i lowest digits are all 0.
 -- Assumes nothing.
-use mathlib.Core.Path.{◌≡◌, refl, sym, ap, ◌∙◌}
-use Prim.Native.Nat.{◌-◌, ◌≤◌, ◌+◌, ◌*◌, ◌^◌}
-use native.Mathlib.Nat.{mul-zero, le_antisymm}
-use native.Mathlib.Omega.{arith}
-use native.Mathlib.Numerals.{add-one}
+use mathlib.Core.Path.{◌≡◌}
+use Prim.Native.Nat.{◌-◌, ◌≤◌}
 use lib.ListN.{take}
 use Rattle.figures.specs.Digits.{value}
-use Rattle.figures.proofs.Spelling.{value_more, not_clean, is_clean}
 use Rattle.figures.proofs.digits.clean.Given as goal
 
 abbrev pub invariant-loop-i : goal.invariant-loop-i

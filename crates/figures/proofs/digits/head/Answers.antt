@@ -1,11 +1,9 @@
 -- `figures::digits::head` meets its contract: h is the number without its i lowest digits.
 -- Assumes nothing.
-use mathlib.Core.Path.{◌≡◌, sym, ap, ◌∙◌}
-use Prim.Native.Nat.{◌≤◌}
+use mathlib.Core.Path.{sym, ap, ◌∙◌}
 use native.Mathlib.Nat.{le_antisymm}
 use native.Mathlib.Omega.{arith}
 use lib.ListN.{drop}
-use borrow.Author.Rules.{rules}
 use Rattle.figures.specs.Digits.{value}
 use Rattle.figures.proofs.Spelling.{none_left, value_div, head_step, head_fits}
 use Rattle.figures.proofs.digits.head.Goals as goal

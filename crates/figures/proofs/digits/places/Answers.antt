@@ -1,7 +1,7 @@
 -- `figures::digits::places` meets its contract: the digits from t on are all 0.
 -- Assumes nothing.
 use mathlib.Core.Path.{◌≡◌, refl, sym, ap, ◌∙◌}
-use Prim.Native.Nat.{◌-◌, ◌≤◌, suc}
+use Prim.Native.Nat.{◌-◌, suc}
 use native.Mathlib.Omega.{arith}
 use lib.ListN.{drop}
 use Rattle.figures.specs.Digits.{value, places_to}

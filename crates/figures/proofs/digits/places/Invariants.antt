@@ -1,11 +1,9 @@
 -- `figures::digits::places` meets its contract: the digits from t on are all 0.
 -- Assumes nothing.
-use mathlib.Core.Path.{◌≡◌, refl, sym, ap, ◌∙◌}
-use Prim.Native.Nat.{◌-◌, ◌≤◌, suc}
-use native.Mathlib.Omega.{arith}
+use mathlib.Core.Path.{◌≡◌}
+use Prim.Native.Nat.{◌≤◌}
 use lib.ListN.{drop}
 use Rattle.figures.specs.Digits.{value, places_to}
-use Rattle.figures.proofs.Spelling.{none_left, places_found, places_less}
 use Rattle.figures.proofs.digits.places.Given as goal
 
 abbrev pub invariant-loop-t : goal.invariant-loop-t

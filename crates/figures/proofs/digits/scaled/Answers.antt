@@ -5,7 +5,6 @@ use Prim.Native.Nat.{ℕ}
 use native.Mathlib.Nat.{lt_trans}
 use lib.Dec.{lit<}
 use lib.ListN.{length-replicate}
-use borrow.Author.Rules.{rules}
 use Rattle.figures.proofs.Spelling.{value_zeros, digits_zeros}
 use Rattle.figures.proofs.Sizes.{first_fits, second_fits, third_fits, third_is, more_fits, more_is}
 use Rattle.figures.proofs.digits.scaled.Goals as goal

@@ -1,12 +1,11 @@
 -- `figures::digits::times` meets its contract: what is carried stands for the digits to come, until 772 are written and nothing is carried.
 -- Assumes nothing.
 use mathlib.Core.Path.{ap, ◌∙◌, subst}
-use Prim.Native.Nat.{◌-◌, ◌≤◌, ◌*◌}
+use Prim.Native.Nat.{◌*◌}
 use native.Mathlib.Nat.{le_antisymm}
 use native.Mathlib.Omega.{arith}
 use native.Mathlib.Numerals.{add-one}
 use lib.ListN.{get_or}
-use borrow.Author.Rules.{rules}
 use Rattle.figures.proofs.Spelling.{Worked, worked_none, worked_more, worked_all, product}
 use Rattle.figures.proofs.digits.times.Goals as goal
 

@@ -1,11 +1,11 @@
 -- `figures::digits::times_power` meets its contract: after i turns the number has the factor to the power i.
 -- Assumes nothing.
-use mathlib.Core.Path.{◌≡◌, sym, ap, ◌∙◌}
-use Prim.Native.Nat.{◌-◌, ◌≤◌, ◌*◌, ◌^◌}
+use mathlib.Core.Path.{sym, ap, ◌∙◌}
+use Prim.Native.Nat.{◌*◌, ◌^◌}
 use native.Mathlib.Nat.{pow-zero, add-zero, pow-suc, mul_assoc, mul-one, le_antisymm}
 use native.Mathlib.Omega.{arith}
 use native.Mathlib.Numerals.{add-one}
-use Rattle.figures.specs.Digits.{value, Number}
+use Rattle.figures.specs.Digits.{value}
 use Rattle.figures.proofs.Spelling.{factor_fits}
 use Rattle.figures.proofs.digits.times_power.Goals as goal
 

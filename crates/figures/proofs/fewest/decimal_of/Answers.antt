@@ -3,7 +3,6 @@
 use mathlib.Core.Path.{sym, ◌∙◌, subst}
 use Prim.Native.Nat.{◌≤◌, ◌^◌}
 use native.Mathlib.Omega.{arith}
-use borrow.Author.Rules.{rules}
 use Rattle.figures.proofs.Rounding.{range_of, nearest_fits, near_most}
 use Rattle.figures.proofs.Sizes.{ready_of, decimal_is}
 use Rattle.figures.proofs.fewest.decimal_of.Goals as goal

@@ -6,7 +6,6 @@ use Prim.Native.Nat.{◌^◌}
 use native.Mathlib.Omega.{arith}
 use native.Mathlib.Nat.{le_refl, pos_of_ne-zero}
 use lib.Dec.{lit<, lit≤}
-use borrow.Author.Tests.{ltb-true, ltb-false}
 use Rattle.figures.proofs.Sizes.{zero_is, low_is, normal_is, one_is, power_is}
 use Rattle.figures.proofs.fewest.figures_of.Goals as goal
 

@@ -2,7 +2,6 @@
 -- Assumes nothing.
 use mathlib.Core.Path.{sym, ◌∙◌}
 use Prim.Native.Nat.{◌*◌, ◌^◌}
-use borrow.Author.Rules.{rules}
 use Rattle.figures.specs.Digits.{value}
 use Rattle.figures.proofs.Rounding.{between_beyond, between_before}
 use Rattle.figures.proofs.fewest.gives_back.Goals as goal

@@ -2,7 +2,6 @@
 -- Assumes nothing.
 use mathlib.Core.Path.{sym, ◌∙◌}
 use native.Mathlib.Nat.{le_antisymm}
-use borrow.Author.Rules.{rules}
 use Rattle.figures.specs.Digits.{value}
 use Rattle.figures.proofs.Rounding.{rounds_down, rounds_up, rounds_even, rounds_over}
 use Rattle.figures.proofs.fewest.nearest.Goals as goal

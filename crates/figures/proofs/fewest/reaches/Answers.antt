@@ -1,7 +1,6 @@
 -- `figures::fewest::reaches` meets its contract: by the digits above the j lowest, and where they are c by those.
 -- Assumes nothing.
 use mathlib.Core.Path.{◌∙◌}
-use borrow.Author.Rules.{rules}
 use Rattle.figures.specs.Digits.{value}
 use Rattle.figures.proofs.Rounding.{reaches_at, reaches_aside}
 use Rattle.figures.proofs.fewest.reaches.Goals as goal

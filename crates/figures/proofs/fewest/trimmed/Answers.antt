@@ -3,7 +3,6 @@
 use Prim.Native.Nat.{◌%◌}
 use native.Mathlib.Omega.{arith}
 use borrow.Author.Tests.{eq-eqb, ne_eqb}
-use borrow.Author.Rules.{rules}
 use Rattle.figures.specs.Fewest.{trimmed}
 use Rattle.figures.proofs.fewest.trimmed.Goals as goal
 

@@ -1,7 +1,7 @@
 -- `figures::writing::places_of` meets its contract: n digits are passed, and the rest has the others.
 -- Assumes nothing.
 use mathlib.Core.Path.{◌≡◌, sym, ap, ◌∙◌}
-use Prim.Native.Nat.{◌-◌, ◌≤◌, ◌+◌, ◌<◌, ◌^◌}
+use Prim.Native.Nat.{◌-◌, ◌+◌}
 use native.Mathlib.Omega.{arith}
 use native.Mathlib.Nat.{zero-add, add-zero}
 use Rattle.figures.specs.Digits.{places_to}

@@ -1,11 +1,8 @@
 -- `figures::writing::places_of` meets its contract: n digits are passed, and the rest has the others.
 -- Assumes nothing.
-use mathlib.Core.Path.{◌≡◌, sym, ap, ◌∙◌}
+use mathlib.Core.Path.{◌≡◌}
 use Prim.Native.Nat.{◌-◌, ◌≤◌, ◌+◌, ◌<◌, ◌^◌}
-use native.Mathlib.Omega.{arith}
-use native.Mathlib.Nat.{zero-add, add-zero}
 use Rattle.figures.specs.Digits.{places_to}
-use Rattle.figures.proofs.Rounding.{places_next, places_zero}
 use Rattle.figures.proofs.writing.places_of.Given as goal
 
 abbrev pub invariant-loop-rest : goal.invariant-loop-rest

@@ -1,7 +1,6 @@
 -- `figures::writing::put` meets its contract: one store.
 -- Assumes nothing.
 use native.Mathlib.Omega.{arith}
-use borrow.Author.Rules.{rules}
 use Rattle.figures.proofs.Rows.{puts_one}
 use Rattle.figures.proofs.writing.put.Goals as goal
 

@@ -3,7 +3,6 @@
 use mathlib.Core.Path.{sym, subst}
 use Prim.Native.Nat.{◌≤◌}
 use native.Mathlib.Omega.{arith}
-use borrow.Author.Rules.{rules}
 use Rattle.figures.proofs.Rounding.{places_few}
 use Rattle.figures.proofs.Rows.{puts_as, text_large, text_small, text_plain, plain_of}
 use Rattle.figures.proofs.writing.put_decimal.Goals as goal

@@ -1,7 +1,7 @@
 -- `figures::writing::put_digits` meets its contract: i digits are left to put, those of the rest.
 -- Assumes nothing.
 use native.Mathlib.Omega.{arith}
-use Rattle.figures.proofs.Rows.{Left, left_all, left_less, left_none}
+use Rattle.figures.proofs.Rows.{left_all, left_less, left_none}
 use Rattle.figures.proofs.writing.put_digits.Goals as goal
 
 pub loop-i-init : goal.loop-i-init

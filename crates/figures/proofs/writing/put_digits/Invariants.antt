@@ -1,7 +1,6 @@
 -- `figures::writing::put_digits` meets its contract: i digits are left to put, those of the rest.
 -- Assumes nothing.
-use native.Mathlib.Omega.{arith}
-use Rattle.figures.proofs.Rows.{Left, left_all, left_less, left_none}
+use Rattle.figures.proofs.Rows.{Left}
 use Rattle.figures.proofs.writing.put_digits.Given as goal
 
 abbrev pub invariant-loop-i : goal.invariant-loop-i

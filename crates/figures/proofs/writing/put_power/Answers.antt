@@ -4,7 +4,6 @@ use mathlib.Core.Path.{◌∙◌}
 use Prim.Native.Nat.{◌-◌, ◌<◌, ◌^◌}
 use native.Mathlib.Omega.{arith}
 use lib.Dec.{lit<}
-use borrow.Author.Rules.{rules}
 use Rattle.figures.proofs.Rounding.{width_few}
 use Rattle.figures.proofs.Rows.{puts_as, puts_then, power_up, power_down}
 use Rattle.figures.proofs.writing.put_power.Goals as goal

@@ -1,7 +1,6 @@
 -- `figures::writing::width` meets its contract: 0 takes a digit too.
 -- Assumes nothing.
 use mathlib.Core.Path.{◌∙◌}
-use borrow.Author.Rules.{rules}
 use Rattle.figures.proofs.Rounding.{width_zero, width_some}
 use Rattle.figures.proofs.writing.width.Goals as goal
 

@@ -2,7 +2,6 @@
 -- Assumes nothing.
 use mathlib.Core.Path.{ap}
 use native.Mathlib.Omega.{arith}
-use borrow.Author.Rules.{rules}
 use Rattle.figures.specs.Written.{decimal_text}
 use Rattle.figures.proofs.Rows.{puts_then, puts_as, row_short, row_none, row_negative, row_positive}
 use Rattle.figures.proofs.writing.write_real.Goals as goal
