@@ -208,6 +208,13 @@ class Function:
                 self.said.append(f"no step {step} before {place}")
                 return f"{var}.{step}{rest}"
             it = fits[0]
+            if it[2].startswith("known_told"):
+                # what the types say of an arm's values is of that arm's step today
+                arms = [s for s in steps if s[2].startswith("in") and s[0] < it[0]]
+                if arms:
+                    return f"{var}.{arms[0][2]}.{it[2]}-own{rest}"
+            if it[2].startswith("in") and re.match(r"\.(keys\d+|rest)\b", rest):
+                return f"{var}.{it[2]}.{it[2]}-own{rest}"
             return f"{var}.{it[2]}{self.clause(it[3], rest)}"
 
         pattern = r"(?<![^\s(){};,←])" + re.escape(var) + r"((?:\.before)*)\.(?!before)(" + NAME + r")((?:\.[^\s(){}.;,@\"«»]+)*)"
@@ -358,7 +365,8 @@ class Function:
             d, place, line, ks = done[new]
             if d is None:
                 lines = [line]
-                sign = [f"pub {new} : goal.{new}"]
+                opens = [l for l in spec[0]["lines"][1:] if l.startswith("unfolding ")]
+                sign = [f"pub {new} : goal.{new}"] + opens
             else:
                 eqs = d["lines"][1:]
                 sign = d["comment"] + [f"pub {new} : goal.{new}"]

@@ -16,6 +16,7 @@ pub fn form_of(v: Value) -> Form
 }
 
 // A whole number becomes a real exactly, a real entier(x + 0.5); a logical value becomes none.
+#[tactic(auto, unfolding(crate::specs::Values::convert))]
 pub fn convert(form: Form, v: Value) -> Outcome
     ensures { result ≡ convert_of form v }
 {

@@ -57,6 +57,7 @@ pub fn unary(op: Unary, v: Value) -> Outcome
 }
 
 // Two values as an operator takes them.
+#[tactic(auto, unfolding(crate::specs::Values::both_of))]
 pub fn paired(a: Value, b: Value) -> Both
     ensures { result ≡ both_of a b }
 {
@@ -121,6 +122,7 @@ pub fn wholes(op: Binary, x: i32, y: i32) -> Outcome
     }
 }
 
+#[tactic(auto, unfolding(crate::specs::Values::apply2, crate::specs::Values::both_of, crate::specs::Values::on_numbers, crate::specs::Values::on_truths))]
 fn reals(op: Binary, x: f64, y: f64) -> Outcome
     ensures { result ≡ apply2 op (Value.Real x) (Value.Real y) }
 {
@@ -143,6 +145,7 @@ fn reals(op: Binary, x: f64, y: f64) -> Outcome
     }
 }
 
+#[tactic(auto, unfolding(crate::specs::Values::apply2, crate::specs::Values::both_of, crate::specs::Values::on_numbers, crate::specs::Values::on_truths))]
 fn truths(op: Binary, x: bool, y: bool) -> Outcome
     ensures { result ≡ apply2 op (Value.Truth x) (Value.Truth y) }
 {
