@@ -156,6 +156,11 @@ def declarations(text):
             decls.append(now)
             pending = []
             continue
+        if re.match(r"(?:pub )?(?:module|data|record|ruleset|infix[lr]?) ", line):
+            now = {"name": line, "lines": [line], "comment": pending}
+            decls.append(now)
+            pending = []
+            continue
         if now is None:
             head.append(line)
             continue
@@ -198,6 +203,8 @@ class Function:
                     if to:
                         return ".".join([var, step, to[0]] + to[1])
             if step in PLAIN:
+                if step == "requires":
+                    return f"{var}{self.own(step, rest)}"
                 return f"{var}.{step}{rest}"
             arm = self.arm(steps, step, rest)
             if arm:
@@ -208,6 +215,10 @@ class Function:
                 self.said.append(f"no step {step} before {place}")
                 return f"{var}.{step}{rest}"
             it = fits[0]
+            for a, b in self.info["places"][it[0]][4]:
+                if rest == "." + a or rest.startswith("." + a + "."):
+                    rest = "." + b + rest[len(a) + 1 :]
+                    break
             if it[2].startswith("known_told"):
                 # what the types say of an arm's values is of that arm's step today
                 arms = [s for s in steps if s[2].startswith("in") and s[0] < it[0]]
@@ -232,10 +243,66 @@ class Function:
                         return ".".join([new, field] + more)
         return None
 
+    def label(self, callee):
+        return self.labels.get(callee) or self.labels.get(callee.split("::")[-1]) or {}
+
+    def me(self):
+        return "::".join([os.path.basename(self.crate)] + self.folder.replace("+", "").split("/"))
+
+    def own(self, step, rest):
+        labels = self.label(self.me()).get(step, [])
+        m = re.match(r"\.(\d+)(.*)", rest)
+        if m and int(m.group(1)) < len(labels) and labels[int(m.group(1))]:
+            return f".{step}.{labels[int(m.group(1))]}{m.group(2)}"
+        return f".{step}{rest}"
+
+    def by_clauses(self, new, text):
+        """An answer to what a call requires, or to what is promised, as a record where its clauses have names."""
+        m = re.match(r"(.+?)-requires(?:$|-)", new)
+        kind = "requires" if m else "ensures" if new.startswith("returns") else None
+        if not kind:
+            return text
+        if kind == "ensures":
+            names = [self.me()]
+        else:
+            called = [p[3] for p in self.info["places"] if p[3]] + list(self.info["params"])
+            names = [c for n in (m.group(1), m.group(1).split("-")[0]) for c in called if c.split("::")[-1] == n] or [m.group(1).split("-")[0]]
+        labels = self.label(names[0]).get(kind, [])
+        if len(labels) < 2 or not all(labels):
+            return text
+        lines = text.split("\n")
+        whole = "\n".join(lines)
+        at = whole.find("=")
+        head, body = whole[: at + 1], whole[at + 1 :]
+        tail = body.rstrip()
+        k = tail.rfind("\n    (") + 5 if "\n    (" in tail else len(tail) - len(tail.lstrip())
+        term = tail[k:]
+        if not (term.startswith("(") and term.endswith(")")):
+            return text
+        parts, depth, now = [], 0, ""
+        for ch in term[1:-1]:
+            if ch in "([{":
+                depth += 1
+            if ch in ")]}":
+                depth -= 1
+            if depth < 0:
+                return text
+            if ch == "," and depth == 0:
+                parts.append(now.strip())
+                now = ""
+            else:
+                now += ch
+        parts.append(now.strip())
+        if parts and parts[-1] == "tt" and len(parts) == len(labels) + 1:
+            parts.pop()
+        if len(parts) != len(labels):
+            return text
+        return head + tail[:k] + "record { " + "; ".join(f"{n} = {x}" for n, x in zip(labels, parts)) + " }"
+
     def clause(self, callee, rest):
         m = re.match(r"\.(ensures|requires)\.(\d+)(.*)", rest)
         if m and callee:
-            labels = self.labels.get(callee.split("::")[-1], {}).get(m.group(1), [])
+            labels = self.label(callee).get(m.group(1), [])
             if len(labels) > 1 and all(labels):
                 to = nested(labels, [m.group(2)] + [x for x in m.group(3).split(".") if x])
                 if to:
@@ -249,7 +316,7 @@ class Function:
         if old in by or new in by:
             return by.get(old) or by.get(new) or []
         if re.match(r"returns(-|$)", new):
-            return self.labels.get(self.folder.split("/")[-1].lstrip("+"), {}).get("ensures", [])
+            return self.label(self.me()).get("ensures", [])
         return []
 
     def turn(self, text):
@@ -259,6 +326,7 @@ class Function:
         if not spec or "tie.spec" not in "\n".join(spec[0]["lines"]):
             return None
         body = "\n".join(spec[0]["lines"][1:])
+        unfolds = [l for l in spec[0]["lines"][1:] if l.startswith("unfolding ")]
         at = body.index("tie.spec") + len("tie.spec")
         args = split_terms(body[at:])
         needs = info["needs"]
@@ -316,7 +384,13 @@ class Function:
             arg = args[first + k] if first >= 0 and first + k < len(args) else None
             if arg is None:
                 continue
-            if re.fullmatch(r"\(λ c(?: κs)?\. search rules\)", arg) or arg in ("(λ c. search)",):
+            if re.fullmatch(r"\(λ c(?: κs)?\. search rules\)", arg) and unfolds and re.match(r"returns|.*-(requires|preserved|init)", new):
+                done[new] = (None, None, f"{new} c = search rules", False)
+                continue
+            if re.fullmatch(r"\(λ c(?: κs)?\. (?:search rules|omega arith|simp c(?:\.before)*\.[^\s.]+\.is|search)\)", arg):
+                continue
+            if arg in by_name and re.fullmatch(re.escape(arg) + r" c = (?:search rules|omega arith|simp c(?:\.before)*\.[^\s.]+\.is)", "\n".join(l for l in by_name[arg]["lines"][1:] if not l.startswith("unfolding"))) and " : tie.Need-" in by_name[arg]["lines"][0] and not any(l.startswith("unfolding") for l in by_name[arg]["lines"]):
+                used.add(arg)
                 continue
             place = info["asked_at"][k][0] if k < len(info["asked_at"]) else None
             m = re.fullmatch(r"\(λ (c|_)( κs)?\. (.*)\)", arg, re.S)
@@ -365,8 +439,7 @@ class Function:
             d, place, line, ks = done[new]
             if d is None:
                 lines = [line]
-                opens = [l for l in spec[0]["lines"][1:] if l.startswith("unfolding ")]
-                sign = [f"pub {new} : goal.{new}"] + opens
+                sign = [f"pub {new} : goal.{new}"] + unfolds
             else:
                 eqs = d["lines"][1:]
                 sign = d["comment"] + [f"pub {new} : goal.{new}"]
@@ -389,13 +462,21 @@ class Function:
             asked = self.asked_of(new)
             if len(asked) > 1 and all(asked):
                 text_ = as_record(text_, asked) or text_
+            text_ = re.sub(r"not-(true|false) (?:_|\([^()]*\)|" + NAME + r"(?:\." + NAME + r")*) (" + NAME + r"(?:\." + NAME + r")*)\.\1-raw(?![\w.-])", r"\2.\1", text_)
+            text_ = re.sub(r"(?<=\.)(in_default[\w-]*)\.(rest|keys\d*)(?![\w-])", r"\1.\1-own.\2", text_)
+            text_ = re.sub(r"(?<![\w.])(c\.(in_default[\w-]*)\.\2-own\.keys\d*)(?![\w.-])", r"(opened \1)", text_)
+            if "(opened c." in text_ and "use borrow.Enum.Refused.{opened}" not in uses:
+                uses.append("use borrow.Enum.Refused.{opened}")
+            text_ = self.by_clauses(new, text_)
             if re.search(r"c(?:\.before)+(?![.\w])", text_):
                 self.said.append(f"{new} passes on a whole record")
             if ".branch" in text_:
                 self.said.append(f"{new} goes by a branch")
+            if re.fullmatch(re.escape(new) + r" (?:c|_) = (?:search rules|omega arith|simp c\.[^\s.]+\.is)", text_.strip()) and not unfolds:
+                continue
             ans_out.append(sign + text_.split("\n"))
         path = "Rattle." + os.path.basename(self.crate) + ".proofs." + self.folder.replace("/", ".")
-        uses = [u for u in uses if not re.search(r"\.Statement\.\{statement\}|\.Tie as tie", u)]
+        uses = [u for u in dict.fromkeys(uses) if not re.search(r"\.Statement\.\{statement\}|\.Tie as tie", u)]
         out = {}
         if inv_out:
             out["Invariants.antt"] = head + uses + [f"use {path}.Given as goal"] + [l for d in inv_out for l in [""] + d]
@@ -405,13 +486,18 @@ class Function:
 
 
 def labels_of(crate):
-    """The names of the clauses of each function, in their order."""
+    """The names of the clauses of each function, in their order, under its path and, where no other has it, its bare name."""
     found = {}
-    for top in [os.path.join(os.path.dirname(crate.rstrip("/")), c) for c in os.listdir(os.path.dirname(crate.rstrip("/")))]:
-        for folder, _, files in os.walk(os.path.join(top, "src")):
+    top = os.path.dirname(crate.rstrip("/"))
+    mine = os.path.basename(crate.rstrip("/"))
+    for c in [mine] + sorted(x for x in os.listdir(top) if x != mine):
+        src = os.path.join(top, c, "src")
+        for folder, _, files in os.walk(src):
             for f in files:
                 if not f.endswith(".rt"):
                     continue
+                path = os.path.relpath(os.path.join(folder, f), src)[:-3].split("/")
+                path = [c] + [x for x in path if x not in ("lib", "main", "mod")]
                 text = open(os.path.join(folder, f), encoding="utf-8").read()
                 for m in re.finditer(r"\bfn (\w+)[^;{]*?(?=\{|;|requires|ensures)", text):
                     rest = text[m.end() : m.end() + 6000]
@@ -420,6 +506,7 @@ def labels_of(crate):
                     it = {"ensures": [], "requires": []}
                     for k, label in re.findall(r"(?m)^\s*(ensures|requires)(?:\s+(\w+))?\s*\{", "\n" + clauses):
                         it[k].append(label)
+                    found.setdefault("::".join(path + [m.group(1)]), it)
                     found.setdefault(m.group(1), it)
     return found
 

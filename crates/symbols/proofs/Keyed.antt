@@ -87,10 +87,10 @@ unsized n = among (λ v. not (eqb n (length v)))
 
 module _ (l : List Delimiter) (w : List ℕ) where
   pub by_letter : (c : ℕ) → folded (get_or w 0 0) ≡ c → spelled l w ≡ spelled (opening c l) w
-  by_letter c e = search_among _ l w (λ v h. rw (e, h) refl)
+  by_letter c e = search_among (λ v. eqb c (folded (get_or v 0 0))) l w (λ v h. rw (e, h) refl)
 
   pub by_length_lem : (n : ℕ) → length w ≡ n → spelled l w ≡ spelled (sized n l) w
-  by_length_lem n e = search_among _ l w (λ v h. rw (e, h) (no_and (eqb (folded (get_or w 0 0)) (folded (get_or v 0 0)))))
+  by_length_lem n e = search_among (λ v. eqb n (length v)) l w (λ v h. rw (e, h) (no_and (eqb (folded (get_or w 0 0)) (folded (get_or v 0 0)))))
 
   pub by_other_length : (n : ℕ) → (length w ≡ n → ⊥) → spelled l w ≡ spelled (unsized n l) w
   by_other_length n h =

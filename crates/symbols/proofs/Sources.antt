@@ -133,6 +133,9 @@ ends_judged n Remark (Is s k) xs (tail q h r) = rw q.in_remark (ends_pass r)
 ends_judged n Opens (Large k) xs (tail_large h r) = ends_refuse
 ends_judged n Plain (Large k) xs (tail_large h r) = ends_refuse
 ends_judged n Remark (Large k) xs (tail_large h r) = ends_pass r
+ends_judged n Opens Nothing xs t = elim t [ ]
+ends_judged n Plain Nothing xs t = elim t [ ]
+ends_judged n Remark Nothing xs t = elim t [ ]
 
 moved_judged : (n : ℕ) (c : Context) (m : ℕ) (x y : Lexeme) (us vs : List ℕ) → Grown m x y → Moved m (judged n c x us) (judged n c y vs)
 unfolding judged
@@ -142,6 +145,21 @@ moved_judged n Remark m (Is s k) (Is s' k') us vs (grows j q) = rw q.in_remark (
 moved_judged n Opens m (Large k) (Large k') us vs (grows_large j) = moved_refuse
 moved_judged n Plain m (Large k) (Large k') us vs (grows_large j) = moved_refuse
 moved_judged n Remark m (Large k) (Large k') us vs (grows_large j) = moved_pass j
+moved_judged n Opens m (Is s k) (Large k') us vs g = elim g [ ]
+moved_judged n Opens m (Is s k) Nothing us vs g = elim g [ ]
+moved_judged n Opens m (Large k) (Is s' k') us vs g = elim g [ ]
+moved_judged n Opens m (Large k) Nothing us vs g = elim g [ ]
+moved_judged n Opens m Nothing y us vs g = elim g [ ]
+moved_judged n Plain m (Is s k) (Large k') us vs g = elim g [ ]
+moved_judged n Plain m (Is s k) Nothing us vs g = elim g [ ]
+moved_judged n Plain m (Large k) (Is s' k') us vs g = elim g [ ]
+moved_judged n Plain m (Large k) Nothing us vs g = elim g [ ]
+moved_judged n Plain m Nothing y us vs g = elim g [ ]
+moved_judged n Remark m (Is s k) (Large k') us vs g = elim g [ ]
+moved_judged n Remark m (Is s k) Nothing us vs g = elim g [ ]
+moved_judged n Remark m (Large k) (Is s' k') us vs g = elim g [ ]
+moved_judged n Remark m (Large k) Nothing us vs g = elim g [ ]
+moved_judged n Remark m Nothing y us vs g = elim g [ ]
 
 same_judged : (x n : ℕ) (c : Context) (l : Lexeme) (xs ys zs : List ℕ) → eqb x 46 ≡ false → Fits l (length xs) → Turns x xs (judged n c l xs) (judged n c l (xs ++ ys)) (judged n c l (xs ++ zs))
 unfolding judged
@@ -220,10 +238,15 @@ module _ (b : ℕ) (e : blank b ≡ true) (ys S : List ℕ) where
   after : (m p q : ℕ) (u v : Turn) (xs : List ℕ) → Moved (length xs) u v
       → what (then p u (λ c k. scan_from m c (p + 1) k (xs ++ (b ∷ ys))) (λ c k. scan_from (pred m) c (p + 1) k (xs ++ (b ∷ ys))))
       ≡ what (then q v (λ c k. scan_from m c (q + 1) k (xs ++ ys)) (λ c k. scan_from (pred m) c (q + 1) k (xs ++ ys)))
-  after m p q u v xs (moved_pass {c = c} j) = beyond m c (p + 1) (q + 1) j xs
-  after m p q u v xs (moved_keep {s = s} {c = c} j) =
-      ap (λ (w : What). record { symbols = s ∷ w.symbols; number = w.number }) (beyond (pred m) c (p + 1) (q + 1) j xs)
-  after m p q u v xs moved_refuse = refl
+  after m p q u v xs h = go xs u v h
+    where
+      go : (xs : List ℕ) (u v : Turn) → Moved (length xs) u v
+          → what (then p u (λ c k. scan_from m c (p + 1) k (xs ++ (b ∷ ys))) (λ c k. scan_from (pred m) c (p + 1) k (xs ++ (b ∷ ys))))
+          ≡ what (then q v (λ c k. scan_from m c (q + 1) k (xs ++ ys)) (λ c k. scan_from (pred m) c (q + 1) k (xs ++ ys)))
+      go xs u v (moved_pass {c = c} j) = beyond m c (p + 1) (q + 1) j xs
+      go xs u v (moved_keep {s = s} {c = c} j) =
+          ap (λ (w : What). record { symbols = s ∷ w.symbols; number = w.number }) (beyond (pred m) c (p + 1) (q + 1) j xs)
+      go xs u v moved_refuse = refl
 
   at_turn : (x : ℕ) (xs : List ℕ) → Same xs → (n p q : ℕ) → drop p S ≡ x ∷ xs → (t u v : Turn) → Turns x xs t u v
       → Open S (then p t (λ c k. scan_from n c (p + 1) k xs) (λ c k. scan_from (pred n) c (p + 1) k xs))

@@ -1,0 +1,24 @@
+-- `symbols::lexemes::digits_from` meets its contract. The value and the count so far and the digits from i on make those of the run, the value up to
+-- the cap; the bytes passed are its bytes.
+-- Assumes nothing.
+use mathlib.Core.Path.{◌≡◌, refl, sym, ap, ◌∙◌}
+use Prim.Native.Nat.{◌+◌, ◌-◌, ◌*◌, ◌≤◌}
+use native.Mathlib.Omega.{arith}
+use borrow.Author.Tests.{not-true, not-false}
+use borrow.Author.Rules.{rules}
+use lib.ListN.{length, get_or, drop}
+use mathlib.Core.Logic.{⊎_elim}
+use Rattle.symbols.specs.Names.{digit, these, reach, value_from}
+use Rattle.symbols.specs.model.Steps.{capped}
+use Rattle.symbols.proofs.Laws.{these_one, these_on, these_stop, these_end, reach_one, reach_on, reach_stop, reach_end, number_more, capped_small}
+use Rattle.symbols.proofs.Decimals.{digits_done}
+use Rattle.symbols.proofs.lexemes.digits_from.Given as goal
+
+abbrev pub invariant-loop-i : goal.invariant-loop-i
+invariant-loop-i l =
+    (l.i ≤ length l.source) × (l.from + reach digit (drop l.from l.source) ≡ l.i + reach digit (drop l.i l.source))
+    × (capped (value_from l.value (these digit (drop l.from l.source))) ≡ capped (value_from l.v (these digit (drop l.i l.source)))) × (l.v ≤ 1000000000000000)
+    × (l.count + length (these digit (drop l.from l.source)) ≡ l.n + length (these digit (drop l.i l.source))) × (l.n ≤ l.i)
+
+abbrev pub decreases-loop-i : goal.decreases-loop-i
+decreases-loop-i l = length l.source - l.i

@@ -1,0 +1,14 @@
+-- `symbols::notes::counted` meets its contract. Where room is left the symbol counts.
+-- Assumes nothing.
+use borrow.Author.Rules.{rules}
+use mathlib.Core.Path.{sym}
+use Prim.Native.Nat.{◌-◌}
+use Rattle.symbols.proofs.Laws.{counted_none, counted_some}
+use borrow.Author.Rules.{rules}
+use Rattle.symbols.proofs.notes.counted.Goals as goal
+
+pub returns-then-room-eq0 : goal.returns-then-room-eq0
+returns-then-room-eq0 c = sym (counted_none _ _ _ c.if-room-eq0.true)
+
+pub returns : goal.returns
+returns c = rw c.behind.ensures (sym (counted_some _ _ _ c.if-room-eq0.false))
