@@ -463,7 +463,6 @@ class Function:
             if len(asked) > 1 and all(asked):
                 text_ = as_record(text_, asked) or text_
             text_ = re.sub(r"not-(true|false) (?:_|\([^()]*\)|" + NAME + r"(?:\." + NAME + r")*) (" + NAME + r"(?:\." + NAME + r")*)\.\1-raw(?![\w.-])", r"\2.\1", text_)
-            text_ = re.sub(r"(?<=\.)(in_default[\w-]*)\.(rest|keys\d*)(?![\w-])", r"\1.\1-own.\2", text_)
             text_ = re.sub(r"(?<![\w.])(c\.(in_default[\w-]*)\.\2-own\.keys\d*)(?![\w.-])", r"(opened \1)", text_)
             if "(opened c." in text_ and "use borrow.Enum.Refused.{opened}" not in uses:
                 uses.append("use borrow.Enum.Refused.{opened}")
