@@ -19,7 +19,7 @@ PLAIN = {"args", "ranges", "requires", "utf8", "well_formed", "type_inv", "auto"
 
 
 def norm(name):
-    return re.sub(r"[-_]", "_", name)
+    return re.sub(r"_lem$", "", re.sub(r"[-_]", "_", name).lower())
 
 
 def split_terms(text):
@@ -202,10 +202,10 @@ class Function:
                     to = nested(own, rest.strip(".").split("."))
                     if to:
                         return ".".join([var, step, to[0]] + to[1])
-            if step in PLAIN:
+            if norm(step) in PLAIN:
                 if step == "requires":
                     return f"{var}{self.own(step, rest)}"
-                return f"{var}.{step}{rest}"
+                return f"{var}.{norm(step)}{rest}"
             arm = self.arm(steps, step, rest)
             if arm:
                 return f"{var}.{arm}"
@@ -226,7 +226,8 @@ class Function:
                     return f"{var}.{arms[0][2]}.{it[2]}-own{rest}"
             if it[2].startswith("in") and re.match(r"\.(keys\d+|rest)\b", rest):
                 return f"{var}.{it[2]}.{it[2]}-own{rest}"
-            return f"{var}.{it[2]}{self.clause(it[3], rest)}"
+            rest = re.sub(r"^\.(type-inv|auto-\d+)\b", lambda m: m.group(0).replace("-", "_"), rest)
+            return f"{var}.{it[2]}{self.clause(it[3], self.new_of(it[3], rest), it[0])}"
 
         pattern = r"(?<![^\s(){};,←])" + re.escape(var) + r"((?:\.before)*)\.(?!before)(" + NAME + r")((?:\.[^\s(){}.;,@\"«»]+)*)"
         return re.sub(pattern, one, text)
@@ -299,10 +300,21 @@ class Function:
             return text
         return head + tail[:k] + "record { " + "; ".join(f"{n} = {x}" for n, x in zip(labels, parts)) + " }"
 
-    def clause(self, callee, rest):
+    def new_of(self, callee, rest):
+        """What a call left in a place that it was lent, which goes by the parameter's name."""
+        m = re.match(r"\.new\.(\d+)(?:\.0)?((?:\..*)?)$", rest)
+        names = (self.info.get("params") or {}).get(callee)
+        if m and names and int(m.group(1)) < len(names):
+            return f".new.{names[int(m.group(1))]}{m.group(2)}"
+        return rest
+
+    def clause(self, callee, rest, place=None):
         m = re.match(r"\.(ensures|requires)\.(\d+)(.*)", rest)
         if m and callee:
             labels = self.label(callee).get(m.group(1), [])
+            known = (self.info.get("clauses") or [])
+            if m.group(1) == "ensures" and place is not None and place < len(known) and known[place] and known[place].get("fields"):
+                labels = known[place]["fields"]
             if len(labels) > 1 and all(labels):
                 to = nested(labels, [m.group(2)] + [x for x in m.group(3).split(".") if x])
                 if to:
