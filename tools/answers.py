@@ -209,7 +209,7 @@ class Function:
             arm = self.arm(steps, step, rest)
             if arm:
                 return f"{var}.{arm}"
-            fits = [s for s in steps if norm(s[1]) == norm(step)]
+            fits = [s for s in steps if norm(s[1]) == norm(step)] or [s for s in steps if norm(s[1]).lower() == norm(step).lower()]
             if not fits:
                 bare = re.sub(r"\d+$", "", norm(step))
                 self.said.append(f"no step {step} before {place}")

@@ -1,0 +1,10 @@
+-- `asking::words::list_line` meets its contract, which is that of `lay`.
+-- Assumes nothing.
+use borrow.Author.Rules.{rules}
+use Rattle.asking.proofs.words.list_line.Goals as goal
+
+pub shape_of-row : goal.shape_of-row
+shape_of-row c = c.lay.ensures.kept
+
+pub returns : goal.returns
+returns c = c.lay.ensures
