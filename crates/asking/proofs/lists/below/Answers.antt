@@ -1,8 +1,6 @@
 -- `asking::lists::below` meets its contract. The negative of a number is a word only where that is 0.
 -- Assumes nothing.
 use mathlib.Core.Path.{sym, ap, ◌∙◌}
-use borrow.Author.Tests.{not-true, not-false}
-use borrow.Author.Rules.{rules}
 use Rattle.asking.specs.Numerals.{natural_is}
 use Rattle.asking.proofs.Sending.{negated_none, negated_large, negated_some, negated_zero}
 use Rattle.asking.proofs.lists.below.Goals as goal

@@ -1,13 +1,10 @@
 -- `asking::lists::is_spelled` meets its contract. All bytes are digits exactly if those from i on are.
 -- Assumes nothing.
 use mathlib.Core.Path.{◌≡◌, refl, sym, ap, ◌∙◌}
-use Prim.Native.Nat.{ℕ, ◌-◌, ◌≤◌}
+use Prim.Native.Nat.{ℕ}
 use native.Mathlib.Omega.{arith}
 use lib.Dec.{ltb}
-use lib.ListN.{length, drop}
-use borrow.Author.Tests.{not-true, not-false}
-use borrow.Author.Rules.{rules}
-use Rattle.asking.specs.Numerals.{digits}
+use lib.ListN.{length}
 use Rattle.asking.proofs.Spelling.{digits_on, digits_off, digits_end}
 use Rattle.asking.proofs.Sending.{spelled_other, spelled_digits}
 use Rattle.asking.proofs.lists.is_spelled.Goals as goal

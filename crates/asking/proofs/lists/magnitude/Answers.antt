@@ -4,8 +4,6 @@ use mathlib.Core.Path.{sym, ap, ◌∙◌}
 use native.Mathlib.Omega.{arith}
 use mir.Syntax.{w64}
 use mir.Facts.{to_z_pos}
-use borrow.Author.Tests.{not-true, not-false}
-use borrow.Author.Rules.{rules}
 use Rattle.asking.specs.Numerals.{natural_is}
 use Rattle.asking.proofs.Sending.{counted_none, counted_large, counted_over, counted_word}
 use Rattle.asking.proofs.lists.magnitude.Goals as goal

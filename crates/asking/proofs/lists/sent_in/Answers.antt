@@ -3,7 +3,6 @@
 use mathlib.Core.Path.{sym, ◌∙◌}
 use native.Mathlib.Omega.{arith}
 use borrow.Author.Rules.{part_to_end}
-use borrow.Author.Rules.{rules}
 use Rattle.asking.proofs.Sending.{sent_empty, sent_minus, sent_plus, sent_bare}
 use Rattle.asking.proofs.lists.sent_in.Goals as goal
 

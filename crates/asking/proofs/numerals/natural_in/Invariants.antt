@@ -1,15 +1,10 @@
 -- `asking::numerals::natural_in` meets its contract. The digits passed are kept as their value: with those from i on it is the value of all.
 -- Assumes nothing.
-use mathlib.Core.Path.{◌≡◌, refl, sym, ◌∙◌}
-use Prim.Native.Nat.{◌+◌, ◌-◌, ◌*◌, ◌≤◌}
-use native.Mathlib.Omega.{arith}
-use lib.ListN.{length, get_or, drop}
-use borrow.Author.Tests.{not-true, not-false}
-use borrow.Author.Rules.{rules}
+use mathlib.Core.Path.{◌≡◌}
+use Prim.Native.Nat.{◌-◌, ◌≤◌}
+use lib.ListN.{length, drop}
 use Rattle.symbols.specs.Names.{value_from}
-use Rattle.symbols.proofs.Laws.{digit_range}
 use Rattle.asking.specs.Numerals.{digits}
-use Rattle.asking.proofs.Spelling.{digits_on, digits_off, digits_end, value_on, value_end, value_least, natural_none, natural_other, natural_large, natural_is_lem}
 use Rattle.asking.proofs.numerals.natural_in.Given as goal
 
 abbrev pub invariant-loop-i : goal.invariant-loop-i

@@ -2,7 +2,6 @@
 -- Assumes nothing.
 use mathlib.Core.Path.{sym}
 use mir.Facts.{to_z-of_z}
-use borrow.Author.Rules.{rules}
 use Rattle.asking.specs.Numerals.{negated, within}
 use Rattle.asking.proofs.Spelling.{minus_out, minus_in, minus_read, minus_fits, minus_wide}
 use Rattle.asking.proofs.numerals.negative.Goals as goal

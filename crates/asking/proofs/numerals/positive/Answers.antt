@@ -4,7 +4,6 @@ use mathlib.Core.Path.{sym}
 use native.Mathlib.Omega.{arith}
 use mir.Syntax.{w32}
 use mir.Facts.{to_z_pos}
-use borrow.Author.Rules.{rules}
 use Rattle.asking.specs.Numerals.{counted, within}
 use Rattle.asking.proofs.Spelling.{count_out, count_in_lem}
 use Rattle.asking.proofs.numerals.positive.Goals as goal

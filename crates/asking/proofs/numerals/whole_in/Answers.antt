@@ -3,7 +3,6 @@
 use mathlib.Core.Path.{sym, ap, ◌∙◌}
 use native.Mathlib.Omega.{arith}
 use borrow.Author.Rules.{part_to_end}
-use borrow.Author.Rules.{rules}
 use Rattle.asking.specs.Numerals.{natural_of}
 use Rattle.asking.proofs.Spelling.{whole_none, whole_minus, whole_plus, whole_bare}
 use Rattle.asking.proofs.numerals.whole_in.Goals as goal

@@ -1,15 +1,11 @@
 -- `asking::options::next_operand` meets its contract. What is passed is an option with its number, so the words from i on are the words.
 -- Assumes nothing.
-use mathlib.Core.Path.{◌≡◌, refl, sym, ap, ◌∙◌}
-use Prim.Native.Nat.{◌-◌, ◌≤◌, min}
+use mathlib.Core.Path.{refl, sym, ap, ◌∙◌}
 use native.Mathlib.Omega.{arith}
 use mathlib.Core.Bool.{false}
-use lib.ListN.{length}
-use borrow.Author.Tests.{not-true, not-false}
-use borrow.Author.Rules.{rules}
 use Rattle.asking.specs.Words.{part}
 use Rattle.asking.specs.Sorts.{asked_from}
-use Rattle.asking.specs.Options.{operands_in, operands_from}
+use Rattle.asking.specs.Options.{operands_in}
 use Rattle.asking.proofs.Choices.{option_long, operands_passed, operands_none, operands_first}
 use Rattle.asking.proofs.options.next_operand.Goals as goal
 

@@ -1,7 +1,6 @@
 -- `asking::sizes::number_from` meets its contract. The next word is the first that is asked; an empty one is no number.
 -- Assumes nothing.
 use mathlib.Core.Path.{◌∙◌}
-use borrow.Author.Rules.{rules}
 use Rattle.asking.proofs.Choices.{number_first}
 use Rattle.asking.proofs.sizes.number_from.Goals as goal
 

@@ -1,13 +1,10 @@
 -- `asking::sizes::option` meets its contract. Each word that is passed is another, so the option from `at` on is the option.
 -- Assumes nothing.
-use mathlib.Core.Path.{◌≡◌, refl, sym, ◌∙◌}
+use mathlib.Core.Path.{◌≡◌}
 use Prim.Native.Nat.{◌-◌}
-use native.Mathlib.Omega.{arith}
 use lib.ListN.{length}
-use borrow.Author.Rules.{rules}
 use Rattle.asking.specs.Sorts.{asked_from}
 use Rattle.asking.specs.Options.{option_of}
-use Rattle.asking.proofs.Choices.{option_none, option_here, option_later, option_nothing}
 use Rattle.asking.proofs.sizes.option.Given as goal
 
 abbrev pub invariant-loop-at : goal.invariant-loop-at

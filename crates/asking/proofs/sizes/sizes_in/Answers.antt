@@ -1,7 +1,6 @@
 -- `asking::sizes::sizes_in` meets its contract. Each arm has told what the enum holds, and the tests that it is within what there is.
 -- Assumes nothing.
 use mathlib.Core.Path.{sym}
-use borrow.Author.Rules.{rules}
 use Rattle.asking.specs.Options.{together}
 use Rattle.asking.proofs.Choices.{sizes_cells, sizes_room, sizes_are}
 use Rattle.asking.proofs.sizes.sizes_in.Goals as goal

@@ -1,7 +1,6 @@
 -- `asking::sizes::sizes_of` meets its contract. By what the callees tell of the three options.
 -- Assumes nothing.
 use mathlib.Core.Path.{◌∙◌}
-use borrow.Author.Rules.{rules}
 use Rattle.asking.specs.Options.{sizes_of}
 use Rattle.asking.proofs.sizes.sizes_of.Goals as goal
 

@@ -1,13 +1,9 @@
 -- `asking::sorts::first` meets its contract. No word that is passed is of the sort, so those from i on are those.
 -- Assumes nothing.
-use mathlib.Core.Path.{◌≡◌, refl, sym, ◌∙◌}
-use Prim.Native.Nat.{◌-◌, ◌≤◌, ◌<◌, min}
+use mathlib.Core.Path.{refl, sym, ◌∙◌}
+use Prim.Native.Nat.{◌<◌}
 use native.Mathlib.Omega.{arith}
-use lib.ListN.{length, drop}
-use Rattle.asking.specs.Words.{words_of}
-use Rattle.asking.specs.Sorts.{those}
 use Rattle.asking.proofs.Lines.{word_end, none_found, found_here, found_later}
-use borrow.Author.Rules.{rules}
 use Rattle.asking.proofs.sorts.first.Goals as goal
 
 pub loop-sort-init : goal.loop-sort-init

@@ -1,13 +1,10 @@
 -- `asking::sorts::first` meets its contract. No word that is passed is of the sort, so those from i on are those.
 -- Assumes nothing.
-use mathlib.Core.Path.{◌≡◌, refl, sym, ◌∙◌}
-use Prim.Native.Nat.{◌-◌, ◌≤◌, ◌<◌, min}
-use native.Mathlib.Omega.{arith}
+use mathlib.Core.Path.{◌≡◌}
+use Prim.Native.Nat.{◌-◌, ◌≤◌, min}
 use lib.ListN.{length, drop}
 use Rattle.asking.specs.Words.{words_of}
 use Rattle.asking.specs.Sorts.{those}
-use Rattle.asking.proofs.Lines.{word_end, none_found, found_here, found_later}
-use borrow.Author.Rules.{rules}
 use Rattle.asking.proofs.sorts.first.Given as goal
 
 abbrev pub invariant-loop-sort : goal.invariant-loop-sort

@@ -2,7 +2,6 @@
 -- Assumes nothing.
 use borrow.Author.Tests.{le-leb, lt-leb}
 use Rattle.asking.specs.Sorts.{is_capital}
-use borrow.Author.Rules.{rules}
 use Rattle.asking.proofs.sorts.is_capital.Goals as goal
 
 pub returns-then-word-lt1 : goal.returns-then-word-lt1

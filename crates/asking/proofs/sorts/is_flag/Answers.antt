@@ -2,7 +2,6 @@
 -- Assumes nothing.
 use mathlib.Core.Path.{sym, ◌∙◌}
 use Rattle.asking.specs.Sorts.{is_flag}
-use borrow.Author.Rules.{rules}
 use Rattle.asking.proofs.sorts.is_flag.Goals as goal
 
 pub returns-then-is_option : goal.returns-then-is_option

@@ -4,7 +4,6 @@ use mathlib.Core.Path.{◌≡◌, sym, ◌∙◌}
 use mathlib.Core.Bool.{true, false}
 use Rattle.asking.specs.Words.{words_of, has}
 use Rattle.asking.specs.Sorts.{is_misfit}
-use borrow.Author.Rules.{rules}
 use Rattle.asking.proofs.sorts.is_misfit.Goals as goal
 
 pub returns-then-has_word : goal.returns-then-has_word

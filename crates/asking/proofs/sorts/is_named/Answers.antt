@@ -10,7 +10,6 @@ use Rattle.symbols.specs.Names.{equal}
 use Rattle.symbols.specs.Scan.{before}
 use Rattle.symbols.proofs.Laws.{before_most, before_take}
 use Rattle.asking.specs.Sorts.{IsNamed}
-use borrow.Author.Rules.{rules}
 use Rattle.asking.proofs.sorts.is_named.Goals as goal
 
 pub slice_bounds-same_bytes-end : goal.slice_bounds-same_bytes-end

@@ -2,7 +2,6 @@
 -- Assumes nothing.
 use mathlib.Core.Bool.{not}
 use mathlib.Core.Path.{ap}
-use borrow.Author.Rules.{rules}
 use Rattle.asking.proofs.sorts.is_of.Goals as goal
 
 pub returns-in-Asked : goal.returns-in-Asked

@@ -1,7 +1,6 @@
 -- `asking::sorts::is_option` meets its contract. Each test has told whether the word is that option.
 -- Assumes nothing.
 use mathlib.Core.Path.{sym, ◌∙◌}
-use borrow.Author.Rules.{rules}
 use Rattle.asking.specs.Sorts.{is_option}
 use Rattle.asking.proofs.sorts.is_option.Goals as goal
 

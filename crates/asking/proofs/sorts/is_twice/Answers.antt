@@ -2,7 +2,6 @@
 -- Assumes nothing.
 use mathlib.Core.Path.{sym, ◌∙◌}
 use Rattle.asking.specs.Sorts.{is_twice}
-use borrow.Author.Rules.{rules}
 use Rattle.asking.proofs.sorts.is_twice.Goals as goal
 
 pub returns-then-has_word : goal.returns-then-has_word

@@ -4,7 +4,6 @@ use mathlib.Core.Bool.{not}
 use mathlib.Core.Path.{ap}
 use borrow.Author.Tests.{eq-eqb, ne_eqb, le-leb, lt-leb}
 use Rattle.asking.specs.Sorts.{looks}
-use borrow.Author.Rules.{rules}
 use Rattle.asking.proofs.sorts.looks_so.Goals as goal
 
 pub returns-then-word-lt2 : goal.returns-then-word-lt2

@@ -1,6 +1,5 @@
 -- `asking::table::ends` meets its contract. By the two tests.
 -- Assumes nothing.
-use borrow.Author.Rules.{rules}
 use Rattle.asking.proofs.table.ends.Goals as goal
 
 pub returns-then-more : goal.returns-then-more

@@ -2,18 +2,12 @@
 -- Assumes nothing.
 use mathlib.Core.Path.{◌≡◌, refl, sym, ap, ◌∙◌}
 use mathlib.Core.Bool.{Bool, ◌||◌}
-use mathlib.Core.List.{[]}
-use Prim.Native.Nat.{◌-◌, ◌<◌}
+use Prim.Native.Nat.{◌<◌}
 use native.Mathlib.Omega.{arith}
 use lib.Dec.{eqb}
-use lib.ListN.{length, drop}
 use Rattle.asking.specs.Words.{words_of}
-use Rattle.asking.specs.Sorts.{those}
-use Rattle.asking.specs.Options.{operands_from}
-use Rattle.asking.specs.Table.{names, more, matched}
-use Rattle.asking.specs.declared.sorts.Sort.TheVariants.{Capital}
+use Rattle.asking.specs.Table.{more}
 use Rattle.asking.proofs.Choices.{matched_end, matched_short, matched_on}
-use borrow.Author.Rules.{rules}
 use Rattle.asking.proofs.table.fits.Goals as goal
 
 pub loop-name-init : goal.loop-name-init
@@ -25,8 +19,12 @@ returns-then-name c =
     let l = c.loop-name in
     let n = c.first-name.ensures in
     let w = c.next_operand-w.ensures in
-    let f : c.has_word-open.result ≡ more (words_of a.row.now) = c.has_word-open.ensures in record { good = c.ends.ensures ∙ ap (λ (t : Bool). t || eqb c.next_operand-w.result.from c.next_operand-w.result.to) f
-          ∙ sym (l.invariant ∙ matched_end (more (words_of a.row.now)) _ a.line.now l.p c.next_operand-w.result w (n.none c.if-name.true)); missing = (n.ordered, n.inside); extra = (w.ordered, w.inside) }
+    let f : c.has_word-open.result ≡ more (words_of a.row.now) = c.has_word-open.ensures in record {
+      good = c.ends.ensures ∙ ap (λ (t : Bool). t || eqb c.next_operand-w.result.from c.next_operand-w.result.to) f
+          ∙ sym (l.invariant ∙ matched_end (more (words_of a.row.now)) _ a.line.now l.p c.next_operand-w.result w (n.none c.if-name.true));
+      missing = (n.ordered, n.inside);
+      extra = (w.ordered, w.inside);
+    }
 
 pub returns-then-w : goal.returns-then-w
 returns-then-w c =

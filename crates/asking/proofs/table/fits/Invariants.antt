@@ -1,19 +1,14 @@
 -- `asking::table::fits` meets its contract. A word for each name that is passed, so what is left of both decides.
 -- Assumes nothing.
-use mathlib.Core.Path.{◌≡◌, refl, sym, ap, ◌∙◌}
-use mathlib.Core.Bool.{Bool, ◌||◌}
+use mathlib.Core.Path.{◌≡◌}
 use mathlib.Core.List.{[]}
-use Prim.Native.Nat.{◌-◌, ◌<◌}
-use native.Mathlib.Omega.{arith}
-use lib.Dec.{eqb}
+use Prim.Native.Nat.{◌-◌}
 use lib.ListN.{length, drop}
 use Rattle.asking.specs.Words.{words_of}
 use Rattle.asking.specs.Sorts.{those}
 use Rattle.asking.specs.Options.{operands_from}
 use Rattle.asking.specs.Table.{names, more, matched}
 use Rattle.asking.specs.declared.sorts.Sort.TheVariants.{Capital}
-use Rattle.asking.proofs.Choices.{matched_end, matched_short, matched_on}
-use borrow.Author.Rules.{rules}
 use Rattle.asking.proofs.table.fits.Given as goal
 
 abbrev pub invariant-loop-name : goal.invariant-loop-name

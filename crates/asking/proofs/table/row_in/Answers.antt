@@ -2,7 +2,6 @@
 -- Assumes nothing.
 use mathlib.Core.Path.{sym}
 use Rattle.asking.proofs.Choices.{row_found}
-use borrow.Author.Rules.{rules}
 use Rattle.asking.proofs.table.row_in.Goals as goal
 
 pub returns : goal.returns

@@ -1,7 +1,6 @@
 -- `asking::table::row_line` meets its contract. The rows are the words of the table.
 -- Assumes nothing.
 use Rattle.asking.proofs.Choices.{row_of_table}
-use borrow.Author.Rules.{rules}
 use Rattle.asking.proofs.table.row_line.Goals as goal
 
 pub returns : goal.returns

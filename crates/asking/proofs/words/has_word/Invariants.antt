@@ -1,12 +1,9 @@
 -- `asking::words::has_word` meets its contract. Whether the words from `at` on have the text is whether all have it.
 -- Assumes nothing.
-use mathlib.Core.Path.{◌≡◌, refl, sym, ◌∙◌}
+use mathlib.Core.Path.{◌≡◌}
 use Prim.Native.Nat.{◌-◌}
-use native.Mathlib.Omega.{arith}
 use lib.ListN.{length, drop}
-use borrow.Author.Rules.{rules}
 use Rattle.asking.specs.Words.{words_of, has}
-use Rattle.asking.proofs.Lines.{has_none_lem, has_here, has_later, has_nothing}
 use Rattle.asking.proofs.words.has_word.Given as goal
 
 abbrev pub invariant-loop-at : goal.invariant-loop-at

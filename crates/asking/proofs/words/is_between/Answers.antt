@@ -1,7 +1,6 @@
 -- `asking::words::is_between` meets its contract. By what `is_blank` tells.
 -- Assumes nothing.
 use mathlib.Core.Path.{sym, ◌∙◌}
-use borrow.Author.Rules.{rules}
 use Rattle.asking.specs.Words.{separates}
 use Rattle.asking.proofs.words.is_between.Goals as goal
 

@@ -1,7 +1,6 @@
 -- `asking::words::is_word` meets its contract. The tests place the part within the line; then its bytes are compared.
 -- Assumes nothing.
 use mathlib.Core.Path.{sym, ◌∙◌}
-use borrow.Author.Rules.{rules}
 use Rattle.asking.proofs.Lines.{part_here, part_turned, part_outside}
 use Rattle.asking.proofs.words.is_word.Goals as goal
 

@@ -1,6 +1,5 @@
 -- `asking::words::laid` meets its contract. By what is asked: a list's byte, or another text's.
 -- Assumes nothing.
-use borrow.Author.Rules.{rules}
 use Rattle.asking.proofs.words.laid.Goals as goal
 
 pub returns-then-list : goal.returns-then-list

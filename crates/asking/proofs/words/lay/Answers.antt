@@ -1,12 +1,11 @@
 -- `asking::words::lay` meets its contract. The row begins with the text's first i bytes, what ends a word as zeros, and is as it was behind them.
 -- Assumes nothing.
-use mathlib.Core.Path.{◌≡◌, refl, sym, ap, ◌∙◌}
-use mathlib.Core.List.{List, ◌++◌, map}
-use Prim.Native.Nat.{ℕ, ◌+◌, ◌-◌, ◌≤◌}
+use mathlib.Core.Path.{refl, sym, ap, ◌∙◌}
+use mathlib.Core.List.{List}
+use Prim.Native.Nat.{ℕ}
 use native.Mathlib.Omega.{arith}
-use lib.ListN.{length, get_or, take, drop, set, length-set}
+use lib.ListN.{get_or, set, length-set}
 use lib.Seq.{length-take-le}
-use borrow.Author.Rules.{rules}
 use Rattle.asking.specs.Words.{laid_as}
 use Rattle.asking.proofs.Lines.{row_more}
 use Rattle.asking.proofs.words.lay.Goals as goal

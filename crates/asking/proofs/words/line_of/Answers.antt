@@ -1,6 +1,5 @@
 -- `asking::words::line_of` meets its contract, which is that of `lay`.
 -- Assumes nothing.
-use borrow.Author.Rules.{rules}
 use Rattle.asking.proofs.words.line_of.Goals as goal
 
 pub shape_of-row : goal.shape_of-row

@@ -1,7 +1,6 @@
 -- `asking::words::unblank` meets its contract. By what `is_blank` tells.
 -- Assumes nothing.
 use mathlib.Core.Path.{sym, ◌∙◌}
-use borrow.Author.Rules.{rules}
 use Rattle.asking.specs.Words.{unblanked}
 use Rattle.asking.proofs.words.unblank.Goals as goal
 

@@ -2,8 +2,6 @@
 -- Assumes nothing.
 use native.Mathlib.Omega.{arith}
 use lib.ListN.{length, drop, length-drop}
-use borrow.Author.Rules.{rules}
-use Rattle.symbols.specs.Scan.{before}
 use Rattle.symbols.proofs.Laws.{before_end}
 use Rattle.symbols.proofs.Laws.{before_most}
 use Rattle.asking.proofs.Lines.{zeros_most, zeros_end}

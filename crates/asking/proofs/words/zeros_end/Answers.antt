@@ -1,11 +1,7 @@
 -- `asking::words::zeros_end` meets its contract. The zeros from `at` on are those passed and those from i on.
 -- Assumes nothing.
-use mathlib.Core.Path.{◌≡◌, refl}
-use Prim.Native.Nat.{◌+◌, ◌-◌}
+use mathlib.Core.Path.{refl}
 use native.Mathlib.Omega.{arith}
-use borrow.Author.Rules.{rules}
-use lib.ListN.{length, drop}
-use Rattle.asking.specs.Words.{leading_zeros}
 use Rattle.asking.proofs.Lines.{zeros_on, zeros_stop, zeros_end}
 use Rattle.asking.proofs.words.zeros_end.Goals as goal
 
