@@ -164,9 +164,8 @@ pub fn write_real(bits: u64, row: &mut [u8]) -> usize
     put_decimal(row, 0, d)
 }
 
-// The same for C.
-#[unsafe(no_mangle)]
-pub extern "C" fn deed_real(bits: u64, row: &mut [u8]) -> usize
+// The same for C: `figures_c` exports it.
+pub fn deed_real(bits: u64, row: &mut [u8]) -> usize
     ensures { Row row.old row.new result bits }
 {
     write_real(bits, row)

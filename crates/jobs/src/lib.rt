@@ -28,8 +28,7 @@ use translating::schemes::translate_scheme;
 use translating::translating::translate;
 
 // Source to table: the answer's number, and its place.
-#[unsafe(no_mangle)]
-pub extern "C" fn deed_read(source: &[u8], table: &mut [u16], place: &mut usize) -> u16
+pub fn deed_read(source: &[u8], table: &mut [u16], place: &mut usize) -> u16
     ensures { Answers (λ v. Reads source.now table.old v table.new) result place.new }
 {
     let verdict = read(source, table);
@@ -38,8 +37,7 @@ pub extern "C" fn deed_read(source: &[u8], table: &mut [u16], place: &mut usize)
 }
 
 // A prelude and two schemes to the two halves of a table: the number of the first scheme's answer, and its place; the same of the second.
-#[unsafe(no_mangle)]
-pub extern "C" fn deed_read_two(
+pub fn deed_read_two(
     prelude: &[u8],
     first: &[u8],
     second: &[u8],
@@ -60,8 +58,7 @@ pub extern "C" fn deed_read_two(
 }
 
 // Source to code: the answer's number, and its place.
-#[unsafe(no_mangle)]
-pub extern "C" fn deed_translate(source: &[u8], code: &mut [u32], place: &mut usize) -> u16
+pub fn deed_translate(source: &[u8], code: &mut [u32], place: &mut usize) -> u16
     ensures { Answers (λ v. Translates source.now code.old v code.new) result place.new }
 {
     let verdict = translate(source, code);
@@ -70,8 +67,7 @@ pub extern "C" fn deed_translate(source: &[u8], code: &mut [u32], place: &mut us
 }
 
 // A prelude and a scheme to code: the answer's number, and its place.
-#[unsafe(no_mangle)]
-pub extern "C" fn deed_translate_scheme(
+pub fn deed_translate_scheme(
     prelude: &[u8],
     scheme: &[u8],
     code: &mut [u32],
@@ -85,8 +81,7 @@ pub extern "C" fn deed_translate_scheme(
 }
 
 // Source to its text in the house layout: the answer's number; its place, and how many bytes the text has.
-#[unsafe(no_mangle)]
-pub extern "C" fn deed_write(
+pub fn deed_write(
     source: &[u8],
     room: &mut [u8],
     place: &mut usize,
@@ -102,8 +97,7 @@ pub extern "C" fn deed_write(
 
 // Code to a run: the answer's number; its place, the instructions done, the numbers taken and the numbers written. A cell takes two numbers of the
 // store, an entry three of the output.
-#[unsafe(no_mangle)]
-pub extern "C" fn deed_run(
+pub fn deed_run(
     code: &[u32],
     input: &[i32],
     limit: u64,
@@ -127,8 +121,7 @@ pub extern "C" fn deed_run(
 
 // Source and list: 0 where the list is its uses; 1 where the source is refused, with the answer's number and its place; 2 where a word is wrong,
 // with its index for the place.
-#[unsafe(no_mangle)]
-pub extern "C" fn deed_check(
+pub fn deed_check(
     source: &[u8],
     list: &[i64],
     number: &mut u16,
@@ -144,8 +137,7 @@ pub extern "C" fn deed_check(
 
 // Two editions: 0 where the numbers of the uses that differ are in the room, with how many there are for the place; 1 where the first is refused, 2 where the
 // second is, with the answer's number and its place; 3 where the room is too short, with the answer's number.
-#[unsafe(no_mangle)]
-pub extern "C" fn deed_compare(
+pub fn deed_compare(
     first: &[u8],
     second: &[u8],
     room: &mut [u16],
@@ -162,8 +154,7 @@ pub extern "C" fn deed_compare(
 
 // Code and a record: 0 where a fresh run agrees; 1 where it differs, with the first entry that does for the place; 2 where a word is bad, with its
 // index; 3 where the store or the output is shorter than the record's, with the answer's number.
-#[unsafe(no_mangle)]
-pub extern "C" fn deed_replay(
+pub fn deed_replay(
     code: &[u32],
     kept: &[i32],
     store: &mut [i64],
@@ -181,8 +172,7 @@ pub extern "C" fn deed_replay(
 
 // Code and sets of input: 0 where they were run, with the figures of the report; 1 where there are more than 65,535 sets, with the answer's number; 2
 // where a word is bad, with its index for the place.
-#[unsafe(no_mangle)]
-pub extern "C" fn deed_report(
+pub fn deed_report(
     code: &[u32],
     sets: &[i32],
     limit: u64,
