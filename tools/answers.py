@@ -302,10 +302,10 @@ class Function:
 
     def new_of(self, callee, rest):
         """What a call left in a place that it was lent, which goes by the parameter's name."""
-        m = re.match(r"\.new((?:\.1)*)\.0((?:\..*)?)$", rest)
+        m = re.match(r"\.(new|auto)((?:\.1)*)\.0((?:\..*)?)$", rest)
         names = (self.info.get("params") or {}).get(callee)
-        if m and names and m.group(1).count("1") < len(names):
-            return f".new.{names[m.group(1).count('1')]}{m.group(2)}"
+        if m and names and m.group(2).count("1") < len(names):
+            return f".{m.group(1)}.{names[m.group(2).count('1')]}{m.group(3)}"
         return rest
 
     def clause(self, callee, rest, place=None):

@@ -1,0 +1,17 @@
+-- So many of the cells are unassigned already.
+use mathlib.Core.Path.{◌≡◌, refl, ap, ◌∙◌}
+use Prim.Native.Nat.{◌≤◌, ◌-◌, ◌+◌}
+use native.Mathlib.Omega.{arith}
+use lib.ListN.{length}
+use lib.IntN.{ℤ}
+use mathlib.Core.List.{List}
+use Rattle.reals.specs.declared.Cell.TheVariants.{Unset}
+use Rattle.machine.specs.model.Holding.{unassigned, room_of, put_at}
+use Rattle.machine.proofs.Stacks.{room_unassigned, length_unassigned, unassigned_more}
+use Rattle.machine.proofs.blocks.unassign.Given as goal
+
+abbrev pub invariant-loop-i : goal.invariant-loop-i
+invariant-loop-i l = (l.i ≤ l.k) × (l.store ≡ unassigned l.form l.initial.store l.c l.i) × (room_of l.store ≡ room_of l.initial.store) × (length l.store ≡ length l.initial.store)
+
+abbrev pub decreases-loop-i : goal.decreases-loop-i
+decreases-loop-i l = l.k - l.i

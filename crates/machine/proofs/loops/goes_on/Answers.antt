@@ -1,0 +1,40 @@
+-- The variable is read, and the test made.
+use mathlib.Core.Path.{sym, ap, ◌∙◌}
+use native.Mathlib.Omega.{arith}
+use Rattle.reals.specs.declared.Outcome.{Outcome}
+use Rattle.reals.specs.Values.{leaves}
+use Rattle.machine.specs.Data.{valued, picking, yea, nay, unhold}
+use Rattle.machine.specs.model.Holding.{told, trace_of, data_of, links_of}
+use Rattle.machine.proofs.Works.{read_out, read_is, turned_is, turned_bad, turned_stray}
+use Rattle.machine.proofs.Kept.{cell_in, cell_out, look_data}
+use borrow.Author.Rules.{rules}
+use Rattle.machine.proofs.loops.goes_on.Goals as goal
+
+pub returns-then-c-n : goal.returns-then-c-n
+returns-then-c-n c =
+    let args = c.args in
+    record { o_value = λ a i o. read_out _ (data_of args.n a args.store.now i o) args.q args.c (links_of args.own.now args.k) (λ v. valued args.q (λ b. picking b (nay (unhold (data_of args.n a args.store.now i o))) (yea (data_of args.n a args.store.now i o))) (leaves v args.x args.y)) (cell_out args.n a args.store.now i o args.c c.if-c-n.true); sound_t = tt }
+
+pub cell_at-requires : goal.cell_at-requires
+cell_at-requires c = omega (arith, c.if-c-n.false, c.requires.0.room)
+
+pub reading-requires : goal.reading-requires
+reading-requires c = c.requires.2
+
+pub decided-requires : goal.decided-requires
+decided-requires c = c.requires.1
+
+pub returns-in-Is : goal.returns-in-Is
+returns-in-Is c =
+    let args = c.args in
+    record { o_value = λ a i o. c.decided.ensures.o_value a args.store.now i o ∙ ap (λ (w : Outcome). told (trace_of args.n o) (valued args.q (λ b. picking b (nay (unhold (data_of args.n a args.store.now i o))) (yea (data_of args.n a args.store.now i o))) w)) c.leaves.ensures ∙ turned_is _ _ (sym c.reading.ensures ∙ c.in-Is.is) ∙ read_is _ _ args.q args.c _ _ (cell_in args.n a args.store.now i o args.c c.if-c-n.false) (look_data args.n a args.store.now i o args.c c.if-c-n.false ∙ sym c.cell_at.ensures); sound_t = c.decided.ensures.sound_t args.store.now c.requires.0 }
+
+pub returns-in-Bad : goal.returns-in-Bad
+returns-in-Bad c =
+    let args = c.args in
+    record { o_value = λ a i o. turned_bad _ _ (sym c.reading.ensures ∙ c.in-Bad.is) ∙ read_is _ _ args.q args.c _ _ (cell_in args.n a args.store.now i o args.c c.if-c-n.false) (look_data args.n a args.store.now i o args.c c.if-c-n.false ∙ sym c.cell_at.ensures); sound_t = tt }
+
+pub returns-in-Stray : goal.returns-in-Stray
+returns-in-Stray c =
+    let args = c.args in
+    record { o_value = λ a i o. turned_stray _ _ (sym c.reading.ensures ∙ c.in-Stray.is) ∙ read_is _ _ args.q args.c _ _ (cell_in args.n a args.store.now i o args.c c.if-c-n.false) (look_data args.n a args.store.now i o args.c c.if-c-n.false ∙ sym c.cell_at.ensures); sound_t = tt }

@@ -1,0 +1,18 @@
+-- The sum, or its fault.
+use mathlib.Core.Path.{subst, ◌∙◌}
+use Rattle.reals.specs.model.Stored.{FittingO}
+use Rattle.machine.proofs.Kept.{valued_fault, valued_stray, valued_is}
+use borrow.Author.Rules.{rules}
+use Rattle.machine.proofs.loops.renewed.Goals as goal
+
+pub renew-requires : goal.renew-requires
+renew-requires c = (c.requires.0, c.requires.1, c.requires.2, c.requires.3, subst FittingO c.in-Is.is c.requires.4)
+
+pub returns-in-Is : goal.returns-in-Is
+returns-in-Is c = record { o_after = λ a i o. c.renew.ensures.o_after a i o ∙ valued_is _ _ _ _ c.in-Is.is; sound_d = c.renew.ensures.sound_d }
+
+pub returns-in-Fault : goal.returns-in-Fault
+returns-in-Fault c = record { o_after = λ a i o. valued_fault _ _ _ _ c.in-Fault.is; sound_d = tt }
+
+pub returns-in-Stray : goal.returns-in-Stray
+returns-in-Stray c = record { o_after = λ a i o. valued_stray _ _ _ _ c.in-Stray.is; sound_d = tt }

@@ -1,0 +1,36 @@
+-- What the cell holds, through the formals.
+use mathlib.Core.Path.{sym, subst, ◌∙◌}
+use native.Mathlib.Omega.{arith}
+use Rattle.reals.specs.model.Stored.{FittingC}
+use Rattle.machine.proofs.Works.{load_out, load_is, turned_is, turned_bad, turned_stray}
+use Rattle.machine.proofs.Turns.{read_as, read_fits, turned_holds}
+use Rattle.machine.proofs.Stacks.{cell_fits}
+use Rattle.machine.proofs.Kept.{cell_in, cell_out, look_data}
+use borrow.Author.Rules.{rules}
+use Rattle.machine.proofs.operations.load.Goals as goal
+
+pub returns-then-c-n : goal.returns-then-c-n
+returns-then-c-n c =
+    let args = c.args in
+    record { does = λ a i o. load_out _ _ args.q args.c _ (cell_out args.n a args.store.now i o args.c c.if-c-n.true); sound_d = tt }
+
+pub cell_at-x-requires : goal.cell_at-x-requires
+cell_at-x-requires c = omega (arith, c.if-c-n.false, c.requires.0.room)
+
+pub new_cell-requires : goal.new_cell-requires
+new_cell-requires c = (c.requires.0, turned_holds c.reading.ensures c.in-Is.is (read_fits _ _ _ _ (subst FittingC (sym c.cell_at-x.ensures) (cell_fits c.args.store.now c.args.c))))
+
+pub returns-in-Is : goal.returns-in-Is
+returns-in-Is c =
+    let args = c.args in
+    record { does = λ a i o. c.new_cell.ensures.o_after a i o ∙ turned_is _ _ (sym (read_as _ _ c.reading.ensures c.form_in.ensures c.cell_at-x.ensures) ∙ c.in-Is.is) ∙ load_is _ _ args.q args.c _ (cell_in args.n a args.store.now i o args.c c.if-c-n.false) (look_data args.n a args.store.now i o args.c c.if-c-n.false); sound_d = c.new_cell.ensures.sound_d }
+
+pub returns-in-Bad : goal.returns-in-Bad
+returns-in-Bad c =
+    let args = c.args in
+    record { does = λ a i o. turned_bad _ _ (sym (read_as _ _ c.reading.ensures c.form_in.ensures c.cell_at-x.ensures) ∙ c.in-Bad.is) ∙ load_is _ _ args.q args.c _ (cell_in args.n a args.store.now i o args.c c.if-c-n.false) (look_data args.n a args.store.now i o args.c c.if-c-n.false); sound_d = tt }
+
+pub returns-in-Stray : goal.returns-in-Stray
+returns-in-Stray c =
+    let args = c.args in
+    record { does = λ a i o. turned_stray _ _ (sym (read_as _ _ c.reading.ensures c.form_in.ensures c.cell_at-x.ensures) ∙ c.in-Stray.is) ∙ load_is _ _ args.q args.c _ (cell_in args.n a args.store.now i o args.c c.if-c-n.false) (look_data args.n a args.store.now i o args.c c.if-c-n.false); sound_d = tt }

@@ -1,0 +1,43 @@
+-- The cell takes numbers, and the channel is 1.
+use mathlib.Core.Path.{refl, sym, ◌∙◌}
+use native.Mathlib.Omega.{arith}
+use Rattle.machine.specs.model.Holding.{data_of, links_of}
+use Rattle.machine.proofs.Works.{listen_out, listen_not, listen_one, listen_other, listen_stray}
+use Rattle.machine.proofs.Turns.{reach_as, reach_form}
+use Rattle.machine.proofs.Kept.{cell_in, cell_out, look_data}
+use borrow.Author.Rules.{rules}
+use Rattle.machine.proofs.ports.listen.Goals as goal
+
+pub returns-then-c-n : goal.returns-then-c-n
+returns-then-c-n c =
+    let args = c.args in
+    record { o_after = λ a o. listen_out _ (data_of args.n a args.store.now args.input.now o) args.q args.c (links_of args.own.now args.k) args.v (cell_out args.n a args.store.now args.input.now o args.c c.if-c-n.true); sound_d = tt }
+
+pub cell_at-requires : goal.cell_at-requires
+cell_at-requires c = omega (arith, c.if-c-n.false, c.requires.0.room)
+
+pub reach-requires : goal.reach-requires
+reach-requires c = c.requires.1
+
+pub take_in-requires : goal.take_in-requires
+take_in-requires c = (c.requires.0, c.if-c-n.false, c.requires.1, reach_form _ _ _ (reach_as _ c.reach.ensures refl c.cell_at.ensures c.in-Is.is))
+
+pub returns-in-Not : goal.returns-in-Not
+returns-in-Not c =
+    let args = c.args in
+    record { o_after = λ a o. listen_not _ _ args.q args.c _ args.v (cell_in args.n a args.store.now args.input.now o args.c c.if-c-n.false) (look_data args.n a args.store.now args.input.now o args.c c.if-c-n.false) (reach_as _ c.reach.ensures refl c.cell_at.ensures c.in-Not.is); sound_d = tt }
+
+pub returns-in-One : goal.returns-in-One
+returns-in-One c =
+    let args = c.args in
+    record { o_after = λ a o. c.take_in.ensures.o_after a o ∙ listen_one _ _ args.q args.c _ args.v (cell_in args.n a args.store.now args.input.now o args.c c.if-c-n.false) (look_data args.n a args.store.now args.input.now o args.c c.if-c-n.false) (reach_as _ c.reach.ensures refl c.cell_at.ensures c.in-Is.is) (sym c.line.ensures ∙ c.in-One.is); sound_d = c.take_in.ensures.sound_d }
+
+pub returns-in-Other : goal.returns-in-Other
+returns-in-Other c =
+    let args = c.args in
+    record { o_after = λ a o. listen_other _ _ args.q args.c _ args.v (cell_in args.n a args.store.now args.input.now o args.c c.if-c-n.false) (look_data args.n a args.store.now args.input.now o args.c c.if-c-n.false) (reach_as _ c.reach.ensures refl c.cell_at.ensures c.in-Is.is) (sym c.line.ensures ∙ c.in-Other.is); sound_d = tt }
+
+pub returns-in-Not-line : goal.returns-in-Not-line
+returns-in-Not-line c =
+    let args = c.args in
+    record { o_after = λ a o. listen_stray _ _ args.q args.c _ args.v (cell_in args.n a args.store.now args.input.now o args.c c.if-c-n.false) (look_data args.n a args.store.now args.input.now o args.c c.if-c-n.false) (reach_as _ c.reach.ensures refl c.cell_at.ensures c.in-Is.is) (sym c.line.ensures ∙ c.in-Not-line.is); sound_d = tt }

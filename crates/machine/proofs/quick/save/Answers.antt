@@ -1,0 +1,11 @@
+-- The number goes to a cell that is still in use, and takes whole numbers.
+use Rattle.machine.proofs.Numbers.{save_quick}
+use Rattle.machine.proofs.Works.{yes_true}
+use mathlib.Core.Path.{refl}
+use borrow.Author.Rules.{rules}
+use Rattle.machine.proofs.quick.save.Goals as goal
+
+pub returns-else-not-takes_wholes : goal.returns-else-not-takes_wholes
+returns-else-not-takes_wholes c =
+    let args = c.args in
+    save_quick args.at args.live args.n args.store.now args.own.now c.requires.0 args.v c.cell_of-c.ensures.spots c.if-c-m.false c.in-Is.is c.whole_at.ensures (c.takes_wholes.ensures (yes_true refl c.if-not-takes_wholes.false-raw)) c.put_cell.ensures

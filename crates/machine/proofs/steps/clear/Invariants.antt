@@ -1,0 +1,16 @@
+-- So many numbers are zero already.
+use mathlib.Core.Path.{◌≡◌, refl, ap, ◌∙◌}
+use mathlib.Core.List.{List, ◌++◌}
+use Prim.Native.Nat.{◌≤◌, ◌-◌, ◌<◌}
+use native.Mathlib.Omega.{arith}
+use lib.ListN.{length, drop, replicate, set, length-set}
+use lib.IntN.{ℤ, pos}
+use Rattle.machine.proofs.Limits.{fill_more, filled}
+use borrow.Author.Rules.{rules}
+use Rattle.machine.proofs.steps.clear.Given as goal
+
+abbrev pub invariant-loop-i : goal.invariant-loop-i
+invariant-loop-i l = (l.i ≤ length l.initial.store) × (length l.store ≡ length l.initial.store) × (l.store ≡ replicate l.i (pos 0) ++ drop l.i l.initial.store)
+
+abbrev pub decreases-loop-i : goal.decreases-loop-i
+decreases-loop-i l = length l.initial.store - l.i

@@ -1,0 +1,21 @@
+-- The lower half is above the first cell of the activation.
+use mathlib.Core.Path.{refl, ap, ◌∙◌}
+use native.Mathlib.Omega.{arith}
+use Rattle.machine.specs.model.Holding.{lifted, own_of}
+use Rattle.machine.specs.Data.{heighten}
+use Rattle.machine.proofs.Execs.{strayed, strayed_sound, do_stray, plain_done, did_quiet, lacks_yes, lacks_no}
+use borrow.Author.Rules.{rules}
+use Rattle.machine.proofs.steps.high_half.Goals as goal
+
+pub lacks-requires : goal.lacks-requires
+lacks-requires c = (c.requires.1.many, omega arith)
+
+pub returns-then-lacks : goal.returns-then-lacks
+returns-then-lacks c =
+    let args = c.args in
+    record { o_after = λ i o. strayed c.stray.ensures _ _ i o ∙ do_stray _ args.at _ _ _ (heighten args.v) (lacks_yes (c.lacks.ensures args.store.now i o) c.if-lacks.true); sound_g = λ o h. strayed_sound c.stray.ensures _ _ o o refl }
+
+pub returns : goal.returns
+returns c =
+    let args = c.args in
+    record { o_after = λ i o. c.lift.ensures.o_value c.heighten.new.store i o args.own.now ∙ ap (lifted _ _) (c.heighten.ensures.does (own_of args.own.now args.live) i o) ∙ plain_done _ args.at _ _ _ (heighten args.v) (lacks_no (c.lacks.ensures args.store.now i o) c.if-lacks.false) refl; sound_g = λ o h. c.lift.ensures.sound_g c.heighten.new.store o o args.own.now (did_quiet args.n c.heighten.result c.heighten.new.store o c.heighten.ensures.sound_d h) c.requires.1 }
