@@ -888,22 +888,22 @@ module _ (ps : List ℕ) (fs : List Activation) where
         → ((v : Value) (w : List Cell) → told (f v (contents w h a l)) ≡ Due (contents (Holds v ∷ w) h a l) (x (Holds v ∷ w)))
         → told (guard (leb (floor fs + 1) (length w)) (one f (contents w h a l))) ≡ Due (contents w h a l) (own 1 ∷ values 1 ∷ x w)
     unfolding newest on_value
-    takes x z f [] h a l e = lost A (leb (floor fs + 1) 0) _ (z [] _)
-    takes x z f (Unset t ∷ w) h a l e = lost A (leb (floor fs + 1) (length (Unset t ∷ w))) _ (z (Unset t ∷ w) _)
-    takes x z f (Holds v ∷ w) h a l e = guarded (leb (floor fs + 1) (length (Holds v ∷ w))) _ _ (z (Holds v ∷ w) _) (λ g. e v w ∙ sym (no_29 _))
-    takes x z f (Named m ∷ w) h a l e = lost A (leb (floor fs + 1) (length (Named m ∷ w))) _ (z (Named m ∷ w) _)
+    takes x z f [] h a l e = lost A (leb (floor fs + 1) 0) _ (z [] (contents [] h a l))
+    takes x z f (Unset t ∷ w) h a l e = lost A (leb (floor fs + 1) (length (Unset t ∷ w))) _ (z (Unset t ∷ w) (contents (Unset t ∷ w) h a l))
+    takes x z f (Holds v ∷ w) h a l e = guarded (leb (floor fs + 1) (length (Holds v ∷ w))) _ _ (z (Holds v ∷ w) (contents (Holds v ∷ w) h a l)) (λ g. e v w ∙ sym (no_29 _))
+    takes x z f (Named m ∷ w) h a l e = lost A (leb (floor fs + 1) (length (Named m ∷ w))) _ (z (Named m ∷ w) (contents (Named m ∷ w) h a l))
 
     takes_two : (x : List Demand) (z : (d : Data) → is_due limit (due ps fs d x) ≡ false) (f : Value → Value → Data → Result A) (w : List Cell) (h : List Value) (a : ℕ) (l : Lent)
         → ((v y : Value) (w : List Cell) → told (f v y (contents w h a l)) ≡ Due (contents (Holds y ∷ Holds v ∷ w) h a l) x)
         → told (guard (leb (floor fs + 2) (length w)) (two f (contents w h a l))) ≡ Due (contents w h a l) (own 2 ∷ values 2 ∷ x)
     unfolding newest on_value
-    takes_two x z f [] h a l e = lost A (leb (floor fs + 2) 0) _ (z _)
-    takes_two x z f (Unset t ∷ w) h a l e = lost A (leb (floor fs + 2) (length (Unset t ∷ w))) _ (z _)
-    takes_two x z f (Named m ∷ w) h a l e = lost A (leb (floor fs + 2) (length (Named m ∷ w))) _ (z _)
-    takes_two x z f (Holds y ∷ []) h a l e = lost A (leb (floor fs + 2) (length (Holds y ∷ []))) _ (z _)
-    takes_two x z f (Holds y ∷ Unset t ∷ w) h a l e = lost A (leb (floor fs + 2) (length (Holds y ∷ Unset t ∷ w))) _ (z _)
-    takes_two x z f (Holds y ∷ Holds v ∷ w) h a l e = guarded (leb (floor fs + 2) (length (Holds y ∷ Holds v ∷ w))) _ _ (z _) (λ g. e v y w ∙ sym (no_29 _))
-    takes_two x z f (Holds y ∷ Named m ∷ w) h a l e = lost A (leb (floor fs + 2) (length (Holds y ∷ Named m ∷ w))) _ (z _)
+    takes_two x z f [] h a l e = lost A (leb (floor fs + 2) 0) _ (z (contents [] h a l))
+    takes_two x z f (Unset t ∷ w) h a l e = lost A (leb (floor fs + 2) (length (Unset t ∷ w))) _ (z (contents (Unset t ∷ w) h a l))
+    takes_two x z f (Named m ∷ w) h a l e = lost A (leb (floor fs + 2) (length (Named m ∷ w))) _ (z (contents (Named m ∷ w) h a l))
+    takes_two x z f (Holds y ∷ []) h a l e = lost A (leb (floor fs + 2) (length (Holds y ∷ []))) _ (z (contents (Holds y ∷ []) h a l))
+    takes_two x z f (Holds y ∷ Unset t ∷ w) h a l e = lost A (leb (floor fs + 2) (length (Holds y ∷ Unset t ∷ w))) _ (z (contents (Holds y ∷ Unset t ∷ w) h a l))
+    takes_two x z f (Holds y ∷ Holds v ∷ w) h a l e = guarded (leb (floor fs + 2) (length (Holds y ∷ Holds v ∷ w))) _ _ (z (contents (Holds y ∷ Holds v ∷ w) h a l)) (λ g. e v y w ∙ sym (no_29 _))
+    takes_two x z f (Holds y ∷ Named m ∷ w) h a l e = lost A (leb (floor fs + 2) (length (Holds y ∷ Named m ∷ w))) _ (z (contents (Holds y ∷ Named m ∷ w) h a l))
 
   -- a new cell
   roomy : (g : Bool) (q : ℕ) (x : Cell) (w : List Cell) (h : List Value) (a : ℕ) (l : Lent) → told (guard g (new_cells q (x ∷ []) (contents w h a l))) ≡ given_out ((no_instruction, not g) ∷ (noCell, not (leb (length w + length h + 1) l.cells_lent)) ∷ [])
