@@ -9,36 +9,44 @@ use desk::files::load;
 use desk::misuse::see_help;
 use desk::status;
 use showing::code::show_code;
+use showing::system::System;
 use showing::words::show_answer;
 use translating::translating::translate;
 
-fn tell(name: &[u8], source: &[u8]) -> u8
+fn tell(system: &System, name: &[u8], source: &[u8]) -> u8
     ensures { CodeStatus source.now result }
 {
     let mut code = [0u32; 16384];
     let v = translate(source, &mut code);
     let ended = status::of_verdict(v);
     match v {
-        Verdict::Accepted => show_code(source, &code),
+        Verdict::Accepted => show_code(system, source, &code),
         Verdict::Refused(r) => {
-            show_answer(name, source, b": refused, ", r.answer.number, r.place.at)
+            show_answer(
+                system,
+                name,
+                source,
+                b": refused, ",
+                r.answer.number,
+                r.place.at,
+            )
         }
     }
     ended
 }
 
-pub fn obey(line: &[u8], at: usize) -> u8
+pub fn obey(system: &System, line: &[u8], at: usize) -> u8
     ensures { result ≤ nothing }
 {
     let mut room = io::large_buffer();
     let w = next_operand(line, at);
     let a = w.from;
     let b = w.to;
-    let got = load(&line[a..b], &mut room);
+    let got = load(system, &line[a..b], &mut room);
     if !got.good {
-        see_help();
+        see_help(system);
         return status::NOTHING;
     }
     let n = got.count;
-    tell(&line[a..b], &room[..n])
+    tell(system, &line[a..b], &room[..n])
 }

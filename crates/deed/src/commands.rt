@@ -13,8 +13,8 @@ use asking::table::{fits, row_line};
 use asking::words::{has_word, is_plain};
 use desk::misuse::misused;
 use desk::status;
-use libc::STDERR_FILENO;
 use paying::run;
+use showing::system::{STDERR, System};
 use showing::text::{complain, tell_typed};
 use symbols::text::same_bytes;
 
@@ -29,28 +29,28 @@ fn asks_help(line: &[u8]) -> bool
 }
 
 // Whether each option of a line is one of its command's; the first that is not is blamed.
-fn options_fit(line: &[u8], row: &[u8]) -> bool
+fn options_fit(system: &System, line: &[u8], row: &[u8]) -> bool
     ensures { result ≡ fitting row.now (words_of line.now) }
 {
     let w = first(line, 0, Sort::Misfit, row);
     let a = w.from;
     let b = w.to;
     if a < b {
-        misused(b"this command has no such option: ", &line[a..b]);
+        misused(system, b"this command has no such option: ", &line[a..b]);
         return false;
     }
     true
 }
 
 // Whether no option of a line stands twice.
-fn options_once(line: &[u8]) -> bool
+fn options_once(system: &System, line: &[u8]) -> bool
     ensures { result ≡ once (words_of line.now) }
 {
     let w = first(line, 0, Sort::Twice, b"");
     let a = w.from;
     let b = w.to;
     if a < b {
-        misused(b"this option stands twice: ", &line[a..b]);
+        misused(system, b"this option stands twice: ", &line[a..b]);
         return false;
     }
     true
@@ -70,7 +70,7 @@ fn is_clash(line: &[u8]) -> bool
 }
 
 // Whether the words behind a command's are those that it wants; the first that is missing or one too many is blamed.
-fn words_fit(line: &[u8], at: usize, row: &[u8]) -> bool
+fn words_fit(system: &System, line: &[u8], at: usize, row: &[u8]) -> bool
     ensures { result ≡ full row.now (asked_from line.now at) }
 {
     let f = fits(row, line, at);
@@ -80,21 +80,22 @@ fn words_fit(line: &[u8], at: usize, row: &[u8]) -> bool
     let a = f.missing.from;
     let b = f.missing.to;
     if a < b {
-        misused(b"a word is missing: ", &row[a..b]);
+        misused(system, b"a word is missing: ", &row[a..b]);
         return false;
     }
     let c = f.extra.from;
     let d = f.extra.to;
-    misused(b"this word is one too many: ", &line[c..d]);
+    misused(system, b"this word is one too many: ", &line[c..d]);
     false
 }
 
 // Whether the sizes that a line asks for can be had.
-fn sizes_fit(line: &[u8], at: usize) -> bool
+fn sizes_fit(system: &System, line: &[u8], at: usize) -> bool
     ensures { result ≡ sized (asked_from line.now at) }
 {
     let Asked::Are(_) = sizes_of(line, at) else {
         misused(
+            system,
             b"-l, -c and -o want a number, -c at most 8192, -o at most 196608",
             b"",
         );
@@ -104,96 +105,100 @@ fn sizes_fit(line: &[u8], at: usize) -> bool
 }
 
 // Whether a line is well asked, by the row of its command, whose word ends at `at`; if not, why is said.
-pub fn well_asked(line: &[u8], at: usize, row: &[u8]) -> bool
+pub fn well_asked(system: &System, line: &[u8], at: usize, row: &[u8]) -> bool
     ensures { result ≡ well_asked row.now (words_of line.now) (asked_from line.now at) }
 {
-    if !options_fit(line, row) {
+    if !options_fit(system, line, row) {
         return false;
     }
-    if !options_once(line) {
+    if !options_once(system, line) {
         return false;
     }
     if is_clash(line) {
-        misused(b"--plain goes with neither --list nor --values", b"");
+        misused(
+            system,
+            b"--plain goes with neither --list nor --values",
+            b"",
+        );
         return false;
     }
-    if !words_fit(line, at, row) {
+    if !words_fit(system, line, at, row) {
         return false;
     }
-    sizes_fit(line, at)
+    sizes_fit(system, line, at)
 }
 
 // The command whose word stands there, one that shows a source.
-fn shows(line: &[u8], from: usize, at: usize) -> u8
+fn shows(system: &System, line: &[u8], from: usize, at: usize) -> u8
     requires { (from ≤ at) × (at ≤ length line.now) }
     ensures { result ≤ nothing }
 {
     if same_bytes(&line[from..at], b"read") {
-        return read::obey(line, at);
+        return read::obey(system, line, at);
     }
     if same_bytes(&line[from..at], b"uses") {
-        return uses::obey(line, at);
+        return uses::obey(system, line, at);
     }
     if same_bytes(&line[from..at], b"levels") {
-        return levels::obey(line, at);
+        return levels::obey(system, line, at);
     }
     if same_bytes(&line[from..at], b"page") {
-        return page::obey(line, at);
+        return page::obey(system, line, at);
     }
     if same_bytes(&line[from..at], b"code") {
-        return code::obey(line, at);
+        return code::obey(system, line, at);
     }
-    write::obey(line, at)
+    write::obey(system, line, at)
 }
 
 // The command whose word stands there.
-fn does(line: &[u8], from: usize, at: usize) -> u8
+fn does(system: &System, line: &[u8], from: usize, at: usize) -> u8
     requires { (from ≤ at) × (at ≤ length line.now) }
     ensures { result ≤ nothing }
 {
     if same_bytes(&line[from..at], b"check") {
-        return check::obey(line, at);
+        return check::obey(system, line, at);
     }
     if same_bytes(&line[from..at], b"run") {
-        return run::obey(line, at);
+        return run::obey(system, line, at);
     }
     if same_bytes(&line[from..at], b"do") {
-        misused(b"a file of commands has no do in it", b"");
+        misused(system, b"a file of commands has no do in it", b"");
         return status::NOTHING;
     }
-    shows(line, from, at)
+    shows(system, line, from, at)
 }
 
 // What a line asks that is well asked.
-fn settle(line: &[u8], from: usize, at: usize) -> u8
+fn settle(system: &System, line: &[u8], from: usize, at: usize) -> u8
     requires { (from ≤ at) × (at ≤ length line.now) }
     ensures { Keeps (settled (part line.now from at)) result }
 {
     if same_bytes(&line[from..at], b"help") {
-        help();
+        help(system);
         return status::GOOD;
     }
-    does(line, from, at)
+    does(system, line, from, at)
 }
 
 // A word that is no command, or none at all: the commands are shown.
-fn unknown(word: &[u8]) {
+fn unknown(system: &System, word: &[u8]) {
     if word.len() == 0 {
-        complain(b"deed: a command is missing\n");
+        complain(system, b"deed: a command is missing\n");
     } else {
-        complain(b"deed: there is no such command: ");
-        tell_typed(STDERR_FILENO, word);
-        complain(b"\n");
+        complain(system, b"deed: there is no such command: ");
+        tell_typed(system, STDERR, word);
+        complain(system, b"\n");
     }
-    usage();
+    usage(system);
 }
 
 // Does what a line asks.
-pub fn obey(line: &[u8]) -> u8
+pub fn obey(system: &System, line: &[u8]) -> u8
     ensures { Keeps (decided (words_of line.now)) result }
 {
     if asks_help(line) {
-        help();
+        help(system);
         return status::GOOD;
     }
     let w = next_word(line, 0);
@@ -202,11 +207,11 @@ pub fn obey(line: &[u8]) -> u8
     let mut row = [0u8; 256];
     let n = row_line(&line[from..to], &mut row);
     if n == 0 {
-        unknown(&line[from..to]);
+        unknown(system, &line[from..to]);
         return status::NOTHING;
     }
-    if !well_asked(line, to, &row[..n]) {
+    if !well_asked(system, line, to, &row[..n]) {
         return status::NOTHING;
     }
-    settle(line, from, to)
+    settle(system, line, from, to)
 }

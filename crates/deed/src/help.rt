@@ -2,7 +2,7 @@
 // the same order.
 use asking::table::ROWS;
 use asking::words::{line_of, word_from};
-use libc::{STDERR_FILENO, STDOUT_FILENO};
+use showing::system::{STDERR, STDOUT, System};
 use showing::text::{complain, say, tell};
 
 // What each command does, a paragraph a row of the table, ended by a zero.
@@ -44,33 +44,33 @@ fn is_value(word: &[u8]) -> bool {
 }
 
 // What an option has behind it, without the = before it.
-fn tell_value(to: i32, word: &[u8]) {
+fn tell_value(system: &System, to: i32, word: &[u8]) {
     if word.len() == 0 {
         return;
     }
-    tell(to, b" ");
-    tell(to, &word[1..]);
-    tell(to, b"]");
+    tell(system, to, b" ");
+    tell(system, to, &word[1..]);
+    tell(system, to, b"]");
 }
 
 // A word of a row behind the one before it, in the brackets that show what may be left out.
-fn tell_word(to: i32, word: &[u8], next: &[u8]) {
+fn tell_word(system: &System, to: i32, word: &[u8], next: &[u8]) {
     if is_value(word) {
-        tell_value(to, word);
+        tell_value(system, to, word);
     } else if is_option(word) {
-        tell(to, b" [");
-        tell(to, word);
+        tell(system, to, b" [");
+        tell(system, to, word);
         if !is_value(next) {
-            tell(to, b"]");
+            tell(system, to, b"]");
         }
     } else {
-        tell(to, b" ");
-        tell(to, word);
+        tell(system, to, b" ");
+        tell(system, to, word);
     }
 }
 
 // The words of a row, whose line this is.
-fn tell_words(to: i32, line: &[u8]) {
+fn tell_words(system: &System, to: i32, line: &[u8]) {
     let mut at: usize = 0;
     while at < line.len() {
         let w = word_from(line, at);
@@ -82,28 +82,28 @@ fn tell_words(to: i32, line: &[u8]) {
         let v = word_from(line, b);
         let c = v.from;
         let d = v.to;
-        tell_word(to, &line[a..b], &line[c..d]);
+        tell_word(system, to, &line[a..b], &line[c..d]);
         at = b;
     }
 }
 
 // A row of the table as it is asked.
-fn tell_row(to: i32, row: &[u8]) {
+fn tell_row(system: &System, to: i32, row: &[u8]) {
     let mut line = [0u8; 256];
     let n = line_of(row, &mut line);
-    tell(to, b"  deed");
-    tell_words(to, &line[..n]);
-    tell(to, b"\n");
+    tell(system, to, b"  deed");
+    tell_words(system, to, &line[..n]);
+    tell(system, to, b"\n");
 }
 
-fn tell_paragraph(to: i32, long: bool, text: &[u8]) {
+fn tell_paragraph(system: &System, to: i32, long: bool, text: &[u8]) {
     if long {
-        tell(to, text);
+        tell(system, to, text);
     }
 }
 
 // The rows of a table; where all is to be said, each with its paragraph.
-fn tell_table(to: i32, long: bool, rows: &[u8], about: &[u8]) {
+fn tell_table(system: &System, to: i32, long: bool, rows: &[u8], about: &[u8]) {
     let mut at: usize = 0;
     let mut i: usize = 0;
     while at < rows.len() {
@@ -113,25 +113,29 @@ fn tell_table(to: i32, long: bool, rows: &[u8], about: &[u8]) {
         if a == b {
             return;
         }
-        tell_row(to, &rows[a..b]);
+        tell_row(system, to, &rows[a..b]);
         let v = word_from(about, i);
         let c = v.from;
         let d = v.to;
-        tell_paragraph(to, long, &about[c..d]);
+        tell_paragraph(system, to, long, &about[c..d]);
         at = b;
         i = d;
     }
 }
 
-pub fn usage() {
-    complain(b"usage:\n");
-    tell_table(STDERR_FILENO, false, &ROWS, &ABOUT);
+pub fn usage(system: &System) {
+    complain(system, b"usage:\n");
+    tell_table(system, STDERR, false, &ROWS, &ABOUT);
 }
 
-pub fn help() {
-    say(b"deed: reads a deed's program, written in ALGOL 60, and runs it\n\n");
-    tell_table(STDOUT_FILENO, true, &ROWS, &ABOUT);
+pub fn help(system: &System) {
     say(
+        system,
+        b"deed: reads a deed's program, written in ALGOL 60, and runs it\n\n",
+    );
+    tell_table(system, STDOUT, true, &ROWS, &ABOUT);
+    say(
+        system,
         b"
 A FILE that is read has at most 16,384 bytes, and a LIST under 65,536; - for one of them is standard input. Options
 stand anywhere, each once. Lines and columns are counted from 1, in bytes.

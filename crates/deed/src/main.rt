@@ -9,7 +9,7 @@ use desk::files::arguments;
 use desk::misuse::see_help;
 use desk::status;
 use help::help;
-use libc::STDERR_FILENO;
+use showing::system::{STDERR, System};
 use showing::taken::{all_taken, is_open};
 
 mod check; // deed check
@@ -23,32 +23,33 @@ mod read; // deed read
 mod uses; // deed uses
 mod write; // deed write
 
-fn start(line: &[u8]) -> u8 {
+fn start(system: &System, line: &[u8]) -> u8 {
     if line.len() == 0 {
-        help();
+        help(system);
         return status::GOOD;
     }
     let w = next_word(line, 0);
     let to = w.to;
     if is_word(line, w.from, to, b"do") {
-        return orders::obey(line, to);
+        return orders::obey(system, line, to);
     }
-    obey(line)
+    obey(system, line)
 }
 
-fn begin() -> u8 {
+fn begin(system: &System) -> u8 {
     let mut line = io::large_buffer();
-    let got = arguments(&mut line);
+    let got = arguments(system, &mut line);
     let n = got.count;
     if got.good {
-        return start(&line[..n]);
+        return start(system, &line[..n]);
     }
-    see_help();
+    see_help(system);
     status::NOTHING
 }
 
-fn main() {
-    let heard = is_open(STDERR_FILENO);
-    let done = begin();
-    status::leave(status::of_taken(all_taken(heard), done));
+fn main(rt: HostRuntime) {
+    let system = System::new(rt);
+    let heard = is_open(&system, STDERR);
+    let done = begin(&system);
+    status::leave(status::of_taken(all_taken(&system, heard), done));
 }

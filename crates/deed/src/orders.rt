@@ -10,7 +10,7 @@ use asking::words::{line_of, word_from};
 use desk::files::load;
 use desk::misuse::see_help;
 use desk::status;
-use libc::STDOUT_FILENO;
+use showing::system::{STDOUT, System};
 use showing::text::{complain, say, tell_typed};
 use symbols::text::find;
 
@@ -25,7 +25,7 @@ fn is_note(line: &[u8]) -> bool {
 }
 
 // One line of a file of commands.
-fn obey_text(text: &[u8]) -> u8
+fn obey_text(system: &System, text: &[u8]) -> u8
     ensures { result ≤ nothing }
 {
     let mut row = io::large_buffer();
@@ -33,55 +33,55 @@ fn obey_text(text: &[u8]) -> u8
     if is_note(&row[..n]) {
         return status::GOOD;
     }
-    say(b"> ");
-    tell_typed(STDOUT_FILENO, text);
-    say(b"\n");
-    commands::obey(&row[..n])
+    say(system, b"> ");
+    tell_typed(system, STDOUT, text);
+    say(system, b"\n");
+    commands::obey(system, &row[..n])
 }
 
 // The greatest status of the commands.
-fn obey_each(text: &[u8]) -> u8
+fn obey_each(system: &System, text: &[u8]) -> u8
     ensures { result ≤ nothing }
 {
     let mut most = status::GOOD;
     let mut at: usize = 0;
     while at < text.len() {
         let end = find(text, at, b'\n');
-        most = status::greater(most, obey_text(&text[at..end]));
+        most = status::greater(most, obey_text(system, &text[at..end]));
         at = end + 1;
     }
     most
 }
 
 // The commands of a file. One that fills the room may go on behind it, and no part of it is done.
-fn obey_file(name: &[u8]) -> u8
+fn obey_file(system: &System, name: &[u8]) -> u8
     ensures { result ≤ nothing }
 {
     let mut room = io::large_buffer();
-    let got = load(name, &mut room);
+    let got = load(system, name, &mut room);
     let n = got.count;
     if !got.good {
-        see_help();
+        see_help(system);
         return status::NOTHING;
     }
     if 65536 <= n {
-        complain(b"deed: a file of commands has under 65,536 bytes\n");
+        complain(system, b"deed: a file of commands has under 65,536 bytes\n");
         return status::NOTHING;
     }
-    obey_each(&room[..n])
+    obey_each(system, &room[..n])
 }
 
 // The file that a line names, whose command's word ends at `at`.
-pub fn obey(line: &[u8], at: usize) -> u8
+pub fn obey(system: &System, line: &[u8], at: usize) -> u8
     ensures { result ≤ nothing }
 {
     let mut row = [0u8; 256];
     let n = row_line(b"do", &mut row);
-    if !well_asked(line, at, &row[..n]) {
+    if !well_asked(system, line, at, &row[..n]) {
         return status::NOTHING;
     }
     let w = next_operand(line, at);
     let a = w.from;
     let b = w.to;
-    obey_file(&line[a..b])
+    obey_file(system, &line[a..b])
 }

@@ -8,29 +8,30 @@ use desk::files::load;
 use desk::misuse::see_help;
 use desk::status;
 use reading::reading::read;
+use showing::system::System;
 use webpage::show_page;
 
-fn tell(name: &[u8], source: &[u8]) -> u8
+fn tell(system: &System, name: &[u8], source: &[u8]) -> u8
     ensures { ReadStatus source.now result }
 {
     let mut table = [0u16; 32768];
     let v = read(source, &mut table);
-    show_page(name, source, v, &table);
+    show_page(system, name, source, v, &table);
     status::of_verdict(v)
 }
 
-pub fn obey(line: &[u8], at: usize) -> u8
+pub fn obey(system: &System, line: &[u8], at: usize) -> u8
     ensures { result ≤ nothing }
 {
     let mut room = io::large_buffer();
     let w = next_operand(line, at);
     let a = w.from;
     let b = w.to;
-    let got = load(&line[a..b], &mut room);
+    let got = load(system, &line[a..b], &mut room);
     if !got.good {
-        see_help();
+        see_help(system);
         return status::NOTHING;
     }
     let n = got.count;
-    tell(&line[a..b], &room[..n])
+    tell(system, &line[a..b], &room[..n])
 }

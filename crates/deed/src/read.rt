@@ -10,54 +10,62 @@ use desk::files::load;
 use desk::misuse::see_help;
 use desk::status;
 use reading::reading::read;
+use showing::system::System;
 use showing::text::{say, say_file, say_number};
 use showing::words::show_answer;
 
 // The answer and its place, as one line of numbers.
-fn show_plain(v: Verdict) {
-    say_number(v.answer().number as u64);
-    say(b" ");
-    say_number(v.place() as u64);
-    say(b"\n");
+fn show_plain(system: &System, v: Verdict) {
+    say_number(system, v.answer().number as u64);
+    say(system, b" ");
+    say_number(system, v.place() as u64);
+    say(system, b"\n");
 }
 
-fn show(name: &[u8], source: &[u8], v: Verdict) {
+fn show(system: &System, name: &[u8], source: &[u8], v: Verdict) {
     match v {
         Verdict::Accepted => {
-            say_file(name);
-            say(b": accepted\n");
+            say_file(system, name);
+            say(system, b": accepted\n");
         }
         Verdict::Refused(r) => {
-            show_answer(name, source, b": refused, ", r.answer.number, r.place.at)
+            show_answer(
+                system,
+                name,
+                source,
+                b": refused, ",
+                r.answer.number,
+                r.place.at,
+            )
         }
     }
 }
 
-fn tell(name: &[u8], source: &[u8], plain: bool) -> u8
+fn tell(system: &System, name: &[u8], source: &[u8], plain: bool) -> u8
     ensures { ReadStatus source.now result }
 {
     let mut table = [0u16; 32768];
     let v = read(source, &mut table);
     if plain {
-        show_plain(v);
+        show_plain(system, v);
     } else {
-        show(name, source, v);
+        show(system, name, source, v);
     }
     status::of_verdict(v)
 }
 
-pub fn obey(line: &[u8], at: usize) -> u8
+pub fn obey(system: &System, line: &[u8], at: usize) -> u8
     ensures { result ≤ nothing }
 {
     let mut room = io::large_buffer();
     let w = next_operand(line, at);
     let a = w.from;
     let b = w.to;
-    let got = load(&line[a..b], &mut room);
+    let got = load(system, &line[a..b], &mut room);
     if !got.good {
-        see_help();
+        see_help(system);
         return status::NOTHING;
     }
     let n = got.count;
-    tell(&line[a..b], &room[..n], is_plain(line))
+    tell(system, &line[a..b], &room[..n], is_plain(line))
 }

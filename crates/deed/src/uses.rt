@@ -9,8 +9,8 @@ use asking::words::{has_word, is_plain};
 use desk::files::load;
 use desk::misuse::see_help;
 use desk::status;
-use libc::{STDERR_FILENO, STDOUT_FILENO};
 use reading::reading::read;
+use showing::system::{STDERR, STDOUT, System};
 use showing::text::{say, say_number};
 use showing::uses::{say_use_words, show_section, show_uses};
 use showing::words::tell_answer;
@@ -34,19 +34,20 @@ fn way_of(line: &[u8]) -> Way {
 }
 
 // What reading found, as one line of numbers.
-fn show_plain(v: Verdict, table: &[u16]) {
-    say_number(v.answer().number as u64);
-    say(b" ");
-    say_number(v.place() as u64);
-    say_use_words(table);
-    say(b"\n");
+fn show_plain(system: &System, v: Verdict, table: &[u16]) {
+    say_number(system, v.answer().number as u64);
+    say(system, b" ");
+    say_number(system, v.place() as u64);
+    say_use_words(system, table);
+    say(system, b"\n");
 }
 
 // For people, and as a list: after a refusal standard output has nothing of it, so that what a shell hands on is a list or is empty.
-fn show(name: &[u8], source: &[u8], v: Verdict, table: &[u16], list: bool) {
-    let to = if list { STDERR_FILENO } else { STDOUT_FILENO };
+fn show(system: &System, name: &[u8], source: &[u8], v: Verdict, table: &[u16], list: bool) {
+    let to = if list { STDERR } else { STDOUT };
     match v {
         Verdict::Refused(r) => tell_answer(
+            system,
             to,
             name,
             source,
@@ -56,39 +57,39 @@ fn show(name: &[u8], source: &[u8], v: Verdict, table: &[u16], list: bool) {
         ),
         Verdict::Accepted => {
             if list {
-                show_section(table);
+                show_section(system, table);
             } else {
-                show_uses(source, table);
+                show_uses(system, source, table);
             }
         }
     }
 }
 
-fn tell(name: &[u8], source: &[u8], way: Way) -> u8
+fn tell(system: &System, name: &[u8], source: &[u8], way: Way) -> u8
     ensures { ReadStatus source.now result }
 {
     let mut table = [0u16; 32768];
     let v = read(source, &mut table);
     match way {
-        Way::Plain => show_plain(v, &table),
-        Way::List => show(name, source, v, &table, true),
-        Way::People => show(name, source, v, &table, false),
+        Way::Plain => show_plain(system, v, &table),
+        Way::List => show(system, name, source, v, &table, true),
+        Way::People => show(system, name, source, v, &table, false),
     }
     status::of_verdict(v)
 }
 
-pub fn obey(line: &[u8], at: usize) -> u8
+pub fn obey(system: &System, line: &[u8], at: usize) -> u8
     ensures { result ≤ nothing }
 {
     let mut room = io::large_buffer();
     let w = next_operand(line, at);
     let a = w.from;
     let b = w.to;
-    let got = load(&line[a..b], &mut room);
+    let got = load(system, &line[a..b], &mut room);
     if !got.good {
-        see_help();
+        see_help(system);
         return status::NOTHING;
     }
     let n = got.count;
-    tell(&line[a..b], &room[..n], way_of(line))
+    tell(system, &line[a..b], &room[..n], way_of(line))
 }

@@ -11,31 +11,35 @@ use clean::writing::write;
 use desk::files::load;
 use desk::misuse::see_help;
 use desk::status;
-use libc::STDERR_FILENO;
+use showing::system::{STDERR, System};
 use showing::text::{complain, say, say_number, tell_file};
 use showing::words::tell_answer;
 
 // The answer, its place and the length of the text, as one line of numbers; the text is to stand behind it.
-fn show_plain(w: Written) {
-    say_number(w.answer().number as u64);
-    say(b" ");
-    say_number(w.place() as u64);
-    say(b" ");
-    say_number(w.length() as u64);
-    say(b"\n");
+fn show_plain(system: &System, w: Written) {
+    say_number(system, w.answer().number as u64);
+    say(system, b" ");
+    say_number(system, w.place() as u64);
+    say(system, b" ");
+    say_number(system, w.length() as u64);
+    say(system, b"\n");
 }
 
 // Why there is no text: the words that `read` has for it. A text that is too long has no place in the source.
-fn complain_of(name: &[u8], source: &[u8], r: Refusal) {
+fn complain_of(system: &System, name: &[u8], source: &[u8], r: Refusal) {
     if r.answer.number == Answer::LONG.number {
         if source.len() <= 16384 {
-            tell_file(STDERR_FILENO, name);
-            complain(b": refused, 2: the text in the house layout is over 16,384 bytes\n");
+            tell_file(system, STDERR, name);
+            complain(
+                system,
+                b": refused, 2: the text in the house layout is over 16,384 bytes\n",
+            );
             return;
         }
     }
     tell_answer(
-        STDERR_FILENO,
+        system,
+        STDERR,
         name,
         source,
         b": refused, ",
@@ -54,7 +58,7 @@ fn of_written(w: Written) -> u8
 }
 
 // No text is longer than a source may be.
-fn tell_text(name: &[u8], source: &[u8], plain: bool) -> u8
+fn tell_text(system: &System, name: &[u8], source: &[u8], plain: bool) -> u8
     ensures { WriteStatus source.now result }
 {
     let mut room = [0u8; 16384];
@@ -62,26 +66,26 @@ fn tell_text(name: &[u8], source: &[u8], plain: bool) -> u8
     let n = w.length();
     let ended = of_written(w);
     if plain {
-        show_plain(w);
+        show_plain(system, w);
     } else if let Written::Refused(r) = w {
-        complain_of(name, source, r);
+        complain_of(system, name, source, r);
     }
-    say(&room[..n]);
+    say(system, &room[..n]);
     ended
 }
 
-pub fn obey(line: &[u8], at: usize) -> u8
+pub fn obey(system: &System, line: &[u8], at: usize) -> u8
     ensures { result ≤ nothing }
 {
     let mut room = io::large_buffer();
     let w = next_operand(line, at);
     let a = w.from;
     let b = w.to;
-    let got = load(&line[a..b], &mut room);
+    let got = load(system, &line[a..b], &mut room);
     if !got.good {
-        see_help();
+        see_help(system);
         return status::NOTHING;
     }
     let n = got.count;
-    tell_text(&line[a..b], &room[..n], is_plain(line))
+    tell_text(system, &line[a..b], &room[..n], is_plain(line))
 }

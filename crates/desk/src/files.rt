@@ -4,8 +4,10 @@ ghost use Rattle.io.specs.Counts.{IsPrefixLen};
 ghost use Rattle.symbols.specs.Text.{bytes};
 ghost use Rattle.symbols.specs.Names.{equal};
 
-use libc::{STDERR_FILENO, STDIN_FILENO};
+use showing::system::{STDERR, System};
 use showing::text::{complain, tell_file};
+use std::io::{Error, Read};
+use std::os::fd::AsRawFd;
 use symbols::text::same_bytes;
 
 // What was brought in: whether it is good, and how many bytes.
@@ -25,10 +27,10 @@ pub fn nothing() -> Loaded
 }
 
 // Says why a file cannot be had.
-fn fail(name: &[u8]) {
-    complain(b"deed: ");
-    tell_file(STDERR_FILENO, name);
-    os::fail(b"");
+fn fail(system: &System, name: &[u8], error: Error) {
+    complain(system, b"deed: ");
+    tell_file(system, STDERR, name);
+    system.fail(b"", error);
 }
 
 // The rest of a file of which the first n bytes are there.
@@ -44,16 +46,21 @@ fn rest(fd: i32, room: &mut [u8], n: usize) -> Loaded
 }
 
 // The first bytes of an open file, as many as there is room for.
-pub fn take_in(fd: i32, name: &[u8], room: &mut [u8]) -> Loaded
+pub fn take_in<R: Read + AsRawFd>(
+    system: &System,
+    from: &mut R,
+    name: &[u8],
+    room: &mut [u8],
+) -> Loaded
     ensures { IsPrefixLen result.count room.new }
 {
-    let got = libc::read(fd, room);
-    if got < 0 {
-        fail(name);
-        return nothing();
+    match from.read(room) {
+        Ok(n) => rest(from.as_raw_fd(), room, n),
+        Err(error) => {
+            fail(system, name, error);
+            nothing()
+        }
     }
-    let n = io::count(got, room);
-    rest(fd, room, n)
 }
 
 // Whether a file is standard input.
@@ -64,20 +71,19 @@ pub fn is_standard(name: &[u8]) -> bool
 }
 
 // The first bytes of a file, or of standard input, as many as there is room for.
-pub fn load(name: &[u8], room: &mut [u8]) -> Loaded
+pub fn load(system: &System, name: &[u8], room: &mut [u8]) -> Loaded
     ensures { IsPrefixLen result.count room.new }
 {
     if is_standard(name) {
-        return take_in(STDIN_FILENO, b"standard input", room);
+        return take_in(system, &mut system.input(), b"standard input", room);
     }
-    let fd = os::open_read(name);
-    if fd < 0 {
-        fail(name);
-        return nothing();
+    match system.open_read(name) {
+        Ok(mut file) => take_in(system, &mut file, name, room),
+        Err(error) => {
+            fail(system, name, error);
+            nothing()
+        }
     }
-    let got = take_in(fd, name, room);
-    libc::close(fd);
-    got
 }
 
 fn copy(from: &[u8], room: &mut [u8], at: usize)
@@ -93,16 +99,15 @@ fn copy(from: &[u8], room: &mut [u8], at: usize)
 
 // Puts argument i at a place of the line, which is zero from there on; gives the place behind its zero, or 0 where the
 // argument does not fit.
-fn put_argument(i: usize, line: &mut [u8], at: usize) -> usize
+fn put_argument(system: &System, i: usize, line: &mut [u8], at: usize) -> usize
     requires { at ≤ length line.old }
     ensures upper_bound { result ≤ length line.new }
     ensures line_len_unchanged { length line.new ≡ length line.old }
 {
     let mut space = io::buffer();
-    let n = os::arg(i, &mut space);
-    if os::errno() != 0 {
+    let Some(n) = system.argument(i, &mut space) else {
         return 0;
-    }
+    };
     if line.len() - at <= n {
         return 0;
     }
@@ -111,16 +116,16 @@ fn put_argument(i: usize, line: &mut [u8], at: usize) -> usize
 }
 
 // The arguments as a line of words.
-pub fn arguments(line: &mut [u8]) -> Loaded
+pub fn arguments(system: &System, line: &mut [u8]) -> Loaded
     ensures { IsPrefixLen result.count line.new }
 {
-    let n = os::arg_count();
+    let n = system.argument_count();
     let mut at: usize = 0;
     let mut i: usize = 1;
     while i < n {
-        at = put_argument(i, line, at);
+        at = put_argument(system, i, line, at);
         if at == 0 {
-            complain(b"deed: the arguments are too long\n");
+            complain(system, b"deed: the arguments are too long\n");
             return nothing();
         }
         i += 1;

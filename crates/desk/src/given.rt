@@ -5,17 +5,20 @@ use crate::files::{Loaded, is_standard, nothing, take_in};
 use asking::numerals::{Whole, whole_in};
 use asking::options::next_operand;
 use asking::words::{Word, has_word, line_of, word_from};
-use libc::{STDERR_FILENO, STDIN_FILENO};
+use showing::system::{STDERR, System};
 use showing::text::{complain, tell_typed};
 
-fn misspelled(text: &[u8]) {
-    complain(b"deed: this is no whole number from -2147483648 to 2147483647: ");
-    tell_typed(STDERR_FILENO, text);
-    complain(b"\n");
+fn misspelled(system: &System, text: &[u8]) {
+    complain(
+        system,
+        b"deed: this is no whole number from -2147483648 to 2147483647: ",
+    );
+    tell_typed(system, STDERR, text);
+    complain(system, b"\n");
 }
 
 // Puts the number that a text spells behind n others. In a command - is none, and stands for those of standard input.
-fn put_number(text: &[u8], command: bool, input: &mut [i32], n: usize) -> Loaded
+fn put_number(system: &System, text: &[u8], command: bool, input: &mut [i32], n: usize) -> Loaded
     ensures { length input.new ≡ length input.old }
 {
     if command && is_standard(text) {
@@ -25,11 +28,11 @@ fn put_number(text: &[u8], command: bool, input: &mut [i32], n: usize) -> Loaded
         };
     }
     let Whole::Is(x) = whole_in(text) else {
-        misspelled(text);
+        misspelled(system, text);
         return nothing();
     };
     if input.len() <= n {
-        complain(b"deed: there are too many numbers\n");
+        complain(system, b"deed: there are too many numbers\n");
         return nothing();
     }
     input[n] = x;
@@ -50,7 +53,14 @@ fn number_word(line: &[u8], at: usize, command: bool) -> Word
 }
 
 // Puts the numbers of a line, from `from` on, behind n others.
-fn put_numbers(line: &[u8], from: usize, command: bool, input: &mut [i32], n: usize) -> Loaded
+fn put_numbers(
+    system: &System,
+    line: &[u8],
+    from: usize,
+    command: bool,
+    input: &mut [i32],
+    n: usize,
+) -> Loaded
     ensures { length input.new ≡ length input.old }
 {
     let mut at = from;
@@ -62,7 +72,7 @@ fn put_numbers(line: &[u8], from: usize, command: bool, input: &mut [i32], n: us
         if a == b {
             return Loaded { good: true, count };
         }
-        let put = put_number(&line[a..b], command, input, count);
+        let put = put_number(system, &line[a..b], command, input, count);
         if !put.good {
             return put;
         }
@@ -73,31 +83,31 @@ fn put_numbers(line: &[u8], from: usize, command: bool, input: &mut [i32], n: us
 }
 
 // Puts the numbers of standard input behind n others. What fills the room may go on behind it, and none of it is taken.
-fn put_standard(input: &mut [i32], n: usize) -> Loaded
+fn put_standard(system: &System, input: &mut [i32], n: usize) -> Loaded
     ensures { length input.new ≡ length input.old }
 {
     let mut room = io::large_buffer();
     let mut row = io::large_buffer();
-    let got = take_in(STDIN_FILENO, b"standard input", &mut room);
+    let got = take_in(system, &mut system.input(), b"standard input", &mut room);
     let k = got.count;
     if !got.good {
         return got;
     }
     if 65536 <= k {
-        complain(b"deed: standard input has under 65,536 bytes\n");
+        complain(system, b"deed: standard input has under 65,536 bytes\n");
         return nothing();
     }
     let m = line_of(&room[..k], &mut row);
-    put_numbers(&row[..m], 0, false, input, n)
+    put_numbers(system, &row[..m], 0, false, input, n)
 }
 
 // Puts the numbers that a command asks for from `from` on: its own, and where it says - those of standard input.
-pub fn put_input(line: &[u8], from: usize, input: &mut [i32]) -> Loaded
+pub fn put_input(system: &System, line: &[u8], from: usize, input: &mut [i32]) -> Loaded
     ensures { length input.new ≡ length input.old }
 {
-    let put = put_numbers(line, from, true, input, 0);
+    let put = put_numbers(system, line, from, true, input, 0);
     if put.good && has_word(line, from, b"-") {
-        return put_standard(input, put.count);
+        return put_standard(system, input, put.count);
     }
     put
 }

@@ -5,6 +5,7 @@ ghost use Rattle.std.proofs.Common.{of_z};
 
 use figures::writing::write_real;
 use reals::words::long_word;
+use showing::system::System;
 use showing::text::{say, say_whole};
 
 // Number i.
@@ -22,41 +23,41 @@ fn bits_of(low: i64, high: i64) -> u64
 }
 
 // A real with the fewest digits that give it back.
-fn say_real(low: i64, high: i64) {
+fn say_real(system: &System, low: i64, high: i64) {
     let mut row = [0u8; 32];
     let n = write_real(bits_of(low, high), &mut row);
-    say(&row[..n]);
+    say(system, &row[..n]);
 }
 
 // The entry that begins at a place, on a line.
-fn show_entry(output: &[i32], at: usize)
+fn show_entry(system: &System, output: &[i32], at: usize)
     requires { at + 2 < length output.now }
 {
     let second = number_at(output, at + 1);
     if number_at(output, at) == 0 {
-        say_whole(second);
+        say_whole(system, second);
     } else {
-        say_real(second, number_at(output, at + 2));
+        say_real(system, second, number_at(output, at + 2));
     }
-    say(b"\n");
+    say(system, b"\n");
 }
 
 // The outputs, for people.
-pub fn show_entries(output: &[i32]) {
+pub fn show_entries(system: &System, output: &[i32]) {
     let n = output.len() / 3;
     let mut k: usize = 0;
     while k < n {
-        show_entry(output, 3 * k);
+        show_entry(system, output, 3 * k);
         k += 1;
     }
 }
 
 // The numbers of the output as they are, each behind a blank.
-pub fn say_numbers(output: &[i32]) {
+pub fn say_numbers(system: &System, output: &[i32]) {
     let mut i: usize = 0;
     while i < output.len() {
-        say(b" ");
-        say_whole(number_at(output, i));
+        say(system, b" ");
+        say_whole(system, number_at(output, i));
         i += 1;
     }
 }

@@ -9,57 +9,60 @@ ghost use Rattle.std.specs.Prelude.{◌≤◌};
 use asking::numerals::{Natural, natural_in};
 use asking::words::{line_of, word_from};
 use machine::Ran;
+use showing::system::System;
 use showing::text::{least, say, say_number, say_whole};
+use std::os::fd::AsRawFd;
 use symbols::text::find;
 
 // A whole number, after a blank.
-fn show_number(x: i64) {
-    say(b" ");
-    say_whole(x);
+fn show_number(system: &System, x: i64) {
+    say(system, b" ");
+    say_whole(system, x);
 }
 
-fn show_counts(r: Ran) {
+fn show_counts(system: &System, r: Ran) {
     let stop = r.stop;
-    say(b": ");
-    say_number(stop.answer().number as u64);
-    say(b" at ");
-    say_number(stop.place() as u64);
-    say(b", done ");
-    say_number(r.done);
-    say(b", taken ");
-    say_number(r.taken as u64);
-    say(b", written ");
-    say_number(r.written as u64);
+    say(system, b": ");
+    say_number(system, stop.answer().number as u64);
+    say(system, b" at ");
+    say_number(system, stop.place() as u64);
+    say(system, b", done ");
+    say_number(system, r.done);
+    say(system, b", taken ");
+    say_number(system, r.taken as u64);
+    say(system, b", written ");
+    say_number(system, r.written as u64);
 }
 
-fn show_store(store: &[i64]) {
+fn show_store(system: &System, store: &[i64]) {
     let mut i = 0;
     while i < store.len() {
-        show_number(store[i]);
+        show_number(system, store[i]);
         i += 1;
     }
 }
 
-fn show_output(output: &[i32]) {
+fn show_output(system: &System, output: &[i32]) {
     let mut i = 0;
     while i < output.len() {
-        show_number(output[i] as i64);
+        show_number(system, output[i] as i64);
         i += 1;
     }
 }
 
-fn show(label: &[u8], r: Ran, store: &[i64], output: &[i32]) {
-    say(label);
-    show_counts(r);
-    say(b"; store");
-    show_store(store);
-    say(b"; output");
-    show_output(output);
-    say(b"\n");
+fn show(system: &System, label: &[u8], r: Ran, store: &[i64], output: &[i32]) {
+    say(system, label);
+    show_counts(system, r);
+    say(system, b"; store");
+    show_store(system, store);
+    say(system, b"; output");
+    show_output(system, output);
+    say(system, b"\n");
 }
 
 // A run, and what it leaves.
 fn ran(
+    system: &System,
     label: &[u8],
     code: &[u32],
     input: &[i32],
@@ -68,16 +71,25 @@ fn ran(
     output: &mut [i32],
 ) {
     let r = machine::run(code, input, limit, store, output);
-    show(label, r, store, output);
+    show(system, label, r, store, output);
 }
 
 // One run, with so many store numbers and so much room in the output.
-fn tried(label: &[u8], code: &[u32], input: &[i32], limit: u64, numbers: usize, room: usize)
+fn tried(
+    system: &System,
+    label: &[u8],
+    code: &[u32],
+    input: &[i32],
+    limit: u64,
+    numbers: usize,
+    room: usize,
+)
     requires { (numbers ≤ 48) × (room ≤ 24) }
 {
     let mut store = [7i64; 48];
     let mut output = [9i32; 24];
     ran(
+        system,
         label,
         code,
         input,
@@ -134,7 +146,7 @@ fn word_at(words: &[u32], i: usize) -> u32 {
 }
 
 // The run of a label and the first n words.
-fn listed(label: &[u8], words: &[u32], n: usize) {
+fn listed(system: &System, label: &[u8], words: &[u32], n: usize) {
     let limit = word_at(words, 0) as u64;
     let numbers = least(word_at(words, 1) as usize, 48);
     let room = least(word_at(words, 2) as usize, 24);
@@ -146,17 +158,25 @@ fn listed(label: &[u8], words: &[u32], n: usize) {
         return;
     }
     if word_at(words, 3) == 0 {
-        tried(label, &words[4..n], &input[..0], limit, numbers, room);
+        tried(
+            system,
+            label,
+            &words[4..n],
+            &input[..0],
+            limit,
+            numbers,
+            room,
+        );
         return;
     }
     if n < 5 {
         return;
     }
-    tried(label, &words[5..n], &input, limit, numbers, room);
+    tried(system, label, &words[5..n], &input, limit, numbers, room);
 }
 
 // A line of the file. Behind its words the row has zeros.
-fn line(text: &[u8]) {
+fn line(system: &System, text: &[u8]) {
     if text.len() == 0 {
         return;
     }
@@ -171,23 +191,23 @@ fn line(text: &[u8]) {
     }
     line_of(text, &mut row);
     let n = words_into(&row, colon + 1, &mut words);
-    listed(&text[0..colon], &words, n);
+    listed(system, &text[0..colon], &words, n);
 }
 
-fn lines(text: &[u8]) {
+fn lines(system: &System, text: &[u8]) {
     let mut at: usize = 0;
     while at < text.len() {
         let end = find(text, at, b'\n');
         if text.len() < end {
             return;
         }
-        line(&text[at..end]);
+        line(system, &text[at..end]);
         at = end + 1;
     }
 }
 
 // Words past 16,384 are not read, and store numbers past 8,192 cells of two are left alone: the last two of the store are shown.
-fn far() {
+fn far(system: &System) {
     let mut code = [0u32; 16386];
     code[0] = 2;
     code[1] = 8191;
@@ -198,18 +218,20 @@ fn far() {
     let mut store = [7i64; 16385];
     let mut output: [i32; 1] = [9];
     let r = machine::run(&code, &input[..0], 10, &mut store, &mut output);
-    show(b"far", r, &store[16383..], &output);
+    show(system, b"far", r, &store[16383..], &output);
 }
 
-fn main() {
+fn main(rt: HostRuntime) {
+    let system = System::new(rt);
     let mut rows = io::large_buffer();
-    let fd = os::open_read(b"rows");
-    if fd < 0 {
-        os::fail(b"rows");
-        return;
-    }
-    let n = io::read_full(fd, &mut rows);
-    libc::close(fd);
-    lines(&rows[..n]);
-    far();
+    let file = match system.open_read(b"rows") {
+        Ok(file) => file,
+        Err(error) => {
+            system.fail(b"rows", error);
+            return;
+        }
+    };
+    let n = io::read_full(file.as_raw_fd(), &mut rows);
+    lines(&system, &rows[..n]);
+    far(&system);
 }

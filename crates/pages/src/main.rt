@@ -5,7 +5,9 @@
 ghost use Rattle.std.specs.Prelude.{◌+◌, ◌<◌, ◌≤◌, length};
 
 use grammar::Parsed;
+use showing::system::System;
 use showing::text::{say, say_name, say_nth, say_number};
+use std::os::fd::AsRawFd;
 use symbols::kinds::{decode, unpack};
 use symbols::scanning::scan;
 use symbols::{Scanned, Symbol};
@@ -15,22 +17,23 @@ use syntax::parse;
 const ROW: usize = 36;
 
 // A number with a point: its digits as one whole number, over ten to the power of how many stand behind the point.
-fn say_decimal(word: u64) {
+fn say_decimal(system: &System, word: u64) {
     let u = unpack(word);
-    say_number(u.digits);
-    say(b" / 10^");
-    say_number(u.behind as u64);
+    say_number(system, u.digits);
+    say(system, b" / 10^");
+    say_number(system, u.behind as u64);
 }
 
 // A symbol's text: a name's letters stand in the source, a number's value beside its kind, and the others here, a line a kind.
-fn say_symbol(source: &[u8], kind: u8, value: u64, at: usize) {
+fn say_symbol(system: &System, source: &[u8], kind: u8, value: u64, at: usize) {
     match decode(kind, value) {
-        Symbol::Name => say_name(source, at),
-        Symbol::Number(v) => say_number(v),
-        Symbol::Decimal(w) => say_decimal(w),
-        Symbol::Real => say(b"'real'"),
-        Symbol::Slash => say(b"/"),
+        Symbol::Name => say_name(system, source, at),
+        Symbol::Number(v) => say_number(system, v),
+        Symbol::Decimal(w) => say_decimal(system, w),
+        Symbol::Real => say(system, b"'real'"),
+        Symbol::Slash => say(system, b"/"),
         _ => say_nth(
+            system,
             b"'begin'
 'end'
 'if'
@@ -74,14 +77,15 @@ fn say_symbol(source: &[u8], kind: u8, value: u64, at: usize) {
     }
 }
 
-fn show_symbol(source: &[u8], kind: u8, value: u64, at: usize) {
-    say_number(at as u64);
-    say(b" ");
-    say_symbol(source, kind, value, at);
-    say(b"\n");
+fn show_symbol(system: &System, source: &[u8], kind: u8, value: u64, at: usize) {
+    say_number(system, at as u64);
+    say(system, b" ");
+    say_symbol(system, source, kind, value, at);
+    say(system, b"\n");
 }
 
 fn show_symbols(
+    system: &System,
     source: &[u8],
     n: usize,
     kinds: &[u8; 2048],
@@ -91,7 +95,7 @@ fn show_symbols(
     let mut i = 0;
     while i < n {
         if i < 2048 {
-            show_symbol(source, kinds[i], values[i], places[i]);
+            show_symbol(system, source, kinds[i], values[i], places[i]);
         }
         i += 1;
     }
@@ -104,11 +108,11 @@ pub struct Told {
     pub number: usize,
 }
 
-fn refused(answer: u16, place: usize) -> Told {
-    say_number(answer as u64);
-    say(b" at ");
-    say_number(place as u64);
-    say(b"\n");
+fn refused(system: &System, answer: u16, place: usize) -> Told {
+    say_number(system, answer as u64);
+    say(system, b" at ");
+    say_number(system, place as u64);
+    say(system, b"\n");
     Told {
         answer,
         number: place,
@@ -126,41 +130,51 @@ fn place_of(source: &[u8], places: &[usize; 2048], n: usize, k: usize) -> usize 
 }
 
 // Whether the symbols are a program.
-fn judge(source: &[u8], n: usize, kinds: &[u8; 2048], places: &[usize; 2048]) -> Told {
+fn judge(
+    system: &System,
+    source: &[u8],
+    n: usize,
+    kinds: &[u8; 2048],
+    places: &[usize; 2048],
+) -> Told {
     let mut nodes = [0u16; 32768];
     match parse(kinds, n, &mut nodes) {
         Parsed::Read { next: _, used: _ } => {
-            say(b"a program\n");
+            say(system, b"a program\n");
             Told {
                 answer: 0,
                 number: n,
             }
         }
-        Parsed::Refused { answer, at } => refused(answer.number, place_of(source, places, n, at)),
+        Parsed::Refused { answer, at } => refused(
+            system,
+            answer.number,
+            place_of(source, places, n, at),
+        ),
     }
 }
 
 // Reads a source and shows what it finds, the symbols only where `shown` says so. A source over 16,384 bytes is 2.
-fn tell(source: &[u8], shown: bool) -> Told {
+fn tell(system: &System, source: &[u8], shown: bool) -> Told {
     if 16384 < source.len() {
-        return refused(2, 16384);
+        return refused(system, 2, 16384);
     }
     let mut kinds = [0u8; 2048];
     let mut places = [0usize; 2048];
     let mut values = [0u64; 2048];
     match scan(source, 2048, &mut kinds, &mut places, &mut values) {
         Scanned::Read(n) => {
-            say_number(n as u64);
-            say(b" symbols\n");
+            say_number(system, n as u64);
+            say(system, b" symbols\n");
             if shown {
-                show_symbols(source, n, &kinds, &places, &values);
+                show_symbols(system, source, n, &kinds, &places, &values);
             }
-            judge(source, n, &kinds, &places)
+            judge(system, source, n, &kinds, &places)
         }
         Scanned::Refused(r) => {
             let a = r.answer.number;
             let p = r.place.at;
-            refused(a, p)
+            refused(system, a, p)
         }
     }
 }
@@ -207,83 +221,84 @@ fn name_end(text: &[u8], from: usize) -> usize
 }
 
 // Runs the row at `from`; true where the answer is the listed one.
-fn run_row(index: &[u8], from: usize) -> bool
+fn run_row(system: &System, index: &[u8], from: usize) -> bool
     requires { from + 36 ≤ length index.now }
 {
     let end = name_end(index, from);
     let mut buf = io::large_buffer();
-    say(&index[from..end]);
-    say(b": ");
-    let fd = os::open_read(&index[from..end]);
-    if fd < 0 {
-        say(b"missing\n");
+    say(system, &index[from..end]);
+    say(system, b": ");
+    let Ok(file) = system.open_read(&index[from..end]) else {
+        say(system, b"missing\n");
         return false;
-    }
-    let n = io::read_full(fd, &mut buf);
-    libc::close(fd);
-    let told = tell(&buf[..n], n <= 300);
+    };
+    let n = io::read_full(file.as_raw_fd(), &mut buf);
+    let told = tell(system, &buf[..n], n <= 300);
     let answer = number_in(index, from + 24, from + 27);
     let number = number_in(index, from + 28, from + 34);
     if told.answer as usize == answer && told.number == number {
         return true;
     }
-    say(b"  differs\n");
+    say(system, b"  differs\n");
     false
 }
 
 // 1 for a row whose answer is another than the listed one.
-fn differs(index: &[u8], from: usize) -> u64
+fn differs(system: &System, index: &[u8], from: usize) -> u64
     requires { from + 36 ≤ length index.now }
     ensures { result ≤ 1 }
 {
-    if run_row(index, from) { 0 } else { 1 }
+    if run_row(system, index, from) { 0 } else { 1 }
 }
 
-fn say_counts(rows: u64, differing: u64) {
-    say_number(rows);
-    say(b" sources, ");
-    say_number(differing);
-    say(b" differ\n");
+fn say_counts(system: &System, rows: u64, differing: u64) {
+    say_number(system, rows);
+    say(system, b" sources, ");
+    say_number(system, differing);
+    say(system, b" differ\n");
 }
 
-fn run_rows(index: &[u8]) {
+fn run_rows(system: &System, index: &[u8]) {
     let mut at: usize = 0;
     let mut rows: u64 = 0;
     let mut differing: u64 = 0;
     while ROW <= index.len() - at {
         rows += 1;
-        differing += differs(index, at);
+        differing += differs(system, index, at);
         at += ROW;
     }
-    say_counts(rows, differing);
+    say_counts(system, rows, differing);
 }
 
-fn run_index() {
+fn run_index(system: &System) {
     let mut buf = io::large_buffer();
-    let fd = os::open_read(b"index");
-    if fd < 0 {
-        os::fail(b"index");
-        return;
-    }
-    let n = io::read_full(fd, &mut buf);
-    libc::close(fd);
-    run_rows(&buf[..n]);
+    let file = match system.open_read(b"index") {
+        Ok(file) => file,
+        Err(error) => {
+            system.fail(b"index", error);
+            return;
+        }
+    };
+    let n = io::read_full(file.as_raw_fd(), &mut buf);
+    run_rows(system, &buf[..n]);
 }
 
-fn main() {
-    if os::arg_count() < 2 {
-        run_index();
+fn main(rt: HostRuntime) {
+    let system = System::new(rt);
+    if system.argument_count() < 2 {
+        run_index(&system);
         return;
     }
     let mut path = io::buffer();
-    let length = os::arg(1, &mut path);
+    let length = system.argument(1, &mut path).unwrap_or(0);
     let mut buf = io::large_buffer();
-    let fd = os::open_read(&path[..length]);
-    if fd < 0 {
-        os::fail(&path[..length]);
-        return;
-    }
-    let n = io::read_full(fd, &mut buf);
-    libc::close(fd);
-    tell(&buf[..n], true);
+    let file = match system.open_read(&path[..length]) {
+        Ok(file) => file,
+        Err(error) => {
+            system.fail(&path[..length], error);
+            return;
+        }
+    };
+    let n = io::read_full(file.as_raw_fd(), &mut buf);
+    tell(&system, &buf[..n], true);
 }

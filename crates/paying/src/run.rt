@@ -13,9 +13,9 @@ use desk::given::put_input;
 use desk::misuse::{misused, see_help};
 use desk::outputs::{say_numbers, show_entries};
 use desk::status;
-use libc::{STDERR_FILENO, STDOUT_FILENO};
 use machine::Ran;
 use machine::bounds::CELLS;
+use showing::system::{STDERR, STDOUT, System};
 use showing::text::{complain, least, say, say_number, tell, tell_file, tell_number};
 use showing::words::{tell_answer, tell_placeless};
 use translating::translating::translate;
@@ -30,29 +30,30 @@ pub struct How {
 
 // Where what is no output is told.
 fn aside(values: bool) -> i32 {
-    if values { STDERR_FILENO } else { STDOUT_FILENO }
+    if values { STDERR } else { STDOUT }
 }
 
-fn tell_counts(to: i32, ran: Ran, given: usize) {
-    tell(to, b"instructions done: ");
-    tell_number(to, ran.done);
-    tell(to, b", numbers given: ");
-    tell_number(to, given as u64);
-    tell(to, b", taken: ");
-    tell_number(to, ran.taken as u64);
-    tell(to, b", numbers written: ");
-    tell_number(to, ran.written as u64);
-    tell(to, b"\n");
+fn tell_counts(system: &System, to: i32, ran: Ran, given: usize) {
+    tell(system, to, b"instructions done: ");
+    tell_number(system, to, ran.done);
+    tell(system, to, b", numbers given: ");
+    tell_number(system, to, given as u64);
+    tell(system, to, b", taken: ");
+    tell_number(system, to, ran.taken as u64);
+    tell(system, to, b", numbers written: ");
+    tell_number(system, to, ran.written as u64);
+    tell(system, to, b"\n");
 }
 
 // How a run stopped, for people.
-fn tell_end(to: i32, name: &[u8], source: &[u8], stop: Stop) {
+fn tell_end(system: &System, to: i32, name: &[u8], source: &[u8], stop: Stop) {
     match stop {
         Stop::Ended => {
-            tell_file(to, name);
-            tell(to, b": ended\n");
+            tell_file(system, to, name);
+            tell(system, to, b": ended\n");
         }
         Stop::Fault(r) => tell_answer(
+            system,
             to,
             name,
             source,
@@ -60,40 +61,49 @@ fn tell_end(to: i32, name: &[u8], source: &[u8], stop: Stop) {
             r.answer.number,
             r.place.at,
         ),
-        _ => tell_placeless(to, name, b": stopped, ", stop.answer().number),
+        _ => tell_placeless(system, to, name, b": stopped, ", stop.answer().number),
     }
 }
 
 // A run that ended and left numbers may have been given those of another rule.
-fn warn(stop: Stop, given: usize, taken: usize) {
+fn warn(system: &System, stop: Stop, given: usize, taken: usize) {
     if let Stop::Ended = stop {
         if taken < given {
-            complain(b"deed: warning: the run ended and took ");
-            tell_number(STDERR_FILENO, taken as u64);
-            complain(b" of the ");
-            tell_number(STDERR_FILENO, given as u64);
-            complain(b" numbers given\n");
+            complain(system, b"deed: warning: the run ended and took ");
+            tell_number(system, STDERR, taken as u64);
+            complain(system, b" of the ");
+            tell_number(system, STDERR, given as u64);
+            complain(system, b" numbers given\n");
         }
     }
 }
 
 // A run's answer, as one line of numbers.
-fn show_plain(answer: u16, place: usize, done: u64, taken: usize, written: usize, output: &[i32]) {
-    say_number(answer as u64);
-    say(b" ");
-    say_number(place as u64);
-    say(b" ");
-    say_number(done);
-    say(b" ");
-    say_number(taken as u64);
-    say(b" ");
-    say_number(written as u64);
-    say_numbers(output);
-    say(b"\n");
+fn show_plain(
+    system: &System,
+    answer: u16,
+    place: usize,
+    done: u64,
+    taken: usize,
+    written: usize,
+    output: &[i32],
+) {
+    say_number(system, answer as u64);
+    say(system, b" ");
+    say_number(system, place as u64);
+    say(system, b" ");
+    say_number(system, done);
+    say(system, b" ");
+    say_number(system, taken as u64);
+    say(system, b" ");
+    say_number(system, written as u64);
+    say_numbers(system, output);
+    say(system, b"\n");
 }
 
 // What a run gave, for people; its outputs are the first of these. Where the outputs are for a script, it has those of a good run alone.
 fn show_run(
+    system: &System,
     name: &[u8],
     source: &[u8],
     values: bool,
@@ -106,14 +116,22 @@ fn show_run(
     let stop = ran.stop;
     let n = least(ran.written, output.len());
     if good || !values {
-        show_entries(&output[0..n]);
+        show_entries(system, &output[0..n]);
     }
-    tell_end(to, name, source, stop);
-    tell_counts(to, ran, given);
-    warn(stop, given, ran.taken);
+    tell_end(system, to, name, source, stop);
+    tell_counts(system, to, ran, given);
+    warn(system, stop, given, ran.taken);
 }
 
-fn show_ran(name: &[u8], source: &[u8], how: How, ran: Ran, given: usize, output: &[i32]) -> u8
+fn show_ran(
+    system: &System,
+    name: &[u8],
+    source: &[u8],
+    how: How,
+    ran: Ran,
+    given: usize,
+    output: &[i32],
+) -> u8
     ensures { result ≡ of_end (how.strict && ltb ran.taken given) ran.stop }
 {
     let stop = ran.stop;
@@ -121,6 +139,7 @@ fn show_ran(name: &[u8], source: &[u8], how: How, ran: Ran, given: usize, output
     if how.plain {
         let n = least(ran.written, output.len());
         show_plain(
+            system,
             stop.answer().number,
             stop.place(),
             ran.done,
@@ -130,6 +149,7 @@ fn show_ran(name: &[u8], source: &[u8], how: How, ran: Ran, given: usize, output
         );
     } else {
         show_run(
+            system,
             name,
             source,
             how.values,
@@ -173,6 +193,7 @@ fn run_within(
 }
 
 fn run_code(
+    system: &System,
     name: &[u8],
     source: &[u8],
     how: How,
@@ -186,16 +207,25 @@ fn run_code(
     let mut store = [0i64; 16384];
     let mut output = [0i32; 196608];
     let ran = run_within(code, input, count, sizes, &mut store, &mut output);
-    show_ran(name, source, how, ran, least(count, input.len()), &output)
+    show_ran(
+        system,
+        name,
+        source,
+        how,
+        ran,
+        least(count, input.len()),
+        &output,
+    )
 }
 
 // A source that is refused: nothing is run.
-fn show_refused(name: &[u8], source: &[u8], how: How, number: u16, place: usize) {
+fn show_refused(system: &System, name: &[u8], source: &[u8], how: How, number: u16, place: usize) {
     if how.plain {
         let none = [0i32; 0];
-        show_plain(number, place, 0, 0, 0, &none);
+        show_plain(system, number, place, 0, 0, 0, &none);
     } else {
         tell_answer(
+            system,
             aside(how.values),
             name,
             source,
@@ -207,38 +237,54 @@ fn show_refused(name: &[u8], source: &[u8], how: How, number: u16, place: usize)
 }
 
 // Translates a source and runs it on the first of some numbers.
-fn run_source(name: &[u8], source: &[u8], how: How, input: &[i32], count: usize, sizes: Sizes) -> u8
+fn run_source(
+    system: &System,
+    name: &[u8],
+    source: &[u8],
+    how: How,
+    input: &[i32],
+    count: usize,
+    sizes: Sizes,
+) -> u8
     ensures { RunStatus how.strict source.now (take count input.now) sizes.limit (min sizes.cells 8192) (min sizes.room 196608) result }
 {
     let mut code = [0u32; 16384];
     match translate(source, &mut code) {
-        Verdict::Accepted => run_code(name, source, how, &code, input, count, sizes),
+        Verdict::Accepted => run_code(system, name, source, how, &code, input, count, sizes),
         Verdict::Refused(r) => {
-            show_refused(name, source, how, r.answer.number, r.place.at);
+            show_refused(system, name, source, how, r.answer.number, r.place.at);
             status::BAD
         }
     }
 }
 
 // A run of the file that a word of the line names, on the numbers behind it.
-fn run_file(line: &[u8], from: usize, to: usize, how: How, sizes: Sizes) -> u8
+fn run_file(system: &System, line: &[u8], from: usize, to: usize, how: How, sizes: Sizes) -> u8
     requires { (from ≤ to) × (to ≤ length line.now) }
     ensures { result ≤ nothing }
 {
     let mut input = [0i32; 32768];
     let mut room = io::large_buffer();
-    let put = put_input(line, to, &mut input);
+    let put = put_input(system, line, to, &mut input);
     if !put.good {
-        see_help();
+        see_help(system);
         return status::NOTHING;
     }
-    let got = load(&line[from..to], &mut room);
+    let got = load(system, &line[from..to], &mut room);
     if !got.good {
-        see_help();
+        see_help(system);
         return status::NOTHING;
     }
     let n = got.count;
-    run_source(&line[from..to], &room[..n], how, &input, put.count, sizes)
+    run_source(
+        system,
+        &line[from..to],
+        &room[..n],
+        how,
+        &input,
+        put.count,
+        sizes,
+    )
 }
 
 // What the options of a line ask of a run.
@@ -251,7 +297,7 @@ fn how_of(line: &[u8]) -> How {
 }
 
 // Standard input is the FILE, or has numbers, or neither. The sizes can be had: that was looked at.
-pub fn obey(line: &[u8], at: usize) -> u8
+pub fn obey(system: &System, line: &[u8], at: usize) -> u8
     ensures { result ≤ nothing }
 {
     let Asked::Are(sizes) = sizes_of(line, at) else {
@@ -263,11 +309,12 @@ pub fn obey(line: &[u8], at: usize) -> u8
     if is_standard(&line[from..to]) {
         if has_word(line, to, b"-") {
             misused(
+                system,
                 b"standard input is the FILE or has numbers, and not both",
                 b"",
             );
             return status::NOTHING;
         }
     }
-    run_file(line, from, to, how_of(line), sizes)
+    run_file(system, line, from, to, how_of(line), sizes)
 }

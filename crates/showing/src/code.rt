@@ -1,14 +1,16 @@
 // The translation, instruction by instruction, in the words of docs/MACHINE.md.
 ghost use Rattle.std.specs.Prelude.{◌≡◌};
 
+use crate::system::System;
 use crate::text::{least, say, say_blanks, say_nth, say_number, say_spot};
 use machine::operands::{FOUND_OFFSET, TEN_BITS, high, low, mid};
 use machine::{bounds, codes};
 
 // The operations' names, a line a number from `codes::NONE` on.
-fn say_operation(operation: u32) {
+fn say_operation(system: &System, operation: u32) {
     if operation < codes::BEHIND {
         say_nth(
+            system,
             b"no operation
 END
 JUMP
@@ -63,100 +65,103 @@ AS",
             wide(operation),
         );
     } else {
-        say(b"no operation");
+        say(system, b"no operation");
     }
 }
 
 // A name of a part, and the part.
-fn say_part(name: &[u8], n: usize) {
-    say(name);
-    say_number(n as u64);
+fn say_part(system: &System, name: &[u8], n: usize) {
+    say(system, name);
+    say_number(system, n as u64);
 }
 
 // A variable: activations out, and the offset from the first cell there; or the cell found.
-fn say_variable(v: u32) {
+fn say_variable(system: &System, v: u32) {
     if mid(wide(v)) == FOUND_OFFSET {
-        say(b" cell found");
+        say(system, b" cell found");
         return;
     }
-    say_part(b" cell ", mid(wide(v)));
-    say_part(b", levels out ", high(wide(v)));
+    say_part(system, b" cell ", mid(wide(v)));
+    say_part(system, b", levels out ", high(wide(v)));
 }
 
 // The number of a CONST, in two's complement.
-fn say_constant(v: u32) {
+fn say_constant(system: &System, v: u32) {
     if v < 2147483648 {
-        say_part(b" ", wide(v));
+        say_part(system, b" ", wide(v));
     } else {
-        say_part(b" -", 4294967296 - wide(v));
+        say_part(system, b" -", 4294967296 - wide(v));
     }
 }
 
 // A type, by its number.
-fn say_form(v: u32) {
+fn say_form(system: &System, v: u32) {
     say_nth(
+        system,
         b" integer\n real\n Boolean\n no type",
         least(low(wide(v)), 3),
     );
 }
 
 // A logical value, by its number.
-fn say_logical(v: u32) {
-    say_nth(b" false\n true\n no value", least(low(wide(v)), 2));
+fn say_logical(system: &System, v: u32) {
+    say_nth(system, b" false\n true\n no value", least(low(wide(v)), 2));
 }
 
 // How many cells of each type a block has.
-fn say_counts(v: u32) {
-    say_part(b" integers ", wide(v) % TEN_BITS);
-    say_part(b", reals ", wide(v) / TEN_BITS % TEN_BITS);
-    say_part(b", Booleans ", wide(v) / TEN_BITS / TEN_BITS);
+fn say_counts(system: &System, v: u32) {
+    say_part(system, b" integers ", wide(v) % TEN_BITS);
+    say_part(system, b", reals ", wide(v) / TEN_BITS % TEN_BITS);
+    say_part(system, b", Booleans ", wide(v) / TEN_BITS / TEN_BITS);
 }
 
 // The operands of control instructions.
-fn say_route(operation: u32, v: u32) {
+fn say_route(system: &System, operation: u32, v: u32) {
     match operation {
-        codes::JUMP | codes::UNLESS => say_part(b" to ", low(wide(v))),
-        codes::ENTER => say_counts(v),
-        codes::LEAVE => say_part(b" cells ", mid(wide(v))),
+        codes::JUMP | codes::UNLESS => say_part(system, b" to ", low(wide(v))),
+        codes::ENTER => say_counts(system, v),
+        codes::LEAVE => say_part(system, b" cells ", mid(wide(v))),
         codes::CALL_NEEDED | codes::CALL => {
-            say_part(b" to ", low(wide(v)));
-            say_part(b", levels out ", high(wide(v)));
-            say_part(b", cells ", mid(wide(v)));
+            say_part(system, b" to ", low(wide(v)));
+            say_part(system, b", levels out ", high(wide(v)));
+            say_part(system, b", cells ", mid(wide(v)));
         }
         codes::GO => {
-            say_part(b" to ", low(wide(v)));
-            say_part(b", back to ", mid(wide(v)));
-            say_part(b", nesting ", high(wide(v)));
+            say_part(system, b" to ", low(wide(v)));
+            say_part(system, b", back to ", mid(wide(v)));
+            say_part(system, b", nesting ", high(wide(v)));
         }
-        codes::NEXT => say_part(b" nesting ", high(wide(v))),
-        codes::NAME => say_part(b" behind it ", low(wide(v))),
+        codes::NEXT => say_part(system, b" nesting ", high(wide(v))),
+        codes::NAME => say_part(system, b" behind it ", low(wide(v))),
         codes::WORK | codes::SEEK | codes::PASS => {
-            say_part(b" cell ", mid(wide(v)));
-            say_part(b", levels out ", high(wide(v)));
+            say_part(system, b" cell ", mid(wide(v)));
+            say_part(system, b", levels out ", high(wide(v)));
         }
         _ => {}
     }
 }
 
 // The operands. A RETURN without a place has none: with one it ends the store part of an actual, and has the formal's type.
-fn say_operands(operation: u32, place: usize, v: u32) {
+fn say_operands(system: &System, operation: u32, place: usize, v: u32) {
     match operation {
         codes::RETURN => {
             if 0 < place {
-                say_form(v);
+                say_form(system, v);
             }
         }
-        codes::RESULT | codes::AS => say_form(v),
-        codes::LOGICAL => say_logical(v),
-        codes::HIGH => say_part(b" ", wide(v)),
+        codes::RESULT | codes::AS => say_form(system, v),
+        codes::LOGICAL => say_logical(system, v),
+        codes::HIGH => say_part(system, b" ", wide(v)),
         codes::TEST => {
-            say_variable(v);
-            say_part(b", to ", low(wide(v)));
+            say_variable(system, v);
+            say_part(system, b", to ", low(wide(v)));
         }
-        codes::CONST => say_constant(v),
-        codes::LOAD | codes::STORE | codes::ASSIGN | codes::IN | codes::SUM => say_variable(v),
-        codes::LEND => say_variable(v),
-        _ => say_route(operation, v),
+        codes::CONST => say_constant(system, v),
+        codes::LOAD | codes::STORE | codes::ASSIGN | codes::IN | codes::SUM => say_variable(
+            system, v,
+        ),
+        codes::LEND => say_variable(system, v),
+        _ => say_route(system, operation, v),
     }
 }
 
@@ -173,13 +178,13 @@ fn placed(operation: u32, place: usize) -> bool {
 }
 
 // So many blanks that what follows numbers of four digits is in one column.
-fn say_indent(address: usize) {
+fn say_indent(system: &System, address: usize) {
     if address < 10 {
-        say_blanks(3);
+        say_blanks(system, 3);
     } else if address < 100 {
-        say_blanks(2);
+        say_blanks(system, 2);
     } else if address < 1000 {
-        say_blanks(1);
+        say_blanks(system, 1);
     }
 }
 
@@ -189,23 +194,23 @@ fn wide(n: u32) -> usize
     n as usize
 }
 
-fn show_instruction(source: &[u8], address: usize, first: u32, second: u32) {
+fn show_instruction(system: &System, source: &[u8], address: usize, first: u32, second: u32) {
     let operation = first % codes::BASE;
     let place = wide(first / codes::BASE);
-    say_indent(address);
-    say_number(address as u64);
-    say(b"  ");
-    say_operation(operation);
-    say_operands(operation, place, second);
+    say_indent(system, address);
+    say_number(system, address as u64);
+    say(system, b"  ");
+    say_operation(system, operation);
+    say_operands(system, operation, place, second);
     if placed(operation, place) {
-        say(b"  at ");
-        say_spot(source, place);
+        say(system, b"  at ");
+        say_spot(system, source, place);
     }
-    say(b"\n");
+    say(system, b"\n");
 }
 
 // The instructions, up to the first word that is none.
-pub fn show_code(source: &[u8], code: &[u32]) {
+pub fn show_code(system: &System, source: &[u8], code: &[u32]) {
     let mut k: usize = 0;
     while k < bounds::WORDS / 2 {
         let at = 2 * k;
@@ -215,7 +220,7 @@ pub fn show_code(source: &[u8], code: &[u32]) {
         if code[at] % codes::BASE == codes::NONE {
             return;
         }
-        show_instruction(source, k, code[at], code[at + 1]);
+        show_instruction(system, source, k, code[at], code[at + 1]);
         k += 1;
     }
 }

@@ -4,6 +4,7 @@ ghost use Rattle.std.specs.Prelude.{◌≡◌, cond, ◌<◌, ◌≤◌, ◌+◌
 ghost use Rattle.showing.specs.Pages as Pages;
 ghost use Rattle.showing.specs.Pages.{level_behind};
 
+use crate::system::System;
 use crate::text::{say, say_blanks, say_name, say_number, say_spot};
 use grammar::nodes;
 use table::sections::{sections_of, word};
@@ -33,41 +34,41 @@ fn closes(kind: u16) -> bool
     }
 }
 
-fn say_type(number: usize) {
+fn say_type(system: &System, number: usize) {
     match number {
-        1 => say(b"integer "),
-        2 => say(b"Boolean "),
-        3 => say(b"real "),
+        1 => say(system, b"integer "),
+        2 => say(system, b"Boolean "),
+        3 => say(system, b"real "),
         _ => {}
     }
 }
 
 // The declaration whose words begin at `at`. A formal's last word has its type, and 4 more where it is called by name.
-fn show_declaration(source: &[u8], table: &[u16], at: usize)
+fn show_declaration(system: &System, source: &[u8], table: &[u16], at: usize)
     requires { at < 1048576 }
 {
     let place = word(table, at);
     let said = word(table, at + 3);
-    say_type(said % 4);
+    say_type(system, said % 4);
     match word(table, at + 1) {
-        1 => say(b"variable "),
-        2 => say(b"procedure "),
+        1 => say(system, b"variable "),
+        2 => say(system, b"procedure "),
         _ => {
             if said < 4 {
-                say(b"formal by value ");
+                say(system, b"formal by value ");
             } else {
-                say(b"formal by name ");
+                say(system, b"formal by name ");
             }
         }
     }
-    say_name(source, place);
-    say(b" at ");
-    say_spot(source, place);
-    say(b"\n");
+    say_name(system, source, place);
+    say(system, b" at ");
+    say_spot(system, source, place);
+    say(system, b"\n");
 }
 
 // What the scope with a number declares.
-fn show_declared(source: &[u8], table: &[u16], scope: usize, level: usize)
+fn show_declared(system: &System, source: &[u8], table: &[u16], scope: usize, level: usize)
     requires { level < 65536 }
 {
     let s = sections_of(table);
@@ -77,31 +78,38 @@ fn show_declared(source: &[u8], table: &[u16], scope: usize, level: usize)
     while k < n {
         let at = from + 4 * k;
         if word(table, at + 2) == scope {
-            say_blanks(2 * level);
-            show_declaration(source, table, at);
+            say_blanks(system, 2 * level);
+            show_declaration(system, source, table, at);
         }
         k += 1;
     }
 }
 
 // The scope that a node opens.
-fn show_scope(source: &[u8], table: &[u16], scope: usize, node: usize, level: usize)
+fn show_scope(
+    system: &System,
+    source: &[u8],
+    table: &[u16],
+    scope: usize,
+    node: usize,
+    level: usize,
+)
     requires { (node < 1048576) × (0 < level) × (level < 65536) }
 {
     let place = word(table, node + 1);
-    say_blanks(2 * level - 2);
-    say(b"level ");
-    say_number(level as u64);
+    say_blanks(system, 2 * level - 2);
+    say(system, b"level ");
+    say_number(system, level as u64);
     if kind_at(table, node) == nodes::BLOCK {
-        say(b", block at ");
+        say(system, b", block at ");
     } else {
-        say(b", body of ");
-        say_name(source, place);
-        say(b" at ");
+        say(system, b", body of ");
+        say_name(system, source, place);
+        say(system, b" at ");
     }
-    say_spot(source, place);
-    say(b"\n");
-    show_declared(source, table, scope, level);
+    say_spot(system, source, place);
+    say(system, b"\n");
+    show_declared(system, source, table, scope, level);
 }
 
 // 1 for a node that opens a scope.
@@ -124,7 +132,7 @@ fn level_behind(kind: u16, level: usize) -> usize
     level + opened(kind)
 }
 
-pub fn show_levels(source: &[u8], table: &[u16]) {
+pub fn show_levels(system: &System, source: &[u8], table: &[u16]) {
     let s = sections_of(table);
     let n = word(table, s.nodes);
     let mut level: usize = 0;
@@ -136,7 +144,7 @@ pub fn show_levels(source: &[u8], table: &[u16]) {
         scope += opened(kind);
         level = level_behind(kind, level);
         if opens(kind) && 0 < level {
-            show_scope(source, table, scope, node, level);
+            show_scope(system, source, table, scope, node, level);
         }
         k += 1;
     }

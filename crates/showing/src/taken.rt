@@ -1,56 +1,54 @@
-// What is written, and whether all of it was taken. Where a descriptor does not take something it is closed: nothing is to stand behind a gap,
-// and at the end it is known by that that something was lost. A reader that closes a pipe ends the program, as it does any other.
-use libc::{STDERR_FILENO, STDOUT_FILENO};
+// What is written, and whether all of it was taken. Where a descriptor does not take something, nothing more is written to it: nothing is to
+// stand behind a gap, and at the end it is known by that that something was lost. A reader that closes a pipe is told nothing of it.
+use crate::system::{STDERR, STDOUT, System, is_not_open};
+use std::io::{Error, ErrorKind};
 
 // The first loss is said, with the system's reason.
-fn lost(to: i32) {
-    if libc::close(to) != 0 {
+fn lost(system: &System, to: i32, error: Error) {
+    system.lose(to);
+    if to == STDERR || error.kind() == ErrorKind::BrokenPipe {
         return;
     }
-    if to == STDERR_FILENO {
-        return;
+    if !is_not_open(error) {
+        system.fail(b"deed: not all of the output could be written", error);
     }
-    os::fail(b"deed: not all of the output could be written");
 }
 
 // A text to a descriptor.
-pub fn put(to: i32, text: &[u8]) {
-    if !io::write_all(to, text) {
-        lost(to);
+pub fn put(system: &System, to: i32, text: &[u8]) {
+    if system.has_lost(to) {
+        return;
+    }
+    if let Err(error) = system.write(to, text) {
+        lost(system, to, error);
     }
 }
 
 // A number to a descriptor.
-pub fn put_number(to: i32, n: u64) {
-    if !io::print_decimal(to, n) {
-        lost(to);
-    }
+pub fn put_number(system: &System, to: i32, n: u64) {
+    let mut digits = [0u8; 20];
+    let k = io::decimal(n, &mut digits);
+    put(system, to, &digits[..k]);
 }
 
-// Whether a descriptor is open: one that is not is no terminal for that reason.
-pub fn is_open(fd: i32) -> bool {
-    if libc::isatty(fd) == 1 {
-        return true;
-    }
-    os::errno() != libc::EBADF
+// Whether a descriptor is open.
+pub fn is_open(system: &System, to: i32) -> bool {
+    system.is_open(to)
 }
 
-// Whether a descriptor took all that was written. It is closed, as some systems say of a loss only then.
-fn took(fd: i32) -> bool {
-    if libc::close(fd) == 0 {
-        return true;
+// Whether a descriptor took all that was written.
+fn took(system: &System, to: i32) -> bool {
+    if system.has_lost(to) {
+        return false;
     }
-    if os::errno() != libc::EBADF {
-        os::fail(b"deed: not all of the output could be written");
-    }
-    false
+    is_open(system, to)
 }
 
 // Whether standard output took all, and standard error too if it was open.
-pub fn all_taken(heard: bool) -> bool {
-    let said = took(STDOUT_FILENO);
+pub fn all_taken(system: &System, heard: bool) -> bool {
+    let said = took(system, STDOUT);
     if heard {
-        return took(STDERR_FILENO) && said;
+        return took(system, STDERR) && said;
     }
     said
 }

@@ -7,8 +7,8 @@ ghost use Rattle.showing.specs.Pages.{line_of, column_of, start_of, Fills, shown
 ghost use Rattle.symbols.specs.Names.{letters_at};
 
 use crate::characters::{beginning, is_inside, whole, width};
+use crate::system::{STDERR, STDOUT, System};
 use crate::taken::{put, put_number};
-use libc::{STDERR_FILENO, STDOUT_FILENO};
 use symbols::text::{find, is_blank, is_name_byte, same_bytes};
 
 // No source is longer than the room that it is read into.
@@ -21,57 +21,57 @@ const NEAR: usize = 80;
 const BEFORE: usize = 60;
 
 // A text to a descriptor: a refusal is said to standard output where it was asked for, and to standard error where a page was.
-pub fn tell(to: i32, text: &[u8]) {
-    put(to, text);
+pub fn tell(system: &System, to: i32, text: &[u8]) {
+    put(system, to, text);
 }
 
-pub fn tell_number(to: i32, n: u64) {
-    put_number(to, n);
+pub fn tell_number(system: &System, to: i32, n: u64) {
+    put_number(system, to, n);
 }
 
-pub fn say(text: &[u8]) {
-    tell(STDOUT_FILENO, text);
+pub fn say(system: &System, text: &[u8]) {
+    tell(system, STDOUT, text);
 }
 
-pub fn say_number(n: u64) {
-    tell_number(STDOUT_FILENO, n);
+pub fn say_number(system: &System, n: u64) {
+    tell_number(system, STDOUT, n);
 }
 
 // A number, with the sign - where it is below 0.
-pub fn say_whole(x: i64) {
+pub fn say_whole(system: &System, x: i64) {
     if x >= 0 {
-        say_number(x as u64);
+        say_number(system, x as u64);
         return;
     }
-    say(b"-");
-    say_number((-1 - x) as u64 + 1);
+    say(system, b"-");
+    say_number(system, (-1 - x) as u64 + 1);
 }
 
-pub fn complain(text: &[u8]) {
-    tell(STDERR_FILENO, text);
+pub fn complain(system: &System, text: &[u8]) {
+    tell(system, STDERR, text);
 }
 
 // A text that somebody typed, byte by byte as it is shown.
-pub fn tell_typed(to: i32, text: &[u8]) {
+pub fn tell_typed(system: &System, to: i32, text: &[u8]) {
     let mut i: usize = 0;
     while i < text.len() {
         let row = [shown_at(text, i)];
-        tell(to, &row);
+        tell(system, to, &row);
         i += 1;
     }
 }
 
 // A file, as people know it.
-pub fn tell_file(to: i32, name: &[u8]) {
+pub fn tell_file(system: &System, to: i32, name: &[u8]) {
     if same_bytes(name, b"-") {
-        tell(to, b"standard input");
+        tell(system, to, b"standard input");
     } else {
-        tell_typed(to, name);
+        tell_typed(system, to, name);
     }
 }
 
-pub fn say_file(name: &[u8]) {
-    tell_file(STDOUT_FILENO, name);
+pub fn say_file(system: &System, name: &[u8]) {
+    tell_file(system, STDOUT, name);
 }
 
 // The least of two.
@@ -118,15 +118,15 @@ pub fn spot_of(source: &[u8], place: usize) -> Spot
 }
 
 // LINE:COLUMN.
-pub fn tell_spot(to: i32, source: &[u8], place: usize) {
+pub fn tell_spot(system: &System, to: i32, source: &[u8], place: usize) {
     let s = spot_of(source, place);
-    tell_number(to, s.line);
-    tell(to, b":");
-    tell_number(to, s.column);
+    tell_number(system, to, s.line);
+    tell(system, to, b":");
+    tell_number(system, to, s.column);
 }
 
-pub fn say_spot(source: &[u8], place: usize) {
-    tell_spot(STDOUT_FILENO, source, place);
+pub fn say_spot(system: &System, source: &[u8], place: usize) {
+    tell_spot(system, STDOUT, source, place);
 }
 
 // Where what is shown of a line begins.
@@ -231,34 +231,34 @@ fn mark_row(source: &[u8], from: usize, place: usize, row: &mut [u8]) -> usize
     n
 }
 
-fn tell_line(to: i32, source: &[u8], from: usize) {
+fn tell_line(system: &System, to: i32, source: &[u8], from: usize) {
     let mut row = [0u8; 100];
     let n = line_row(source, from, &mut row);
     let k = whole(source, from, n);
-    tell(to, &row[..k]);
-    tell(to, b"\n");
+    tell(system, to, &row[..k]);
+    tell(system, to, b"\n");
 }
 
-fn tell_mark(to: i32, source: &[u8], from: usize, place: usize) {
+fn tell_mark(system: &System, to: i32, source: &[u8], from: usize, place: usize) {
     let mut row = [0u8; 100];
     let n = mark_row(source, from, place, &mut row);
-    tell(to, b"    ");
-    tell(to, &row[..n]);
-    tell(to, b"^\n");
+    tell(system, to, b"    ");
+    tell(system, to, &row[..n]);
+    tell(system, to, b"^\n");
 }
 
 // The line of a place, and a mark under the place.
-pub fn tell_place(to: i32, source: &[u8], place: usize) {
+pub fn tell_place(system: &System, to: i32, source: &[u8], place: usize) {
     let s = spot_of(source, place);
     let start = s.start;
     let from = beginning(source, shown_from(start, place));
     if start < from {
-        tell(to, b" .. ");
+        tell(system, to, b" .. ");
     } else {
-        tell(to, b"    ");
+        tell(system, to, b"    ");
     }
-    tell_line(to, source, from);
-    tell_mark(to, source, from, place);
+    tell_line(system, to, source, from);
+    tell_mark(system, to, source, from, place);
 }
 
 // The letters and digits of the name at a place, as many as the row takes; gives how many.
@@ -285,14 +285,14 @@ fn name_row(source: &[u8], at: usize, row: &mut [u8]) -> usize
 }
 
 // The name at a place, without the blanks in it.
-pub fn say_name(source: &[u8], at: usize) {
+pub fn say_name(system: &System, source: &[u8], at: usize) {
     let mut row = [0u8; 32];
     let n = name_row(source, at, &mut row);
-    say(&row[..n]);
+    say(system, &row[..n]);
 }
 
 // Line n of a text, from 0 on; nothing behind the last one.
-pub fn say_nth(text: &[u8], n: usize) {
+pub fn say_nth(system: &System, text: &[u8], n: usize) {
     let mut at: usize = 0;
     let mut i: usize = 0;
     while i < n {
@@ -303,19 +303,19 @@ pub fn say_nth(text: &[u8], n: usize) {
         at = end + 1;
         i += 1;
     }
-    say(&text[at..find(text, at, b'\n')]);
+    say(system, &text[at..find(text, at, b'\n')]);
 }
 
 // A text so many times.
-pub fn say_times(text: &[u8], n: usize) {
+pub fn say_times(system: &System, text: &[u8], n: usize) {
     let mut i: usize = 0;
     while i < n {
-        say(text);
+        say(system, text);
         i += 1;
     }
 }
 
 // Blanks.
-pub fn say_blanks(n: usize) {
-    say_times(b" ", n);
+pub fn say_blanks(system: &System, n: usize) {
+    say_times(system, b" ", n);
 }

@@ -16,10 +16,10 @@ mod texts; // room for a text, and numbers in it
 mod twos; // the jobs read_two and translate_scheme
 mod writes; // the job write
 
-fn main() {
+fn main(rt: HostRuntime) {
     let mut buf = texts::buffer();
-    let n = rows::load(b"index", &mut buf);
-    rows::rows(&buf[..n]).show();
-    replays::all();
-    twos::all();
+    let n = rows::load(&rt, b"index", &mut buf);
+    rows::rows(&rt, &buf[..n]).show();
+    replays::all(&rt);
+    twos::all(&rt);
 }

@@ -356,15 +356,15 @@ fn one(t: Count, name: &[u8], source: &[u8], text: &[u8], records: bool) -> Coun
 }
 
 // The row at `from`.
-fn row(t: Count, index: &[u8], from: usize, records: bool) -> Count
+fn row(rt: &HostRuntime, t: Count, index: &[u8], from: usize, records: bool) -> Count
     requires { from + 49 ≤ length index.now }
 {
     let mut source = buffer();
     let mut text = buffer();
     let end = name_end(index, from);
-    let n = load(&index[from..end], &mut source);
+    let n = load(rt, &index[from..end], &mut source);
     let last = name_end(index, from + 24);
-    let m = load(&index[from + 24..last], &mut text);
+    let m = load(rt, &index[from + 24..last], &mut text);
     one(
         t,
         &index[from + 24..last],
@@ -375,21 +375,21 @@ fn row(t: Count, index: &[u8], from: usize, records: bool) -> Count
 }
 
 // Each row: its record where records are listed, else the record of its run.
-fn rows(t: Count, index: &[u8], records: bool) -> Count {
+fn rows(rt: &HostRuntime, t: Count, index: &[u8], records: bool) -> Count {
     let mut u = t;
     let mut at: usize = 0;
     while ROW <= index.len() - at {
-        u = row(u, index, at, records);
+        u = row(rt, u, index, at, records);
         at += ROW;
     }
     u
 }
 
 // The rows of both files, counted and shown.
-pub fn all() {
+pub fn all(rt: &HostRuntime) {
     let mut buf = buffer();
-    let n = load(b"index", &mut buf);
-    let t = rows(Count::new(), &buf[..n], false);
-    let m = load(b"replays", &mut buf);
-    rows(t, &buf[..m], true).show();
+    let n = load(rt, b"index", &mut buf);
+    let t = rows(rt, Count::new(), &buf[..n], false);
+    let m = load(rt, b"replays", &mut buf);
+    rows(rt, t, &buf[..m], true).show();
 }

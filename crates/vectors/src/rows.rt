@@ -6,6 +6,8 @@ ghost use Rattle.vectors.specs.Counted.{RowTold, Rows, CapitalRows};
 use crate::tally::{Tallies, Tally, print};
 use crate::texts::buffer;
 use crate::{capitals, lists, reads, runs, writes};
+use std::fs::File;
+use std::os::fd::AsRawFd;
 
 // A row: the two names, 24 bytes each, and the line's end.
 pub const ROW: usize = 49;
@@ -25,19 +27,24 @@ pub fn name_end(text: &[u8], from: usize) -> usize
     i
 }
 
+// A file, opened for reading; none where it is missing. Its name is text.
+fn opened(rt: &HostRuntime, name: &[u8]) -> Option<File> {
+    let Ok(path) = str::from_utf8(name) else {
+        return None;
+    };
+    File::open(rt, path).ok()
+}
+
 // The bytes of a file; none, and a word about it, where it is missing.
-pub fn load(name: &[u8], buf: &mut [u8; 131072]) -> usize
+pub fn load(rt: &HostRuntime, name: &[u8], buf: &mut [u8; 131072]) -> usize
     ensures { result ≤ length buf.new }
 {
-    let fd = os::open_read(name);
-    if fd < 0 {
+    let Some(file) = opened(rt, name) else {
         print(name);
         print(b" is missing\n");
         return 0;
-    }
-    let n = io::read_full(fd, buf);
-    libc::close(fd);
-    n
+    };
+    io::read_full(file.as_raw_fd(), buf)
 }
 
 // A source read, translated, run and written, lists for it checked, and all compared.
@@ -51,16 +58,16 @@ fn compare(t: Tally, name: &[u8], source: &[u8], text: &[u8]) -> Tally
 }
 
 // The row at `from`: its source as it is, and in capitals.
-fn row(t: Tallies, index: &[u8], from: usize) -> Tallies
+fn row(rt: &HostRuntime, t: Tallies, index: &[u8], from: usize) -> Tallies
     requires { from + 49 ≤ length index.now }
     ensures { (source text : List ℕ) × RowTold source text t.plain result.plain × CapitalsTold source text t.capitals result.capitals }
 {
     let mut source = buffer();
     let mut text = buffer();
     let end = name_end(index, from);
-    let n = load(&index[from..end], &mut source);
+    let n = load(rt, &index[from..end], &mut source);
     let last = name_end(index, from + 24);
-    let m = load(&index[from + 24..last], &mut text);
+    let m = load(rt, &index[from + 24..last], &mut text);
     let counted = t.plain;
     let plain = compare(counted, &index[from..end], &source[..n], &text[..m]);
     let tried = t.capitals;
@@ -69,13 +76,13 @@ fn row(t: Tallies, index: &[u8], from: usize) -> Tallies
 }
 
 // Every row counts, whatever its files hold.
-pub fn rows(index: &[u8]) -> Tallies
+pub fn rows(rt: &HostRuntime, index: &[u8]) -> Tallies
     ensures { Rows (length index.now / 49) result.plain × CapitalRows (length index.now / 49) result.capitals }
 {
     let mut t = Tallies::new();
     let mut at: usize = 0;
     while ROW <= index.len() - at {
-        t = row(t, index, at);
+        t = row(rt, t, index, at);
         at += ROW;
     }
     t

@@ -2,14 +2,15 @@
 ghost use Rattle.std.specs.Prelude.{◌≡◌, ◌*◌};
 ghost use Rattle.vectors.specs.Listed.{more as moreOf, nothing, one_source, one_run, one_page, one_back, one_again, one_list, checked, most_of};
 
-use libc::STDOUT_FILENO;
+// Standard output.
+const STDOUT: i32 = 1;
 
 pub fn print(text: &[u8]) {
-    io::write_all(STDOUT_FILENO, text);
+    io::write_all(STDOUT, text);
 }
 
 pub fn print_count(n: u32) {
-    io::print_decimal(STDOUT_FILENO, n as u64);
+    io::print_decimal(STDOUT, n as u64);
 }
 
 // The sources, the runs, the pages, those of them that were read back and those written again, the lists and the differences so far; and of the

@@ -169,16 +169,16 @@ fn pair(
 }
 
 // The bytes of the file whose name begins at `from`.
-fn loaded(index: &[u8], from: usize, buf: &mut [u8; 131072]) -> usize
+fn loaded(rt: &HostRuntime, index: &[u8], from: usize, buf: &mut [u8; 131072]) -> usize
     requires { from ≤ length index.now }
     ensures { result ≤ length buf.new }
 {
     let end = name_end(index, from);
-    load(&index[from..end], buf)
+    load(rt, &index[from..end], buf)
 }
 
 // The row at `from`.
-fn row(t: Tally, index: &[u8], from: usize) -> Tally
+fn row(rt: &HostRuntime, t: Tally, index: &[u8], from: usize) -> Tally
     requires { from + 128 ≤ length index.now }
     ensures { RowTold t result }
 {
@@ -187,11 +187,11 @@ fn row(t: Tally, index: &[u8], from: usize) -> Tally
     let mut second = buffer();
     let mut text = buffer();
     let mut other = buffer();
-    let a = loaded(index, from, &mut prelude);
-    let b = loaded(index, from + 24, &mut first);
-    let c = loaded(index, from + 48, &mut second);
-    let d = loaded(index, from + 72, &mut text);
-    let e = loaded(index, from + 96, &mut other);
+    let a = loaded(rt, index, from, &mut prelude);
+    let b = loaded(rt, index, from + 24, &mut first);
+    let c = loaded(rt, index, from + 48, &mut second);
+    let d = loaded(rt, index, from + 72, &mut text);
+    let e = loaded(rt, index, from + 96, &mut other);
     let lent = number_at(index, from + 120);
     let end = name_end(index, from + 24);
     pair(
@@ -207,13 +207,13 @@ fn row(t: Tally, index: &[u8], from: usize) -> Tally
 }
 
 // Every row counts, whatever its files hold.
-fn pairs(index: &[u8]) -> Tally
+fn pairs(rt: &HostRuntime, index: &[u8]) -> Tally
     ensures { Pairs (length index.now / 128) result }
 {
     let mut t = Tally::new();
     let mut at: usize = 0;
     while PAIR <= index.len() - at {
-        t = row(t, index, at);
+        t = row(rt, t, index, at);
         at += PAIR;
     }
     t
@@ -311,24 +311,24 @@ fn compare(t: Tally, name: &[u8], source: &[u8], named: bool) -> Tally
 }
 
 // The source of the row at `from` of `index`.
-fn one(t: Tally, index: &[u8], from: usize, named: bool) -> Tally
+fn one(rt: &HostRuntime, t: Tally, index: &[u8], from: usize, named: bool) -> Tally
     requires { from + 49 ≤ length index.now }
     ensures { (source : List ℕ) × SourceTold source named t result }
 {
     let mut source = buffer();
-    let n = loaded(index, from, &mut source);
+    let n = loaded(rt, index, from, &mut source);
     let end = name_end(index, from);
     compare(t, &index[from..end], &source[..n], named)
 }
 
 // Every row of `index` counts.
-fn sources(index: &[u8], named: bool) -> Tally
+fn sources(rt: &HostRuntime, index: &[u8], named: bool) -> Tally
     ensures { Sources (length index.now / 49) named result }
 {
     let mut t = Tally::new();
     let mut at: usize = 0;
     while ROW <= index.len() - at {
-        t = one(t, index, at, named);
+        t = one(rt, t, index, at, named);
         at += ROW;
     }
     t
@@ -342,13 +342,13 @@ fn show(t: Tally, what: &[u8]) {
 }
 
 // The rows of both files, counted and shown.
-pub fn all() {
+pub fn all(rt: &HostRuntime) {
     let mut buf = buffer();
-    let n = load(b"twos", &mut buf);
-    let two = pairs(&buf[..n]);
-    let m = load(b"index", &mut buf);
-    let alone = sources(&buf[..m], false);
-    let named = sources(&buf[..m], true);
+    let n = load(rt, b"twos", &mut buf);
+    let two = pairs(rt, &buf[..n]);
+    let m = load(rt, b"index", &mut buf);
+    let alone = sources(rt, &buf[..m], false);
+    let named = sources(rt, &buf[..m], true);
     print_count(two.runs);
     print(b" runs of ");
     show(two, b" pairs of schemes, ");

@@ -2,13 +2,18 @@
 ghost use Rattle.std.specs.Prelude.{◌<◌, ◌≤◌, ◌-◌, max, length};
 
 use showing::characters::width;
+use showing::system::System;
 use showing::text::{least, say};
 
 // The head of the file: how it looks on a screen and, in black and white, on paper.
-pub fn begin(name: &[u8]) {
-    say(b"<!doctype html>\n<html lang=\"en\">\n<head>\n<meta charset=\"utf-8\">\n<title>");
-    say_text(name);
+pub fn begin(system: &System, name: &[u8]) {
     say(
+        system,
+        b"<!doctype html>\n<html lang=\"en\">\n<head>\n<meta charset=\"utf-8\">\n<title>",
+    );
+    say_text(system, name);
+    say(
+        system,
         b"</title>
 <style>
 @page { size: A4; margin: 15mm }
@@ -45,8 +50,8 @@ mark { background: #ffd2d2; color: #000; outline: 2px solid #a00 }
     );
 }
 
-pub fn end() {
-    say(b"</body>\n</html>\n");
+pub fn end(system: &System) {
+    say(system, b"</body>\n</html>\n");
 }
 
 fn digit(d: u8) -> u8
@@ -56,31 +61,31 @@ fn digit(d: u8) -> u8
 }
 
 // A byte that is no text.
-fn say_hex(b: u8) {
+fn say_hex(system: &System, b: u8) {
     let row = [digit(b / 16), digit(b % 16)];
-    say(b"<span class=\"x\">");
-    say(&row);
-    say(b"</span>");
+    say(system, b"<span class=\"x\">");
+    say(system, &row);
+    say(system, b"</span>");
 }
 
-fn say_byte(b: u8) {
+fn say_byte(system: &System, b: u8) {
     match b {
-        b'&' => say(b"&amp;"),
-        b'<' => say(b"&lt;"),
-        b'>' => say(b"&gt;"),
-        b'"' => say(b"&quot;"),
-        b'\'' => say(b"&#39;"),
-        13 => say(b"&#13;"),
+        b'&' => say(system, b"&amp;"),
+        b'<' => say(system, b"&lt;"),
+        b'>' => say(system, b"&gt;"),
+        b'"' => say(system, b"&quot;"),
+        b'\'' => say(system, b"&#39;"),
+        13 => say(system, b"&#13;"),
         9 | 32..=126 => {
             let row = [b];
-            say(&row);
+            say(system, &row);
         }
-        _ => say_hex(b),
+        _ => say_hex(system, b),
     }
 }
 
 // What stands at a place; gives how many bytes that are.
-pub fn say_at(text: &[u8], at: usize) -> usize
+pub fn say_at(system: &System, text: &[u8], at: usize) -> usize
     ensures { (0 < result) × (result ≤ max 1 (length text.now - at)) }
 {
     if text.len() <= at {
@@ -88,17 +93,17 @@ pub fn say_at(text: &[u8], at: usize) -> usize
     }
     let n = least(width(text, at), text.len() - at);
     if 1 < n {
-        say(&text[at..at + n]);
+        say(system, &text[at..at + n]);
     } else {
-        say_byte(text[at]);
+        say_byte(system, text[at]);
     }
     n
 }
 
 // A text.
-pub fn say_text(text: &[u8]) {
+pub fn say_text(system: &System, text: &[u8]) {
     let mut at: usize = 0;
     while at < text.len() {
-        at += say_at(text, at);
+        at += say_at(system, text, at);
     }
 }
