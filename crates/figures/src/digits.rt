@@ -1,7 +1,7 @@
 // Whole numbers of up to 772 digits, the lowest digit first.
 ghost use Rattle.std.specs.Prelude.{◌≡◌, ◌+◌, ◌*◌, ◌-◌, ◌/◌, ◌%◌, ◌^◌, ◌<◌, ◌≤◌, eqb};
 ghost use Rattle.figures.specs.Digits.{value, Number, Spells, places_to};
-ghost use Rattle.figures.specs.Fewest.{scaled as scaledOf};
+ghost use Rattle.figures.specs.Fewest.{scaled as scaled_of};
 
 fn wide(d: u8) -> u64
     ensures { result ≡ d }
@@ -48,7 +48,7 @@ pub fn over(a: usize, b: usize) -> usize
 // The digits of n 32nds of the last binary place of a real with the exponent y, and of `more` on top.
 pub fn scaled(n: u64, y: usize, more: u64) -> [u8; 772]
     requires { (n < 2 ^ 58) × (0 < y) × (y ≤ 2046) × (more < 2) }
-    ensures { Spells result (scaledOf y n + more) }
+    ensures { Spells result (scaled_of y n + more) }
 {
     let mut a = [0; 772];
     times(&mut a, 1, n);

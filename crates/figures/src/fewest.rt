@@ -1,7 +1,7 @@
 // The fewest digits that give a real back.
 ghost use Rattle.std.specs.Prelude.{◌≡◌, ◌+◌, ◌*◌, ◌-◌, ◌/◌, ◌%◌, ◌^◌, ◌<◌, ◌≤◌, leb};
 ghost use Rattle.figures.specs.Digits.{value, Number};
-ghost use Rattle.figures.specs.Fewest.{near, between, least, trimmed as trimmedOf, decimal_of, figures_of, Ready, Finite, Small};
+ghost use Rattle.figures.specs.Fewest.{near, between, least, trimmed as trimmed_of, decimal_of, figures_of, Ready, Finite, Small};
 
 use crate::digits::{clean, head, over, places, scaled};
 
@@ -82,7 +82,7 @@ fn enough(v: &[u8; 772], low: &[u8; 772], high: &[u8; 772], t: usize) -> usize
 // Without the 0 of one digit that was rounded up to ten.
 fn trimmed(c: u64, up: usize, down: usize) -> Decimal
     requires { (c ≤ 10 ^ 17) × (up < 999) × (down < 1100) }
-    ensures is { result ≡ trimmedOf c up down }
+    ensures is { result ≡ trimmed_of c up down }
     ensures small { Small result }
 {
     if c % 10 == 0 {
