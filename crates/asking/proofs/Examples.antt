@@ -13,7 +13,7 @@ use Rattle.symbols.specs.Names.{blank, digit, value_from, equal}
 use Rattle.symbols.specs.Scan.{before}
 use Rattle.asking.specs.Numerals.{digits, spelled, number_of, natural_of, counted, negated, within, integer_of, whole_of}
 use Rattle.asking.specs.Words.{ended, cut, words_of, has, plain, unblanked, separates, unlisted}
-use Rattle.asking.specs.Sorts.{looks, is_option, is_flag, IsNamed, is_misfit, is_twice, is_capital, those, asked}
+use Rattle.asking.specs.Sorts.{looks, is_option, is_flag, is_named, is_misfit, is_twice, is_capital, those, asked}
 use Rattle.asking.specs.Options.{first_number, option_of, together, sizes_of, operands_in}
 use Rattle.asking.specs.Table.{first_row, row_in, row_of, names, matched}
 use Rattle.asking.specs.Lists.{list_words, sent, standing, sent_of, in_front, leading, listed_in}
@@ -108,12 +108,12 @@ plain_is_not_there = refl
 -- ---- rows and options
 
 pub row_of_write : row_of (bytes "write") ≡ bytes "write FILE --plain"
-unfolding row_of row_in first_row those IsNamed before equal
+unfolding row_of row_in first_row those is_named before equal
 row_of_write = refl
 
 -- no beginning of a command's word is one, and no word of another case
 pub no_row : (row_of (bytes "wri") ≡ []) × (row_of (bytes "Run") ≡ []) × (row_of [] ≡ [])
-unfolding row_of row_in first_row those IsNamed before equal
+unfolding row_of row_in first_row those is_named before equal
 no_row = (refl, refl, refl)
 
 pub names_of_check : names (words_of (line "check FILE LIST --plain")) ≡ bytes "FILE" ∷ bytes "LIST" ∷ []

@@ -24,8 +24,8 @@ is_flag w = not (is_option w) && looks w
 -- ---- what is looked for
 
 -- a row whose first word, up to a blank, is w
-unfoldable pub IsNamed : List ℕ → List ℕ → Bool
-IsNamed w row = equal (before 32 row) w
+unfoldable pub is_named : List ℕ → List ℕ → Bool
+is_named w row = equal (before 32 row) w
 
 -- an option that is none of the words of a line
 unfoldable pub is_misfit : List ℕ → List ℕ → Bool
@@ -42,7 +42,7 @@ is_capital w = leb 1 (length w) && leb 65 (get_or w 0 0) && leb (get_or w 0 0) 9
 -- of a word and of those behind it
 abbrev pub of_sort : Sort → List ℕ → List ℕ → List (List ℕ) → Bool
 of_sort Asked arg w ws = not (is_flag w)
-of_sort Named arg w ws = IsNamed arg w
+of_sort Named arg w ws = is_named arg w
 of_sort Misfit arg w ws = is_misfit arg w
 of_sort Twice arg w ws = is_twice w ws
 of_sort Capital arg w ws = is_capital w

@@ -1,7 +1,7 @@
 // Sorts of words, and the first word of a line that is of one.
 ghost use Rattle.std.specs.Prelude.{◌≡◌, ◌≤◌, length, drop};
 ghost use Rattle.asking.specs.Words.{words_of, part, First};
-ghost use Rattle.asking.specs.Sorts.{looks, is_option, is_flag, IsNamed, is_misfit, is_twice, is_capital, of_sort, those, asked_from};
+ghost use Rattle.asking.specs.Sorts.{looks, is_option, is_flag, is_named, is_misfit, is_twice, is_capital, of_sort, those, asked_from};
 
 use crate::words::{Word, has_word, word_from};
 use symbols::text::{find, is_digit, same_bytes};
@@ -54,7 +54,7 @@ fn is_flag(word: &[u8]) -> bool
 
 // Whether a row's first word is this one.
 fn is_named(row: &[u8], word: &[u8]) -> bool
-    ensures { result ≡ IsNamed word.now row.now }
+    ensures { result ≡ is_named word.now row.now }
 {
     let n = find(row, 0, b' ');
     same_bytes(&row[..n], word)

@@ -13,7 +13,7 @@ use borrow.Author.Tests.{leb-true, leb-false}
 use Rattle.symbols.specs.Names.{equal}
 use Rattle.symbols.specs.Scan.{before}
 use Rattle.asking.specs.Words.{words_of, part, unblanked, First, LineOf}
-use Rattle.asking.specs.Sorts.{IsNamed, those, asked, asked_from}
+use Rattle.asking.specs.Sorts.{is_named, those, asked, asked_from}
 use Rattle.asking.specs.Table.{first_row, row_in, row_of}
 use Rattle.asking.specs.declared.words.Word.{Word}
 use Rattle.asking.specs.declared.sorts.Sort.{Sort}
@@ -78,7 +78,7 @@ module _ (w row row' : List ℕ) (n : ℕ) (h : LineOf (row_of w) row n row') (r
 
 -- the word that is none has no row
 no_word : row_of [] ≡ []
-unfolding row_of row_in first_row those IsNamed before equal
+unfolding row_of row_in first_row those is_named before equal
 no_word = refl
 
 -- ---- a line

@@ -11,7 +11,7 @@ use Rattle.symbols.specs.Names.{blank, digit, value_from, equal}
 use Rattle.symbols.specs.Scan.{before}
 use Rattle.asking.specs.Numerals.{digits, spelled, natural_of}
 use Rattle.asking.specs.Words.{ended, cut, words_of, has, unblanked}
-use Rattle.asking.specs.Sorts.{looks, is_option, is_flag, IsNamed, is_misfit, is_twice, is_capital, those}
+use Rattle.asking.specs.Sorts.{looks, is_option, is_flag, is_named, is_misfit, is_twice, is_capital, those}
 use Rattle.asking.specs.Options.{first_number, option_of, together, sizes_of, operands_in}
 use Rattle.asking.specs.Table.{first_row, row_in, row_of, matched}
 use Rattle.desk.specs.Status.{good, bad, nothing, of_taken}
@@ -69,22 +69,22 @@ Right [] = Unit {0}
 Right (r ∷ l) = (of r.text ≡ r.is) × Right l
 
 pub commands : Right rows
-unfolding decided commanded by_row settled well_asked sized full clash once fitting row_line helps matched row_of row_in first_row sizes_of together option_of first_number operands_in those is_capital is_twice is_misfit IsNamed is_flag is_option looks has unblanked cut ended natural_of spelled digits before equal value_from digit blank
+unfolding decided commanded by_row settled well_asked sized full clash once fitting row_line helps matched row_of row_in first_row sizes_of together option_of first_number operands_in those is_capital is_twice is_misfit is_named is_flag is_option looks has unblanked cut ended natural_of spelled digits before equal value_from digit blank
 commands = (refl, (refl, (refl, (refl, (refl, (refl, (refl, (refl, (refl, (refl, (refl, (refl, (refl, (refl, (refl, (refl, (refl, (refl, (refl, (refl, (refl, (refl, (refl, (refl, (refl, tt)))))))))))))))))))))))))
 
 -- a second FILE passed over, and the first one refused
 pub not_passed_over : Keeps (of "read a b") bad → ⊥
-unfolding decided commanded by_row settled well_asked sized full clash once fitting row_line helps matched row_of row_in first_row sizes_of together option_of first_number operands_in those is_capital is_twice is_misfit IsNamed is_flag is_option looks has unblanked cut ended natural_of spelled digits before equal value_from digit blank
+unfolding decided commanded by_row settled well_asked sized full clash once fitting row_line helps matched row_of row_in first_row sizes_of together option_of first_number operands_in those is_capital is_twice is_misfit is_named is_flag is_option looks has unblanked cut ended natural_of spelled digits before equal value_from digit blank
 not_passed_over h = omega arith
 
 -- an option that is none passed over, and the file said good
 pub not_any_option : Keeps (of "read --json a") good → ⊥
-unfolding decided commanded by_row settled well_asked sized full clash once fitting row_line helps matched row_of row_in first_row sizes_of together option_of first_number operands_in those is_capital is_twice is_misfit IsNamed is_flag is_option looks has unblanked cut ended natural_of spelled digits before equal value_from digit blank
+unfolding decided commanded by_row settled well_asked sized full clash once fitting row_line helps matched row_of row_in first_row sizes_of together option_of first_number operands_in those is_capital is_twice is_misfit is_named is_flag is_option looks has unblanked cut ended natural_of spelled digits before equal value_from digit blank
 not_any_option h = omega arith
 
 -- a word that is no command, said good
 pub not_any_word : Keeps (of "reed a") good → ⊥
-unfolding decided commanded by_row settled well_asked sized full clash once fitting row_line helps matched row_of row_in first_row sizes_of together option_of first_number operands_in those is_capital is_twice is_misfit IsNamed is_flag is_option looks has unblanked cut ended natural_of spelled digits before equal value_from digit blank
+unfolding decided commanded by_row settled well_asked sized full clash once fitting row_line helps matched row_of row_in first_row sizes_of together option_of first_number operands_in those is_capital is_twice is_misfit is_named is_flag is_option looks has unblanked cut ended natural_of spelled digits before equal value_from digit blank
 not_any_word h = omega arith
 
 -- lost output, said good

@@ -9,7 +9,7 @@ use lib.Seq.{length-take-le}
 use Rattle.symbols.specs.Names.{equal}
 use Rattle.symbols.specs.Scan.{before}
 use Rattle.symbols.proofs.Laws.{before_most, before_take}
-use Rattle.asking.specs.Sorts.{IsNamed}
+use Rattle.asking.specs.Sorts.{is_named}
 use Rattle.asking.proofs.sorts.is_named.Goals as goal
 
 pub slice_bounds-same_bytes-end : goal.slice_bounds-same_bytes-end
@@ -18,7 +18,7 @@ slice_bounds-same_bytes-end c =
     sym (length-take-le _ _ (omega (arith, c.find-n.ensures, before_most 32 (drop 0 s), length-drop 0 s)))
 
 pub returns : goal.returns
-unfolding IsNamed
+unfolding is_named
 returns c =
     let s = c.args.row.now in
     let w = c.args.word.now in
