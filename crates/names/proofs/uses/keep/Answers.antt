@@ -1,0 +1,7 @@
+-- A word is set behind n others: those stay, and the word is the next.
+use Rattle.names.proofs.UseLaws.{kept}
+use borrow.Author.Rules.{rules}
+use Rattle.names.proofs.uses.keep.Goals as goal
+
+pub returns : goal.returns
+returns c = kept c.args.uses.now c.args.n c.args.word c.requires
