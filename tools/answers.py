@@ -202,6 +202,10 @@ class Function:
                     to = nested(own, rest.strip(".").split("."))
                     if to:
                         return ".".join([var, step, to[0]] + to[1])
+            if step == "fits" and not any(norm(x[1]) == "fits" for x in steps):
+                step = "ranges"
+            if re.match(r"if|loop\d*_test", norm(step)):
+                rest = re.sub(r"\.taken$", ".true", re.sub(r"\.left$", ".false", rest))
             if norm(step) in PLAIN:
                 if step == "requires":
                     return f"{var}{self.own(step, rest)}"

@@ -234,12 +234,12 @@ to_end l k = rw (← length-drop k l) (whole_list (drop k l))
 
 -- a word that was read
 pub word_amount : (x : ℤ) {m : ℕ} → mag x < 2147483648 → m ≡ amount (to_z w32 (of_z w32 x)) → m ≡ amount x
-word_amount x h e = let q : to_z w32 (of_z w32 x) ≡ x = to_z-of_z (record { sfits = h }) in e ∙ ap (λ (z : ℤ). amount z) q
+word_amount x h e = let q : to_z w32 (of_z w32 x) ≡ x = to_z-of_z {w = w32} (record { sfits = h }) in e ∙ ap (λ (z : ℤ). amount z) q
 
 pub halves_read : (x y : ℤ) {m : ℕ} → mag x < 2147483648 → mag y < 2147483648 → m ≡ whole (to_z w32 (of_z w32 x)) (to_z w32 (of_z w32 y)) → m ≡ whole x y
 halves_read x y h k e =
-    let p : to_z w32 (of_z w32 x) ≡ x = to_z-of_z (record { sfits = h }) in
-    let q : to_z w32 (of_z w32 y) ≡ y = to_z-of_z (record { sfits = k }) in
+    let p : to_z w32 (of_z w32 x) ≡ x = to_z-of_z {w = w32} (record { sfits = h }) in
+    let q : to_z w32 (of_z w32 y) ≡ y = to_z-of_z {w = w32} (record { sfits = k }) in
     e ∙ ap₂ (λ (a b : ℤ). whole a b) p q
 
 -- ---- what the scan found
