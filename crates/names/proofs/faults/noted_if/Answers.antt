@@ -1,6 +1,5 @@
 -- `names::faults::noted_if` meets its contract: by the test.
 -- Assumes nothing.
-use borrow.Author.Rules.{rules}
 use Rattle.names.proofs.faults.noted_if.Goals as goal
 
 pub returns-then-test : goal.returns-then-test

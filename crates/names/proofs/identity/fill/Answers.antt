@@ -1,10 +1,8 @@
 -- `names::identity::fill` meets its contract. The identities of the symbols before i stand for their names.
 -- Assumes nothing.
-use mathlib.Core.Path.{◌≡◌, sym, ◌∙◌}
-use Prim.Native.Nat.{◌-◌, ◌≤◌}
+use mathlib.Core.Path.{sym, ◌∙◌}
 use native.Mathlib.Omega.{arith}
-use lib.ListN.{length, length-set}
-use Rattle.names.specs.model.Identity.{Standing}
+use lib.ListN.{length-set}
 use Rattle.names.proofs.Identities.{identified, stands_on}
 use Rattle.names.proofs.identity.fill.Goals as goal
 

@@ -1,11 +1,9 @@
 -- `names::identity::fill` meets its contract. The identities of the symbols before i stand for their names.
 -- Assumes nothing.
-use mathlib.Core.Path.{◌≡◌, sym, ◌∙◌}
+use mathlib.Core.Path.{◌≡◌}
 use Prim.Native.Nat.{◌-◌, ◌≤◌}
-use native.Mathlib.Omega.{arith}
-use lib.ListN.{length, length-set}
+use lib.ListN.{length}
 use Rattle.names.specs.model.Identity.{Standing}
-use Rattle.names.proofs.Identities.{identified, stands_on}
 use Rattle.names.proofs.identity.fill.Given as goal
 
 abbrev pub invariant-loop-i : goal.invariant-loop-i

@@ -1,6 +1,5 @@
 -- `names::identity::given` meets its contract. Each test has told whether the letters are that name's.
 -- Assumes nothing.
-use borrow.Author.Rules.{rules}
 use mathlib.Core.Path.{sym, ◌∙◌}
 use Rattle.names.specs.model.Identity.{number_given}
 use Rattle.names.proofs.identity.given.Goals as goal

@@ -1,13 +1,11 @@
 -- `names::identity::identity` meets its contract. No symbol below j is the same name as the symbol.
 -- Assumes nothing.
 use mathlib.Core.Path.{refl, sym, ap, ◌∙◌}
-use Prim.Native.Nat.{ℕ, ◌+◌, ◌-◌, ◌≤◌}
-use mathlib.Core.Logic.{⊎_elim}
+use Prim.Native.Nat.{ℕ, ◌+◌}
 use native.Mathlib.Omega.{arith}
-use borrow.Author.Rules.{rules}
 use Rattle.symbols.proofs.LetterCase.{same_folded}
 use Rattle.names.specs.model.Rows.{identity_in}
-use Rattle.names.proofs.Identities.{NoneBelow, not_first, not_same, first_as}
+use Rattle.names.proofs.Identities.{not_first, not_same, first_as}
 use Rattle.names.proofs.identity.identity.Goals as goal
 use Rattle.names.proofs.identity.identity.Goals.{then-ids-j+else-same_name, else-ids-j}
 
@@ -50,8 +48,10 @@ loop-j-preserved c =
     let a = c.args in
     let l = c.loop-j in
     let t = c.loop-j-test.true in
-    elim c.if-ids-j.branch [ then-ids-j+else-same_name w ↦ (omega (arith, t), not_same a.source.now a.places.now a.ids.now a.symbol.number l.j (sym w.same_name.ensures ∙ w.if-same_name.false) l.invariant.1)
-    | else-ids-j w ↦ (omega (arith, t), not_first a.source.now a.places.now a.ids.now a.symbol.number l.j c.requires.2 t (omega (arith, c.given-g.ensures, c.if-g-lt5.false)) w.if-ids-j.false l.invariant.1) ]
+    elim c.if-ids-j.branch [
+      | then-ids-j+else-same_name w ↦ (omega (arith, t), not_same a.source.now a.places.now a.ids.now a.symbol.number l.j (sym w.same_name.ensures ∙ w.if-same_name.false) l.invariant.1)
+      | else-ids-j w ↦ (omega (arith, t), not_first a.source.now a.places.now a.ids.now a.symbol.number l.j c.requires.2 t (omega (arith, c.given-g.ensures, c.if-g-lt5.false)) w.if-ids-j.false l.invariant.1)
+    ]
 
 pub returns : goal.returns
 returns c =

@@ -1,13 +1,7 @@
 -- `names::identity::identity` meets its contract. No symbol below j is the same name as the symbol.
 -- Assumes nothing.
-use mathlib.Core.Path.{refl, sym, ap, ◌∙◌}
-use Prim.Native.Nat.{ℕ, ◌+◌, ◌-◌, ◌≤◌}
-use mathlib.Core.Logic.{⊎_elim}
-use native.Mathlib.Omega.{arith}
-use borrow.Author.Rules.{rules}
-use Rattle.symbols.proofs.LetterCase.{same_folded}
-use Rattle.names.specs.model.Rows.{identity_in}
-use Rattle.names.proofs.Identities.{NoneBelow, not_first, not_same, first_as}
+use Prim.Native.Nat.{◌-◌, ◌≤◌}
+use Rattle.names.proofs.Identities.{NoneBelow}
 use Rattle.names.proofs.identity.identity.Given as goal
 
 abbrev pub invariant-loop-j : goal.invariant-loop-j

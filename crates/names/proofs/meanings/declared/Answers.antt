@@ -1,6 +1,5 @@
 -- `names::meanings::declared` meets its contract: the test of the definition.
 use borrow.Author.Tests.{lt-ltb, le-ltb}
-use borrow.Author.Rules.{rules}
 use Rattle.names.specs.model.Rows.{meant_number}
 use Rattle.names.proofs.meanings.declared.Goals as goal
 

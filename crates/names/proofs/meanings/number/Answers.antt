@@ -1,5 +1,4 @@
 -- `names::meanings::number` meets its contract: a case for each kind of meaning.
-use borrow.Author.Rules.{rules}
 use Rattle.names.specs.model.Rows.{meant_number}
 use Rattle.names.proofs.meanings.number.Goals as goal
 

@@ -2,7 +2,6 @@
 -- Assumes nothing.
 use mathlib.Core.Path.{refl}
 use Rattle.names.proofs.OutlineLaws.{bodied_is}
-use borrow.Author.Rules.{rules}
 use Rattle.names.proofs.outline.body.Goals as goal
 
 pub returns : goal.returns

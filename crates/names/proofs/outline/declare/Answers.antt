@@ -3,7 +3,6 @@
 use mathlib.Core.Path.{refl}
 use native.Mathlib.Omega.{arith}
 use Rattle.names.proofs.OutlineLaws.{within_next, declared_is}
-use borrow.Author.Rules.{rules}
 use Rattle.names.proofs.outline.declare.Goals as goal
 
 pub returns : goal.returns

@@ -1,7 +1,6 @@
 -- `names::outline::formal` meets its contract: what it declares and notes is what `formalled` has.
 -- Assumes nothing.
 use Rattle.names.proofs.OutlineLaws.{formalled_is}
-use borrow.Author.Rules.{rules}
 use Rattle.names.proofs.outline.formal.Goals as goal
 
 pub returns : goal.returns

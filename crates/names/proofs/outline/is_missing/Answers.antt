@@ -1,7 +1,6 @@
 -- `names::outline::is_missing` meets its contract: the two tests, in their order.
 -- Assumes nothing.
 use borrow.Author.Tests.{eq-eqb, ne_eqb}
-use borrow.Author.Rules.{rules}
 use Rattle.names.proofs.outline.is_missing.Goals as goal
 
 pub returns-then-r-scope : goal.returns-then-r-scope

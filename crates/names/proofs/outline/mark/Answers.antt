@@ -1,7 +1,6 @@
 -- `names::outline::mark` meets its contract: it notes 9, or tells the rows.
 -- Assumes nothing.
 use mathlib.Core.Path.{refl}
-use borrow.Author.Rules.{rules}
 use Rattle.names.proofs.OutlineLaws.{again_is, said_is}
 use Rattle.names.proofs.outline.mark.Goals as goal
 

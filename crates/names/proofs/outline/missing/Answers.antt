@@ -1,11 +1,7 @@
 -- `names::outline::missing` meets its contract: what the rest lacks is what all lack.
 -- Assumes nothing.
-use mathlib.Core.Path.{◌≡◌, refl, sym, ◌∙◌}
-use Prim.Native.Nat.{◌*◌, ◌-◌, ◌≤◌}
+use mathlib.Core.Path.{refl, sym, ◌∙◌}
 use native.Mathlib.Omega.{arith}
-use lib.ListN.{length, drop}
-use borrow.Author.Rules.{rules}
-use Rattle.names.specs.model.Rows.{missing_in}
 use Rattle.names.proofs.RowLaws.{missing_stop, missing_next, missing_end}
 use Rattle.names.proofs.outline.missing.Goals as goal
 

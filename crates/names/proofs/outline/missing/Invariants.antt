@@ -1,12 +1,9 @@
 -- `names::outline::missing` meets its contract: what the rest lacks is what all lack.
 -- Assumes nothing.
-use mathlib.Core.Path.{◌≡◌, refl, sym, ◌∙◌}
+use mathlib.Core.Path.{◌≡◌}
 use Prim.Native.Nat.{◌*◌, ◌-◌, ◌≤◌}
-use native.Mathlib.Omega.{arith}
 use lib.ListN.{length, drop}
-use borrow.Author.Rules.{rules}
 use Rattle.names.specs.model.Rows.{missing_in}
-use Rattle.names.proofs.RowLaws.{missing_stop, missing_next, missing_end}
 use Rattle.names.proofs.outline.missing.Given as goal
 
 abbrev pub invariant-loop-j : goal.invariant-loop-j

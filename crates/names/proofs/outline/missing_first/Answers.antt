@@ -3,7 +3,6 @@
 use mathlib.Core.Path.{sym}
 use Prim.Native.Nat.{◌*◌}
 use lib.Seq.{length-take-le}
-use borrow.Author.Rules.{rules}
 use Rattle.names.proofs.outline.missing_first.Goals as goal
 
 pub slice_bounds-missing-end : goal.slice_bounds-missing-end

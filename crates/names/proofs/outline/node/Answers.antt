@@ -3,7 +3,6 @@
 use mathlib.Core.Path.{sym, ◌∙◌}
 use native.Mathlib.Omega.{arith}
 use Rattle.names.proofs.OutlineLaws.{within_next, within_same, entered_is, left_is, typed_is, at_block, at_end, at_type, at_variable, at_procedure, at_formal, at_value, at_specified, at_body, at_other}
-use borrow.Author.Rules.{rules}
 use Rattle.names.proofs.outline.node.Goals as goal
 
 pub returns-in-1 : goal.returns-in-1

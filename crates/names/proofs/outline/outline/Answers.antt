@@ -2,7 +2,6 @@
 -- Assumes nothing.
 use mathlib.Core.Path.{ap}
 use Rattle.names.specs.model.Rows.{Known}
-use borrow.Author.Rules.{rules}
 use Rattle.names.proofs.outline.outline.Goals as goal
 
 pub returns : goal.returns

@@ -1,6 +1,5 @@
 -- `names::outline::rows_here` meets its contract: its scope is the innermost, its identity the name's.
 -- Assumes nothing.
-use borrow.Author.Rules.{rules}
 use Rattle.names.proofs.outline.rows_here.Goals as goal
 
 pub returns : goal.returns

@@ -1,13 +1,10 @@
 -- `names::outline::walk` meets its contract: the nodes that are left, folded from here, give the whole.
 -- Assumes nothing.
-use mathlib.Core.Path.{◌≡◌, refl, sym, ap, ◌∙◌}
-use Prim.Native.Nat.{◌+◌, ◌*◌, ◌-◌, ◌≤◌}
-use native.Mathlib.Omega.{arith}
+use mathlib.Core.Path.{◌≡◌}
+use Prim.Native.Nat.{◌*◌, ◌-◌, ◌≤◌}
 use lib.ListN.{length, drop}
-use Rattle.names.specs.model.Rows.{opens_of, fold_nodes, outline_node, outline_of}
+use Rattle.names.specs.model.Rows.{fold_nodes, outline_node, outline_of}
 use Rattle.names.specs.model.Arrays.{see_outline, OutlineWithin}
-use Rattle.names.proofs.RowLaws.{fold_on, fold_end}
-use Rattle.names.proofs.OutlineLaws.{within_le}
 use Rattle.names.proofs.outline.walk.Given as goal
 
 abbrev pub invariant-loop-i : goal.invariant-loop-i

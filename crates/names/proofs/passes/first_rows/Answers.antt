@@ -4,7 +4,6 @@ use Prim.Native.Nat.{◌*◌}
 use native.Mathlib.Omega.{arith}
 use lib.ListN.{length-take}
 use lib.Seq.{take_all}
-use borrow.Author.Rules.{rules}
 use Rattle.names.proofs.passes.first_rows.Goals as goal
 
 pub returns-then-count-lt8192 : goal.returns-then-count-lt8192

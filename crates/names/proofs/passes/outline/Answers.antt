@@ -1,7 +1,6 @@
 -- `names::passes::outline` meets its contract: what the pass gives for the nodes that are in use.
 use native.Mathlib.Omega.{arith}
 use lib.ListN.{length-take}
-use borrow.Author.Rules.{rules}
 use Rattle.names.proofs.passes.outline.Goals as goal
 
 pub outline-o-requires : goal.outline-o-requires

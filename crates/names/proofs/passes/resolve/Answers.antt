@@ -1,7 +1,6 @@
 -- `names::passes::resolve` meets its contract: what the pass gives for the nodes and rows that are in use.
 use native.Mathlib.Omega.{arith}
 use lib.ListN.{length-take}
-use borrow.Author.Rules.{rules}
 use Rattle.names.proofs.passes.resolve.Goals as goal
 
 pub resolve-u-requires : goal.resolve-u-requires

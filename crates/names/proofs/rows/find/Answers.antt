@@ -1,11 +1,7 @@
 -- `names::rows::find` meets its contract: the rows passed and what is found among the rest make what is found in all.
 -- Assumes nothing.
-use mathlib.Core.Path.{◌≡◌, sym, ◌∙◌}
-use Prim.Native.Nat.{◌+◌, ◌*◌, ◌-◌, ◌≤◌}
+use mathlib.Core.Path.{sym, ◌∙◌}
 use native.Mathlib.Omega.{arith}
-use lib.ListN.{length, drop}
-use borrow.Author.Rules.{rules}
-use Rattle.names.specs.model.Rows.{find_row}
 use Rattle.names.proofs.RowLaws.{find_stop, find_next, find_end}
 use Rattle.names.proofs.rows.find.Goals as goal
 

@@ -1,12 +1,9 @@
 -- `names::rows::find` meets its contract: the rows passed and what is found among the rest make what is found in all.
 -- Assumes nothing.
-use mathlib.Core.Path.{◌≡◌, sym, ◌∙◌}
+use mathlib.Core.Path.{◌≡◌}
 use Prim.Native.Nat.{◌+◌, ◌*◌, ◌-◌, ◌≤◌}
-use native.Mathlib.Omega.{arith}
 use lib.ListN.{length, drop}
-use borrow.Author.Rules.{rules}
 use Rattle.names.specs.model.Rows.{find_row}
-use Rattle.names.proofs.RowLaws.{find_stop, find_next, find_end}
 use Rattle.names.proofs.rows.find.Given as goal
 
 abbrev pub invariant-loop-j : goal.invariant-loop-j

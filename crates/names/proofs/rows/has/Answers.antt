@@ -1,7 +1,6 @@
 -- `names::rows::has` meets its contract: a row is found exactly where its number is below how many there are.
 -- Assumes nothing.
 use Rattle.names.proofs.RowLaws.{has_found}
-use borrow.Author.Rules.{rules}
 use Rattle.names.proofs.rows.has.Goals as goal
 
 pub returns : goal.returns

@@ -3,7 +3,6 @@
 use mathlib.Core.Path.{sym}
 use lib.Seq.{length-take-le}
 use Prim.Native.Nat.{◌*◌}
-use borrow.Author.Rules.{rules}
 use Rattle.names.proofs.rows.has_first.Goals as goal
 
 pub slice_bounds-has-end : goal.slice_bounds-has-end

@@ -3,7 +3,6 @@
 use mathlib.Core.Path.{refl, sym}
 use lib.ListN.{get_or-eq_default}
 use Rattle.names.specs.model.Rows.{identity_in}
-use borrow.Author.Rules.{rules}
 use Rattle.names.proofs.rows.identity_in.Goals as goal
 
 pub returns-then-s-ids : goal.returns-then-s-ids

@@ -1,7 +1,6 @@
 -- `names::rows::is_sought` meets its contract: the test of a row, of this one.
 -- Assumes nothing.
 use mathlib.Core.Path.{sym}
-use borrow.Author.Rules.{rules}
 use Rattle.names.proofs.rows.is_sought.Goals as goal
 
 pub returns : goal.returns

@@ -2,7 +2,6 @@
 -- Assumes nothing.
 use mathlib.Core.Path.{sym}
 use native.Mathlib.Omega.{arith}
-use borrow.Author.Rules.{rules}
 use Rattle.names.proofs.RowLaws.{row_at, row_none}
 use Rattle.names.proofs.rows.row.Goals as goal
 

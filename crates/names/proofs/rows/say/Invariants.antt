@@ -1,12 +1,10 @@
 -- `names::rows::say` meets its contract: the rows passed are told, and the rest is yet to be.
 -- Assumes nothing.
-use mathlib.Core.Path.{◌≡◌, refl, ap, ◌∙◌}
-use mathlib.Core.List.{List}
-use Prim.Native.Nat.{ℕ, ◌+◌, ◌*◌, ◌-◌, ◌≤◌}
-use native.Mathlib.Omega.{arith}
+use mathlib.Core.Path.{◌≡◌}
+use Prim.Native.Nat.{◌*◌, ◌-◌, ◌≤◌}
 use lib.ListN.{length, take}
 use Rattle.names.specs.model.Rows.{saying}
-use Rattle.names.proofs.RowLaws.{told_to, tell_size, tell_next, told_all}
+use Rattle.names.proofs.RowLaws.{told_to}
 use Rattle.names.proofs.rows.say.Given as goal
 
 abbrev pub invariant-loop-j : goal.invariant-loop-j

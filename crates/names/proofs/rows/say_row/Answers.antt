@@ -1,7 +1,5 @@
 -- `names::rows::say_row` meets its contract: the row is told where it is looked for.
 -- Assumes nothing.
-use native.Mathlib.Omega.{arith}
-use borrow.Author.Rules.{rules}
 use Rattle.names.proofs.RowLaws.{tell_not, tell_does}
 use Rattle.names.proofs.rows.say_row.Goals as goal
 

@@ -2,7 +2,6 @@
 -- Assumes nothing.
 use mathlib.Core.Path.{ap, ◌∙◌}
 use Rattle.names.specs.declared.Row.{Row}
-use borrow.Author.Rules.{rules}
 use Rattle.names.proofs.RowLaws.{said_here, said_nowhere}
 use Rattle.names.proofs.rows.says.Goals as goal
 

@@ -3,7 +3,6 @@
 use native.Mathlib.Omega.{arith}
 use lib.ListN.{length-set}
 use Rattle.grammar.proofs.FourWords.{written}
-use borrow.Author.Rules.{rules}
 use Rattle.names.proofs.rows.write.Goals as goal
 
 pub bounds-rows-second : goal.bounds-rows-second

@@ -2,7 +2,6 @@
 -- Assumes nothing.
 use Rattle.names.specs.model.Rows.{opens_of, here_in}
 use Rattle.names.proofs.RowLaws.{opens_here}
-use borrow.Author.Rules.{rules}
 use Rattle.names.proofs.scopes.here.Goals as goal
 
 pub returns-then-o-eq0 : goal.returns-then-o-eq0

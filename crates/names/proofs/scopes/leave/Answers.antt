@@ -4,7 +4,6 @@ use mathlib.Core.Path.{refl}
 use native.Mathlib.Omega.{arith}
 use Rattle.names.specs.model.Rows.{opens_of, outward}
 use Rattle.names.proofs.RowLaws.{opens_leave}
-use borrow.Author.Rules.{rules}
 use Rattle.names.proofs.scopes.leave.Goals as goal
 
 pub returns-then-o-eq0 : goal.returns-then-o-eq0

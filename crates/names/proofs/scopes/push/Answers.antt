@@ -1,7 +1,6 @@
 -- `names::scopes::push` meets its contract: the word written is the new head.
 -- Assumes nothing.
 use Rattle.names.proofs.RowLaws.{opens_enter}
-use borrow.Author.Rules.{rules}
 use Rattle.names.proofs.scopes.push.Goals as goal
 
 pub returns : goal.returns

@@ -1,6 +1,5 @@
 -- A word is set behind n others: those stay, and the word is the next.
 use Rattle.names.proofs.UseLaws.{kept}
-use borrow.Author.Rules.{rules}
 use Rattle.names.proofs.uses.keep.Goals as goal
 
 pub returns : goal.returns

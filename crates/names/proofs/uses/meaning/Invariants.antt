@@ -1,11 +1,8 @@
 -- `uses::meaning` searches the scopes that are open, from the innermost outward.
 -- The invariant: what the name means in the scopes that are left is what it means in all of them.
 use Prim.Native.Nat.{◌≤◌}
-use mathlib.Core.Path.{◌≡◌, refl, sym, ◌∙◌}
-use native.Mathlib.Omega.{arith}
-use borrow.Author.Rules.{rules}
+use mathlib.Core.Path.{◌≡◌}
 use Rattle.names.specs.model.Rows.{opens_of, meant_in}
-use Rattle.names.proofs.UseLaws.{meant_here, meant_outward, meant_outside}
 use Rattle.names.proofs.uses.meaning.Given as goal
 
 abbrev pub invariant-loop-d : goal.invariant-loop-d

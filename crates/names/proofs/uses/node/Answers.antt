@@ -2,9 +2,8 @@
 -- For each arm the kind is one of a few numbers, and the definition at these is a law of UseLaws.
 use Prim.Native.Nat.{◌≤◌, ◌<◌}
 use mathlib.Core.Path.{◌≡◌}
-use mathlib.Core.Logic.{◌⊎◌, ⊎_elim, inl, inr}
+use mathlib.Core.Logic.{◌⊎◌, inl, inr}
 use native.Mathlib.Omega.{arith}
-use borrow.Author.Rules.{rules}
 use Rattle.names.specs.model.Arrays.{see_uses}
 use Rattle.names.proofs.UseLaws.{uses_name, passes, node_opens, node_closes}
 use Rattle.names.proofs.uses.node.Goals as goal

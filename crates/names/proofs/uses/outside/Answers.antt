@@ -2,7 +2,6 @@
 -- The two tests of the code are those of the definition, in the same order.
 use borrow.Author.Tests.{lt-ltb, le-ltb}
 use Rattle.names.specs.model.Rows.{outside_of}
-use borrow.Author.Rules.{rules}
 use Rattle.names.proofs.uses.outside.Goals as goal
 
 pub returns-then-id-lt-OUTSIDE : goal.returns-then-id-lt-OUTSIDE

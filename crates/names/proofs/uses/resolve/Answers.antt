@@ -2,7 +2,6 @@
 -- Of what the walk has seen it promises the words that keep the uses, and the least fault.
 use mathlib.Core.Path.{ap}
 use Rattle.names.specs.model.Rows.{Found}
-use borrow.Author.Rules.{rules}
 use Rattle.names.proofs.uses.resolve.Goals as goal
 
 pub returns : goal.returns

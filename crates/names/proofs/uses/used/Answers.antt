@@ -5,7 +5,6 @@ use mathlib.Core.Bool.{false}
 use mathlib.Core.List.{[], ◌∷◌}
 use mathlib.Core.Logic.{⊎_elim}
 use native.Mathlib.Omega.{arith}
-use borrow.Author.Rules.{rules}
 use types.Run.{OneOf}
 use denote.Enum.Declared.{tag_of}
 use Rattle.names.specs.model.Rows.{is_nothing}
@@ -25,20 +24,26 @@ declares Nothing h = absurd (⊎_elim (λ e. omega arith) (λ e. omega arith) h)
 pub returns-in-Nothing : goal.returns-in-Nothing
 returns-in-Nothing c =
     let a = c.args in
-    let m = c.meaning-m in record { stack_after = use_seen a.ids.now a.rows.now a.uses.now c.keep.new.uses a.stack.now a.u a.symbol.number c.identity_of.result c.number.result c.noted.result m.result
+    let m = c.meaning-m in record {
+      stack_after = use_seen a.ids.now a.rows.now a.uses.now c.keep.new.uses a.stack.now a.u a.symbol.number c.identity_of.result c.number.result c.noted.result m.result
           c.identity_of.ensures
           m.ensures
           c.number.ensures
           c.keep.ensures
-          (c.noted.ensures ∙ rw c.in-Nothing.is); by_index = λ i w. omega arith }
+          (c.noted.ensures ∙ rw c.in-Nothing.is);
+      by_index = λ i w. omega arith;
+    }
 
 pub returns-in_default : goal.returns-in_default
 returns-in_default c =
     let a = c.args in
     let m = c.meaning-m in
-    let e = declares m.result (opened c.in_default.in_default-own.keys2) in record { stack_after = use_seen a.ids.now a.rows.now a.uses.now c.keep.new.uses a.stack.now a.u a.symbol.number c.identity_of.result c.number.result a.u.least m.result
+    let e = declares m.result (opened c.in_default.in_default-own.keys2) in record {
+      stack_after = use_seen a.ids.now a.rows.now a.uses.now c.keep.new.uses a.stack.now a.u a.symbol.number c.identity_of.result c.number.result a.u.least m.result
           c.identity_of.ensures
           m.ensures
           c.number.ensures
           c.keep.ensures
-          (rw e); by_index = λ i w. omega arith }
+          (rw e);
+      by_index = λ i w. omega arith;
+    }

@@ -1,11 +1,11 @@
 -- `uses::walk` is the fold over the nodes.
 -- The invariant: what the nodes from i on make of what is seen so far is what all nodes make; each node adds at most one use and one scope.
-use Prim.Native.Nat.{◌+◌, ◌-◌, ◌*◌, ◌≤◌}
-use mathlib.Core.Path.{◌≡◌, refl, sym, ◌∙◌}
+use Prim.Native.Nat.{◌+◌, ◌*◌}
+use mathlib.Core.Path.{refl, sym, ◌∙◌}
 use native.Mathlib.Omega.{arith}
-use lib.ListN.{length, get_or, drop}
-use Rattle.names.specs.model.Rows.{fold_nodes, opens_of, use_node, uses_of}
-use Rattle.names.specs.model.Arrays.{see_uses, UsesWithin}
+use lib.ListN.{get_or}
+use Rattle.names.specs.model.Rows.{opens_of, use_node, uses_of}
+use Rattle.names.specs.model.Arrays.{see_uses}
 use Rattle.names.proofs.RowLaws.{fold_end}
 use Rattle.names.proofs.UseLaws.{fold_next}
 use Rattle.names.proofs.uses.walk.Goals as goal

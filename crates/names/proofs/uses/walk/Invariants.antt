@@ -1,13 +1,10 @@
 -- `uses::walk` is the fold over the nodes.
 -- The invariant: what the nodes from i on make of what is seen so far is what all nodes make; each node adds at most one use and one scope.
-use Prim.Native.Nat.{◌+◌, ◌-◌, ◌*◌, ◌≤◌}
-use mathlib.Core.Path.{◌≡◌, refl, sym, ◌∙◌}
-use native.Mathlib.Omega.{arith}
-use lib.ListN.{length, get_or, drop}
-use Rattle.names.specs.model.Rows.{fold_nodes, opens_of, use_node, uses_of}
+use Prim.Native.Nat.{◌-◌, ◌*◌, ◌≤◌}
+use mathlib.Core.Path.{◌≡◌}
+use lib.ListN.{length, drop}
+use Rattle.names.specs.model.Rows.{fold_nodes, use_node, uses_of}
 use Rattle.names.specs.model.Arrays.{see_uses, UsesWithin}
-use Rattle.names.proofs.RowLaws.{fold_end}
-use Rattle.names.proofs.UseLaws.{fold_next}
 use Rattle.names.proofs.uses.walk.Given as goal
 
 abbrev pub invariant-loop-i : goal.invariant-loop-i
