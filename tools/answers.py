@@ -132,6 +132,7 @@ def open_lets(text):
 
 def declarations(text):
     """(comment, head line, body lines) of each declaration of a file, its uses and its first comment."""
+    text = re.sub(r"(?m)^(use [^\n{]*\{)\n((?:  [^\n]*\n)+)\}", lambda m: m.group(1) + ", ".join(x.strip().rstrip(",") for x in m.group(2).split("\n") if x.strip()) + "}", text)
     uses, decls, head = [], [], []
     now = None
     pending = []
@@ -150,7 +151,7 @@ def declarations(text):
         if line.startswith("--"):
             pending.append(line)
             continue
-        m = re.match(r"(?:abbrev |unfoldable )?(?:pub )?(?:abbrev |unfoldable )?(" + NAME + r"(?: \{[^}]*\})*) : ", line)
+        m = re.match(r"(?:abbrev |unfoldable )?(?:pub )?(?:abbrev |unfoldable )?(" + NAME + r"(?: \{[^}]*\})*) :(?: |$)", line)
         if m and not line.startswith(" "):
             now = {"name": m.group(1).split(" ")[0], "lines": [line], "comment": pending}
             decls.append(now)
@@ -177,6 +178,7 @@ class Function:
     def __init__(self, crate, folder, info, labels):
         self.crate, self.folder, self.info, self.labels = crate, folder, info, labels
         self.said = []
+        self.cycle = False
         self.places = {p[0]: (i, p) for i, p in enumerate(info["places"])}
 
     def chain(self, place):
@@ -196,6 +198,11 @@ class Function:
 
         def one(m):
             befores, step, rest = m.group(1).count(".before"), m.group(2), m.group(3)
+            if step == "requires" and self.cycle:
+                if rest == ".0":
+                    return f"{var}.decreases"
+                if rest == ".1" or rest.startswith(".1."):
+                    return f"{var}{self.own(step, rest[2:])}"
             if step == "requires":
                 own = (self.info.get("pre") or {}).get("fields") or []
                 if len(own) > 1 and all(own) and rest:
@@ -324,6 +331,13 @@ class Function:
                 if to:
                     return "." + ".".join([m.group(1), to[0]] + to[1])
         return rest
+
+    def finish(self, new, text, uses):
+        text = re.sub(r"not-(true|false) (?:_|\([^()]*\)|" + NAME + r"(?:\." + NAME + r")*) (" + NAME + r"(?:\." + NAME + r")*)\.\1-raw(?![\w.-])", r"\2.\1", text)
+        text = re.sub(r"(?<![\w.])(c\.(in_default[\w-]*)\.\2-own\.keys\d*)(?![\w.-])", r"(opened \1)", text)
+        if "(opened c." in text and "use borrow.Enum.Refused.{opened}" not in uses:
+            uses.append("use borrow.Enum.Refused.{opened}")
+        return text
 
     def asked_of(self, new):
         """The names of the clauses that a goal asks, where they have names."""
@@ -478,10 +492,7 @@ class Function:
             asked = self.asked_of(new)
             if len(asked) > 1 and all(asked):
                 text_ = as_record(text_, asked) or text_
-            text_ = re.sub(r"not-(true|false) (?:_|\([^()]*\)|" + NAME + r"(?:\." + NAME + r")*) (" + NAME + r"(?:\." + NAME + r")*)\.\1-raw(?![\w.-])", r"\2.\1", text_)
-            text_ = re.sub(r"(?<![\w.])(c\.(in_default[\w-]*)\.\2-own\.keys\d*)(?![\w.-])", r"(opened \1)", text_)
-            if "(opened c." in text_ and "use borrow.Enum.Refused.{opened}" not in uses:
-                uses.append("use borrow.Enum.Refused.{opened}")
+            text_ = self.finish(new, text_, uses)
             text_ = self.by_clauses(new, text_)
             if re.search(r"c(?:\.before)+(?![.\w])", text_):
                 self.said.append(f"{new} passes on a whole record")
@@ -498,6 +509,93 @@ class Function:
         if ans_out or helpers:
             out["Answers.antt"] = head + uses + [f"use {path}.Goals as goal"] + [l for d in helpers + ans_out for l in [""] + d]
         return out
+
+
+def turn_cycle(crate, rel, text, infos, labels):
+    """The two files of a folder of functions that call each other or themselves, and what is left to look at."""
+    head, uses, decls = declarations(text)
+    spec = [d for d in decls if d["name"].startswith("+") and d["name"].endswith(("-spec", "_spec"))]
+    if not spec or "lts.spec" not in "\n".join(spec[0]["lines"]):
+        return None, []
+    body = "\n".join(spec[0]["lines"][1:])
+    unfolds = [l for l in spec[0]["lines"][1:] if l.startswith("unfolding ")]
+    by_name = {d["name"]: d for d in decls if d is not spec[0]}
+    params = {}
+    for i in infos.values():
+        params.update({k.split("::")[-1]: v for k, v in i["params"].items()})
+    used, said, inv, ans, goals = set(), [], [], [], []
+    for d in decls:
+        m = re.match(r"abbrev (?:pub )?(\S+) : Measures ", d["lines"][0])
+        if m:
+            fn = norm(d["name"].split("-", 1)[1])
+            used.add(d["name"])
+            eq = "\n".join(d["lines"][1:]).split("=", 1)[1]
+            names = params.get(fn, [])
+            eq = re.sub(r"(?<![\w.])a((?:\.1)*)\.0(?![\w])", lambda m: "l." + names[len(m.group(1)) // 2] if len(m.group(1)) // 2 < len(names) else m.group(0), eq)
+            inv.append([f"abbrev pub decreases-{fn} : goal.decreases-{fn}", f"decreases-{fn} l ={eq}"])
+        elif re.search(r" : (?:ℕ → )?In \d|\.Claims$|borrow\.Fn", d["lines"][0]) or d["name"].endswith(("-at", "_at", "-below", "_below", "-calls", "_calls")):
+            used.add(d["name"])
+    plans = []
+    for m in re.finditer(r"(\S+?)[-_]lts\.spec", body):
+        fn = norm(m.group(1).lstrip("("))
+        if fn not in infos:
+            said.append(f"no function {fn} in names.json")
+            continue
+        info = infos[fn]
+        f = Function(crate, os.path.dirname(rel) + "/" + fn if "/" in rel else fn, info, labels)
+        f.cycle = True
+        args = split_terms(body[m.end() :])[3:]
+        first = len(args) - len(info["needs"])
+        if first:
+            f.said.append(f"{fn}: {len(args)} arguments for {len(info['needs'])} goals")
+        stem = info["stem"]
+        for k, (old, new) in enumerate(info["needs"]):
+            arg = args[first + k] if 0 <= first + k < len(args) else None
+            if arg is None or re.fullmatch(r"\(λ (?:c|_)(?: (?:κs|_))?\. (?:search rules|omega arith|search)\)", arg) and not unfolds:
+                continue
+            plans.append((f, stem, new, arg, info["asked_at"][k][0]))
+    to = {}
+    for f, stem, new, arg, place in plans:
+        m = re.fullmatch(r"\((\S+) t\)", arg)
+        if m:
+            to[m.group(1)] = stem + new
+    for f, stem, new, arg, place in plans:
+        goal = stem + new
+        m = re.fullmatch(r"\((\S+) t\)", arg)
+        if m and m.group(1) in by_name:
+            d = by_name[m.group(1)]
+            used.add(d["name"])
+            k = next(i for i, l in enumerate(d["lines"]) if l.startswith(d["name"] + " t "))
+            sign = d["comment"] + [f"pub {goal} : goal.{goal}"] + [l for l in d["lines"][1:k] if l.startswith("unfolding ")]
+            lines = "\n".join(d["lines"][k:])
+            lines = re.sub(r"^" + re.escape(d["name"]) + r" t (\S+)(?: (?:κs|_))?(?= )", goal + r" t \1", lines)
+        else:
+            m = re.fullmatch(r"\(λ (c|_)(?: (?:κs|_))?\. (.*)\)", arg, re.S)
+            if not m:
+                f.said.append(f"{goal}: {arg[:60]}")
+                continue
+            sign = [f"pub {goal} : goal.{goal}"] + unfolds
+            lines = f"{goal} t {m.group(1)} = {m.group(2)}"
+        at, rest = lines.index("="), lines
+        rest = re.sub(r"(?<![^\s(){},;])" + NAME + r"(?![^\s(){},;])", lambda m: to.get(m.group(0), m.group(0)), lines[at:])
+        text_ = f.finish(goal, f.turn_paths(open_lets(rest), place), uses)
+        ans.append(sign + (lines[:at] + text_).split("\n"))
+        for s in f.said:
+            if s not in said:
+                said.append(s)
+    helpers = [d["comment"] + d["lines"] for d in decls if d is not spec[0] and d["name"] not in used]
+    for d in decls:
+        if d is not spec[0] and d["name"] not in used and re.search(r"-lts\.|\.Reads|\.Need-", "\n".join(d["lines"])):
+            said.append(f"the helper {d['name']} speaks of steps")
+    gone = r"\.(?:Reads|Kinds|Lts-\S+) as |\.\{\s*statement,?\s*\}|\.Tie\.\{|borrow\.Fn\."
+    uses = [u for u in dict.fromkeys(uses) if not re.search(gone, u)]
+    path = "Rattle." + os.path.basename(crate) + ".proofs." + rel.replace("/", ".")
+    out = {}
+    if inv:
+        out["Invariants.antt"] = head + uses + [f"use {path}.Given as goal"] + [l for d in inv for l in [""] + d]
+    if ans or helpers:
+        out["Answers.antt"] = head + uses + [f"use {path}.Goals as goal"] + [l for d in helpers + ans for l in [""] + d]
+    return out, said
 
 
 def labels_of(crate):
@@ -545,6 +643,26 @@ def main(words):
         key = f"Rattle-{os.path.basename(os.path.abspath(crate))}-proofs." + rel.replace("/", ".") + ".Lts"
         path = os.path.join(folder, "Proof.antt")
         text = open(path, encoding="utf-8").read()
+        cyclic = {k[len(key) - 4 :].split(".Lts-", 1)[1].replace("-", "_"): v for k, v in names.items() if k.startswith(key + "-")}
+        if rel.split("/")[-1].startswith("+") and cyclic:
+            try:
+                out, said = turn_cycle(os.path.abspath(crate), rel, text, cyclic, labels)
+            except Exception as e:
+                print(f"left: {rel}: {type(e).__name__} {e}")
+                left += 1
+                continue
+            if out is None:
+                print(f"left: {rel}: no call of spec")
+                left += 1
+                continue
+            for s in said:
+                print(f"look: {rel}: {s}")
+            for name, lines in out.items():
+                with open(os.path.join(folder, name), "w", encoding="utf-8") as it:
+                    it.write("\n".join(lines).rstrip("\n") + "\n")
+            os.rename(path, path + ".old")
+            turned += 1
+            continue
         if key not in names:
             print(f"left: {rel}: names.json has no such function")
             left += 1

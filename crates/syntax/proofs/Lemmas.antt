@@ -106,6 +106,7 @@ put_as {old} {new} {a} {b} {s = s} {x = x} {y = y} e p = subst (λ (z : ℕ). Pu
 
 -- ---- a refusal in a part, and behind one
 pub b_part : {f : ℕ → ℕ} {d : ℕ} {F : List ℕ} {b : Bool} {X : Class} (is : List Item) {i n k : ℕ} → Run f d (after is F) (rd b X ∷ []) i (bad n k) → Run f d F (rd b X ∷ is) i (bad n k)
+b_part {f = f} {d = d} {F = F} {b = b} {X = X} is {i = i} {n = n} {k = k} (rd_more {e = e} {p = p} {t = t} {j = j} _ _ _ x36) = elim x36 [ ]
 b_part is (rd_six h) = rd_six h
 b_part is (rd_five h) = rd_five h
 b_part is (rd_none o h) = rd_none o h
@@ -178,6 +179,7 @@ module _ {d : ℕ} (l : d < 64) where
   deep_got {A = A} g = down_run A g.run refl g.within g.far g.num g.wrote
 
   down_bad : {f : ℕ → ℕ} {e : ℕ} {F : List ℕ} {X : Class} {i n k : ℕ} → Run f e F (rd false X ∷ []) i (bad n k) → Run f (suc e) F (rd true X ∷ []) i (bad n k)
+  down_bad {f = f} {e = e} {F = F} {X = X} {i = i} {n = n} {k = k} (rd_more {p = p} {t = t} {j = j} _ _ _ x36) = elim x36 [ ]
   down_bad (rd_none level h) = rd_none deep h
   down_bad (rd_bad level h v) = rd_bad deep h v
 

@@ -16,7 +16,7 @@ use answers::Answer;
 use grammar::{Level, Parsed, Use, nodes};
 use symbols::Symbol;
 
-#[cycle(actual_actuals_chain_comparison_condition_expression_further_actuals_more_negation_nested_nested_simple_operand_otherwise_primary_relation_sum)]
+#[cycle(expressions)]
 pub fn expression(kinds: &[u8], pos: usize, depth: u16, nodes: &mut [u16], free: usize) -> Parsed
     requires { Room (text kinds.now) nodes.old pos free }
     ensures { Tells (text kinds.now) nodes.old nodes.new depth (part an-expression ∷ []) pos free result }
@@ -28,7 +28,7 @@ pub fn expression(kinds: &[u8], pos: usize, depth: u16, nodes: &mut [u16], free:
 }
 
 // A conditional expression, from its 'if' on.
-#[cycle(actual_actuals_chain_comparison_condition_expression_further_actuals_more_negation_nested_nested_simple_operand_otherwise_primary_relation_sum)]
+#[cycle(expressions)]
 fn condition(kinds: &[u8], pos: usize, depth: u16, nodes: &mut [u16], free: usize) -> Parsed
     requires { (Room (text kinds.now) nodes.old pos free) × (kind_at (text kinds.now) pos ≡ kind If) }
     ensures { TellsOf (text kinds.now) nodes.old nodes.new depth a_condition pos free result }
@@ -54,7 +54,7 @@ fn condition(kinds: &[u8], pos: usize, depth: u16, nodes: &mut [u16], free: usiz
 }
 
 // The 'else' part of a conditional expression.
-#[cycle(actual_actuals_chain_comparison_condition_expression_further_actuals_more_negation_nested_nested_simple_operand_otherwise_primary_relation_sum)]
+#[cycle(expressions)]
 fn otherwise(kinds: &[u8], pos: usize, depth: u16, nodes: &mut [u16], free: usize) -> Parsed
     requires { Room (text kinds.now) nodes.old pos free }
     ensures { Tells (text kinds.now) nodes.old nodes.new depth (part an-otherwise ∷ []) pos free result }
@@ -79,7 +79,7 @@ fn otherwise(kinds: &[u8], pos: usize, depth: u16, nodes: &mut [u16], free: usiz
 }
 
 // An expression one level deeper.
-#[cycle(actual_actuals_chain_comparison_condition_expression_further_actuals_more_negation_nested_nested_simple_operand_otherwise_primary_relation_sum)]
+#[cycle(expressions)]
 fn nested(kinds: &[u8], pos: usize, depth: u16, nodes: &mut [u16], free: usize) -> Parsed
     requires { Room (text kinds.now) nodes.old pos free }
     ensures { Tells (text kinds.now) nodes.old nodes.new depth (deeper an-expression ∷ []) pos free result }
@@ -91,7 +91,7 @@ fn nested(kinds: &[u8], pos: usize, depth: u16, nodes: &mut [u16], free: usize) 
 }
 
 // An expression one level deeper that is not conditional.
-#[cycle(actual_actuals_chain_comparison_condition_expression_further_actuals_more_negation_nested_nested_simple_operand_otherwise_primary_relation_sum)]
+#[cycle(expressions)]
 fn nested_simple(kinds: &[u8], pos: usize, depth: u16, nodes: &mut [u16], free: usize) -> Parsed
     requires { Room (text kinds.now) nodes.old pos free }
     ensures { Tells (text kinds.now) nodes.old nodes.new depth (deeper (a-level Equivalence) ∷ []) pos free result }
@@ -103,7 +103,7 @@ fn nested_simple(kinds: &[u8], pos: usize, depth: u16, nodes: &mut [u16], free: 
 }
 
 // Operands of a level with its operators between them.
-#[cycle(actual_actuals_chain_comparison_condition_expression_further_actuals_more_negation_nested_nested_simple_operand_otherwise_primary_relation_sum)]
+#[cycle(expressions)]
 fn chain(kinds: &[u8], pos: usize, depth: u16, nodes: &mut [u16], free: usize, l: Level) -> Parsed
     requires { Room (text kinds.now) nodes.old pos free }
     ensures { TellsOf (text kinds.now) nodes.old nodes.new depth (a-chain l) pos free result }
@@ -116,7 +116,7 @@ fn chain(kinds: &[u8], pos: usize, depth: u16, nodes: &mut [u16], free: usize, l
 }
 
 // Further operands of a level, each behind its operator.
-#[cycle(actual_actuals_chain_comparison_condition_expression_further_actuals_more_negation_nested_nested_simple_operand_otherwise_primary_relation_sum)]
+#[cycle(expressions)]
 fn more(kinds: &[u8], pos: usize, depth: u16, nodes: &mut [u16], free: usize, l: Level) -> Parsed
     requires { Room (text kinds.now) nodes.old pos free }
     ensures { Tells (text kinds.now) nodes.old nodes.new depth (part (the-more l) ∷ []) pos free result }
@@ -139,7 +139,7 @@ fn more(kinds: &[u8], pos: usize, depth: u16, nodes: &mut [u16], free: usize, l:
 }
 
 // What the operators of a level stand between.
-#[cycle(actual_actuals_chain_comparison_condition_expression_further_actuals_more_negation_nested_nested_simple_operand_otherwise_primary_relation_sum)]
+#[cycle(expressions)]
 fn operand(kinds: &[u8], pos: usize, depth: u16, nodes: &mut [u16], free: usize, l: Level) -> Parsed
     requires { Room (text kinds.now) nodes.old pos free }
     ensures { Tells (text kinds.now) nodes.old nodes.new depth (part (an-operand l) ∷ []) pos free result }
@@ -154,7 +154,7 @@ fn operand(kinds: &[u8], pos: usize, depth: u16, nodes: &mut [u16], free: usize,
     }
 }
 
-#[cycle(actual_actuals_chain_comparison_condition_expression_further_actuals_more_negation_nested_nested_simple_operand_otherwise_primary_relation_sum)]
+#[cycle(expressions)]
 fn negation(kinds: &[u8], pos: usize, depth: u16, nodes: &mut [u16], free: usize) -> Parsed
     requires { Room (text kinds.now) nodes.old pos free }
     ensures { Tells (text kinds.now) nodes.old nodes.new depth (part a-negation ∷ []) pos free result }
@@ -174,7 +174,7 @@ fn negation(kinds: &[u8], pos: usize, depth: u16, nodes: &mut [u16], free: usize
     }
 }
 
-#[cycle(actual_actuals_chain_comparison_condition_expression_further_actuals_more_negation_nested_nested_simple_operand_otherwise_primary_relation_sum)]
+#[cycle(expressions)]
 fn relation(kinds: &[u8], pos: usize, depth: u16, nodes: &mut [u16], free: usize) -> Parsed
     requires { Room (text kinds.now) nodes.old pos free }
     ensures { Tells (text kinds.now) nodes.old nodes.new depth (part a-relation ∷ []) pos free result }
@@ -187,7 +187,7 @@ fn relation(kinds: &[u8], pos: usize, depth: u16, nodes: &mut [u16], free: usize
 }
 
 // A relational operator and its second operand, or nothing.
-#[cycle(actual_actuals_chain_comparison_condition_expression_further_actuals_more_negation_nested_nested_simple_operand_otherwise_primary_relation_sum)]
+#[cycle(expressions)]
 fn comparison(kinds: &[u8], pos: usize, depth: u16, nodes: &mut [u16], free: usize) -> Parsed
     requires { Room (text kinds.now) nodes.old pos free }
     ensures { Tells (text kinds.now) nodes.old nodes.new depth (part a-comparison ∷ []) pos free result }
@@ -210,7 +210,7 @@ fn comparison(kinds: &[u8], pos: usize, depth: u16, nodes: &mut [u16], free: usi
 }
 
 // A sum, with or without a sign before its first term.
-#[cycle(actual_actuals_chain_comparison_condition_expression_further_actuals_more_negation_nested_nested_simple_operand_otherwise_primary_relation_sum)]
+#[cycle(expressions)]
 fn sum(kinds: &[u8], pos: usize, depth: u16, nodes: &mut [u16], free: usize) -> Parsed
     requires { Room (text kinds.now) nodes.old pos free }
     ensures { Tells (text kinds.now) nodes.old nodes.new depth (part (a-level Sum) ∷ []) pos free result }
@@ -229,7 +229,7 @@ fn sum(kinds: &[u8], pos: usize, depth: u16, nodes: &mut [u16], free: usize) -> 
     }
 }
 
-#[cycle(actual_actuals_chain_comparison_condition_expression_further_actuals_more_negation_nested_nested_simple_operand_otherwise_primary_relation_sum)]
+#[cycle(expressions)]
 fn primary(kinds: &[u8], pos: usize, depth: u16, nodes: &mut [u16], free: usize) -> Parsed
     requires { Room (text kinds.now) nodes.old pos free }
     ensures { Tells (text kinds.now) nodes.old nodes.new depth (part a-primary ∷ []) pos free result }
@@ -297,7 +297,7 @@ fn use_number(u: Use) -> u16
 }
 
 // What follows a name: its actuals, or nothing of it.
-#[cycle(actual_actuals_chain_comparison_condition_expression_further_actuals_more_negation_nested_nested_simple_operand_otherwise_primary_relation_sum)]
+#[cycle(expressions)]
 pub fn actuals(
     kinds: &[u8],
     name: usize,
@@ -348,7 +348,7 @@ pub fn actuals(
     }
 }
 
-#[cycle(actual_actuals_chain_comparison_condition_expression_further_actuals_more_negation_nested_nested_simple_operand_otherwise_primary_relation_sum)]
+#[cycle(expressions)]
 fn actual(kinds: &[u8], pos: usize, depth: u16, nodes: &mut [u16], free: usize) -> Parsed
     requires { Room (text kinds.now) nodes.old pos free }
     ensures { Tells (text kinds.now) nodes.old nodes.new depth (part an-actual ∷ []) pos free result }
@@ -364,7 +364,7 @@ fn actual(kinds: &[u8], pos: usize, depth: u16, nodes: &mut [u16], free: usize) 
 }
 
 // Further actuals, each behind a comma.
-#[cycle(actual_actuals_chain_comparison_condition_expression_further_actuals_more_negation_nested_nested_simple_operand_otherwise_primary_relation_sum)]
+#[cycle(expressions)]
 fn further_actuals(kinds: &[u8], pos: usize, depth: u16, nodes: &mut [u16], free: usize) -> Parsed
     requires { Room (text kinds.now) nodes.old pos free }
     ensures { Tells (text kinds.now) nodes.old nodes.new depth (part further_actuals ∷ []) pos free result }

@@ -17,7 +17,7 @@ use grammar::{Entry, Parsed, nodes};
 use symbols::Symbol;
 
 // 'begin' .. 'end'.
-#[cycle(alternative_block_conditional_consequence_declaration_declarations_declared_head_inner_nested_statement_procedure_repetition_statement_statements_tail_unconditional)]
+#[cycle(statements)]
 pub fn block(kinds: &[u8], pos: usize, depth: u16, nodes: &mut [u16], free: usize) -> Parsed
     requires { Room (text kinds.now) nodes.old pos free }
     ensures { Tells (text kinds.now) nodes.old nodes.new depth (part a_block ∷ []) pos free result }
@@ -47,7 +47,7 @@ pub fn block(kinds: &[u8], pos: usize, depth: u16, nodes: &mut [u16], free: usiz
 }
 
 // What stands between 'begin' and 'end': a block if there are declarations.
-#[cycle(alternative_block_conditional_consequence_declaration_declarations_declared_head_inner_nested_statement_procedure_repetition_statement_statements_tail_unconditional)]
+#[cycle(statements)]
 fn inner(kinds: &[u8], begin: usize, depth: u16, nodes: &mut [u16], free: usize) -> Parsed
     requires { Behind (text kinds.now) nodes.old begin free }
     ensures { Says (text kinds.now) nodes.old nodes.new depth (begin + 1) (kind End ∷ []) (part an-inner ∷ []) (begin + 1) free result }
@@ -76,7 +76,7 @@ fn inner(kinds: &[u8], begin: usize, depth: u16, nodes: &mut [u16], free: usize)
 }
 
 // One declaration or more.
-#[cycle(alternative_block_conditional_consequence_declaration_declarations_declared_head_inner_nested_statement_procedure_repetition_statement_statements_tail_unconditional)]
+#[cycle(statements)]
 fn head(kinds: &[u8], pos: usize, depth: u16, nodes: &mut [u16], free: usize) -> Parsed
     requires { Room (text kinds.now) nodes.old pos free }
     ensures { Tells (text kinds.now) nodes.old nodes.new depth (part a-head ∷ []) pos free result }
@@ -94,7 +94,7 @@ fn head(kinds: &[u8], pos: usize, depth: u16, nodes: &mut [u16], free: usize) ->
     }
 }
 
-#[cycle(alternative_block_conditional_consequence_declaration_declarations_declared_head_inner_nested_statement_procedure_repetition_statement_statements_tail_unconditional)]
+#[cycle(statements)]
 fn declarations(kinds: &[u8], pos: usize, depth: u16, nodes: &mut [u16], free: usize) -> Parsed
     requires { Room (text kinds.now) nodes.old pos free }
     ensures { Tells (text kinds.now) nodes.old nodes.new depth (part the-declarations ∷ []) pos free result }
@@ -111,7 +111,7 @@ fn declarations(kinds: &[u8], pos: usize, depth: u16, nodes: &mut [u16], free: u
 }
 
 // A declaration of what is at the depth given: a procedure's body is one deeper.
-#[cycle(alternative_block_conditional_consequence_declaration_declarations_declared_head_inner_nested_statement_procedure_repetition_statement_statements_tail_unconditional)]
+#[cycle(statements)]
 pub fn declaration(kinds: &[u8], pos: usize, depth: u16, nodes: &mut [u16], free: usize) -> Parsed
     requires { Room (text kinds.now) nodes.old pos free }
     ensures { Says (text kinds.now) nodes.old nodes.new depth pos (kind Semicolon ∷ []) (part a-declaration ∷ []) pos free result }
@@ -132,7 +132,7 @@ pub fn declaration(kinds: &[u8], pos: usize, depth: u16, nodes: &mut [u16], free
 }
 
 // What is declared with a type.
-#[cycle(alternative_block_conditional_consequence_declaration_declarations_declared_head_inner_nested_statement_procedure_repetition_statement_statements_tail_unconditional)]
+#[cycle(statements)]
 fn declared(kinds: &[u8], pos: usize, depth: u16, nodes: &mut [u16], free: usize) -> Parsed
     requires { Room (text kinds.now) nodes.old pos free }
     ensures { Says (text kinds.now) nodes.old nodes.new depth pos (kind Semicolon ∷ []) (part a-declared ∷ []) pos free result }
@@ -144,7 +144,7 @@ fn declared(kinds: &[u8], pos: usize, depth: u16, nodes: &mut [u16], free: usize
 }
 
 // A procedure's heading and body.
-#[cycle(alternative_block_conditional_consequence_declaration_declarations_declared_head_inner_nested_statement_procedure_repetition_statement_statements_tail_unconditional)]
+#[cycle(statements)]
 pub fn procedure(kinds: &[u8], pos: usize, depth: u16, nodes: &mut [u16], free: usize) -> Parsed
     requires { Room (text kinds.now) nodes.old pos free }
     ensures { Says (text kinds.now) nodes.old nodes.new depth pos (kind Semicolon ∷ []) (part a-procedure ∷ []) pos free result }
@@ -167,7 +167,7 @@ pub fn procedure(kinds: &[u8], pos: usize, depth: u16, nodes: &mut [u16], free: 
 }
 
 // The statements of a block or compound.
-#[cycle(alternative_block_conditional_consequence_declaration_declarations_declared_head_inner_nested_statement_procedure_repetition_statement_statements_tail_unconditional)]
+#[cycle(statements)]
 fn tail(kinds: &[u8], pos: usize, depth: u16, nodes: &mut [u16], free: usize) -> Parsed
     requires { Room (text kinds.now) nodes.old pos free }
     ensures { Says (text kinds.now) nodes.old nodes.new depth pos (kind End ∷ []) (part a-tail ∷ []) pos free result }
@@ -180,7 +180,7 @@ fn tail(kinds: &[u8], pos: usize, depth: u16, nodes: &mut [u16], free: usize) ->
 }
 
 // Further statements, each behind a `;`.
-#[cycle(alternative_block_conditional_consequence_declaration_declarations_declared_head_inner_nested_statement_procedure_repetition_statement_statements_tail_unconditional)]
+#[cycle(statements)]
 fn statements(kinds: &[u8], pos: usize, depth: u16, nodes: &mut [u16], free: usize) -> Parsed
     requires { Room (text kinds.now) nodes.old pos free }
     ensures { Says (text kinds.now) nodes.old nodes.new depth pos (kind End ∷ []) (part the-statements ∷ []) pos free result }
@@ -195,7 +195,7 @@ fn statements(kinds: &[u8], pos: usize, depth: u16, nodes: &mut [u16], free: usi
 }
 
 // A statement one level deeper; 'end' may follow it where ends says so.
-#[cycle(alternative_block_conditional_consequence_declaration_declarations_declared_head_inner_nested_statement_procedure_repetition_statement_statements_tail_unconditional)]
+#[cycle(statements)]
 fn nested_statement(
     kinds: &[u8],
     pos: usize,
@@ -213,7 +213,7 @@ fn nested_statement(
     statement(kinds, pos, depth + 1, nodes, free, ends)
 }
 
-#[cycle(alternative_block_conditional_consequence_declaration_declarations_declared_head_inner_nested_statement_procedure_repetition_statement_statements_tail_unconditional)]
+#[cycle(statements)]
 fn statement(
     kinds: &[u8],
     pos: usize,
@@ -233,7 +233,7 @@ fn statement(
 }
 
 // A conditional statement, from its 'if' on.
-#[cycle(alternative_block_conditional_consequence_declaration_declarations_declared_head_inner_nested_statement_procedure_repetition_statement_statements_tail_unconditional)]
+#[cycle(statements)]
 fn conditional(
     kinds: &[u8],
     pos: usize,
@@ -269,7 +269,7 @@ fn conditional(
 }
 
 // What stands behind 'then'.
-#[cycle(alternative_block_conditional_consequence_declaration_declarations_declared_head_inner_nested_statement_procedure_repetition_statement_statements_tail_unconditional)]
+#[cycle(statements)]
 fn consequence(
     kinds: &[u8],
     pos: usize,
@@ -297,7 +297,7 @@ fn consequence(
 }
 
 // 'else' and its statement, or nothing.
-#[cycle(alternative_block_conditional_consequence_declaration_declarations_declared_head_inner_nested_statement_procedure_repetition_statement_statements_tail_unconditional)]
+#[cycle(statements)]
 fn alternative(
     kinds: &[u8],
     pos: usize,
@@ -322,7 +322,7 @@ fn alternative(
 }
 
 // A for statement.
-#[cycle(alternative_block_conditional_consequence_declaration_declarations_declared_head_inner_nested_statement_procedure_repetition_statement_statements_tail_unconditional)]
+#[cycle(statements)]
 fn repetition(
     kinds: &[u8],
     pos: usize,
@@ -350,7 +350,7 @@ fn repetition(
     }
 }
 
-#[cycle(alternative_block_conditional_consequence_declaration_declarations_declared_head_inner_nested_statement_procedure_repetition_statement_statements_tail_unconditional)]
+#[cycle(statements)]
 fn unconditional(kinds: &[u8], pos: usize, depth: u16, nodes: &mut [u16], free: usize) -> Parsed
     requires { Room (text kinds.now) nodes.old pos free }
     ensures { Tells (text kinds.now) nodes.old nodes.new depth (part an-unconditional ∷ []) pos free result }

@@ -1,0 +1,70 @@
+-- `syntax::clauses::further` meets its contract: the symbols left fall. Assumes nothing.
+use mathlib.Core.Path.{refl, ap}
+use mathlib.Core.List.{[], ◌∷◌}
+use Prim.Native.Nat.{ℕ, ◌-◌, ◌<◌}
+use native.Mathlib.Omega.{arith}
+use lib.ListN.{length}
+use Rattle.grammar.specs.model.Tables.{choose}
+use Rattle.grammar.specs.model.Run.{now}
+use Rattle.grammar.specs.model.Text.{text}
+use Rattle.grammar.proofs.Peeks.{inside, is_at, is_not, but}
+use Rattle.syntax.proofs.Lemmas.{space, s_end, s_sy, s_prod, s_part, s_bad, s_last}
+use Rattle.grammar.specs.Grammar as G
+use Rattle.syntax.proofs.Choices as C
+use borrow.Author.Rules.{rules}
+use Prim.Native.Nat.{ℕ, ◌<◌}
+use borrow.Enum.Refused.{opened}
+use Rattle.syntax.proofs.clauses.+further.Goals as goal
+
+pub overflow_add-pos : goal.overflow_add-pos
+overflow_add-pos t c =
+    let μ = c.decreases in
+    let r = c.requires in
+    let i1 = inside _ _ (is_at c.peek.result c.peek.ensures c.in-Comma.in-Comma-own.keys1) (λ h. omega arith) in
+    omega arith
+
+pub element-one-requires : goal.element-one-requires
+element-one-requires t c =
+    let μ = c.decreases in
+    let r = c.requires in
+    let i1 = inside _ _ (is_at c.peek.result c.peek.ensures c.in-Comma.in-Comma-own.keys1) (λ h. omega arith) in
+    record { inside = omega arith; short = omega arith; size = omega arith; room = omega arith }
+
+pub further-requires : goal.further-requires
+further-requires t c =
+    let μ = c.decreases in
+    let r = c.requires in
+    let i1 = inside _ _ (is_at c.peek.result c.peek.ensures c.in-Comma.in-Comma-own.keys1) (λ h. omega arith) in
+    let l1 = c.element-one.auto.nodes in
+    let g1 = (c.element-one.ensures []).read _ _ c.in-Read.is in let s1 = space g1 in
+    (omega arith, record { inside = omega arith; short = omega arith; size = omega arith; room = omega arith })
+
+pub shape_of-nodes-in-Refused : goal.shape_of-nodes-in-Refused
+shape_of-nodes-in-Refused t c =
+    let μ = c.decreases in
+    let r = c.requires in
+    let i1 = inside _ _ (is_at c.peek.result c.peek.ensures c.in-Comma.in-Comma-own.keys1) (λ h. omega arith) in
+    let l1 = c.element-one.auto.nodes in
+    omega arith
+
+pub returns-in-Refused : goal.returns-in-Refused
+returns-in-Refused t c = λ F. s_prod G.another_element (ap (λ (z : ℕ). choose G.further z 0) (is_at c.peek.result c.peek.ensures c.in-Comma.in-Comma-own.keys1)) (s_sy (is_at c.peek.result c.peek.ensures c.in-Comma.in-Comma-own.keys1) (s_bad _ ((c.element-one.ensures _).refused _ _ c.in-Refused.is)))
+
+pub shape_of-nodes-in-Read : goal.shape_of-nodes-in-Read
+shape_of-nodes-in-Read t c =
+    let μ = c.decreases in
+    let r = c.requires in
+    let i1 = inside _ _ (is_at c.peek.result c.peek.ensures c.in-Comma.in-Comma-own.keys1) (λ h. omega arith) in
+    let l1 = c.element-one.auto.nodes in
+    let g1 = (c.element-one.ensures []).read _ _ c.in-Read.is in let s1 = space g1 in
+    let l2 = c.further.auto.nodes in
+    omega arith
+
+pub returns-in-Read : goal.returns-in-Read
+returns-in-Read t c = λ F. s_prod G.another_element (ap (λ (z : ℕ). choose G.further z 0) (is_at c.peek.result c.peek.ensures c.in-Comma.in-Comma-own.keys1)) (s_sy (is_at c.peek.result c.peek.ensures c.in-Comma.in-Comma-own.keys1) (s_part _ ((c.element-one.ensures _).read _ _ c.in-Read.is) (s_last (c.further.ensures _))))
+
+pub returns-in_default : goal.returns-in_default
+returns-in_default t c =
+    let μ = c.decreases in
+    let r = c.requires in
+    λ F. s_prod G.no_element (C.else_further (is_not c.peek.result c.peek.ensures (but (32 ∷ [])) 32 refl (opened c.in_default.in_default-own.keys2))) (s_end (omega arith))

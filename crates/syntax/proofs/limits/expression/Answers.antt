@@ -1,0 +1,15 @@
+-- `syntax::limits::expression` meets its contract: where the symbol begins an expression it is 6, else 5. Assumes nothing.
+use mathlib.Core.Path.{refl}
+use mathlib.Core.List.{[], ◌∷◌}
+use Rattle.grammar.specs.model.Run.{rd_six, rd_five}
+use Rattle.grammar.proofs.Peeks.{is_in, is_none, but}
+use Rattle.syntax.proofs.Lemmas.{limits}
+use borrow.Author.Rules.{rules}
+use borrow.Enum.Refused.{opened}
+use Rattle.syntax.proofs.limits.expression.Goals as goal
+
+pub returns-in-If : goal.returns-in-If
+returns-in-If c = λ F. limits (rd_six (is_in c.peek.result c.peek.ensures (2 ∷ 15 ∷ 16 ∷ 19 ∷ 22 ∷ 23 ∷ 36 ∷ 38 ∷ 39 ∷ 42 ∷ []) c.in-If.in-If-own.keys1))
+
+pub returns-in_default : goal.returns-in_default
+returns-in_default c = λ F. limits (rd_five (is_none c.peek.result c.peek.ensures (but (2 ∷ 15 ∷ 16 ∷ 19 ∷ 22 ∷ 23 ∷ 36 ∷ 38 ∷ 39 ∷ 42 ∷ [])) (2 ∷ 15 ∷ 16 ∷ 19 ∷ 22 ∷ 23 ∷ 36 ∷ 38 ∷ 39 ∷ 42 ∷ []) refl (opened c.in_default.in_default-own.keys2)))
