@@ -1,0 +1,16 @@
+-- So many numbers are zero already.
+use borrow.Author.Rules.{rules}
+use mathlib.Core.Path.{◌≡◌, refl, ap, ◌∙◌}
+use mathlib.Core.List.{List, ◌++◌}
+use Prim.Native.Nat.{◌≤◌, ◌-◌, ◌<◌}
+use native.Mathlib.Omega.{arith}
+use lib.ListN.{length, drop, replicate, set, length-set}
+use lib.IntN.{ℤ, pos}
+use Rattle.machine.proofs.Limits.{fill_more, filled}
+use Rattle.reporting.proofs.reporting.clear.Given as goal
+
+abbrev pub invariant-loop-i : goal.invariant-loop-i
+invariant-loop-i l = (l.i ≤ length l.initial.output) × (length l.output ≡ length l.initial.output) × (l.output ≡ replicate l.i (pos 0) ++ drop l.i l.initial.output)
+
+abbrev pub decreases-loop-i : goal.decreases-loop-i
+decreases-loop-i l = length l.initial.output - l.i
