@@ -385,6 +385,8 @@ class Function:
             eq = "\n".join(d["lines"][1:])
             lhs, rhs = eq.split("=", 1)
             params = lhs.split()[1:]
+            if len(slots) == len(params) + 1 and names[0] in ("system", "rt"):
+                slots = slots[1:]  # an argument that the old code did not have
             if len(params) != len(slots):
                 self.said.append(f"the invariant of {which} has {len(params)} names, and the loop {len(slots)}: {names} {changed}")
             sub = dict(zip(params, slots))

@@ -142,6 +142,7 @@ fn shown_from(start: usize, place: usize) -> usize
 }
 
 // A byte as it is shown: nothing in a source moves the cursor but a tab.
+#[tactic(auto, unfolding(crate::specs::Pages::shown_byte))]
 fn shown(b: u8) -> u8
     ensures { result ≡ shown_byte b }
 {
