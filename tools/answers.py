@@ -216,7 +216,7 @@ class Function:
             if norm(step) in PLAIN:
                 if step == "requires":
                     return f"{var}{self.own(step, rest)}"
-                return f"{var}.{norm(step)}{rest}"
+                return f"{var}.{norm(step)}{norm(rest) if norm(step) == 'args' else rest}"
             arm = self.arm(steps, step, rest)
             if arm:
                 return f"{var}.{arm}"
@@ -238,7 +238,23 @@ class Function:
             if it[2].startswith("in") and re.match(r"\.(keys\d+|rest)\b", rest):
                 return f"{var}.{it[2]}.{it[2]}-own{rest}"
             rest = re.sub(r"^\.(type-inv|auto-\d+)\b", lambda m: m.group(0).replace("-", "_"), rest)
+            if re.search(r"-arg-\d+$", it[2]):
+                rest = re.sub(r"^\.given\.0$", ".given", rest)
             return f"{var}.{it[2]}{self.clause(it[3], self.new_of(it[3], rest), it[0])}"
+
+        # a name that a 'let' gives to a call's step or to its clauses
+        for m in list(re.finditer(r"let (\w+) = " + re.escape(var) + r"(?:\.before)*\.(?!before)(" + NAME + r")(\.ensures)? in\b", text)):
+            fits = [s for s in steps if norm(s[1]) == norm(m.group(2)) and s[3]]
+            if not fits or len(re.findall(r"let " + m.group(1) + r" = ", text)) > 1:
+                continue
+            i, callee, part = fits[0][0], fits[0][3], m.group(3) or ""
+
+            def named(n):
+                whole = self.clause(callee, self.new_of(callee, part + n.group(1)), i)
+                return m.group(1) + whole[len(part) :]
+
+            at = m.end()
+            text = text[:at] + re.sub(r"(?<![\w.\-])" + m.group(1) + r"((?:\.[^\s(){}.;,@\"«»]+)+)", named, text[at:])
 
         pattern = r"(?<![^\s(){};,←])" + re.escape(var) + r"((?:\.before)*)\.(?!before)(" + NAME + r")((?:\.[^\s(){}.;,@\"«»]+)*)"
         return re.sub(pattern, one, text)
@@ -390,7 +406,7 @@ class Function:
             if len(params) != len(slots):
                 self.said.append(f"the invariant of {which} has {len(params)} names, and the loop {len(slots)}: {names} {changed}")
             sub = dict(zip(params, slots))
-            rhs = re.sub(NAME, lambda m: sub.get(m.group(0), m.group(0)) if not rhs[: m.start()].endswith(".") else m.group(0), rhs)
+            rhs = re.sub(NAME, lambda m: m.group(0) if rhs[: m.start()].endswith(".") or (re.search(r"[{;]\s*$", rhs[: m.start()]) and re.match(r" = ", rhs[m.end() :])) else sub.get(m.group(0), m.group(0)), rhs)
             label = f"{kind}-{new}"
             if kind == "invariant" and re.fullmatch(r"\s*Unit(?: \{0\})?\s*", rhs):
                 continue
