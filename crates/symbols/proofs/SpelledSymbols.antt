@@ -1,8 +1,8 @@
 -- A symbol that is spelled out reads back as itself, whatever follows that would not go on with it.
 use mathlib.Core.Path.{◌≡◌, refl, sym, ap, subst, ◌∙◌}
-use mathlib.Core.Bool.{Bool, true, false, not, ◌&&◌, ◌||◌}
+use mathlib.Core.Bool.{Bool, true, false, ◌&&◌, ◌||◌}
 use mathlib.Core.List.{List, [], ◌∷◌, ◌++◌, append_assoc}
-use Prim.Native.Nat.{ℕ, suc, ◌+◌, ◌-◌, ◌≤◌, ◌<◌}
+use Prim.Native.Nat.{ℕ, suc, ◌+◌, ◌≤◌, ◌<◌}
 use native.Mathlib.Omega.{arith}
 use lib.Dec.{eqb, leb}
 use lib.ListN.{length, drop, length-append}
@@ -12,9 +12,9 @@ use Rattle.symbols.proofs.Follows.{blank_no_name, blank_no_digit, lexeme_dot}
 use Rattle.symbols.proofs.Laws.{both, digit_range, digit_first}
 use Rattle.symbols.proofs.Resume.{skip}
 use Rattle.symbols.specs.Text.{bytes}
-use Rattle.symbols.specs.Names.{blank, letter, digit, in_name, these, reach, letters, value_from, value, decimals, equal, folded, same_name}
+use Rattle.symbols.specs.Names.{blank, letter, digit, in_name, these, reach, value_from, decimals, equal, folded, same_name}
 use Rattle.symbols.specs.Symbols.{is, packed}
-use Rattle.symbols.specs.Scan.{spelled, named, gap, followed, sign, sized, name, valued, pointed, with_point, number, point, lexeme, scan_from}
+use Rattle.symbols.specs.Scan.{spelled, gap, followed, sign, sized, name, valued, pointed, with_point, number, point, lexeme, scan_from}
 use Rattle.symbols.specs.declared.Context.{Context}
 use Rattle.symbols.specs.declared.Lexeme.{Lexeme}
 use Rattle.symbols.specs.declared.Lexeme.TheVariants.{Is, Nothing}

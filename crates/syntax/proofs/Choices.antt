@@ -11,7 +11,7 @@ use Rattle.symbols.specs.Symbols.{kind}
 use Rattle.grammar.specs.Grammar.{Op, times, over, divide, plus, minus, and, or, implies, equals, op_symbol, Relation, less, less_equal, equal, greater_equal, greater, not_equal, relation_symbol}
 use Rattle.grammar.specs.Grammar.{operand, prelude, no_procedure}
 use Rattle.grammar.specs.Grammar.{inner, declarations, declaration, declared, type, formals, values, specifications, others, statements, statement, consequence, alternative, further, progress, unconditional, named, right, expression, level, more, negation, comparison, primary, actuals, further_actuals}
-use Rattle.grammar.specs.Grammar.{a_compound, no_declaration, typed, variables, no_formals, no_values, no_specification, no_other, no_statement, plain, then_plain, no_else, no_element, once, dummy, call, left, value, simple, chain, signed, again, no_more, no_not, compare, no_comparison, number, bare, no_actual}
+use Rattle.grammar.specs.Grammar.{a_compound, no_declaration, typed, variables, no_formals, no_values, no_specification, no_other, no_statement, plain, then_plain, no_else, no_element, once, dummy, call, left, value, simple, chain, signed, again, no_more, no_not, compare, no_comparison, bare, no_actual}
 use Rattle.grammar.specs.declared.Entry.{Entry}
 use Rattle.grammar.specs.declared.Use.{Use}
 use Rattle.grammar.specs.declared.Level.{Level}

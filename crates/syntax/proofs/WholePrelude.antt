@@ -4,20 +4,19 @@ use mathlib.Core.List.{List, [], ◌∷◌, ◌++◌}
 use Prim.Native.Nat.{ℕ, ◌-◌, ◌≤◌}
 use native.Mathlib.Omega.{arith}
 use native.Mathlib.Decide.{ℕ_discrete}
-use mathlib.Core.Bool.{false}
 use lib.ListN.{length, take}
 use lib.Seq.{take_all}
 use Rattle.answers.specs.Answers.{answer}
 use Rattle.answers.specs.declared.Answer.{Answer}
 use Rattle.grammar.specs.Grammar.{preludes}
 use Rattle.grammar.specs.Program.{Finding, accepted, wrong_at, deep_at, FindsIn, PreludeFault, PreludeDeep}
-use Rattle.grammar.specs.model.Marked.{unmarked, nodes, prelude_nodes}
+use Rattle.grammar.specs.model.Marked.{unmarked, prelude_nodes}
 use Rattle.grammar.specs.model.Parsing.{zeros, node_words_lem}
 use Rattle.grammar.specs.model.Text.{text, kind_at}
 use Rattle.grammar.specs.model.Run.{Run, bad}
 use Rattle.grammar.specs.declared.Parsed.{Parsed}
 use Rattle.grammar.specs.declared.Parsed.TheVariants.{Read, Refused}
-use Rattle.grammar.proofs.Final.{bad_wrong_in, bad_deep_in, bad_number_in, j_within_in, got_all_in, got_over_in}
+use Rattle.grammar.proofs.Final.{bad_wrong_in, bad_deep_in, bad_number_in, got_all_in, got_over_in}
 use Rattle.grammar.proofs.Preludes.{a_prelude, one_prelude}
 use Rattle.syntax.specs.model.Says.{left, Clear, Got}
 use Rattle.syntax.specs.model.Preludes.{WholePrelude, PreludeSays}

@@ -1,7 +1,6 @@
 -- `symbols::kinds::unpack` meets its contract. By its parts.
 -- Assumes nothing.
 use mathlib.Core.Path.{refl}
-use borrow.Author.Rules.{rules}
 use Rattle.symbols.specs.model.Kinds.{unpacked}
 use Rattle.symbols.proofs.kinds.unpack.Goals as goal
 

@@ -2,13 +2,10 @@
 -- the cap; the bytes passed are its bytes.
 -- Assumes nothing.
 use mathlib.Core.Path.{◌≡◌, refl, sym, ap, ◌∙◌}
-use Prim.Native.Nat.{◌+◌, ◌-◌, ◌*◌, ◌≤◌}
+use Prim.Native.Nat.{◌+◌, ◌-◌, ◌*◌}
 use native.Mathlib.Omega.{arith}
-use borrow.Author.Tests.{not-true, not-false}
-use borrow.Author.Rules.{rules}
-use lib.ListN.{length, get_or, drop}
-use mathlib.Core.Logic.{⊎_elim}
-use Rattle.symbols.specs.Names.{digit, these, reach, value_from}
+use lib.ListN.{length, get_or}
+use Rattle.symbols.specs.Names.{digit}
 use Rattle.symbols.specs.model.Steps.{capped}
 use Rattle.symbols.proofs.Laws.{these_one, these_on, these_stop, these_end, reach_one, reach_on, reach_stop, reach_end, number_more, capped_small}
 use Rattle.symbols.proofs.Decimals.{digits_done}
@@ -40,19 +37,19 @@ loop-i-preserved c =
     let l = c.loop-i in
     let v = l.invariant in
     let h = c.loop-i-test.true in
-    elim c.if-is_digit.branch
-    [ then-is_digit w ↦
-      let e = sym c.is_digit.ensures ∙ w.if-is_digit.true in
-      let r = reach_one digit s l.i h e in
-      let t = ap length (these_one digit s l.i h e) in
-      let f : c.if-is_digit.v ≡ capped (10 * l.v + (get_or s l.i 0 - 48)) = w.v-is ∙ w.with_digit-v.ensures in
-      (omega (arith, h), omega (arith, v.1, r), v.2 ∙ rw f (number_more l.v s l.i h e), rw f (capped_small (10 * l.v + (get_or s l.i 0 - 48))), omega (arith, v.4, t, w.n-is), omega (arith, v.5, w.n-is))
-    | else-is_digit+else-not-is_blank w ↦
-      let e = sym c.is_digit.ensures ∙ w.if-is_digit.false in
-      let f = sym w.is_blank.ensures ∙ w.if-not-is_blank.false in
-      let r = reach_on digit s l.i h e f in
-      let t = these_on digit s l.i h e f in
-      (omega (arith, h), omega (arith, v.1, r), v.2 ∙ rw (w.v-is, t), rw w.v-is v.3, omega (arith, v.4, ap length t, w.n-is), omega (arith, v.5, w.n-is))
+    elim c.if-is_digit.branch [
+      | then-is_digit w ↦
+          let e = sym c.is_digit.ensures ∙ w.if-is_digit.true in
+          let r = reach_one digit s l.i h e in
+          let t = ap length (these_one digit s l.i h e) in
+          let f : c.if-is_digit.v ≡ capped (10 * l.v + (get_or s l.i 0 - 48)) = w.v-is ∙ w.with_digit-v.ensures in
+          (omega (arith, h), omega (arith, v.1, r), v.2 ∙ rw f (number_more l.v s l.i h e), rw f (capped_small (10 * l.v + (get_or s l.i 0 - 48))), omega (arith, v.4, t, w.n-is), omega (arith, v.5, w.n-is))
+      | else-is_digit+else-not-is_blank w ↦
+          let e = sym c.is_digit.ensures ∙ w.if-is_digit.false in
+          let f = sym w.is_blank.ensures ∙ w.if-not-is_blank.false in
+          let r = reach_on digit s l.i h e f in
+          let t = these_on digit s l.i h e f in
+          (omega (arith, h), omega (arith, v.1, r), v.2 ∙ rw (w.v-is, t), rw w.v-is v.3, omega (arith, v.4, ap length t, w.n-is), omega (arith, v.5, w.n-is))
     ]
 
 pub returns : goal.returns

@@ -1,17 +1,11 @@
 -- `symbols::lexemes::digits_from` meets its contract. The value and the count so far and the digits from i on make those of the run, the value up to
 -- the cap; the bytes passed are its bytes.
 -- Assumes nothing.
-use mathlib.Core.Path.{◌≡◌, refl, sym, ap, ◌∙◌}
-use Prim.Native.Nat.{◌+◌, ◌-◌, ◌*◌, ◌≤◌}
-use native.Mathlib.Omega.{arith}
-use borrow.Author.Tests.{not-true, not-false}
-use borrow.Author.Rules.{rules}
-use lib.ListN.{length, get_or, drop}
-use mathlib.Core.Logic.{⊎_elim}
+use mathlib.Core.Path.{◌≡◌}
+use Prim.Native.Nat.{◌+◌, ◌-◌, ◌≤◌}
+use lib.ListN.{length, drop}
 use Rattle.symbols.specs.Names.{digit, these, reach, value_from}
 use Rattle.symbols.specs.model.Steps.{capped}
-use Rattle.symbols.proofs.Laws.{these_one, these_on, these_stop, these_end, reach_one, reach_on, reach_stop, reach_end, number_more, capped_small}
-use Rattle.symbols.proofs.Decimals.{digits_done}
 use Rattle.symbols.proofs.lexemes.digits_from.Given as goal
 
 abbrev pub invariant-loop-i : goal.invariant-loop-i

@@ -1,6 +1,5 @@
 -- `symbols::lexemes::joined` meets its contract. What stands behind the blanks is what stands where they end.
 -- Assumes nothing.
-use borrow.Author.Rules.{rules}
 use mathlib.Core.Path.{◌≡◌, sym, ap, ◌∙◌}
 use Prim.Native.Nat.{ℕ, ◌+◌, ◌-◌}
 use native.Mathlib.Omega.{arith}
@@ -10,7 +9,6 @@ use lib.ListN.{get_or-eq_default}
 use lib.Seq.{get_or-drop}
 use Rattle.symbols.specs.Scan.{gap, followed}
 use Rattle.symbols.specs.model.Steps.{joined_of}
-use borrow.Author.Rules.{rules}
 use Rattle.symbols.proofs.lexemes.joined.Goals as goal
 
 pub returns-then-source-end-eq61 : goal.returns-then-source-end-eq61

@@ -1,12 +1,9 @@
 -- `symbols::lexemes::lexeme` meets its contract. The tests choose as the definition does.
 -- Assumes nothing.
-use borrow.Author.Rules.{rules}
 use mathlib.Core.Path.{sym, ◌∙◌}
-use Prim.Native.Nat.{◌-◌}
 use borrow.Author.Tests.{lt-ltb, le-ltb, eq-eqb, ne_eqb}
 use Rattle.symbols.specs.Scan.{lexeme}
 use Rattle.symbols.specs.model.Steps.{lexeme_at}
-use borrow.Author.Rules.{rules}
 use Rattle.symbols.proofs.lexemes.lexeme.Goals as goal
 
 pub returns-then-source-at : goal.returns-then-source-at

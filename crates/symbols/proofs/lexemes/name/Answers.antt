@@ -1,15 +1,12 @@
 -- `symbols::lexemes::name` meets its contract. The letters and digits so far and those from i on are the name's, and so are the bytes passed.
 -- Assumes nothing.
 use mathlib.Core.Path.{◌≡◌, refl, sym, ap, ◌∙◌}
-use Prim.Native.Nat.{◌+◌, ◌-◌, ◌≤◌}
+use Prim.Native.Nat.{◌+◌, ◌-◌}
 use native.Mathlib.Omega.{arith}
-use borrow.Author.Tests.{not-true, not-false}
 use lib.ListN.{length, get_or, drop}
-use borrow.Author.Rules.{rules}
 use mathlib.Core.List.{◌∷◌}
-use mathlib.Core.Logic.{⊎_elim}
 use Rattle.symbols.specs.Names.{in_name, reach, letters}
-use Rattle.symbols.specs.Scan.{sized, name}
+use Rattle.symbols.specs.Scan.{name}
 use Rattle.symbols.proofs.Laws.{these_one, these_on, these_stop, these_end, reach_one, reach_on, reach_stop, reach_end, name_first}
 use Rattle.symbols.proofs.lexemes.name.Goals as goal
 use Rattle.symbols.proofs.lexemes.name.Goals.{then-is_name_byte, else-is_name_byte+else-not-is_blank}
@@ -37,18 +34,18 @@ loop-i-preserved c =
     let l = c.loop-i in
     let v = l.invariant in
     let h = c.loop-i-test.true in
-    elim c.if-is_name_byte.branch
-    [ then-is_name_byte w ↦
-      let e = sym c.is_name_byte.ensures ∙ w.if-is_name_byte.true in
-      let t = these_one in_name s l.i h e in
-      let r = reach_one in_name s l.i h e in
-      (omega arith, omega arith, omega (arith, v.2, r), omega (arith, v.3, ap length t, w.size-is), omega (arith, v.4, w.size-is))
-    | else-is_name_byte+else-not-is_blank w ↦
-      let e = sym c.is_name_byte.ensures ∙ w.if-is_name_byte.false in
-      let f = sym w.is_blank.ensures ∙ w.if-not-is_blank.false in
-      let t = these_on in_name s l.i h e f in
-      let r = reach_on in_name s l.i h e f in
-      (omega arith, omega arith, omega (arith, v.2, r), omega (arith, v.3, ap length t, w.size-is), omega (arith, v.4, w.size-is))
+    elim c.if-is_name_byte.branch [
+      | then-is_name_byte w ↦
+          let e = sym c.is_name_byte.ensures ∙ w.if-is_name_byte.true in
+          let t = these_one in_name s l.i h e in
+          let r = reach_one in_name s l.i h e in
+          (omega arith, omega arith, omega (arith, v.2, r), omega (arith, v.3, ap length t, w.size-is), omega (arith, v.4, w.size-is))
+      | else-is_name_byte+else-not-is_blank w ↦
+          let e = sym c.is_name_byte.ensures ∙ w.if-is_name_byte.false in
+          let f = sym w.is_blank.ensures ∙ w.if-not-is_blank.false in
+          let t = these_on in_name s l.i h e f in
+          let r = reach_on in_name s l.i h e f in
+          (omega arith, omega arith, omega (arith, v.2, r), omega (arith, v.3, ap length t, w.size-is), omega (arith, v.4, w.size-is))
     ]
 
 pub returns : goal.returns

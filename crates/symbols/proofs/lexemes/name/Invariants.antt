@@ -1,16 +1,10 @@
 -- `symbols::lexemes::name` meets its contract. The letters and digits so far and those from i on are the name's, and so are the bytes passed.
 -- Assumes nothing.
-use mathlib.Core.Path.{◌≡◌, refl, sym, ap, ◌∙◌}
+use mathlib.Core.Path.{◌≡◌}
 use Prim.Native.Nat.{◌+◌, ◌-◌, ◌≤◌}
-use native.Mathlib.Omega.{arith}
-use borrow.Author.Tests.{not-true, not-false}
 use lib.ListN.{length, get_or, drop}
-use borrow.Author.Rules.{rules}
 use mathlib.Core.List.{◌∷◌}
-use mathlib.Core.Logic.{⊎_elim}
 use Rattle.symbols.specs.Names.{in_name, reach, letters}
-use Rattle.symbols.specs.Scan.{sized, name}
-use Rattle.symbols.proofs.Laws.{these_one, these_on, these_stop, these_end, reach_one, reach_on, reach_stop, reach_end, name_first}
 use Rattle.symbols.proofs.lexemes.name.Given as goal
 
 abbrev pub invariant-loop-i : goal.invariant-loop-i

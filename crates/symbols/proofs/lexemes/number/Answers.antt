@@ -1,9 +1,8 @@
 -- `symbols::lexemes::number` meets its contract. The digits from `at` on; where a point stands behind them the number goes on if digits do.
 -- Assumes nothing.
 use mathlib.Core.Path.{◌≡◌, ap, sym, ◌∙◌}
-use Prim.Native.Nat.{◌+◌, ◌-◌, ◌<◌}
+use Prim.Native.Nat.{◌+◌, ◌<◌}
 use native.Mathlib.Omega.{arith}
-use borrow.Author.Rules.{rules}
 use lib.ListN.{length, get_or, drop}
 use Rattle.symbols.specs.Names.{digit, reach}
 use Rattle.symbols.specs.model.Steps.{pointed_at}

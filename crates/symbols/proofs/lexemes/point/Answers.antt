@@ -2,7 +2,6 @@
 -- Assumes nothing.
 use mathlib.Core.Path.{◌∙◌}
 use native.Mathlib.Omega.{arith}
-use borrow.Author.Rules.{rules}
 use Rattle.symbols.proofs.Decimals.{point_reach, point_here}
 use Rattle.symbols.proofs.lexemes.point.Goals as goal
 

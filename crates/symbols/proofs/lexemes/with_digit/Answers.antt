@@ -1,10 +1,8 @@
 -- `symbols::lexemes::with_digit` meets its contract. The cap is a minimum.
 -- Assumes nothing.
-use Prim.Native.Nat.{◌-◌}
 use native.Mathlib.Omega.{arith}
 use Rattle.symbols.specs.model.Steps.{capped}
 use Rattle.symbols.proofs.Laws.{digit_range}
-use borrow.Author.Rules.{rules}
 use Rattle.symbols.proofs.lexemes.with_digit.Goals as goal
 
 pub overflow_sub-w : goal.overflow_sub-w

@@ -1,6 +1,5 @@
 -- `symbols::lexemes::word` meets its contract. The bytes between the apostrophes are those before the next one.
 -- Assumes nothing.
-use borrow.Author.Rules.{rules}
 use mathlib.Core.Path.{◌≡◌, sym, ap, ◌∙◌}
 use Prim.Native.Nat.{ℕ, ◌+◌, ◌-◌, ◌≤◌, ◌<◌}
 use native.Mathlib.Omega.{arith}
@@ -10,7 +9,6 @@ use lib.ListN.{length-drop}
 use Rattle.symbols.specs.Symbols.{words}
 use Rattle.symbols.specs.Scan.{before, closed, spelled, named, word}
 use Rattle.symbols.proofs.Laws.{before_take}
-use borrow.Author.Rules.{rules}
 use Rattle.symbols.proofs.lexemes.word.Goals as goal
 
 pub returns-then-source-end : goal.returns-then-source-end

@@ -1,13 +1,9 @@
 -- `symbols::names::next_letter` meets its contract. From i on the same letters are left as from `from` on.
 -- Assumes nothing.
-use mathlib.Core.Path.{◌≡◌, refl, sym, ◌∙◌}
+use mathlib.Core.Path.{◌≡◌}
 use Prim.Native.Nat.{◌-◌, ◌≤◌}
-use native.Mathlib.Omega.{arith}
-use borrow.Author.Tests.{not-true, not-false}
 use lib.ListN.{length, drop}
-use borrow.Author.Rules.{rules}
-use Rattle.symbols.specs.Names.{in_name, letters}
-use Rattle.symbols.proofs.Laws.{these_one, these_on, these_stop, these_end, rest_on, rest_off}
+use Rattle.symbols.specs.Names.{letters}
 use Rattle.symbols.proofs.names.next_letter.Given as goal
 
 abbrev pub invariant-loop-i : goal.invariant-loop-i

@@ -1,11 +1,9 @@
 -- `symbols::names::same_name` meets its contract. Whether what is left of the two names is equal is whether the names are.
 -- Assumes nothing.
-use mathlib.Core.Path.{◌≡◌, refl, sym, ap, ◌∙◌}
-use Prim.Native.Nat.{ℕ, ◌-◌, ◌≤◌}
+use mathlib.Core.Path.{refl, sym, ap, ◌∙◌}
+use Prim.Native.Nat.{ℕ}
 use native.Mathlib.Omega.{arith}
-use lib.ListN.{length, drop}
-use borrow.Author.Rules.{rules}
-use borrow.Author.Tests.{not-true, not-false}
+use lib.ListN.{drop}
 use mathlib.Core.List.{List}
 use Rattle.symbols.specs.Names.{letters, same_name}
 use Rattle.symbols.specs.model.Steps.{rest_at}

@@ -1,15 +1,10 @@
 -- `symbols::names::same_name` meets its contract. Whether what is left of the two names is equal is whether the names are.
 -- Assumes nothing.
-use mathlib.Core.Path.{◌≡◌, refl, sym, ap, ◌∙◌}
-use Prim.Native.Nat.{ℕ, ◌-◌, ◌≤◌}
-use native.Mathlib.Omega.{arith}
-use lib.ListN.{length, drop}
-use borrow.Author.Rules.{rules}
-use borrow.Author.Tests.{not-true, not-false}
-use mathlib.Core.List.{List}
-use Rattle.symbols.specs.Names.{letters, same_name}
+use mathlib.Core.Path.{◌≡◌}
+use Prim.Native.Nat.{◌-◌, ◌≤◌}
+use lib.ListN.{length}
+use Rattle.symbols.specs.Names.{same_name}
 use Rattle.symbols.specs.model.Steps.{rest_at}
-use Rattle.symbols.proofs.Laws.{rests_apart, rests_differ, rests_on, rests_end}
 use Rattle.symbols.proofs.names.same_name.Given as goal
 
 abbrev pub invariant-loop-i : goal.invariant-loop-i

@@ -4,10 +4,8 @@ use mathlib.Core.Path.{◌≡◌, refl, sym, ap, ◌∙◌}
 use mathlib.Core.Bool.{Bool, true, false}
 use lib.Dec.{eqb}
 use mathlib.Core.List.{List, []}
-use Prim.Native.Nat.{ℕ, ◌+◌, ◌-◌, ◌≤◌, ◌<◌}
-use native.Mathlib.Omega.{arith}
-use borrow.Author.Tests.{not-true, not-false, leb-true, leb-false}
-use borrow.Author.Rules.{rules}
+use Prim.Native.Nat.{ℕ, ◌+◌, ◌≤◌, ◌<◌}
+use borrow.Author.Tests.{leb-true, leb-false}
 use lib.Dec.{leb}
 use lib.ListN.{length, get_or, drop, drop_of_length-le}
 use Rattle.symbols.specs.Names.{letters, equal, folded, same_name}
@@ -20,13 +18,16 @@ module _ (w s : List ℕ) (i j : ℕ) where
   apart : i < length w → length s ≤ j → same_name (drop i w) (rest_at s j) ≡ false
   unfolding same_name equal
   apart h k = rw (peel w i h, rest_off s j k)
+
   differ : i < length w → j < length s → eqb (folded (get_or w i 0)) (folded (get_or s j 0)) ≡ false → same_name (drop i w) (rest_at s j) ≡ false
   unfolding same_name equal
   differ h k n = rw (peel w i h, rest_on s j k, n)
+
   onward : (j' : ℕ) → i < length w → j < length s → eqb (folded (get_or w i 0)) (folded (get_or s j 0)) ≡ true → letters (drop (j + 1) s) ≡ rest_at s j'
       → same_name (drop i w) (rest_at s j) ≡ same_name (drop (i + 1) w) (rest_at s j')
   unfolding same_name equal
   onward j' h k e q = rw (peel w i h, rest_on s j k, e, q)
+
   ends : length w ≤ i → same_name (drop i w) (rest_at s j) ≡ leb (length s) j
   unfolding same_name equal
   ends h = rw (drop_of_length-le w h) (go (leb (length s) j) refl)

@@ -1,18 +1,10 @@
 -- `symbols::names::spells` meets its contract. Whether what is left of the word and of the name is equal is whether they are.
 -- Assumes nothing.
-use mathlib.Core.Path.{◌≡◌, refl, sym, ap, ◌∙◌}
-use mathlib.Core.Bool.{Bool, true, false}
-use lib.Dec.{eqb}
-use mathlib.Core.List.{List, []}
-use Prim.Native.Nat.{ℕ, ◌+◌, ◌-◌, ◌≤◌, ◌<◌}
-use native.Mathlib.Omega.{arith}
-use borrow.Author.Tests.{not-true, not-false, leb-true, leb-false}
-use borrow.Author.Rules.{rules}
-use lib.Dec.{leb}
-use lib.ListN.{length, get_or, drop, drop_of_length-le}
-use Rattle.symbols.specs.Names.{letters, equal, folded, same_name}
+use mathlib.Core.Path.{◌≡◌}
+use Prim.Native.Nat.{◌-◌, ◌≤◌}
+use lib.ListN.{length, drop}
+use Rattle.symbols.specs.Names.{same_name}
 use Rattle.symbols.specs.model.Steps.{rest_at}
-use Rattle.symbols.proofs.Laws.{peel, rest_on, rest_off}
 use Rattle.symbols.proofs.names.spells.Given as goal
 
 -- ---- the answers

@@ -1,6 +1,5 @@
 -- `symbols::notes::behind` meets its contract. Each arm has told the symbol; the last, that it is none of the three.
 -- Assumes nothing.
-use borrow.Author.Rules.{rules}
 use mathlib.Core.Path.{sym}
 use Rattle.symbols.proofs.Tags.{behind_other}
 use Rattle.symbols.specs.Scan.{behind}

@@ -1,10 +1,7 @@
 -- `symbols::notes::counted` meets its contract. Where room is left the symbol counts.
 -- Assumes nothing.
-use borrow.Author.Rules.{rules}
 use mathlib.Core.Path.{sym}
-use Prim.Native.Nat.{◌-◌}
 use Rattle.symbols.proofs.Laws.{counted_none, counted_some}
-use borrow.Author.Rules.{rules}
 use Rattle.symbols.proofs.notes.counted.Goals as goal
 
 pub returns-then-room-eq0 : goal.returns-then-room-eq0

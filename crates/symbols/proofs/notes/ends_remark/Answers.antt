@@ -1,6 +1,5 @@
 -- `symbols::notes::ends_remark` meets its contract. Each arm has told the symbol; the last, that it is none of the three.
 -- Assumes nothing.
-use borrow.Author.Rules.{rules}
 use mathlib.Core.Path.{sym}
 use Rattle.symbols.proofs.Tags.{remark_other}
 use Rattle.symbols.specs.Scan.{ends_remark}

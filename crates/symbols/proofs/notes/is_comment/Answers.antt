@@ -1,6 +1,5 @@
 -- `symbols::notes::is_comment` meets its contract. The first arm has told the symbol; the last, that it is not this one.
 -- Assumes nothing.
-use borrow.Author.Rules.{rules}
 use mathlib.Core.Path.{sym}
 use Rattle.symbols.proofs.Tags.{comment_other}
 use borrow.Enum.Refused.{opened}

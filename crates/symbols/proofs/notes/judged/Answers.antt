@@ -1,10 +1,7 @@
 -- `symbols::notes::judged` meets its contract. The context has been told, and then the test.
 -- Assumes nothing.
-use borrow.Author.Rules.{rules}
 use mathlib.Core.Path.{sym, ◌∙◌}
-use Prim.Native.Nat.{◌-◌}
 use Rattle.symbols.specs.Scan.{judged}
-use borrow.Author.Rules.{rules}
 use Rattle.symbols.proofs.notes.judged.Goals as goal
 
 pub returns-then-is_comment : goal.returns-then-is_comment

@@ -1,6 +1,5 @@
 -- `symbols::notes::note` meets its contract. The note ends behind the next `;`.
 -- Assumes nothing.
-use borrow.Author.Rules.{rules}
 use mathlib.Core.Path.{◌≡◌}
 use Prim.Native.Nat.{◌+◌, ◌-◌, ◌≤◌, ◌<◌}
 use native.Mathlib.Omega.{arith}
@@ -9,7 +8,6 @@ use lib.ListN.{length, drop}
 use lib.ListN.{length-drop}
 use lib.Seq.{drop-drop}
 use Rattle.symbols.specs.Scan.{before, closed, note}
-use borrow.Author.Rules.{rules}
 use Rattle.symbols.proofs.notes.note.Goals as goal
 
 pub returns-then-source-end : goal.returns-then-source-end

@@ -1,8 +1,6 @@
 -- `symbols::notes::oversized` meets its contract. Each arm has told the context.
 -- Assumes nothing.
-use borrow.Author.Rules.{rules}
 use Rattle.symbols.specs.Scan.{judged}
-use borrow.Author.Rules.{rules}
 use Rattle.symbols.proofs.notes.oversized.Goals as goal
 
 pub returns-in-Opens : goal.returns-in-Opens

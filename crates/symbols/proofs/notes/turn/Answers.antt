@@ -1,19 +1,17 @@
 -- `symbols::notes::turn` meets its contract. What begins at the byte is judged in its context.
 -- Assumes nothing.
-use borrow.Author.Rules.{rules}
 use mathlib.Core.Path.{subst}
 use Rattle.symbols.specs.declared.Lexeme.{Lexeme}
 use mathlib.Core.Path.{sym, ◌∙◌}
-use Prim.Native.Nat.{◌+◌, ◌-◌}
+use Prim.Native.Nat.{◌+◌}
 use native.Mathlib.Omega.{arith}
 use borrow.Author.Tests.{lt-ltb, le-ltb}
 use lib.ListN.{length, get_or, drop}
 use lib.ListN.{length-drop}
-use Rattle.symbols.specs.Scan.{lexeme, turn, judged}
+use Rattle.symbols.specs.Scan.{turn}
 use Rattle.symbols.specs.model.Steps.{turn_at}
 use Rattle.symbols.proofs.Laws.{lexeme_here, judged_large, judged_nothing}
 use Rattle.symbols.proofs.Within.{Fits, fits_lexeme}
-use borrow.Author.Rules.{rules}
 use Rattle.symbols.proofs.notes.turn.Goals as goal
 
 pub returns-then-source-at : goal.returns-then-source-at

@@ -1,13 +1,8 @@
 -- `symbols::scanning::fill` meets its contract. The loop carries what stands so far; a step is read off what `next` tells.
 -- Assumes nothing.
-use borrow.Author.Rules.{rules}
-use mathlib.Core.Path.{subst}
-use mathlib.Core.Path.{sym, ◌∙◌}
 use Prim.Native.Nat.{◌-◌}
-use native.Mathlib.Omega.{arith}
 use lib.ListN.{length}
-use Rattle.symbols.proofs.Resume.{Onward, onward}
-use Rattle.symbols.proofs.Filling.{SoFar, begun, read_on, passed_on, refused_here, ended_here, lasting}
+use Rattle.symbols.proofs.Filling.{SoFar}
 use Rattle.symbols.proofs.scanning.fill.Given as goal
 
 abbrev pub invariant-loop-s : goal.invariant-loop-s

@@ -1,18 +1,15 @@
 -- `symbols::scanning::next` meets its contract. The turn at the byte, with the cursor behind it.
 -- Assumes nothing.
-use borrow.Author.Rules.{rules}
 use mathlib.Core.Path.{subst}
 use mathlib.Core.Path.{sym, ◌∙◌}
-use Prim.Native.Nat.{◌+◌, ◌-◌}
+use Prim.Native.Nat.{◌+◌}
 use native.Mathlib.Omega.{arith}
 use borrow.Author.Tests.{lt-ltb, le-ltb}
 use lib.ListN.{length, get_or, drop}
 use lib.ListN.{length-drop}
-use Rattle.symbols.specs.Scan.{turn}
 use Rattle.symbols.specs.model.Steps.{step_of, step_at}
 use Rattle.symbols.proofs.Laws.{turn_here}
 use Rattle.symbols.proofs.Within.{Stays, stays}
-use borrow.Author.Rules.{rules}
 use Rattle.symbols.proofs.scanning.next.Goals as goal
 
 pub returns-then-source-at : goal.returns-then-source-at

@@ -1,6 +1,5 @@
 -- `symbols::scanning::scan` meets its contract. What `fill` tells, at the limit that the arrays allow.
 -- Assumes nothing.
-use borrow.Author.Rules.{rules}
 use Rattle.symbols.proofs.scanning.scan.Goals as goal
 
 pub returns : goal.returns

@@ -1,13 +1,9 @@
 -- `symbols::text::blanks_end` meets its contract. What is passed over from `from` on is what was passed and what is passed from i on.
 -- Assumes nothing.
-use mathlib.Core.Path.{◌≡◌, refl, sym, ◌∙◌}
+use mathlib.Core.Path.{◌≡◌}
 use Prim.Native.Nat.{◌+◌, ◌-◌}
-use native.Mathlib.Omega.{arith}
-use borrow.Author.Tests.{not-true, not-false}
-use borrow.Author.Rules.{rules}
 use lib.ListN.{length, drop}
 use Rattle.symbols.specs.Scan.{gap}
-use Rattle.symbols.proofs.Laws.{gap_on, gap_stop, gap_end}
 use Rattle.symbols.proofs.text.blanks_end.Given as goal
 
 abbrev pub invariant-loop-i : goal.invariant-loop-i

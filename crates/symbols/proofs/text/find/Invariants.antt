@@ -1,12 +1,9 @@
 -- `symbols::text::find` meets its contract. What stands before q from `from` on is what was passed and what stands before it from i on.
 -- Assumes nothing.
-use mathlib.Core.Path.{◌≡◌, refl}
+use mathlib.Core.Path.{◌≡◌}
 use Prim.Native.Nat.{◌+◌, ◌-◌}
-use native.Mathlib.Omega.{arith}
-use borrow.Author.Tests.{eq-eqb, ne_eqb}
 use lib.ListN.{length, drop}
 use Rattle.symbols.specs.Scan.{before}
-use Rattle.symbols.proofs.Laws.{before_on, before_stop, before_end}
 use Rattle.symbols.proofs.text.find.Given as goal
 
 abbrev pub invariant-loop-i : goal.invariant-loop-i

@@ -1,7 +1,6 @@
 -- `symbols::text::fold` meets its contract. The tests place the byte.
 -- Assumes nothing.
 use mathlib.Core.Path.{sym}
-use Prim.Native.Nat.{◌-◌, ◌≤◌, ◌<◌}
 use native.Mathlib.Omega.{arith}
 use Rattle.symbols.proofs.LetterCase.{folded_capital, folded_itself}
 use Rattle.symbols.proofs.text.fold.Goals as goal

@@ -1,9 +1,7 @@
 -- `symbols::text::is_name_byte` meets its contract. By what the two callees tell.
 -- Assumes nothing.
 use mathlib.Core.Path.{sym, ◌∙◌}
-use Prim.Native.Nat.{◌-◌}
 use Rattle.symbols.specs.Names.{in_name}
-use borrow.Author.Rules.{rules}
 use Rattle.symbols.proofs.text.is_name_byte.Goals as goal
 
 pub returns-then-is_letter : goal.returns-then-is_letter

@@ -1,6 +1,5 @@
 -- `symbols::text::other_case` meets its contract. The tests place the byte.
 -- Assumes nothing.
-use Prim.Native.Nat.{◌-◌, ◌≤◌, ◌<◌}
 use native.Mathlib.Omega.{arith}
 use Rattle.symbols.proofs.LetterCase.{no_other, other_small, other_capital}
 use Rattle.symbols.proofs.text.other_case.Goals as goal

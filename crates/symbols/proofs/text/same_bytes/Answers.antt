@@ -1,10 +1,7 @@
 -- `symbols::text::same_bytes` meets its contract. Whether the rest from i on is equal is whether all is.
 -- Assumes nothing.
-use mathlib.Core.Path.{◌≡◌, refl, sym, ◌∙◌}
-use Prim.Native.Nat.{◌-◌}
+use mathlib.Core.Path.{refl, sym, ◌∙◌}
 use native.Mathlib.Omega.{arith}
-use lib.ListN.{length, drop}
-use Rattle.symbols.specs.Names.{equal}
 use Rattle.symbols.proofs.Laws.{equal_on, equal_off, equal_end, equal_length}
 use Rattle.symbols.proofs.text.same_bytes.Goals as goal
 

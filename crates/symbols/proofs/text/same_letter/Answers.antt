@@ -1,7 +1,6 @@
 -- `symbols::text::same_letter` meets its contract. Two bytes that are not one are the same where the first is the second in the other case.
 -- Assumes nothing.
 use mathlib.Core.Path.{sym, ap}
-use borrow.Author.Rules.{rules}
 use borrow.Author.Tests.{eq-eqb}
 use Rattle.symbols.specs.Names.{folded}
 use Rattle.symbols.proofs.LetterCase.{same_other}

@@ -1,6 +1,5 @@
 -- `symbols::words::either` meets its contract. The test has told whether the bytes are the first word's.
 -- Assumes nothing.
-use borrow.Author.Rules.{rules}
 use mathlib.Core.Path.{sym, ◌∙◌}
 use Rattle.symbols.proofs.words.either.Goals as goal
 

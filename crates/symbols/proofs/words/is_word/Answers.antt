@@ -3,14 +3,13 @@
 use mathlib.Core.Path.{◌≡◌, refl, sym, ◌∙◌}
 use mathlib.Core.Bool.{true}
 use mathlib.Core.List.{List}
-use Prim.Native.Nat.{ℕ, ◌+◌, ◌-◌, ◌<◌}
+use Prim.Native.Nat.{ℕ, ◌+◌, ◌<◌}
 use native.Mathlib.Omega.{arith}
-use borrow.Author.Tests.{not-true, not-false}
 use borrow.Author.Rules.{rules}
 use lib.Dec.{eqb}
-use lib.ListN.{length, get_or, drop}
+use lib.ListN.{length, get_or}
 use mathlib.Core.Bool.{◌||◌}
-use Rattle.symbols.specs.Names.{folded, same_name}
+use Rattle.symbols.specs.Names.{folded}
 use Rattle.symbols.specs.model.Steps.{all_small}
 use Rattle.symbols.proofs.LetterCase.{same_on, same_off, same_end, same_length, by_small, small_at}
 use Rattle.symbols.proofs.words.is_word.Goals as goal

@@ -1,6 +1,5 @@
 -- `symbols::words::only` meets its contract. The test has told whether the bytes are the word's.
 -- Assumes nothing.
-use borrow.Author.Rules.{rules}
 use mathlib.Core.Path.{sym, ◌∙◌}
 use Rattle.symbols.proofs.words.only.Goals as goal
 

@@ -3,7 +3,6 @@ use mathlib.Core.Path.{refl}
 use Rattle.grammar.specs.Grammar as G
 use Rattle.grammar.specs.model.Marked.{first}
 use Rattle.syntax.proofs.Lemmas.{s_prod}
-use borrow.Author.Rules.{rules}
 use Rattle.syntax.proofs.clauses.amount.Goals as goal
 
 pub returns : goal.returns

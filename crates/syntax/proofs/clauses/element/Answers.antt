@@ -2,10 +2,8 @@
 use mathlib.Core.Path.{refl}
 use mathlib.Core.List.{[]}
 use native.Mathlib.Omega.{arith}
-use Rattle.grammar.proofs.Peeks.{inside}
 use Rattle.syntax.proofs.Lemmas.{space, s_put, s_prod, s_part, s_bad, s_last}
 use Rattle.grammar.specs.Grammar as G
-use borrow.Author.Rules.{rules}
 use Rattle.syntax.proofs.clauses.element.Goals as goal
 
 pub expression-one-requires : goal.expression-one-requires

@@ -3,7 +3,6 @@ use mathlib.Core.Path.{sym}
 use mathlib.Core.List.{[]}
 use native.Mathlib.Omega.{arith}
 use Rattle.syntax.proofs.Lemmas.{space, s_end, s_put, s_part, s_bad}
-use borrow.Author.Rules.{rules}
 use Rattle.syntax.proofs.clauses.expression_and.Goals as goal
 
 pub expression-one-requires : goal.expression-one-requires

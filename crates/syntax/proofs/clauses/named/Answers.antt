@@ -8,7 +8,6 @@ use Rattle.grammar.proofs.Peeks.{inside, is_at, is_not, but}
 use Rattle.syntax.proofs.Lemmas.{s_sy, s_put, s_prod, s_last}
 use Rattle.grammar.specs.Grammar as G
 use Rattle.syntax.proofs.Choices as C
-use borrow.Author.Rules.{rules}
 use borrow.Enum.Refused.{opened}
 use Rattle.syntax.proofs.clauses.named.Goals as goal
 

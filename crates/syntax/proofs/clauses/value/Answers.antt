@@ -1,7 +1,6 @@
 -- `syntax::clauses::value` meets its contract: an expression, and the node with the `:=` before it. Assumes nothing.
 use native.Mathlib.Omega.{arith}
 use Rattle.grammar.specs.model.Marked.{before}
-use borrow.Author.Rules.{rules}
 use Rattle.syntax.proofs.clauses.value.Goals as goal
 
 pub returns : goal.returns

@@ -2,13 +2,10 @@
 -- Assumes nothing.
 use mathlib.Core.Path.{refl, sym, ap, ◌∙◌}
 use mathlib.Core.List.{[], ◌∷◌}
-use Prim.Native.Nat.{ℕ, ◌+◌, ◌-◌, ◌*◌, ◌<◌}
+use Prim.Native.Nat.{ℕ, ◌+◌}
 use native.Mathlib.Omega.{arith}
-use lib.ListN.{length}
 use Rattle.grammar.specs.model.Tables.{choose}
-use Rattle.grammar.specs.model.Run.{now}
 use Rattle.grammar.specs.model.Text.{text, kind_at}
-use Rattle.syntax.specs.model.Says.{left}
 use Rattle.grammar.proofs.Peeks.{inside, is_at, is_not, but}
 use Rattle.syntax.proofs.Lemmas.{says_limit, space, s_end, s_sy, s_no, s_put, s_none, s_prod, s_part, s_bad, s_last, s_deeper}
 use Rattle.grammar.specs.Grammar as G
@@ -16,8 +13,7 @@ use Rattle.grammar.specs.declared.Level.TheVariants as L
 use Rattle.syntax.proofs.Choices as C
 use Rattle.syntax.specs.model.Operators.{operator_of, relation_of}
 use Rattle.syntax.proofs.Lemmas.{s_operand}
-use borrow.Author.Rules.{rules}
-use Prim.Native.Nat.{ℕ, ◌<◌}
+use Prim.Native.Nat.{ℕ}
 use borrow.Enum.Refused.{opened}
 use Rattle.syntax.proofs.expressions.+expressions.Goals as goal
 

@@ -1,24 +1,9 @@
 -- Expressions: each reader's answer is its production read aloud; the symbols left fall, or at one symbol the binding does.
 -- Assumes nothing.
-use mathlib.Core.Path.{refl, sym, ap, ◌∙◌}
-use mathlib.Core.List.{[], ◌∷◌}
-use Prim.Native.Nat.{ℕ, ◌+◌, ◌-◌, ◌*◌, ◌<◌}
-use native.Mathlib.Omega.{arith}
+use Prim.Native.Nat.{◌+◌, ◌-◌, ◌*◌}
 use lib.ListN.{length}
-use Rattle.grammar.specs.model.Tables.{choose}
-use Rattle.grammar.specs.model.Run.{now}
-use Rattle.grammar.specs.model.Text.{text, kind_at}
-use Rattle.syntax.specs.model.Says.{left}
-use Rattle.grammar.proofs.Peeks.{inside, is_at, is_not, but}
-use Rattle.syntax.proofs.Lemmas.{says_limit, space, s_end, s_sy, s_no, s_put, s_none, s_prod, s_part, s_bad, s_last, s_deeper}
-use Rattle.grammar.specs.Grammar as G
-use Rattle.grammar.specs.declared.Level.TheVariants as L
+use Rattle.grammar.specs.model.Text.{text}
 use Rattle.syntax.proofs.Choices as C
-use Rattle.syntax.specs.model.Operators.{operator_of, relation_of}
-use Rattle.syntax.proofs.Lemmas.{s_operand}
-use borrow.Author.Rules.{rules}
-use Prim.Native.Nat.{ℕ, ◌<◌}
-use borrow.Enum.Refused.{opened}
 use Rattle.syntax.proofs.expressions.+expressions.Given as goal
 
 abbrev pub decreases-actual : goal.decreases-actual

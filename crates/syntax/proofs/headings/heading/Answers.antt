@@ -5,7 +5,6 @@ use native.Mathlib.Omega.{arith}
 use Rattle.grammar.proofs.Peeks.{inside, is_at, is_not, but}
 use Rattle.syntax.proofs.Lemmas.{space, s_sy, s_no, s_put, s_prod, s_part, s_bad, s_last}
 use Rattle.grammar.specs.Grammar as G
-use borrow.Author.Rules.{rules}
 use borrow.Enum.Refused.{opened}
 use Rattle.syntax.proofs.headings.heading.Goals as goal
 

@@ -4,7 +4,6 @@ use native.Mathlib.Omega.{arith}
 use Rattle.symbols.specs.declared.kinds.Stored.{Stored}
 use Rattle.grammar.proofs.Peeks.{inside}
 use Rattle.syntax.proofs.Lemmas.{s_end, s_sy, s_no, s_part, s_bad}
-use borrow.Author.Rules.{rules}
 use Rattle.syntax.proofs.headings.list_to.Goals as goal
 
 pub overflow_add-result : goal.overflow_add-result

@@ -4,13 +4,11 @@ use mathlib.Core.List.{[], ◌∷◌}
 use Prim.Native.Nat.{ℕ}
 use Rattle.grammar.specs.model.Tables.{choose}
 use Rattle.grammar.specs.model.Run.{now, level, rd_six, rd_five, rd_bad}
-use Rattle.syntax.specs.model.Says.{left}
 use Rattle.grammar.proofs.Peeks.{is_at, is_in, is_not, but}
 use Rattle.syntax.proofs.Lemmas.{limits, may, may_end, may_not, may_not_end}
 use Rattle.syntax.proofs.Choices as C
 use Rattle.grammar.specs.Grammar.{consequence}
 use Rattle.syntax.proofs.Choices.{in_not}
-use borrow.Author.Rules.{rules}
 use borrow.Enum.Refused.{opened}
 use Rattle.syntax.proofs.limits.consequence.Goals as goal
 

@@ -4,7 +4,6 @@ use mathlib.Core.List.{[], ◌∷◌}
 use Rattle.grammar.specs.model.Run.{rd_six, rd_five}
 use Rattle.grammar.proofs.Peeks.{is_in, is_none, but}
 use Rattle.syntax.proofs.Lemmas.{limits}
-use borrow.Author.Rules.{rules}
 use borrow.Enum.Refused.{opened}
 use Rattle.syntax.proofs.limits.expression.Goals as goal
 

@@ -2,10 +2,8 @@
 use mathlib.Core.Path.{refl}
 use mathlib.Core.List.{[], ◌∷◌}
 use Rattle.grammar.specs.model.Run.{rd_six, rd_five}
-use Rattle.syntax.specs.model.Says.{left}
 use Rattle.grammar.proofs.Peeks.{is_at, is_in, but}
 use Rattle.syntax.proofs.Lemmas.{limits, may, may_end, may_not, may_not_end}
-use borrow.Author.Rules.{rules}
 use borrow.Enum.Refused.{opened}
 use Rattle.syntax.proofs.limits.statement.Goals as goal
 

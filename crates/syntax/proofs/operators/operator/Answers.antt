@@ -4,7 +4,6 @@ use mathlib.Core.List.{[], ◌∷◌}
 use Rattle.grammar.proofs.Peeks.{is_not, but}
 use Rattle.syntax.specs.model.Operators.{operator_of}
 use Rattle.syntax.proofs.Choices.{zero_one}
-use borrow.Author.Rules.{rules}
 use borrow.Enum.Refused.{opened}
 use Rattle.syntax.proofs.operators.operator.Goals as goal
 

@@ -2,11 +2,8 @@
 use mathlib.Core.Path.{sym, ◌∙◌}
 use mathlib.Core.List.{[], ◌∷◌}
 use native.Mathlib.Omega.{arith}
-use Rattle.grammar.specs.model.Run.{now}
-use Rattle.syntax.specs.model.Says.{left}
-use Rattle.grammar.proofs.Peeks.{inside, text_length}
+use Rattle.grammar.proofs.Peeks.{text_length}
 use Rattle.syntax.proofs.WholePrelude.{all_read, more_left, refused}
-use borrow.Author.Rules.{rules}
 use Rattle.syntax.proofs.preludes.all.Goals as goal
 
 pub prelude-one-requires : goal.prelude-one-requires

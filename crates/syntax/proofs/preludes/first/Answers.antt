@@ -1,11 +1,8 @@
 -- `syntax::preludes::first` meets its contract. Assumes nothing.
 use mathlib.Core.Path.{sym}
 use native.Mathlib.Omega.{arith}
-use Rattle.grammar.specs.model.Run.{now}
-use Rattle.syntax.specs.model.Says.{left}
 use lib.Seq.{length-take-le}
 use Rattle.syntax.proofs.WholePrelude.{cut}
-use borrow.Author.Rules.{rules}
 use Rattle.syntax.proofs.preludes.first.Goals as goal
 
 pub slice_bounds-all-end : goal.slice_bounds-all-end

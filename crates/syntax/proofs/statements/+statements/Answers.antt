@@ -2,20 +2,15 @@
 -- Assumes nothing.
 use mathlib.Core.Path.{◌≡◌, refl, ap}
 use mathlib.Core.List.{[], ◌∷◌}
-use Prim.Native.Nat.{ℕ, ◌+◌, ◌-◌, ◌*◌, ◌<◌}
+use Prim.Native.Nat.{ℕ}
 use native.Mathlib.Omega.{arith}
-use lib.ListN.{length}
 use Rattle.grammar.specs.model.Tables.{choose, some}
-use Rattle.grammar.specs.model.Run.{now}
-use Rattle.grammar.specs.model.Text.{text}
-use Rattle.syntax.specs.model.Says.{left}
 use Rattle.grammar.proofs.Sets.{all_in}
 use Rattle.grammar.proofs.Peeks.{inside, inside_in, is_at, is_in, is_not, but}
 use Rattle.syntax.proofs.Lemmas.{says_limit, space, s_end, s_sy, s_no, s_put, s_prod, s_part, s_bad, s_last, deep_got, deep_bad, s_deeper}
 use Rattle.grammar.specs.Grammar as G
 use Rattle.syntax.proofs.Choices as C
-use borrow.Author.Rules.{rules}
-use Prim.Native.Nat.{ℕ, ◌<◌}
+use Prim.Native.Nat.{ℕ}
 use borrow.Enum.Refused.{opened}
 use Rattle.syntax.proofs.statements.+statements.Goals as goal
 

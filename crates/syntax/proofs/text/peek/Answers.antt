@@ -1,10 +1,7 @@
 -- `syntax::text::peek` meets its contract. Assumes nothing.
 use mathlib.Core.Path.{sym, ap, ◌∙◌}
-use Rattle.grammar.specs.model.Run.{now}
-use Rattle.syntax.specs.model.Says.{left}
 use Rattle.symbols.specs.Symbols.{kind}
 use Rattle.grammar.proofs.Peeks.{text_at, text_past}
-use borrow.Author.Rules.{rules}
 use Rattle.syntax.proofs.text.peek.Goals as goal
 
 pub returns-then-i-kinds : goal.returns-then-i-kinds

@@ -1,12 +1,7 @@
 -- `syntax::writing::clear` meets its contract. The invariant: from the beginning to i all is zero. Assumes nothing.
-use Prim.Native.Nat.{◌-◌}
 use native.Mathlib.Omega.{arith}
-use lib.ListN.{length}
-use Rattle.grammar.specs.model.Run.{now}
-use Rattle.syntax.specs.model.Says.{left}
 use lib.ListN.{length-set}
-use Rattle.syntax.proofs.Words.{Cleared, not_yet, one_more, all_clear}
-use borrow.Author.Rules.{rules}
+use Rattle.syntax.proofs.Words.{not_yet, one_more, all_clear}
 use Rattle.syntax.proofs.writing.clear.Goals as goal
 
 pub loop-i-init : goal.loop-i-init

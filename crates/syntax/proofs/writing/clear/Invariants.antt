@@ -1,12 +1,7 @@
 -- `syntax::writing::clear` meets its contract. The invariant: from the beginning to i all is zero. Assumes nothing.
 use Prim.Native.Nat.{◌-◌}
-use native.Mathlib.Omega.{arith}
 use lib.ListN.{length}
-use Rattle.grammar.specs.model.Run.{now}
-use Rattle.syntax.specs.model.Says.{left}
-use lib.ListN.{length-set}
-use Rattle.syntax.proofs.Words.{Cleared, not_yet, one_more, all_clear}
-use borrow.Author.Rules.{rules}
+use Rattle.syntax.proofs.Words.{Cleared}
 use Rattle.syntax.proofs.writing.clear.Given as goal
 
 abbrev pub invariant-loop-i : goal.invariant-loop-i

@@ -1,9 +1,7 @@
 -- `syntax::writing::put` meets its contract. Assumes nothing.
 use native.Mathlib.Omega.{arith}
-use Rattle.grammar.specs.model.Run.{now}
 use Rattle.syntax.proofs.Words.{put_is}
 use lib.ListN.{length-set}
-use borrow.Author.Rules.{rules}
 use Rattle.syntax.proofs.writing.put.Goals as goal
 
 pub bounds-nodes-second : goal.bounds-nodes-second
