@@ -1,7 +1,6 @@
 -- `types::check` meets its contract: the pass over what is in use.
 use native.Mathlib.Omega.{arith}
 use lib.ListN.{length-take}
-use borrow.Author.Rules.{rules}
 use Rattle.types.proofs.check.Goals as goal
 
 pub check-requires : goal.check-requires

@@ -3,7 +3,6 @@ use Prim.Native.Nat.{ℕ}
 use mathlib.Core.Path.{ap}
 use mathlib.Core.Bool.{false}
 use borrow.Author.Tests.{eq-eqb, ne_eqb}
-use borrow.Author.Rules.{rules}
 use Rattle.types.specs.model.Passes.{judgement, sort_in, left_of}
 use Rattle.types.proofs.meanings.as_left.Goals as goal
 

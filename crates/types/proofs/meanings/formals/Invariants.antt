@@ -1,11 +1,8 @@
 -- `types::meanings::formals` meets its contract. The loop's invariant: the formals passed and those in a row from here on are all of them.
 use mathlib.Core.Path.{◌≡◌}
 use Prim.Native.Nat.{◌+◌, ◌*◌, ◌-◌, ◌≤◌}
-use native.Mathlib.Omega.{arith}
 use lib.ListN.{drop}
-use borrow.Author.Rules.{rules}
 use Rattle.types.specs.model.Passes.{formals_from, formals_in}
-use Rattle.types.proofs.RowWords.{formals_here, formals_other, formals_end}
 use Rattle.types.proofs.meanings.formals.Given as goal
 
 abbrev pub invariant-loop-n : goal.invariant-loop-n

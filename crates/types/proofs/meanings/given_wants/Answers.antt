@@ -1,7 +1,6 @@
 -- `types::meanings::given_wants` meets its contract: its tests are those of `given_wants`.
 use native.Mathlib.Omega.{arith}
 use borrow.Author.Tests.{le-leb, lt-leb, eq-eqb, ne_eqb}
-use borrow.Author.Rules.{rules}
 use Rattle.types.specs.model.Passes.{given_wants}
 use Rattle.types.proofs.meanings.given_wants.Goals as goal
 

@@ -1,7 +1,6 @@
 -- `types::meanings::in_expression` meets its contract: a case for each kind of meaning.
 use mathlib.Core.Path.{sym, subst, ◌∙◌}
 use native.Mathlib.Omega.{arith}
-use borrow.Author.Rules.{rules}
 use Rattle.types.specs.model.Passes.{primary_of}
 use Rattle.types.specs.model.Arrays.{MeantWithin}
 use Rattle.types.proofs.meanings.in_expression.Goals as goal

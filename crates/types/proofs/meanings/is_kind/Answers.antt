@@ -2,7 +2,6 @@
 use mathlib.Core.Path.{ap}
 use lib.Dec.{eqb}
 use Rattle.names.specs.declared.Row.{Row}
-use borrow.Author.Rules.{rules}
 use Rattle.types.proofs.meanings.is_kind.Goals as goal
 
 pub returns : goal.returns

@@ -1,6 +1,5 @@
 -- `types::meanings::is_variable` meets its contract: a case for each kind of meaning.
 use mathlib.Core.Path.{sym, ◌∙◌}
-use borrow.Author.Rules.{rules}
 use Rattle.types.specs.model.Passes.{variable_of}
 use Rattle.types.proofs.meanings.is_variable.Goals as goal
 

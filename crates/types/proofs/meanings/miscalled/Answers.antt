@@ -1,7 +1,6 @@
 -- `types::meanings::miscalled` meets its contract: a case for each kind of meaning.
 use mathlib.Core.Path.{sym, subst, ◌∙◌}
 use native.Mathlib.Omega.{arith}
-use borrow.Author.Rules.{rules}
 use Rattle.types.specs.model.Passes.{miscalled_of}
 use Rattle.types.specs.model.Arrays.{MeantWithin}
 use Rattle.types.proofs.meanings.miscalled.Goals as goal

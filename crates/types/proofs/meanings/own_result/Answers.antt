@@ -1,10 +1,8 @@
 -- `types::meanings::own_result` meets its contract. The loop's invariant: what the bodies from here outward give is what all give.
 use mathlib.Core.Path.{◌≡◌, refl, sym, ap, ◌∙◌}
-use Prim.Native.Nat.{ℕ, ◌-◌, ◌≤◌}
+use Prim.Native.Nat.{ℕ, ◌-◌}
 use native.Mathlib.Omega.{arith}
 use lib.Dec.{eqb}
-use lib.ListN.{length}
-use borrow.Author.Rules.{rules}
 use Rattle.names.specs.Modes.{type_in}
 use Rattle.names.specs.model.Rows.{opens_of}
 use Rattle.names.specs.declared.Row.{Row}

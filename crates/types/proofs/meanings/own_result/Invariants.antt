@@ -1,15 +1,9 @@
 -- `types::meanings::own_result` meets its contract. The loop's invariant: what the bodies from here outward give is what all give.
-use mathlib.Core.Path.{◌≡◌, refl, sym, ap, ◌∙◌}
-use Prim.Native.Nat.{ℕ, ◌-◌, ◌≤◌}
-use native.Mathlib.Omega.{arith}
-use lib.Dec.{eqb}
+use mathlib.Core.Path.{◌≡◌}
+use Prim.Native.Nat.{◌≤◌}
 use lib.ListN.{length}
-use borrow.Author.Rules.{rules}
-use Rattle.names.specs.Modes.{type_in}
 use Rattle.names.specs.model.Rows.{opens_of}
-use Rattle.names.specs.declared.Row.{Row}
-use Rattle.types.specs.model.Passes.{sort_in, judgement, own_of}
-use Rattle.types.proofs.RowWords.{own_here, own_further}
+use Rattle.types.specs.model.Passes.{own_of}
 use Rattle.types.proofs.meanings.own_result.Given as goal
 
 abbrev pub invariant-loop-n : goal.invariant-loop-n

@@ -3,7 +3,6 @@ use mathlib.Core.Path.{ap, ◌∙◌}
 use Rattle.names.specs.Modes.{type_in}
 use Rattle.names.specs.declared.Row.{Row}
 use Rattle.types.specs.model.Passes.{sort_in}
-use borrow.Author.Rules.{rules}
 use Rattle.types.proofs.meanings.sort_of.Goals as goal
 
 pub returns : goal.returns

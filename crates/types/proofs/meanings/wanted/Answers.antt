@@ -3,7 +3,6 @@ use mathlib.Core.Path.{sym, subst, ◌∙◌}
 use native.Mathlib.Omega.{arith}
 use borrow.Author.Tests.{le-leb, lt-leb}
 use mathlib.Core.Bool.{true, false}
-use borrow.Author.Rules.{rules}
 use Rattle.types.proofs.RowWords.{from_not}
 use Rattle.types.specs.model.Passes.{want_of}
 use Rattle.types.specs.model.Arrays.{MeantWithin}

@@ -1,6 +1,5 @@
 -- `types::sorts::gives` meets its contract: its tests are those of `gives_sort`.
 use borrow.Author.Tests.{ne_eqb, lt-ltb, le-ltb}
-use borrow.Author.Rules.{rules}
 use Rattle.types.specs.model.Passes.{gives_sort}
 use Rattle.types.proofs.sorts.gives.Goals as goal
 

@@ -1,6 +1,5 @@
 -- `types::sorts::sign_gives` meets its contract: its test is that of `sign_gives_sort`.
 use borrow.Author.Tests.{eq-eqb, ne_eqb}
-use borrow.Author.Rules.{rules}
 use Rattle.types.specs.model.Passes.{sign_gives_sort}
 use Rattle.types.proofs.sorts.sign_gives.Goals as goal
 

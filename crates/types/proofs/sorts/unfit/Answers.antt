@@ -1,7 +1,6 @@
 -- `types::sorts::unfit` meets its contract: its test is that of `unfit_of`.
 use mathlib.Core.Path.{ap, ◌∙◌}
 use borrow.Author.Tests.{eq-eqb, ne_eqb}
-use borrow.Author.Rules.{rules}
 use Rattle.types.specs.model.Passes.{apart_of, unfit_of}
 use Rattle.types.proofs.sorts.unfit.Goals as goal
 

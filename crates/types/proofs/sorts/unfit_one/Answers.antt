@@ -1,6 +1,5 @@
 -- `types::sorts::unfit_one` meets its contract: one test behind the other.
 use mathlib.Core.Path.{sym, ◌∙◌}
-use borrow.Author.Rules.{rules}
 use Rattle.types.proofs.Stacks.{or_true, or_false}
 use Rattle.types.proofs.sorts.unfit_one.Goals as goal
 

@@ -7,7 +7,6 @@ use lib.ListN.{get_or}
 use Rattle.types.specs.model.Arrays.{MeantWithin, see}
 use Rattle.types.specs.model.Passes.{Call, with_calls, popped}
 use Rattle.types.proofs.Stacks.{meant_within, noted_ap, misfit_ap, want_ap, counts_first, calls_again, actual_none, actual_some}
-use borrow.Author.Rules.{rules}
 use Rattle.types.proofs.walking.actual.Goals as goal
 
 pub returns-then-t-eq0 : goal.returns-then-t-eq0

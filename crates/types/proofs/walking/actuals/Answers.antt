@@ -1,7 +1,6 @@
 -- `types::walking::actuals` meets its contract: a word of the slice has sixteen bits.
 use native.Mathlib.Omega.{arith}
 use Prim.Native.Nat.{◌+◌, ◌*◌}
-use borrow.Author.Rules.{rules}
 use Rattle.types.proofs.walking.actuals.Goals as goal
 
 pub overflow_cast-result : goal.overflow_cast-result

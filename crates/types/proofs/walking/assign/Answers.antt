@@ -2,7 +2,6 @@
 use mathlib.Core.Path.{refl, ◌∙◌}
 use Rattle.types.specs.model.Passes.{apart_of, assigned_as, with_left}
 use Rattle.types.proofs.Stacks.{both_ap, noted_ap}
-use borrow.Author.Rules.{rules}
 use Rattle.types.proofs.walking.assign.Goals as goal
 
 pub returns : goal.returns

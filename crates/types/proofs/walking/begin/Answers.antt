@@ -3,7 +3,6 @@ use native.Mathlib.Omega.{arith}
 use Prim.Native.Nat.{◌*◌}
 use lib.ListN.{length-set}
 use Rattle.types.proofs.Stacks.{calls_begin}
-use borrow.Author.Rules.{rules}
 use Rattle.types.proofs.walking.begin.Goals as goal
 
 pub bounds-calls-second : goal.bounds-calls-second

@@ -4,7 +4,6 @@ use mathlib.Core.Bool.{◌||◌}
 use Rattle.types.specs.model.Arrays.{see}
 use Rattle.types.specs.model.Passes.{top_of, popped, unfit_of, gives_sort, first_of, operated_as}
 use Rattle.types.proofs.Stacks.{both_ap, noted_ap, pushed_ap, stack_popped}
-use borrow.Author.Rules.{rules}
 use Rattle.types.proofs.walking.binary.Goals as goal
 
 pub returns : goal.returns

@@ -1,6 +1,5 @@
 -- `types::walking::body` meets its contract: the row's number is the new head.
 use Rattle.types.specs.model.Passes.{with_rows, with_bodies}
-use borrow.Author.Rules.{rules}
 use Rattle.types.proofs.walking.body.Goals as goal
 
 pub returns : goal.returns

@@ -1,6 +1,5 @@
 -- `types::walking::call` meets its contract: the call begun is the new head.
 use Rattle.types.specs.model.Passes.{called_as, with_calls}
-use borrow.Author.Rules.{rules}
 use Rattle.types.proofs.walking.call.Goals as goal
 
 pub returns : goal.returns

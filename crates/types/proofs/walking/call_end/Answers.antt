@@ -7,7 +7,6 @@ use Rattle.types.specs.declared.Judgement.{Judgement}
 use Rattle.types.specs.model.Arrays.{MeantWithin, see}
 use Rattle.types.specs.model.Passes.{judged, with_calls}
 use Rattle.types.proofs.Stacks.{meant_within, noted_ap, pushed_ap, miscalled_ap, primary_ap, ended_none, ended_statement, ended_primary}
-use borrow.Author.Rules.{rules}
 use Rattle.types.proofs.walking.call_end.Goals as goal
 
 pub returns-then-t-eq0 : goal.returns-then-t-eq0

@@ -1,7 +1,6 @@
 -- `types::walking::condition` meets its contract: what its callees say, one behind the other.
 use mathlib.Core.Path.{ap, ◌∙◌}
 use Rattle.types.specs.model.Passes.{pushed, condition_as}
-use borrow.Author.Rules.{rules}
 use Rattle.types.proofs.walking.condition.Goals as goal
 
 pub returns : goal.returns

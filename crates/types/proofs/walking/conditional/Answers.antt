@@ -3,7 +3,6 @@ use mathlib.Core.Path.{ap, ◌∙◌}
 use Rattle.types.specs.model.Arrays.{see}
 use Rattle.types.specs.model.Passes.{apart_of, armed_of, top_of, popped, first_of, chosen_as}
 use Rattle.types.proofs.Stacks.{both_ap, noted_ap, pushed_ap, stack_popped}
-use borrow.Author.Rules.{rules}
 use Rattle.types.proofs.walking.conditional.Goals as goal
 
 pub returns : goal.returns

@@ -1,7 +1,6 @@
 -- `types::walking::is_alone` meets its contract: a word of the slice has sixteen bits.
 use native.Mathlib.Omega.{arith}
 use Prim.Native.Nat.{◌+◌, ◌*◌}
-use borrow.Author.Rules.{rules}
 use Rattle.types.proofs.walking.is_alone.Goals as goal
 
 pub overflow_cast-depth : goal.overflow_cast-depth

@@ -1,7 +1,6 @@
 -- `types::walking::keep` meets its contract: past the end nothing is written.
 use mathlib.Core.Path.{sym}
 use lib.Seq.{set_out}
-use borrow.Author.Rules.{rules}
 use Rattle.types.proofs.walking.keep.Goals as goal
 
 pub returns-else-symbol-marks : goal.returns-else-symbol-marks

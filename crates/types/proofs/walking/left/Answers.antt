@@ -8,7 +8,6 @@ use Rattle.types.specs.declared.Judgement.{Judgement}
 use Rattle.types.specs.model.Arrays.{MeantWithin, see}
 use Rattle.types.specs.model.Passes.{differ_of, left_of, with_left}
 use Rattle.types.proofs.Stacks.{meant_within, noted_ap, both_ap, or_true, or_false, left_again, left_first}
-use borrow.Author.Rules.{rules}
 use Rattle.types.proofs.walking.left.Goals as goal
 
 pub as_left-j-requires : goal.as_left-j-requires

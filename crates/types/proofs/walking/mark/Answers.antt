@@ -6,7 +6,6 @@ use Rattle.types.specs.model.Arrays.{see}
 use borrow.Author.Tests.{eq-eqb, ne_eqb}
 use Rattle.types.specs.model.Passes.{wide_of, top_of, below, first_of, mark_of}
 use Rattle.types.proofs.Stacks.{both_ap, stack_popped}
-use borrow.Author.Rules.{rules}
 use Rattle.types.proofs.walking.mark.Goals as goal
 
 pub returns-then-kind-ne-CONDITION_END : goal.returns-then-kind-ne-CONDITION_END

@@ -3,7 +3,6 @@ use mathlib.Core.Path.{sym, subst}
 use Rattle.types.specs.model.Arrays.{MeantWithin}
 use Rattle.types.specs.model.Passes.{misfit_of}
 use Rattle.types.proofs.Stacks.{meant_within}
-use borrow.Author.Rules.{rules}
 use Rattle.types.proofs.walking.misfit.Goals as goal
 
 pub returns-then-not-alone : goal.returns-then-not-alone

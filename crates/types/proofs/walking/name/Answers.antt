@@ -6,7 +6,6 @@ use Rattle.types.specs.declared.Judgement.{Judgement}
 use Rattle.types.specs.model.Arrays.{MeantWithin}
 use Rattle.types.specs.model.Passes.{named_as, judged, with_bare, miscalled_of, primary_of}
 use Rattle.types.proofs.Stacks.{meant_within, noted_ap, pushed_ap}
-use borrow.Author.Rules.{rules}
 use Rattle.types.proofs.walking.name.Goals as goal
 
 pub miscalled-requires : goal.miscalled-requires

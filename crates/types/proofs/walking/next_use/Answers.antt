@@ -3,7 +3,6 @@ use mathlib.Core.Path.{refl}
 use lib.ListN.{drop_of_length-le}
 use Rattle.types.specs.model.Passes.{next_use, with_use}
 use Rattle.types.proofs.Stacks.{uses_on}
-use borrow.Author.Rules.{rules}
 use Rattle.types.proofs.walking.next_use.Goals as goal
 
 pub returns-then-at-uses : goal.returns-then-at-uses

@@ -7,7 +7,6 @@ use Rattle.names.specs.model.Rows.{is_use}
 use Rattle.types.specs.model.Arrays.{see}
 use Rattle.types.specs.model.Passes.{type_node, with_bare, with_rows}
 use Rattle.types.proofs.Stacks.{length_opens, length_calls, node_declared}
-use borrow.Author.Rules.{rules}
 use Rattle.types.proofs.walking.node.Goals as goal
 
 pub use_node-requires : goal.use_node-requires

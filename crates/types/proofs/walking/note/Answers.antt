@@ -1,7 +1,6 @@
 -- `types::walking::note` meets its contract: by the test.
 use mathlib.Core.Path.{refl}
 use Rattle.types.specs.model.Passes.{noted}
-use borrow.Author.Rules.{rules}
 use Rattle.types.proofs.walking.note.Goals as goal
 
 pub returns-then-wrong : goal.returns-then-wrong

@@ -1,6 +1,5 @@
 -- `types::walking::one_more` meets its contract: of the newest call's words the last is written.
 use Rattle.types.proofs.Stacks.{calls_more}
-use borrow.Author.Rules.{rules}
 use Rattle.types.proofs.walking.one_more.Goals as goal
 
 pub returns : goal.returns

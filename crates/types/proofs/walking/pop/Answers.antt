@@ -3,7 +3,6 @@ use native.Mathlib.Omega.{arith}
 use Rattle.names.specs.model.Rows.{opens_of}
 use Rattle.types.specs.model.Passes.{popped, with_stack, below}
 use Rattle.types.proofs.Stacks.{opens_below}
-use borrow.Author.Rules.{rules}
 use Rattle.types.proofs.walking.pop.Goals as goal
 
 pub returns-then-t-eq0 : goal.returns-then-t-eq0

@@ -1,6 +1,5 @@
 -- `types::walking::push` meets its contract: the word written is the new head.
 use Rattle.types.specs.model.Passes.{pushed, with_stack}
-use borrow.Author.Rules.{rules}
 use Rattle.types.proofs.walking.push.Goals as goal
 
 pub returns : goal.returns

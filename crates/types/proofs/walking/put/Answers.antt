@@ -1,6 +1,5 @@
 -- `types::walking::put` meets its contract: the word written is the new head.
 use Rattle.names.proofs.RowLaws.{opens_enter}
-use borrow.Author.Rules.{rules}
 use Rattle.types.proofs.walking.put.Goals as goal
 
 pub returns : goal.returns

@@ -3,7 +3,6 @@ use mathlib.Core.Path.{refl, ◌∙◌}
 use native.Mathlib.Omega.{arith}
 use Rattle.types.specs.model.Passes.{apart_of, taken_as}
 use Rattle.types.proofs.Stacks.{both_ap, noted_ap}
-use borrow.Author.Rules.{rules}
 use Rattle.types.proofs.walking.take.Goals as goal
 
 pub returns : goal.returns

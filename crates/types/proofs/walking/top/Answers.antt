@@ -2,7 +2,6 @@
 use Rattle.names.specs.model.Rows.{opens_of}
 use Rattle.types.specs.model.Passes.{top_of}
 use Rattle.types.proofs.Stacks.{opens_top}
-use borrow.Author.Rules.{rules}
 use Rattle.types.proofs.walking.top.Goals as goal
 
 pub returns-then-t-eq0 : goal.returns-then-t-eq0

@@ -2,7 +2,6 @@
 use mathlib.Core.Path.{refl, ap, ◌∙◌}
 use Rattle.types.specs.model.Passes.{sign_gives_sort, signed_as}
 use Rattle.types.proofs.Stacks.{pushed_ap, taken_ap}
-use borrow.Author.Rules.{rules}
 use Rattle.types.proofs.walking.unary.Goals as goal
 
 pub returns : goal.returns

@@ -7,7 +7,6 @@ use Rattle.names.specs.declared.Meant.{Meant}
 use Rattle.types.specs.model.Arrays.{MeantWithin}
 use Rattle.types.specs.model.Passes.{State, use_typed, named_as, called_as, left_as, variable_of, noted}
 use Rattle.types.proofs.Stacks.{meant_within, noted_ap}
-use borrow.Author.Rules.{rules}
 use Rattle.types.proofs.walking.use_node.Goals as goal
 
 pub is_variable-requires : goal.is_variable-requires

@@ -1,8 +1,8 @@
 -- `types::walking::walk` meets its contract. The loop's invariant: there is room behind i nodes, and what the nodes from here on make of
 -- what is known and marked is what all of them make of nothing.
-use mathlib.Core.Path.{◌≡◌, refl, sym, ap, subst, ◌∙◌}
+use mathlib.Core.Path.{refl, sym, ap, subst, ◌∙◌}
 use native.Mathlib.Omega.{arith}
-use Prim.Native.Nat.{◌+◌, ◌*◌, ◌-◌, ◌≤◌}
+use Prim.Native.Nat.{◌+◌, ◌*◌}
 use lib.ListN.{length, get_or, drop}
 use Rattle.names.specs.model.Rows.{fold_nodes, opens_of}
 use Rattle.names.proofs.RowLaws.{fold_on, fold_end}
@@ -10,7 +10,6 @@ use Rattle.types.specs.model.Arrays.{see, calls_of, Within, CountsWithin}
 use Rattle.types.specs.model.Passes.{State, fresh, Marked, marked_node, typed_of, marks_of}
 use Rattle.types.proofs.Room.{node_in, within_up}
 use Rattle.types.proofs.Stacks.{length_opens, marked_ap, length_mark, state_alone}
-use borrow.Author.Rules.{rules}
 use Rattle.types.proofs.walking.walk.Goals as goal
 
 pub loop-i-init : goal.loop-i-init
