@@ -401,8 +401,12 @@ class Function:
             eq = "\n".join(d["lines"][1:])
             lhs, rhs = eq.split("=", 1)
             params = lhs.split()[1:]
-            if len(slots) == len(params) + 1 and names[0] in ("system", "rt"):
-                slots = slots[1:]  # an argument that the old code did not have
+            if names and names[0] in ("system", "rt") or len(params) != len(slots):
+                # an argument that the old code did not have, or a value of the old loop that is none now: by name
+                bases = [p.rstrip("₀").replace("-", "_") for p in params]
+                named = [f"l.initial.{b}" if p.endswith("₀") else f"l.{b}" for p, b in zip(params, bases)]
+                if all(b in names or re.fullmatch(r"t\d+", b) for b in bases):
+                    slots = named
             if len(params) != len(slots):
                 self.said.append(f"the invariant of {which} has {len(params)} names, and the loop {len(slots)}: {names} {changed}")
             sub = dict(zip(params, slots))
