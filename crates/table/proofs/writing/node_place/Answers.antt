@@ -7,9 +7,7 @@ use Prim.Native.Nat.{ℕ}
 use borrow.Author.Tests.{ne_eqb}
 use Rattle.table.specs.Table.{has_none}
 use Rattle.table.specs.model.Writing.{place_of}
-use borrow.Author.Rules.{rules}
-use Rattle.table.proofs.writing.node_place.Statement.{statement}
-use Rattle.table.proofs.writing.node_place.Tie as tie
+use Rattle.table.proofs.writing.node_place.Goals as goal
 
 module _ (place : ℕ → ℕ) (k : ℕ) where
   without : (k ≡ 4) ⊎ ((k ≡ 13) ⊎ ((k ≡ 17) ⊎ (k ≡ 21))) → true ≡ has_none place k
@@ -23,15 +21,12 @@ module _ (place : ℕ → ℕ) (k : ℕ) where
   unfolding has_none
   with-one h = simp (ne_eqb k 4 (λ e. h (inl e)), ne_eqb k 13 (λ e. h (inr (inl e))), ne_eqb k 17 (λ e. h (inr (inr (inl e)))), ne_eqb k 21 (λ e. h (inr (inr (inr e)))))
 
-returns : tie.Need-returns
-returns c =
-    let args = c.before.args in
-    ap (λ b. cond b 0 (place_of args.places.now args.symbol.number)) (without (place_of args.places.now) args.kind c.match.keys1)
+pub returns-in-4 : goal.returns-in-4
+returns-in-4 c =
+    let args = c.args in
+    ap (λ b. cond b 0 (place_of args.places.now args.symbol.number)) (without (place_of args.places.now) args.kind c.in-4.is)
 
-returns-2 : tie.Need-returns-2
-returns-2 c =
-    c.place-word.ensures
-    ∙ ap (λ b. cond b 0 (place_of c.before.before.args.places.now c.before.before.args.symbol.number)) (with-one (place_of c.before.before.args.places.now) c.before.before.args.kind c.before.match.rest.1)
-
-pub node-place-spec : {M : Type 1} → statement M
-node-place-spec = tie.close (tie.spec (λ c κs. search rules) returns returns-2)
+pub returns-in_default : goal.returns-in_default
+returns-in_default c =
+    c.place_word.ensures
+    ∙ ap (λ b. cond b 0 (place_of c.args.places.now c.args.symbol.number)) (with-one (place_of c.args.places.now) c.args.kind c.in_default.in_default-own.rest.1)

@@ -8,8 +8,7 @@ use native.Mathlib.Decide.{dec_lt}
 use native.Mathlib.Omega.{arith}
 use borrow.Author.Tests.{ne_eqb}
 use Rattle.names.specs.model.Rows.{is_use}
-use Rattle.table.proofs.writing.is_use.Statement.{statement}
-use Rattle.table.proofs.writing.is_use.Tie as tie
+use Rattle.table.proofs.writing.is_use.Goals as goal
 
 is_one : (k : ℕ) → (k ≡ 15) ⊎ (k ≡ 23) → true ≡ is_use k
 unfolding is_use
@@ -28,17 +27,14 @@ is_none : (k : ℕ) → (k ≡ 15 → ⊥) → (k ≡ 23 → ⊥) → (k ≡ 30 
 unfolding is_use
 is_none k a b d e = simp (ne_eqb k 15 a, ne_eqb k 23 b, ne_eqb k 30 d, ne_eqb k 31 e)
 
-returns : tie.Need-returns
-returns c = is_none _ (λ e. c.before.match.rest.1 (inl e)) (λ e. c.before.match.rest.1 (inr e)) (λ e. omega arith) (λ e. omega arith)
+pub returns-in_default : goal.returns-in_default
+returns-in_default c = is_none _ (λ e. c.in_default.in_default-own.rest.1 (inl e)) (λ e. c.in_default.in_default-own.rest.1 (inr e)) (λ e. omega arith) (λ e. omega arith)
 
-returns-2 : tie.Need-returns-2
-returns-2 c = is_none _ (λ e. c.before.before.match.rest.1 (inl e)) (λ e. c.before.before.match.rest.1 (inr e)) (λ e. omega arith) (λ e. omega arith)
+pub returns-in_default-2 : goal.returns-in_default-2
+returns-in_default-2 c = is_none _ (λ e. c.in_default.in_default-own.rest.1 (inl e)) (λ e. c.in_default.in_default-own.rest.1 (inr e)) (λ e. omega arith) (λ e. omega arith)
 
-returns-3 : tie.Need-returns-3
-returns-3 c = is_one _ c.match.keys1
+pub returns-in-15 : goal.returns-in-15
+returns-in-15 c = is_one _ c.in-15.is
 
-returns-4 : tie.Need-returns-4
-returns-4 c = is-two _ (omega arith) (omega arith)
-
-pub is-use-spec : {M : Type 1} → statement M
-is-use-spec = tie.close (tie.spec returns returns-2 returns-3 returns-4)
+pub returns-in-15-2 : goal.returns-in-15-2
+returns-in-15-2 c = is-two _ (omega arith) (omega arith)
