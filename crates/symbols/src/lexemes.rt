@@ -3,7 +3,7 @@ ghost use Rattle.std.specs.Prelude.{◌≡◌, ◌+◌, ◌-◌, ◌*◌, ◌<�
 ghost use Rattle.symbols.specs.Symbols.{signs};
 ghost use Rattle.symbols.specs.Names.{letter, digit, reach};
 ghost use Rattle.symbols.specs.model.Steps.{capped, digits_from, pointed_at, joined_of, lexeme_at};
-ghost use Rattle.symbols.specs.Scan.{name as name_of, number as number_of, word as word_of, sign as sign_of, sized as sizedOf, valued as valuedOf, pointed as pointedOf, point as point_of};
+ghost use Rattle.symbols.specs.Scan.{name as name_of, number as number_of, word as word_of, sign as sign_of, sized as sized_of, valued as valued_of, pointed as pointed_of, point as point_of};
 
 use crate::text::{blanks_end, find, is_blank, is_digit, is_letter, is_name_byte};
 use crate::words::{Spelled, spelled_word};
@@ -31,7 +31,7 @@ fn name(source: &[u8], at: usize) -> Lexeme
 
 // A name of so many letters and digits.
 fn sized(size: usize, more: usize) -> Lexeme
-    ensures { result ≡ sizedOf size more }
+    ensures { result ≡ sized_of size more }
 {
     if 32 < size {
         Lexeme::Large(more)
@@ -92,7 +92,7 @@ fn with_digit(v: u64, b: u8) -> u64
 
 // A number of this value.
 fn valued(v: u64, more: usize) -> Lexeme
-    ensures { result ≡ valuedOf v more }
+    ensures { result ≡ valued_of v more }
 {
     if 2147483647 < v {
         Lexeme::Large(more)
@@ -104,7 +104,7 @@ fn valued(v: u64, more: usize) -> Lexeme
 // A number with a point, of so many digits.
 fn pointed(v: u64, count: usize, behind: usize, more: usize) -> Lexeme
     requires { (v ≤ 1000000000000000) × (behind ≤ count) }
-    ensures { result ≡ pointedOf v count behind more }
+    ensures { result ≡ pointed_of v count behind more }
 {
     if 15 < count {
         Lexeme::Large(more)

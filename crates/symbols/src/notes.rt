@@ -1,6 +1,6 @@
 // Where a note can open, and where a remark runs.
 ghost use Rattle.std.specs.Prelude.{◌≡◌, ◌+◌, ◌≤◌, [], length, drop};
-ghost use Rattle.symbols.specs.Scan.{behind as behindOf, ends_remark, note as note_of, counted as countedOf, judged as judgedOf};
+ghost use Rattle.symbols.specs.Scan.{behind as behind_of, ends_remark, note as note_of, counted as counted_of, judged as judged_of};
 ghost use Rattle.symbols.specs.Symbols.{is};
 ghost use Rattle.symbols.specs.model.Steps.{turn_at};
 ghost use Rattle.symbols.specs.declared.Symbol.TheVariants.{Comment};
@@ -13,7 +13,7 @@ use answers::Answer;
 
 // The context behind a symbol.
 fn behind(s: Symbol) -> Context
-    ensures { result ≡ behindOf s }
+    ensures { result ≡ behind_of s }
 {
     match s {
         Symbol::Semicolon => Context::Opens,
@@ -57,7 +57,7 @@ fn note(source: &[u8], at: usize, k: usize) -> Turn
 
 // A symbol that counts, where `room` more may come.
 fn counted(room: usize, s: Symbol, k: usize) -> Turn
-    ensures { result ≡ countedOf room s k }
+    ensures { result ≡ counted_of room s k }
 {
     if room == 0 {
         return Turn::Refuse(Answer::TOO_LARGE);
@@ -68,7 +68,7 @@ fn counted(room: usize, s: Symbol, k: usize) -> Turn
 // A symbol at `at` in its context.
 fn judged(source: &[u8], at: usize, room: usize, c: Context, s: Symbol, k: usize) -> Turn
     requires { at + 1 + k ≤ length source.now }
-    ensures { result ≡ judgedOf room c (Is s k) (drop (at + 1) source.now) }
+    ensures { result ≡ judged_of room c (Is s k) (drop (at + 1) source.now) }
 {
     match c {
         Context::Opens => {
@@ -89,7 +89,7 @@ fn judged(source: &[u8], at: usize, room: usize, c: Context, s: Symbol, k: usize
 
 // A name or number over its limit: in a remark sizes are not tested.
 fn oversized(c: Context, k: usize) -> Turn
-    ensures { result ≡ judgedOf 0 c (Large k) [] }
+    ensures { result ≡ judged_of 0 c (Large k) [] }
 {
     match c {
         Context::Opens => Turn::Refuse(Answer::TOO_LARGE),

@@ -1,6 +1,6 @@
 // What begins with a name, and for clauses: statements' parts that hold expressions alone.
 ghost use Rattle.std.specs.Prelude.{[], ◌∷◌, ◌+◌, ◌<◌, ◌≤◌};
-ghost use Rattle.grammar.specs.Grammar.{part, named as a-named, right as a-right, value as a-value, for_clause as a-for-clause, elements as the_elements, further as the-further, element as an-element, progress as a-progress, stepping as a-stepping, amount as an-amount, expression as an-expression};
+ghost use Rattle.grammar.specs.Grammar.{part, named as a_named, right as a_right, value as a_value, for_clause as a_for_clause, elements as the_elements, further as the_further, element as an_element, progress as a_progress, stepping as a_stepping, amount as an_amount, expression as an_expression};
 ghost use Rattle.grammar.specs.model.Text.{text};
 ghost use Rattle.syntax.specs.model.Says.{Room, Behind, Tells, TellsOf, TellsMarked};
 
@@ -14,7 +14,7 @@ use symbols::Symbol;
 // An assignment or a procedure statement, behind the name that begins it.
 pub fn named(kinds: &[u8], name: usize, depth: u16, nodes: &mut [u16], free: usize) -> Parsed
     requires { Behind (text kinds.now) nodes.old name free }
-    ensures { Tells (text kinds.now) nodes.old nodes.new depth (part a-named ∷ []) (name + 1) free result }
+    ensures { Tells (text kinds.now) nodes.old nodes.new depth (part a_named ∷ []) (name + 1) free result }
 {
     let next = name + 1;
     match peek(kinds, next) {
@@ -29,7 +29,7 @@ pub fn named(kinds: &[u8], name: usize, depth: u16, nodes: &mut [u16], free: usi
 // What stands behind a `:=`: a further left part, or the right side.
 fn right(kinds: &[u8], becomes: usize, depth: u16, nodes: &mut [u16], free: usize) -> Parsed
     requires { Behind (text kinds.now) nodes.old becomes free }
-    ensures { Tells (text kinds.now) nodes.old nodes.new depth (part a-right ∷ []) (becomes + 1) free result }
+    ensures { Tells (text kinds.now) nodes.old nodes.new depth (part a_right ∷ []) (becomes + 1) free result }
 {
     let name = becomes + 1;
     match peek(kinds, name) {
@@ -58,7 +58,7 @@ fn expression_and(
     symbol: usize,
 ) -> Parsed
     requires { Room (text kinds.now) nodes.old pos free × (symbol ≤ pos) }
-    ensures { TellsMarked (text kinds.now) nodes.old nodes.new depth an-expression kind symbol pos free result }
+    ensures { TellsMarked (text kinds.now) nodes.old nodes.new depth an_expression kind symbol pos free result }
 {
     let one = expression(kinds, pos, depth, nodes, free);
     match one {
@@ -73,7 +73,7 @@ fn expression_and(
 // The right side of an assignment.
 fn value(kinds: &[u8], becomes: usize, depth: u16, nodes: &mut [u16], free: usize) -> Parsed
     requires { Behind (text kinds.now) nodes.old becomes free }
-    ensures { TellsOf (text kinds.now) nodes.old nodes.new depth a-value (becomes + 1) free result }
+    ensures { TellsOf (text kinds.now) nodes.old nodes.new depth a_value (becomes + 1) free result }
 {
     expression_and(
         kinds,
@@ -89,7 +89,7 @@ fn value(kinds: &[u8], becomes: usize, depth: u16, nodes: &mut [u16], free: usiz
 // 'for', the controlled variable, the elements and 'do'.
 pub fn for_clause(kinds: &[u8], pos: usize, depth: u16, nodes: &mut [u16], free: usize) -> Parsed
     requires { Room (text kinds.now) nodes.old pos free }
-    ensures { Tells (text kinds.now) nodes.old nodes.new depth (part a-for-clause ∷ []) pos free result }
+    ensures { Tells (text kinds.now) nodes.old nodes.new depth (part a_for_clause ∷ []) pos free result }
 {
     match peek(kinds, pos) {
         Symbol::For => {
@@ -153,7 +153,7 @@ fn elements(kinds: &[u8], pos: usize, depth: u16, nodes: &mut [u16], free: usize
 // Further elements, each behind a comma.
 fn further(kinds: &[u8], pos: usize, depth: u16, nodes: &mut [u16], free: usize) -> Parsed
     requires { Room (text kinds.now) nodes.old pos free }
-    ensures { Tells (text kinds.now) nodes.old nodes.new depth (part the-further ∷ []) pos free result }
+    ensures { Tells (text kinds.now) nodes.old nodes.new depth (part the_further ∷ []) pos free result }
 {
     match peek(kinds, pos) {
         Symbol::Comma => {
@@ -172,7 +172,7 @@ fn further(kinds: &[u8], pos: usize, depth: u16, nodes: &mut [u16], free: usize)
 
 fn element(kinds: &[u8], pos: usize, depth: u16, nodes: &mut [u16], free: usize) -> Parsed
     requires { Room (text kinds.now) nodes.old pos free }
-    ensures { Tells (text kinds.now) nodes.old nodes.new depth (part an-element ∷ []) pos free result }
+    ensures { Tells (text kinds.now) nodes.old nodes.new depth (part an_element ∷ []) pos free result }
 {
     let one = expression(kinds, pos, depth, nodes, free);
     match one {
@@ -187,7 +187,7 @@ fn element(kinds: &[u8], pos: usize, depth: u16, nodes: &mut [u16], free: usize)
 // What makes an element one value, 'while' or 'step' .. 'until'.
 fn progress(kinds: &[u8], pos: usize, depth: u16, nodes: &mut [u16], free: usize) -> Parsed
     requires { (Room (text kinds.now) nodes.old pos free) × (0 < pos) }
-    ensures { Tells (text kinds.now) nodes.old nodes.new depth (part a-progress ∷ []) pos free result }
+    ensures { Tells (text kinds.now) nodes.old nodes.new depth (part a_progress ∷ []) pos free result }
 {
     match peek(kinds, pos) {
         Symbol::Step => stepping(kinds, pos, depth, nodes, free),
@@ -213,7 +213,7 @@ fn progress(kinds: &[u8], pos: usize, depth: u16, nodes: &mut [u16], free: usize
 
 fn stepping(kinds: &[u8], pos: usize, depth: u16, nodes: &mut [u16], free: usize) -> Parsed
     requires { Room (text kinds.now) nodes.old pos free }
-    ensures { Tells (text kinds.now) nodes.old nodes.new depth (part a-stepping ∷ []) pos free result }
+    ensures { Tells (text kinds.now) nodes.old nodes.new depth (part a_stepping ∷ []) pos free result }
 {
     match peek(kinds, pos) {
         Symbol::Step => {
@@ -240,7 +240,7 @@ fn stepping(kinds: &[u8], pos: usize, depth: u16, nodes: &mut [u16], free: usize
 // The step or the bound.
 fn amount(kinds: &[u8], pos: usize, depth: u16, nodes: &mut [u16], free: usize) -> Parsed
     requires { Room (text kinds.now) nodes.old pos free }
-    ensures { Tells (text kinds.now) nodes.old nodes.new depth (part an-amount ∷ []) pos free result }
+    ensures { Tells (text kinds.now) nodes.old nodes.new depth (part an_amount ∷ []) pos free result }
 {
     expression_and(kinds, pos, depth, nodes, free, nodes::AMOUNT, pos)
 }

@@ -2,7 +2,7 @@
 ghost use Rattle.std.specs.Prelude.{◌≡◌, [], ◌∷◌, ◌+◌};
 ghost use Rattle.symbols.specs.Symbols.{kind};
 ghost use Rattle.symbols.specs.declared.Symbol.TheVariants.{If};
-ghost use Rattle.grammar.specs.Grammar.{part, deeper, level as a-level, operand as an-operand, expression as an-expression, a_condition, otherwise as an-otherwise, chain as a-chain, more as the-more, negation as a-negation, relation as a-relation, comparison as a-comparison, primary as a-primary, actuals as the-actuals, actual as an-actual, further_actuals};
+ghost use Rattle.grammar.specs.Grammar.{part, deeper, level as a_level, operand as an_operand, expression as an_expression, a_condition, otherwise as an_otherwise, chain as a_chain, more as the_more, negation as a_negation, relation as a_relation, comparison as a_comparison, primary as a_primary, actuals as the_actuals, actual as an_actual, further_actuals};
 ghost use Rattle.grammar.specs.model.Marked.{use_number};
 ghost use Rattle.grammar.specs.declared.Level.TheVariants.{Sum, Equivalence};
 ghost use Rattle.grammar.specs.model.Text.{text, kind_at};
@@ -19,7 +19,7 @@ use symbols::Symbol;
 #[cycle(expressions)]
 pub fn expression(kinds: &[u8], pos: usize, depth: u16, nodes: &mut [u16], free: usize) -> Parsed
     requires { Room (text kinds.now) nodes.old pos free }
-    ensures { Tells (text kinds.now) nodes.old nodes.new depth (part an-expression ∷ []) pos free result }
+    ensures { Tells (text kinds.now) nodes.old nodes.new depth (part an_expression ∷ []) pos free result }
 {
     match peek(kinds, pos) {
         Symbol::If => condition(kinds, pos, depth, nodes, free),
@@ -57,7 +57,7 @@ fn condition(kinds: &[u8], pos: usize, depth: u16, nodes: &mut [u16], free: usiz
 #[cycle(expressions)]
 fn otherwise(kinds: &[u8], pos: usize, depth: u16, nodes: &mut [u16], free: usize) -> Parsed
     requires { Room (text kinds.now) nodes.old pos free }
-    ensures { Tells (text kinds.now) nodes.old nodes.new depth (part an-otherwise ∷ []) pos free result }
+    ensures { Tells (text kinds.now) nodes.old nodes.new depth (part an_otherwise ∷ []) pos free result }
 {
     match peek(kinds, pos) {
         Symbol::Else => {
@@ -82,7 +82,7 @@ fn otherwise(kinds: &[u8], pos: usize, depth: u16, nodes: &mut [u16], free: usiz
 #[cycle(expressions)]
 fn nested(kinds: &[u8], pos: usize, depth: u16, nodes: &mut [u16], free: usize) -> Parsed
     requires { Room (text kinds.now) nodes.old pos free }
-    ensures { Tells (text kinds.now) nodes.old nodes.new depth (deeper an-expression ∷ []) pos free result }
+    ensures { Tells (text kinds.now) nodes.old nodes.new depth (deeper an_expression ∷ []) pos free result }
 {
     if 64 <= depth {
         return limits::expression(kinds, pos);
@@ -94,7 +94,7 @@ fn nested(kinds: &[u8], pos: usize, depth: u16, nodes: &mut [u16], free: usize) 
 #[cycle(expressions)]
 fn nested_simple(kinds: &[u8], pos: usize, depth: u16, nodes: &mut [u16], free: usize) -> Parsed
     requires { Room (text kinds.now) nodes.old pos free }
-    ensures { Tells (text kinds.now) nodes.old nodes.new depth (deeper (a-level Equivalence) ∷ []) pos free result }
+    ensures { Tells (text kinds.now) nodes.old nodes.new depth (deeper (a_level Equivalence) ∷ []) pos free result }
 {
     if 64 <= depth {
         return limits::simple(kinds, pos);
@@ -106,7 +106,7 @@ fn nested_simple(kinds: &[u8], pos: usize, depth: u16, nodes: &mut [u16], free: 
 #[cycle(expressions)]
 fn chain(kinds: &[u8], pos: usize, depth: u16, nodes: &mut [u16], free: usize, l: Level) -> Parsed
     requires { Room (text kinds.now) nodes.old pos free }
-    ensures { TellsOf (text kinds.now) nodes.old nodes.new depth (a-chain l) pos free result }
+    ensures { TellsOf (text kinds.now) nodes.old nodes.new depth (a_chain l) pos free result }
 {
     let one = operand(kinds, pos, depth, nodes, free, l);
     match one {
@@ -119,7 +119,7 @@ fn chain(kinds: &[u8], pos: usize, depth: u16, nodes: &mut [u16], free: usize, l
 #[cycle(expressions)]
 fn more(kinds: &[u8], pos: usize, depth: u16, nodes: &mut [u16], free: usize, l: Level) -> Parsed
     requires { Room (text kinds.now) nodes.old pos free }
-    ensures { Tells (text kinds.now) nodes.old nodes.new depth (part (the-more l) ∷ []) pos free result }
+    ensures { Tells (text kinds.now) nodes.old nodes.new depth (part (the_more l) ∷ []) pos free result }
 {
     let o = operator(l, peek(kinds, pos));
     if o == 0 {
@@ -142,7 +142,7 @@ fn more(kinds: &[u8], pos: usize, depth: u16, nodes: &mut [u16], free: usize, l:
 #[cycle(expressions)]
 fn operand(kinds: &[u8], pos: usize, depth: u16, nodes: &mut [u16], free: usize, l: Level) -> Parsed
     requires { Room (text kinds.now) nodes.old pos free }
-    ensures { Tells (text kinds.now) nodes.old nodes.new depth (part (an-operand l) ∷ []) pos free result }
+    ensures { Tells (text kinds.now) nodes.old nodes.new depth (part (an_operand l) ∷ []) pos free result }
 {
     match l {
         Level::Product => primary(kinds, pos, depth, nodes, free),
@@ -157,7 +157,7 @@ fn operand(kinds: &[u8], pos: usize, depth: u16, nodes: &mut [u16], free: usize,
 #[cycle(expressions)]
 fn negation(kinds: &[u8], pos: usize, depth: u16, nodes: &mut [u16], free: usize) -> Parsed
     requires { Room (text kinds.now) nodes.old pos free }
-    ensures { Tells (text kinds.now) nodes.old nodes.new depth (part a-negation ∷ []) pos free result }
+    ensures { Tells (text kinds.now) nodes.old nodes.new depth (part a_negation ∷ []) pos free result }
 {
     match peek(kinds, pos) {
         Symbol::Not => {
@@ -177,7 +177,7 @@ fn negation(kinds: &[u8], pos: usize, depth: u16, nodes: &mut [u16], free: usize
 #[cycle(expressions)]
 fn relation(kinds: &[u8], pos: usize, depth: u16, nodes: &mut [u16], free: usize) -> Parsed
     requires { Room (text kinds.now) nodes.old pos free }
-    ensures { Tells (text kinds.now) nodes.old nodes.new depth (part a-relation ∷ []) pos free result }
+    ensures { Tells (text kinds.now) nodes.old nodes.new depth (part a_relation ∷ []) pos free result }
 {
     let one = sum(kinds, pos, depth, nodes, free);
     match one {
@@ -190,7 +190,7 @@ fn relation(kinds: &[u8], pos: usize, depth: u16, nodes: &mut [u16], free: usize
 #[cycle(expressions)]
 fn comparison(kinds: &[u8], pos: usize, depth: u16, nodes: &mut [u16], free: usize) -> Parsed
     requires { Room (text kinds.now) nodes.old pos free }
-    ensures { Tells (text kinds.now) nodes.old nodes.new depth (part a-comparison ∷ []) pos free result }
+    ensures { Tells (text kinds.now) nodes.old nodes.new depth (part a_comparison ∷ []) pos free result }
 {
     let o = relational(peek(kinds, pos));
     if o == 0 {
@@ -213,7 +213,7 @@ fn comparison(kinds: &[u8], pos: usize, depth: u16, nodes: &mut [u16], free: usi
 #[cycle(expressions)]
 fn sum(kinds: &[u8], pos: usize, depth: u16, nodes: &mut [u16], free: usize) -> Parsed
     requires { Room (text kinds.now) nodes.old pos free }
-    ensures { Tells (text kinds.now) nodes.old nodes.new depth (part (a-level Sum) ∷ []) pos free result }
+    ensures { Tells (text kinds.now) nodes.old nodes.new depth (part (a_level Sum) ∷ []) pos free result }
 {
     let o = operator(Level::Sum, peek(kinds, pos));
     if o == 0 {
@@ -232,7 +232,7 @@ fn sum(kinds: &[u8], pos: usize, depth: u16, nodes: &mut [u16], free: usize) -> 
 #[cycle(expressions)]
 fn primary(kinds: &[u8], pos: usize, depth: u16, nodes: &mut [u16], free: usize) -> Parsed
     requires { Room (text kinds.now) nodes.old pos free }
-    ensures { Tells (text kinds.now) nodes.old nodes.new depth (part a-primary ∷ []) pos free result }
+    ensures { Tells (text kinds.now) nodes.old nodes.new depth (part a_primary ∷ []) pos free result }
 {
     match peek(kinds, pos) {
         Symbol::Number(_) => {
@@ -307,7 +307,7 @@ pub fn actuals(
     u: Use,
 ) -> Parsed
     requires { Behind (text kinds.now) nodes.old name free }
-    ensures { Tells (text kinds.now) nodes.old nodes.new depth (part (the-actuals u) ∷ []) (name + 1) free result }
+    ensures { Tells (text kinds.now) nodes.old nodes.new depth (part (the_actuals u) ∷ []) (name + 1) free result }
 {
     let n = use_number(u);
     let open = name + 1;
@@ -351,7 +351,7 @@ pub fn actuals(
 #[cycle(expressions)]
 fn actual(kinds: &[u8], pos: usize, depth: u16, nodes: &mut [u16], free: usize) -> Parsed
     requires { Room (text kinds.now) nodes.old pos free }
-    ensures { Tells (text kinds.now) nodes.old nodes.new depth (part an-actual ∷ []) pos free result }
+    ensures { Tells (text kinds.now) nodes.old nodes.new depth (part an_actual ∷ []) pos free result }
 {
     let one = nested(kinds, pos, depth, nodes, free);
     match one {

@@ -1,6 +1,6 @@
 // Types, lists of names and procedure headings.
 ghost use Rattle.std.specs.Prelude.{[], ◌∷◌, ◌≡◌};
-ghost use Rattle.grammar.specs.Grammar.{part, sy, type, list as a-list, formals as the-formals, values as the_values, specifications as the-specifications, heading as a-heading};
+ghost use Rattle.grammar.specs.Grammar.{part, sy, type, list as a_list, formals as the_formals, values as the_values, specifications as the_specifications, heading as a_heading};
 ghost use Rattle.grammar.specs.model.Marked.{entry_node};
 ghost use Rattle.symbols.specs.Symbols.{kind};
 ghost use Rattle.symbols.specs.declared.Symbol.TheVariants.{Colon};
@@ -62,7 +62,7 @@ fn entry_node(e: Entry) -> u16
 // A list of names.
 pub fn list(kinds: &[u8], pos: usize, nodes: &mut [u16], free: usize, e: Entry) -> Parsed
     requires { Room (text kinds.now) nodes.old pos free }
-    ensures { TellsAll (text kinds.now) nodes.old nodes.new (part (a-list e) ∷ []) pos free result }
+    ensures { TellsAll (text kinds.now) nodes.old nodes.new (part (a_list e) ∷ []) pos free result }
 {
     match peek(kinds, pos) {
         Symbol::Name => {
@@ -83,7 +83,7 @@ pub fn list(kinds: &[u8], pos: usize, nodes: &mut [u16], free: usize, e: Entry) 
 // A list of names, and the symbol of a kind that ends it.
 fn list_to(kinds: &[u8], pos: usize, nodes: &mut [u16], free: usize, e: Entry, last: u8) -> Parsed
     requires { Room (text kinds.now) nodes.old pos free × (last ≡ kind Colon → ⊥) }
-    ensures { TellsAll (text kinds.now) nodes.old nodes.new (part (a-list e) ∷ sy last ∷ []) pos free result }
+    ensures { TellsAll (text kinds.now) nodes.old nodes.new (part (a_list e) ∷ sy last ∷ []) pos free result }
 {
     let one = list(kinds, pos, nodes, free, e);
     match one {
@@ -108,7 +108,7 @@ fn list_to(kinds: &[u8], pos: usize, nodes: &mut [u16], free: usize, e: Entry, l
 // The formal parameter part.
 fn formals(kinds: &[u8], pos: usize, nodes: &mut [u16], free: usize) -> Parsed
     requires { Room (text kinds.now) nodes.old pos free }
-    ensures { TellsAll (text kinds.now) nodes.old nodes.new (part the-formals ∷ []) pos free result }
+    ensures { TellsAll (text kinds.now) nodes.old nodes.new (part the_formals ∷ []) pos free result }
 {
     match peek(kinds, pos) {
         Symbol::Open => list_to(
@@ -150,7 +150,7 @@ fn values(kinds: &[u8], pos: usize, nodes: &mut [u16], free: usize) -> Parsed
 // The specification part.
 fn specifications(kinds: &[u8], pos: usize, nodes: &mut [u16], free: usize) -> Parsed
     requires { Room (text kinds.now) nodes.old pos free }
-    ensures { TellsAll (text kinds.now) nodes.old nodes.new (part the-specifications ∷ []) pos free result }
+    ensures { TellsAll (text kinds.now) nodes.old nodes.new (part the_specifications ∷ []) pos free result }
 {
     match peek(kinds, pos) {
         Symbol::Integer | Symbol::Boolean | Symbol::Real => {
@@ -182,7 +182,7 @@ fn specifications(kinds: &[u8], pos: usize, nodes: &mut [u16], free: usize) -> P
 // A procedure's heading, from its name on.
 pub fn heading(kinds: &[u8], pos: usize, nodes: &mut [u16], free: usize) -> Parsed
     requires { Room (text kinds.now) nodes.old pos free }
-    ensures { TellsAll (text kinds.now) nodes.old nodes.new (part a-heading ∷ []) pos free result }
+    ensures { TellsAll (text kinds.now) nodes.old nodes.new (part a_heading ∷ []) pos free result }
 {
     match peek(kinds, pos) {
         Symbol::Name => {

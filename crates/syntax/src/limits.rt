@@ -1,6 +1,6 @@
 // What is said where something of depth 65 would begin: 6 if the symbol can stand there, else 5.
 ghost use Rattle.std.specs.Prelude.{[], ◌∷◌};
-ghost use Rattle.grammar.specs.Grammar.{part, deeper, expression as an-expression, level, statement as a-statement, consequence as a-consequence};
+ghost use Rattle.grammar.specs.Grammar.{part, deeper, expression as an_expression, level, statement as a_statement, consequence as a_consequence};
 ghost use Rattle.grammar.specs.declared.Level.TheVariants.{Equivalence};
 ghost use Rattle.grammar.specs.model.Text.{text};
 ghost use Rattle.syntax.specs.model.Says.{Limits, LimitsAll, behind};
@@ -12,7 +12,7 @@ use symbols::Symbol;
 
 // An expression.
 pub fn expression(kinds: &[u8], pos: usize) -> Parsed
-    ensures { LimitsAll (text kinds.now) (deeper an-expression ∷ []) pos result }
+    ensures { LimitsAll (text kinds.now) (deeper an_expression ∷ []) pos result }
 {
     match peek(kinds, pos) {
         Symbol::If
@@ -61,7 +61,7 @@ pub fn simple(kinds: &[u8], pos: usize) -> Parsed
 
 // A statement, behind which `;` may stand, and 'end' where ends says so.
 pub fn statement(kinds: &[u8], pos: usize, ends: bool) -> Parsed
-    ensures { Limits (text kinds.now) (behind ends) (deeper a-statement ∷ []) pos result }
+    ensures { Limits (text kinds.now) (behind ends) (deeper a_statement ∷ []) pos result }
 {
     match peek(kinds, pos) {
         Symbol::Begin | Symbol::If | Symbol::For | Symbol::Name | Symbol::Semicolon =>
@@ -90,7 +90,7 @@ pub fn statement(kinds: &[u8], pos: usize, ends: bool) -> Parsed
 
 // A statement behind 'then': also 'else' may follow it where it is empty.
 pub fn consequence(kinds: &[u8], pos: usize, ends: bool) -> Parsed
-    ensures { Limits (text kinds.now) (behind ends) (part a-consequence ∷ []) pos result }
+    ensures { Limits (text kinds.now) (behind ends) (part a_consequence ∷ []) pos result }
 {
     match peek(kinds, pos) {
         Symbol::For => Parsed::Refused {

@@ -1,7 +1,7 @@
 // Preludes: procedure declarations, each ended by `;`. Two readers call each other, with remaining symbols falling.
 ghost use Rattle.std.specs.Prelude.{◌≡◌, [], ◌∷◌, length, take, ◌≤◌};
 ghost use Rattle.symbols.specs.declared.Symbol.TheVariants.{Semicolon};
-ghost use Rattle.grammar.specs.Grammar.{part, the, procedure as a-procedure, prelude as a-prelude};
+ghost use Rattle.grammar.specs.Grammar.{part, the, procedure as a_procedure, prelude as a_prelude};
 ghost use Rattle.grammar.specs.model.Text.{text};
 ghost use Rattle.grammar.specs.model.Parsing.{node_words_lem};
 ghost use Rattle.syntax.specs.model.Says.{Room, Tells};
@@ -19,7 +19,7 @@ use symbols::Symbol;
 #[cycle(prelude_procedures)]
 pub fn prelude(kinds: &[u8], pos: usize, nodes: &mut [u16], free: usize) -> Parsed
     requires { Room (text kinds.now) nodes.old pos free }
-    ensures { Tells (text kinds.now) nodes.old nodes.new 0 (part a-prelude ∷ []) pos free result }
+    ensures { Tells (text kinds.now) nodes.old nodes.new 0 (part a_prelude ∷ []) pos free result }
 {
     match peek(kinds, pos) {
         Symbol::Procedure => {
@@ -50,7 +50,7 @@ pub fn prelude(kinds: &[u8], pos: usize, nodes: &mut [u16], free: usize) -> Pars
 #[cycle(prelude_procedures)]
 fn procedures(kinds: &[u8], pos: usize, nodes: &mut [u16], free: usize) -> Parsed
     requires { Room (text kinds.now) nodes.old pos free }
-    ensures { Tells (text kinds.now) nodes.old nodes.new 0 (part a-procedure ∷ the Semicolon ∷ part a-prelude ∷ []) pos free result }
+    ensures { Tells (text kinds.now) nodes.old nodes.new 0 (part a_procedure ∷ the Semicolon ∷ part a_prelude ∷ []) pos free result }
 {
     let one = procedure(kinds, pos, 0, nodes, free);
     match one {

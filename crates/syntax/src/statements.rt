@@ -2,7 +2,7 @@
 ghost use Rattle.std.specs.Prelude.{◌≡◌, [], ◌∷◌, true, false, ◌+◌};
 ghost use Rattle.symbols.specs.Symbols.{kind};
 ghost use Rattle.symbols.specs.declared.Symbol.TheVariants.{End, If, Semicolon};
-ghost use Rattle.grammar.specs.Grammar.{part, deeper, block as a_block, inner as an-inner, head as a-head, tail as a-tail, declarations as the-declarations, declaration as a-declaration, declared as a-declared, procedure as a-procedure, statements as the-statements, statement as a-statement, conditional as a-conditional, consequence as a-consequence, alternative as an-alternative, repetition as a-repetition, unconditional as an-unconditional};
+ghost use Rattle.grammar.specs.Grammar.{part, deeper, block as a_block, inner as an_inner, head as a_head, tail as a_tail, declarations as the_declarations, declaration as a_declaration, declared as a_declared, procedure as a_procedure, statements as the_statements, statement as a_statement, conditional as a_conditional, consequence as a_consequence, alternative as an_alternative, repetition as a_repetition, unconditional as an_unconditional};
 ghost use Rattle.grammar.specs.model.Text.{text, kind_at};
 ghost use Rattle.syntax.specs.model.Says.{behind, Room, Behind, Tells, Says, SaysOf};
 
@@ -50,7 +50,7 @@ pub fn block(kinds: &[u8], pos: usize, depth: u16, nodes: &mut [u16], free: usiz
 #[cycle(statements)]
 fn inner(kinds: &[u8], begin: usize, depth: u16, nodes: &mut [u16], free: usize) -> Parsed
     requires { Behind (text kinds.now) nodes.old begin free }
-    ensures { Says (text kinds.now) nodes.old nodes.new depth (begin + 1) (kind End ∷ []) (part an-inner ∷ []) (begin + 1) free result }
+    ensures { Says (text kinds.now) nodes.old nodes.new depth (begin + 1) (kind End ∷ []) (part an_inner ∷ []) (begin + 1) free result }
 {
     match peek(kinds, begin + 1) {
         Symbol::Integer | Symbol::Boolean | Symbol::Procedure | Symbol::Real => {
@@ -79,7 +79,7 @@ fn inner(kinds: &[u8], begin: usize, depth: u16, nodes: &mut [u16], free: usize)
 #[cycle(statements)]
 fn head(kinds: &[u8], pos: usize, depth: u16, nodes: &mut [u16], free: usize) -> Parsed
     requires { Room (text kinds.now) nodes.old pos free }
-    ensures { Tells (text kinds.now) nodes.old nodes.new depth (part a-head ∷ []) pos free result }
+    ensures { Tells (text kinds.now) nodes.old nodes.new depth (part a_head ∷ []) pos free result }
 {
     let one = declaration(kinds, pos, depth, nodes, free);
     match one {
@@ -97,7 +97,7 @@ fn head(kinds: &[u8], pos: usize, depth: u16, nodes: &mut [u16], free: usize) ->
 #[cycle(statements)]
 fn declarations(kinds: &[u8], pos: usize, depth: u16, nodes: &mut [u16], free: usize) -> Parsed
     requires { Room (text kinds.now) nodes.old pos free }
-    ensures { Tells (text kinds.now) nodes.old nodes.new depth (part the-declarations ∷ []) pos free result }
+    ensures { Tells (text kinds.now) nodes.old nodes.new depth (part the_declarations ∷ []) pos free result }
 {
     match peek(kinds, pos) {
         Symbol::Integer | Symbol::Boolean | Symbol::Procedure | Symbol::Real => head(
@@ -114,7 +114,7 @@ fn declarations(kinds: &[u8], pos: usize, depth: u16, nodes: &mut [u16], free: u
 #[cycle(statements)]
 pub fn declaration(kinds: &[u8], pos: usize, depth: u16, nodes: &mut [u16], free: usize) -> Parsed
     requires { Room (text kinds.now) nodes.old pos free }
-    ensures { Says (text kinds.now) nodes.old nodes.new depth pos (kind Semicolon ∷ []) (part a-declaration ∷ []) pos free result }
+    ensures { Says (text kinds.now) nodes.old nodes.new depth pos (kind Semicolon ∷ []) (part a_declaration ∷ []) pos free result }
 {
     match peek(kinds, pos) {
         Symbol::Procedure => {
@@ -135,7 +135,7 @@ pub fn declaration(kinds: &[u8], pos: usize, depth: u16, nodes: &mut [u16], free
 #[cycle(statements)]
 fn declared(kinds: &[u8], pos: usize, depth: u16, nodes: &mut [u16], free: usize) -> Parsed
     requires { Room (text kinds.now) nodes.old pos free }
-    ensures { Says (text kinds.now) nodes.old nodes.new depth pos (kind Semicolon ∷ []) (part a-declared ∷ []) pos free result }
+    ensures { Says (text kinds.now) nodes.old nodes.new depth pos (kind Semicolon ∷ []) (part a_declared ∷ []) pos free result }
 {
     match peek(kinds, pos) {
         Symbol::Procedure => procedure(kinds, pos + 1, depth, nodes, free),
@@ -147,7 +147,7 @@ fn declared(kinds: &[u8], pos: usize, depth: u16, nodes: &mut [u16], free: usize
 #[cycle(statements)]
 pub fn procedure(kinds: &[u8], pos: usize, depth: u16, nodes: &mut [u16], free: usize) -> Parsed
     requires { Room (text kinds.now) nodes.old pos free }
-    ensures { Says (text kinds.now) nodes.old nodes.new depth pos (kind Semicolon ∷ []) (part a-procedure ∷ []) pos free result }
+    ensures { Says (text kinds.now) nodes.old nodes.new depth pos (kind Semicolon ∷ []) (part a_procedure ∷ []) pos free result }
 {
     let one = heading(kinds, pos, nodes, free);
     match one {
@@ -170,7 +170,7 @@ pub fn procedure(kinds: &[u8], pos: usize, depth: u16, nodes: &mut [u16], free: 
 #[cycle(statements)]
 fn tail(kinds: &[u8], pos: usize, depth: u16, nodes: &mut [u16], free: usize) -> Parsed
     requires { Room (text kinds.now) nodes.old pos free }
-    ensures { Says (text kinds.now) nodes.old nodes.new depth pos (kind End ∷ []) (part a-tail ∷ []) pos free result }
+    ensures { Says (text kinds.now) nodes.old nodes.new depth pos (kind End ∷ []) (part a_tail ∷ []) pos free result }
 {
     let one = nested_statement(kinds, pos, depth, nodes, free, true);
     match one {
@@ -183,7 +183,7 @@ fn tail(kinds: &[u8], pos: usize, depth: u16, nodes: &mut [u16], free: usize) ->
 #[cycle(statements)]
 fn statements(kinds: &[u8], pos: usize, depth: u16, nodes: &mut [u16], free: usize) -> Parsed
     requires { Room (text kinds.now) nodes.old pos free }
-    ensures { Says (text kinds.now) nodes.old nodes.new depth pos (kind End ∷ []) (part the-statements ∷ []) pos free result }
+    ensures { Says (text kinds.now) nodes.old nodes.new depth pos (kind End ∷ []) (part the_statements ∷ []) pos free result }
 {
     match peek(kinds, pos) {
         Symbol::Semicolon => tail(kinds, pos + 1, depth, nodes, free),
@@ -205,7 +205,7 @@ fn nested_statement(
     ends: bool,
 ) -> Parsed
     requires { Room (text kinds.now) nodes.old pos free }
-    ensures { Says (text kinds.now) nodes.old nodes.new depth pos (behind ends) (deeper a-statement ∷ []) pos free result }
+    ensures { Says (text kinds.now) nodes.old nodes.new depth pos (behind ends) (deeper a_statement ∷ []) pos free result }
 {
     if 64 <= depth {
         return limits::statement(kinds, pos, ends);
@@ -223,7 +223,7 @@ fn statement(
     ends: bool,
 ) -> Parsed
     requires { Room (text kinds.now) nodes.old pos free }
-    ensures { Says (text kinds.now) nodes.old nodes.new depth pos (behind ends) (part a-statement ∷ []) pos free result }
+    ensures { Says (text kinds.now) nodes.old nodes.new depth pos (behind ends) (part a_statement ∷ []) pos free result }
 {
     match peek(kinds, pos) {
         Symbol::If => conditional(kinds, pos, depth, nodes, free, ends),
@@ -243,7 +243,7 @@ fn conditional(
     ends: bool,
 ) -> Parsed
     requires { (Room (text kinds.now) nodes.old pos free) × (kind_at (text kinds.now) pos ≡ kind If) }
-    ensures { SaysOf (text kinds.now) nodes.old nodes.new depth pos (behind ends) a-conditional pos free result }
+    ensures { SaysOf (text kinds.now) nodes.old nodes.new depth pos (behind ends) a_conditional pos free result }
 {
     let one = expression(kinds, pos + 1, depth, nodes, free);
     match one {
@@ -279,7 +279,7 @@ fn consequence(
     ends: bool,
 ) -> Parsed
     requires { Room (text kinds.now) nodes.old pos free }
-    ensures { Says (text kinds.now) nodes.old nodes.new depth pos (behind ends) (part a-consequence ∷ []) pos free result }
+    ensures { Says (text kinds.now) nodes.old nodes.new depth pos (behind ends) (part a_consequence ∷ []) pos free result }
 {
     if 64 <= depth {
         return limits::consequence(kinds, pos, ends);
@@ -307,7 +307,7 @@ fn alternative(
     ends: bool,
 ) -> Parsed
     requires { Room (text kinds.now) nodes.old pos free }
-    ensures { Says (text kinds.now) nodes.old nodes.new depth pos (behind ends) (part an-alternative ∷ []) pos free result }
+    ensures { Says (text kinds.now) nodes.old nodes.new depth pos (behind ends) (part an_alternative ∷ []) pos free result }
 {
     match peek(kinds, pos) {
         Symbol::Else => {
@@ -332,7 +332,7 @@ fn repetition(
     ends: bool,
 ) -> Parsed
     requires { Room (text kinds.now) nodes.old pos free }
-    ensures { Says (text kinds.now) nodes.old nodes.new depth pos (behind ends) (part a-repetition ∷ []) pos free result }
+    ensures { Says (text kinds.now) nodes.old nodes.new depth pos (behind ends) (part a_repetition ∷ []) pos free result }
 {
     let one = for_clause(kinds, pos, depth, nodes, free);
     match one {
@@ -353,7 +353,7 @@ fn repetition(
 #[cycle(statements)]
 fn unconditional(kinds: &[u8], pos: usize, depth: u16, nodes: &mut [u16], free: usize) -> Parsed
     requires { Room (text kinds.now) nodes.old pos free }
-    ensures { Tells (text kinds.now) nodes.old nodes.new depth (part an-unconditional ∷ []) pos free result }
+    ensures { Tells (text kinds.now) nodes.old nodes.new depth (part an_unconditional ∷ []) pos free result }
 {
     match peek(kinds, pos) {
         Symbol::Name => named(kinds, pos, depth, nodes, free),
