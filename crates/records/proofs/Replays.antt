@@ -96,6 +96,13 @@ apart_none (x ∷ xs) (y ∷ ys) h k = go (same x y) (apart_none xs ys) h k
     go true f h k = rw (f (omega arith) (omega arith))
     go false f h k = absurd (omega arith)
 
+-- what the numbers of two lists of output entries come to
+pub parted : (xs ys : List ℤ) (k : ℕ) → k ≡ agreed xs ys → k < length xs ⊎ k < length ys → Differs (k / 3 + 1) ≡ verdict (entry_at (first_apart same xs ys))
+parted xs ys k e h = ap (λ (n : ℕ). Differs (n / 3 + 1)) e ∙ sym (ap (λ (o : Option ℕ). verdict (entry_at o)) (apart_some xs ys (subst (λ (n : ℕ). n < length xs ⊎ n < length ys) e h)))
+
+pub unparted : (xs ys : List ℤ) (k : ℕ) → k ≡ agreed xs ys → length xs ≤ k → length ys ≤ k → Agrees ≡ verdict (entry_at (first_apart same xs ys))
+unparted xs ys k e h h' = sym (ap (λ (o : Option ℕ). verdict (entry_at o)) (apart_none xs ys (subst (λ (n : ℕ). length xs ≤ n) e h) (subst (λ (n : ℕ). length ys ≤ n) e h')))
+
 -- ---- entries, three numbers each
 
 abbrev thirds : Option ℕ → Option ℕ

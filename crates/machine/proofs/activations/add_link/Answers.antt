@@ -1,6 +1,5 @@
 -- The two words behind those that are there, and how many there are.
 use Rattle.machine.proofs.Frames.{linked_is}
-use borrow.Author.Rules.{rules}
 use Rattle.machine.proofs.activations.add_link.Goals as goal
 
 pub returns : goal.returns

@@ -2,7 +2,6 @@
 use native.Mathlib.Omega.{arith}
 use Rattle.machine.proofs.Levels.{level_few}
 use Rattle.machine.proofs.Frames.{walk_shown, walk_past}
-use borrow.Author.Rules.{rules}
 use Rattle.machine.proofs.activations.around.Goals as goal
 
 pub returns-then-levels-j : goal.returns-then-levels-j

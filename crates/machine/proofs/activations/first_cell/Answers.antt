@@ -3,7 +3,6 @@ use mathlib.Core.Path.{sym, ◌∙◌}
 use native.Mathlib.Omega.{arith}
 use Rattle.machine.proofs.Frames.{base_at}
 use Rattle.reals.proofs.Signed.{bits_pos}
-use borrow.Author.Rules.{rules}
 use Rattle.machine.proofs.activations.first_cell.Goals as goal
 
 pub returns-then-i-eq0 : goal.returns-then-i-eq0

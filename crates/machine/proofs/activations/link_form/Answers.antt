@@ -1,7 +1,6 @@
 -- By the word.
 use borrow.Author.Tests.{ne_eqb}
 use Rattle.machine.specs.model.Holding.{form_of_word}
-use borrow.Author.Rules.{rules}
 use Rattle.machine.proofs.activations.link_form.Goals as goal
 
 pub returns-in-0 : goal.returns-in-0

@@ -1,10 +1,8 @@
 -- The entries above the level reached are those of the activation that is to run.
-use mathlib.Core.Path.{◌≡◌, refl}
+use mathlib.Core.Path.{refl}
 use native.Mathlib.Omega.{arith}
-use Rattle.machine.specs.model.Holding.{level_at}
-use Rattle.machine.proofs.Levels.{Renewing, renewing_start, renewing_here, renewing_level, renewing_more, renewing_some, renewing_end}
+use Rattle.machine.proofs.Levels.{renewing_start, renewing_here, renewing_level, renewing_more, renewing_some, renewing_end}
 use Rattle.machine.proofs.Works.{not_true, yes_true}
-use borrow.Author.Rules.{rules}
 use Rattle.machine.proofs.activations.renew.Goals as goal
 
 pub loop-own-init : goal.loop-own-init

@@ -1,10 +1,7 @@
 -- The entries above the level reached are those of the activation that is to run.
-use mathlib.Core.Path.{◌≡◌, refl}
-use native.Mathlib.Omega.{arith}
+use mathlib.Core.Path.{◌≡◌}
 use Rattle.machine.specs.model.Holding.{level_at}
-use Rattle.machine.proofs.Levels.{Renewing, renewing_start, renewing_here, renewing_level, renewing_more, renewing_some, renewing_end}
-use Rattle.machine.proofs.Works.{not_true, yes_true}
-use borrow.Author.Rules.{rules}
+use Rattle.machine.proofs.Levels.{Renewing}
 use Rattle.machine.proofs.activations.renew.Given as goal
 
 abbrev pub invariant-loop-own : goal.invariant-loop-own

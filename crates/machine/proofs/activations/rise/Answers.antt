@@ -3,7 +3,6 @@ use mathlib.Core.Path.{ap}
 use Prim.Native.Nat.{ℕ, ◌+◌}
 use lib.ListN.{set}
 use Rattle.machine.specs.model.Holding.{level_words}
-use borrow.Author.Rules.{rules}
 use Rattle.machine.proofs.activations.rise.Goals as goal
 
 pub returns : goal.returns

@@ -2,7 +2,6 @@
 use mathlib.Core.Path.{refl, sym, ◌∙◌}
 use native.Mathlib.Omega.{arith}
 use Rattle.machine.proofs.Told.{leave_gone_out, leave_gone, leave_kept_out, leave_unset, leave_named, leave_kept, cut_sound}
-use borrow.Author.Rules.{rules}
 use Rattle.machine.proofs.blocks.leave.Goals as goal
 
 pub returns-then-b-n : goal.returns-then-b-n

@@ -6,7 +6,6 @@ use Rattle.machine.specs.Data.{in_all}
 use Rattle.machine.specs.Instructions.{counted}
 use Rattle.machine.specs.model.Holding.{room_of}
 use Rattle.machine.proofs.Kept.{open_full, open_done, open_sound}
-use borrow.Author.Rules.{rules}
 use Rattle.machine.proofs.blocks.open.Goals as goal
 
 pub in_all-k-requires : goal.in_all-k-requires

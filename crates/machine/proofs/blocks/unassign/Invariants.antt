@@ -1,13 +1,8 @@
 -- So many of the cells are unassigned already.
-use mathlib.Core.Path.{◌≡◌, refl, ap, ◌∙◌}
-use Prim.Native.Nat.{◌≤◌, ◌-◌, ◌+◌}
-use native.Mathlib.Omega.{arith}
+use mathlib.Core.Path.{◌≡◌}
+use Prim.Native.Nat.{◌≤◌, ◌-◌}
 use lib.ListN.{length}
-use lib.IntN.{ℤ}
-use mathlib.Core.List.{List}
-use Rattle.reals.specs.declared.Cell.TheVariants.{Unset}
-use Rattle.machine.specs.model.Holding.{unassigned, room_of, put_at}
-use Rattle.machine.proofs.Stacks.{room_unassigned, length_unassigned, unassigned_more}
+use Rattle.machine.specs.model.Holding.{unassigned, room_of}
 use Rattle.machine.proofs.blocks.unassign.Given as goal
 
 abbrev pub invariant-loop-i : goal.invariant-loop-i

@@ -7,7 +7,6 @@ use native.Mathlib.Omega.{arith}
 use Rattle.reals.specs.declared.Form.TheVariants.{Truths, Reals}
 use Rattle.machine.specs.model.Holding.{room_of, unassigned, unassigned_all}
 use Rattle.machine.proofs.Stacks.{room_unassigned}
-use borrow.Author.Rules.{rules}
 use Rattle.machine.proofs.blocks.unassign_all.Goals as goal
 
 pub unassign-requires : goal.unassign-requires

@@ -9,7 +9,6 @@ use mir.Val.{of_z}
 use Rattle.reals.specs.model.Stored.{cell_of}
 use Rattle.machine.specs.model.Holding.{cell_at, room_of}
 use Rattle.reals.proofs.Signed.{read_back}
-use borrow.Author.Rules.{rules}
 use Rattle.machine.proofs.cells.cell_at.Goals as goal
 
 pub overflow_mul-kind : goal.overflow_mul-kind

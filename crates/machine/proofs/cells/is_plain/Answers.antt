@@ -2,7 +2,6 @@
 use mathlib.Core.Path.{sym, ap, ◌∙◌}
 use Rattle.reals.specs.declared.Cell.{Cell}
 use Rattle.machine.specs.Data.{plain}
-use borrow.Author.Rules.{rules}
 use Rattle.machine.proofs.cells.is_plain.Goals as goal
 
 pub returns-in-Holds : goal.returns-in-Holds

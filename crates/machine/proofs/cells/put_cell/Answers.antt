@@ -8,7 +8,6 @@ use lib.ListN.{set, length-set}
 use mir.Syntax.{w64}
 use Rattle.reals.proofs.Signed.{read_back}
 use Rattle.machine.specs.model.Holding.{room_of, put_at}
-use borrow.Author.Rules.{rules}
 use Rattle.machine.proofs.cells.put_cell.Goals as goal
 
 pub overflow_mul-kind : goal.overflow_mul-kind

@@ -11,7 +11,6 @@ use Rattle.reals.specs.declared.Cell.TheVariants.{Holds}
 use Rattle.reals.proofs.Signed.{read_back, between}
 use Rattle.machine.specs.model.Holding.{room_of}
 use Rattle.machine.proofs.Numbers.{number_at}
-use borrow.Author.Rules.{rules}
 use Rattle.machine.proofs.cells.whole_at.Goals as goal
 
 pub overflow_mul-kind : goal.overflow_mul-kind

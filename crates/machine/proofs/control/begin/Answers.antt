@@ -2,7 +2,6 @@
 use Prim.Native.Nat.{◌+◌}
 use native.Mathlib.Omega.{arith}
 use Rattle.machine.proofs.Frames.{laid_few, laid_asks, laid_begins}
-use borrow.Author.Rules.{rules}
 use Rattle.machine.proofs.control.begin.Goals as goal
 
 pub rise-requires : goal.rise-requires

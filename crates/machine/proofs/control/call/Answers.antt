@@ -5,7 +5,6 @@ use native.Mathlib.Nat.{le_refl}
 use Rattle.machine.specs.Instructions.{high, mid, low}
 use Rattle.machine.specs.model.Holding.{fate_of}
 use Rattle.machine.proofs.Execs.{strayed, strayed_sound, call_stray, call_full, call_done, call_sound, room_no}
-use borrow.Author.Rules.{rules}
 use Rattle.machine.proofs.control.call.Goals as goal
 
 pub returns-then-first_cell-k : goal.returns-then-first_cell-k

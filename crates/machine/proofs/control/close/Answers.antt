@@ -3,7 +3,6 @@ use mathlib.Core.Path.{refl, ap, ◌∙◌}
 use native.Mathlib.Nat.{le_refl}
 use Rattle.machine.specs.model.Holding.{lifted, own_of}
 use Rattle.machine.proofs.Execs.{strayed, strayed_sound, leave_stray, leave_lifted, room_no, room_yes, lifted_next, did_quiet}
-use borrow.Author.Rules.{rules}
 use Rattle.machine.proofs.control.close.Goals as goal
 
 pub returns-then-first_cell-k : goal.returns-then-first_cell-k

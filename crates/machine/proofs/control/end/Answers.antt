@@ -1,12 +1,10 @@
 -- Its cells go; where it was begun for a store its formal is on the way.
 use mathlib.Core.Path.{refl, ap, ◌∙◌}
 use Rattle.machine.specs.Data.{link}
-use Rattle.machine.specs.Machine.{stray}
 use Rattle.machine.specs.model.Holding.{lifted, own_of, Own, seen_d, form_of_word}
 use Rattle.machine.proofs.Execs.{strayed, strayed_sound, return_none, return_lifted, left_same, left_room, left_more, left_positions, left_frames, left_lives, lifted_as, did_quiet}
 use Rattle.machine.proofs.Frames.{ended_asks, ended_positions, ended_frames, ended_found, ended_lives}
 use Rattle.reals.proofs.Signed.{bits_pos}
-use borrow.Author.Rules.{rules}
 use Rattle.machine.proofs.control.end.Goals as goal
 
 pub returns-then-live-eq0 : goal.returns-then-live-eq0

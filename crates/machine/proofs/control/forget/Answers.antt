@@ -1,7 +1,6 @@
 -- Only of a store.
 use mathlib.Core.Path.{◌∙◌}
 use Rattle.machine.proofs.Named.{forgot_some, forgot_none}
-use borrow.Author.Rules.{rules}
 use Rattle.machine.proofs.control.forget.Goals as goal
 
 pub returns-then-fate-gt-KEPT : goal.returns-then-fate-gt-KEPT

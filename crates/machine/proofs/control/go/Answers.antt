@@ -6,7 +6,6 @@ use Prim.Native.Nat.{ℕ, ◌+◌, ◌<◌}
 use Rattle.machine.specs.Instructions.{high, mid, low, six_bits}
 use Rattle.machine.specs.model.Holding.{note_of}
 use Rattle.machine.proofs.Execs.{strayed, strayed_sound, go_no, go_done, go_lives}
-use borrow.Author.Rules.{rules}
 use Rattle.machine.proofs.control.go.Goals as goal
 
 pub returns-then-nest-word : goal.returns-then-nest-word

@@ -3,7 +3,6 @@ use mathlib.Core.Path.{ap, ◌∙◌}
 use mathlib.Core.List.{List}
 use Prim.Native.Nat.{ℕ}
 use Rattle.machine.specs.model.Holding.{note_of}
-use borrow.Author.Rules.{rules}
 use Rattle.machine.proofs.control.lay.Goals as goal
 
 pub returns : goal.returns

@@ -2,7 +2,6 @@
 use mathlib.Core.Path.{refl, ◌∙◌}
 use Rattle.machine.specs.Instructions.{low}
 use Rattle.machine.proofs.Execs.{strayed, strayed_sound, obeyed, obeyed_none, form_none, form_some}
-use borrow.Author.Rules.{rules}
 use Rattle.machine.proofs.control.leave.Goals as goal
 
 pub returns-then-f-gt2 : goal.returns-then-f-gt2

@@ -1,7 +1,6 @@
 -- By what the operation came to.
 use mathlib.Core.Path.{◌∙◌}
 use Rattle.machine.proofs.Execs.{lift_good, lift_bad, lift_none, good_sound, bad_sound, none_sound, strayed, strayed_sound}
-use borrow.Author.Rules.{rules}
 use Rattle.machine.proofs.control.lift.Goals as goal
 
 pub returns-in-Good : goal.returns-in-Good

@@ -2,7 +2,6 @@
 use mathlib.Core.Path.{refl, ◌∙◌}
 use Prim.Native.Nat.{◌+◌}
 use Rattle.machine.proofs.Execs.{test_yes, test_no, test_bad, test_none, yes_sound, no_sound, strayed, strayed_sound}
-use borrow.Author.Rules.{rules}
 use Rattle.machine.proofs.control.lift_test.Goals as goal
 
 pub returns-in-Yes : goal.returns-in-Yes

@@ -2,7 +2,6 @@
 use mathlib.Core.Path.{refl, ◌∙◌}
 use Rattle.machine.specs.Instructions.{high}
 use Rattle.machine.proofs.Execs.{strayed, strayed_sound, next_no, next_done, next_lives}
-use borrow.Author.Rules.{rules}
 use Rattle.machine.proofs.control.next.Goals as goal
 
 pub returns-then-nest-word : goal.returns-then-nest-word

@@ -1,6 +1,5 @@
 -- Its read part is two further.
 use Rattle.machine.proofs.Named.{part_kept, part_other}
-use borrow.Author.Rules.{rules}
 use Rattle.machine.proofs.control.part_at.Goals as goal
 
 pub returns-then-fate-eq-KEPT : goal.returns-then-fate-eq-KEPT

@@ -1,6 +1,5 @@
 -- Of PASS alone it is the running activation's.
 use borrow.Author.Tests.{ne_eqb}
-use borrow.Author.Rules.{rules}
 use Rattle.machine.proofs.control.place_of.Goals as goal
 
 pub returns-then-k-eq-PASS : goal.returns-then-k-eq-PASS

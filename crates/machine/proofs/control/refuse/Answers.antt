@@ -3,7 +3,6 @@ use mathlib.Core.Path.{refl, ◌∙◌}
 use Rattle.machine.proofs.Execs.{strayed, strayed_sound}
 use Rattle.machine.proofs.Named.{refuse_none, refuse_done}
 use Rattle.reals.proofs.Signed.{bits_pos}
-use borrow.Author.Rules.{rules}
 use Rattle.machine.proofs.control.refuse.Goals as goal
 
 pub returns-then-live-eq0 : goal.returns-then-live-eq0

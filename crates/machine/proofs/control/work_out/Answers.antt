@@ -7,7 +7,6 @@ use Rattle.machine.specs.Instructions.{high, mid}
 use Rattle.machine.specs.model.Holding.{fate_of, Lives}
 use Rattle.machine.proofs.Execs.{strayed, strayed_sound}
 use Rattle.machine.proofs.Named.{named_less, forgot_lives, working_out, working_unset, working_holds, working_full, worked_done, worked_sound}
-use borrow.Author.Rules.{rules}
 use Rattle.machine.proofs.control.work_out.Goals as goal
 
 pub returns-then-b-c : goal.returns-then-b-c

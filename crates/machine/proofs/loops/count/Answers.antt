@@ -4,7 +4,6 @@ use Rattle.reals.specs.declared.Form.TheVariants.{Wholes}
 use Rattle.machine.specs.Data.{suits}
 use Rattle.machine.specs.model.Holding.{data_of}
 use Rattle.machine.proofs.Works.{yes_true, not_true, counting_no, counting_yes}
-use borrow.Author.Rules.{rules}
 use Rattle.machine.proofs.loops.count.Goals as goal
 
 pub returns-then-not-suits : goal.returns-then-not-suits

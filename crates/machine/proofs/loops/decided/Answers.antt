@@ -1,7 +1,6 @@
 -- A logical value decides.
 use mathlib.Core.Path.{refl}
 use Rattle.machine.proofs.Told.{left_yes, left_no, left_whole, left_real, left_bad, left_stray, unhold_sound}
-use borrow.Author.Rules.{rules}
 use Rattle.machine.proofs.loops.decided.Goals as goal
 
 pub overflow_sub-n : goal.overflow_sub-n

@@ -7,7 +7,6 @@ use Rattle.machine.specs.Data.{valued, picking, yea, nay, unhold}
 use Rattle.machine.specs.model.Holding.{told, trace_of, data_of, links_of}
 use Rattle.machine.proofs.Works.{read_out, read_is, turned_is, turned_bad, turned_stray}
 use Rattle.machine.proofs.Kept.{cell_in, cell_out, look_data}
-use borrow.Author.Rules.{rules}
 use Rattle.machine.proofs.loops.goes_on.Goals as goal
 
 pub returns-then-c-n : goal.returns-then-c-n

@@ -2,7 +2,6 @@
 use Rattle.machine.proofs.Told.{held_in_lem}
 use Rattle.reals.proofs.Signed.{bits_pos}
 use native.Mathlib.Omega.{arith}
-use borrow.Author.Rules.{rules}
 use Rattle.machine.proofs.loops.held.Goals as goal
 
 pub overflow_sub-room : goal.overflow_sub-room

@@ -1,7 +1,6 @@
 -- The cell below the held ones.
 use mathlib.Core.Path.{refl}
 use Rattle.machine.proofs.Told.{hold_put}
-use borrow.Author.Rules.{rules}
 use Rattle.machine.proofs.loops.hold.Goals as goal
 
 pub returns : goal.returns

@@ -4,7 +4,6 @@ use native.Mathlib.Omega.{arith}
 use Rattle.machine.proofs.Works.{keep_none, keep_some}
 use Rattle.machine.proofs.Kept.{saw, saw_none, used_sound, used_room, used_trace, used_written, used_fits}
 use Rattle.machine.proofs.Told.{hold_is, hold_sound, held_trace, held_written}
-use borrow.Author.Rules.{rules}
 use Rattle.machine.proofs.loops.keep.Goals as goal
 
 pub hold-requires : goal.hold-requires

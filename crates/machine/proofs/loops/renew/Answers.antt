@@ -2,7 +2,6 @@
 use mathlib.Core.Path.{◌∙◌}
 use Rattle.machine.proofs.Kept.{sound_as}
 use Rattle.machine.proofs.Told.{released, renew_sound, renew_room, renew_done, held_written}
-use borrow.Author.Rules.{rules}
 use Rattle.machine.proofs.loops.renew.Goals as goal
 
 pub back-requires : goal.back-requires

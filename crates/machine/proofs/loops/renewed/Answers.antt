@@ -2,7 +2,6 @@
 use mathlib.Core.Path.{subst, ◌∙◌}
 use Rattle.reals.specs.model.Stored.{FittingO}
 use Rattle.machine.proofs.Kept.{valued_fault, valued_stray, valued_is}
-use borrow.Author.Rules.{rules}
 use Rattle.machine.proofs.loops.renewed.Goals as goal
 
 pub renew-requires : goal.renew-requires

@@ -6,7 +6,6 @@ use Rattle.machine.proofs.Works.{yes_true, not_true, sum_none, sum_few, sum_not,
 use Rattle.machine.proofs.Kept.{saw, saw_none, used_sound, used_room, used_trace, used_did, used_fits}
 use Rattle.machine.proofs.Told.{none_held, some_held}
 use Rattle.reals.proofs.Signed.{bits_pos}
-use borrow.Author.Rules.{rules}
 use Rattle.machine.proofs.loops.sum.Goals as goal
 
 pub newest-requires : goal.newest-requires

@@ -3,7 +3,6 @@ use mathlib.Core.Path.{◌∙◌}
 use Rattle.machine.proofs.Works.{upto_none, upto_few, upto_some}
 use Rattle.machine.proofs.Kept.{saw, saw_none, used_sound, used_trace, used_written, test_as}
 use Rattle.machine.proofs.Told.{held_unset, held_named, held_some, held_least}
-use borrow.Author.Rules.{rules}
 use Rattle.machine.proofs.loops.upto.Goals as goal
 
 pub newest-requires : goal.newest-requires

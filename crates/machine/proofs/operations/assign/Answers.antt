@@ -4,7 +4,6 @@ use native.Mathlib.Omega.{arith}
 use Rattle.machine.proofs.Works.{assign_none, assign_out, assign_not, assign_is}
 use Rattle.machine.proofs.Turns.{reach_as, reach_form}
 use Rattle.machine.proofs.Kept.{cell_in, cell_out, look_data, saw, saw_none, used_sound, used_room, used_trace, used_did, used_fits}
-use borrow.Author.Rules.{rules}
 use Rattle.machine.proofs.operations.assign.Goals as goal
 
 pub newest-requires : goal.newest-requires

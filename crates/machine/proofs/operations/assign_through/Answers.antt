@@ -6,7 +6,6 @@ use Rattle.machine.specs.model.Holding.{fine, trace_of}
 use Rattle.machine.proofs.Works.{turned_fine, turned_bad, turned_stray}
 use Rattle.machine.proofs.Turns.{in_fits, turned_holds}
 use Rattle.machine.proofs.Kept.{put_is, put_sound, put_room}
-use borrow.Author.Rules.{rules}
 use Rattle.machine.proofs.operations.assign_through.Goals as goal
 
 pub put_cell-requires : goal.put_cell-requires

@@ -1,7 +1,6 @@
 -- The next cell has the value.
 use mathlib.Core.Path.{refl}
 use Rattle.machine.proofs.Kept.{back_done, new_sound}
-use borrow.Author.Rules.{rules}
 use Rattle.machine.proofs.operations.back.Goals as goal
 
 pub returns : goal.returns

@@ -5,7 +5,6 @@ use Rattle.reals.specs.model.Stored.{FittingO}
 use Rattle.reals.proofs.Fits.{binary_fits}
 use Rattle.machine.proofs.Works.{binary_none, binary_some}
 use Rattle.machine.proofs.Kept.{saw_two, saw_no_two, pair_sound, pair_room, pair_trace, pair_did}
-use borrow.Author.Rules.{rules}
 use Rattle.machine.proofs.operations.binary.Goals as goal
 
 pub give-requires : goal.give-requires

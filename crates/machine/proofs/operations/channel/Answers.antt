@@ -2,7 +2,6 @@
 use mathlib.Core.Path.{sym, ◌∙◌}
 use Rattle.machine.proofs.Works.{channel_none, channel_one, channel_other, channel_stray}
 use Rattle.machine.proofs.Kept.{saw, saw_none, used_sound, used_room, used_trace, used_did, used_fits}
-use borrow.Author.Rules.{rules}
 use Rattle.machine.proofs.operations.channel.Goals as goal
 
 pub back-requires : goal.back-requires

@@ -1,7 +1,6 @@
 -- A logical value decides.
 use Rattle.machine.proofs.Works.{condition_none, condition_no, condition_yes, condition_whole, condition_real}
 use Rattle.machine.proofs.Kept.{saw, saw_none, used_sound, used_trace, used_written}
-use borrow.Author.Rules.{rules}
 use Rattle.machine.proofs.operations.condition.Goals as goal
 
 pub returns-then-b : goal.returns-then-b

@@ -1,7 +1,6 @@
 -- Nothing is done with the value.
 use Rattle.machine.proofs.Works.{forget_none, forget_some}
 use Rattle.machine.proofs.Kept.{saw, saw_none, used_sound, used_trace, used_written}
-use borrow.Author.Rules.{rules}
 use Rattle.machine.proofs.operations.forget.Goals as goal
 
 pub returns-in-Nothing : goal.returns-in-Nothing

@@ -4,7 +4,6 @@ use Rattle.reals.specs.model.Stored.{FittingO}
 use Rattle.machine.proofs.Turns.{raised_fits}
 use Rattle.machine.proofs.Works.{heighten_none, heighten_some}
 use Rattle.machine.proofs.Kept.{saw, saw_none, used_sound, used_room, used_trace, used_did}
-use borrow.Author.Rules.{rules}
 use Rattle.machine.proofs.operations.heighten.Goals as goal
 
 pub give-requires : goal.give-requires

@@ -6,7 +6,6 @@ use Rattle.machine.proofs.Works.{load_out, load_is, turned_is, turned_bad, turne
 use Rattle.machine.proofs.Turns.{read_as, read_fits, turned_holds}
 use Rattle.machine.proofs.Stacks.{cell_fits}
 use Rattle.machine.proofs.Kept.{cell_in, cell_out, look_data}
-use borrow.Author.Rules.{rules}
 use Rattle.machine.proofs.operations.load.Goals as goal
 
 pub returns-then-c-n : goal.returns-then-c-n

@@ -2,7 +2,6 @@
 use mathlib.Core.Path.{refl}
 use native.Mathlib.Omega.{arith}
 use Rattle.machine.proofs.Kept.{new_full, new_done, new_sound}
-use borrow.Author.Rules.{rules}
 use Rattle.machine.proofs.operations.new_cell.Goals as goal
 
 pub returns-then-k-h : goal.returns-then-k-h

@@ -3,7 +3,6 @@ use mathlib.Core.Path.{refl, sym, ◌∙◌}
 use Rattle.machine.proofs.Kept.{newest_none, newest_unset, newest_named, newest_holds}
 use Rattle.machine.proofs.Stacks.{held_fits}
 use Rattle.reals.proofs.Signed.{bits_pos}
-use borrow.Author.Rules.{rules}
 use Rattle.machine.proofs.operations.newest.Goals as goal
 
 pub returns-then-k-eq0 : goal.returns-then-k-eq0

@@ -1,7 +1,6 @@
 -- The newer value is used first.
 use Rattle.machine.proofs.Works.{two_none, two_short, two_some}
 use Rattle.machine.proofs.Kept.{saw, saw_none, used_sound, used_twice}
-use borrow.Author.Rules.{rules}
 use Rattle.machine.proofs.operations.newest_two.Goals as goal
 
 pub newest-requires-in-Value : goal.newest-requires-in-Value

@@ -1,7 +1,6 @@
 -- The cell has the value.
 use mathlib.Core.Path.{refl}
 use Rattle.machine.proofs.Kept.{put_done, put_sound}
-use borrow.Author.Rules.{rules}
 use Rattle.machine.proofs.operations.put.Goals as goal
 
 pub returns : goal.returns

@@ -2,7 +2,6 @@
 use mathlib.Core.Path.{sym, ◌∙◌}
 use Rattle.machine.proofs.Works.{turned_fine, turned_bad, turned_stray}
 use Rattle.machine.proofs.Turns.{in_fits, turned_holds}
-use borrow.Author.Rules.{rules}
 use Rattle.machine.proofs.operations.put_through.Goals as goal
 
 pub put-requires : goal.put-requires

@@ -4,7 +4,6 @@ use Rattle.reals.specs.model.Stored.{FittingO}
 use Rattle.reals.proofs.Fits.{unary_fits}
 use Rattle.machine.proofs.Works.{unary_none, unary_some}
 use Rattle.machine.proofs.Kept.{saw, saw_none, used_sound, used_room, used_trace, used_did, used_fits}
-use borrow.Author.Rules.{rules}
 use Rattle.machine.proofs.operations.unary.Goals as goal
 
 pub give-requires : goal.give-requires

@@ -6,7 +6,6 @@ use Rattle.reals.proofs.Signed.{read_back}
 use Rattle.reals.specs.Values.{entry_w}
 use Rattle.machine.specs.Data.{written}
 use Rattle.machine.proofs.Works.{entry_whole, entry_real, entry_other}
-use borrow.Author.Rules.{rules}
 use Rattle.machine.proofs.ports.entry_of.Goals as goal
 
 pub returns-in-Wholes : goal.returns-in-Wholes

@@ -5,7 +5,6 @@ use Rattle.machine.specs.model.Holding.{data_of, links_of}
 use Rattle.machine.proofs.Works.{listen_out, listen_not, listen_one, listen_other, listen_stray}
 use Rattle.machine.proofs.Turns.{reach_as, reach_form}
 use Rattle.machine.proofs.Kept.{cell_in, cell_out, look_data}
-use borrow.Author.Rules.{rules}
 use Rattle.machine.proofs.ports.listen.Goals as goal
 
 pub returns-then-c-n : goal.returns-then-c-n

@@ -13,7 +13,6 @@ use Rattle.machine.specs.Run.{say, wrote}
 use Rattle.machine.specs.model.Holding.{trace_of}
 use Rattle.machine.proofs.Works.{writing_full, writing_some}
 use Rattle.machine.proofs.Told.{space_none, space_some, spend_data, wrote_trace, wrote_sound, three_rest, three_long, three_back}
-use borrow.Author.Rules.{rules}
 use Rattle.machine.proofs.ports.put_out.Goals as goal
 
 pub overflow_sub-output : goal.overflow_sub-output

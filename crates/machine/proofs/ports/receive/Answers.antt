@@ -2,7 +2,6 @@
 use mathlib.Core.Path.{◌∙◌}
 use Rattle.machine.proofs.Works.{receive_none, receive_some}
 use Rattle.machine.proofs.Kept.{saw, saw_none, used_sound, used_trace, used_did}
-use borrow.Author.Rules.{rules}
 use Rattle.machine.proofs.ports.receive.Goals as goal
 
 pub newest-requires : goal.newest-requires

@@ -3,7 +3,6 @@ use mathlib.Core.Path.{refl, ◌∙◌}
 use native.Mathlib.Omega.{arith}
 use Rattle.machine.proofs.Works.{send_none, send_some, send_stray}
 use Rattle.machine.proofs.Kept.{saw_two, saw_no_two, pair_sound, pair_trace, pair_written}
-use borrow.Author.Rules.{rules}
 use Rattle.machine.proofs.ports.send.Goals as goal
 
 pub newest_two-requires : goal.newest_two-requires

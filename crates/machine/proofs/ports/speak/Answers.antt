@@ -1,7 +1,6 @@
 -- The channel is 1, another one or none.
 use mathlib.Core.Path.{refl, sym, ◌∙◌}
 use Rattle.machine.proofs.Works.{speak_one, speak_other, speak_stray}
-use borrow.Author.Rules.{rules}
 use Rattle.machine.proofs.ports.speak.Goals as goal
 
 pub returns-in-One : goal.returns-in-One

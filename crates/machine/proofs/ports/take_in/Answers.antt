@@ -9,7 +9,6 @@ use Rattle.machine.specs.model.Holding.{data_of}
 use Rattle.machine.proofs.Works.{taking_ended, taking_some}
 use Rattle.machine.proofs.Kept.{cell_in, look_data, sound_as}
 use Rattle.machine.proofs.Told.{input_none, input_some, rest_data, took_sound, took_one}
-use borrow.Author.Rules.{rules}
 use Rattle.machine.proofs.ports.take_in.Goals as goal
 
 pub returns-then-t-input : goal.returns-then-t-input

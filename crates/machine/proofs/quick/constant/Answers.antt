@@ -7,7 +7,6 @@ use mir.Facts.{to_z-of_z, sfits_to_z}
 use Rattle.reals.specs.declared.Value.TheVariants.{Whole}
 use Rattle.machine.specs.Data.{push}
 use Rattle.machine.proofs.Numbers.{fills_push}
-use borrow.Author.Rules.{rules}
 use Rattle.machine.proofs.quick.constant.Goals as goal
 
 pub fill-requires : goal.fill-requires

@@ -2,7 +2,6 @@
 use native.Mathlib.Omega.{arith}
 use native.Mathlib.Nat.{le_refl}
 use Rattle.machine.proofs.Numbers.{fill_quick}
-use borrow.Author.Rules.{rules}
 use Rattle.machine.proofs.quick.fill.Goals as goal
 
 pub returns : goal.returns

@@ -1,7 +1,6 @@
 -- The number that the cell holds is in a new one.
 use native.Mathlib.Omega.{arith}
 use Rattle.machine.proofs.Numbers.{load_quick}
-use borrow.Author.Rules.{rules}
 use Rattle.machine.proofs.quick.load.Goals as goal
 
 pub returns-in-Is : goal.returns-in-Is

@@ -7,7 +7,6 @@ use Rattle.machine.specs.Data.{push}
 use Rattle.machine.specs.Instructions.{low}
 use Rattle.machine.proofs.Execs.{logical_is}
 use Rattle.machine.proofs.Numbers.{fills_push, quick_as}
-use borrow.Author.Rules.{rules}
 use Rattle.machine.proofs.quick.logical.Goals as goal
 
 pub returns : goal.returns

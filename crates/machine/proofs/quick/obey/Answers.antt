@@ -3,7 +3,6 @@ use Rattle.machine.specs.declared.Swift.TheVariants.{Goes}
 use Rattle.machine.specs.Instructions.{low}
 use Rattle.machine.proofs.Decode.{code_2, code_11, code_12, code_13, code_14, code_16, code_21, code_25, code_26, code_27, code_28, code_29, code_30, code_31, code_32, code_33, code_34, code_as, code_logical}
 use Rattle.machine.proofs.Numbers.{quick_as, jump_quick}
-use borrow.Author.Rules.{rules}
 use Rattle.machine.proofs.quick.obey.Goals as goal
 
 pub returns-in-2 : goal.returns-in-2

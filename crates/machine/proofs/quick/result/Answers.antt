@@ -4,7 +4,6 @@ use Rattle.reals.specs.declared.Form.TheVariants.{Wholes}
 use Rattle.machine.specs.Data.{reserve}
 use Rattle.machine.specs.Instructions.{low, DO}
 use Rattle.machine.proofs.Numbers.{fills_reserve, form_whole, quick_as}
-use borrow.Author.Rules.{rules}
 use Rattle.machine.proofs.quick.result.Goals as goal
 
 pub returns : goal.returns

@@ -2,7 +2,6 @@
 use Rattle.machine.proofs.Numbers.{save_quick}
 use Rattle.machine.proofs.Works.{yes_true}
 use mathlib.Core.Path.{refl}
-use borrow.Author.Rules.{rules}
 use Rattle.machine.proofs.quick.save.Goals as goal
 
 pub returns-else-not-takes_wholes : goal.returns-else-not-takes_wholes

@@ -3,7 +3,6 @@ use mathlib.Core.Path.{sym, ◌∙◌}
 use mathlib.Core.Bool.{false≢true}
 use mir.Facts.{to_z-of_z}
 use Rattle.machine.proofs.Numbers.{stays_is}
-use borrow.Author.Rules.{rules}
 use Rattle.machine.proofs.quick.stays.Goals as goal
 
 pub returns-in-Truth : goal.returns-in-Truth

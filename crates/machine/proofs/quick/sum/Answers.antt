@@ -3,7 +3,6 @@ use native.Mathlib.Omega.{arith}
 use Rattle.reals.proofs.Signed.{bits_pos}
 use Rattle.machine.proofs.Stacks.{room_put}
 use Rattle.machine.proofs.Numbers.{sum_quick}
-use borrow.Author.Rules.{rules}
 use Rattle.machine.proofs.quick.sum.Goals as goal
 
 pub put_cell-requires-in-Is-wholes : goal.put_cell-requires-in-Is-wholes

@@ -1,7 +1,6 @@
 -- All three are whole numbers, and the loop goes on.
 use Rattle.reals.proofs.Signed.{bits_pos}
 use Rattle.machine.proofs.Numbers.{upto_quick}
-use borrow.Author.Rules.{rules}
 use Rattle.machine.proofs.quick.upto.Goals as goal
 
 pub returns-then-stays : goal.returns-then-stays

@@ -1,11 +1,7 @@
 -- The formals from the outermost on: those left decide as all do.
 use Prim.Native.Nat.{◌≤◌}
-use mathlib.Core.Bool.{true, false, false≢true}
-use native.Mathlib.Omega.{arith}
 use Rattle.machine.specs.model.Holding.{links_of}
 use Rattle.machine.specs.model.Quick.{OnWholes}
-use Rattle.machine.proofs.Numbers.{way_none, way_more}
-use borrow.Author.Rules.{rules}
 use Rattle.machine.proofs.quick.whole_way.Given as goal
 
 abbrev pub invariant-loop-j : goal.invariant-loop-j

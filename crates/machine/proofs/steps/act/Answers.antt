@@ -5,7 +5,6 @@ use native.Mathlib.Nat.{le_refl}
 use Rattle.machine.specs.Instructions.{variable}
 use Rattle.machine.specs.model.Holding.{lifted, own_of}
 use Rattle.machine.proofs.Execs.{strayed, strayed_sound, do_stray, room_no, room_yes, act_done}
-use borrow.Author.Rules.{rules}
 use Rattle.machine.proofs.steps.act.Goals as goal
 
 pub downs-requires : goal.downs-requires

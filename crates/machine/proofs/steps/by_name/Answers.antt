@@ -9,7 +9,6 @@ use Rattle.machine.proofs.Works.{name_is}
 use Rattle.machine.proofs.Execs.{did_quiet, obeyed}
 use Rattle.machine.proofs.Named.{name_lifted}
 use Rattle.machine.proofs.Decode.{code_name_lem, code_refuse, code_channel, next_up}
-use borrow.Author.Rules.{rules}
 use Rattle.machine.proofs.steps.by_name.Goals as goal
 
 pub new_cell-requires : goal.new_cell-requires

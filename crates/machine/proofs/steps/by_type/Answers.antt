@@ -2,7 +2,6 @@
 use mathlib.Core.Path.{refl, ◌∙◌}
 use Rattle.machine.proofs.Execs.{strayed, strayed_sound, obeyed, obeyed_as, obeyed_none}
 use Rattle.machine.proofs.Decode.{code_divide, code_outreal, code_logical, code_high, code_as, code_none, next_up}
-use borrow.Author.Rules.{rules}
 use Rattle.machine.proofs.steps.by_type.Goals as goal
 
 pub returns-in-46 : goal.returns-in-46

@@ -4,7 +4,6 @@ use native.Mathlib.Omega.{arith}
 use Rattle.machine.specs.model.Holding.{lifted, own_of}
 use Rattle.machine.specs.Data.{channel}
 use Rattle.machine.proofs.Execs.{strayed, strayed_sound, do_stray, plain_done, did_quiet, lacks_yes, lacks_no}
-use borrow.Author.Rules.{rules}
 use Rattle.machine.proofs.steps.channel.Goals as goal
 
 pub lacks-requires : goal.lacks-requires

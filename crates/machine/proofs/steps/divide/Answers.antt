@@ -5,7 +5,6 @@ use Rattle.machine.specs.model.Holding.{lifted, own_of}
 use Rattle.reals.specs.declared.Binary.TheVariants.{Divide}
 use Rattle.machine.specs.Data.{binary}
 use Rattle.machine.proofs.Execs.{strayed, strayed_sound, do_stray, plain_done, did_quiet, lacks_yes, lacks_no}
-use borrow.Author.Rules.{rules}
 use Rattle.machine.proofs.steps.divide.Goals as goal
 
 pub lacks-requires : goal.lacks-requires

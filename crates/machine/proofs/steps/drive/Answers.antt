@@ -1,9 +1,7 @@
 -- What is left of the run is the whole of it.
 use mathlib.Core.Path.{refl, ◌∙◌}
 use native.Mathlib.Omega.{arith}
-use Prim.Native.Nat.{◌-◌}
-use Rattle.machine.proofs.Limits.{Driving, driving_start, driving_on, driven_stop, driven_over}
-use borrow.Author.Rules.{rules}
+use Rattle.machine.proofs.Limits.{driving_start, driving_on, driven_stop, driven_over}
 use Rattle.machine.proofs.steps.drive.Goals as goal
 
 pub loop-done-init : goal.loop-done-init

@@ -1,9 +1,6 @@
 -- What is left of the run is the whole of it.
-use mathlib.Core.Path.{refl, ◌∙◌}
-use native.Mathlib.Omega.{arith}
 use Prim.Native.Nat.{◌-◌}
-use Rattle.machine.proofs.Limits.{Driving, driving_start, driving_on, driven_stop, driven_over}
-use borrow.Author.Rules.{rules}
+use Rattle.machine.proofs.Limits.{Driving}
 use Rattle.machine.proofs.steps.drive.Given as goal
 
 abbrev pub invariant-loop-done : goal.invariant-loop-done

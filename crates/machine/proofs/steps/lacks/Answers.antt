@@ -3,7 +3,6 @@ use mathlib.Core.Path.{sym}
 use native.Mathlib.Omega.{arith}
 use native.Mathlib.Nat.{le_refl}
 use Rattle.machine.proofs.Execs.{room_no, room_yes}
-use borrow.Author.Rules.{rules}
 use Rattle.machine.proofs.steps.lacks.Goals as goal
 
 pub overflow_add-first_cell : goal.overflow_add-first_cell

@@ -13,7 +13,6 @@ use Rattle.machine.proofs.Works.{yes_true, not_true}
 use Rattle.machine.proofs.Frames.{lives_found}
 use Rattle.machine.proofs.Execs.{strayed, strayed_sound, do_stray, room_no, room_yes}
 use Rattle.machine.proofs.Named.{lend_stray, lend_refused, lend_goes, found_mach}
-use borrow.Author.Rules.{rules}
 use Rattle.machine.proofs.steps.lend.Goals as goal
 
 pub returns-then-b-n : goal.returns-then-b-n

@@ -6,7 +6,6 @@ use Rattle.machine.specs.Data.{load}
 use Rattle.machine.specs.Instructions.{variable}
 use Rattle.machine.specs.model.Holding.{lifted, own_of}
 use Rattle.machine.proofs.Execs.{strayed, strayed_sound, did_quiet, do_stray, room_no, room_yes, load_done}
-use borrow.Author.Rules.{rules}
 use Rattle.machine.proofs.steps.load.Goals as goal
 
 pub returns-then-b-n : goal.returns-then-b-n

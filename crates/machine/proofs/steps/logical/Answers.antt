@@ -9,7 +9,6 @@ use Rattle.machine.specs.Instructions.{low}
 use Rattle.machine.specs.model.Holding.{lifted, own_of}
 use Rattle.machine.proofs.Works.{push_is}
 use Rattle.machine.proofs.Execs.{strayed, strayed_sound, do_stray, plain_done, did_quiet, lacks_yes, lacks_no, obeyed, obeyed_none, logical_none, logical_is}
-use borrow.Author.Rules.{rules}
 use Rattle.machine.proofs.steps.logical.Goals as goal
 
 pub returns-then-b-gt1 : goal.returns-then-b-gt1

@@ -4,7 +4,6 @@ use native.Mathlib.Omega.{arith}
 use Rattle.machine.specs.Instructions.{high, mid, low}
 use Rattle.machine.proofs.Execs.{obeyed, obeyed_as, fate_kept, fate_gone, same_fate}
 use Rattle.machine.proofs.Decode.{code_5, code_6, code_7, code_8, code_9, code_10, code_lend, next_up}
-use borrow.Author.Rules.{rules}
 use Rattle.machine.proofs.steps.moves.Goals as goal
 
 pub returns-in-5 : goal.returns-in-5

@@ -3,7 +3,6 @@ use mathlib.Core.Path.{refl, sym, subst}
 use Rattle.machine.specs.Instructions.{decode}
 use Rattle.machine.specs.model.Holding.{Sound}
 use Rattle.machine.proofs.Numbers.{quick_goes, quick_not}
-use borrow.Author.Rules.{rules}
 use Rattle.machine.proofs.steps.obey.Goals as goal
 
 pub obey_any-requires : goal.obey_any-requires

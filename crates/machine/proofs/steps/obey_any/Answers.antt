@@ -5,7 +5,6 @@ use Prim.Native.Nat.{ℕ}
 use Rattle.machine.specs.Instructions.{decode}
 use Rattle.machine.specs.Machine.{obey}
 use Rattle.machine.specs.model.Holding.{data_of, trace_of, positions_of, frames_of, own_of, stepped}
-use borrow.Author.Rules.{rules}
 use Rattle.machine.proofs.steps.obey_any.Goals as goal
 
 pub other-requires : goal.other-requires

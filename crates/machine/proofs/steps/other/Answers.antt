@@ -1,12 +1,10 @@
 -- One line for each instruction.
 use mathlib.Core.Path.{refl, ap, ◌∙◌}
 use native.Mathlib.Omega.{arith}
-use mathlib.Core.Logic.{⊎_elim}
 use Rattle.machine.specs.Instructions.{low, counted}
 use Rattle.machine.specs.model.Holding.{lifted, own_of}
 use Rattle.machine.proofs.Execs.{strayed, strayed_sound, obeyed, obeyed_as, obeyed_none, jump_goes, end_halts, enter_lifted, lifted_next, did_quiet}
 use Rattle.machine.proofs.Decode.{code_0, code_1, code_2, code_3, code_4, code_11, code_13, code_14, code_16, code_act, next_up}
-use borrow.Author.Rules.{rules}
 use Rattle.machine.proofs.steps.other.Goals as goal
 use Rattle.machine.proofs.steps.other.Goals.{in_default-via-then-k-lt39, in_default-via-else-k-lt39+else-k-lt46}
 

@@ -5,7 +5,6 @@ use Rattle.reals.specs.declared.Form.TheVariants.{Reals}
 use Rattle.machine.specs.Data.{send}
 use Rattle.machine.specs.model.Holding.{lifted, own_of}
 use Rattle.machine.proofs.Execs.{strayed, strayed_sound, do_stray, plain_done, lacks_yes, lacks_no}
-use borrow.Author.Rules.{rules}
 use Rattle.machine.proofs.steps.outreal.Goals as goal
 
 pub lacks-requires : goal.lacks-requires

@@ -2,7 +2,6 @@
 use mathlib.Core.Path.{refl}
 use native.Mathlib.Omega.{arith}
 use Rattle.machine.proofs.Limits.{taken_length, taken_most, store_length, store_most, run_exit}
-use borrow.Author.Rules.{rules}
 use Rattle.machine.proofs.steps.run.Goals as goal
 
 pub overflow_mul-numbers : goal.overflow_mul-numbers

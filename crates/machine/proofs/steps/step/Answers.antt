@@ -1,7 +1,6 @@
 -- Both words are there, or there is no instruction.
 use mathlib.Core.Path.{refl, ◌∙◌}
 use Rattle.machine.proofs.Execs.{strayed, strayed_sound, step_none, step_some}
-use borrow.Author.Rules.{rules}
 use Rattle.machine.proofs.steps.step.Goals as goal
 
 pub returns-then-c-code : goal.returns-then-c-code

@@ -5,7 +5,6 @@ use Rattle.machine.specs.Data.{turn}
 use Rattle.machine.specs.Instructions.{DO, low}
 use Rattle.machine.specs.model.Holding.{lifted, own_of, typed_of}
 use Rattle.machine.proofs.Execs.{strayed, strayed_sound, do_stray, plain_done, did_quiet, lacks_yes, lacks_no, obeyed, obeyed_none, form_not, form_is}
-use borrow.Author.Rules.{rules}
 use Rattle.machine.proofs.steps.turn.Goals as goal
 
 pub lacks-requires : goal.lacks-requires

@@ -5,7 +5,6 @@ use Rattle.machine.specs.Data.{condition}
 use Rattle.machine.specs.Instructions.{low}
 use Rattle.machine.specs.model.Holding.{lifted, own_of}
 use Rattle.machine.proofs.Execs.{strayed, strayed_sound, if_stray, if_lifted, room_no, room_yes}
-use borrow.Author.Rules.{rules}
 use Rattle.machine.proofs.steps.unless.Goals as goal
 
 pub returns-then-first_cell-n : goal.returns-then-first_cell-n

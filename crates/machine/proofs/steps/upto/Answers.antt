@@ -5,7 +5,6 @@ use Rattle.machine.specs.Data.{upto}
 use Rattle.machine.specs.Instructions.{low, variable}
 use Rattle.machine.specs.model.Holding.{lifted, own_of}
 use Rattle.machine.proofs.Execs.{strayed, strayed_sound, if_stray, upto_done, room_no, room_yes}
-use borrow.Author.Rules.{rules}
 use Rattle.machine.proofs.steps.upto.Goals as goal
 
 pub returns-then-b-n : goal.returns-then-b-n

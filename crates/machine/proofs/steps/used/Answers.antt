@@ -4,7 +4,6 @@ use Prim.Native.Nat.{ℕ}
 use lib.ListN.{replicate}
 use lib.IntN.{pos}
 use Rattle.machine.proofs.Limits.{first_lives, first_positions, first_found}
-use borrow.Author.Rules.{rules}
 use Rattle.machine.proofs.steps.used.Goals as goal
 
 pub drive-ran-requires : goal.drive-ran-requires

@@ -4,7 +4,6 @@ use native.Mathlib.Omega.{arith}
 use Rattle.machine.specs.Instructions.{high}
 use Rattle.machine.proofs.Frames.{walk_end}
 use Rattle.machine.proofs.Execs.{cell_is, cell_found_lem, found_data}
-use borrow.Author.Rules.{rules}
 use Rattle.machine.proofs.steps.way_of.Goals as goal
 
 pub returns-then-o-eq-FOUND_OFFSET : goal.returns-then-o-eq-FOUND_OFFSET

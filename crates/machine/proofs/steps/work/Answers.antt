@@ -10,7 +10,6 @@ use Rattle.machine.specs.model.Holding.{way_of}
 use Rattle.machine.proofs.Works.{push_is, same_work}
 use Rattle.machine.proofs.Execs.{did_quiet}
 use Rattle.machine.proofs.Decode.{act_12, act_13, act_14, act_15, act_17, act_18, act_19, act_20, act_21, act_unary, act_binary, next_up}
-use borrow.Author.Rules.{rules}
 use Rattle.machine.proofs.steps.work.Goals as goal
 
 pub new_cell-requires : goal.new_cell-requires

@@ -1,6 +1,5 @@
 -- Only a whole number is a channel.
 use Rattle.machine.proofs.Turns.{one_line, other_line, real_line, truth_line}
-use borrow.Author.Rules.{rules}
 use Rattle.machine.proofs.values.line.Goals as goal
 
 pub returns-then-k-eq1 : goal.returns-then-k-eq1

@@ -4,7 +4,6 @@ use mir.Syntax.{w32}
 use mir.Val.{of_z}
 use Rattle.reals.proofs.Signed.{read_back}
 use Rattle.machine.proofs.Turns.{raised_is, raised_real, raised_truth}
-use borrow.Author.Rules.{rules}
 use Rattle.machine.proofs.values.raised.Goals as goal
 
 pub returns-in-Is : goal.returns-in-Is

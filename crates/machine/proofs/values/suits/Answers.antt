@@ -1,5 +1,4 @@
 -- Both are numbers, or neither is.
-use borrow.Author.Rules.{rules}
 use Rattle.machine.proofs.values.suits.Goals as goal
 
 pub returns : goal.returns

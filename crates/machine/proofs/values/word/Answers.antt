@@ -5,7 +5,6 @@ use mir.Syntax.{w32, w64}
 use mir.Val.{of_z}
 use Rattle.reals.proofs.Signed.{wide_fits, wide_same}
 use Rattle.machine.proofs.Turns.{low_word}
-use borrow.Author.Rules.{rules}
 use Rattle.machine.proofs.values.word.Goals as goal
 
 pub overflow_cast-z : goal.overflow_cast-z

@@ -1,10 +1,7 @@
 -- The formals from the outermost on: those left decide as all do.
-use Prim.Native.Nat.{◌≤◌}
-use mathlib.Core.Path.{◌≡◌, refl, sym, ◌∙◌}
+use mathlib.Core.Path.{refl, sym, ◌∙◌}
 use native.Mathlib.Omega.{arith}
-use Rattle.machine.specs.model.Holding.{all_suit, links_of}
 use Rattle.machine.proofs.Turns.{suit_fails, suit_goes, suit_none}
-use borrow.Author.Rules.{rules}
 use Rattle.machine.proofs.ways.along.Goals as goal
 
 pub loop-j-init : goal.loop-j-init

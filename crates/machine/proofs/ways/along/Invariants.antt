@@ -1,10 +1,7 @@
 -- The formals from the outermost on: those left decide as all do.
 use Prim.Native.Nat.{◌≤◌}
-use mathlib.Core.Path.{◌≡◌, refl, sym, ◌∙◌}
-use native.Mathlib.Omega.{arith}
+use mathlib.Core.Path.{◌≡◌}
 use Rattle.machine.specs.model.Holding.{all_suit, links_of}
-use Rattle.machine.proofs.Turns.{suit_fails, suit_goes, suit_none}
-use borrow.Author.Rules.{rules}
 use Rattle.machine.proofs.ways.along.Given as goal
 
 abbrev pub invariant-loop-j : goal.invariant-loop-j

@@ -1,12 +1,10 @@
 -- So many formals are left to pass.
-use Prim.Native.Nat.{◌≤◌}
-use mathlib.Core.Path.{◌≡◌, refl, sym, ap, ◌∙◌}
+use mathlib.Core.Path.{refl, sym, ap, ◌∙◌}
 use native.Mathlib.Omega.{arith}
-use Rattle.machine.specs.model.Holding.{in_t, links_of, inwards, turned}
+use Rattle.machine.specs.model.Holding.{inwards, turned}
 use Rattle.machine.proofs.Turns.{in_more, in_none}
 use Rattle.reals.specs.Values.{convert}
 use Rattle.reals.specs.declared.Form.{Form}
-use borrow.Author.Rules.{rules}
 use Rattle.machine.proofs.ways.inward.Goals as goal
 
 pub loop-j-init : goal.loop-j-init

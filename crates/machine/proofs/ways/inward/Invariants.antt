@@ -1,12 +1,7 @@
 -- So many formals are left to pass.
 use Prim.Native.Nat.{◌≤◌}
-use mathlib.Core.Path.{◌≡◌, refl, sym, ap, ◌∙◌}
-use native.Mathlib.Omega.{arith}
-use Rattle.machine.specs.model.Holding.{in_t, links_of, inwards, turned}
-use Rattle.machine.proofs.Turns.{in_more, in_none}
-use Rattle.reals.specs.Values.{convert}
-use Rattle.reals.specs.declared.Form.{Form}
-use borrow.Author.Rules.{rules}
+use mathlib.Core.Path.{◌≡◌}
+use Rattle.machine.specs.model.Holding.{in_t, links_of}
 use Rattle.machine.proofs.ways.inward.Given as goal
 
 abbrev pub invariant-loop-j : goal.invariant-loop-j

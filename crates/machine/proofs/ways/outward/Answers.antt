@@ -1,13 +1,12 @@
 -- So many formals have been passed.
-use Prim.Native.Nat.{ℕ, ◌+◌, ◌≤◌, ◌-◌}
+use Prim.Native.Nat.{ℕ, ◌+◌}
 use mathlib.Core.Path.{◌≡◌, sym, ap, ◌∙◌}
 use native.Mathlib.Omega.{arith}
-use Rattle.machine.specs.declared.Turned.TheVariants.{Is, Bad as BadV}
+use Rattle.machine.specs.declared.Turned.TheVariants.{Bad as BadV}
 use Rattle.machine.specs.model.Holding.{out_t, links_of}
 use Rattle.machine.proofs.Turns.{out_none, out_more, out_bad, out_stray}
 use Rattle.reals.specs.Values.{convert}
 use Rattle.reals.specs.declared.Form.{Form}
-use borrow.Author.Rules.{rules}
 use Rattle.machine.proofs.ways.outward.Goals as goal
 
 pub loop-j-init : goal.loop-j-init

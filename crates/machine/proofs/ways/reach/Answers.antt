@@ -1,6 +1,5 @@
 -- By what the cell holds.
 use Rattle.machine.proofs.Turns.{reach_holds, reach_not_holds, reach_unset, reach_not_unset, reach_named}
-use borrow.Author.Rules.{rules}
 use Rattle.machine.proofs.ways.reach.Goals as goal
 
 pub returns-then-reaches : goal.returns-then-reaches

@@ -1,6 +1,5 @@
 -- Both tests.
 use Rattle.machine.proofs.Turns.{both_yes, both_no}
-use borrow.Author.Rules.{rules}
 use Rattle.machine.proofs.ways.reaches.Goals as goal
 
 pub returns-then-suits : goal.returns-then-suits

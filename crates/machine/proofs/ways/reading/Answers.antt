@@ -1,6 +1,5 @@
 -- By what the cell holds.
 use Rattle.machine.proofs.Turns.{read_holds, read_not_holds, read_unset, read_not_unset, read_named}
-use borrow.Author.Rules.{rules}
 use Rattle.machine.proofs.ways.reading.Goals as goal
 
 pub returns-then-reaches : goal.returns-then-reaches

@@ -1,5 +1,5 @@
 -- The real of the digits, as its bits in two halves.
-use Rattle.std.proofs.Common.{ℕ, ◌/◌, ◌%◌, ap, ◌∙◌, rules}
+use Rattle.std.proofs.Common.{ℕ, ◌/◌, ◌%◌, ap, ◌∙◌}
 use lib.Ieee.{binary64, to_bits}
 use Rattle.reals.proofs.decimals.constant.Goals as goal
 

@@ -1,5 +1,5 @@
 -- Both numbers are exact, and one division rounds once.
-use Rattle.std.proofs.Common.{ℕ, ◌^◌, ◌≤◌, pos, sym, ap, ◌∙◌, subst, arith, rules}
+use Rattle.std.proofs.Common.{ℕ, ◌^◌, ◌≤◌, pos, sym, ap, ◌∙◌, subst, arith}
 use lib.Ieee.{binary64, div, of_int, of_bits}
 use Rattle.reals.specs.Values.{decimal}
 use Rattle.reals.proofs.Divided.{exact, ten_le, ten_pos, divided, reading_is, too_long, too_fine}

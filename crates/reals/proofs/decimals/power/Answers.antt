@@ -1,5 +1,5 @@
 -- After i turns the product is 10 to the i; with at most 15 it stays in its word.
-use Rattle.std.proofs.Common.{◌≡◌, ◌-◌, ◌*◌, ◌^◌, ◌≤◌, sym, refl, ap, ◌∙◌, le_antisymm, pow-suc, add-one, arith}
+use Rattle.std.proofs.Common.{◌*◌, ◌^◌, sym, refl, ap, ◌∙◌, le_antisymm, pow-suc, add-one, arith}
 use Rattle.reals.proofs.Divided.{ten_le}
 use Rattle.reals.proofs.decimals.power.Goals as goal
 

@@ -1,5 +1,5 @@
 -- A real's entry is its bits in two halves.
-use Rattle.std.proofs.Common.{ap, ◌∙◌, rules}
+use Rattle.std.proofs.Common.{ap, ◌∙◌}
 use Rattle.reals.specs.Values.{entry_b, entry_r}
 use Rattle.reals.proofs.entries.real_entry.Goals as goal
 

@@ -1,5 +1,5 @@
 -- The pair says of which type the two are: whole numbers, whose words are read back, reals, or neither.
-use Rattle.std.proofs.Common.{ℤ, sym, ap, ◌∙◌, w32, to_z, of_z, rules}
+use Rattle.std.proofs.Common.{ℤ, sym, ap, ◌∙◌, w32, to_z, of_z}
 use Rattle.reals.specs.Values.{past_by}
 use Rattle.reals.specs.declared.Both.{Both}
 use Rattle.reals.specs.declared.Both.TheVariants.{Wholes}

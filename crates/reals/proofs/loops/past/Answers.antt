@@ -1,5 +1,5 @@
 -- The product is that of a number of 33 bits and a sign.
-use Rattle.std.proofs.Common.{to_z-of_z, w32, w64, rules}
+use Rattle.std.proofs.Common.{to_z-of_z, w32, w64}
 use Rattle.reals.specs.Values.{past}
 use Rattle.reals.proofs.Signed.{wide_fits, wide_same, diff_fits, past_fits, sign_fits}
 use Rattle.reals.proofs.loops.past.Goals as goal

@@ -1,5 +1,5 @@
 -- The step's sign is that of a whole number or of a real, each by the law of `past_real`.
-use Rattle.std.proofs.Common.{Bool, ℤ, ap, ◌∙◌, w32, rules}
+use Rattle.std.proofs.Common.{Bool, ℤ, ap, ◌∙◌, w32}
 use lib.Ieee.{binary64, of_int}
 use Rattle.reals.specs.Values.{past_r, past_by}
 use Rattle.reals.specs.declared.Value.TheVariants.{Truth}

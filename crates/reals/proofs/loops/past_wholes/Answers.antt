@@ -1,5 +1,5 @@
 -- Whole numbers are compared in 64 bits, in which they are themselves.
-use Rattle.std.proofs.Common.{Bool, ℤ, ap, ◌∙◌, to_z-of_z, w32, rules}
+use Rattle.std.proofs.Common.{Bool, ℤ, ap, ◌∙◌, to_z-of_z, w32}
 use Rattle.reals.specs.Values.{past, past_by}
 use Rattle.reals.specs.declared.Value.TheVariants.{Truth}
 use Rattle.reals.specs.declared.Outcome.TheVariants.{Is}

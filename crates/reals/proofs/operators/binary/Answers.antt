@@ -1,5 +1,5 @@
 -- The two values' types say whose operator it is.
-use Rattle.std.proofs.Common.{ℤ, sym, ap, ◌∙◌, w32, to_z, of_z, rules}
+use Rattle.std.proofs.Common.{ℤ, sym, ap, ◌∙◌, w32, to_z, of_z}
 use Rattle.reals.specs.Values.{apply2, both_of}
 use Rattle.reals.specs.declared.Value.TheVariants.{Truth, Whole, Real}
 use Rattle.reals.proofs.Signed.{read_back}

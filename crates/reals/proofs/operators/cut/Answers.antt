@@ -1,5 +1,5 @@
 -- The divisor is tested first; the quotient of two numbers of 32 bits is one of 64.
-use Rattle.std.proofs.Common.{to_z-of_z, w32, w64, rules}
+use Rattle.std.proofs.Common.{to_z-of_z, w32, w64}
 use mir.Facts.{sfits_widen}
 use Rattle.reals.specs.Values.{cut}
 use Rattle.reals.proofs.Signed.{zero_yes, zero_no, wide_fits, wide_same, quot_fits, bits_pos, not_zero_bits}

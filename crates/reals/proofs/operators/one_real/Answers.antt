@@ -1,6 +1,5 @@
 -- One line an operator of one real.
 use Rattle.reals.specs.Values.{apply1}
-use Rattle.std.proofs.Common.{rules}
 use Rattle.reals.proofs.operators.one_real.Goals as goal
 
 pub returns-in-Minus : goal.returns-in-Minus

@@ -1,5 +1,5 @@
 -- Each operator on its own; the absolute value goes by the sign.
-use Rattle.std.proofs.Common.{sym, to_z-of_z, w32, w64, rules}
+use Rattle.std.proofs.Common.{sym, to_z-of_z, w32, w64}
 use Rattle.reals.specs.Values.{apply1}
 use Rattle.reals.proofs.Signed.{wide_fits, wide_same, neg_fits, zero_minus, absolute_below, absolute_above, whole_is}
 use Rattle.reals.proofs.operators.one_whole.Goals as goal

@@ -1,7 +1,6 @@
 -- 0.0 and −0.0 are equal to 0.0.
 use lib.Ieee.{of_bits}
 use Rattle.reals.specs.Values.{quotient}
-use Rattle.std.proofs.Common.{rules}
 use Rattle.reals.proofs.operators.quotient.Goals as goal
 
 pub returns-then-y : goal.returns-then-y

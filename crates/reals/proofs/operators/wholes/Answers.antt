@@ -1,5 +1,5 @@
 -- A sum, a difference or a product of two numbers of 32 bits is one of 64; a comparison is one of the numbers or of their bits.
-use Rattle.std.proofs.Common.{to_z-of_z, w32, w64, rules}
+use Rattle.std.proofs.Common.{to_z-of_z, w32, w64}
 use Rattle.reals.specs.Values.{apply2, on_numbers, on_truths, both_of}
 use Rattle.reals.proofs.Signed.{wide_fits, wide_same, sum_fits, diff_fits, prod_fits, same_bits}
 use Rattle.reals.proofs.operators.wholes.Goals as goal

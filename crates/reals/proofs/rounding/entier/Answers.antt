@@ -1,5 +1,5 @@
 -- At 0 and above it is the quotient; below, one less than the quotient's negative where the quotient is below the number.
-use Rattle.std.proofs.Common.{ℕ, ◌≤◌, Bool, cond, pos, negsuc, neg_ℤ, sym, ap, ◌∙◌, subst, arith, to_z-of_z, w64, SFits, rules}
+use Rattle.std.proofs.Common.{ℕ, ◌≤◌, Bool, cond, pos, negsuc, neg_ℤ, sym, ap, ◌∙◌, subst, arith, to_z-of_z, w64, SFits}
 use lib.Ieee.{Float, of_bits, neg, lt}
 use Rattle.reals.proofs.Entier.{cut_over, cut_under, over_small, over_is, under_small, under_is, in_range, sized, less_one, from_none, neg_sized}
 use Rattle.reals.proofs.rounding.entier.Goals as goal

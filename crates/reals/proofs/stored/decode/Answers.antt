@@ -1,5 +1,5 @@
 -- One law an arm.
-use Rattle.std.proofs.Common.{ℕ, ◌%◌, ap, ◌∙◌, to_z-of_z, w64, of_z, rules}
+use Rattle.std.proofs.Common.{ℕ, ◌%◌, ap, ◌∙◌, to_z-of_z, w64, of_z}
 use Rattle.reals.specs.model.Stored.{whole_in, real_in}
 use Rattle.reals.specs.declared.Cell.TheVariants.{Named}
 use Rattle.reals.proofs.ReadBack.{of_1, of_2, of_3, of_4, of_5, of_6, of_rest}

@@ -1,5 +1,5 @@
 -- One law an arm: a value, an unassigned cell by its type, a name formal by its number.
-use Rattle.std.proofs.Common.{ℤ, refl, ap, ◌∙◌, w64, to_z, of_z, rules}
+use Rattle.std.proofs.Common.{ℤ, refl, ap, ◌∙◌, w64, to_z, of_z}
 use Rattle.reals.specs.model.Stored.{kind_of, load_of}
 use Rattle.reals.proofs.ReadBack.{kind_again, narrow}
 use Rattle.reals.proofs.stored.encode.Goals as goal

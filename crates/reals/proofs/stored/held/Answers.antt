@@ -1,5 +1,5 @@
 -- A load is a number of 64 bits, and goes through them.
-use Rattle.std.proofs.Common.{T, ℤ, sym, refl, ap, ◌∙◌, subst, w32, w64, to_z, of_z, rules}
+use Rattle.std.proofs.Common.{T, ℤ, sym, refl, ap, ◌∙◌, subst, w32, w64, to_z, of_z}
 use Rattle.reals.specs.model.Stored.{kind_of, load_of}
 use Rattle.reals.proofs.Signed.{wide_fits, wide_same}
 use Rattle.reals.proofs.ReadBack.{long_again, truth_again}

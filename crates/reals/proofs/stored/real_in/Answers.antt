@@ -1,5 +1,5 @@
 -- The bits are those of a finite real or they are not; both as `cell_of_bits` says.
-use Rattle.std.proofs.Common.{sym, ap, ◌∙◌, rules}
+use Rattle.std.proofs.Common.{sym, ap, ◌∙◌}
 use Rattle.reals.proofs.ReadBack.{as_cell, cell_of_bits}
 use Rattle.reals.proofs.stored.real_in.Goals as goal
 

@@ -1,6 +1,5 @@
 -- One line a type.
 use Rattle.reals.specs.model.Stored.{kind_of}
-use Rattle.std.proofs.Common.{rules}
 use Rattle.reals.proofs.stored.unset.Goals as goal
 
 pub returns-in-Wholes : goal.returns-in-Wholes

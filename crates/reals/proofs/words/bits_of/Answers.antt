@@ -1,5 +1,5 @@
 -- What is not equal to itself is no number, for which the definition has one pattern.
-use Rattle.std.proofs.Common.{T, sym, ◌∙◌, subst, rules}
+use Rattle.std.proofs.Common.{T, sym, ◌∙◌, subst}
 use Rattle.reals.proofs.Finite.{number_test, no_number}
 use Rattle.reals.proofs.words.bits_of.Goals as goal
 

@@ -1,5 +1,5 @@
 -- From 2 ^ 63 on the number is −1 less what is missing to all ones.
-use Rattle.std.proofs.Common.{to_z-of_z, rules}
+use Rattle.std.proofs.Common.{to_z-of_z}
 use mir.Facts.{sfits_to_z}
 use Rattle.reals.proofs.Patterns.{high}
 use Rattle.reals.proofs.words.long_number.Goals as goal

@@ -1,5 +1,5 @@
 -- A word past the half, less 2 ^ 32, is its number in two's complement.
-use Rattle.std.proofs.Common.{to_z-of_z, w32, w64, rules}
+use Rattle.std.proofs.Common.{to_z-of_z, w32, w64}
 use mir.Facts.{sfits_widen, sfits_to_z}
 use Rattle.reals.proofs.Signed.{word_neg}
 use Rattle.reals.proofs.words.number.Goals as goal
