@@ -1,0 +1,13 @@
+-- The index is in the slice.
+use Prim.Native.Nat.{◌≤◌, ◌-◌}
+use borrow.Author.Rules.{rules}
+use lib.ListN.{length, get_or}
+use lib.IntN.{pos}
+use Rattle.machine.proofs.Wholes.{wide}
+use Rattle.machine_runs.proofs.show_output.Given as goal
+
+abbrev pub invariant-loop-i : goal.invariant-loop-i
+invariant-loop-i l = l.i ≤ length l.output
+
+abbrev pub decreases-loop-i : goal.decreases-loop-i
+decreases-loop-i l = length l.output - l.i
