@@ -1,18 +1,14 @@
 -- The programs with a prelude (request 7), translated and run in the prover: as it stops, with such outputs and so many numbers taken; and 16 instructions a step and
 -- 16 more are enough.
-use Prim.Native.Nat.{ℕ, ◌+◌, ◌*◌}
-use mathlib.Core.Bool.{Bool, true}
+use mathlib.Core.Bool.{true}
 use mathlib.Core.Path.{◌≡◌, refl}
-use mathlib.Core.List.{List, ◌++◌, map}
-use lib.Dec.{leb}
-use lib.IntN.{ℤ}
-use Rattle.answers.specs.declared.Stop.{Stop}
+use mathlib.Core.List.{map}
 use Rattle.symbols.specs.Names.{same_name, equal as equalBytes, folded}
 use lib.Ieee.{add as addF, sub as subF, mul as mul_f, div as divF, lt as ltF, le as leF, eq as eq_f, neg as negF, of_int as ofIntF, to_bits as toBitsF, of_bits as ofBitsF, round as roundF}
 use Rattle.reals.specs.Values.{convert, whole_of, entier, whole, real, apply1, apply2, both_of, on_numbers, on_truths, quotient, cut as cutZ, past, past_r, past_by, entry_r, decimal, reading as readingR}
 use Rattle.machine.specs.Run.{run}
 use Rattle.machine.specs.Data.{lift, guard, check, new_cells, newest, on_value, back, look, put, reading, valued, hold, unhold, held, input, space, rest, spend, taking, writing, work, test, open_block, close_block, enter, given, leave, find, found_in, seeking, name_cell, along, outward, inward, picking, written, on_channel, heightened}
-use Rattle.machine.specs.Machine.{Finish, finish, activation_at, walk, target_in, work_out, exec, obey}
+use Rattle.machine.specs.Machine.{finish, activation_at, walk, target_in, work_out, exec, obey}
 use Rattle.names.specs.Program.{count, first_symbol}
 use Rattle.names.specs.Scopes.{has, modes, specified, variables_in, in_block, in_body, find_in, find_given, meaning}
 use Rattle.types.specs.Types.{sort_e, widens, in_expression}
