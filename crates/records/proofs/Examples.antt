@@ -1,7 +1,7 @@
 -- The record of a small run word by word, what is answered to it and to others like it, computed, and replays that this rules out.
 use Prim.Native.Nat.{ℕ}
 use native.Mathlib.Omega.{arith}
-use mathlib.Core.Path.{◌≡◌, refl, sym, ap, ◌∙◌}
+use mathlib.Core.Path.{◌≡◌, refl}
 use mathlib.Core.Bool.{cond}
 use mathlib.Core.List.{List, [], ◌∷◌, ◌++◌, map}
 use mathlib.Core.Option.{Option, none, some}
@@ -16,9 +16,9 @@ use Rattle.machine.specs.Machine.{Exit, machine, finish, step, obey, exec, work_
 use Rattle.records.specs.declared.Replayed.{Replayed}
 use Rattle.records.specs.declared.Replayed.TheVariants.{Agrees, Differs, Bad, Short}
 use Rattle.records.specs.Words.{Reading, fine, bad, read, holds, in_turn, one_entry, entries, sections, joined, section_words, singles, first_apart, next}
-use Rattle.records.specs.Record.{Entry, Recorded, sheet, made, record_layout, record_words}
+use Rattle.records.specs.Record.{Recorded, sheet, made, record_layout, record_words}
 use Rattle.records.specs.samples.Month.{code, kept}
-use Rattle.records.specs.Replay.{Told, wrote, same_told, in_threes, of_record, of_run, verdict, Done, compared, on_record, replay, record_of, recorded}
+use Rattle.records.specs.Replay.{Told, wrote, same_told, in_threes, of_record, of_run, verdict, compared, on_record, replay, record_of, recorded}
 
 -- words of a run on 3 with limit 1,000: store length, output length, answer, and what stands behind it
 abbrev after : ℕ → ℕ → ℕ → List ℤ → List ℤ

@@ -1,7 +1,6 @@
 -- Words written one after the other.
 use Prim.Native.Nat.{ℕ, zero, suc, ◌+◌, ◌-◌, ◌*◌, ◌/◌, ◌%◌, ◌≤◌, ◌<◌}
 use native.Mathlib.Omega.{arith}
-use native.Mathlib.Nat.{not-suc-le-zero, le_of_suc-le-suc}
 use native.Mathlib.Numerals.{add-one}
 use mathlib.Core.Path.{◌≡◌, refl, sym, ap, ap₂, subst, ◌∙◌}
 use mathlib.Core.List.{List, [], ◌∷◌, ◌++◌, append_assoc, append-nil}
@@ -9,14 +8,14 @@ use mathlib.Core.Bool.{Bool, true, false, cond, ◌&&◌}
 use borrow.Author.Tests.{le-leb, lt-leb}
 use lib.Dec.{ltb, leb}
 use mir.Syntax.{w32}
-use mir.Val.{Fits, SFits, to_z, of_z, sel}
+use mir.Val.{SFits, to_z, of_z, sel}
 use mir.Facts.{to_z-of_z, to_z_pos, sfits_to_z}
 use lib.IntN.{ℤ, pos, negsuc}
 use lib.ListN.{length, get_or, take, drop, set, length-set, length-append, take-append-drop}
 use lib.Seq.{take-suc, take-suc-set, drop-drop, take-length}
 use Rattle.records.specs.declared.Filled.TheVariants.{Words, Not}
 use Rattle.records.specs.Record.{Entry, entry, entry_words, signed, record_words, record_as}
-use Rattle.records.specs.Keeping.{Filling, filling, has_room, kept_in}
+use Rattle.records.specs.Keeping.{filling, has_room, kept_in}
 use Rattle.records.specs.model.Keeping.{Puts, Room}
 use Rattle.records.proofs.RecordLaws.{spelled}
 

@@ -1,24 +1,22 @@
 -- A record that is fine, replayed by its words, is the definition's replay.
-use Prim.Native.Nat.{ℕ, zero, suc, ◌+◌, ◌-◌, ◌*◌, ◌/◌, ◌%◌, ◌≤◌, ◌<◌}
+use Prim.Native.Nat.{ℕ, suc, ◌+◌, ◌-◌, ◌/◌, ◌%◌, ◌≤◌, ◌<◌}
 use native.Mathlib.Omega.{arith}
-use native.Mathlib.Numerals.{add-one}
 use mathlib.Core.Path.{◌≡◌, refl, sym, ap, ap₂, subst, ◌∙◌}
-use mathlib.Core.Bool.{Bool, true, false, cond, ◌&&◌, false≢true}
-use mathlib.Core.List.{List, [], ◌∷◌, ◌++◌, map, append_assoc}
+use mathlib.Core.Bool.{Bool, true, false, cond, ◌&&◌}
+use mathlib.Core.List.{List, [], ◌∷◌, ◌++◌, map}
 use mathlib.Core.Logic.{◌⊎◌, inl, inr}
 use mathlib.Core.Option.{Option, none, some}
-use borrow.Author.Tests.{lt-ltb, le-ltb, ltb-true, ltb-false, le-leb, lt-leb}
-use lib.Dec.{ltb, leb, eqb}
+use borrow.Author.Tests.{le-leb, lt-leb}
+use lib.Dec.{leb, eqb}
 use lib.IntN.{ℤ, pos, negsuc}
 use lib.Signed.{mag}
 use lib.ListN.{length, get_or, take, drop, drop_of_length-le, length-append, length-drop}
-use lib.Seq.{drop-cons, take-append-le, take-append_seam, drop-append_seam, drop-append-add, get_or-append-add, length-take-le}
+use lib.Seq.{drop-cons, take-append-le, take-append_seam, drop-append-add, get_or-append-add}
 use mir.Syntax.{w32, w64}
-use mir.Val.{SFits, to_z, of_z}
+use mir.Val.{to_z, of_z}
 use mir.Facts.{to_z-of_z}
 use Rattle.answers.specs.Answers.{stop_number}
 use Rattle.reals.specs.Values.{same}
-use Rattle.reals.proofs.Signed.{same_number, same_yes, same_no}
 use Rattle.machine.specs.Machine.{Exit, exit, Finish, job, on_code, afterwards, used}
 use Rattle.machine.specs.declared.Ran.{Ran}
 use Rattle.records.specs.declared.Replayed.{Replayed}
@@ -27,8 +25,8 @@ use Rattle.records.specs.declared.Spot.{Spot}
 use Rattle.records.specs.declared.Spot.TheVariants.{Behind, Bad}
 use Rattle.records.specs.declared.Table.TheVariants.{Record}
 use Rattle.records.specs.Words.{Reading, fine, bad, read, amount, first_apart, next}
-use Rattle.records.specs.Record.{Entry, entry, Recorded, half, signed, whole, record_table, record_layout, record_words, made, entry_words}
-use Rattle.records.specs.Replay.{same_entry, Told, answered, wrote, same_told, told, in_threes, of_record, of_run, verdict, Done, done, compared, fresh, enough, on_record, replay}
+use Rattle.records.specs.Record.{Entry, entry, Recorded, half, whole, record_table, record_layout, made, entry_words}
+use Rattle.records.specs.Replay.{same_entry, wrote, same_told, told, in_threes, of_record, verdict, done, compared, fresh, enough, on_record, replay}
 use Rattle.records.specs.model.Scanning.{at, rows_from, scan}
 use Rattle.records.specs.model.Replaying.{agreed, entry_at, entries_apart, compared_at, run_at, exit_at, fresh_at}
 use Rattle.records.proofs.RunRecords.{within}

@@ -1,8 +1,8 @@
 -- Paper 02, request 11: "We keep records of monthly runs: input numbers, limit, store length, output length and the numbered answer with outputs ..
 -- sections in a fixed order, each after its count". Assumes nothing: these are definitions.
-use Rattle.std.specs.Prelude.{ℕ, zero, suc, ◌+◌, ◌-◌, ◌*◌, ◌/◌, ◌%◌, Bool, true, false, cond, List, [], ◌∷◌, ◌++◌, map, ltb, ℤ, pos, negsuc, length, get_or}
+use Rattle.std.specs.Prelude.{ℕ, zero, suc, ◌+◌, ◌-◌, ◌*◌, ◌/◌, ◌%◌, cond, List, [], ◌∷◌, map, ltb, ℤ, pos, negsuc, get_or}
 use Rattle.records.specs.declared.Range.{Range}
-use Rattle.records.specs.declared.Range.TheVariants.{Any, Natural, One, Answer, Kind, Nought}
+use Rattle.records.specs.declared.Range.TheVariants.{Any, Natural, Answer, Kind, Nought}
 use Rattle.records.specs.Words.{Layout, filled, once, many, Row, numbers, amount, sections, joined, section_words, singles}
 
 -- an output entry: "either 0, the whole number and 0, or 1 and the real's bits, low half first"

@@ -1,7 +1,7 @@
 -- How the code goes through sets, one run after the other: what is found before a run begins, and what holds between two runs. No part of the paper.
-use Rattle.std.specs.Prelude.{ℕ, zero, suc, ◌+◌, ◌*◌, ◌≤◌, ◌<◌, ◌≡◌, true, false, List, [], ◌∷◌, ◌++◌, map, ℤ, pos, nat_abs, length, replicate, drop}
+use Rattle.std.specs.Prelude.{ℕ, ◌+◌, ◌*◌, ◌≤◌, ◌<◌, ◌≡◌, true, false, List, [], ◌∷◌, ◌++◌, map, ℤ, pos, nat_abs, length, replicate, drop}
 use Rattle.machine.specs.Machine.{Finish, used}
-use Rattle.records.specs.Words.{Reading, bad, read, singles, section_words, is_answer}
+use Rattle.records.specs.Words.{bad, read, singles, section_words, is_answer}
 use Rattle.reporting.specs.declared.Begun.{Begun}
 use Rattle.reporting.specs.declared.Begun.TheVariants.{Ready, TooMany, Bad}
 use Rattle.reporting.specs.declared.Going.{Going}

@@ -1,13 +1,9 @@
 -- The invariant: so many words stand there.
-use borrow.Author.Rules.{rules}
-use Prim.Native.Nat.{ℕ, ◌+◌, ◌-◌, ◌≤◌, ◌<◌}
-use mathlib.Core.Path.{◌≡◌, refl, sym, ap, ◌∙◌}
 use native.Mathlib.Omega.{arith}
-use lib.IntN.{ℤ, pos}
-use lib.ListN.{length, get_or, take}
+use lib.IntN.{pos}
+use lib.ListN.{get_or}
 use mir.Syntax.{w32}
 use Rattle.reals.proofs.Signed.{read_back}
-use Rattle.records.specs.model.Keeping.{Puts}
 use Rattle.records.proofs.Keeps.{puts_none, puts_more, puts_all}
 use Rattle.records.proofs.keeping.copy.Goals as goal
 

@@ -1,14 +1,7 @@
 -- The invariant: so many words stand there.
-use borrow.Author.Rules.{rules}
-use Prim.Native.Nat.{ℕ, ◌+◌, ◌-◌, ◌≤◌, ◌<◌}
-use mathlib.Core.Path.{◌≡◌, refl, sym, ap, ◌∙◌}
-use native.Mathlib.Omega.{arith}
-use lib.IntN.{ℤ, pos}
-use lib.ListN.{length, get_or, take}
-use mir.Syntax.{w32}
-use Rattle.reals.proofs.Signed.{read_back}
+use Prim.Native.Nat.{◌+◌, ◌-◌, ◌≤◌}
+use lib.ListN.{length, take}
 use Rattle.records.specs.model.Keeping.{Puts}
-use Rattle.records.proofs.Keeps.{puts_none, puts_more, puts_all}
 use Rattle.records.proofs.keeping.copy.Given as goal
 
 abbrev pub invariant-loop-i : goal.invariant-loop-i

@@ -1,9 +1,7 @@
 -- A length that is no word, too little room, or the words.
 use native.Mathlib.Omega.{arith}
 use lib.ListN.{length}
-use Rattle.records.specs.model.Keeping.{Room}
 use Rattle.records.proofs.Keeps.{no_room, with_room, fails_inputs, fails_store, fails_output, fails_written, fails_room}
-use borrow.Author.Rules.{rules}
 use Rattle.records.proofs.keeping.keep.Goals as goal
 
 pub returns-then-n-gt-MOST : goal.returns-then-n-gt-MOST

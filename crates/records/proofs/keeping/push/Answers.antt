@@ -1,7 +1,6 @@
 -- A word stored.
 use mir.Facts.{to_z-of_z}
 use Rattle.records.proofs.Keeps.{push_puts}
-use borrow.Author.Rules.{rules}
 use Rattle.records.proofs.keeping.push.Goals as goal
 
 pub returns : goal.returns

@@ -1,7 +1,6 @@
 -- Two words stored.
 use mir.Facts.{to_z-of_z}
 use Rattle.records.proofs.Keeps.{puts_then}
-use borrow.Author.Rules.{rules}
 use Rattle.records.proofs.keeping.push_one.Goals as goal
 
 pub returns : goal.returns

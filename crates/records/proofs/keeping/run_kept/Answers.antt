@@ -2,7 +2,6 @@
 use mathlib.Core.Path.{sym}
 use lib.Seq.{length-take-le}
 use Rattle.records.proofs.RunRecords.{within, kept_run}
-use borrow.Author.Rules.{rules}
 use Rattle.records.proofs.keeping.run_kept.Goals as goal
 
 pub slice_bounds-keep-end : goal.slice_bounds-keep-end

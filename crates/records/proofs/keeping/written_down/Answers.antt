@@ -1,14 +1,13 @@
 -- Nine parts, one after the other.
-use Prim.Native.Nat.{ℕ, ◌/◌, ◌%◌, ◌<◌}
-use mathlib.Core.Path.{◌≡◌, refl, sym, ap, ◌∙◌}
+use Prim.Native.Nat.{◌/◌, ◌%◌}
+use mathlib.Core.Path.{◌≡◌, refl}
 use native.Mathlib.Omega.{arith}
-use lib.IntN.{ℤ, pos}
+use lib.IntN.{pos}
 use lib.ListN.{length}
 use mir.Syntax.{w32}
 use mir.Val.{to_z, of_z}
 use Rattle.records.specs.Record.{signed}
 use Rattle.records.proofs.Keeps.{puts_then, as_word, half_word, kept_words}
-use borrow.Author.Rules.{rules}
 use Rattle.records.proofs.keeping.written_down.Goals as goal
 
 pub returns : goal.returns

@@ -3,7 +3,6 @@ use mathlib.Core.Path.{sym, ap, ◌∙◌}
 use mir.Facts.{to_z-of_z}
 use Rattle.records.specs.Words.{amount}
 use Rattle.records.proofs.Signs.{is_pos, is_negative}
-use borrow.Author.Rules.{rules}
 use Rattle.records.proofs.ranges.count.Goals as goal
 
 pub returns-in-Is : goal.returns-in-Is

@@ -1,7 +1,5 @@
 -- A range at a time.
-use mathlib.Core.Path.{refl, ◌∙◌}
 use Rattle.records.specs.Words.{holds}
-use borrow.Author.Rules.{rules}
 use Rattle.records.proofs.ranges.has.Goals as goal
 
 pub returns-in-Any : goal.returns-in-Any

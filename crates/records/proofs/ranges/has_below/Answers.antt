@@ -1,6 +1,5 @@
 -- Only where any number is.
 use Rattle.records.specs.Words.{holds}
-use borrow.Author.Rules.{rules}
 use Rattle.records.proofs.ranges.has_below.Goals as goal
 
 pub returns-in-Any : goal.returns-in-Any

@@ -1,6 +1,4 @@
 -- 0, or 20 to 30.
-use borrow.Author.Tests.{eq-eqb}
-use mathlib.Core.Path.{sym}
 use Rattle.records.proofs.Signs.{not_few, up_to}
 use Rattle.records.proofs.ranges.is_answer.Goals as goal
 

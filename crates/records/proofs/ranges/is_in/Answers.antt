@@ -1,9 +1,8 @@
 -- By the word as a number from 0 on, or below 0.
-use mathlib.Core.Path.{◌≡◌, sym, ap, ◌∙◌}
+use mathlib.Core.Path.{sym, ap, ◌∙◌}
 use mir.Facts.{to_z-of_z}
 use Rattle.records.specs.Words.{holds}
 use Rattle.records.proofs.Signs.{is_pos, is_negative}
-use borrow.Author.Rules.{rules}
 use Rattle.records.proofs.ranges.is_in.Goals as goal
 
 pub returns-in-Is : goal.returns-in-Is

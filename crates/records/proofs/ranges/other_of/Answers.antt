@@ -1,8 +1,6 @@
 -- A row at a time.
-use mathlib.Core.Path.{◌≡◌, refl, sym, ap, ◌∙◌}
 use mir.Facts.{to_z-of_z}
 use Rattle.records.proofs.Signs.{no_other, not_third}
-use borrow.Author.Rules.{rules}
 use Rattle.records.proofs.ranges.other_of.Goals as goal
 
 pub returns-then-k-eq1 : goal.returns-then-k-eq1

@@ -1,5 +1,4 @@
 -- A row at a time.
-use borrow.Author.Rules.{rules}
 use Rattle.records.proofs.ranges.others_of.Goals as goal
 
 pub returns-in-Numbers : goal.returns-in-Numbers

@@ -1,6 +1,5 @@
 -- A row at a time.
 use Rattle.records.proofs.Signs.{last_row}
-use borrow.Author.Rules.{rules}
 use Rattle.records.proofs.ranges.section_of.Goals as goal
 
 pub returns-in_default : goal.returns-in_default

@@ -1,10 +1,9 @@
 -- By the word as a number from 0 on, or below 0.
-use mathlib.Core.Path.{◌≡◌, refl, sym, ap, ◌∙◌}
+use mathlib.Core.Path.{sym, ap, ◌∙◌}
 use mir.Facts.{to_z-of_z}
 use lib.IntN.{pos}
 use Rattle.records.specs.Record.{third}
 use Rattle.records.proofs.Signs.{is_pos, is_negative, third_any}
-use borrow.Author.Rules.{rules}
 use Rattle.records.proofs.ranges.third.Goals as goal
 
 pub returns-then-n-eq0 : goal.returns-then-n-eq0

@@ -1,18 +1,13 @@
 -- The answer, and then the entries.
-use Prim.Native.Nat.{ℕ, ◌+◌, ◌-◌, ◌/◌, ◌≤◌, ◌<◌}
-use mathlib.Core.Path.{◌≡◌, refl, sym, ap, subst, ◌∙◌}
-use mathlib.Core.Bool.{true, false}
+use Prim.Native.Nat.{◌+◌}
+use mathlib.Core.Path.{◌≡◌, ap, ◌∙◌}
 use mathlib.Core.List.{List}
-use mathlib.Core.Logic.{◌⊎◌, inl, inr}
-use mathlib.Core.Option.{Option, none, some}
-use native.Mathlib.Omega.{arith}
-use lib.IntN.{ℤ, pos}
+use lib.IntN.{ℤ}
 use borrow.Author.Tests.{ne_eqb, eq-eqb}
 use Rattle.records.specs.Words.{amount}
 use Rattle.records.specs.model.Scanning.{at}
 use Rattle.records.specs.model.Replaying.{compared_at, entries_apart}
 use Rattle.records.proofs.Replays.{word_amount, to_end}
-use borrow.Author.Rules.{rules}
 use Rattle.records.proofs.replaying.compared.Goals as goal
 
 pub returns-then-count-answer : goal.returns-then-count-answer

@@ -1,18 +1,12 @@
 -- The run on a part of what is lent, and what it came to.
-use Prim.Native.Nat.{ℕ, ◌+◌, ◌-◌, ◌/◌, ◌≤◌, ◌<◌}
-use mathlib.Core.Path.{◌≡◌, refl, sym, ap, subst, ◌∙◌}
-use mathlib.Core.Bool.{true, false}
-use mathlib.Core.List.{List}
-use mathlib.Core.Logic.{◌⊎◌, inl, inr}
-use mathlib.Core.Option.{Option, none, some}
+use Prim.Native.Nat.{ℕ, ◌+◌, ◌-◌}
+use mathlib.Core.Path.{◌≡◌, sym, ap}
 use native.Mathlib.Omega.{arith}
-use lib.IntN.{ℤ, pos}
-use lib.ListN.{length, take, drop}
+use lib.ListN.{take, drop}
 use lib.Seq.{length-take-le}
 use Rattle.records.specs.Record.{whole}
 use Rattle.records.specs.model.Scanning.{at}
 use Rattle.records.proofs.Replays.{halves_read, written_inside, fresh_exit}
-use borrow.Author.Rules.{rules}
 use Rattle.records.proofs.replaying.fresh.Goals as goal
 
 pub slice_bounds-run-end-3 : goal.slice_bounds-run-end-3

@@ -6,7 +6,6 @@ use mir.Syntax.{w32, w64}
 use mir.Val.{of_z}
 use Rattle.reals.proofs.Signed.{wide_same, wide_fits}
 use Rattle.records.proofs.Replays.{half_bits}
-use borrow.Author.Rules.{rules}
 use Rattle.records.proofs.replaying.half.Goals as goal
 
 pub overflow_cast-x : goal.overflow_cast-x

@@ -1,10 +1,9 @@
 -- Two halves of 32 bits.
-use mathlib.Core.Path.{◌≡◌, ap, ◌∙◌}
+use mathlib.Core.Path.{◌≡◌}
 use native.Mathlib.Omega.{arith}
 use mir.Facts.{to_z-of_z}
 use Rattle.records.specs.Record.{half}
 use Rattle.records.proofs.RecordLaws.{half_below}
-use borrow.Author.Rules.{rules}
 use Rattle.records.proofs.replaying.limit_of.Goals as goal
 
 pub overflow_mul-result : goal.overflow_mul-result

@@ -1,16 +1,11 @@
 -- A record that is fine is replayed by its words; else the first bad one is said.
-use Prim.Native.Nat.{ℕ, ◌+◌, ◌-◌, ◌/◌, ◌≤◌, ◌<◌}
-use mathlib.Core.Path.{◌≡◌, refl, sym, ap, subst, ◌∙◌}
-use mathlib.Core.Bool.{true, false}
-use mathlib.Core.List.{List}
-use mathlib.Core.Logic.{◌⊎◌, inl, inr}
-use mathlib.Core.Option.{Option, none, some}
+use Prim.Native.Nat.{◌+◌}
+use mathlib.Core.Path.{◌≡◌, ◌∙◌}
+use mathlib.Core.Logic.{inl, inr}
 use native.Mathlib.Omega.{arith}
-use lib.IntN.{ℤ, pos}
 use Rattle.records.specs.Words.{amount}
 use Rattle.records.specs.model.Scanning.{at}
 use Rattle.records.proofs.Replays.{word_amount, kept, kept_some, kept_long, answered_bad, answered_short, replayed}
-use borrow.Author.Rules.{rules}
 use Rattle.records.proofs.replaying.replay.Goals as goal
 
 pub bounds-kept-0 : goal.bounds-kept-0

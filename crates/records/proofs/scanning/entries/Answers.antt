@@ -1,9 +1,6 @@
 -- The invariant: the entries that are left, from here on, decide.
-use borrow.Author.Rules.{rules}
-use Prim.Native.Nat.{ℕ, ◌-◌, ◌≤◌, ◌<◌}
-use mathlib.Core.Path.{◌≡◌, refl, sym, ap, subst, ◌∙◌}
-use native.Mathlib.Omega.{arith}
-use Rattle.records.specs.model.Scanning.{row_of, entry_at, entries_at}
+use mathlib.Core.Path.{refl, sym, ◌∙◌}
+use Rattle.records.specs.model.Scanning.{row_of}
 use Rattle.records.proofs.Scanned.{entries_on, entries_end}
 use Rattle.records.proofs.scanning.entries.Goals as goal
 

@@ -1,10 +1,6 @@
 -- The invariant: the entries that are left, from here on, decide.
-use borrow.Author.Rules.{rules}
-use Prim.Native.Nat.{ℕ, ◌-◌, ◌≤◌, ◌<◌}
-use mathlib.Core.Path.{◌≡◌, refl, sym, ap, subst, ◌∙◌}
-use native.Mathlib.Omega.{arith}
-use Rattle.records.specs.model.Scanning.{row_of, entry_at, entries_at}
-use Rattle.records.proofs.Scanned.{entries_on, entries_end}
+use mathlib.Core.Path.{◌≡◌}
+use Rattle.records.specs.model.Scanning.{row_of, entries_at}
 use Rattle.records.proofs.scanning.entries.Given as goal
 
 abbrev pub invariant-loop-left : goal.invariant-loop-left

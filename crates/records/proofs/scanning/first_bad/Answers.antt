@@ -1,11 +1,10 @@
 -- The invariant: the sections that are left, from here on, decide.
-use borrow.Author.Rules.{rules}
-use Prim.Native.Nat.{ℕ, ◌+◌, ◌-◌, ◌≤◌, ◌<◌}
-use mathlib.Core.Path.{◌≡◌, refl, sym, ap, subst, ◌∙◌}
+use Prim.Native.Nat.{◌-◌}
+use mathlib.Core.Path.{◌≡◌, sym, ap, ◌∙◌}
 use native.Mathlib.Omega.{arith}
 use borrow.Author.Tests.{lt-ltb, le-ltb}
 use Rattle.records.specs.declared.Section.{Section}
-use Rattle.records.specs.model.Scanning.{row_of, rows_from, section_at, scan}
+use Rattle.records.specs.model.Scanning.{row_of, section_at}
 use Rattle.records.proofs.Scanned.{scan_on, scan_end}
 use Rattle.records.proofs.scanning.first_bad.Goals as goal
 

@@ -1,12 +1,7 @@
 -- The invariant: the sections that are left, from here on, decide.
-use borrow.Author.Rules.{rules}
-use Prim.Native.Nat.{ℕ, ◌+◌, ◌-◌, ◌≤◌, ◌<◌}
-use mathlib.Core.Path.{◌≡◌, refl, sym, ap, subst, ◌∙◌}
-use native.Mathlib.Omega.{arith}
-use borrow.Author.Tests.{lt-ltb, le-ltb}
-use Rattle.records.specs.declared.Section.{Section}
-use Rattle.records.specs.model.Scanning.{row_of, rows_from, section_at, scan}
-use Rattle.records.proofs.Scanned.{scan_on, scan_end}
+use Prim.Native.Nat.{◌-◌}
+use mathlib.Core.Path.{◌≡◌}
+use Rattle.records.specs.model.Scanning.{rows_from, scan}
 use Rattle.records.proofs.scanning.first_bad.Given as goal
 
 abbrev pub invariant-loop-k : goal.invariant-loop-k

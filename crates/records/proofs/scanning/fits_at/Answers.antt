@@ -5,7 +5,6 @@ use mir.Syntax.{w32}
 use mir.Facts.{to_z-of_z}
 use Rattle.records.specs.Words.{holds}
 use Rattle.records.proofs.Scanned.{fits_there, fits_not}
-use borrow.Author.Rules.{rules}
 use Rattle.records.proofs.scanning.fits_at.Goals as goal
 
 pub returns-then-words-at : goal.returns-then-words-at

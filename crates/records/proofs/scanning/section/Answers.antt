@@ -1,9 +1,8 @@
 -- Its count, and its entries.
-use Prim.Native.Nat.{ℕ, ◌+◌, ◌-◌, ◌≤◌, ◌<◌}
-use mathlib.Core.Path.{◌≡◌, refl, sym, ap, subst, ◌∙◌}
+use Prim.Native.Nat.{ℕ, ◌+◌}
+use mathlib.Core.Path.{◌≡◌, sym, ap, ◌∙◌}
 use mathlib.Core.Bool.{true, false}
 use native.Mathlib.Omega.{arith}
-use borrow.Author.Tests.{not-true, not-false}
 use lib.IntN.{ℤ, pos}
 use lib.ListN.{get_or}
 use mir.Syntax.{w32}
@@ -13,7 +12,6 @@ use Rattle.records.specs.declared.Range.{Range}
 use Rattle.records.specs.Words.{count_in, amount}
 use Rattle.records.specs.model.Scanning.{row_of, fits_at, entries_at}
 use Rattle.records.proofs.Scanned.{fits_inside, section_bad, section_on}
-use borrow.Author.Rules.{rules}
 use Rattle.records.proofs.scanning.section.Goals as goal
 
 pub returns-then-not-fits_at : goal.returns-then-not-fits_at

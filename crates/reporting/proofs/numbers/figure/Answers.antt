@@ -10,7 +10,6 @@ use mir.Syntax.{w32, w64}
 use mir.Val.{to_z, of_z}
 use mir.Facts.{to_z-of_z}
 use Rattle.reporting.specs.Numbers.{figures_of}
-use borrow.Author.Rules.{rules}
 use Rattle.reporting.proofs.numbers.figure.Goals as goal
 
 -- a number that is none of the first n is at least n

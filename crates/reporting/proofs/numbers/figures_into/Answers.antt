@@ -1,5 +1,5 @@
 -- So many numbers stand there already.
-use Prim.Native.Nat.{ℕ, zero, suc, ◌+◌, ◌-◌, ◌≤◌, ◌<◌, min}
+use Prim.Native.Nat.{ℕ, zero, suc, ◌+◌, ◌<◌, min}
 use mathlib.Core.Path.{◌≡◌, refl, sym, ap, ◌∙◌}
 use mathlib.Core.List.{List, [], ◌∷◌, ◌++◌}
 use native.Mathlib.Omega.{arith}
@@ -11,7 +11,6 @@ use mir.Syntax.{w64}
 use mir.Facts.{to_z-of_z}
 use Rattle.reporting.specs.declared.Report.{Report}
 use Rattle.reporting.specs.Numbers.{figures_of, figures_in}
-use borrow.Author.Rules.{rules}
 use Rattle.reporting.proofs.numbers.figures_into.Goals as goal
 
 -- one more of ys over zs

@@ -1,17 +1,9 @@
 -- So many numbers stand there already.
-use Prim.Native.Nat.{ℕ, zero, suc, ◌+◌, ◌-◌, ◌≤◌, ◌<◌, min}
-use mathlib.Core.Path.{◌≡◌, refl, sym, ap, ◌∙◌}
-use mathlib.Core.List.{List, [], ◌∷◌, ◌++◌}
-use native.Mathlib.Omega.{arith}
-use native.Mathlib.Nat.{not-suc-le-zero, le_of_suc-le-suc}
-use native.Mathlib.Numerals.{add-one}
-use lib.IntN.{ℤ, pos}
-use lib.ListN.{length, get_or, take, drop, set, length-set}
-use mir.Syntax.{w64}
-use mir.Facts.{to_z-of_z}
-use Rattle.reporting.specs.declared.Report.{Report}
-use Rattle.reporting.specs.Numbers.{figures_of, figures_in}
-use borrow.Author.Rules.{rules}
+use Prim.Native.Nat.{◌-◌, ◌≤◌}
+use mathlib.Core.Path.{◌≡◌}
+use mathlib.Core.List.{◌++◌}
+use lib.ListN.{length, take, drop}
+use Rattle.reporting.specs.Numbers.{figures_of}
 use Rattle.reporting.proofs.numbers.figures_into.Given as goal
 
 abbrev pub invariant-loop-i : goal.invariant-loop-i

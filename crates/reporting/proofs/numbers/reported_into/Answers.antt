@@ -1,10 +1,7 @@
 -- Only a report has figures.
-use mathlib.Core.Path.{◌≡◌, sym, ap, ◌∙◌}
-use mathlib.Core.List.{List}
-use lib.IntN.{ℤ}
+use mathlib.Core.Path.{sym, ap, ◌∙◌}
 use Rattle.reporting.specs.declared.Reported.{Reported}
 use Rattle.reporting.specs.Numbers.{figures_after}
-use borrow.Author.Rules.{rules}
 use Rattle.reporting.proofs.numbers.reported_into.Goals as goal
 
 pub returns-in-Report : goal.returns-in-Report

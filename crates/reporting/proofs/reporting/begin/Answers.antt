@@ -1,16 +1,15 @@
 -- The first word, then the first bad word of the sets behind it.
-use Prim.Native.Nat.{ℕ, ◌<◌}
+use Prim.Native.Nat.{◌<◌}
 use mathlib.Core.Path.{◌≡◌}
 use mathlib.Core.Bool.{true, false}
 use native.Mathlib.Omega.{arith}
-use lib.IntN.{ℤ, pos}
+use lib.IntN.{pos}
 use lib.Signed.{lt_z}
 use lib.ListN.{length, get_or}
 use mir.Syntax.{w32}
 use Rattle.reals.proofs.Signed.{read_back}
 use Rattle.records.proofs.Replays.{word_amount}
 use Rattle.reporting.proofs.Answered.{no_words, too_many_lem, below_none, bad_word, their_sets}
-use borrow.Author.Rules.{rules}
 use Rattle.reporting.proofs.reporting.begin.Goals as goal
 
 pub returns-then-sets-eq0 : goal.returns-then-sets-eq0

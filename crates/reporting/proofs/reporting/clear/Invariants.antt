@@ -1,12 +1,9 @@
 -- So many numbers are zero already.
-use borrow.Author.Rules.{rules}
-use mathlib.Core.Path.{◌≡◌, refl, ap, ◌∙◌}
-use mathlib.Core.List.{List, ◌++◌}
-use Prim.Native.Nat.{◌≤◌, ◌-◌, ◌<◌}
-use native.Mathlib.Omega.{arith}
-use lib.ListN.{length, drop, replicate, set, length-set}
-use lib.IntN.{ℤ, pos}
-use Rattle.machine.proofs.Limits.{fill_more, filled}
+use mathlib.Core.Path.{◌≡◌}
+use mathlib.Core.List.{◌++◌}
+use Prim.Native.Nat.{◌≤◌, ◌-◌}
+use lib.ListN.{length, drop, replicate}
+use lib.IntN.{pos}
 use Rattle.reporting.proofs.reporting.clear.Given as goal
 
 abbrev pub invariant-loop-i : goal.invariant-loop-i

@@ -1,14 +1,13 @@
 -- The next set stands where the words of the sets that are left begin; its run is one of the runs, and joins those that are done.
-use Prim.Native.Nat.{ℕ, ◌+◌, ◌-◌, ◌≤◌, ◌<◌}
-use mathlib.Core.Path.{◌≡◌, refl, sym, ap, ◌∙◌}
+use Prim.Native.Nat.{ℕ, ◌+◌, ◌-◌}
+use mathlib.Core.Path.{◌≡◌, sym, ap, ◌∙◌}
 use native.Mathlib.Omega.{arith}
-use lib.IntN.{ℤ, pos}
-use lib.ListN.{length, get_or, take, drop}
+use lib.IntN.{pos}
+use lib.ListN.{length, get_or}
 use lib.Seq.{length-take-le}
 use Rattle.records.specs.Words.{amount}
 use Rattle.records.proofs.Replays.{word_amount}
 use Rattle.reporting.proofs.Runs.{small_enough, the_next, input_is, written_within, gathering_on}
-use borrow.Author.Rules.{rules}
 use Rattle.reporting.proofs.reporting.next_run.Goals as goal
 
 pub overflow_add-from : goal.overflow_add-from
@@ -87,7 +86,11 @@ returns c =
     let t = the_next u.so_far u.few u.more in
     let m : c.count.result ≡ length t.xs = word_amount (get_or a.sets.now a.g.at (pos 0)) c.count-arg-1.given c.count.ensures ∙ ap amount t.its_count in
     let w = written_within u.so_far u.few u.more _ (input_is u.so_far u.few u.more m) c.run-ran.ensures in
-    let l : a.g.left - 1 + 1 ≡ a.g.left = omega (arith, u.more) in record { left_value = l; written_in_bounds = w; further = λ ss store₀ output₀ n few g.
-            let v = the_next g few u.more in
-            let k : c.count.result ≡ length v.xs = word_amount (get_or a.sets.now a.g.at (pos 0)) c.count-arg-1.given c.count.ensures ∙ ap amount v.its_count in
-            gathering_on g few u.more _ (input_is g few u.more k) c.run-ran.ensures c.answer-answer.ensures (ap (λ (j : ℕ). a.g.at + 1 + j) k) c.tallied-report.ensures.value c.tallied-report.ensures.sum_bound c.run-ran.auto.store c.run-ran.auto.output }
+    let l : a.g.left - 1 + 1 ≡ a.g.left = omega (arith, u.more) in record {
+      left_value = l;
+      written_in_bounds = w;
+      further = λ ss store₀ output₀ n few g.
+          let v = the_next g few u.more in
+          let k : c.count.result ≡ length v.xs = word_amount (get_or a.sets.now a.g.at (pos 0)) c.count-arg-1.given c.count.ensures ∙ ap amount v.its_count in
+          gathering_on g few u.more _ (input_is g few u.more k) c.run-ran.ensures c.answer-answer.ensures (ap (λ (j : ℕ). a.g.at + 1 + j) k) c.tallied-report.ensures.value c.tallied-report.ensures.sum_bound c.run-ran.auto.store c.run-ran.auto.output;
+    }

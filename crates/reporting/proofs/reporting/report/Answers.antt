@@ -1,12 +1,11 @@
 -- What was found before a run, and where sets were found the report of their runs.
 use Prim.Native.Nat.{ℕ}
-use mathlib.Core.Path.{◌≡◌, ap, subst, ◌∙◌}
-use lib.IntN.{ℤ, pos}
+use mathlib.Core.Path.{ap, subst, ◌∙◌}
+use lib.IntN.{pos}
 use lib.ListN.{replicate}
 use Rattle.reporting.specs.declared.Begun.{Begun}
 use Rattle.reporting.specs.model.Going.{Begins}
 use Rattle.reporting.proofs.Answered.{report_many, report_bad, reported}
-use borrow.Author.Rules.{rules}
 use Rattle.reporting.proofs.reporting.report.Goals as goal
 
 pub runs-r-requires : goal.runs-r-requires

@@ -1,10 +1,5 @@
 -- The invariant, `Gathering`: what is gathered so far and the runs of the sets that are left are all runs, in some order.
-use Prim.Native.Nat.{ℕ, ◌+◌, ◌≤◌, ◌<◌}
-use mathlib.Core.Path.{◌≡◌}
-use native.Mathlib.Omega.{arith}
-use borrow.Author.Rules.{rules}
 use Rattle.reporting.specs.model.Going.{SetsIn, Gathering}
-use Rattle.reporting.proofs.Runs.{gathering_start, runs_end}
 use Rattle.reporting.proofs.reporting.runs.Given as goal
 
 abbrev pub invariant-loop-g : goal.invariant-loop-g

@@ -1,15 +1,12 @@
 -- The invariant: the entries from here on decide.
-use borrow.Author.Rules.{rules}
-use Prim.Native.Nat.{ℕ, ◌+◌, ◌-◌, ◌≤◌, ◌<◌}
-use mathlib.Core.Path.{◌≡◌, refl, sym, ap, ◌∙◌}
+use Prim.Native.Nat.{◌+◌}
+use mathlib.Core.Path.{◌≡◌, refl, sym, ◌∙◌}
 use native.Mathlib.Omega.{arith}
-use lib.IntN.{ℤ, pos}
-use lib.ListN.{length, get_or, drop}
+use lib.IntN.{pos}
+use lib.ListN.{get_or}
 use mir.Facts.{to_z-of_z}
 use mir.Syntax.{w32}
 use mir.Val.{to_z, of_z}
-use Rattle.reporting.specs.declared.First.TheVariants.{Is}
-use Rattle.reporting.specs.model.Tallying.{first_in}
 use Rattle.reporting.proofs.Gathered.{is_zero, not_zero, first_on, first_here, first_none}
 use Rattle.reporting.proofs.tallies.first_whole.Goals as goal
 

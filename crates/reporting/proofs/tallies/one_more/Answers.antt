@@ -2,7 +2,6 @@
 use native.Mathlib.Numerals.{add-one}
 use borrow.Author.Tests.{ne_eqb}
 use Rattle.reporting.specs.model.Tallying.{one_more}
-use borrow.Author.Rules.{rules}
 use Rattle.reporting.proofs.tallies.one_more.Goals as goal
 
 pub returns-in-0 : goal.returns-in-0

@@ -1,14 +1,11 @@
 -- One answer more, and the value of a run that ended with one.
-use Prim.Native.Nat.{ℕ, ◌+◌, ◌≤◌, ◌<◌}
-use mathlib.Core.Path.{◌≡◌, refl, sym, ap, ◌∙◌}
-use mathlib.Core.Option.{Option, none, some}
+use mathlib.Core.Path.{◌≡◌, sym, ap, ◌∙◌}
+use mathlib.Core.Option.{some}
 use lib.IntN.{ℤ}
 use mir.Syntax.{w32}
 use Rattle.reals.proofs.Signed.{read_back}
-use Rattle.reporting.specs.declared.Report.{Report}
 use Rattle.reporting.specs.model.Tallying.{first_of, first_in, valued}
 use Rattle.reporting.proofs.Gathered.{also_not, also_none, also_some, same_sum}
-use borrow.Author.Rules.{rules}
 use Rattle.reporting.proofs.tallies.tallied.Goals as goal
 
 pub returns-then-answer-ne0 : goal.returns-then-answer-ne0

@@ -1,14 +1,13 @@
 -- The first value, or one more.
-use Prim.Native.Nat.{ℕ, ◌+◌, ◌≤◌, ◌<◌}
-use mathlib.Core.Path.{◌≡◌, refl, sym, ap, ◌∙◌}
+use Prim.Native.Nat.{◌<◌}
+use mathlib.Core.Path.{◌≡◌}
 use native.Mathlib.Omega.{arith}
-use lib.IntN.{ℤ, nat_abs, ◌+ℤ◌}
+use lib.IntN.{◌+ℤ◌}
 use lib.Signed.{mag, nat_abs-le}
 use mir.Syntax.{w32, w64}
 use Rattle.reals.proofs.Signed.{read_back, wide_fits}
 use Rattle.reporting.specs.Report.{lesser, larger}
 use Rattle.reporting.proofs.Gathered.{first_value, more_value, lesser_mag, larger_mag, sum_bound, sum_fits}
-use borrow.Author.Rules.{rules}
 use Rattle.reporting.proofs.tallies.with_value.Goals as goal
 
 pub overflow_cast-result : goal.overflow_cast-result
