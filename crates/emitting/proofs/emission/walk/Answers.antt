@@ -1,0 +1,74 @@
+-- `emitting::emission::walk` meets its contract. The loop's invariant: the counts behind i nodes are small, and what the nodes from here on make of
+-- what is known is what all of them make of nothing.
+use mathlib.Core.Path.{◌≡◌, refl, sym, ap, subst, ◌∙◌}
+use native.Mathlib.Omega.{arith}
+use Prim.Native.Nat.{ℕ, ◌+◌, ◌*◌, ◌-◌, ◌≤◌, ◌<◌}
+use lib.ListN.{length, get_or, drop}
+use borrow.Author.Rules.{rules}
+use Rattle.names.specs.model.Rows.{fold_nodes}
+use Rattle.names.proofs.RowLaws.{fold_on, fold_end}
+use Rattle.emitting.specs.model.Emission.{State, uses_in, place_at, put, placed_node}
+use Rattle.emitting.specs.model.Arrays.{things_of, see, AllSlim, Small, fresh_in}
+use Rattle.emitting.proofs.NextUses.{next_small}
+use Rattle.emitting.proofs.Counters.{small_node, small_up, small_alone}
+use Rattle.emitting.proofs.emission.walk.Goals as goal
+
+pub loop-i-init : goal.loop-i-init
+unfolding things_of AllSlim
+loop-i-init c = (record { at = omega arith; slots = omega arith; level = omega arith; loops = omega arith; cells = omega arith; declared = omega arith; variable = omega arith; many = omega arith; things = tt }, refl, omega arith, refl, refl, refl)
+
+pub node-t-requires : goal.node-t-requires
+node-t-requires c =
+    let l = c.loop-i in
+    let h = c.loop-i-test.true in
+    let r = c.requires in
+    small_alone l.t (uses_in c.args.rows.now c.args.uses.now) l.things l.code l.next-ahead l.next-entries (small_up (see c.loop-i.t (uses_in c.args.rows.now c.args.uses.now) c.loop-i.things c.loop-i.code c.loop-i.next-ahead c.loop-i.next-entries) l.invariant.0 (omega arith) (omega arith))
+
+pub overflow_add-i-in-loop-i : goal.overflow_add-i-in-loop-i
+overflow_add-i-in-loop-i c = let h = c.loop-i-test.true in let l = c.requires in omega arith
+
+pub loop-i-smaller : goal.loop-i-smaller
+loop-i-smaller c = let h = c.loop-i-test.true in let l = c.requires in omega arith
+
+pub loop-i-preserved : goal.loop-i-preserved
+loop-i-preserved c =
+    let l = c.loop-i in
+    let z = see c.loop-i.t (uses_in c.args.rows.now c.args.uses.now) c.loop-i.things c.loop-i.code c.loop-i.next-ahead c.loop-i.next-entries in
+    let w = c.args.nodes.now in
+    let i = l.i in
+    let h = c.loop-i-test.true in
+    let e = c.node-t.ensures in
+    let k = c.node-t.auto in
+    let x = get_or w (4 * i + 1) 0 in
+    let p : place_at c.args.places.now x < 65536 = omega arith in
+    let u : (j : ℕ) → get_or c.args.uses.now j 0 < 65536 = λ j. omega (arith, c.shared_slice_known-2-1.given j) in
+    let v : get_or w (4 * i + 2) 0 < 65536 = omega (arith, c.shared_slice_known-1.given (4 * i + 2)) in
+    let z₁ = next_small c.args.rows.now c.args.uses.now l.t.uses u in
+    let s = small_node c.args.values.now c.args.layout.now c.args.ahead.now c.args.entries.now z l.invariant.0 c.args.rows.now c.args.marks.now (omega arith) (get_or w (4 * i) 0) x (place_at c.args.places.now x) (get_or w (4 * i + 2) 0) (get_or w (4 * i + 3) 0) p v z₁.0 z₁.1 in (
+      subst (Small (65536 + 10 * (i + 1)) (i + 1)) (sym e) (small_up _ s (omega arith) (omega arith)),
+      ap (fold_nodes (placed_node c.args.values.now c.args.layout.now c.args.ahead.now c.args.entries.now c.args.rows.now c.args.marks.now (place_at c.args.places.now)) (drop (4 * (i + 1)) w)) e ∙ sym (fold_on (placed_node c.args.values.now c.args.layout.now c.args.ahead.now c.args.entries.now c.args.rows.now c.args.marks.now (place_at c.args.places.now)) w i z h) ∙ l.invariant.1,
+      omega arith,
+      k.1.1.1.1.1.1.1.1.1.1.1.1.1.1.0 ∙ l.invariant.3,
+      k.1.1.1.1.1.1.1.1.1.1.1.1.1.1.1.0 ∙ l.invariant.4,
+      k.1.1.1.1.1.1.1.1.1.1.1.1.1.1.1.1.0 ∙ l.invariant.5,
+    )
+
+pub put-requires : goal.put-requires
+put-requires c = let a = c.loop-i.invariant.0.at in let b = c.loop-i.invariant.2 in let d = c.requires in (omega arith, omega arith, omega arith)
+
+pub shape_of-next_ahead : goal.shape_of-next_ahead
+shape_of-next_ahead c = c.loop-i.invariant.3
+
+pub shape_of-next_entries : goal.shape_of-next_entries
+shape_of-next_entries c = c.loop-i.invariant.4
+
+pub shape_of-code : goal.shape_of-code
+shape_of-code c = c.put.auto.code ∙ c.loop-i.invariant.5
+
+pub returns : goal.returns
+returns c =
+    let l = c.loop-i in
+    let w = c.args.nodes.now in
+    let z = see c.loop-i.t (uses_in c.args.rows.now c.args.uses.now) c.loop-i.things c.loop-i.code c.loop-i.next-ahead c.loop-i.next-entries in
+    let e = c.put.ensures.en_after (uses_in c.args.rows.now c.args.uses.now) l.things l.next-ahead l.next-entries ∙ ap (put 1 0 0) (sym (fold_end (placed_node c.args.values.now c.args.layout.now c.args.ahead.now c.args.entries.now c.args.rows.now c.args.marks.now (place_at c.args.places.now)) w l.i z c.loop-i-test.false) ∙ l.invariant.1) in
+    record { code_after = ap (λ (st : State). st.code) e; next_ahead_after = ap (λ (st : State). st.ahead) e; next_entries_after = ap (λ (st : State). st.entries) e }

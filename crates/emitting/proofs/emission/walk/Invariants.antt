@@ -1,0 +1,26 @@
+-- `emitting::emission::walk` meets its contract. The loop's invariant: the counts behind i nodes are small, and what the nodes from here on make of
+-- what is known is what all of them make of nothing.
+use mathlib.Core.Path.{◌≡◌, refl, sym, ap, subst, ◌∙◌}
+use native.Mathlib.Omega.{arith}
+use Prim.Native.Nat.{ℕ, ◌+◌, ◌*◌, ◌-◌, ◌≤◌, ◌<◌}
+use lib.ListN.{length, get_or, drop}
+use borrow.Author.Rules.{rules}
+use Rattle.names.specs.model.Rows.{fold_nodes}
+use Rattle.names.proofs.RowLaws.{fold_on, fold_end}
+use Rattle.emitting.specs.model.Emission.{State, uses_in, place_at, put, placed_node}
+use Rattle.emitting.specs.model.Arrays.{things_of, see, AllSlim, Small, fresh_in}
+use Rattle.emitting.proofs.NextUses.{next_small}
+use Rattle.emitting.proofs.Counters.{small_node, small_up, small_alone}
+use Rattle.emitting.proofs.emission.walk.Given as goal
+
+abbrev pub invariant-loop-i : goal.invariant-loop-i
+invariant-loop-i l =
+    Small (65536 + 10 * l.i) l.i (see l.t (uses_in l.rows l.uses) l.things l.code l.next_ahead l.next_entries)
+    × (fold_nodes (placed_node l.values l.layout l.ahead l.entries l.rows l.marks (place_at l.places)) (drop (4 * l.i) l.nodes) (see l.t (uses_in l.rows l.uses) l.things l.code l.next_ahead l.next_entries) ≡ fold_nodes (placed_node l.values l.layout l.ahead l.entries l.rows l.marks (place_at l.places)) l.nodes (fresh_in (uses_in l.rows l.uses) l.initial.code l.initial.next_ahead l.initial.next_entries))
+    × (4 * l.i ≤ length l.nodes)
+    × (length l.next_ahead ≡ length l.initial.next_ahead)
+    × (length l.next_entries ≡ length l.initial.next_entries)
+    × (length l.code ≡ length l.initial.code)
+
+abbrev pub decreases-loop-i : goal.decreases-loop-i
+decreases-loop-i l = length l.nodes - 4 * l.i

@@ -1,0 +1,14 @@
+-- `emitting::flow::joined` meets its contract: the address is noted, and the condition is closed.
+-- Assumes nothing.
+use mathlib.Core.Path.{ap}
+use lib.ListN.{set}
+use Rattle.emitting.specs.model.Layout.{packed}
+use Rattle.emitting.specs.model.Emission.{joined, noted, popped, with_open, with_variable, nameless}
+use borrow.Author.Rules.{rules}
+use Rattle.emitting.proofs.flow.joined.Goals as goal
+
+pub returns : goal.returns
+unfolding joined noted popped with_open with_variable nameless
+returns c =
+    let w = set c.args.next-ahead.now c.args.c.first (packed 0 0 c.args.t.here.at) in
+    λ vs ly ks es us op co en. rw (c.set_word.ensures, c.going_to.ensures.value) (ap nameless (c.pop-r.ensures.en_value us op co w en))

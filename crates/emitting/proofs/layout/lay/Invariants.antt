@@ -1,0 +1,23 @@
+-- `emitting::layout::lay` meets its contract. The loop's invariant: behind i nodes the layout has spread no further than i, and what the nodes from
+-- here on make of it is what all of them make of nothing.
+use mathlib.Core.Path.{◌≡◌, refl, sym, ap, subst, ◌∙◌}
+use native.Mathlib.Omega.{arith}
+use Prim.Native.Nat.{◌+◌, ◌*◌, ◌-◌, ◌≤◌}
+use lib.ListN.{length, get_or, drop}
+use borrow.Author.Rules.{rules}
+use Rattle.names.specs.model.Rows.{fold_nodes, opens_of}
+use Rattle.names.proofs.RowLaws.{fold_on, fold_end}
+use Rattle.emitting.specs.model.Layout.{Laying, lay_node}
+use Rattle.emitting.specs.model.Arrays.{lain, unlaid_in, AllWithin, Spread}
+use Rattle.emitting.proofs.Spreading.{spread_node, spread_up}
+use Rattle.emitting.proofs.layout.lay.Given as goal
+
+abbrev pub invariant-loop-i : goal.invariant-loop-i
+invariant-loop-i l =
+    Spread l.i (lain l.t l.around l.table)
+    × (fold_nodes (lay_node l.rows) (drop (4 * l.i) l.nodes) (lain l.t l.around l.table) ≡ fold_nodes (lay_node l.rows) l.nodes (unlaid_in l.initial.table))
+    × (4 * l.i ≤ length l.nodes)
+    × (length l.table ≡ length l.initial.table)
+
+abbrev pub decreases-loop-i : goal.decreases-loop-i
+decreases-loop-i l = length l.nodes - 4 * l.i

@@ -1,0 +1,39 @@
+-- `emitting::loops::stepping` meets its contract: the test, the body, the step again, the addition and the way back, one after the other.
+-- Assumes nothing.
+use mathlib.Core.Path.{ap, ◌∙◌}
+use native.Mathlib.Omega.{arith}
+use Rattle.emitting.specs.model.Emission.{put, step_again, added, stepping}
+use Rattle.emitting.specs.model.Arrays.{seen}
+use borrow.Author.Rules.{rules}
+use Rattle.emitting.proofs.loops.stepping.Goals as goal
+
+pub step_again-again-requires : goal.step_again-again-requires
+step_again-again-requires c = let p = c.requires.0 in let a = c.turning-gone.ensures.alike.1 in (omega arith, c.requires.2)
+
+pub added-stored-requires : goal.added-stored-requires
+added-stored-requires c = let p = c.requires.0 in let a = c.turning-gone.ensures.alike.1 in let b = c.step_again-again.ensures.alike.1 in let e = c.requires.2.third in (omega arith, c.requires.1, omega arith)
+
+pub overflow_cast-bound : goal.overflow_cast-bound
+overflow_cast-bound c = let e = c.requires.2.first in omega arith
+
+pub put-requires : goal.put-requires
+put-requires c = let p = c.requires.0 in let a = c.turning-gone.ensures.alike.1 in let b = c.step_again-again.ensures.alike.1 in let d = c.added-stored.ensures.alike.1 in (omega arith, omega arith, c.going_to.ensures.upper_bound)
+
+pub shape_of-code : goal.shape_of-code
+shape_of-code c = c.put.auto.code ∙ c.added-stored.auto.code ∙ c.step_again-again.auto.code ∙ c.turning-gone.auto.code
+
+pub returns : goal.returns
+unfolding stepping
+returns c =
+    let f = c.args.f in
+    let k = c.args.c in
+    let s = c.args.ahead.now in
+    let a = c.turning-gone.ensures.alike in
+    let b = c.step_again-again.ensures.alike in
+    let d = c.added-stored.ensures.alike in
+    let e = c.put.ensures.alike in record { by_index = λ vs ly es us op ah en.
+          rw c.going_to.ensures.value at
+          (c.put.ensures.en_after us op ah en
+          ∙ ap (put 2 0 c.going_to.result) (c.added-stored.ensures.en_after vs ly s es us op ah en
+          ∙ ap (added vs ly s es f.third f.second k.third) (c.step_again-again.ensures.en_after vs ly s es us op ah en
+          ∙ ap (step_again vs ly s es (seen k)) (c.turning-gone.ensures.by_index vs ly es us op ah en)))); slots_value = (e.0.slots ∙ d.0.slots ∙ b.0.slots ∙ a.0.slots, e.2 ∙ d.2 ∙ b.2 ∙ a.2) }

@@ -1,0 +1,18 @@
+-- `emitting::loops::whiled` meets its contract: the condition, to the body, and the element ends.
+-- Assumes nothing.
+use mathlib.Core.Path.{ap, ◌∙◌}
+use native.Mathlib.Omega.{arith}
+use Rattle.emitting.specs.model.Emission.{element, bodied, ahead_at}
+use Rattle.emitting.specs.model.Arrays.{seen}
+use borrow.Author.Rules.{rules}
+use Rattle.emitting.proofs.loops.whiled.Goals as goal
+
+pub element-requires : goal.element-requires
+element-requires c = let a = c.bodied.ensures.alike.0.slots in let b = c.bodied.ensures.alike.2 in let d = c.put-tested.ensures.alike.0.slots in let e = c.put-tested.ensures.alike.2 in let p = c.requires.0.slots in let q = c.requires.0.open_ones in (omega arith, omega arith)
+
+pub returns : goal.returns
+unfolding ahead_at
+returns c =
+    let f = c.args.f in
+    λ vs ly es us en. rw (c.going_to-next.ensures.value, c.address_at.ensures, c.element_at.ensures) at
+    (c.element.ensures vs ly c.args.ahead.now es us _ en ∙ ap (element vs ly c.args.ahead.now es (seen f)) (c.bodied.ensures.by_index vs ly es us c.args.things.now c.args.next-ahead.now en ∙ ap (bodied vs ly c.args.ahead.now es (seen f) c.element_at.result.at) (c.put-tested.ensures.en_after us c.args.things.now c.args.next-ahead.now en)))

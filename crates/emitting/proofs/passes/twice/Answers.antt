@@ -1,0 +1,12 @@
+-- `emitting::passes::twice` meets its contract: what the first pass found is lent to the second.
+-- Assumes nothing.
+use Rattle.emitting.proofs.Twice.{second_run}
+use lib.ListN.{length}
+use Rattle.emitting.specs.model.Emission.{uses_in, place_at}
+use borrow.Author.Rules.{rules}
+use Rattle.emitting.proofs.passes.twice.Goals as goal
+
+pub returns : goal.returns
+returns c =
+    let a = c.args in
+    second_run (length a.code.now) (place_at a.places.now) a.values.now a.laid.now a.rows.now a.marks.now a.nodes.now (uses_in a.rows.now a.uses.now) c.again.ensures c.pass.auto.code c.pass.ensures.next_ahead_after c.pass.ensures.next_entries_after
