@@ -12,7 +12,7 @@ pub returns-then-c-eq0 : goal.returns-then-c-eq0
 unfolding actual_in
 returns-then-c-eq0 c =
     let a = c.args in
-    λ vs ly es us en. simp (eq-eqb _ _ c.if-c-eq0.true) (c.given_in.ensures vs ly a.ahead.now es us a.next-ahead.now en)
+    λ vs ly es us en. simp (eq-eqb _ _ c.if-c-eq0.true) (c.given_in.ensures vs ly a.ahead.now es us a.next_ahead.now en)
 
 pub replace-r-requires : goal.replace-r-requires
 replace-r-requires c = omega (arith, c.ended-e.ensures.at_bound.3, c.requires.0.open_ones)

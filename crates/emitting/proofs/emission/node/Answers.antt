@@ -17,7 +17,7 @@ pub returns-then-is_use : goal.returns-then-is_use
 unfolding code_node
 returns-then-is_use c =
     let args = c.args in
-    simp (sym c.is_use.ensures ∙ c.if-is_use.true) (rw c.place_in-p.ensures.at_value at (c.use_node.ensures args.values.now args.next-ahead.now args.next-entries.now))
+    simp (sym c.is_use.ensures ∙ c.if-is_use.true) (rw c.place_in-p.ensures.at_value at (c.use_node.ensures args.values.now args.next_ahead.now args.next_entries.now))
 
 pub top-c-requires : goal.top-c-requires
 top-c-requires c = let g = (fit c.args.t c.args.things.now c.requires).open_ones in omega arith
@@ -62,17 +62,17 @@ returns-in-33 c =
     let a = c.args in
     let us = uses_in a.rows.now a.uses.now in
     simp c.in-33.is
-    (rw c.place_in-p.ensures.at_value at (c.actual_in.ensures a.values.now a.layout.now a.entries.now us a.next-entries.now
-    ∙ ap (λ (f : Opened). actual_in c.args.values.now c.args.layout.now c.args.ahead.now c.args.entries.now c.args.rows.now f c.place_in-p.result.at (see c.args.t us c.args.things.now c.args.code.now c.args.next-ahead.now c.args.next-entries.now)) c.top-c.ensures))
+    (rw c.place_in-p.ensures.at_value at (c.actual_in.ensures a.values.now a.layout.now a.entries.now us a.next_entries.now
+    ∙ ap (λ (f : Opened). actual_in c.args.values.now c.args.layout.now c.args.ahead.now c.args.entries.now c.args.rows.now f c.place_in-p.result.at (see c.args.t us c.args.things.now c.args.code.now c.args.next_ahead.now c.args.next_entries.now)) c.top-c.ensures))
 
 pub returns-in-32 : goal.returns-in-32
 unfolding code_node is_use
 returns-in-32 c =
     let g = seen c.top-c-in-32.result in
     simp c.in-32.is
-    (rw c.place_in-p.ensures.at_value at (c.call_ended.ensures c.args.values.now c.args.ahead.now (uses_in c.args.rows.now c.args.uses.now) c.args.things.now c.args.next-ahead.now c.args.next-entries.now
-    ∙ ap (λ (z : State). call_ended c.args.values.now c.args.layout.now c.args.ahead.now c.args.entries.now g c.place_in-p.result.at c.args.two z) (c.pop.ensures.en_value (uses_in c.args.rows.now c.args.uses.now) c.args.things.now c.args.code.now c.args.next-ahead.now c.args.next-entries.now)
-    ∙ ap (λ (f : Opened). call_ended c.args.values.now c.args.layout.now c.args.ahead.now c.args.entries.now f c.place_in-p.result.at c.args.two (popped (see c.args.t (uses_in c.args.rows.now c.args.uses.now) c.args.things.now c.args.code.now c.args.next-ahead.now c.args.next-entries.now))) c.top-c-in-32.ensures))
+    (rw c.place_in-p.ensures.at_value at (c.call_ended.ensures c.args.values.now c.args.ahead.now (uses_in c.args.rows.now c.args.uses.now) c.args.things.now c.args.next_ahead.now c.args.next_entries.now
+    ∙ ap (λ (z : State). call_ended c.args.values.now c.args.layout.now c.args.ahead.now c.args.entries.now g c.place_in-p.result.at c.args.two z) (c.pop.ensures.en_value (uses_in c.args.rows.now c.args.uses.now) c.args.things.now c.args.code.now c.args.next_ahead.now c.args.next_entries.now)
+    ∙ ap (λ (f : Opened). call_ended c.args.values.now c.args.layout.now c.args.ahead.now c.args.entries.now f c.place_in-p.result.at c.args.two (popped (see c.args.t (uses_in c.args.rows.now c.args.uses.now) c.args.things.now c.args.code.now c.args.next_ahead.now c.args.next_entries.now))) c.top-c-in-32.ensures))
 
 pub returns-in_default : goal.returns-in_default
 unfolding code_node rest_node

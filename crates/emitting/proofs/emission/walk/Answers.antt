@@ -22,7 +22,7 @@ node-t-requires c =
     let l = c.loop-i in
     let h = c.loop-i-test.true in
     let r = c.requires in
-    small_alone l.t (uses_in c.args.rows.now c.args.uses.now) l.things l.code l.next-ahead l.next-entries (small_up (see c.loop-i.t (uses_in c.args.rows.now c.args.uses.now) c.loop-i.things c.loop-i.code c.loop-i.next-ahead c.loop-i.next-entries) l.invariant.0 (omega arith) (omega arith))
+    small_alone l.t (uses_in c.args.rows.now c.args.uses.now) l.things l.code l.next_ahead l.next_entries (small_up (see c.loop-i.t (uses_in c.args.rows.now c.args.uses.now) c.loop-i.things c.loop-i.code c.loop-i.next_ahead c.loop-i.next_entries) l.invariant.0 (omega arith) (omega arith))
 
 pub overflow_add-i-in-loop-i : goal.overflow_add-i-in-loop-i
 overflow_add-i-in-loop-i c = let h = c.loop-i-test.true in let l = c.requires in omega arith
@@ -33,7 +33,7 @@ loop-i-smaller c = let h = c.loop-i-test.true in let l = c.requires in omega ari
 pub loop-i-preserved : goal.loop-i-preserved
 loop-i-preserved c =
     let l = c.loop-i in
-    let z = see c.loop-i.t (uses_in c.args.rows.now c.args.uses.now) c.loop-i.things c.loop-i.code c.loop-i.next-ahead c.loop-i.next-entries in
+    let z = see c.loop-i.t (uses_in c.args.rows.now c.args.uses.now) c.loop-i.things c.loop-i.code c.loop-i.next_ahead c.loop-i.next_entries in
     let w = c.args.nodes.now in
     let i = l.i in
     let h = c.loop-i-test.true in
@@ -69,6 +69,6 @@ pub returns : goal.returns
 returns c =
     let l = c.loop-i in
     let w = c.args.nodes.now in
-    let z = see c.loop-i.t (uses_in c.args.rows.now c.args.uses.now) c.loop-i.things c.loop-i.code c.loop-i.next-ahead c.loop-i.next-entries in
-    let e = c.put.ensures.en_after (uses_in c.args.rows.now c.args.uses.now) l.things l.next-ahead l.next-entries ∙ ap (put 1 0 0) (sym (fold_end (placed_node c.args.values.now c.args.layout.now c.args.ahead.now c.args.entries.now c.args.rows.now c.args.marks.now (place_at c.args.places.now)) w l.i z c.loop-i-test.false) ∙ l.invariant.1) in
+    let z = see c.loop-i.t (uses_in c.args.rows.now c.args.uses.now) c.loop-i.things c.loop-i.code c.loop-i.next_ahead c.loop-i.next_entries in
+    let e = c.put.ensures.en_after (uses_in c.args.rows.now c.args.uses.now) l.things l.next_ahead l.next_entries ∙ ap (put 1 0 0) (sym (fold_end (placed_node c.args.values.now c.args.layout.now c.args.ahead.now c.args.entries.now c.args.rows.now c.args.marks.now (place_at c.args.places.now)) w l.i z c.loop-i-test.false) ∙ l.invariant.1) in
     record { code_after = ap (λ (st : State). st.code) e; next_ahead_after = ap (λ (st : State). st.ahead) e; next_entries_after = ap (λ (st : State). st.entries) e }

@@ -11,6 +11,6 @@ pub returns : goal.returns
 unfolding opening noted replaced with_open put
 returns c =
     let a = c.args in
-    let w = set a.next-ahead.now a.c.first (packed 0 0 a.t.here.at) in
+    let w = set a.next_ahead.now a.c.first (packed 0 0 a.t.here.at) in
     λ vs ly ks es us en. rw (c.set_word.ensures, c.going_to.ensures.value)
     (rw c.counts_for-counts.ensures.value at (c.replace.ensures.en_after us _ w en ∙ ap (replaced a.c.first 0 a.t.cells a.c.fourth) (c.put-r.ensures.en_after us a.things.now w en)))

@@ -10,5 +10,5 @@ use Rattle.emitting.proofs.flow.joined.Goals as goal
 pub returns : goal.returns
 unfolding joined noted popped with_open with_variable nameless
 returns c =
-    let w = set c.args.next-ahead.now c.args.c.first (packed 0 0 c.args.t.here.at) in
+    let w = set c.args.next_ahead.now c.args.c.first (packed 0 0 c.args.t.here.at) in
     λ vs ly ks es us op co en. rw (c.set_word.ensures, c.going_to.ensures.value) (ap nameless (c.pop-r.ensures.en_value us op co w en))

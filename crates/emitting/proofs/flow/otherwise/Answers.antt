@@ -16,6 +16,6 @@ pub returns : goal.returns
 unfolding otherwise noted with_slot with_open replaced put ahead_at
 returns c =
     let n = c.args.t.slots in
-    let w = set c.args.next-ahead.now c.args.c.first (packed 0 0 (c.args.t.here.at + 1)) in
+    let w = set c.args.next_ahead.now c.args.c.first (packed 0 0 (c.args.t.here.at + 1)) in
     λ vs ly es us en. rw (c.set_word.ensures, c.going_to.ensures.value)
     (rw (c.going_to-next.ensures.value, c.address_at.ensures) at (c.slot.ensures us _ _ w en ∙ ap with_slot (c.replace.ensures.en_after us _ w en ∙ ap (replaced n c.args.c.second 0 0) (c.put-r.ensures.en_after us c.args.things.now w en))))

@@ -50,5 +50,5 @@ returns c =
     λ vs ly es us en.
     simp (ne_eqb _ _ c.if-c-eq0.false)
     (c.element.ensures vs ly s es us _ en
-    ∙ ap (element vs ly s es (seen c.top-f.result)) (c.stepping.ensures.by_index vs ly es us x c.args.next-ahead.now en ∙ ap (stepping vs ly s es (seen c.top-f.result) k) (c.pop-around.ensures.en_value us x c.args.code.now c.args.next-ahead.now en))
-    ∙ ap (λ (f : Opened). element vs ly s es f (stepping vs ly s es f k (popped (see c.args.t us x c.args.code.now c.args.next-ahead.now en)))) e)
+    ∙ ap (element vs ly s es (seen c.top-f.result)) (c.stepping.ensures.by_index vs ly es us x c.args.next_ahead.now en ∙ ap (stepping vs ly s es (seen c.top-f.result) k) (c.pop-around.ensures.en_value us x c.args.code.now c.args.next_ahead.now en))
+    ∙ ap (λ (f : Opened). element vs ly s es f (stepping vs ly s es f k (popped (see c.args.t us x c.args.code.now c.args.next_ahead.now en)))) e)

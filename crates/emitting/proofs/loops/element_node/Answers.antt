@@ -7,7 +7,7 @@ use Rattle.emitting.proofs.loops.element_node.Goals as goal
 
 pub returns-in-16 : goal.returns-in-16
 unfolding element_node
-returns-in-16 c = λ vs ly es us en. simp c.in-16.is (c.started.ensures us c.args.things.now c.args.next-ahead.now en)
+returns-in-16 c = λ vs ly es us en. simp c.in-16.is (c.started.ensures us c.args.things.now c.args.next_ahead.now en)
 
 pub returns-in-17 : goal.returns-in-17
 unfolding element_node
@@ -19,7 +19,7 @@ returns-in-18 c = λ vs ly es us en. simp c.in-18.is (c.whiled.ensures vs ly es 
 
 pub returns-in-19 : goal.returns-in-19
 unfolding element_node
-returns-in-19 c = λ vs ly es us en. simp c.in-19.is (c.step_begun.ensures vs ly es us c.args.next-ahead.now en)
+returns-in-19 c = λ vs ly es us en. simp c.in-19.is (c.step_begun.ensures vs ly es us c.args.next_ahead.now en)
 
 pub returns-in_default : goal.returns-in_default
 unfolding element_node

@@ -11,6 +11,6 @@ use Rattle.emitting.proofs.loops.ended.Goals as goal
 pub returns : goal.returns
 unfolding within noted popped with_open put
 returns c =
-    let w = set c.args.next-ahead.now c.args.f.first (packed 0 0 (c.args.t.here.at + 1)) in
+    let w = set c.args.next_ahead.now c.args.f.first (packed 0 0 (c.args.t.here.at + 1)) in
     λ us op en. rw (c.set_word.ensures, c.going_to.ensures.value)
     (rw (c.packed.ensures.value, c.less-around.ensures) at (c.pop.ensures.en_value us op _ w en ∙ ap (λ (z : State). popped (within z.level c.less-around.result z.cells z)) (c.put-r.ensures.en_after us op w en)))

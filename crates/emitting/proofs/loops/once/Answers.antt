@@ -10,4 +10,4 @@ pub returns : goal.returns
 unfolding ahead_at
 returns c =
     let args = c.args in
-    λ vs ly es us en. rw c.address_at-next.ensures at (c.element.ensures vs ly args.ahead.now es us _ en ∙ ap (element vs ly args.ahead.now es (seen args.f)) (c.bodied.ensures.by_index vs ly es us args.things.now args.next-ahead.now en))
+    λ vs ly es us en. rw c.address_at-next.ensures at (c.element.ensures vs ly args.ahead.now es us _ en ∙ ap (element vs ly args.ahead.now es (seen args.f)) (c.bodied.ensures.by_index vs ly es us args.things.now args.next_ahead.now en))

@@ -17,7 +17,7 @@ unfolding step_held noted replaced with_open put
 returns c =
     let t = c.args.t in
     let k = c.args.c in
-    let w = set c.args.next-ahead.now k.first (packed 0 0 (t.here.at + 1)) in
+    let w = set c.args.next_ahead.now k.first (packed 0 0 (t.here.at + 1)) in
     λ vs ly ks es us en. rw (c.set_word.ensures, c.going_to.ensures.value, c.put-gone.ensures.alike.1)
     (rw c.packed-back.ensures.value at
     (c.replace.ensures.en_after us _ w en
