@@ -23,10 +23,10 @@ first_rows d l h = go (ltb d 8192) refl
 pub laid_out-requires : goal.laid_out-requires
 laid_out-requires c =
     let a = c.args in
-    omega (arith, ap length c.front.ensures, length-take a.n a.nodes.now, c.front-arg-1.given.0)
+    omega (arith, ap length c.front.ensures, length-take a.n a.nodes.now, c.front-arg-1.given)
 
 pub returns : goal.returns
 returns c =
     let a = c.args in
-    let r = c.front-3.ensures ∙ ap (λ (k : ℕ). take k a.rows.now) c.row_words.ensures ∙ first_rows a.d a.rows.now c.front-arg-3-1.given.0 in
+    let r = c.front-3.ensures ∙ ap (λ (k : ℕ). take k a.rows.now) c.row_words.ensures ∙ first_rows a.d a.rows.now c.front-arg-3-1.given in
     rw (c.front.ensures, c.front-2.ensures, r) at c.laid_out.ensures

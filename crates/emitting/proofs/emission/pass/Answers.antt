@@ -23,4 +23,4 @@ returns c =
     let f = begins (uses_in x.rows.now x.uses.now) (length x.code.now) c.clear-3.ensures a b in
     let r = c.walk.ensures in
     let e : State → State = emitted_from (place_at x.places.now) x.values.now x.layout.now x.ahead.now x.entries.now x.rows.now x.marks.now x.nodes.now in
-    record { code_after = r.0 ∙ ap (λ (st : State). (e st).code) f; next_ahead_after = r.1.0 ∙ ap (λ (st : State). (e st).ahead) f; next_entries_after = r.1.1 ∙ ap (λ (st : State). (e st).entries) f }
+    record { code_after = r.code_after ∙ ap (λ (st : State). (e st).code) f; next_ahead_after = r.next_ahead_after ∙ ap (λ (st : State). (e st).ahead) f; next_entries_after = r.next_entries_after ∙ ap (λ (st : State). (e st).entries) f }

@@ -48,9 +48,9 @@ loop-i-preserved c =
       subst (Small (65536 + 10 * (i + 1)) (i + 1)) (sym e) (small_up _ s (omega arith) (omega arith)),
       ap (fold_nodes (placed_node c.args.values.now c.args.layout.now c.args.ahead.now c.args.entries.now c.args.rows.now c.args.marks.now (place_at c.args.places.now)) (drop (4 * (i + 1)) w)) e ∙ sym (fold_on (placed_node c.args.values.now c.args.layout.now c.args.ahead.now c.args.entries.now c.args.rows.now c.args.marks.now (place_at c.args.places.now)) w i z h) ∙ l.invariant.1,
       omega arith,
-      k.1.1.1.1.1.1.1.1.1.1.1.1.1.1.0 ∙ l.invariant.3,
-      k.1.1.1.1.1.1.1.1.1.1.1.1.1.1.1.0 ∙ l.invariant.4,
-      k.1.1.1.1.1.1.1.1.1.1.1.1.1.1.1.1.0 ∙ l.invariant.5,
+      k.next_ahead ∙ l.invariant.3,
+      k.next_entries ∙ l.invariant.4,
+      k.code ∙ l.invariant.5,
     )
 
 pub put-requires : goal.put-requires
