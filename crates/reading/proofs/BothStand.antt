@@ -2,15 +2,12 @@
 -- fault, what the passes find is the scheme's.
 use Prim.Native.Nat.{ℕ, zero, suc, ◌+◌, ◌*◌, ◌-◌, ◌/◌, ◌<◌, ◌≤◌}
 use native.Mathlib.Omega.{arith}
-use native.Mathlib.Decide.{dec_lt}
 use mathlib.Core.Path.{◌≡◌, refl, sym, ap, subst, ◌∙◌}
 use mathlib.Core.List.{List, [], ◌∷◌, ◌++◌, map}
-use mathlib.Core.Option.{none, some}
-use lib.ListN.{length, get_or, take, drop, length-append, length-map}
-use lib.Seq.{get_or-take, length-take-le, take-append_seam}
+use lib.ListN.{length, get_or, take, drop, length-map}
+use lib.Seq.{get_or-take, take-append_seam}
 use Rattle.answers.specs.Numbers.{types}
 use Rattle.answers.specs.Answers.{refusal}
-use Rattle.answers.specs.declared.Refusal.{Refusal}
 use Rattle.answers.specs.declared.Verdict.TheVariants.{Refused as NotAccepted}
 use Rattle.symbols.specs.Names.{letters_at}
 use Rattle.symbols.specs.Symbols.{kind}
@@ -21,7 +18,6 @@ use Rattle.grammar.specs.model.Parsing.{zeros}
 use Rattle.names.specs.Program.{Name, Statement, dummy, block, last, Declarations, Procedure}
 use Rattle.names.specs.Uses.{Fault, name_faults, least}
 use Rattle.names.specs.Nodes.{nodes_s}
-use Rattle.names.specs.Outline.{rows_s}
 use Rattle.names.specs.Prelude.{declarations_of, with_prelude, prelude_alone, around_it, name_faults_with}
 use Rattle.names.proofs.AllNames.{AllS, AllD}
 use Rattle.names.proofs.Weaken.{map_all}
@@ -31,19 +27,17 @@ use Rattle.names.proofs.Fours.{Fours, none as no-four, one, fours_weaken}
 use Rattle.names.proofs.Least.{none_empty}
 use Rattle.names.proofs.Named.{named_behind, named_prelude}
 use Rattle.names.proofs.NearNodes.{SymbolsWithin, nodes_near, some_symbols, prelude_near, behind_before_end}
-use Rattle.types.specs.Types.{faults_s, type_faults, type_fault, type_fault_in}
+use Rattle.types.specs.Types.{type_faults, type_fault, type_fault_in}
 use Rattle.types.specs.model.Passes.{marks_of}
 use Rattle.types.proofs.Behind.{types_behind}
 use Rattle.table.proofs.Fits.{prelude_room, behind_room, rows_room_with}
 use Rattle.reading.specs.Judging as any
 use Rattle.reading.specs.Judges.{JudgedBy, misnamed, mistyped}
 use Rattle.reading.specs.Two.{beyond, symbols, half_words, count_of, left, place_with, Prelude, procedures, scheme_judge, scheme_in}
-use Rattle.reading.specs.declared.Sizes.{Sizes}
 use Rattle.reading.specs.declared.Found.{Found}
-use Rattle.reading.specs.declared.Found.TheVariants.{Program, Refused}
 use Rattle.reading.specs.model.Moves.{page, shift, first_raised, first_shifted, marked, Symbols, PlacedWith}
 use Rattle.reading.specs.model.Passing.{Kept, place_from, Passes}
-use Rattle.reading.specs.model.Preluding.{SymbolsIn, SchemeNodes, Apart, depth_with, as_scheme, Joined, JoinTold, both_refused, both_stand}
+use Rattle.reading.specs.model.Preluding.{Apart, depth_with, as_scheme, JoinTold, both_refused, both_stand}
 use Rattle.reading.proofs.Answers.{place-from}
 use Rattle.reading.proofs.Passed.{Stands, Said, at_names, at_types, right, said}
 use Rattle.reading.proofs.Places.{few_symbols}

@@ -1,23 +1,21 @@
 -- Request 7: the words of a half. What was found of both tells the scheme's uses, declarations and nodes; these are written over zeros, and then the uses of the prelude's
 -- names get kind 4.
-use Prim.Native.Nat.{ℕ, zero, suc, ◌+◌, ◌*◌, ◌-◌, ◌<◌, ◌≤◌}
+use Prim.Native.Nat.{ℕ, ◌+◌, ◌*◌, ◌-◌, ◌<◌, ◌≤◌}
 use native.Mathlib.Omega.{arith}
 use native.Mathlib.Nat.{mod-eq_of_lt}
 use native.Mathlib.Decide.{dec_lt}
 use mathlib.Core.Path.{◌≡◌, refl, sym, ap, subst, ◌∙◌}
-use mathlib.Core.Bool.{Bool, true, false, not, cond}
-use mathlib.Core.List.{List, [], ◌∷◌, ◌++◌, map, append-nil, append_assoc}
-use mathlib.Core.Option.{none}
+use mathlib.Core.Bool.{not}
+use mathlib.Core.List.{List, [], ◌∷◌, ◌++◌, append-nil, append_assoc}
 use lib.Dec.{ltb}
-use lib.ListN.{length, get_or, take, drop, length-append, length-map, length-take, length-drop}
+use lib.ListN.{length, take, drop, length-append, length-map, length-take, length-drop}
 use lib.Seq.{take_at, take_all, drop_at, drop-drop}
 use borrow.Author.Tests.{lt-ltb, le-ltb}
 use Rattle.answers.specs.declared.Verdict.{Verdict}
 use Rattle.answers.specs.declared.Verdict.TheVariants.{Accepted}
-use Rattle.symbols.specs.Scan.{scan}
 use Rattle.grammar.specs.model.Parsing.{zeros}
 use Rattle.names.specs.Program.{Statement, Procedure}
-use Rattle.names.specs.Uses.{Row, Use, row_of, uses_s, uses_d, joined, faults_here, scopes_s, unmeant, least}
+use Rattle.names.specs.Uses.{Use, uses_s, uses_d, joined, faults_here, scopes_s, unmeant}
 use Rattle.names.specs.Scopes.{Scope, of_block}
 use Rattle.names.specs.Nodes.{nodes_s}
 use Rattle.names.specs.Outline.{rows_s, declarations}
@@ -37,7 +35,7 @@ use Rattle.table.proofs.TableWords.{rows_behind, behind_words}
 use Rattle.table.proofs.UseWords.{nil_both, words_length}
 use Rattle.reading.specs.Judging as any
 use Rattle.reading.specs.Judges.{accepted}
-use Rattle.reading.specs.Two.{symbols, half_words, count_of, left, place_with, procedures, scheme_in, Half, behind, ReadsTwo, enough}
+use Rattle.reading.specs.Two.{symbols, half_words, count_of, left, place_with, procedures, Half, behind, ReadsTwo, enough}
 use Rattle.reading.specs.declared.Both.{Both}
 use Rattle.reading.specs.model.Moves.{page}
 use Rattle.reading.specs.model.Preluding.{depth_with, as_scheme, BothFill}

@@ -6,9 +6,9 @@ use mathlib.Core.Path.{◌≡◌, refl, sym, ap, ◌∙◌, subst}
 use mathlib.Core.Bool.{true, false, cond}
 use mathlib.Core.Logic.{◌⊎◌, inl, inr}
 use borrow.Author.Tests.{ne_eqb}
-use mathlib.Core.List.{List, [], ◌∷◌, ◌++◌, append-nil, append_assoc}
+use mathlib.Core.List.{List, [], ◌∷◌, ◌++◌, append_assoc}
 use lib.ListN.{length, take, drop, set, get_or, length-set, length-append, take-append-drop}
-use lib.Seq.{length-take-le, take_all, take-suc, drop-cons, set_at, take_at, take-append_seam, drop-append_seam, drop-append-add, drop-drop}
+use lib.Seq.{length-take-le, take_all, take-suc, drop-cons, set_at, take_at, take-append_seam, drop-append_seam, drop-append-add}
 use Rattle.grammar.specs.model.Parsing.{zeros}
 use Rattle.grammar.specs.NodeKinds.{n_block, n_statements, n_block_end}
 use Rattle.names.specs.Nodes.{mark}

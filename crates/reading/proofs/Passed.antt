@@ -18,7 +18,7 @@ use Rattle.names.specs.model.Identity.{Identified, letters_of, GivenAs}
 use Rattle.names.specs.model.Rows.{identity_in, fault_of, least_key, no_fault, outline_of, uses_of}
 use Rattle.names.proofs.AllNames.{AllS}
 use Rattle.names.proofs.Weaken.{map_all}
-use Rattle.names.proofs.Least.{Near, Small, some_fault, no_fault_lem}
+use Rattle.names.proofs.Least.{some_fault, no_fault_lem}
 use Rattle.names.proofs.NearNames.{near_names, small_names}
 use Rattle.names.proofs.NearNodes.{SymbolsWithin}
 use Rattle.names.proofs.TreeLaws.{least_append}

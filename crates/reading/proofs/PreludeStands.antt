@@ -1,11 +1,10 @@
 -- Request 7: a prelude by itself. Its procedures in the marks of a block around nothing are a program, so the passes tell its faults 7 to 10; without one it is a prelude.
-use Prim.Native.Nat.{ℕ, ◌+◌, ◌*◌, ◌-◌, ◌/◌, ◌<◌, ◌≤◌}
+use Prim.Native.Nat.{ℕ, ◌*◌, ◌-◌, ◌/◌, ◌<◌, ◌≤◌}
 use native.Mathlib.Omega.{arith}
 use native.Mathlib.Decide.{ℕ_discrete}
 use mathlib.Core.Path.{◌≡◌, refl, sym, ap, subst, ◌∙◌}
-use mathlib.Core.List.{List, [], ◌∷◌, ◌++◌, map, append-nil}
-use mathlib.Core.Option.{Option, none, some}
-use lib.ListN.{length, get_or, take, length-append}
+use mathlib.Core.List.{List, [], ◌∷◌, ◌++◌, map}
+use lib.ListN.{length, get_or, take}
 use lib.Seq.{take-append_seam}
 use Rattle.answers.specs.Numbers.{long, grammar, depth, types}
 use Rattle.answers.specs.Answers.{answer, refusal}
@@ -18,7 +17,6 @@ use Rattle.symbols.specs.model.Steps.{Filled}
 use Rattle.symbols.proofs.FirstFault.{first_fault}
 use Rattle.symbols.specs.declared.Scanned.{Scanned as Told}
 use Rattle.symbols.specs.declared.Scanned.TheVariants.{Refused as Symbols-refused}
-use Rattle.grammar.specs.NodeKinds.{n_block, n_statements, n_block_end}
 use Rattle.grammar.specs.Program.{PreludeFault, PreludeDeep}
 use Rattle.grammar.specs.Trees.{yield}
 use Rattle.grammar.specs.model.Text.{text}
@@ -27,20 +25,19 @@ use Rattle.grammar.specs.model.Parsing.{zeros}
 use Rattle.grammar.specs.declared.Parsed.{Parsed as Outcome}
 use Rattle.grammar.specs.declared.Parsed.TheVariants.{Read as Program-read, Refused as Program-refused}
 use Rattle.syntax.specs.model.Preludes.{WholePrelude, PreludeSays}
-use Rattle.names.specs.Program.{Name, Statement, dummy, Procedure, heading}
+use Rattle.names.specs.Program.{Name, Statement, dummy, Procedure}
 use Rattle.names.specs.Scopes.{in_block}
 use Rattle.names.specs.Uses.{Fault, name_faults, least, joined, twice_in, heading_in, each, scopes_s, uses_s}
 use Rattle.names.specs.Nodes.{nodes_s, nodes_d}
 use Rattle.names.specs.Outline.{rows_s, declarations}
-use Rattle.names.specs.Prelude.{declarations_of, with_prelude, prelude_alone, declarations_with}
+use Rattle.names.specs.Prelude.{declarations_of, with_prelude, prelude_alone}
 use Rattle.names.proofs.AllNames.{AllS, AllD}
 use Rattle.names.proofs.Weaken.{map_all}
-use Rattle.names.proofs.Behind.{declared_behind}
 use Rattle.names.proofs.Bridge.{bridge_prelude}
 use Rattle.names.proofs.Fours.{none as no-four, one, fours_append, fours_weaken}
 use Rattle.names.proofs.Named.{named_prelude}
 use Rattle.names.proofs.NearNodes.{SymbolsWithin, prelude_near}
-use Rattle.names.proofs.Resolved.{Matches, matches_length}
+use Rattle.names.proofs.Resolved.{matches_length}
 use Rattle.types.specs.Types.{type_faults, type_fault, faults_s}
 use Rattle.types.proofs.TreeStatements.{At, deep, outermost}
 use Rattle.table.specs.model.Writing.{among}
@@ -48,12 +45,12 @@ use Rattle.table.proofs.Few.{is_declared}
 use Rattle.table.proofs.Fits.{rows_length, alone_room, prelude_room}
 use Rattle.reading.specs.Judging as any
 use Rattle.reading.specs.Judges.{further, JudgedBy, too_long, unreadable, ungrammatical, too_deep, misnamed, mistyped}
-use Rattle.reading.specs.Two.{beyond, symbols, prelude_place, procedures_in, prelude_judge, Prelude}
+use Rattle.reading.specs.Two.{beyond, symbols, prelude_place, procedures_in, prelude_judge}
 use Rattle.reading.specs.declared.Sizes.{Sizes}
 use Rattle.reading.specs.declared.Found.{Found}
 use Rattle.reading.specs.declared.Found.TheVariants.{Program, Refused}
 use Rattle.reading.specs.model.Moves.{marked}
-use Rattle.reading.specs.model.Passing.{Kept, place_from, Passes}
+use Rattle.reading.specs.model.Passing.{place_from, Passes}
 use Rattle.reading.specs.model.Preluding.{SymbolsIn, PreludeNodes, PreludeFills, PreludeTold, prelude_refused, prelude_stands, PreludeFound, found_refused, depth_with}
 use Rattle.reading.proofs.Answers.{place-from}
 use Rattle.reading.proofs.Passed.{Stands, Said, at_names, at_types, right, said, rows_here_lem, uses_here}

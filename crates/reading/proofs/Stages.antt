@@ -1,5 +1,5 @@
 -- From the arrays to the definitions: what scanning and parsing left says that the symbols, and then the program, stand.
-use Prim.Native.Nat.{ℕ, zero, suc, ◌+◌, ◌-◌, ◌<◌, ◌≤◌}
+use Prim.Native.Nat.{ℕ, zero, suc, ◌-◌, ◌<◌, ◌≤◌}
 use mathlib.Core.Path.{◌≡◌, refl, sym, ap, subst, ◌∙◌}
 use mathlib.Core.Logic.{◌⊎◌, ⊎_elim, inl, inr}
 use mathlib.Core.List.{List, [], ◌∷◌, ◌++◌}
@@ -27,7 +27,7 @@ use Rattle.grammar.specs.declared.Parsed.{Parsed as Outcome}
 use Rattle.grammar.specs.declared.Parsed.TheVariants.{Read as Program-read, Refused as Program-refused}
 use Rattle.reading.specs.Judging as any
 use Rattle.reading.specs.Judging.{unreadable, ungrammatical, too_deep}
-use Rattle.reading.specs.Reading.{symbols, kinds_in, place_in, cleared, Judged}
+use Rattle.reading.specs.Reading.{symbols, place_in, cleared, Judged}
 use Rattle.reading.specs.model.Stages.{Placed, Symbols, Ready}
 use Rattle.reading.specs.model.Preluding.{SymbolsIn}
 use Rattle.reading.proofs.Places.{few_symbols}

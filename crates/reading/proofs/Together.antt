@@ -4,7 +4,6 @@ use native.Mathlib.Omega.{arith}
 use native.Mathlib.Decide.{dec_lt}
 use mathlib.Core.Path.{◌≡◌, refl, sym, ap, ◌∙◌}
 use mathlib.Core.List.{List, [], ◌∷◌, ◌++◌}
-use lib.Dec.{ltb}
 use lib.ListN.{length, take, get_or, length-map, get_or-append, get_or-eq_default}
 use lib.Seq.{length-take-le, get_or-take, get_or-append-add}
 use borrow.Author.Tests.{lt-ltb, le-ltb}

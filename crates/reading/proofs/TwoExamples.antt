@@ -8,7 +8,6 @@ use lib.ListN.{length, drop}
 use borrow.Author.Tests.{leb-true}
 use Rattle.answers.specs.Answers.{refusal}
 use Rattle.answers.specs.Numbers.{twice}
-use Rattle.answers.specs.declared.Verdict.{Verdict}
 use Rattle.answers.specs.declared.Verdict.TheVariants.{Accepted, Refused}
 use Rattle.symbols.specs.Text.{bytes}
 use Rattle.symbols.specs.Names.{blank, letter, digit, in_name, these, reach, value_from, decimals, equal, same_name, folded}
@@ -16,14 +15,14 @@ use Rattle.symbols.specs.Scan.{before, closed, spelled, named, word, gap, follow
 use Rattle.grammar.specs.declared.Level.TheVariants.{Product, Sum, Conjunction, Disjunction, Implication, Equivalence}
 use Rattle.grammar.specs.declared.Entry.TheVariants.{Variable}
 use Rattle.grammar.specs.declared.Use.TheVariants.{AsPrimary}
-use Rattle.grammar.specs.Grammar.{program, preludes, rhs, begin_end, a_block, a_tail, a_head, no_declaration, typed, variables, integer, a_list, no_other, a_statement, no_statement, plain, dummy, compound, with_name, assignment, value, simple, chain, no_more, no_not, a_relation, no_comparison, number, a_name_lem, bare, primary, part, a_procedure, a_heading, no_formals, no_values, no_specification, typed_procedure, untyped_procedure, no_procedure}
+use Rattle.grammar.specs.Grammar.{program, preludes, rhs, a_block, a_tail, a_head, no_declaration, typed, variables, integer, a_list, no_other, no_statement, plain, dummy, with_name, assignment, value, simple, chain, no_more, no_not, a_relation, no_comparison, number, a_name_lem, bare, primary, part, a_procedure, a_heading, no_formals, no_values, no_specification, typed_procedure, untyped_procedure, no_procedure}
 use Rattle.grammar.specs.Trees.{Syn, nil, tok, sub, yield}
 use Rattle.grammar.specs.model.Parsing.{zeros}
 use Rattle.grammar.proofs.Meet.{trip}
 use Rattle.grammar.proofs.Unique.{clear_keeps, clear_keeps_in}
 use Rattle.grammar.proofs.Preludes.{a_prelude}
 use Rattle.names.specs.ReadOff.{build, read, program_from, prelude_of}
-use Rattle.names.specs.Scopes.{has, variables_in, in_block, in_body, specified, find_in, find_given, meaning}
+use Rattle.names.specs.Scopes.{has, variables_in, in_block, in_body, find_in, find_given, meaning}
 use Rattle.names.specs.Uses.{uses_e, uses_s, uses_ss, uses_d, uses_p, scopes_s, scopes_ss, scopes_d, scopes_p, each, twice_in, heading_in, all_names, missing, joined, name_faults, least}
 use Rattle.names.specs.Nodes.{nodes_e, nodes_n, nodes_left, nodes_s, nodes_ss, nodes_d}
 use Rattle.names.specs.Outline.{size_s, size_ss, size_d, size_p, rows_n, rows_s, rows_ss, rows_d}

@@ -7,7 +7,7 @@ use lib.ListN.{length, get_or}
 use Rattle.symbols.specs.Names.{letters_at}
 use Rattle.symbols.specs.Scan.{scan, values_of}
 use Rattle.grammar.specs.Trees.{yield}
-use Rattle.names.specs.Program.{Name, Statement}
+use Rattle.names.specs.Program.{Statement}
 use Rattle.names.specs.Nodes.{nodes_s}
 use Rattle.names.specs.Outline.{rows_s}
 use Rattle.names.proofs.AllNames.{AllS}

@@ -1,12 +1,12 @@
 -- Request 7: what is found of a prelude, of a scheme behind it, and of both as one program. These serve contracts and are no part of the paper.
-use Rattle.std.specs.Prelude.{ℕ, ◌+◌, ◌*◌, ◌<◌, ◌≤◌, min, ◌≡◌, List, [], ◌∷◌, ◌++◌, length, get_or, take}
+use Rattle.std.specs.Prelude.{ℕ, ◌*◌, ◌<◌, ◌≤◌, ◌≡◌, List, [], ◌∷◌, ◌++◌, length, get_or, take}
 use Rattle.std.proofs.Math.Option.{none}
 use Rattle.answers.specs.declared.Refusal.{Refusal}
 use Rattle.answers.specs.declared.Verdict.TheVariants.{Refused as NotAccepted}
 use Rattle.symbols.specs.Scan.{scan, values_of}
 use Rattle.grammar.specs.model.Marked.{nodes_of, prelude_nodes}
 use Rattle.grammar.specs.model.Parsing.{zeros}
-use Rattle.names.specs.Program.{Statement, Procedure}
+use Rattle.names.specs.Program.{Procedure}
 use Rattle.names.specs.Nodes.{nodes_s}
 use Rattle.names.specs.Outline.{declarations}
 use Rattle.names.specs.Prelude.{prelude_alone, with_prelude, around_it, name_faults_with}

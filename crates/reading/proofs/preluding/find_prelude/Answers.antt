@@ -1,0 +1,14 @@
+-- `reading::preluding::find_prelude` meets its contract: 32,768 is added to a refusal's place. Assumes nothing.
+use native.Mathlib.Omega.{arith}
+use Rattle.reading.specs.model.Preluding.{found_stands}
+use Rattle.reading.proofs.PreludeStands.{told_refusal, told_fills, as_found}
+use Rattle.reading.proofs.preluding.find_prelude.Goals as goal
+
+pub overflow_add-r : goal.overflow_add-r
+overflow_add-r c = omega (arith, (told_refusal c.told.ensures _ c.in-Refused.is).0)
+
+pub returns-in-Program : goal.returns-in-Program
+returns-in-Program c = found_stands _ (told_fills c.told.ensures _ c.in-Program.is)
+
+pub returns-in-Refused : goal.returns-in-Refused
+returns-in-Refused c = as_found _ (told_refusal c.told.ensures _ c.in-Refused.is).1 c.new.ensures
