@@ -5,7 +5,6 @@ use Prim.Native.Nat.{◌+◌}
 use native.Mathlib.Omega.{arith}
 use borrow.Author.Tests.{eq-eqb, ne_eqb}
 use Rattle.emitting.specs.model.Emission.{replaced, begun, actual_in}
-use borrow.Author.Rules.{rules}
 use Rattle.emitting.proofs.actuals.actual_in.Goals as goal
 
 pub returns-then-c-eq0 : goal.returns-then-c-eq0

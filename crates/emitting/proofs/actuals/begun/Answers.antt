@@ -3,7 +3,6 @@
 use mathlib.Core.Path.{sym, ◌∙◌}
 use borrow.Author.Tests.{eq-eqb, ne_eqb}
 use Rattle.emitting.specs.model.Emission.{begun}
-use borrow.Author.Rules.{rules}
 use Rattle.emitting.proofs.actuals.begun.Goals as goal
 
 pub returns-then-formal_at-eq2 : goal.returns-then-formal_at-eq2

@@ -2,7 +2,6 @@
 -- Assumes nothing.
 use native.Mathlib.Omega.{arith}
 use borrow.Author.Tests.{lt-ltb, le-ltb}
-use borrow.Author.Rules.{rules}
 use Rattle.emitting.proofs.actuals.ended.Goals as goal
 
 pub returns-then-c-lt4 : goal.returns-then-c-lt4

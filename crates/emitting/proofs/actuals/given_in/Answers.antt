@@ -5,7 +5,6 @@ use mathlib.Core.Bool.{cond, ◌&&◌}
 use Prim.Native.Nat.{◌+◌}
 use lib.Dec.{eqb}
 use Rattle.emitting.specs.model.Emission.{State, with_variable, with_open, replaced}
-use borrow.Author.Rules.{rules}
 use Rattle.emitting.proofs.actuals.given_in.Goals as goal
 
 pub returns : goal.returns

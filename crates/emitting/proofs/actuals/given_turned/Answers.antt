@@ -4,7 +4,6 @@ use mathlib.Core.Path.{refl}
 use borrow.Author.Tests.{eq-eqb, ne_eqb}
 use Rattle.emitting.specs.model.Emission.{given_turned}
 use Rattle.emitting.proofs.Alikes.{alike_same}
-use borrow.Author.Rules.{rules}
 use Rattle.emitting.proofs.actuals.given_turned.Goals as goal
 
 pub returns-then-c-eq2 : goal.returns-then-c-eq2

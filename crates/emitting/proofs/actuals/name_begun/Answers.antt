@@ -5,7 +5,6 @@ use Prim.Native.Nat.{◌+◌}
 use native.Mathlib.Omega.{arith}
 use Rattle.emitting.specs.model.Emission.{State, replaced, with_open, with_slot, within, name_begun}
 use Rattle.emitting.proofs.Alikes.{alike_then}
-use borrow.Author.Rules.{rules}
 use Rattle.emitting.proofs.actuals.name_begun.Goals as goal
 
 pub overflow_add-r-4 : goal.overflow_add-r-4

@@ -3,7 +3,6 @@
 use mathlib.Core.Path.{ap, ◌∙◌}
 use Rattle.emitting.specs.model.Emission.{put, ahead_at, lending}
 use Rattle.emitting.proofs.Alikes.{alike_then}
-use borrow.Author.Rules.{rules}
 use Rattle.emitting.proofs.actuals.opening.Goals as goal
 
 pub returns : goal.returns

@@ -2,7 +2,6 @@
 -- Assumes nothing.
 use native.Mathlib.Omega.{arith}
 use Rattle.emitting.specs.model.Emission.{ahead_at}
-use borrow.Author.Rules.{rules}
 use Rattle.emitting.proofs.actuals.place_ahead.Goals as goal
 
 pub returns : goal.returns

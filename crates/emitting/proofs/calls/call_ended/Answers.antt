@@ -3,7 +3,6 @@
 use mathlib.Core.Path.{ap}
 use borrow.Author.Tests.{eq-eqb, ne_eqb}
 use Rattle.emitting.specs.model.Emission.{call_ended, nameless, with_variable}
-use borrow.Author.Rules.{rules}
 use Rattle.emitting.proofs.calls.call_ended.Goals as goal
 
 pub returns-then-c-eq2 : goal.returns-then-c-eq2

@@ -1,7 +1,6 @@
 -- `emitting::calls::called_with` meets its contract: the three parts of the operand are the model's.
 -- Assumes nothing.
 use Rattle.emitting.specs.model.Emission.{called_with}
-use borrow.Author.Rules.{rules}
 use Rattle.emitting.proofs.calls.called_with.Goals as goal
 
 pub returns : goal.returns

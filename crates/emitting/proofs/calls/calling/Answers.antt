@@ -5,7 +5,6 @@ use Prim.Native.Nat.{◌+◌}
 use native.Mathlib.Omega.{arith}
 use borrow.Author.Tests.{eq-eqb, ne_eqb}
 use Rattle.emitting.specs.model.Emission.{pushed, begun, calling}
-use borrow.Author.Rules.{rules}
 use Rattle.emitting.proofs.calls.calling.Goals as goal
 
 pub begun-requires : goal.begun-requires

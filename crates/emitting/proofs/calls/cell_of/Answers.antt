@@ -2,7 +2,6 @@
 -- Assumes nothing.
 use borrow.Author.Tests.{eq-eqb, ne_eqb}
 use Rattle.emitting.specs.model.Emission.{cell_of}
-use borrow.Author.Rules.{rules}
 use Rattle.emitting.proofs.calls.cell_of.Goals as goal
 
 pub returns-then-k-eq2 : goal.returns-then-k-eq2

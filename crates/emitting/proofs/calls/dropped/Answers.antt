@@ -2,7 +2,6 @@
 -- Assumes nothing.
 use borrow.Author.Tests.{eq-eqb, ne_eqb}
 use Rattle.emitting.specs.model.Emission.{dropped}
-use borrow.Author.Rules.{rules}
 use Rattle.emitting.proofs.calls.dropped.Goals as goal
 
 pub returns-then-u-eq0 : goal.returns-then-u-eq0

@@ -3,7 +3,6 @@
 use mathlib.Core.Path.{ap, ◌∙◌}
 use borrow.Author.Tests.{eq-eqb, ne_eqb}
 use Rattle.emitting.specs.model.Emission.{dropped}
-use borrow.Author.Rules.{rules}
 use Rattle.emitting.proofs.calls.given_ended.Goals as goal
 
 pub returns-then-c-eq0 : goal.returns-then-c-eq0

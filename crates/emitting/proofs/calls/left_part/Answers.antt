@@ -3,7 +3,6 @@
 use mathlib.Core.Path.{ap}
 use Prim.Native.Nat.{◌+◌}
 use Rattle.emitting.specs.model.Emission.{State, with_lefts, pushed, with_open}
-use borrow.Author.Rules.{rules}
 use Rattle.emitting.proofs.calls.left_part.Goals as goal
 
 pub returns : goal.returns

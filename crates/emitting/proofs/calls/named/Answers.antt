@@ -3,7 +3,6 @@
 use mathlib.Core.Path.{ap, ◌∙◌}
 use borrow.Author.Tests.{eq-eqb, ne_eqb}
 use Rattle.emitting.specs.model.Emission.{named, dropped, called_with}
-use borrow.Author.Rules.{rules}
 use Rattle.emitting.proofs.calls.named.Goals as goal
 
 pub returns-then-k-eq0 : goal.returns-then-k-eq0

@@ -5,7 +5,6 @@ use Prim.Native.Nat.{ℕ}
 use borrow.Author.Tests.{eq-eqb, ne_eqb}
 use Rattle.emitting.specs.model.Emission.{named, named_or, with_variable}
 use Rattle.emitting.specs.model.Arrays.{see}
-use borrow.Author.Rules.{rules}
 use Rattle.emitting.proofs.calls.named_or.Goals as goal
 
 pub returns-then-t-eq0 : goal.returns-then-t-eq0

@@ -2,7 +2,6 @@
 -- Assumes nothing.
 use mathlib.Core.Path.{ap, ◌∙◌}
 use Rattle.emitting.specs.model.Emission.{repeated, with_slot}
-use borrow.Author.Rules.{rules}
 use Rattle.emitting.proofs.calls.repeated.Goals as goal
 
 pub returns : goal.returns

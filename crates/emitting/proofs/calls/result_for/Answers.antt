@@ -5,7 +5,6 @@ use borrow.Author.Tests.{eq-eqb, ne_eqb}
 use Rattle.emitting.specs.model.Emission.{result_for}
 use Rattle.emitting.proofs.Alikes.{alike_same}
 use native.Mathlib.Omega.{arith}
-use borrow.Author.Rules.{rules}
 use Rattle.emitting.proofs.calls.result_for.Goals as goal
 
 pub returns-then-result_of-eq0 : goal.returns-then-result_of-eq0

@@ -3,7 +3,6 @@
 use borrow.Author.Tests.{eq-eqb, ne_eqb}
 use Rattle.emitting.specs.model.Emission.{result_of}
 use native.Mathlib.Omega.{arith}
-use borrow.Author.Rules.{rules}
 use Rattle.emitting.proofs.calls.result_of.Goals as goal
 
 pub returns-then-k-eq2 : goal.returns-then-k-eq2

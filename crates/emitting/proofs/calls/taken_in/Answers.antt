@@ -3,7 +3,6 @@
 use mathlib.Core.Path.{sym, ap, ◌∙◌}
 use borrow.Author.Tests.{eq-eqb, ne_eqb}
 use Rattle.emitting.specs.model.Emission.{on_cell, taken_in}
-use borrow.Author.Rules.{rules}
 use Rattle.emitting.proofs.calls.taken_in.Goals as goal
 
 pub returns-then-low-eq2 : goal.returns-then-low-eq2

@@ -4,7 +4,6 @@ use mathlib.Core.Path.{ap, ◌∙◌}
 use borrow.Author.Tests.{ne_eqb}
 use Prim.Native.Nat.{◌+◌}
 use Rattle.emitting.specs.model.Emission.{State, uses_in, use_node, named_or, calling, cell_of, pushed, with_lefts, repeated}
-use borrow.Author.Rules.{rules}
 use Rattle.emitting.proofs.calls.use_node.Goals as goal
 
 pub returns-in-30 : goal.returns-in-30

@@ -4,7 +4,6 @@ use mathlib.Core.Path.{sym, ap, ◌∙◌}
 use native.Mathlib.Omega.{arith}
 use borrow.Author.Tests.{eq-eqb, ne_eqb}
 use Rattle.emitting.specs.model.Emission.{Opened, word_of}
-use borrow.Author.Rules.{rules}
 use Rattle.emitting.proofs.calls.word_of.Goals as goal
 
 pub returns-then-k-eq0 : goal.returns-then-k-eq0

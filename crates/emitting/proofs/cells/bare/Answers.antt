@@ -1,7 +1,6 @@
 -- `emitting::cells::bare` meets its contract: the two parts are packed again.
 -- Assumes nothing.
 use Rattle.emitting.specs.model.Emission.{bare}
-use borrow.Author.Rules.{rules}
 use Rattle.emitting.proofs.cells.bare.Goals as goal
 
 pub returns : goal.returns

@@ -3,7 +3,6 @@
 use mathlib.Core.Path.{sym, ◌∙◌}
 use borrow.Author.Tests.{eq-eqb, ne_eqb}
 use Rattle.emitting.specs.model.Emission.{lending}
-use borrow.Author.Rules.{rules}
 use Rattle.emitting.proofs.cells.lending.Goals as goal
 
 pub returns-then-sort-eq0 : goal.returns-then-sort-eq0

@@ -5,7 +5,6 @@ use native.Mathlib.Omega.{arith}
 use borrow.Author.Tests.{eq-eqb, ne_eqb}
 use Rattle.emitting.specs.model.Emission.{put, on_cell, found_word}
 use Rattle.emitting.proofs.Alikes.{alike_then}
-use borrow.Author.Rules.{rules}
 use Rattle.emitting.proofs.cells.on_cell.Goals as goal
 
 pub returns-then-low-eq2 : goal.returns-then-low-eq2

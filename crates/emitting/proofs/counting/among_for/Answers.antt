@@ -5,7 +5,6 @@ use mathlib.Core.Path.{ap}
 use lib.ListN.{length, length-take}
 use Prim.Native.Nat.{◌*◌}
 use Rattle.emitting.specs.model.Layout.{among_for}
-use borrow.Author.Rules.{rules}
 use Rattle.emitting.proofs.counting.among_for.Goals as goal
 
 pub returns : goal.returns

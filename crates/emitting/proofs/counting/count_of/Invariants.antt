@@ -1,13 +1,10 @@
 -- `emitting::counting::count_of` meets its contract: the rows from here on count as many as all of them do, with those so far.
 -- Assumes nothing.
-use mathlib.Core.Path.{◌≡◌, refl, sym, ap, ◌∙◌}
-use native.Mathlib.Omega.{arith}
-use Prim.Native.Nat.{◌+◌, ◌*◌, ◌-◌, ◌≤◌}
+use mathlib.Core.Path.{◌≡◌}
+use Prim.Native.Nat.{◌*◌, ◌-◌, ◌≤◌}
 use lib.ListN.{length, drop}
-use borrow.Author.Rules.{rules}
 use Rattle.names.specs.model.Rows.{fold_nodes}
-use Rattle.names.proofs.RowLaws.{fold_on, fold_end}
-use Rattle.emitting.specs.model.Layout.{counting, count_of}
+use Rattle.emitting.specs.model.Layout.{counting}
 use Rattle.emitting.proofs.counting.count_of.Given as goal
 
 abbrev pub invariant-loop-i : goal.invariant-loop-i

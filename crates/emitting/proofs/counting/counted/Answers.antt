@@ -3,7 +3,6 @@
 use mathlib.Core.Path.{sym, ◌∙◌}
 use native.Mathlib.Omega.{arith}
 use Rattle.emitting.specs.model.Layout.{counting}
-use borrow.Author.Rules.{rules}
 use Rattle.emitting.proofs.counting.counted.Goals as goal
 
 pub returns-then-is_of : goal.returns-then-is_of

@@ -2,7 +2,6 @@
 -- Assumes nothing.
 use native.Mathlib.Omega.{arith}
 use Rattle.emitting.specs.model.Layout.{counts_for}
-use borrow.Author.Rules.{rules}
 use Rattle.emitting.proofs.counting.counts_for.Goals as goal
 
 pub returns : goal.returns

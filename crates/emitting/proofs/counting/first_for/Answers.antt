@@ -3,7 +3,6 @@
 use native.Mathlib.Omega.{arith}
 use borrow.Author.Tests.{eq-eqb, ne_eqb}
 use Rattle.emitting.specs.model.Layout.{first_for}
-use borrow.Author.Rules.{rules}
 use Rattle.emitting.proofs.counting.first_for.Goals as goal
 
 pub returns-then-sort-eq-INTEGER : goal.returns-then-sort-eq-INTEGER

@@ -6,7 +6,6 @@ use Prim.Native.Nat.{◌-◌}
 use Rattle.emitting.specs.model.Emission.{State, Opened, assigned, stored, lefts_of, with_lefts, with_open}
 use Rattle.emitting.specs.model.Arrays.{things_of, see}
 use Rattle.emitting.proofs.LeftParts.{behind_things}
-use borrow.Author.Rules.{rules}
 use Rattle.emitting.proofs.emission.assigned.Goals as goal
 
 pub returns : goal.returns

@@ -1,6 +1,5 @@
 -- `emitting::emission::left_at` meets its contract: the newest of those that are left.
 -- Assumes nothing.
-use borrow.Author.Rules.{rules}
 use Rattle.emitting.proofs.emission.left_at.Goals as goal
 
 pub returns : goal.returns

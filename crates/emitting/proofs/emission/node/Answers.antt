@@ -7,7 +7,6 @@ use Rattle.names.specs.model.Rows.{is_use}
 use Rattle.emitting.specs.model.Emission.{State, uses_in, Opened, code_node, actual_in, call_ended, popped}
 use Rattle.emitting.specs.model.Arrays.{things_of, seen, see, Slim, rest_node}
 use Rattle.emitting.proofs.Counters.{fit, slim_top}
-use borrow.Author.Rules.{rules}
 use Rattle.emitting.proofs.emission.node.Goals as goal
 
 pub use_node-requires : goal.use_node-requires

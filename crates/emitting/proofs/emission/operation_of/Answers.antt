@@ -3,7 +3,6 @@
 use borrow.Author.Tests.{lt-ltb, le-ltb}
 use native.Mathlib.Omega.{arith}
 use Rattle.emitting.specs.model.Emission.{operation_of}
-use borrow.Author.Rules.{rules}
 use Rattle.emitting.proofs.emission.operation_of.Goals as goal
 
 pub returns-then-k-lt19 : goal.returns-then-k-lt19

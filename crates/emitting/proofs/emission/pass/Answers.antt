@@ -6,7 +6,6 @@ use Prim.Native.Nat.{ℕ}
 use lib.ListN.{length, replicate}
 use Rattle.emitting.specs.model.Emission.{Used, State, uses_in, place_at, emitted, fresh}
 use Rattle.emitting.specs.model.Arrays.{fresh_in, emitted_from}
-use borrow.Author.Rules.{rules}
 use Rattle.emitting.proofs.emission.pass.Goals as goal
 
 begins : (us : List Used) (n : ℕ) {c a e : List ℕ} → c ≡ replicate n 0 → a ≡ replicate 8192 0 → e ≡ replicate 2048 0 → fresh_in us c a e ≡ fresh n us

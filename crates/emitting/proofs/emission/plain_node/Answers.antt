@@ -3,7 +3,6 @@
 use mathlib.Core.Path.{ap}
 use borrow.Author.Tests.{ne_eqb}
 use Rattle.emitting.specs.model.Emission.{plain_node, within, with_cell, with_variable, nameless}
-use borrow.Author.Rules.{rules}
 use Rattle.emitting.proofs.emission.plain_node.Goals as goal
 
 pub returns-in-28 : goal.returns-in-28

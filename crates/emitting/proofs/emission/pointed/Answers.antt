@@ -2,7 +2,6 @@
 -- Assumes nothing.
 use mathlib.Core.Path.{ap, ◌∙◌}
 use Rattle.emitting.specs.model.Emission.{put, bits_of, lower_of, upper_of}
-use borrow.Author.Rules.{rules}
 use Rattle.emitting.proofs.emission.pointed.Goals as goal
 
 pub returns : goal.returns

@@ -6,7 +6,6 @@ use Rattle.emitting.specs.model.Emission.{Opened, element_node, loop_node, choic
 use Rattle.emitting.specs.model.Arrays.{things_of, see, Slim}
 use Rattle.emitting.proofs.Counters.{fit, slim_top}
 use Rattle.emitting.proofs.Dispatch.{rest_element, rest_loop, rest_choice, rest_block, rest_procedure, rest_plain}
-use borrow.Author.Rules.{rules}
 use Rattle.emitting.proofs.emission.rest_node.Goals as goal
 
 pub top-c-requires : goal.top-c-requires

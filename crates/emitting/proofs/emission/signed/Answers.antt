@@ -2,7 +2,6 @@
 -- Assumes nothing.
 use borrow.Author.Tests.{eq-eqb, ne_eqb}
 use Rattle.emitting.specs.model.Emission.{signed}
-use borrow.Author.Rules.{rules}
 use Rattle.emitting.proofs.emission.signed.Goals as goal
 
 pub returns-then-k-eq19 : goal.returns-then-k-eq19

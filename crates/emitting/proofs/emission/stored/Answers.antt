@@ -3,15 +3,13 @@
 use mathlib.Core.Path.{◌≡◌, refl, sym, ap, ◌∙◌}
 use native.Mathlib.Omega.{arith}
 use mathlib.Core.Bool.{cond}
-use mathlib.Core.List.{List, []}
-use Prim.Native.Nat.{ℕ, ◌+◌, ◌*◌, ◌-◌, ◌≤◌}
+use mathlib.Core.List.{[]}
+use Prim.Native.Nat.{◌-◌}
 use lib.Dec.{eqb}
-use lib.ListN.{length}
-use Rattle.emitting.specs.model.Emission.{Used, Opened, top, on_cell, stored, lefts_of}
+use Rattle.emitting.specs.model.Emission.{Opened, top, on_cell, stored, lefts_of}
 use Rattle.emitting.specs.model.Arrays.{things_of, seen, see}
 use Rattle.emitting.proofs.LeftParts.{stored_step}
 use Rattle.emitting.proofs.Counters.{left_third}
-use borrow.Author.Rules.{rules}
 use Rattle.emitting.proofs.emission.stored.Goals as goal
 
 pub loop-n-init : goal.loop-n-init

@@ -1,17 +1,11 @@
 -- `emitting::emission::stored` meets its contract. The loop's invariant: n left parts are to be stored yet, and with them the state comes to what
 -- all of them make of the first one.
-use mathlib.Core.Path.{◌≡◌, refl, sym, ap, ◌∙◌}
-use native.Mathlib.Omega.{arith}
-use mathlib.Core.Bool.{cond}
+use mathlib.Core.Path.{◌≡◌}
 use mathlib.Core.List.{List, []}
-use Prim.Native.Nat.{ℕ, ◌+◌, ◌*◌, ◌-◌, ◌≤◌}
-use lib.Dec.{eqb}
+use Prim.Native.Nat.{ℕ, ◌+◌, ◌*◌, ◌≤◌}
 use lib.ListN.{length}
-use Rattle.emitting.specs.model.Emission.{Used, Opened, top, on_cell, stored, lefts_of}
-use Rattle.emitting.specs.model.Arrays.{things_of, seen, see}
-use Rattle.emitting.proofs.LeftParts.{stored_step}
-use Rattle.emitting.proofs.Counters.{left_third}
-use borrow.Author.Rules.{rules}
+use Rattle.emitting.specs.model.Emission.{Used, stored, lefts_of}
+use Rattle.emitting.specs.model.Arrays.{things_of, see}
 use Rattle.emitting.proofs.emission.stored.Given as goal
 
 abbrev pub invariant-loop-n : goal.invariant-loop-n

@@ -1,14 +1,13 @@
 -- `emitting::emission::walk` meets its contract. The loop's invariant: the counts behind i nodes are small, and what the nodes from here on make of
 -- what is known is what all of them make of nothing.
-use mathlib.Core.Path.{◌≡◌, refl, sym, ap, subst, ◌∙◌}
+use mathlib.Core.Path.{refl, sym, ap, subst, ◌∙◌}
 use native.Mathlib.Omega.{arith}
-use Prim.Native.Nat.{ℕ, ◌+◌, ◌*◌, ◌-◌, ◌≤◌, ◌<◌}
-use lib.ListN.{length, get_or, drop}
-use borrow.Author.Rules.{rules}
+use Prim.Native.Nat.{ℕ, ◌+◌, ◌*◌, ◌<◌}
+use lib.ListN.{get_or, drop}
 use Rattle.names.specs.model.Rows.{fold_nodes}
 use Rattle.names.proofs.RowLaws.{fold_on, fold_end}
 use Rattle.emitting.specs.model.Emission.{State, uses_in, place_at, put, placed_node}
-use Rattle.emitting.specs.model.Arrays.{things_of, see, AllSlim, Small, fresh_in}
+use Rattle.emitting.specs.model.Arrays.{things_of, see, AllSlim, Small}
 use Rattle.emitting.proofs.NextUses.{next_small}
 use Rattle.emitting.proofs.Counters.{small_node, small_up, small_alone}
 use Rattle.emitting.proofs.emission.walk.Goals as goal

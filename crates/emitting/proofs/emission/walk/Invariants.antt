@@ -1,16 +1,11 @@
 -- `emitting::emission::walk` meets its contract. The loop's invariant: the counts behind i nodes are small, and what the nodes from here on make of
 -- what is known is what all of them make of nothing.
-use mathlib.Core.Path.{◌≡◌, refl, sym, ap, subst, ◌∙◌}
-use native.Mathlib.Omega.{arith}
-use Prim.Native.Nat.{ℕ, ◌+◌, ◌*◌, ◌-◌, ◌≤◌, ◌<◌}
-use lib.ListN.{length, get_or, drop}
-use borrow.Author.Rules.{rules}
+use mathlib.Core.Path.{◌≡◌}
+use Prim.Native.Nat.{◌+◌, ◌*◌, ◌-◌, ◌≤◌}
+use lib.ListN.{length, drop}
 use Rattle.names.specs.model.Rows.{fold_nodes}
-use Rattle.names.proofs.RowLaws.{fold_on, fold_end}
-use Rattle.emitting.specs.model.Emission.{State, uses_in, place_at, put, placed_node}
-use Rattle.emitting.specs.model.Arrays.{things_of, see, AllSlim, Small, fresh_in}
-use Rattle.emitting.proofs.NextUses.{next_small}
-use Rattle.emitting.proofs.Counters.{small_node, small_up, small_alone}
+use Rattle.emitting.specs.model.Emission.{uses_in, place_at, placed_node}
+use Rattle.emitting.specs.model.Arrays.{see, Small, fresh_in}
 use Rattle.emitting.proofs.emission.walk.Given as goal
 
 abbrev pub invariant-loop-i : goal.invariant-loop-i

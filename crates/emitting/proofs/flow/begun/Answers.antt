@@ -4,7 +4,6 @@ use mathlib.Core.Path.{ap, ◌∙◌}
 use lib.ListN.{set}
 use Rattle.emitting.specs.model.Layout.{packed}
 use Rattle.emitting.specs.model.Emission.{opening, noted, put, replaced, with_open}
-use borrow.Author.Rules.{rules}
 use Rattle.emitting.proofs.flow.begun.Goals as goal
 
 pub returns : goal.returns

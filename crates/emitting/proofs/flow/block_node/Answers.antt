@@ -2,7 +2,6 @@
 -- Assumes nothing.
 use borrow.Author.Tests.{ne_eqb}
 use Rattle.emitting.specs.model.Emission.{block_node}
-use borrow.Author.Rules.{rules}
 use Rattle.emitting.proofs.flow.block_node.Goals as goal
 
 pub returns-in-1 : goal.returns-in-1

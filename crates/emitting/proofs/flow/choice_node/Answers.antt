@@ -4,7 +4,6 @@ use mathlib.Core.Path.{ap, ◌∙◌}
 use Rattle.emitting.specs.model.Arrays.{seen}
 use borrow.Author.Tests.{ne_eqb}
 use Rattle.emitting.specs.model.Emission.{otherwise, joined, choice_node}
-use borrow.Author.Rules.{rules}
 use Rattle.emitting.proofs.flow.choice_node.Goals as goal
 
 pub returns-in-12 : goal.returns-in-12

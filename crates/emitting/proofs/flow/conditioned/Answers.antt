@@ -2,7 +2,6 @@
 -- Assumes nothing.
 use mathlib.Core.Path.{ap, ◌∙◌}
 use Rattle.emitting.specs.model.Emission.{pushed, with_slot, ahead_at}
-use borrow.Author.Rules.{rules}
 use Rattle.emitting.proofs.flow.conditioned.Goals as goal
 
 pub returns : goal.returns

@@ -4,7 +4,6 @@ use mathlib.Core.Path.{ap}
 use Prim.Native.Nat.{◌+◌}
 use lib.ListN.{set}
 use Rattle.emitting.specs.model.Emission.{State, pushed, within, with_cell, with_entry, with_open, proceeding}
-use borrow.Author.Rules.{rules}
 use Rattle.emitting.proofs.flow.declared.Goals as goal
 
 pub returns : goal.returns

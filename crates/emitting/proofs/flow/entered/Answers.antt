@@ -2,7 +2,6 @@
 -- Assumes nothing.
 use mathlib.Core.Path.{ap, ◌∙◌}
 use Rattle.emitting.specs.model.Emission.{State, pushed, within, with_open, with_slot, with_variable, nameless}
-use borrow.Author.Rules.{rules}
 use Rattle.emitting.proofs.flow.entered.Goals as goal
 
 pub returns : goal.returns

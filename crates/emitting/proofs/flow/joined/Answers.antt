@@ -4,7 +4,6 @@ use mathlib.Core.Path.{ap}
 use lib.ListN.{set}
 use Rattle.emitting.specs.model.Layout.{packed}
 use Rattle.emitting.specs.model.Emission.{joined, noted, popped, with_open, with_variable, nameless}
-use borrow.Author.Rules.{rules}
 use Rattle.emitting.proofs.flow.joined.Goals as goal
 
 pub returns : goal.returns

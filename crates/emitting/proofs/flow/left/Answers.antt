@@ -2,7 +2,6 @@
 -- Assumes nothing.
 use mathlib.Core.Path.{ap, ◌∙◌}
 use Rattle.emitting.specs.model.Emission.{State, put, popped, within, with_open}
-use borrow.Author.Rules.{rules}
 use Rattle.emitting.proofs.flow.left.Goals as goal
 
 pub returns : goal.returns

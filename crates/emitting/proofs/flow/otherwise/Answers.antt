@@ -6,7 +6,6 @@ use Prim.Native.Nat.{◌+◌}
 use lib.ListN.{set}
 use Rattle.emitting.specs.model.Layout.{packed}
 use Rattle.emitting.specs.model.Emission.{otherwise, noted, put, replaced, with_open, with_slot, ahead_at}
-use borrow.Author.Rules.{rules}
 use Rattle.emitting.proofs.flow.otherwise.Goals as goal
 
 pub slot-requires : goal.slot-requires

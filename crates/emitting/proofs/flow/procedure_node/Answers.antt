@@ -3,7 +3,6 @@
 use mathlib.Core.Path.{ap, ◌∙◌}
 use borrow.Author.Tests.{ne_eqb}
 use Rattle.emitting.specs.model.Emission.{proceeding, procedure_node}
-use borrow.Author.Rules.{rules}
 use Rattle.emitting.proofs.flow.procedure_node.Goals as goal
 
 pub returns-in-6 : goal.returns-in-6

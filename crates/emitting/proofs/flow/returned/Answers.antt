@@ -3,7 +3,6 @@
 use mathlib.Core.Path.{ap, ◌∙◌}
 use Prim.Native.Nat.{◌-◌}
 use Rattle.emitting.specs.model.Emission.{State, put, popped, within, with_open, with_variable}
-use borrow.Author.Rules.{rules}
 use Rattle.emitting.proofs.flow.returned.Goals as goal
 
 pub returns : goal.returns

@@ -4,7 +4,6 @@ use mathlib.Core.Path.{refl}
 use borrow.Author.Tests.{eq-eqb, ne_eqb}
 use Rattle.emitting.specs.model.Emission.{skipped, ahead_at}
 use Rattle.emitting.proofs.Alikes.{alike_same}
-use borrow.Author.Rules.{rules}
 use Rattle.emitting.proofs.flow.skipped.Goals as goal
 
 pub returns-then-t-eq0 : goal.returns-then-t-eq0

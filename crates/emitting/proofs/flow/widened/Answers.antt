@@ -5,7 +5,6 @@ use native.Mathlib.Omega.{arith}
 use borrow.Author.Tests.{eq-eqb, ne_eqb}
 use Rattle.emitting.specs.model.Emission.{widened}
 use Rattle.emitting.proofs.Alikes.{alike_same}
-use borrow.Author.Rules.{rules}
 use Rattle.emitting.proofs.flow.widened.Goals as goal
 
 pub returns-then-c-part : goal.returns-then-c-part

@@ -2,7 +2,6 @@
 -- Assumes nothing.
 use Rattle.emitting.specs.model.Layout.{blocked}
 use mathlib.Core.Path.{refl}
-use borrow.Author.Rules.{rules}
 use Rattle.emitting.proofs.layout.blocked.Goals as goal
 
 pub returns : goal.returns

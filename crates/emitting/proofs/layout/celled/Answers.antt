@@ -1,7 +1,6 @@
 -- `emitting::layout::celled` meets its contract: the word is written, and one cell more is taken.
 -- Assumes nothing.
 use Rattle.emitting.specs.model.Layout.{celled}
-use borrow.Author.Rules.{rules}
 use Rattle.emitting.proofs.layout.celled.Goals as goal
 
 pub returns : goal.returns

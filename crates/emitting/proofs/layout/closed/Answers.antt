@@ -3,7 +3,6 @@
 use Rattle.names.specs.model.Rows.{opens_of}
 use Rattle.emitting.specs.model.Layout.{closed, outermost, further}
 use Rattle.emitting.proofs.Spreading.{opens_outermost, opens_further}
-use borrow.Author.Rules.{rules}
 use Rattle.emitting.proofs.layout.closed.Goals as goal
 
 pub returns-then-n-eq0 : goal.returns-then-n-eq0

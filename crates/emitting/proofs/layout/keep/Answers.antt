@@ -1,7 +1,6 @@
 -- `emitting::layout::keep` meets its contract: the number written is the new head.
 -- Assumes nothing.
 use Rattle.names.proofs.RowLaws.{opens_enter}
-use borrow.Author.Rules.{rules}
 use Rattle.emitting.proofs.layout.keep.Goals as goal
 
 pub returns : goal.returns

@@ -1,14 +1,13 @@
 -- `emitting::layout::lay` meets its contract. The loop's invariant: behind i nodes the layout has spread no further than i, and what the nodes from
 -- here on make of it is what all of them make of nothing.
-use mathlib.Core.Path.{◌≡◌, refl, sym, ap, subst, ◌∙◌}
+use mathlib.Core.Path.{refl, sym, ap, subst, ◌∙◌}
 use native.Mathlib.Omega.{arith}
-use Prim.Native.Nat.{◌+◌, ◌*◌, ◌-◌, ◌≤◌}
-use lib.ListN.{length, get_or, drop}
-use borrow.Author.Rules.{rules}
+use Prim.Native.Nat.{◌+◌, ◌*◌}
+use lib.ListN.{get_or, drop}
 use Rattle.names.specs.model.Rows.{fold_nodes, opens_of}
 use Rattle.names.proofs.RowLaws.{fold_on, fold_end}
 use Rattle.emitting.specs.model.Layout.{Laying, lay_node}
-use Rattle.emitting.specs.model.Arrays.{lain, unlaid_in, AllWithin, Spread}
+use Rattle.emitting.specs.model.Arrays.{lain, AllWithin, Spread}
 use Rattle.emitting.proofs.Spreading.{spread_node, spread_up}
 use Rattle.emitting.proofs.layout.lay.Goals as goal
 

@@ -1,15 +1,11 @@
 -- `emitting::layout::lay` meets its contract. The loop's invariant: behind i nodes the layout has spread no further than i, and what the nodes from
 -- here on make of it is what all of them make of nothing.
-use mathlib.Core.Path.{◌≡◌, refl, sym, ap, subst, ◌∙◌}
-use native.Mathlib.Omega.{arith}
-use Prim.Native.Nat.{◌+◌, ◌*◌, ◌-◌, ◌≤◌}
-use lib.ListN.{length, get_or, drop}
-use borrow.Author.Rules.{rules}
-use Rattle.names.specs.model.Rows.{fold_nodes, opens_of}
-use Rattle.names.proofs.RowLaws.{fold_on, fold_end}
-use Rattle.emitting.specs.model.Layout.{Laying, lay_node}
-use Rattle.emitting.specs.model.Arrays.{lain, unlaid_in, AllWithin, Spread}
-use Rattle.emitting.proofs.Spreading.{spread_node, spread_up}
+use mathlib.Core.Path.{◌≡◌}
+use Prim.Native.Nat.{◌*◌, ◌-◌, ◌≤◌}
+use lib.ListN.{length, drop}
+use Rattle.names.specs.model.Rows.{fold_nodes}
+use Rattle.emitting.specs.model.Layout.{lay_node}
+use Rattle.emitting.specs.model.Arrays.{lain, unlaid_in, Spread}
 use Rattle.emitting.proofs.layout.lay.Given as goal
 
 abbrev pub invariant-loop-i : goal.invariant-loop-i

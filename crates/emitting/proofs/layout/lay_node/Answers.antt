@@ -5,7 +5,6 @@ use native.Mathlib.Omega.{arith}
 use borrow.Author.Tests.{ne_eqb}
 use Rattle.emitting.specs.model.Layout.{lay_node, typed}
 use Rattle.emitting.proofs.Spreading.{length_opens}
-use borrow.Author.Rules.{rules}
 use Rattle.emitting.proofs.layout.lay_node.Goals as goal
 
 pub celled-requires : goal.celled-requires

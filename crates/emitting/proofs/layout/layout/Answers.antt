@@ -7,7 +7,6 @@ use lib.ListN.{replicate}
 use Rattle.names.specs.model.Rows.{fold_nodes}
 use Rattle.emitting.specs.model.Layout.{lay_node, layout_of}
 use Rattle.emitting.specs.model.Arrays.{unlaid_in}
-use borrow.Author.Rules.{rules}
 use Rattle.emitting.proofs.layout.layout.Goals as goal
 
 pub returns : goal.returns

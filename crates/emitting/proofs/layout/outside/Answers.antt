@@ -3,7 +3,6 @@
 use Rattle.names.specs.model.Rows.{opens_of}
 use Rattle.emitting.specs.model.Layout.{outermost}
 use Rattle.emitting.proofs.Spreading.{opens_outermost}
-use borrow.Author.Rules.{rules}
 use Rattle.emitting.proofs.layout.outside.Goals as goal
 
 pub returns-then-n-eq0 : goal.returns-then-n-eq0

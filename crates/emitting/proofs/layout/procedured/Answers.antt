@@ -5,7 +5,6 @@ use mathlib.Core.List.{[]}
 use lib.ListN.{set}
 use Prim.Native.Nat.{◌+◌}
 use Rattle.emitting.specs.model.Layout.{Laying, packed, one_of, blocked, procedured}
-use borrow.Author.Rules.{rules}
 use Rattle.emitting.proofs.layout.procedured.Goals as goal
 
 pub returns : goal.returns

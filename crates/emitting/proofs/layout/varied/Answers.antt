@@ -3,7 +3,6 @@
 use native.Mathlib.Omega.{arith}
 use Rattle.names.specs.model.Rows.{opens_of}
 use Rattle.emitting.proofs.Spreading.{length_opens, outermost_within}
-use borrow.Author.Rules.{rules}
 use Rattle.emitting.proofs.layout.varied.Goals as goal
 
 pub outside-requires : goal.outside-requires

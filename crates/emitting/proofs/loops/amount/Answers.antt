@@ -8,7 +8,6 @@ use Rattle.emitting.specs.model.Emission.{Opened, State, top, below, popped, wit
 use Rattle.emitting.specs.model.Arrays.{seen, see, things_of, Slim}
 use Rattle.emitting.proofs.Counters.{fit, slim_top}
 use Rattle.emitting.proofs.LeftParts.{slim_below}
-use borrow.Author.Rules.{rules}
 use Rattle.emitting.proofs.loops.amount.Goals as goal
 
 pub step_held-requires : goal.step_held-requires

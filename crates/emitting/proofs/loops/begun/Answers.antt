@@ -5,7 +5,6 @@ use Prim.Native.Nat.{◌+◌}
 use lib.ListN.{set}
 use Rattle.emitting.specs.model.Layout.{packed}
 use Rattle.emitting.specs.model.Emission.{State, within, noted, with_open, replaced}
-use borrow.Author.Rules.{rules}
 use Rattle.emitting.proofs.loops.begun.Goals as goal
 
 pub returns : goal.returns

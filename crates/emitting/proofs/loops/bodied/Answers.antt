@@ -1,7 +1,6 @@
 -- `emitting::loops::bodied` meets its contract: the three parts of the operand are the model's.
 -- Assumes nothing.
 use Rattle.emitting.specs.model.Emission.{bodied, ahead_at}
-use borrow.Author.Rules.{rules}
 use Rattle.emitting.proofs.loops.bodied.Goals as goal
 
 pub returns : goal.returns

@@ -4,7 +4,6 @@ use mathlib.Core.Path.{ap, ◌∙◌}
 use lib.ListN.{set}
 use Rattle.emitting.specs.model.Layout.{packed}
 use Rattle.emitting.specs.model.Emission.{element, noted, with_slot, with_open, replaced}
-use borrow.Author.Rules.{rules}
 use Rattle.emitting.proofs.loops.element.Goals as goal
 
 pub returns : goal.returns

@@ -2,7 +2,6 @@
 -- Assumes nothing.
 use borrow.Author.Tests.{ne_eqb}
 use Rattle.emitting.specs.model.Emission.{element_node}
-use borrow.Author.Rules.{rules}
 use Rattle.emitting.proofs.loops.element_node.Goals as goal
 
 pub returns-in-16 : goal.returns-in-16

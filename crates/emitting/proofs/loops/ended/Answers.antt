@@ -1,11 +1,10 @@
 -- `emitting::loops::ended` meets its contract: back to the position noted, and one for statement fewer is around.
 -- Assumes nothing.
 use mathlib.Core.Path.{ap, ◌∙◌}
-use Prim.Native.Nat.{◌+◌, ◌-◌}
+use Prim.Native.Nat.{◌+◌}
 use lib.ListN.{set}
 use Rattle.emitting.specs.model.Layout.{packed}
 use Rattle.emitting.specs.model.Emission.{State, put, within, noted, popped, with_open}
-use borrow.Author.Rules.{rules}
 use Rattle.emitting.proofs.loops.ended.Goals as goal
 
 pub returns : goal.returns

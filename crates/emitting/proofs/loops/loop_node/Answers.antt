@@ -2,7 +2,6 @@
 -- Assumes nothing.
 use borrow.Author.Tests.{ne_eqb}
 use Rattle.emitting.specs.model.Emission.{loop_node}
-use borrow.Author.Rules.{rules}
 use Rattle.emitting.proofs.loops.loop_node.Goals as goal
 
 pub returns-in-21 : goal.returns-in-21

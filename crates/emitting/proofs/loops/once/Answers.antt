@@ -1,9 +1,8 @@
 -- `emitting::loops::once` meets its contract: to the body, and the element ends.
 -- Assumes nothing.
 use mathlib.Core.Path.{ap, ◌∙◌}
-use Rattle.emitting.specs.model.Emission.{element, bodied, ahead_at}
+use Rattle.emitting.specs.model.Emission.{element, ahead_at}
 use Rattle.emitting.specs.model.Arrays.{seen}
-use borrow.Author.Rules.{rules}
 use Rattle.emitting.proofs.loops.once.Goals as goal
 
 pub returns : goal.returns

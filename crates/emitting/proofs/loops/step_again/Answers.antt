@@ -1,7 +1,6 @@
 -- `emitting::loops::step_again` meets its contract: the three parts of the operand are the model's.
 -- Assumes nothing.
 use Rattle.emitting.specs.model.Emission.{step_again}
-use borrow.Author.Rules.{rules}
 use Rattle.emitting.proofs.loops.step_again.Goals as goal
 
 pub returns : goal.returns

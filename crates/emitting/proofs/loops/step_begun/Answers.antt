@@ -4,7 +4,6 @@ use mathlib.Core.Path.{ap, ◌∙◌}
 use native.Mathlib.Omega.{arith}
 use Prim.Native.Nat.{◌+◌}
 use Rattle.emitting.specs.model.Emission.{pushed, with_slot, ahead_at, step_begun}
-use borrow.Author.Rules.{rules}
 use Rattle.emitting.proofs.loops.step_begun.Goals as goal
 
 pub slot-requires : goal.slot-requires

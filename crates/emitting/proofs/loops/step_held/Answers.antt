@@ -6,7 +6,6 @@ use Prim.Native.Nat.{◌+◌}
 use lib.ListN.{set}
 use Rattle.emitting.specs.model.Layout.{packed}
 use Rattle.emitting.specs.model.Emission.{State, put, noted, replaced, with_open, step_held}
-use borrow.Author.Rules.{rules}
 use Rattle.emitting.proofs.loops.step_held.Goals as goal
 
 pub replace-requires : goal.replace-requires

@@ -4,7 +4,6 @@ use mathlib.Core.Path.{ap, ◌∙◌}
 use native.Mathlib.Omega.{arith}
 use Rattle.emitting.specs.model.Emission.{put, step_again, added, stepping}
 use Rattle.emitting.specs.model.Arrays.{seen}
-use borrow.Author.Rules.{rules}
 use Rattle.emitting.proofs.loops.stepping.Goals as goal
 
 pub step_again-again-requires : goal.step_again-again-requires
@@ -31,9 +30,12 @@ returns c =
     let a = c.turning-gone.ensures.alike in
     let b = c.step_again-again.ensures.alike in
     let d = c.added-stored.ensures.alike in
-    let e = c.put.ensures.alike in record { by_index = λ vs ly es us op ah en.
+    let e = c.put.ensures.alike in record {
+      by_index = λ vs ly es us op ah en.
           rw c.going_to.ensures.value at
           (c.put.ensures.en_after us op ah en
           ∙ ap (put 2 0 c.going_to.result) (c.added-stored.ensures.en_after vs ly s es us op ah en
           ∙ ap (added vs ly s es f.third f.second k.third) (c.step_again-again.ensures.en_after vs ly s es us op ah en
-          ∙ ap (step_again vs ly s es (seen k)) (c.turning-gone.ensures.by_index vs ly es us op ah en)))); slots_value = (e.0.slots ∙ d.0.slots ∙ b.0.slots ∙ a.0.slots, e.2 ∙ d.2 ∙ b.2 ∙ a.2) }
+          ∙ ap (step_again vs ly s es (seen k)) (c.turning-gone.ensures.by_index vs ly es us op ah en))));
+      slots_value = (e.0.slots ∙ d.0.slots ∙ b.0.slots ∙ a.0.slots, e.2 ∙ d.2 ∙ b.2 ∙ a.2);
+    }

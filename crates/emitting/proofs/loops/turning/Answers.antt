@@ -6,7 +6,6 @@ use Prim.Native.Nat.{◌+◌}
 use Rattle.emitting.specs.model.Emission.{State, bodied, turning, ahead_at}
 use Rattle.emitting.specs.model.Arrays.{seen}
 use Rattle.emitting.proofs.Alikes.{alike_then}
-use borrow.Author.Rules.{rules}
 use Rattle.emitting.proofs.loops.turning.Goals as goal
 
 pub overflow_add-back : goal.overflow_add-back

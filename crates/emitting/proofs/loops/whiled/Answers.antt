@@ -4,7 +4,6 @@ use mathlib.Core.Path.{ap, ◌∙◌}
 use native.Mathlib.Omega.{arith}
 use Rattle.emitting.specs.model.Emission.{element, bodied, ahead_at}
 use Rattle.emitting.specs.model.Arrays.{seen}
-use borrow.Author.Rules.{rules}
 use Rattle.emitting.proofs.loops.whiled.Goals as goal
 
 pub element-requires : goal.element-requires

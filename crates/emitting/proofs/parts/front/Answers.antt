@@ -5,7 +5,6 @@ use native.Mathlib.Omega.{arith}
 use Prim.Native.Nat.{◌≤◌}
 use lib.ListN.{length}
 use lib.Seq.{length-take-le, take_all}
-use borrow.Author.Rules.{rules}
 use Rattle.emitting.proofs.parts.front.Goals as goal
 
 pub slice_bounds-result-end : goal.slice_bounds-result-end

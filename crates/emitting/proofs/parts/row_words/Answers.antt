@@ -1,7 +1,6 @@
 -- `emitting::parts::row_words` meets its contract: by the test.
 -- Assumes nothing.
 use borrow.Author.Tests.{lt-ltb, le-ltb}
-use borrow.Author.Rules.{rules}
 use Rattle.emitting.proofs.parts.row_words.Goals as goal
 
 pub returns-then-d-lt8192 : goal.returns-then-d-lt8192

@@ -2,7 +2,6 @@
 -- Assumes nothing.
 use mathlib.Core.Path.{refl, sym}
 use lib.ListN.{get_or-eq_default}
-use borrow.Author.Rules.{rules}
 use Rattle.emitting.proofs.parts.value_of.Goals as goal
 
 pub returns-then-s-values : goal.returns-then-s-values

@@ -3,7 +3,6 @@
 use mathlib.Core.Path.{ap, ◌∙◌}
 use Rattle.emitting.specs.model.Emission.{uses_in, place_at, code_of}
 use lib.ListN.{length}
-use borrow.Author.Rules.{rules}
 use Rattle.emitting.proofs.passes.laid_out.Goals as goal
 
 pub returns : goal.returns

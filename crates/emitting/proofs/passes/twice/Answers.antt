@@ -3,7 +3,6 @@
 use Rattle.emitting.proofs.Twice.{second_run}
 use lib.ListN.{length}
 use Rattle.emitting.specs.model.Emission.{uses_in, place_at}
-use borrow.Author.Rules.{rules}
 use Rattle.emitting.proofs.passes.twice.Goals as goal
 
 pub returns : goal.returns

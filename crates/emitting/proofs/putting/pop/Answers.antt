@@ -5,7 +5,6 @@ use native.Mathlib.Omega.{arith}
 use Rattle.emitting.specs.model.Emission.{popped, with_open, below}
 use Rattle.emitting.specs.model.Arrays.{things_of}
 use Rattle.emitting.proofs.Stacked.{things_below}
-use borrow.Author.Rules.{rules}
 use Rattle.emitting.proofs.putting.pop.Goals as goal
 
 pub returns-then-t-eq0 : goal.returns-then-t-eq0

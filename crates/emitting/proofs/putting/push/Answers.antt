@@ -2,7 +2,6 @@
 -- Assumes nothing.
 use mathlib.Core.Path.{refl}
 use Rattle.emitting.specs.model.Emission.{pushed, with_open}
-use borrow.Author.Rules.{rules}
 use Rattle.emitting.proofs.putting.push.Goals as goal
 
 pub returns : goal.returns

@@ -2,7 +2,6 @@
 -- Assumes nothing.
 use mathlib.Core.Path.{refl}
 use Rattle.emitting.specs.model.Emission.{put}
-use borrow.Author.Rules.{rules}
 use Rattle.emitting.proofs.putting.put.Goals as goal
 
 pub returns : goal.returns

@@ -4,7 +4,6 @@ use mathlib.Core.Path.{◌∙◌, ap}
 use Rattle.emitting.specs.model.Emission.{pushed, popped, replaced, with_open}
 use native.Mathlib.Omega.{arith}
 use Rattle.emitting.proofs.Alikes.{alike_then}
-use borrow.Author.Rules.{rules}
 use Rattle.emitting.proofs.putting.replace.Goals as goal
 
 pub push-requires : goal.push-requires

@@ -2,7 +2,6 @@
 -- Assumes nothing.
 use mathlib.Core.Path.{refl}
 use Rattle.emitting.specs.model.Emission.{with_slot}
-use borrow.Author.Rules.{rules}
 use Rattle.emitting.proofs.putting.slot.Goals as goal
 
 pub returns : goal.returns

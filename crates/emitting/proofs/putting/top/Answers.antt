@@ -4,7 +4,6 @@ use mathlib.Core.Path.{◌∙◌}
 use Rattle.emitting.specs.model.Emission.{top}
 use Rattle.emitting.specs.model.Arrays.{things_of}
 use Rattle.emitting.proofs.Stacked.{things_top}
-use borrow.Author.Rules.{rules}
 use Rattle.emitting.proofs.putting.top.Goals as goal
 
 pub returns-then-n-eq0 : goal.returns-then-n-eq0

@@ -4,7 +4,6 @@ use native.Mathlib.Omega.{arith}
 use Prim.Native.Nat.{◌+◌, ◌*◌}
 use lib.ListN.{set, length-set}
 use Rattle.emitting.proofs.Stacked.{things_write}
-use borrow.Author.Rules.{rules}
 use Rattle.emitting.proofs.putting.write.Goals as goal
 
 pub bounds-things-second : goal.bounds-things-second

@@ -1,7 +1,6 @@
 -- `emitting::uses::form_at` meets its contract: the type in the last word of its row.
 -- Assumes nothing.
 use Rattle.emitting.specs.model.Emission.{form_at}
-use borrow.Author.Rules.{rules}
 use Rattle.emitting.proofs.uses.form_at.Goals as goal
 
 pub returns : goal.returns

@@ -4,7 +4,6 @@ use mathlib.Core.Path.{sym, subst, ◌∙◌}
 use Prim.Native.Nat.{ℕ, ◌<◌, ◌≤◌}
 use borrow.Author.Tests.{eq-eqb, ne_eqb, lt-ltb, le-ltb}
 use Rattle.emitting.specs.model.Emission.{formal_at}
-use borrow.Author.Rules.{rules}
 use Rattle.emitting.proofs.uses.formal_at.Goals as goal
 
 pub returns-then-row_word-lt4 : goal.returns-then-row_word-lt4

@@ -3,7 +3,6 @@
 use mathlib.Core.Path.{sym, ◌∙◌}
 use native.Mathlib.Omega.{arith}
 use borrow.Author.Tests.{eq-eqb, ne_eqb}
-use borrow.Author.Rules.{rules}
 use Rattle.emitting.proofs.uses.kind_of.Goals as goal
 
 pub returns-then-formal_at-eq2 : goal.returns-then-formal_at-eq2

@@ -3,7 +3,6 @@
 use mathlib.Core.Path.{refl, sym, ◌∙◌}
 use native.Mathlib.Omega.{arith}
 use Rattle.emitting.proofs.NextUses.{declared_small, given_small, declared_use, given_use, no_use}
-use borrow.Author.Rules.{rules}
 use Rattle.emitting.proofs.uses.meaning.Goals as goal
 
 pub kind_of-requires : goal.kind_of-requires

@@ -3,7 +3,6 @@
 use native.Mathlib.Omega.{arith}
 use mathlib.Core.Path.{sym, ◌∙◌}
 use Rattle.emitting.proofs.NextUses.{next_here, kind_nowhere}
-use borrow.Author.Rules.{rules}
 use Rattle.emitting.proofs.uses.next.Goals as goal
 
 pub returns-then-at-uses : goal.returns-then-at-uses

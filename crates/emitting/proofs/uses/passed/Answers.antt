@@ -3,7 +3,6 @@
 use mathlib.Core.Path.{refl}
 use Rattle.emitting.specs.model.Emission.{with_uses}
 use Rattle.emitting.proofs.NextUses.{others_here, others_nowhere}
-use borrow.Author.Rules.{rules}
 use Rattle.emitting.proofs.uses.passed.Goals as goal
 
 pub returns-then-at-uses : goal.returns-then-at-uses

@@ -3,7 +3,6 @@
 use native.Mathlib.Omega.{arith}
 use lib.ListN.{get_or-eq_default}
 use mathlib.Core.Path.{refl, sym}
-use borrow.Author.Rules.{rules}
 use Rattle.emitting.proofs.uses.row_word.Goals as goal
 
 pub overflow_cast-result : goal.overflow_cast-result
