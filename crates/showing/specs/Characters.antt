@@ -1,6 +1,6 @@
 -- Characters of UTF-8 that are shown as they are. Any other byte from 128 on is no text: one that is part of no character, a control character
 -- (U+0080 to U+009F), one that shows nothing, or one that turns the writing round.
-use Rattle.std.specs.Prelude.{ℕ, ◌+◌, ◌-◌, Bool, true, false, cond, not, ◌&&◌, ◌||◌, List, eqb, leb, ltb, get_or}
+use Rattle.std.specs.Prelude.{ℕ, ◌+◌, ◌-◌, Bool, false, cond, not, ◌&&◌, ◌||◌, List, eqb, leb, ltb, get_or}
 
 abbrev pub between : ℕ → ℕ → ℕ → Bool
 between low high b = leb low b && leb b high

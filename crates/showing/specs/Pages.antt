@@ -1,6 +1,6 @@
 -- What the tool shows of a source and of a table: lines and columns as people count them, rows of bytes, sections, levels. These are definitions of
 -- the tool and no part of the paper.
-use Rattle.std.specs.Prelude.{ℕ, zero, suc, ◌+◌, ◌-◌, min, ◌≡◌, Bool, cond, ◌&&◌, ◌||◌, List, [], ◌∷◌, ◌++◌, eqb, leb, ltb, length, get_or, take, drop}
+use Rattle.std.specs.Prelude.{ℕ, zero, suc, ◌+◌, ◌-◌, min, ◌≡◌, Bool, cond, ◌||◌, List, [], ◌∷◌, ◌++◌, eqb, leb, ltb, length, get_or, take, drop}
 use Rattle.symbols.specs.Names.{in_name, reach}
 use Rattle.showing.specs.Characters.{width_at, inside}
 use Rattle.grammar.specs.NodeKinds.{n_block, n_block_end, n_procedure, n_procedure_end}

@@ -1,7 +1,6 @@
 -- `showing::characters::are` meets its contract. By the two tests.
 -- Assumes nothing.
 use borrow.Author.Tests.{eq-eqb, ne_eqb}
-use borrow.Author.Rules.{rules}
 use Rattle.showing.proofs.characters.are.Goals as goal
 
 pub returns-then-a-x : goal.returns-then-a-x

@@ -1,7 +1,6 @@
 -- `showing::characters::beginning` meets its contract. It goes back from the place.
 -- Assumes nothing.
 use Prim.Native.Nat.{◌≤◌}
-use borrow.Author.Rules.{rules}
 use Rattle.showing.proofs.characters.beginning.Given as goal
 
 abbrev pub invariant-loop-i : goal.invariant-loop-i

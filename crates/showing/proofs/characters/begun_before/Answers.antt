@@ -5,7 +5,6 @@ use Prim.Native.Nat.{ℕ}
 use borrow.Author.Tests.{le-leb, lt-leb}
 use lib.Dec.{ltb}
 use Rattle.showing.specs.Characters.{begun_before}
-use borrow.Author.Rules.{rules}
 use Rattle.showing.proofs.characters.begun_before.Goals as goal
 
 pub returns-then-at-k : goal.returns-then-at-k

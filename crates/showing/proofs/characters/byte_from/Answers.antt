@@ -3,7 +3,6 @@
 use mathlib.Core.Path.{sym}
 use native.Mathlib.Omega.{arith}
 use lib.ListN.{get_or-eq_default}
-use borrow.Author.Rules.{rules}
 use Rattle.showing.proofs.characters.byte_from.Goals as goal
 
 pub returns-then-text-at : goal.returns-then-text-at

@@ -1,9 +1,7 @@
 -- `showing::characters::hides` meets its contract. Each test has told which of the cases it is.
 -- Assumes nothing.
 use mathlib.Core.Path.{sym, ◌∙◌}
-use borrow.Author.Tests.{not-true, not-false}
 use Rattle.showing.specs.Characters.{hidden}
-use borrow.Author.Rules.{rules}
 use Rattle.showing.proofs.characters.hides.Goals as goal
 
 pub returns-then-is_between : goal.returns-then-is_between

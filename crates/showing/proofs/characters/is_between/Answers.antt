@@ -1,7 +1,6 @@
 -- `showing::characters::is_between` meets its contract. The tests place the byte.
 -- Assumes nothing.
 use borrow.Author.Tests.{le-leb, lt-leb}
-use borrow.Author.Rules.{rules}
 use Rattle.showing.proofs.characters.is_between.Goals as goal
 
 pub returns-then-b-low : goal.returns-then-b-low

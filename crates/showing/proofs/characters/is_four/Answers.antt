@@ -1,9 +1,7 @@
 -- `showing::characters::is_four` meets its contract. By what the three callees tell.
 -- Assumes nothing.
 use mathlib.Core.Path.{sym, ◌∙◌}
-use borrow.Author.Tests.{not-true, not-false}
 use Rattle.showing.specs.Characters.{four}
-use borrow.Author.Rules.{rules}
 use Rattle.showing.proofs.characters.is_four.Goals as goal
 
 pub returns-then-not-starts_four : goal.returns-then-not-starts_four

@@ -2,7 +2,6 @@
 -- Assumes nothing.
 use mathlib.Core.Path.{sym, ◌∙◌}
 use Rattle.showing.specs.Characters.{inside}
-use borrow.Author.Rules.{rules}
 use Rattle.showing.proofs.characters.is_inside.Goals as goal
 
 pub returns-then-begun_before : goal.returns-then-begun_before

@@ -1,9 +1,8 @@
 -- `showing::characters::is_two` meets its contract. Each test has told which of the cases it is.
 -- Assumes nothing.
 use mathlib.Core.Path.{sym, ◌∙◌}
-use borrow.Author.Tests.{eq-eqb, ne_eqb, not-true, not-false}
+use borrow.Author.Tests.{eq-eqb, ne_eqb}
 use Rattle.showing.specs.Characters.{two}
-use borrow.Author.Rules.{rules}
 use Rattle.showing.proofs.characters.is_two.Goals as goal
 
 pub returns-then-a-eq194 : goal.returns-then-a-eq194

@@ -1,9 +1,8 @@
 -- `showing::characters::starts_three` meets its contract. Each test has told which of the cases it is.
 -- Assumes nothing.
 use mathlib.Core.Path.{sym, ◌∙◌}
-use borrow.Author.Tests.{eq-eqb, ne_eqb, not-true, not-false}
+use borrow.Author.Tests.{eq-eqb, ne_eqb}
 use Rattle.showing.specs.Characters.{starts_three}
-use borrow.Author.Rules.{rules}
 use Rattle.showing.proofs.characters.starts_three.Goals as goal
 
 pub returns-then-a-eq224 : goal.returns-then-a-eq224

@@ -1,7 +1,6 @@
 -- `showing::characters::whole` meets its contract. It goes back from n.
 -- Assumes nothing.
 use Prim.Native.Nat.{◌≤◌}
-use borrow.Author.Rules.{rules}
 use Rattle.showing.proofs.characters.whole.Given as goal
 
 abbrev pub invariant-loop-k : goal.invariant-loop-k

@@ -1,11 +1,8 @@
 -- `showing::characters::width` meets its contract. Each test has told which of the cases it is.
 -- Assumes nothing.
-use mathlib.Core.Path.{◌≡◌, sym, ap, ◌∙◌}
-use mathlib.Core.Bool.{true, false}
+use mathlib.Core.Path.{sym, ◌∙◌}
 use native.Mathlib.Omega.{arith}
-use lib.ListN.{get_or}
 use Rattle.showing.proofs.Wide.{wide_two, wide_three, wide_four, wide_one}
-use borrow.Author.Rules.{rules}
 use Rattle.showing.proofs.characters.width.Goals as goal
 
 pub returns-then-is_two : goal.returns-then-is_two

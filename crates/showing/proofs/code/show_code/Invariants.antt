@@ -1,7 +1,6 @@
 -- `showing::code::show_code` meets its contract. The count falls, and each index is tested.
 -- Assumes nothing.
 use Prim.Native.Nat.{◌-◌, ◌≤◌}
-use borrow.Author.Rules.{rules}
 use Rattle.showing.proofs.code.show_code.Given as goal
 
 abbrev pub invariant-loop-k : goal.invariant-loop-k

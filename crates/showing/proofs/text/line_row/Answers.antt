@@ -1,6 +1,6 @@
 -- `showing::text::line_row` meets its contract. The row holds the first n bytes of the line as they are shown, and the others are ahead from i on.
 -- Assumes nothing.
-use Prim.Native.Nat.{ℕ, ◌+◌, ◌-◌, ◌≤◌, ◌<◌}
+use Prim.Native.Nat.{ℕ, ◌+◌, ◌≤◌, ◌<◌}
 use mathlib.Core.Path.{◌≡◌, sym, ap, ◌∙◌}
 use mathlib.Core.Bool.{true, false}
 use mathlib.Core.List.{List, [], ◌∷◌}
@@ -11,7 +11,7 @@ use Rattle.io.proofs.Counting.{prefix_len_of_le}
 use borrow.Author.Tests.{eq-eqb, ne_eqb}
 use Rattle.symbols.proofs.Laws.{peel}
 use Rattle.showing.specs.Pages.{shown_at, shown_in, shown_from}
-use Rattle.showing.proofs.Rows.{Filled, first, full, ended, put}
+use Rattle.showing.proofs.Rows.{first, full, ended, put}
 use borrow.Author.Rules.{rules}
 use Rattle.showing.proofs.text.line_row.Goals as goal
 
@@ -20,9 +20,11 @@ module _ (s : List ℕ) (i : ℕ) where
   shown-on : i < length s → eqb (get_or s i 0) 10 ≡ false → shown_from s i ≡ shown_at s i ∷ shown_from s (i + 1)
   unfolding shown_from shown_in
   shown-on h e = rw (peel s i h, e, add-one i)
+
   shown-stop : i < length s → eqb (get_or s i 0) 10 ≡ true → shown_from s i ≡ []
   unfolding shown_from shown_in
   shown-stop h e = rw (peel s i h, e)
+
   shown-end : length s ≤ i → shown_from s i ≡ []
   unfolding shown_from shown_in
   shown-end h = rw (drop_of_length-le s h)

@@ -6,15 +6,14 @@ use native.Mathlib.Numerals.{add-one}
 use mathlib.Core.Path.{◌≡◌, refl, sym, ap, ◌∙◌}
 use mathlib.Core.Bool.{Bool, true, false, cond}
 use mathlib.Core.List.{List, [], ◌∷◌}
-use mathlib.Core.Logic.{⊎_elim}
 use lib.Dec.{eqb}
-use lib.ListN.{length, get_or, take, drop, drop_of_length-le}
+use lib.ListN.{length, get_or, drop_of_length-le}
 use lib.Seq.{take-nil}
 use Rattle.io.proofs.Counting.{prefix_len_of_le}
 use Rattle.symbols.proofs.Laws.{peel}
 use Rattle.showing.specs.Characters.{inside}
 use Rattle.showing.specs.Pages.{under_byte, under_in, marks_from}
-use Rattle.showing.proofs.Rows.{Filled, first, full, ended, passed, put}
+use Rattle.showing.proofs.Rows.{first, full, ended, passed, put}
 use borrow.Author.Rules.{rules}
 use Rattle.showing.proofs.text.mark_row.Goals as goal
 use Rattle.showing.proofs.text.mark_row.Goals.{then-b-ne0, else-b-ne0}
@@ -40,15 +39,19 @@ module _ (s : List ℕ) (i place : ℕ) where
   marks-stop : place ≤ i → marks_from s i place ≡ []
   unfolding marks_from under_in
   marks-stop h = let z : place - i ≡ 0 = omega arith in rw z
+
   marks-end : length s ≤ i → marks_from s i place ≡ []
   unfolding marks_from under_in
   marks-end h = rw (drop_of_length-le s h, take-nil)
+
   module _ (h : i < length s) (k : i < place) where
     next : marks_from s i place ≡ cond (inside s i) (marks_from s (i + 1) place) (under_byte (get_or s i 0) ∷ marks_from s (i + 1) place)
     unfolding marks_from under_in
     next = let z : place - i ≡ suc (place - (i + 1)) = omega arith in rw (z, peel s i h, add-one i)
+
     marks-on : (r : ℕ) → r ≡ cond (inside s i) 0 (under_byte (get_or s i 0)) → (r ≡ 0 → ⊥) → marks_from s i place ≡ r ∷ marks_from s (i + 1) place
     marks-on r e n = next ∙ one (inside s i) (under_byte (get_or s i 0)) r (marks_from s (i + 1) place) e n
+
     marks-pass : (r : ℕ) → r ≡ cond (inside s i) 0 (under_byte (get_or s i 0)) → r ≡ 0 → marks_from s i place ≡ marks_from s (i + 1) place
     marks-pass r e n = next ∙ nothing (inside s i) (under_byte (get_or s i 0)) r (marks_from s (i + 1) place) (stands (get_or s i 0)) e n
 
@@ -72,8 +75,8 @@ loop-i-preserved c =
     let k = c.loop-i-test.true in
     let u = c.under-b in
     elim c.if-b-ne0.branch [
-    then-b-ne0 w ↦ rw (w.row-is, w.n-is) (put l.invariant u.result _ (marks-on a.source.now l.i a.place h k u.result u.ensures w.if-b-ne0.true) c.if-row-n.false)
-    | else-b-ne0 w ↦ rw (w.row-is, w.n-is) (passed l.invariant _ (marks-pass a.source.now l.i a.place h k u.result u.ensures w.if-b-ne0.false))
+      | then-b-ne0 w ↦ rw (w.row-is, w.n-is) (put l.invariant u.result _ (marks-on a.source.now l.i a.place h k u.result u.ensures w.if-b-ne0.true) c.if-row-n.false)
+      | else-b-ne0 w ↦ rw (w.row-is, w.n-is) (passed l.invariant _ (marks-pass a.source.now l.i a.place h k u.result u.ensures w.if-b-ne0.false))
     ]
 
 pub returns : goal.returns

@@ -1,15 +1,12 @@
 -- `showing::text::name_row` meets its contract. The row holds the first n letters, and the others are ahead from i on.
 -- Assumes nothing.
-use Prim.Native.Nat.{◌-◌}
 use mathlib.Core.Path.{sym, ◌∙◌}
-use mathlib.Core.Logic.{⊎_elim}
-use lib.ListN.{length, get_or, drop}
+use lib.ListN.{get_or}
 use Rattle.io.proofs.Counting.{prefix_len_of_le}
 use borrow.Author.Rules.{rules}
-use borrow.Author.Tests.{not-true, not-false}
-use Rattle.symbols.specs.Names.{in_name, letters, letters_at}
+use Rattle.symbols.specs.Names.{in_name}
 use Rattle.symbols.proofs.Laws.{these_one, these_on, these_stop, these_end}
-use Rattle.showing.proofs.Rows.{Filled, first, full, ended, passed, put}
+use Rattle.showing.proofs.Rows.{first, full, ended, passed, put}
 use Rattle.showing.proofs.text.name_row.Goals as goal
 use Rattle.showing.proofs.text.name_row.Goals.{then-is_name_byte+else-row-n, else-is_name_byte+else-not-is_blank}
 
@@ -35,8 +32,8 @@ loop-i-preserved c =
     let h = c.loop-i-test.true in
     let e = c.is_name_byte.ensures in
     elim c.if-is_name_byte.branch [
-    then-is_name_byte+else-row-n w ↦ rw (w.row-is, w.n-is) (put l.invariant (get_or s l.i 0) _ (these_one in_name s l.i h (sym e ∙ w.if-is_name_byte.true)) w.if-row-n.false)
-    | else-is_name_byte+else-not-is_blank w ↦ rw (w.row-is, w.n-is) (passed l.invariant _ (these_on in_name s l.i h (sym e ∙ w.if-is_name_byte.false) (sym w.is_blank.ensures ∙ w.if-not-is_blank.false)))
+      | then-is_name_byte+else-row-n w ↦ rw (w.row-is, w.n-is) (put l.invariant (get_or s l.i 0) _ (these_one in_name s l.i h (sym e ∙ w.if-is_name_byte.true)) w.if-row-n.false)
+      | else-is_name_byte+else-not-is_blank w ↦ rw (w.row-is, w.n-is) (passed l.invariant _ (these_on in_name s l.i h (sym e ∙ w.if-is_name_byte.false) (sym w.is_blank.ensures ∙ w.if-not-is_blank.false)))
     ]
 
 pub returns : goal.returns

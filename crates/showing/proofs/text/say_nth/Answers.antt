@@ -1,9 +1,7 @@
 -- `showing::text::say_nth` meets its contract. The next line begins within the text, so that no line is cut past its end.
 -- Assumes nothing.
-use Prim.Native.Nat.{◌-◌, ◌≤◌}
 use native.Mathlib.Omega.{arith}
-use borrow.Author.Rules.{rules}
-use lib.ListN.{length, drop, length-drop}
+use lib.ListN.{drop, length-drop}
 use Rattle.symbols.proofs.Laws.{before_most}
 use Rattle.showing.proofs.text.say_nth.Goals as goal
 

@@ -1,10 +1,7 @@
 -- `showing::text::say_nth` meets its contract. The next line begins within the text, so that no line is cut past its end.
 -- Assumes nothing.
 use Prim.Native.Nat.{◌-◌, ◌≤◌}
-use native.Mathlib.Omega.{arith}
-use borrow.Author.Rules.{rules}
-use lib.ListN.{length, drop, length-drop}
-use Rattle.symbols.proofs.Laws.{before_most}
+use lib.ListN.{length}
 use Rattle.showing.proofs.text.say_nth.Given as goal
 
 abbrev pub invariant-loop-i : goal.invariant-loop-i

@@ -1,7 +1,6 @@
 -- `showing::text::say_times` meets its contract. The count falls.
 -- Assumes nothing.
 use Prim.Native.Nat.{◌-◌, ◌≤◌}
-use borrow.Author.Rules.{rules}
 use Rattle.showing.proofs.text.say_times.Given as goal
 
 abbrev pub invariant-loop-i : goal.invariant-loop-i

@@ -2,7 +2,6 @@
 -- Assumes nothing.
 use mir.Facts.{to_z-of_z}
 use Rattle.machine.proofs.Wholes.{shown, rest_fits, rest_shown, rest_more}
-use borrow.Author.Rules.{rules}
 use Rattle.showing.proofs.text.say_whole.Goals as goal
 
 pub overflow_cast-x : goal.overflow_cast-x

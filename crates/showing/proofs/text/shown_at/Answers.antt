@@ -1,14 +1,11 @@
 -- `showing::text::shown_at` meets its contract. The byte is below 128, or it is part of a character, or it is none.
 -- Assumes nothing.
 use mathlib.Core.Path.{◌≡◌, sym, ap, ◌∙◌}
-use mathlib.Core.Bool.{Bool, true, false, ◌||◌, or-true}
-use Prim.Native.Nat.{ℕ}
+use mathlib.Core.Bool.{true, false}
 use borrow.Author.Tests.{le-leb, lt-leb, lt-ltb, le-ltb}
 use lib.Dec.{ltb}
-use lib.ListN.{get_or}
-use Rattle.showing.specs.Characters.{inside, width_at}
+use Rattle.showing.specs.Characters.{width_at}
 use Rattle.showing.specs.Pages.{shown_at}
-use borrow.Author.Rules.{rules}
 use Rattle.showing.proofs.text.shown_at.Goals as goal
 
 pub returns-then-b-lt128 : goal.returns-then-b-lt128

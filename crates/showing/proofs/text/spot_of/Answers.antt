@@ -4,9 +4,8 @@ use Prim.Native.Nat.{ℕ, suc, ◌+◌, ◌-◌, ◌≤◌}
 use native.Mathlib.Omega.{arith}
 use native.Mathlib.Numerals.{add-one}
 use mathlib.Core.Path.{◌≡◌, refl, sym, ap, ◌∙◌}
-use mathlib.Core.Logic.{◌⊎◌, inl, inr, ⊎_elim}
+use mathlib.Core.Logic.{◌⊎◌, inl, inr}
 use mathlib.Core.List.{List}
-use borrow.Author.Rules.{rules}
 use borrow.Author.Tests.{eq-eqb, ne_eqb}
 use lib.ListN.{length, get_or}
 use Rattle.showing.specs.Pages.{start_of, line_of, column_of}
@@ -33,12 +32,12 @@ loop-i-preserved c =
     let s = c.args.source.now in
     let l = c.loop-i in
     rw (add-one l.i) (elim c.if-source-i-eq10.branch [
-    then-source-i-eq10 w ↦
-        let e = eq-eqb (get_or s l.i 0) 10 w.if-source-i-eq10.true in
-        (omega arith, w.start-is ∙ add-one l.i ∙ sym (start_behind s l.i e), w.line-is ∙ add-one l.line ∙ ap suc l.invariant.2 ∙ sym (line_behind s l.i e))
-    | else-source-i-eq10 w ↦
-        let e = ne_eqb (get_or s l.i 0) 10 w.if-source-i-eq10.false in
-        (omega arith, w.start-is ∙ l.invariant.1 ∙ sym (start_on s l.i e), w.line-is ∙ l.invariant.2 ∙ sym (line_on s l.i e))
+      | then-source-i-eq10 w ↦
+          let e = eq-eqb (get_or s l.i 0) 10 w.if-source-i-eq10.true in
+          (omega arith, w.start-is ∙ add-one l.i ∙ sym (start_behind s l.i e), w.line-is ∙ add-one l.line ∙ ap suc l.invariant.2 ∙ sym (line_behind s l.i e))
+      | else-source-i-eq10 w ↦
+          let e = ne_eqb (get_or s l.i 0) 10 w.if-source-i-eq10.false in
+          (omega arith, w.start-is ∙ l.invariant.1 ∙ sym (start_on s l.i e), w.line-is ∙ l.invariant.2 ∙ sym (line_on s l.i e))
     ])
 
 pub overflow_sub-result : goal.overflow_sub-result

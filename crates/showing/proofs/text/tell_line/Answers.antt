@@ -3,7 +3,6 @@
 use mathlib.Core.Path.{sym}
 use native.Mathlib.Omega.{arith}
 use lib.Seq.{length-take-le}
-use borrow.Author.Rules.{rules}
 use Rattle.showing.proofs.text.tell_line.Goals as goal
 
 pub slice_bounds-tell-end : goal.slice_bounds-tell-end

@@ -1,9 +1,7 @@
 -- `showing::text::tell_typed` meets its contract. The index is in the text.
 -- Assumes nothing.
 use Prim.Native.Nat.{◌-◌}
-use mathlib.Core.Path.{◌≡◌}
 use lib.ListN.{length}
-use borrow.Author.Rules.{rules}
 use Rattle.showing.proofs.text.tell_typed.Given as goal
 
 abbrev pub decreases-loop-i : goal.decreases-loop-i

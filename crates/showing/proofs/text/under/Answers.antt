@@ -3,7 +3,6 @@
 use mathlib.Core.Path.{sym, ◌∙◌}
 use borrow.Author.Tests.{eq-eqb, ne_eqb}
 use Rattle.showing.specs.Pages.{under_byte}
-use borrow.Author.Rules.{rules}
 use Rattle.showing.proofs.text.under.Goals as goal
 
 pub returns-then-is_inside : goal.returns-then-is_inside

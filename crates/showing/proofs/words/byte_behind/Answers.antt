@@ -1,12 +1,9 @@
 -- `showing::words::byte_behind` meets its contract. The name at i, with the blanks behind it, reaches as far as that at `at`.
 -- Assumes nothing.
-use Prim.Native.Nat.{◌+◌, ◌-◌, ◌≤◌}
+use Prim.Native.Nat.{◌+◌, ◌≤◌}
 use native.Mathlib.Omega.{arith}
 use mathlib.Core.Path.{◌≡◌, refl, sym, ap, ◌∙◌}
-use mathlib.Core.Logic.{⊎_elim}
 use lib.ListN.{length, get_or, drop, get_or-eq_default}
-use borrow.Author.Rules.{rules}
-use borrow.Author.Tests.{not-true, not-false}
 use Rattle.symbols.specs.Names.{in_name, reach}
 use Rattle.symbols.proofs.Laws.{reach_one, reach_on, reach_stop, reach_end}
 use Rattle.showing.specs.Pages.{byte_behind}
@@ -33,8 +30,8 @@ loop-i-preserved c =
     let h = c.loop-i-test.true in
     let e = c.is_name_byte.ensures in
     elim c.else-not-is_name_byte.branch [
-    else-not-is_name_byte-via-then-not-is_name_byte+else-not-is_blank w ↦ omega (arith, l.invariant, reach_on in_name s l.i h (sym e ∙ w.if-not-is_name_byte.true) (sym w.is_blank.ensures ∙ w.if-not-is_blank.false))
-    | else-not-is_name_byte-via-else-not-is_name_byte w ↦ omega (arith, l.invariant, reach_one in_name s l.i h (sym e ∙ w.if-not-is_name_byte.false))
+      | else-not-is_name_byte-via-then-not-is_name_byte+else-not-is_blank w ↦ omega (arith, l.invariant, reach_on in_name s l.i h (sym e ∙ w.if-not-is_name_byte.true) (sym w.is_blank.ensures ∙ w.if-not-is_blank.false))
+      | else-not-is_name_byte-via-else-not-is_name_byte w ↦ omega (arith, l.invariant, reach_one in_name s l.i h (sym e ∙ w.if-not-is_name_byte.false))
     ]
 
 pub returns : goal.returns

@@ -4,13 +4,12 @@ use Prim.Native.Nat.{ℕ, ◌+◌, ◌≤◌}
 use native.Mathlib.Omega.{arith}
 use mathlib.Core.Path.{◌≡◌, refl, sym, ap, ◌∙◌}
 use mathlib.Core.Bool.{Bool, true, false, cond, ◌||◌}
-use mathlib.Core.Logic.{⊎_elim}
+use mathlib.Core.Logic.{inl, inr}
 use lib.Dec.{eqb}
 use borrow.Author.Rules.{rules}
-use borrow.Author.Tests.{eqb-true, ltb-false}
+use borrow.Author.Tests.{eqb-true}
 use Rattle.showing.specs.Pages.{opens, closes, level_behind}
-use Rattle.showing.proofs.levels.level_behind.Statement.{statement}
-use Rattle.showing.proofs.levels.level_behind.Tie as tie
+use Rattle.showing.proofs.levels.level_behind.Goals as goal
 
 -- what closes opens none
 apart : (kind : ℕ) → closes kind ≡ true → opens kind ≡ false
@@ -25,23 +24,12 @@ at_last : (kind level : ℕ) → closes kind ≡ true → level ≤ 0 → level 
 unfolding level_behind
 at_last kind level e h = rw (e, apart kind e) (omega arith)
 
-returns : tie.Need-returns
+pub returns-then-level-gt0 : goal.returns-then-level-gt0
 unfolding level_behind
-returns c = (rw (sym c.before.before.closes.ensures ∙ c.before.if1.true), search rules)
+returns-then-level-gt0 c = record { value = rw (sym c.closes.ensures ∙ c.if-closes.true); upper_bound = search rules }
 
-returns-2 : tie.Need-returns-2
+pub returns : goal.returns
 unfolding level_behind
-returns-2 c =
-    let a = c.before.before.before.args in
-    let e = c.before.before.closes.ensures in (
-      ap (λ k. a.level + k) c.opened.ensures.0 ∙ ⊎_elim
-          (λ w. at_last a.kind a.level (sym e ∙ w.0.taken) (ltb-false 0 a.level w.1.left))
-          (λ w. rw (sym e ∙ w.left))
-          c.before.if1.branch,
-      search rules,
-    )
-
-pub level-behind-spec : {M : Type 1} → statement M
-level-behind-spec =
-    tie.close
-    (tie.spec (λ c κs. search rules) (λ c. search rules) returns (λ c κs. search rules) (λ c. search rules) returns-2)
+returns c =
+    let a = c.args in
+    let e = c.closes.ensures in record { value = ap (λ k. a.level + k) c.opened.ensures.value ∙ elim c.else-closes.either [ inl w ↦ at_last a.kind a.level (sym e ∙ w.0) w.1 | inr w ↦ rw (sym e ∙ w) ]; upper_bound = search rules }

@@ -6,23 +6,19 @@ use mathlib.Core.Bool.{true}
 use mathlib.Core.Logic.{◌⊎◌, inl, inr}
 use borrow.Author.Tests.{ne_eqb}
 use Rattle.showing.specs.Pages.{opens}
-use Rattle.showing.proofs.levels.opens.Statement.{statement}
-use Rattle.showing.proofs.levels.opens.Tie as tie
+use Rattle.showing.proofs.levels.opens.Goals as goal
 
 told : (kind : ℕ) → (kind ≡ 1) ⊎ (kind ≡ 6) → true ≡ opens kind
 unfolding opens
 told kind (inl e) = rw e
 told kind (inr e) = rw e
 
-returns : tie.Need-returns
-returns c = told _ c.match.keys1
+pub returns-in-1 : goal.returns-in-1
+returns-in-1 c = told _ c.in-1.is
 
-returns-2 : tie.Need-returns-2
+pub returns-in_default : goal.returns-in_default
 unfolding opens
-returns-2 c =
-    let kind = c.before.args.kind in
-    let n = c.match.rest.1 in
+returns-in_default c =
+    let kind = c.args.kind in
+    let n = c.in_default.in_default-own.rest.1 in
     simp (ne_eqb kind 1 (λ e. n (inl e)), ne_eqb kind 6 (λ e. n (inr e)))
-
-pub opens-spec : {M : Type 1} → statement M
-opens-spec = tie.close (tie.spec returns returns-2)
