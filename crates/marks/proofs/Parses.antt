@@ -31,6 +31,7 @@ is_among c (k ∷ l) h = go (eqb c k) refl (λ q. is_among c l q)
 
 not_among : (c : ℕ) (l : List ℕ) → among c l ≡ false → In c l → ⊥
 unfolding among
+not_among c [] h i = elim i [ ]
 not_among c (k ∷ l) h i = go (eqb c k) refl h i (λ q. not_among c l q)
   where
     go : (t : Bool) → eqb c k ≡ t → (t || among c l) ≡ false → In c (k ∷ l) → (among c l ≡ false → In c l → ⊥) → ⊥
