@@ -142,7 +142,7 @@ module _ (rows : List ℕ) where
   infixr 20 ◌then_silent◌
   ◌then_silent◌ : {ws ws' : List ℕ} {vs : List Written} {n u o n' u' o' n'' u'' o'' : ℕ} {qs qs' qs'' : List ℕ} → Lays ws vs n u o qs n' u' o' qs' → Lays ws' [] n' u' o' qs' n'' u'' o'' qs''
       → Lays (ws ++ ws') vs n u o qs n'' u'' o'' qs''
-  ◌then_silent◌ {vs = vs} x y = rw (append-nil vs) at (x then-part y)
+  ◌then_silent◌ {vs = vs} x y = rw (append-nil vs) at (x then_part y)
 
   -- as many words and cells
   lays_to : {ws : List ℕ} {vs : List Written} {n u o n' u' o' : ℕ} {qs qs' : List ℕ} (m i : ℕ) → n' ≡ m → o' ≡ i → Lays ws vs n u o qs n' u' o' qs' → Lays ws vs n u o qs m u' i qs'
@@ -223,19 +223,19 @@ module _ (rows : List ℕ) where
   unfolding nodes_n written_n
   formals n u o qs [] = lays_to (n + 0) (o + 0) (omega arith) (omega arith) (no_part n u o qs)
   formals n u o qs (x ∷ xs) =
-      lays_to (n + suc (length xs)) (o + suc (length xs)) (omega arith) (omega arith) (a_formal x.symbol n u o qs then-part formals (n + 1) u (o + 1) qs xs)
+      lays_to (n + suc (length xs)) (o + suc (length xs)) (omega arith) (omega arith) (a_formal x.symbol n u o qs then_part formals (n + 1) u (o + 1) qs xs)
 
   block_variables : (n u o b : ℕ) (qs : List ℕ) (xs : List Name) → Lays (nodes_n n_variable xs) (written_v rows u b n xs) n u o (b ∷ qs) (n + length xs) u (o + length xs) (b ∷ qs)
   unfolding nodes_n written_v
   block_variables n u o b qs [] = lays_to (n + 0) (o + 0) (omega arith) (omega arith) (no_part n u o (b ∷ qs))
   block_variables n u o b qs (x ∷ xs) =
-      lays_to (n + suc (length xs)) (o + suc (length xs)) (omega arith) (omega arith) (a_variable x.symbol n u o b qs then-part block_variables (n + 1) u (o + 1) b qs xs)
+      lays_to (n + suc (length xs)) (o + suc (length xs)) (omega arith) (omega arith) (a_variable x.symbol n u o b qs then_part block_variables (n + 1) u (o + 1) b qs xs)
 
   specifications : (n u o : ℕ) (qs : List ℕ) (ss : List Specification) → Lays (nodes_sp ss) [] n u o qs n u o qs
   unfolding nodes_sp lay_node
   specifications n u o qs [] = no_part n u o qs
   specifications n u o qs (s ∷ ss) =
-      a_type (sort_number (some s.sort)) n u o qs then-part quiet n u o qs (quiet_n n_specified s.names (λ p a b st. refl)) then-part specifications n u o qs ss
+      a_type (sort_number (some s.sort)) n u o qs then_part quiet n u o qs (quiet_n n_specified s.names (λ p a b st. refl)) then_part specifications n u o qs ss
 
   -- ---- statements and declarations: one line a construct
 
@@ -249,46 +249,46 @@ module _ (rows : List ℕ) where
     lays_s d (procedure x es) n u o qs = lays_on (n + 0) (omega arith) (quiet n u o qs (quiet_call d x es))
     lays_s d (when q c s) n u o qs =
         quiet n u o qs (quiet_e d c)
-        then-part quiet n u o qs (single (λ p a b st. refl))
-        then-part lays_s (d + 1) s n u o qs
-        then-silent quiet (n + many_s s) u o qs (single (λ p a b st. refl))
+        then_part quiet n u o qs (single (λ p a b st. refl))
+        then_part lays_s (d + 1) s n u o qs
+        then_silent quiet (n + many_s s) u o qs (single (λ p a b st. refl))
     lays_s d (either q c s t) n u o qs =
         lays_on (n + (many_s s + many_s t)) (omega arith)
         (quiet n u o qs (quiet_e d c)
-        then-part quiet n u o qs (single (λ p a b st. refl))
-        then-part lays_s (d + 1) s n u o qs
-        then-part quiet (n + many_s s) u o qs (single (λ p a b st. refl))
-        then-part lays_s (d + 1) t (n + many_s s) u o qs
-        then-silent quiet (n + many_s s + many_s t) u o qs (single (λ p a b st. refl)))
+        then_part quiet n u o qs (single (λ p a b st. refl))
+        then_part lays_s (d + 1) s n u o qs
+        then_part quiet (n + many_s s) u o qs (single (λ p a b st. refl))
+        then_part lays_s (d + 1) t (n + many_s s) u o qs
+        then_silent quiet (n + many_s s + many_s t) u o qs (single (λ p a b st. refl)))
     lays_s d (repeat x l ls s) n u o qs =
         quiet n u o qs (single (λ p a b st. refl))
-        then-part quiet n u o qs (quiet_l d l)
-        then-part quiet n u o qs (quiet_ls d ls)
-        then-part quiet n u o qs (single (λ p a b st. refl))
-        then-part lays_s (d + 1) s n u o qs
-        then-silent quiet (n + many_s s) u o qs (single (λ p a b st. refl))
+        then_part quiet n u o qs (quiet_l d l)
+        then_part quiet n u o qs (quiet_ls d ls)
+        then_part quiet n u o qs (single (λ p a b st. refl))
+        then_part lays_s (d + 1) s n u o qs
+        then_silent quiet (n + many_s s) u o qs (single (λ p a b st. refl))
     lays_s d (compound ss) n u o qs = lays_ss (d + 1) ss n u o qs
     lays_s d (block q ds ss) n u o qs =
         let m = n + many_ds ds in
         let i = o + cells_in (of_block ds) in
         lays_on (n + (many_ds ds + many_ss ss)) (omega arith)
         (a_block q n u o qs
-        then-part lays_d d ds n u o o qs
-        then-part quiet m u i (o ∷ qs) (single (λ p a b st. refl))
-        then-part lays_ss (d + 1) ss m u i (o ∷ qs)
-        then-silent block_end q (m + many_ss ss) u o i qs)
+        then_part lays_d d ds n u o o qs
+        then_part quiet m u i (o ∷ qs) (single (λ p a b st. refl))
+        then_part lays_ss (d + 1) ss m u i (o ∷ qs)
+        then_silent block_end q (m + many_ss ss) u o i qs)
 
     lays_ss : (d : ℕ) (ss : Statements) (n u o : ℕ) (qs : List ℕ) → Lays (nodes_ss d ss) (written_ss rows u o n ss) n u o qs (n + many_ss ss) u o qs
     lays_ss d (last s) n u o qs = lays_s d s n u o qs
-    lays_ss d (first s ss) n u o qs = lays_on (n + (many_s s + many_ss ss)) (omega arith) (lays_s d s n u o qs then-part lays_ss d ss (n + many_s s) u o qs)
+    lays_ss d (first s ss) n u o qs = lays_on (n + (many_s s + many_ss ss)) (omega arith) (lays_s d s n u o qs then_part lays_ss d ss (n + many_s s) u o qs)
 
     lays_d : (d : ℕ) (ds : Declarations) (n u o b : ℕ) (qs : List ℕ) → Lays (nodes_d d ds) (written_d rows u b n ds) n u o (b ∷ qs) (n + many_ds ds) u (o + cells_in (of_block ds)) (b ∷ qs)
     lays_d d no_more n u o b qs = lays_to (n + 0) (o + 0) (omega arith) (omega arith) (no_part n u o (b ∷ qs))
     lays_d d (variables t xs ds) n u o b qs =
         lays_to (n + (length xs + many_ds ds)) (o + cells_in (of_block (variables t xs ds))) (omega arith) (omega (arith, total_variables t xs (in_block ds)))
-        (a_type (sort_number (some t)) n u o (b ∷ qs) then-part block_variables n u o b qs xs then-part lays_d d ds (n + length xs) u (o + length xs) b qs)
+        (a_type (sort_number (some t)) n u o (b ∷ qs) then_part block_variables n u o b qs xs then_part lays_d d ds (n + length xs) u (o + length xs) b qs)
     lays_d d (declare p ds) n u o b qs =
-        lays_to (n + (many_p p + many_ds ds)) (o + cells_in (of_block (declare p ds))) (omega arith) (omega arith) (lays_p d p n u o (b ∷ qs) then-part lays_d d ds (n + many_p p) u o b qs)
+        lays_to (n + (many_p p + many_ds ds)) (o + cells_in (of_block (declare p ds))) (omega arith) (omega arith) (lays_p d p n u o (b ∷ qs) then_part lays_d d ds (n + many_p p) u o b qs)
 
     lays_p : (d : ℕ) (p : Procedure) (n u o : ℕ) (qs : List ℕ) → Lays (nodes_p d p) (written_p rows u n p) n u o qs (n + many_p p) u o qs
     lays_p d (heading t f xs vs ss s) n u o qs =
@@ -296,12 +296,12 @@ module _ (rows : List ℕ) where
         let m = n + 1 + length xs in
         lays_on (n + (1 + length xs + many_s s)) (omega arith)
         (a_procedure t f.symbol n u o qs
-        then-part lays_to m i refl (omega (arith, body_cells (heading t f xs vs ss s))) (formals (n + 1) (suc u) (one_if t) (o ∷ qs) xs)
-        then-part quiet m (suc u) i (o ∷ qs) (quiet_n n_value vs (λ p a b st. refl))
-        then-part specifications m (suc u) i (o ∷ qs) ss
-        then-part quiet m (suc u) i (o ∷ qs) (single (λ p a b st. refl))
-        then-part lays_s (d + 1) s m (suc u) i (o ∷ qs)
-        then-silent procedure_end f.symbol (m + many_s s) u o i qs)
+        then_part lays_to m i refl (omega (arith, body_cells (heading t f xs vs ss s))) (formals (n + 1) (suc u) (one_if t) (o ∷ qs) xs)
+        then_part quiet m (suc u) i (o ∷ qs) (quiet_n n_value vs (λ p a b st. refl))
+        then_part specifications m (suc u) i (o ∷ qs) ss
+        then_part quiet m (suc u) i (o ∷ qs) (single (λ p a b st. refl))
+        then_part lays_s (d + 1) s m (suc u) i (o ∷ qs)
+        then_silent procedure_end f.symbol (m + many_s s) u o i qs)
 
   -- ---- a whole program
 

@@ -18,7 +18,7 @@ use Rattle.reading.proofs.Passed.{rows_here_lem, uses_here, marks_here}
 use Rattle.reading.proofs.Whole.{worth, letters, few, nodes_are, stands}
 use Rattle.translation.proofs.Ranges.{ends, in_range}
 use Rattle.translation.proofs.Lengths.{fits_words}
-use Rattle.translating.proofs.Accepting.{found, few as few-found, place_inside, place_small, below_nodes, within_limits, in_order, heads, numbered, well_scoped}
+use Rattle.translating.proofs.Accepting.{found, few as few_found, place_inside, place_small, below_nodes, within_limits, in_order, heads, numbered, well_scoped}
 use Rattle.translating.proofs.Standing.{StandS, standing}
 use Rattle.translating.proofs.Emitted.{Marked}
 use Rattle.translating.proofs.Coded.{Lent}
@@ -56,7 +56,7 @@ module _ {text kinds places values nodes rows uses was marks : List ℕ} {s : Si
     placed = λ k l. let i = place_inside program k l in let e = ready.places_in.placed k (omega (arith, count_here)) in omega arith;
     valued = numbered program values (λ k l. first_word s.symbols values (values_of (found program)) h.valued k (omega (arith, length-map (found program) (λ f. value_of f.symbol))));
     marked = standing_here z;
-    few = few-found program;
+    few = few_found program;
     small = place_small program;
     below = below_nodes program;
     in_order = in_order program;

@@ -22,7 +22,7 @@ use Rattle.machine.specs.Run.{Trace, done}
 use Rattle.machine.specs.Machine.{Finish, machine, on_code, used, Exit, afterwards, job}
 use Rattle.machine.proofs.Limits.{zero_words}
 use Rattle.rules.specs.Rules.{source}
-use Rattle.reading.specs.Judging.{its_program, accepted as judged-right}
+use Rattle.reading.specs.Judging.{its_program, accepted as judged_right}
 use Rattle.reading.specs.Reading.{place_in, Grammatical}
 use Rattle.reading.proofs.Only.{one_program, one_judgement}
 use Rattle.translation.specs.model.Translate.{code}
@@ -37,7 +37,7 @@ use Rattle.translation.proofs.Correct.{accepted_machine, accepted_source, transl
 use Rattle.translation.proofs.RunPlaced.{placed_words}
 use Rattle.translation.proofs.OnWords.{follows_as, on_words, faithful_words}
 use Rattle.translating.specs.Job.{code_words, filled, code_in, Translated, refused, accepted, Translates, too_short, enough, RunsAs, Deed}
-use Rattle.translating.proofs.Accepting.{within_limits, accepted as accepted-program}
+use Rattle.translating.proofs.Accepting.{within_limits, accepted as accepted_program}
 use Rattle.reading.proofs.Promises.{zero_judged}
 
 -- ---- the words that are left
@@ -60,7 +60,7 @@ module _ {text : List ℕ} (p : Grammatical text) (named : least (name_faults (i
   faithful_left =
       follows_as (on_code (filled (code_in p) ++ rest)) (on_words (code_words - length (code_in p)) (place_in text) (its_program p)) (place_in text) (its_program p)
       (λ input limit cells space. ap (λ ws. machine ws input limit cells space) (take_filled (code_in p) rest (code_fits p)))
-      (faithful_words (code_words - length (code_in p)) (place_in text) (its_program p) (accepted-program p named typed) (within_limits p))
+      (faithful_words (code_words - length (code_in p)) (place_in text) (its_program p) (accepted_program p named typed) (within_limits p))
 
 -- demand 3 of what translate leaves
 pub faith : {text old new : List ℕ} {v : Verdict} → Translates text old v new → RunsAs text v new
@@ -91,8 +91,8 @@ few_enough l m = omega arith
 
 one_translation : {text ws ws' : List ℕ} {v v' : Verdict} → Translated text v ws → Translated text v' ws' → (v ≡ v') × (ws ≡ ws')
 one_translation (refused r j) (refused r' j') = ((one_judgement j j').0, refl)
-one_translation (refused r j) (accepted p n t) = absurd (refused_accepted (one_judgement j (judged-right p n t)).0)
-one_translation (accepted p n t) (refused r j) = absurd (refused_accepted (sym (one_judgement (judged-right p n t) j).0))
+one_translation (refused r j) (accepted p n t) = absurd (refused_accepted (one_judgement j (judged_right p n t)).0)
+one_translation (accepted p n t) (refused r j) = absurd (refused_accepted (sym (one_judgement (judged_right p n t) j).0))
 one_translation {text} (accepted p n t) (accepted p' n' t') = (refl, ap (λ s. filled (words (code (place_in text) s))) (one_program p p'))
 
 -- one answer for each source and code, and one code afterwards
@@ -124,13 +124,13 @@ never_wrong {text} {old} (enough h v ws (accepted p n t)) z input limit cells sp
     let e : machine (take code_words (filled (code_in p) ++ drop code_words old)) input limit cells space ≡ machine_in (code (place_in text) (its_program p)) input limit cells space =
     ap (λ ws. machine ws input limit cells space) (take_filled (code_in p) (drop code_words old) (code_fits p))
     ∙ same_machine (code (place_in text) (its_program p)) (code_words - length (code_in p)) (in_range (place_in text) (its_program p) (within_limits p)) input limit cells space in
-    subst (λ (f : Finish). Ordinary f.stop ⊎ (f.stop ≡ Limit)) (sym e) (accepted_machine (place_in text) (its_program p) (accepted-program p n t) input cells space limit)
+    subst (λ (f : Finish). Ordinary f.stop ⊎ (f.stop ≡ Limit)) (sym e) (accepted_machine (place_in text) (its_program p) (accepted_program p n t) input cells space limit)
 
 -- of an accepted source the source rules answer nothing but 0, 21 to 28 and 30
 pub rules_answers : {text : List ℕ} (p : Grammatical text) → least (name_faults (its_program p)) ≡ none → type_fault (its_program p) ≡ none → (input : List ℤ) (cells space t n : ℕ) (q : Stop) (o : Trace)
     → source (place_in text) (its_program p) input cells space t ≡ done q n o → Ordinary q
 rules_answers {text} p named typed input cells space t n q o e =
-    accepted_source (place_in text) (its_program p) (accepted-program p named typed) input cells space t n q o e
+    accepted_source (place_in text) (its_program p) (accepted_program p named typed) input cells space t n q o e
 
 -- ---- places aside
 

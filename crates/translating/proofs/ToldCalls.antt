@@ -17,7 +17,7 @@ use Rattle.names.specs.Nodes.{sort_number}
 use Rattle.names.specs.Uses.{Use, used, uses_e, uses_es, uses_l, uses_s, uses_ss, uses_d, uses_p}
 use Rattle.names.specs.model.Rows.{meant_of}
 use Rattle.names.specs.declared.Meant.{Meant}
-use Rattle.names.specs.declared.Meant.TheVariants.{Declared as at_row, Given as at-given, Nothing as nowhere}
+use Rattle.names.specs.declared.Meant.TheVariants.{Declared as at_row, Given as at_given, Nothing as nowhere}
 use Rattle.names.proofs.Around.{sort_at, Formals, ToldThing, Means}
 use Rattle.names.proofs.Resolved.{Matches, matches_split}
 use Rattle.types.specs.Types.{widens, wide_arm}
@@ -102,7 +102,7 @@ asked n R rising w g x h d h' p e i = go w (subst (Means R w) e h)
           rw f.0 (sort_form (sort_of p)),
           formals_modes R m 0 (formals_of p) (values_of p) (specifications_of p) (subst (λ (i : ℕ). Formals R i (formals_of p) (values_of p) (specifications_of p)) (omega arith) f.1),
         )
-    go (at-given k) h = absurd h
+    go (at_given k) h = absurd h
     go nowhere h = absurd h
 
 -- ---- the parts of a program, in the scopes g: Q of every number, D of every number with a point, M of every 'if' and its mark, P of every procedure's name

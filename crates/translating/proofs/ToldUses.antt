@@ -14,7 +14,7 @@ use Rattle.names.specs.Scopes.{Thing, variable, routine, formal, by_name, Meanin
 use Rattle.names.specs.Uses.{Use, thing_kind}
 use Rattle.names.specs.model.Rows.{meant_of}
 use Rattle.names.specs.declared.Meant.{Meant}
-use Rattle.names.specs.declared.Meant.TheVariants.{Declared as at_row, Given as at-given, Nothing as nowhere}
+use Rattle.names.specs.declared.Meant.TheVariants.{Declared as at_row, Given as at_given, Nothing as nowhere}
 use Rattle.names.proofs.Around.{kind_at, ToldThing, Means}
 use Rattle.names.proofs.Resolved.{Matches}
 use Rattle.emitting.specs.model.Emission.{Used, formal_at, used_as, uses_in}
@@ -76,9 +76,9 @@ module _ (n : ℕ) (R : List ℕ) (rising : RowsRise 0 n R) where
       used_is (kind_of R j.number d.thing h.row.kind h.thing) (sym b ∙ ap (number_of R) h.row.symbol)
   used (at_row j) (given k g) h = absurd h
   used (at_row j) nothing h = absurd h
-  used (at-given e) (declared d g) h = absurd h
-  used (at-given e) (given k g) h = used_is refl h.0
-  used (at-given e) nothing h = absurd h
+  used (at_given e) (declared d g) h = absurd h
+  used (at_given e) (given k g) h = used_is refl h.0
+  used (at_given e) nothing h = absurd h
   used nowhere (declared d g) h = absurd h
   used nowhere (given k g) h = absurd h
   used nowhere nothing h = refl

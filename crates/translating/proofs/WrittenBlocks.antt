@@ -191,13 +191,13 @@ module _ {tb : Tables} {R : Type 0} where
     names_part : (k : ℕ) (xs : List Name) → Idle tb k → Emits tb R g h m (nodes_n k xs) [] b b (λ k. k) (λ t. t) (λ r. r)
     unfolding nodes_n
     names_part k [] f = nothing_part
-    names_part k (x ∷ xs) f = idle_part k x.symbol 0 f followed-by names_part k xs f
+    names_part k (x ∷ xs) f = idle_part k x.symbol 0 f followed_by names_part k xs f
 
     specifications_part : (ss : List Specification) → Emits tb R g h m (nodes_sp ss) [] b b (λ k. k) (λ t. t) (λ r. r)
     unfolding nodes_sp
     specifications_part [] = nothing_part
     specifications_part (s ∷ ss) =
-        idle_part n_type 0 (sort_number (some s.sort)) (type_idle tb) followed-by (names_part n_specified s.names (specified_idle tb) followed-by specifications_part ss)
+        idle_part n_type 0 (sort_number (some s.sort)) (type_idle tb) followed_by (names_part n_specified s.names (specified_idle tb) followed_by specifications_part ss)
 
     -- what stands between the name of a procedure and its body's code
     formals_part : (xs : List Name) → Emits tb R g h m (nodes_n n_formal xs) [] b b (λ k. k) (λ t. blanks xs t) (λ r. r)

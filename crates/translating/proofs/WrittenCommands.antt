@@ -32,7 +32,7 @@ use Rattle.translating.proofs.NameWords.{Known, Targets, result_is}
 use Rattle.translating.proofs.WrittenNames.{parts, Moded, word_at, seeks, seeks_is, Worded, worded, call_word, kept_word, name_step}
 use Rattle.translating.proofs.ActualWords.{word_in}
 use Rattle.translating.proofs.WrittenActuals.{passed_acted}
-use Rattle.translating.proofs.WrittenExpressions.{IsTold, AreTold, in_given, counted, last_place, Quiet, GivenAt, typed_step, plain_step, ended_step, IsE, GivenEs, Actuals, modes-many, call_end, given_call, emits_e, acts_es, given_es}
+use Rattle.translating.proofs.WrittenExpressions.{IsTold, AreTold, in_given, counted, last_place, Quiet, GivenAt, typed_step, plain_step, ended_step, IsE, GivenEs, Actuals, modes_many, call_end, given_call, emits_e, acts_es, given_es}
 
 module _ (tb : Tables) where
   -- ---- names alone
@@ -189,7 +189,7 @@ module _ (tb : Tables) (R : Type 0) (g : List Around) (right : R → Targets tb.
               let n = tb.key D.name.symbol in
               let us' : List Use = uses_es (scopes g) (then e es) ++ us in
               let no : result_of tb.values tb.layout tb.ahead tb.entries 2 n ≡ 0 = result_is tb.key tb.layout tb.values tb.ahead tb.entries g x D hs p known i j ∙ ap one_if s in
-              let y = args (modes_of p) b (modes-many tb R 0 m g right known p (count (then e es)) many) n 0 (asked D hs p i j).1 us fr (taken us' fl) f refl a in
+              let y = args (modes_of p) b (modes_many tb R 0 m g right known p (count (then e es)) many) n 0 (asked D hs p i j).1 us fr (taken us' fl) f refl a in
               let c = passed_acted us' [] [] n_call x.symbol d 1
               (plain_step tb x.symbol d 1 fr fl (scopes g) x us' n u (ap kind_of i ∙ ap use_kind j) (ap (means_of tb.key) i) no) a (λ z c. tt) y in
               c
@@ -203,7 +203,7 @@ module _ (tb : Tables) (R : Type 0) (g : List Around) (right : R → Targets tb.
               let us' : List Use = uses_es (scopes g) (then e es) ++ us in
               let one : result_of tb.values tb.layout tb.ahead tb.entries 2 n ≡ 1 = result_is tb.key tb.layout tb.values tb.ahead tb.entries g x D hs p known i j ∙ ap one_if s in
               let ps : List Parts = parts 16 q (form_at tb.rows n) ∷ [] in
-              let y = args (modes_of p) (suc b) (modes-many tb R 0 m g right known p (count (then e es)) many) n 0 (asked D hs p i j).1 us fr (wrote_all ps (taken us' fl)) f refl (ap suc a) in
+              let y = args (modes_of p) (suc b) (modes_many tb R 0 m g right known p (count (then e es)) many) n 0 (asked D hs p i j).1 us fr (wrote_all ps (taken us' fl)) f refl (ap suc a) in
               let c = passed_acted us' (DO (reserve q (form_for t)) ∷ []) ps n_call x.symbol d 1
               (typed_step tb x.symbol d 1 fr fl (scopes g) x us' n u (ap kind_of i ∙ ap use_kind j) (ap (means_of tb.key) i) one) a (λ z c. (ap (parts 16 q) (result_form x D hs p t asked i j s), tt)) y in
               c

@@ -11,7 +11,7 @@ use lib.Seq.{set-append_seam}
 use Rattle.machine.specs.Data.{store, keep, sum, condition, upto}
 use Rattle.machine.specs.Instructions.{Location, located, cell_found, Instruction, DO, IF, JUMP, GO, NEXT, pack, high, mid, low}
 use Rattle.grammar.specs.NodeKinds.{n_start, n_once, n_while, n_step, n_amount}
-use Rattle.names.specs.Program.{Name, Expression, first_symbol, Element, value, while, step as by-step}
+use Rattle.names.specs.Program.{Name, Expression, first_symbol, Element, value, while, step as by_step}
 use Rattle.names.specs.Scopes.{Scope, meaning}
 use Rattle.names.specs.Nodes.{mark, nodes_e, nodes_l, nodes_ls}
 use Rattle.names.specs.model.Rows.{is_use}
@@ -257,33 +257,33 @@ module _ (tb : Tables) where
 abbrev uses_x : List Scope → Element → List Use
 uses_x g (value e) = uses_e g e
 uses_x g (while q e c) = uses_e g e ++ uses_e g c
-uses_x g (by-step q e f h) = uses_e g e ++ (uses_e g f ++ uses_e g h)
+uses_x g (by_step q e f h) = uses_e g e ++ (uses_e g f ++ uses_e g h)
 
 uses_more : (g : List Scope) (l : Element) (ls : List Element) → uses_l g (l ∷ ls) ≡ uses_x g l ++ uses_l g ls
 unfolding uses_l
 uses_more g (value e) ls = refl
 uses_more g (while q e f) ls = sym (append_assoc (uses_e g e) (uses_e g f) (uses_l g ls))
-uses_more g (by-step q e f h) ls = simp append_assoc
+uses_more g (by_step q e f h) ls = simp append_assoc
 
 abbrev OkX : List Scope → Element → Type 0
 OkX g (value e) = OkE g e
 OkX g (while q e c) = OkE g e × OkE g c
-OkX g (by-step q e f h) = OkE g e × OkE g f × OkE g h
+OkX g (by_step q e f h) = OkE g e × OkE g f × OkE g h
 
 ok_more : (g : List Scope) (l : Element) (ls : List Element) → OkL g (l ∷ ls) → OkX g l × OkL g ls
 ok_more g (value e) ls ok = ok
 ok_more g (while q e c) ls ok = ((ok.0, ok.1), ok.2)
-ok_more g (by-step q e f h) ls ok = ((ok.0, ok.1, ok.2), ok.3)
+ok_more g (by_step q e f h) ls ok = ((ok.0, ok.1, ok.2), ok.3)
 
 abbrev ToldX : Tables → List Scope → Element → Type 0
 ToldX tb g (value e) = IsTold tb g e
 ToldX tb g (while q e c) = IsTold tb g e × IsTold tb g c
-ToldX tb g (by-step q e f h) = IsTold tb g e × IsTold tb g f × IsTold tb g h
+ToldX tb g (by_step q e f h) = IsTold tb g e × IsTold tb g f × IsTold tb g h
 
 told_more : (tb : Tables) (g : List Scope) (l : Element) (ls : List Element) → ToldL (Numbered tb) (Pointed tb) (Marked tb) (Moded tb) g (l ∷ ls) → ToldX tb g l × ToldL (Numbered tb) (Pointed tb) (Marked tb) (Moded tb) g ls
 told_more tb g (value e) ls ok = ok
 told_more tb g (while q e c) ls ok = ((ok.0, ok.1), ok.2)
-told_more tb g (by-step q e f h) ls ok = ((ok.0, ok.1, ok.2), ok.3)
+told_more tb g (by_step q e f h) ls ok = ((ok.0, ok.1, ok.2), ok.3)
 
 -- one element's code: in the scopes g and m for statements, over x; i: the body, o: where it goes on
 abbrev code_x : Tables → List Around → ℕ → Name → Element → ℕ → ℕ → ℕ → List Instruction → List Instruction
@@ -291,7 +291,7 @@ code_x tb g m x (value e) b i o r = code_e tb.place g e b (code_store tb.place g
 code_x tb g m x (while q e c) b i o r =
     let a = end_store (scopes g) x (end_e (scopes g) e b) in
     code_e tb.place g e b (code_store tb.place g x (code_e tb.place g c a (IF condition o ∷ GO m i b ∷ r)))
-code_x tb g m x (by-step q e f h) b i o r =
+code_x tb g m x (by_step q e f h) b i o r =
     let a = end_store (scopes g) x (end_e (scopes g) e b) in
     code_e tb.place g e b (code_store tb.place g x (code_step tb.place (way (meaning (scopes g) x)) g m q x f h i o a r))
 
@@ -442,7 +442,7 @@ module _ (tb : Tables) (R : Type 0) (g : List Around) (right : R → Targets tb.
         ),
       ))
 
-  step_turned : (q : ℕ) (e f h : Expression) (d b : ℕ) → OkX (scopes g) (by-step q e f h) → ToldX tb (scopes g) (by-step q e f h) → IsX (by-step q e f h) d b
+  step_turned : (q : ℕ) (e f h : Expression) (d b : ℕ) → OkX (scopes g) (by_step q e f h) → ToldX tb (scopes g) (by_step q e f h) → IsX (by_step q e f h) d b
   unfolding nodes_l end_x ahead_x
   step_turned q e f h d b ok n us fr fl w u a =
       let p = tb.place x.symbol in
@@ -459,12 +459,12 @@ module _ (tb : Tables) (R : Type 0) (g : List Around) (right : R → Targets tb.
       let y₂ = (emits_e tb R 0 m g right known f d (suc k) ok.1 n.1).pass (uh ++ us) (in_step i 0 j (suc k) L) (step_flow tb k L y₁.next) (fits_open (opened i 0 j (suc k) ∷ L.opens) w') (y₁.uses ∙ append_assoc uf uh us) (ap suc y₁.at) in
       let y₃ = held_passed q (first_symbol f) k c w.loops y₁.at y₂ in
       let y₄ = (emits_e tb R 0 m g right known h d (suc (suc c)) ok.2 n.2).pass us (in_step (suc (suc c)) 1 j (suc k) L) y₃.next (fits_open (opened (suc (suc c)) 1 j (suc k) ∷ L.opens) w') y₃.uses y₃.at in
-      turned_words (nodes_l d (by-step q e f h)) (simp append_assoc) (bound_end (way (meaning (scopes g) x)) q (end_e (scopes g) h (suc (suc c))) k b (suc (suc c)) (first_symbol h) tell word w (y₁ and_then y₃ and_then y₄))
+      turned_words (nodes_l d (by_step q e f h)) (simp append_assoc) (bound_end (way (meaning (scopes g) x)) q (end_e (scopes g) h (suc (suc c))) k b (suc (suc c)) (first_symbol h) tell word w (y₁ and_then y₃ and_then y₄))
 
   element_turned : (l : Element) (d b : ℕ) → OkX (scopes g) l → ToldX tb (scopes g) l → IsX l d b
   element_turned (value e) d b ok n = value_turned e d b ok n
   element_turned (while q e c) d b ok n = while_turned q e c d b ok n
-  element_turned (by-step q e f h) d b ok n = step_turned q e f h d b ok n
+  element_turned (by_step q e f h) d b ok n = step_turned q e f h d b ok n
 
   -- the code of elements is that of the first in front of the others'
   code_more : (l : Element) (ls : List Element) (b i n : ℕ) (r : List Instruction)
@@ -472,7 +472,7 @@ module _ (tb : Tables) (R : Type 0) (g : List Around) (right : R → Targets tb.
   unfolding code_l end_x
   code_more (value e) ls b i n r = refl
   code_more (while q e c) ls b i n r = refl
-  code_more (by-step q e f h) ls b i n r = refl
+  code_more (by_step q e f h) ls b i n r = refl
 
   abbrev IsL : Element → List Element → ℕ → ℕ → Type 0
   IsL l ls d b =

@@ -1,0 +1,15 @@
+-- `translating::schemes::judged` meets its contract: the code is made from what the front end found of both; a refusal is handed on, over zeros. Assumes nothing.
+use mathlib.Core.Path.{refl}
+use Rattle.reading.proofs.SchemeStands.{both_filled, both_none}
+use Rattle.translating.proofs.LendingBoth.{scheme_read, lent}
+use Rattle.translating.proofs.Handed.{as_refused_with, as_accepted_with}
+use borrow.Author.Rules.{rules}
+use Rattle.translating.proofs.schemes.judged.Goals as goal
+
+pub returns-in-Program : goal.returns-in-Program
+returns-in-Program c =
+    let h = both_filled c.find_both.ensures _ c.in-Program.is in
+    as_accepted_with h.whole (scheme_read h) (lent h refl) h.joined.named h.joined.typed c.requires c.emit.ensures
+
+pub returns-in-Refused : goal.returns-in-Refused
+returns-in-Refused c = as_refused_with _ _ (both_none c.find_both.ensures _ c.in-Refused.is) c.clear.ensures c.requires

@@ -1,0 +1,16 @@
+-- `translating::translating::judged` meets its contract: the code of an accepted source is made from what the front end found; a refusal is handed on, over
+-- zeros. Assumes nothing.
+use mathlib.Core.Path.{refl}
+use Rattle.reading.proofs.Answers.{told-program, told_refused}
+use Rattle.translating.proofs.Lending.{program, lent}
+use Rattle.translating.proofs.Handed.{as_refused, as_accepted}
+use borrow.Author.Rules.{rules}
+use Rattle.translating.proofs.translating.judged.Goals as goal
+
+pub returns-in-Program : goal.returns-in-Program
+returns-in-Program c =
+    let h = told-program c.find.ensures _ c.in-Program.is in
+    as_accepted (program h) (lent h refl) h.declared.faultless h.declared.typed c.requires c.emit.ensures
+
+pub returns-in-Refused : goal.returns-in-Refused
+returns-in-Refused c = as_refused _ _ (told_refused c.find.ensures _ c.in-Refused.is) c.clear.ensures c.requires
