@@ -1,6 +1,6 @@
 -- What the front end leaves in its arrays is what the passes that write code are told: nodes and rows of the source's program, its uses with the numbers of
 -- what they mean, places, values and marks by symbol.
-use Prim.Native.Nat.{ℕ, ◌*◌, ◌<◌, ◌≤◌}
+use Prim.Native.Nat.{ℕ, ◌*◌, ◌<◌}
 use mathlib.Core.Path.{◌≡◌, sym, ap, subst, ◌∙◌}
 use mathlib.Core.List.{List, []}
 use native.Mathlib.Omega.{arith}
@@ -8,7 +8,6 @@ use lib.ListN.{length, get_or, take, replicate, length-take, length-map, length-
 use lib.Seq.{get_or-take}
 use Rattle.symbols.specs.Symbols.{kind, value_of}
 use Rattle.symbols.specs.Scan.{values_of}
-use Rattle.emitting.specs.model.Emission.{place_at}
 use Rattle.types.specs.model.Marks.{marks_s}
 use Rattle.reading.specs.Judging.{its_program}
 use Rattle.reading.specs.Reading.{place_in, Grammatical}

@@ -1,6 +1,6 @@
 -- Request 7: what the front end leaves of a prelude and a scheme is what the passes that write code are told of the one program.
 use Prim.Native.Nat.{ℕ, ◌+◌, ◌-◌, ◌*◌, ◌/◌, ◌%◌, ◌<◌, ◌≤◌}
-use mathlib.Core.Path.{◌≡◌, refl, sym, ap, subst, ◌∙◌}
+use mathlib.Core.Path.{◌≡◌, sym, ap, subst, ◌∙◌}
 use mathlib.Core.List.{List, [], ◌∷◌, ◌++◌}
 use native.Mathlib.Omega.{arith}
 use lib.ListN.{length, get_or, take, replicate, length-append, length-map, length-replicate, get_or-replicate, get_or-append}
@@ -12,13 +12,10 @@ use Rattle.symbols.specs.model.Kinds.{unpacked}
 use Rattle.grammar.specs.Trees.{yield}
 use Rattle.names.specs.Program.{Statement, Procedure}
 use Rattle.names.specs.Every.{AnyName, EveryS, EveryD}
-use Rattle.names.specs.Nodes.{nodes_s}
 use Rattle.names.specs.Outline.{rows_s, rows_d}
 use Rattle.names.specs.ReadOff.{program_from}
 use Rattle.names.specs.Prelude.{declarations_of, with_prelude}
 use Rattle.types.specs.model.Marks.{marks_s}
-use Rattle.table.proofs.SamePlaces.{SymbolsBelow}
-use Rattle.emitting.specs.model.Emission.{place_at}
 use Rattle.reading.specs.Judging as any
 use Rattle.reading.specs.Two.{symbols, count_of, left, place_with, procedures}
 use Rattle.reading.specs.declared.Both.{Both}
@@ -28,7 +25,6 @@ use Rattle.reading.proofs.BothStand.{both, own, both_stands, spelled, spelled', 
 use Rattle.reading.proofs.HalfWords.{small_place, whole_below}
 use Rattle.reading.proofs.Passed.{Stands, rows_here_lem, uses_here, marks_here}
 use Rattle.translation.specs.model.Sizes.{symbols_s, LimitedWith}
-use Rattle.translation.specs.model.Translate.{end_s}
 use Rattle.translation.proofs.Accepted.{accepted_scoped}
 use Rattle.translation.proofs.Ranges.{ends, in_range_with}
 use Rattle.translation.proofs.Lengths.{fits_words_with}

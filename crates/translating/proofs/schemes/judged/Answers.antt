@@ -3,7 +3,6 @@ use mathlib.Core.Path.{refl}
 use Rattle.reading.proofs.SchemeStands.{both_filled, both_none}
 use Rattle.translating.proofs.LendingBoth.{scheme_read, lent}
 use Rattle.translating.proofs.Handed.{as_refused_with, as_accepted_with}
-use borrow.Author.Rules.{rules}
 use Rattle.translating.proofs.schemes.judged.Goals as goal
 
 pub returns-in-Program : goal.returns-in-Program

@@ -3,7 +3,6 @@ use lib.Seq.{length-take-le}
 use Rattle.translating.specs.With.{enough}
 use Rattle.translating.proofs.Handed.{as_short_with}
 use Rattle.translating.proofs.Preluded.{faith_with}
-use borrow.Author.Rules.{rules}
 use Rattle.translating.proofs.schemes.translate_scheme.Goals as goal
 
 pub returns-then-code-lt16384 : goal.returns-then-code-lt16384

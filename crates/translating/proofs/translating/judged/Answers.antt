@@ -4,7 +4,6 @@ use mathlib.Core.Path.{refl}
 use Rattle.reading.proofs.Answers.{told-program, told_refused}
 use Rattle.translating.proofs.Lending.{program, lent}
 use Rattle.translating.proofs.Handed.{as_refused, as_accepted}
-use borrow.Author.Rules.{rules}
 use Rattle.translating.proofs.translating.judged.Goals as goal
 
 pub returns-in-Program : goal.returns-in-Program

@@ -4,7 +4,6 @@ use lib.Seq.{length-take-le}
 use Rattle.translating.specs.Job.{enough}
 use Rattle.translating.proofs.Handed.{as_short}
 use Rattle.translating.proofs.Promised.{faith}
-use borrow.Author.Rules.{rules}
 use Rattle.translating.proofs.translating.translate.Goals as goal
 
 pub returns-then-code-lt16384 : goal.returns-then-code-lt16384
