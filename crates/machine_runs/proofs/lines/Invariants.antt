@@ -1,7 +1,6 @@
 -- `machine_runs::lines` meets its contract. The next line begins behind this one.
 -- Assumes nothing.
 use Prim.Native.Nat.{◌-◌}
-use borrow.Author.Rules.{rules}
 use lib.ListN.{length}
 use Rattle.machine_runs.proofs.lines.Given as goal
 

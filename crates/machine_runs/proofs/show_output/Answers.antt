@@ -1,7 +1,5 @@
 -- The index is in the slice.
-use Prim.Native.Nat.{◌≤◌, ◌-◌}
-use borrow.Author.Rules.{rules}
-use lib.ListN.{length, get_or}
+use lib.ListN.{get_or}
 use lib.IntN.{pos}
 use Rattle.machine.proofs.Wholes.{wide}
 use Rattle.machine_runs.proofs.show_output.Goals as goal

@@ -1,9 +1,6 @@
 -- The index is in the slice.
 use Prim.Native.Nat.{◌≤◌, ◌-◌}
-use borrow.Author.Rules.{rules}
-use lib.ListN.{length, get_or}
-use lib.IntN.{pos}
-use Rattle.machine.proofs.Wholes.{wide}
+use lib.ListN.{length}
 use Rattle.machine_runs.proofs.show_output.Given as goal
 
 abbrev pub invariant-loop-i : goal.invariant-loop-i

@@ -1,6 +1,5 @@
 -- The index is in the slice.
 use Prim.Native.Nat.{◌≤◌, ◌-◌}
-use borrow.Author.Rules.{rules}
 use lib.ListN.{length}
 use Rattle.machine_runs.proofs.show_store.Given as goal
 

@@ -1,7 +1,6 @@
 -- A part of the numbers is as long as it is said to be.
 use mathlib.Core.Path.{sym}
 use lib.Seq.{length-take-le}
-use borrow.Author.Rules.{rules}
 use Rattle.machine_runs.proofs.tried.Goals as goal
 
 pub slice_bounds-ran-end : goal.slice_bounds-ran-end

@@ -1,7 +1,6 @@
 -- `pages::name_end` meets its contract. The end is between the start and the length.
 -- Assumes nothing.
 use Prim.Native.Nat.{◌-◌, ◌≤◌}
-use borrow.Author.Rules.{rules}
 use lib.ListN.{length}
 use Rattle.pages.proofs.name_end.Given as goal
 

@@ -1,7 +1,6 @@
 -- `pages::number_in` meets its contract. The number stays small.
 -- Assumes nothing.
 use Prim.Native.Nat.{◌-◌, ◌<◌}
-use borrow.Author.Rules.{rules}
 use Rattle.pages.proofs.number_in.Given as goal
 
 abbrev pub invariant-loop-i : goal.invariant-loop-i

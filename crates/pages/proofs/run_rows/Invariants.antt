@@ -1,7 +1,6 @@
 -- `pages::run_rows` meets its contract. A row is within the index, and there are fewer rows than bytes.
 -- Assumes nothing.
 use Prim.Native.Nat.{◌-◌, ◌≤◌}
-use borrow.Author.Rules.{rules}
 use lib.ListN.{length}
 use Rattle.pages.proofs.run_rows.Given as goal
 

@@ -1,10 +1,7 @@
 -- `desk::files::arguments` meets its contract. The words end within the line.
 -- Assumes nothing.
-use Prim.Native.Nat.{◌-◌, ◌≤◌}
-use mathlib.Core.Path.{◌≡◌}
 use Rattle.io.proofs.Counting.{prefix_len_of_le}
 use borrow.Author.Rules.{rules}
-use lib.ListN.{length}
 use Rattle.desk.proofs.files.arguments.Goals as goal
 
 pub returns-then-at-eq0 : goal.returns-then-at-eq0

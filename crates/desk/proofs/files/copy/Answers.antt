@@ -1,10 +1,7 @@
 -- `desk::files::copy` meets its contract. Each byte is put in the room.
 -- Assumes nothing.
-use Prim.Native.Nat.{◌-◌}
-use mathlib.Core.Path.{◌≡◌}
 use lib.ListN.{length-set}
 use borrow.Author.Rules.{rules}
-use lib.ListN.{length}
 use Rattle.desk.proofs.files.copy.Goals as goal
 
 pub loop-i-preserved : goal.loop-i-preserved

@@ -2,8 +2,6 @@
 -- Assumes nothing.
 use Prim.Native.Nat.{◌-◌}
 use mathlib.Core.Path.{◌≡◌}
-use lib.ListN.{length-set}
-use borrow.Author.Rules.{rules}
 use lib.ListN.{length}
 use Rattle.desk.proofs.files.copy.Given as goal
 

@@ -3,7 +3,6 @@
 use lib.IntN.{pos}
 use lib.ListN.{get_or}
 use Rattle.machine.proofs.Wholes.{wide}
-use borrow.Author.Rules.{rules}
 use Rattle.desk.proofs.outputs.number_at.Goals as goal
 
 pub overflow_cast-result : goal.overflow_cast-result

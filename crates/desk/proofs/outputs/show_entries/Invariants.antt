@@ -3,7 +3,6 @@
 use Prim.Native.Nat.{◌-◌, ◌/◌}
 use mathlib.Core.Path.{◌≡◌}
 use lib.ListN.{length}
-use borrow.Author.Rules.{rules}
 use Rattle.desk.proofs.outputs.show_entries.Given as goal
 
 abbrev pub invariant-loop-k : goal.invariant-loop-k

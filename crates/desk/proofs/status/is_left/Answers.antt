@@ -1,7 +1,5 @@
 -- `desk::status::is_left` meets its contract. By the two tests.
 -- Assumes nothing.
-use borrow.Author.Tests.{not-true, not-false}
-use borrow.Author.Rules.{rules}
 use Rattle.desk.proofs.status.is_left.Goals as goal
 
 pub returns-then-not-strict : goal.returns-then-not-strict

@@ -1,7 +1,6 @@
 -- `desk::status::of_taken` meets its contract. By the test.
 -- Assumes nothing.
 use Rattle.desk.specs.Status.{of_taken}
-use borrow.Author.Rules.{rules}
 use Rattle.desk.proofs.status.of_taken.Goals as goal
 
 pub returns-then-taken : goal.returns-then-taken
