@@ -1,0 +1,21 @@
+-- `comparing::comparing::list_changes` meets its contract. The loop's invariant: what differs from use i on is left to write. Assumes nothing.
+use mathlib.Core.Path.{◌≡◌, sym, ◌∙◌}
+use mathlib.Core.Logic.{⊎_elim}
+use mathlib.Core.List.{List, map}
+use Prim.Native.Nat.{ℕ, ◌+◌, ◌-◌, ◌≤◌, ◌<◌, max}
+use native.Mathlib.Nat.{zero-add}
+use native.Mathlib.Omega.{arith}
+use lib.ListN.{length, drop, length-map}
+use Rattle.table.proofs.Written.{Writing, none_yet, all_written}
+use Rattle.comparing.specs.Comparing.{differing}
+use Rattle.comparing.specs.model.Words.{told, changed}
+use Rattle.comparing.proofs.Steps.{listed_end, change_put, change_past}
+use borrow.Author.Rules.{rules}
+use Rattle.comparing.proofs.comparing.list_changes.Given as goal
+
+abbrev pub invariant-loop-i : goal.invariant-loop-i
+invariant-loop-i l =
+    (l.i ≤ l.most) × (l.at ≤ l.i) × Writing l.initial.list l.list 0 l.at (differing l.i (drop l.i (map (told l.rows) l.uses)) (drop l.i (map (told l.other_rows) l.others))) (changed l.rows l.uses l.other_rows l.others)
+
+abbrev pub decreases-loop-i : goal.decreases-loop-i
+decreases-loop-i l = l.most - l.i
