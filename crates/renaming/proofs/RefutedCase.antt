@@ -65,7 +65,7 @@ a1_aq = block 0 (variables integer (n 2 "a1" ∷ n 4 "aq" ∷ []) no_more) (last
 
 -- 'begin' 'integer' payRate; PAYrate := 1 'end'
 abbrev pay_rate : Statement
-pay_rate = block 0 (variables integer (n 2 "pay_rate" ∷ []) no_more) (last (assignment (n 4 "PAYrate") [] 5 (number 6 1)))
+pay_rate = block 0 (variables integer (n 2 "payRate" ∷ []) no_more) (last (assignment (n 4 "PAYrate") [] 5 (number 6 1)))
 
 -- 'BEGIN' 'INTEGER' Rate, rate; 'END'
 abbrev rate_rate : Statement
