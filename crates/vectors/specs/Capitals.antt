@@ -1,6 +1,6 @@
 -- Paper 02, request 8, "Case means nothing", tried: a source in capitals, against what is listed of the source itself, and its table against the source's; as
 -- a tally.
-use Rattle.std.specs.Prelude.{ℕ, zero, suc, ◌+◌, ◌-◌, min, ◌≡◌, Bool, cond, ◌&&◌, List, [], ◌∷◌, leb, length, get_or, replicate}
+use Rattle.std.specs.Prelude.{ℕ, zero, suc, ◌+◌, ◌-◌, min, ◌≡◌, cond, ◌&&◌, List, [], ◌∷◌, leb, length, get_or, replicate}
 use Prim.Native.Char.{code}
 use Rattle.answers.specs.declared.Verdict.{Verdict}
 use Rattle.symbols.specs.Names.{equal}

@@ -1,6 +1,6 @@
 -- What `read_two` and `translate_scheme` answer and leave, against what is listed of a prelude and two schemes, each of which has a text as a source has; and
 -- what `read_two` leaves of an accepted source behind a prelude that it does not use, against what `read` leaves of it. As a tally.
-use Rattle.std.specs.Prelude.{ℕ, zero, suc, ◌+◌, ◌*◌, ◌<◌, ◌≤◌, min, ◌≡◌, Bool, true, false, cond, ◌&&◌, List, [], ◌∷◌, eqb, ltb, length, get_or, take, drop, replicate}
+use Rattle.std.specs.Prelude.{ℕ, zero, suc, ◌+◌, ◌*◌, ◌<◌, ◌≤◌, min, ◌≡◌, Bool, true, false, cond, ◌&&◌, List, [], eqb, ltb, length, get_or, take, drop, replicate}
 use Rattle.answers.specs.Numbers.{too_large}
 use Rattle.answers.specs.Answers.{number_of}
 use Rattle.answers.specs.declared.Verdict.{Verdict}

@@ -1,0 +1,9 @@
+-- `vectors::lists::raised` meets its contract. One more than a word is a number of 64 bits from 0 on. Assumes nothing.
+use Prim.Native.Nat.{◌+◌}
+use native.Mathlib.Omega.{arith}
+use mir.Syntax.{w64}
+use mir.Facts.{to_z_pos}
+use Rattle.vectors.proofs.lists.raised.Goals as goal
+
+pub returns : goal.returns
+returns c = to_z_pos w64 {n = c.args.word + 1} (omega arith)
