@@ -5,7 +5,7 @@ use mathlib.Core.List.{List, [], ◌∷◌}
 use mathlib.Core.Option.{none}
 use Prim.Native.Nat.{ℕ, zero, suc}
 use Rattle.symbols.specs.Names.{blank}
-use Rattle.symbols.specs.Scan.{Scan, scan}
+use Rattle.symbols.specs.Scan.{scan}
 use Rattle.symbols.specs.Scan.{kinds_of, values_of}
 use Rattle.grammar.specs.Grammar.{program}
 use Rattle.grammar.specs.Trees.{Syn, yield}

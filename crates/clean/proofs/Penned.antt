@@ -12,7 +12,7 @@ use Rattle.symbols.specs.Symbols.{kind}
 use Rattle.symbols.specs.model.Kinds.{symbol_of}
 use Rattle.symbols.specs.Scan.{Found, kinds_of, places_of}
 use Rattle.symbols.specs.Spelling.{text, dress, spelling, spell, word_for, sign_for, read_off, token_at}
-use Rattle.clean.specs.House.{Mark, line, symbol, spaces, tight, gaps, page}
+use Rattle.clean.specs.House.{Mark, line, symbol, spaces, tight, gaps}
 use Rattle.clean.specs.model.Lines.{top_level, below, base, peek, headed, lines}
 use Rattle.clean.specs.model.Bytes.{spelling_at}
 use Rattle.clean.specs.model.Pen.{line_of, inward_of, open_of, level_of, head_of, opened_of, passed_of, top_of, early_of, late_of, stack_after, gap_of, written_from}

@@ -8,7 +8,7 @@ use lib.Dec.{eqb, ltb}
 use native.Mathlib.Decide.{dec_lt}
 use lib.ListN.{length, get_or, drop, length-append, length-drop}
 use borrow.Author.Tests.{ne_eqb, ltb-true}
-use Rattle.symbols.specs.Symbols.{kind, is}
+use Rattle.symbols.specs.Symbols.{kind}
 use Rattle.symbols.specs.model.Kinds.{ordered, symbol_of}
 use Rattle.symbols.specs.Names.{digit, these, reach, decimals}
 use Rattle.symbols.specs.Scan.{Found, kinds_of}

@@ -5,7 +5,6 @@ use mathlib.Core.Path.{◌≡◌, refl, sym, ap, subst, ◌∙◌}
 use mathlib.Core.List.{List, [], ◌∷◌, ◌++◌, map}
 use mathlib.Core.Bool.{cond}
 use native.Mathlib.Omega.{arith}
-use lib.Dec.{eqb}
 use lib.ListN.{length, get_or, take}
 use borrow.Author.Tests.{eq-eqb, ne_eqb}
 use Rattle.answers.specs.declared.Declaration.{Declaration}
@@ -15,7 +14,7 @@ use Rattle.symbols.specs.Scan.{scan, values_of}
 use Rattle.grammar.specs.Trees.{yield}
 use Rattle.names.specs.Program.{Name}
 use Rattle.names.specs.Scopes.{Meaning, declared, given, nothing, meaning}
-use Rattle.names.specs.Uses.{Use, uses_s, Row, row_in, row_of, joined, use_rows, unmeant, meant_or_not}
+use Rattle.names.specs.Uses.{Use, uses_s, row_in, row_of, joined, use_rows, unmeant, meant_or_not}
 use Rattle.names.specs.Outline.{rows_s, declarations}
 use Rattle.names.specs.model.Rows.{meant_of}
 use Rattle.names.specs.declared.Meant.{Meant}

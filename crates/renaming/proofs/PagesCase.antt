@@ -1,7 +1,7 @@
 -- Clean pages of two sources that differ in the case of letters alone (requests 2 and 8): the same answer, place and length, and two texts that differ in the
 -- case of names' letters alone. Separators are made of the tree, words and signs of the symbol, digits have no case; only a name has letters of its own.
 -- Assumes nothing.
-use Prim.Native.Nat.{ℕ, ◌+◌, ◌≤◌, ◌<◌}
+use Prim.Native.Nat.{ℕ}
 use mathlib.Core.Path.{◌≡◌, refl, sym, ap, subst, ◌∙◌}
 use mathlib.Core.Bool.{Bool, true, false, cond, ◌||◌}
 use mathlib.Core.List.{List, [], ◌∷◌, ◌++◌, map}
@@ -10,7 +10,7 @@ use native.Mathlib.Omega.{arith}
 use lib.ListN.{length, drop}
 use Rattle.answers.specs.declared.Verdict.{Verdict}
 use Rattle.answers.specs.declared.Verdict.TheVariants.{Accepted, Refused as NotAccepted}
-use Rattle.symbols.specs.Names.{digit, in_name, these, reach, decimals, folded, same_name}
+use Rattle.symbols.specs.Names.{digit, in_name, these, reach, folded, same_name}
 use Rattle.symbols.specs.Symbols.{words, signs, is}
 use Rattle.symbols.specs.Scan.{Found, scan, kinds_of}
 use Rattle.symbols.specs.Spelling.{Token, word_for, sign_for, spell, spelling, Piece, text, with_decimals, read_off, token_at, tokens, dress}

@@ -1,5 +1,5 @@
 -- How the code tells meanings: by the words that the pass over the uses keeps, and the rows. No part of the paper.
-use Rattle.std.specs.Prelude.{ℕ, ◌*◌, ◌-◌, ◌≤◌, ◌≡◌, Bool, true, not, List, [], ◌∷◌, map, length, get_or, take}
+use Rattle.std.specs.Prelude.{ℕ, ◌*◌, ◌-◌, ◌≤◌, ◌≡◌, Bool, true, not, List, [], ◌∷◌, map, get_or, take}
 use Rattle.names.specs.model.Rows.{meant_of}
 use Rattle.names.specs.declared.Meant.{Meant}
 use Rattle.names.specs.declared.Meant.TheVariants.{Declared, Given, Nothing}

@@ -1,7 +1,6 @@
 -- `clean::bytes::behind_point` meets its contract: each test has told what stands there. Assumes nothing.
 use mathlib.Core.Path.{sym}
 use Rattle.clean.proofs.Putting.{puts_none, puts_as, decimals_end, decimals_here, decimals_none}
-use borrow.Author.Rules.{rules}
 use Rattle.clean.proofs.bytes.behind_point.Goals as goal
 
 pub returns-then-source-dot : goal.returns-then-source-dot

@@ -1,5 +1,4 @@
 -- `clean::bytes::belongs` meets its contract: the sort is told by the case. Assumes nothing.
-use borrow.Author.Rules.{rules}
 use Rattle.clean.proofs.bytes.belongs.Goals as goal
 
 pub returns-then-name : goal.returns-then-name

@@ -3,7 +3,6 @@ use native.Mathlib.Omega.{arith}
 use lib.ListN.{drop, length-drop}
 use Rattle.symbols.specs.Names.{digit}
 use Rattle.clean.proofs.Putting.{decimal_put, run_short}
-use borrow.Author.Rules.{rules}
 use Rattle.clean.proofs.bytes.decimal.Goals as goal
 
 pub put-to-requires : goal.put-to-requires

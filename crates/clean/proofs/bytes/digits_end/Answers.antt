@@ -1,12 +1,9 @@
 -- `clean::bytes::digits_end` meets its contract: what is passed and what the digits reach from i on is the whole reach. Assumes nothing.
-use Prim.Native.Nat.{◌-◌, ◌+◌}
-use mathlib.Core.Path.{◌≡◌, refl, sym, ◌∙◌}
+use mathlib.Core.Path.{refl, sym, ◌∙◌}
 use native.Mathlib.Omega.{arith}
-use lib.ListN.{length, drop}
-use Rattle.symbols.specs.Names.{digit, reach}
+use Rattle.symbols.specs.Names.{digit}
 use Rattle.symbols.proofs.Laws.{reach_end}
-use Rattle.clean.proofs.Putting.{reach_next, reach_stops, not_true, not_false}
-use borrow.Author.Rules.{rules}
+use Rattle.clean.proofs.Putting.{reach_next, reach_stops}
 use Rattle.clean.proofs.bytes.digits_end.Goals as goal
 
 pub loop-i-init : goal.loop-i-init
@@ -15,13 +12,13 @@ loop-i-init c = refl
 pub returns-then-not-goes_on : goal.returns-then-not-goes_on
 returns-then-not-goes_on c =
     let l = c.loop-i in
-    let r = reach_stops digit c.args.source.now l.i c.loop-i-test.true (sym c.goes_on.ensures ∙ not_true _ c.if-not-goes_on.true-raw) in
+    let r = reach_stops digit c.args.source.now l.i c.loop-i-test.true (sym c.goes_on.ensures ∙ c.if-not-goes_on.true) in
     omega (arith, l.invariant, r)
 
 pub loop-i-preserved : goal.loop-i-preserved
 loop-i-preserved c =
     let l = c.loop-i in
-    let r = reach_next digit c.args.source.now l.i c.loop-i-test.true (sym c.goes_on.ensures ∙ not_false _ c.if-not-goes_on.false-raw) in
+    let r = reach_next digit c.args.source.now l.i c.loop-i-test.true (sym c.goes_on.ensures ∙ c.if-not-goes_on.false) in
     omega (arith, l.invariant, r)
 
 pub returns : goal.returns

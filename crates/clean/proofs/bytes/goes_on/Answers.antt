@@ -1,6 +1,5 @@
 -- `clean::bytes::goes_on` meets its contract: one of the two tests has told it. Assumes nothing.
 use mathlib.Core.Path.{sym, ◌∙◌}
-use borrow.Author.Rules.{rules}
 use Rattle.clean.proofs.bytes.goes_on.Goals as goal
 
 pub returns-then-belongs : goal.returns-then-belongs

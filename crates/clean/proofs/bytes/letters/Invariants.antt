@@ -1,12 +1,9 @@
 -- `clean::bytes::letters` meets its contract: what belongs to the run from i on is left. Assumes nothing.
 use Prim.Native.Nat.{◌-◌}
-use mathlib.Core.Path.{sym, ◌∙◌}
-use native.Mathlib.Omega.{arith}
-use lib.ListN.{length, drop, length-drop}
+use lib.ListN.{length, drop}
 use Rattle.symbols.specs.Names.{these}
 use Rattle.clean.specs.model.Bytes.{sort_of}
-use Rattle.clean.proofs.Putting.{Putting, none_put, more_put, all_put, left_over, letters_next, letters_stop, letters_end, run_short, not_true, not_false}
-use borrow.Author.Rules.{rules}
+use Rattle.clean.proofs.Putting.{Putting}
 use Rattle.clean.proofs.bytes.letters.Given as goal
 
 abbrev pub invariant-loop-i : goal.invariant-loop-i

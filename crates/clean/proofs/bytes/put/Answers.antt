@@ -2,7 +2,6 @@
 use lib.ListN.{length-set}
 use Rattle.clean.proofs.Putting.{puts_one, puts_over}
 use native.Mathlib.Omega.{arith}
-use borrow.Author.Rules.{rules}
 use Rattle.clean.proofs.bytes.put.Goals as goal
 
 pub returns-then-page-at : goal.returns-then-page-at

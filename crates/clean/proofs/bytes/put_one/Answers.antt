@@ -1,7 +1,6 @@
 -- `clean::bytes::put_one` meets its contract: the byte is put where it belongs. Assumes nothing.
 use mathlib.Core.Path.{sym, ◌∙◌}
 use Rattle.clean.proofs.Putting.{puts_none}
-use borrow.Author.Rules.{rules}
 use Rattle.clean.proofs.bytes.put_one.Goals as goal
 
 pub returns-then-belongs : goal.returns-then-belongs

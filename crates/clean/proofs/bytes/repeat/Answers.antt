@@ -1,9 +1,6 @@
 -- `clean::bytes::repeat` meets its contract: as many bytes are left as turns. Assumes nothing.
-use Prim.Native.Nat.{◌-◌, ◌≤◌, ◌+◌}
-use mathlib.Core.Path.{◌≡◌}
 use native.Mathlib.Omega.{arith}
-use lib.ListN.{replicate}
-use Rattle.clean.proofs.Putting.{Putting, none_put, more_put, all_put, left_as, times_all, times_next, times_none}
+use Rattle.clean.proofs.Putting.{none_put, more_put, all_put, left_as, times_all, times_next, times_none}
 use Rattle.clean.proofs.bytes.repeat.Goals as goal
 
 pub loop-i-init : goal.loop-i-init

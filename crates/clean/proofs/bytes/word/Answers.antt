@@ -1,9 +1,6 @@
 -- `clean::bytes::word` meets its contract: the bytes from i on are left. Assumes nothing.
-use Prim.Native.Nat.{◌-◌, ◌≤◌, ◌+◌}
-use mathlib.Core.Path.{◌≡◌}
 use native.Mathlib.Omega.{arith}
-use lib.ListN.{length, drop}
-use Rattle.clean.proofs.Putting.{Putting, none_put, more_put, all_put, word_next, word_none}
+use Rattle.clean.proofs.Putting.{none_put, more_put, all_put, word_next, word_none}
 use Rattle.clean.proofs.bytes.word.Goals as goal
 
 pub loop-i-init : goal.loop-i-init

@@ -1,9 +1,8 @@
 -- `clean::bytes::word` meets its contract: the bytes from i on are left. Assumes nothing.
 use Prim.Native.Nat.{◌-◌, ◌≤◌, ◌+◌}
 use mathlib.Core.Path.{◌≡◌}
-use native.Mathlib.Omega.{arith}
 use lib.ListN.{length, drop}
-use Rattle.clean.proofs.Putting.{Putting, none_put, more_put, all_put, word_next, word_none}
+use Rattle.clean.proofs.Putting.{Putting}
 use Rattle.clean.proofs.bytes.word.Given as goal
 
 abbrev pub invariant-loop-i : goal.invariant-loop-i

@@ -3,7 +3,6 @@ use mathlib.Core.Path.{ap}
 use borrow.Author.Tests.{ne_eqb}
 use Rattle.clean.specs.House.{begins_sum}
 use mathlib.Core.Bool.{not}
-use borrow.Author.Rules.{rules}
 use Rattle.clean.proofs.layout.begins_sum.Goals as goal
 
 pub returns-then-b-eq-PLUS : goal.returns-then-b-eq-PLUS

@@ -5,7 +5,6 @@ use native.Mathlib.Omega.{arith}
 use borrow.Author.Tests.{ne_eqb, eq-eqb}
 use lib.ListN.{length-replicate}
 use Rattle.clean.proofs.Putting.{puts_none, puts_on}
-use borrow.Author.Rules.{rules}
 use Rattle.clean.proofs.layout.gap.Goals as goal
 
 pub returns-then-tight : goal.returns-then-tight

@@ -2,7 +2,6 @@
 use mathlib.Core.Path.{sym}
 use lib.ListN.{get_or-eq_default}
 use Rattle.table.proofs.Written.{inside}
-use borrow.Author.Rules.{rules}
 use Rattle.clean.proofs.layout.kind_at.Goals as goal
 
 pub returns-then-i-kinds : goal.returns-then-i-kinds

@@ -1,11 +1,8 @@
 -- `clean::layout::lay_out` meets its contract: what is set down and what is left is the page (`Laying`). Assumes nothing.
-use Prim.Native.Nat.{◌-◌}
 use mathlib.Core.Path.{sym, ◌∙◌}
 use native.Mathlib.Omega.{arith}
-use lib.ListN.{length}
 use Rattle.clean.proofs.Spelled.{kind_in}
-use Rattle.clean.proofs.Laying.{Laying, laying_first, laying_next, laying_done, small_grown, here_small, here_around, here_low, gap_ends}
-use borrow.Author.Rules.{rules}
+use Rattle.clean.proofs.Laying.{laying_first, laying_next, laying_done, small_grown, here_small, here_around, here_low, gap_ends}
 use Rattle.clean.proofs.layout.lay_out.Goals as goal
 
 pub loop-i-init : goal.loop-i-init

@@ -1,11 +1,7 @@
 -- `clean::layout::lay_out` meets its contract: what is set down and what is left is the page (`Laying`). Assumes nothing.
 use Prim.Native.Nat.{◌-◌}
-use mathlib.Core.Path.{sym, ◌∙◌}
-use native.Mathlib.Omega.{arith}
 use lib.ListN.{length}
-use Rattle.clean.proofs.Spelled.{kind_in}
-use Rattle.clean.proofs.Laying.{Laying, laying_first, laying_next, laying_done, small_grown, here_small, here_around, here_low, gap_ends}
-use borrow.Author.Rules.{rules}
+use Rattle.clean.proofs.Laying.{Laying}
 use Rattle.clean.proofs.layout.lay_out.Given as goal
 
 abbrev pub invariant-loop-i : goal.invariant-loop-i

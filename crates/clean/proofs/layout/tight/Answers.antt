@@ -2,7 +2,6 @@
 use mathlib.Core.Path.{sym, ◌∙◌}
 use borrow.Author.Tests.{ne_eqb, eq-eqb}
 use Rattle.clean.specs.House.{tight}
-use borrow.Author.Rules.{rules}
 use Rattle.clean.proofs.layout.tight.Goals as goal
 
 pub returns-then-b-eq-OPEN : goal.returns-then-b-eq-OPEN

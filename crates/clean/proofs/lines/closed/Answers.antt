@@ -1,7 +1,6 @@
 -- `clean::lines::closed` meets its contract: one thing less is open. Assumes nothing.
 use mathlib.Core.Path.{ap}
 use Rattle.clean.specs.model.Pen.{level_of, open_of}
-use borrow.Author.Rules.{rules}
 use Rattle.clean.proofs.lines.closed.Goals as goal
 
 pub returns : goal.returns

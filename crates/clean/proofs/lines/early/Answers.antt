@@ -3,7 +3,6 @@ use Prim.Native.Nat.{◌-◌}
 use mathlib.Core.Path.{ap, ◌∙◌}
 use borrow.Author.Tests.{ne_eqb, eq-eqb}
 use Rattle.clean.specs.model.Pen.{line_of}
-use borrow.Author.Rules.{rules}
 use Rattle.clean.proofs.lines.early.Goals as goal
 
 pub returns-then-kind-eq-END : goal.returns-then-kind-eq-END

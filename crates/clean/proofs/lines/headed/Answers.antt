@@ -1,6 +1,5 @@
 -- `clean::lines::headed` meets its contract: each test has told the kind, or that it is not it. Assumes nothing.
 use borrow.Author.Tests.{ne_eqb}
-use Rattle.clean.specs.model.Lines.{headed}
 use Rattle.clean.proofs.lines.headed.Goals as goal
 
 pub returns-then-kind-eq-VALUE : goal.returns-then-kind-eq-VALUE

@@ -1,7 +1,6 @@
 -- `clean::lines::in_heading` meets its contract: the next symbol tells whether the heading goes on. Assumes nothing.
 use mathlib.Core.Path.{sym, ◌∙◌}
 use Rattle.clean.proofs.Turns.{heading_on, heading_ends}
-use borrow.Author.Rules.{rules}
 use Rattle.clean.proofs.lines.in_heading.Goals as goal
 
 pub returns-then-headed : goal.returns-then-headed

@@ -4,7 +4,6 @@ use native.Mathlib.Omega.{arith}
 use mathlib.Core.Path.{subst}
 use Rattle.clean.specs.model.Pen.{Low, stack_of}
 use Rattle.clean.proofs.Turns.{small_passed, around_passed, late_begin, late_end, late_semicolon, late_if, late_then, late_else, late_do, late_procedure, late_other}
-use borrow.Author.Rules.{rules}
 use Rattle.clean.proofs.lines.late.Goals as goal
 
 pub overflow_add-s : goal.overflow_add-s

@@ -6,7 +6,6 @@ use Rattle.clean.specs.model.Lines.{base}
 use Rattle.clean.specs.model.Pen.{inward_of, level_of, top_of, stack_of}
 use Rattle.clean.proofs.Stacks.{low_top, low_base}
 use Rattle.clean.proofs.Turns.{out_around, out_lines, out_stack}
-use borrow.Author.Rules.{rules}
 use Rattle.clean.proofs.lines.outside.Goals as goal
 
 pub top-requires : goal.top-requires

@@ -1,6 +1,5 @@
 -- `clean::lines::parted` meets its contract: each test has told its case. Assumes nothing.
 use borrow.Author.Tests.{ne_eqb, eq-eqb}
-use borrow.Author.Rules.{rules}
 use Rattle.clean.proofs.lines.parted.Goals as goal
 
 pub returns-then-kind-eq-THEN : goal.returns-then-kind-eq-THEN

@@ -1,6 +1,5 @@
 -- `clean::lines::push` meets its contract: the number behind those that are open is set. Assumes nothing.
 use Rattle.clean.proofs.Stacks.{pushed}
-use borrow.Author.Rules.{rules}
 use Rattle.clean.proofs.lines.push.Goals as goal
 
 pub returns : goal.returns

@@ -1,6 +1,5 @@
 -- `clean::lines::separated` meets its contract: the two cases of a heading. Assumes nothing.
 use Rattle.clean.proofs.Turns.{in_heading, out_of_heading}
-use borrow.Author.Rules.{rules}
 use Rattle.clean.proofs.lines.separated.Goals as goal
 
 pub returns-then-s : goal.returns-then-s

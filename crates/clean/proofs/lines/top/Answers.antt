@@ -1,6 +1,5 @@
 -- `clean::lines::top` meets its contract: the newest is the last of the first n. Assumes nothing.
 use Rattle.clean.proofs.Stacks.{top_is, top_none}
-use borrow.Author.Rules.{rules}
 use Rattle.clean.proofs.lines.top.Goals as goal
 
 pub returns-then-n-eq0 : goal.returns-then-n-eq0

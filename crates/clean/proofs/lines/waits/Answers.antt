@@ -1,5 +1,4 @@
 -- `clean::lines::waits` meets its contract: the case of `begins` is told. Assumes nothing.
-use borrow.Author.Rules.{rules}
 use Rattle.clean.proofs.lines.waits.Goals as goal
 
 pub returns-then-begins : goal.returns-then-begins

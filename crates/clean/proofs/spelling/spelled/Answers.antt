@@ -3,7 +3,6 @@ use mathlib.Core.Path.{sym}
 use native.Mathlib.Omega.{arith}
 use Rattle.clean.proofs.Putting.{puts_as}
 use Rattle.clean.proofs.Spelled.{by_low, by_letters}
-use borrow.Author.Rules.{rules}
 use Rattle.clean.proofs.spelling.spelled.Goals as goal
 
 pub returns-then-kind-lt14 : goal.returns-then-kind-lt14

@@ -2,7 +2,6 @@
 use Rattle.reading.proofs.Answers.{told-program, told_refused}
 use Rattle.clean.specs.Job.{refused}
 use Rattle.clean.proofs.Paged.{in_front_lem, front_long, lendable, writes}
-use borrow.Author.Rules.{rules}
 use Rattle.clean.proofs.writing.write.Goals as goal
 
 pub slice_bounds-kinds-end : goal.slice_bounds-kinds-end

@@ -2,7 +2,6 @@
 use mathlib.Core.Path.{refl}
 use native.Mathlib.Omega.{arith}
 use Rattle.clean.proofs.Paged.{fits_long, fits_short, fits_all}
-use borrow.Author.Rules.{rules}
 use Rattle.clean.proofs.writing.written.Goals as goal
 
 pub lay_out-size-requires : goal.lay_out-size-requires

@@ -4,7 +4,6 @@ use lib.ListN.{take}
 use Rattle.comparing.specs.Comparing.{second_refused}
 use Rattle.reading.proofs.Answers.{told-program, told_refused}
 use Rattle.comparing.proofs.Told.{both_learnt}
-use borrow.Author.Rules.{rules}
 use Rattle.comparing.proofs.comparing.against.Goals as goal
 
 pub compared-requires : goal.compared-requires

@@ -1,7 +1,6 @@
 -- `comparing::comparing::compare` meets its contract. Assumes nothing.
 use Rattle.comparing.specs.Comparing.{first_refused}
 use Rattle.reading.proofs.Answers.{told-program, told_refused}
-use borrow.Author.Rules.{rules}
 use Rattle.comparing.proofs.comparing.compare.Goals as goal
 
 pub against-requires : goal.against-requires

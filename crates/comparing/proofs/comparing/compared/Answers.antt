@@ -4,7 +4,6 @@ use native.Mathlib.Omega.{arith}
 use lib.ListN.{length, length-take}
 use Rattle.comparing.specs.model.Words.{changed}
 use Rattle.comparing.proofs.Steps.{same_list, list_taken}
-use borrow.Author.Rules.{rules}
 use Rattle.comparing.proofs.comparing.compared.Goals as goal
 
 pub list_changes-n-requires : goal.list_changes-n-requires

@@ -1,13 +1,12 @@
 -- `comparing::comparing::copy` meets its contract. The loop's invariant: the words from i on are left to write. Assumes nothing.
 use mathlib.Core.Path.{◌≡◌, refl}
 use mathlib.Core.List.{List, [], ◌∷◌, ◌++◌}
-use Prim.Native.Nat.{ℕ, ◌+◌, ◌-◌, ◌≤◌, ◌<◌}
+use Prim.Native.Nat.{ℕ, ◌+◌, ◌<◌}
 use native.Mathlib.Omega.{arith}
 use native.Mathlib.Numerals.{add-one}
 use lib.ListN.{length, get_or, drop, drop_of_length-le}
 use lib.Seq.{drop-cons}
-use Rattle.table.proofs.Written.{Writing, none_yet, some_more, all_written}
-use borrow.Author.Rules.{rules}
+use Rattle.table.proofs.Written.{none_yet, some_more, all_written}
 use Rattle.comparing.proofs.comparing.copy.Goals as goal
 
 one_word : (words : List ℕ) (i : ℕ) → i < length words → drop i words ≡ (get_or words i 0 ∷ []) ++ drop (i + 1) words

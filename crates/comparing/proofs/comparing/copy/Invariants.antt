@@ -1,13 +1,7 @@
 -- `comparing::comparing::copy` meets its contract. The loop's invariant: the words from i on are left to write. Assumes nothing.
-use mathlib.Core.Path.{◌≡◌, refl}
-use mathlib.Core.List.{List, [], ◌∷◌, ◌++◌}
-use Prim.Native.Nat.{ℕ, ◌+◌, ◌-◌, ◌≤◌, ◌<◌}
-use native.Mathlib.Omega.{arith}
-use native.Mathlib.Numerals.{add-one}
-use lib.ListN.{length, get_or, drop, drop_of_length-le}
-use lib.Seq.{drop-cons}
-use Rattle.table.proofs.Written.{Writing, none_yet, some_more, all_written}
-use borrow.Author.Rules.{rules}
+use Prim.Native.Nat.{◌-◌, ◌≤◌}
+use lib.ListN.{length, drop}
+use Rattle.table.proofs.Written.{Writing}
 use Rattle.comparing.proofs.comparing.copy.Given as goal
 
 abbrev pub invariant-loop-i : goal.invariant-loop-i

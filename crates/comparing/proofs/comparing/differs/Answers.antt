@@ -4,7 +4,6 @@ use mathlib.Core.Bool.{not}
 use native.Mathlib.Omega.{arith}
 use Rattle.comparing.specs.Comparing.{agree}
 use Rattle.comparing.proofs.Steps.{first_ended, second_ended, both_there}
-use borrow.Author.Rules.{rules}
 use Rattle.comparing.proofs.comparing.differs.Goals as goal
 
 pub returns-then-uses-i : goal.returns-then-uses-i

@@ -4,7 +4,6 @@ use native.Mathlib.Omega.{arith}
 use lib.Seq.{length-take-le}
 use Rattle.comparing.specs.Comparing.{short}
 use Rattle.comparing.proofs.Steps.{all_listed}
-use borrow.Author.Rules.{rules}
 use Rattle.comparing.proofs.comparing.given.Goals as goal
 
 pub returns-then-room-n : goal.returns-then-room-n

@@ -1,6 +1,5 @@
 -- `comparing::comparing::learn` meets its contract: what the front end finds tells what the uses mean. Assumes nothing.
 use Rattle.comparing.proofs.Told.{learns}
-use borrow.Author.Rules.{rules}
 use Rattle.comparing.proofs.comparing.learn.Goals as goal
 
 pub returns : goal.returns

@@ -1,15 +1,13 @@
 -- `comparing::comparing::list_changes` meets its contract. The loop's invariant: what differs from use i on is left to write. Assumes nothing.
 use mathlib.Core.Path.{◌≡◌, sym, ◌∙◌}
 use mathlib.Core.List.{List, map}
-use Prim.Native.Nat.{ℕ, ◌+◌, ◌-◌, ◌≤◌, ◌<◌, max}
+use Prim.Native.Nat.{ℕ, max}
 use native.Mathlib.Nat.{zero-add}
 use native.Mathlib.Omega.{arith}
-use lib.ListN.{length, drop, length-map}
-use Rattle.table.proofs.Written.{Writing, none_yet, all_written}
-use Rattle.comparing.specs.Comparing.{differing}
+use lib.ListN.{length, length-map}
+use Rattle.table.proofs.Written.{none_yet, all_written}
 use Rattle.comparing.specs.model.Words.{told, changed}
 use Rattle.comparing.proofs.Steps.{listed_end, change_put, change_past}
-use borrow.Author.Rules.{rules}
 use Rattle.comparing.proofs.comparing.list_changes.Goals.{then-differs, else-differs}
 use Rattle.comparing.proofs.comparing.list_changes.Goals as goal
 
@@ -20,28 +18,20 @@ most-is rows uses otherRows others = omega (arith, length-map uses (told rows), 
 pub loop-i-init : goal.loop-i-init
 loop-i-init c = (omega arith, omega arith, none_yet _ _ _)
 
-pub overflow_cast-i : goal.overflow_cast-i
-overflow_cast-i c = omega (arith, c.greater-most.ensures)
-
 pub put-requires : goal.put-requires
-put-requires c =
-    omega (arith, c.loop-i.invariant.2.wrote.size, c.greater-most.ensures)
-
-pub overflow_add-at : goal.overflow_add-at
-overflow_add-at c = omega (arith, c.greater-most.ensures)
+put-requires c = omega (arith, c.loop-i.invariant.2.wrote.size)
 
 pub loop-i-preserved : goal.loop-i-preserved
 loop-i-preserved c =
     let loop = c.loop-i in
     let a = c.args in
     let m = most-is a.rows.now a.uses.now a.other_rows.now a.others.now in
-    let g = c.greater-most.ensures in
     let d = sym c.differs.ensures in
     elim c.if-differs.branch [
       | then-differs w ↦ (
         omega arith,
         omega (arith, w.at-is),
-        change_put (map (told a.rows.now) a.uses.now) (map (told a.other_rows.now) a.others.now) loop.i loop.invariant.2 (d ∙ w.if-differs.true) (omega (arith, m, g)) w.put.ensures w.list-is w.at-is,
+        change_put (map (told a.rows.now) a.uses.now) (map (told a.other_rows.now) a.others.now) loop.i loop.invariant.2 (d ∙ w.if-differs.true) (omega (arith, m)) w.put.ensures w.list-is w.at-is,
       )
       | else-differs w ↦ (
         omega arith,
@@ -59,5 +49,5 @@ returns c =
     let w =
     all_written c.loop-i.invariant.2
     (listed_end (map (told a.rows.now) a.uses.now) (map (told a.other_rows.now) a.others.now) c.loop-i.i
-    (omega (arith, most-is a.rows.now a.uses.now a.other_rows.now a.others.now, c.greater-most.ensures))) in
-    record { wrote = w.0; value = w.1 ∙ zero-add (length (changed a.rows.now a.uses.now a.other_rows.now a.others.now)); upper_bound = omega (arith, c.loop-i.invariant.2.wrote.size, c.greater-most.ensures) }
+    (omega (arith, most-is a.rows.now a.uses.now a.other_rows.now a.others.now))) in
+    record { wrote = w.0; value = w.1 ∙ zero-add (length (changed a.rows.now a.uses.now a.other_rows.now a.others.now)); upper_bound = omega (arith, c.loop-i.invariant.2.wrote.size) }

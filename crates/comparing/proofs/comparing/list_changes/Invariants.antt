@@ -1,16 +1,10 @@
 -- `comparing::comparing::list_changes` meets its contract. The loop's invariant: what differs from use i on is left to write. Assumes nothing.
-use mathlib.Core.Path.{◌≡◌, sym, ◌∙◌}
-use mathlib.Core.Logic.{⊎_elim}
-use mathlib.Core.List.{List, map}
-use Prim.Native.Nat.{ℕ, ◌+◌, ◌-◌, ◌≤◌, ◌<◌, max}
-use native.Mathlib.Nat.{zero-add}
-use native.Mathlib.Omega.{arith}
-use lib.ListN.{length, drop, length-map}
-use Rattle.table.proofs.Written.{Writing, none_yet, all_written}
+use mathlib.Core.List.{map}
+use Prim.Native.Nat.{◌-◌, ◌≤◌}
+use lib.ListN.{drop}
+use Rattle.table.proofs.Written.{Writing}
 use Rattle.comparing.specs.Comparing.{differing}
 use Rattle.comparing.specs.model.Words.{told, changed}
-use Rattle.comparing.proofs.Steps.{listed_end, change_put, change_past}
-use borrow.Author.Rules.{rules}
 use Rattle.comparing.proofs.comparing.list_changes.Given as goal
 
 abbrev pub invariant-loop-i : goal.invariant-loop-i

@@ -1,6 +1,5 @@
 -- `comparing::comparing::put` meets its contract. One word set is one word written. Assumes nothing.
 use Rattle.table.proofs.Written.{wrote_one}
-use borrow.Author.Rules.{rules}
 use Rattle.comparing.proofs.comparing.put.Goals as goal
 
 pub returns : goal.returns

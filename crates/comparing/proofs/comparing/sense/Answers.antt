@@ -4,7 +4,6 @@ use Prim.Native.Nat.{◌-◌}
 use native.Mathlib.Omega.{arith}
 use Rattle.table.proofs.Written.{declared_small}
 use Rattle.comparing.proofs.Told.{told_declared, told_given, told_nothing}
-use borrow.Author.Rules.{rules}
 use Rattle.comparing.proofs.comparing.sense.Goals as goal
 
 pub overflow_mul-number : goal.overflow_mul-number
