@@ -1,7 +1,7 @@
 #!/usr/bin/env python3
 """Spells this repository's own definitions, lemmas, fields and constructors in snake case.
 
-usage: python3 tools/spelling.py [--check]        in a checkout that /opt/rattle/port/port.py has just turned
+usage: python3 tools/spelling.py [--check]        in a checkout that the port.py of the kit has just turned
 
 It goes by text: it reads which names the files of specs/ and the lemma files of proofs/ declare, and writes each anew
 where it is declared, imported from this repository, or named by a path: in .antt, .rt and .edit files, and between
