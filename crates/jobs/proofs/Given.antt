@@ -27,7 +27,7 @@ use Rattle.records.specs.Replay.{Done, done as wentOn}
 use Rattle.reporting.specs.declared.Reported.{Reported}
 use Rattle.reporting.specs.Numbers.{kind_of as reportedKind, number_of as reportedNumber, place_of as reportedPlace, figures_after}
 use Rattle.reporting.specs.Report.{Done as Reports, done as reported}
-use Rattle.jobs.specs.Jobs.{Answers, Pages, Says, Given, given, exit_of, Gone, gone, replayed_of, Gathered, gathered, reported_of, Lists}
+use Rattle.jobs.specs.Jobs.{Answers, Pages, Says, Given, given, exit_of, gone, replayed_of, gathered, reported_of, Lists}
 
 pub given_exit : {n p : ℕ} (r : Ran) (s o : List ℤ) {e : Exit} → exit r s o ≡ e → n ≡ stop_number r.stop → p ≡ stop_place r.stop
     → given n p r.done r.taken r.written s o ≡ exit_of e

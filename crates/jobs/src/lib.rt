@@ -81,12 +81,7 @@ pub fn deed_translate_scheme(
 }
 
 // Source to its text in the house layout: the answer's number; its place, and how many bytes the text has.
-pub fn deed_write(
-    source: &[u8],
-    room: &mut [u8],
-    place: &mut usize,
-    length: &mut usize,
-) -> u16
+pub fn deed_write(source: &[u8], room: &mut [u8], place: &mut usize, length: &mut usize) -> u16
     ensures { Pages (λ w. Writes source.now room.old w room.new) result place.new length.new }
 {
     let written = write(source, room);
@@ -121,12 +116,7 @@ pub fn deed_run(
 
 // Source and list: 0 where the list is its uses; 1 where the source is refused, with the answer's number and its place; 2 where a word is wrong,
 // with its index for the place.
-pub fn deed_check(
-    source: &[u8],
-    list: &[i64],
-    number: &mut u16,
-    place: &mut usize,
-) -> u16
+pub fn deed_check(source: &[u8], list: &[i64], number: &mut u16, place: &mut usize) -> u16
     ensures { Says (Checks source.now list.now) result number.new place.new }
 {
     let checked = check_list(source, list);
