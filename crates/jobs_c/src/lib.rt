@@ -88,7 +88,9 @@ pub extern "C" fn deed_run(
 ) -> u16
     ensures { given result place.new done.new taken.new written.new store.new output.new ≡ exit_of (job code.now input.now limit store.old output.old) }
 {
-    jobs::deed_run(code, input, limit, store, output, place, done, taken, written)
+    jobs::deed_run(
+        code, input, limit, store, output, place, done, taken, written,
+    )
 }
 
 // Source and list: 0 where the list is its uses; 1 where the source is refused, with the answer's number and its place; 2 where a word is wrong,
