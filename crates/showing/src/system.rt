@@ -1,5 +1,7 @@
 // What the tool has of the system: files, arguments, and standard output and standard error with what they have taken so far.
-ghost use Rattle.std.specs.Prelude.{◌≡◌, ◌≤◌, IfSome, length};
+ghost use Rattle.std.specs.Prelude.{◌≡◌, ◌≤◌, ◌↔◌, IfOk, IfSome, IsTrue, length, pos};
+ghost use Rattle.std.specs.IoError.{raw_os_error};
+ghost use Rattle.std.specs.Str.{IsUtf8};
 
 use std::cell::Cell;
 use std::env::{Env, FillError};
@@ -45,7 +47,7 @@ impl System {
     }
 
     // Writes all of a text, or stops where it is not taken.
-    pub fn write(&self, to: i32, text: &[u8]) -> std::io::Result<()> {
+    pub(crate) fn write(&self, to: i32, text: &[u8]) -> std::io::Result<()> {
         if to == STDERR {
             return self.errors().write_all(text);
         }
@@ -53,7 +55,7 @@ impl System {
     }
 
     // Whether a descriptor did not take something.
-    pub fn has_lost(&self, to: i32) -> bool {
+    pub(crate) fn has_lost(&self, to: i32) -> bool {
         if to == STDERR {
             return self.errors_lost.get();
         }
@@ -61,7 +63,7 @@ impl System {
     }
 
     // Nothing more is written to a descriptor.
-    pub fn lose(&self, to: i32) {
+    pub(crate) fn lose(&self, to: i32) {
         if to == STDERR {
             self.errors_lost.set(true);
         } else {
@@ -70,7 +72,7 @@ impl System {
     }
 
     // Whether a descriptor is open: only one that is not has no second one of the same file for that reason.
-    pub fn is_open(&self, to: i32) -> bool {
+    pub(crate) fn is_open(&self, to: i32) -> bool {
         let second = if to == STDERR {
             self.errors().as_fd().try_clone_to_owned()
         } else {
@@ -104,7 +106,9 @@ impl System {
     }
 
     // A file, opened for reading. Its name is text.
-    pub fn open_read(&self, name: &[u8]) -> std::io::Result<File> {
+    pub fn open_read(&self, name: &[u8]) -> std::io::Result<File>
+        ensures { IfOk result (λ _. IsUtf8 name.now) }
+    {
         match str::from_utf8(name) {
             Ok(path) => File::open(&self.runtime, path),
             Err(_) => Err(Error::new(ErrorKind::InvalidInput, "the name is no UTF-8")),
@@ -133,6 +137,8 @@ impl System {
 }
 
 // Whether a call failed since a descriptor is not open.
-pub fn is_not_open(error: Error) -> bool {
+pub(crate) fn is_not_open(error: Error) -> bool
+    ensures { IsTrue result ↔ raw_os_error error ≡ Some (pos 9) }
+{
     error.raw_os_error() == Some(NOT_OPEN)
 }
