@@ -19,6 +19,7 @@ use mir.Val.{SFits, of_z}
 use Rattle.answers.specs.declared.Answer.{Answer}
 use Rattle.answers.specs.Numbers.{channel as noChannel, unassigned as notAssigned}
 use Rattle.answers.specs.Answers.{answer}
+use Rattle.std.specs.Prelude.{Option, Some, None}
 use Rattle.reals.specs.declared.Form.{Form}
 use Rattle.reals.specs.declared.Value.{Value}
 use Rattle.reals.specs.declared.Value.TheVariants.{Truth, Whole, Real}
@@ -30,8 +31,6 @@ use Rattle.reals.specs.Values.{form_of, finite_b, same, convert}
 use Rattle.reals.specs.model.Stored.{Fitting, FittingO, FittingC}
 use Rattle.reals.proofs.Fits.{convert_fits}
 use Rattle.reals.proofs.Signed.{same_number, same_yes, same_no}
-use Rattle.reals.specs.declared.Bits.{Bits}
-use Rattle.reals.specs.declared.Bits.TheVariants.{Is as Bits1, Not as NoBits}
 use Rattle.reals.specs.model.Stored.{bits_in}
 use Rattle.machine.specs.declared.Typed.{Typed}
 use Rattle.machine.specs.declared.Typed.TheVariants.{Is as Form1, Not as NoForm}
@@ -319,11 +318,11 @@ pub low_word : (z : ℤ) → mag z < 2147483648 → of_z w64 z % 4294967296 ≡ 
 low_word (pos n) h = omega arith
 low_word (negsuc n) h = omega arith
 
-abbrev pub as_outcome : Bits → Outcome
-as_outcome (Bits1 x) = Is (Real x)
-as_outcome NoBits = Stray
+abbrev pub as_outcome : Option Float → Outcome
+as_outcome (Some x) = Is (Real x)
+as_outcome None = Stray
 
-raised_bits : (b : Bool) (x : Float) → as_outcome (cond b (Bits1 x) NoBits) ≡ cond b (Is (Real x)) Stray
+raised_bits : (b : Bool) (x : Float) → as_outcome (cond b (Some x) None) ≡ cond b (Is (Real x)) Stray
 raised_bits true x = refl
 raised_bits false x = refl
 
@@ -333,7 +332,7 @@ raised_join {v} {z} h {w} e g =
     let m : h * 4294967296 + of_z w32 z ≡ 4294967296 * h + of_z w32 z = omega arith in
     rw (e, g, m) (raised_bits (finite_b (joined z h)) (joined z h))
 
-pub raised_is : {v : Value} {z : ℤ} (h : ℕ) {w : ℕ} {y y' : Bits} → v ≡ Whole z → w ≡ of_z w32 z → y ≡ bits_in (h * 4294967296 + w) → y ≡ y' → as_outcome y' ≡ raised_of v h
+pub raised_is : {v : Value} {z : ℤ} (h : ℕ) {w : ℕ} {y y' : Option Float} → v ≡ Whole z → w ≡ of_z w32 z → y ≡ bits_in (h * 4294967296 + w) → y ≡ y' → as_outcome y' ≡ raised_of v h
 raised_is h e g k p = sym (ap as_outcome p) ∙ ap as_outcome k ∙ raised_join h e g
 
 pub raised_real : {v : Value} {x : Float} (h : ℕ) → v ≡ Real x → Stray ≡ raised_of v h

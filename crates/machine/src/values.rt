@@ -9,7 +9,7 @@ ghost use Rattle.machine.specs.model.Holding.{line_of, typed_of, raised_of};
 
 use crate::{Line, Typed, codes};
 use reals::words::{long_word, real_of};
-use reals::{Binary, Bits, Form, Outcome, Unary, Value};
+use reals::{Binary, Form, Outcome, Unary, Value};
 
 // The sign -, 'not' and iabs.
 pub fn unary_of(k: u32) -> Unary
@@ -105,8 +105,8 @@ pub fn raised(v: Value, high: u32) -> Outcome
 {
     match v {
         Value::Whole(z) => match real_of(word(z), high) {
-            Bits::Is(x) => Outcome::Is(Value::Real(x)),
-            Bits::Not => Outcome::Stray,
+            Some(x) => Outcome::Is(Value::Real(x)),
+            None => Outcome::Stray,
         },
         Value::Real(_) => Outcome::Stray,
         Value::Truth(_) => Outcome::Stray,

@@ -8,7 +8,7 @@ use lib.Ieee.{Float, nan, inf, fin, binary64, up, down, round, units, odd, size,
 use lib.Ieee.Bits.{of_bits-to_bits}
 use Rattle.reals.specs.Values.{finite_b, decimal, reading, nought}
 use Rattle.reals.specs.model.Stored.{Sized, bits_in}
-use Rattle.reals.specs.declared.Bits.TheVariants.{Is}
+use Rattle.std.specs.Prelude.{Some}
 use Rattle.reals.proofs.Patterns.{real_back}
 use lib.Ieee.Fits.{down_pos, round-fits}
 use lib.Ieee.Exact.{HasValue}
@@ -112,7 +112,7 @@ unfolding decimal
 back n k = of_bits-to_bits binary64 (round binary64 false n (10 ^ k)) (round-fits binary64 false n (10 ^ k))
 
 -- the two words of a constant give the number back
-pub constant_back : (n k : ℕ) → n < 1000000000000000 → bits_in (to_bits binary64 (decimal n k) / 4294967296 * 4294967296 + to_bits binary64 (decimal n k) % 4294967296) ≡ Is (decimal n k)
+pub constant_back : (n k : ℕ) → n < 1000000000000000 → bits_in (to_bits binary64 (decimal n k) / 4294967296 * 4294967296 + to_bits binary64 (decimal n k) % 4294967296) ≡ Some (decimal n k)
 constant_back n k h = real_back (decimal n k) (decimal_fits n k h)
 
 -- ---- the reading

@@ -1,53 +1,11 @@
--- Numbers and their 64 bits in two's complement, and which bits are a finite real's: those whose exponent is not all ones.
-use Rattle.std.proofs.Common.{◌≡◌, ℕ, zero, suc, ◌+◌, ◌-◌, ◌*◌, ◌/◌, ◌%◌, ◌<◌, ◌≤◌, Bool, true, false, cond, not, ◌&&◌, T, eqb, ltb, leb, ℤ, pos, negsuc, ◌-ℤ◌, sym, refl, ap, ◌∙◌, subst, true≢false, arith, to_z-of_z, w64, SFits, to_z, of_z, le-ltb}
-use mathlib.Core.Bool.{false≢true}
-use lib.Signed.{mag, lt_z}
+-- Which 64 bits are a finite real's: those whose exponent is not all ones.
+use Rattle.std.proofs.Common.{◌≡◌, ℕ, zero, suc, ◌+◌, ◌*◌, ◌/◌, ◌%◌, Bool, true, false, cond, not, ◌&&◌, T, eqb, leb, sym, refl, ap, ◌∙◌, subst, arith, w64, to_z, of_z}
 use lib.Ieee.{Float, nan, inf, binary64, odd, of_fields, of_bits, to_bits, fits, nan_bits}
 use lib.Ieee.Bits.{of_bits-to_bits, to_bits-lt}
-use mir.Facts.{of_z-to_z, to_z_pos}
+use mir.Facts.{of_z-to_z}
 use Rattle.reals.specs.Values.{finite_b}
 use Rattle.reals.specs.model.Stored.{Sized, bits_in}
-use Rattle.reals.specs.declared.Bits.TheVariants.{Is, Not}
-
--- ---- 64 bits as a number
-
--- below 0: the number −1 − x, and the bits
-under : (x : ℤ) → lt_z x (pos 0) ≡ true → negsuc 0 -ℤ x ≡ pos (mag x)
-under (pos n) e = absurd (false≢true (sym (le-ltb n 0 (omega arith)) ∙ e))
-under (negsuc n) e =
-    let l : ltb (suc n) 1 ≡ false = le-ltb (suc n) 1 (at_least n) in
-    let q : suc n - 1 ≡ n = omega arith in
-    simp (l, q)
-  where
-    at_least : (n : ℕ) → 1 ≤ suc n
-    at_least n = omega arith
-
-pub under_bits : (x : ℤ) → lt_z x (pos 0) ≡ true → of_z w64 x ≡ 18446744073709551615 - mag x
-under_bits (pos n) e = absurd (false≢true (sym (le-ltb n 0 (omega arith)) ∙ e))
-under_bits (negsuc n) e = omega arith
-
-module _ (x : ℤ) (h : SFits w64 x) (t : lt_z (to_z w64 (of_z w64 x)) (pos 0) ≡ true) where
-  pub flip : to_z w64 (of_z w64 (negsuc 0 -ℤ to_z w64 (of_z w64 x))) ≡ pos (mag x)
-  flip = rw (to_z-of_z h, under x (simp (to_z-of_z h) at t)) (to_z_pos w64 h.sfits)
-
-  pub flip_fits : SFits w64 (negsuc 0 -ℤ to_z w64 (of_z w64 x))
-  flip_fits = rw (to_z-of_z h, under x (simp (to_z-of_z h) at t)) (record { sfits = h.sfits })
-
-pub over : (x : ℤ) → lt_z x (pos 0) ≡ false → x ≡ pos (of_z w64 x)
-over (pos n) e = refl
-over (negsuc n) e = absurd (true≢false e)
-
--- from 2 ^ 63 on
-pub high : (b : ℕ) → 9223372036854775808 ≤ b → b < 18446744073709551616 → negsuc 0 -ℤ to_z w64 (18446744073709551615 - b) ≡ to_z w64 b
-high b l h =
-    let p : 18446744073709551615 - b < 9223372036854775808 = omega arith in
-    let q : ltb b 9223372036854775808 ≡ false = le-ltb b 9223372036854775808 l in
-    let r : 18446744073709551616 - suc b ≡ 18446744073709551615 - b = omega arith in
-    rw (to_z_pos w64 p, q, r) (neg (18446744073709551615 - b))
-  where
-    neg : (k : ℕ) → negsuc 0 -ℤ pos k ≡ negsuc k
-    neg zero = refl
-    neg (suc k) = ap (λ (n : ℕ). negsuc (suc n)) (omega arith)
+use Rattle.std.specs.Prelude.{Some, None}
 
 -- ---- finite patterns
 
@@ -70,11 +28,11 @@ pub finite_bits : (b : ℕ) → finite_b (of_bits binary64 b) ≡ not (eqb (b % 
 unfolding of_bits
 finite_bits b = fields_finite (leb 9223372036854775808 b) (b % 9223372036854775808 / 4503599627370496) (b % 4503599627370496)
 
-pub no_bits : (b : ℕ) → b % 9223372036854775808 / 4503599627370496 ≡ 2047 → Not ≡ bits_in b
+pub no_bits : (b : ℕ) → b % 9223372036854775808 / 4503599627370496 ≡ 2047 → None ≡ bits_in b
 unfolding bits_in
 no_bits b e = simp (finite_bits b, e)
 
-pub some_bits : (b : ℕ) → eqb (b % 9223372036854775808 / 4503599627370496) 2047 ≡ false → Is (of_bits binary64 b) ≡ bits_in b
+pub some_bits : (b : ℕ) → eqb (b % 9223372036854775808 / 4503599627370496) 2047 ≡ false → Some (of_bits binary64 b) ≡ bits_in b
 unfolding bits_in
 some_bits b e = simp (finite_bits b, e)
 
@@ -91,7 +49,7 @@ is_true false t = absurd t
 pub sized_true : (r : Float) → Sized r → finite_b r ≡ true
 sized_true r h = is_true (finite_b r) h.finite
 
-pub bits_back : (r : Float) → Sized r → bits_in (to_bits binary64 r) ≡ Is r
+pub bits_back : (r : Float) → Sized r → bits_in (to_bits binary64 r) ≡ Some r
 unfolding bits_in
 bits_back r h = simp (of_bits-to_bits binary64 r h.held, sized_true r h)
 
@@ -99,7 +57,7 @@ pub halves_bits : (b : ℕ) → b / 4294967296 * 4294967296 + b % 4294967296 ≡
 halves_bits b = omega arith
 
 -- "1 and the real's bits, low half first"
-pub real_back : (r : Float) → Sized r → bits_in (to_bits binary64 r / 4294967296 * 4294967296 + to_bits binary64 r % 4294967296) ≡ Is r
+pub real_back : (r : Float) → Sized r → bits_in (to_bits binary64 r / 4294967296 * 4294967296 + to_bits binary64 r % 4294967296) ≡ Some r
 real_back r h = ap bits_in (halves_bits (to_bits binary64 r)) ∙ bits_back r h
 
 pub long_back : (r : Float) → T (fits binary64 r) → of_z w64 (to_z w64 (to_bits binary64 r)) ≡ to_bits binary64 r

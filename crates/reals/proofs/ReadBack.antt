@@ -12,8 +12,7 @@ use Rattle.reals.specs.declared.Form.TheVariants.{Truths, Wholes, Reals}
 use Rattle.reals.specs.declared.Value.TheVariants.{Truth, Whole, Real}
 use Rattle.reals.specs.declared.Cell.{Cell}
 use Rattle.reals.specs.declared.Cell.TheVariants.{Unset, Holds, Named}
-use Rattle.reals.specs.declared.Bits.{Bits}
-use Rattle.reals.specs.declared.Bits.TheVariants.{Is, Not}
+use Rattle.std.specs.Prelude.{Option, Some, None}
 use Rattle.reals.proofs.Patterns.{sized_true, long_back}
 
 -- ---- what is encoded is read back
@@ -96,15 +95,15 @@ narrow n h = to_z_pos w64 (omega arith)
 -- ---- the arms
 
 -- a real's bits, as a cell
-abbrev pub as_cell : Bits → Cell
-as_cell (Is r) = Holds (Real r)
-as_cell Not = Unset Reals
+abbrev pub as_cell : Option Float → Cell
+as_cell (Some r) = Holds (Real r)
+as_cell None = Unset Reals
 
 pub cell_of_bits : (b : ℕ) → as_cell (bits_in b) ≡ real_in b
 unfolding bits_in real_in
 cell_of_bits b = go (finite_b (of_bits binary64 b))
   where
-    go : (t : Bool) → as_cell (cond t (Is (of_bits binary64 b)) Not) ≡ cond t (Holds (Real (of_bits binary64 b))) (Unset Reals)
+    go : (t : Bool) → as_cell (cond t (Some (of_bits binary64 b)) None) ≡ cond t (Holds (Real (of_bits binary64 b))) (Unset Reals)
     go true = refl
     go false = refl
 

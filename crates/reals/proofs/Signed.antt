@@ -1,13 +1,13 @@
 -- Signed numbers, each law once over the width: a number that fits is read back from its bits, what an operation gives at one width fits a wider
 -- one, since its `mag` is bounded, and a test of bits is a test of the numbers. A use names its widths, where the powers of 2 compute.
-use Rattle.std.proofs.Common.{◌≡◌, ℕ, zero, suc, ◌+◌, ◌-◌, ◌*◌, ◌/◌, ◌^◌, ◌<◌, ◌≤◌, Bool, true, false, cond, T, eqb, ltb, leb, ℤ, pos, negsuc, ◌+ℤ◌, ◌-ℤ◌, ◌*ℤ◌, neg_ℤ, nat_abs, sym, refl, ap, ◌∙◌, subst, true≢false, le_trans, lt_of_lt_of_le, lt_of_le_of_lt, mul-le-mul, pow-suc, div-le_self, arith, lit<, ltb→lt, leb→le, pow_pos, pow_mono, pow-add, to_z-of_z, w8, w16, w32, w64, SFits, to_z, of_z, ltb-false, ltb-true, le-ltb, lt-ltb, eq-eqb, ne_eqb, eqb-true}
+use Rattle.std.proofs.Common.{◌≡◌, ℕ, zero, suc, ◌+◌, ◌-◌, ◌*◌, ◌/◌, ◌^◌, ◌<◌, ◌≤◌, Bool, true, false, cond, T, eqb, ltb, leb, ℤ, pos, negsuc, ◌+ℤ◌, ◌-ℤ◌, ◌*ℤ◌, neg_ℤ, nat_abs, sym, refl, ap, ◌∙◌, subst, true≢false, le_trans, lt_of_le_of_lt, mul-le-mul, pow-suc, div-le_self, arith, lit<, ltb→lt, pow_pos, pow_mono, pow-add, to_z-of_z, w8, w16, w32, w64, SFits, to_z, of_z, ltb-false, ltb-true, le-ltb, lt-ltb, eq-eqb, ne_eqb, eqb-true}
 use mathlib.Core.Bool.{false≢true}
 use lib.IntN.{+ℤ_idl}
 use lib.Signed.{mag, lt_z, quot_z}
 use lib.Pow.{pow-lt}
 use mir.Syntax.{Width, w128}
-use mir.Val.{bits, hbits}
-use mir.Facts.{sfits_widen, to_z_pos}
+use mir.Val.{hbits}
+use mir.Facts.{sfits_widen}
 use borrow.Author.Tests.{eqb-false}
 use Rattle.reals.specs.Values.{is_zero, same, sign, whole}
 use Rattle.reals.specs.declared.Value.TheVariants.{Whole}
@@ -146,16 +146,6 @@ pub between : (w : Width) (x : ℤ) → lt_z x (negsuc (2 ^ hbits w - 1)) ≡ fa
 between w (pos n) e f = record { sfits = omega (arith, ltb-false (2 ^ hbits w - 1) n f, pow_pos (hbits w)) }
 between w (negsuc n) e f = record { sfits = omega (arith, ltb-false (2 ^ hbits w - 1) n e, pow_pos (hbits w)) }
 
-below_zero : (m n : ℕ) → m < n → pos m -ℤ pos n ≡ negsuc (n - suc m)
-below_zero m zero h = absurd (omega arith)
-below_zero m (suc n) h = simp (lt-ltb m (suc n) h)
-
--- a word past the half, less 2 ^ its bits, is its two's complement number
-pub word_neg : (v w : Width) → T (leb (bits v) (hbits w)) → (n : ℕ) → 2 ^ hbits v ≤ n → n < 2 ^ bits v → to_z w n -ℤ pos (2 ^ bits v) ≡ to_z v n
-word_neg v w narrower n l h =
-    let p : n < 2 ^ hbits w = lt_of_lt_of_le h (pow_mono (leb→le (bits v) (hbits w) narrower)) in
-    rw (to_z_pos w p, below_zero n (2 ^ bits v) h, le-ltb n (2 ^ hbits v) l)
-
 -- ---- tests on bits, for any width
 
 module _ {w : Width} {x y : ℤ} (hx : SFits w x) (hy : SFits w y) where
@@ -187,23 +177,6 @@ bits_pos zero e = absurd (e refl)
 bits_pos (suc n) e = omega arith
 
 -- ---- the sign
-
-pub sign_below : (x : ℤ) → lt_z x (pos 0) ≡ true → negsuc 0 ≡ sign x
-sign_below (pos n) e = absurd (ltb_none n e)
-  where
-    ltb_none : (n : ℕ) → ltb n 0 ≡ true → ⊥
-    ltb_none n e = omega (arith, ltb-true n 0 e)
-sign_below (negsuc n) e = refl
-
-pub sign_above : (x : ℤ) → lt_z x (pos 0) ≡ false → is_zero x ≡ false → pos 1 ≡ sign x
-sign_above (pos zero) e f = absurd (true≢false f)
-sign_above (pos (suc n)) e f = refl
-sign_above (negsuc n) e f = absurd (true≢false e)
-
-pub sign_zero : (x : ℤ) → is_zero x ≡ true → pos 0 ≡ sign x
-sign_zero (pos zero) e = refl
-sign_zero (pos (suc n)) e = absurd (omega (arith, eqb-true (suc n) 0 e))
-sign_zero (negsuc n) e = absurd (false≢true e)
 
 sign_mag : (x : ℤ) → mag (sign x) ≤ 1
 sign_mag (pos zero) = omega arith

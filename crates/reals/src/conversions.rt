@@ -20,21 +20,12 @@ pub fn form_of(v: Value) -> Form
 pub fn convert(form: Form, v: Value) -> Outcome
     ensures { result ≡ convert_of form v }
 {
-    match v {
-        Value::Whole(z) => match form {
-            Form::Wholes => Outcome::Is(v),
-            Form::Reals => Outcome::Is(Value::Real(z as f64)),
-            Form::Truths => Outcome::Stray,
-        },
-        Value::Real(x) => match form {
-            Form::Wholes => rounded(x),
-            Form::Reals => Outcome::Is(v),
-            Form::Truths => Outcome::Stray,
-        },
-        Value::Truth(_) => match form {
-            Form::Wholes => Outcome::Stray,
-            Form::Reals => Outcome::Stray,
-            Form::Truths => Outcome::Is(v),
-        },
+    match (form, v) {
+        (Form::Wholes, Value::Whole(_)) => Outcome::Is(v),
+        (Form::Wholes, Value::Real(x)) => rounded(x),
+        (Form::Reals, Value::Whole(z)) => Outcome::Is(Value::Real(z as f64)),
+        (Form::Reals, Value::Real(_)) => Outcome::Is(v),
+        (Form::Truths, Value::Truth(_)) => Outcome::Is(v),
+        _ => Outcome::Stray,
     }
 }

@@ -6,31 +6,14 @@ ghost use Rattle.reals.specs.Values.{reading};
 use crate::Halves;
 use crate::words::bits_of;
 
-// 10 to the power k.
-fn power(k: u64) -> u64
-    requires { k ≤ 15 }
-    ensures { result ≡ 10 ^ k }
-{
-    let mut p = 1u64;
-    let mut i = 0u64;
-    while i < k {
-        p = p * 10;
-        i += 1;
-    }
-    p
-}
-
 // n with the point before its last k digits: 0 where there are over 15.
 pub fn decimal(n: u64, k: u64) -> f64
     ensures { result ≡ reading n k }
 {
-    if n >= 1000000000000000 {
+    if n >= 1000000000000000 || k > 15 {
         return 0.0;
     }
-    if k > 15 {
-        return 0.0;
-    }
-    (n as f64) / (power(k) as f64)
+    (n as f64) / (10u64.pow(k as u32) as f64)
 }
 
 // The bits of that real: what the code of a program has of it, in two words.

@@ -103,10 +103,3 @@ pub struct Halves {
     pub low: u32,
     pub high: u32,
 }
-
-// The real that 64 bits stand for, or that they stand for no finite number.
-#[derive(Clone, Copy)]
-pub enum Bits {
-    Is(f64),
-    Not,
-}

@@ -8,13 +8,7 @@ use crate::{Both, Outcome, Value};
 fn sign(x: i32) -> i64
     ensures { result ≡ sign_of x }
 {
-    if x < 0 {
-        return -1;
-    }
-    if x == 0 {
-        return 0;
-    }
-    1
+    i64::from(x.signum())
 }
 
 // Whole numbers: v the variable, x the step and y the bound. The difference is one of 64 bits.
@@ -58,13 +52,13 @@ fn past_reals(v: f64, y: f64, x: Value) -> Outcome
 }
 
 // Whether a loop is left, with the variable at v, by the step x and the bound y.
+#[tactic(auto, unfolding(crate::specs::Values::past_by))]
 pub fn leaves(v: Value, x: Value, y: Value) -> Outcome
     ensures { result ≡ leavesOf v x y }
 {
     match paired(v, y) {
         Both::Wholes(a, b) => past_wholes(a, b, x),
         Both::Reals(a, b) => past_reals(a, b, x),
-        Both::Truths(_, _) => Outcome::Stray,
-        Both::Neither => Outcome::Stray,
+        Both::Truths(_, _) | Both::Neither => Outcome::Stray,
     }
 }

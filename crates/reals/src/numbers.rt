@@ -6,24 +6,24 @@ use crate::{Outcome, Value};
 use answers::Answer;
 
 // x, where it is a whole number of 32 bits.
+#[tactic(auto, unfolding(crate::specs::Values::whole))]
 pub fn whole(x: i64) -> Outcome
     ensures { result ≡ whole_of x }
 {
-    if x < -2147483648 {
-        return Outcome::Fault(Answer::RANGE);
+    match i32::try_from(x) {
+        Ok(z) => Outcome::Is(Value::Whole(z)),
+        Err(_) => Outcome::Fault(Answer::RANGE),
     }
-    if x > 2147483647 {
-        return Outcome::Fault(Answer::RANGE);
-    }
-    Outcome::Is(Value::Whole(x as i32))
 }
 
-// x, where it is finite: an infinity less itself is no number.
+// x, where it is finite.
+#[tactic(auto, unfolding(crate::specs::Values::real), using(crate::proofs::Finite::finite_is))]
 pub fn real(x: f64) -> Outcome
     ensures { result ≡ realOf x }
 {
-    if x - x == 0.0 {
-        return Outcome::Is(Value::Real(x));
+    if x.is_finite() {
+        Outcome::Is(Value::Real(x))
+    } else {
+        Outcome::Fault(Answer::RANGE)
     }
-    Outcome::Fault(Answer::RANGE)
 }

@@ -13,35 +13,31 @@ fn one_whole(op: Unary, x: i32) -> Outcome
 {
     match op {
         Unary::Minus => whole(0 - x as i64),
-        Unary::Absolute => {
-            if x < 0 {
-                return whole(0 - x as i64);
-            }
-            Outcome::Is(Value::Whole(x))
-        }
+        Unary::Absolute if x < 0 => whole(0 - x as i64),
+        Unary::Absolute => Outcome::Is(Value::Whole(x)),
         Unary::Negation => Outcome::Stray,
     }
 }
 
 // The sign - turns a real's.
+#[tactic(auto, unfolding(crate::specs::Values::apply1))]
 fn one_real(op: Unary, x: f64) -> Outcome
     ensures { result ≡ apply1 op (Value.Real x) }
 {
     match op {
         Unary::Minus => Outcome::Is(Value::Real(-x)),
-        Unary::Absolute => Outcome::Stray,
-        Unary::Negation => Outcome::Stray,
+        Unary::Absolute | Unary::Negation => Outcome::Stray,
     }
 }
 
 // 'not'.
+#[tactic(auto, unfolding(crate::specs::Values::apply1))]
 fn one_truth(op: Unary, b: bool) -> Outcome
     ensures { result ≡ apply1 op (Value.Truth b) }
 {
     match op {
-        Unary::Minus => Outcome::Stray,
-        Unary::Absolute => Outcome::Stray,
         Unary::Negation => Outcome::Is(Value::Truth(!b)),
+        Unary::Minus | Unary::Absolute => Outcome::Stray,
     }
 }
 
@@ -61,22 +57,13 @@ pub fn unary(op: Unary, v: Value) -> Outcome
 pub fn paired(a: Value, b: Value) -> Both
     ensures { result ≡ both_of a b }
 {
-    match a {
-        Value::Whole(x) => match b {
-            Value::Whole(y) => Both::Wholes(x, y),
-            Value::Real(y) => Both::Reals(x as f64, y),
-            Value::Truth(_) => Both::Neither,
-        },
-        Value::Real(x) => match b {
-            Value::Whole(y) => Both::Reals(x, y as f64),
-            Value::Real(y) => Both::Reals(x, y),
-            Value::Truth(_) => Both::Neither,
-        },
-        Value::Truth(x) => match b {
-            Value::Whole(_) => Both::Neither,
-            Value::Real(_) => Both::Neither,
-            Value::Truth(y) => Both::Truths(x, y),
-        },
+    match (a, b) {
+        (Value::Whole(x), Value::Whole(y)) => Both::Wholes(x, y),
+        (Value::Whole(x), Value::Real(y)) => Both::Reals(x as f64, y),
+        (Value::Real(x), Value::Whole(y)) => Both::Reals(x, y as f64),
+        (Value::Real(x), Value::Real(y)) => Both::Reals(x, y),
+        (Value::Truth(x), Value::Truth(y)) => Both::Truths(x, y),
+        _ => Both::Neither,
     }
 }
 
@@ -100,6 +87,7 @@ fn quotient(x: f64, y: f64) -> Outcome
     real(x / y)
 }
 
+#[tactic(auto, unfolding(crate::specs::Values::apply2, crate::specs::Values::both_of, crate::specs::Values::on_truths))]
 pub fn wholes(op: Binary, x: i32, y: i32) -> Outcome
     ensures { result ≡ apply2 op (Value.Whole x) (Value.Whole y) }
 {
@@ -115,10 +103,7 @@ pub fn wholes(op: Binary, x: i32, y: i32) -> Outcome
         Binary::AtLeast => Outcome::Is(Value::Truth(x >= y)),
         Binary::Above => Outcome::Is(Value::Truth(x > y)),
         Binary::Unequal => Outcome::Is(Value::Truth(x != y)),
-        Binary::And => Outcome::Stray,
-        Binary::Or => Outcome::Stray,
-        Binary::Impl => Outcome::Stray,
-        Binary::Equiv => Outcome::Stray,
+        Binary::And | Binary::Or | Binary::Impl | Binary::Equiv => Outcome::Stray,
     }
 }
 
@@ -138,10 +123,7 @@ fn reals(op: Binary, x: f64, y: f64) -> Outcome
         Binary::AtLeast => Outcome::Is(Value::Truth(x >= y)),
         Binary::Above => Outcome::Is(Value::Truth(x > y)),
         Binary::Unequal => Outcome::Is(Value::Truth(x != y)),
-        Binary::And => Outcome::Stray,
-        Binary::Or => Outcome::Stray,
-        Binary::Impl => Outcome::Stray,
-        Binary::Equiv => Outcome::Stray,
+        Binary::And | Binary::Or | Binary::Impl | Binary::Equiv => Outcome::Stray,
     }
 }
 
@@ -150,21 +132,11 @@ fn truths(op: Binary, x: bool, y: bool) -> Outcome
     ensures { result ≡ apply2 op (Value.Truth x) (Value.Truth y) }
 {
     match op {
-        Binary::Plus => Outcome::Stray,
-        Binary::Less => Outcome::Stray,
-        Binary::Times => Outcome::Stray,
-        Binary::Over => Outcome::Stray,
-        Binary::Divide => Outcome::Stray,
-        Binary::Below => Outcome::Stray,
-        Binary::AtMost => Outcome::Stray,
-        Binary::Equal => Outcome::Stray,
-        Binary::AtLeast => Outcome::Stray,
-        Binary::Above => Outcome::Stray,
-        Binary::Unequal => Outcome::Stray,
         Binary::And => Outcome::Is(Value::Truth(x & y)),
         Binary::Or => Outcome::Is(Value::Truth(x | y)),
         Binary::Impl => Outcome::Is(Value::Truth(!x | y)),
         Binary::Equiv => Outcome::Is(Value::Truth(x == y)),
+        _ => Outcome::Stray,
     }
 }
 

@@ -27,11 +27,9 @@ pub fn rounded(x: f64) -> Outcome
     ensures { result ≡ whole_of (add binary64 x half) }
 {
     let t = x + 0.5;
-    if t < 2147483648.0 {
-        if t >= -2147483648.0 {
-            return Outcome::Is(Value::Whole(entier(t) as i32));
-        }
-        return Outcome::Fault(Answer::RANGE);
+    if t < 2147483648.0 && t >= -2147483648.0 {
+        Outcome::Is(Value::Whole(entier(t) as i32))
+    } else {
+        Outcome::Fault(Answer::RANGE)
     }
-    Outcome::Fault(Answer::RANGE)
 }

@@ -5,7 +5,7 @@ ghost use Rattle.std.proofs.Common.{of_z};
 ghost use Rattle.reals.specs.model.Stored.{kind_of, load_of, cell_of, whole_in, real_in};
 
 use crate::words::{bits_in, bits_of, long_number, long_word};
-use crate::{Bits, Cell, Form, Two, Value};
+use crate::{Cell, Form, Two, Value};
 
 const UNSET_WHOLE: i64 = 0;
 
@@ -31,10 +31,11 @@ fn unset(form: Form) -> i64
     }
 }
 
+#[tactic(auto, unfolding(crate::specs::model::Stored::load_of))]
 fn truth(b: bool) -> i64
     ensures { result ≡ load_of (Cell.Holds (Value.Truth b)) }
 {
-    if b { 1 } else { 0 }
+    i64::from(b)
 }
 
 fn held(v: Value) -> Two
@@ -72,24 +73,22 @@ pub fn encode(x: Cell) -> Two
     }
 }
 
+#[tactic(auto, unfolding(crate::specs::model::Stored::whole_in))]
 fn whole_in(x: i64) -> Cell
     ensures { result ≡ whole_in x }
 {
-    if x < -2147483648 {
-        return Cell::Unset(Form::Wholes);
+    match i32::try_from(x) {
+        Ok(z) => Cell::Holds(Value::Whole(z)),
+        Err(_) => Cell::Unset(Form::Wholes),
     }
-    if x > 2147483647 {
-        return Cell::Unset(Form::Wholes);
-    }
-    Cell::Holds(Value::Whole(x as i32))
 }
 
 fn real_in(b: u64) -> Cell
     ensures { result ≡ real_in b }
 {
     match bits_in(b) {
-        Bits::Is(x) => Cell::Holds(Value::Real(x)),
-        Bits::Not => Cell::Unset(Form::Reals),
+        Some(x) => Cell::Holds(Value::Real(x)),
+        None => Cell::Unset(Form::Reals),
     }
 }
 

@@ -5,8 +5,6 @@ ghost use Rattle.std.specs.Int.{w32, w64};
 ghost use Rattle.std.proofs.Common.{to_z, of_z};
 ghost use Rattle.reals.specs.model.Stored.{bits_in};
 
-use crate::Bits;
-
 // What the definition has for what is no number: the language leaves it open.
 const NO_NUMBER: u64 = 9221120237041090560;
 
@@ -14,57 +12,43 @@ const NO_NUMBER: u64 = 9221120237041090560;
 pub fn number(w: u32) -> i32
     ensures { result ≡ to_z w32 w }
 {
-    if w < 2147483648 {
-        w as i32
-    } else {
-        (w as i64 - 4294967296) as i32
-    }
+    w.cast_signed()
 }
 
 // 64 bits as a number.
 pub fn long_number(b: u64) -> i64
     ensures { result ≡ to_z w64 b }
 {
-    if b < 9223372036854775808 {
-        b as i64
-    } else {
-        -1 - ((18446744073709551615 - b) as i64)
-    }
+    b.cast_signed()
 }
 
 // A number's 64 bits.
 pub fn long_word(x: i64) -> u64
     ensures { result ≡ of_z w64 x }
 {
-    if x < 0 {
-        18446744073709551615 - ((-1 - x) as u64)
-    } else {
-        x as u64
-    }
+    x.cast_unsigned()
 }
 
 // A real's bits.
+#[tactic(auto, using(crate::proofs::Finite::no_number))]
 pub fn bits_of(x: f64) -> u64
     ensures { result ≡ to_bits binary64 x }
 {
-    if x == x {
-        return f64::to_bits(x);
-    }
-    NO_NUMBER
+    if x.is_nan() { NO_NUMBER } else { x.to_bits() }
 }
 
-// The real of 64 bits. An infinity and what is no number have all ones where the exponent stands.
-pub fn bits_in(b: u64) -> Bits
+// The finite real of 64 bits. An infinity and what is no number have all ones where the exponent stands.
+pub fn bits_in(b: u64) -> Option<f64>
     ensures { result ≡ bits_in b }
 {
     if b % 9223372036854775808 / 4503599627370496 == 2047 {
-        return Bits::Not;
+        return None;
     }
-    Bits::Is(f64::from_bits(b))
+    Some(f64::from_bits(b))
 }
 
-// The real of two halves.
-pub fn real_of(low: u32, high: u32) -> Bits
+// The finite real of two halves.
+pub fn real_of(low: u32, high: u32) -> Option<f64>
     ensures { result ≡ bits_in (high * 4294967296 + low) }
 {
     bits_in((high as u64) * 4294967296 + low as u64)

@@ -1,5 +1,5 @@
 -- A value that a cell can hold, and a cell as two numbers of the store: "it takes two of the store's numbers". Assumes nothing: these are definitions.
-use Rattle.std.specs.Prelude.{ℕ, ◌%◌, ◌<◌, cond, not, T, List, [], ◌∷◌, ℤ, pos, FitsSigned, ◌==◌, from_bits, nat_lt, to_bits, Float}
+use Rattle.std.specs.Prelude.{ℕ, ◌%◌, ◌<◌, cond, not, T, List, [], ◌∷◌, ℤ, pos, FitsSigned, ◌==◌, from_bits, nat_lt, to_bits, Float, Option, Some, None}
 use Rattle.std.specs.Int.Signed.{mag}
 use Rattle.std.specs.Float.{binary64}
 use Rattle.std.specs.Float.Ieee.{fits}
@@ -14,8 +14,6 @@ use Rattle.reals.specs.declared.Outcome.TheVariants.{Is as Given, Fault, Stray}
 use Rattle.reals.specs.declared.Cell.{Cell}
 use Rattle.reals.specs.declared.Cell.TheVariants.{Unset, Holds, Named}
 use Rattle.reals.specs.declared.Entry.{Entry}
-use Rattle.reals.specs.declared.Bits.{Bits}
-use Rattle.reals.specs.declared.Bits.TheVariants.{Is, Not}
 
 -- ---- what a cell can hold
 
@@ -62,8 +60,8 @@ load_of (Named a) = pos a
 -- ---- and back, from any two numbers
 
 -- the real of 64 bits: 29 is given for a constant that is no finite number
-unfoldable pub bits_in : ℕ → Bits
-bits_in b = cond (finite_b (from_bits binary64 b)) (Is (from_bits binary64 b)) Not
+unfoldable pub bits_in : ℕ → Option Float
+bits_in b = cond (finite_b (from_bits binary64 b)) (Some (from_bits binary64 b)) None
 
 unfoldable pub whole_in : ℤ → Cell
 whole_in x = cond (nat_lt (mag x) 2147483648) (Holds (Whole x)) (Unset Wholes)

@@ -6,11 +6,11 @@ use Rattle.reals.proofs.Signed.{read_back}
 use Rattle.machine.proofs.Turns.{raised_is, raised_real, raised_truth}
 use Rattle.machine.proofs.values.raised.Goals as goal
 
-pub returns-in-Is : goal.returns-in-Is
-returns-in-Is c = raised_is c.args.high c.in-Whole.is (c.word.ensures ∙ ap (of_z w32) (read_back w32 c.in-Whole.z c.in-Whole.known_told-1-own.given.0.1)) c.real_of.ensures c.in-Is.is
+pub returns-in-Some : goal.returns-in-Some
+returns-in-Some c = raised_is c.args.high c.in-Whole.is (c.word.ensures ∙ ap (of_z w32) (read_back w32 c.in-Whole.z c.in-Whole.known_told-1-own.given.0.1)) c.real_of.ensures c.in-Some.is
 
-pub returns-in-Not : goal.returns-in-Not
-returns-in-Not c = raised_is c.args.high c.in-Whole.is (c.word.ensures ∙ ap (of_z w32) (read_back w32 c.in-Whole.z c.in-Whole.known_told-1-own.given.0.1)) c.real_of.ensures c.in-Not.is
+pub returns-in-None : goal.returns-in-None
+returns-in-None c = raised_is c.args.high c.in-Whole.is (c.word.ensures ∙ ap (of_z w32) (read_back w32 c.in-Whole.z c.in-Whole.known_told-1-own.given.0.1)) c.real_of.ensures c.in-None.is
 
 pub returns-in-Real : goal.returns-in-Real
 returns-in-Real c = raised_real c.args.high c.in-Real.is

@@ -16,11 +16,3 @@ returns-in-Wholes c =
 
 pub returns-in-Reals : goal.returns-in-Reals
 returns-in-Reals c = c.past_reals.ensures ∙ ap (λ (p : Both). past_by p c.args.x) (sym c.in-Reals.is ∙ c.paired.ensures)
-
-pub returns-in-Truths : goal.returns-in-Truths
-unfolding past_by
-returns-in-Truths c = ap (λ (p : Both). past_by p c.args.x) (sym c.in-Truths.is ∙ c.paired.ensures)
-
-pub returns-in-Neither : goal.returns-in-Neither
-unfolding past_by
-returns-in-Neither c = ap (λ (p : Both). past_by p c.args.x) (sym c.in-Neither.is ∙ c.paired.ensures)

@@ -10,23 +10,23 @@ overflow_cast-x c = wide_fits w32 w64 tt c.ranges.x
 pub overflow_sub-x : goal.overflow_sub-x
 overflow_sub-x c = rw (wide_same w32 w64 tt c.ranges.x, zero_minus c.args.x) (neg_fits w32 w64 tt c.ranges.x)
 
-pub overflow_cast-x-then-x-lt0 : goal.overflow_cast-x-then-x-lt0
-overflow_cast-x-then-x-lt0 c = wide_fits w32 w64 tt c.ranges.x
+pub overflow_cast-x-in-Absolute : goal.overflow_cast-x-in-Absolute
+overflow_cast-x-in-Absolute c = wide_fits w32 w64 tt c.ranges.x
 
-pub overflow_sub-x-then-x-lt0 : goal.overflow_sub-x-then-x-lt0
-overflow_sub-x-then-x-lt0 c = rw (wide_same w32 w64 tt c.ranges.x, zero_minus c.args.x) (neg_fits w32 w64 tt c.ranges.x)
+pub overflow_sub-x-in-Absolute : goal.overflow_sub-x-in-Absolute
+overflow_sub-x-in-Absolute c = rw (wide_same w32 w64 tt c.ranges.x, zero_minus c.args.x) (neg_fits w32 w64 tt c.ranges.x)
 
-pub returns-then-x-lt0 : goal.returns-then-x-lt0
+pub returns-in-Absolute : goal.returns-in-Absolute
 unfolding apply1
-returns-then-x-lt0 c = simp (c.in-Absolute.is, sym (absolute_below c.args.x (simp (to_z-of_z c.ranges.x) at c.if-x-lt0.true))) (simp (wide_same w32 w64 tt c.ranges.x, zero_minus c.args.x, to_z-of_z (neg_fits w32 w64 tt c.ranges.x)) at c.whole-then-x-lt0.ensures)
+returns-in-Absolute c = simp (c.in-Absolute.is, sym (absolute_below c.args.x (simp (to_z-of_z c.ranges.x) at c.if-x-lt0.true))) (simp (wide_same w32 w64 tt c.ranges.x, zero_minus c.args.x, to_z-of_z (neg_fits w32 w64 tt c.ranges.x)) at c.whole-in-Absolute.ensures)
 
 pub returns-in-Minus : goal.returns-in-Minus
 unfolding apply1
 returns-in-Minus c = simp c.in-Minus.is (simp (wide_same w32 w64 tt c.ranges.x, zero_minus c.args.x, to_z-of_z (neg_fits w32 w64 tt c.ranges.x)) at c.whole.ensures)
 
-pub returns-else-x-lt0 : goal.returns-else-x-lt0
+pub returns-in-Absolute-2 : goal.returns-in-Absolute-2
 unfolding apply1
-returns-else-x-lt0 c = simp (c.in-Absolute.is, absolute_above c.args.x (simp (to_z-of_z c.ranges.x) at c.if-x-lt0.false), whole_is c.args.x c.ranges.x, to_z-of_z c.ranges.x)
+returns-in-Absolute-2 c = simp (c.in-Absolute.is, absolute_above c.args.x (simp (to_z-of_z c.ranges.x) at c.if-x-lt0.false), whole_is c.args.x c.ranges.x, to_z-of_z c.ranges.x)
 
 pub returns-in-Negation : goal.returns-in-Negation
 unfolding apply1

@@ -1,6 +1,6 @@
 -- A sum, a difference or a product of two numbers of 32 bits is one of 64; a comparison is one of the numbers or of their bits.
 use Rattle.std.proofs.Common.{to_z-of_z, w32, w64}
-use Rattle.reals.specs.Values.{apply2, on_numbers, on_truths, both_of}
+use Rattle.reals.specs.Values.{apply2, on_numbers, both_of}
 use Rattle.reals.proofs.Signed.{wide_fits, wide_same, sum_fits, diff_fits, prod_fits, same_bits}
 use Rattle.reals.proofs.operators.wholes.Goals as goal
 
@@ -74,19 +74,3 @@ returns-in-Above c = simp (c.in-Above.is, to_z-of_z c.ranges.x, to_z-of_z c.rang
 pub returns-in-Unequal : goal.returns-in-Unequal
 unfolding apply2 on_numbers both_of
 returns-in-Unequal c = simp (c.in-Unequal.is, same_bits w32 c.ranges.x c.ranges.y)
-
-pub returns-in-And : goal.returns-in-And
-unfolding apply2 on_truths both_of
-returns-in-And c = simp c.in-And.is
-
-pub returns-in-Or : goal.returns-in-Or
-unfolding apply2 on_truths both_of
-returns-in-Or c = simp c.in-Or.is
-
-pub returns-in-Impl : goal.returns-in-Impl
-unfolding apply2 on_truths both_of
-returns-in-Impl c = simp c.in-Impl.is
-
-pub returns-in-Equiv : goal.returns-in-Equiv
-unfolding apply2 on_truths both_of
-returns-in-Equiv c = simp c.in-Equiv.is
