@@ -15,7 +15,7 @@ use desk::status;
 use reading::reading::read;
 use showing::system::{STDERR, STDOUT, System};
 use showing::text::{
-    complain, least, say, say_number, tell, tell_file, tell_place, tell_spot, tell_typed,
+    complain, say, say_number, tell, tell_file, tell_place, tell_spot, tell_typed,
 };
 use showing::words::show_answer;
 use table::sections::word;
@@ -60,7 +60,7 @@ fn nth_word(line: &[u8], k: usize) -> Word
 
 // A word as it was typed, or its beginning.
 fn show_typed(system: &System, typed: &[u8]) {
-    let n = least(typed.len(), SHOWN);
+    let n = typed.len().min(SHOWN);
     tell_typed(system, STDOUT, &typed[..n]);
     if n < typed.len() {
         say(system, b" ..");

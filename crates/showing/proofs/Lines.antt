@@ -5,10 +5,20 @@ use mathlib.Core.List.{List}
 use mathlib.Core.Logic.{◌⊎◌, inl, inr, ⊎_elim}
 use Prim.Native.Nat.{ℕ, zero, suc, ◌+◌, ◌≤◌, ◌<◌, min}
 use native.Mathlib.Omega.{arith}
+use borrow.Author.Tests.{leb-true, leb-false}
+use lib.Dec.{leb}
 use native.Mathlib.Nat.{eq-or-lt_of_le}
 use native.Mathlib.Decide.{dec_le}
 use lib.ListN.{length, get_or-eq_default}
 use Rattle.showing.specs.Pages.{newline, start_of, line_of, column_of}
+
+-- what is at or behind the lesser of two is so of one of them
+pub of_two : (a b i : ℕ) → min a b ≤ i → (a ≤ i) ⊎ (b ≤ i)
+of_two a b i h = go (leb a b) refl
+  where
+    go : (t : Bool) → leb a b ≡ t → (a ≤ i) ⊎ (b ≤ i)
+    go true e = inl (omega (arith, leb-true))
+    go false e = inr (omega (arith, leb-false))
 
 module _ (s : List ℕ) where
   -- behind the end there is no newline

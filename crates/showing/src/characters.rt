@@ -176,22 +176,19 @@ pub fn is_inside(text: &[u8], at: usize) -> bool
 pub fn beginning(text: &[u8], at: usize) -> usize
     ensures { result ≤ at }
 {
-    let mut i = at;
-    while 0 < i {
+    for i in (1..=at).rev() {
         if !is_inside(text, i) {
             return i;
         }
-        i -= 1;
     }
-    i
+    0
 }
 
 // How many of n bytes from a place on are whole characters; at the end of the text all are.
 pub fn whole(text: &[u8], from: usize, n: usize) -> usize
     ensures { result ≤ n }
 {
-    let mut k = n;
-    while 0 < k {
+    for k in (1..=n).rev() {
         if text.len() <= from {
             return n;
         }
@@ -201,7 +198,6 @@ pub fn whole(text: &[u8], from: usize, n: usize) -> usize
         if !is_inside(text, from + k) {
             return k;
         }
-        k -= 1;
     }
-    k
+    0
 }

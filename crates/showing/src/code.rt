@@ -2,7 +2,7 @@
 ghost use Rattle.std.specs.Prelude.{◌≡◌};
 
 use crate::system::System;
-use crate::text::{least, say, say_blanks, say_nth, say_number, say_spot};
+use crate::text::{say, say_blanks, say_nth, say_number, say_spot};
 use machine::operands::{FOUND_OFFSET, TEN_BITS, high, low, mid};
 use machine::{bounds, codes};
 
@@ -99,13 +99,13 @@ fn say_form(system: &System, v: u32) {
     say_nth(
         system,
         b" integer\n real\n Boolean\n no type",
-        least(low(wide(v)), 3),
+        low(wide(v)).min(3),
     );
 }
 
 // A logical value, by its number.
 fn say_logical(system: &System, v: u32) {
-    say_nth(system, b" false\n true\n no value", least(low(wide(v)), 2));
+    say_nth(system, b" false\n true\n no value", low(wide(v)).min(2));
 }
 
 // How many cells of each type a block has.
@@ -211,8 +211,7 @@ fn show_instruction(system: &System, source: &[u8], address: usize, first: u32, 
 
 // The instructions, up to the first word that is none.
 pub fn show_code(system: &System, source: &[u8], code: &[u32]) {
-    let mut k: usize = 0;
-    while k < bounds::WORDS / 2 {
+    for k in 0..bounds::WORDS / 2 {
         let at = 2 * k;
         if code.len() <= at + 1 {
             return;
@@ -221,6 +220,5 @@ pub fn show_code(system: &System, source: &[u8], code: &[u32]) {
             return;
         }
         show_instruction(system, source, k, code[at], code[at + 1]);
-        k += 1;
     }
 }

@@ -13,25 +13,19 @@ use table::sections::{sections_of, word};
 fn kind_at(table: &[u16], at: usize) -> u16
     ensures { result ≡ get_or table.now at 0 }
 {
-    if at < table.len() { table[at] } else { 0 }
+    table.get(at).copied().unwrap_or(0)
 }
 
 fn opens(kind: u16) -> bool
     ensures { result ≡ Pages.opens kind }
 {
-    match kind {
-        nodes::BLOCK | nodes::PROCEDURE => true,
-        _ => false,
-    }
+    matches!(kind, nodes::BLOCK | nodes::PROCEDURE)
 }
 
 fn closes(kind: u16) -> bool
     ensures { result ≡ Pages.closes kind }
 {
-    match kind {
-        nodes::BLOCK_END | nodes::PROCEDURE_END => true,
-        _ => false,
-    }
+    matches!(kind, nodes::BLOCK_END | nodes::PROCEDURE_END)
 }
 
 fn say_type(system: &System, number: usize) {
@@ -74,14 +68,12 @@ fn show_declared(system: &System, source: &[u8], table: &[u16], scope: usize, le
     let s = sections_of(table);
     let from = s.declarations + 1;
     let n = word(table, s.declarations);
-    let mut k: usize = 0;
-    while k < n {
+    for k in 0..n {
         let at = from + 4 * k;
         if word(table, at + 2) == scope {
             say_blanks(system, 2 * level);
             show_declaration(system, source, table, at);
         }
-        k += 1;
     }
 }
 
@@ -117,7 +109,7 @@ fn opened(kind: u16) -> usize
     ensures value { result ≡ cond (Pages.opens kind) 1 0 }
     ensures upper_bound { result ≤ 1 }
 {
-    if opens(kind) { 1 } else { 0 }
+    usize::from(opens(kind))
 }
 
 // The level behind a node.
@@ -137,8 +129,7 @@ pub fn show_levels(system: &System, source: &[u8], table: &[u16]) {
     let n = word(table, s.nodes);
     let mut level: usize = 0;
     let mut scope: usize = 0;
-    let mut k: usize = 0;
-    while k < n {
+    for k in 0..n {
         let node = s.nodes + 1 + 4 * k;
         let kind = kind_at(table, node);
         scope += opened(kind);
@@ -146,6 +137,5 @@ pub fn show_levels(system: &System, source: &[u8], table: &[u16]) {
         if opens(kind) && 0 < level {
             show_scope(system, source, table, scope, node, level);
         }
-        k += 1;
     }
 }

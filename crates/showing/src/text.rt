@@ -9,7 +9,7 @@ ghost use Rattle.symbols.specs.Names.{letters_at};
 use crate::characters::{beginning, is_inside, whole, width};
 use crate::system::{STDERR, STDOUT, System};
 use crate::taken::{put, put_number};
-use symbols::text::{find, is_blank, is_name_byte, same_bytes};
+use symbols::text::{find, is_blank, is_name_byte};
 
 // No source is longer than the room that it is read into.
 const LONGEST: usize = 65536;
@@ -53,17 +53,14 @@ pub fn complain(system: &System, text: &[u8]) {
 
 // A text that somebody typed, byte by byte as it is shown.
 pub fn tell_typed(system: &System, to: i32, text: &[u8]) {
-    let mut i: usize = 0;
-    while i < text.len() {
-        let row = [shown_at(text, i)];
-        tell(system, to, &row);
-        i += 1;
+    for i in 0..text.len() {
+        tell(system, to, &[shown_at(text, i)]);
     }
 }
 
 // A file, as people know it.
 pub fn tell_file(system: &System, to: i32, name: &[u8]) {
-    if same_bytes(name, b"-") {
+    if name == b"-".as_slice() {
         tell(system, to, b"standard input");
     } else {
         tell_typed(system, to, name);
@@ -72,13 +69,6 @@ pub fn tell_file(system: &System, to: i32, name: &[u8]) {
 
 pub fn say_file(system: &System, name: &[u8]) {
     tell_file(system, STDOUT, name);
-}
-
-// The least of two.
-pub fn least(a: usize, b: usize) -> usize
-    ensures { result ≡ min a b }
-{
-    if a < b { a } else { b }
 }
 
 // A place as people count: line and column from 1, and the byte at which its line begins.
@@ -96,19 +86,14 @@ pub fn spot_of(source: &[u8], place: usize) -> Spot
     ensures start { result.start ≡ start_of source.now (min place 65536) }
     ensures start_le_place { result.start ≤ place }
 {
-    let end = least(place, LONGEST);
+    let end = place.min(LONGEST);
     let mut line: u64 = 1;
     let mut start: usize = 0;
-    let mut i: usize = 0;
-    while i < end {
-        if source.len() <= i {
-            break;
-        }
+    for i in 0..end.min(source.len()) {
         if source[i] == b'\n' {
             line += 1;
             start = i + 1;
         }
-        i += 1;
     }
     Spot {
         line,
@@ -179,17 +164,12 @@ fn line_row(source: &[u8], from: usize, row: &mut [u8]) -> usize
     ensures prefix_len { IsPrefixLen result row.new }
 {
     let mut n: usize = 0;
-    let mut i = from;
-    while i < source.len() {
-        if row.len() <= n {
-            return n;
-        }
-        if source[i] == b'\n' {
+    for i in from..source.len() {
+        if row.len() <= n || source[i] == b'\n' {
             return n;
         }
         row[n] = shown_at(source, i);
         n += 1;
-        i += 1;
     }
     n
 }
@@ -214,11 +194,7 @@ fn mark_row(source: &[u8], from: usize, place: usize, row: &mut [u8]) -> usize
     ensures prefix_len { IsPrefixLen result row.new }
 {
     let mut n: usize = 0;
-    let mut i = from;
-    while i < place {
-        if source.len() <= i {
-            return n;
-        }
+    for i in from..place.min(source.len()) {
         if row.len() <= n {
             return n;
         }
@@ -227,7 +203,6 @@ fn mark_row(source: &[u8], from: usize, place: usize, row: &mut [u8]) -> usize
             row[n] = b;
             n += 1;
         }
-        i += 1;
     }
     n
 }
@@ -268,8 +243,7 @@ fn name_row(source: &[u8], at: usize, row: &mut [u8]) -> usize
     ensures prefix_len { IsPrefixLen result row.new }
 {
     let mut n: usize = 0;
-    let mut i = at;
-    while i < source.len() {
+    for i in at..source.len() {
         let b = source[i];
         if is_name_byte(b) {
             if row.len() <= n {
@@ -280,7 +254,6 @@ fn name_row(source: &[u8], at: usize, row: &mut [u8]) -> usize
         } else if !is_blank(b) {
             return n;
         }
-        i += 1;
     }
     n
 }
@@ -295,24 +268,20 @@ pub fn say_name(system: &System, source: &[u8], at: usize) {
 // Line n of a text, from 0 on; nothing behind the last one.
 pub fn say_nth(system: &System, text: &[u8], n: usize) {
     let mut at: usize = 0;
-    let mut i: usize = 0;
-    while i < n {
+    for _ in 0..n {
         let end = find(text, at, b'\n');
         if text.len() <= end {
             return;
         }
         at = end + 1;
-        i += 1;
     }
     say(system, &text[at..find(text, at, b'\n')]);
 }
 
 // A text so many times.
 pub fn say_times(system: &System, text: &[u8], n: usize) {
-    let mut i: usize = 0;
-    while i < n {
+    for _ in 0..n {
         say(system, text);
-        i += 1;
     }
 }
 

@@ -34,21 +34,17 @@ fn show_use(system: &System, source: &[u8], table: &[u16], at: usize)
 
 pub fn show_uses(system: &System, source: &[u8], table: &[u16]) {
     let n = word(table, 0);
-    let mut k: usize = 0;
-    while k < n {
+    for k in 0..n {
         show_use(system, source, table, 3 * k + 1);
-        k += 1;
     }
 }
 
 // The words of the use section, each after a blank.
 pub fn say_use_words(system: &System, table: &[u16]) {
     let n = 3 * word(table, 0) + 1;
-    let mut i: usize = 0;
-    while i < n {
+    for i in 0..n {
         say(system, b" ");
         say_number(system, word(table, i) as u64);
-        i += 1;
     }
 }
 
@@ -69,9 +65,7 @@ pub fn show_section(system: &System, table: &[u16]) {
     let n = word(table, 0);
     say_number(system, n as u64);
     say(system, b"\n");
-    let mut k: usize = 0;
-    while k < n {
+    for k in 0..n {
         show_row(system, table, 3 * k + 1);
-        k += 1;
     }
 }

@@ -13,7 +13,7 @@ use symbols::{Lexeme, Symbol};
 fn byte_at(source: &[u8], at: usize) -> u8
     ensures { result ≡ get_or source.now at 0 }
 {
-    if at < source.len() { source[at] } else { 0 }
+    source.get(at).copied().unwrap_or(0)
 }
 
 fn tell_no_symbol(system: &System, to: i32, b: u8) {
@@ -98,13 +98,11 @@ fn tell_type_of_word(system: &System, to: i32, word: Symbol) {
 fn byte_behind(source: &[u8], at: usize) -> u8
     ensures { result ≡ byte_behind source.now at }
 {
-    let mut i = at;
-    while i < source.len() {
+    for i in at..source.len() {
         let b = source[i];
         if !is_name_byte(b) && !is_blank(b) {
             return b;
         }
-        i += 1;
     }
     0
 }

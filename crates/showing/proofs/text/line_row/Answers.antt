@@ -14,6 +14,7 @@ use Rattle.showing.specs.Pages.{shown_at, shown_in, shown_from}
 use Rattle.showing.proofs.Rows.{first, full, ended, put}
 use borrow.Author.Rules.{rules}
 use Rattle.showing.proofs.text.line_row.Goals as goal
+use Rattle.showing.proofs.text.line_row.Goals.{then-row-n-via-then-row-n, then-row-n-via-else-row-n+then-source-i-eq10}
 
 -- ---- what is shown from i on, by what is shown from i + 1 on
 module _ (s : List ℕ) (i : ℕ) where
@@ -33,13 +34,16 @@ pub loop-i-init : goal.loop-i-init
 loop-i-init c = first _ _
 
 pub returns-then-row-n : goal.returns-then-row-n
-returns-then-row-n c = record { fills = full c.loop-i.invariant c.if-row-n.true; prefix_len = prefix_len_of_le _ _ (search rules) }
-
-pub returns-then-source-i-eq10 : goal.returns-then-source-i-eq10
-returns-then-source-i-eq10 c =
+returns-then-row-n c =
     let s = c.args.source.now in
     let l = c.loop-i in
-    record { fills = ended l.invariant (shown-stop s l.i c.loop-i-test.true (eq-eqb (get_or s l.i 0) 10 c.if-source-i-eq10.true)); prefix_len = prefix_len_of_le _ _ (search rules) }
+    record {
+      fills = elim c.then-row-n.branch [
+        | then-row-n-via-then-row-n w ↦ full l.invariant w.if-row-n.true
+        | then-row-n-via-else-row-n+then-source-i-eq10 w ↦ ended l.invariant (shown-stop s l.i c.loop-i-test.true (eq-eqb (get_or s l.i 0) 10 w.if-source-i-eq10.true))
+      ];
+      prefix_len = prefix_len_of_le _ _ (search rules);
+    }
 
 pub loop-i-preserved : goal.loop-i-preserved
 loop-i-preserved c =

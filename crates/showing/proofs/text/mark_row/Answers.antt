@@ -1,6 +1,6 @@
 -- `showing::text::mark_row` meets its contract. The row holds the first n bytes of what stands before the mark, and the others are ahead from i on.
 -- Assumes nothing.
-use Prim.Native.Nat.{ℕ, suc, ◌+◌, ◌-◌, ◌≤◌, ◌<◌}
+use Prim.Native.Nat.{ℕ, suc, ◌+◌, ◌-◌, ◌≤◌, ◌<◌, min}
 use native.Mathlib.Omega.{arith}
 use native.Mathlib.Numerals.{add-one}
 use mathlib.Core.Path.{◌≡◌, refl, sym, ap, ◌∙◌}
@@ -13,6 +13,8 @@ use Rattle.io.proofs.Counting.{prefix_len_of_le}
 use Rattle.symbols.proofs.Laws.{peel}
 use Rattle.showing.specs.Characters.{inside}
 use Rattle.showing.specs.Pages.{under_byte, under_in, marks_from}
+use mathlib.Core.Logic.{inl, inr}
+use Rattle.showing.proofs.Lines.{of_two}
 use Rattle.showing.proofs.Rows.{first, full, ended, passed, put}
 use borrow.Author.Rules.{rules}
 use Rattle.showing.proofs.text.mark_row.Goals as goal
@@ -44,6 +46,9 @@ module _ (s : List ℕ) (i place : ℕ) where
   unfolding marks_from under_in
   marks-end h = rw (drop_of_length-le s h, take-nil)
 
+  marks-behind : min place (length s) ≤ i → marks_from s i place ≡ []
+  marks-behind h = elim (of_two place (length s) i h) [ inl k ↦ marks-stop k | inr k ↦ marks-end k ]
+
   module _ (h : i < length s) (k : i < place) where
     next : marks_from s i place ≡ cond (inside s i) (marks_from s (i + 1) place) (under_byte (get_or s i 0) ∷ marks_from s (i + 1) place)
     unfolding marks_from under_in
@@ -58,12 +63,6 @@ module _ (s : List ℕ) (i place : ℕ) where
 pub loop-i-init : goal.loop-i-init
 loop-i-init c = first _ _
 
-pub returns-then-source-i : goal.returns-then-source-i
-returns-then-source-i c =
-    let a = c.args in
-    let l = c.loop-i in
-    record { fills = ended l.invariant (marks-end a.source.now l.i a.place c.if-source-i.true); prefix_len = prefix_len_of_le _ _ (search rules) }
-
 pub returns-then-row-n : goal.returns-then-row-n
 returns-then-row-n c = record { fills = full c.loop-i.invariant c.if-row-n.true; prefix_len = prefix_len_of_le _ _ (search rules) }
 
@@ -71,8 +70,9 @@ pub loop-i-preserved : goal.loop-i-preserved
 loop-i-preserved c =
     let a = c.args in
     let l = c.loop-i in
-    let h = c.if-source-i.false in
-    let k = c.loop-i-test.true in
+    let least = c.min-i-end.ensures in
+    let h : l.i < length a.source.now = omega (arith, least, c.loop-i-test.true) in
+    let k : l.i < a.place = omega (arith, least, c.loop-i-test.true) in
     let u = c.under-b in
     elim c.if-b-ne0.branch [
       | then-b-ne0 w ↦ rw (w.row-is, w.n-is) (put l.invariant u.result _ (marks-on a.source.now l.i a.place h k u.result u.ensures w.if-b-ne0.true) c.if-row-n.false)
@@ -83,4 +83,4 @@ pub returns : goal.returns
 returns c =
     let a = c.args in
     let l = c.loop-i in
-    record { fills = ended l.invariant (marks-stop a.source.now l.i a.place c.loop-i-test.false); prefix_len = prefix_len_of_le _ _ (search rules) }
+    record { fills = ended l.invariant (marks-behind a.source.now l.i a.place (omega (arith, c.min-i-end.ensures, c.loop-i-test.false))); prefix_len = prefix_len_of_le _ _ (search rules) }

@@ -8,5 +8,5 @@ use Rattle.showing.proofs.text.say_nth.Goals as goal
 pub slice_bounds-say-end : goal.slice_bounds-say-end
 slice_bounds-say-end c =
     let s = c.args.text.now in
-    let at = c.loop-i.at in
-    omega (arith, c.find.ensures, before_most 10 (drop at s), length-drop at s, c.loop-i.invariant)
+    let at = c.loop.at in
+    omega (arith, c.find.ensures, before_most 10 (drop at s), length-drop at s, c.loop.invariant)

@@ -1,6 +1,6 @@
 -- `showing::text::spot_of` meets its contract. Line and start are those of the place that the loop has come to; behind the end they stay.
 -- Assumes nothing.
-use Prim.Native.Nat.{ℕ, suc, ◌+◌, ◌-◌, ◌≤◌}
+use Prim.Native.Nat.{ℕ, suc, ◌+◌, ◌-◌, ◌≤◌, min}
 use native.Mathlib.Omega.{arith}
 use native.Mathlib.Numerals.{add-one}
 use mathlib.Core.Path.{◌≡◌, refl, sym, ap, ◌∙◌}
@@ -9,9 +9,9 @@ use mathlib.Core.List.{List}
 use borrow.Author.Tests.{eq-eqb, ne_eqb}
 use lib.ListN.{length, get_or}
 use Rattle.showing.specs.Pages.{start_of, line_of, column_of}
-use Rattle.showing.proofs.Lines.{start_behind, start_on, line_behind, line_on, start_within, lines_within, one_start, past_end}
+use Rattle.showing.proofs.Lines.{start_behind, start_on, line_behind, line_on, start_within, lines_within, one_start, past_end, of_two}
 use Rattle.showing.proofs.text.spot_of.Goals as goal
-use Rattle.showing.proofs.text.spot_of.Goals.{then-source-i-eq10, else-source-i-eq10, else-loop-i-test, then-loop-i-test+then-source-i}
+use Rattle.showing.proofs.text.spot_of.Goals.{then-source-i-eq10, else-source-i-eq10}
 
 -- the loop has come to the place, or to the end of the source
 left : (s : List ℕ) (end i : ℕ) → i ≤ end → (end ≤ i) ⊎ (length s ≤ i) → line_of s i ≡ line_of s end
@@ -50,8 +50,8 @@ unfolding column_of
 returns c =
     let s = c.args.source.now in
     let l = c.loop-i in
-    let end = c.least-end.result in
-    let line : l.line ≡ line_of s end = l.invariant.2 ∙ left s end l.i l.invariant.0 (elim c.loop-i-test.branch [ else-loop-i-test w ↦ inl w.loop-i-test.false | then-loop-i-test+then-source-i w ↦ inr w.if-source-i.true ]) in
+    let end = c.min-end.result in
+    let line : l.line ≡ line_of s end = l.invariant.2 ∙ left s end l.i l.invariant.0 (of_two end (length s) l.i (omega (arith, c.min-i-end.ensures, c.loop-i-test.false))) in
     let start : l.start ≡ start_of s end = l.invariant.1 ∙ one_start s end l.i l.invariant.0 (sym l.invariant.2 ∙ line) in
-    let cut = c.least-end.ensures in
+    let cut = c.min-end.ensures in
     record { line = line ∙ ap (line_of s) cut; column = ap (λ k. end - k + 1) start ∙ ap (column_of s) cut; start = start ∙ ap (start_of s) cut; start_le_place = omega (arith, start_within s end) }
