@@ -16,12 +16,14 @@ fn kind_at(table: &[u16], at: usize) -> u16
     table.get(at).copied().unwrap_or(0)
 }
 
+#[tactic(auto, unfolding(crate::specs::Pages::opens))]
 fn opens(kind: u16) -> bool
     ensures { result ≡ Pages.opens kind }
 {
     matches!(kind, nodes::BLOCK | nodes::PROCEDURE)
 }
 
+#[tactic(auto, unfolding(crate::specs::Pages::closes))]
 fn closes(kind: u16) -> bool
     ensures { result ≡ Pages.closes kind }
 {
@@ -113,15 +115,17 @@ fn opened(kind: u16) -> usize
 }
 
 // The level behind a node.
+#[tactic(auto, unfolding(crate::specs::Pages::level_behind))]
 fn level_behind(kind: u16, level: usize) -> usize
     requires { level < 65536 }
     ensures value { result ≡ level_behind kind level }
     ensures upper_bound { result ≤ level + 1 }
 {
-    if closes(kind) && 0 < level {
-        return level - 1;
+    if closes(kind) {
+        level.saturating_sub(1)
+    } else {
+        level + opened(kind)
     }
-    level + opened(kind)
 }
 
 pub fn show_levels(system: &System, source: &[u8], table: &[u16]) {

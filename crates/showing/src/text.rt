@@ -115,15 +115,17 @@ pub fn say_spot(system: &System, source: &[u8], place: usize) {
 }
 
 // Where what is shown of a line begins.
+#[tactic(auto, unfolding(crate::specs::Pages::shown_start))]
 fn shown_from(start: usize, place: usize) -> usize
     requires { start ≤ place }
     ensures value { result ≡ shown_start start place }
     ensures upper_bound { result ≤ place }
 {
     if place - start < NEAR {
-        return start;
+        start
+    } else {
+        place - BEFORE
     }
-    place - BEFORE
 }
 
 // A byte as it is shown: nothing in a source moves the cursor but a tab.
@@ -141,21 +143,19 @@ fn shown(b: u8) -> u8
 }
 
 // The byte of a place as it is shown: from 128 on as it stands if it is part of a character that is shown.
+#[tactic(auto, unfolding(crate::specs::Pages::shown_at))]
 fn shown_at(source: &[u8], i: usize) -> u8
     requires { i < length source.now }
     ensures { result ≡ shown_at source.now i }
 {
     let b = source[i];
     if b < 128 {
-        return shown(b);
+        shown(b)
+    } else if is_inside(source, i) || 1 < width(source, i) {
+        b
+    } else {
+        63
     }
-    if is_inside(source, i) {
-        return b;
-    }
-    if 1 < width(source, i) {
-        return b;
-    }
-    63
 }
 
 // The bytes of a line from a place on, as many as the row takes; gives how many.
@@ -175,17 +175,18 @@ fn line_row(source: &[u8], from: usize, row: &mut [u8]) -> usize
 }
 
 // What stands under a place before the mark: a tab under a tab, a blank under anything else, and nothing inside a character.
+#[tactic(auto, unfolding(crate::specs::Pages::under_byte))]
 fn under(source: &[u8], i: usize) -> u8
     requires { i < length source.now }
     ensures { result ≡ cond (inside source.now i) 0 (under_byte (get_or source.now i 0)) }
 {
     if is_inside(source, i) {
-        return 0;
+        0
+    } else if source[i] == 9 {
+        9
+    } else {
+        32
     }
-    if source[i] == 9 {
-        return 9;
-    }
-    32
 }
 
 // What stands before the mark, as many bytes as the row takes; gives how many.
