@@ -3,7 +3,9 @@
 use mathlib.Core.Path.{◌≡◌, refl, sym, ap, ap₂, subst, ◌∙◌}
 use mathlib.Core.Bool.{Bool, true, false, cond, not, false≢true}
 use mathlib.Core.List.{List, [], ◌∷◌}
-use mathlib.Core.Option.{Option, some}
+use mathlib.Core.Option.{Option as Maybe, some}
+use Rattle.std.specs.Prelude.{Option, Some, None, Result as Returned, Ok, Err, OkIff}
+use Rattle.std.specs.Result.{result_ok}
 use Prim.Native.Nat.{ℕ, zero, suc, ◌+◌, ◌-◌, ◌*◌, ◌≤◌, ◌<◌}
 use native.Mathlib.Omega.{arith}
 use native.Mathlib.Nat.{not-suc-le-zero}
@@ -12,7 +14,7 @@ use lib.ListN.{get_or}
 use lib.IntN.{ℤ, pos}
 use lib.Signed.{mag}
 use mir.Syntax.{w32, w64}
-use mir.Val.{to_z, of_z}
+use mir.Val.{SFits, to_z, of_z}
 use mir.Facts.{to_z-of_z}
 use borrow.Author.Tests.{lt-ltb}
 use Rattle.reals.specs.declared.Form.{Form}
@@ -30,10 +32,6 @@ use Rattle.reals.specs.model.Stored.{Fitting, FittingC, FittingO, whole_in, cell
 use Rattle.reals.proofs.Fits.{binary_fits}
 use Rattle.reals.proofs.ReadBack.{of_4}
 use Rattle.machine.specs.declared.Counts.{Counts}
-use Rattle.machine.specs.declared.Number.{Number}
-use Rattle.machine.specs.declared.Number.TheVariants.{Is as Number1}
-use Rattle.machine.specs.declared.Swift.{Swift}
-use Rattle.machine.specs.declared.Swift.TheVariants.{Goes, Not}
 use Rattle.machine.specs.declared.Did.TheVariants.{Good}
 use Rattle.machine.specs.declared.Chosen.TheVariants.{Yes}
 use Rattle.machine.specs.declared.Typed.TheVariants.{Is as Form1}
@@ -58,6 +56,11 @@ pub number_at : (s : List ℤ) (c : ℕ) → of_z w64 (get_or s (2 * c) (pos 0))
 unfolding cell_at whole_in
 number_at s c e h = sym (of_4 (get_or s (2 * c + 1) (pos 0)) e) ∙ rw (lt-ltb (mag (get_or s (2 * c + 1) (pos 0))) 2147483648 h)
 
+-- a number that is read as one of 32 bits
+pub number_told : {E : Type 0} (s : List ℤ) (c : ℕ) (r : Returned ℤ E) {x : ℤ} → of_z w64 (get_or s (2 * c) (pos 0)) ≡ 4 → x ≡ get_or s (2 * c + 1) (pos 0) → OkIff r (SFits w32 x) x → NumberIn (result_ok r) (cell_at s c)
+number_told s c (Ok z) e g h = number_at s c e (subst (SFits w32) g h.0).sfits ∙ ap (λ (y : ℤ). Holds (Whole y)) (sym (h.1 ∙ g))
+number_told s c (Err f) e g h = tt
+
 whole_takes : (x : ℤ) → TakesWholes (whole_in x)
 unfolding whole_in
 whole_takes x = go (ltb (mag x) 2147483648)
@@ -76,8 +79,8 @@ module _ (s : List ℤ) (c : ℕ) where
   takes_unset e = rw e refl
 
 -- what is told of a cell
-pub number_is : {r : Number} {z : ℤ} {x : Cell} → r ≡ Number1 z → NumberIn r x → x ≡ Holds (Whole z)
-number_is {x} e h = subst (λ (y : Number). NumberIn y x) e h
+pub number_is : {r : Option ℤ} {z : ℤ} {x : Cell} → r ≡ Some z → NumberIn r x → x ≡ Holds (Whole z)
+number_is {x} e h = subst (λ (y : Option ℤ). NumberIn y x) e h
 
 -- ---- the formals on the way
 
@@ -242,15 +245,15 @@ unfolding with_form
 form_whole f i e = rw e
 
 module _ (at a : ℕ) (n : Counts) (s : List ℤ) (l : List ℕ) {s' : List ℤ} (g : Sound n s) where
-  pub load_quick : (v : ℕ) {c : ℕ} {r : Number} {z : ℤ} → Spots c v (n.cells + 1) n a l → c < n.cells → n.cells + n.held < room_of s → r ≡ Number1 z → NumberIn r (cell_at s c) → s' ≡ put_at s n.cells (Holds (Whole (seen z)))
-      → Quickly (λ q. some (DO (load q (variable v)))) at a n (Goes (at + 1) (n.cells + 1)) s s' l
+  pub load_quick : (v : ℕ) {c : ℕ} {r : Option ℤ} {z : ℤ} → Spots c v (n.cells + 1) n a l → c < n.cells → n.cells + n.held < room_of s → r ≡ Some z → NumberIn r (cell_at s c) → s' ≡ put_at s n.cells (Holds (Whole (seen z)))
+      → Quickly (λ q. some (DO (load q (variable v)))) at a n (Some (at + 1, n.cells + 1)) s s' l
   load_quick v {c} {r} {z} k h w e p d =
       let x = number_is e p in
       let d' = d ∙ ap (λ (y : ℤ). put_at s n.cells (Holds (Whole y))) (seen_is s c x) in
       (λ q i o. did at a n s s' i o l (load q (variable v)) (n.cells + 1) (omega (arith, (k h).0)) (load_whole n (own_of l a) s i o q c _ ((k h).1 n s i o) h x w d'), new_sound n.cells (Holds (Whole z)) d' g refl w)
 
-  pub save_quick : (v : ℕ) {c : ℕ} {r : Number} {z : ℤ} → Spots c v n.cells n a l → c + 1 < n.cells → r ≡ Number1 z → NumberIn r (cell_at s (n.cells - 1)) → TakesWholes (cell_at s c) → s' ≡ put_at s c (Holds (Whole (seen z)))
-      → Quickly (λ q. some (DO (store q (variable v)))) at a n (Goes (at + 1) (n.cells - 1)) s s' l
+  pub save_quick : (v : ℕ) {c : ℕ} {r : Option ℤ} {z : ℤ} → Spots c v n.cells n a l → c + 1 < n.cells → r ≡ Some z → NumberIn r (cell_at s (n.cells - 1)) → TakesWholes (cell_at s c) → s' ≡ put_at s c (Holds (Whole (seen z)))
+      → Quickly (λ q. some (DO (store q (variable v)))) at a n (Some (at + 1, n.cells - 1)) s s' l
   save_quick v {c} {r} {z} k h e p t d =
       let b = k (omega arith) in
       let x = number_is e p in
@@ -258,12 +261,12 @@ module _ (at a : ℕ) (n : Counts) (s : List ℤ) (l : List ℕ) {s' : List ℤ}
       (λ q i o. did at a n s s' i o l (store q (variable v)) (n.cells - 1) (omega (arith, b.0)) (save_whole n (own_of l a) s i o q c _ (b.1 n s i o) h x t g.room d'), put_sound c (Holds (Whole z)) d' (fewer_sound 1 n (fewer 1 n) s g refl) (omega arith))
 
   pub fill_quick : (x : Cell) → FittingC x → base (frames_of l a) a ≤ n.cells → n.cells + n.held < room_of s → s' ≡ put_at s n.cells x
-      → (f : ℕ → Act Location) → Fills x f → Quickly (λ q. some (DO (f q))) at a n (Goes (at + 1) (n.cells + 1)) s s' l
+      → (f : ℕ → Act Location) → Fills x f → Quickly (λ q. some (DO (f q))) at a n (Some (at + 1, n.cells + 1)) s s' l
   fill_quick x k h w d f p =
       (λ q i o. did at a n s s' i o l (f q) (n.cells + 1) (rw (p q).0 (omega arith)) (new_done n (own_of l a) s i o q x d k w ∙ ap (told (trace_of n o)) (sym ((p q).1 _ (data_of n (own_of l a) s i o)))), new_sound n.cells x d g refl w)
 
-  pub binary_quick : (op : Binary) {x y : ℤ} {r t : Number} {w : Outcome} {v : Value} → base (frames_of l a) a + 2 ≤ n.cells → r ≡ Number1 y → NumberIn r (cell_at s (n.cells - 1)) → t ≡ Number1 x → NumberIn t (cell_at s (n.cells - 2)) → w ≡ apply2 op (Whole (seen x)) (Whole (seen y)) → w ≡ Is v → s' ≡ put_at s (n.cells - 2) (Holds v)
-      → Quickly (λ q. some (DO (binary q op))) at a n (Goes (at + 1) (n.cells - 1)) s s' l
+  pub binary_quick : (op : Binary) {x y : ℤ} {r t : Option ℤ} {w : Outcome} {v : Value} → base (frames_of l a) a + 2 ≤ n.cells → r ≡ Some y → NumberIn r (cell_at s (n.cells - 1)) → t ≡ Some x → NumberIn t (cell_at s (n.cells - 2)) → w ≡ apply2 op (Whole (seen x)) (Whole (seen y)) → w ≡ Is v → s' ≡ put_at s (n.cells - 2) (Holds v)
+      → Quickly (λ q. some (DO (binary q op))) at a n (Some (at + 1, n.cells - 1)) s s' l
   binary_quick op {v = v} h e p e' p' k u d =
       let b = number_is e p in
       let b' = number_is e' p' in
@@ -271,8 +274,8 @@ module _ (at a : ℕ) (n : Counts) (s : List ℤ) (l : List ℕ) {s' : List ℤ}
       let z : n.cells - 1 ≡ n.cells - 2 + 1 = omega arith in
       (λ q i o. did at a n s s' i o l (binary q op) (n.cells - 1) h (binary_whole n (own_of l a) s i o q op (omega arith) g.room b b' k' u d), rw z (new_sound (n.cells - 2) (Holds v) d (fewer_sound 2 n (fewer 2 n) s g refl) refl (omega (arith, g.room))))
 
-  pub sum_quick : (v : ℕ) {c : ℕ} {x z : ℤ} {r t : Number} {w : Outcome} {u : Value} {s₁ : List ℤ} → Spots c v n.cells n a l → c + 1 < n.cells → 1 ≤ n.held → r ≡ Number1 x → NumberIn r (cell_at s (n.cells - 1)) → t ≡ Number1 z → NumberIn t (cell_at s c) → w ≡ apply2 Plus (Whole (seen z)) (Whole (seen x)) → w ≡ Is u
-      → s₁ ≡ put_at s (room_of s - n.held) (Holds (Whole (seen x))) → s' ≡ put_at s₁ (n.cells - 1) (Holds u) → Quickly (λ q. some (DO (sum q (variable v)))) at a n (Goes (at + 1) n.cells) s s' l
+  pub sum_quick : (v : ℕ) {c : ℕ} {x z : ℤ} {r t : Option ℤ} {w : Outcome} {u : Value} {s₁ : List ℤ} → Spots c v n.cells n a l → c + 1 < n.cells → 1 ≤ n.held → r ≡ Some x → NumberIn r (cell_at s (n.cells - 1)) → t ≡ Some z → NumberIn t (cell_at s c) → w ≡ apply2 Plus (Whole (seen z)) (Whole (seen x)) → w ≡ Is u
+      → s₁ ≡ put_at s (room_of s - n.held) (Holds (Whole (seen x))) → s' ≡ put_at s₁ (n.cells - 1) (Holds u) → Quickly (λ q. some (DO (sum q (variable v)))) at a n (Some (at + 1, n.cells)) s s' l
   sum_quick v {c} {x} {u = u} {s₁ = s₁} k h m e p e' p' j y d₀ d' =
       let b = k (omega arith) in
       let i₁ = number_is e p in
@@ -289,13 +292,13 @@ module _ (at a : ℕ) (n : Counts) (s : List ℤ) (l : List ℕ) {s' : List ℤ}
 
 -- the store is as it was
 module _ (at a : ℕ) (n : Counts) (s : List ℤ) (l : List ℕ) (g : Sound n s) where
-  pub turn_quick : (v : ℕ) {r : Number} {z : ℤ} → base (frames_of l a) a + 1 ≤ n.cells → low v ≡ 0 → r ≡ Number1 z → NumberIn r (cell_at s (n.cells - 1))
-      → Quickly (λ q. with_form (low v) (λ t. DO (turn q t))) at a n (Goes (at + 1) n.cells) s s l
+  pub turn_quick : (v : ℕ) {r : Option ℤ} {z : ℤ} → base (frames_of l a) a + 1 ≤ n.cells → low v ≡ 0 → r ≡ Some z → NumberIn r (cell_at s (n.cells - 1))
+      → Quickly (λ q. with_form (low v) (λ t. DO (turn q t))) at a n (Some (at + 1, n.cells)) s s l
   turn_quick v h f e p =
       (λ q i o. did at a n s s i o l (turn q Wholes) n.cells h (turn_whole n (own_of l a) s i o q (omega arith) (number_is e p)) ∙ obeyed_as _ at _ _ _ (form_whole (low v) (λ t. DO (turn q t)) f), sound_same n (cut n.cells n) s g (omega arith) g.room)
 
-  pub upto_quick : (v : ℕ) {c : ℕ} {x y z : ℤ} {r t u : Number} → Spots c v n.cells n a l → c + 1 < n.cells → 1 ≤ n.held → r ≡ Number1 y → NumberIn r (cell_at s (n.cells - 1)) → t ≡ Number1 x → NumberIn t (cell_at s (room_of s - n.held)) → u ≡ Number1 z → NumberIn u (cell_at s c) → leaves (Whole (seen z)) (Whole (seen x)) (Whole (seen y)) ≡ Is (Truth false)
-      → Quickly (λ q. some (IF (upto q (variable v)) (low v))) at a n (Goes (at + 1) (n.cells - 1)) s s l
+  pub upto_quick : (v : ℕ) {c : ℕ} {x y z : ℤ} {r t u : Option ℤ} → Spots c v n.cells n a l → c + 1 < n.cells → 1 ≤ n.held → r ≡ Some y → NumberIn r (cell_at s (n.cells - 1)) → t ≡ Some x → NumberIn t (cell_at s (room_of s - n.held)) → u ≡ Some z → NumberIn u (cell_at s c) → leaves (Whole (seen z)) (Whole (seen x)) (Whole (seen y)) ≡ Is (Truth false)
+      → Quickly (λ q. some (IF (upto q (variable v)) (low v))) at a n (Some (at + 1, n.cells - 1)) s s l
   upto_quick v {c} {x} {y} {z} k h m e p e₁ p₁ e₂ p₂ j =
       let b = k (omega arith) in
       let i₀ = number_is e p in
@@ -309,13 +312,13 @@ module _ (at a : ℕ) (n : Counts) (s : List ℤ) (l : List ℕ) (g : Sound n s)
         fewer_sound 1 n (fewer 1 n) s g refl,
       )
 
-  pub jump_quick : (v : ℕ) → Quickly (λ q. some (JUMP (low v))) at a n (Goes (low v) n.cells) s s l
+  pub jump_quick : (v : ℕ) → Quickly (λ q. some (JUMP (low v))) at a n (Some (low v, n.cells)) s s l
   jump_quick v = (λ q i o. jump_goes (trace_of n o) at _ _ _ (low v) ∙ obeyed (trace_of n o) at _ _ _ refl, sound_same n (cut n.cells n) s g (omega arith) g.room)
 
 -- the same instruction
-pub quick_as : (at a : ℕ) (n : Counts) (s s' : List ℤ) (l : List ℕ) {f h : ℕ → Option Instruction} (r : Swift) → ((q : ℕ) → h q ≡ f q) → Quickly f at a n r s s' l → Quickly h at a n r s s' l
-quick_as at a n s s' l (Goes pc c) e k = (λ q i o. k.0 q i o ∙ obeyed_as _ at _ _ _ (e q), k.1)
-quick_as at a n s s' l Not e k = k
+pub quick_as : (at a : ℕ) (n : Counts) (s s' : List ℤ) (l : List ℕ) {f h : ℕ → Maybe Instruction} (r : Option (ℕ × ℕ)) → ((q : ℕ) → h q ≡ f q) → Quickly f at a n r s s' l → Quickly h at a n r s s' l
+quick_as at a n s s' l (Some (pc, c)) e k = (λ q i o. k.0 q i o ∙ obeyed_as _ at _ _ _ (e q), k.1)
+quick_as at a n s s' l None e k = k
 
 -- a loop that goes on
 pub stays_is : {w : Outcome} {v : Value} {b : Bool} → w ≡ Is v → v ≡ Truth b → not b ≡ true → w ≡ Is (Truth false)
@@ -324,9 +327,9 @@ stays_is {b = false} e g h = e ∙ ap Is g
 
 -- ---- what was done, by what is answered
 
-module _ (f : ℕ → Option Instruction) (at a : ℕ) (n : Counts) (s s' : List ℤ) (l : List ℕ) {r : Swift} where
-  pub quick_goes : {pc c : ℕ} → r ≡ Goes pc c → Quickly f at a n r s s' l → Quickly f at a n (Goes pc c) s s' l
-  quick_goes e h = subst (λ (x : Swift). Quickly f at a n x s s' l) e h
+module _ (f : ℕ → Maybe Instruction) (at a : ℕ) (n : Counts) (s s' : List ℤ) (l : List ℕ) {r : Option (ℕ × ℕ)} where
+  pub quick_goes : {pc c : ℕ} → r ≡ Some (pc, c) → Quickly f at a n r s s' l → Quickly f at a n (Some (pc, c)) s s' l
+  quick_goes e h = subst (λ (x : Option (ℕ × ℕ)). Quickly f at a n x s s' l) e h
 
-  pub quick_not : r ≡ Not → Quickly f at a n r s s' l → s' ≡ s
-  quick_not e h = subst (λ (x : Swift). Quickly f at a n x s s' l) e h
+  pub quick_not : r ≡ None → Quickly f at a n r s s' l → s' ≡ s
+  quick_not e h = subst (λ (x : Option (ℕ × ℕ)). Quickly f at a n x s s' l) e h

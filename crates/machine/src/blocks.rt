@@ -16,10 +16,8 @@ fn unassign(store: &mut [i64], form: Form, c: usize, k: usize)
     requires { c + k ≤ room_of store.old }
     ensures { store.new ≡ unassigned form store.old c k }
 {
-    let mut i = 0;
-    while i < k {
+    for i in 0..k {
         put_cell(store, c + i, Cell::Unset(form));
-        i += 1;
     }
 }
 

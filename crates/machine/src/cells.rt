@@ -4,7 +4,6 @@ ghost use Rattle.machine.specs.Data.{plain};
 ghost use Rattle.machine.specs.model.Holding.{cell_at, put_at, room_of};
 ghost use Rattle.machine.specs.model.Quick.{NumberIn, TakesWholes};
 
-use crate::Number;
 use crate::bounds::CELL_NUMBERS;
 use reals::Cell;
 use reals::stored::{decode, encode};
@@ -35,11 +34,7 @@ pub fn is_plain(store: &[i64], c: usize) -> bool
     requires { c < room_of store.now }
     ensures { result ≡ plain (cell_at store.now c) }
 {
-    match cell_at(store, c) {
-        Cell::Holds(_) => true,
-        Cell::Unset(_) => true,
-        Cell::Named(_) => false,
-    }
+    !matches!(cell_at(store, c), Cell::Named(_))
 }
 
 pub fn put_cell(store: &mut [i64], c: usize, x: Cell)
@@ -47,29 +42,21 @@ pub fn put_cell(store: &mut [i64], c: usize, x: Cell)
     ensures { store.new ≡ put_at store.old c x }
 {
     let two = encode(x);
-    let kind = two.kind;
-    let load = two.load;
-    store[CELL_NUMBERS * c] = kind;
-    store[CELL_NUMBERS * c + 1] = load;
+    store[CELL_NUMBERS * c] = two.kind;
+    store[CELL_NUMBERS * c + 1] = two.load;
 }
 
-// The whole number that cell c holds.
-pub fn whole_at(store: &[i64], c: usize) -> Number
+// The whole number that cell c holds, if it holds one.
+pub fn whole_at(store: &[i64], c: usize) -> Option<i32>
     requires { c < room_of store.now }
     ensures { NumberIn result (cell_at store.now c) }
 {
     let kind = store[CELL_NUMBERS * c];
     if kind != WHOLE {
-        return Number::Not;
+        return None;
     }
     let load = store[CELL_NUMBERS * c + 1];
-    if load < -2147483648 {
-        return Number::Not;
-    }
-    if load > 2147483647 {
-        return Number::Not;
-    }
-    Number::Is(load as i32)
+    i32::try_from(load).ok()
 }
 
 // Whether cell c is a whole number's.
@@ -78,8 +65,5 @@ pub fn takes_wholes(store: &[i64], c: usize) -> bool
     ensures { result ≡ true → TakesWholes (cell_at store.now c) }
 {
     let kind = store[CELL_NUMBERS * c];
-    if kind == WHOLE {
-        return true;
-    }
-    kind == UNSET_WHOLE
+    kind == WHOLE || kind == UNSET_WHOLE
 }

@@ -45,13 +45,6 @@ pub enum Typed {
     Not,
 }
 
-// A whole number, or something else.
-#[derive(Clone, Copy)]
-pub enum Number {
-    Is(i32),
-    Not,
-}
-
 // What a value has become on its way: a value, a fault and its place, or that it is of another type than is taken there.
 #[derive(Clone, Copy)]
 pub enum Turned {
@@ -114,20 +107,6 @@ pub enum Outcome {
     Ends,
     Faults(Answer, usize),
     Strays(u32),
-}
-
-// What an instruction on whole numbers alone came to: the next counter and how many cells are in use; or it is no such one, and nothing was done.
-#[derive(Clone, Copy)]
-pub enum Swift {
-    Goes(u32, usize),
-    Not,
-}
-
-// What an instruction of control came to, or that it is another one.
-#[derive(Clone, Copy)]
-pub enum Moved {
-    Is(Outcome),
-    Not,
 }
 
 // What a run answers.

@@ -13,8 +13,8 @@ use crate::cells::is_plain;
 use crate::control::stray;
 use crate::operands::{FOUND_OFFSET, high, low, mid};
 use crate::{
-    Counts, Did, Moved, Outcome, Ran, Swift, Typed, Way, activations, blocks, bounds, codes,
-    control, loops, operations, ports, quick, values,
+    Counts, Did, Outcome, Ran, Typed, Way, activations, blocks, bounds, codes, control, loops,
+    operations, ports, quick, values,
 };
 use answers::{Address, Refusal, Stop};
 use reals::words::number;
@@ -267,10 +267,7 @@ fn lacks(own: &Memory, live: usize, n: Counts, k: usize) -> bool
     requires { (live ≤ most_live) × (k ≤ 2) }
     ensures { (s i o : List ℤ) → not result ≡ leb (floor (frames_of own.now live) + k) (cells_in (data_of n (own_of own.now live) s i o)) }
 {
-    if first_cell(own, live) + k > n.cells {
-        return true;
-    }
-    false
+    first_cell(own, live) + k > n.cells
 }
 
 // A result cell of the type in the operand.
@@ -477,21 +474,21 @@ fn moves(
     v: u32,
     store: &[i64],
     own: &mut Memory,
-) -> Moved
+) -> Option<Outcome>
     requires { Sound n store.now × Lives own.old live × (at < most_instructions) }
     ensures on_moved { OnMoved (λ x. (i o : List ℤ) → seen_o x store.now own.new i o ≡ stepped (trace_of n o) (obeyOf (decode k q v) at (positions_of own.old live) (frames_of own.old live) (data_of n (own_of own.old live) store.now i o))) (own.new ≡ own.old) result }
     ensures on_moved_2 { OnMoved (λ x. (o : List ℤ) → n.written ≤ length o → SoundG x store.now own.new o o) (Apart k) result }
 {
     match k {
-        codes::CALL_NEEDED => Moved::Is(control::call(at, live, n, own, q, v, activations::KEPT)),
-        codes::CALL => Moved::Is(control::call(at, live, n, own, q, v, activations::GONE)),
-        codes::RETURN => Moved::Is(control::leave(at, live, n, own, store, q, v)),
-        codes::GO => Moved::Is(control::go(at, live, n, own, v)),
-        codes::NEXT => Moved::Is(control::next(at, live, n, own, v)),
-        codes::UNLESS => Moved::Is(unless(at, live, n, v, store, own)),
-        codes::LEND => Moved::Is(lend(at, live, n, v, store, own)),
-        codes::WORK..=codes::PASS => Moved::Is(control::seek(at, live, n, own, store, k, q, v)),
-        _ => Moved::Not,
+        codes::CALL_NEEDED => Some(control::call(at, live, n, own, q, v, activations::KEPT)),
+        codes::CALL => Some(control::call(at, live, n, own, q, v, activations::GONE)),
+        codes::RETURN => Some(control::leave(at, live, n, own, store, q, v)),
+        codes::GO => Some(control::go(at, live, n, own, v)),
+        codes::NEXT => Some(control::next(at, live, n, own, v)),
+        codes::UNLESS => Some(unless(at, live, n, v, store, own)),
+        codes::LEND => Some(lend(at, live, n, v, store, own)),
+        codes::WORK..=codes::PASS => Some(control::seek(at, live, n, own, store, k, q, v)),
+        _ => None,
     }
 }
 
@@ -555,8 +552,8 @@ fn obey_any(
     ensures sound_g { SoundG result store.new own.new output.old output.new }
 {
     match moves(at, live, n, k, q, v, store, own) {
-        Moved::Is(x) => x,
-        Moved::Not => other(at, live, n, k, q, v, input, store, output, own),
+        Some(x) => x,
+        None => other(at, live, n, k, q, v, input, store, output, own),
     }
 }
 
@@ -578,11 +575,11 @@ fn obey(
     ensures sound_g { SoundG result store.new own.new output.old output.new }
 {
     match quick::obey(at, live, n, k, v, store, own) {
-        Swift::Goes(a, c) => {
+        Some((a, c)) => {
             n.cells = c;
             Outcome::Goes(a, live, n)
         }
-        Swift::Not => obey_any(at, live, n, k, q, v, input, store, output, own),
+        None => obey_any(at, live, n, k, q, v, input, store, output, own),
     }
 }
 
@@ -653,8 +650,7 @@ fn drive(
         taken: 0,
         written: 0,
     };
-    let mut done: u64 = 0;
-    while done < limit {
+    for done in 0..limit {
         match step(at, live, n, code, input, store, output, own) {
             Outcome::Goes(a, l, m) => {
                 at = a;
@@ -665,23 +661,11 @@ fn drive(
             Outcome::Faults(a, q) => return ended(Stop::Fault(Refusal::new(a, q)), done + 1, n),
             Outcome::Strays(c) => return ended(Stop::Wrong(Address { at: c }), done + 1, n),
         }
-        done += 1;
     }
-    ended(Stop::Limit, done, n)
+    ended(Stop::Limit, limit, n)
 }
 
-// Every number becomes zero.
-fn clear(store: &mut [i64])
-    ensures { store.new ≡ replicate (length store.old) (pos 0) }
-{
-    let mut i = 0;
-    while i < store.len() {
-        store[i] = 0;
-        i += 1;
-    }
-}
-
-// The run on what it may use, with the machine's own memory.
+// The run on what it may use, with the machine's own memory. Every number of the store becomes zero.
 fn used(code: &[u32], input: &[i32], limit: u64, store: &mut [i64], output: &mut [i32]) -> Ran
     requires { (length code.now ≤ most_words) × (room_of store.old ≤ most_cells) }
     ensures drove { Drove result output.old output.new (machine_of code.now input.now limit (room_of store.old) (length output.old)) }
@@ -689,23 +673,16 @@ fn used(code: &[u32], input: &[i32], limit: u64, store: &mut [i64], output: &mut
 {
     let mut own = [0u32; MEMORY];
     let ran = drive(code, input, limit, store, output, &mut own);
-    clear(store);
+    store.fill(0);
     ran
-}
-
-// The least of a length and a bound.
-fn at_most(n: usize, most: usize) -> usize
-    ensures { result ≡ min most n }
-{
-    if n < most { n } else { most }
 }
 
 // Any words, any lengths, any limit.
 pub fn run(code: &[u32], input: &[i32], limit: u64, store: &mut [i64], output: &mut [i32]) -> Ran
     ensures { exit result store.new output.new ≡ job code.now input.now limit store.old output.old }
 {
-    let words = at_most(code.len(), bounds::WORDS);
-    let cells = at_most(store.len() / bounds::CELL_NUMBERS, bounds::CELLS);
+    let words = bounds::WORDS.min(code.len());
+    let cells = bounds::CELLS.min(store.len() / bounds::CELL_NUMBERS);
     let numbers = bounds::CELL_NUMBERS * cells;
     used(&code[..words], input, limit, &mut store[..numbers], output)
 }

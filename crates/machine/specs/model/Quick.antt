@@ -1,17 +1,13 @@
 -- The quick way of an instruction that uses whole numbers alone: a model that the contracts of the inner functions need, and no part of what `run`
 -- promises.
-use Rattle.std.specs.Prelude.{ℕ, ◌<◌, ◌≡◌, List, [], ◌∷◌, ℤ}
-use Rattle.std.proofs.Math.Option.{Option}
+use Rattle.std.specs.Prelude.{ℕ, ◌<◌, ◌≡◌, List, [], ◌∷◌, ℤ, Option, Some, None}
+use Rattle.std.proofs.Math.Option.{Option as Maybe}
 use Rattle.reals.specs.declared.Form.TheVariants.{Wholes}
 use Rattle.reals.specs.declared.Value.TheVariants.{Whole}
 use Rattle.reals.specs.declared.Cell.{Cell}
 use Rattle.reals.specs.declared.Cell.TheVariants.{Unset, Holds, Named}
 use Rattle.reals.specs.Values.{form_of}
 use Rattle.machine.specs.declared.Counts.{Counts}
-use Rattle.machine.specs.declared.Number.{Number}
-use Rattle.machine.specs.declared.Number.TheVariants.{Is, Not as NoNumber}
-use Rattle.machine.specs.declared.Swift.{Swift}
-use Rattle.machine.specs.declared.Swift.TheVariants.{Goes, Not}
 use Rattle.machine.specs.Data.{Link, link, Target, to, Data, new_cells, Act, act_on, downs, work}
 use Rattle.machine.specs.Instructions.{Location, Instruction, variable}
 use Rattle.machine.specs.Machine.{base, target_in, obey}
@@ -20,9 +16,9 @@ use Rattle.machine.specs.model.Holding.{data_of, trace_of, positions_of, frames_
 -- ---- cells
 
 -- the whole number that a cell holds, where one is told
-abbrev pub NumberIn : Number → Cell → Type 0
-NumberIn (Is z) x = x ≡ Holds (Whole z)
-NumberIn NoNumber x = Unit {0}
+abbrev pub NumberIn : Option ℤ → Cell → Type 0
+NumberIn (Some z) x = x ≡ Holds (Whole z)
+NumberIn None x = Unit {0}
 
 -- a whole number's cell
 abbrev pub TakesWholes : Cell → Type 0
@@ -58,8 +54,8 @@ abbrev pub cut : ℕ → Counts → Counts
 cut c n = record { cells = c; held = n.held; taken = n.taken; written = n.written }
 
 -- the instruction f, whatever its place, was obeyed; or nothing was done
-abbrev pub Quickly : (ℕ → Option Instruction) → ℕ → ℕ → Counts → Swift → List ℤ → List ℤ → List ℕ → Type 0
-Quickly f at a n (Goes pc c) s s' l =
+abbrev pub Quickly : (ℕ → Maybe Instruction) → ℕ → ℕ → Counts → Option (ℕ × ℕ) → List ℤ → List ℤ → List ℕ → Type 0
+Quickly f at a n (Some (pc, c)) s s' l =
     ((q : ℕ) (i o : List ℤ) → goes (mach_of pc a (cut c n) s' l i o) (trace_of n o) ≡ stepped (trace_of n o) (obey (f q) at (positions_of l a) (frames_of l a) (data_of n (own_of l a) s i o)))
     × Sound (cut c n) s'
-Quickly f at a n Not s s' l = s' ≡ s
+Quickly f at a n None s s' l = s' ≡ s

@@ -12,24 +12,24 @@ use Rattle.machine.proofs.blocks.unassign.Goals as goal
 
 pub loop-i-init : goal.loop-i-init
 unfolding unassigned
-loop-i-init c = (omega arith, refl, refl, refl)
+loop-i-init c = (refl, refl, refl)
 
 pub overflow_add-c : goal.overflow_add-c
 unfolding room_of
 overflow_add-c c = omega arith
 
 pub put_cell-requires : goal.put_cell-requires
-put_cell-requires c = omega (arith, c.loop-i.invariant.2, c.requires)
+put_cell-requires c = omega (arith, c.loop-i.invariant.1, c.requires)
 
 pub loop-i-preserved : goal.loop-i-preserved
 loop-i-preserved c =
     let s = c.args.store.now in
     let t = c.args.form in
-    let e = c.put_cell.ensures ∙ ap (λ (z : List ℤ). put_at z (c.args.c + c.loop-i.i) (Unset t)) c.loop-i.invariant.1 ∙ unassigned_more t s c.args.c c.loop-i.i in
-    (omega arith, e, ap room_of e ∙ room_unassigned t s c.args.c (c.loop-i.i + 1), ap (λ (z : List ℤ). length z) e ∙ length_unassigned t s c.args.c (c.loop-i.i + 1))
+    let e = c.put_cell.ensures ∙ ap (λ (z : List ℤ). put_at z (c.args.c + c.loop-i.i) (Unset t)) c.loop-i.invariant.0 ∙ unassigned_more t s c.args.c c.loop-i.i in
+    (e, ap room_of e ∙ room_unassigned t s c.args.c (c.loop-i.i + 1), ap (λ (z : List ℤ). length z) e ∙ length_unassigned t s c.args.c (c.loop-i.i + 1))
 
 pub shape_of-store : goal.shape_of-store
-shape_of-store c = c.loop-i.invariant.3
+shape_of-store c = c.loop-i.invariant.2
 
 pub returns : goal.returns
-returns c = let e : c.loop-i.i ≡ c.args.k = omega (arith, c.loop-i.invariant.0, c.loop-i-test.false) in c.loop-i.invariant.1 ∙ ap (unassigned c.args.form c.args.store.now c.args.c) e
+returns c = let e : c.loop-i.i ≡ c.args.k = omega (arith, c.loop-i.auto.i-end, c.loop-i-test.false) in c.loop-i.invariant.0 ∙ ap (unassigned c.args.form c.args.store.now c.args.c) e

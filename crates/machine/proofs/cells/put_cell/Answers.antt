@@ -10,9 +10,9 @@ use Rattle.reals.proofs.Signed.{read_back}
 use Rattle.machine.specs.model.Holding.{room_of, put_at}
 use Rattle.machine.proofs.cells.put_cell.Goals as goal
 
-pub overflow_mul-kind : goal.overflow_mul-kind
+pub overflow_mul-c : goal.overflow_mul-c
 unfolding room_of
-overflow_mul-kind c = omega arith
+overflow_mul-c c = omega arith
 
 pub offset_bounds-store-c : goal.offset_bounds-store-c
 unfolding room_of
@@ -22,13 +22,13 @@ pub bounds-store-c : goal.bounds-store-c
 unfolding room_of
 bounds-store-c c = omega arith
 
-pub overflow_mul-load : goal.overflow_mul-load
+pub overflow_mul-c-2 : goal.overflow_mul-c-2
 unfolding room_of
-overflow_mul-load c = omega arith
+overflow_mul-c-2 c = omega arith
 
-pub overflow_add-load : goal.overflow_add-load
+pub overflow_add-c : goal.overflow_add-c
 unfolding room_of
-overflow_add-load c = omega arith
+overflow_add-c c = omega arith
 
 pub offset_bounds-store-c-2 : goal.offset_bounds-store-c-2
 unfolding room_of

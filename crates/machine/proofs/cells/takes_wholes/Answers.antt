@@ -20,5 +20,5 @@ bounds-store-c c = omega arith
 pub returns-then-kind-eq-WHOLE : goal.returns-then-kind-eq-WHOLE
 returns-then-kind-eq-WHOLE c = λ e. takes_held c.args.store.now c.args.c c.if-kind-eq-WHOLE.true
 
-pub returns : goal.returns
-returns c = λ e. takes_unset c.args.store.now c.args.c (eqb-true _ 0 e)
+pub returns-else-kind-eq-WHOLE : goal.returns-else-kind-eq-WHOLE
+returns-else-kind-eq-WHOLE c = λ e. takes_unset c.args.store.now c.args.c (eqb-true _ 0 e)

@@ -1,5 +1,5 @@
 -- One line for each instruction.
-use Rattle.machine.specs.declared.Swift.TheVariants.{Goes}
+use Rattle.std.specs.Prelude.{Some}
 use Rattle.machine.specs.Instructions.{low}
 use Rattle.machine.proofs.Decode.{code_2, code_11, code_12, code_13, code_14, code_16, code_21, code_25, code_26, code_27, code_28, code_29, code_30, code_31, code_32, code_33, code_34, code_as, code_logical}
 use Rattle.machine.proofs.Numbers.{quick_as, jump_quick}
@@ -8,7 +8,7 @@ use Rattle.machine.proofs.quick.obey.Goals as goal
 pub returns-in-2 : goal.returns-in-2
 returns-in-2 c =
     let args = c.args in
-    rw c.low.ensures (quick_as args.at args.live args.n args.store.now args.store.now args.own.now (Goes (low args.v) args.n.cells) (λ q. code_2 args.k q args.v c.in-2.is) (jump_quick args.at args.live args.n args.store.now args.own.now c.requires.0 args.v))
+    rw c.low.ensures (quick_as args.at args.live args.n args.store.now args.store.now args.own.now (Some (low args.v, args.n.cells)) (λ q. code_2 args.k q args.v c.in-2.is) (jump_quick args.at args.live args.n args.store.now args.own.now c.requires.0 args.v))
 
 pub returns-in-13 : goal.returns-in-13
 returns-in-13 c =

@@ -4,7 +4,7 @@ use Rattle.machine.proofs.Works.{yes_true}
 use mathlib.Core.Path.{refl}
 use Rattle.machine.proofs.quick.save.Goals as goal
 
-pub returns-else-not-takes_wholes : goal.returns-else-not-takes_wholes
-returns-else-not-takes_wholes c =
+pub returns : goal.returns
+returns c =
     let args = c.args in
-    save_quick args.at args.live args.n args.store.now args.own.now c.requires.0 args.v c.cell_of-c.ensures.spots c.if-c-m.false c.in-Is.is c.whole_at.ensures (c.takes_wholes.ensures (yes_true refl c.if-not-takes_wholes.false-raw)) c.put_cell.ensures
+    save_quick args.at args.live args.n args.store.now args.own.now c.requires.0 args.v c.cell_of-c.ensures.spots c.if-c-m.false c.in_ok-z.was c.whole_at.ensures (c.takes_wholes.ensures (yes_true refl c.if-not-takes_wholes.false-raw)) c.put_cell.ensures

@@ -1,7 +1,7 @@
 -- What is left of the run is the whole of it.
 use mathlib.Core.Path.{refl, ◌∙◌}
 use native.Mathlib.Omega.{arith}
-use Rattle.machine.proofs.Limits.{driving_start, driving_on, driven_stop, driven_over}
+use Rattle.machine.proofs.Limits.{driving_start, driving_on, driven_stop, driven_limit}
 use Rattle.machine.proofs.steps.drive.Goals as goal
 
 pub loop-done-init : goal.loop-done-init
@@ -48,12 +48,6 @@ shape_of-output-in-Strays c = c.step.auto.output ∙ c.loop-done.invariant.long_
 pub returns-in-Strays : goal.returns-in-Strays
 returns-in-Strays c = rw c.ended-in-Strays.ensures (driven_stop c.loop-done.invariant c.loop-done-test.true c.step.new.store c.step.new.output c.step.new.own c.step.ensures.output_after c.step.ensures.sound_g c.in-Strays.is refl (λ k. k))
 
-pub overflow_add-done-in-loop-done : goal.overflow_add-done-in-loop-done
-overflow_add-done-in-loop-done c = omega (arith, c.loop-done-test.true)
-
-pub loop-done-smaller : goal.loop-done-smaller
-loop-done-smaller c = omega (arith, c.loop-done-test.true)
-
 pub loop-done-preserved : goal.loop-done-preserved
 loop-done-preserved c = driving_on c.loop-done.invariant c.loop-done-test.true c.step.new.store c.step.new.output c.step.new.own c.step.ensures.output_after c.step.ensures.sound_g c.in-Goes.is c.step.auto.store c.step.auto.output
 
@@ -64,4 +58,4 @@ pub shape_of-output : goal.shape_of-output
 shape_of-output c = c.loop-done.invariant.long_output
 
 pub returns : goal.returns
-returns c = rw c.ended-2.ensures (driven_over c.loop-done.invariant c.loop-done-test.false)
+returns c = rw c.ended-2.ensures (driven_limit c.loop-done.invariant c.loop-done-test.false)

@@ -5,18 +5,18 @@ use Rattle.machine.proofs.Limits.{taken_length, taken_most, store_length, store_
 use Rattle.machine.proofs.steps.run.Goals as goal
 
 pub overflow_mul-numbers : goal.overflow_mul-numbers
-overflow_mul-numbers c = omega (arith, c.at_most-cells.ensures)
+overflow_mul-numbers c = omega (arith, c.min-cells.ensures)
 
 pub slice_bounds-used-end : goal.slice_bounds-used-end
-slice_bounds-used-end c = taken_length 16384 c.args.code.now c.at_most-words.ensures
+slice_bounds-used-end c = taken_length 16384 c.args.code.now c.min-words.ensures
 
 pub slice_bounds-used-end-3 : goal.slice_bounds-used-end-3
-slice_bounds-used-end-3 c = store_length c.args.store.now c.at_most-cells.ensures refl
+slice_bounds-used-end-3 c = store_length c.args.store.now c.min-cells.ensures refl
 
 pub used-requires : goal.used-requires
-used-requires c = (taken_most 16384 c.args.code.now c.at_most-words.ensures, store_most c.args.store.now c.at_most-cells.ensures refl)
+used-requires c = (taken_most 16384 c.args.code.now c.min-words.ensures, store_most c.args.store.now c.min-cells.ensures refl)
 
 pub returns : goal.returns
 returns c =
     let args = c.args in
-    run_exit args.code.now args.input.now args.limit args.store.now args.output.now c.at_most-words.ensures c.at_most-cells.ensures refl c.used.ensures.drove c.used.ensures.store_after
+    run_exit args.code.now args.input.now args.limit args.store.now args.output.now c.min-words.ensures c.min-cells.ensures refl c.used.ensures.drove c.used.ensures.store_after

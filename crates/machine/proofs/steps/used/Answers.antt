@@ -10,4 +10,4 @@ pub drive-ran-requires : goal.drive-ran-requires
 drive-ran-requires c = (c.requires.0, c.requires.1, first_lives, first_positions, first_found)
 
 pub returns : goal.returns
-returns c = record { drove = c.drive-ran.ensures; store_after = c.clear.ensures ∙ ap (λ (k : ℕ). replicate k (pos 0)) c.drive-ran.auto.store }
+returns c = record { drove = c.drive-ran.ensures; store_after = c.fill.ensures.after (λ y h. h) ∙ ap (λ (k : ℕ). replicate k (pos 0)) c.drive-ran.auto.store }
