@@ -12,6 +12,7 @@ use Rattle.grammar.specs.NodeKinds.{n_block, n_statements, n_variable, n_procedu
 use Rattle.names.specs.model.Rows.{is_use}
 use Rattle.emitting.specs.model.Layout.{packed}
 use Rattle.emitting.specs.model.Emission.{Used, State, Opened, put, with_open, with_slot, noted, within, with_lefts, with_variable, with_uses, with_cell, with_entry, top, below, pushed, popped, replaced, nameless, bare, on_cell, formal_at, form_at, kind_next, means_next, others_next, signed, largest, ahead_at, cell_of, result_of, called_with, result_for, dropped, named, word_of, named_or, lending, name_begun, name_ended, given_turned, taken_in, call_ended, repeated, begun, calling, actual_in, use_node, element, bodied, tested, added, step_begun, step_held, step_again, turning, stepping, amount, element_node, loop_node, widened, otherwise, joined, choice_node, opening, block_node, skipped, proceeding, procedure_node, lefts_of, assigned, plain_node, is_element, is_choice, is_block, code_node}
+use Rattle.emitting.specs.declared.Thing.{Thing}
 use Rattle.emitting.specs.declared.Writing.{Writing}
 use Rattle.emitting.specs.model.Arrays.{things_of, see, Slim, AllSlim, Small, Fit}
 use Rattle.emitting.proofs.Stacked.{length_things}
@@ -598,7 +599,7 @@ module _ (vs ly ks es : List ℕ) {b n : ℕ} (st : State) (h : Small b n st) wh
 -- ---- of the code's numbers
 
 -- the arrays besides do not matter
-pub small_alone : {b n : ℕ} (t : Writing) (us : List Used) (op co ah en : List ℕ) → Small b n (see t us op co ah en) → Small b n (see t [] op [] [] [])
+pub small_alone : {b n : ℕ} (t : Writing) (us : List Used) (op : List Thing) (co ah en : List ℕ) → Small b n (see t us op co ah en) → Small b n (see t [] op [] [] [])
 small_alone t us op co ah en h =
     record {
       at = h.at;
@@ -612,7 +613,7 @@ small_alone t us op co ah en h =
       things = h.things;
     }
 
-pub fit : (t : Writing) (op : List ℕ) → Small 262143 8191 (see t [] op [] [] []) → Fit t
+pub fit : (t : Writing) (op : List Thing) → Small 262143 8191 (see t [] op [] [] []) → Fit t
 fit t op h =
     let a = h.at in
     let c = h.slots in
@@ -625,5 +626,5 @@ fit t op h =
     record { at = omega arith; slots = omega arith; level = omega arith; loops = omega arith; cells = omega arith; declared = omega arith; variable = h.variable; open_ones = omega arith }
 
 -- a left part's place
-pub left_third : (b m n : ℕ) (op : List ℕ) → AllSlim b (things_of m op) → (top (things_of (m - n) op)).third ≤ b
+pub left_third : (b m n : ℕ) (op : List Thing) → AllSlim b (things_of m op) → (top (things_of (m - n) op)).third ≤ b
 left_third b m n op h = (slim_top b (things_of (m - n) op) (subst (AllSlim b) (behind_things [] [] [] [] n m op) (slim_behind [] [] [] [] b n (things_of m op) h))).third

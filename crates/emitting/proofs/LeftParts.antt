@@ -10,6 +10,7 @@ use borrow.Author.Tests.{ne_eqb}
 use lib.ListN.{length}
 use Rattle.emitting.specs.model.Emission.{State, Opened, put, on_cell, top, below, stored, lefts_of, behind_lefts}
 use Rattle.machine.specs.Instructions.{low}
+use Rattle.emitting.specs.declared.Thing.{Thing}
 use Rattle.emitting.specs.model.Arrays.{things_of, AllSlim}
 use Rattle.emitting.proofs.Stacked.{things_below}
 
@@ -51,7 +52,7 @@ fewer_below n [] h = h
 fewer_below n (f ∷ l) h = omega arith
 
 module _ (vs ly ks es : List ℕ) where
-  pub behind_things : (n m : ℕ) (s : List ℕ) → behind_lefts vs ly ks es n (things_of m s) ≡ things_of (m - n) s
+  pub behind_things : (n m : ℕ) (s : List Thing) → behind_lefts vs ly ks es n (things_of m s) ≡ things_of (m - n) s
   unfolding behind_lefts
   behind_things zero m s = let e : m - 0 ≡ m = omega arith in rw e
   behind_things (suc n) m s =
@@ -83,7 +84,7 @@ module _ (vs ly ks es : List ℕ) where
   stored_on zero l st = refl
   stored_on (suc n) l st = let d : suc n ≡ 0 → ⊥ = λ e. omega arith in rw (add-one, ne_eqb (suc n) 0 d) (stored_more n l st)
 
-  pub stored_step : (n m : ℕ) (op : List ℕ) (st : State) → 0 < n
+  pub stored_step : (n m : ℕ) (op : List Thing) (st : State) → 0 < n
       → stored vs ly ks es (lefts_of vs ly ks es n (things_of m op) []) st ≡ stored vs ly ks es (lefts_of vs ly ks es (n - 1) (things_of m op) []) (on_cell (cond (eqb (n - 1) 0) 14 15) (top (things_of (m - (n - 1)) op)).third (top (things_of (m - (n - 1)) op)).third (top (things_of (m - (n - 1)) op)).second st)
   stored_step n m op st h =
       let e : n ≡ n - 1 + 1 = omega arith in

@@ -3,7 +3,7 @@ ghost use Rattle.std.specs.Prelude.{◌≡◌, cond, ◌&&◌, List, ℕ, ◌+�
 ghost use Rattle.emitting.specs.model.Emission.{Used, put, with_variable, replaced, ahead_at, lending, name_begun, name_ended, given_turned, begun, actual_in};
 ghost use Rattle.emitting.specs.model.Arrays.{seen, see, Alike, Slim, Fit};
 
-use crate::{Thing, Writing, cells, codes, parts, putting, uses};
+use crate::{Known, Thing, Writing, cells, codes, parts, putting, uses};
 use answers::{Address, Place};
 
 // The place in a slot, of 16 bits.
@@ -19,7 +19,7 @@ fn place_ahead(ahead: &[u32], slot: usize) -> Place
 // Where its code begins: the cell that holds it, and the part that a store goes to, for a formal of the type `form`.
 fn opening(t: Writing, form: usize, ahead: &[u32], code: &mut [u32]) -> Writing
     requires { (t.here.at < 1048000) × (t.slots < 1048576) × (form < 3) }
-    ensures by_index { (vs ly es : List ℕ) (us : List Used) (op ah en : List ℕ) → see result us op code.new ah en ≡ put 7 (ahead_at vs ly ahead.now es (t.slots + 1) % 65536) form (lending vs ly ahead.now es (ahead_at vs ly ahead.now es (t.slots + 2)) (ahead_at vs ly ahead.now es (t.slots + 1) % 65536) (put 39 (ahead_at vs ly ahead.now es (t.slots + 1) % 65536) (ahead_at vs ly ahead.now es t.slots) (see t us op code.old ah en))) }
+    ensures by_index { (vs ly es : List ℕ) (us : List Used) (op : List Thing) (ah en : List ℕ) → see result us op code.new ah en ≡ put 7 (ahead_at vs ly ahead.now es (t.slots + 1) % 65536) form (lending vs ly ahead.now es (ahead_at vs ly ahead.now es (t.slots + 2)) (ahead_at vs ly ahead.now es (t.slots + 1) % 65536) (put 39 (ahead_at vs ly ahead.now es (t.slots + 1) % 65536) (ahead_at vs ly ahead.now es t.slots) (see t us op code.old ah en))) }
     ensures alike { Alike t result × (result.open ≡ t.open) }
 {
     let slot = t.slots;
@@ -38,7 +38,7 @@ fn name_begun(
     d: usize,
     form: usize,
     ahead: &[u32],
-    things: &mut [usize; 32768],
+    things: &mut [Thing; 8192],
     code: &mut [u32],
 ) -> Writing
     requires { (t.here.at < 1048000) × (t.slots < 1048000) × (t.level < 1048000) × (t.open ≤ 8192) × (form < 3) }
@@ -60,10 +60,10 @@ fn name_ended(
     code: &mut [u32],
 ) -> Writing
     requires { Fit t × Slim 262143 (seen c) × (place.at < 65536) × (form < 3) }
-    ensures en_after { (vs ly ks es : List ℕ) (us : List Used) (op en : List ℕ) → see result us op code.new next_ahead.new en ≡ name_ended vs ly ks es (seen c) place.at form (see t us op code.old next_ahead.old en) }
+    ensures en_after { (vs ly ks es : List ℕ) (us : List Used) (op : List Thing) (en : List ℕ) → see result us op code.new next_ahead.new en ≡ name_ended vs ly ks es (seen c) place.at form (see t us op code.old next_ahead.old en) }
     ensures at_value { (result.here.at ≡ t.here.at + 2) × (result.slots ≡ t.slots) × (result.level ≤ t.level) × (result.open ≡ t.open) }
 {
-    let slot = parts::less(c.first, 4);
+    let slot = c.first.saturating_sub(4);
     let behind = Address {
         at: t.here.at + 1 + 1,
     };
@@ -72,7 +72,7 @@ fn name_ended(
     parts::set_word(next_ahead, slot, parts::going_to(behind));
     let turned = putting::put(t, code, codes::AS, place, form);
     let mut r = putting::put(turned, code, codes::RETURN, codes::NOWHERE, 0);
-    r.level = parts::less(t.level, 1);
+    r.level = t.level.saturating_sub(1);
     r
 }
 
@@ -82,32 +82,25 @@ pub fn begun(
     m: usize,
     j: usize,
     d: usize,
-    rows: &[u16],
-    ahead: &[u32],
-    things: &mut [usize; 32768],
+    known: &Known,
+    things: &mut [Thing; 8192],
     code: &mut [u32],
 ) -> Writing
     requires { (t.here.at < 1048000) × (t.slots < 1048000) × (t.level < 1048000) × (t.open ≤ 8192) × (m < 4294967296) × (j < 1048576) }
-    ensures { (vs ly es : List ℕ) (us : List Used) (ah en : List ℕ) → see result us things.new code.new ah en ≡ begun vs ly ahead.now es rows.now m j d (see t us things.old code.old ah en) }
+    ensures { (vs ly es : List ℕ) (us : List Used) (ah en : List ℕ) → see result us things.new code.new ah en ≡ begun vs ly known.now.ahead.now es known.now.rows.now m j d (see t us things.old code.old ah en) }
 {
-    if uses::formal_at(rows, m + 1 + j) == 2 {
-        let form = uses::form_at(rows, m + 1 + j);
-        return name_begun(t, m, j, d, form, ahead, things, code);
+    if uses::is_by_name(known.rows, m + 1 + j) {
+        let form = uses::form_at(known.rows, m + 1 + j);
+        return name_begun(t, m, j, d, form, known.ahead, things, code);
     }
     t
 }
 
-// 1 where the next actual of the environment's is one that a number is taken to: the second one of ininteger.
-fn awaited(c: Thing) -> usize
-    ensures { result ≡ cond (eqb c.second 2 && eqb c.third 0) 1 0 }
+// Whether the next actual of the environment's is one that a number is taken to: the second one of ininteger.
+fn awaited(c: Thing) -> bool
+    ensures { result ≡ (eqb c.second 2 && eqb c.third 0) }
 {
-    if c.second == 2 {
-        if c.third == 0 {
-            return 1;
-        }
-        return 0;
-    }
-    0
+    c.second == 2 && c.third == 0
 }
 
 // The type that a value becomes which is an actual of the environment's: a real as the second one of outreal.
@@ -121,7 +114,7 @@ fn given_form(c: Thing) -> usize
 // It becomes one, but that the second one of ininteger is no value.
 fn given_turned(t: Writing, c: Thing, place: Place, code: &mut [u32]) -> Writing
     requires { Fit t × (place.at < 65536) }
-    ensures en_after { (vs ly ks es : List ℕ) (us : List Used) (op ah en : List ℕ) → see result us op code.new ah en ≡ given_turned vs ly ks es (seen c) place.at (see t us op code.old ah en) }
+    ensures en_after { (vs ly ks es : List ℕ) (us : List Used) (op : List Thing) (ah en : List ℕ) → see result us op code.new ah en ≡ given_turned vs ly ks es (seen c) place.at (see t us op code.old ah en) }
     ensures alike { Alike t result × (result.open ≡ t.open) }
 {
     if c.third == 1 {
@@ -138,7 +131,7 @@ fn given_in(
     t: Writing,
     c: Thing,
     place: Place,
-    things: &mut [usize; 32768],
+    things: &mut [Thing; 8192],
     code: &mut [u32],
 ) -> Writing
     requires { Fit t × Slim 262143 (seen c) × (place.at < 65536) }
@@ -161,7 +154,7 @@ fn ended(
     code: &mut [u32],
 ) -> Writing
     requires { Fit t × Slim 262143 (seen c) × (place.at < 65536) × (form < 3) }
-    ensures en_after { (vs ly ks es : List ℕ) (us : List Used) (op en : List ℕ) → see result us op code.new next_ahead.new en ≡ cond (ltb c.first 4) (put 50 place.at form (see t us op code.old next_ahead.old en)) (name_ended vs ly ks es (seen c) place.at form (see t us op code.old next_ahead.old en)) }
+    ensures en_after { (vs ly ks es : List ℕ) (us : List Used) (op : List Thing) (en : List ℕ) → see result us op code.new next_ahead.new en ≡ cond (ltb c.first 4) (put 50 place.at form (see t us op code.old next_ahead.old en)) (name_ended vs ly ks es (seen c) place.at form (see t us op code.old next_ahead.old en)) }
     ensures at_bound { (result.here.at ≤ t.here.at + 2) × (result.slots ≡ t.slots) × (result.level ≤ t.level) × (result.open ≡ t.open) }
 {
     if c.first < 4 {
@@ -175,21 +168,20 @@ pub fn actual_in(
     t: Writing,
     c: Thing,
     place: Place,
-    rows: &[u16],
-    ahead: &[u32],
-    things: &mut [usize; 32768],
+    known: &Known,
+    things: &mut [Thing; 8192],
     next_ahead: &mut [u32],
     code: &mut [u32],
 ) -> Writing
     requires { Fit t × Slim 262143 (seen c) × (place.at < 65536) }
-    ensures { (vs ly es : List ℕ) (us : List Used) (en : List ℕ) → see result us things.new code.new next_ahead.new en ≡ actual_in vs ly ahead.now es rows.now (seen c) place.at (see t us things.old code.old next_ahead.old en) }
+    ensures { (vs ly es : List ℕ) (us : List Used) (en : List ℕ) → see result us things.new code.new next_ahead.new en ≡ actual_in vs ly known.now.ahead.now es known.now.rows.now (seen c) place.at (see t us things.old code.old next_ahead.old en) }
 {
     if c.first == 0 {
         return given_in(t, c, place, things, code);
     }
-    let form = uses::form_at(rows, c.second + 1 + c.third);
+    let form = uses::form_at(known.rows, c.second + 1 + c.third);
     let j = c.third + 1;
     let e = ended(t, c, place, form, next_ahead, code);
     let r = putting::replace(e, things, 2, c.second, j, c.fourth);
-    begun(r, c.second, j, c.fourth, rows, ahead, things, code)
+    begun(r, c.second, j, c.fourth, known, things, code)
 }

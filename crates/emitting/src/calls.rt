@@ -3,8 +3,8 @@ ghost use Rattle.std.specs.Prelude.{◌≡◌, cond, List, ℕ, ◌+◌, ◌≤�
 ghost use Rattle.emitting.specs.model.Emission.{Used, uses_in, kind_next, means_next, others_next, with_uses, with_lefts, put, pushed, cell_of, result_of, called_with, result_for, dropped, named, word_of, named_or, calling, taken_in, call_ended, repeated, use_node};
 ghost use Rattle.emitting.specs.model.Arrays.{seen, see, Alike, Slim, Fit};
 
-use crate::{Thing, Writing, actuals, cells, codes, parts, putting, uses};
-use answers::{Declaration, Place};
+use crate::{Known, Named, Thing, Writing, actuals, cells, codes, parts, putting, uses};
+use answers::Place;
 use grammar::nodes;
 use machine::operands;
 
@@ -16,25 +16,29 @@ fn sought(k: usize) -> usize
 }
 
 // The word of a use of kind k that means a declaration; of a procedure that of its result.
-fn cell_of(level: usize, k: usize, d: Declaration, layout: &[u32]) -> usize
-    ensures by_index { (vs ks es : List ℕ) → result ≡ cell_of vs layout.now ks es level k d.number }
+fn cell_of(level: usize, name: Named, layout: &[u32]) -> usize
+    ensures by_index { (vs ks es : List ℕ) → result ≡ cell_of vs layout.now ks es level name.kind name.means }
     ensures upper_bound { result < 4294967296 }
 {
-    let w = parts::word_at(layout, d.number);
+    let w = parts::word_at(layout, name.means);
     let out = operands::high(w);
-    if k == 2 {
-        return operands::packed(parts::less(level, out + 1), 0, 1);
+    if name.kind == 2 {
+        return operands::packed(level.saturating_sub(out + 1), 0, 1);
     }
-    operands::packed(parts::less(level, out), operands::mid(w), sought(k))
+    operands::packed(
+        level.saturating_sub(out),
+        operands::mid(w),
+        sought(name.kind),
+    )
 }
 
 // 1 where it is a procedure with a result.
-fn result_of(k: usize, d: Declaration, layout: &[u32]) -> usize
-    ensures by_index { (vs ks es : List ℕ) → result ≡ result_of vs layout.now ks es k d.number }
+fn result_of(name: Named, layout: &[u32]) -> usize
+    ensures by_index { (vs ks es : List ℕ) → result ≡ result_of vs layout.now ks es name.kind name.means }
     ensures upper_bound { result < 8192 }
 {
-    if k == 2 {
-        return operands::mid(parts::word_at(layout, d.number));
+    if name.kind == 2 {
+        return operands::mid(parts::word_at(layout, name.means));
     }
     0
 }
@@ -42,39 +46,38 @@ fn result_of(k: usize, d: Declaration, layout: &[u32]) -> usize
 // A call of it with n actuals; u: 0 as a primary, 1 as a statement.
 fn called_with(
     t: Writing,
-    k: usize,
-    d: Declaration,
+    name: Named,
     n: usize,
     u: usize,
     place: Place,
-    layout: &[u32],
-    entries: &[u32],
+    known: &Known,
     code: &mut [u32],
 ) -> Writing
     requires { (t.here.at < 1048576) × (n < 1048576) × (u < 65536) × (place.at < 65536) }
-    ensures { (vs ks : List ℕ) (us : List Used) (op ah en : List ℕ) → see result us op code.new ah en ≡ called_with vs layout.now ks entries.now k d.number n u place.at (see t us op code.old ah en) }
+    ensures { (vs ks : List ℕ) (us : List Used) (op : List Thing) (ah en : List ℕ) → see result us op code.new ah en ≡ called_with vs known.now.layout.now ks known.now.entries.now name.kind name.means n u place.at (see t us op code.old ah en) }
 {
-    let out = parts::less(t.level, operands::high(parts::word_at(layout, d.number)));
-    let cells = result_of(k, d, layout) + n;
-    let v = parts::operand(out, cells, parts::entry_of(entries, d));
+    let around = operands::high(parts::word_at(known.layout, name.means));
+    let out = t.level.saturating_sub(around);
+    let cells = result_of(name, known.layout) + n;
+    let entry = parts::entry_of(known.entries, name.declaration());
+    let v = parts::operand(out, cells, entry);
     putting::put(t, code, codes::CALL_NEEDED + u, place, v)
 }
 
 // A result's cell, where there is a result; it is of the type `form`.
 fn result_for(
     t: Writing,
-    k: usize,
-    d: Declaration,
+    name: Named,
     place: Place,
     form: usize,
     layout: &[u32],
     code: &mut [u32],
 ) -> Writing
     requires { (t.here.at < 1048576) × (place.at < 65536) × (form < 3) }
-    ensures by_index { (vs ks es : List ℕ) (us : List Used) (op ah en : List ℕ) → see result us op code.new ah en ≡ result_for vs layout.now ks es k d.number place.at form (see t us op code.old ah en) }
+    ensures by_index { (vs ks es : List ℕ) (us : List Used) (op : List Thing) (ah en : List ℕ) → see result us op code.new ah en ≡ result_for vs layout.now ks es name.kind name.means place.at form (see t us op code.old ah en) }
     ensures alike { Alike t result × (result.here.at ≤ t.here.at + 1) × (result.open ≡ t.open) }
 {
-    if result_of(k, d, layout) == 0 {
+    if result_of(name, layout) == 0 {
         return t;
     }
     putting::put(t, code, codes::RESULT, place, form)
@@ -83,7 +86,7 @@ fn result_for(
 // What a statement does not need.
 fn dropped(t: Writing, u: usize, code: &mut [u32]) -> Writing
     requires { t.here.at < 1048576 }
-    ensures { (vs ly ks es : List ℕ) (us : List Used) (op ah en : List ℕ) → see result us op code.new ah en ≡ dropped vs ly ks es u (see t us op code.old ah en) }
+    ensures { (vs ly ks es : List ℕ) (us : List Used) (op : List Thing) (ah en : List ℕ) → see result us op code.new ah en ≡ dropped vs ly ks es u (see t us op code.old ah en) }
 {
     if u == 0 {
         return t;
@@ -102,67 +105,45 @@ fn reading(k: usize) -> usize
 // A name alone: a variable or formal, a procedure, maxint.
 fn named(
     t: Writing,
-    k: usize,
-    m: usize,
+    name: Named,
     u: usize,
     place: Place,
     form: usize,
-    layout: &[u32],
-    entries: &[u32],
+    known: &Known,
     code: &mut [u32],
 ) -> Writing
     requires { (t.here.at < 262144) × (u < 65536) × (place.at < 65536) × (form < 3) }
-    ensures { (vs ks : List ℕ) (us : List Used) (op ah en : List ℕ) → see result us op code.new ah en ≡ named vs layout.now ks entries.now k m u place.at form (see t us op code.old ah en) }
+    ensures { (vs ks : List ℕ) (us : List Used) (op : List Thing) (ah en : List ℕ) → see result us op code.new ah en ≡ named vs known.now.layout.now ks known.now.entries.now name.kind name.means u place.at form (see t us op code.old ah en) }
 {
-    if k == 0 {
-        return dropped(
-            putting::put(t, code, codes::CONST, place, 2147483647),
-            u,
-            code,
-        );
+    match name.kind {
+        0 => {
+            let r = putting::put(t, code, codes::CONST, place, 2147483647);
+            dropped(r, u, code)
+        }
+        2 => {
+            let r = result_for(t, name, place, form, known.layout, code);
+            called_with(r, name, 0, u, place, known, code)
+        }
+        _ => {
+            let v = cells::bare(cell_of(t.level, name, known.layout));
+            putting::put(t, code, reading(name.kind), place, v)
+        }
     }
-    if k == 2 {
-        let d = Declaration { number: m };
-        let r = result_for(t, k, d, place, form, layout, code);
-        return called_with(
-            r,
-            k,
-            Declaration { number: m },
-            0,
-            u,
-            place,
-            layout,
-            entries,
-            code,
-        );
-    }
-    let v = cells::bare(cell_of(t.level, k, Declaration { number: m }, layout));
-    putting::put(t, code, reading(k), place, v)
 }
 
 // The word that an actual has which is this name and nothing else, not even in parentheses: those are deeper, by d, than the
 // call that is open.
-fn word_of(
-    t: Writing,
-    k: usize,
-    m: usize,
-    d: usize,
-    layout: &[u32],
-    things: &[usize; 32768],
-) -> usize
+fn word_of(t: Writing, name: Named, d: usize, layout: &[u32], things: &[Thing; 8192]) -> usize
     requires { t.open ≤ 8192 }
-    ensures by_index { (vs ks es : List ℕ) (us : List Used) (co ah en : List ℕ) → result ≡ word_of vs layout.now ks es k m d (see t us things.now co ah en) }
+    ensures by_index { (vs ks es : List ℕ) (us : List Used) (co ah en : List ℕ) → result ≡ word_of vs layout.now ks es name.kind name.means d (see t us things.now co ah en) }
     ensures upper_bound { result < 4294967296 }
 {
-    if k == 0 {
-        return 0;
-    }
-    if k == 2 {
+    if name.kind == 0 || name.kind == 2 {
         return 0;
     }
     let c = putting::top(t, things);
     if d == c.fourth {
-        return cell_of(t.level, k, Declaration { number: m }, layout);
+        return cell_of(t.level, name, layout);
     }
     0
 }
@@ -170,61 +151,56 @@ fn word_of(
 // A name, d deep; the second actual of ininteger is stored to, not loaded.
 fn named_or(
     mut t: Writing,
-    k: usize,
-    m: usize,
+    name: Named,
     u: usize,
     place: Place,
     d: usize,
     form: usize,
-    layout: &[u32],
-    entries: &[u32],
-    things: &[usize; 32768],
+    known: &Known,
+    things: &[Thing; 8192],
     code: &mut [u32],
 ) -> Writing
     requires { (t.here.at < 262144) × (t.open ≤ 8192) × (u < 65536) × (place.at < 65536) × (form < 3) }
-    ensures { (vs ks : List ℕ) (us : List Used) (ah en : List ℕ) → see result us things.now code.new ah en ≡ named_or vs layout.now ks entries.now k m u place.at d form (see t us things.now code.old ah en) }
+    ensures { (vs ks : List ℕ) (us : List Used) (ah en : List ℕ) → see result us things.now code.new ah en ≡ named_or vs known.now.layout.now ks known.now.entries.now name.kind name.means u place.at d form (see t us things.now code.old ah en) }
 {
-    if t.awaits == 0 {
-        let w = word_of(t, k, m, d, layout, things);
-        let mut r = named(t, k, m, u, place, form, layout, entries, code);
-        r.awaits = 0;
-        r.variable = w;
-        return r;
+    if t.awaits {
+        t.awaits = false;
+        t.variable = cell_of(t.level, name, known.layout);
+        return t;
     }
-    t.awaits = 0;
-    t.variable = cell_of(t.level, k, Declaration { number: m }, layout);
-    t
+    let w = word_of(t, name, d, known.layout, things);
+    let mut r = named(t, name, u, place, form, known, code);
+    r.awaits = false;
+    r.variable = w;
+    r
 }
 
 // An open call, of a procedure with its actuals d deep.
 fn calling(
     t: Writing,
-    k: usize,
-    m: usize,
+    name: Named,
     place: Place,
     d: usize,
-    rows: &[u16],
-    layout: &[u32],
-    ahead: &[u32],
-    things: &mut [usize; 32768],
+    known: &Known,
+    things: &mut [Thing; 8192],
     code: &mut [u32],
 ) -> Writing
-    requires { (t.here.at < 262144) × (t.slots < 262144) × (t.level < 262144) × (t.open < 8192) × (m < 4294967296) × (place.at < 65536) × (d < 65536) }
-    ensures { (vs es : List ℕ) (us : List Used) (ah en : List ℕ) → see result us things.new code.new ah en ≡ calling vs layout.now ahead.now es rows.now k m place.at d (see t us things.old code.old ah en) }
+    requires { (t.here.at < 262144) × (t.slots < 262144) × (t.level < 262144) × (t.open < 8192) × (name.means < 4294967296) × (place.at < 65536) × (d < 65536) }
+    ensures { (vs es : List ℕ) (us : List Used) (ah en : List ℕ) → see result us things.new code.new ah en ≡ calling vs known.now.layout.now known.now.ahead.now es known.now.rows.now name.kind name.means place.at d (see t us things.old code.old ah en) }
 {
-    let form = uses::form_at(rows, m);
-    let r = result_for(t, k, Declaration { number: m }, place, form, layout, code);
-    if k == 2 {
-        let s = putting::push(r, things, 2, m, 0, d + 1);
-        return actuals::begun(s, m, 0, d + 1, rows, ahead, things, code);
+    let form = uses::form_at(known.rows, name.means);
+    let r = result_for(t, name, place, form, known.layout, code);
+    if name.kind == 2 {
+        let s = putting::push(r, things, 2, name.means, 0, d + 1);
+        return actuals::begun(s, name.means, 0, d + 1, known, things, code);
     }
-    putting::push(r, things, k, m, 0, 0)
+    putting::push(r, things, name.kind, name.means, 0, 0)
 }
 
 // What is taken in goes to the cell of the last name, whose place is given.
 fn taken_in(t: Writing, place: Place, name: Place, code: &mut [u32]) -> Writing
     requires { (t.here.at < 262144) × (place.at < 65536) × (name.at < 262144) }
-    ensures { (vs ly ks es : List ℕ) (us : List Used) (op ah en : List ℕ) → see result us op code.new ah en ≡ taken_in vs ly ks es place.at name.at (see t us op code.old ah en) }
+    ensures { (vs ly ks es : List ℕ) (us : List Used) (op : List Thing) (ah en : List ℕ) → see result us op code.new ah en ≡ taken_in vs ly ks es place.at name.at (see t us op code.old ah en) }
 {
     if operands::low(t.variable) == 2 {
         let s = putting::put(t, code, codes::CHANNEL, place, 0);
@@ -248,7 +224,7 @@ fn sending(c: Thing) -> usize
 // The end of a call of what the environment gives.
 fn given_ended(t: Writing, c: Thing, place: Place, u: usize, code: &mut [u32]) -> Writing
     requires { Fit t × Slim 262143 (seen c) × (place.at < 65536) }
-    ensures { (vs ly ks es : List ℕ) (us : List Used) (op ah en : List ℕ) → see result us op code.new ah en ≡ cond (eqb c.second 0) (dropped vs ly ks es u (put 24 place.at 0 (see t us op code.old ah en))) (cond (eqb c.second 2) (taken_in vs ly ks es place.at c.fourth (see t us op code.old ah en)) (put (cond (eqb c.second 4) 47 19) place.at 0 (see t us op code.old ah en))) }
+    ensures { (vs ly ks es : List ℕ) (us : List Used) (op : List Thing) (ah en : List ℕ) → see result us op code.new ah en ≡ cond (eqb c.second 0) (dropped vs ly ks es u (put 24 place.at 0 (see t us op code.old ah en))) (cond (eqb c.second 2) (taken_in vs ly ks es place.at c.fourth (see t us op code.old ah en)) (put (cond (eqb c.second 4) 47 19) place.at 0 (see t us op code.old ah en))) }
 {
     if c.second == 0 {
         return dropped(putting::put(t, code, codes::IABS, place, 0), u, code);
@@ -265,44 +241,37 @@ pub fn call_ended(
     c: Thing,
     place: Place,
     u: usize,
-    layout: &[u32],
-    entries: &[u32],
+    known: &Known,
     code: &mut [u32],
 ) -> Writing
     requires { Fit t × Slim 262143 (seen c) × (u < 65536) × (place.at < 65536) }
-    ensures { (vs ks : List ℕ) (us : List Used) (op ah en : List ℕ) → see result us op code.new ah en ≡ call_ended vs layout.now ks entries.now (seen c) place.at u (see t us op code.old ah en) }
+    ensures { (vs ks : List ℕ) (us : List Used) (op : List Thing) (ah en : List ℕ) → see result us op code.new ah en ≡ call_ended vs known.now.layout.now ks known.now.entries.now (seen c) place.at u (see t us op code.old ah en) }
 {
     if c.first == 2 {
-        let d = Declaration { number: c.second };
-        let mut r = called_with(t, 2, d, c.third, u, place, layout, entries, code);
-        r.variable = 0;
-        return r;
+        let name = Named {
+            kind: 2,
+            means: c.second,
+        };
+        let r = called_with(t, name, c.third, u, place, known, code);
+        return putting::nameless(r);
     }
-    let mut r = given_ended(t, c, place, u, code);
-    r.variable = 0;
-    r
+    let r = given_ended(t, c, place, u, code);
+    putting::nameless(r)
 }
 
 // A left part.
 fn left_part(
     t: Writing,
-    k: usize,
-    m: usize,
+    name: Named,
     place: Place,
     layout: &[u32],
-    things: &mut [usize; 32768],
+    things: &mut [Thing; 8192],
 ) -> Writing
     requires { (t.lefts < 1048576) × (t.open < 8192) }
-    ensures { (vs ks es : List ℕ) (us : List Used) (co ah en : List ℕ) → see result us things.new co ah en ≡ with_lefts (t.lefts + 1) (pushed 0 (cell_of vs layout.now ks es t.level k m) place.at 0 (see t us things.old co ah en)) }
+    ensures { (vs ks es : List ℕ) (us : List Used) (co ah en : List ℕ) → see result us things.new co ah en ≡ with_lefts (t.lefts + 1) (pushed 0 (cell_of vs layout.now ks es t.level name.kind name.means) place.at 0 (see t us things.old co ah en)) }
 {
-    let mut r = putting::push(
-        t,
-        things,
-        0,
-        cell_of(t.level, k, Declaration { number: m }, layout),
-        place.at,
-        0,
-    );
+    let v = cell_of(t.level, name, layout);
+    let mut r = putting::push(t, things, 0, v, place.at, 0);
     r.lefts += 1;
     r
 }
@@ -310,16 +279,15 @@ fn left_part(
 // A for statement with its elements: slot of the body's address, the variable, its place, the address of the element.
 fn repeated(
     t: Writing,
-    k: usize,
-    m: usize,
+    name: Named,
     place: Place,
     layout: &[u32],
-    things: &mut [usize; 32768],
+    things: &mut [Thing; 8192],
 ) -> Writing
     requires { (t.slots < 1048576) × (t.open < 8192) }
-    ensures { (vs ks es : List ℕ) (us : List Used) (co ah en : List ℕ) → see result us things.new co ah en ≡ repeated vs layout.now ks es k m place.at (see t us things.old co ah en) }
+    ensures { (vs ks es : List ℕ) (us : List Used) (co ah en : List ℕ) → see result us things.new co ah en ≡ repeated vs layout.now ks es name.kind name.means place.at (see t us things.old co ah en) }
 {
-    let v = cell_of(t.level, k, Declaration { number: m }, layout);
+    let v = cell_of(t.level, name, layout);
     putting::slot(putting::push(t, things, t.slots, v, place.at, t.here.at as usize))
 }
 
@@ -331,27 +299,22 @@ pub fn use_node(
     one: usize,
     u: usize,
     uses: &[u16],
-    rows: &[u16],
-    layout: &[u32],
-    ahead: &[u32],
-    entries: &[u32],
-    things: &mut [usize; 32768],
+    known: &Known,
+    things: &mut [Thing; 8192],
     code: &mut [u32],
 ) -> Writing
     requires { Fit t × (one < 65536) × (u < 65536) × (place.at < 65536) }
-    ensures { (vs ah en : List ℕ) → see result (uses_in rows.now uses.now) things.new code.new ah en ≡ use_node vs layout.now ahead.now entries.now rows.now kind (kind_next (drop t.uses (uses_in rows.now uses.now))) (means_next (drop t.uses (uses_in rows.now uses.now))) u place.at one (with_uses (others_next (drop t.uses (uses_in rows.now uses.now))) (see t (uses_in rows.now uses.now) things.old code.old ah en)) }
+    ensures { (vs ah en : List ℕ) → see result (uses_in known.now.rows.now uses.now) things.new code.new ah en ≡ use_node vs known.now.layout.now known.now.ahead.now known.now.entries.now known.now.rows.now kind (kind_next (drop t.uses (uses_in known.now.rows.now uses.now))) (means_next (drop t.uses (uses_in known.now.rows.now uses.now))) u place.at one (with_uses (others_next (drop t.uses (uses_in known.now.rows.now uses.now))) (see t (uses_in known.now.rows.now uses.now) things.old code.old ah en)) }
 {
-    let n = uses::next(t, uses, rows);
-    let k = n.kind;
-    let m = n.means;
+    let name = uses::next(t, uses, known.rows);
     let r = uses::passed(t, uses);
     match kind {
         nodes::USE => {
-            let form = uses::form_at(rows, m);
-            named_or(r, k, m, u, place, one, form, layout, entries, things, code)
+            let form = uses::form_at(known.rows, name.means);
+            named_or(r, name, u, place, one, form, known, things, code)
         }
-        nodes::CALL => calling(r, k, m, place, one, rows, layout, ahead, things, code),
-        nodes::LEFT => left_part(r, k, m, place, layout, things),
-        _ => repeated(r, k, m, place, layout, things),
+        nodes::CALL => calling(r, name, place, one, known, things, code),
+        nodes::LEFT => left_part(r, name, place, known.layout, things),
+        _ => repeated(r, name, place, known.layout, things),
     }
 }

@@ -1,5 +1,6 @@
 // Operations on the cells of names: of one that has its cell, and of a formal called by name, whose cell is sought.
 ghost use Rattle.std.specs.Prelude.{◌≡◌, List, ℕ, ◌+◌, ◌≤◌, ◌<◌};
+ghost use Rattle.emitting.specs.declared.Thing.{Thing};
 ghost use Rattle.emitting.specs.model.Emission.{Used, bare, on_cell, lending};
 ghost use Rattle.emitting.specs.model.Arrays.{see, Alike};
 
@@ -28,7 +29,7 @@ pub fn on_cell(
     v: usize,
 ) -> Writing
     requires { (t.here.at < 1048575) × (o < 64) × (place.at < 262144) × (name.at < 262144) }
-    ensures en_after { (us : List Used) (op ah en : List ℕ) → see result us op code.new ah en ≡ on_cell o place.at name.at v (see t us op code.old ah en) }
+    ensures en_after { (us : List Used) (op : List Thing) (ah en : List ℕ) → see result us op code.new ah en ≡ on_cell o place.at name.at v (see t us op code.old ah en) }
     ensures alike { Alike t result × (result.here.at ≤ t.here.at + 2) × (result.open ≡ t.open) }
 {
     if operands::low(v) == 2 {
@@ -41,7 +42,7 @@ pub fn on_cell(
 // The store part of an actual, by its word.
 pub fn lending(t: Writing, w: usize, place: Place, code: &mut [u32]) -> Writing
     requires { (t.here.at < 1048576) × (place.at < 65536) }
-    ensures en_after { (vs ly ks es : List ℕ) (us : List Used) (op ah en : List ℕ) → see result us op code.new ah en ≡ lending vs ly ks es w place.at (see t us op code.old ah en) }
+    ensures en_after { (vs ly ks es : List ℕ) (us : List Used) (op : List Thing) (ah en : List ℕ) → see result us op code.new ah en ≡ lending vs ly ks es w place.at (see t us op code.old ah en) }
     ensures alike { Alike t result × (result.here.at ≡ t.here.at + 1) × (result.open ≡ t.open) }
 {
     let sort = operands::low(w);

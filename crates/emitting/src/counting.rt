@@ -13,28 +13,21 @@ const BOOLEAN: usize = 2;
 const REAL: usize = 3;
 
 // Whether a row, whose words are given, is a variable's of a scope and a type.
+#[tactic(auto, unfolding(crate::specs::model::Layout::is_of))]
 fn is_of(scope: usize, sort: usize, kind: u16, a: usize, b: usize) -> bool
     ensures { result ≡ is_of scope sort kind a b }
 {
-    if kind == nodes::VARIABLE {
-        if a == scope {
-            return b == sort;
-        }
-        return false;
-    }
-    false
+    kind == nodes::VARIABLE && a == scope && b == sort
 }
 
 // How many more there are behind such a row.
+#[tactic(auto, unfolding(crate::specs::model::Layout::counting))]
 fn counted(scope: usize, sort: usize, kind: u16, a: usize, b: usize, n: usize) -> usize
     requires { n < 4611686018427387904 }
     ensures value { result ≡ counting scope sort kind 0 a b n }
     ensures upper_bound { result ≤ n + 1 }
 {
-    if is_of(scope, sort, kind, a, b) {
-        return n + 1;
-    }
-    n
+    n + usize::from(is_of(scope, sort, kind, a, b))
 }
 
 // How many some rows have.
@@ -43,8 +36,7 @@ fn count_of(scope: usize, sort: usize, rows: &[u16]) -> usize
     ensures result_in_bounds { 4 * result ≤ length rows.now }
 {
     let mut n = 0;
-    let mut i = 0;
-    while 4 * i + 3 < rows.len() {
+    for i in 0..rows.len() / 4 {
         let at = 4 * i;
         n = counted(
             scope,
@@ -54,7 +46,6 @@ fn count_of(scope: usize, sort: usize, rows: &[u16]) -> usize
             rows[at + 3] as usize,
             n,
         );
-        i += 1;
     }
     n
 }

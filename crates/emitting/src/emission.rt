@@ -5,7 +5,7 @@ ghost use Rattle.names.specs.model.Rows.{is_use};
 ghost use Rattle.emitting.specs.model.Emission.{Used, uses_in, place_at, put, top, lower_of, upper_of, operation_of, signed, stored, lefts_of, assigned, plain_node, is_element, is_choice, is_block, code_node, emitted};
 ghost use Rattle.emitting.specs.model.Arrays.{things_of, seen, see, AllSlim, Small, Fit, rest_node, fresh_in, emitted_from};
 
-use crate::{Thing, Writing, actuals, calls, cells, codes, flow, loops, parts, putting};
+use crate::{Known, Thing, Writing, actuals, calls, cells, codes, flow, loops, parts, putting};
 use answers::{Address, Ordinal, Place};
 use grammar::nodes;
 use reals::decimals::constant;
@@ -31,7 +31,7 @@ fn operation_of(k: usize) -> usize
 // A sign or 'not'.
 fn signed(t: Writing, k: usize, place: Place, code: &mut [u32]) -> Writing
     requires { (t.here.at < 262144) × (place.at < 65536) }
-    ensures { (us : List Used) (op ah en : List ℕ) → see result us op code.new ah en ≡ signed k place.at (see t us op code.old ah en) }
+    ensures { (us : List Used) (op : List Thing) (ah en : List ℕ) → see result us op code.new ah en ≡ signed k place.at (see t us op code.old ah en) }
 {
     if k == 19 {
         return putting::put(t, code, codes::NOT, place, 0);
@@ -43,11 +43,11 @@ fn signed(t: Writing, k: usize, place: Place, code: &mut [u32]) -> Writing
 }
 
 // The left part with n behind it.
-fn left_at(mut t: Writing, things: &[usize; 32768], n: usize) -> Thing
+fn left_at(mut t: Writing, things: &[Thing; 8192], n: usize) -> Thing
     requires { t.open ≤ 8192 }
     ensures { seen result ≡ top (things_of (t.open - n) things.now) }
 {
-    t.open = parts::less(t.open, n);
+    t.open = t.open.saturating_sub(n);
     putting::top(t, things)
 }
 
@@ -60,13 +60,11 @@ fn storing(n: usize) -> usize
 }
 
 // Left parts, from the first to the last.
-fn stored(mut t: Writing, things: &[usize; 32768], code: &mut [u32]) -> Writing
+fn stored(mut t: Writing, things: &[Thing; 8192], code: &mut [u32]) -> Writing
     requires { (t.here.at + 2 * t.lefts < 262144) × (t.open ≤ 8192) × AllSlim 262143 (things_of t.open things.now) }
     ensures { (vs ly ks es : List ℕ) (us : List Used) (ah en : List ℕ) → see result us things.now code.new ah en ≡ stored vs ly ks es (lefts_of vs ly ks es t.lefts (things_of t.open things.now) []) (see t us things.now code.old ah en) }
 {
-    let mut n = t.lefts;
-    while 0 < n {
-        n -= 1;
+    for n in (0..t.lefts).rev() {
         let f = left_at(t, things, n);
         let name = Place { at: f.third };
         t = cells::on_cell(t, code, storing(n), name, name, f.second);
@@ -75,12 +73,12 @@ fn stored(mut t: Writing, things: &[usize; 32768], code: &mut [u32]) -> Writing
 }
 
 // The end of an assignment.
-fn assigned(t: Writing, things: &[usize; 32768], code: &mut [u32]) -> Writing
+fn assigned(t: Writing, things: &[Thing; 8192], code: &mut [u32]) -> Writing
     requires { (t.here.at + 2 * t.lefts < 262144) × (t.open ≤ 8192) × AllSlim 262143 (things_of t.open things.now) }
     ensures { (vs ly ks es : List ℕ) (us : List Used) (ah en : List ℕ) → see result us things.now code.new ah en ≡ assigned vs ly ks es (see t us things.now code.old ah en) }
 {
     let mut r = stored(t, things, code);
-    r.open = parts::less(t.open, t.lefts);
+    r.open = t.open.saturating_sub(t.lefts);
     r.lefts = 0;
     r
 }
@@ -88,7 +86,7 @@ fn assigned(t: Writing, things: &[usize; 32768], code: &mut [u32]) -> Writing
 // A number with a point: the lower half of its bits, then the upper one.
 fn pointed(t: Writing, w: u64, place: Place, code: &mut [u32]) -> Writing
     requires { (t.here.at < 262144) × (place.at < 65536) }
-    ensures { (us : List Used) (op ah en : List ℕ) → see result us op code.new ah en ≡ put 49 0 (upper_of w) (put 12 place.at (lower_of w) (see t us op code.old ah en)) }
+    ensures { (us : List Used) (op : List Thing) (ah en : List ℕ) → see result us op code.new ah en ≡ put 49 0 (upper_of w) (put 12 place.at (lower_of w) (see t us op code.old ah en)) }
 {
     let halves = constant(w / 16, w % 16);
     let lower = putting::put(t, code, codes::CONST, place, halves.low as usize);
@@ -101,46 +99,49 @@ fn pointed(t: Writing, w: u64, place: Place, code: &mut [u32]) -> Writing
     )
 }
 
+// A node: its kind, its symbol, and what else it says.
+#[derive(Clone, Copy)]
+pub struct Node {
+    pub kind: u16,
+    pub symbol: Ordinal,
+    pub one: u16,
+    pub two: u16,
+}
+
 // A node that is of no name and opens nothing.
 fn plain_node(
     mut t: Writing,
-    kind: u16,
-    symbol: Ordinal,
+    n: Node,
     place: Place,
-    one: usize,
     values: &[u64],
-    things: &[usize; 32768],
+    things: &[Thing; 8192],
     code: &mut [u32],
 ) -> Writing
-    requires { Fit t × AllSlim 262143 (things_of t.open things.now) × (place.at < 65536) × (one < 65536) }
-    ensures { (ly ks es : List ℕ) (us : List Used) (ah en : List ℕ) → see result us things.now code.new ah en ≡ plain_node values.now ly ks es kind symbol.number place.at one (see t us things.now code.old ah en) }
+    requires { Fit t × AllSlim 262143 (things_of t.open things.now) × (place.at < 65536) }
+    ensures { (ly ks es : List ℕ) (us : List Used) (ah en : List ℕ) → see result us things.now code.new ah en ≡ plain_node values.now ly ks es n.kind n.symbol.number place.at n.one (see t us things.now code.old ah en) }
 {
-    match kind {
+    let one = n.one as usize;
+    match n.kind {
         nodes::NUMBER => {
-            let v = (parts::value_of(values, symbol) % 4294967296) as usize;
-            let mut r = putting::put(t, code, codes::CONST, place, v);
-            r.variable = 0;
-            r
+            let v = parts::value_of(values, n.symbol) % 4294967296;
+            let r = putting::put(t, code, codes::CONST, place, v as usize);
+            putting::nameless(r)
         }
         nodes::DECIMAL => {
-            let mut r = pointed(t, parts::value_of(values, symbol), place, code);
-            r.variable = 0;
-            r
+            let r = pointed(t, parts::value_of(values, n.symbol), place, code);
+            putting::nameless(r)
         }
         nodes::LOGICAL => {
-            let mut r = putting::put(t, code, codes::LOGICAL, place, one);
-            r.variable = 0;
-            r
+            let r = putting::put(t, code, codes::LOGICAL, place, one);
+            putting::nameless(r)
         }
         nodes::UNARY => {
-            let mut r = signed(t, one, place, code);
-            r.variable = 0;
-            r
+            let r = signed(t, one, place, code);
+            putting::nameless(r)
         }
         nodes::BINARY => {
-            let mut r = putting::put(t, code, operation_of(one), place, 0);
-            r.variable = 0;
-            r
+            let r = putting::put(t, code, operation_of(one), place, 0);
+            putting::nameless(r)
         }
         nodes::ASSIGN => assigned(t, things, code),
         nodes::VARIABLE => {
@@ -157,183 +158,118 @@ fn plain_node(
 }
 
 // Whether a node is of a use.
+#[tactic(auto, unfolding(names::specs::model::Rows::is_use))]
 fn is_use(kind: u16) -> bool
     ensures { result ≡ is_use kind }
 {
-    match kind {
-        nodes::FOR => true,
-        nodes::LEFT => true,
-        nodes::USE => true,
-        nodes::CALL => true,
-        _ => false,
-    }
+    matches!(kind, nodes::FOR | nodes::LEFT | nodes::USE | nodes::CALL)
 }
 
 // Whether it is of an element.
 fn is_element(kind: u16) -> bool
     ensures { (vs ly ks es : List ℕ) → result ≡ is_element vs ly ks es kind }
 {
-    match kind {
-        nodes::START => true,
-        nodes::ONCE => true,
-        nodes::WHILE => true,
-        nodes::STEP => true,
-        nodes::AMOUNT => true,
-        _ => false,
-    }
+    matches!(
+        kind,
+        nodes::START | nodes::ONCE | nodes::WHILE | nodes::STEP | nodes::AMOUNT
+    )
 }
 
 // Whether it is around a loop's body.
 fn is_loop(kind: u16) -> bool
     ensures { result ≡ eqb kind n_do || eqb kind n_for_end }
 {
-    match kind {
-        nodes::DO => true,
-        nodes::FOR_END => true,
-        _ => false,
-    }
+    matches!(kind, nodes::DO | nodes::FOR_END)
 }
 
 // Whether it is of a condition.
 fn is_choice(kind: u16) -> bool
     ensures { (vs ly ks es : List ℕ) → result ≡ is_choice vs ly ks es kind }
 {
-    match kind {
-        nodes::THEN => true,
-        nodes::ELSE => true,
-        nodes::IF_END => true,
-        nodes::CONDITION_END => true,
-        _ => false,
-    }
+    matches!(
+        kind,
+        nodes::THEN | nodes::ELSE | nodes::IF_END | nodes::CONDITION_END
+    )
 }
 
 // Whether it is of a block.
 fn is_block(kind: u16) -> bool
     ensures { (vs ly ks es : List ℕ) → result ≡ is_block vs ly ks es kind }
 {
-    match kind {
-        nodes::BLOCK => true,
-        nodes::STATEMENTS => true,
-        nodes::BLOCK_END => true,
-        _ => false,
-    }
+    matches!(kind, nodes::BLOCK | nodes::STATEMENTS | nodes::BLOCK_END)
 }
 
 // Whether it is of a procedure.
 fn is_procedure(kind: u16) -> bool
     ensures { result ≡ eqb kind n_procedure || eqb kind n_procedure_end }
 {
-    match kind {
-        nodes::PROCEDURE => true,
-        nodes::PROCEDURE_END => true,
-        _ => false,
-    }
+    matches!(kind, nodes::PROCEDURE | nodes::PROCEDURE_END)
 }
 
 // What a node adds that is of no name and no call.
 fn rest_node(
     t: Writing,
-    kind: u16,
-    symbol: Ordinal,
+    n: Node,
     place: Place,
-    one: usize,
-    rows: &[u16],
-    marks: &[u16],
-    values: &[u64],
-    ahead: &[u32],
-    things: &mut [usize; 32768],
+    known: &Known,
+    things: &mut [Thing; 8192],
     next_ahead: &mut [u32],
     next_entries: &mut [u32],
     code: &mut [u32],
 ) -> Writing
-    requires { Small 262143 8191 (see t [] things.old [] [] []) × (place.at < 65536) × (one < 65536) }
-    ensures { (ly es : List ℕ) (us : List Used) → see result us things.new code.new next_ahead.new next_entries.new ≡ rest_node values.now ly ahead.now es rows.now marks.now kind symbol.number place.at one (see t us things.old code.old next_ahead.old next_entries.old) }
+    requires { Small 262143 8191 (see t [] things.old [] [] []) × (place.at < 65536) }
+    ensures { (ly es : List ℕ) (us : List Used) → see result us things.new code.new next_ahead.new next_entries.new ≡ rest_node known.now.values.now ly known.now.ahead.now es known.now.rows.now known.now.marks.now n.kind n.symbol.number place.at n.one (see t us things.old code.old next_ahead.old next_entries.old) }
 {
     let c = putting::top(t, things);
-    if is_element(kind) {
-        return loops::element_node(t, kind, c, place, ahead, things, next_ahead, code);
+    let ahead = known.ahead;
+    if is_element(n.kind) {
+        return loops::element_node(t, n.kind, c, place, ahead, things, next_ahead, code);
     }
-    if is_loop(kind) {
-        return loops::loop_node(t, kind, c, things, next_ahead, code);
+    if is_loop(n.kind) {
+        return loops::loop_node(t, n.kind, c, things, next_ahead, code);
     }
-    if is_choice(kind) {
-        let mark = parts::mark_of(marks, symbol);
-        return flow::choice_node(t, kind, c, mark, ahead, things, next_ahead, code);
+    if is_choice(n.kind) {
+        let mark = parts::mark_of(known.marks, n.symbol);
+        return flow::choice_node(t, n.kind, c, mark, ahead, things, next_ahead, code);
     }
-    if is_block(kind) {
-        return flow::block_node(t, kind, c, place, rows, things, next_ahead, code);
+    if is_block(n.kind) {
+        return flow::block_node(t, n.kind, c, place, known.rows, things, next_ahead, code);
     }
-    if is_procedure(kind) {
-        return flow::procedure_node(t, kind, c, ahead, things, next_entries, code);
+    if is_procedure(n.kind) {
+        return flow::procedure_node(t, n.kind, c, ahead, things, next_entries, code);
     }
-    plain_node(t, kind, symbol, place, one, values, things, code)
+    plain_node(t, n, place, known.values, things, code)
 }
 
 // What a node adds.
-fn node(
+fn any_node(
     t: Writing,
-    kind: u16,
-    symbol: Ordinal,
-    one: u16,
-    two: u16,
+    n: Node,
     uses: &[u16],
-    rows: &[u16],
-    places: &[usize; 2048],
-    marks: &[u16],
-    values: &[u64],
-    layout: &[u32],
-    ahead: &[u32],
-    entries: &[u32],
-    things: &mut [usize; 32768],
+    known: &Known,
+    things: &mut [Thing; 8192],
     next_ahead: &mut [u32],
     next_entries: &mut [u32],
     code: &mut [u32],
 ) -> Writing
     requires { Small 262143 8191 (see t [] things.old [] [] []) }
-    ensures { see result (uses_in rows.now uses.now) things.new code.new next_ahead.new next_entries.new ≡ code_node values.now layout.now ahead.now entries.now rows.now marks.now kind symbol.number (place_at places.now symbol.number) one two (see t (uses_in rows.now uses.now) things.old code.old next_ahead.old next_entries.old) }
+    ensures { see result (uses_in known.now.rows.now uses.now) things.new code.new next_ahead.new next_entries.new ≡ code_node known.now.values.now known.now.layout.now known.now.ahead.now known.now.entries.now known.now.rows.now known.now.marks.now n.kind n.symbol.number (place_at known.now.places.now n.symbol.number) n.one n.two (see t (uses_in known.now.rows.now uses.now) things.old code.old next_ahead.old next_entries.old) }
 {
-    let p = parts::place_in(places, symbol);
-    let u = two as usize;
-    if is_use(kind) {
-        return calls::use_node(
-            t,
-            kind,
-            p,
-            one as usize,
-            u,
-            uses,
-            rows,
-            layout,
-            ahead,
-            entries,
-            things,
-            code,
-        );
+    let p = parts::place_in(known.places, n.symbol);
+    let u = n.two as usize;
+    if is_use(n.kind) {
+        return calls::use_node(t, n.kind, p, n.one as usize, u, uses, known, things, code);
     }
-    match kind {
+    match n.kind {
         nodes::ACTUAL => {
             let c = putting::top(t, things);
-            actuals::actual_in(t, c, p, rows, ahead, things, next_ahead, code)
+            actuals::actual_in(t, c, p, known, things, next_ahead, code)
         }
         nodes::CALL_END => {
             let c = putting::top(t, things);
-            calls::call_ended(putting::pop(t), c, p, u, layout, entries, code)
+            calls::call_ended(putting::pop(t), c, p, u, known, code)
         }
-        _ => rest_node(
-            t,
-            kind,
-            symbol,
-            p,
-            one as usize,
-            rows,
-            marks,
-            values,
-            ahead,
-            things,
-            next_ahead,
-            next_entries,
-            code,
-        ),
+        _ => rest_node(t, n, p, known, things, next_ahead, next_entries, code),
     }
 }
 
@@ -341,22 +277,16 @@ fn node(
 fn walk(
     nodes: &[u16],
     uses: &[u16],
-    rows: &[u16],
-    places: &[usize; 2048],
-    marks: &[u16],
-    values: &[u64],
-    layout: &[u32],
-    ahead: &[u32],
-    entries: &[u32],
-    things: &mut [usize; 32768],
+    known: &Known,
+    things: &mut [Thing; 8192],
     next_ahead: &mut [u32],
     next_entries: &mut [u32],
     code: &mut [u32],
 )
     requires { length nodes.now ≤ 32768 }
-    ensures code_after { code.new ≡ (emitted_from (place_at places.now) values.now layout.now ahead.now entries.now rows.now marks.now nodes.now (fresh_in (uses_in rows.now uses.now) code.old next_ahead.old next_entries.old)).code }
-    ensures next_ahead_after { next_ahead.new ≡ (emitted_from (place_at places.now) values.now layout.now ahead.now entries.now rows.now marks.now nodes.now (fresh_in (uses_in rows.now uses.now) code.old next_ahead.old next_entries.old)).ahead }
-    ensures next_entries_after { next_entries.new ≡ (emitted_from (place_at places.now) values.now layout.now ahead.now entries.now rows.now marks.now nodes.now (fresh_in (uses_in rows.now uses.now) code.old next_ahead.old next_entries.old)).entries }
+    ensures code_after { code.new ≡ (emitted_from (place_at known.now.places.now) known.now.values.now known.now.layout.now known.now.ahead.now known.now.entries.now known.now.rows.now known.now.marks.now nodes.now (fresh_in (uses_in known.now.rows.now uses.now) code.old next_ahead.old next_entries.old)).code }
+    ensures next_ahead_after { next_ahead.new ≡ (emitted_from (place_at known.now.places.now) known.now.values.now known.now.layout.now known.now.ahead.now known.now.entries.now known.now.rows.now known.now.marks.now nodes.now (fresh_in (uses_in known.now.rows.now uses.now) code.old next_ahead.old next_entries.old)).ahead }
+    ensures next_entries_after { next_entries.new ≡ (emitted_from (place_at known.now.places.now) known.now.values.now known.now.layout.now known.now.ahead.now known.now.entries.now known.now.rows.now known.now.marks.now nodes.now (fresh_in (uses_in known.now.rows.now uses.now) code.old next_ahead.old next_entries.old)).entries }
 {
     let mut t = Writing {
         uses: 0,
@@ -366,36 +296,22 @@ fn walk(
         loops: 0,
         cells: 0,
         lefts: 0,
-        awaits: 0,
+        awaits: false,
         variable: 0,
         declared: 0,
         open: 0,
     };
-    let mut i = 0;
-    while 4 * i + 3 < nodes.len() {
+    for i in 0..nodes.len() / 4 {
         let at = 4 * i;
-        t = node(
-            t,
-            nodes[at],
-            Ordinal {
+        let n = Node {
+            kind: nodes[at],
+            symbol: Ordinal {
                 number: nodes[at + 1],
             },
-            nodes[at + 2],
-            nodes[at + 3],
-            uses,
-            rows,
-            places,
-            marks,
-            values,
-            layout,
-            ahead,
-            entries,
-            things,
-            next_ahead,
-            next_entries,
-            code,
-        );
-        i += 1;
+            one: nodes[at + 2],
+            two: nodes[at + 3],
+        };
+        t = any_node(t, n, uses, known, things, next_ahead, next_entries, code);
     }
     putting::put(t, code, codes::END, codes::NOWHERE, 0);
 }
@@ -404,36 +320,24 @@ fn walk(
 pub fn pass(
     nodes: &[u16],
     uses: &[u16],
-    rows: &[u16],
-    places: &[usize; 2048],
-    marks: &[u16],
-    values: &[u64],
-    layout: &[u32],
-    ahead: &[u32],
-    entries: &[u32],
+    known: &Known,
     next_ahead: &mut [u32],
     next_entries: &mut [u32],
     code: &mut [u32],
 )
     requires { (length nodes.now ≤ 32768) × (length next_ahead.old ≡ 8192) × (length next_entries.old ≡ 2048) }
-    ensures code_after { code.new ≡ (emitted values.now layout.now ahead.now entries.now rows.now marks.now (length code.old) (place_at places.now) nodes.now (uses_in rows.now uses.now)).code }
-    ensures next_ahead_after { next_ahead.new ≡ (emitted values.now layout.now ahead.now entries.now rows.now marks.now (length code.old) (place_at places.now) nodes.now (uses_in rows.now uses.now)).ahead }
-    ensures next_entries_after { next_entries.new ≡ (emitted values.now layout.now ahead.now entries.now rows.now marks.now (length code.old) (place_at places.now) nodes.now (uses_in rows.now uses.now)).entries }
+    ensures code_after { code.new ≡ (emitted known.now.values.now known.now.layout.now known.now.ahead.now known.now.entries.now known.now.rows.now known.now.marks.now (length code.old) (place_at known.now.places.now) nodes.now (uses_in known.now.rows.now uses.now)).code }
+    ensures next_ahead_after { next_ahead.new ≡ (emitted known.now.values.now known.now.layout.now known.now.ahead.now known.now.entries.now known.now.rows.now known.now.marks.now (length code.old) (place_at known.now.places.now) nodes.now (uses_in known.now.rows.now uses.now)).ahead }
+    ensures next_entries_after { next_entries.new ≡ (emitted known.now.values.now known.now.layout.now known.now.ahead.now known.now.entries.now known.now.rows.now known.now.marks.now (length code.old) (place_at known.now.places.now) nodes.now (uses_in known.now.rows.now uses.now)).entries }
 {
-    let mut things = [0usize; 32768];
+    let mut things = [Thing::default(); 8192];
     parts::clear(next_ahead);
     parts::clear(next_entries);
     parts::clear(code);
     walk(
         nodes,
         uses,
-        rows,
-        places,
-        marks,
-        values,
-        layout,
-        ahead,
-        entries,
+        known,
         &mut things,
         next_ahead,
         next_entries,

@@ -1,5 +1,5 @@
 // Conditions, blocks and procedures.
-ghost use Rattle.std.specs.Prelude.{◌≡◌, List, ℕ, ◌+◌, ◌-◌, ◌≤◌, ◌<◌};
+ghost use Rattle.std.specs.Prelude.{◌≡◌, cond, List, ℕ, ◌+◌, ◌-◌, ◌≤◌, ◌<◌};
 ghost use Rattle.emitting.specs.model.Layout.{packed};
 ghost use Rattle.emitting.specs.model.Emission.{Used, put, within, with_slot, with_variable, pushed, popped, nameless, ahead_at, widened, otherwise, joined, choice_node, opening, block_node, skipped, proceeding, procedure_node};
 ghost use Rattle.emitting.specs.model.Arrays.{seen, see, Alike, Slim, Fit};
@@ -14,7 +14,7 @@ fn conditioned(
     t: Writing,
     mark: usize,
     ahead: &[u32],
-    things: &mut [usize; 32768],
+    things: &mut [Thing; 8192],
     code: &mut [u32],
 ) -> Writing
     requires { Fit t }
@@ -28,7 +28,7 @@ fn conditioned(
 // A part of a conditional expression ends: it becomes a real, where the mark says so, which has no fault.
 fn widened(t: Writing, part: usize, c: Thing, code: &mut [u32]) -> Writing
     requires { t.here.at < 262144 }
-    ensures en_after { (vs ly ks es : List ℕ) (us : List Used) (op ah en : List ℕ) → see result us op code.new ah en ≡ widened vs ly ks es part (seen c) (see t us op code.old ah en) }
+    ensures en_after { (vs ly ks es : List ℕ) (us : List Used) (op : List Thing) (ah en : List ℕ) → see result us op code.new ah en ≡ widened vs ly ks es part (seen c) (see t us op code.old ah en) }
     ensures alike { Alike t result × (result.here.at ≤ t.here.at + 1) × (result.open ≡ t.open) }
 {
     if c.second == part {
@@ -42,7 +42,7 @@ fn otherwise(
     t: Writing,
     c: Thing,
     ahead: &[u32],
-    things: &mut [usize; 32768],
+    things: &mut [Thing; 8192],
     next_ahead: &mut [u32],
     code: &mut [u32],
 ) -> Writing
@@ -58,7 +58,7 @@ fn otherwise(
 
 // Behind it all.
 fn joined(t: Writing, c: Thing, next_ahead: &mut [u32]) -> Writing
-    ensures { (vs ly ks es : List ℕ) (us : List Used) (op co en : List ℕ) → see result us op co next_ahead.new en ≡ joined vs ly ks es (seen c) (see t us op co next_ahead.old en) }
+    ensures { (vs ly ks es : List ℕ) (us : List Used) (op : List Thing) (co en : List ℕ) → see result us op co next_ahead.new en ≡ joined vs ly ks es (seen c) (see t us op co next_ahead.old en) }
 {
     parts::set_word(next_ahead, c.first, parts::going_to(t.here));
     let mut r = putting::pop(t);
@@ -73,7 +73,7 @@ pub fn choice_node(
     c: Thing,
     mark: usize,
     ahead: &[u32],
-    things: &mut [usize; 32768],
+    things: &mut [Thing; 8192],
     next_ahead: &mut [u32],
     code: &mut [u32],
 ) -> Writing
@@ -94,7 +94,7 @@ pub fn choice_node(
 }
 
 // A block begins: the slot of its opening, the number of its first declaration, and the variables of the block around.
-fn entered(t: Writing, things: &mut [usize; 32768]) -> Writing
+fn entered(t: Writing, things: &mut [Thing; 8192]) -> Writing
     requires { Fit t }
     ensures { (us : List Used) (co ah en : List ℕ) → see result us things.new co ah en ≡ within t.level t.loops 0 (with_slot (pushed t.slots 0 t.declared t.cells (nameless (see t us things.old co ah en)))) }
 {
@@ -110,7 +110,7 @@ fn begun(
     c: Thing,
     place: Place,
     rows: &[u16],
-    things: &mut [usize; 32768],
+    things: &mut [Thing; 8192],
     next_ahead: &mut [u32],
     code: &mut [u32],
 ) -> Writing
@@ -126,7 +126,7 @@ fn begun(
 // It ends.
 fn left(t: Writing, c: Thing, code: &mut [u32]) -> Writing
     requires { Fit t }
-    ensures { (us : List Used) (op ah en : List ℕ) → see result us op code.new ah en ≡ within t.level t.loops c.fourth (popped (put 4 0 (packed 0 c.third 0) (see t us op code.old ah en))) }
+    ensures { (us : List Used) (op : List Thing) (ah en : List ℕ) → see result us op code.new ah en ≡ within t.level t.loops c.fourth (popped (put 4 0 (packed 0 c.third 0) (see t us op code.old ah en))) }
 {
     let mut r = putting::pop(putting::put(
         t,
@@ -146,7 +146,7 @@ pub fn block_node(
     c: Thing,
     place: Place,
     rows: &[u16],
-    things: &mut [usize; 32768],
+    things: &mut [Thing; 8192],
     next_ahead: &mut [u32],
     code: &mut [u32],
 ) -> Writing
@@ -163,7 +163,7 @@ pub fn block_node(
 // Before the first procedure of a block: to its opening.
 fn skipped(t: Writing, c: Thing, ahead: &[u32], code: &mut [u32]) -> Writing
     requires { t.here.at < 262144 }
-    ensures by_index { (vs ly es : List ℕ) (us : List Used) (op ah en : List ℕ) → see result us op code.new ah en ≡ skipped vs ly ahead.now es (seen c) (see t us op code.old ah en) }
+    ensures by_index { (vs ly es : List ℕ) (us : List Used) (op : List Thing) (ah en : List ℕ) → see result us op code.new ah en ≡ skipped vs ly ahead.now es (seen c) (see t us op code.old ah en) }
     ensures alike { Alike t result × (result.open ≡ t.open) }
 {
     if t.variable == 0 {
@@ -174,7 +174,7 @@ fn skipped(t: Writing, c: Thing, ahead: &[u32], code: &mut [u32]) -> Writing
 }
 
 // A procedure: the for statements around.
-fn declared(t: Writing, things: &mut [usize; 32768], next_entries: &mut [u32]) -> Writing
+fn declared(t: Writing, things: &mut [Thing; 8192], next_entries: &mut [u32]) -> Writing
     requires { (t.level < 262144) × (t.declared < 262144) × (t.open < 8192) }
     ensures { (vs ly ks es : List ℕ) (us : List Used) (co ah : List ℕ) → see result us things.new co ah next_entries.new ≡ proceeding vs ly ks es (see t us things.old co ah next_entries.old) }
 {
@@ -190,10 +190,10 @@ fn declared(t: Writing, things: &mut [usize; 32768], next_entries: &mut [u32]) -
 // Its end.
 fn returned(t: Writing, c: Thing, code: &mut [u32]) -> Writing
     requires { Fit t }
-    ensures { (us : List Used) (op ah en : List ℕ) → see result us op code.new ah en ≡ with_variable t.awaits 1 (within (t.level - 1) c.first t.cells (popped (put 7 0 0 (see t us op code.old ah en)))) }
+    ensures { (us : List Used) (op : List Thing) (ah en : List ℕ) → see result us op code.new ah en ≡ with_variable (cond t.awaits 1 0) 1 (within (t.level - 1) c.first t.cells (popped (put 7 0 0 (see t us op code.old ah en)))) }
 {
     let mut r = putting::pop(putting::put(t, code, codes::RETURN, codes::NOWHERE, 0));
-    r.level = parts::less(t.level, 1);
+    r.level = t.level.saturating_sub(1);
     r.loops = c.first;
     r.variable = 1;
     r
@@ -205,7 +205,7 @@ pub fn procedure_node(
     kind: u16,
     c: Thing,
     ahead: &[u32],
-    things: &mut [usize; 32768],
+    things: &mut [Thing; 8192],
     next_entries: &mut [u32],
     code: &mut [u32],
 ) -> Writing

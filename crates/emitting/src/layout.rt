@@ -9,10 +9,11 @@ use grammar::nodes;
 use machine::operands;
 
 // 1 where there is a type.
+#[tactic(auto, unfolding(crate::specs::model::Layout::one_of))]
 fn one_of(sort: usize) -> usize
     ensures { result ≡ one_of sort }
 {
-    if sort == 0 { 0 } else { 1 }
+    usize::from(sort != 0)
 }
 
 // A variable or a formal, whose cell is at an offset.
@@ -118,7 +119,7 @@ fn lay_node(
         nodes::VARIABLE => varied(t, rows, around, table),
         nodes::FORMAL => celled(t, t.reach, table),
         nodes::PROCEDURE => procedured(t, around, table),
-        nodes::PROCEDURE_END => closed(t, parts::less(t.level, 1), around),
+        nodes::PROCEDURE_END => closed(t, t.level.saturating_sub(1), around),
         nodes::BLOCK => blocked(t, around),
         nodes::BLOCK_END => closed(t, t.level, around),
         _ => t,
@@ -130,18 +131,10 @@ fn lay(nodes: &[u16], rows: &[u16], around: &mut [usize; 8192], table: &mut [u32
     requires { length nodes.now ≤ 32768 }
     ensures { table.new ≡ (fold_nodes (lay_node rows.now) nodes.now (unlaid_in table.old)).table }
 {
-    let mut t = Laid {
-        sort: 0,
-        level: 0,
-        reach: 0,
-        open: 0,
-        declared: 0,
-    };
-    let mut i = 0;
-    while 4 * i + 3 < nodes.len() {
+    let mut t = Laid::default();
+    for i in 0..nodes.len() / 4 {
         let at = 4 * i;
         t = lay_node(t, nodes[at], nodes[at + 2], rows, around, table);
-        i += 1;
     }
 }
 

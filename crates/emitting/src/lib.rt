@@ -20,19 +20,41 @@ ghost use Rattle.std.specs.Prelude.{◌≡◌, ◌*◌, length, take, replicate}
 ghost use Rattle.emitting.specs.model.Layout.{layout_of};
 ghost use Rattle.emitting.specs.model.Emission.{uses_in, place_at, code_of};
 
-use answers::Address;
+use answers::{Address, Declaration};
 
 // What a use means: its kind (0 environment, 1 variable, 2 procedure, 3 formal called by value, 4 formal called by name), and
 // the declaration's number or the environment's.
-#[derive(Clone, Copy)]
+#[derive(Clone, Copy, Default)]
 pub struct Named {
     pub kind: usize,
     pub means: usize,
 }
 
+impl Named {
+    // The declaration that is meant.
+    pub fn declaration(self) -> Declaration
+        ensures { result.number ≡ self.means }
+    {
+        Declaration { number: self.means }
+    }
+}
+
+// What is looked up where code is written: the rows of the declarations; the places, marks and values of the symbols; where
+// cells lie; the addresses that lie ahead, and those of procedures by their declarations' numbers, as far as they are known.
+#[derive(Clone, Copy)]
+pub struct Known<'a> {
+    pub rows: &'a [u16],
+    pub places: &'a [usize],
+    pub marks: &'a [u16],
+    pub values: &'a [u64],
+    pub layout: &'a [u32],
+    pub ahead: &'a [u32],
+    pub entries: &'a [u32],
+}
+
 // What is known behind some nodes of where cells lie: the type before; the activations around; the cells of the running
 // activation's scopes; how many scopes are open; how many declarations and formals there were.
-#[derive(Clone, Copy)]
+#[derive(Clone, Copy, Default)]
 pub struct Laid {
     pub sort: usize,
     pub level: usize,
@@ -43,8 +65,8 @@ pub struct Laid {
 
 // What is known behind some nodes of the code: how many uses were passed; the address of the next instruction; how many
 // addresses lie ahead so far; the activations and the for statements of the running one that are around; the variables of
-// the block so far; the left parts before; 1 where a name stands that a number is taken to; the word of the name that was the
-// last node, 0 where it was no such name, and among declarations 1 behind a procedure; how many declarations and formals there
+// the block so far; the left parts before; whether a name stands there that a number is taken to; the word of the name that was
+// the last node, 0 where it was no such name, and among declarations 1 behind a procedure; how many declarations and formals there
 // were; how much is open.
 #[derive(Clone, Copy)]
 pub struct Writing {
@@ -55,14 +77,14 @@ pub struct Writing {
     pub loops: usize,
     pub cells: usize,
     pub lefts: usize,
-    pub awaits: usize,
+    pub awaits: bool,
     pub variable: usize,
     pub declared: usize,
     pub open: usize,
 }
 
 // Something open, or a left part.
-#[derive(Clone, Copy)]
+#[derive(Clone, Copy, Default)]
 pub struct Thing {
     pub first: usize,
     pub second: usize,

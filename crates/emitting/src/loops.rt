@@ -10,7 +10,7 @@ use grammar::nodes;
 use machine::operands;
 
 // Behind an element: it goes on there, if it is not the last.
-fn element(t: Writing, f: Thing, things: &mut [usize; 32768], next_ahead: &mut [u32]) -> Writing
+fn element(t: Writing, f: Thing, things: &mut [Thing; 8192], next_ahead: &mut [u32]) -> Writing
     requires { (t.slots < 1048576) × (t.open ≤ 8192) }
     ensures { (vs ly ks es : List ℕ) (us : List Used) (co en : List ℕ) → see result us things.new co next_ahead.new en ≡ element vs ly ks es (seen f) (see t us things.old co next_ahead.old en) }
 {
@@ -31,7 +31,7 @@ fn element_at(f: Thing) -> Address
 // To the body, with the place to return to.
 fn bodied(t: Writing, f: Thing, back: Address, ahead: &[u32], code: &mut [u32]) -> Writing
     requires { t.here.at < 1048576 }
-    ensures by_index { (vs ly es : List ℕ) (us : List Used) (op ah en : List ℕ) → see result us op code.new ah en ≡ bodied vs ly ahead.now es (seen f) back.at (see t us op code.old ah en) }
+    ensures by_index { (vs ly es : List ℕ) (us : List Used) (op : List Thing) (ah en : List ℕ) → see result us op code.new ah en ≡ bodied vs ly ahead.now es (seen f) back.at (see t us op code.old ah en) }
     ensures alike { Alike t result × (result.here.at ≡ t.here.at + 1) × (result.open ≡ t.open) }
 {
     let v = parts::operand(t.loops, back.at as usize, parts::address_at(ahead, f.first));
@@ -41,7 +41,7 @@ fn bodied(t: Writing, f: Thing, back: Address, ahead: &[u32], code: &mut [u32]) 
 // The test of a step element; next: where it goes on.
 fn tested(t: Writing, f: Thing, next: Address, code: &mut [u32]) -> Writing
     requires { (t.here.at < 1048575) × Slim 262143 (seen f) }
-    ensures en_after { (vs ly ks es : List ℕ) (us : List Used) (op ah en : List ℕ) → see result us op code.new ah en ≡ tested vs ly ks es f.third f.second next.at (see t us op code.old ah en) }
+    ensures en_after { (vs ly ks es : List ℕ) (us : List Used) (op : List Thing) (ah en : List ℕ) → see result us op code.new ah en ≡ tested vs ly ks es f.third f.second next.at (see t us op code.old ah en) }
     ensures alike { Alike t result × (result.here.at ≤ t.here.at + 2) × (result.open ≡ t.open) }
 {
     let name = Place { at: f.third };
@@ -62,7 +62,7 @@ fn tested(t: Writing, f: Thing, next: Address, code: &mut [u32]) -> Writing
 // The addition and its store; the place is that of 'step'.
 fn added(t: Writing, f: Thing, place: Place, code: &mut [u32]) -> Writing
     requires { (t.here.at < 1048000) × Slim 262143 (seen f) × (place.at < 262144) }
-    ensures en_after { (vs ly ks es : List ℕ) (us : List Used) (op ah en : List ℕ) → see result us op code.new ah en ≡ added vs ly ks es f.third f.second place.at (see t us op code.old ah en) }
+    ensures en_after { (vs ly ks es : List ℕ) (us : List Used) (op : List Thing) (ah en : List ℕ) → see result us op code.new ah en ≡ added vs ly ks es f.third f.second place.at (see t us op code.old ah en) }
     ensures alike { Alike t result × (result.here.at ≤ t.here.at + 4) × (result.open ≡ t.open) }
 {
     let name = Place { at: f.third };
@@ -75,7 +75,7 @@ fn step_begun(
     t: Writing,
     place: Place,
     ahead: &[u32],
-    things: &mut [usize; 32768],
+    things: &mut [Thing; 8192],
     code: &mut [u32],
 ) -> Writing
     requires { Fit t }
@@ -92,7 +92,7 @@ fn step_begun(
 fn step_held(
     t: Writing,
     c: Thing,
-    things: &mut [usize; 32768],
+    things: &mut [Thing; 8192],
     next_ahead: &mut [u32],
     code: &mut [u32],
 ) -> Writing
@@ -109,7 +109,7 @@ fn step_held(
 // To the step again, and then to what follows here.
 fn step_again(t: Writing, c: Thing, code: &mut [u32]) -> Writing
     requires { (t.here.at < 1048000) × Slim 262143 (seen c) }
-    ensures en_after { (vs ly ks es : List ℕ) (us : List Used) (op ah en : List ℕ) → see result us op code.new ah en ≡ step_again vs ly ks es (seen c) (see t us op code.old ah en) }
+    ensures en_after { (vs ly ks es : List ℕ) (us : List Used) (op : List Thing) (ah en : List ℕ) → see result us op code.new ah en ≡ step_again vs ly ks es (seen c) (see t us op code.old ah en) }
     ensures alike { Alike t result × (result.here.at ≡ t.here.at + 1) × (result.open ≡ t.open) }
 {
     let v = parts::operand(t.loops, t.here.at as usize + 1, element_at(c));
@@ -119,7 +119,7 @@ fn step_again(t: Writing, c: Thing, code: &mut [u32]) -> Writing
 // Behind the bound: the test, and to the body.
 fn turning(t: Writing, f: Thing, ahead: &[u32], code: &mut [u32]) -> Writing
     requires { (t.here.at < 262144) × Slim 262143 (seen f) }
-    ensures by_index { (vs ly es : List ℕ) (us : List Used) (op ah en : List ℕ) → see result us op code.new ah en ≡ turning vs ly ahead.now es (seen f) (see t us op code.old ah en) }
+    ensures by_index { (vs ly es : List ℕ) (us : List Used) (op : List Thing) (ah en : List ℕ) → see result us op code.new ah en ≡ turning vs ly ahead.now es (seen f) (see t us op code.old ah en) }
     ensures alike { Alike t result × (result.here.at ≤ t.here.at + 3) × (result.open ≡ t.open) }
 {
     let compared = tested(t, f, parts::address_at(ahead, t.slots), code);
@@ -132,7 +132,7 @@ fn turning(t: Writing, f: Thing, ahead: &[u32], code: &mut [u32]) -> Writing
 // Then the step again, the addition, and back to the bound.
 fn stepping(t: Writing, f: Thing, c: Thing, ahead: &[u32], code: &mut [u32]) -> Writing
     requires { (t.here.at < 262144) × Slim 262143 (seen f) × Slim 262143 (seen c) }
-    ensures by_index { (vs ly es : List ℕ) (us : List Used) (op ah en : List ℕ) → see result us op code.new ah en ≡ stepping vs ly ahead.now es (seen f) (seen c) (see t us op code.old ah en) }
+    ensures by_index { (vs ly es : List ℕ) (us : List Used) (op : List Thing) (ah en : List ℕ) → see result us op code.new ah en ≡ stepping vs ly ahead.now es (seen f) (seen c) (see t us op code.old ah en) }
     ensures slots_value { (result.slots ≡ t.slots) × (result.open ≡ t.open) }
 {
     let gone = turning(t, f, ahead, code);
@@ -153,7 +153,7 @@ fn amount(
     t: Writing,
     c: Thing,
     ahead: &[u32],
-    things: &mut [usize; 32768],
+    things: &mut [Thing; 8192],
     next_ahead: &mut [u32],
     code: &mut [u32],
 ) -> Writing
@@ -173,7 +173,7 @@ fn once(
     t: Writing,
     f: Thing,
     ahead: &[u32],
-    things: &mut [usize; 32768],
+    things: &mut [Thing; 8192],
     next_ahead: &mut [u32],
     code: &mut [u32],
 ) -> Writing
@@ -189,7 +189,7 @@ fn whiled(
     t: Writing,
     f: Thing,
     ahead: &[u32],
-    things: &mut [usize; 32768],
+    things: &mut [Thing; 8192],
     next_ahead: &mut [u32],
     code: &mut [u32],
 ) -> Writing
@@ -209,7 +209,7 @@ fn whiled(
 // The value of an element is stored.
 fn started(t: Writing, f: Thing, code: &mut [u32]) -> Writing
     requires { (t.here.at < 262144) × Slim 262143 (seen f) }
-    ensures { (us : List Used) (op ah en : List ℕ) → see result us op code.new ah en ≡ on_cell 14 f.third f.third f.second (see t us op code.old ah en) }
+    ensures { (us : List Used) (op : List Thing) (ah en : List ℕ) → see result us op code.new ah en ≡ on_cell 14 f.third f.third f.second (see t us op code.old ah en) }
 {
     let name = Place { at: f.third };
     cells::on_cell(t, code, codes::STORE, name, name, f.second)
@@ -222,7 +222,7 @@ pub fn element_node(
     f: Thing,
     place: Place,
     ahead: &[u32],
-    things: &mut [usize; 32768],
+    things: &mut [Thing; 8192],
     next_ahead: &mut [u32],
     code: &mut [u32],
 ) -> Writing
@@ -239,12 +239,12 @@ pub fn element_node(
 }
 
 // Behind the last element: the slot of where it goes on, which is behind the loop.
-fn begun(t: Writing, f: Thing, things: &mut [usize; 32768], next_ahead: &mut [u32]) -> Writing
+fn begun(t: Writing, f: Thing, things: &mut [Thing; 8192], next_ahead: &mut [u32]) -> Writing
     requires { Fit t }
     ensures { (us : List Used) (co en : List ℕ) → see result us things.new co next_ahead.new en ≡ within t.level (t.loops + 1) t.cells (noted f.first (packed 0 0 t.here.at) (replaced (t.slots - 1) 0 0 0 (see t us things.old co next_ahead.old en))) }
 {
     parts::set_word(next_ahead, f.first, parts::going_to(t.here));
-    let mut r = putting::replace(t, things, parts::less(t.slots, 1), 0, 0, 0);
+    let mut r = putting::replace(t, things, t.slots.saturating_sub(1), 0, 0, 0);
     r.loops += 1;
     r
 }
@@ -252,9 +252,9 @@ fn begun(t: Writing, f: Thing, things: &mut [usize; 32768], next_ahead: &mut [u3
 // Behind the body.
 fn ended(t: Writing, f: Thing, next_ahead: &mut [u32], code: &mut [u32]) -> Writing
     requires { Fit t }
-    ensures { (us : List Used) (op en : List ℕ) → see result us op code.new next_ahead.new en ≡ noted f.first (packed 0 0 (t.here.at + 1)) (popped (within t.level (t.loops - 1) t.cells (put 9 0 (packed (t.loops - 1) 0 0) (see t us op code.old next_ahead.old en)))) }
+    ensures { (us : List Used) (op : List Thing) (en : List ℕ) → see result us op code.new next_ahead.new en ≡ noted f.first (packed 0 0 (t.here.at + 1)) (popped (within t.level (t.loops - 1) t.cells (put 9 0 (packed (t.loops - 1) 0 0) (see t us op code.old next_ahead.old en)))) }
 {
-    let around = parts::less(t.loops, 1);
+    let around = t.loops.saturating_sub(1);
     let mut r = putting::put(
         t,
         code,
@@ -273,7 +273,7 @@ pub fn loop_node(
     t: Writing,
     kind: u16,
     f: Thing,
-    things: &mut [usize; 32768],
+    things: &mut [Thing; 8192],
     next_ahead: &mut [u32],
     code: &mut [u32],
 ) -> Writing

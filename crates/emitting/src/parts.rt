@@ -1,28 +1,17 @@
 // Words in lent arrays, and operands with an address.
-ghost use Rattle.std.specs.Prelude.{◌≡◌, cond, ◌*◌, ◌-◌, ◌<◌, ltb, length, get_or, set, replicate, take};
+ghost use Rattle.std.specs.Prelude.{◌≡◌, cond, ◌*◌, ◌<◌, ltb, length, get_or, set, replicate, take};
 ghost use Rattle.emitting.specs.model.Layout.{packed};
 ghost use Rattle.emitting.specs.model.Emission.{place_at, mark_at};
 
 use answers::{Address, Declaration, Ordinal, Place};
 use machine::operands;
 
-// A number less another, 0 where that is greater.
-pub fn less(a: usize, b: usize) -> usize
-    ensures { result ≡ a - b }
-{
-    if a < b { 0 } else { a - b }
-}
-
 // A word of some, 0 behind them.
 pub fn word_at(words: &[u32], i: usize) -> usize
     ensures value { result ≡ get_or words.now i 0 }
     ensures upper_bound { result < 4294967296 }
 {
-    if i < words.len() {
-        words[i] as usize
-    } else {
-        0
-    }
+    words.get(i).copied().unwrap_or(0) as usize
 }
 
 // A word is written, if there is one.
@@ -39,28 +28,21 @@ pub fn set_word(words: &mut [u32], i: usize, v: usize)
 pub fn clear(words: &mut [u32])
     ensures { words.new ≡ replicate (length words.old) 0 }
 {
-    let mut i = 0;
-    while i < words.len() {
-        words[i] = 0;
-        i += 1;
-    }
+    words.fill(0);
 }
 
 // The words of d rows, of which there are no more than 8,192.
 pub fn row_words(d: usize) -> usize
     ensures { result ≡ cond (ltb d 8192) (4 * d) 32768 }
 {
-    if d < 8192 { 4 * d } else { 32768 }
+    4 * d.min(8192)
 }
 
 // The first n words, or all where there are no more.
 pub fn front(words: &[u16], n: usize) -> &[u16]
     ensures { result.now ≡ take n words.now }
 {
-    if n < words.len() {
-        return &words[..n];
-    }
-    words
+    &words[..n.min(words.len())]
 }
 
 // The place of a symbol, as an instruction has it: of 16 bits, 0 behind the last one.
@@ -68,24 +50,15 @@ pub fn place_in(places: &[usize], symbol: Ordinal) -> Place
     ensures at_value { result.at ≡ place_at places.now symbol.number }
     ensures at_bound { result.at < 65536 }
 {
-    let s = symbol.number as usize;
-    if s < places.len() {
-        return Place {
-            at: places[s] % 65536,
-        };
-    }
-    Place { at: 0 }
+    let place = places.get(symbol.number as usize).copied().unwrap_or(0);
+    Place { at: place % 65536 }
 }
 
 // The value of a symbol, 0 behind the last one.
 pub fn value_of(values: &[u64], symbol: Ordinal) -> u64
     ensures { result ≡ get_or values.now symbol.number 0 }
 {
-    let s = symbol.number as usize;
-    if s < values.len() {
-        return values[s];
-    }
-    0
+    values.get(symbol.number as usize).copied().unwrap_or(0)
 }
 
 // The mark of a symbol, 0 behind the last one.
@@ -93,21 +66,16 @@ pub fn mark_of(marks: &[u16], symbol: Ordinal) -> usize
     ensures value { result ≡ mark_at marks.now symbol.number }
     ensures upper_bound { result < 65536 }
 {
-    let s = symbol.number as usize;
-    if s < marks.len() {
-        return marks[s] as usize;
-    }
-    0
+    marks.get(symbol.number as usize).copied().unwrap_or(0) as usize
 }
 
 // The address in a slot, 0 behind the last one.
 pub fn address_at(ahead: &[u32], slot: usize) -> Address
     ensures { result.at ≡ get_or ahead.now slot 0 }
 {
-    if slot < ahead.len() {
-        return Address { at: ahead[slot] };
+    Address {
+        at: ahead.get(slot).copied().unwrap_or(0),
     }
-    Address { at: 0 }
 }
 
 // The address of a procedure, by its declaration.

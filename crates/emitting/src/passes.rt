@@ -3,88 +3,39 @@ ghost use Rattle.std.specs.Prelude.{◌≡◌, ◌≤◌, length};
 ghost use Rattle.emitting.specs.model.Layout.{layout_of};
 ghost use Rattle.emitting.specs.model.Emission.{uses_in, place_at, emitted, code_of};
 
+use crate::Known;
 use crate::emission::pass;
 use crate::layout::layout;
 
 // The code, where what lies ahead is known.
-fn again(
-    nodes: &[u16],
-    uses: &[u16],
-    rows: &[u16],
-    places: &[usize; 2048],
-    marks: &[u16],
-    values: &[u64],
-    laid: &[u32],
-    ahead: &[u32],
-    entries: &[u32],
-    code: &mut [u32],
-)
+fn again(nodes: &[u16], uses: &[u16], known: &Known, code: &mut [u32])
     requires { length nodes.now ≤ 32768 }
-    ensures { code.new ≡ (emitted values.now laid.now ahead.now entries.now rows.now marks.now (length code.old) (place_at places.now) nodes.now (uses_in rows.now uses.now)).code }
+    ensures { code.new ≡ (emitted known.now.values.now known.now.layout.now known.now.ahead.now known.now.entries.now known.now.rows.now known.now.marks.now (length code.old) (place_at known.now.places.now) nodes.now (uses_in known.now.rows.now uses.now)).code }
 {
     let mut next_ahead = [0u32; 8192];
     let mut next_entries = [0u32; 2048];
-    pass(
-        nodes,
-        uses,
-        rows,
-        places,
-        marks,
-        values,
-        laid,
-        ahead,
-        entries,
-        &mut next_ahead,
-        &mut next_entries,
-        code,
-    )
+    pass(nodes, uses, known, &mut next_ahead, &mut next_entries, code)
 }
 
 // What lies ahead is found, then the code is written.
-fn twice(
-    nodes: &[u16],
-    uses: &[u16],
-    rows: &[u16],
-    places: &[usize; 2048],
-    marks: &[u16],
-    values: &[u64],
-    laid: &[u32],
-    code: &mut [u32],
-)
+fn twice(nodes: &[u16], uses: &[u16], known: &Known, code: &mut [u32])
     requires { length nodes.now ≤ 32768 }
-    ensures { code.new ≡ code_of (length code.old) (place_at places.now) values.now laid.now rows.now marks.now nodes.now (uses_in rows.now uses.now) }
+    ensures { code.new ≡ code_of (length code.old) (place_at known.now.places.now) known.now.values.now known.now.layout.now known.now.rows.now known.now.marks.now nodes.now (uses_in known.now.rows.now uses.now) }
 {
-    let nothing = &laid[..0];
+    let nothing = Known {
+        ahead: &[],
+        entries: &[],
+        ..*known
+    };
     let mut ahead = [0u32; 8192];
     let mut entries = [0u32; 2048];
-    pass(
-        nodes,
-        uses,
-        rows,
-        places,
-        marks,
-        values,
-        laid,
-        nothing,
-        nothing,
-        &mut ahead,
-        &mut entries,
-        code,
-    );
-    let all_ahead = &ahead;
-    let all_entries = &entries;
-    again(
-        nodes,
-        uses,
-        rows,
-        places,
-        marks,
-        values,
-        laid,
-        all_ahead,
-        all_entries,
-        code,
-    )
+    pass(nodes, uses, &nothing, &mut ahead, &mut entries, code);
+    let found = Known {
+        ahead: &ahead,
+        entries: &entries,
+        ..*known
+    };
+    again(nodes, uses, &found, code)
 }
 
 // The cells are laid out, then the code is written.
@@ -102,6 +53,14 @@ pub fn laid_out(
 {
     let mut cells = [0u32; 2048];
     layout(nodes, rows, &mut cells);
-    let all_cells = &cells;
-    twice(nodes, uses, rows, places, marks, values, all_cells, code)
+    let known = Known {
+        rows,
+        places,
+        marks,
+        values,
+        layout: &cells,
+        ahead: &[],
+        entries: &[],
+    };
+    twice(nodes, uses, &known, code)
 }

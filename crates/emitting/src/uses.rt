@@ -1,10 +1,11 @@
 // What a use means, from the number that is kept for it.
 ghost use Rattle.std.specs.Prelude.{◌≡◌, cond, List, ℕ, ◌*◌, ◌-◌, ◌%◌, ◌<◌, eqb, get_or, drop};
 ghost use Rattle.names.specs.model.Rows.{meant_of};
+ghost use Rattle.emitting.specs.declared.Thing.{Thing};
 ghost use Rattle.emitting.specs.model.Emission.{formal_at, form_of, form_at, used_as, uses_in, kind_next, means_next, others_next, with_uses};
 ghost use Rattle.emitting.specs.model.Arrays.{see, Alike};
 
-use crate::{Named, Writing, parts};
+use crate::{Named, Writing};
 use answers::Declaration;
 use grammar::nodes;
 use names::Meant;
@@ -15,41 +16,32 @@ pub fn row_word(rows: &[u16], at: usize) -> usize
     ensures value { result ≡ get_or rows.now at 0 }
     ensures upper_bound { result < 65536 }
 {
-    if at < rows.len() {
-        return rows[at] as usize;
-    }
-    0
+    rows.get(at).copied().unwrap_or(0) as usize
 }
 
 // A formal's kind as its row has it.
 const FORMAL: usize = nodes::FORMAL as usize;
 
-// Row i as a formal's: 0 it is of no formal, 1 called by value, 2 called by name.
-pub fn formal_at(rows: &[u16], i: usize) -> usize
+// Whether row i is of a formal called by name.
+#[tactic(auto, unfolding(crate::specs::model::Emission::formal_at))]
+pub fn is_by_name(rows: &[u16], i: usize) -> bool
     requires { i < 8589934592 }
-    ensures { result ≡ formal_at rows.now i }
+    ensures { result ≡ eqb (formal_at rows.now i) 2 }
 {
-    if row_word(rows, 4 * i) == FORMAL {
-        if row_word(rows, 4 * i + 3) < 4 {
-            return 1;
-        }
-        return 2;
-    }
-    0
+    row_word(rows, 4 * i) == FORMAL && row_word(rows, 4 * i + 3) >= 4
 }
 
 // A type as an instruction has it: 0 whole number, 1 real, 2 Boolean.
+#[tactic(auto, unfolding(crate::specs::model::Emission::form_of))]
 fn form_of(sort: usize) -> usize
     ensures value { result ≡ form_of sort }
     ensures upper_bound { result < 3 }
 {
-    if sort == 3 {
-        return 1;
+    match sort {
+        3 => 1,
+        2 => 2,
+        _ => 0,
     }
-    if sort == 2 {
-        return 2;
-    }
-    0
 }
 
 // That of declaration i.
@@ -67,10 +59,10 @@ fn kind_of(d: Declaration, rows: &[u16]) -> usize
     ensures value { result ≡ cond (eqb (formal_at rows.now d.number) 2) 4 (get_or rows.now (4 * d.number) 0 % 65536 - 4) }
     ensures upper_bound { result < 65536 }
 {
-    if formal_at(rows, d.number) == 2 {
+    if is_by_name(rows, d.number) {
         return 4;
     }
-    parts::less(row_word(rows, 4 * d.number), 4)
+    row_word(rows, 4 * d.number).saturating_sub(4)
 }
 
 // The use that is kept as a number: of a declaration its kind stands in its row.
@@ -87,7 +79,7 @@ fn meaning(word: u16, rows: &[u16]) -> Named
             kind: 0,
             means: e.number as usize,
         },
-        Meant::Nothing => Named { kind: 0, means: 0 },
+        Meant::Nothing => Named::default(),
     }
 }
 
@@ -96,22 +88,19 @@ pub fn next(t: Writing, uses: &[u16], rows: &[u16]) -> Named
     ensures kind_value { (result.kind ≡ kind_next (drop t.uses (uses_in rows.now uses.now))) × (result.means ≡ means_next (drop t.uses (uses_in rows.now uses.now))) }
     ensures kind_bound { (result.kind < 65536) × (result.means < 65536) }
 {
-    let at = t.uses;
-    if at < uses.len() {
-        return meaning(uses[at], rows);
+    if t.uses < uses.len() {
+        return meaning(uses[t.uses], rows);
     }
-    Named { kind: 0, means: 0 }
+    Named::default()
 }
 
 // The uses behind it.
 pub fn passed(mut t: Writing, uses: &[u16]) -> Writing
-    ensures en_value { (rows op co ah en : List ℕ) → see result (uses_in rows uses.now) op co ah en ≡ with_uses (others_next (drop t.uses (uses_in rows uses.now))) (see t (uses_in rows uses.now) op co ah en) }
+    ensures en_value { (rows : List ℕ) (op : List Thing) (co ah en : List ℕ) → see result (uses_in rows uses.now) op co ah en ≡ with_uses (others_next (drop t.uses (uses_in rows uses.now))) (see t (uses_in rows uses.now) op co ah en) }
     ensures alike { Alike t result × (result.here.at ≡ t.here.at) × (result.open ≡ t.open) }
 {
-    let at = t.uses;
-    if at < uses.len() {
-        t.uses = at + 1;
-        return t;
+    if t.uses < uses.len() {
+        t.uses += 1;
     }
     t
 }

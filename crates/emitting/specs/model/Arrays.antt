@@ -30,20 +30,20 @@ pub record Spread (i : ℕ) (st : Laying) : Type 0 where
 
 -- ---- the code
 
--- four numbers a thing
-abbrev pub thing_at : List ℕ → ℕ → Opened
-thing_at things n = opened (get_or things (4 * n) 0) (get_or things (4 * n + 1) 0) (get_or things (4 * n + 2) 0) (get_or things (4 * n + 3) 0)
-
-unfoldable pub things_of : ℕ → List ℕ → List Opened
-things_of zero things = []
-things_of (suc n) things = thing_at things n ∷ things_of n things
-
 abbrev pub seen : Thing → Opened
 seen f = opened f.first f.second f.third f.fourth
 
-abbrev pub see : Writing → List Used → List ℕ → List ℕ → List ℕ → List ℕ → State
+abbrev pub nothing : Thing
+nothing = record { first = 0; second = 0; third = 0; fourth = 0 }
+
+-- the first n of them, newest first
+unfoldable pub things_of : ℕ → List Thing → List Opened
+things_of zero things = []
+things_of (suc n) things = seen (get_or things n nothing) ∷ things_of n things
+
+abbrev pub see : Writing → List Used → List Thing → List ℕ → List ℕ → List ℕ → State
 see t uses things code ahead entries =
-    record { uses = drop t.uses uses; at = t.here.at; slots = t.slots; level = t.level; loops = t.loops; cells = t.cells; lefts = t.lefts; awaits = t.awaits; variable = t.variable; declared = t.declared; open_ones = things_of t.open things; code = code; ahead = ahead; entries = entries }
+    record { uses = drop t.uses uses; at = t.here.at; slots = t.slots; level = t.level; loops = t.loops; cells = t.cells; lefts = t.lefts; awaits = cond t.awaits 1 0; variable = t.variable; declared = t.declared; open_ones = things_of t.open things; code = code; ahead = ahead; entries = entries }
 
 -- the counts that an instruction, or something opened or closed, leaves alone
 pub record Alike (t r : Writing) : Type 0 where

@@ -5,4 +5,4 @@ use Rattle.emitting.proofs.calls.called_with.Goals as goal
 
 pub returns : goal.returns
 unfolding called_with
-returns c = λ vs ks us op ah en. rw (c.operand-v.ensures.value, c.less-out.ensures, c.high.ensures, c.word_at.ensures.value, c.result_of.ensures.by_index vs ks c.args.entries.now, c.entry_of.ensures) at (c.put.ensures.en_after us op ah en)
+returns c = λ vs ks us op ah en. rw (c.operand-v.ensures.value, c.saturating_sub-out.ensures, c.high-around.ensures, c.word_at.ensures.value, c.result_of.ensures.by_index vs ks c.args.known.now.entries.now, c.entry_of-entry.ensures, c.declaration.ensures) at (c.put.ensures.en_after us op ah en)

@@ -14,14 +14,14 @@ begun-requires c =
     let p = c.requires in
     (omega (arith, f.1, g.1, p.0), omega (arith, f.0.slots, g.0.slots, p.1), omega (arith, f.0.level, g.0.level, p.2), omega (arith, f.2, g.2, p.3), p.4, omega arith)
 
-pub returns-then-k-eq2 : goal.returns-then-k-eq2
+pub returns-then-name-eq2 : goal.returns-then-name-eq2
 unfolding calling
-returns-then-k-eq2 c =
+returns-then-name-eq2 c =
     let a = c.args in
-    λ vs es us ah en. simp (eq-eqb _ _ c.if-k-eq2.true) (rw c.form_at-form.ensures.value at (c.begun.ensures vs a.layout.now es us ah en ∙ ap (begun vs a.layout.now a.ahead.now es a.rows.now a.m 0 (a.d + 1)) (c.push-s.ensures.en_after us _ ah en ∙ ap (pushed 2 a.m 0 (a.d + 1)) (c.result_for-r.ensures.by_index vs a.ahead.now es us a.things.now ah en))))
+    λ vs es us ah en. simp (eq-eqb _ _ c.if-name-eq2.true) (rw c.form_at-form.ensures.value at (c.begun.ensures vs a.known.now.layout.now es us ah en ∙ ap (begun vs a.known.now.layout.now a.known.now.ahead.now es a.known.now.rows.now a.name.means 0 (a.d + 1)) (c.push-s.ensures.en_after us _ ah en ∙ ap (pushed 2 a.name.means 0 (a.d + 1)) (c.result_for-r.ensures.by_index vs a.known.now.ahead.now es us a.things.now ah en))))
 
 pub returns : goal.returns
 unfolding calling
 returns c =
     let a = c.args in
-    λ vs es us ah en. simp (ne_eqb _ _ c.if-k-eq2.false) (rw c.form_at-form.ensures.value at (c.push.ensures.en_after us _ ah en ∙ ap (pushed a.k a.m 0 0) (c.result_for-r.ensures.by_index vs a.ahead.now es us a.things.now ah en)))
+    λ vs es us ah en. simp (ne_eqb _ _ c.if-name-eq2.false) (rw c.form_at-form.ensures.value at (c.push.ensures.en_after us _ ah en ∙ ap (pushed a.name.kind a.name.means 0 0) (c.result_for-r.ensures.by_index vs a.known.now.ahead.now es us a.things.now ah en)))

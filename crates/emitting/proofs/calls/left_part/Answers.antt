@@ -7,4 +7,4 @@ use Rattle.emitting.proofs.calls.left_part.Goals as goal
 
 pub returns : goal.returns
 unfolding with_lefts pushed with_open
-returns c = λ vs ks es us co ah en. rw (c.cell_of.ensures.by_index vs ks es) at (ap (λ (z : State). with_lefts (z.lefts + 1) z) (c.push-r.ensures.en_after us co ah en))
+returns c = λ vs ks es us co ah en. rw (c.cell_of-v.ensures.by_index vs ks es) at (ap (λ (z : State). with_lefts (z.lefts + 1) z) (c.push-r.ensures.en_after us co ah en))

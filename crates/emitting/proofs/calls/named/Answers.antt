@@ -1,24 +1,25 @@
 -- `emitting::calls::named` meets its contract: by the kind of what the name means.
 -- Assumes nothing.
 use mathlib.Core.Path.{ap, ◌∙◌}
-use borrow.Author.Tests.{eq-eqb, ne_eqb}
+use borrow.Author.Tests.{ne_eqb}
 use Rattle.emitting.specs.model.Emission.{named, dropped, called_with}
 use Rattle.emitting.proofs.calls.named.Goals as goal
 
-pub returns-then-k-eq0 : goal.returns-then-k-eq0
+pub returns-in-0 : goal.returns-in-0
 unfolding named
-returns-then-k-eq0 c =
+returns-in-0 c =
     let a = c.args in
-    λ vs ks us op ah en. simp (eq-eqb _ _ c.if-k-eq0.true) (c.dropped.ensures vs a.layout.now ks a.entries.now us op ah en ∙ ap (dropped vs a.layout.now ks a.entries.now a.u) (c.put.ensures.en_after us op ah en))
+    λ vs ks us op ah en. simp c.in-0.is (c.dropped.ensures vs a.known.now.layout.now ks a.known.now.entries.now us op ah en ∙ ap (dropped vs a.known.now.layout.now ks a.known.now.entries.now a.u) (c.put-r.ensures.en_after us op ah en))
 
-pub returns-then-k-eq2 : goal.returns-then-k-eq2
+pub returns-in-2 : goal.returns-in-2
 unfolding named
-returns-then-k-eq2 c =
+returns-in-2 c =
     let a = c.args in
-    λ vs ks us op ah en. simp (ne_eqb _ _ c.if-k-eq0.false, eq-eqb _ _ c.if-k-eq2.true) (c.called_with.ensures vs ks us op ah en ∙ ap (called_with vs a.layout.now ks a.entries.now a.k a.m 0 a.u a.place.at) (c.result_for-r.ensures.by_index vs ks a.entries.now us op ah en))
+    λ vs ks us op ah en. simp c.in-2.is (rw c.in-2.is at (c.called_with.ensures vs ks us op ah en ∙ ap (called_with vs a.known.now.layout.now ks a.known.now.entries.now a.name.kind a.name.means 0 a.u a.place.at) (c.result_for-r.ensures.by_index vs ks a.known.now.entries.now us op ah en)))
 
-pub returns : goal.returns
+pub returns-in_default : goal.returns-in_default
 unfolding named
-returns c =
+returns-in_default c =
     let a = c.args in
-    λ vs ks us op ah en. simp (ne_eqb _ _ c.if-k-eq0.false, ne_eqb _ _ c.if-k-eq2.false) (rw (c.reading.ensures.value, c.bare-v.ensures.value, c.cell_of.ensures.by_index vs ks a.entries.now) at (c.put-2.ensures.en_after us op ah en))
+    let r = c.in_default.in_default-own.rest in
+    λ vs ks us op ah en. simp (ne_eqb _ _ r.1, ne_eqb _ _ r.0.1) (rw (c.reading.ensures.value, c.bare-v.ensures.value, c.cell_of.ensures.by_index vs ks a.known.now.entries.now) at (c.put.ensures.en_after us op ah en))

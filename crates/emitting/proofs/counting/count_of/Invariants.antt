@@ -12,6 +12,3 @@ invariant-loop-i l =
     (fold_nodes (counting l.scope l.sort) (drop (4 * l.i) l.rows) l.n ≡ fold_nodes (counting l.scope l.sort) l.rows 0)
     × (4 * l.i ≤ length l.rows)
     × (l.n ≤ l.i)
-
-abbrev pub decreases-loop-i : goal.decreases-loop-i
-decreases-loop-i l = length l.rows - 4 * l.i

@@ -3,4 +3,4 @@
 use Rattle.emitting.proofs.emission.left_at.Goals as goal
 
 pub returns : goal.returns
-returns c = rw c.less.ensures at c.top.ensures
+returns c = rw c.saturating_sub.ensures at c.top.ensures

@@ -19,7 +19,7 @@ returns c =
     let g = c.requires in
     let a = c.clear.ensures ∙ ap (λ (n : ℕ). replicate n 0) g.1 in
     let b = c.clear-2.ensures ∙ ap (λ (n : ℕ). replicate n 0) g.2 in
-    let f = begins (uses_in x.rows.now x.uses.now) (length x.code.now) c.clear-3.ensures a b in
+    let f = begins (uses_in x.known.now.rows.now x.uses.now) (length x.code.now) c.clear-3.ensures a b in
     let r = c.walk.ensures in
-    let e : State → State = emitted_from (place_at x.places.now) x.values.now x.layout.now x.ahead.now x.entries.now x.rows.now x.marks.now x.nodes.now in
+    let e : State → State = emitted_from (place_at x.known.now.places.now) x.known.now.values.now x.known.now.layout.now x.known.now.ahead.now x.known.now.entries.now x.known.now.rows.now x.known.now.marks.now x.nodes.now in
     record { code_after = r.code_after ∙ ap (λ (st : State). (e st).code) f; next_ahead_after = r.next_ahead_after ∙ ap (λ (st : State). (e st).ahead) f; next_entries_after = r.next_entries_after ∙ ap (λ (st : State). (e st).entries) f }

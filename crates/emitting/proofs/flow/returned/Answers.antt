@@ -8,4 +8,4 @@ use Rattle.emitting.proofs.flow.returned.Goals as goal
 pub returns : goal.returns
 unfolding within popped with_open put with_variable
 returns c =
-    λ us op ah en. rw c.less.ensures (ap (λ (z : State). with_variable z.awaits 1 (within (c.args.t.level - 1) c.args.c.first z.cells z)) (c.pop-r.ensures.en_value us op _ ah en ∙ ap popped (c.put.ensures.en_after us op ah en)))
+    λ us op ah en. rw c.saturating_sub.ensures (ap (λ (z : State). with_variable z.awaits 1 (within (c.args.t.level - 1) c.args.c.first z.cells z)) (c.pop-r.ensures.en_value us op _ ah en ∙ ap popped (c.put.ensures.en_after us op ah en)))

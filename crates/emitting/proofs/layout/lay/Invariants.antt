@@ -14,6 +14,3 @@ invariant-loop-i l =
     × (fold_nodes (lay_node l.rows) (drop (4 * l.i) l.nodes) (lain l.t l.around l.table) ≡ fold_nodes (lay_node l.rows) l.nodes (unlaid_in l.initial.table))
     × (4 * l.i ≤ length l.nodes)
     × (length l.table ≡ length l.initial.table)
-
-abbrev pub decreases-loop-i : goal.decreases-loop-i
-decreases-loop-i l = length l.nodes - 4 * l.i

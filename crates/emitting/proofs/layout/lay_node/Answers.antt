@@ -40,7 +40,7 @@ returns-in-6 c = λ s b. simp c.in-6.is c.procedured.ensures
 
 pub returns-in-11 : goal.returns-in-11
 unfolding lay_node
-returns-in-11 c = λ s b. simp (c.in-11.is, sym c.less.ensures) (c.closed.ensures c.args.table.now)
+returns-in-11 c = λ s b. simp (c.in-11.is, sym c.saturating_sub.ensures) (c.closed.ensures c.args.table.now)
 
 pub returns-in-1 : goal.returns-in-1
 unfolding lay_node

@@ -11,4 +11,4 @@ pub returns : goal.returns
 unfolding within noted with_open replaced
 returns c =
     let w = set c.args.next_ahead.now c.args.f.first (packed 0 0 c.args.t.here.at) in
-    λ us co en. rw (c.set_word.ensures, c.going_to.ensures.value) (rw c.less.ensures at (ap (λ (z : State). within z.level (z.loops + 1) z.cells z) (c.replace-r.ensures.en_after us co w en)))
+    λ us co en. rw (c.set_word.ensures, c.going_to.ensures.value) (rw c.saturating_sub.ensures at (ap (λ (z : State). within z.level (z.loops + 1) z.cells z) (c.replace-r.ensures.en_after us co w en)))

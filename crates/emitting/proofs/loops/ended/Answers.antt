@@ -12,4 +12,4 @@ unfolding within noted popped with_open put
 returns c =
     let w = set c.args.next_ahead.now c.args.f.first (packed 0 0 (c.args.t.here.at + 1)) in
     λ us op en. rw (c.set_word.ensures, c.going_to.ensures.value)
-    (rw (c.packed.ensures.value, c.less-around.ensures) at (c.pop.ensures.en_value us op _ w en ∙ ap (λ (z : State). popped (within z.level c.less-around.result z.cells z)) (c.put-r.ensures.en_after us op w en)))
+    (rw (c.packed.ensures.value, c.saturating_sub-around.ensures) at (c.pop.ensures.en_value us op _ w en ∙ ap (λ (z : State). popped (within z.level c.saturating_sub-around.result z.cells z)) (c.put-r.ensures.en_after us op w en)))

@@ -8,4 +8,5 @@ use Rattle.emitting.proofs.passes.twice.Goals as goal
 pub returns : goal.returns
 returns c =
     let a = c.args in
-    second_run (length a.code.now) (place_at a.places.now) a.values.now a.laid.now a.rows.now a.marks.now a.nodes.now (uses_in a.rows.now a.uses.now) c.again.ensures c.pass.auto.code c.pass.ensures.next_ahead_after c.pass.ensures.next_entries_after
+    let k = a.known.now in
+    second_run (length a.code.now) (place_at k.places.now) k.values.now k.layout.now k.rows.now k.marks.now a.nodes.now (uses_in k.rows.now a.uses.now) c.again.ensures c.pass.auto.code c.pass.ensures.next_ahead_after c.pass.ensures.next_entries_after

@@ -1,6 +1,6 @@
 -- `emitting::uses::meaning` meets its contract: what the number stands for says which two numbers they are; a declaration's number is small.
 -- Assumes nothing.
-use mathlib.Core.Path.{refl, sym, ◌∙◌}
+use mathlib.Core.Path.{◌≡◌, refl, sym, ◌∙◌}
 use native.Mathlib.Omega.{arith}
 use Rattle.emitting.proofs.NextUses.{declared_small, given_small, declared_use, given_use, no_use}
 use Rattle.emitting.proofs.uses.meaning.Goals as goal
@@ -21,4 +21,7 @@ returns-in-Given c =
     record { kind_value = given_use c.args.rows.now c.args.word c.in-Given.e e refl refl; kind_bound = (omega arith, omega arith) }
 
 pub returns-in-Nothing : goal.returns-in-Nothing
-returns-in-Nothing c = record { kind_value = no_use c.args.rows.now c.args.word (sym c.meant.ensures ∙ c.in-Nothing.is) refl refl; kind_bound = (omega arith, omega arith) }
+returns-in-Nothing c =
+    let x : c.default.result.kind ≡ 0 = omega (arith, c.default.ensures) in
+    let y : c.default.result.means ≡ 0 = omega (arith, c.default.ensures) in
+    record { kind_value = no_use c.args.rows.now c.args.word (sym c.meant.ensures ∙ c.in-Nothing.is) x y; kind_bound = (omega arith, omega arith) }
