@@ -2,8 +2,8 @@
 -- Assumes nothing.
 use mathlib.Core.Path.{◌≡◌, refl, sym, ap, ◌∙◌, subst}
 use mathlib.Core.Bool.{Bool, true, false, cond, ◌&&◌}
-use Prim.Native.Nat.{ℕ, zero, suc, ◌+◌, ◌*◌, ◌-◌, ◌/◌, ◌%◌, ◌^◌, ◌≤◌, ◌<◌, compare, Ordering, max}
-use native.Mathlib.Nat.{pow-suc, pow-succ', add-mul, mul-le-mul_right, div-div-eq-div-mul, div-add-mod', mod-lt, div-lt_iff_lt-mul, le-div_iff_mul-le, le_trans, lt_of_lt_of_le, le_refl, le_of_eq, lt_trans, pow-le-pow_right, lt_of_not-le, not-le_of_lt, le_of_lt, div-eq_of_lt, max-le, max-eq_right}
+use Prim.Native.Nat.{ℕ, zero, suc, ◌+◌, ◌*◌, ◌-◌, ◌/◌, ◌%◌, ◌^◌, ◌≤◌, ◌<◌, compare, Ordering}
+use native.Mathlib.Nat.{pow-suc, pow-succ', add-mul, mul-le-mul_right, div-div-eq-div-mul, div-add-mod', mod-lt, div-lt_iff_lt-mul, le-div_iff_mul-le, le_trans, lt_of_lt_of_le, le_refl, le_of_eq, lt_trans, pow-le-pow_right, lt_of_not-le, not-le_of_lt, le_of_lt, div-eq_of_lt, max-le}
 use native.Mathlib.Omega.{arith}
 use native.Mathlib.Numerals.{add-one}
 use lib.Arith.{mod-mul}
@@ -263,40 +263,12 @@ module _ (n : ℕ) where
   places_zero (suc t) h = places_step t true (lt-ltb n (10 ^ t) (omega (arith, ten_pos t))) ∙ places_zero t h
 
 -- one digit less
-places_tenth : (t n : ℕ) → 0 < n → places_to (suc t) n ≡ suc (places_to t (n / 10))
-unfolding places_to
-places_tenth zero n h = places_step n 0 false (le-ltb n 1 h)
-places_tenth (suc t) n h = go (ltb n (10 ^ suc t)) refl (places_tenth t n h)
-  where
-    go : (b : Bool) → ltb n (10 ^ suc t) ≡ b → places_to (suc t) n ≡ suc (places_to t (n / 10)) → places_to (suc (suc t)) n ≡ suc (places_to (suc t) (n / 10))
-    go true e ih = places_step n (suc t) true e ∙ ih ∙ ap suc (sym (places_step (n / 10) t true (lt-ltb (n / 10) (10 ^ t) ((div-lt_iff_lt-mul (omega arith)).1 (subst (λ (x : ℕ). n < x) (pow-suc 10 t) (ltb-true n (10 ^ suc t) e))))))
-    go false e ih = places_step n (suc t) false e ∙ ap suc (sym (places_step (n / 10) t false (le-ltb (n / 10) (10 ^ t) ((le-div_iff_mul-le (omega arith)).1 (subst (λ (x : ℕ). x ≤ n) (pow-suc 10 t) (ltb-false n (10 ^ suc t) e))))))
-
-pub places_next : (most n r : ℕ) → n ≤ most → 0 < r → r < 10 ^ (most - n)
-    → (n + 1 ≤ most) × (n + places_to (most - n) r ≡ n + 1 + places_to (most - (n + 1)) (r / 10)) × (r / 10 < 10 ^ (most - (n + 1)))
-places_next most n r h p l = go (most - n) refl
-  where
-    shift : (a b : ℕ) → a + suc b ≡ a + 1 + b
-    shift a b = omega arith
-
-    go : (t : ℕ) → most - n ≡ t → (n + 1 ≤ most) × (n + places_to (most - n) r ≡ n + 1 + places_to (most - (n + 1)) (r / 10)) × (r / 10 < 10 ^ (most - (n + 1)))
-    go zero e = absurd (not-le_of_lt (subst (λ (x : ℕ). r < 10 ^ x) e l) p)
-    go (suc t) e =
-        let f : most - (n + 1) ≡ t = omega arith in (
-          omega arith,
-          ap (λ (x : ℕ). n + places_to x r) e ∙ ap (λ (x : ℕ). n + x) (places_tenth t r p) ∙ shift n (places_to t (r / 10)) ∙ ap (λ (x : ℕ). n + 1 + places_to x (r / 10)) (sym f),
-          subst (λ (x : ℕ). r / 10 < 10 ^ x) (sym f) ((div-lt_iff_lt-mul (omega arith)).1 (subst (λ (x : ℕ). r < x) (pow-suc 10 t) (subst (λ (x : ℕ). r < 10 ^ x) e l))),
-        )
-
--- ---- the width of a number
-
-pub width_zero : (c : ℕ) → c ≡ 0 → 1 ≡ width c
-unfolding width
-width_zero c e = sym (ap (λ (x : ℕ). max 1 x) (places_zero c 20 e))
-
-pub width_some : (c : ℕ) → (c ≡ 0 → ⊥) → places_to 20 c ≡ width c
-unfolding width
-width_some c n = sym (max-eq_right (places_least c 20 0 (omega (arith, n)) (omega arith)))
+-- by the greatest power of ten within
+pub places_log : (c n : ℕ) → 10 ^ n ≤ c → c < 10 * 10 ^ n → n < 20 → n + 1 ≡ places_to 20 c
+places_log c n h l k =
+    let few : places_to 20 c ≤ suc n = places_few c 20 (suc n) (subst (λ (x : ℕ). c < x) (sym (pow-succ' 10 n)) l) in
+    let least = places_least c 20 n h k in
+    omega arith
 
 pub width_few : (c k : ℕ) → 0 < k → c < 10 ^ k → width c ≤ k
 unfolding width

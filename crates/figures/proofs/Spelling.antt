@@ -2,14 +2,15 @@
 -- Assumes nothing.
 use mathlib.Core.Path.{◌≡◌, refl, sym, ap, ◌∙◌, subst}
 use mathlib.Core.List.{List, [], ◌∷◌, ◌++◌}
-use mathlib.Core.Bool.{Bool, true, false, cond}
+use mathlib.Core.Bool.{Bool, true, false, cond, ◌&&◌}
 use Prim.Native.Nat.{ℕ, zero, suc, ◌+◌, ◌*◌, ◌-◌, ◌/◌, ◌%◌, ◌^◌, ◌≤◌, ◌<◌}
 use native.Mathlib.Nat.{pow-suc, pow-succ', mul_assoc, mul-add, add-mul, zero-mul, mul-zero, mul-suc, one-mul, add-zero, add-suc, zero-add, one-le-pow, add-mul-div_left, add-mul-mod_self_left, div-eq_of_lt, mod-eq_of_lt, mod-lt, mod-add-div, mul-le-mul, le-mul_of_pos_right, pos_of_ne-zero, le_refl, le_trans, lt_irrefl, lt_of_le_of_lt, mul-le-mul_left, pow-le-pow_right}
 use native.Mathlib.Omega.{arith}
 use lib.ListN.{length, take, drop, get_or, set, length-set, take-append-drop, replicate}
-use lib.Seq.{take-suc, drop-cons, take-suc-set, get_or-set_same, get_or-set_other, length-take-le, get_or-take, take-length, drop-length}
+use lib.Seq.{take-suc, drop-cons, take-suc-set, get_or-set_same, get_or-set_other, length-take-le, take-length, drop-length}
 use lib.Dec.{eqb}
 use borrow.Author.Tests.{lt-ltb, le-ltb, eq-eqb, ne_eqb, eqb-true, eqb-false}
+use Rattle.std.specs.List.{list_all}
 use Rattle.figures.specs.Digits.{value, Digits, places_to}
 
 pub ten_pos : (n : ℕ) → 0 < 10 ^ n
@@ -72,7 +73,7 @@ value_div l j k h =
     ap (λ (x : ℕ). x / 10 ^ j) (value_split l j k) ∙ add-mul-div_left (value (take j l)) (value (drop j l)) (ten_pos j)
     ∙ ap (λ (x : ℕ). x + value (drop j l)) (div-eq_of_lt (take_lt l j k h)) ∙ zero-add (value (drop j l))
 
-value_mod : (l : List ℕ) (j : ℕ) → j ≤ length l → Digits l → value l % 10 ^ j ≡ value (take j l)
+pub value_mod : (l : List ℕ) (j : ℕ) → j ≤ length l → Digits l → value l % 10 ^ j ≡ value (take j l)
 value_mod l j k h =
     ap (λ (x : ℕ). x % 10 ^ j) (value_split l j k) ∙ add-mul-mod_self_left (value (take j l)) (10 ^ j) (value (drop j l)) ∙ mod-eq_of_lt (take_lt l j k h)
 
@@ -179,17 +180,16 @@ places_less t l h w z e =
 
 -- ---- the lowest digits
 
-zero_digits : (l : List ℕ) (i : ℕ) → value l ≡ 0 → get_or l i 0 ≡ 0
+ten_zero : (d v : ℕ) → d ≡ 0 → eqb v 0 ≡ eqb (d + 10 * v) 0
+ten_zero d zero e = sym (eq-eqb (d + 10 * 0) 0 (omega arith))
+ten_zero d (suc v) e = ne_eqb (suc v) 0 (λ (e : suc v ≡ 0). absurd (omega arith)) ∙ sym (ne_eqb (d + 10 * suc v) 0 (λ (e : d + 10 * suc v ≡ 0). absurd (omega arith)))
+
+-- all are 0 exactly where the number is
+pub all_zero : (l : List ℕ) → list_all (λ d. eqb d 0) l ≡ eqb (value l) 0
 unfolding value
-zero_digits [] i h = refl
-zero_digits (d ∷ l) zero h = omega arith
-zero_digits (d ∷ l) (suc i) h = zero_digits l i (omega arith)
-
-pub not_clean : (l : List ℕ) (j i : ℕ) → j ≤ length l → Digits l → i < j → (get_or l i 0 ≡ 0 → ⊥) → eqb (value l % 10 ^ j) 0 ≡ false
-not_clean l j i h w k n = ne_eqb (value l % 10 ^ j) 0 (λ (e : value l % 10 ^ j ≡ 0). n (sym (get_or-take j l i 0 k) ∙ zero_digits (take j l) i (sym (value_mod l j h w) ∙ e)))
-
-pub is_clean : (l : List ℕ) (j : ℕ) → j ≤ length l → Digits l → value (take j l) ≡ 0 → eqb (value l % 10 ^ j) 0 ≡ true
-is_clean l j h w e = eq-eqb (value l % 10 ^ j) 0 (value_mod l j h w ∙ e)
+all_zero [] = refl
+all_zero (zero ∷ l) = all_zero l ∙ ten_zero 0 (value l) refl
+all_zero (suc d ∷ l) = ap (λ (b : Bool). b && list_all (λ d. eqb d 0) l) (ne_eqb (suc d) 0 (λ (e : suc d ≡ 0). absurd (omega arith))) ∙ sym (ne_eqb (suc d + 10 * value l) 0 (λ (e : suc d + 10 * value l ≡ 0). absurd (omega arith)))
 
 -- ---- no digit but 0
 

@@ -3,12 +3,6 @@ ghost use Rattle.std.specs.Prelude.{◌≡◌, ◌+◌, ◌*◌, ◌-◌, ◌/�
 ghost use Rattle.figures.specs.Digits.{value, Number, Spells, places_to};
 ghost use Rattle.figures.specs.Fewest.{scaled as scaled_of};
 
-fn wide(d: u8) -> u64
-    ensures { result ≡ d }
-{
-    d as u64
-}
-
 // k times the number, and c more.
 fn times(a: &mut [u8; 772], k: u64, c: u64)
     requires number { Number a.old }
@@ -16,12 +10,10 @@ fn times(a: &mut [u8; 772], k: u64, c: u64)
     ensures { Spells a.new (value a.old * k + c) }
 {
     let mut carry = c;
-    let mut i = 0;
-    while i < 772 {
-        let d = wide(a[i]) * k + carry;
-        a[i] = (d % 10) as u8;
-        carry = d / 10;
-        i += 1;
+    for d in a.iter_mut() {
+        let n = u64::from(*d) * k + carry;
+        *d = (n % 10) as u8;
+        carry = n / 10;
     }
 }
 
@@ -31,18 +23,9 @@ fn times_power(a: &mut [u8; 772], k: u64, count: usize)
     requires k_nonzero { (0 < k) × (k < 10) × (value a.old * k ^ count < 10 ^ 772) }
     ensures { Spells a.new (value a.old * k ^ count) }
 {
-    let mut i = 0;
-    while i < count {
+    for _ in 0..count {
         times(a, k, 0);
-        i += 1;
     }
-}
-
-// a less b, or 0 where b is greater.
-pub fn over(a: usize, b: usize) -> usize
-    ensures { result ≡ a - b }
-{
-    if b < a { a - b } else { 0 }
 }
 
 // The digits of n 32nds of the last binary place of a real with the exponent y, and of `more` on top.
@@ -52,8 +35,8 @@ pub fn scaled(n: u64, y: usize, more: u64) -> [u8; 772]
 {
     let mut a = [0; 772];
     times(&mut a, 1, n);
-    times_power(&mut a, 2, over(y, 1080));
-    times_power(&mut a, 5, over(1080, y));
+    times_power(&mut a, 2, y.saturating_sub(1080));
+    times_power(&mut a, 5, 1080usize.saturating_sub(y));
     times(&mut a, 1, more);
     a
 }
@@ -63,12 +46,10 @@ pub fn places(a: &[u8; 772]) -> usize
     requires { Number a.now }
     ensures { result ≡ places_to 772 (value a.now) }
 {
-    let mut t = 772;
-    while t > 0 {
-        if a[t - 1] != 0 {
-            return t;
+    for t in (0..772).rev() {
+        if a[t] != 0 {
+            return t + 1;
         }
-        t -= 1;
     }
     0
 }
@@ -79,11 +60,9 @@ pub fn head(a: &[u8; 772], j: usize) -> u64
     requires j_bound { (j ≤ 772) × (value a.now / 10 ^ j < 2 ^ 64) }
     ensures { result ≡ value a.now / 10 ^ j }
 {
-    let mut h: u64 = 0;
-    let mut i = 772;
-    while i > j {
-        i -= 1;
-        h = h * 10 + wide(a[i]);
+    let mut h = 0;
+    for i in (j..772).rev() {
+        h = h * 10 + u64::from(a[i]);
     }
     h
 }
@@ -94,12 +73,5 @@ pub fn clean(a: &[u8; 772], j: usize) -> bool
     requires j_bound { j ≤ 772 }
     ensures { result ≡ eqb (value a.now % 10 ^ j) 0 }
 {
-    let mut i = 0;
-    while i < j {
-        if a[i] != 0 {
-            return false;
-        }
-        i += 1;
-    }
-    true
+    a[..j].iter().all(|d| *d == 0)
 }

@@ -3,7 +3,7 @@ ghost use Rattle.std.specs.Prelude.{◌≡◌, ◌+◌, ◌*◌, ◌-◌, ◌/�
 ghost use Rattle.figures.specs.Digits.{value, Number};
 ghost use Rattle.figures.specs.Fewest.{near, between, least, trimmed as trimmed_of, decimal_of, figures_of, Ready, Finite, Small};
 
-use crate::digits::{clean, head, over, places, scaled};
+use crate::digits::{clean, head, places, scaled};
 
 // figures · 10^up / 10^down.
 #[derive(Clone, Copy)]
@@ -68,15 +68,12 @@ fn enough(v: &[u8; 772], low: &[u8; 772], high: &[u8; 772], t: usize) -> usize
     requires ready { Ready (value v.now) (value low.now) (value high.now) t }
     ensures { result ≡ least (value v.now) (value low.now) (value high.now) t }
 {
-    let mut p = 1;
-    while p < 17 {
-        let c = nearest(v, t - p);
-        if gives_back(low, high, c, t - p) {
+    for p in 1..17 {
+        if gives_back(low, high, nearest(v, t - p), t - p) {
             return p;
         }
-        p += 1;
     }
-    p
+    17
 }
 
 // Without the 0 of one digit that was rounded up to ten.
@@ -89,13 +86,13 @@ fn trimmed(c: u64, up: usize, down: usize) -> Decimal
         return Decimal {
             figures: c / 10,
             up: up + 1,
-            down: down,
+            down,
         };
     }
     Decimal {
         figures: c,
-        up: up,
-        down: down,
+        up,
+        down,
     }
 }
 
@@ -110,7 +107,7 @@ fn decimal_of(m: u64, under: u64, y: usize) -> Decimal
     let high = scaled(32 * m + 16, y, 1 - m % 2);
     let t = places(&v);
     let p = enough(&v, &low, &high, t);
-    trimmed(nearest(&v, t - p), t - p, over(1080, y))
+    trimmed(nearest(&v, t - p), t - p, 1080usize.saturating_sub(y))
 }
 
 // Of the real with the exponent's field x and the digits' field t.

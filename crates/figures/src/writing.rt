@@ -10,20 +10,17 @@ use crate::fewest::{Decimal, figures_of};
 fn places_of(c: u64) -> usize
     ensures { result ≡ places_to 20 c }
 {
-    let mut n: usize = 0;
-    let mut rest = c;
-    while rest > 0 {
-        rest = rest / 10;
-        n += 1;
+    match c.checked_ilog10() {
+        Some(n) => n as usize + 1,
+        None => 0,
     }
-    n
 }
 
 // How many digits it takes to write a number.
 fn width(c: u64) -> usize
     ensures { result ≡ width_of c }
 {
-    if c == 0 { 1 } else { places_of(c) }
+    places_of(c).max(1)
 }
 
 // The number without its f lowest digits.
@@ -31,10 +28,8 @@ fn without(c: u64, f: usize) -> u64
     ensures { result ≡ c / 10 ^ f }
 {
     let mut rest = c;
-    let mut i = 0;
-    while i < f {
-        rest = rest / 10;
-        i += 1;
+    for _ in 0..f {
+        rest /= 10;
     }
     rest
 }
@@ -45,10 +40,8 @@ fn with_zeros(c: u64, k: usize) -> u64
     ensures { result ≡ c * 10 ^ k }
 {
     let mut all = c;
-    let mut i = 0;
-    while i < k {
-        all = all * 10;
-        i += 1;
+    for _ in 0..k {
+        all *= 10;
     }
     all
 }
@@ -68,11 +61,9 @@ fn put_digits(row: &mut [u8], at: usize, n: usize, c: u64) -> usize
     ensures { Puts row.old row.new at result (numeral n c) }
 {
     let mut rest = c;
-    let mut i = n;
-    while i > 0 {
-        i -= 1;
-        row[at + i] = 48 + (rest % 10) as u8;
-        rest = rest / 10;
+    for i in (0..n).rev() {
+        row[at + i] = b'0' + (rest % 10) as u8;
+        rest /= 10;
     }
     at + n
 }
@@ -86,7 +77,7 @@ fn put_pointed(row: &mut [u8], at: usize, c: u64, f: usize) -> usize
     let w = without(c, f);
     let n = width(w);
     let point = put_digits(row, at, n, w);
-    let behind = put(row, point, 46);
+    let behind = put(row, point, b'.');
     put_digits(row, behind, f, c)
 }
 
@@ -95,13 +86,13 @@ fn put_power(row: &mut [u8], at: usize, a: usize, b: usize) -> usize
     requires { (at ≤ 25) × (a < 10 ^ 4) × (b < 10 ^ 4) × (32 ≤ length row.old) }
     ensures { Puts row.old row.new at result (power a b) }
 {
-    let sign = put(row, at, 101);
+    let sign = put(row, at, b'e');
     if b <= a {
         let n = (a - b) as u64;
         let w = width(n);
         return put_digits(row, sign, w, n);
     }
-    let digit = put(row, sign, 45);
+    let digit = put(row, sign, b'-');
     let n = (b - a) as u64;
     let w = width(n);
     put_digits(row, digit, w, n)
@@ -136,10 +127,7 @@ fn put_decimal(row: &mut [u8], at: usize, d: Decimal) -> usize
     ensures { Puts row.old row.new at result (decimal_text d) }
 {
     let n = places_of(d.figures);
-    if d.down + 15 < n + d.up {
-        return put_scientific(row, at, d, n);
-    }
-    if n + d.up + 5 < d.down {
+    if d.down + 15 < n + d.up || n + d.up + 5 < d.down {
         return put_scientific(row, at, d, n);
     }
     put_plain(row, at, d)
@@ -150,23 +138,13 @@ pub fn write_real(bits: u64, row: &mut [u8]) -> usize
     ensures { Row row.old row.new result bits }
 {
     let x = bits / 4503599627370496 % 2048;
-    if row.len() < 32 {
-        return 0;
-    }
-    if x == 2047 {
+    if row.len() < 32 || x == 2047 {
         return 0;
     }
     let d = figures_of(x, bits % 4503599627370496);
     if 9223372036854775808 <= bits {
-        let at = put(row, 0, 45);
+        let at = put(row, 0, b'-');
         return put_decimal(row, at, d);
     }
     put_decimal(row, 0, d)
-}
-
-// The same for C: `figures_c` exports it.
-pub fn deed_real(bits: u64, row: &mut [u8]) -> usize
-    ensures { Row row.old row.new result bits }
-{
-    write_real(bits, row)
 }

@@ -7,7 +7,4 @@ use Rattle.figures.specs.Digits.{value}
 use Rattle.figures.proofs.digits.head.Given as goal
 
 abbrev pub invariant-loop-i : goal.invariant-loop-i
-invariant-loop-i l = (l.i ≤ 772) × (l.j ≤ l.i) × (l.h ≡ value (drop l.i l.a))
-
-abbrev pub decreases-loop-i : goal.decreases-loop-i
-decreases-loop-i l = l.i
+invariant-loop-i l = (l.j ≤ l.i) × (l.h ≡ value (drop l.i l.a))

@@ -39,9 +39,9 @@ trimmed-requires c =
     let r = ready_of a.m a.under a.y _ _ _ c.places-t.result c.scaled-v.ensures.spelt c.scaled-low.ensures.spelt c.scaled-high.ensures.spelt c.places-t.ensures c.requires in
     let g = range_of _ _ _ _ c.enough-p.result c.enough-p.ensures in
     let k : c.enough-p.result ≤ c.places-t.result = omega (arith, r.many, g.1) in
-    (subst (λ x. x ≤ 10 ^ 17) (sym c.nearest.ensures) (near_most _ c.places-t.result c.enough-p.result r.under k g.1), omega (arith, r.few), omega (arith, c.over.ensures))
+    (subst (λ x. x ≤ 10 ^ 17) (sym c.nearest.ensures) (near_most _ c.places-t.result c.enough-p.result r.under k g.1), omega (arith, r.few), omega (arith, c.saturating_sub.ensures))
 
 pub returns : goal.returns
 returns c =
     let a = c.args in
-    record { is = c.trimmed.ensures.is ∙ decimal_is a.m a.under a.y _ _ _ c.places-t.result c.scaled-v.ensures.spelt c.scaled-low.ensures.spelt c.scaled-high.ensures.spelt c.places-t.ensures c.enough-p.result c.nearest.result c.over.result c.enough-p.ensures c.nearest.ensures c.over.ensures; small = c.trimmed.ensures.small }
+    record { is = c.trimmed.ensures.is ∙ decimal_is a.m a.under a.y _ _ _ c.places-t.result c.scaled-v.ensures.spelt c.scaled-low.ensures.spelt c.scaled-high.ensures.spelt c.places-t.ensures c.enough-p.result c.nearest.result c.saturating_sub.result c.enough-p.ensures c.nearest.ensures c.saturating_sub.ensures; small = c.trimmed.ensures.small }

@@ -1,4 +1,4 @@
--- `figures::writing::with_zeros` meets its contract: after i turns i zeros are on.
+-- `figures::writing::with_zeros` meets its contract: after so many turns as many zeros are on.
 -- Assumes nothing.
 use mathlib.Core.Path.{sym, ap, ◌∙◌}
 use Prim.Native.Nat.{◌*◌, ◌^◌}
@@ -9,23 +9,17 @@ use lib.Dec.{lit<}
 use Rattle.figures.proofs.Spelling.{factor_fits}
 use Rattle.figures.proofs.writing.with_zeros.Goals as goal
 
-pub loop-i-init : goal.loop-i-init
-loop-i-init c = (omega arith, sym (mul-one c.args.c))
+pub loop-init : goal.loop-init
+loop-init c = (sym (mul-one c.args.c))
 
 pub overflow_mul-all : goal.overflow_mul-all
-overflow_mul-all c = omega (arith, factor_fits c.args.c 10 c.loop-i.i c.args.k c.loop-i.all (2 ^ 64) (lit< tt) c.loop-i-test.true c.requires c.loop-i.invariant.1)
+overflow_mul-all c = omega (arith, factor_fits c.args.c 10 c.loop.counter c.args.k c.loop.all (2 ^ 64) (lit< tt) c.loop-test.true c.requires c.loop.invariant)
 
-pub overflow_add-i : goal.overflow_add-i
-overflow_add-i c = omega arith
-
-pub loop-i-smaller : goal.loop-i-smaller
-loop-i-smaller c = omega arith
-
-pub loop-i-preserved : goal.loop-i-preserved
-loop-i-preserved c =
+pub loop-preserved : goal.loop-preserved
+loop-preserved c =
     let a = c.args in
-    let l = c.loop-i in
-    (omega arith, ap (λ x. x * 10) l.invariant.1 ∙ mul_assoc a.c (10 ^ l.i) 10 ∙ ap (λ x. a.c * x) (sym (pow-suc 10 l.i) ∙ ap (λ x. 10 ^ x) (sym (add-one l.i))))
+    let l = c.loop in
+    (ap (λ x. x * 10) l.invariant ∙ mul_assoc a.c (10 ^ l.counter) 10 ∙ ap (λ x. a.c * x) (sym (pow-suc 10 l.counter) ∙ ap (λ x. 10 ^ x) (sym (add-one l.counter))))
 
 pub returns : goal.returns
-returns c = c.loop-i.invariant.1 ∙ ap (λ x. c.args.c * 10 ^ x) (le_antisymm c.loop-i.invariant.0 c.loop-i-test.false)
+returns c = c.loop.invariant ∙ ap (λ x. c.args.c * 10 ^ x) (le_antisymm c.loop.auto.counter-end c.loop-test.false)

@@ -1,11 +1,8 @@
--- `figures::writing::without` meets its contract: after i turns i digits are off.
+-- `figures::writing::without` meets its contract: after so many turns as many digits are off.
 -- Assumes nothing.
 use mathlib.Core.Path.{◌≡◌}
-use Prim.Native.Nat.{◌-◌, ◌≤◌, ◌/◌, ◌^◌}
+use Prim.Native.Nat.{◌/◌, ◌^◌}
 use Rattle.figures.proofs.writing.without.Given as goal
 
-abbrev pub invariant-loop-i : goal.invariant-loop-i
-invariant-loop-i l = (l.i ≤ l.f) × (l.rest ≡ l.c / 10 ^ l.i)
-
-abbrev pub decreases-loop-i : goal.decreases-loop-i
-decreases-loop-i l = l.f - l.i
+abbrev pub invariant-loop : goal.invariant-loop
+invariant-loop l = l.rest ≡ l.c / 10 ^ l.counter

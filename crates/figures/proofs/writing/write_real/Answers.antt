@@ -5,12 +5,13 @@ use native.Mathlib.Omega.{arith}
 use Rattle.figures.specs.Written.{decimal_text}
 use Rattle.figures.proofs.Rows.{puts_then, puts_as, row_short, row_none, row_negative, row_positive}
 use Rattle.figures.proofs.writing.write_real.Goals as goal
+use Rattle.figures.proofs.writing.write_real.Goals.{then-row-lt32-via-then-row-lt32, then-row-lt32-via-else-row-lt32+then-x-eq2047}
 
 pub returns-then-row-lt32 : goal.returns-then-row-lt32
-returns-then-row-lt32 c = row_short c.args.row.now c.args.bits c.if-row-lt32.true
-
-pub returns-then-x-eq2047 : goal.returns-then-x-eq2047
-returns-then-x-eq2047 c = row_none c.args.row.now c.args.bits c.if-x-eq2047.true
+returns-then-row-lt32 c = elim c.then-row-lt32.branch [
+  | then-row-lt32-via-then-row-lt32 w ↦ row_short c.args.row.now c.args.bits w.if-row-lt32.true
+  | then-row-lt32-via-else-row-lt32+then-x-eq2047 w ↦ row_none c.args.row.now c.args.bits w.if-x-eq2047.true
+]
 
 pub returns-then-bits-ge9223372036854775808 : goal.returns-then-bits-ge9223372036854775808
 returns-then-bits-ge9223372036854775808 c =
