@@ -13,7 +13,7 @@ use desk::files::{Loaded, is_standard, load, nothing};
 use desk::misuse::{misused, see_help};
 use desk::status;
 use reading::reading::read;
-use showing::system::{STDERR, STDOUT, System};
+use showing::system::{Stream, System};
 use showing::text::{
     complain, say, say_number, tell, tell_file, tell_place, tell_spot, tell_typed,
 };
@@ -24,7 +24,7 @@ use table::sections::word;
 const SHOWN: usize = 40;
 
 // LIST:LINE:COLUMN.
-fn tell_where(system: &System, to: i32, list: &[u8], text: &[u8], place: usize) {
+fn tell_where(system: &System, to: Stream, list: &[u8], text: &[u8], place: usize) {
     tell_file(system, to, list);
     tell(system, to, b":");
     tell_spot(system, to, text, place);
@@ -37,7 +37,7 @@ fn load_list(system: &System, list: &[u8], room: &mut [u8]) -> Loaded
     let got = load(system, list, room);
     if 65536 <= got.count {
         complain(system, b"deed: ");
-        tell_file(system, STDERR, list);
+        tell_file(system, Stream::Errors, list);
         complain(system, b": a LIST has under 65,536 bytes\n");
         return nothing();
     }
@@ -61,7 +61,7 @@ fn nth_word(line: &[u8], k: usize) -> Word
 // A word as it was typed, or its beginning.
 fn show_typed(system: &System, typed: &[u8]) {
     let n = typed.len().min(SHOWN);
-    tell_typed(system, STDOUT, &typed[..n]);
+    tell_typed(system, Stream::Output, &typed[..n]);
     if n < typed.len() {
         say(system, b" ..");
     }
@@ -88,18 +88,18 @@ fn show_wrong(
     table: &[u16],
     i: usize,
 ) {
-    tell_where(system, STDOUT, list, text, place);
+    tell_where(system, Stream::Output, list, text, place);
     say(system, b": wrong, word ");
     say_number(system, i as u64);
     say(system, b": ");
     show_typed(system, typed);
     show_due(system, table, i);
-    tell_place(system, STDOUT, text, place);
+    tell_place(system, Stream::Output, text, place);
 }
 
 // A list that ends too soon.
 fn show_short(system: &System, list: &[u8], table: &[u16], i: usize) {
-    tell_file(system, STDOUT, list);
+    tell_file(system, Stream::Output, list);
     say(system, b": wrong, word ");
     say_number(system, i as u64);
     say(system, b": the list ends too soon, and ");
@@ -129,9 +129,9 @@ fn show_difference(
 }
 
 fn show_yes(system: &System, name: &[u8], list: &[u8]) {
-    tell_file(system, STDOUT, list);
+    tell_file(system, Stream::Output, list);
     say(system, b": yes, the uses of ");
-    tell_file(system, STDOUT, name);
+    tell_file(system, Stream::Output, name);
     say(system, b"\n");
 }
 
@@ -204,9 +204,9 @@ fn tell_checked(
 fn unlisted(system: &System, list: &[u8], text: &[u8], line: &[u8], i: usize) {
     let w = nth_word(line, i);
     complain(system, b"deed: ");
-    tell_where(system, STDERR, list, text, w.from);
+    tell_where(system, Stream::Errors, list, text, w.from);
     complain(system, b": this is no number, so there is no list\n");
-    tell_place(system, STDERR, text, w.from);
+    tell_place(system, Stream::Errors, text, w.from);
     see_help(system);
 }
 

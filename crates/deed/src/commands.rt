@@ -14,7 +14,7 @@ use asking::words::{has_word, is_plain};
 use desk::misuse::misused;
 use desk::status;
 use paying::run;
-use showing::system::{STDERR, System};
+use showing::system::{Stream, System};
 use showing::text::{complain, tell_typed};
 use symbols::text::same_bytes;
 
@@ -187,7 +187,7 @@ fn unknown(system: &System, word: &[u8]) {
         complain(system, b"deed: a command is missing\n");
     } else {
         complain(system, b"deed: there is no such command: ");
-        tell_typed(system, STDERR, word);
+        tell_typed(system, Stream::Errors, word);
         complain(system, b"\n");
     }
     usage(system);

@@ -9,7 +9,7 @@ use desk::files::arguments;
 use desk::misuse::see_help;
 use desk::status;
 use help::help;
-use showing::system::{STDERR, System};
+use showing::system::{Stream, System};
 use showing::taken::{all_taken, is_open};
 
 mod check; // deed check
@@ -49,7 +49,7 @@ fn begin(system: &System) -> u8 {
 
 fn main(rt: HostRuntime) {
     let system = System::new(rt);
-    let heard = is_open(&system, STDERR);
+    let heard = is_open(&system, Stream::Errors);
     let done = begin(&system);
     status::leave(status::of_taken(all_taken(&system, heard), done));
 }

@@ -10,7 +10,7 @@ use asking::words::{line_of, word_from};
 use desk::files::load;
 use desk::misuse::see_help;
 use desk::status;
-use showing::system::{STDOUT, System};
+use showing::system::{Stream, System};
 use showing::text::{complain, say, tell_typed};
 use symbols::text::find;
 
@@ -34,7 +34,7 @@ fn obey_text(system: &System, text: &[u8]) -> u8
         return status::GOOD;
     }
     say(system, b"> ");
-    tell_typed(system, STDOUT, text);
+    tell_typed(system, Stream::Output, text);
     say(system, b"\n");
     commands::obey(system, &row[..n])
 }

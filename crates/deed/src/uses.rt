@@ -10,7 +10,7 @@ use desk::files::load;
 use desk::misuse::see_help;
 use desk::status;
 use reading::reading::read;
-use showing::system::{STDERR, STDOUT, System};
+use showing::system::{Stream, System};
 use showing::text::{say, say_number};
 use showing::uses::{say_use_words, show_section, show_uses};
 use showing::words::tell_answer;
@@ -44,7 +44,7 @@ fn show_plain(system: &System, v: Verdict, table: &[u16]) {
 
 // For people, and as a list: after a refusal standard output has nothing of it, so that what a shell hands on is a list or is empty.
 fn show(system: &System, name: &[u8], source: &[u8], v: Verdict, table: &[u16], list: bool) {
-    let to = if list { STDERR } else { STDOUT };
+    let to = if list { Stream::Errors } else { Stream::Output };
     match v {
         Verdict::Refused(r) => tell_answer(
             system,

@@ -11,7 +11,7 @@ use clean::writing::write;
 use desk::files::load;
 use desk::misuse::see_help;
 use desk::status;
-use showing::system::{STDERR, System};
+use showing::system::{Stream, System};
 use showing::text::{complain, say, say_number, tell_file};
 use showing::words::tell_answer;
 
@@ -29,7 +29,7 @@ fn show_plain(system: &System, w: Written) {
 fn complain_of(system: &System, name: &[u8], source: &[u8], r: Refusal) {
     if r.answer.number == Answer::LONG.number {
         if source.len() <= 16384 {
-            tell_file(system, STDERR, name);
+            tell_file(system, Stream::Errors, name);
             complain(
                 system,
                 b": refused, 2: the text in the house layout is over 16,384 bytes\n",
@@ -39,7 +39,7 @@ fn complain_of(system: &System, name: &[u8], source: &[u8], r: Refusal) {
     }
     tell_answer(
         system,
-        STDERR,
+        Stream::Errors,
         name,
         source,
         b": refused, ",

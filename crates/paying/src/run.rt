@@ -15,7 +15,7 @@ use desk::outputs::{say_numbers, show_entries};
 use desk::status;
 use machine::Ran;
 use machine::bounds::CELLS;
-use showing::system::{STDERR, STDOUT, System};
+use showing::system::{Stream, System};
 use showing::text::{complain, least, say, say_number, tell, tell_file, tell_number};
 use showing::words::{tell_answer, tell_placeless};
 use translating::translating::translate;
@@ -29,11 +29,11 @@ pub struct How {
 }
 
 // Where what is no output is told.
-fn aside(values: bool) -> i32 {
-    if values { STDERR } else { STDOUT }
+fn aside(values: bool) -> Stream {
+    if values { Stream::Errors } else { Stream::Output }
 }
 
-fn tell_counts(system: &System, to: i32, ran: Ran, given: usize) {
+fn tell_counts(system: &System, to: Stream, ran: Ran, given: usize) {
     tell(system, to, b"instructions done: ");
     tell_number(system, to, ran.done);
     tell(system, to, b", numbers given: ");
@@ -46,7 +46,7 @@ fn tell_counts(system: &System, to: i32, ran: Ran, given: usize) {
 }
 
 // How a run stopped, for people.
-fn tell_end(system: &System, to: i32, name: &[u8], source: &[u8], stop: Stop) {
+fn tell_end(system: &System, to: Stream, name: &[u8], source: &[u8], stop: Stop) {
     match stop {
         Stop::Ended => {
             tell_file(system, to, name);
@@ -70,9 +70,9 @@ fn warn(system: &System, stop: Stop, given: usize, taken: usize) {
     if let Stop::Ended = stop {
         if taken < given {
             complain(system, b"deed: warning: the run ended and took ");
-            tell_number(system, STDERR, taken as u64);
+            tell_number(system, Stream::Errors, taken as u64);
             complain(system, b" of the ");
-            tell_number(system, STDERR, given as u64);
+            tell_number(system, Stream::Errors, given as u64);
             complain(system, b" numbers given\n");
         }
     }
