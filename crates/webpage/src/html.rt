@@ -3,7 +3,7 @@ ghost use Rattle.std.specs.Prelude.{◌<◌, ◌≤◌, ◌-◌, max, length};
 
 use showing::characters::width;
 use showing::system::System;
-use showing::text::{least, say};
+use showing::text::say;
 
 // The head of the file: how it looks on a screen and, in black and white, on paper.
 pub fn begin(system: &System, name: &[u8]) {
@@ -91,7 +91,7 @@ pub fn say_at(system: &System, text: &[u8], at: usize) -> usize
     if text.len() <= at {
         return 1;
     }
-    let n = least(width(text, at), text.len() - at);
+    let n = width(text, at).min(text.len() - at);
     if 1 < n {
         say(system, &text[at..at + n]);
     } else {

@@ -3,7 +3,6 @@
 ghost use Rattle.webpage.specs.Looks.{Behind};
 
 use crate::looks::{about_of, at, look, paint, style_of};
-use showing::text::least;
 use symbols::Symbol;
 use symbols::kinds::decode;
 
@@ -26,29 +25,29 @@ fn level_of(open: usize, stack: &[u32; 2048]) -> u32 {
 fn push(open: usize, stack: &mut [u32; 2048], thing: u32) -> usize {
     let outside = level_of(open, stack) as usize;
     let inside = if thing < BLOCK { outside } else { outside + 1 };
-    let n = least(open, 2046) + 1;
+    let n = open.min(2046) + 1;
     paint(stack, n, n + 1, look(thing, inside));
     n
 }
 
 fn pop(open: usize) -> usize {
-    if open == 0 { 0 } else { open - 1 }
+    open.saturating_sub(1)
 }
 
 // Whether a symbol begins a declaration.
 fn declares(s: Symbol) -> bool {
-    match s {
-        Symbol::Integer | Symbol::Boolean | Symbol::Real | Symbol::Procedure => true,
-        _ => false,
-    }
+    matches!(
+        s,
+        Symbol::Integer | Symbol::Boolean | Symbol::Real | Symbol::Procedure
+    )
 }
 
 // Whether it goes on with a heading.
 fn heads(s: Symbol) -> bool {
-    match s {
-        Symbol::Value | Symbol::Integer | Symbol::Boolean | Symbol::Real => true,
-        _ => false,
-    }
+    matches!(
+        s,
+        Symbol::Value | Symbol::Integer | Symbol::Boolean | Symbol::Real
+    )
 }
 
 // The newest thing that is open becomes another, if it is a certain one.
@@ -92,10 +91,10 @@ fn after(open: usize, stack: &mut [u32; 2048], s: Symbol, then: Symbol) -> usize
 
 // Symbol k; `:`, which no program has, where there is none.
 fn symbol_at(kinds: &[u8; 2048], k: usize) -> Symbol {
-    if k < 2048 {
-        return decode(kinds[k], 0);
+    match kinds.get(k) {
+        Some(kind) => decode(*kind, 0),
+        None => Symbol::Colon,
     }
-    Symbol::Colon
 }
 
 // Passes symbol k, which has the bytes from `from` up to `to` with what is no symbol behind it: they have its level. Gives how much is open.
@@ -111,7 +110,7 @@ pub fn pass(
     ensures { Behind to levels.old levels.new }
 {
     let s = symbol_at(kinds, k);
-    let then = symbol_at(kinds, least(k, 2047) + 1);
+    let then = symbol_at(kinds, k.min(2047) + 1);
     let here = before(open, stack, s, then);
     paint(levels, from, to, level_of(here, stack));
     after(here, stack, s, then)

@@ -1,7 +1,7 @@
 // The source as it stands, line by line: its number, its level, and its bytes with what is to be seen of them.
 use crate::{html, looks};
 use showing::system::System;
-use showing::text::{least, say, say_nth, say_number, say_spot, say_times};
+use showing::text::{say, say_nth, say_number, say_spot, say_times};
 use showing::words::say_answer;
 use symbols::text::{blanks_end, is_blank};
 
@@ -106,16 +106,11 @@ fn seen(p: Pen, source: &[u8], row: &[u32], i: usize) -> u32 {
 // The greatest level from a place on through the line's end, which is all that an empty line has.
 fn line_level(source: &[u8], levels: &[u32], from: usize) -> u32 {
     let mut most: u32 = 0;
-    let mut i = from;
-    while i < source.len() {
-        let level = looks::at(levels, i);
-        if most < level {
-            most = level;
-        }
+    for i in from..source.len() {
+        most = most.max(looks::at(levels, i));
         if source[i] == b'\n' {
             return most;
         }
-        i += 1;
     }
     most
 }
@@ -148,7 +143,7 @@ fn close_line(system: &System, look: u32) {
 
 // Over a line's end: what is drawn goes on in the next line.
 fn turn_line(system: &System, mut p: Pen, level: u32) -> Pen {
-    let line = least(p.line, 65535) + 1;
+    let line = p.line.min(65535) + 1;
     close_line(system, p.look);
     open_line(system, line, level);
     p.line = line;

@@ -46,10 +46,8 @@ fn show_use(
 fn show_used(system: &System, source: &[u8], table: &[u16], declared: bool, what: usize) {
     let n = word(table, 0);
     let mut more = false;
-    let mut k: usize = 0;
-    while k < n {
+    for k in 0..n {
         more = show_use(system, source, table, k, declared, what, more);
-        k += 1;
     }
 }
 
@@ -92,10 +90,8 @@ fn show_declaration(system: &System, source: &[u8], table: &[u16], levels: &[u32
 fn show_declarations(system: &System, source: &[u8], table: &[u16], levels: &[u32]) {
     let s = sections_of(table);
     let n = word(table, s.declarations);
-    let mut d: usize = 0;
-    while d < n {
+    for d in 0..n {
         show_declaration(system, source, table, levels, d);
-        d += 1;
     }
 }
 

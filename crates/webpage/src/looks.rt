@@ -3,8 +3,6 @@
 ghost use Rattle.std.specs.Prelude.{◌≡◌, ◌+◌, ◌*◌, ◌/◌, ◌%◌, ◌<◌, ◌≤◌, min, length, get_or};
 ghost use Rattle.webpage.specs.Looks.{Painted, Behind};
 
-use showing::text::least;
-
 pub const PLAIN: u32 = 0;
 
 pub const WORD: u32 = 1;
@@ -49,11 +47,8 @@ pub fn paint(row: &mut [u32], from: usize, to: usize, x: u32)
     ensures painted { Painted from (min to (length row.old)) x row.old row.new }
     ensures behind { Behind to row.old row.new }
 {
-    let end = least(to, row.len());
-    let mut i = from;
-    while i < end {
+    for i in from..to.min(row.len()) {
         row[i] = x;
-        i += 1;
     }
 }
 
@@ -61,5 +56,5 @@ pub fn at(row: &[u32], i: usize) -> u32
     ensures value { i < length row.now → result ≡ get_or row.now i 0 }
     ensures value_2 { length row.now ≤ i → result ≡ 0 }
 {
-    if i < row.len() { row[i] } else { 0 }
+    row.get(i).copied().unwrap_or(0)
 }

@@ -6,7 +6,6 @@ ghost use Rattle.webpage.specs.Looks.{Behind, Unmarked, Unmarking, Clean, Marked
 use crate::looks::{look, paint};
 use crate::{levels, looks};
 use answers::Place;
-use showing::text::least;
 use symbols::Lexeme;
 use symbols::lexemes::lexeme;
 use symbols::names::same_name;
@@ -27,7 +26,7 @@ fn symbol_end(source: &[u8], at: usize) -> usize
         Lexeme::Large(k) => k,
         Lexeme::Nothing => 0,
     };
-    at + 1 + least(more, source.len() - at - 1)
+    at + 1 + more.min(source.len() - at - 1)
 }
 
 // Whether the declaration whose words begin at `row` has its name at a place, or is a formal before it with the name there.
@@ -46,12 +45,10 @@ fn number_of(source: &[u8], table: &[u16], at: usize) -> usize
     ensures { result < 65536 }
 {
     let s = sections_of(table);
-    let mut d = word(table, s.declarations);
-    while 0 < d {
+    for d in (1..=word(table, s.declarations)).rev() {
         if is_row(source, table, s.declarations + 4 * d - 3, at) {
             return d;
         }
-        d -= 1;
     }
     0
 }
@@ -104,10 +101,10 @@ fn next_use(table: &[u16], row: usize, at: usize) -> usize
 fn place_at(source: &[u8], places: &[usize; 2048], k: usize) -> usize
     ensures { result ≤ length source.now }
 {
-    if k < 2048 {
-        return least(places[k], source.len());
+    match places.get(k) {
+        Some(place) => source.len().min(*place),
+        None => source.len(),
     }
-    source.len()
 }
 
 // The symbols of a source, with what the table says of its names.
@@ -121,9 +118,8 @@ fn paint_symbols(source: &[u8], table: &[u16], looks: &mut [u32], levels: &mut [
     let mut stack = [0u32; 2048];
     let mut open: usize = 0;
     let mut row: usize = 1;
-    let mut k: usize = 0;
     scan(source, 2048, &mut kinds, &mut places, &mut values);
-    while k < 2048 {
+    for k in 0..2048 {
         let at = place_at(source, &places, k);
         if source.len() <= at {
             return;
@@ -137,7 +133,6 @@ fn paint_symbols(source: &[u8], table: &[u16], looks: &mut [u32], levels: &mut [
             symbol_look(source, table, row, at),
         );
         row = next_use(table, row, at);
-        k += 1;
     }
 }
 

@@ -30,4 +30,4 @@ loop-i-preserved c =
 
 pub returns : goal.returns
 returns c =
-    let p = c.loop-i.invariant.3 in record { painted = record { inside = λ j a b. p.inside j a (omega arith); outside = λ j o. p.outside j (λ a. let m = o a in omega arith) }; behind = λ j h. p.outside j (λ a. omega arith) }
+    let p = c.loop-i.invariant.3 in let least = c.min-i-end.ensures in record { painted = record { inside = λ j a b. p.inside j a (omega arith); outside = λ j o. p.outside j (λ a. let m = o a in omega arith) }; behind = λ j h. p.outside j (λ a. omega arith) }
