@@ -11,16 +11,12 @@ pub const NONE: usize = 1048576;
 pub fn noted(least: usize, symbol: Ordinal, a: Answer) -> usize
     ensures { result ≡ min least (fault_key symbol.number a.number) }
 {
-    let fault = 16 * symbol.number as usize + a.number as usize;
-    if fault < least { fault } else { least }
+    least.min(16 * symbol.number as usize + a.number as usize)
 }
 
 // The same where a test says so.
 pub fn noted_if(test: bool, least: usize, symbol: Ordinal, a: Answer) -> usize
     ensures { result ≡ noted_if test least symbol.number a.number }
 {
-    if test {
-        return noted(least, symbol, a);
-    }
-    least
+    if test { noted(least, symbol, a) } else { least }
 }

@@ -1,32 +1,32 @@
 // When two symbols are the same name: each symbol gets an identity, and those with the same letters, case aside, get the same.
 ghost use Rattle.std.specs.Prelude.{◌≡◌, ◌<◌, min, length};
 ghost use Rattle.symbols.specs.Names.{letters_at};
-ghost use Rattle.names.specs.model.Identity.{given_of, StandsFor, Standing, Identified};
+ghost use Rattle.names.specs.model.Identity.{given_of, GivenIs, StandsFor, Standing, Identified};
 
 use crate::rows::OUTSIDE;
 use answers::{Environment, Ordinal, Place};
 use symbols::names::{same_name, spells};
 
-// The environment's number of the name at a place, or 5.
-fn given(source: &[u8], place: Place) -> u16
-    ensures { result ≡ given_of (letters_at source.now place.at) }
+// What the environment gives the name at a place.
+fn given(source: &[u8], place: Place) -> Option<Environment>
+    ensures { GivenIs (given_of (letters_at source.now place.at)) result }
 {
     if spells(source, place, b"iabs") {
-        return Environment::IABS.number;
+        return Some(Environment::IABS);
     }
     if spells(source, place, b"maxint") {
-        return Environment::MAXINT.number;
+        return Some(Environment::MAXINT);
     }
     if spells(source, place, b"ininteger") {
-        return Environment::ININTEGER.number;
+        return Some(Environment::ININTEGER);
     }
     if spells(source, place, b"outinteger") {
-        return Environment::OUTINTEGER.number;
+        return Some(Environment::OUTINTEGER);
     }
     if spells(source, place, b"outreal") {
-        return Environment::OUTREAL.number;
+        return Some(Environment::OUTREAL);
     }
-    5
+    None
 }
 
 // The identity of a symbol, where those before it have theirs: that of the first one that is the same name.
@@ -35,18 +35,14 @@ fn identity(source: &[u8], places: &[usize; 2048], ids: &[u16], symbol: Ordinal)
     ensures { StandsFor source.now places.now symbol.number result }
 {
     let i = symbol.number as usize;
-    let g = given(source, Place { at: places[i] });
-    if g < 5 {
-        return OUTSIDE + g;
+    let place = Place { at: places[i] };
+    if let Some(e) = given(source, place) {
+        return OUTSIDE + e.number;
     }
-    let mut j = 0;
-    while j < i {
-        if ids[j] == j as u16 {
-            if same_name(source, Place { at: places[j] }, Place { at: places[i] }) {
-                return j as u16;
-            }
+    for j in 0..i {
+        if ids[j] == j as u16 && same_name(source, Place { at: places[j] }, place) {
+            return j as u16;
         }
-        j += 1;
     }
     symbol.number
 }
@@ -63,12 +59,7 @@ fn fill(source: &[u8], places: &[usize; 2048], count: usize, ids: &mut [u16])
     requires { length ids.old ≡ 2048 }
     ensures { Identified source.now places.now ids.new (min count 2048) }
 {
-    let mut i = 0;
-    while i < count {
-        if 2048 <= i {
-            return;
-        }
+    for i in 0..count.min(2048) {
         ids[i] = identity(source, places, ids, Ordinal { number: i as u16 });
-        i += 1;
     }
 }

@@ -1,7 +1,6 @@
 // What a name means as one number: a declaration's, behind all of them the environment's five, behind those nothing.
 ghost use Rattle.std.specs.Prelude.{◌≡◌};
 ghost use Rattle.names.specs.model.Rows.{meant_number, meant_of};
-ghost use Rattle.names.specs.declared.Meant.TheVariants.{Declared, Given};
 
 use crate::Meant;
 use answers::{Declaration, Environment};
@@ -10,36 +9,14 @@ pub const GIVEN: u16 = 8192;
 
 pub const NOTHING: u16 = 8197;
 
-// The number of a declaration; one too large is kept as nothing.
-fn declared(d: Declaration) -> u16
-    ensures { result ≡ meant_number (Declared d) }
-{
-    let n = d.number;
-    if n < 8192 {
-        return n as u16;
-    }
-    NOTHING
-}
-
-// That of the environment's.
-fn given(e: Environment) -> u16
-    ensures { result ≡ meant_number (Given e) }
-{
-    let n = e.number;
-    if n < 5 {
-        return GIVEN + n;
-    }
-    NOTHING
-}
-
-// The number of a meaning.
+// The number of a meaning; one too large for its part is kept as nothing.
 pub fn number(m: Meant) -> u16
     ensures { result ≡ meant_number m }
 {
     match m {
-        Meant::Declared(d) => declared(d),
-        Meant::Given(e) => given(e),
-        Meant::Nothing => NOTHING,
+        Meant::Declared(d) if d.number < 8192 => d.number as u16,
+        Meant::Given(e) if e.number < 5 => GIVEN + e.number,
+        _ => NOTHING,
     }
 }
 

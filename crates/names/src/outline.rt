@@ -3,7 +3,7 @@ ghost use Rattle.std.specs.Prelude.{◌≡◌, ◌&&◌, List, ℕ, ◌+◌, ◌
 ghost use Rattle.names.specs.model.Rows.{row_in, identity_in, declared_in, here_in, declared, procedured, formalled, marked, valued, specified_as, lacking, missing_in, bodied, outline_node, outline_of};
 ghost use Rattle.names.specs.model.Arrays.{see_open, see_outline, OutlineWithin};
 
-use crate::rows::{has_first, identity_of, put, row, say, says_first};
+use crate::rows::{first, has, identity_of, put, row, say, says};
 use crate::scopes::{enter, here, leave};
 use crate::{Declaring, Open, Row, Sought, faults, modes};
 use answers::{Answer, Declaration, Ordinal};
@@ -38,19 +38,15 @@ fn declare(
     ensures around_value { result.around ≡ o.around }
 {
     let want = rows_here(o, symbol, ids, stack);
-    let again = has_first(rows, o.rows, ids, want);
+    let again = has(first(rows, o.rows), ids, want);
     o.least = faults::noted_if(again, o.least, symbol, Answer::TWICE);
-    let scope = want.scope;
-    put(
-        rows,
-        o.rows,
-        Row {
-            kind,
-            symbol,
-            scope,
-            sort,
-        },
-    );
+    let row = Row {
+        kind,
+        symbol,
+        scope: want.scope,
+        sort,
+    };
+    put(rows, o.rows, row);
     o.rows += 1;
     o
 }
@@ -127,7 +123,7 @@ fn value(
     ensures rows_value { (result.rows ≡ o.rows) × (result.around ≡ o.around) }
 {
     let want = rows_here(o, symbol, ids, stack);
-    let said = says_first(rows, o.rows, ids, want);
+    let said = says(first(rows, o.rows), ids, want);
     let again = modes::mode(said) == modes::VALUE;
     let word = modes::word(modes::sort(said), modes::VALUE);
     mark(o, again, word, symbol, want, ids, rows)
@@ -146,7 +142,7 @@ fn specify(
     ensures rows_value { (result.rows ≡ o.rows) × (result.around ≡ o.around) }
 {
     let want = rows_here(o, symbol, ids, stack);
-    let said = says_first(rows, o.rows, ids, want);
+    let said = says(first(rows, o.rows), ids, want);
     let again = modes::sort(said) != 0;
     let word = modes::word(modes::sort(o.sort), modes::mode(said));
     mark(o, again, word, symbol, want, ids, rows)
@@ -157,33 +153,14 @@ fn is_missing(rows: &[u16], scope: u16, d: Declaration) -> bool
     ensures { result ≡ eqb (row_in rows.now d.number).scope scope && lacking (row_in rows.now d.number).sort }
 {
     let r = row(rows, d);
-    if r.scope != scope {
-        return false;
-    }
-    modes::sort(r.sort) == 0
+    r.scope == scope && modes::sort(r.sort) == 0
 }
 
 // Whether a formal of a scope is missing in the specifications.
 fn missing(rows: &[u16], scope: u16) -> bool
     ensures { result ≡ missing_in scope rows.now }
 {
-    let mut j = 0;
-    while j < rows.len() / 4 {
-        if is_missing(rows, scope, Declaration { number: j }) {
-            return true;
-        }
-        j += 1;
-    }
-    false
-}
-
-// The same of the first n rows.
-fn missing_first(rows: &[u16], n: usize, scope: u16) -> bool
-    requires { 4 * n ≤ length rows.now }
-    ensures { result ≡ missing_in scope (take (4 * n) rows.now) }
-{
-    let end = 4 * n;
-    missing(&rows[..end], scope)
+    (0..rows.len() / 4).any(|number| is_missing(rows, scope, Declaration { number }))
 }
 
 // The end of a heading: 9 at the procedure's name where a formal is missing.
@@ -193,7 +170,7 @@ fn body(mut o: Declaring, symbol: Ordinal, rows: &[u16; 32768], stack: &[u16; 81
     ensures rows_value { (result.rows ≡ o.rows) × (result.around ≡ o.around) }
 {
     let scope = here(o.around, stack);
-    let wrong = missing_first(rows, o.rows, scope);
+    let wrong = missing(first(rows, o.rows), scope);
     o.least = faults::noted_if(wrong, o.least, symbol, Answer::HEADING);
     o
 }
@@ -256,14 +233,8 @@ fn walk(
         heading: Ordinal { number: 0 },
         least: faults::NONE,
     };
-    let mut i = 0;
-    while 4 * i + 3 < nodes.len() {
-        let at = 4 * i;
-        let symbol = Ordinal {
-            number: nodes[at + 1],
-        };
-        o = node(o, nodes[at], symbol, nodes[at + 2], ids, rows, stack);
-        i += 1;
+    for &[kind, symbol, one, _] in nodes.as_chunks::<4>().0 {
+        o = node(o, kind, Ordinal { number: symbol }, one, ids, rows, stack);
     }
     o
 }

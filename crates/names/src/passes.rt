@@ -9,10 +9,7 @@ use crate::{Passed, identity, outline as declaring, uses as using};
 pub fn front(words: &[u16], end: usize) -> &[u16]
     ensures { result.now ≡ take end words.now }
 {
-    if end < words.len() {
-        return &words[..end];
-    }
-    words
+    words.get(..end).unwrap_or(words)
 }
 
 // The words of the first rows, which are four each.
@@ -20,11 +17,7 @@ pub fn first_rows(rows: &[u16; 32768], count: usize) -> &[u16]
     ensures result_value { result.now ≡ take (4 * count) rows.now }
     ensures result_len_bound { length result.now ≤ 32768 }
 {
-    if count < 8192 {
-        let end = 4 * count;
-        return front(rows, end);
-    }
-    rows
+    front(rows, count.saturating_mul(4))
 }
 
 // The identities of the first symbols.

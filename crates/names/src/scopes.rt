@@ -10,10 +10,7 @@ pub fn here(o: Open, stack: &[u16; 8192]) -> u16
     requires { o.depth ≤ 8192 }
     ensures { result ≡ here_in (see_open o stack.now) }
 {
-    if o.depth == 0 {
-        return 0;
-    }
-    stack[o.depth - 1]
+    stack[..o.depth].last().copied().unwrap_or(0)
 }
 
 // A scope is opened.
@@ -43,11 +40,8 @@ pub fn leave(o: Open) -> Open
     ensures by_index { (stack : List ℕ) → see_open result stack ≡ outward (see_open o stack) }
     ensures scopes_value { (result.scopes ≡ o.scopes) × (result.depth ≤ o.depth) }
 {
-    if o.depth == 0 {
-        return o;
-    }
     Open {
-        depth: o.depth - 1,
-        scopes: o.scopes,
+        depth: o.depth.saturating_sub(1),
+        ..o
     }
 }

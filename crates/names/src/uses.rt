@@ -14,15 +14,10 @@ use grammar::nodes;
 fn outside(id: u16) -> Meant
     ensures { result ≡ outside_of id }
 {
-    if id < OUTSIDE {
-        return Meant::Nothing;
+    match id.checked_sub(OUTSIDE) {
+        Some(number) if number < 5 => Meant::Given(Environment { number }),
+        _ => Meant::Nothing,
     }
-    if OUTSIDE + 4 < id {
-        return Meant::Nothing;
-    }
-    Meant::Given(Environment {
-        number: id - OUTSIDE,
-    })
 }
 
 // What a name means: the scopes that are open are searched from the innermost outward.
@@ -30,17 +25,14 @@ fn meaning(rows: &[u16], ids: &[u16; 2048], depth: usize, stack: &[u16; 8192], i
     requires { (length rows.now ≤ 32768) × (depth ≤ 8192) }
     ensures { result ≡ meant_in ids.now rows.now (opens_of depth stack.now) id }
 {
-    let mut d = depth;
-    while 0 < d {
-        d -= 1;
+    for &scope in stack[..depth].iter().rev() {
         let want = Sought {
             low: nodes::VARIABLE,
             high: nodes::FORMAL,
-            scope: stack[d],
+            scope,
             id,
         };
-        let d = find(rows, ids, want);
-        if d.number < rows.len() / 4 {
+        if let Some(d) = find(rows, ids, want) {
             return Meant::Declared(d);
         }
     }
@@ -127,14 +119,8 @@ fn walk(
         },
         least: faults::NONE,
     };
-    let mut i = 0;
-    while 4 * i + 3 < nodes.len() {
-        let at = 4 * i;
-        let symbol = Ordinal {
-            number: nodes[at + 1],
-        };
-        u = node(u, nodes[at], symbol, rows, ids, stack, uses);
-        i += 1;
+    for &[kind, symbol, _, _] in nodes.as_chunks::<4>().0 {
+        u = node(u, kind, Ordinal { number: symbol }, rows, ids, stack, uses);
     }
     u
 }

@@ -1,27 +1,18 @@
--- `names::outline::missing` meets its contract: what the rest lacks is what all lack.
--- Assumes nothing.
-use mathlib.Core.Path.{refl, sym, ◌∙◌}
+-- `names::outline::missing` meets its contract: some row of the scope says no type.
+use mathlib.Core.Path.{◌≡◌}
+use mathlib.Core.Bool.{true, false}
+use Prim.Native.Nat.{◌/◌}
 use native.Mathlib.Omega.{arith}
-use Rattle.names.proofs.RowLaws.{missing_stop, missing_next, missing_end}
+use lib.ListN.{length}
+use Rattle.std.proofs.Common.{rules, tests}
+use Rattle.std.proofs.lemmas.Iterator.{cases_from_any, YieldsList-from_range}
+use Rattle.names.specs.model.Rows.{row_in}
+use Rattle.names.proofs.RowLaws.{is_missing, missing_any}
 use Rattle.names.proofs.outline.missing.Goals as goal
-
-pub loop-j-init : goal.loop-j-init
-loop-j-init c = (omega arith, refl)
-
-pub returns-then-is_missing : goal.returns-then-is_missing
-returns-then-is_missing c =
-    let a = c.args in
-    let l = c.loop-j in
-    sym (missing_stop a.scope a.rows.now l.j (omega arith) (sym c.is_missing.ensures ∙ c.if-is_missing.true)) ∙ l.invariant.1
-
-pub loop-j-preserved : goal.loop-j-preserved
-loop-j-preserved c =
-    let a = c.args in
-    let l = c.loop-j in
-    (omega arith, sym (missing_next a.scope a.rows.now l.j (omega arith) (sym c.is_missing.ensures ∙ c.if-is_missing.false)) ∙ l.invariant.1)
 
 pub returns : goal.returns
 returns c =
     let a = c.args in
-    let l = c.loop-j in
-    sym (missing_end a.scope a.rows.now l.j (omega arith)) ∙ l.invariant.1
+    let n = length a.rows.now / 4 in
+    let e = cases_from_any _ _ _ (λ x. is_missing a.scope (row_in a.rows.now x) ≡ true) (λ x. is_missing a.scope (row_in a.rows.now x) ≡ false) c.any.ensures.ran (YieldsList-from_range 0 n n (cc) (omega arith)) (λ x q k. search (rules, tests)) (λ x q k. search (rules, tests)) in
+    missing_any a.scope a.rows.now c.any.result e

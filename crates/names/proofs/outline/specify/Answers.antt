@@ -8,6 +8,6 @@ pub returns : goal.returns
 returns c =
     let a = c.args in record {
       stack_after = c.mark.ensures.by_index _
-          ∙ specified_is a.o a.rows.now a.stack.now a.ids.now _ _ _ _ _ _ _ c.rows_here-want.ensures c.says_first-said.ensures c.mode.ensures.value c.sort-again.ensures.value c.sort.ensures.value c.word-word.ensures;
+          ∙ specified_is a.o a.rows.now a.stack.now a.ids.now _ _ _ _ _ _ _ c.rows_here-want.ensures (rw c.first.ensures at c.says-said.ensures) c.mode.ensures.value c.sort-again.ensures.value c.sort.ensures.value c.word-word.ensures;
       rows_value = c.mark.ensures.rows_value;
     }

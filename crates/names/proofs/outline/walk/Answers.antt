@@ -1,31 +1,29 @@
 -- `names::outline::walk` meets its contract: the nodes that are left, folded from here, give the whole.
--- Assumes nothing.
 use mathlib.Core.Path.{refl, sym, ap, ◌∙◌}
 use Prim.Native.Nat.{◌+◌, ◌*◌}
 use native.Mathlib.Omega.{arith}
 use lib.ListN.{drop}
 use Rattle.names.specs.model.Rows.{opens_of, fold_nodes, outline_node, outline_of}
-use Rattle.names.proofs.RowLaws.{fold_on, fold_end}
+use Rattle.names.proofs.RowLaws.{fold_chunk, fold_end}
 use Rattle.names.proofs.OutlineLaws.{within_le}
 use Rattle.names.proofs.outline.walk.Goals as goal
 
-pub loop-i-init : goal.loop-i-init
+pub loop-kind-init : goal.loop-kind-init
 unfolding opens_of outline_of
-loop-i-init c = (omega arith, refl, record { rows = omega arith; around = record { deep = omega arith; many = omega arith } })
+loop-kind-init c = (refl, record { rows = omega arith; around = record { deep = omega arith; many = omega arith } })
 
-pub node-o-requires : goal.node-o-requires
-node-o-requires c = let l = c.loop-i in within_le l.o l.i 8191 (omega arith) l.invariant.2
-
-pub loop-i-preserved : goal.loop-i-preserved
-loop-i-preserved c =
-    let l = c.loop-i in (
-      omega arith,
-      ap (fold_nodes (outline_node c.args.ids.now) (drop (4 * (l.i + 1)) c.args.nodes.now)) (c.node-o.ensures.by_index _)
-          ∙ sym (fold_on (outline_node c.args.ids.now) c.args.nodes.now l.i _ c.loop-i-test.true)
-          ∙ l.invariant.1,
-      c.node-o.ensures.by_index_2 l.i l.invariant.2,
+pub loop-kind-preserved : goal.loop-kind-preserved
+loop-kind-preserved c =
+    let a = c.args in
+    let l = c.loop-kind in
+    let k = c.as_chunks.ensures in (
+      ap (fold_nodes (outline_node a.ids.now) (drop (4 * (l.kind-index + 1)) a.nodes.now)) (c.node-o.ensures.by_index _)
+          ∙ sym (fold_chunk (outline_node a.ids.now) a.nodes.now c.as_chunks.result.0.now l.kind-index _ _ k.front c.loop-kind-test.true k.front_len)
+          ∙ l.invariant.0,
+      c.node-o.ensures.by_index_2 l.kind-index l.invariant.1,
     )
 
-pub returns : goal.returns
-returns c =
-    let l = c.loop-i in record { stack_after = sym (fold_end (outline_node c.args.ids.now) c.args.nodes.now l.i _ c.loop-i-test.false) ∙ l.invariant.1; outline_within = within_le l.o l.i 8192 (omega arith) l.invariant.2 }
+pub returns-clause-stack_after : goal.returns-clause-stack_after
+returns-clause-stack_after c =
+    let l = c.loop-kind in
+    sym (fold_end (outline_node c.args.ids.now) c.args.nodes.now l.kind-index _ (omega (arith, c.as_chunks.ensures.front_len))) ∙ l.invariant.0

@@ -1,7 +1,8 @@
--- `names::rows::has` meets its contract: a row is found exactly where its number is below how many there are.
--- Assumes nothing.
-use Rattle.names.proofs.RowLaws.{has_found}
+-- `names::rows::has` meets its contract: a row is found exactly where there is one.
+use mathlib.Core.Path.{ap, ◌∙◌}
+use Rattle.std.specs.Option.{is_some}
+use Rattle.names.proofs.RowLaws.{found_some}
 use Rattle.names.proofs.rows.has.Goals as goal
 
 pub returns : goal.returns
-returns c = rw c.find-d.ensures (has_found c.args.ids.now c.args.want c.args.rows.now)
+returns c = c.is_some.ensures ∙ ap is_some c.find.ensures ∙ found_some c.args.ids.now c.args.want c.args.rows.now

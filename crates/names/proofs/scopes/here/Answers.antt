@@ -1,12 +1,14 @@
--- `names::scopes::here` meets its contract: the last word of the open ones.
--- Assumes nothing.
-use Rattle.names.specs.model.Rows.{opens_of, here_in}
-use Rattle.names.proofs.RowLaws.{opens_here}
+-- `names::scopes::here` meets its contract: the last of the scopes that are open.
+use mathlib.Core.Path.{ap, ◌∙◌}
+use Prim.Native.Nat.{ℕ}
+use native.Mathlib.Omega.{arith}
+use Rattle.std.specs.Prelude.{Option}
+use Rattle.std.specs.Option.{unwrap_or}
+use Rattle.names.proofs.RowLaws.{opens_last}
 use Rattle.names.proofs.scopes.here.Goals as goal
 
-pub returns-then-o-eq0 : goal.returns-then-o-eq0
-unfolding opens_of here_in
-returns-then-o-eq0 c = rw c.if-o-eq0.true
-
 pub returns : goal.returns
-returns c = opens_here c.args.o.depth c.args.stack.now c.if-o-eq0.false
+returns c =
+    c.unwrap_or.ensures
+    ∙ ap (λ (o : Option ℕ). unwrap_or o 0) (c.copied.ensures ∙ c.last.ensures.value)
+    ∙ opens_last c.args.o.depth c.args.stack.now (omega arith)

@@ -1,35 +1,28 @@
--- `uses::walk` is the fold over the nodes.
--- The invariant: what the nodes from i on make of what is seen so far is what all nodes make; each node adds at most one use and one scope.
+-- `uses::walk`: the nodes that are left, folded from here, give the whole.
+use mathlib.Core.Path.{refl, sym, ap, ◌∙◌}
 use Prim.Native.Nat.{◌+◌, ◌*◌}
-use mathlib.Core.Path.{refl, sym, ◌∙◌}
 use native.Mathlib.Omega.{arith}
-use lib.ListN.{get_or}
-use Rattle.names.specs.model.Rows.{opens_of, use_node, uses_of}
-use Rattle.names.specs.model.Arrays.{see_uses}
-use Rattle.names.proofs.RowLaws.{fold_end}
-use Rattle.names.proofs.UseLaws.{fold_next}
+use lib.ListN.{drop}
+use Rattle.names.specs.model.Rows.{opens_of, fold_nodes, use_node, uses_of}
+use Rattle.names.proofs.RowLaws.{fold_chunk, fold_end}
 use Rattle.names.proofs.uses.walk.Goals as goal
 
-pub loop-i-init : goal.loop-i-init
+pub loop-kind-init : goal.loop-kind-init
 unfolding uses_of opens_of
-loop-i-init c = (omega arith, omega arith, refl)
+loop-kind-init c = (record { count = omega arith; around = record { deep = omega arith; many = omega arith } }, refl)
 
-pub node-u-requires : goal.node-u-requires
-node-u-requires c = (omega arith, c.requires.1)
-
-pub loop-i-preserved : goal.loop-i-preserved
-loop-i-preserved c =
+pub loop-kind-preserved : goal.loop-kind-preserved
+loop-kind-preserved c =
     let a = c.args in
-    let l = c.loop-i in
-    let n = c.node-u in (
-      omega arith,
-      n.ensures.by_index_2 l.i l.invariant.1,
-      fold_next (use_node a.ids.now a.rows.now) a.nodes.now l.i (see_uses l.u l.uses l.stack) _ c.loop-i-test.true (n.ensures.by_index (get_or a.nodes.now (4 * l.i + 2) 0) (get_or a.nodes.now (4 * l.i + 3) 0))
-          ∙ l.invariant.2,
+    let l = c.loop-kind in
+    let k = c.as_chunks.ensures in (
+      c.node-u.ensures.by_index_2 l.kind-index l.invariant.0,
+      ap (fold_nodes (use_node a.ids.now a.rows.now) (drop (4 * (l.kind-index + 1)) a.nodes.now)) (c.node-u.ensures.by_index _ _)
+          ∙ sym (fold_chunk (use_node a.ids.now a.rows.now) a.nodes.now c.as_chunks.result.0.now l.kind-index _ _ k.front c.loop-kind-test.true k.front_len)
+          ∙ l.invariant.1,
     )
 
-pub returns : goal.returns
-returns c =
-    let a = c.args in
-    let l = c.loop-i in
-    record { stack_after = sym (fold_end (use_node a.ids.now a.rows.now) a.nodes.now l.i (see_uses l.u l.uses l.stack) c.loop-i-test.false) ∙ l.invariant.2; uses_within = omega arith }
+pub returns-clause-stack_after : goal.returns-clause-stack_after
+returns-clause-stack_after c =
+    let l = c.loop-kind in
+    sym (fold_end (use_node c.args.ids.now c.args.rows.now) c.args.nodes.now l.kind-index _ (omega (arith, c.as_chunks.ensures.front_len))) ∙ l.invariant.1
