@@ -11,7 +11,7 @@ pub const NONE: usize = 1048576;
 pub fn noted(least: usize, symbol: Ordinal, a: Answer) -> usize
     ensures { result ≡ min least (fault_key symbol.number a.number) }
 {
-    least.min(16 * symbol.number as usize + a.number as usize)
+    least.min(16 * usize::from(symbol.number) + usize::from(a.number))
 }
 
 // The same where a test says so.

@@ -34,14 +34,16 @@ fn identity(source: &[u8], places: &[usize; 2048], ids: &[u16], symbol: Ordinal)
     requires { (symbol.number < 2048) × (length ids.now ≡ 2048) × Standing source.now places.now ids.now symbol.number }
     ensures { StandsFor source.now places.now symbol.number result }
 {
-    let i = symbol.number as usize;
-    let place = Place { at: places[i] };
+    let place = Place {
+        at: places[symbol.number as usize],
+    };
     if let Some(e) = given(source, place) {
         return OUTSIDE + e.number;
     }
-    for j in 0..i {
-        if ids[j] == j as u16 && same_name(source, Place { at: places[j] }, place) {
-            return j as u16;
+    for j in 0..symbol.number {
+        let at = places[j as usize];
+        if ids[j as usize] == j && same_name(source, Place { at }, place) {
+            return j;
         }
     }
     symbol.number
@@ -49,14 +51,6 @@ fn identity(source: &[u8], places: &[usize; 2048], ids: &[u16], symbol: Ordinal)
 
 // The identities of the first symbols.
 pub fn identify(source: &[u8], places: &[usize; 2048], count: usize, ids: &mut [u16; 2048])
-    ensures { Identified source.now places.now ids.new (min count 2048) }
-{
-    fill(source, places, count, ids);
-}
-
-// One after the other.
-fn fill(source: &[u8], places: &[usize; 2048], count: usize, ids: &mut [u16])
-    requires { length ids.old ≡ 2048 }
     ensures { Identified source.now places.now ids.new (min count 2048) }
 {
     for i in 0..count.min(2048) {

@@ -1,6 +1,9 @@
 // Paper 01, "Names and types": which declaration each name means, and the faults that names have.
 #![tactic(auto)]
 
+ghost use Rattle.std.specs.Prelude.{◌≡◌};
+ghost use Rattle.names.specs.Words.{node_of_words, row_of_words};
+
 use answers::{Declaration, Environment, Ordinal};
 
 pub mod faults; // the least fault
@@ -15,6 +18,30 @@ pub mod passes; // the passes, for any words
 
 pub use modes::{mode, sort};
 pub use rows::row as row_at;
+pub use uses::is_use;
+
+// A node: its kind, its symbol, and its two operands.
+#[derive(Clone, Copy)]
+pub struct Node {
+    pub kind: u16,
+    pub symbol: Ordinal,
+    pub one: u16,
+    pub two: u16,
+}
+
+impl From<[u16; 4]> for Node {
+    ghost from_gives = { λ words n. n ≡ node_of_words words };
+
+    fn from(words: [u16; 4]) -> Node {
+        let [kind, symbol, one, two] = words;
+        Node {
+            kind,
+            symbol: Ordinal { number: symbol },
+            one,
+            two,
+        }
+    }
+}
 
 // A row: of a declaration or formal its kind, its name's symbol, the number of its scope, and its type with how a formal is called.
 #[derive(Clone, Copy)]
@@ -23,6 +50,20 @@ pub struct Row {
     pub symbol: Ordinal,
     pub scope: u16,
     pub sort: u16,
+}
+
+impl From<[u16; 4]> for Row {
+    ghost from_gives = { λ words r. r ≡ row_of_words words };
+
+    fn from(words: [u16; 4]) -> Row {
+        let [kind, symbol, scope, sort] = words;
+        Row {
+            kind,
+            symbol: Ordinal { number: symbol },
+            scope,
+            sort,
+        }
+    }
 }
 
 // What is looked for among rows: kinds from low to high, in a scope, with an identity.

@@ -5,7 +5,7 @@ ghost use Rattle.names.specs.model.Arrays.{see_open, see_outline, OutlineWithin}
 
 use crate::rows::{first, has, identity_of, put, row, say, says};
 use crate::scopes::{enter, here, leave};
-use crate::{Declaring, Open, Row, Sought, faults, modes};
+use crate::{Declaring, Node, Open, Row, Sought, faults, modes};
 use answers::{Answer, Declaration, Ordinal};
 use grammar::nodes;
 
@@ -178,18 +178,16 @@ fn body(mut o: Declaring, symbol: Ordinal, rows: &[u16; 32768], stack: &[u16; 81
 // What a node adds.
 fn node(
     mut o: Declaring,
-    kind: u16,
-    symbol: Ordinal,
-    one: u16,
+    n: Node,
     ids: &[u16; 2048],
     rows: &mut [u16; 32768],
     stack: &mut [u16; 8192],
 ) -> Declaring
     requires { OutlineWithin o 8191 }
-    ensures by_index { (b : ℕ) → see_outline result rows.new stack.new ≡ outline_node ids.now kind symbol.number one b (see_outline o rows.old stack.old) }
+    ensures by_index { (b : ℕ) → see_outline result rows.new stack.new ≡ outline_node ids.now n.kind n.symbol.number n.one b (see_outline o rows.old stack.old) }
     ensures by_index_2 { (i : ℕ) → OutlineWithin o i → OutlineWithin result (i + 1) }
 {
-    match kind {
+    match n.kind {
         nodes::BLOCK => {
             o.around = enter(o.around, stack);
             o
@@ -199,15 +197,15 @@ fn node(
             o
         }
         nodes::TYPE => {
-            o.sort = one;
+            o.sort = n.one;
             o
         }
-        nodes::VARIABLE => declare(o, kind, symbol, o.sort, ids, rows, stack),
-        nodes::PROCEDURE => procedure(o, symbol, ids, rows, stack),
-        nodes::FORMAL => formal(o, symbol, ids, rows, stack),
-        nodes::VALUE => value(o, symbol, ids, rows, stack),
-        nodes::SPECIFIED => specify(o, symbol, ids, rows, stack),
-        nodes::BODY => body(o, symbol, rows, stack),
+        nodes::VARIABLE => declare(o, n.kind, n.symbol, o.sort, ids, rows, stack),
+        nodes::PROCEDURE => procedure(o, n.symbol, ids, rows, stack),
+        nodes::FORMAL => formal(o, n.symbol, ids, rows, stack),
+        nodes::VALUE => value(o, n.symbol, ids, rows, stack),
+        nodes::SPECIFIED => specify(o, n.symbol, ids, rows, stack),
+        nodes::BODY => body(o, n.symbol, rows, stack),
         _ => o,
     }
 }
@@ -233,8 +231,8 @@ fn walk(
         heading: Ordinal { number: 0 },
         least: faults::NONE,
     };
-    for &[kind, symbol, one, _] in nodes.as_chunks::<4>().0 {
-        o = node(o, kind, Ordinal { number: symbol }, one, ids, rows, stack);
+    for &words in nodes.as_chunks::<4>().0 {
+        o = node(o, Node::from(words), ids, rows, stack);
     }
     o
 }

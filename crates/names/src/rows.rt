@@ -13,23 +13,15 @@ pub const OUTSIDE: u16 = 2048;
 pub fn identity_of(ids: &[u16; 2048], symbol: Ordinal) -> u16
     ensures { result ≡ identity_in ids.now symbol.number }
 {
-    ids.get(symbol.number as usize).copied().unwrap_or(0)
+    ids.get(usize::from(symbol.number)).copied().unwrap_or(0)
 }
 
 // A row; zeros behind the last one.
 pub fn row(rows: &[u16], d: Declaration) -> Row
     ensures { result ≡ row_in rows.now d.number }
 {
-    let [kind, symbol, scope, sort] = match rows.as_chunks::<4>().0.get(d.number) {
-        Some(words) => *words,
-        None => [0; 4],
-    };
-    Row {
-        kind,
-        symbol: Ordinal { number: symbol },
-        scope,
-        sort,
-    }
+    let words = rows.as_chunks::<4>().0.get(d.number).copied();
+    Row::from(words.unwrap_or([0; 4]))
 }
 
 // The words of the first n rows.
@@ -40,35 +32,25 @@ pub fn first(rows: &[u16], n: usize) -> &[u16]
     &rows[..4 * n]
 }
 
-// Whether a row, whose name has an identity, is what is looked for.
-fn fits(r: Row, id: u16, want: Sought) -> bool
-    ensures { (ids : List ℕ) → identity_in ids r.symbol.number ≡ id → result ≡ sought_row ids want r }
-{
-    want.low <= r.kind
-        && r.kind <= want.high
-        && r.scope == want.scope
-        && id == want.id
-}
-
-// Whether row d is.
+// Whether row d is what is looked for.
+#[tactic(auto, unfolding(crate::specs::model::Rows::sought))]
 fn is_sought(rows: &[u16], ids: &[u16; 2048], want: Sought, d: Declaration) -> bool
     ensures { result ≡ sought_row ids.now want (row_in rows.now d.number) }
 {
     let r = row(rows, d);
-    fits(r, identity_of(ids, r.symbol), want)
+    want.low <= r.kind
+        && r.kind <= want.high
+        && r.scope == want.scope
+        && identity_of(ids, r.symbol) == want.id
 }
 
 // The first row that is looked for.
 pub fn find(rows: &[u16], ids: &[u16; 2048], want: Sought) -> Option<Declaration>
     ensures { result ≡ found_row ids.now want rows.now }
 {
-    for number in 0..rows.len() / 4 {
-        let d = Declaration { number };
-        if is_sought(rows, ids, want, d) {
-            return Some(d);
-        }
-    }
-    None
+    (0..rows.len() / 4)
+        .map(|number| Declaration { number })
+        .find(|d| is_sought(rows, ids, want, *d))
 }
 
 // Whether there is one.
@@ -113,13 +95,6 @@ pub fn put(rows: &mut [u16; 32768], n: usize, r: Row)
     requires { n < 8192 }
     ensures { PutRow rows.old rows.new n r }
 {
-    write(rows, 4 * n, r);
-}
-
-// Writes four words.
-fn write(rows: &mut [u16], a: usize, r: Row)
-    requires { a + 4 ≤ length rows.old }
-    ensures { take (a + 4) rows.new ≡ take a rows.old ++ (r.kind ∷ r.symbol.number ∷ r.scope ∷ r.sort ∷ []) }
-{
-    rows[a..a + 4].copy_from_slice(&[r.kind, r.symbol.number, r.scope, r.sort]);
+    let words = [r.kind, r.symbol.number, r.scope, r.sort];
+    rows[4 * n..4 * n + 4].copy_from_slice(&words);
 }

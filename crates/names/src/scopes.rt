@@ -1,6 +1,6 @@
 // The scopes that are open, innermost last; they are numbered from 1 as they are opened.
 ghost use Rattle.std.specs.Prelude.{◌≡◌, List, ◌∷◌, ℕ, ◌+◌, ◌<◌, ◌≤◌, length};
-ghost use Rattle.names.specs.model.Rows.{opens_of, here_in, outward};
+ghost use Rattle.names.specs.model.Rows.{here_in, outward};
 ghost use Rattle.names.specs.model.Arrays.{see_open};
 
 use crate::Open;
@@ -19,20 +19,12 @@ pub fn enter(o: Open, stack: &mut [u16; 8192]) -> Open
     ensures stack_after { see_open result stack.new ≡ (o.scopes + 1) ∷ see_open o stack.old }
     ensures scopes_value { (result.scopes ≡ o.scopes + 1) × (result.depth ≡ o.depth + 1) }
 {
-    let n = o.scopes + 1;
-    push(stack, o.depth, n);
+    let scopes = o.scopes + 1;
+    stack[o.depth] = scopes;
     Open {
         depth: o.depth + 1,
-        scopes: n,
+        scopes,
     }
-}
-
-// Scope n stands behind those that are open.
-fn push(stack: &mut [u16], depth: usize, n: u16)
-    requires { depth < length stack.old }
-    ensures { opens_of (depth + 1) stack.new ≡ n ∷ opens_of depth stack.old }
-{
-    stack[depth] = n;
 }
 
 // The innermost one is left.

@@ -1,12 +1,12 @@
 // What each use means: the innermost declaration or formal around it, else the environment's; and the fault 8.
 ghost use Rattle.std.specs.Prelude.{◌≡◌, [], ◌∷◌, ◌++◌, ℕ, ◌+◌, ◌≤◌, ◌<◌, length, take};
-ghost use Rattle.names.specs.model.Rows.{opens_of, outside_of, meant_in, used as usedIn, use_node, uses_of};
+ghost use Rattle.names.specs.model.Rows.{opens_of, outside_of, meant_in, is_nothing as isNothing, is_use, used as usedIn, use_node, uses_of};
 ghost use Rattle.names.specs.model.Arrays.{see_uses, UsesWithin};
 
 use crate::meanings::number;
 use crate::rows::{OUTSIDE, find, identity_of};
 use crate::scopes::{enter, leave};
-use crate::{Meant, Open, Sought, Using, faults};
+use crate::{Meant, Node, Open, Sought, Using, faults};
 use answers::{Answer, Environment, Ordinal};
 use grammar::nodes;
 
@@ -39,12 +39,19 @@ fn meaning(rows: &[u16], ids: &[u16; 2048], depth: usize, stack: &[u16; 8192], i
     outside(id)
 }
 
-// A word is kept behind n others.
-fn keep(uses: &mut [u16], n: usize, word: u16)
-    requires { n < length uses.old }
-    ensures { take (n + 1) uses.new ≡ take n uses.old ++ (word ∷ []) }
+// Whether a node is of a use.
+#[tactic(auto, unfolding(crate::specs::model::Rows::is_use))]
+pub fn is_use(kind: u16) -> bool
+    ensures { result ≡ is_use kind }
 {
-    uses[n] = word;
+    matches!(kind, nodes::FOR | nodes::LEFT | nodes::USE | nodes::CALL)
+}
+
+// Whether a name means nothing.
+fn is_nothing(m: Meant) -> bool
+    ensures { result ≡ isNothing m }
+{
+    matches!(m, Meant::Nothing)
 }
 
 // A use: 8 where it means nothing.
@@ -61,29 +68,26 @@ fn used(
     ensures by_index { (i : ℕ) → UsesWithin u i → UsesWithin result (i + 1) }
 {
     let m = meaning(rows, ids, u.around.depth, stack, identity_of(ids, symbol));
-    keep(uses, u.count, number(m));
+    uses[u.count] = number(m);
     u.count += 1;
-    if let Meant::Nothing = m {
-        u.least = faults::noted(u.least, symbol, Answer::UNDECLARED);
-    }
+    u.least = faults::noted_if(is_nothing(m), u.least, symbol, Answer::UNDECLARED);
     u
 }
 
 // What a node adds.
 fn node(
     mut u: Using,
-    kind: u16,
-    symbol: Ordinal,
+    n: Node,
     rows: &[u16],
     ids: &[u16; 2048],
     stack: &mut [u16; 8192],
     uses: &mut [u16; 8192],
 ) -> Using
     requires { UsesWithin u 8191 × (length rows.now ≤ 32768) }
-    ensures by_index { (a b : ℕ) → see_uses result uses.new stack.new ≡ use_node ids.now rows.now kind symbol.number a b (see_uses u uses.old stack.old) }
+    ensures by_index { (a b : ℕ) → see_uses result uses.new stack.new ≡ use_node ids.now rows.now n.kind n.symbol.number a b (see_uses u uses.old stack.old) }
     ensures by_index_2 { (i : ℕ) → UsesWithin u i → UsesWithin result (i + 1) }
 {
-    match kind {
+    match n.kind {
         nodes::BLOCK | nodes::PROCEDURE => {
             u.around = enter(u.around, stack);
             u
@@ -93,7 +97,7 @@ fn node(
             u
         }
         nodes::FOR | nodes::LEFT | nodes::USE | nodes::CALL => {
-            used(u, symbol, rows, ids, stack, uses)
+            used(u, n.symbol, rows, ids, stack, uses)
         }
         _ => u,
     }
@@ -119,8 +123,8 @@ fn walk(
         },
         least: faults::NONE,
     };
-    for &[kind, symbol, _, _] in nodes.as_chunks::<4>().0 {
-        u = node(u, kind, Ordinal { number: symbol }, rows, ids, stack, uses);
+    for &words in nodes.as_chunks::<4>().0 {
+        u = node(u, Node::from(words), rows, ids, stack, uses);
     }
     u
 }

@@ -15,7 +15,7 @@ returns-in-3 c =
 
 pub returns-in-4 : goal.returns-in-4
 returns-in-4 c =
-    let a = c.args in record { by_index = λ b. typed_is a.o a.rows.now a.stack.now a.one ∙ sym (at_type _ _ _ _ b _ c.in-4.is); by_index_2 = λ i w. within_next a.o _ i w (omega arith, omega arith, omega arith) }
+    let a = c.args in record { by_index = λ b. typed_is a.o a.rows.now a.stack.now a.n.one ∙ sym (at_type _ _ _ _ b _ c.in-4.is); by_index_2 = λ i w. within_next a.o _ i w (omega arith, omega arith, omega arith) }
 
 pub returns-in-5 : goal.returns-in-5
 returns-in-5 c = record { by_index = λ b. c.declare.ensures.stack_after ∙ sym (at_variable _ _ _ _ b _ c.in-5.is); by_index_2 = c.declare.ensures.by_index }
@@ -38,4 +38,4 @@ returns-in-10 c = record { by_index = λ b. c.body.ensures.stack_value ∙ sym (
 pub returns-in_default : goal.returns-in_default
 returns-in_default c =
     let a = c.args in
-    let r = c.in_default.in_default-own.rest in record { by_index = λ b. sym (at_other _ a.kind _ _ b _ r.0.0.0.0.0.0.0.0.1 r.0.0.0.0.0.0.0.1 r.0.0.0.0.0.0.1 r.0.0.0.0.0.1 r.0.0.0.0.1 r.0.0.0.1 r.0.0.1 r.0.1 r.1); by_index_2 = λ i w. within_next a.o _ i w (omega arith, omega arith, omega arith) }
+    let r = c.in_default.in_default-own.rest in record { by_index = λ b. sym (at_other _ a.n.kind _ _ b _ r.0.0.0.0.0.0.0.0.1 r.0.0.0.0.0.0.0.1 r.0.0.0.0.0.0.1 r.0.0.0.0.0.1 r.0.0.0.0.1 r.0.0.0.1 r.0.0.1 r.0.1 r.1); by_index_2 = λ i w. within_next a.o _ i w (omega arith, omega arith, omega arith) }

@@ -1,15 +1,16 @@
 -- `names::rows::row` meets its contract: its four words, or behind the last one zeros.
-use mathlib.Core.Path.{sym}
-use native.Mathlib.Omega.{arith}
-use Rattle.names.proofs.RowLaws.{row_chunk, row_none}
+use mathlib.Core.Path.{ap, ◌∙◌}
+use mathlib.Core.List.{List, [], ◌∷◌}
+use Prim.Native.Nat.{ℕ}
+use Rattle.std.specs.Prelude.{Option}
+use Rattle.std.specs.Option.{unwrap_or}
+use Rattle.names.specs.Words.{row_of_words}
+use Rattle.names.proofs.RowLaws.{row_got}
 use Rattle.names.proofs.rows.row.Goals as goal
-use Rattle.names.proofs.rows.row.Goals.{in-Some, in-None}
 
 pub returns : goal.returns
 returns c =
-    let a = c.args in
-    elim c.match-get.branch [
-      | in-Some w ↦
-          rw w.kind-is (row_chunk a.rows.now a.d.number w.in-Some.words.now (omega (arith, w.in-Some.ensures.lookup.3.0, c.as_chunks.ensures.front_len)) (rw c.as_chunks.ensures.front at w.in-Some.ensures.lookup.1))
-      | in-None w ↦ rw w.kind-is (sym (row_none a.rows.now a.d.number (omega (arith, w.in-None.ensures.lookup.3, c.as_chunks.ensures.front_len))))
-    ]
+    let k = c.as_chunks.ensures in
+    c.from.ensures
+    ∙ ap row_of_words (c.unwrap_or.ensures ∙ ap (λ (o : Option (List ℕ)). unwrap_or o (0 ∷ 0 ∷ 0 ∷ 0 ∷ [])) c.copied-words.ensures)
+    ∙ row_got c.args.rows.now _ c.args.d.number c.get.result k.front k.front_len c.get.ensures.lookup

@@ -7,22 +7,22 @@ use Rattle.names.specs.model.Rows.{opens_of, fold_nodes, use_node, uses_of}
 use Rattle.names.proofs.RowLaws.{fold_chunk, fold_end}
 use Rattle.names.proofs.uses.walk.Goals as goal
 
-pub loop-kind-init : goal.loop-kind-init
+pub loop-words-init : goal.loop-words-init
 unfolding uses_of opens_of
-loop-kind-init c = (record { count = omega arith; around = record { deep = omega arith; many = omega arith } }, refl)
+loop-words-init c = (record { count = omega arith; around = record { deep = omega arith; many = omega arith } }, refl)
 
-pub loop-kind-preserved : goal.loop-kind-preserved
-loop-kind-preserved c =
+pub loop-words-preserved : goal.loop-words-preserved
+loop-words-preserved c =
     let a = c.args in
-    let l = c.loop-kind in
+    let l = c.loop-words in
     let k = c.as_chunks.ensures in (
-      c.node-u.ensures.by_index_2 l.kind-index l.invariant.0,
-      ap (fold_nodes (use_node a.ids.now a.rows.now) (drop (4 * (l.kind-index + 1)) a.nodes.now)) (c.node-u.ensures.by_index _ _)
-          ∙ sym (fold_chunk (use_node a.ids.now a.rows.now) a.nodes.now c.as_chunks.result.0.now l.kind-index _ _ k.front c.loop-kind-test.true k.front_len)
+      c.node-u.ensures.by_index_2 l.words-index l.invariant.0,
+      ap (fold_nodes (use_node a.ids.now a.rows.now) (drop (4 * (l.words-index + 1)) a.nodes.now)) (c.node-u.ensures.by_index c.from.result.one c.from.result.two)
+          ∙ sym (fold_chunk (use_node a.ids.now a.rows.now) a.nodes.now c.as_chunks.result.0.now l.words-index _ c.from.result _ k.front c.loop-words-test.true k.front_len c.from.ensures)
           ∙ l.invariant.1,
     )
 
 pub returns-clause-stack_after : goal.returns-clause-stack_after
 returns-clause-stack_after c =
-    let l = c.loop-kind in
-    sym (fold_end (use_node c.args.ids.now c.args.rows.now) c.args.nodes.now l.kind-index _ (omega (arith, c.as_chunks.ensures.front_len))) ∙ l.invariant.1
+    let l = c.loop-words in
+    sym (fold_end (use_node c.args.ids.now c.args.rows.now) c.args.nodes.now l.words-index _ (omega (arith, c.as_chunks.ensures.front_len))) ∙ l.invariant.1

@@ -6,5 +6,5 @@ use Rattle.names.specs.model.Rows.{fold_nodes, use_node, uses_of}
 use Rattle.names.specs.model.Arrays.{see_uses, UsesWithin}
 use Rattle.names.proofs.uses.walk.Given as goal
 
-abbrev pub invariant-loop-kind : goal.invariant-loop-kind
-invariant-loop-kind l = UsesWithin l.u l.kind-index × (fold_nodes (use_node l.ids l.rows) (drop (4 * l.kind-index) l.nodes) (see_uses l.u l.uses l.stack) ≡ uses_of l.ids l.rows l.nodes)
+abbrev pub invariant-loop-words : goal.invariant-loop-words
+invariant-loop-words l = UsesWithin l.u l.words-index × (fold_nodes (use_node l.ids l.rows) (drop (4 * l.words-index) l.nodes) (see_uses l.u l.uses l.stack) ≡ uses_of l.ids l.rows l.nodes)

@@ -1,9 +1,9 @@
--- `names::identity::fill` meets its contract. The identities of the symbols before i stand for their names.
+-- `names::identity::identify` meets its contract. The identities of the symbols before i stand for their names.
 use mathlib.Core.Path.{◌∙◌}
 use native.Mathlib.Omega.{arith}
 use lib.ListN.{length-set}
 use Rattle.names.proofs.Identities.{identified, stands_on}
-use Rattle.names.proofs.identity.fill.Goals as goal
+use Rattle.names.proofs.identity.identify.Goals as goal
 
 pub loop-i-preserved : goal.loop-i-preserved
 loop-i-preserved c =
