@@ -13,24 +13,26 @@ use Rattle.grammar.specs.model.Marked.{Node, Marks, end as no_more, on as past, 
 use Rattle.grammar.specs.model.Tables.{some, none, choose}
 use Rattle.grammar.specs.model.Run.{got, bad, In, now, after, level, deep}
 use Rattle.grammar.specs.model.Run.{Run, end, sy_no, sy_got, sy_bad, rd_six, rd_five, rd_none, rd_bad, rd_more, rd_got}
+use Rattle.std.specs.Prelude.{Ok, Err}
+use Rattle.std.specs.Result.{IsErrAnd}
+use Rattle.std.proofs.lemmas.Result.{err_from_is_err_and}
+use Rattle.grammar.specs.declared.Fault.{Fault}
+use Rattle.grammar.specs.declared.Read.{Read}
+use Rattle.grammar.specs.model.Parsing.{Parsed, read_to, fault_at}
 use Rattle.grammar.specs.model.Text.{kind_at}
 use Rattle.syntax.specs.model.Says.{left, behind, Put, Got, SaysWith, Says, Limits}
 use Rattle.grammar.specs.declared.Level.{Level}
-use Rattle.grammar.specs.declared.Parsed.{Parsed}
-use Rattle.grammar.specs.declared.Parsed.TheVariants.{Read, Refused}
+use Rattle.grammar.proofs.Outcomes.{read_fault, same_next, same_used, same_answer, same_at}
 use Rattle.grammar.proofs.Sets.{subset, subset_in, disjoint, apart}
 use Rattle.grammar.proofs.Room.{count, slack, spare}
 
 -- ---- answers
-read_refused : {j b k : ℕ} {n : Answer} → Read j b ≡ Refused n k → ⊥
-read_refused q = let z : ◌≡◌ {A = ℕ} 0 1 = cc in omega arith
-
 module _ {ks old new : List ℕ} {d B : ℕ} {F : List ℕ} {is : List Item} {ms : Marks is} {i a : ℕ} where
-  says_got : {j b : ℕ} → Got ks old new d B F ms i a j b → SaysWith ks old new d B F ms i a (Read j b)
-  says_got g = record { read = λ j₂ b₂ q. subst₂ (λ (x y : ℕ). Got ks old new d B F ms i a x y) (cc) (cc) g; refused = λ n k q. absurd (read_refused q) }
+  says_got : {j b : ℕ} → Got ks old new d B F ms i a j b → SaysWith ks old new d B F ms i a (read_to j b)
+  says_got g = record { read = λ j₂ b₂ q. subst₂ (λ (x y : ℕ). Got ks old new d B F ms i a x y) (same_next q) (same_used q) g; refused = λ n k q. absurd (read_fault q) }
 
-  says_bad : {n : Answer} {k : ℕ} → Run (kind_at ks) (left d) F is i (bad n.number k) → SaysWith ks old new d B F ms i a (Refused n k)
-  says_bad {n} {k} h = record { read = λ j b q. absurd (read_refused (sym q)); refused = λ n₂ k₂ q. let x : n ≡ n₂ = cc in let y : k ≡ k₂ = cc in rw (x, y) at h }
+  says_bad : {n : Answer} {k : ℕ} → Run (kind_at ks) (left d) F is i (bad n.number k) → SaysWith ks old new d B F ms i a (fault_at n k)
+  says_bad {n} {k} h = record { read = λ j b q. absurd (read_fault (sym q)); refused = λ n₂ k₂ q. let x : n ≡ n₂ = same_answer q in let y : k ≡ k₂ = same_at q in rw (x, y) at h }
 
   pub says_limit : {r : Parsed} → 64 ≤ d → Limits ks F is i r → SaysWith ks old new d B F ms i a r
   says_limit l h = record { read = λ j b z. absurd (h.read j b z); refused = λ n k z. subst (λ (x : ℕ). Run (kind_at ks) x F is i (bad n.number k)) (sym none_left) (h.refused n k z) }
@@ -38,8 +40,8 @@ module _ {ks old new : List ℕ} {d B : ℕ} {F : List ℕ} {is : List Item} {ms
       none_left : 64 - d ≡ 0
       none_left = omega arith
 
-pub limits : {ks F : List ℕ} {is : List Item} {i k : ℕ} {n : Answer} → Run (kind_at ks) 0 F is i (bad n.number k) → Limits ks F is i (Refused n k)
-limits {k = k} {n = n} h = record { read = λ j b q. read_refused (sym q); refused = λ n₂ k₂ q. let x : n ≡ n₂ = cc in let y : k ≡ k₂ = cc in rw (x, y) at h }
+pub limits : {ks F : List ℕ} {is : List Item} {i k : ℕ} {n : Answer} → Run (kind_at ks) 0 F is i (bad n.number k) → Limits ks F is i (fault_at n k)
+limits {k = k} {n = n} h = record { read = λ j b q. read_fault (sym q); refused = λ n₂ k₂ q. let x : n ≡ n₂ = same_answer q in let y : k ≡ k₂ = same_at q in rw (x, y) at h }
 
 -- ---- what was read and written, put together
 first_node : {is : List Item} (s : Syn is) (n : Node) (ms : Marks is) (d b i : ℕ) → nodes s (put n ms) d b i ≡ node_words n d b i ++ nodes s ms d b i
@@ -95,6 +97,10 @@ part_got {ks} {old = old} {mid = mid} {d = d} {B = B} A {F = F} {c = c} {X = X} 
 pub g_part : {ks old mid new : List ℕ} {d A B : ℕ} {F : List ℕ} {c : Bool} {X : Class} (is : List Item) {ms : Marks is} {i a j b k e : ℕ} → Got ks old mid d A (after is F) (unmarked (rd c X ∷ [])) i a j b → Got ks mid new d B F ms j b k e → Got ks old new d B F (past {x = rd c X} ms) i a k e
 g_part {A = A} is g h = part_got A is g.run refl g.far g.num g.wrote h
 
+-- what a reader's answer holds where it has read
+pub got_of : {ks old new : List ℕ} {d B : ℕ} {F : List ℕ} {is : List Item} {ms : Marks is} {i a : ℕ} {g : Read} → SaysWith ks old new d B F ms i a (Ok g) → Got ks old new d B F ms i a g.next g.used
+got_of h = h.read _ _ refl
+
 pub space : {ks old new : List ℕ} {d B : ℕ} {F : List ℕ} {c : Bool} {X : Class} {i a j b : ℕ} → Got ks old new d B F (unmarked (rd c X ∷ [])) i a j b → b + 12 * i + spare X ≤ a + 12 * j + slack X
 space {d = d} {B = B} {c = c} {X = X} {i = i} g = omega (arith, count g.tree (unmarked (rd c X ∷ [])) d B i, g.num, g.far)
 
@@ -121,30 +127,34 @@ b_more is g v = join_bad is g.run v
 
 -- ---- answers put together: each item of a production in its turn
 module _ {ks : List ℕ} {d B : ℕ} {F : List ℕ} where
-  pub s_end : {old : List ℕ} {i a : ℕ} → i ≤ length ks → SaysWith ks old old d B F no_more i a (Read i a)
+  pub s_end : {old : List ℕ} {i a : ℕ} → i ≤ length ks → SaysWith ks old old d B F no_more i a (read_to i a)
   s_end l = says_got (g_end l)
 
   pub s_sy : {old new : List ℕ} {is : List Item} {ms : Marks is} {k i a : ℕ} {r : Parsed} → kind_at ks i ≡ k → SaysWith ks old new d B F ms (i + 1) a r → SaysWith ks old new d B F (past {x = sy k} ms) i a r
   s_sy e s = record { read = λ j b q. g_sy e (s.read j b q); refused = λ n k q. sy_bad e (s.refused n k q) }
 
-  pub s_no : {old new : List ℕ} {is : List Item} {k : ℕ} {ms : Marks (sy k ∷ is)} {i a : ℕ} → (kind_at ks i ≡ k → ⊥) → SaysWith ks old new d B F ms i a (Refused (answer 5) i)
+  pub s_no : {old new : List ℕ} {is : List Item} {k : ℕ} {ms : Marks (sy k ∷ is)} {i a : ℕ} → (kind_at ks i ≡ k → ⊥) → SaysWith ks old new d B F ms i a (fault_at (answer 5) i)
   s_no h = says_bad (sy_no h)
 
   pub s_put : {old mid new : List ℕ} {is : List Item} {ms : Marks is} {n : Node} {i a c s x y : ℕ} {r : Parsed} → Put old mid a c n.kind s x y → s ≡ word n.symbol d B i → x ≡ word n.one d B i → y ≡ word n.two d B i
       → SaysWith ks mid new d B F ms i c r → SaysWith ks old new d B F (put n ms) i a r
   s_put p e f h s = record { read = λ j b q. g_put p e f h (s.read j b q); refused = s.refused }
 
-  pub s_none : {old new : List ℕ} {is : List Item} {X : Class} {ms : Marks (rd false X ∷ is)} {i a : ℕ} → choose X (kind_at ks i) (kind_at ks (i + 1)) ≡ none → SaysWith ks old new d B F ms i a (Refused (answer 5) i)
+  pub s_none : {old new : List ℕ} {is : List Item} {X : Class} {ms : Marks (rd false X ∷ is)} {i a : ℕ} → choose X (kind_at ks i) (kind_at ks (i + 1)) ≡ none → SaysWith ks old new d B F ms i a (fault_at (answer 5) i)
   s_none h = says_bad (rd_none level h)
 
   pub s_prod : {old new : List ℕ} {X : Class} (p : Prod X) {i a : ℕ} {r : Parsed} → choose X (kind_at ks i) (kind_at ks (i + 1)) ≡ some p → SaysWith ks old new d i F (marks p) i a r → Says ks old new d B F (rd false X ∷ []) i a r
   s_prod p h s = record { read = λ j b q. g_prod p h (s.read j b q); refused = λ n k q. rd_bad level h (s.refused n k q) }
 
-pub s_part : {ks old mid new : List ℕ} {d A B : ℕ} {F : List ℕ} {c : Bool} {X : Class} (is : List Item) {ms : Marks is} {i a j b : ℕ} {r : Parsed} → Got ks old mid d A (after is F) (unmarked (rd c X ∷ [])) i a j b → SaysWith ks mid new d B F ms j b r → SaysWith ks old new d B F (past {x = rd c X} ms) i a r
-s_part is g s = record { read = λ j b q. g_part is g (s.read j b q); refused = λ n k q. b_more is g (s.refused n k q) }
+pub s_part : {ks old mid new : List ℕ} {d A B : ℕ} {F : List ℕ} {c : Bool} {X : Class} (is : List Item) {ms : Marks is} {i a : ℕ} {g : Read} {r : Parsed} → Says ks old mid d A (after is F) (rd c X ∷ []) i a (Ok g) → SaysWith ks mid new d B F ms g.next g.used r → SaysWith ks old new d B F (past {x = rd c X} ms) i a r
+s_part is h s = record { read = λ j b q. g_part is (got_of h) (s.read j b q); refused = λ n k q. b_more is (got_of h) (s.refused n k q) }
 
-pub s_bad : {ks old new : List ℕ} {d B : ℕ} {F : List ℕ} {c : Bool} {X : Class} (is : List Item) {ms : Marks (rd c X ∷ is)} {i a k : ℕ} {n : Answer} → Run (kind_at ks) (left d) (after is F) (rd c X ∷ []) i (bad n.number k) → SaysWith ks old new d B F ms i a (Refused n k)
-s_bad is v = says_bad (b_part is v)
+pub s_bad : {ks old mid new : List ℕ} {d A B : ℕ} {F : List ℕ} {c : Bool} {X : Class} (is : List Item) {ms : Marks (rd c X ∷ is)} {i a : ℕ} {f : Fault} → Says ks old mid d A (after is F) (rd c X ∷ []) i a (Err f) → SaysWith ks old new d B F ms i a (Err f)
+s_bad is h = says_bad (b_part is (h.refused _ _ refl))
+
+-- where a `?` leaves, the answer is the refusal that came
+pub s_exit : {ks old new : List ℕ} {d B : ℕ} {F : List ℕ} {is : List Item} {ms : Marks is} {i a : ℕ} {f : Fault} {r : Parsed} → IsErrAnd r (λ e. e ≡ f) → SaysWith ks old new d B F ms i a (Err f) → SaysWith ks old new d B F ms i a r
+s_exit {r = r} l s = let p = err_from_is_err_and r l in rw (p.1, p.2) s
 
 -- items with no node among them are read alike wherever their production began
 any_start : {is : List Item} (s : Syn is) (d A B i : ℕ) → nodes s (unmarked is) d A i ≡ nodes s (unmarked is) d B i

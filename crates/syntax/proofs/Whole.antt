@@ -11,12 +11,10 @@ use Rattle.answers.specs.declared.Answer.{Answer}
 use Rattle.grammar.specs.Grammar.{block, rd, begin_end, program}
 use Rattle.grammar.specs.Trees.{Syn}
 use Rattle.grammar.specs.model.Marked.{unmarked, nodes, nodes_of}
-use Rattle.grammar.specs.model.Parsing.{zeros, node_words_lem, ParseSays}
+use Rattle.grammar.specs.model.Parsing.{zeros, node_words_lem, ParseSays, Parsed, read_to, fault_at}
 use Rattle.grammar.specs.model.Text.{text, kind_at}
 use Rattle.grammar.specs.model.Run.{levels, Run, got, bad, end, rd_got, level}
 use Rattle.syntax.specs.model.Says.{left, Clear, Got}
-use Rattle.grammar.specs.declared.Parsed.{Parsed}
-use Rattle.grammar.specs.declared.Parsed.TheVariants.{Read, Refused}
 use Rattle.grammar.proofs.Final.{read_keeps, read_verdict, over_verdict, bad_verdict}
 
 -- the program that was read
@@ -41,15 +39,15 @@ cleared {mid} c size = c.words ∙ ap (λ (n : ℕ). zeros n) none
     none = omega arith
 
 module _ {ks old mid new : List ℕ} {B j b : ℕ} (g : Got ks old mid 1 B (33 ∷ []) (unmarked (rd false block ∷ [])) 0 0 j b) (size : length mid ≡ node_words_lem) where
-  pub all_read : j ≡ length ks → Clear mid new b → ParseSays ks new (Read j b)
+  pub all_read : j ≡ length ks → Clear mid new b → ParseSays ks new (read_to j b)
   all_read l w =
       let p = the_program g in
       read_verdict ks (record { tree = p.tree; keeps = read_keeps ks p.tree j p.run l; all = l; words = p.words; wrote = w.words ∙ ap (λ (x : List ℕ). x ++ zeros (length mid - b)) p.wrote ∙ ap (λ (n : ℕ). nodes_of p.tree ++ zeros (n - b)) size })
 
-  pub more_left : (j ≡ length ks → ⊥) → Clear mid new 0 → ParseSays ks new (Refused (answer 5) j)
+  pub more_left : (j ≡ length ks → ⊥) → Clear mid new 0 → ParseSays ks new (fault_at (answer 5) j)
   more_left l w = over_verdict ks (cleared w size) (the_program g).run l
 
-pub refused : {ks mid new : List ℕ} {a : Answer} {k : ℕ} → Clear mid new 0 → length mid ≡ node_words_lem → Run (kind_at ks) (left 1) (33 ∷ []) (rd false block ∷ []) 0 (bad a.number k) → ParseSays ks new (Refused a k)
+pub refused : {ks mid new : List ℕ} {a : Answer} {k : ℕ} → Clear mid new 0 → length mid ≡ node_words_lem → Run (kind_at ks) (left 1) (33 ∷ []) (rd false block ∷ []) 0 (bad a.number k) → ParseSays ks new (fault_at a k)
 refused {ks} {a = a} {k = k} w size v = bad_verdict ks a k (cleared w size) v
 
 -- what lies behind the symbols that are there changes nothing

@@ -11,25 +11,15 @@ use Rattle.answers.specs.declared.Answer.{Answer}
 use Rattle.grammar.specs.Grammar.{preludes}
 use Rattle.grammar.specs.Program.{Finding, accepted, wrong_at, deep_at, FindsIn, PreludeFault, PreludeDeep}
 use Rattle.grammar.specs.model.Marked.{unmarked, prelude_nodes}
-use Rattle.grammar.specs.model.Parsing.{zeros, node_words_lem}
+use Rattle.grammar.specs.model.Parsing.{zeros, node_words_lem, Parsed, read_to, fault_at}
 use Rattle.grammar.specs.model.Text.{text, kind_at}
 use Rattle.grammar.specs.model.Run.{Run, bad}
-use Rattle.grammar.specs.declared.Parsed.{Parsed}
-use Rattle.grammar.specs.declared.Parsed.TheVariants.{Read, Refused}
+use Rattle.grammar.proofs.Outcomes.{read_fault, same_next, same_used, same_answer, same_at}
 use Rattle.grammar.proofs.Final.{bad_wrong_in, bad_deep_in, bad_number_in, got_all_in, got_over_in}
 use Rattle.grammar.proofs.Preludes.{a_prelude, one_prelude}
 use Rattle.syntax.specs.model.Says.{left, Clear, Got}
 use Rattle.syntax.specs.model.Preludes.{WholePrelude, PreludeSays}
 use Rattle.syntax.proofs.Whole.{cleared}
-
-read_refused : {j b k : ℕ} {a : Answer} → Read j b ≡ Refused a k → ⊥
-read_refused q = let z : ◌≡◌ {A = ℕ} 0 1 = cc in omega arith
-
-ref_a : {k k₂ : ℕ} {a a₂ : Answer} → Refused a k ≡ Refused a₂ k₂ → a ≡ a₂
-ref_a q = cc
-
-ref_k : {k k₂ : ℕ} {a a₂ : Answer} → Refused a k ≡ Refused a₂ k₂ → k ≡ k₂
-ref_k q = cc
 
 five_six : answer 5 ≡ answer 6 → ⊥
 five_six q = let z : ◌≡◌ {A = ℕ} 5 6 = ap (λ (a : Answer). a.number) q in omega arith
@@ -55,46 +45,46 @@ module _ (ks : List ℕ) where
   one x y p q = let o = one_prelude ks in o.2 x p ∙ sym (o.2 y q)
 
   module _ {new : List ℕ} where
-    v_read : {j b : ℕ} → WholePrelude ks new j b → PreludeSays ks new (Read j b)
+    v_read : {j b : ℕ} → WholePrelude ks new j b → PreludeSays ks new (read_to j b)
     v_read {j} {b} w =
         let a : FindsIn preludes 0 ks accepted = record { tree = w.tree; keeps = w.keeps } in
         record {
-          accepted = λ i c q. let x : j ≡ i = cc in let y : b ≡ c = cc in rw (x, y) at w;
+          accepted = λ i c q. let x : j ≡ i = same_next q in let y : b ≡ c = same_used q in rw (x, y) at w;
           accepts = λ x. (j, b, refl);
-          wrong = λ k q. absurd (read_refused q);
+          wrong = λ k q. absurd (read_fault q);
           wrongs = λ k z. absurd (accepted_wrong (one accepted (wrong_at k) a z));
-          deep = λ k q. absurd (read_refused q);
+          deep = λ k q. absurd (read_fault q);
           deeps = λ k h. absurd (accepted_deep (one accepted (deep_at k) a h));
-          numbers = λ n k q h. absurd (read_refused q);
-          cleared = λ n k q. absurd (read_refused q);
+          numbers = λ n k q h. absurd (read_fault q);
+          cleared = λ n k q. absurd (read_fault q);
         }
 
-    v_wrong : {k : ℕ} → new ≡ zeros node_words_lem → PreludeFault ks k → PreludeSays ks new (Refused (answer 5) k)
+    v_wrong : {k : ℕ} → new ≡ zeros node_words_lem → PreludeFault ks k → PreludeSays ks new (fault_at (answer 5) k)
     v_wrong {k} z w = record {
-      accepted = λ i b q. absurd (read_refused (sym q));
+      accepted = λ i b q. absurd (read_fault (sym q));
       accepts = λ a. absurd (accepted_wrong (one accepted (wrong_at k) a w));
-      wrong = λ k₂ q. subst (λ (x : ℕ). PreludeFault ks x) (ref_k q) w;
-      wrongs = λ k₂ u. ap (Refused (answer 5)) (wrong_place (one (wrong_at k) (wrong_at k₂) w u));
-      deep = λ k₂ q. absurd (five_six (ref_a q));
+      wrong = λ k₂ q. subst (λ (x : ℕ). PreludeFault ks x) (same_at q) w;
+      wrongs = λ k₂ u. ap (fault_at (answer 5)) (wrong_place (one (wrong_at k) (wrong_at k₂) w u));
+      deep = λ k₂ q. absurd (five_six (same_answer q));
       deeps = λ k₂ h. absurd (wrong_deep (one (wrong_at k) (deep_at k₂) w h));
-      numbers = λ n k₂ q h. absurd (h (sym (ref_a q)));
+      numbers = λ n k₂ q h. absurd (h (sym (same_answer q)));
       cleared = λ n k₂ q. z;
     }
 
-    v_deep : {k : ℕ} → new ≡ zeros node_words_lem → PreludeDeep ks k → PreludeSays ks new (Refused (answer 6) k)
+    v_deep : {k : ℕ} → new ≡ zeros node_words_lem → PreludeDeep ks k → PreludeSays ks new (fault_at (answer 6) k)
     v_deep {k} z h = record {
-      accepted = λ i b q. absurd (read_refused (sym q));
+      accepted = λ i b q. absurd (read_fault (sym q));
       accepts = λ a. absurd (accepted_deep (one accepted (deep_at k) a h));
-      wrong = λ k₂ q. absurd (five_six (sym (ref_a q)));
+      wrong = λ k₂ q. absurd (five_six (sym (same_answer q)));
       wrongs = λ k₂ w. absurd (wrong_deep (one (wrong_at k₂) (deep_at k) w h));
-      deep = λ k₂ q. subst (λ (x : ℕ). PreludeDeep ks x) (ref_k q) h;
-      deeps = λ k₂ u. ap (Refused (answer 6)) (deep_place (one (deep_at k) (deep_at k₂) h u));
-      numbers = λ n k₂ q y. sym (ref_a q);
+      deep = λ k₂ q. subst (λ (x : ℕ). PreludeDeep ks x) (same_at q) h;
+      deeps = λ k₂ u. ap (fault_at (answer 6)) (deep_place (one (deep_at k) (deep_at k₂) h u));
+      numbers = λ n k₂ q y. sym (same_answer q);
       cleared = λ n k₂ q. z;
     }
 
 module _ {ks old mid new : List ℕ} {j b : ℕ} (g : Got ks old mid 0 0 (33 ∷ []) (unmarked preludes) 0 0 j b) (size : length mid ≡ node_words_lem) where
-  pub all_read : j ≡ length ks → Clear mid new b → PreludeSays ks new (Read j b)
+  pub all_read : j ≡ length ks → Clear mid new b → PreludeSays ks new (read_to j b)
   unfolding prelude_nodes
   all_read l w =
       let t = g.tree in
@@ -102,15 +92,15 @@ module _ {ks old mid new : List ℕ} {j b : ℕ} (g : Got ks old mid 0 0 (33 ∷
       let q : take b mid ≡ prelude_nodes t = g.wrote in
       v_read ks (record { tree = t; keeps = got_all_in preludes 0 a_prelude ks t j g.run l; all = l; words = n; wrote = w.words ∙ ap (λ (x : List ℕ). x ++ zeros (length mid - b)) q ∙ ap (λ (n : ℕ). prelude_nodes t ++ zeros (n - b)) size })
 
-  pub more_left : (j ≡ length ks → ⊥) → Clear mid new 0 → PreludeSays ks new (Refused (answer 5) j)
+  pub more_left : (j ≡ length ks → ⊥) → Clear mid new 0 → PreludeSays ks new (fault_at (answer 5) j)
   more_left l w = v_wrong ks (cleared w size) (got_over_in preludes 0 a_prelude ks g.tree j g.run (omega (arith, g.within)))
 
-pub refused : {ks mid new : List ℕ} {a : Answer} {k : ℕ} → Clear mid new 0 → length mid ≡ node_words_lem → Run (kind_at ks) (left 0) (33 ∷ []) preludes 0 (bad a.number k) → PreludeSays ks new (Refused a k)
+pub refused : {ks mid new : List ℕ} {a : Answer} {k : ℕ} → Clear mid new 0 → length mid ≡ node_words_lem → Run (kind_at ks) (left 0) (33 ∷ []) preludes 0 (bad a.number k) → PreludeSays ks new (fault_at a k)
 refused {ks} {new = new} {a = a} {k = k} w size v =
     let y = cleared w size in
     elim (ℕ_discrete a.number 5) [
-      | yes h ↦ subst (λ (x : ℕ). PreludeSays ks new (Refused (answer x) k)) (sym h) (v_wrong ks y (bad_wrong_in preludes 0 a_prelude ks a.number k v h))
-      | no h ↦ let z = bad_number_in preludes 0 a_prelude ks a.number k v h in subst (λ (x : ℕ). PreludeSays ks new (Refused (answer x) k)) (sym z) (v_deep ks y (bad_deep_in preludes 0 a_prelude ks a.number k v z))
+      | yes h ↦ subst (λ (x : ℕ). PreludeSays ks new (fault_at (answer x) k)) (sym h) (v_wrong ks y (bad_wrong_in preludes 0 a_prelude ks a.number k v h))
+      | no h ↦ let z = bad_number_in preludes 0 a_prelude ks a.number k v h in subst (λ (x : ℕ). PreludeSays ks new (fault_at (answer x) k)) (sym z) (v_deep ks y (bad_deep_in preludes 0 a_prelude ks a.number k v z))
     ]
 
 -- what lies behind the symbols that are there changes nothing

@@ -8,7 +8,7 @@ use crate::expressions::{actuals, expression};
 use crate::text::peek;
 use crate::writing::put;
 use answers::Answer;
-use grammar::{Parsed, Use, nodes};
+use grammar::{Fault, Parsed, Read, Use, nodes};
 use symbols::Symbol;
 
 // An assignment or a procedure statement, behind the name that begins it.
@@ -60,14 +60,9 @@ fn expression_and(
     requires { Room (text kinds.now) nodes.old pos free × (symbol ≤ pos) }
     ensures { TellsMarked (text kinds.now) nodes.old nodes.new depth an_expression kind symbol pos free result }
 {
-    let one = expression(kinds, pos, depth, nodes, free);
-    match one {
-        Parsed::Refused { answer, at } => Parsed::Refused { answer, at },
-        Parsed::Read { next, used } => {
-            let end = put(nodes, used, kind, symbol, 0, 0);
-            Parsed::Read { next, used: end }
-        }
-    }
+    let Read { next, used } = expression(kinds, pos, depth, nodes, free)?;
+    let end = put(nodes, used, kind, symbol, 0, 0);
+    Ok(Read { next, used: end })
 }
 
 // The right side of an assignment.
@@ -99,16 +94,16 @@ pub fn for_clause(kinds: &[u8], pos: usize, depth: u16, nodes: &mut [u16], free:
                     let controlled = put(nodes, free, nodes::FOR, name, depth, 0);
                     elements(kinds, name + 1, depth, nodes, controlled)
                 }
-                _ => Parsed::Refused {
+                _ => Err(Fault {
                     answer: Answer::GRAMMAR,
                     at: name,
-                },
+                }),
             }
         }
-        _ => Parsed::Refused {
+        _ => Err(Fault {
             answer: Answer::GRAMMAR,
             at: pos,
-        },
+        }),
     }
 }
 
@@ -119,34 +114,26 @@ fn elements(kinds: &[u8], pos: usize, depth: u16, nodes: &mut [u16], free: usize
 {
     match peek(kinds, pos) {
         Symbol::Becomes => {
-            let one = element(kinds, pos + 1, depth, nodes, free);
-            match one {
-                Parsed::Refused { answer, at } => Parsed::Refused { answer, at },
-                Parsed::Read { next, used } => {
-                    let two = further(kinds, next, depth, nodes, used);
-                    match two {
-                        Parsed::Refused { answer, at } => Parsed::Refused { answer, at },
-                        Parsed::Read { next, used } => match peek(kinds, next) {
-                            Symbol::Do => {
-                                let end = put(nodes, used, nodes::DO, 0, 0, 0);
-                                Parsed::Read {
-                                    next: next + 1,
-                                    used: end,
-                                }
-                            }
-                            _ => Parsed::Refused {
-                                answer: Answer::GRAMMAR,
-                                at: next,
-                            },
-                        },
-                    }
+            let Read { next, used } = element(kinds, pos + 1, depth, nodes, free)?;
+            let Read { next, used } = further(kinds, next, depth, nodes, used)?;
+            match peek(kinds, next) {
+                Symbol::Do => {
+                    let end = put(nodes, used, nodes::DO, 0, 0, 0);
+                    Ok(Read {
+                        next: next + 1,
+                        used: end,
+                    })
                 }
+                _ => Err(Fault {
+                    answer: Answer::GRAMMAR,
+                    at: next,
+                }),
             }
         }
-        _ => Parsed::Refused {
+        _ => Err(Fault {
             answer: Answer::GRAMMAR,
             at: pos,
-        },
+        }),
     }
 }
 
@@ -157,16 +144,13 @@ fn further(kinds: &[u8], pos: usize, depth: u16, nodes: &mut [u16], free: usize)
 {
     match peek(kinds, pos) {
         Symbol::Comma => {
-            let one = element(kinds, pos + 1, depth, nodes, free);
-            match one {
-                Parsed::Refused { answer, at } => Parsed::Refused { answer, at },
-                Parsed::Read { next, used } => further(kinds, next, depth, nodes, used),
-            }
+            let Read { next, used } = element(kinds, pos + 1, depth, nodes, free)?;
+            further(kinds, next, depth, nodes, used)
         }
-        _ => Parsed::Read {
+        _ => Ok(Read {
             next: pos,
             used: free,
-        },
+        }),
     }
 }
 
@@ -174,14 +158,9 @@ fn element(kinds: &[u8], pos: usize, depth: u16, nodes: &mut [u16], free: usize)
     requires { Room (text kinds.now) nodes.old pos free }
     ensures { Tells (text kinds.now) nodes.old nodes.new depth (part an_element ∷ []) pos free result }
 {
-    let one = expression(kinds, pos, depth, nodes, free);
-    match one {
-        Parsed::Refused { answer, at } => Parsed::Refused { answer, at },
-        Parsed::Read { next, used } => {
-            let start = put(nodes, used, nodes::START, pos, 0, 0);
-            progress(kinds, next, depth, nodes, start)
-        }
-    }
+    let Read { next, used } = expression(kinds, pos, depth, nodes, free)?;
+    let start = put(nodes, used, nodes::START, pos, 0, 0);
+    progress(kinds, next, depth, nodes, start)
 }
 
 // What makes an element one value, 'while' or 'step' .. 'until'.
@@ -192,21 +171,16 @@ fn progress(kinds: &[u8], pos: usize, depth: u16, nodes: &mut [u16], free: usize
     match peek(kinds, pos) {
         Symbol::Step => stepping(kinds, pos, depth, nodes, free),
         Symbol::While => {
-            let one = expression(kinds, pos + 1, depth, nodes, free);
-            match one {
-                Parsed::Refused { answer, at } => Parsed::Refused { answer, at },
-                Parsed::Read { next, used } => {
-                    let end = put(nodes, used, nodes::WHILE, pos, 0, 0);
-                    Parsed::Read { next, used: end }
-                }
-            }
+            let Read { next, used } = expression(kinds, pos + 1, depth, nodes, free)?;
+            let end = put(nodes, used, nodes::WHILE, pos, 0, 0);
+            Ok(Read { next, used: end })
         }
         _ => {
             let end = put(nodes, free, nodes::ONCE, 0, 0, 0);
-            Parsed::Read {
+            Ok(Read {
                 next: pos,
                 used: end,
-            }
+            })
         }
     }
 }
@@ -218,22 +192,19 @@ fn stepping(kinds: &[u8], pos: usize, depth: u16, nodes: &mut [u16], free: usize
     match peek(kinds, pos) {
         Symbol::Step => {
             let begun = put(nodes, free, nodes::STEP, pos, 0, 0);
-            let one = amount(kinds, pos + 1, depth, nodes, begun);
-            match one {
-                Parsed::Refused { answer, at } => Parsed::Refused { answer, at },
-                Parsed::Read { next, used } => match peek(kinds, next) {
-                    Symbol::Until => amount(kinds, next + 1, depth, nodes, used),
-                    _ => Parsed::Refused {
-                        answer: Answer::GRAMMAR,
-                        at: next,
-                    },
-                },
+            let Read { next, used } = amount(kinds, pos + 1, depth, nodes, begun)?;
+            match peek(kinds, next) {
+                Symbol::Until => amount(kinds, next + 1, depth, nodes, used),
+                _ => Err(Fault {
+                    answer: Answer::GRAMMAR,
+                    at: next,
+                }),
             }
         }
-        _ => Parsed::Refused {
+        _ => Err(Fault {
             answer: Answer::GRAMMAR,
             at: pos,
-        },
+        }),
     }
 }
 

@@ -13,7 +13,7 @@ use crate::operators::{operator, relational};
 use crate::text::peek;
 use crate::writing::put;
 use answers::Answer;
-use grammar::{Level, Parsed, Use, nodes};
+use grammar::{Fault, Level, Parsed, Read, Use, nodes};
 use symbols::Symbol;
 
 #[cycle(expressions)]
@@ -33,23 +33,17 @@ fn condition(kinds: &[u8], pos: usize, depth: u16, nodes: &mut [u16], free: usiz
     requires { (Room (text kinds.now) nodes.old pos free) × (kind_at (text kinds.now) pos ≡ kind If) }
     ensures { TellsOf (text kinds.now) nodes.old nodes.new depth a_condition pos free result }
 {
-    let one = nested(kinds, pos + 1, depth, nodes, free);
-    match one {
-        Parsed::Refused { answer, at } => Parsed::Refused { answer, at },
-        Parsed::Read { next, used } => match peek(kinds, next) {
-            Symbol::Then => {
-                let then = put(nodes, used, nodes::THEN, pos, 0, 0);
-                let two = nested_simple(kinds, next + 1, depth, nodes, then);
-                match two {
-                    Parsed::Refused { answer, at } => Parsed::Refused { answer, at },
-                    Parsed::Read { next, used } => otherwise(kinds, next, depth, nodes, used),
-                }
-            }
-            _ => Parsed::Refused {
-                answer: Answer::GRAMMAR,
-                at: next,
-            },
-        },
+    let Read { next, used } = nested(kinds, pos + 1, depth, nodes, free)?;
+    match peek(kinds, next) {
+        Symbol::Then => {
+            let then = put(nodes, used, nodes::THEN, pos, 0, 0);
+            let Read { next, used } = nested_simple(kinds, next + 1, depth, nodes, then)?;
+            otherwise(kinds, next, depth, nodes, used)
+        }
+        _ => Err(Fault {
+            answer: Answer::GRAMMAR,
+            at: next,
+        }),
     }
 }
 
@@ -62,19 +56,14 @@ fn otherwise(kinds: &[u8], pos: usize, depth: u16, nodes: &mut [u16], free: usiz
     match peek(kinds, pos) {
         Symbol::Else => {
             let otherwise = put(nodes, free, nodes::ELSE, 0, 0, 0);
-            let one = nested(kinds, pos + 1, depth, nodes, otherwise);
-            match one {
-                Parsed::Refused { answer, at } => Parsed::Refused { answer, at },
-                Parsed::Read { next, used } => {
-                    let end = put(nodes, used, nodes::CONDITION_END, pos, 0, 0);
-                    Parsed::Read { next, used: end }
-                }
-            }
+            let Read { next, used } = nested(kinds, pos + 1, depth, nodes, otherwise)?;
+            let end = put(nodes, used, nodes::CONDITION_END, pos, 0, 0);
+            Ok(Read { next, used: end })
         }
-        _ => Parsed::Refused {
+        _ => Err(Fault {
             answer: Answer::GRAMMAR,
             at: pos,
-        },
+        }),
     }
 }
 
@@ -108,11 +97,8 @@ fn chain(kinds: &[u8], pos: usize, depth: u16, nodes: &mut [u16], free: usize, l
     requires { Room (text kinds.now) nodes.old pos free }
     ensures { TellsOf (text kinds.now) nodes.old nodes.new depth (a_chain l) pos free result }
 {
-    let one = operand(kinds, pos, depth, nodes, free, l);
-    match one {
-        Parsed::Refused { answer, at } => Parsed::Refused { answer, at },
-        Parsed::Read { next, used } => more(kinds, next, depth, nodes, used, l),
-    }
+    let Read { next, used } = operand(kinds, pos, depth, nodes, free, l)?;
+    more(kinds, next, depth, nodes, used, l)
 }
 
 // Further operands of a level, each behind its operator.
@@ -123,19 +109,14 @@ fn more(kinds: &[u8], pos: usize, depth: u16, nodes: &mut [u16], free: usize, l:
 {
     let o = operator(l, peek(kinds, pos));
     if o == 0 {
-        return Parsed::Read {
+        return Ok(Read {
             next: pos,
             used: free,
-        };
+        });
     }
-    let one = operand(kinds, pos + 1, depth, nodes, free, l);
-    match one {
-        Parsed::Refused { answer, at } => Parsed::Refused { answer, at },
-        Parsed::Read { next, used } => {
-            let end = put(nodes, used, nodes::BINARY, pos, o, 0);
-            more(kinds, next, depth, nodes, end, l)
-        }
-    }
+    let Read { next, used } = operand(kinds, pos + 1, depth, nodes, free, l)?;
+    let end = put(nodes, used, nodes::BINARY, pos, o, 0);
+    more(kinds, next, depth, nodes, end, l)
 }
 
 // What the operators of a level stand between.
@@ -161,14 +142,9 @@ fn negation(kinds: &[u8], pos: usize, depth: u16, nodes: &mut [u16], free: usize
 {
     match peek(kinds, pos) {
         Symbol::Not => {
-            let one = relation(kinds, pos + 1, depth, nodes, free);
-            match one {
-                Parsed::Refused { answer, at } => Parsed::Refused { answer, at },
-                Parsed::Read { next, used } => {
-                    let end = put(nodes, used, nodes::UNARY, pos, 19, 0);
-                    Parsed::Read { next, used: end }
-                }
-            }
+            let Read { next, used } = relation(kinds, pos + 1, depth, nodes, free)?;
+            let end = put(nodes, used, nodes::UNARY, pos, 19, 0);
+            Ok(Read { next, used: end })
         }
         _ => relation(kinds, pos, depth, nodes, free),
     }
@@ -179,11 +155,8 @@ fn relation(kinds: &[u8], pos: usize, depth: u16, nodes: &mut [u16], free: usize
     requires { Room (text kinds.now) nodes.old pos free }
     ensures { Tells (text kinds.now) nodes.old nodes.new depth (part a_relation ∷ []) pos free result }
 {
-    let one = sum(kinds, pos, depth, nodes, free);
-    match one {
-        Parsed::Refused { answer, at } => Parsed::Refused { answer, at },
-        Parsed::Read { next, used } => comparison(kinds, next, depth, nodes, used),
-    }
+    let Read { next, used } = sum(kinds, pos, depth, nodes, free)?;
+    comparison(kinds, next, depth, nodes, used)
 }
 
 // A relational operator and its second operand, or nothing.
@@ -194,19 +167,14 @@ fn comparison(kinds: &[u8], pos: usize, depth: u16, nodes: &mut [u16], free: usi
 {
     let o = relational(peek(kinds, pos));
     if o == 0 {
-        return Parsed::Read {
+        return Ok(Read {
             next: pos,
             used: free,
-        };
+        });
     }
-    let one = sum(kinds, pos + 1, depth, nodes, free);
-    match one {
-        Parsed::Refused { answer, at } => Parsed::Refused { answer, at },
-        Parsed::Read { next, used } => {
-            let end = put(nodes, used, nodes::BINARY, pos, o, 0);
-            Parsed::Read { next, used: end }
-        }
-    }
+    let Read { next, used } = sum(kinds, pos + 1, depth, nodes, free)?;
+    let end = put(nodes, used, nodes::BINARY, pos, o, 0);
+    Ok(Read { next, used: end })
 }
 
 // A sum, with or without a sign before its first term.
@@ -219,14 +187,9 @@ fn sum(kinds: &[u8], pos: usize, depth: u16, nodes: &mut [u16], free: usize) -> 
     if o == 0 {
         return chain(kinds, pos, depth, nodes, free, Level::Sum);
     }
-    let one = operand(kinds, pos + 1, depth, nodes, free, Level::Sum);
-    match one {
-        Parsed::Refused { answer, at } => Parsed::Refused { answer, at },
-        Parsed::Read { next, used } => {
-            let end = put(nodes, used, nodes::UNARY, pos, o, 0);
-            more(kinds, next, depth, nodes, end, Level::Sum)
-        }
-    }
+    let Read { next, used } = operand(kinds, pos + 1, depth, nodes, free, Level::Sum)?;
+    let end = put(nodes, used, nodes::UNARY, pos, o, 0);
+    more(kinds, next, depth, nodes, end, Level::Sum)
 }
 
 #[cycle(expressions)]
@@ -237,53 +200,50 @@ fn primary(kinds: &[u8], pos: usize, depth: u16, nodes: &mut [u16], free: usize)
     match peek(kinds, pos) {
         Symbol::Number(_) => {
             let end = put(nodes, free, nodes::NUMBER, pos, 0, 0);
-            Parsed::Read {
+            Ok(Read {
                 next: pos + 1,
                 used: end,
-            }
+            })
         }
         Symbol::True => {
             let end = put(nodes, free, nodes::LOGICAL, pos, 1, 0);
-            Parsed::Read {
+            Ok(Read {
                 next: pos + 1,
                 used: end,
-            }
+            })
         }
         Symbol::False => {
             let end = put(nodes, free, nodes::LOGICAL, pos, 0, 0);
-            Parsed::Read {
+            Ok(Read {
                 next: pos + 1,
                 used: end,
-            }
+            })
         }
         Symbol::Name => actuals(kinds, pos, depth, nodes, free, Use::AsPrimary),
         Symbol::Open => {
-            let one = nested(kinds, pos + 1, depth, nodes, free);
-            match one {
-                Parsed::Refused { answer, at } => Parsed::Refused { answer, at },
-                Parsed::Read { next, used } => match peek(kinds, next) {
-                    Symbol::Close => Parsed::Read {
-                        next: next + 1,
-                        used,
-                    },
-                    _ => Parsed::Refused {
-                        answer: Answer::GRAMMAR,
-                        at: next,
-                    },
-                },
+            let Read { next, used } = nested(kinds, pos + 1, depth, nodes, free)?;
+            match peek(kinds, next) {
+                Symbol::Close => Ok(Read {
+                    next: next + 1,
+                    used,
+                }),
+                _ => Err(Fault {
+                    answer: Answer::GRAMMAR,
+                    at: next,
+                }),
             }
         }
         Symbol::Decimal(_) => {
             let end = put(nodes, free, nodes::DECIMAL, pos, 0, 0);
-            Parsed::Read {
+            Ok(Read {
                 next: pos + 1,
                 used: end,
-            }
+            })
         }
-        _ => Parsed::Refused {
+        _ => Err(Fault {
             answer: Answer::GRAMMAR,
             at: pos,
-        },
+        }),
     }
 }
 
@@ -314,36 +274,28 @@ pub fn actuals(
     match peek(kinds, open) {
         Symbol::Open => {
             let call = put(nodes, free, nodes::CALL, name, depth, n);
-            let one = actual(kinds, open + 1, depth, nodes, call);
-            match one {
-                Parsed::Refused { answer, at } => Parsed::Refused { answer, at },
-                Parsed::Read { next, used } => {
-                    let two = further_actuals(kinds, next, depth, nodes, used);
-                    match two {
-                        Parsed::Refused { answer, at } => Parsed::Refused { answer, at },
-                        Parsed::Read { next, used } => match peek(kinds, next) {
-                            Symbol::Close => {
-                                let end = put(nodes, used, nodes::CALL_END, name, 0, n);
-                                Parsed::Read {
-                                    next: next + 1,
-                                    used: end,
-                                }
-                            }
-                            _ => Parsed::Refused {
-                                answer: Answer::GRAMMAR,
-                                at: next,
-                            },
-                        },
-                    }
+            let Read { next, used } = actual(kinds, open + 1, depth, nodes, call)?;
+            let Read { next, used } = further_actuals(kinds, next, depth, nodes, used)?;
+            match peek(kinds, next) {
+                Symbol::Close => {
+                    let end = put(nodes, used, nodes::CALL_END, name, 0, n);
+                    Ok(Read {
+                        next: next + 1,
+                        used: end,
+                    })
                 }
+                _ => Err(Fault {
+                    answer: Answer::GRAMMAR,
+                    at: next,
+                }),
             }
         }
         _ => {
             let end = put(nodes, free, nodes::USE, name, depth, n);
-            Parsed::Read {
+            Ok(Read {
                 next: open,
                 used: end,
-            }
+            })
         }
     }
 }
@@ -353,14 +305,9 @@ fn actual(kinds: &[u8], pos: usize, depth: u16, nodes: &mut [u16], free: usize) 
     requires { Room (text kinds.now) nodes.old pos free }
     ensures { Tells (text kinds.now) nodes.old nodes.new depth (part an_actual ∷ []) pos free result }
 {
-    let one = nested(kinds, pos, depth, nodes, free);
-    match one {
-        Parsed::Refused { answer, at } => Parsed::Refused { answer, at },
-        Parsed::Read { next, used } => {
-            let end = put(nodes, used, nodes::ACTUAL, pos, 0, 0);
-            Parsed::Read { next, used: end }
-        }
-    }
+    let Read { next, used } = nested(kinds, pos, depth, nodes, free)?;
+    let end = put(nodes, used, nodes::ACTUAL, pos, 0, 0);
+    Ok(Read { next, used: end })
 }
 
 // Further actuals, each behind a comma.
@@ -371,15 +318,12 @@ fn further_actuals(kinds: &[u8], pos: usize, depth: u16, nodes: &mut [u16], free
 {
     match peek(kinds, pos) {
         Symbol::Comma => {
-            let one = actual(kinds, pos + 1, depth, nodes, free);
-            match one {
-                Parsed::Refused { answer, at } => Parsed::Refused { answer, at },
-                Parsed::Read { next, used } => further_actuals(kinds, next, depth, nodes, used),
-            }
+            let Read { next, used } = actual(kinds, pos + 1, depth, nodes, free)?;
+            further_actuals(kinds, next, depth, nodes, used)
         }
-        _ => Parsed::Read {
+        _ => Ok(Read {
             next: pos,
             used: free,
-        },
+        }),
     }
 }

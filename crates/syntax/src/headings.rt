@@ -10,7 +10,7 @@ ghost use Rattle.syntax.specs.model.Says.{Room, TellsAll};
 use crate::text::peek;
 use crate::writing::put;
 use answers::Answer;
-use grammar::{Entry, Parsed, nodes};
+use grammar::{Entry, Fault, Parsed, Read, nodes};
 use symbols::Symbol;
 use symbols::kinds::store;
 
@@ -22,29 +22,29 @@ pub fn type_symbol(kinds: &[u8], pos: usize, nodes: &mut [u16], free: usize) -> 
     match peek(kinds, pos) {
         Symbol::Integer => {
             let end = put(nodes, free, nodes::TYPE, 0, 1, 0);
-            Parsed::Read {
+            Ok(Read {
                 next: pos + 1,
                 used: end,
-            }
+            })
         }
         Symbol::Boolean => {
             let end = put(nodes, free, nodes::TYPE, 0, 2, 0);
-            Parsed::Read {
+            Ok(Read {
                 next: pos + 1,
                 used: end,
-            }
+            })
         }
         Symbol::Real => {
             let end = put(nodes, free, nodes::TYPE, 0, 3, 0);
-            Parsed::Read {
+            Ok(Read {
                 next: pos + 1,
                 used: end,
-            }
+            })
         }
-        _ => Parsed::Refused {
+        _ => Err(Fault {
             answer: Answer::GRAMMAR,
             at: pos,
-        },
+        }),
     }
 }
 
@@ -70,13 +70,13 @@ pub fn list(kinds: &[u8], pos: usize, nodes: &mut [u16], free: usize, e: Entry) 
             let next = pos + 1;
             match peek(kinds, next) {
                 Symbol::Comma => list(kinds, next + 1, nodes, used, e),
-                _ => Parsed::Read { next, used },
+                _ => Ok(Read { next, used }),
             }
         }
-        _ => Parsed::Refused {
+        _ => Err(Fault {
             answer: Answer::GRAMMAR,
             at: pos,
-        },
+        }),
     }
 }
 
@@ -85,23 +85,18 @@ fn list_to(kinds: &[u8], pos: usize, nodes: &mut [u16], free: usize, e: Entry, l
     requires { Room (text kinds.now) nodes.old pos free × (last ≡ kind Colon → ⊥) }
     ensures { TellsAll (text kinds.now) nodes.old nodes.new (part (a_list e) ∷ sy last ∷ []) pos free result }
 {
-    let one = list(kinds, pos, nodes, free, e);
-    match one {
-        Parsed::Refused { answer, at } => Parsed::Refused { answer, at },
-        Parsed::Read { next, used } => {
-            let found = store(peek(kinds, next));
-            if found.kind == last {
-                Parsed::Read {
-                    next: next + 1,
-                    used,
-                }
-            } else {
-                Parsed::Refused {
-                    answer: Answer::GRAMMAR,
-                    at: next,
-                }
-            }
-        }
+    let Read { next, used } = list(kinds, pos, nodes, free, e)?;
+    let found = store(peek(kinds, next));
+    if found.kind == last {
+        Ok(Read {
+            next: next + 1,
+            used,
+        })
+    } else {
+        Err(Fault {
+            answer: Answer::GRAMMAR,
+            at: next,
+        })
     }
 }
 
@@ -119,10 +114,10 @@ fn formals(kinds: &[u8], pos: usize, nodes: &mut [u16], free: usize) -> Parsed
             Entry::Formal,
             symbols::kinds::CLOSE,
         ),
-        _ => Parsed::Read {
+        _ => Ok(Read {
             next: pos,
             used: free,
-        },
+        }),
     }
 }
 
@@ -140,10 +135,10 @@ fn values(kinds: &[u8], pos: usize, nodes: &mut [u16], free: usize) -> Parsed
             Entry::Valued,
             symbols::kinds::SEMICOLON,
         ),
-        _ => Parsed::Read {
+        _ => Ok(Read {
             next: pos,
             used: free,
-        },
+        }),
     }
 }
 
@@ -154,28 +149,20 @@ fn specifications(kinds: &[u8], pos: usize, nodes: &mut [u16], free: usize) -> P
 {
     match peek(kinds, pos) {
         Symbol::Integer | Symbol::Boolean | Symbol::Real => {
-            let one = type_symbol(kinds, pos, nodes, free);
-            match one {
-                Parsed::Refused { answer, at } => Parsed::Refused { answer, at },
-                Parsed::Read { next, used } => {
-                    let two = list(kinds, next, nodes, used, Entry::Specified);
-                    match two {
-                        Parsed::Refused { answer, at } => Parsed::Refused { answer, at },
-                        Parsed::Read { next, used } => match peek(kinds, next) {
-                            Symbol::Semicolon => specifications(kinds, next + 1, nodes, used),
-                            _ => Parsed::Refused {
-                                answer: Answer::GRAMMAR,
-                                at: next,
-                            },
-                        },
-                    }
-                }
+            let Read { next, used } = type_symbol(kinds, pos, nodes, free)?;
+            let Read { next, used } = list(kinds, next, nodes, used, Entry::Specified)?;
+            match peek(kinds, next) {
+                Symbol::Semicolon => specifications(kinds, next + 1, nodes, used),
+                _ => Err(Fault {
+                    answer: Answer::GRAMMAR,
+                    at: next,
+                }),
             }
         }
-        _ => Parsed::Read {
+        _ => Ok(Read {
             next: pos,
             used: free,
-        },
+        }),
     }
 }
 
@@ -187,27 +174,21 @@ pub fn heading(kinds: &[u8], pos: usize, nodes: &mut [u16], free: usize) -> Pars
     match peek(kinds, pos) {
         Symbol::Name => {
             let used = put(nodes, free, nodes::PROCEDURE, pos, 0, 0);
-            let one = formals(kinds, pos + 1, nodes, used);
-            match one {
-                Parsed::Refused { answer, at } => Parsed::Refused { answer, at },
-                Parsed::Read { next, used } => match peek(kinds, next) {
-                    Symbol::Semicolon => {
-                        let two = values(kinds, next + 1, nodes, used);
-                        match two {
-                            Parsed::Refused { answer, at } => Parsed::Refused { answer, at },
-                            Parsed::Read { next, used } => specifications(kinds, next, nodes, used),
-                        }
-                    }
-                    _ => Parsed::Refused {
-                        answer: Answer::GRAMMAR,
-                        at: next,
-                    },
-                },
+            let Read { next, used } = formals(kinds, pos + 1, nodes, used)?;
+            match peek(kinds, next) {
+                Symbol::Semicolon => {
+                    let Read { next, used } = values(kinds, next + 1, nodes, used)?;
+                    specifications(kinds, next, nodes, used)
+                }
+                _ => Err(Fault {
+                    answer: Answer::GRAMMAR,
+                    at: next,
+                }),
             }
         }
-        _ => Parsed::Refused {
+        _ => Err(Fault {
             answer: Answer::GRAMMAR,
             at: pos,
-        },
+        }),
     }
 }

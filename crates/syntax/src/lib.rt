@@ -7,7 +7,7 @@ ghost use Rattle.grammar.specs.model.Parsing.{node_words_lem, ParseSays};
 ghost use Rattle.syntax.specs.model.Preludes.{PreludeSays};
 
 use answers::Answer;
-use grammar::Parsed;
+use grammar::{Fault, Parsed, Read};
 
 mod clauses; // what begins with a name, and for clauses
 mod expressions; // expressions
@@ -52,20 +52,20 @@ fn program(kinds: &[u8], nodes: &mut [u16]) -> Parsed
 {
     let one = statements::block(kinds, 0, 1, nodes, 0);
     match one {
-        Parsed::Refused { answer, at } => {
+        Err(Fault { answer, at }) => {
             writing::clear(nodes, 0);
-            Parsed::Refused { answer, at }
+            Err(Fault { answer, at })
         }
-        Parsed::Read { next, used } => {
+        Ok(Read { next, used }) => {
             if next == kinds.len() {
                 writing::clear(nodes, used);
-                return Parsed::Read { next, used };
+                return Ok(Read { next, used });
             }
             writing::clear(nodes, 0);
-            Parsed::Refused {
+            Err(Fault {
                 answer: Answer::GRAMMAR,
                 at: next,
-            }
+            })
         }
     }
 }

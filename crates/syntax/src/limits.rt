@@ -7,7 +7,7 @@ ghost use Rattle.syntax.specs.model.Says.{Limits, LimitsAll, behind};
 
 use crate::text::peek;
 use answers::Answer;
-use grammar::Parsed;
+use grammar::{Fault, Parsed};
 use symbols::Symbol;
 
 // An expression.
@@ -24,14 +24,14 @@ pub fn expression(kinds: &[u8], pos: usize) -> Parsed
         | Symbol::Open
         | Symbol::Name
         | Symbol::Number(_)
-        | Symbol::Decimal(_) => Parsed::Refused {
+        | Symbol::Decimal(_) => Err(Fault {
             answer: Answer::DEPTH,
             at: pos,
-        },
-        _ => Parsed::Refused {
+        }),
+        _ => Err(Fault {
             answer: Answer::GRAMMAR,
             at: pos,
-        },
+        }),
     }
 }
 
@@ -48,14 +48,14 @@ pub fn simple(kinds: &[u8], pos: usize) -> Parsed
         | Symbol::Open
         | Symbol::Name
         | Symbol::Number(_)
-        | Symbol::Decimal(_) => Parsed::Refused {
+        | Symbol::Decimal(_) => Err(Fault {
             answer: Answer::DEPTH,
             at: pos,
-        },
-        _ => Parsed::Refused {
+        }),
+        _ => Err(Fault {
             answer: Answer::GRAMMAR,
             at: pos,
-        },
+        }),
     }
 }
 
@@ -64,27 +64,26 @@ pub fn statement(kinds: &[u8], pos: usize, ends: bool) -> Parsed
     ensures { Limits (text kinds.now) (behind ends) (deeper a_statement ∷ []) pos result }
 {
     match peek(kinds, pos) {
-        Symbol::Begin | Symbol::If | Symbol::For | Symbol::Name | Symbol::Semicolon =>
-            Parsed::Refused {
-                answer: Answer::DEPTH,
-                at: pos,
-            },
+        Symbol::Begin | Symbol::If | Symbol::For | Symbol::Name | Symbol::Semicolon => Err(Fault {
+            answer: Answer::DEPTH,
+            at: pos,
+        }),
         Symbol::End => {
             if ends {
-                return Parsed::Refused {
+                return Err(Fault {
                     answer: Answer::DEPTH,
                     at: pos,
-                };
+                });
             }
-            Parsed::Refused {
+            Err(Fault {
                 answer: Answer::GRAMMAR,
                 at: pos,
-            }
+            })
         }
-        _ => Parsed::Refused {
+        _ => Err(Fault {
             answer: Answer::GRAMMAR,
             at: pos,
-        },
+        }),
     }
 }
 
@@ -93,29 +92,29 @@ pub fn consequence(kinds: &[u8], pos: usize, ends: bool) -> Parsed
     ensures { Limits (text kinds.now) (behind ends) (part a_consequence ∷ []) pos result }
 {
     match peek(kinds, pos) {
-        Symbol::For => Parsed::Refused {
+        Symbol::For => Err(Fault {
             answer: Answer::DEPTH,
             at: pos,
-        },
-        Symbol::Begin | Symbol::Name | Symbol::Else | Symbol::Semicolon => Parsed::Refused {
+        }),
+        Symbol::Begin | Symbol::Name | Symbol::Else | Symbol::Semicolon => Err(Fault {
             answer: Answer::DEPTH,
             at: pos,
-        },
+        }),
         Symbol::End => {
             if ends {
-                return Parsed::Refused {
+                return Err(Fault {
                     answer: Answer::DEPTH,
                     at: pos,
-                };
+                });
             }
-            Parsed::Refused {
+            Err(Fault {
                 answer: Answer::GRAMMAR,
                 at: pos,
-            }
+            })
         }
-        _ => Parsed::Refused {
+        _ => Err(Fault {
             answer: Answer::GRAMMAR,
             at: pos,
-        },
+        }),
     }
 }

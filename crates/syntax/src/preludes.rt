@@ -12,7 +12,7 @@ use crate::statements::procedure;
 use crate::text::peek;
 use crate::writing::{clear, put};
 use answers::Answer;
-use grammar::{Parsed, nodes};
+use grammar::{Fault, Parsed, Read, nodes};
 use symbols::Symbol;
 
 // A prelude, which ends where no procedure begins; it is at depth 0, so that its bodies are at 1.
@@ -27,22 +27,19 @@ pub fn prelude(kinds: &[u8], pos: usize, nodes: &mut [u16], free: usize) -> Pars
             procedures(kinds, pos + 1, nodes, untyped)
         }
         Symbol::Integer | Symbol::Boolean | Symbol::Real => {
-            let one = type_symbol(kinds, pos, nodes, free);
-            match one {
-                Parsed::Refused { answer, at } => Parsed::Refused { answer, at },
-                Parsed::Read { next, used } => match peek(kinds, next) {
-                    Symbol::Procedure => procedures(kinds, next + 1, nodes, used),
-                    _ => Parsed::Refused {
-                        answer: Answer::GRAMMAR,
-                        at: next,
-                    },
-                },
+            let Read { next, used } = type_symbol(kinds, pos, nodes, free)?;
+            match peek(kinds, next) {
+                Symbol::Procedure => procedures(kinds, next + 1, nodes, used),
+                _ => Err(Fault {
+                    answer: Answer::GRAMMAR,
+                    at: next,
+                }),
             }
         }
-        _ => Parsed::Read {
+        _ => Ok(Read {
             next: pos,
             used: free,
-        },
+        }),
     }
 }
 
@@ -52,16 +49,13 @@ fn procedures(kinds: &[u8], pos: usize, nodes: &mut [u16], free: usize) -> Parse
     requires { Room (text kinds.now) nodes.old pos free }
     ensures { Tells (text kinds.now) nodes.old nodes.new 0 (part a_procedure ∷ the Semicolon ∷ part a_prelude ∷ []) pos free result }
 {
-    let one = procedure(kinds, pos, 0, nodes, free);
-    match one {
-        Parsed::Refused { answer, at } => Parsed::Refused { answer, at },
-        Parsed::Read { next, used } => match peek(kinds, next) {
-            Symbol::Semicolon => prelude(kinds, next + 1, nodes, used),
-            _ => Parsed::Refused {
-                answer: Answer::GRAMMAR,
-                at: next,
-            },
-        },
+    let Read { next, used } = procedure(kinds, pos, 0, nodes, free)?;
+    match peek(kinds, next) {
+        Symbol::Semicolon => prelude(kinds, next + 1, nodes, used),
+        _ => Err(Fault {
+            answer: Answer::GRAMMAR,
+            at: next,
+        }),
     }
 }
 
@@ -72,20 +66,20 @@ fn all(kinds: &[u8], nodes: &mut [u16]) -> Parsed
 {
     let one = prelude(kinds, 0, nodes, 0);
     match one {
-        Parsed::Refused { answer, at } => {
+        Err(Fault { answer, at }) => {
             clear(nodes, 0);
-            Parsed::Refused { answer, at }
+            Err(Fault { answer, at })
         }
-        Parsed::Read { next, used } => {
+        Ok(Read { next, used }) => {
             if next == kinds.len() {
                 clear(nodes, used);
-                return Parsed::Read { next, used };
+                return Ok(Read { next, used });
             }
             clear(nodes, 0);
-            Parsed::Refused {
+            Err(Fault {
                 answer: Answer::GRAMMAR,
                 at: next,
-            }
+            })
         }
     }
 }

@@ -13,7 +13,7 @@ use crate::limits;
 use crate::text::peek;
 use crate::writing::put;
 use answers::Answer;
-use grammar::{Entry, Parsed, nodes};
+use grammar::{Entry, Fault, Parsed, Read, nodes};
 use symbols::Symbol;
 
 // 'begin' .. 'end'.
@@ -24,25 +24,22 @@ pub fn block(kinds: &[u8], pos: usize, depth: u16, nodes: &mut [u16], free: usiz
 {
     match peek(kinds, pos) {
         Symbol::Begin => {
-            let one = inner(kinds, pos, depth, nodes, free);
-            match one {
-                Parsed::Refused { answer, at } => Parsed::Refused { answer, at },
-                Parsed::Read { next, used } => match peek(kinds, next) {
-                    Symbol::End => Parsed::Read {
-                        next: next + 1,
-                        used,
-                    },
-                    _ => Parsed::Refused {
-                        answer: Answer::GRAMMAR,
-                        at: next,
-                    },
-                },
+            let Read { next, used } = inner(kinds, pos, depth, nodes, free)?;
+            match peek(kinds, next) {
+                Symbol::End => Ok(Read {
+                    next: next + 1,
+                    used,
+                }),
+                _ => Err(Fault {
+                    answer: Answer::GRAMMAR,
+                    at: next,
+                }),
             }
         }
-        _ => Parsed::Refused {
+        _ => Err(Fault {
             answer: Answer::GRAMMAR,
             at: pos,
-        },
+        }),
     }
 }
 
@@ -55,21 +52,11 @@ fn inner(kinds: &[u8], begin: usize, depth: u16, nodes: &mut [u16], free: usize)
     match peek(kinds, begin + 1) {
         Symbol::Integer | Symbol::Boolean | Symbol::Procedure | Symbol::Real => {
             let opened = put(nodes, free, nodes::BLOCK, begin, 0, 0);
-            let one = head(kinds, begin + 1, depth, nodes, opened);
-            match one {
-                Parsed::Refused { answer, at } => Parsed::Refused { answer, at },
-                Parsed::Read { next, used } => {
-                    let first = put(nodes, used, nodes::STATEMENTS, begin, 0, 0);
-                    let two = tail(kinds, next, depth, nodes, first);
-                    match two {
-                        Parsed::Refused { answer, at } => Parsed::Refused { answer, at },
-                        Parsed::Read { next, used } => {
-                            let end = put(nodes, used, nodes::BLOCK_END, begin, 0, 0);
-                            Parsed::Read { next, used: end }
-                        }
-                    }
-                }
-            }
+            let Read { next, used } = head(kinds, begin + 1, depth, nodes, opened)?;
+            let first = put(nodes, used, nodes::STATEMENTS, begin, 0, 0);
+            let Read { next, used } = tail(kinds, next, depth, nodes, first)?;
+            let end = put(nodes, used, nodes::BLOCK_END, begin, 0, 0);
+            Ok(Read { next, used: end })
         }
         _ => tail(kinds, begin + 1, depth, nodes, free),
     }
@@ -81,16 +68,13 @@ fn head(kinds: &[u8], pos: usize, depth: u16, nodes: &mut [u16], free: usize) ->
     requires { Room (text kinds.now) nodes.old pos free }
     ensures { Tells (text kinds.now) nodes.old nodes.new depth (part a_head ∷ []) pos free result }
 {
-    let one = declaration(kinds, pos, depth, nodes, free);
-    match one {
-        Parsed::Refused { answer, at } => Parsed::Refused { answer, at },
-        Parsed::Read { next, used } => match peek(kinds, next) {
-            Symbol::Semicolon => declarations(kinds, next + 1, depth, nodes, used),
-            _ => Parsed::Refused {
-                answer: Answer::GRAMMAR,
-                at: next,
-            },
-        },
+    let Read { next, used } = declaration(kinds, pos, depth, nodes, free)?;
+    match peek(kinds, next) {
+        Symbol::Semicolon => declarations(kinds, next + 1, depth, nodes, used),
+        _ => Err(Fault {
+            answer: Answer::GRAMMAR,
+            at: next,
+        }),
     }
 }
 
@@ -103,10 +87,10 @@ fn declarations(kinds: &[u8], pos: usize, depth: u16, nodes: &mut [u16], free: u
         Symbol::Integer | Symbol::Boolean | Symbol::Procedure | Symbol::Real => head(
             kinds, pos, depth, nodes, free,
         ),
-        _ => Parsed::Read {
+        _ => Ok(Read {
             next: pos,
             used: free,
-        },
+        }),
     }
 }
 
@@ -122,11 +106,8 @@ pub fn declaration(kinds: &[u8], pos: usize, depth: u16, nodes: &mut [u16], free
             procedure(kinds, pos + 1, depth, nodes, untyped)
         }
         _ => {
-            let one = type_symbol(kinds, pos, nodes, free);
-            match one {
-                Parsed::Refused { answer, at } => Parsed::Refused { answer, at },
-                Parsed::Read { next, used } => declared(kinds, next, depth, nodes, used),
-            }
+            let Read { next, used } = type_symbol(kinds, pos, nodes, free)?;
+            declared(kinds, next, depth, nodes, used)
         }
     }
 }
@@ -149,21 +130,11 @@ pub fn procedure(kinds: &[u8], pos: usize, depth: u16, nodes: &mut [u16], free: 
     requires { Room (text kinds.now) nodes.old pos free }
     ensures { Says (text kinds.now) nodes.old nodes.new depth pos (kind Semicolon ∷ []) (part a_procedure ∷ []) pos free result }
 {
-    let one = heading(kinds, pos, nodes, free);
-    match one {
-        Parsed::Refused { answer, at } => Parsed::Refused { answer, at },
-        Parsed::Read { next, used } => {
-            let body = put(nodes, used, nodes::BODY, pos, 0, 0);
-            let two = nested_statement(kinds, next, depth, nodes, body, false);
-            match two {
-                Parsed::Refused { answer, at } => Parsed::Refused { answer, at },
-                Parsed::Read { next, used } => {
-                    let end = put(nodes, used, nodes::PROCEDURE_END, pos, 0, 0);
-                    Parsed::Read { next, used: end }
-                }
-            }
-        }
-    }
+    let Read { next, used } = heading(kinds, pos, nodes, free)?;
+    let body = put(nodes, used, nodes::BODY, pos, 0, 0);
+    let Read { next, used } = nested_statement(kinds, next, depth, nodes, body, false)?;
+    let end = put(nodes, used, nodes::PROCEDURE_END, pos, 0, 0);
+    Ok(Read { next, used: end })
 }
 
 // The statements of a block or compound.
@@ -172,11 +143,8 @@ fn tail(kinds: &[u8], pos: usize, depth: u16, nodes: &mut [u16], free: usize) ->
     requires { Room (text kinds.now) nodes.old pos free }
     ensures { Says (text kinds.now) nodes.old nodes.new depth pos (kind End ∷ []) (part a_tail ∷ []) pos free result }
 {
-    let one = nested_statement(kinds, pos, depth, nodes, free, true);
-    match one {
-        Parsed::Refused { answer, at } => Parsed::Refused { answer, at },
-        Parsed::Read { next, used } => statements(kinds, next, depth, nodes, used),
-    }
+    let Read { next, used } = nested_statement(kinds, pos, depth, nodes, free, true)?;
+    statements(kinds, next, depth, nodes, used)
 }
 
 // Further statements, each behind a `;`.
@@ -187,10 +155,10 @@ fn statements(kinds: &[u8], pos: usize, depth: u16, nodes: &mut [u16], free: usi
 {
     match peek(kinds, pos) {
         Symbol::Semicolon => tail(kinds, pos + 1, depth, nodes, free),
-        _ => Parsed::Read {
+        _ => Ok(Read {
             next: pos,
             used: free,
-        },
+        }),
     }
 }
 
@@ -245,26 +213,18 @@ fn conditional(
     requires { (Room (text kinds.now) nodes.old pos free) × (kind_at (text kinds.now) pos ≡ kind If) }
     ensures { SaysOf (text kinds.now) nodes.old nodes.new depth pos (behind ends) a_conditional pos free result }
 {
-    let one = expression(kinds, pos + 1, depth, nodes, free);
-    match one {
-        Parsed::Refused { answer, at } => Parsed::Refused { answer, at },
-        Parsed::Read { next, used } => match peek(kinds, next) {
-            Symbol::Then => {
-                let then = put(nodes, used, nodes::THEN, pos, 0, 0);
-                let two = consequence(kinds, next + 1, depth, nodes, then, ends);
-                match two {
-                    Parsed::Refused { answer, at } => Parsed::Refused { answer, at },
-                    Parsed::Read { next, used } => {
-                        let end = put(nodes, used, nodes::IF_END, pos, 0, 0);
-                        Parsed::Read { next, used: end }
-                    }
-                }
-            }
-            _ => Parsed::Refused {
-                answer: Answer::GRAMMAR,
-                at: next,
-            },
-        },
+    let Read { next, used } = expression(kinds, pos + 1, depth, nodes, free)?;
+    match peek(kinds, next) {
+        Symbol::Then => {
+            let then = put(nodes, used, nodes::THEN, pos, 0, 0);
+            let Read { next, used } = consequence(kinds, next + 1, depth, nodes, then, ends)?;
+            let end = put(nodes, used, nodes::IF_END, pos, 0, 0);
+            Ok(Read { next, used: end })
+        }
+        _ => Err(Fault {
+            answer: Answer::GRAMMAR,
+            at: next,
+        }),
     }
 }
 
@@ -287,11 +247,8 @@ fn consequence(
     match peek(kinds, pos) {
         Symbol::For => repetition(kinds, pos, depth + 1, nodes, free, ends),
         _ => {
-            let one = unconditional(kinds, pos, depth + 1, nodes, free);
-            match one {
-                Parsed::Refused { answer, at } => Parsed::Refused { answer, at },
-                Parsed::Read { next, used } => alternative(kinds, next, depth, nodes, used, ends),
-            }
+            let Read { next, used } = unconditional(kinds, pos, depth + 1, nodes, free)?;
+            alternative(kinds, next, depth, nodes, used, ends)
         }
     }
 }
@@ -314,10 +271,10 @@ fn alternative(
             let other = put(nodes, free, nodes::ELSE, 0, 0, 0);
             nested_statement(kinds, pos + 1, depth, nodes, other, ends)
         }
-        _ => Parsed::Read {
+        _ => Ok(Read {
             next: pos,
             used: free,
-        },
+        }),
     }
 }
 
@@ -334,20 +291,10 @@ fn repetition(
     requires { Room (text kinds.now) nodes.old pos free }
     ensures { Says (text kinds.now) nodes.old nodes.new depth pos (behind ends) (part a_repetition ∷ []) pos free result }
 {
-    let one = for_clause(kinds, pos, depth, nodes, free);
-    match one {
-        Parsed::Refused { answer, at } => Parsed::Refused { answer, at },
-        Parsed::Read { next, used } => {
-            let two = nested_statement(kinds, next, depth, nodes, used, ends);
-            match two {
-                Parsed::Refused { answer, at } => Parsed::Refused { answer, at },
-                Parsed::Read { next, used } => {
-                    let end = put(nodes, used, nodes::FOR_END, pos, 0, 0);
-                    Parsed::Read { next, used: end }
-                }
-            }
-        }
-    }
+    let Read { next, used } = for_clause(kinds, pos, depth, nodes, free)?;
+    let Read { next, used } = nested_statement(kinds, next, depth, nodes, used, ends)?;
+    let end = put(nodes, used, nodes::FOR_END, pos, 0, 0);
+    Ok(Read { next, used: end })
 }
 
 #[cycle(statements)]
@@ -358,9 +305,9 @@ fn unconditional(kinds: &[u8], pos: usize, depth: u16, nodes: &mut [u16], free: 
     match peek(kinds, pos) {
         Symbol::Name => named(kinds, pos, depth, nodes, free),
         Symbol::Begin => block(kinds, pos, depth, nodes, free),
-        _ => Parsed::Read {
+        _ => Ok(Read {
             next: pos,
             used: free,
-        },
+        }),
     }
 }

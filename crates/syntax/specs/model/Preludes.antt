@@ -7,9 +7,7 @@ use Rattle.grammar.specs.Grammar.{preludes}
 use Rattle.grammar.specs.Trees.{Syn}
 use Rattle.grammar.specs.Program.{IsIn, KeepsPrelude, PreludeFault, PreludeDeep}
 use Rattle.grammar.specs.model.Marked.{prelude_nodes}
-use Rattle.grammar.specs.model.Parsing.{zeros, node_words_lem}
-use Rattle.grammar.specs.declared.Parsed.{Parsed}
-use Rattle.grammar.specs.declared.Parsed.TheVariants.{Read, Refused}
+use Rattle.grammar.specs.model.Parsing.{zeros, node_words_lem, Parsed, read_to, fault_at}
 
 -- a prelude of j symbols was read, and its nodes are the first b words; the others are zero
 pub record WholePrelude (ks new : List ℕ) (j b : ℕ) : Type 0 where
@@ -21,11 +19,11 @@ pub record WholePrelude (ks new : List ℕ) (j b : ℕ) : Type 0 where
 
 -- ks: the kinds of the symbols; new: the lent words afterwards; r: the answer
 pub record PreludeSays (ks new : List ℕ) (r : Parsed) : Type 0 where
-  pub accepted : (j b : ℕ) → r ≡ Read j b → WholePrelude ks new j b
-  pub accepts : IsIn preludes 0 ks → (j : ℕ) × (b : ℕ) × (r ≡ Read j b)
-  pub wrong : (k : ℕ) → r ≡ Refused (answer grammar) k → PreludeFault ks k
-  pub wrongs : (k : ℕ) → PreludeFault ks k → r ≡ Refused (answer grammar) k
-  pub deep : (k : ℕ) → r ≡ Refused (answer depth) k → PreludeDeep ks k
-  pub deeps : (k : ℕ) → PreludeDeep ks k → r ≡ Refused (answer depth) k
-  pub numbers : (a : Answer) (k : ℕ) → r ≡ Refused a k → (a ≡ answer grammar → ⊥) → a ≡ answer depth
-  pub cleared : (a : Answer) (k : ℕ) → r ≡ Refused a k → new ≡ zeros node_words_lem
+  pub accepted : (j b : ℕ) → r ≡ read_to j b → WholePrelude ks new j b
+  pub accepts : IsIn preludes 0 ks → (j : ℕ) × (b : ℕ) × (r ≡ read_to j b)
+  pub wrong : (k : ℕ) → r ≡ fault_at (answer grammar) k → PreludeFault ks k
+  pub wrongs : (k : ℕ) → PreludeFault ks k → r ≡ fault_at (answer grammar) k
+  pub deep : (k : ℕ) → r ≡ fault_at (answer depth) k → PreludeDeep ks k
+  pub deeps : (k : ℕ) → PreludeDeep ks k → r ≡ fault_at (answer depth) k
+  pub numbers : (a : Answer) (k : ℕ) → r ≡ fault_at a k → (a ≡ answer grammar → ⊥) → a ≡ answer depth
+  pub cleared : (a : Answer) (k : ℕ) → r ≡ fault_at a k → new ≡ zeros node_words_lem

@@ -6,11 +6,9 @@ use Rattle.symbols.specs.declared.Symbol.TheVariants.{End, Semicolon}
 use Rattle.grammar.specs.Grammar.{Class, Item, rd, Prod}
 use Rattle.grammar.specs.Trees.{Syn, yield}
 use Rattle.grammar.specs.model.Marked.{Word, mark, Marks, end, on, put, unmarked, marks, word, nodes}
-use Rattle.grammar.specs.model.Parsing.{zeros}
+use Rattle.grammar.specs.model.Parsing.{zeros, Parsed, read_to, fault_at}
 use Rattle.grammar.specs.model.Text.{kind_at}
 use Rattle.grammar.specs.model.Run.{Run, got, bad}
-use Rattle.grammar.specs.declared.Parsed.{Parsed}
-use Rattle.grammar.specs.declared.Parsed.TheVariants.{Read, Refused}
 
 -- the levels left at a depth: "The greatest depth is 64."
 abbrev pub left : ℕ → ℕ
@@ -50,8 +48,8 @@ pub record Got (ks old new : List ℕ) (d B : ℕ) (F : List ℕ) {is : List Ite
 
 -- the answer to items with nodes among them, read from i on; one of F may follow them
 pub record SaysWith (ks old new : List ℕ) (d B : ℕ) (F : List ℕ) {is : List Item} (ms : Marks is) (i a : ℕ) (r : Parsed) : Type 0 where
-  pub read : (j b : ℕ) → r ≡ Read j b → Got ks old new d B F ms i a j b
-  pub refused : (n : Answer) (k : ℕ) → r ≡ Refused n k → Run (kind_at ks) (left d) F is i (bad n.number k)
+  pub read : (j b : ℕ) → r ≡ read_to j b → Got ks old new d B F ms i a j b
+  pub refused : (n : Answer) (k : ℕ) → r ≡ fault_at n k → Run (kind_at ks) (left d) F is i (bad n.number k)
 
 -- to items with none; and to a production
 abbrev pub Says : List ℕ → List ℕ → List ℕ → ℕ → ℕ → List ℕ → List Item → ℕ → ℕ → Parsed → Type 0
@@ -76,8 +74,8 @@ TellsAll ks old new is i a r = (d : ℕ) (F : List ℕ) → Says ks old new d i 
 
 -- with no level left, there is no other answer than a refusal
 pub record Limits (ks : List ℕ) (F : List ℕ) (is : List Item) (i : ℕ) (r : Parsed) : Type 0 where
-  pub read : (j b : ℕ) → r ≡ Read j b → ⊥
-  pub refused : (n : Answer) (k : ℕ) → r ≡ Refused n k → Run (kind_at ks) 0 F is i (bad n.number k)
+  pub read : (j b : ℕ) → r ≡ read_to j b → ⊥
+  pub refused : (n : Answer) (k : ℕ) → r ≡ fault_at n k → Run (kind_at ks) 0 F is i (bad n.number k)
 
 abbrev pub LimitsAll : List ℕ → List Item → ℕ → Parsed → Type 0
 LimitsAll ks is i r = (F : List ℕ) → Limits ks F is i r

@@ -5,22 +5,15 @@ use Prim.Native.Nat.{ℕ}
 use native.Mathlib.Omega.{arith}
 use Rattle.grammar.specs.model.Tables.{choose}
 use Rattle.grammar.proofs.Peeks.{inside, is_at, is_not, but}
-use Rattle.syntax.proofs.Lemmas.{space, s_end, s_sy, s_prod, s_part, s_bad, s_last}
+use Rattle.syntax.proofs.Lemmas.{got_of, space, s_end, s_sy, s_prod, s_part, s_bad, s_exit, s_last}
 use Rattle.grammar.specs.Grammar as G
 use Rattle.syntax.proofs.Choices as C
 use Prim.Native.Nat.{ℕ}
 use borrow.Enum.Refused.{opened}
 use Rattle.syntax.proofs.clauses.+further.Goals as goal
 
-pub overflow_add-pos : goal.overflow_add-pos
-overflow_add-pos t c =
-    let μ = c.decreases in
-    let r = c.requires in
-    let i1 = inside _ _ (is_at c.peek.result c.peek.ensures c.in-Comma.in-Comma-own.keys1) (λ h. omega arith) in
-    omega arith
-
-pub element-one-requires : goal.element-one-requires
-element-one-requires t c =
+pub element-requires : goal.element-requires
+element-requires t c =
     let μ = c.decreases in
     let r = c.requires in
     let i1 = inside _ _ (is_at c.peek.result c.peek.ensures c.in-Comma.in-Comma-own.keys1) (λ h. omega arith) in
@@ -31,33 +24,15 @@ further-requires t c =
     let μ = c.decreases in
     let r = c.requires in
     let i1 = inside _ _ (is_at c.peek.result c.peek.ensures c.in-Comma.in-Comma-own.keys1) (λ h. omega arith) in
-    let l1 = c.element-one.auto.nodes in
-    let g1 = (c.element-one.ensures []).read _ _ c.in-Read.is in let s1 = space g1 in
+    let l1 = c.element.auto.nodes in
+    let g1 = got_of (c.in_ok-next-in-Comma.ensures []) in let s1 = space g1 in
     (omega arith, record { inside = omega arith; short = omega arith; size = omega arith; room = omega arith })
 
-pub shape_of-nodes-in-Refused : goal.shape_of-nodes-in-Refused
-shape_of-nodes-in-Refused t c =
-    let μ = c.decreases in
-    let r = c.requires in
-    let i1 = inside _ _ (is_at c.peek.result c.peek.ensures c.in-Comma.in-Comma-own.keys1) (λ h. omega arith) in
-    let l1 = c.element-one.auto.nodes in
-    omega arith
+pub returns-in_err-next-in-Comma : goal.returns-in_err-next-in-Comma
+returns-in_err-next-in-Comma t c = λ F. s_exit c.from_residual.ensures.1 (s_prod G.another_element (ap (λ (z : ℕ). choose G.further z 0) (is_at c.peek.result c.peek.ensures c.in-Comma.in-Comma-own.keys1)) (s_sy (is_at c.peek.result c.peek.ensures c.in-Comma.in-Comma-own.keys1) (s_bad _ (c.in_err-next-in-Comma.ensures _))))
 
-pub returns-in-Refused : goal.returns-in-Refused
-returns-in-Refused t c = λ F. s_prod G.another_element (ap (λ (z : ℕ). choose G.further z 0) (is_at c.peek.result c.peek.ensures c.in-Comma.in-Comma-own.keys1)) (s_sy (is_at c.peek.result c.peek.ensures c.in-Comma.in-Comma-own.keys1) (s_bad _ ((c.element-one.ensures _).refused _ _ c.in-Refused.is)))
-
-pub shape_of-nodes-in-Read : goal.shape_of-nodes-in-Read
-shape_of-nodes-in-Read t c =
-    let μ = c.decreases in
-    let r = c.requires in
-    let i1 = inside _ _ (is_at c.peek.result c.peek.ensures c.in-Comma.in-Comma-own.keys1) (λ h. omega arith) in
-    let l1 = c.element-one.auto.nodes in
-    let g1 = (c.element-one.ensures []).read _ _ c.in-Read.is in let s1 = space g1 in
-    let l2 = c.further.auto.nodes in
-    omega arith
-
-pub returns-in-Read : goal.returns-in-Read
-returns-in-Read t c = λ F. s_prod G.another_element (ap (λ (z : ℕ). choose G.further z 0) (is_at c.peek.result c.peek.ensures c.in-Comma.in-Comma-own.keys1)) (s_sy (is_at c.peek.result c.peek.ensures c.in-Comma.in-Comma-own.keys1) (s_part _ ((c.element-one.ensures _).read _ _ c.in-Read.is) (s_last (c.further.ensures _))))
+pub returns-in_ok-next-in-Comma : goal.returns-in_ok-next-in-Comma
+returns-in_ok-next-in-Comma t c = λ F. s_prod G.another_element (ap (λ (z : ℕ). choose G.further z 0) (is_at c.peek.result c.peek.ensures c.in-Comma.in-Comma-own.keys1)) (s_sy (is_at c.peek.result c.peek.ensures c.in-Comma.in-Comma-own.keys1) (s_part _ (c.in_ok-next-in-Comma.ensures _) (s_last (c.further.ensures _))))
 
 pub returns-in_default : goal.returns-in_default
 returns-in_default t c =
