@@ -4,7 +4,7 @@
 
 ghost use Rattle.std.specs.Prelude.{◌+◌, ◌<◌, ◌≤◌, length};
 
-use grammar::Parsed;
+use grammar::Fault;
 use showing::system::System;
 use showing::text::{say, say_name, say_nth, say_number};
 use std::os::fd::AsRawFd;
@@ -139,14 +139,14 @@ fn judge(
 ) -> Told {
     let mut nodes = [0u16; 32768];
     match parse(kinds, n, &mut nodes) {
-        Parsed::Read { next: _, used: _ } => {
+        Ok(_) => {
             say(system, b"a program\n");
             Told {
                 answer: 0,
                 number: n,
             }
         }
-        Parsed::Refused { answer, at } => refused(
+        Err(Fault { answer, at }) => refused(
             system,
             answer.number,
             place_of(source, places, n, at),

@@ -21,9 +21,7 @@ use Rattle.grammar.specs.Program.{PreludeFault, PreludeDeep}
 use Rattle.grammar.specs.Trees.{yield}
 use Rattle.grammar.specs.model.Text.{text}
 use Rattle.grammar.specs.model.Marked.{prelude_nodes}
-use Rattle.grammar.specs.model.Parsing.{zeros}
-use Rattle.grammar.specs.declared.Parsed.{Parsed as Outcome}
-use Rattle.grammar.specs.declared.Parsed.TheVariants.{Read as Program-read, Refused as Program-refused}
+use Rattle.grammar.specs.model.Parsing.{zeros, Parsed as Outcome, read_to, fault_at}
 use Rattle.syntax.specs.model.Preludes.{WholePrelude, PreludeSays}
 use Rattle.names.specs.Program.{Name, Statement, dummy, Procedure}
 use Rattle.names.specs.Scopes.{in_block}
@@ -91,7 +89,7 @@ module _ (kinds : List ℕ) {prelude places values : List ℕ} {n : ℕ} (s : Sy
   kinds_are = ap text kinded ∙ text_is (scan symbols prelude).found
 
   -- the nodes stand
-  pub words_stand : (j b : ℕ) → r ≡ Program-read j b → PreludeNodes prelude places values new n b
+  pub words_stand : (j b : ℕ) → r ≡ read_to j b → PreludeNodes prelude places values new n b
   words_stand j b q =
       let w : WholePrelude (any.kinds_in symbols prelude) new j b = subst (λ ks. WholePrelude ks new j b) kinds_are (v.accepted j b q) in
       record {
@@ -102,11 +100,11 @@ module _ (kinds : List ℕ) {prelude places values : List ℕ} {n : ℕ} (s : Sy
       }
 
   -- 5 or 6
-  pub refusals : (a : Answer) (k : ℕ) → r ≡ Program-refused a k → JudgedBy prelude_judge prelude (NotAccepted (refusal a.number (prelude_place prelude k))) (zeros 0)
+  pub refusals : (a : Answer) (k : ℕ) → r ≡ fault_at a k → JudgedBy prelude_judge prelude (NotAccepted (refusal a.number (prelude_place prelude k))) (zeros 0)
   refusals a k q = go (ℕ_discrete a.number grammar)
     where
-      said_so : (m : ℕ) → a.number ≡ m → r ≡ Program-refused (answer m) k
-      said_so m e = q ∙ ap (λ i. Program-refused (answer i) k) e
+      said_so : (m : ℕ) → a.number ≡ m → r ≡ fault_at (answer m) k
+      said_so m e = q ∙ ap (λ i. fault_at (answer i) k) e
 
       go : Dec (a.number ≡ grammar) → JudgedBy prelude_judge prelude (NotAccepted (refusal a.number (prelude_place prelude k))) (zeros 0)
       go (yes e) =
@@ -118,11 +116,11 @@ module _ (kinds : List ℕ) {prelude places values : List ℕ} {n : ℕ} (s : Sy
           (too_deep (record { short = s.scanned.short; whole = s.scanned.whole }) k (subst (λ ks. PreludeDeep ks k) kinds_are (v.deep k (said_so depth d))))
 
   -- at a symbol, or behind the last one
-  pub refused_at_lem : (a : Answer) (k : ℕ) → r ≡ Program-refused a k → k ≤ 1024
+  pub refused_at_lem : (a : Answer) (k : ℕ) → r ≡ fault_at a k → k ≤ 1024
   refused_at_lem a k q = go (ℕ_discrete a.number grammar)
     where
-      said_so : (m : ℕ) → a.number ≡ m → r ≡ Program-refused (answer m) k
-      said_so m e = q ∙ ap (λ i. Program-refused (answer i) k) e
+      said_so : (m : ℕ) → a.number ≡ m → r ≡ fault_at (answer m) k
+      said_so m e = q ∙ ap (λ i. fault_at (answer i) k) e
 
       go : Dec (a.number ≡ grammar) → k ≤ 1024
       go (yes e) = let w : PreludeFault (any.kinds_in symbols prelude) k = subst (λ ks. PreludeFault ks k) kinds_are (v.wrong k (said_so grammar e)) in omega (arith, w.inside, s.count, s.few)
@@ -132,7 +130,7 @@ module _ (kinds : List ℕ) {prelude places values : List ℕ} {n : ℕ} (s : Sy
           omega (arith, w.deep.inside, s.count, s.few)
 
   -- the refusal before 32,768 is added
-  pub refused_so : (a : Answer) (k : ℕ) → r ≡ Program-refused a k → (x : Refusal) → x ≡ refusal a.number (place_from places n (length prelude) k) → PreludeTold prelude places values new (Refused x)
+  pub refused_so : (a : Answer) (k : ℕ) → r ≡ fault_at a k → (x : Refusal) → x ≡ refusal a.number (place_from places n (length prelude) k) → PreludeTold prelude places values new (Refused x)
   refused_so a k q x e =
       let p = place_in symbols (omega arith) s k in
       let y : x ≡ refusal a.number (any.place_in symbols prelude k) = e ∙ ap (refusal a.number) p in

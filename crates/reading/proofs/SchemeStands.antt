@@ -18,9 +18,7 @@ use Rattle.symbols.specs.model.Steps.{Filled}
 use Rattle.symbols.specs.declared.Scanned.{Scanned as Told}
 use Rattle.symbols.specs.declared.Scanned.TheVariants.{Read as Symbols-read, Refused as Symbols-refused}
 use Rattle.grammar.specs.model.Text.{text}
-use Rattle.grammar.specs.model.Parsing.{zeros, ParseSays}
-use Rattle.grammar.specs.declared.Parsed.{Parsed as Outcome}
-use Rattle.grammar.specs.declared.Parsed.TheVariants.{Read as Program-read, Refused as Program-refused}
+use Rattle.grammar.specs.model.Parsing.{zeros, ParseSays, Parsed as Outcome, read_to, fault_at}
 use Rattle.names.specs.Program.{Procedure}
 use Rattle.reading.specs.Judging as any
 use Rattle.reading.specs.Judges.{JudgedBy, too_long, unreadable, ungrammatical, too_deep}
@@ -60,21 +58,21 @@ module _ {m : ℕ} (prelude : List ℕ) (e : m ≡ count_of prelude) {scheme kin
 -- ---- 5 and 6, or the nodes
 
 pub refused_within : (most : ℕ) (kinds : List ℕ) {scheme places values : List ℕ} {n : ℕ} → most ≤ 1024 → SymbolsIn most scheme places values n → take n kinds ≡ any.kinds_in most scheme → {new : List ℕ} {r : Outcome} → ParseSays (text (take n kinds)) new r
-    → (a : Answer) (k : ℕ) → r ≡ Program-refused a k → k ≤ 1024
+    → (a : Answer) (k : ℕ) → r ≡ fault_at a k → k ≤ 1024
 refused_within most kinds {scheme} {n = n} l s h v a k q = omega (arith, refused_in_at most scheme kinds n h v a k q, s.count, s.few)
 
 module _ (prelude kinds : List ℕ) {scheme places values : List ℕ} {n : ℕ} (s : SymbolsIn (left prelude) scheme places values n) (h : take n kinds ≡ any.kinds_in (left prelude) scheme) {new : List ℕ} {r : Outcome} (v : ParseSays (text (take n kinds)) new r) where
-  pub scheme_nodes : (j b : ℕ) → r ≡ Program-read j b → SchemeTold prelude scheme places values new (Program (record { symbols = n; nodes = b; rows = 0; uses = 0 }))
+  pub scheme_nodes : (j b : ℕ) → r ≡ read_to j b → SchemeTold prelude scheme places values new (Program (record { symbols = n; nodes = b; rows = 0; uses = 0 }))
   scheme_nodes j b q = let g = nodes_in_lem (left prelude) scheme kinds n h v s.scanned j b q in scheme_stands _ (record { symbols_in = s; read = g.0; words = g.1; many = g.2 })
 
-  fault_of_lem : (a : Answer) (k : ℕ) → r ≡ Program-refused a k → (ps : List Procedure) → JudgedBy (scheme_judge prelude ps) scheme (NotAccepted (refusal a.number (any.place_in (left prelude) scheme k))) (zeros half_words)
+  fault_of_lem : (a : Answer) (k : ℕ) → r ≡ fault_at a k → (ps : List Procedure) → JudgedBy (scheme_judge prelude ps) scheme (NotAccepted (refusal a.number (any.place_in (left prelude) scheme k))) (zeros half_words)
   fault_of_lem a k q ps =
       ⊎_elim
       (λ w. subst (λ m. JudgedBy (scheme_judge prelude ps) scheme (NotAccepted (refusal m (any.place_in (left prelude) scheme k))) (zeros half_words)) (sym w.0) (ungrammatical (record { short = s.scanned.short; whole = s.scanned.whole }) k w.1))
       (λ w. subst (λ m. JudgedBy (scheme_judge prelude ps) scheme (NotAccepted (refusal m (any.place_in (left prelude) scheme k))) (zeros half_words)) (sym w.0) (too_deep (record { short = s.scanned.short; whole = s.scanned.whole }) k w.1))
       (five_or_six (left prelude) scheme kinds n h v a k q)
 
-  pub scheme_refusals : (a : Answer) (k : ℕ) → r ≡ Program-refused a k → (x : Refusal) → x ≡ refusal a.number (place_from places n (length scheme) k) → SchemeTold prelude scheme places values new (Refused x)
+  pub scheme_refusals : (a : Answer) (k : ℕ) → r ≡ fault_at a k → (x : Refusal) → x ≡ refusal a.number (place_from places n (length scheme) k) → SchemeTold prelude scheme places values new (Refused x)
   scheme_refusals a k q x e =
       scheme_refused x (λ ps. subst (λ z. JudgedBy (scheme_judge prelude ps) scheme (NotAccepted z) (zeros half_words))
       (sym (e ∙ ap (refusal a.number) (place_in (left prelude) (omega arith) s k))) (fault_of_lem a k q ps))

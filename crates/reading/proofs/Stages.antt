@@ -22,9 +22,7 @@ use Rattle.symbols.specs.declared.Scanned.TheVariants.{Read as Symbols-read, Ref
 use Rattle.grammar.specs.model.Text.{text}
 use Rattle.grammar.specs.model.Marked.{nodes_of}
 use Rattle.grammar.specs.Program.{GrammarFault, DepthFault}
-use Rattle.grammar.specs.model.Parsing.{zeros, ParseSays, Whole}
-use Rattle.grammar.specs.declared.Parsed.{Parsed as Outcome}
-use Rattle.grammar.specs.declared.Parsed.TheVariants.{Read as Program-read, Refused as Program-refused}
+use Rattle.grammar.specs.model.Parsing.{zeros, ParseSays, Whole, Parsed as Outcome, read_to, fault_at}
 use Rattle.reading.specs.Judging as any
 use Rattle.reading.specs.Judging.{unreadable, ungrammatical, too_deep}
 use Rattle.reading.specs.Reading.{symbols, place_in, cleared, Judged}
@@ -138,7 +136,7 @@ place_behind {source} p k l =
 -- ---- what parsing answered
 
 -- the nodes are some of the words
-pub nodes_inside : {ks new : List ℕ} {r : Outcome} → ParseSays ks new r → (j b : ℕ) → r ≡ Program-read j b → b ≤ length new
+pub nodes_inside : {ks new : List ℕ} {r : Outcome} → ParseSays ks new r → (j b : ℕ) → r ≡ read_to j b → b ≤ length new
 nodes_inside {ks} {new} v j b q =
     let w = v.accepted j b q in
     omega (arith, w.words, ap length w.wrote, length-append (nodes_of w.tree) (zeros (32768 - b)))
@@ -148,10 +146,10 @@ module _ (most : ℕ) (source kinds : List ℕ) (n : ℕ) (kinded : take n kinds
   kinds_are = ap text kinded ∙ text_is (scan most source).found
 
   -- the program stands
-  whole_in : (j b : ℕ) → r ≡ Program-read j b → Whole (any.kinds_in most source) new j b
+  whole_in : (j b : ℕ) → r ≡ read_to j b → Whole (any.kinds_in most source) new j b
   whole_in j b q = subst (λ ks. Whole ks new j b) kinds_are (v.accepted j b q)
 
-  pub nodes_in_lem : any.Scanned most source → (j b : ℕ) → r ≡ Program-read j b → (g : any.Grammatical most source) × (take b new ≡ nodes_of g.tree) × (b ≡ length (nodes_of g.tree))
+  pub nodes_in_lem : any.Scanned most source → (j b : ℕ) → r ≡ read_to j b → (g : any.Grammatical most source) × (take b new ≡ nodes_of g.tree) × (b ≡ length (nodes_of g.tree))
   nodes_in_lem s j b q =
       let w = whole_in j b q in (
         record { scanned = s; tree = w.tree; keeps = w.keeps },
@@ -160,12 +158,12 @@ module _ (most : ℕ) (source kinds : List ℕ) (n : ℕ) (kinded : take n kinds
       )
 
   -- 5 or 6
-  pub five_or_six : (a : Answer) (k : ℕ) → r ≡ Program-refused a k
+  pub five_or_six : (a : Answer) (k : ℕ) → r ≡ fault_at a k
       → ((a.number ≡ grammar) × GrammarFault (any.kinds_in most source) k) ⊎ ((a.number ≡ depth) × DepthFault (any.kinds_in most source) k)
   five_or_six a k q = go (ℕ_discrete a.number grammar)
     where
-      said : (m : ℕ) → a.number ≡ m → r ≡ Program-refused (answer m) k
-      said m e = q ∙ ap (λ i. Program-refused (answer i) k) e
+      said : (m : ℕ) → a.number ≡ m → r ≡ fault_at (answer m) k
+      said m e = q ∙ ap (λ i. fault_at (answer i) k) e
 
       go : Dec (a.number ≡ grammar) → ((a.number ≡ grammar) × GrammarFault (any.kinds_in most source) k) ⊎ ((a.number ≡ depth) × DepthFault (any.kinds_in most source) k)
       go (yes e) = inl (e, subst (λ ks. GrammarFault ks k) kinds_are (v.wrong k (said grammar e)))
@@ -174,20 +172,20 @@ module _ (most : ℕ) (source kinds : List ℕ) (n : ℕ) (kinded : take n kinds
           inr (d, subst (λ ks. DepthFault ks k) kinds_are (v.deep k (said depth d)))
 
   -- at a symbol, or behind the last one
-  pub refused_in_at : (a : Answer) (k : ℕ) → r ≡ Program-refused a k → k ≤ length (any.kinds_in most source)
+  pub refused_in_at : (a : Answer) (k : ℕ) → r ≡ fault_at a k → k ≤ length (any.kinds_in most source)
   refused_in_at a k q = ⊎_elim (λ w. w.1.inside) (λ w. omega (arith, w.1.deep.inside)) (five_or_six a k q)
 
 module _ {source kinds places : List ℕ} {n : ℕ} (s : Symbols source kinds places n) {new : List ℕ} {r : Outcome} (v : ParseSays (text (take n kinds)) new r) where
   -- the program stands
-  pub ready : (j b : ℕ) → r ≡ Program-read j b → Ready source places (take b new) n
+  pub ready : (j b : ℕ) → r ≡ read_to j b → Ready source places (take b new) n
   ready j b q = let g = nodes_in_lem symbols source kinds n s.kinded v s.scanned j b q in record { program = g.0; places_in = s.places_in; words = g.1 }
 
-  pub refusals : (a : Answer) (k : ℕ) → r ≡ Program-refused a k → Judged source (Refused (refusal a.number (place_in source k))) cleared
+  pub refusals : (a : Answer) (k : ℕ) → r ≡ fault_at a k → Judged source (Refused (refusal a.number (place_in source k))) cleared
   refusals a k q =
       ⊎_elim
       (λ w. subst (λ m. Judged source (Refused (refusal m (place_in source k))) cleared) (sym w.0) (ungrammatical s.scanned k w.1))
       (λ w. subst (λ m. Judged source (Refused (refusal m (place_in source k))) cleared) (sym w.0) (too_deep s.scanned k w.1))
       (five_or_six symbols source kinds n s.kinded v a k q)
 
-  pub refused_at_lem : (a : Answer) (k : ℕ) → r ≡ Program-refused a k → k ≤ 2048
+  pub refused_at_lem : (a : Answer) (k : ℕ) → r ≡ fault_at a k → k ≤ 2048
   refused_at_lem a k q = omega (arith, refused_in_at symbols source kinds n s.kinded v a k q, s.places_in.count, s.places_in.few)

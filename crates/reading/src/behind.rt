@@ -9,7 +9,7 @@ use crate::moving::{around, beyond, page, shift, symbols};
 use crate::preluding::find_prelude;
 use crate::{Both, Found, FoundBoth, Sizes};
 use answers::{Answer, Ordinal, Refusal};
-use grammar::Parsed;
+use grammar::{Fault, Read};
 use symbols::Scanned;
 use symbols::scanning::scan;
 use syntax::parse;
@@ -26,13 +26,13 @@ fn parsed(
     ensures { (prelude values : List ℕ) → SymbolsIn (left prelude) scheme.now places.now values count → take count kinds.now ≡ kinds_in (left prelude) scheme.now → SchemeTold prelude scheme.now places.now values nodes.new result }
 {
     match parse(kinds, count, nodes) {
-        Parsed::Read { next: _, used } => Found::Program(Sizes {
+        Ok(Read { next: _, used }) => Found::Program(Sizes {
             symbols: count,
             nodes: used,
             rows: 0,
             uses: 0,
         }),
-        Parsed::Refused { answer, at } => {
+        Err(Fault { answer, at }) => {
             let symbol = Ordinal { number: at as u16 };
             let place = place_at(scheme.len(), places, count, symbol);
             Found::Refused(Refusal::new(answer, place.at))

@@ -7,7 +7,7 @@ ghost use Rattle.reading.specs.model.Stages.{Symbols, Tells, Declared, Finds};
 
 use crate::{Found, Sizes};
 use answers::{Answer, Ordinal, Place, Refusal};
-use grammar::Parsed;
+use grammar::{Fault, Read};
 use names::faults;
 use names::passes::{identify, outline, resolve};
 use symbols::Scanned;
@@ -100,7 +100,7 @@ fn parsed(
     ensures { Tells source.now (Declared source.now places.now nodes.new rows.new uses.new marks.old marks.new count) result }
 {
     match parse(kinds, count, nodes) {
-        Parsed::Read { next: _, used } => passed(
+        Ok(Read { next: _, used }) => passed(
             source,
             source.len(),
             places,
@@ -111,7 +111,7 @@ fn parsed(
             uses,
             marks,
         ),
-        Parsed::Refused { answer, at } => {
+        Err(Fault { answer, at }) => {
             let symbol = Ordinal { number: at as u16 };
             let place = place_at(source.len(), places, count, symbol);
             Found::Refused(Refusal::new(answer, place.at))

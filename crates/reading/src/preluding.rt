@@ -8,7 +8,7 @@ use crate::finding::{passed, place_at};
 use crate::moving::around;
 use crate::{Found, Sizes};
 use answers::{Answer, Ordinal, Refusal};
-use grammar::Parsed;
+use grammar::{Fault, Read};
 use names::passes::{first_rows, front};
 use symbols::Scanned;
 use symbols::scanning::scan;
@@ -70,8 +70,8 @@ fn parsed(
     ensures { (values : List ℕ) → SymbolsIn symbols prelude.now places.now values count → PreludeTold prelude.now places.now values nodes.new result }
 {
     match parse_prelude(kinds, count, nodes) {
-        Parsed::Read { next: _, used } => checked(prelude, places, count, nodes, used),
-        Parsed::Refused { answer, at } => {
+        Ok(Read { next: _, used }) => checked(prelude, places, count, nodes, used),
+        Err(Fault { answer, at }) => {
             let symbol = Ordinal { number: at as u16 };
             let place = place_at(prelude.len(), places, count, symbol);
             Found::Refused(Refusal::new(answer, place.at))

@@ -6,10 +6,10 @@ use Rattle.reading.proofs.SchemeStands.{scheme_nodes, scheme_refusals, refused_w
 use Rattle.reading.proofs.behind.parsed.Goals as goal
 
 pub overflow_cast-symbol : goal.overflow_cast-symbol
-overflow_cast-symbol c = omega (arith, refused_within c.requires.0 _ c.requires.2 c.requires.3 c.requires.4 c.parse.ensures _ _ c.in-Refused.is)
+overflow_cast-symbol c = omega (arith, refused_within c.requires.0 _ c.requires.2 c.requires.3 c.requires.4 c.parse.ensures _ _ c.in-Err.is)
 
-pub returns-in-Read : goal.returns-in-Read
-returns-in-Read c = λ prelude values s k. scheme_nodes prelude _ s k c.parse.ensures _ _ c.in-Read.is
+pub returns-in-Ok : goal.returns-in-Ok
+returns-in-Ok c = λ prelude values s k. scheme_nodes prelude _ s k c.parse.ensures _ _ c.in-Ok.is
 
-pub returns-in-Refused : goal.returns-in-Refused
-returns-in-Refused c = λ prelude values s k. scheme_refusals prelude _ s k c.parse.ensures _ _ c.in-Refused.is _ (c.new.ensures ∙ ap (refusal _) c.place_at-place.ensures)
+pub returns-in-Err : goal.returns-in-Err
+returns-in-Err c = λ prelude values s k. scheme_refusals prelude _ s k c.parse.ensures _ _ c.in-Err.is _ (c.new.ensures ∙ ap (refusal _) c.place_at-place.ensures)

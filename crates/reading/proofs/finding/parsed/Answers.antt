@@ -9,10 +9,10 @@ use Rattle.reading.proofs.Stages.{ready, refusals, refused_at_lem}
 use Rattle.reading.proofs.finding.parsed.Goals as goal
 
 pub overflow_cast-symbol : goal.overflow_cast-symbol
-overflow_cast-symbol c = omega (arith, refused_at_lem c.requires c.parse.ensures _ _ c.in-Refused.is)
+overflow_cast-symbol c = omega (arith, refused_at_lem c.requires c.parse.ensures _ _ c.in-Err.is)
 
-pub returns-in-Read : goal.returns-in-Read
-returns-in-Read c = from-passes (ready c.requires c.parse.ensures _ _ c.in-Read.is) c.passed.ensures
+pub returns-in-Ok : goal.returns-in-Ok
+returns-in-Ok c = from-passes (ready c.requires c.parse.ensures _ _ c.in-Ok.is) c.passed.ensures
 
-pub returns-in-Refused : goal.returns-in-Refused
-returns-in-Refused c = refused _ (as-judged (ap Refused (c.new.ensures ∙ ap (refusal _) (c.place_at-place.ensures ∙ place_is c.requires.places_in _))) refl (refusals c.requires c.parse.ensures _ _ c.in-Refused.is))
+pub returns-in-Err : goal.returns-in-Err
+returns-in-Err c = refused _ (as-judged (ap Refused (c.new.ensures ∙ ap (refusal _) (c.place_at-place.ensures ∙ place_is c.requires.places_in _))) refl (refusals c.requires c.parse.ensures _ _ c.in-Err.is))
