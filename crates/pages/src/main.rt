@@ -2,7 +2,7 @@
 // argument it runs the sources that the file `index` lists and says which answers differ from those listed.
 #![tactic(auto)]
 
-ghost use Rattle.std.specs.Prelude.{◌+◌, ◌<◌, ◌≤◌, length};
+ghost use Rattle.std.specs.Prelude.{◌≡◌, ◌<◌, ◌≤◌, length};
 
 use grammar::Fault;
 use showing::system::System;
@@ -92,12 +92,8 @@ fn show_symbols(
     places: &[usize; 2048],
     values: &[u64; 2048],
 ) {
-    let mut i = 0;
-    while i < n {
-        if i < 2048 {
-            show_symbol(system, source, kinds[i], values[i], places[i]);
-        }
-        i += 1;
+    for i in 0..n.min(2048) {
+        show_symbol(system, source, kinds[i], values[i], places[i]);
     }
 }
 
@@ -121,12 +117,10 @@ fn refused(system: &System, answer: u16, place: usize) -> Told {
 
 // The place of symbol k, or the source's length behind the last one.
 fn place_of(source: &[u8], places: &[usize; 2048], n: usize, k: usize) -> usize {
-    if k < n {
-        if k < 2048 {
-            return places[k];
-        }
+    match places.get(k) {
+        Some(place) if k < n => *place,
+        _ => source.len(),
     }
-    source.len()
 }
 
 // Whether the symbols are a program.
@@ -182,73 +176,49 @@ fn tell(system: &System, source: &[u8], shown: bool) -> Told {
 fn digit(b: u8) -> usize
     ensures { result < 10 }
 {
-    if b < 48 {
-        return 0;
+    match b {
+        b'0'..=b'9' => usize::from(b - b'0'),
+        _ => 0,
     }
-    if 57 < b {
-        return 0;
-    }
-    (b - 48) as usize
 }
 
-// The number that the digits of a part spell.
-fn number_in(text: &[u8], from: usize, to: usize) -> usize {
+// The number that digits spell.
+fn number_in(text: &[u8]) -> usize {
     let mut v: usize = 0;
-    let mut i = from;
-    while i < to {
-        if text.len() <= i {
-            return v;
-        }
-        v = (10 * v + digit(text[i])) % 1000000;
-        i += 1;
+    for b in text {
+        v = (10 * v + digit(*b)) % 1000000;
     }
     v
 }
 
-// Where the name in the row that starts at `from` ends.
-fn name_end(text: &[u8], from: usize) -> usize
-    requires { from ≤ length text.now }
-    ensures { (from ≤ result) × (result ≤ length text.now) }
+// Where the name that a row begins with ends.
+fn name_end(row: &[u8]) -> usize
+    ensures { result ≤ length row.now }
 {
-    let mut i = from;
-    while i < text.len() {
-        if text[i] == 32 {
-            return i;
-        }
-        i += 1;
-    }
-    i
+    row.iter().position(|b| *b == b' ').unwrap_or(row.len())
 }
 
-// Runs the row at `from`; true where the answer is the listed one.
-fn run_row(system: &System, index: &[u8], from: usize) -> bool
-    requires { from + 36 ≤ length index.now }
+// Runs a row; true where the answer is the listed one.
+fn run_row(system: &System, row: &[u8]) -> bool
+    requires { length row.now ≡ 36 }
 {
-    let end = name_end(index, from);
+    let name = &row[..name_end(row)];
     let mut buf = io::large_buffer();
-    say(system, &index[from..end]);
+    say(system, name);
     say(system, b": ");
-    let Ok(file) = system.open_read(&index[from..end]) else {
+    let Ok(file) = system.open_read(name) else {
         say(system, b"missing\n");
         return false;
     };
     let n = io::read_full(file.as_raw_fd(), &mut buf);
     let told = tell(system, &buf[..n], n <= 300);
-    let answer = number_in(index, from + 24, from + 27);
-    let number = number_in(index, from + 28, from + 34);
-    if told.answer as usize == answer && told.number == number {
+    let answer = number_in(&row[24..27]);
+    let number = number_in(&row[28..34]);
+    if usize::from(told.answer) == answer && told.number == number {
         return true;
     }
     say(system, b"  differs\n");
     false
-}
-
-// 1 for a row whose answer is another than the listed one.
-fn differs(system: &System, index: &[u8], from: usize) -> u64
-    requires { from + 36 ≤ length index.now }
-    ensures { result ≤ 1 }
-{
-    if run_row(system, index, from) { 0 } else { 1 }
 }
 
 fn say_counts(system: &System, rows: u64, differing: u64) {
@@ -259,15 +229,13 @@ fn say_counts(system: &System, rows: u64, differing: u64) {
 }
 
 fn run_rows(system: &System, index: &[u8]) {
-    let mut at: usize = 0;
-    let mut rows: u64 = 0;
+    let rows = index.len() / ROW;
     let mut differing: u64 = 0;
-    while ROW <= index.len() - at {
-        rows += 1;
-        differing += differs(system, index, at);
-        at += ROW;
+    for i in 0..rows {
+        let at = ROW * i;
+        differing += u64::from(!run_row(system, &index[at..at + ROW]));
     }
-    say_counts(system, rows, differing);
+    say_counts(system, rows as u64, differing);
 }
 
 fn run_index(system: &System) {
