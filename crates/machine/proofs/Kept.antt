@@ -22,14 +22,9 @@ use Rattle.reals.specs.declared.Cell.{Cell}
 use Rattle.reals.specs.declared.Cell.TheVariants.{Unset, Holds, Named}
 use Rattle.reals.specs.model.Stored.{Fitting, FittingC}
 use Rattle.machine.specs.declared.Counts.{Counts}
-use Rattle.machine.specs.declared.Used.{Used}
-use Rattle.machine.specs.declared.Used.TheVariants.{Value as Value1, Nothing as Nothing1}
-use Rattle.machine.specs.declared.Pair.{Pair}
-use Rattle.machine.specs.declared.Pair.TheVariants.{Values as Values2, Nothing as Nothing2}
-use Rattle.machine.specs.declared.Did.{Did}
-use Rattle.machine.specs.declared.Did.TheVariants.{Good, Bad, Stray as StrayD}
-use Rattle.machine.specs.declared.Chosen.{Chosen}
-use Rattle.machine.specs.declared.Chosen.TheVariants.{Yes, No, Bad as BadT, Stray as StrayT}
+use Rattle.std.specs.Prelude.{Option, Some, None, Result as Returned, Ok, Err}
+use Rattle.machine.specs.declared.Trouble.{Trouble}
+use Rattle.machine.specs.declared.Trouble.TheVariants.{Fault as Bad, Stray as Astray}
 use Rattle.machine.specs.Run.{Trace, quiet}
 use Rattle.machine.specs.Data.{Data, contents, cells, Result, bad, wrong, good, check, value, nothing, newest, two, back, put, look, plain, new_cells, open_block, valued, Counted, in_all, unset}
 use Rattle.machine.specs.model.Holding.{Own, cell_at, put_at, room_of, unassigned_all, cells_of, held_of, data_of, trace_of, seen_u, on_pair, told, fine, ill, lost, fewer, holding, UsedIn, PairIn, Sound, SoundD, SoundT}
@@ -133,20 +128,20 @@ module _ (n : Counts) (a : Own) (s i o : List ℤ) where
       )
 
   -- a value used, or none
-  pub saw : {u : Used} {v : Value} {m : Counts} → u ≡ Value1 v m → newest (data_of n a s i o) ≡ seen_u u a s i o → newest (data_of n a s i o) ≡ value v (data_of m a s i o)
-  saw e p = p ∙ ap (λ (w : Used). seen_u w a s i o) e
+  pub saw : {u : Option (Value × Counts)} {v : Value} {m : Counts} → u ≡ Some (v, m) → newest (data_of n a s i o) ≡ seen_u u a s i o → newest (data_of n a s i o) ≡ value v (data_of m a s i o)
+  saw e p = p ∙ ap (λ (w : Option (Value × Counts)). seen_u w a s i o) e
 
-  pub saw_none : {u : Used} → u ≡ Nothing1 → newest (data_of n a s i o) ≡ seen_u u a s i o → newest (data_of n a s i o) ≡ nothing
-  saw_none e p = p ∙ ap (λ (w : Used). seen_u w a s i o) e
+  pub saw_none : {u : Option (Value × Counts)} → u ≡ None → newest (data_of n a s i o) ≡ seen_u u a s i o → newest (data_of n a s i o) ≡ nothing
+  saw_none e p = p ∙ ap (λ (w : Option (Value × Counts)). seen_u w a s i o) e
 
   -- two values used, or not
-  pub saw_two : {u : Pair} {x y : Value} {m : Counts} → u ≡ Values2 x y m → ((f : Value → Value → Data → Result Data) → two f (data_of n a s i o) ≡ on_pair f u a s i o)
+  pub saw_two : {u : Option (Value × Value × Counts)} {x y : Value} {m : Counts} → u ≡ Some (x, y, m) → ((f : Value → Value → Data → Result Data) → two f (data_of n a s i o) ≡ on_pair f u a s i o)
       → (f : Value → Value → Data → Result Data) → two f (data_of n a s i o) ≡ f x y (data_of m a s i o)
-  saw_two e p f = p f ∙ ap (λ (w : Pair). on_pair f w a s i o) e
+  saw_two e p f = p f ∙ ap (λ (w : Option (Value × Value × Counts)). on_pair f w a s i o) e
 
-  pub saw_no_two : {u : Pair} → u ≡ Nothing2 → ((f : Value → Value → Data → Result Data) → two f (data_of n a s i o) ≡ on_pair f u a s i o)
+  pub saw_no_two : {u : Option (Value × Value × Counts)} → u ≡ None → ((f : Value → Value → Data → Result Data) → two f (data_of n a s i o) ≡ on_pair f u a s i o)
       → (f : Value → Value → Data → Result Data) → two f (data_of n a s i o) ≡ wrong
-  saw_no_two e p f = p f ∙ ap (λ (w : Pair). on_pair f w a s i o) e
+  saw_no_two e p f = p f ∙ ap (λ (w : Option (Value × Value × Counts)). on_pair f w a s i o) e
 
   -- the store after a cell was put
   module _ {s' : List ℤ} where
@@ -220,16 +215,16 @@ fewer_fewer n m l e f =
     let z : n.cells - 1 - 1 ≡ n.cells - 2 = omega arith in
     f ∙ ap (fewer 1) e ∙ ap (λ (c : ℕ). record { cells = c; held = n.held; taken = n.taken; written = n.written }) z
 
-pub sound_as : (n m : Counts) (r : Did) (s : List ℤ) → m.written ≡ n.written → SoundD m r s → SoundD n r s
-sound_as n m (Good l) s e h = (h.0, h.1 ∙ e)
-sound_as n m (Bad x q) s e h = tt
-sound_as n m StrayD s e h = tt
+pub sound_as : (n m : Counts) (r : Returned Counts Trouble) (s : List ℤ) → m.written ≡ n.written → SoundD m r s → SoundD n r s
+sound_as n m (Ok l) s e h = (h.0, h.1 ∙ e)
+sound_as n m (Err (Bad x q)) s e h = tt
+sound_as n m (Err Astray) s e h = tt
 
-pub test_as : (n m : Counts) (r : Chosen) (s : List ℤ) → m.written ≡ n.written → SoundT m r s → SoundT n r s
-test_as n m (Yes l) s e h = (h.0, h.1 ∙ e)
-test_as n m (No l) s e h = (h.0, h.1 ∙ e)
-test_as n m (BadT x q) s e h = tt
-test_as n m StrayT s e h = tt
+pub test_as : (n m : Counts) (r : Returned (Bool × Counts) Trouble) (s : List ℤ) → m.written ≡ n.written → SoundT m r s → SoundT n r s
+test_as n m (Ok (true, l)) s e h = (h.0, h.1 ∙ e)
+test_as n m (Ok (false, l)) s e h = (h.0, h.1 ∙ e)
+test_as n m (Err (Bad x q)) s e h = tt
+test_as n m (Err Astray) s e h = tt
 
 pub written_as : (k : ℕ) (n m : Counts) → m ≡ fewer k n → m.written ≡ n.written
 written_as k n m e = ap (λ (l : Counts). l.written) e
@@ -239,13 +234,13 @@ trace_as k n m o e = ap (λ (l : Counts). trace_of l o) e
 
 -- ---- what a function that used values says of the counts
 
-used_as_lem : (n : Counts) {m : Counts} {u : Used} {v : Value} → u ≡ Value1 v m → UsedIn n u → (1 ≤ n.cells) × (m ≡ fewer 1 n) × Fitting v
+used_as_lem : (n : Counts) {m : Counts} {u : Option (Value × Counts)} {v : Value} → u ≡ Some (v, m) → UsedIn n u → (1 ≤ n.cells) × (m ≡ fewer 1 n) × Fitting v
 used_as_lem n e h = subst (UsedIn n) e h
 
-pair_as : (n : Counts) {m : Counts} {u : Pair} {x y : Value} → u ≡ Values2 x y m → PairIn n u → (2 ≤ n.cells) × (m ≡ fewer 2 n) × Fitting x × Fitting y
+pair_as : (n : Counts) {m : Counts} {u : Option (Value × Value × Counts)} {x y : Value} → u ≡ Some (x, y, m) → PairIn n u → (2 ≤ n.cells) × (m ≡ fewer 2 n) × Fitting x × Fitting y
 pair_as n e h = subst (PairIn n) e h
 
-module _ (n : Counts) {m : Counts} {u : Used} {v : Value} (e : u ≡ Value1 v m) (h : UsedIn n u) where
+module _ (n : Counts) {m : Counts} {u : Option (Value × Counts)} {v : Value} (e : u ≡ Some (v, m)) (h : UsedIn n u) where
   pub used_sound : {s : List ℤ} → Sound n s → Sound m s
   used_sound g = fewer_sound 1 n m _ g (used_as_lem n e h).1
 
@@ -258,21 +253,21 @@ module _ (n : Counts) {m : Counts} {u : Used} {v : Value} (e : u ≡ Value1 v m)
   pub used_written : m.written ≡ n.written
   used_written = written_as 1 n m (used_as_lem n e h).1
 
-  pub used_did : (r : Did) (s : List ℤ) → SoundD m r s → SoundD n r s
+  pub used_did : (r : Returned Counts Trouble) (s : List ℤ) → SoundD m r s → SoundD n r s
   used_did r s g = sound_as n m r s used_written g
 
   pub used_fits : Fitting v
   used_fits = (used_as_lem n e h).2
 
   -- and once more
-  pub used_twice : {w : Used} {x : Value} {l : Counts} → w ≡ Value1 x l → UsedIn m w → (2 ≤ n.cells) × (l ≡ fewer 2 n) × Fitting x × Fitting v
+  pub used_twice : {w : Option (Value × Counts)} {x : Value} {l : Counts} → w ≡ Some (x, l) → UsedIn m w → (2 ≤ n.cells) × (l ≡ fewer 2 n) × Fitting x × Fitting v
   used_twice {w} {x} {l} f k =
       let a = used_as_lem n e h in
       let b = used_as_lem m f k in
       let z : m.cells ≡ n.cells - 1 = ap (λ (c : Counts). c.cells) a.1 in
       (omega arith, fewer_fewer n m l a.1 b.1, b.2, a.2)
 
-module _ (n : Counts) {m : Counts} {u : Pair} {x y : Value} (e : u ≡ Values2 x y m) (h : PairIn n u) where
+module _ (n : Counts) {m : Counts} {u : Option (Value × Value × Counts)} {x y : Value} (e : u ≡ Some (x, y, m)) (h : PairIn n u) where
   pub pair_sound : {s : List ℤ} → Sound n s → Sound m s
   pair_sound g = fewer_sound 2 n m _ g (pair_as n e h).1
 
@@ -285,7 +280,7 @@ module _ (n : Counts) {m : Counts} {u : Pair} {x y : Value} (e : u ≡ Values2 x
   pub pair_written : m.written ≡ n.written
   pair_written = written_as 2 n m (pair_as n e h).1
 
-  pub pair_did : (r : Did) (s : List ℤ) → SoundD m r s → SoundD n r s
+  pub pair_did : (r : Returned Counts Trouble) (s : List ℤ) → SoundD m r s → SoundD n r s
   pair_did r s g = sound_as n m r s pair_written g
 
 -- ---- what the store holds after a cell was put

@@ -32,10 +32,6 @@ use Rattle.reals.specs.model.Stored.{Fitting, FittingC, FittingO, whole_in, cell
 use Rattle.reals.proofs.Fits.{binary_fits}
 use Rattle.reals.proofs.ReadBack.{of_4}
 use Rattle.machine.specs.declared.Counts.{Counts}
-use Rattle.machine.specs.declared.Did.TheVariants.{Good}
-use Rattle.machine.specs.declared.Chosen.TheVariants.{Yes}
-use Rattle.machine.specs.declared.Typed.TheVariants.{Is as Form1}
-use Rattle.machine.specs.declared.Turned.TheVariants.{Is as Turned1}
 use Rattle.machine.specs.Run.{Trace, quiet}
 use Rattle.machine.specs.Data.{Link, link, Target, to, Data, form_in, back, valued, unhold, yea, Act, push, reserve, load, store, binary, sum, turn, act_on, downs, work, upto, test, good, hold}
 use Rattle.machine.specs.Instructions.{Location, Instruction, DO, IF, JUMP, variable, low, with_form}
@@ -89,21 +85,21 @@ unfolding all_suit
 way_suits [] h = refl
 way_suits (link t q ∷ l) h = rw h.0 (way_suits l h.1)
 
-way_out : (l : List Link) (z : ℤ) → OnWholes l → out_t l (Whole z) ≡ Turned1 (Whole z)
+way_out : (l : List Link) (z : ℤ) → OnWholes l → out_t l (Whole z) ≡ Ok (Whole z)
 unfolding out_t convert
 way_out [] z h = refl
 way_out (link t q ∷ l) z h = rw (h.0, way_out l z h.1)
 
-way_in : (q : ℕ) (l : List Link) (z : ℤ) → OnWholes l → in_t q Wholes l (Whole z) ≡ Turned1 (Whole z)
+way_in : (q : ℕ) (l : List Link) (z : ℤ) → OnWholes l → in_t q Wholes l (Whole z) ≡ Ok (Whole z)
 unfolding in_t convert
 way_in q [] z h = refl
 way_in q (link t p ∷ l) z h = rw h.0 (way_in q l z h.1)
 
-way_read : (q : ℕ) (l : List Link) (z : ℤ) → OnWholes l → read_t Wholes q l (Holds (Whole z)) ≡ Turned1 (Whole z)
+way_read : (q : ℕ) (l : List Link) (z : ℤ) → OnWholes l → read_t Wholes q l (Holds (Whole z)) ≡ Ok (Whole z)
 unfolding read_t
 way_read q l z h = rw (way_suits l h, way_out l z h)
 
-way_reach : (l : List Link) (x : Cell) → TakesWholes x → OnWholes l → reach_t Wholes l x ≡ Form1 Wholes
+way_reach : (l : List Link) (x : Cell) → TakesWholes x → OnWholes l → reach_t Wholes l x ≡ Some Wholes
 unfolding reach_t
 way_reach l (Unset t) k h = rw (k, way_suits l h)
 way_reach l (Holds v) k h = rw (k, way_suits l h)
@@ -219,7 +215,7 @@ module _ (at a : ℕ) (n : Counts) (s s' i o : List ℤ) (l : List ℕ) where
       → fine (data_of (cut c n) (own_of l a) s' i o) (trace_of n o) ≡ told (trace_of n o) (work (act_on (target_in (frames_of l a) (data_of n (own_of l a) s i o)) b) (data_of n (own_of l a) s i o))
       → goes (mach_of (at + 1) a (cut c n) s' l i o) (trace_of n o) ≡ stepped (trace_of n o) (obey (some (DO b)) at (positions_of l a) (frames_of l a) (data_of n (own_of l a) s i o))
   did b c h e =
-      lift_good (stray at) (at + 1) a s' i o l {d = Good (cut c n)} refl
+      lift_good (stray at) (at + 1) a s' i o l {d = Ok (cut c n)} refl
       ∙ ap (lifted (stray at) _) e
       ∙ plain_done (trace_of n o) at _ _ _ b (room_yes n a s i o l refl (downs b) h) refl
       ∙ obeyed (trace_of n o) at _ _ _ refl
@@ -305,7 +301,7 @@ module _ (at a : ℕ) (n : Counts) (s : List ℤ) (l : List ℕ) (g : Sound n s)
       let i₁ = number_is e₁ p₁ in
       let i₂ = number_is e₂ p₂ in
       let j' : leaves (Whole z) (Whole x) (Whole y) ≡ Is (Truth false) = rw (seen_is s (n.cells - 1) i₀, seen_is s (room_of s - n.held) i₁, seen_is s c i₂) at j in (
-        λ q i o. test_yes (stray at) at (low v) a s i o l {c = Yes (fewer 1 n)} refl
+        λ q i o. test_yes (stray at) at (low v) a s i o l {c = Ok (true, fewer 1 n)} refl
             ∙ ap (lifted (stray at) _) (upto_whole n (own_of l a) s i o q c _ (b.1 n s i o) h m g i₀ i₁ i₂ j')
             ∙ upto_done (trace_of n o) at _ _ _ q v refl (low v) (room_yes n a s i o l refl 1 (omega (arith, b.0)))
             ∙ obeyed (trace_of n o) at _ _ _ refl,

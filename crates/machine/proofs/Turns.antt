@@ -19,7 +19,7 @@ use mir.Val.{SFits, of_z}
 use Rattle.answers.specs.declared.Answer.{Answer}
 use Rattle.answers.specs.Numbers.{channel as noChannel, unassigned as notAssigned}
 use Rattle.answers.specs.Answers.{answer}
-use Rattle.std.specs.Prelude.{Option, Some, None}
+use Rattle.std.specs.Prelude.{Option, Some, None, Result as Returned, Ok, Err}
 use Rattle.reals.specs.declared.Form.{Form}
 use Rattle.reals.specs.declared.Value.{Value}
 use Rattle.reals.specs.declared.Value.TheVariants.{Truth, Whole, Real}
@@ -32,10 +32,8 @@ use Rattle.reals.specs.model.Stored.{Fitting, FittingO, FittingC}
 use Rattle.reals.proofs.Fits.{convert_fits}
 use Rattle.reals.proofs.Signed.{same_number, same_yes, same_no}
 use Rattle.reals.specs.model.Stored.{bits_in}
-use Rattle.machine.specs.declared.Typed.{Typed}
-use Rattle.machine.specs.declared.Typed.TheVariants.{Is as Form1, Not as NoForm}
-use Rattle.machine.specs.declared.Turned.{Turned}
-use Rattle.machine.specs.declared.Turned.TheVariants.{Is as Turned1, Bad as BadV, Stray as StrayV}
+use Rattle.machine.specs.declared.Trouble.{Trouble}
+use Rattle.machine.specs.declared.Trouble.TheVariants.{Fault as Bad, Stray as Astray}
 use Rattle.machine.specs.declared.Line.{Line}
 use Rattle.machine.specs.declared.Line.TheVariants.{One, Other, Not as NoLine}
 use Rattle.machine.specs.Data.{Link, link, to, Data, cells, joined, Result, bad, wrong, guard, check, look, plain, form_in, suits, suited, along, reaching, outward, inward, reading, read_from, valued, saving, put, on_channel}
@@ -50,17 +48,17 @@ module _ {A : Type 0} where
   valued_turned q f (Fault a) = refl
   valued_turned q f Stray = refl
 
-  onward_is : (t : Form) (q : ℕ) (f : Value → Result A) (x : Turned) → on_turned (λ u. valued q f (convert t u)) x ≡ on_turned f (onward t q x)
-  onward_is t q f (Turned1 u) = valued_turned q f (convert t u)
-  onward_is t q f (BadV a p) = refl
-  onward_is t q f StrayV = refl
+  onward_is : (t : Form) (q : ℕ) (f : Value → Result A) (x : Returned Value Trouble) → on_turned (λ u. valued q f (convert t u)) x ≡ on_turned f (onward t q x)
+  onward_is t q f (Ok u) = valued_turned q f (convert t u)
+  onward_is t q f (Err (Bad a p)) = refl
+  onward_is t q f (Err Astray) = refl
 
   pub outward_is : (l : List Link) (f : Value → Result A) (v : Value) → outward l f v ≡ on_turned f (out_t l v)
   unfolding outward out_t
   outward_is [] f v = refl
   outward_is (link t q ∷ l) f v = outward_is l (λ u. valued q f (convert t u)) v ∙ onward_is t q f (out_t l v)
 
-  inward_on : (q : ℕ) (f g : Value → Result A) (h : Value → Turned) → ((w : Value) → g w ≡ on_turned f (h w)) → (o : Outcome) → valued q g o ≡ on_turned f (inwards h q o)
+  inward_on : (q : ℕ) (f g : Value → Result A) (h : Value → Returned Value Trouble) → ((w : Value) → g w ≡ on_turned f (h w)) → (o : Outcome) → valued q g o ≡ on_turned f (inwards h q o)
   unfolding valued
   inward_on q f g h e (Is w) = e w
   inward_on q f g h e (Fault a) = refl
@@ -83,9 +81,9 @@ module _ {A : Type 0} where
   along_guard t [] r = refl
   along_guard t (link u q ∷ l) r = guard_and (suits t u) (all_suit t l) r (along t l r) (along_guard t l r)
 
-  abbrev pub on_typed : Result A → Typed → Result A
-  on_typed r (Form1 u) = r
-  on_typed r NoForm = wrong
+  abbrev pub on_typed : Result A → Option Form → Result A
+  on_typed r (Some u) = r
+  on_typed r None = wrong
 
   both_guard : (a b : Bool) (r s : Result A) → r ≡ s → guard a (guard b r) ≡ cond (a && b) s wrong
   unfolding guard
@@ -93,11 +91,11 @@ module _ {A : Type 0} where
   both_guard true false r s e = refl
   both_guard false b r s e = refl
 
-  typed_cond : (b : Bool) (u : Form) (r : Result A) → cond b r wrong ≡ on_typed r (cond b (Form1 u) NoForm)
+  typed_cond : (b : Bool) (u : Form) (r : Result A) → cond b r wrong ≡ on_typed r (cond b (Some u) None)
   typed_cond true u r = refl
   typed_cond false u r = refl
 
-  turned_cond : (b : Bool) (f : Value → Result A) (x : Turned) → cond b (on_turned f x) wrong ≡ on_turned f (cond b x StrayV)
+  turned_cond : (b : Bool) (f : Value → Result A) (x : Returned Value Trouble) → cond b (on_turned f x) wrong ≡ on_turned f (cond b x (Err Astray))
   turned_cond true f x = refl
   turned_cond false f x = refl
 
@@ -136,11 +134,11 @@ module _ {A : Type 0} where
       save_in q v r {u} h = ap (λ (t : Form). inward q t l (λ w. r (put c w d)) v) (ap form_in g ∙ sym h) ∙ inward_is q u l (λ w. r (put c w d)) v
 
 -- the cell's type is what is told of it
-reach_cond : (b : Bool) (u : Form) {w : Form} → cond b (Form1 u) NoForm ≡ Form1 w → w ≡ u
+reach_cond : (b : Bool) (u : Form) {w : Form} → cond b (Some u) None ≡ Some w → w ≡ u
 reach_cond true u {w} e = let z : u ≡ w = cc in sym z
 reach_cond false u e = absurd (let z : ◌≡◌ {A = ℕ} 0 1 = cc in omega arith)
 
-pub reach_form : (t : Form) (l : List Link) (x : Cell) {u : Form} → reach_t t l x ≡ Form1 u → u ≡ form_in x
+pub reach_form : (t : Form) (l : List Link) (x : Cell) {u : Form} → reach_t t l x ≡ Some u → u ≡ form_in x
 unfolding reach_t
 reach_form t l (Unset w) e = reach_cond (suits t w && all_suit t l) w e
 reach_form t l (Holds v) e = reach_cond (suits t (form_of v) && all_suit t l) (form_of v) e
@@ -153,17 +151,17 @@ turned_fits q (Is v) h = h
 turned_fits q (Fault a) h = tt
 turned_fits q Stray h = tt
 
-onward_fits : (t : Form) (q : ℕ) (x : Turned) → FittingT x → FittingT (onward t q x)
-onward_fits t q (Turned1 u) h = turned_fits q (convert t u) (convert_fits t u h)
-onward_fits t q (BadV a p) h = tt
-onward_fits t q StrayV h = tt
+onward_fits : (t : Form) (q : ℕ) (x : Returned Value Trouble) → FittingT x → FittingT (onward t q x)
+onward_fits t q (Ok u) h = turned_fits q (convert t u) (convert_fits t u h)
+onward_fits t q (Err (Bad a p)) h = tt
+onward_fits t q (Err Astray) h = tt
 
 out_fits : (l : List Link) (v : Value) → Fitting v → FittingT (out_t l v)
 unfolding out_t
 out_fits [] v h = h
 out_fits (link t q ∷ l) v h = onward_fits t q (out_t l v) (out_fits l v h)
 
-inwards_fits : (q : ℕ) (h : Value → Turned) → ((w : Value) → Fitting w → FittingT (h w)) → (o : Outcome) → FittingO o → FittingT (inwards h q o)
+inwards_fits : (q : ℕ) (h : Value → Returned Value Trouble) → ((w : Value) → Fitting w → FittingT (h w)) → (o : Outcome) → FittingO o → FittingT (inwards h q o)
 inwards_fits q h e (Is w) f = e w f
 inwards_fits q h e (Fault a) f = tt
 inwards_fits q h e Stray f = tt
@@ -173,7 +171,7 @@ unfolding in_t
 in_fits q t [] v h = turned_fits q (convert t v) (convert_fits t v h)
 in_fits q t (link u p ∷ l) v h = inwards_fits q (in_t q t l) (λ w f. in_fits q t l w f) (convert u v) (convert_fits u v h)
 
-cond_fits : (b : Bool) (x : Turned) → FittingT x → FittingT (cond b x StrayV)
+cond_fits : (b : Bool) (x : Returned Value Trouble) → FittingT x → FittingT (cond b x (Err Astray))
 cond_fits true x h = h
 cond_fits false x h = tt
 
@@ -244,30 +242,30 @@ module _ (l : List ℕ) where
   in_none q t v zero h = refl
   in_none q t v (suc n) h = absurd (not-suc-le-zero h)
 
-  pub out_none : (v : Value) → out_t (links_of l 0) v ≡ Turned1 v
+  pub out_none : (v : Value) → out_t (links_of l 0) v ≡ Ok v
   unfolding out_t links_of
   out_none v = refl
 
-  pub out_more : (v : Value) (j : ℕ) {u : Value} {o : Outcome} → out_t (links_of l j) v ≡ Turned1 u → o ≡ convert (form_at j) u → out_t (links_of l (j + 1)) v ≡ turned (place_at j) o
+  pub out_more : (v : Value) (j : ℕ) {u : Value} {o : Outcome} → out_t (links_of l j) v ≡ Ok u → o ≡ convert (form_at j) u → out_t (links_of l (j + 1)) v ≡ turned (place_at j) o
   unfolding out_t links_of link_at
   out_more v j e g = rw (add-one j, e, g)
 
   -- once it has stopped it is no other
-  pub out_bad : (v : Value) (k m : ℕ) {a : Answer} {q : ℕ} → m ≤ k → out_t (links_of l m) v ≡ BadV a q → out_t (links_of l k) v ≡ BadV a q
+  pub out_bad : (v : Value) (k m : ℕ) {a : Answer} {q : ℕ} → m ≤ k → out_t (links_of l m) v ≡ Err (Bad a q) → out_t (links_of l k) v ≡ Err (Bad a q)
   unfolding out_t links_of link_at
-  out_bad v zero m {a} {q} h e = let z : m ≡ 0 = omega arith in subst (λ (n : ℕ). out_t (links_of l n) v ≡ BadV a q) z e
+  out_bad v zero m {a} {q} h e = let z : m ≡ 0 = omega arith in subst (λ (n : ℕ). out_t (links_of l n) v ≡ Err (Bad a q)) z e
   out_bad v (suc n) m {a} {q} h e =
       ⊎_elim
-      (λ z. subst (λ (k : ℕ). out_t (links_of l k) v ≡ BadV a q) z e)
+      (λ z. subst (λ (k : ℕ). out_t (links_of l k) v ≡ Err (Bad a q)) z e)
       (λ b. ap (onward (form_at n) (place_at n)) (out_bad v n m (le_of_suc-le-suc b) e))
       (eq-or-lt_of_le h)
 
-  pub out_stray : (v : Value) (k m : ℕ) → m ≤ k → out_t (links_of l m) v ≡ StrayV → out_t (links_of l k) v ≡ StrayV
+  pub out_stray : (v : Value) (k m : ℕ) → m ≤ k → out_t (links_of l m) v ≡ Err Astray → out_t (links_of l k) v ≡ Err Astray
   unfolding out_t links_of link_at
-  out_stray v zero m h e = let z : m ≡ 0 = omega arith in subst (λ (n : ℕ). out_t (links_of l n) v ≡ StrayV) z e
+  out_stray v zero m h e = let z : m ≡ 0 = omega arith in subst (λ (n : ℕ). out_t (links_of l n) v ≡ (Err Astray)) z e
   out_stray v (suc n) m h e =
       ⊎_elim
-      (λ z. subst (λ (k : ℕ). out_t (links_of l k) v ≡ StrayV) z e)
+      (λ z. subst (λ (k : ℕ). out_t (links_of l k) v ≡ (Err Astray)) z e)
       (λ b. ap (onward (form_at n) (place_at n)) (out_stray v n m (le_of_suc-le-suc b) e))
       (eq-or-lt_of_le h)
 
@@ -345,7 +343,7 @@ raised_truth h e = rw e
 
 -- ---- what the code's functions give, by what they called
 
-pub read_as : (q : ℕ) (l : List Link) {r : Turned} {y : Form} {x z : Cell} → r ≡ read_t y q l x → y ≡ form_in x → x ≡ z → r ≡ read_t (form_in z) q l z
+pub read_as : (q : ℕ) (l : List Link) {r : Returned Value Trouble} {y : Form} {x z : Cell} → r ≡ read_t y q l x → y ≡ form_in x → x ≡ z → r ≡ read_t (form_in z) q l z
 read_as q l e g h = rw (← h, ← g) e
 
 -- both tests
@@ -359,50 +357,50 @@ module _ {b x : Bool} (e : b ≡ x) (y : Bool) where
 -- a cell that values of a type reach, or not
 module _ (f : Form) (q : ℕ) (l : List Link) {x : Cell} {t : Form} {b : Bool} (h : b ≡ (suits f t && all_suit f l)) where
   module _ {v : Value} (e : x ≡ Holds v) (g : t ≡ form_of v) where
-    pub reach_holds : b ≡ true → Form1 t ≡ reach_t f l x
+    pub reach_holds : b ≡ true → Some t ≡ reach_t f l x
     unfolding reach_t
     reach_holds k = rw (e, ← g, ← h, k)
 
-    pub reach_not_holds : b ≡ false → NoForm ≡ reach_t f l x
+    pub reach_not_holds : b ≡ false → None ≡ reach_t f l x
     unfolding reach_t
     reach_not_holds k = rw (e, ← g, ← h, k)
 
-    pub read_holds : {r : Turned} → b ≡ true → r ≡ out_t l v → r ≡ read_t f q l x
+    pub read_holds : {r : Returned Value Trouble} → b ≡ true → r ≡ out_t l v → r ≡ read_t f q l x
     unfolding read_t
     read_holds k p = rw (e, ← g, ← h, k) p
 
-    pub read_not_holds : b ≡ false → StrayV ≡ read_t f q l x
+    pub read_not_holds : b ≡ false → Err Astray ≡ read_t f q l x
     unfolding read_t
     read_not_holds k = rw (e, ← g, ← h, k)
 
   module _ (e : x ≡ Unset t) where
-    pub reach_unset : b ≡ true → Form1 t ≡ reach_t f l x
+    pub reach_unset : b ≡ true → Some t ≡ reach_t f l x
     unfolding reach_t
     reach_unset k = rw (e, ← h, k)
 
-    pub reach_not_unset : b ≡ false → NoForm ≡ reach_t f l x
+    pub reach_not_unset : b ≡ false → None ≡ reach_t f l x
     unfolding reach_t
     reach_not_unset k = rw (e, ← h, k)
 
-    pub read_unset : b ≡ true → BadV (answer notAssigned) q ≡ read_t f q l x
+    pub read_unset : b ≡ true → Err (Bad (answer notAssigned) q) ≡ read_t f q l x
     unfolding read_t
     read_unset k = rw (e, ← h, k)
 
-    pub read_not_unset : b ≡ false → StrayV ≡ read_t f q l x
+    pub read_not_unset : b ≡ false → Err Astray ≡ read_t f q l x
     unfolding read_t
     read_not_unset k = rw (e, ← h, k)
 
 module _ (f : Form) (q : ℕ) (l : List Link) {x : Cell} {n : ℕ} (e : x ≡ Named n) where
-  pub reach_named : NoForm ≡ reach_t f l x
+  pub reach_named : None ≡ reach_t f l x
   unfolding reach_t
   reach_named = rw e
 
-  pub read_named : StrayV ≡ read_t f q l x
+  pub read_named : Err Astray ≡ read_t f q l x
   unfolding read_t
   read_named = rw e
 
-pub reach_as : (l : List Link) {r z : Typed} {y y' : Form} {x x' : Cell} → r ≡ reach_t y l x → y ≡ y' → x ≡ x' → r ≡ z → reach_t y' l x' ≡ z
+pub reach_as : (l : List Link) {r z : Option Form} {y y' : Form} {x x' : Cell} → r ≡ reach_t y l x → y ≡ y' → x ≡ x' → r ≡ z → reach_t y' l x' ≡ z
 reach_as l e g h p = rw (← g, ← h, ← e) p
 
-pub turned_holds : {r x : Turned} {v : Value} → r ≡ x → r ≡ Turned1 v → FittingT x → Fitting v
+pub turned_holds : {r x : Returned Value Trouble} {v : Value} → r ≡ x → r ≡ Ok v → FittingT x → Fitting v
 turned_holds e g h = subst FittingT (sym e ∙ g) h

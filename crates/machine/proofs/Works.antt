@@ -22,13 +22,11 @@ use Rattle.reals.specs.declared.Cell.TheVariants.{Unset, Holds, Named}
 use Rattle.reals.specs.declared.Entry.{Entry}
 use Rattle.reals.specs.Values.{form_of, finite_b, convert, apply1, apply2, leaves, entry_w, entry_r}
 use Rattle.reals.specs.model.Stored.{three_of}
-use Rattle.machine.specs.declared.Typed.TheVariants.{Is as Form1, Not as NoForm}
-use Rattle.machine.specs.declared.Turned.{Turned}
-use Rattle.machine.specs.declared.Turned.TheVariants.{Is as Turned1, Bad as BadV, Stray as StrayV}
+use Rattle.std.specs.Prelude.{Option, Some, None, Result as Returned, Ok, Err}
+use Rattle.machine.specs.declared.Trouble.{Trouble}
+use Rattle.machine.specs.declared.Trouble.TheVariants.{Fault as Bad, Stray as Astray}
 use Rattle.machine.specs.declared.Line.{Line}
 use Rattle.machine.specs.declared.Line.TheVariants.{One, Other, Not as NoLine}
-use Rattle.machine.specs.declared.Entered.{Entered}
-use Rattle.machine.specs.declared.Entered.TheVariants.{Is as Entry1, Not as NoEntry}
 use Rattle.machine.specs.Run.{Trace, say, quiet, wrote, took}
 use Rattle.machine.specs.Data.{Link, to, Target, Data, cells, joined, Result, wrong, good, guard, check, value, nothing, newest, on_value, two, back, put, look, plain, form_in, new_cells, valued, suits, reaching, read_from, saving, name_cell, on_channel, taking, written, writing, input, space, rest, spend, hold, unhold, held, find, heightened, picking, counting, Act, push, heighten, load, store, assign, reserve, forget, receive, send, keep, unary, binary, lend, channel, sum, turn, work, Two, yea, nay, condition, upto, test}
 use Rattle.machine.specs.model.Holding.{fine, ill, lost, told, on_turned, in_t, read_t, reach_t, line_of, raised_of, on_entered}
@@ -69,41 +67,41 @@ module _ {A : Type 0} (b : Bool) (r : Result A) where
 
 -- ---- values on their way, as an operation leaves them
 
-module _ {A : Type 0} (t : Trace) {x : Turned} where
-  pub turned_is : (f : Value → Result A) {v : Value} → x ≡ Turned1 v → told t (f v) ≡ told t (on_turned f x)
+module _ {A : Type 0} (t : Trace) {x : Returned Value Trouble} where
+  pub turned_is : (f : Value → Result A) {v : Value} → x ≡ Ok v → told t (f v) ≡ told t (on_turned f x)
   turned_is f e = rw e
 
-  pub turned_fine : (g : Value → A) {v : Value} → x ≡ Turned1 v → fine (g v) t ≡ told t (on_turned (λ w. good quiet (g w)) x)
+  pub turned_fine : (g : Value → A) {v : Value} → x ≡ Ok v → fine (g v) t ≡ told t (on_turned (λ w. good quiet (g w)) x)
   unfolding told
   turned_fine g e = rw e
 
-  pub turned_bad : (f : Value → Result A) {a : Answer} {p : ℕ} → x ≡ BadV a p → ill a.number p ≡ told t (on_turned f x)
+  pub turned_bad : (f : Value → Result A) {a : Answer} {p : ℕ} → x ≡ Err (Bad a p) → ill a.number p ≡ told t (on_turned f x)
   unfolding told
   turned_bad f e = rw e
 
-  pub turned_stray : (f : Value → Result A) → x ≡ StrayV → lost ≡ told t (on_turned f x)
+  pub turned_stray : (f : Value → Result A) → x ≡ Err Astray → lost ≡ told t (on_turned f x)
   unfolding told
   turned_stray f e = rw e
 
 -- a number taken is told of a store that went well
-pub told_took : {A : Type 0} (t : Trace) (g : Value → A) (x : Turned) → told (say t took) (on_turned (λ w. good quiet (g w)) x) ≡ told t (on_turned (λ w. good took (g w)) x)
+pub told_took : {A : Type 0} (t : Trace) (g : Value → A) (x : Returned Value Trouble) → told (say t took) (on_turned (λ w. good quiet (g w)) x) ≡ told t (on_turned (λ w. good took (g w)) x)
 unfolding told
-told_took t g (Turned1 v) = refl
-told_took t g (BadV a q) = refl
-told_took t g StrayV = refl
+told_took t g (Ok v) = refl
+told_took t g (Err (Bad a q)) = refl
+told_took t g (Err Astray) = refl
 
 -- ---- entries
 
 module _ {f : Form} {v : Value} where
-  pub entry_whole : {z : ℤ} {e : Entry} → v ≡ Whole z → f ≡ Wholes → three_of e ≡ entry_w z → (g : List ℤ → Result Data) → written f v g ≡ on_entered g (Entry1 e)
+  pub entry_whole : {z : ℤ} {e : Entry} → v ≡ Whole z → f ≡ Wholes → three_of e ≡ entry_w z → (g : List ℤ → Result Data) → written f v g ≡ on_entered g (Some e)
   unfolding written
   entry_whole p q h g = rw (p, q) (ap g (sym h))
 
-  pub entry_real : {r : Float} {e : Entry} → v ≡ Real r → f ≡ Reals → three_of e ≡ entry_r r → (g : List ℤ → Result Data) → written f v g ≡ on_entered g (Entry1 e)
+  pub entry_real : {r : Float} {e : Entry} → v ≡ Real r → f ≡ Reals → three_of e ≡ entry_r r → (g : List ℤ → Result Data) → written f v g ≡ on_entered g (Some e)
   unfolding written
   entry_real p q h g = rw (p, q) (ap g (sym h))
 
-  pub entry_other : {f' : Form} {v' : Value} → v ≡ v' → f ≡ f' → ((g : List ℤ → Result Data) → written f' v' g ≡ wrong) → (g : List ℤ → Result Data) → written f v g ≡ on_entered g NoEntry
+  pub entry_other : {f' : Form} {v' : Value} → v ≡ v' → f ≡ f' → ((g : List ℤ → Result Data) → written f' v' g ≡ wrong) → (g : List ℤ → Result Data) → written f v g ≡ on_entered g None
   entry_other p q h g = rw (p, q) (h g)
 
 -- ---- real constants
@@ -152,16 +150,16 @@ module _ (t : Trace) (d : Data) where
       assign_out g = rw e (sym (ap (told t) (reach_out c l m (form_of v) (saving q (to c l) v m (λ d. good quiet (back v d))) g)))
 
       module _ (g : ltb c (cells m) ≡ true) {x : Cell} (z : look c m ≡ x) where
-        pub save_not : reach_t (form_of v) l x ≡ NoForm → lost ≡ told t (work (store q (to c l)) d)
+        pub save_not : reach_t (form_of v) l x ≡ None → lost ≡ told t (work (store q (to c l)) d)
         unfolding work told on_value
         save_not r = rw e (sym (ap (told t) (reach_in c l m g z (form_of v) (saving q (to c l) v m (good quiet)) ∙ ap (on_typed (saving q (to c l) v m (good quiet))) r)))
 
-        pub assign_not : reach_t (form_of v) l x ≡ NoForm → lost ≡ told t (work (assign q (to c l)) d)
+        pub assign_not : reach_t (form_of v) l x ≡ None → lost ≡ told t (work (assign q (to c l)) d)
         unfolding work told on_value
         assign_not r =
             rw e (sym (ap (told t) (reach_in c l m g z (form_of v) (saving q (to c l) v m (λ d. good quiet (back v d))) ∙ ap (on_typed (saving q (to c l) v m (λ d. good quiet (back v d)))) r)))
 
-        module _ {u : Form} (r : reach_t (form_of v) l x ≡ Form1 u) (k : u ≡ form_in x) {t' : Trace} (p : t' ≡ t) where
+        module _ {u : Form} (r : reach_t (form_of v) l x ≡ Some u) (k : u ≡ form_in x) {t' : Trace} (p : t' ≡ t) where
           pub save_is : told t' (on_turned (λ w. good quiet (put c w m)) (in_t q u l v)) ≡ told t (work (store q (to c l)) d)
           unfolding work on_value
           save_is =
@@ -244,11 +242,11 @@ module _ (t : Trace) (d : Data) where
       listen_out e = sym (ap (told t) (reach_out c l d Wholes _ e))
 
       module _ (e : ltb c (cells d) ≡ true) {x : Cell} (z : look c d ≡ x) where
-        pub listen_not : reach_t Wholes l x ≡ NoForm → lost ≡ told t (reaching Wholes (to c l) d (on_channel q k (taking q (to c l) d (input d))))
+        pub listen_not : reach_t Wholes l x ≡ None → lost ≡ told t (reaching Wholes (to c l) d (on_channel q k (taking q (to c l) d (input d))))
         unfolding told
         listen_not r = sym (ap (told t) (reach_in c l d e z Wholes _ ∙ ap (on_typed _) r))
 
-        module _ {u : Form} (r : reach_t Wholes l x ≡ Form1 u) where
+        module _ {u : Form} (r : reach_t Wholes l x ≡ Some u) where
           heard : {y : Line} → line_of k ≡ y → on_line q (taking q (to c l) d (input d)) y ≡ reaching Wholes (to c l) d (on_channel q k (taking q (to c l) d (input d)))
           heard g =
               sym (reach_in c l d e z Wholes (on_channel q k (taking q (to c l) d (input d))) ∙ ap (on_typed (on_channel q k (taking q (to c l) d (input d)))) r
@@ -284,17 +282,17 @@ module _ (t : Trace) (d : Data) where
     unfolding work told
     send_none e = sym (ap (told t) (e _))
 
-    module _ {k v : Value} {m : Data} {t' : Trace} (y : Entered) (e : (g : Value → Value → Data → Result Data) → two g d ≡ g k v m) (r : t' ≡ t) (w : (g : List ℤ → Result Data) → written f v g ≡ on_entered g y) where
+    module _ {k v : Value} {m : Data} {t' : Trace} (y : Option Entry) (e : (g : Value → Value → Data → Result Data) → two g d ≡ g k v m) (r : t' ≡ t) (w : (g : List ℤ → Result Data) → written f v g ≡ on_entered g y) where
       sent : told t' (on_entered (λ x. on_channel q k (writing q x m)) y) ≡ told t (work (send q f) d)
       unfolding work
       sent = rw r (sym (ap (told t) (e _ ∙ w _)))
 
-      pub send_some : {x : Entry} → y ≡ Entry1 x → told t' (on_channel q k (writing q (three_of x) m)) ≡ told t (work (send q f) d)
-      send_some g = ap (λ (z : Entered). told t' (on_entered (λ x. on_channel q k (writing q x m)) z)) (sym g) ∙ sent
+      pub send_some : {x : Entry} → y ≡ Some x → told t' (on_channel q k (writing q (three_of x) m)) ≡ told t (work (send q f) d)
+      send_some g = ap (λ (z : Option Entry). told t' (on_entered (λ x. on_channel q k (writing q x m)) z)) (sym g) ∙ sent
 
-      pub send_stray : y ≡ NoEntry → lost ≡ told t (work (send q f) d)
+      pub send_stray : y ≡ None → lost ≡ told t (work (send q f) d)
       unfolding told
-      send_stray g = ap (λ (z : Entered). told t' (on_entered (λ x. on_channel q k (writing q x m)) z)) (sym g) ∙ sent
+      send_stray g = ap (λ (z : Option Entry). told t' (on_entered (λ x. on_channel q k (writing q x m)) z)) (sym g) ∙ sent
 
   module _ (q : ℕ) (e : List ℤ) where
     module _ (k : Value) where

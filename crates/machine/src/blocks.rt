@@ -7,7 +7,7 @@ ghost use Rattle.machine.specs.model.Holding.{Own, left, Sound, SoundD, data_of,
 use crate::activations::KEPT;
 use crate::cells::{cell_at, put_cell, room};
 use crate::operands::TEN_BITS;
-use crate::{Counts, Did};
+use crate::{Counts, Trouble};
 use answers::Answer;
 use reals::{Cell, Form};
 
@@ -47,7 +47,7 @@ fn in_all(v: usize) -> usize
 }
 
 // A block's cells.
-pub fn open(mut n: Counts, store: &mut [i64], q: usize, v: usize) -> Did
+pub fn open(mut n: Counts, store: &mut [i64], q: usize, v: usize) -> Result<Counts, Trouble>
     requires { Sound n store.old × (v < 4294967296) }
     ensures o_after { (a : Own) (i o : List ℤ) → seen_d result a store.new i o ≡ told (trace_of n o) (open_block q (counted v) (data_of n a store.old i o)) }
     ensures sound_d { SoundD n result store.new }
@@ -56,48 +56,48 @@ pub fn open(mut n: Counts, store: &mut [i64], q: usize, v: usize) -> Did
     let h = n.held;
     let k = in_all(v);
     if c + h + k > room(store) {
-        return Did::Bad(Answer::CELLS, q);
+        return Err(Trouble::Fault(Answer::CELLS, q));
     }
     unassign_all(store, c, v);
     n.cells = c + k;
-    Did::Good(n)
+    Ok(n)
 }
 
-pub fn close(mut n: Counts, k: usize) -> Did
+pub fn close(mut n: Counts, k: usize) -> Result<Counts, Trouble>
     ensures o_value { (a : Own) (s i o : List ℤ) → seen_d result a s i o ≡ told (trace_of n o) (close_block k (data_of n a s i o)) }
     ensures sound_d { (s : List ℤ) → Sound n s → SoundD n result s }
 {
     let c = n.cells;
     if k > c {
-        return Did::Stray;
+        return Err(Trouble::Stray);
     }
     n.cells = c - k;
-    Did::Good(n)
+    Ok(n)
 }
 
 // An activation's cells, from b on, go; where its result is needed, that stays, for the call at q.
-pub fn leave(mut n: Counts, store: &[i64], fate: u32, q: usize, b: usize) -> Did
+pub fn leave(mut n: Counts, store: &[i64], fate: u32, q: usize, b: usize) -> Result<Counts, Trouble>
     requires { Sound n store.now }
     ensures o_value { (x : Link) (a : Own) (i o : List ℤ) → seen_d result (left (fate_of fate) x a) store.now i o ≡ told (trace_of n o) (leaveOf (fate_of fate) x q b (data_of n a store.now i o)) }
     ensures sound_d { SoundD n result store.now }
 {
     if fate == KEPT {
         if b >= n.cells {
-            return Did::Stray;
+            return Err(Trouble::Stray);
         }
         match cell_at(store, b) {
-            Cell::Unset(_) => Did::Bad(Answer::UNASSIGNED, q),
-            Cell::Named(_) => Did::Stray,
+            Cell::Unset(_) => Err(Trouble::Fault(Answer::UNASSIGNED, q)),
+            Cell::Named(_) => Err(Trouble::Stray),
             Cell::Holds(_) => {
                 n.cells = b + 1;
-                Did::Good(n)
+                Ok(n)
             }
         }
     } else {
         if b > n.cells {
-            return Did::Stray;
+            return Err(Trouble::Stray);
         }
         n.cells = b;
-        Did::Good(n)
+        Ok(n)
     }
 }

@@ -3,7 +3,6 @@
 #![tactic(auto)]
 
 use answers::{Answer, Stop};
-use reals::{Entry, Form, Value};
 
 mod activations;
 mod blocks;
@@ -38,21 +37,6 @@ pub struct Way {
     pub links: usize,
 }
 
-// A type, or none.
-#[derive(Clone, Copy)]
-pub enum Typed {
-    Is(Form),
-    Not,
-}
-
-// What a value has become on its way: a value, a fault and its place, or that it is of another type than is taken there.
-#[derive(Clone, Copy)]
-pub enum Turned {
-    Is(Value),
-    Bad(Answer, usize),
-    Stray,
-}
-
 // A channel's number: 1, another one, or no whole number.
 #[derive(Clone, Copy)]
 pub enum Line {
@@ -61,41 +45,11 @@ pub enum Line {
     Not,
 }
 
-// An output entry, or that the value has none there.
+// Why nothing came of a value or of an operation on the data: a fault and its place; or no value or no such cell was found, or a value of another
+// type than is taken there.
 #[derive(Clone, Copy)]
-pub enum Entered {
-    Is(Entry),
-    Not,
-}
-
-// A value used, with the counts after it.
-#[derive(Clone, Copy)]
-pub enum Used {
-    Value(Value, Counts),
-    Nothing,
-}
-
-// Two values used, the older one first, with the counts after them.
-#[derive(Clone, Copy)]
-pub enum Pair {
-    Values(Value, Value, Counts),
-    Nothing,
-}
-
-// What an operation on the data came to: it is done, or its fault and the place, or it found no value or no such cell.
-#[derive(Clone, Copy)]
-pub enum Did {
-    Good(Counts),
-    Bad(Answer, usize),
-    Stray,
-}
-
-// What a test came to.
-#[derive(Clone, Copy)]
-pub enum Chosen {
-    Yes(Counts),
-    No(Counts),
-    Bad(Answer, usize),
+pub enum Trouble {
+    Fault(Answer, usize),
     Stray,
 }
 

@@ -12,7 +12,7 @@ use crate::cells::{cell_at, put_cell, room};
 use crate::operations::{back, newest};
 use crate::values::suits;
 use crate::ways::reading;
-use crate::{Chosen, Counts, Did, Turned, Used};
+use crate::{Counts, Trouble};
 use reals::conversions::form_of;
 use reals::loops::leaves;
 use reals::{Binary, Cell, Form, Outcome, Value, operators};
@@ -31,15 +31,13 @@ fn hold(mut n: Counts, store: &mut [i64], v: Value) -> Counts
 }
 
 // The newest value, a step, is held.
-pub fn keep(n: Counts, store: &mut [i64]) -> Did
+pub fn keep(n: Counts, store: &mut [i64]) -> Result<Counts, Trouble>
     requires { Sound n store.old }
     ensures does { Does Act.keep n result store.old store.new }
     ensures sound_d { SoundD n result store.new }
 {
-    match newest(n, store) {
-        Used::Nothing => Did::Stray,
-        Used::Value(x, m) => Did::Good(hold(m, store, x)),
-    }
+    let (x, m) = newest(n, store).ok_or(Trouble::Stray)?;
+    Ok(hold(m, store, x))
 }
 
 // The newest step that is held.
@@ -55,7 +53,7 @@ fn held(n: Counts, store: &[i64]) -> Cell
 }
 
 // The step x is held in the place of the newest one, and the sum s has the cell that x left.
-fn renew(mut n: Counts, store: &mut [i64], x: Value, s: Value) -> Did
+fn renew(mut n: Counts, store: &mut [i64], x: Value, s: Value) -> Result<Counts, Trouble>
     requires { Sound n store.old × (n.cells + n.held < room_of store.old) × (1 ≤ n.held) × Fitting x × Fitting s }
     ensures o_after { (a : Own) (i o : List ℤ) → seen_d result a store.new i o ≡ fine (backOf s (holdOf x (unhold (data_of n a store.old i o)))) (trace_of n o) }
     ensures sound_d { SoundD n result store.new }
@@ -67,56 +65,64 @@ fn renew(mut n: Counts, store: &mut [i64], x: Value, s: Value) -> Did
 }
 
 // The sum of a variable's value and the step x, or its fault.
-fn renewed(n: Counts, store: &mut [i64], q: usize, x: Value, r: Outcome) -> Did
+fn renewed(n: Counts, store: &mut [i64], q: usize, x: Value, r: Outcome) -> Result<Counts, Trouble>
     requires { Sound n store.old × (n.cells + n.held < room_of store.old) × (1 ≤ n.held) × Fitting x × FittingO r }
     ensures o_after { (a : Own) (i o : List ℤ) → seen_d result a store.new i o ≡ told (trace_of n o) (valued q (λ u. Result.good Event.quiet (backOf u (holdOf x (unhold (data_of n a store.old i o))))) r) }
     ensures sound_d { SoundD n result store.new }
 {
     match r {
         Outcome::Is(s) => renew(n, store, x, s),
-        Outcome::Fault(a) => Did::Bad(a, q),
-        Outcome::Stray => Did::Stray,
+        Outcome::Fault(a) => Err(Trouble::Fault(a, q)),
+        Outcome::Stray => Err(Trouble::Stray),
     }
 }
 
 // The sum of cell c, through k formals, and the step x.
-fn total(n: Counts, store: &mut [i64], own: &Memory, q: usize, c: usize, k: usize, x: Value) -> Did
+fn total(
+    n: Counts,
+    store: &mut [i64],
+    own: &Memory,
+    q: usize,
+    c: usize,
+    k: usize,
+    x: Value,
+) -> Result<Counts, Trouble>
     requires { Sound n store.old × (n.cells + n.held < room_of store.old) × (1 ≤ n.held) × Fitting x × (k ≤ most_links) }
     ensures o_after { (a : Own) (i o : List ℤ) → seen_d result a store.new i o ≡ told (trace_of n o) (reaching Form.Wholes (to c (links_of own.now k)) (data_of n a store.old i o) (read_from q (to c (links_of own.now k)) (data_of n a store.old i o) (λ v. valued q (λ u. Result.good Event.quiet (backOf u (holdOf x (unhold (data_of n a store.old i o))))) (apply2 Binary.Plus v x)))) }
     ensures sound_d { SoundD n result store.new }
 {
     if c >= n.cells {
-        return Did::Stray;
+        return Err(Trouble::Stray);
     }
-    match reading(own, k, q, Form::Wholes, cell_at(store, c)) {
-        Turned::Is(v) => renewed(n, store, q, x, operators::binary(Binary::Plus, v, x)),
-        Turned::Bad(a, p) => Did::Bad(a, p),
-        Turned::Stray => Did::Stray,
-    }
+    let v = reading(own, k, q, Form::Wholes, cell_at(store, c))?;
+    renewed(n, store, q, x, operators::binary(Binary::Plus, v, x))
 }
 
 // Cell c and the newest value, a step, added; the step is held in the place of the old one.
-pub fn sum(n: Counts, store: &mut [i64], own: &Memory, q: usize, c: usize, k: usize) -> Did
+pub fn sum(
+    n: Counts,
+    store: &mut [i64],
+    own: &Memory,
+    q: usize,
+    c: usize,
+    k: usize,
+) -> Result<Counts, Trouble>
     requires { Sound n store.old × (k ≤ most_links) }
     ensures does { Does (Act.sum q (to c (links_of own.now k))) n result store.old store.new }
     ensures sound_d { SoundD n result store.new }
 {
-    match newest(n, store) {
-        Used::Nothing => Did::Stray,
-        Used::Value(x, m) => {
-            if m.held == 0 {
-                return Did::Stray;
-            }
-            if !suits(Form::Wholes, form_of(x)) {
-                return Did::Stray;
-            }
-            total(m, store, own, q, c, k, x)
-        }
+    let (x, m) = newest(n, store).ok_or(Trouble::Stray)?;
+    if m.held == 0 {
+        return Err(Trouble::Stray);
     }
+    if !suits(Form::Wholes, form_of(x)) {
+        return Err(Trouble::Stray);
+    }
+    total(m, store, own, q, c, k, x)
 }
 
 // Where a loop is left the step goes.
-fn decided(mut n: Counts, q: usize, r: Outcome) -> Chosen
+fn decided(mut n: Counts, q: usize, r: Outcome) -> Result<(bool, Counts), Trouble>
     requires { 1 ≤ n.held }
     ensures o_value { (a : Own) (s i o : List ℤ) → seen_t result a s i o ≡ told (trace_of n o) (valued q (λ b. picking b (Two.nay (unhold (data_of n a s i o))) (Two.yea (data_of n a s i o))) r) }
     ensures sound_t { (s : List ℤ) → Sound n s → SoundT n result s }
@@ -127,15 +133,15 @@ fn decided(mut n: Counts, q: usize, r: Outcome) -> Chosen
             Value::Truth(b) => {
                 if b {
                     n.held = h - 1;
-                    return Chosen::No(n);
+                    return Ok((false, n));
                 }
-                Chosen::Yes(n)
+                Ok((true, n))
             }
-            Value::Whole(_) => Chosen::Stray,
-            Value::Real(_) => Chosen::Stray,
+            Value::Whole(_) => Err(Trouble::Stray),
+            Value::Real(_) => Err(Trouble::Stray),
         },
-        Outcome::Fault(a) => Chosen::Bad(a, q),
-        Outcome::Stray => Chosen::Stray,
+        Outcome::Fault(a) => Err(Trouble::Fault(a, q)),
+        Outcome::Stray => Err(Trouble::Stray),
     }
 }
 
@@ -149,19 +155,16 @@ fn goes_on(
     k: usize,
     x: Value,
     y: Value,
-) -> Chosen
+) -> Result<(bool, Counts), Trouble>
     requires { Sound n store.now × (1 ≤ n.held) × (k ≤ most_links) }
     ensures o_value { (a : Own) (i o : List ℤ) → seen_t result a store.now i o ≡ told (trace_of n o) (reaching Form.Wholes (to c (links_of own.now k)) (data_of n a store.now i o) (read_from q (to c (links_of own.now k)) (data_of n a store.now i o) (λ v. valued q (λ b. picking b (Two.nay (unhold (data_of n a store.now i o))) (Two.yea (data_of n a store.now i o))) (leavesOf v x y)))) }
     ensures sound_t { SoundT n result store.now }
 {
     if c >= n.cells {
-        return Chosen::Stray;
+        return Err(Trouble::Stray);
     }
-    match reading(own, k, q, Form::Wholes, cell_at(store, c)) {
-        Turned::Is(v) => decided(n, q, leaves(v, x, y)),
-        Turned::Bad(a, p) => Chosen::Bad(a, p),
-        Turned::Stray => Chosen::Stray,
-    }
+    let v = reading(own, k, q, Form::Wholes, cell_at(store, c))?;
+    decided(n, q, leaves(v, x, y))
 }
 
 // Step and bound are numbers.
@@ -174,32 +177,36 @@ fn count(
     k: usize,
     x: Value,
     y: Value,
-) -> Chosen
+) -> Result<(bool, Counts), Trouble>
     requires { Sound n store.now × (1 ≤ n.held) × (k ≤ most_links) }
     ensures o_value { (a : Own) (i o : List ℤ) → seen_t result a store.now i o ≡ told (trace_of n o) (counting y (counting x (reaching Form.Wholes (to c (links_of own.now k)) (data_of n a store.now i o) (read_from q (to c (links_of own.now k)) (data_of n a store.now i o) (λ v. valued q (λ b. picking b (Two.nay (unhold (data_of n a store.now i o))) (Two.yea (data_of n a store.now i o))) (leavesOf v x y)))))) }
     ensures sound_t { SoundT n result store.now }
 {
     if !suits(Form::Wholes, form_of(y)) {
-        return Chosen::Stray;
+        return Err(Trouble::Stray);
     }
     if !suits(Form::Wholes, form_of(x)) {
-        return Chosen::Stray;
+        return Err(Trouble::Stray);
     }
     goes_on(n, store, own, q, c, k, x, y)
 }
 
 // The test of a step element: the newest value is the bound, and the variable is read after it.
-pub fn upto(n: Counts, store: &[i64], own: &Memory, q: usize, c: usize, k: usize) -> Chosen
+pub fn upto(
+    n: Counts,
+    store: &[i64],
+    own: &Memory,
+    q: usize,
+    c: usize,
+    k: usize,
+) -> Result<(bool, Counts), Trouble>
     requires { Sound n store.now × (k ≤ most_links) }
     ensures tests { Tests (Test.upto q (to c (links_of own.now k))) n result store.now }
     ensures sound_t { SoundT n result store.now }
 {
-    match newest(n, store) {
-        Used::Nothing => Chosen::Stray,
-        Used::Value(y, m) => match held(m, store) {
-            Cell::Holds(x) => count(m, store, own, q, c, k, x, y),
-            Cell::Unset(_) => Chosen::Stray,
-            Cell::Named(_) => Chosen::Stray,
-        },
+    let (y, m) = newest(n, store).ok_or(Trouble::Stray)?;
+    match held(m, store) {
+        Cell::Holds(x) => count(m, store, own, q, c, k, x, y),
+        Cell::Unset(_) | Cell::Named(_) => Err(Trouble::Stray),
     }
 }

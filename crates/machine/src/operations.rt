@@ -10,48 +10,40 @@ use crate::activations::Memory;
 use crate::cells::{cell_at, put_cell, room};
 use crate::values::{line, raised};
 use crate::ways::{form_in, inward, reach, reading};
-use crate::{Chosen, Counts, Did, Line, Pair, Turned, Typed, Used};
+use crate::{Counts, Line, Trouble};
 use answers::Answer;
 use reals::conversions::{convert, form_of};
 use reals::{Binary, Cell, Form, Outcome, Unary, Value, operators};
 
-// The value in the newest cell, which goes.
-pub fn newest(mut n: Counts, store: &[i64]) -> Used
+// The value in the newest cell, which goes, and the counts after it.
+pub fn newest(mut n: Counts, store: &[i64]) -> Option<(Value, Counts)>
     requires { Sound n store.now }
     ensures o_value { (a : Own) (i o : List ℤ) → newestOf (data_of n a store.now i o) ≡ seen_u result a store.now i o }
     ensures used_in { UsedIn n result }
 {
-    let k = n.cells;
-    if k == 0 {
-        return Used::Nothing;
-    }
-    match cell_at(store, k - 1) {
+    let last = n.cells.checked_sub(1)?;
+    match cell_at(store, last) {
         Cell::Holds(v) => {
-            n.cells = k - 1;
-            Used::Value(v, n)
+            n.cells = last;
+            Some((v, n))
         }
-        Cell::Unset(_) => Used::Nothing,
-        Cell::Named(_) => Used::Nothing,
+        Cell::Unset(_) | Cell::Named(_) => None,
     }
 }
 
-// The values in the two newest cells, which go.
-pub fn newest_two(n: Counts, store: &[i64]) -> Pair
+// The values in the two newest cells, which go, the older one first, and the counts after them.
+pub fn newest_two(n: Counts, store: &[i64]) -> Option<(Value, Value, Counts)>
     requires { Sound n store.now }
     ensures o_value { (a : Own) (i o : List ℤ) (f : Value → Value → Data → Result Data) → two f (data_of n a store.now i o) ≡ on_pair f result a store.now i o }
     ensures pair_in { PairIn n result }
 {
-    match newest(n, store) {
-        Used::Nothing => Pair::Nothing,
-        Used::Value(y, m) => match newest(m, store) {
-            Used::Nothing => Pair::Nothing,
-            Used::Value(x, l) => Pair::Values(x, y, l),
-        },
-    }
+    let (y, m) = newest(n, store)?;
+    let (x, l) = newest(m, store)?;
+    Some((x, y, l))
 }
 
 // A value in the place of one that was used.
-pub fn back(mut n: Counts, store: &mut [i64], v: Value) -> Did
+pub fn back(mut n: Counts, store: &mut [i64], v: Value) -> Result<Counts, Trouble>
     requires { Sound n store.old × (n.cells + n.held < room_of store.old) × Fitting v }
     ensures o_after { (a : Own) (i o : List ℤ) → seen_d result a store.new i o ≡ fine (backOf v (data_of n a store.old i o)) (trace_of n o) }
     ensures sound_d { SoundD n result store.new }
@@ -59,21 +51,21 @@ pub fn back(mut n: Counts, store: &mut [i64], v: Value) -> Did
     let k = n.cells;
     put_cell(store, k, Cell::Holds(v));
     n.cells = k + 1;
-    Did::Good(n)
+    Ok(n)
 }
 
 // A value to cell c, which is of its type.
-fn put(n: Counts, store: &mut [i64], c: usize, v: Value) -> Did
+fn put(n: Counts, store: &mut [i64], c: usize, v: Value) -> Result<Counts, Trouble>
     requires { Sound n store.old × (c < n.cells) × Fitting v }
     ensures o_after { (a : Own) (i o : List ℤ) → seen_d result a store.new i o ≡ fine (put_of c v (data_of n a store.old i o)) (trace_of n o) }
     ensures sound_d { SoundD n result store.new }
 {
     put_cell(store, c, Cell::Holds(v));
-    Did::Good(n)
+    Ok(n)
 }
 
 // A new cell, for what stands at q.
-pub fn new_cell(mut n: Counts, store: &mut [i64], q: usize, x: Cell) -> Did
+pub fn new_cell(mut n: Counts, store: &mut [i64], q: usize, x: Cell) -> Result<Counts, Trouble>
     requires { Sound n store.old × FittingC x }
     ensures o_after { (a : Own) (i o : List ℤ) → seen_d result a store.new i o ≡ told (trace_of n o) (new_cells q (x ∷ []) (data_of n a store.old i o)) }
     ensures sound_d { SoundD n result store.new }
@@ -81,28 +73,32 @@ pub fn new_cell(mut n: Counts, store: &mut [i64], q: usize, x: Cell) -> Did
     let k = n.cells;
     let h = n.held;
     if k + h >= room(store) {
-        return Did::Bad(Answer::CELLS, q);
+        return Err(Trouble::Fault(Answer::CELLS, q));
     }
     put_cell(store, k, x);
     n.cells = k + 1;
-    Did::Good(n)
+    Ok(n)
 }
 
 // The value in cell c, through k formals, in a new cell.
-pub fn load(n: Counts, store: &mut [i64], own: &Memory, q: usize, c: usize, k: usize) -> Did
+pub fn load(
+    n: Counts,
+    store: &mut [i64],
+    own: &Memory,
+    q: usize,
+    c: usize,
+    k: usize,
+) -> Result<Counts, Trouble>
     requires { Sound n store.old × (k ≤ most_links) }
     ensures does { Does (Act.load q (to c (links_of own.now k))) n result store.old store.new }
     ensures sound_d { SoundD n result store.new }
 {
     if c >= n.cells {
-        return Did::Stray;
+        return Err(Trouble::Stray);
     }
     let x = cell_at(store, c);
-    match reading(own, k, q, form_in(x), x) {
-        Turned::Is(v) => new_cell(n, store, q, Cell::Holds(v)),
-        Turned::Bad(a, p) => Did::Bad(a, p),
-        Turned::Stray => Did::Stray,
-    }
+    let v = reading(own, k, q, form_in(x), x)?;
+    new_cell(n, store, q, Cell::Holds(v))
 }
 
 // A value to cell c, through k formals; the cell takes values of the type.
@@ -115,36 +111,34 @@ pub fn put_through(
     k: usize,
     form: Form,
     v: Value,
-) -> Did
+) -> Result<Counts, Trouble>
     requires { Sound n store.old × (c < n.cells) × (k ≤ most_links) × Fitting v }
     ensures o_after { (a : Own) (i o : List ℤ) → seen_d result a store.new i o ≡ told (trace_of n o) (on_turned (λ u. Result.good Event.quiet (put_of c u (data_of n a store.old i o))) (in_t q form (links_of own.now k) v)) }
     ensures sound_d { SoundD n result store.new }
 {
-    match inward(own, k, q, form, v) {
-        Turned::Is(u) => put(n, store, c, u),
-        Turned::Bad(a, p) => Did::Bad(a, p),
-        Turned::Stray => Did::Stray,
-    }
+    let u = inward(own, k, q, form, v)?;
+    put(n, store, c, u)
 }
 
 // The newest value to cell c, through k formals.
-pub fn save(n: Counts, store: &mut [i64], own: &Memory, q: usize, c: usize, k: usize) -> Did
+pub fn save(
+    n: Counts,
+    store: &mut [i64],
+    own: &Memory,
+    q: usize,
+    c: usize,
+    k: usize,
+) -> Result<Counts, Trouble>
     requires { Sound n store.old × (k ≤ most_links) }
     ensures does { Does (Act.store q (to c (links_of own.now k))) n result store.old store.new }
     ensures sound_d { SoundD n result store.new }
 {
-    match newest(n, store) {
-        Used::Nothing => Did::Stray,
-        Used::Value(v, m) => {
-            if c >= m.cells {
-                return Did::Stray;
-            }
-            match reach(own, k, form_of(v), cell_at(store, c)) {
-                Typed::Is(form) => put_through(m, store, own, q, c, k, form, v),
-                Typed::Not => Did::Stray,
-            }
-        }
+    let (v, m) = newest(n, store).ok_or(Trouble::Stray)?;
+    if c >= m.cells {
+        return Err(Trouble::Stray);
     }
+    let form = reach(own, k, form_of(v), cell_at(store, c)).ok_or(Trouble::Stray)?;
+    put_through(m, store, own, q, c, k, form, v)
 }
 
 // The same, and the value v stays.
@@ -157,144 +151,120 @@ fn assign_through(
     k: usize,
     form: Form,
     v: Value,
-) -> Did
+) -> Result<Counts, Trouble>
     requires { Sound n store.old × (c < n.cells) × (k ≤ most_links) × Fitting v × (n.cells + n.held < room_of store.old) }
     ensures o_after { (a : Own) (i o : List ℤ) → seen_d result a store.new i o ≡ told (trace_of n o) (on_turned (λ u. Result.good Event.quiet (backOf v (put_of c u (data_of n a store.old i o)))) (in_t q form (links_of own.now k) v)) }
     ensures sound_d { SoundD n result store.new }
 {
-    match inward(own, k, q, form, v) {
-        Turned::Is(u) => {
-            put_cell(store, c, Cell::Holds(u));
-            back(n, store, v)
-        }
-        Turned::Bad(a, p) => Did::Bad(a, p),
-        Turned::Stray => Did::Stray,
-    }
+    let u = inward(own, k, q, form, v)?;
+    put_cell(store, c, Cell::Holds(u));
+    back(n, store, v)
 }
 
-pub fn assign(n: Counts, store: &mut [i64], own: &Memory, q: usize, c: usize, k: usize) -> Did
+pub fn assign(
+    n: Counts,
+    store: &mut [i64],
+    own: &Memory,
+    q: usize,
+    c: usize,
+    k: usize,
+) -> Result<Counts, Trouble>
     requires { Sound n store.old × (k ≤ most_links) }
     ensures does { Does (Act.assign q (to c (links_of own.now k))) n result store.old store.new }
     ensures sound_d { SoundD n result store.new }
 {
-    match newest(n, store) {
-        Used::Nothing => Did::Stray,
-        Used::Value(v, m) => {
-            if c >= m.cells {
-                return Did::Stray;
-            }
-            match reach(own, k, form_of(v), cell_at(store, c)) {
-                Typed::Is(form) => assign_through(m, store, own, q, c, k, form, v),
-                Typed::Not => Did::Stray,
-            }
-        }
+    let (v, m) = newest(n, store).ok_or(Trouble::Stray)?;
+    if c >= m.cells {
+        return Err(Trouble::Stray);
     }
+    let form = reach(own, k, form_of(v), cell_at(store, c)).ok_or(Trouble::Stray)?;
+    assign_through(m, store, own, q, c, k, form, v)
 }
 
 // The newest value goes.
-pub fn forget(n: Counts, store: &[i64]) -> Did
+pub fn forget(n: Counts, store: &[i64]) -> Result<Counts, Trouble>
     requires { Sound n store.now }
     ensures does { Does Act.forget n result store.now store.now }
     ensures sound_d { SoundD n result store.now }
 {
-    match newest(n, store) {
-        Used::Nothing => Did::Stray,
-        Used::Value(_, m) => Did::Good(m),
-    }
+    let (_, m) = newest(n, store).ok_or(Trouble::Stray)?;
+    Ok(m)
 }
 
 // A value in the place of those that were used, or an operator's fault.
-fn give(n: Counts, store: &mut [i64], q: usize, r: Outcome) -> Did
+fn give(n: Counts, store: &mut [i64], q: usize, r: Outcome) -> Result<Counts, Trouble>
     requires { Sound n store.old × (n.cells + n.held < room_of store.old) × FittingO r }
     ensures o_after { (a : Own) (i o : List ℤ) → seen_d result a store.new i o ≡ told (trace_of n o) (valued q (λ w. Result.good Event.quiet (backOf w (data_of n a store.old i o))) r) }
     ensures sound_d { SoundD n result store.new }
 {
     match r {
         Outcome::Is(v) => back(n, store, v),
-        Outcome::Fault(a) => Did::Bad(a, q),
-        Outcome::Stray => Did::Stray,
+        Outcome::Fault(a) => Err(Trouble::Fault(a, q)),
+        Outcome::Stray => Err(Trouble::Stray),
     }
 }
 
-pub fn unary(n: Counts, store: &mut [i64], q: usize, op: Unary) -> Did
+pub fn unary(n: Counts, store: &mut [i64], q: usize, op: Unary) -> Result<Counts, Trouble>
     requires { Sound n store.old }
     ensures does { Does (Act.unary q op) n result store.old store.new }
     ensures sound_d { SoundD n result store.new }
 {
-    match newest(n, store) {
-        Used::Nothing => Did::Stray,
-        Used::Value(x, m) => give(m, store, q, operators::unary(op, x)),
-    }
+    let (x, m) = newest(n, store).ok_or(Trouble::Stray)?;
+    give(m, store, q, operators::unary(op, x))
 }
 
-pub fn binary(n: Counts, store: &mut [i64], q: usize, op: Binary) -> Did
+pub fn binary(n: Counts, store: &mut [i64], q: usize, op: Binary) -> Result<Counts, Trouble>
     requires { Sound n store.old }
     ensures does { Does (Act.binary q op) n result store.old store.new }
     ensures sound_d { SoundD n result store.new }
 {
-    match newest_two(n, store) {
-        Pair::Nothing => Did::Stray,
-        Pair::Values(x, y, m) => give(m, store, q, operators::binary(op, x, y)),
-    }
+    let (x, y, m) = newest_two(n, store).ok_or(Trouble::Stray)?;
+    give(m, store, q, operators::binary(op, x, y))
 }
 
 // The newest value becomes one of the type.
-pub fn turn(n: Counts, store: &mut [i64], q: usize, form: Form) -> Did
+pub fn turn(n: Counts, store: &mut [i64], q: usize, form: Form) -> Result<Counts, Trouble>
     requires { Sound n store.old }
     ensures does { Does (Act.turn q form) n result store.old store.new }
     ensures sound_d { SoundD n result store.new }
 {
-    match newest(n, store) {
-        Used::Nothing => Did::Stray,
-        Used::Value(x, m) => give(m, store, q, convert(form, x)),
-    }
+    let (x, m) = newest(n, store).ok_or(Trouble::Stray)?;
+    give(m, store, q, convert(form, x))
 }
 
 // The newest value, a whole number, is the lower half of a real's bits, and h the upper half.
-pub fn heighten(n: Counts, store: &mut [i64], h: u32) -> Did
+pub fn heighten(n: Counts, store: &mut [i64], h: u32) -> Result<Counts, Trouble>
     requires { Sound n store.old }
     ensures does { Does (Act.heighten h) n result store.old store.new }
     ensures sound_d { SoundD n result store.new }
 {
-    match newest(n, store) {
-        Used::Nothing => Did::Stray,
-        Used::Value(x, m) => give(m, store, 0, raised(x, h)),
-    }
+    let (x, m) = newest(n, store).ok_or(Trouble::Stray)?;
+    give(m, store, 0, raised(x, h))
 }
 
 // The newest value is the channel 1, and stays.
-pub fn channel(n: Counts, store: &mut [i64], q: usize) -> Did
+pub fn channel(n: Counts, store: &mut [i64], q: usize) -> Result<Counts, Trouble>
     requires { Sound n store.old }
     ensures does { Does (Act.channel q) n result store.old store.new }
     ensures sound_d { SoundD n result store.new }
 {
-    match newest(n, store) {
-        Used::Nothing => Did::Stray,
-        Used::Value(v, m) => match line(v) {
-            Line::One => back(m, store, v),
-            Line::Other => Did::Bad(Answer::CHANNEL, q),
-            Line::Not => Did::Stray,
-        },
+    let (v, m) = newest(n, store).ok_or(Trouble::Stray)?;
+    match line(v) {
+        Line::One => back(m, store, v),
+        Line::Other => Err(Trouble::Fault(Answer::CHANNEL, q)),
+        Line::Not => Err(Trouble::Stray),
     }
 }
 
 // Whether the newest value, which goes, is 'true'.
-pub fn condition(n: Counts, store: &[i64]) -> Chosen
+pub fn condition(n: Counts, store: &[i64]) -> Result<(bool, Counts), Trouble>
     requires { Sound n store.now }
     ensures tests { Tests Test.condition n result store.now }
     ensures sound_t { SoundT n result store.now }
 {
-    match newest(n, store) {
-        Used::Nothing => Chosen::Stray,
-        Used::Value(v, m) => match v {
-            Value::Truth(b) => {
-                if b {
-                    return Chosen::Yes(m);
-                }
-                Chosen::No(m)
-            }
-            Value::Whole(_) => Chosen::Stray,
-            Value::Real(_) => Chosen::Stray,
-        },
+    let (v, m) = newest(n, store).ok_or(Trouble::Stray)?;
+    match v {
+        Value::Truth(b) => Ok((b, m)),
+        Value::Whole(_) | Value::Real(_) => Err(Trouble::Stray),
     }
 }

@@ -11,7 +11,7 @@ use crate::cells::cell_at;
 use crate::operations::{newest, newest_two, put_through};
 use crate::values::line;
 use crate::ways::reach;
-use crate::{Counts, Did, Entered, Line, Pair, Typed, Used};
+use crate::{Counts, Line, Trouble};
 use answers::Answer;
 use reals::entries::{real_entry, whole_entry};
 use reals::{Entry, Form, Value};
@@ -26,14 +26,14 @@ fn take_in(
     c: usize,
     k: usize,
     form: Form,
-) -> Did
+) -> Result<Counts, Trouble>
     requires { Sound n store.old × (c < n.cells) × (k ≤ most_links) × (form ≡ form_in (cell_at store.old c)) }
     ensures o_after { (a : Own) (o : List ℤ) → seen_d result a store.new input.now o ≡ told (trace_of n o) (taking q (to c (links_of own.now k)) (data_of n a store.old input.now o) (input_of (data_of n a store.old input.now o))) }
     ensures sound_d { SoundD n result store.new }
 {
     let t = n.taken;
     if t >= input.len() {
-        return Did::Bad(Answer::INPUT_ENDED, q);
+        return Err(Trouble::Fault(Answer::INPUT_ENDED, q));
     }
     let z = input[t];
     n.taken = t + 1;
@@ -50,21 +50,19 @@ fn listen(
     c: usize,
     k: usize,
     v: Value,
-) -> Did
+) -> Result<Counts, Trouble>
     requires { Sound n store.old × (k ≤ most_links) }
     ensures o_after { (a : Own) (o : List ℤ) → seen_d result a store.new input.now o ≡ told (trace_of n o) (reaching Form.Wholes (to c (links_of own.now k)) (data_of n a store.old input.now o) (on_channel q v (taking q (to c (links_of own.now k)) (data_of n a store.old input.now o) (input_of (data_of n a store.old input.now o))))) }
     ensures sound_d { SoundD n result store.new }
 {
     if c >= n.cells {
-        return Did::Stray;
+        return Err(Trouble::Stray);
     }
-    match reach(own, k, Form::Wholes, cell_at(store, c)) {
-        Typed::Not => Did::Stray,
-        Typed::Is(form) => match line(v) {
-            Line::One => take_in(n, input, store, own, q, c, k, form),
-            Line::Other => Did::Bad(Answer::CHANNEL, q),
-            Line::Not => Did::Stray,
-        },
+    let form = reach(own, k, Form::Wholes, cell_at(store, c)).ok_or(Trouble::Stray)?;
+    match line(v) {
+        Line::One => take_in(n, input, store, own, q, c, k, form),
+        Line::Other => Err(Trouble::Fault(Answer::CHANNEL, q)),
+        Line::Not => Err(Trouble::Stray),
     }
 }
 
@@ -77,84 +75,70 @@ pub fn receive(
     q: usize,
     c: usize,
     k: usize,
-) -> Did
+) -> Result<Counts, Trouble>
     requires { Sound n store.old × (k ≤ most_links) }
     ensures o_after { (a : Own) (o : List ℤ) → seen_d result a store.new input.now o ≡ told (trace_of n o) (work (Act.receive q (to c (links_of own.now k))) (data_of n a store.old input.now o)) }
     ensures sound_d { SoundD n result store.new }
 {
-    match newest(n, store) {
-        Used::Nothing => Did::Stray,
-        Used::Value(v, m) => listen(m, input, store, own, q, c, k, v),
-    }
+    let (v, m) = newest(n, store).ok_or(Trouble::Stray)?;
+    listen(m, input, store, own, q, c, k, v)
 }
 
-// A value's entry: outinteger writes whole numbers, outreal reals.
-fn entry_of(form: Form, v: Value) -> Entered
+// A value's entry, if it has one there: outinteger writes whole numbers, outreal reals.
+#[tactic(auto, unfolding(crate::specs::Data::written))]
+fn entry_of(form: Form, v: Value) -> Option<Entry>
     ensures { (f : List ℤ → Result Data) → written form v f ≡ on_entered f result }
 {
-    match v {
-        Value::Whole(z) => match form {
-            Form::Wholes => Entered::Is(whole_entry(z)),
-            Form::Reals => Entered::Not,
-            Form::Truths => Entered::Not,
-        },
-        Value::Real(x) => match form {
-            Form::Wholes => Entered::Not,
-            Form::Reals => Entered::Is(real_entry(x)),
-            Form::Truths => Entered::Not,
-        },
-        Value::Truth(_) => match form {
-            Form::Wholes => Entered::Not,
-            Form::Reals => Entered::Not,
-            Form::Truths => Entered::Not,
-        },
+    match (v, form) {
+        (Value::Whole(z), Form::Wholes) => Some(whole_entry(z)),
+        (Value::Real(x), Form::Reals) => Some(real_entry(x)),
+        _ => None,
     }
 }
 
 // An entry goes to the output.
-fn put_out(mut n: Counts, output: &mut [i32], q: usize, e: Entry) -> Did
+fn put_out(mut n: Counts, output: &mut [i32], q: usize, e: Entry) -> Result<Counts, Trouble>
     requires { n.written ≤ length output.old }
     ensures output_after { (a : Own) (s i : List ℤ) → seen_d result a s i output.new ≡ told (trace_of n output.old) (writing q (three_of e) (data_of n a s i output.old)) }
     ensures sound_o { (s : List ℤ) → Sound n s → SoundO result s output.old output.new }
 {
     let w = n.written;
     if output.len() - w < ENTRY_NUMBERS {
-        return Did::Bad(Answer::OUTPUT_FULL, q);
+        return Err(Trouble::Fault(Answer::OUTPUT_FULL, q));
     }
-    let first = e.first;
-    let second = e.second;
-    let third = e.third;
-    output[w] = first;
-    output[w + 1] = second;
-    output[w + 2] = third;
+    output[w] = e.first;
+    output[w + 1] = e.second;
+    output[w + 2] = e.third;
     n.written = w + ENTRY_NUMBERS;
-    Did::Good(n)
+    Ok(n)
 }
 
 // The same, on the channel v.
-fn speak(n: Counts, output: &mut [i32], q: usize, v: Value, e: Entry) -> Did
+fn speak(n: Counts, output: &mut [i32], q: usize, v: Value, e: Entry) -> Result<Counts, Trouble>
     requires { n.written ≤ length output.old }
     ensures output_after { (a : Own) (s i : List ℤ) → seen_d result a s i output.new ≡ told (trace_of n output.old) (on_channel q v (writing q (three_of e) (data_of n a s i output.old))) }
     ensures sound_o { (s : List ℤ) → Sound n s → SoundO result s output.old output.new }
 {
     match line(v) {
         Line::One => put_out(n, output, q, e),
-        Line::Other => Did::Bad(Answer::CHANNEL, q),
-        Line::Not => Did::Stray,
+        Line::Other => Err(Trouble::Fault(Answer::CHANNEL, q)),
+        Line::Not => Err(Trouble::Stray),
     }
 }
 
 // outinteger and outreal, by the type of what they write.
-pub fn send(n: Counts, store: &[i64], output: &mut [i32], q: usize, form: Form) -> Did
+pub fn send(
+    n: Counts,
+    store: &[i64],
+    output: &mut [i32],
+    q: usize,
+    form: Form,
+) -> Result<Counts, Trouble>
     requires { Sound n store.now × (n.written ≤ length output.old) }
     ensures output_after { (a : Own) (i : List ℤ) → seen_d result a store.now i output.new ≡ told (trace_of n output.old) (work (Act.send q form) (data_of n a store.now i output.old)) }
     ensures sound_o { SoundO result store.now output.old output.new }
 {
-    match newest_two(n, store) {
-        Pair::Nothing => Did::Stray,
-        Pair::Values(k, v, m) => match entry_of(form, v) {
-            Entered::Is(e) => speak(m, output, q, k, e),
-            Entered::Not => Did::Stray,
-        },
-    }
+    let (k, v, m) = newest_two(n, store).ok_or(Trouble::Stray)?;
+    let e = entry_of(form, v).ok_or(Trouble::Stray)?;
+    speak(m, output, q, k, e)
 }

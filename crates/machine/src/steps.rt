@@ -13,7 +13,7 @@ use crate::cells::is_plain;
 use crate::control::stray;
 use crate::operands::{FOUND_OFFSET, high, low, mid};
 use crate::{
-    Counts, Did, Outcome, Ran, Typed, Way, activations, blocks, bounds, codes, control, loops,
+    Counts, Outcome, Ran, Trouble, Way, activations, blocks, bounds, codes, control, loops,
     operations, ports, quick, values,
 };
 use answers::{Address, Refusal, Stop};
@@ -83,7 +83,7 @@ fn work(
     store: &mut [i64],
     output: &mut [i32],
     own: &Memory,
-) -> Did
+) -> Result<Counts, Trouble>
     requires { Sound n store.old × (n.written ≤ length output.old) × (o_const ≤ k) × (k < o_name) × (w.links ≤ most_links) × (k ≡ o_result → ⊥) }
     ensures output_after { (a : Own) → seen_d result a store.new input.now output.new ≡ told (trace_of n output.old) (workOf (act_of k q (way_of own.now w) v) (data_of n a store.old input.now output.old)) }
     ensures sound_o { SoundO result store.new output.old output.new }
@@ -285,8 +285,8 @@ fn result(
     ensures sound_g { (o : List ℤ) → n.written ≤ length o → SoundG result store.new own.now o o }
 {
     match values::typed(low(v as usize)) {
-        Typed::Not => stray(at),
-        Typed::Is(form) => {
+        None => stray(at),
+        Some(form) => {
             if lacks(own, live, n, 0) {
                 return stray(at);
             }
@@ -315,8 +315,8 @@ fn turn(
     ensures sound_g { (o : List ℤ) → n.written ≤ length o → SoundG result store.new own.now o o }
 {
     match values::typed(low(v as usize)) {
-        Typed::Not => stray(at),
-        Typed::Is(form) => {
+        None => stray(at),
+        Some(form) => {
             if lacks(own, live, n, 1) {
                 return stray(at);
             }

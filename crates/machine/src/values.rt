@@ -7,7 +7,7 @@ ghost use Rattle.std.specs.Int.{w32};
 ghost use Rattle.std.proofs.Common.{of_z};
 ghost use Rattle.machine.specs.model.Holding.{line_of, typed_of, raised_of};
 
-use crate::{Line, Typed, codes};
+use crate::{Line, codes};
 use reals::words::{long_word, real_of};
 use reals::{Binary, Form, Outcome, Unary, Value};
 
@@ -46,15 +46,15 @@ pub fn binary_of(k: u32) -> Binary
     }
 }
 
-// The type of a number.
-pub fn typed(n: usize) -> Typed
+// The type of a number, if it is a type's.
+pub fn typed(n: usize) -> Option<Form>
     ensures { result ≡ typed_of n }
 {
     match n {
-        0 => Typed::Is(Form::Wholes),
-        1 => Typed::Is(Form::Reals),
-        2 => Typed::Is(Form::Truths),
-        _ => Typed::Not,
+        0 => Some(Form::Wholes),
+        1 => Some(Form::Reals),
+        2 => Some(Form::Truths),
+        _ => None,
     }
 }
 
@@ -79,8 +79,7 @@ pub fn is_number(form: Form) -> bool
     ensures { result ≡ arithmetic form }
 {
     match form {
-        Form::Wholes => true,
-        Form::Reals => true,
+        Form::Wholes | Form::Reals => true,
         Form::Truths => false,
     }
 }

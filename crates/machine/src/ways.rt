@@ -4,21 +4,21 @@ ghost use Rattle.machine.specs.Limits.{most_links};
 ghost use Rattle.machine.specs.Data.{suits as suitsOf, form_in};
 ghost use Rattle.machine.specs.model.Holding.{turned as turnedOf, all_suit, out_t, in_t, read_t, reach_t, links_of};
 
+use crate::Trouble;
 use crate::activations::{Memory, link_form, link_place};
 use crate::values::suits;
-use crate::{Turned, Typed};
 use answers::Answer;
 use reals::conversions::{convert, form_of};
 use reals::{Cell, Form, Outcome, Value};
 
 // A conversion's value, or its fault at q.
-fn turned(q: usize, r: Outcome) -> Turned
+fn turned(q: usize, r: Outcome) -> Result<Value, Trouble>
     ensures { result ≡ turnedOf q r }
 {
     match r {
-        Outcome::Is(v) => Turned::Is(v),
-        Outcome::Fault(a) => Turned::Bad(a, q),
-        Outcome::Stray => Turned::Stray,
+        Outcome::Is(v) => Ok(v),
+        Outcome::Fault(a) => Err(Trouble::Fault(a, q)),
+        Outcome::Stray => Err(Trouble::Stray),
     }
 }
 
@@ -27,9 +27,7 @@ fn along(own: &Memory, form: Form, k: usize) -> bool
     requires { k ≤ most_links }
     ensures { result ≡ all_suit form (links_of own.now k) }
 {
-    let mut j = k;
-    while j > 0 {
-        j -= 1;
+    for j in (0..k).rev() {
         if !suits(form, link_form(own, j)) {
             return false;
         }
@@ -38,41 +36,25 @@ fn along(own: &Memory, form: Form, k: usize) -> bool
 }
 
 // A value read, through k formals: the innermost is the first.
-fn outward(own: &Memory, k: usize, v: Value) -> Turned
+fn outward(own: &Memory, k: usize, v: Value) -> Result<Value, Trouble>
     requires { k ≤ most_links }
     ensures { result ≡ out_t (links_of own.now k) v }
 {
     let mut u = v;
-    let mut j = 0;
-    while j < k {
-        match convert(link_form(own, j), u) {
-            Outcome::Is(w) => {
-                u = w;
-            }
-            Outcome::Fault(a) => return Turned::Bad(a, link_place(own, j) as usize),
-            Outcome::Stray => return Turned::Stray,
-        }
-        j += 1;
+    for j in 0..k {
+        u = turned(link_place(own, j) as usize, convert(link_form(own, j), u))?;
     }
-    Turned::Is(u)
+    Ok(u)
 }
 
 // A value stored at q in a cell of the type, through k formals: the outermost is the last.
-pub fn inward(own: &Memory, k: usize, q: usize, form: Form, v: Value) -> Turned
+pub fn inward(own: &Memory, k: usize, q: usize, form: Form, v: Value) -> Result<Value, Trouble>
     requires { k ≤ most_links }
     ensures { result ≡ in_t q form (links_of own.now k) v }
 {
     let mut u = v;
-    let mut j = k;
-    while j > 0 {
-        j -= 1;
-        match convert(link_form(own, j), u) {
-            Outcome::Is(w) => {
-                u = w;
-            }
-            Outcome::Fault(a) => return Turned::Bad(a, q),
-            Outcome::Stray => return Turned::Stray,
-        }
+    for j in (0..k).rev() {
+        u = turned(q, convert(link_form(own, j), u))?;
     }
     turned(q, convert(form, u))
 }
@@ -93,14 +75,11 @@ fn reaches(own: &Memory, k: usize, form: Form, other: Form) -> bool
     requires { k ≤ most_links }
     ensures { result ≡ (suitsOf form other && all_suit form (links_of own.now k)) }
 {
-    if suits(form, other) {
-        return along(own, form, k);
-    }
-    false
+    suits(form, other) && along(own, form, k)
 }
 
 // What a read at q of a cell gives, which is to be of the type's kind.
-pub fn reading(own: &Memory, k: usize, q: usize, form: Form, x: Cell) -> Turned
+pub fn reading(own: &Memory, k: usize, q: usize, form: Form, x: Cell) -> Result<Value, Trouble>
     requires { k ≤ most_links }
     ensures { result ≡ read_t form q (links_of own.now k) x }
 {
@@ -109,20 +88,20 @@ pub fn reading(own: &Memory, k: usize, q: usize, form: Form, x: Cell) -> Turned
             if reaches(own, k, form, form_of(v)) {
                 return outward(own, k, v);
             }
-            Turned::Stray
+            Err(Trouble::Stray)
         }
         Cell::Unset(t) => {
             if reaches(own, k, form, t) {
-                return Turned::Bad(Answer::UNASSIGNED, q);
+                return Err(Trouble::Fault(Answer::UNASSIGNED, q));
             }
-            Turned::Stray
+            Err(Trouble::Stray)
         }
-        Cell::Named(_) => Turned::Stray,
+        Cell::Named(_) => Err(Trouble::Stray),
     }
 }
 
-// The type of a cell that values of the other type reach.
-pub fn reach(own: &Memory, k: usize, form: Form, x: Cell) -> Typed
+// The type of a cell, if values of the other type reach it.
+pub fn reach(own: &Memory, k: usize, form: Form, x: Cell) -> Option<Form>
     requires { k ≤ most_links }
     ensures { result ≡ reach_t form (links_of own.now k) x }
 {
@@ -130,16 +109,16 @@ pub fn reach(own: &Memory, k: usize, form: Form, x: Cell) -> Typed
         Cell::Holds(v) => {
             let t = form_of(v);
             if reaches(own, k, form, t) {
-                return Typed::Is(t);
+                return Some(t);
             }
-            Typed::Not
+            None
         }
         Cell::Unset(t) => {
             if reaches(own, k, form, t) {
-                return Typed::Is(t);
+                return Some(t);
             }
-            Typed::Not
+            None
         }
-        Cell::Named(_) => Typed::Not,
+        Cell::Named(_) => None,
     }
 }

@@ -31,8 +31,9 @@ use Rattle.reals.specs.declared.Binary.TheVariants.{Plus, Less, Times, Over, Div
 use Rattle.reals.specs.declared.Cell.{Cell}
 use Rattle.reals.specs.declared.Cell.TheVariants.{Unset, Holds, Named}
 use Rattle.reals.specs.Values.{form_of, finite_b, same, is_zero, nought, half, whole, real, whole_of, entier, convert, apply1, both_of, on_numbers, on_truths, cut, quotient, apply2, past_by, leaves}
-use Rattle.machine.specs.declared.Turned.{Turned}
-use Rattle.machine.specs.declared.Turned.TheVariants.{Is as Turned1, Bad as BadV, Stray as StrayV}
+use Rattle.std.specs.Prelude.{Result as Returned, Ok, Err}
+use Rattle.machine.specs.declared.Trouble.{Trouble}
+use Rattle.machine.specs.declared.Trouble.TheVariants.{Fault as Bad, Stray as Astray}
 use Rattle.machine.specs.Run.{Event, quiet, took, Trace, Out, halt, next, after, run}
 use Rattle.machine.specs.Data.{Link, link, Target, to, Data, contents, cells, joined, arithmetic, Result, bad, wrong, good, lift, guard, check, new_cells, newest, on_value, one, two, back, look, plain, form_in, put, reading, valued, suits, reaching, outward, saving, hold, unhold, held, input, space, rest, taking, written, writing, on_channel, heightened, picking, cell_of, form_at, Act, push, heighten, load, store, assign, reserve, forget, receive, send, keep, unary, binary, lend, channel as tested, sum as added, turn, act_on, work, downs, Two, Test, condition, upto, test_on, test, downs_t, Counted, in_all, open_block, close_block, name_cell, enter, seeking, Fate, kept, gone, stored, given, leave, Lent}
 use Rattle.machine.specs.Instructions.{Location, Instruction, END, DO, IF, JUMP, ENTER, LEAVE, CALL, RETURN, GO, NEXT, NAME, WORK, SEEK, PASS, REFUSE, fetch}
@@ -223,18 +224,18 @@ strays (Fault a) = false
 strays Stray = true
 
 -- a conversion on the way has a fault
-abbrev ill : Turned → Bool
-ill (Turned1 v) = false
-ill (BadV a q) = true
-ill StrayV = false
+abbrev ill : Returned Value Trouble → Bool
+ill (Ok v) = false
+ill (Err (Bad a q)) = true
+ill (Err Astray) = false
 
 -- what it has become has one
-abbrev then_ill : (Value → Bool) → Turned → Bool
-then_ill f (Turned1 v) = f v
-then_ill f (BadV a q) = false
-then_ill f StrayV = false
+abbrev then_ill : (Value → Bool) → Returned Value Trouble → Bool
+then_ill f (Ok v) = f v
+then_ill f (Err (Bad a q)) = false
+then_ill f (Err Astray) = false
 
-abbrev first_ill : (ℤ → Turned) → List ℤ → Bool
+abbrev first_ill : (ℤ → Returned Value Trouble) → List ℤ → Bool
 first_ill f [] = false
 first_ill f (z ∷ i) = ill (f z)
 
@@ -532,21 +533,21 @@ module _ {A : Type 0} where
 
 -- ---- conversions: of values of one kind there is a value, or 21
 
-abbrev Ranged : Turned → Type 0
-Ranged (Turned1 v) = Unit {0}
-Ranged (BadV a q) = a.number ≡ range
-Ranged StrayV = ⊥
+abbrev Ranged : Returned Value Trouble → Type 0
+Ranged (Ok v) = Unit {0}
+Ranged (Err (Bad a q)) = a.number ≡ range
+Ranged (Err Astray) = ⊥
 
 -- .. and the value is of the kind of t
-abbrev Kind : Form → Turned → Type 0
-Kind t (Turned1 v) = suits t (form_of v) ≡ true
-Kind t (BadV a q) = a.number ≡ range
-Kind t StrayV = ⊥
+abbrev Kind : Form → Returned Value Trouble → Type 0
+Kind t (Ok v) = suits t (form_of v) ≡ true
+Kind t (Err (Bad a q)) = a.number ≡ range
+Kind t (Err Astray) = ⊥
 
-kind_ranged : (t : Form) (x : Turned) → Kind t x → Ranged x
-kind_ranged t (Turned1 v) h = tt
-kind_ranged t (BadV a q) h = h
-kind_ranged t StrayV h = h
+kind_ranged : (t : Form) (x : Returned Value Trouble) → Kind t x → Ranged x
+kind_ranged t (Ok v) h = tt
+kind_ranged t (Err (Bad a q)) h = h
+kind_ranged t (Err Astray) h = h
 
 never_both : (b : Bool) → beq b true ≡ true → beq b false ≡ true → ⊥
 never_both true g h = absurd (false≢true h)
@@ -589,17 +590,17 @@ both_second false b e = absurd (false≢true e)
 reach_second : (t : Form) (c : ℕ) (l : List Link) (d : Data) → reachable t (to c l) d ≡ true → (plain (look c d) && (suits t (form_in (look c d)) && all_suit t l)) ≡ true
 reach_second t c l d g = both_second (ltb c (cells d)) (plain (look c d) && (suits t (form_in (look c d)) && all_suit t l)) g
 
-on_kind : (t u : Form) (q : ℕ) (x : Turned) → Kind t x → suits t u ≡ true → Kind t (onward u q x)
-on_kind t u q (Turned1 v) k h = conv_kind t u q v k h
-on_kind t u q (BadV a p) k h = k
-on_kind t u q StrayV k h = k
+on_kind : (t u : Form) (q : ℕ) (x : Returned Value Trouble) → Kind t x → suits t u ≡ true → Kind t (onward u q x)
+on_kind t u q (Ok v) k h = conv_kind t u q v k h
+on_kind t u q (Err (Bad a p)) k h = k
+on_kind t u q (Err Astray) k h = k
 
 out_kind : (t : Form) (l : List Link) (v : Value) → suits t (form_of v) ≡ true → all_suit t l ≡ true → Kind t (out_t l v)
 unfolding out_t all_suit
 out_kind t [] v g h = g
 out_kind t (link u q ∷ l) v g h = on_kind t u q (out_t l v) (out_kind t l v g (both_second (suits t u) (all_suit t l) h)) (both_first (suits t u) (all_suit t l) h)
 
-in_on : (t : Form) (q : ℕ) (f : Value → Turned) (x : Outcome) → Kind t (turned q x) → ((v : Value) → suits t (form_of v) ≡ true → Ranged (f v)) → Ranged (inwards f q x)
+in_on : (t : Form) (q : ℕ) (f : Value → Returned Value Trouble) (x : Outcome) → Kind t (turned q x) → ((v : Value) → suits t (form_of v) ≡ true → Ranged (f v)) → Ranged (inwards f q x)
 in_on t q f (Is v) k h = h v k
 in_on t q f (Fault a) k h = k
 in_on t q f Stray k h = k
@@ -614,21 +615,21 @@ in_kind t q u (link w p ∷ l) v g h k =
 -- ---- what is done with them
 
 module _ {A : Type 0} where
-  stores : (e : Event) (f : Value → A) (x : Turned) → Ranged x → told (on_turned (λ u. good e (f u)) x) ≡ given_out ((range, ill x) ∷ [])
+  stores : (e : Event) (f : Value → A) (x : Returned Value Trouble) → Ranged x → told (on_turned (λ u. good e (f u)) x) ≡ given_out ((range, ill x) ∷ [])
   unfolding given_out
-  stores e f (Turned1 v) h = refl
-  stores e f (BadV a q) h = rw h
-  stores e f StrayV h = absurd h
+  stores e f (Ok v) h = refl
+  stores e f (Err (Bad a q)) h = rw h
+  stores e f (Err Astray) h = absurd h
 
   -- a cell is read: what follows asks for l, and finds the value to be of the kind
   module _ (t : Form) (q : ℕ) (l : List Link) (f : Value → Result A) (g : Value → Bool) (x : Dues) where
-    reads_on : (y : Turned) → Kind t y
+    reads_on : (y : Returned Value Trouble) → Kind t y
         → given_out ((range, true) ∷ (range, false) ∷ (unassigned, false) ∷ x) ≡ some range
         → ((u : Value) → suits t (form_of u) ≡ true → told (f u) ≡ given_out ((range, false) ∷ (range, g u) ∷ (unassigned, false) ∷ x))
         → told (on_turned f y) ≡ given_out ((range, ill y) ∷ (range, then_ill g y) ∷ (unassigned, false) ∷ x)
-    reads_on (Turned1 u) k a e = e u k
-    reads_on (BadV b p) k a e = rw k (sym a)
-    reads_on StrayV k a e = absurd k
+    reads_on (Ok u) k a e = e u k
+    reads_on (Err (Bad b p)) k a e = rw k (sym a)
+    reads_on (Err Astray) k a e = absurd k
 
     reads : (c : Cell) → (plain c && (suits t (form_in c) && all_suit t l)) ≡ true
         → given_out ((range, true) ∷ (range, false) ∷ (unassigned, false) ∷ x) ≡ some range
@@ -643,11 +644,11 @@ module _ {A : Type 0} where
     reads (Named m) h a b e = absurd (false≢true h)
 
     -- .. and where that is all that is asked of the value
-    plain_on : (y : Turned) → Kind t y → given_out ((range, true) ∷ (unassigned, false) ∷ x) ≡ some range → given_out ((range, false) ∷ (unassigned, false) ∷ x) ≡ given_out x
+    plain_on : (y : Returned Value Trouble) → Kind t y → given_out ((range, true) ∷ (unassigned, false) ∷ x) ≡ some range → given_out ((range, false) ∷ (unassigned, false) ∷ x) ≡ given_out x
         → ((u : Value) → suits t (form_of u) ≡ true → told (f u) ≡ given_out x) → told (on_turned f y) ≡ given_out ((range, ill y) ∷ (unassigned, false) ∷ x)
-    plain_on (Turned1 u) k a n e = e u k ∙ sym n
-    plain_on (BadV b p) k a n e = rw k (sym a)
-    plain_on StrayV k a n e = absurd k
+    plain_on (Ok u) k a n e = e u k ∙ sym n
+    plain_on (Err (Bad b p)) k a n e = rw k (sym a)
+    plain_on (Err Astray) k a n e = absurd k
 
     reads_plain : (c : Cell) → (plain c && (suits t (form_in c) && all_suit t l)) ≡ true
         → given_out ((range, true) ∷ (unassigned, false) ∷ x) ≡ some range → given_out ((range, false) ∷ (unassigned, true) ∷ x) ≡ some unassigned → given_out ((range, false) ∷ (unassigned, false) ∷ x) ≡ given_out x

@@ -4,6 +4,7 @@ use native.Mathlib.Omega.{arith}
 use Rattle.machine.proofs.Works.{assign_none, assign_out, assign_not, assign_is}
 use Rattle.machine.proofs.Turns.{reach_as, reach_form}
 use Rattle.machine.proofs.Kept.{cell_in, cell_out, look_data, saw, saw_none, used_sound, used_room, used_trace, used_did, used_fits}
+use Rattle.machine.proofs.Exits.{taken, none_exit}
 use Rattle.machine.proofs.operations.assign.Goals as goal
 
 pub newest-requires : goal.newest-requires
@@ -12,27 +13,29 @@ newest-requires c = c.requires.0
 pub returns-then-c-m : goal.returns-then-c-m
 returns-then-c-m c =
     let args = c.args in
-    record { does = λ a i o. assign_out _ _ args.q args.c _ (saw args.n a args.store.now i o c.in-Value.is (c.newest.ensures.o_value a i o)) (cell_out c.in-Value.m a args.store.now i o args.c c.if-c-m.true); sound_d = tt }
+    record { does = λ a i o. assign_out _ _ args.q args.c _ (saw args.n a args.store.now i o (taken c.newest.result c.ok_or.ensures.value c.in_ok-v.was) (c.newest.ensures.o_value a i o)) (cell_out c.in_ok-v.m a args.store.now i o args.c c.if-c-m.true); sound_d = tt }
 
 pub cell_at-requires : goal.cell_at-requires
-cell_at-requires c = omega (arith, c.if-c-m.false, (used_room c.args.n c.in-Value.is c.newest.ensures.used_in c.requires.0))
+cell_at-requires c = omega (arith, c.if-c-m.false, (used_room c.args.n (taken c.newest.result c.ok_or.ensures.value c.in_ok-v.was) c.newest.ensures.used_in c.requires.0))
 
 pub assign_through-requires : goal.assign_through-requires
 assign_through-requires c =
     let args = c.args in
-    ((used_sound args.n c.in-Value.is c.newest.ensures.used_in c.requires.0), c.if-c-m.false, c.requires.1, (used_fits args.n c.in-Value.is c.newest.ensures.used_in), (used_room args.n c.in-Value.is c.newest.ensures.used_in c.requires.0))
+    ((used_sound args.n (taken c.newest.result c.ok_or.ensures.value c.in_ok-v.was) c.newest.ensures.used_in c.requires.0), c.if-c-m.false, c.requires.1, (used_fits args.n (taken c.newest.result c.ok_or.ensures.value c.in_ok-v.was) c.newest.ensures.used_in), (used_room args.n (taken c.newest.result c.ok_or.ensures.value c.in_ok-v.was) c.newest.ensures.used_in c.requires.0))
 
-pub returns-in-Nothing : goal.returns-in-Nothing
-returns-in-Nothing c =
+pub returns-in_err-v : goal.returns-in_err-v
+returns-in_err-v c =
     let args = c.args in
-    record { does = λ a i o. assign_none _ _ args.q args.c _ (saw_none args.n a args.store.now i o c.in-Nothing.is (c.newest.ensures.o_value a i o)); sound_d = tt }
+    let k = none_exit c.newest.result c.ok_or.ensures.value c.in_err-v.was c.from_residual.ensures.1 in
+    rw k.1 (record { does = λ a i o. assign_none _ _ args.q args.c _ (saw_none args.n a args.store.now i o k.0 (c.newest.ensures.o_value a i o)); sound_d = tt })
 
-pub returns-in-Is : goal.returns-in-Is
-returns-in-Is c =
+pub returns : goal.returns
+returns c =
     let args = c.args in
-    record { does = λ a i o. c.assign_through.ensures.o_after a i o ∙ assign_is _ _ args.q args.c _ (saw args.n a args.store.now i o c.in-Value.is (c.newest.ensures.o_value a i o)) (cell_in c.in-Value.m a args.store.now i o args.c c.if-c-m.false) (look_data c.in-Value.m a args.store.now i o args.c c.if-c-m.false) (reach_as _ c.reach.ensures c.form_of.ensures c.cell_at.ensures c.in-Is.is) (reach_form _ _ _ (reach_as _ c.reach.ensures c.form_of.ensures c.cell_at.ensures c.in-Is.is)) (used_trace args.n c.in-Value.is c.newest.ensures.used_in o); sound_d = used_did args.n c.in-Value.is c.newest.ensures.used_in c.assign_through.result c.assign_through.new.store c.assign_through.ensures.sound_d }
+    record { does = λ a i o. c.assign_through.ensures.o_after a i o ∙ assign_is _ _ args.q args.c _ (saw args.n a args.store.now i o (taken c.newest.result c.ok_or.ensures.value c.in_ok-v.was) (c.newest.ensures.o_value a i o)) (cell_in c.in_ok-v.m a args.store.now i o args.c c.if-c-m.false) (look_data c.in_ok-v.m a args.store.now i o args.c c.if-c-m.false) (reach_as _ c.reach.ensures c.form_of.ensures c.cell_at.ensures (taken c.reach.result c.ok_or-2.ensures.value c.in_ok-form.was)) (reach_form _ _ _ (reach_as _ c.reach.ensures c.form_of.ensures c.cell_at.ensures (taken c.reach.result c.ok_or-2.ensures.value c.in_ok-form.was))) (used_trace args.n (taken c.newest.result c.ok_or.ensures.value c.in_ok-v.was) c.newest.ensures.used_in o); sound_d = used_did args.n (taken c.newest.result c.ok_or.ensures.value c.in_ok-v.was) c.newest.ensures.used_in c.assign_through.result c.assign_through.new.store c.assign_through.ensures.sound_d }
 
-pub returns-in-Not : goal.returns-in-Not
-returns-in-Not c =
+pub returns-in_err-form : goal.returns-in_err-form
+returns-in_err-form c =
     let args = c.args in
-    record { does = λ a i o. assign_not _ _ args.q args.c _ (saw args.n a args.store.now i o c.in-Value.is (c.newest.ensures.o_value a i o)) (cell_in c.in-Value.m a args.store.now i o args.c c.if-c-m.false) (look_data c.in-Value.m a args.store.now i o args.c c.if-c-m.false) (reach_as _ c.reach.ensures c.form_of.ensures c.cell_at.ensures c.in-Not.is); sound_d = tt }
+    let k = none_exit c.reach.result c.ok_or-2.ensures.value c.in_err-form.was c.from_residual-in_err-form.ensures.1 in
+    rw k.1 (record { does = λ a i o. assign_not _ _ args.q args.c _ (saw args.n a args.store.now i o (taken c.newest.result c.ok_or.ensures.value c.in_ok-v.was) (c.newest.ensures.o_value a i o)) (cell_in c.in_ok-v.m a args.store.now i o args.c c.if-c-m.false) (look_data c.in_ok-v.m a args.store.now i o args.c c.if-c-m.false) (reach_as _ c.reach.ensures c.form_of.ensures c.cell_at.ensures k.0); sound_d = tt })

@@ -1,23 +1,27 @@
 -- A logical value decides.
-use Rattle.machine.proofs.Works.{condition_none, condition_no, condition_yes, condition_whole, condition_real}
+use Rattle.machine.proofs.Works.{condition_none, condition_whole, condition_real}
 use Rattle.machine.proofs.Kept.{saw, saw_none, used_sound, used_trace, used_written}
+use Rattle.machine.proofs.Exits.{taken, none_exit, chosen_sound, condition_is}
+use mathlib.Core.Logic.{⊎_elim}
 use Rattle.machine.proofs.operations.condition.Goals as goal
 
-pub returns-then-b : goal.returns-then-b
-returns-then-b c =
-    let args = c.args in
-    record { tests = λ a i o. condition_yes _ _ (saw args.n a args.store.now i o c.in-Value.is (c.newest.ensures.o_value a i o)) (used_trace args.n c.in-Value.is c.newest.ensures.used_in o) c.in-Truth.is c.if-b.true; sound_t = ((used_sound args.n c.in-Value.is c.newest.ensures.used_in c.requires), used_written args.n c.in-Value.is c.newest.ensures.used_in) }
+pub returns-in_err-v : goal.returns-in_err-v
+returns-in_err-v c =
+    let k = none_exit c.newest.result c.ok_or.ensures.value c.in_err-v.was c.from_residual.ensures.1 in
+    rw k.1 (record { tests = λ a i o. condition_none _ _ (saw_none c.args.n a c.args.store.now i o k.0 (c.newest.ensures.o_value a i o)); sound_t = tt })
 
-pub returns-in-Nothing : goal.returns-in-Nothing
-returns-in-Nothing c = record { tests = λ a i o. condition_none _ _ (saw_none c.args.n a c.args.store.now i o c.in-Nothing.is (c.newest.ensures.o_value a i o)); sound_t = tt }
-
-pub returns-else-b : goal.returns-else-b
-returns-else-b c =
+pub returns-in-Truth : goal.returns-in-Truth
+returns-in-Truth c =
     let args = c.args in
-    record { tests = λ a i o. condition_no _ _ (saw args.n a args.store.now i o c.in-Value.is (c.newest.ensures.o_value a i o)) (used_trace args.n c.in-Value.is c.newest.ensures.used_in o) c.in-Truth.is c.if-b.false; sound_t = ((used_sound args.n c.in-Value.is c.newest.ensures.used_in c.requires), used_written args.n c.in-Value.is c.newest.ensures.used_in) }
+    let e = taken c.newest.result c.ok_or.ensures.value c.in_ok-v.was in
+    let u = c.newest.ensures.used_in in
+    record { tests = λ a i o. condition_is _ c.in_ok-v.m a args.store.now i o (saw args.n a args.store.now i o e (c.newest.ensures.o_value a i o)) (used_trace args.n e u o) c.in-Truth.is; sound_t = chosen_sound args.n c.in-Truth.b c.in_ok-v.m args.store.now ((used_sound args.n e u c.requires), used_written args.n e u) }
 
 pub returns-in-Whole : goal.returns-in-Whole
-returns-in-Whole c = record { tests = λ a i o. condition_whole _ _ (saw c.args.n a c.args.store.now i o c.in-Value.is (c.newest.ensures.o_value a i o)) c.in-Whole.is; sound_t = tt }
-
-pub returns-in-Real : goal.returns-in-Real
-returns-in-Real c = record { tests = λ a i o. condition_real _ _ (saw c.args.n a c.args.store.now i o c.in-Value.is (c.newest.ensures.o_value a i o)) c.in-Real.is; sound_t = tt }
+returns-in-Whole c =
+    let args = c.args in
+    let e = taken c.newest.result c.ok_or.ensures.value c.in_ok-v.was in
+    ⊎_elim
+    (λ p. record { tests = λ a i o. condition_whole _ _ (saw args.n a args.store.now i o e (c.newest.ensures.o_value a i o)) p.1; sound_t = tt })
+    (λ p. record { tests = λ a i o. condition_real _ _ (saw args.n a args.store.now i o e (c.newest.ensures.o_value a i o)) p.1; sound_t = tt })
+    c.in-Whole.is

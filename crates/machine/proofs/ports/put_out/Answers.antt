@@ -26,14 +26,14 @@ returns-then-output-w-lt-ENTRY_NUMBERS c =
 pub bounds-output-w : goal.bounds-output-w
 bounds-output-w c = omega (arith, c.if-output-w-lt-ENTRY_NUMBERS.false, c.requires)
 
-pub overflow_add-second : goal.overflow_add-second
-overflow_add-second c = omega (arith, c.if-output-w-lt-ENTRY_NUMBERS.false, c.requires)
+pub overflow_add-w : goal.overflow_add-w
+overflow_add-w c = omega (arith, c.if-output-w-lt-ENTRY_NUMBERS.false, c.requires)
 
 pub bounds-output-w-2 : goal.bounds-output-w-2
 bounds-output-w-2 c = simp length-set (omega (arith, c.if-output-w-lt-ENTRY_NUMBERS.false, c.requires))
 
-pub overflow_add-third : goal.overflow_add-third
-overflow_add-third c = omega (arith, c.if-output-w-lt-ENTRY_NUMBERS.false, c.requires)
+pub overflow_add-w-2 : goal.overflow_add-w-2
+overflow_add-w-2 c = omega (arith, c.if-output-w-lt-ENTRY_NUMBERS.false, c.requires)
 
 pub bounds-output-w-3 : goal.bounds-output-w-3
 bounds-output-w-3 c = simp length-set (omega (arith, c.if-output-w-lt-ENTRY_NUMBERS.false, c.requires))

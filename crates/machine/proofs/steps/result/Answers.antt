@@ -14,17 +14,17 @@ lacks-requires c = (c.requires.1.many, omega arith)
 pub returns-then-lacks : goal.returns-then-lacks
 returns-then-lacks c =
     let args = c.args in
-    record { o_after = λ i o. strayed c.stray-then-lacks.ensures _ _ i o ∙ do_stray _ args.at _ _ _ (reserve args.q c.in-Is.form) (lacks_yes (c.lacks.ensures args.store.now i o) c.if-lacks.true) ∙ obeyed _ args.at _ _ _ (form_is (low args.v) (λ t. DO (reserve args.q t)) (c.typed.ensures ∙ ap typed_of c.low.ensures) c.in-Is.is); sound_g = λ o h. strayed_sound c.stray-then-lacks.ensures _ _ o o refl }
+    record { o_after = λ i o. strayed c.stray-then-lacks.ensures _ _ i o ∙ do_stray _ args.at _ _ _ (reserve args.q c.in-Some.form) (lacks_yes (c.lacks.ensures args.store.now i o) c.if-lacks.true) ∙ obeyed _ args.at _ _ _ (form_is (low args.v) (λ t. DO (reserve args.q t)) (c.typed.ensures ∙ ap typed_of c.low.ensures) c.in-Some.is); sound_g = λ o h. strayed_sound c.stray-then-lacks.ensures _ _ o o refl }
 
 pub new_cell-requires : goal.new_cell-requires
 new_cell-requires c = (c.requires.0, tt)
 
-pub returns-in-Not : goal.returns-in-Not
-returns-in-Not c =
+pub returns-in-None : goal.returns-in-None
+returns-in-None c =
     let args = c.args in
-    record { o_after = λ i o. strayed c.stray.ensures _ _ i o ∙ obeyed_none _ args.at _ _ _ (form_not (low args.v) (λ t. DO (reserve args.q t)) (c.typed.ensures ∙ ap typed_of c.low.ensures) c.in-Not.is); sound_g = λ o h. strayed_sound c.stray.ensures _ _ o o refl }
+    record { o_after = λ i o. strayed c.stray.ensures _ _ i o ∙ obeyed_none _ args.at _ _ _ (form_not (low args.v) (λ t. DO (reserve args.q t)) (c.typed.ensures ∙ ap typed_of c.low.ensures) c.in-None.is); sound_g = λ o h. strayed_sound c.stray.ensures _ _ o o refl }
 
 pub returns-else-lacks : goal.returns-else-lacks
 returns-else-lacks c =
     let args = c.args in
-    record { o_after = λ i o. c.lift.ensures.o_value c.new_cell.new.store i o args.own.now ∙ ap (lifted _ _) (c.new_cell.ensures.o_after (own_of args.own.now args.live) i o) ∙ ap (lifted _ _) (reserve_is _ _ args.q c.in-Is.form) ∙ plain_done _ args.at _ _ _ (reserve args.q c.in-Is.form) (lacks_no (c.lacks.ensures args.store.now i o) c.if-lacks.false) refl ∙ obeyed _ args.at _ _ _ (form_is (low args.v) (λ t. DO (reserve args.q t)) (c.typed.ensures ∙ ap typed_of c.low.ensures) c.in-Is.is); sound_g = λ o h. c.lift.ensures.sound_g c.new_cell.new.store o o args.own.now (did_quiet args.n c.new_cell.result c.new_cell.new.store o c.new_cell.ensures.sound_d h) c.requires.1 }
+    record { o_after = λ i o. c.lift.ensures.o_value c.new_cell.new.store i o args.own.now ∙ ap (lifted _ _) (c.new_cell.ensures.o_after (own_of args.own.now args.live) i o) ∙ ap (lifted _ _) (reserve_is _ _ args.q c.in-Some.form) ∙ plain_done _ args.at _ _ _ (reserve args.q c.in-Some.form) (lacks_no (c.lacks.ensures args.store.now i o) c.if-lacks.false) refl ∙ obeyed _ args.at _ _ _ (form_is (low args.v) (λ t. DO (reserve args.q t)) (c.typed.ensures ∙ ap typed_of c.low.ensures) c.in-Some.is); sound_g = λ o h. c.lift.ensures.sound_g c.new_cell.new.store o o args.own.now (did_quiet args.n c.new_cell.result c.new_cell.new.store o c.new_cell.ensures.sound_d h) c.requires.1 }

@@ -1,34 +1,24 @@
 -- So many formals are left to pass.
-use mathlib.Core.Path.{refl, sym, ap, ◌∙◌}
-use native.Mathlib.Omega.{arith}
-use Rattle.machine.specs.model.Holding.{inwards, turned}
+use mathlib.Core.Path.{sym, ap, ◌∙◌}
+use Rattle.machine.specs.model.Holding.{inwards, turned, in_t, links_of}
 use Rattle.machine.proofs.Turns.{in_more, in_none}
 use Rattle.reals.specs.Values.{convert}
 use Rattle.reals.specs.declared.Form.{Form}
+use Rattle.machine.proofs.Exits.{inwards_ok, inwards_err, err_exit}
+use Prim.Native.Nat.{◌-◌}
 use Rattle.machine.proofs.ways.inward.Goals as goal
-
-pub loop-j-init : goal.loop-j-init
-loop-j-init c = (omega arith, refl)
-
-pub link_form-requires : goal.link_form-requires
-link_form-requires c = omega (arith, c.loop-j.invariant.0, c.requires, c.loop-j-test.true)
 
 pub loop-j-preserved : goal.loop-j-preserved
 loop-j-preserved c =
     let args = c.args in
-    (omega (arith, c.loop-j.invariant.0), ap (inwards _ args.q) (sym c.in-Is.is ∙ c.convert.ensures ∙ ap (λ (f : Form). convert f c.loop-j.u) c.link_form.ensures) ∙ sym (in_more args.own.now args.q args.form c.loop-j.u c.loop-j.j c.loop-j-test.true) ∙ c.loop-j.invariant.1)
+    sym (inwards_ok (in_t args.q args.form (links_of args.own.now (c.loop-j.j - 1))) args.q c.convert.result (sym c.turned.ensures ∙ c.in_ok-u.was)) ∙ ap (inwards _ args.q) (c.convert.ensures ∙ ap (λ (f : Form). convert f c.loop-j.u) c.link_form.ensures) ∙ sym (in_more args.own.now args.q args.form c.loop-j.u c.loop-j.j c.loop-j-test.true) ∙ c.loop-j.invariant
 
-pub returns-in-Fault : goal.returns-in-Fault
-returns-in-Fault c =
+pub returns-in_err-u : goal.returns-in_err-u
+returns-in_err-u c =
     let args = c.args in
-    ap (inwards _ args.q) (sym c.in-Fault.is ∙ c.convert.ensures ∙ ap (λ (f : Form). convert f c.loop-j.u) c.link_form.ensures) ∙ sym (in_more args.own.now args.q args.form c.loop-j.u c.loop-j.j c.loop-j-test.true) ∙ c.loop-j.invariant.1
-
-pub returns-in-Stray : goal.returns-in-Stray
-returns-in-Stray c =
-    let args = c.args in
-    ap (inwards _ args.q) (sym c.in-Stray.is ∙ c.convert.ensures ∙ ap (λ (f : Form). convert f c.loop-j.u) c.link_form.ensures) ∙ sym (in_more args.own.now args.q args.form c.loop-j.u c.loop-j.j c.loop-j-test.true) ∙ c.loop-j.invariant.1
+    rw (err_exit c.from_residual.ensures.1) (sym (inwards_err (in_t args.q args.form (links_of args.own.now (c.loop-j.j - 1))) args.q c.convert.result (sym c.turned.ensures ∙ c.in_err-u.was)) ∙ ap (inwards _ args.q) (c.convert.ensures ∙ ap (λ (f : Form). convert f c.loop-j.u) c.link_form.ensures) ∙ sym (in_more args.own.now args.q args.form c.loop-j.u c.loop-j.j c.loop-j-test.true) ∙ c.loop-j.invariant)
 
 pub returns : goal.returns
 returns c =
     let args = c.args in
-    c.turned.ensures ∙ ap (turned args.q) c.convert-2.ensures ∙ sym (in_none args.own.now args.q args.form c.loop-j.u c.loop-j.j c.loop-j-test.false) ∙ c.loop-j.invariant.1
+    c.turned-2.ensures ∙ ap (turned args.q) c.convert-2.ensures ∙ sym (in_none args.own.now args.q args.form c.loop-j.u c.loop-j.j c.loop-j-test.false) ∙ c.loop-j.invariant
