@@ -3,7 +3,7 @@ ghost use Rattle.std.specs.Prelude.{◌≡◌, cond, ◌&&◌, List, ℕ, ◌+�
 ghost use Rattle.emitting.specs.model.Emission.{Used, put, with_variable, replaced, ahead_at, lending, name_begun, name_ended, given_turned, begun, actual_in};
 ghost use Rattle.emitting.specs.model.Arrays.{seen, see, Alike, Slim, Fit};
 
-use crate::{Known, Thing, Writing, cells, codes, parts, putting, uses};
+use crate::{Known, Thing, Writing, cells, codes, parts, uses};
 use answers::{Address, Place};
 
 // The place in a slot, of 16 bits.
@@ -24,9 +24,9 @@ fn opening(t: Writing, form: usize, ahead: &[u32], code: &mut [u32]) -> Writing
 {
     let slot = t.slots;
     let place = place_ahead(ahead, slot + 1);
-    let held = putting::put(t, code, codes::NAME, place, parts::word_at(ahead, slot));
+    let held = t.put(code, codes::NAME, place, parts::word_at(ahead, slot));
     let lent = cells::lending(held, parts::word_at(ahead, slot + 2), place, code);
-    putting::put(lent, code, codes::RETURN, place, form)
+    lent.put(code, codes::RETURN, place, form)
 }
 
 // Actual j of a call of the procedure m, whose formal is called by name and of the type `form`, d deep, begins: three slots,
@@ -44,7 +44,7 @@ fn name_begun(
     requires { (t.here.at < 1048000) × (t.slots < 1048000) × (t.level < 1048000) × (t.open ≤ 8192) × (form < 3) }
     ensures { (vs ly es : List ℕ) (us : List Used) (ah en : List ℕ) → see result us things.new code.new ah en ≡ name_begun vs ly ahead.now es m j d form (see t us things.old code.old ah en) }
 {
-    let mut r = putting::replace(opening(t, form, ahead, code), things, 4 + t.slots, m, j, d);
+    let mut r = opening(t, form, ahead, code).replace(things, 4 + t.slots, m, j, d);
     r.slots = r.slots + 1 + 1 + 1;
     r.level += 1;
     r
@@ -70,8 +70,8 @@ fn name_ended(
     parts::set_word(next_ahead, slot + 2, t.variable);
     parts::set_word(next_ahead, slot + 1, place.at);
     parts::set_word(next_ahead, slot, parts::going_to(behind));
-    let turned = putting::put(t, code, codes::AS, place, form);
-    let mut r = putting::put(turned, code, codes::RETURN, codes::NOWHERE, 0);
+    let turned = t.put(code, codes::AS, place, form);
+    let mut r = turned.put(code, codes::RETURN, codes::NOWHERE, 0);
     r.level = t.level.saturating_sub(1);
     r
 }
@@ -121,9 +121,9 @@ fn given_turned(t: Writing, c: Thing, place: Place, code: &mut [u32]) -> Writing
         if c.second == 2 {
             return t;
         }
-        return putting::put(t, code, codes::AS, place, given_form(c));
+        return t.put(code, codes::AS, place, given_form(c));
     }
-    putting::put(t, code, codes::AS, place, 0)
+    t.put(code, codes::AS, place, 0)
 }
 
 // The end of an actual of the environment's.
@@ -138,7 +138,7 @@ fn given_in(
     ensures { (vs ly ks es : List ℕ) (us : List Used) (ah en : List ℕ) → see result us things.new code.new ah en ≡ with_variable (cond (eqb c.second 2 && eqb c.third 0) 1 0) t.variable (replaced 0 c.second (c.third + 1) place.at (given_turned vs ly ks es (seen c) place.at (see t us things.old code.old ah en))) }
 {
     let turned = given_turned(t, c, place, code);
-    let mut r = putting::replace(turned, things, 0, c.second, c.third + 1, place.at);
+    let mut r = turned.replace(things, 0, c.second, c.third + 1, place.at);
     r.awaits = awaited(c);
     r.variable = t.variable;
     r
@@ -158,7 +158,7 @@ fn ended(
     ensures at_bound { (result.here.at ≤ t.here.at + 2) × (result.slots ≡ t.slots) × (result.level ≤ t.level) × (result.open ≡ t.open) }
 {
     if c.first < 4 {
-        return putting::put(t, code, codes::AS, place, form);
+        return t.put(code, codes::AS, place, form);
     }
     name_ended(t, c, place, form, next_ahead, code)
 }
@@ -182,6 +182,6 @@ pub fn actual_in(
     let form = uses::form_at(known.rows, c.second + 1 + c.third);
     let j = c.third + 1;
     let e = ended(t, c, place, form, next_ahead, code);
-    let r = putting::replace(e, things, 2, c.second, j, c.fourth);
+    let r = e.replace(things, 2, c.second, j, c.fourth);
     begun(r, c.second, j, c.fourth, known, things, code)
 }

@@ -3,7 +3,7 @@ ghost use Rattle.std.specs.Prelude.{◌≡◌, cond, List, ℕ, ◌+◌, ◌≤�
 ghost use Rattle.emitting.specs.model.Emission.{Used, uses_in, kind_next, means_next, others_next, with_uses, with_lefts, put, pushed, cell_of, result_of, called_with, result_for, dropped, named, word_of, named_or, calling, taken_in, call_ended, repeated, use_node};
 ghost use Rattle.emitting.specs.model.Arrays.{seen, see, Alike, Slim, Fit};
 
-use crate::{Known, Named, Thing, Writing, actuals, cells, codes, parts, putting, uses};
+use crate::{Known, Named, Thing, Writing, actuals, cells, codes, parts, uses};
 use answers::Place;
 use grammar::nodes;
 use machine::operands;
@@ -12,7 +12,7 @@ use machine::operands;
 fn sought(k: usize) -> usize
     ensures { result ≡ cond (eqb k 4) 2 1 }
 {
-    if k == 4 { 2 } else { 1 }
+    if k == Named::BY_NAME { 2 } else { 1 }
 }
 
 // The word of a use of kind k that means a declaration; of a procedure that of its result.
@@ -22,7 +22,7 @@ fn cell_of(level: usize, name: Named, layout: &[u32]) -> usize
 {
     let w = parts::word_at(layout, name.means);
     let out = operands::high(w);
-    if name.kind == 2 {
+    if name.kind == Named::PROCEDURE {
         return operands::packed(level.saturating_sub(out + 1), 0, 1);
     }
     operands::packed(
@@ -37,7 +37,7 @@ fn result_of(name: Named, layout: &[u32]) -> usize
     ensures by_index { (vs ks es : List ℕ) → result ≡ result_of vs layout.now ks es name.kind name.means }
     ensures upper_bound { result < 8192 }
 {
-    if name.kind == 2 {
+    if name.kind == Named::PROCEDURE {
         return operands::mid(parts::word_at(layout, name.means));
     }
     0
@@ -61,7 +61,7 @@ fn called_with(
     let cells = result_of(name, known.layout) + n;
     let entry = parts::entry_of(known.entries, name.declaration());
     let v = parts::operand(out, cells, entry);
-    putting::put(t, code, codes::CALL_NEEDED + u, place, v)
+    t.put(code, codes::CALL_NEEDED + u, place, v)
 }
 
 // A result's cell, where there is a result; it is of the type `form`.
@@ -80,7 +80,7 @@ fn result_for(
     if result_of(name, layout) == 0 {
         return t;
     }
-    putting::put(t, code, codes::RESULT, place, form)
+    t.put(code, codes::RESULT, place, form)
 }
 
 // What a statement does not need.
@@ -91,7 +91,7 @@ fn dropped(t: Writing, u: usize, code: &mut [u32]) -> Writing
     if u == 0 {
         return t;
     }
-    putting::put(t, code, codes::DROP, codes::NOWHERE, 0)
+    t.put(code, codes::DROP, codes::NOWHERE, 0)
 }
 
 // The operation that reads a variable or formal.
@@ -99,7 +99,11 @@ fn reading(k: usize) -> usize
     ensures value { result ≡ cond (eqb k 4) 40 13 }
     ensures upper_bound { result < 64 }
 {
-    if k == 4 { codes::WORK } else { codes::LOAD }
+    if k == Named::BY_NAME {
+        codes::WORK
+    } else {
+        codes::LOAD
+    }
 }
 
 // A name alone: a variable or formal, a procedure, maxint.
@@ -116,17 +120,17 @@ fn named(
     ensures { (vs ks : List ℕ) (us : List Used) (op : List Thing) (ah en : List ℕ) → see result us op code.new ah en ≡ named vs known.now.layout.now ks known.now.entries.now name.kind name.means u place.at form (see t us op code.old ah en) }
 {
     match name.kind {
-        0 => {
-            let r = putting::put(t, code, codes::CONST, place, 2147483647);
+        Named::GIVEN => {
+            let r = t.put(code, codes::CONST, place, 2147483647);
             dropped(r, u, code)
         }
-        2 => {
+        Named::PROCEDURE => {
             let r = result_for(t, name, place, form, known.layout, code);
             called_with(r, name, 0, u, place, known, code)
         }
         _ => {
             let v = cells::bare(cell_of(t.level, name, known.layout));
-            putting::put(t, code, reading(name.kind), place, v)
+            t.put(code, reading(name.kind), place, v)
         }
     }
 }
@@ -138,10 +142,10 @@ fn word_of(t: Writing, name: Named, d: usize, layout: &[u32], things: &[Thing; 8
     ensures by_index { (vs ks es : List ℕ) (us : List Used) (co ah en : List ℕ) → result ≡ word_of vs layout.now ks es name.kind name.means d (see t us things.now co ah en) }
     ensures upper_bound { result < 4294967296 }
 {
-    if name.kind == 0 || name.kind == 2 {
+    if name.kind == Named::GIVEN || name.kind == Named::PROCEDURE {
         return 0;
     }
-    let c = putting::top(t, things);
+    let c = t.top(things);
     if d == c.fourth {
         return cell_of(t.level, name, layout);
     }
@@ -190,11 +194,11 @@ fn calling(
 {
     let form = uses::form_at(known.rows, name.means);
     let r = result_for(t, name, place, form, known.layout, code);
-    if name.kind == 2 {
-        let s = putting::push(r, things, 2, name.means, 0, d + 1);
+    if name.kind == Named::PROCEDURE {
+        let s = r.push(things, 2, name.means, 0, d + 1);
         return actuals::begun(s, name.means, 0, d + 1, known, things, code);
     }
-    putting::push(r, things, name.kind, name.means, 0, 0)
+    r.push(things, name.kind, name.means, 0, 0)
 }
 
 // What is taken in goes to the cell of the last name, whose place is given.
@@ -203,7 +207,7 @@ fn taken_in(t: Writing, place: Place, name: Place, code: &mut [u32]) -> Writing
     ensures { (vs ly ks es : List ℕ) (us : List Used) (op : List Thing) (ah en : List ℕ) → see result us op code.new ah en ≡ taken_in vs ly ks es place.at name.at (see t us op code.old ah en) }
 {
     if operands::low(t.variable) == 2 {
-        let s = putting::put(t, code, codes::CHANNEL, place, 0);
+        let s = t.put(code, codes::CHANNEL, place, 0);
         return cells::on_cell(s, code, codes::IN, place, name, t.variable);
     }
     cells::on_cell(t, code, codes::IN, place, name, t.variable)
@@ -227,12 +231,12 @@ fn given_ended(t: Writing, c: Thing, place: Place, u: usize, code: &mut [u32]) -
     ensures { (vs ly ks es : List ℕ) (us : List Used) (op : List Thing) (ah en : List ℕ) → see result us op code.new ah en ≡ cond (eqb c.second 0) (dropped vs ly ks es u (put 24 place.at 0 (see t us op code.old ah en))) (cond (eqb c.second 2) (taken_in vs ly ks es place.at c.fourth (see t us op code.old ah en)) (put (cond (eqb c.second 4) 47 19) place.at 0 (see t us op code.old ah en))) }
 {
     if c.second == 0 {
-        return dropped(putting::put(t, code, codes::IABS, place, 0), u, code);
+        return dropped(t.put(code, codes::IABS, place, 0), u, code);
     }
     if c.second == 2 {
         return taken_in(t, place, Place { at: c.fourth }, code);
     }
-    putting::put(t, code, sending(c), place, 0)
+    t.put(code, sending(c), place, 0)
 }
 
 // The end of a call.
@@ -249,14 +253,14 @@ pub fn call_ended(
 {
     if c.first == 2 {
         let name = Named {
-            kind: 2,
+            kind: Named::PROCEDURE,
             means: c.second,
         };
         let r = called_with(t, name, c.third, u, place, known, code);
-        return putting::nameless(r);
+        return r.nameless();
     }
     let r = given_ended(t, c, place, u, code);
-    putting::nameless(r)
+    r.nameless()
 }
 
 // A left part.
@@ -271,7 +275,7 @@ fn left_part(
     ensures { (vs ks es : List ℕ) (us : List Used) (co ah en : List ℕ) → see result us things.new co ah en ≡ with_lefts (t.lefts + 1) (pushed 0 (cell_of vs layout.now ks es t.level name.kind name.means) place.at 0 (see t us things.old co ah en)) }
 {
     let v = cell_of(t.level, name, layout);
-    let mut r = putting::push(t, things, 0, v, place.at, 0);
+    let mut r = t.push(things, 0, v, place.at, 0);
     r.lefts += 1;
     r
 }
@@ -288,7 +292,8 @@ fn repeated(
     ensures { (vs ks es : List ℕ) (us : List Used) (co ah en : List ℕ) → see result us things.new co ah en ≡ repeated vs layout.now ks es name.kind name.means place.at (see t us things.old co ah en) }
 {
     let v = cell_of(t.level, name, layout);
-    putting::slot(putting::push(t, things, t.slots, v, place.at, t.here.at as usize))
+    t.push(things, t.slots, v, place.at, t.here.at as usize)
+        .slot()
 }
 
 // A node of a name's use.

@@ -4,7 +4,7 @@ ghost use Rattle.emitting.specs.declared.Thing.{Thing};
 ghost use Rattle.emitting.specs.model.Emission.{Used, bare, on_cell, lending};
 ghost use Rattle.emitting.specs.model.Arrays.{see, Alike};
 
-use crate::{Writing, codes, putting};
+use crate::{Writing, codes};
 use answers::Place;
 use machine::operands;
 
@@ -33,10 +33,10 @@ pub fn on_cell(
     ensures alike { Alike t result × (result.here.at ≤ t.here.at + 2) × (result.open ≡ t.open) }
 {
     if operands::low(v) == 2 {
-        let sought = putting::put(t, code, codes::SEEK, name, bare(v));
-        return putting::put(sought, code, o, place, FOUND);
+        let sought = t.put(code, codes::SEEK, name, bare(v));
+        return sought.put(code, o, place, FOUND);
     }
-    putting::put(t, code, o, place, bare(v))
+    t.put(code, o, place, bare(v))
 }
 
 // The store part of an actual, by its word.
@@ -47,10 +47,10 @@ pub fn lending(t: Writing, w: usize, place: Place, code: &mut [u32]) -> Writing
 {
     let sort = operands::low(w);
     if sort == 0 {
-        return putting::put(t, code, codes::REFUSE, codes::NOWHERE, 0);
+        return t.put(code, codes::REFUSE, codes::NOWHERE, 0);
     }
     if sort == 1 {
-        return putting::put(t, code, codes::LEND, codes::NOWHERE, bare(w));
+        return t.put(code, codes::LEND, codes::NOWHERE, bare(w));
     }
-    putting::put(t, code, codes::PASS, place, bare(w))
+    t.put(code, codes::PASS, place, bare(w))
 }

@@ -2,6 +2,7 @@
 use answers::Place;
 use machine::codes;
 
+// Kept: no plainer, an instruction's word is the number itself.
 // The run, jumps, blocks.
 pub const END: usize = codes::END as usize;
 

@@ -8,9 +8,9 @@ use grammar::nodes;
 // The types of variables, as a row has them.
 const INTEGER: usize = 1;
 
-const BOOLEAN: usize = 2;
+pub const BOOLEAN: usize = 2;
 
-const REAL: usize = 3;
+pub const REAL: usize = 3;
 
 // Whether a row, whose words are given, is a variable's of a scope and a type.
 #[tactic(auto, unfolding(crate::specs::model::Layout::is_of))]

@@ -5,7 +5,7 @@ ghost use Rattle.names.specs.model.Rows.{is_use};
 ghost use Rattle.emitting.specs.model.Emission.{Used, uses_in, place_at, put, top, lower_of, upper_of, operation_of, signed, stored, lefts_of, assigned, plain_node, is_element, is_choice, is_block, code_node, emitted};
 ghost use Rattle.emitting.specs.model.Arrays.{things_of, seen, see, AllSlim, Small, Fit, rest_node, fresh_in, emitted_from};
 
-use crate::{Known, Thing, Writing, actuals, calls, cells, codes, flow, loops, parts, putting};
+use crate::{Known, Thing, Writing, actuals, calls, cells, codes, flow, loops, parts};
 use answers::{Address, Ordinal, Place};
 use grammar::nodes;
 use reals::decimals::constant;
@@ -34,10 +34,10 @@ fn signed(t: Writing, k: usize, place: Place, code: &mut [u32]) -> Writing
     ensures { (us : List Used) (op : List Thing) (ah en : List ℕ) → see result us op code.new ah en ≡ signed k place.at (see t us op code.old ah en) }
 {
     if k == 19 {
-        return putting::put(t, code, codes::NOT, place, 0);
+        return t.put(code, codes::NOT, place, 0);
     }
     if k == 23 {
-        return putting::put(t, code, codes::MINUS, place, 0);
+        return t.put(code, codes::MINUS, place, 0);
     }
     t
 }
@@ -48,7 +48,7 @@ fn left_at(mut t: Writing, things: &[Thing; 8192], n: usize) -> Thing
     ensures { seen result ≡ top (things_of (t.open - n) things.now) }
 {
     t.open = t.open.saturating_sub(n);
-    putting::top(t, things)
+    t.top(things)
 }
 
 // The operation that stores to a left part with n behind it.
@@ -89,14 +89,8 @@ fn pointed(t: Writing, w: u64, place: Place, code: &mut [u32]) -> Writing
     ensures { (us : List Used) (op : List Thing) (ah en : List ℕ) → see result us op code.new ah en ≡ put 49 0 (upper_of w) (put 12 place.at (lower_of w) (see t us op code.old ah en)) }
 {
     let halves = constant(w / 16, w % 16);
-    let lower = putting::put(t, code, codes::CONST, place, halves.low as usize);
-    putting::put(
-        lower,
-        code,
-        codes::HIGH,
-        codes::NOWHERE,
-        halves.high as usize,
-    )
+    let lower = t.put(code, codes::CONST, place, halves.low as usize);
+    lower.put(code, codes::HIGH, codes::NOWHERE, halves.high as usize)
 }
 
 // A node: its kind, its symbol, and what else it says.
@@ -124,24 +118,24 @@ fn plain_node(
     match n.kind {
         nodes::NUMBER => {
             let v = parts::value_of(values, n.symbol) % 4294967296;
-            let r = putting::put(t, code, codes::CONST, place, v as usize);
-            putting::nameless(r)
+            let r = t.put(code, codes::CONST, place, v as usize);
+            r.nameless()
         }
         nodes::DECIMAL => {
             let r = pointed(t, parts::value_of(values, n.symbol), place, code);
-            putting::nameless(r)
+            r.nameless()
         }
         nodes::LOGICAL => {
-            let r = putting::put(t, code, codes::LOGICAL, place, one);
-            putting::nameless(r)
+            let r = t.put(code, codes::LOGICAL, place, one);
+            r.nameless()
         }
         nodes::UNARY => {
             let r = signed(t, one, place, code);
-            putting::nameless(r)
+            r.nameless()
         }
         nodes::BINARY => {
-            let r = putting::put(t, code, operation_of(one), place, 0);
-            putting::nameless(r)
+            let r = t.put(code, operation_of(one), place, 0);
+            r.nameless()
         }
         nodes::ASSIGN => assigned(t, things, code),
         nodes::VARIABLE => {
@@ -220,7 +214,7 @@ fn rest_node(
     requires { Small 262143 8191 (see t [] things.old [] [] []) × (place.at < 65536) }
     ensures { (ly es : List ℕ) (us : List Used) → see result us things.new code.new next_ahead.new next_entries.new ≡ rest_node known.now.values.now ly known.now.ahead.now es known.now.rows.now known.now.marks.now n.kind n.symbol.number place.at n.one (see t us things.old code.old next_ahead.old next_entries.old) }
 {
-    let c = putting::top(t, things);
+    let c = t.top(things);
     let ahead = known.ahead;
     if is_element(n.kind) {
         return loops::element_node(t, n.kind, c, place, ahead, things, next_ahead, code);
@@ -262,12 +256,12 @@ fn any_node(
     }
     match n.kind {
         nodes::ACTUAL => {
-            let c = putting::top(t, things);
+            let c = t.top(things);
             actuals::actual_in(t, c, p, known, things, next_ahead, code)
         }
         nodes::CALL_END => {
-            let c = putting::top(t, things);
-            calls::call_ended(putting::pop(t), c, p, u, known, code)
+            let c = t.top(things);
+            calls::call_ended(t.pop(), c, p, u, known, code)
         }
         _ => rest_node(t, n, p, known, things, next_ahead, next_entries, code),
     }
@@ -313,7 +307,7 @@ fn walk(
         };
         t = any_node(t, n, uses, known, things, next_ahead, next_entries, code);
     }
-    putting::put(t, code, codes::END, codes::NOWHERE, 0);
+    t.put(code, codes::END, codes::NOWHERE, 0);
 }
 
 // The code of a program's nodes, with the addresses ahead and the procedures' as they are known; and those that are found.

@@ -4,7 +4,7 @@ ghost use Rattle.emitting.specs.model.Layout.{packed};
 ghost use Rattle.emitting.specs.model.Emission.{Used, put, within, with_slot, with_variable, pushed, popped, nameless, ahead_at, widened, otherwise, joined, choice_node, opening, block_node, skipped, proceeding, procedure_node};
 ghost use Rattle.emitting.specs.model.Arrays.{seen, see, Alike, Slim, Fit};
 
-use crate::{Thing, Writing, codes, counting, parts, putting};
+use crate::{Thing, Writing, codes, counting, parts};
 use answers::{Address, Declaration, Place};
 use grammar::nodes;
 use machine::operands;
@@ -21,8 +21,8 @@ fn conditioned(
     ensures { (vs ly es : List ℕ) (us : List Used) (ah en : List ℕ) → see result us things.new code.new ah en ≡ with_slot (pushed t.slots mark 0 0 (put 10 0 (packed 0 0 (ahead_at vs ly ahead.now es t.slots)) (see t us things.old code.old ah en))) }
 {
     let next = parts::going_to(parts::address_at(ahead, t.slots));
-    let r = putting::put(t, code, codes::UNLESS, codes::NOWHERE, next);
-    putting::slot(putting::push(r, things, t.slots, mark, 0, 0))
+    let r = t.put(code, codes::UNLESS, codes::NOWHERE, next);
+    r.push(things, t.slots, mark, 0, 0).slot()
 }
 
 // A part of a conditional expression ends: it becomes a real, where the mark says so, which has no fault.
@@ -32,7 +32,7 @@ fn widened(t: Writing, part: usize, c: Thing, code: &mut [u32]) -> Writing
     ensures alike { Alike t result × (result.here.at ≤ t.here.at + 1) × (result.open ≡ t.open) }
 {
     if c.second == part {
-        return putting::put(t, code, codes::AS, codes::NOWHERE, 1);
+        return t.put(code, codes::AS, codes::NOWHERE, 1);
     }
     t
 }
@@ -52,8 +52,8 @@ fn otherwise(
     let next = parts::going_to(parts::address_at(ahead, t.slots));
     let behind = Address { at: t.here.at + 1 };
     parts::set_word(next_ahead, c.first, parts::going_to(behind));
-    let r = putting::put(t, code, codes::JUMP, codes::NOWHERE, next);
-    putting::slot(putting::replace(r, things, t.slots, c.second, 0, 0))
+    let r = t.put(code, codes::JUMP, codes::NOWHERE, next);
+    r.replace(things, t.slots, c.second, 0, 0).slot()
 }
 
 // Behind it all.
@@ -61,9 +61,7 @@ fn joined(t: Writing, c: Thing, next_ahead: &mut [u32]) -> Writing
     ensures { (vs ly ks es : List ℕ) (us : List Used) (op : List Thing) (co en : List ℕ) → see result us op co next_ahead.new en ≡ joined vs ly ks es (seen c) (see t us op co next_ahead.old en) }
 {
     parts::set_word(next_ahead, c.first, parts::going_to(t.here));
-    let mut r = putting::pop(t);
-    r.variable = 0;
-    r
+    t.pop().nameless()
 }
 
 // A node of a condition, whose 'if' has a mark.
@@ -98,7 +96,7 @@ fn entered(t: Writing, things: &mut [Thing; 8192]) -> Writing
     requires { Fit t }
     ensures { (us : List Used) (co ah en : List ℕ) → see result us things.new co ah en ≡ within t.level t.loops 0 (with_slot (pushed t.slots 0 t.declared t.cells (nameless (see t us things.old co ah en)))) }
 {
-    let mut s = putting::slot(putting::push(t, things, t.slots, 0, t.declared, t.cells));
+    let mut s = t.push(things, t.slots, 0, t.declared, t.cells).slot();
     s.cells = 0;
     s.variable = 0;
     s
@@ -119,8 +117,8 @@ fn begun(
 {
     parts::set_word(next_ahead, c.first, parts::going_to(t.here));
     let counts = counting::counts_for(rows, c.third);
-    let r = putting::put(t, code, codes::ENTER, place, counts);
-    putting::replace(r, things, c.first, 0, t.cells, c.fourth)
+    let r = t.put(code, codes::ENTER, place, counts);
+    r.replace(things, c.first, 0, t.cells, c.fourth)
 }
 
 // It ends.
@@ -128,13 +126,8 @@ fn left(t: Writing, c: Thing, code: &mut [u32]) -> Writing
     requires { Fit t }
     ensures { (us : List Used) (op : List Thing) (ah en : List ℕ) → see result us op code.new ah en ≡ within t.level t.loops c.fourth (popped (put 4 0 (packed 0 c.third 0) (see t us op code.old ah en))) }
 {
-    let mut r = putting::pop(putting::put(
-        t,
-        code,
-        codes::LEAVE,
-        codes::NOWHERE,
-        operands::packed(0, c.third, 0),
-    ));
+    let cells = operands::packed(0, c.third, 0);
+    let mut r = t.put(code, codes::LEAVE, codes::NOWHERE, cells).pop();
     r.cells = c.fourth;
     r
 }
@@ -168,7 +161,7 @@ fn skipped(t: Writing, c: Thing, ahead: &[u32], code: &mut [u32]) -> Writing
 {
     if t.variable == 0 {
         let next = parts::going_to(parts::address_at(ahead, c.first));
-        return putting::put(t, code, codes::JUMP, codes::NOWHERE, next);
+        return t.put(code, codes::JUMP, codes::NOWHERE, next);
     }
     t
 }
@@ -180,7 +173,7 @@ fn declared(t: Writing, things: &mut [Thing; 8192], next_entries: &mut [u32]) ->
 {
     let d = Declaration { number: t.declared };
     parts::set_entry(next_entries, d, t.here);
-    let mut r = putting::push(t, things, t.loops, 0, 0, 0);
+    let mut r = t.push(things, t.loops, 0, 0, 0);
     r.declared += 1;
     r.level += 1;
     r.loops = 0;
@@ -192,7 +185,7 @@ fn returned(t: Writing, c: Thing, code: &mut [u32]) -> Writing
     requires { Fit t }
     ensures { (us : List Used) (op : List Thing) (ah en : List ℕ) → see result us op code.new ah en ≡ with_variable (cond t.awaits 1 0) 1 (within (t.level - 1) c.first t.cells (popped (put 7 0 0 (see t us op code.old ah en)))) }
 {
-    let mut r = putting::pop(putting::put(t, code, codes::RETURN, codes::NOWHERE, 0));
+    let mut r = t.put(code, codes::RETURN, codes::NOWHERE, 0).pop();
     r.level = t.level.saturating_sub(1);
     r.loops = c.first;
     r.variable = 1;

@@ -22,6 +22,7 @@ ghost use Rattle.emitting.specs.model.Emission.{uses_in, place_at, code_of};
 
 use answers::{Address, Declaration};
 
+// Kept: what may not change, code_of holds for any rows, also for those that say another kind.
 // What a use means: its kind (0 environment, 1 variable, 2 procedure, 3 formal called by value, 4 formal called by name), and
 // the declaration's number or the environment's.
 #[derive(Clone, Copy, Default)]
@@ -31,6 +32,13 @@ pub struct Named {
 }
 
 impl Named {
+    // The kinds that code is written by. Another one is a variable or a formal called by value.
+    pub const GIVEN: usize = 0;
+
+    pub const PROCEDURE: usize = 2;
+
+    pub const BY_NAME: usize = 4;
+
     // The declaration that is meant.
     pub fn declaration(self) -> Declaration
         ensures { result.number ≡ self.means }
@@ -83,6 +91,7 @@ pub struct Writing {
     pub open: usize,
 }
 
+// Kept: what may not change, code_of holds for any nodes: each reads what is open as its own, whatever opened it.
 // Something open, or a left part.
 #[derive(Clone, Copy, Default)]
 pub struct Thing {
@@ -92,6 +101,7 @@ pub struct Thing {
     pub fourth: usize,
 }
 
+// Kept: what may not change, emit holds any counts beside the words.
 // The code of a program, of which the first n words of the nodes, the first u uses, the first d rows, and the places, marks
 // and values of the symbols are lent: it fills the words that are lent for it, with zeros behind.
 pub fn emit(

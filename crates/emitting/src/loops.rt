@@ -4,7 +4,7 @@ ghost use Rattle.emitting.specs.model.Layout.{packed};
 ghost use Rattle.emitting.specs.model.Emission.{Used, put, noted, within, popped, replaced, on_cell, ahead_at, element, bodied, tested, added, step_begun, step_held, step_again, turning, stepping, amount, element_node, loop_node};
 ghost use Rattle.emitting.specs.model.Arrays.{seen, see, Alike, Slim, Small, Fit};
 
-use crate::{Thing, Writing, cells, codes, parts, putting};
+use crate::{Thing, Writing, cells, codes, parts};
 use answers::{Address, Place};
 use grammar::nodes;
 use machine::operands;
@@ -15,7 +15,8 @@ fn element(t: Writing, f: Thing, things: &mut [Thing; 8192], next_ahead: &mut [u
     ensures { (vs ly ks es : List ℕ) (us : List Used) (co en : List ℕ) → see result us things.new co next_ahead.new en ≡ element vs ly ks es (seen f) (see t us things.old co next_ahead.old en) }
 {
     parts::set_word(next_ahead, t.slots, parts::going_to(t.here));
-    putting::slot(putting::replace(t, things, f.first, f.second, f.third, t.here.at as usize))
+    t.replace(things, f.first, f.second, f.third, t.here.at as usize)
+        .slot()
 }
 
 // The address that stands last in what is open: of an element, or of a step.
@@ -35,7 +36,7 @@ fn bodied(t: Writing, f: Thing, back: Address, ahead: &[u32], code: &mut [u32]) 
     ensures alike { Alike t result × (result.here.at ≡ t.here.at + 1) × (result.open ≡ t.open) }
 {
     let v = parts::operand(t.loops, back.at as usize, parts::address_at(ahead, f.first));
-    putting::put(t, code, codes::GO, codes::NOWHERE, v)
+    t.put(code, codes::GO, codes::NOWHERE, v)
 }
 
 // The test of a step element; next: where it goes on.
@@ -46,17 +47,11 @@ fn tested(t: Writing, f: Thing, next: Address, code: &mut [u32]) -> Writing
 {
     let name = Place { at: f.third };
     if operands::low(f.second) == 2 {
-        let sought = putting::put(t, code, codes::SEEK, name, cells::bare(f.second));
-        return putting::put(
-            sought,
-            code,
-            codes::TEST,
-            name,
-            parts::operand(0, 8191, next),
-        );
+        let sought = t.put(code, codes::SEEK, name, cells::bare(f.second));
+        return sought.put(code, codes::TEST, name, parts::operand(0, 8191, next));
     }
     let test = parts::operand(operands::high(f.second), operands::mid(f.second), next);
-    putting::put(t, code, codes::TEST, name, test)
+    t.put(code, codes::TEST, name, test)
 }
 
 // The addition and its store; the place is that of 'step'.
@@ -84,8 +79,9 @@ fn step_begun(
     let step = Address { at: t.here.at + 1 };
     let next = parts::address_at(ahead, t.slots);
     let v = parts::operand(t.loops, next.at as usize, step);
-    let gone = putting::put(t, code, codes::GO, codes::NOWHERE, v);
-    putting::slot(putting::push(gone, things, t.slots, 0, place.at, step.at as usize))
+    let gone = t.put(code, codes::GO, codes::NOWHERE, v);
+    gone.push(things, t.slots, 0, place.at, step.at as usize)
+        .slot()
 }
 
 // Behind the step: on to where it is wanted, the first time to the next instruction, which holds it.
@@ -100,10 +96,10 @@ fn step_held(
     ensures { (vs ly ks es : List ℕ) (us : List Used) (en : List ℕ) → see result us things.new code.new next_ahead.new en ≡ step_held vs ly ks es (seen c) (see t us things.old code.old next_ahead.old en) }
 {
     let back = operands::packed(t.loops, 0, 0);
-    let gone = putting::put(t, code, codes::NEXT, codes::NOWHERE, back);
-    let held = putting::put(gone, code, codes::HOLD, codes::NOWHERE, 0);
+    let gone = t.put(code, codes::NEXT, codes::NOWHERE, back);
+    let held = gone.put(code, codes::HOLD, codes::NOWHERE, 0);
     parts::set_word(next_ahead, c.first, parts::going_to(gone.here));
-    putting::replace(held, things, held.here.at as usize, 1, c.third, c.fourth)
+    held.replace(things, held.here.at as usize, 1, c.third, c.fourth)
 }
 
 // To the step again, and then to what follows here.
@@ -113,7 +109,7 @@ fn step_again(t: Writing, c: Thing, code: &mut [u32]) -> Writing
     ensures alike { Alike t result × (result.here.at ≡ t.here.at + 1) × (result.open ≡ t.open) }
 {
     let v = parts::operand(t.loops, t.here.at as usize + 1, element_at(c));
-    putting::put(t, code, codes::GO, codes::NOWHERE, v)
+    t.put(code, codes::GO, codes::NOWHERE, v)
 }
 
 // Behind the bound: the test, and to the body.
@@ -139,13 +135,7 @@ fn stepping(t: Writing, f: Thing, c: Thing, ahead: &[u32], code: &mut [u32]) -> 
     let again = step_again(gone, c, code);
     let stored = added(again, f, Place { at: c.third }, code);
     let bound = Address { at: c.first as u32 };
-    putting::put(
-        stored,
-        code,
-        codes::JUMP,
-        codes::NOWHERE,
-        parts::going_to(bound),
-    )
+    stored.put(code, codes::JUMP, codes::NOWHERE, parts::going_to(bound))
 }
 
 // Behind the step, and behind the bound.
@@ -163,8 +153,8 @@ fn amount(
     if c.second == 0 {
         return step_held(t, c, things, next_ahead, code);
     }
-    let around = putting::pop(t);
-    let f = putting::top(around, things);
+    let around = t.pop();
+    let f = around.top(things);
     element(stepping(around, f, c, ahead, code), f, things, next_ahead)
 }
 
@@ -197,7 +187,7 @@ fn whiled(
     ensures { (vs ly es : List ℕ) (us : List Used) (en : List ℕ) → see result us things.new code.new next_ahead.new en ≡ element vs ly ahead.now es (seen f) (bodied vs ly ahead.now es (seen f) f.fourth (put 10 0 (packed 0 0 (ahead_at vs ly ahead.now es t.slots)) (see t us things.old code.old next_ahead.old en))) }
 {
     let next = parts::going_to(parts::address_at(ahead, t.slots));
-    let tested = putting::put(t, code, codes::UNLESS, codes::NOWHERE, next);
+    let tested = t.put(code, codes::UNLESS, codes::NOWHERE, next);
     element(
         bodied(tested, f, element_at(f), ahead, code),
         f,
@@ -244,7 +234,7 @@ fn begun(t: Writing, f: Thing, things: &mut [Thing; 8192], next_ahead: &mut [u32
     ensures { (us : List Used) (co en : List ℕ) → see result us things.new co next_ahead.new en ≡ within t.level (t.loops + 1) t.cells (noted f.first (packed 0 0 t.here.at) (replaced (t.slots - 1) 0 0 0 (see t us things.old co next_ahead.old en))) }
 {
     parts::set_word(next_ahead, f.first, parts::going_to(t.here));
-    let mut r = putting::replace(t, things, t.slots.saturating_sub(1), 0, 0, 0);
+    let mut r = t.replace(things, t.slots.saturating_sub(1), 0, 0, 0);
     r.loops += 1;
     r
 }
@@ -255,8 +245,7 @@ fn ended(t: Writing, f: Thing, next_ahead: &mut [u32], code: &mut [u32]) -> Writ
     ensures { (us : List Used) (op : List Thing) (en : List ℕ) → see result us op code.new next_ahead.new en ≡ noted f.first (packed 0 0 (t.here.at + 1)) (popped (within t.level (t.loops - 1) t.cells (put 9 0 (packed (t.loops - 1) 0 0) (see t us op code.old next_ahead.old en)))) }
 {
     let around = t.loops.saturating_sub(1);
-    let mut r = putting::put(
-        t,
+    let mut r = t.put(
         code,
         codes::NEXT,
         codes::NOWHERE,
@@ -265,7 +254,7 @@ fn ended(t: Writing, f: Thing, next_ahead: &mut [u32], code: &mut [u32]) -> Writ
     r.loops = around;
     let behind = Address { at: t.here.at + 1 };
     parts::set_word(next_ahead, f.first, parts::going_to(behind));
-    putting::pop(r)
+    r.pop()
 }
 
 // A node around the body.

@@ -5,6 +5,7 @@ ghost use Rattle.emitting.specs.declared.Thing.{Thing};
 ghost use Rattle.emitting.specs.model.Emission.{formal_at, form_of, form_at, used_as, uses_in, kind_next, means_next, others_next, with_uses};
 ghost use Rattle.emitting.specs.model.Arrays.{see, Alike};
 
+use crate::counting::{BOOLEAN, REAL};
 use crate::{Named, Writing};
 use answers::Declaration;
 use grammar::nodes;
@@ -31,6 +32,7 @@ pub fn is_by_name(rows: &[u16], i: usize) -> bool
     row_word(rows, 4 * i) == FORMAL && row_word(rows, 4 * i + 3) >= 4
 }
 
+// Kept: no plainer, an instruction's operand is the number itself.
 // A type as an instruction has it: 0 whole number, 1 real, 2 Boolean.
 #[tactic(auto, unfolding(crate::specs::model::Emission::form_of))]
 fn form_of(sort: usize) -> usize
@@ -38,8 +40,8 @@ fn form_of(sort: usize) -> usize
     ensures upper_bound { result < 3 }
 {
     match sort {
-        3 => 1,
-        2 => 2,
+        REAL => 1,
+        BOOLEAN => 2,
         _ => 0,
     }
 }
@@ -60,7 +62,7 @@ fn kind_of(d: Declaration, rows: &[u16]) -> usize
     ensures upper_bound { result < 65536 }
 {
     if is_by_name(rows, d.number) {
-        return 4;
+        return Named::BY_NAME;
     }
     row_word(rows, 4 * d.number).saturating_sub(4)
 }
@@ -76,7 +78,7 @@ fn meaning(word: u16, rows: &[u16]) -> Named
             means: d.number,
         },
         Meant::Given(e) => Named {
-            kind: 0,
+            kind: Named::GIVEN,
             means: e.number as usize,
         },
         Meant::Nothing => Named::default(),

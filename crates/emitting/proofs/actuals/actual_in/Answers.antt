@@ -2,7 +2,6 @@
 -- Assumes nothing.
 use mathlib.Core.Path.{ap, ◌∙◌}
 use Prim.Native.Nat.{◌+◌}
-use native.Mathlib.Omega.{arith}
 use borrow.Author.Tests.{eq-eqb, ne_eqb}
 use Rattle.emitting.specs.model.Emission.{replaced, begun, actual_in}
 use Rattle.emitting.proofs.actuals.actual_in.Goals as goal
@@ -12,17 +11,6 @@ unfolding actual_in
 returns-then-c-eq0 c =
     let a = c.args in
     λ vs ly es us en. simp (eq-eqb _ _ c.if-c-eq0.true) (c.given_in.ensures vs ly a.known.now.ahead.now es us a.next_ahead.now en)
-
-pub replace-r-requires : goal.replace-r-requires
-replace-r-requires c = omega (arith, c.ended-e.ensures.at_bound.3, c.requires.0.open_ones)
-
-pub begun-requires : goal.begun-requires
-begun-requires c =
-    let f = c.replace-r.ensures.alike in
-    let g = c.ended-e.ensures.at_bound in
-    let h = c.requires.0 in
-    let s = c.requires.1 in
-    (omega (arith, f.1, g.0, h.at), omega (arith, f.0.slots, g.1, h.slots), omega (arith, f.0.level, g.2, h.level), f.2, s.second, omega (arith, s.third))
 
 pub returns : goal.returns
 unfolding actual_in

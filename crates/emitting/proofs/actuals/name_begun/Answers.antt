@@ -2,13 +2,9 @@
 -- Assumes nothing.
 use mathlib.Core.Path.{ap, ◌∙◌}
 use Prim.Native.Nat.{◌+◌}
-use native.Mathlib.Omega.{arith}
 use Rattle.emitting.specs.model.Emission.{State, replaced, with_open, with_slot, within, name_begun}
 use Rattle.emitting.proofs.Alikes.{alike_then}
 use Rattle.emitting.proofs.actuals.name_begun.Goals as goal
-
-pub overflow_add-r-4 : goal.overflow_add-r-4
-overflow_add-r-4 c = omega (arith, c.replace-r.ensures.alike.0.level, c.opening.ensures.alike.0.level, c.requires.2)
 
 pub returns : goal.returns
 unfolding name_begun within with_slot replaced with_open

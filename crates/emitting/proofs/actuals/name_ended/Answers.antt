@@ -8,12 +8,6 @@ use Rattle.emitting.specs.model.Layout.{packed}
 use Rattle.emitting.specs.model.Emission.{State, put, noted, within, name_ended}
 use Rattle.emitting.proofs.actuals.name_ended.Goals as goal
 
-pub put-r-requires : goal.put-r-requires
-put-r-requires c = let p = c.put-turned.ensures.alike.1 in let h = c.requires.0.at in (omega arith, omega arith, omega arith)
-
-pub shape_of-next_ahead : goal.shape_of-next_ahead
-shape_of-next_ahead c = c.set_word-3.auto.words ∙ c.set_word-2.auto.words ∙ c.set_word.auto.words
-
 pub returns : goal.returns
 unfolding name_ended noted within put
 returns c =

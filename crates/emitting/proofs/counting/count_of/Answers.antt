@@ -12,15 +12,6 @@ use Rattle.emitting.proofs.counting.count_of.Goals as goal
 pub loop-i-init : goal.loop-i-init
 loop-i-init c = (refl, omega arith, omega arith)
 
-pub overflow_cast-rows : goal.overflow_cast-rows
-overflow_cast-rows c = omega (arith, c.shared_slice_known-1.given (4 * c.loop-i.i + 2))
-
-pub overflow_cast-rows-in-loop-i : goal.overflow_cast-rows-in-loop-i
-overflow_cast-rows-in-loop-i c = omega (arith, c.shared_slice_known-1.given (4 * c.loop-i.i + 3))
-
-pub counted-n-requires : goal.counted-n-requires
-counted-n-requires c = let l = c.loop-i in let h = c.loop-i-test.true in let i = l.invariant.1 in let j = l.invariant.2 in omega arith
-
 pub loop-i-preserved : goal.loop-i-preserved
 unfolding counting
 loop-i-preserved c =

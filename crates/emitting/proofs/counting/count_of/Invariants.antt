@@ -1,7 +1,7 @@
 -- `emitting::counting::count_of` meets its contract: the rows from here on count as many as all of them do, with those so far.
 -- Assumes nothing.
 use mathlib.Core.Path.{◌≡◌}
-use Prim.Native.Nat.{◌*◌, ◌-◌, ◌≤◌}
+use Prim.Native.Nat.{◌*◌, ◌≤◌}
 use lib.ListN.{length, drop}
 use Rattle.names.specs.model.Rows.{fold_nodes}
 use Rattle.emitting.specs.model.Layout.{counting}

@@ -15,9 +15,6 @@ use Rattle.emitting.proofs.emission.stored.Goals as goal
 pub loop-n-init : goal.loop-n-init
 loop-n-init c = (omega arith, refl, omega arith, refl, λ vs ly ks es us ah en. refl)
 
-pub left_at-f-requires : goal.left_at-f-requires
-left_at-f-requires c = let e = c.loop-n.invariant.1 in let h = c.requires.1 in omega arith
-
 pub on_cell-t-requires : goal.on_cell-t-requires
 on_cell-t-requires c =
     let m = c.args.t.open in
@@ -51,9 +48,6 @@ loop-n-preserved c =
           ∙ ap (λ (f : Opened). on_cell (cond (eqb n 0) 14 15) f.third f.third f.second (see z us s c.loop-n.code ah en)) q)
           ∙ sym (stored_step vs ly ks es c.loop-n.n m s (see z us s c.loop-n.code ah en) h) ∙ c.loop-n.invariant.4 vs ly ks es us ah en,
     )
-
-pub shape_of-code : goal.shape_of-code
-shape_of-code c = c.loop-n.invariant.3
 
 pub returns : goal.returns
 unfolding stored lefts_of

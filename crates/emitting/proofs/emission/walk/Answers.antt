@@ -46,18 +46,6 @@ loop-i-preserved c =
       k.code ∙ l.invariant.5,
     )
 
-pub put-requires : goal.put-requires
-put-requires c = let a = c.loop-i.invariant.0.at in let b = c.loop-i.invariant.2 in let d = c.requires in (omega arith, omega arith, omega arith)
-
-pub shape_of-next_ahead : goal.shape_of-next_ahead
-shape_of-next_ahead c = c.loop-i.invariant.3
-
-pub shape_of-next_entries : goal.shape_of-next_entries
-shape_of-next_entries c = c.loop-i.invariant.4
-
-pub shape_of-code : goal.shape_of-code
-shape_of-code c = c.put.auto.code ∙ c.loop-i.invariant.5
-
 pub returns : goal.returns
 returns c =
     let l = c.loop-i in

@@ -1,7 +1,7 @@
 -- `emitting::emission::walk` meets its contract. The loop's invariant: the counts behind i nodes are small, and what the nodes from here on make of
 -- what is known is what all of them make of nothing.
 use mathlib.Core.Path.{◌≡◌}
-use Prim.Native.Nat.{◌+◌, ◌*◌, ◌-◌, ◌≤◌}
+use Prim.Native.Nat.{◌+◌, ◌*◌, ◌≤◌}
 use lib.ListN.{length, drop}
 use Rattle.names.specs.model.Rows.{fold_nodes}
 use Rattle.emitting.specs.model.Emission.{uses_in, place_at, placed_node}

@@ -7,4 +7,4 @@ use Rattle.emitting.proofs.flow.left.Goals as goal
 pub returns : goal.returns
 unfolding within popped with_open put
 returns c =
-    λ us op ah en. rw c.packed.ensures.value at (ap (λ (z : State). within z.level z.loops c.args.c.fourth z) (c.pop-r.ensures.en_value us op _ ah en ∙ ap popped (c.put.ensures.en_after us op ah en)))
+    λ us op ah en. rw c.packed-cells.ensures.value at (ap (λ (z : State). within z.level z.loops c.args.c.fourth z) (c.pop-r.ensures.en_value us op _ ah en ∙ ap popped (c.put.ensures.en_after us op ah en)))

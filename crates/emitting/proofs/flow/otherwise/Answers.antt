@@ -1,15 +1,11 @@
 -- `emitting::flow::otherwise` meets its contract: the address is noted, the instruction written, and another slot is open.
 -- Assumes nothing.
 use mathlib.Core.Path.{ap, ◌∙◌}
-use native.Mathlib.Omega.{arith}
 use Prim.Native.Nat.{◌+◌}
 use lib.ListN.{set}
 use Rattle.emitting.specs.model.Layout.{packed}
 use Rattle.emitting.specs.model.Emission.{otherwise, noted, put, replaced, with_open, with_slot, ahead_at}
 use Rattle.emitting.proofs.flow.otherwise.Goals as goal
-
-pub slot-requires : goal.slot-requires
-slot-requires c = let a = c.replace.ensures.alike.0.slots in let b = c.put-r.ensures.alike.0.slots in let d = c.requires.1 in omega arith
 
 pub returns : goal.returns
 unfolding otherwise noted with_slot with_open replaced put ahead_at

@@ -40,8 +40,5 @@ loop-i-preserved c =
       c.lay_node-t.auto.table ∙ l.invariant.3,
     )
 
-pub shape_of-table : goal.shape_of-table
-shape_of-table c = c.loop-i.invariant.3
-
 pub returns : goal.returns
 returns c = let l = c.loop-i in ap (λ (st : Laying). st.table) (sym (fold_end (lay_node c.args.rows.now) c.args.nodes.now l.i (lain l.t l.around l.table) (omega arith)) ∙ l.invariant.1)

@@ -1,7 +1,7 @@
 -- `emitting::layout::lay` meets its contract. The loop's invariant: behind i nodes the layout has spread no further than i, and what the nodes from
 -- here on make of it is what all of them make of nothing.
 use mathlib.Core.Path.{◌≡◌}
-use Prim.Native.Nat.{◌*◌, ◌-◌, ◌≤◌}
+use Prim.Native.Nat.{◌*◌, ◌≤◌}
 use lib.ListN.{length, drop}
 use Rattle.names.specs.model.Rows.{fold_nodes}
 use Rattle.emitting.specs.model.Layout.{lay_node}

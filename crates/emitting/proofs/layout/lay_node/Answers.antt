@@ -7,9 +7,6 @@ use Rattle.emitting.specs.model.Layout.{lay_node, typed}
 use Rattle.emitting.proofs.Spreading.{length_opens}
 use Rattle.emitting.proofs.layout.lay_node.Goals as goal
 
-pub celled-requires : goal.celled-requires
-celled-requires c = let p = c.requires in let d = p.reach in let e = p.declared in (omega arith, omega arith)
-
 pub procedured-requires : goal.procedured-requires
 procedured-requires c = let p = c.requires in let d = p.open_scopes in let e = length_opens c.args.t.open c.args.around.now in let l = p.level in let f = p.declared in (omega arith, omega arith, omega arith)
 

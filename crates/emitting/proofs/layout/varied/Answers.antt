@@ -8,14 +8,8 @@ use Rattle.emitting.proofs.layout.varied.Goals as goal
 pub outside-requires : goal.outside-requires
 outside-requires c = let p = c.requires in let d = p.open_scopes in let e = length_opens c.args.t.open c.args.around.now in omega arith
 
-pub among_for-requires : goal.among_for-requires
-among_for-requires c = let p = c.requires.declared in omega arith
-
 pub overflow_add-offset : goal.overflow_add-offset
 overflow_add-offset c = let p = outermost_within 8191 (opens_of c.args.t.open c.args.around.now) c.requires.outside in omega (arith, c.outside.ensures, c.among_for.ensures.upper_bound)
-
-pub celled-requires : goal.celled-requires
-celled-requires c = let p = c.requires in let d = p.reach in let e = p.declared in (omega arith, omega arith)
 
 pub returns : goal.returns
 returns c = rw (c.outside.ensures, c.among_for.ensures.value) at (c.celled.ensures c.args.around.now)

@@ -1,13 +1,9 @@
 -- `emitting::loops::step_begun` meets its contract: the instruction, then it is open, and one address more lies ahead.
 -- Assumes nothing.
 use mathlib.Core.Path.{ap, ◌∙◌}
-use native.Mathlib.Omega.{arith}
 use Prim.Native.Nat.{◌+◌}
 use Rattle.emitting.specs.model.Emission.{pushed, with_slot, ahead_at, step_begun}
 use Rattle.emitting.proofs.loops.step_begun.Goals as goal
-
-pub slot-requires : goal.slot-requires
-slot-requires c = let a = c.push.ensures.alike.0.slots in let b = c.put-gone.ensures.alike.0.slots in let p = c.requires.slots in omega arith
 
 pub returns : goal.returns
 unfolding step_begun ahead_at

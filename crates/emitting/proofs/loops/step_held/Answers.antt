@@ -1,15 +1,11 @@
 -- `emitting::loops::step_held` meets its contract: the two instructions, and where the second stands is noted.
 -- Assumes nothing.
 use mathlib.Core.Path.{ap, ◌∙◌}
-use native.Mathlib.Omega.{arith}
 use Prim.Native.Nat.{◌+◌}
 use lib.ListN.{set}
 use Rattle.emitting.specs.model.Layout.{packed}
 use Rattle.emitting.specs.model.Emission.{State, put, noted, replaced, with_open, step_held}
 use Rattle.emitting.proofs.loops.step_held.Goals as goal
-
-pub replace-requires : goal.replace-requires
-replace-requires c = let a = c.put-gone.ensures.alike.2 in let b = c.put-held.ensures.alike.2 in let p = c.requires.open_ones in omega arith
 
 pub returns : goal.returns
 unfolding step_held noted replaced with_open put

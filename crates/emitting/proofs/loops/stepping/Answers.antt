@@ -1,25 +1,9 @@
 -- `emitting::loops::stepping` meets its contract: the test, the body, the step again, the addition and the way back, one after the other.
 -- Assumes nothing.
 use mathlib.Core.Path.{ap, ◌∙◌}
-use native.Mathlib.Omega.{arith}
 use Rattle.emitting.specs.model.Emission.{put, step_again, added, stepping}
 use Rattle.emitting.specs.model.Arrays.{seen}
 use Rattle.emitting.proofs.loops.stepping.Goals as goal
-
-pub step_again-again-requires : goal.step_again-again-requires
-step_again-again-requires c = let p = c.requires.0 in let a = c.turning-gone.ensures.alike.1 in (omega arith, c.requires.2)
-
-pub added-stored-requires : goal.added-stored-requires
-added-stored-requires c = let p = c.requires.0 in let a = c.turning-gone.ensures.alike.1 in let b = c.step_again-again.ensures.alike.1 in let e = c.requires.2.third in (omega arith, c.requires.1, omega arith)
-
-pub overflow_cast-bound : goal.overflow_cast-bound
-overflow_cast-bound c = let e = c.requires.2.first in omega arith
-
-pub put-requires : goal.put-requires
-put-requires c = let p = c.requires.0 in let a = c.turning-gone.ensures.alike.1 in let b = c.step_again-again.ensures.alike.1 in let d = c.added-stored.ensures.alike.1 in (omega arith, omega arith, c.going_to.ensures.upper_bound)
-
-pub shape_of-code : goal.shape_of-code
-shape_of-code c = c.put.auto.code ∙ c.added-stored.auto.code ∙ c.step_again-again.auto.code ∙ c.turning-gone.auto.code
 
 pub returns : goal.returns
 unfolding stepping

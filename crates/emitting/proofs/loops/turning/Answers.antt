@@ -8,12 +8,6 @@ use Rattle.emitting.specs.model.Arrays.{seen}
 use Rattle.emitting.proofs.Alikes.{alike_then}
 use Rattle.emitting.proofs.loops.turning.Goals as goal
 
-pub overflow_add-back : goal.overflow_add-back
-overflow_add-back c = let p = c.requires.0 in let a = c.tested-compared.ensures.alike.1 in omega arith
-
-pub bodied-requires : goal.bodied-requires
-bodied-requires c = let p = c.requires.0 in let a = c.tested-compared.ensures.alike.1 in omega arith
-
 pub returns : goal.returns
 unfolding turning ahead_at
 returns c =

@@ -1,13 +1,9 @@
 -- `emitting::loops::whiled` meets its contract: the condition, to the body, and the element ends.
 -- Assumes nothing.
 use mathlib.Core.Path.{ap, ◌∙◌}
-use native.Mathlib.Omega.{arith}
 use Rattle.emitting.specs.model.Emission.{element, bodied, ahead_at}
 use Rattle.emitting.specs.model.Arrays.{seen}
 use Rattle.emitting.proofs.loops.whiled.Goals as goal
-
-pub element-requires : goal.element-requires
-element-requires c = let a = c.bodied.ensures.alike.0.slots in let b = c.bodied.ensures.alike.2 in let d = c.put-tested.ensures.alike.0.slots in let e = c.put-tested.ensures.alike.2 in let p = c.requires.0.slots in let q = c.requires.0.open_ones in (omega arith, omega arith)
 
 pub returns : goal.returns
 unfolding ahead_at

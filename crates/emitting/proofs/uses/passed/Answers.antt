@@ -1,6 +1,5 @@
 -- `emitting::uses::passed` meets its contract: one use fewer, where there is one.
 -- Assumes nothing.
-use mathlib.Core.Path.{refl}
 use Rattle.emitting.specs.model.Emission.{with_uses}
 use Rattle.emitting.proofs.NextUses.{others_here, others_nowhere}
 use Rattle.emitting.proofs.uses.passed.Goals as goal

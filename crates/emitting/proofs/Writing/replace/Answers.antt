@@ -1,13 +1,10 @@
--- `emitting::putting::replace` meets its contract: the newest is closed, then another opens.
+-- `emitting::Writing::replace` meets its contract: the newest is closed, then another opens.
 -- Assumes nothing.
 use mathlib.Core.Path.{◌∙◌, ap}
 use Rattle.emitting.specs.model.Emission.{pushed, popped, replaced, with_open}
 use native.Mathlib.Omega.{arith}
 use Rattle.emitting.proofs.Alikes.{alike_then}
-use Rattle.emitting.proofs.putting.replace.Goals as goal
-
-pub push-requires : goal.push-requires
-push-requires c = c.pop.ensures.alike.4 c.requires
+use Rattle.emitting.proofs.Writing.replace.Goals as goal
 
 pub returns : goal.returns
 unfolding replaced pushed popped with_open

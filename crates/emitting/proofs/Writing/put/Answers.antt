@@ -1,8 +1,8 @@
--- `emitting::putting::put` meets its contract: the two words are written, one after the other.
+-- `emitting::Writing::put` meets its contract: the two words are written, one after the other.
 -- Assumes nothing.
 use mathlib.Core.Path.{refl}
 use Rattle.emitting.specs.model.Emission.{put}
-use Rattle.emitting.proofs.putting.put.Goals as goal
+use Rattle.emitting.proofs.Writing.put.Goals as goal
 
 pub returns : goal.returns
 unfolding put

@@ -1,8 +1,8 @@
--- `emitting::putting::slot` meets its contract: one more is counted.
+-- `emitting::Writing::slot` meets its contract: one more is counted.
 -- Assumes nothing.
 use mathlib.Core.Path.{refl}
 use Rattle.emitting.specs.model.Emission.{with_slot}
-use Rattle.emitting.proofs.putting.slot.Goals as goal
+use Rattle.emitting.proofs.Writing.slot.Goals as goal
 
 pub returns : goal.returns
 unfolding with_slot
