@@ -16,7 +16,7 @@ use Rattle.symbols.specs.declared.Context.TheVariants.{Plain}
 use Rattle.symbols.specs.declared.Cursor.{Cursor}
 use Rattle.symbols.specs.declared.Step.{Step}
 use Rattle.symbols.specs.declared.Step.TheVariants.{Read, Passed, Refused, End}
-use Rattle.symbols.specs.declared.Scanned.TheVariants.{Read as Symbols, Refused as Stops}
+use Rattle.std.specs.Prelude.{Result, Ok, Err}
 
 -- an array with what was found written over it
 over_step : {A : Type 0} (g : Found → A) (f : List Found) (x : Found) (n : ℕ) (now before : List A) → length f ≡ n → n < length before
@@ -86,7 +86,7 @@ module _ (room : ℕ) (s : List ℕ) (kinds₀ places₀ values₀ : List ℕ) w
     ends r e w = ap (λ (x : Scan). x.found) w ∙ ap (λ (l : List Found). i.list ++ l) e ∙ append-nil i.list
 
     filled : (r : Scan) → r.found ≡ [] → (w : scan room s ≡ joined i.list r)
-        → (a : Rattle.symbols.specs.declared.Scanned.Scanned) → a ≡ answer_of (scan room s) → Filled room s a kinds₀ kinds places₀ places values₀ values
+        → (a : Result ℕ Refusal) → a ≡ answer_of (scan room s) → Filled room s a kinds₀ kinds places₀ places values₀ values
     filled r e w a q =
         let f = sym (ends r e w) in
         record {
@@ -96,14 +96,14 @@ module _ (room : ℕ) (s : List ℕ) (kinds₀ places₀ values₀ : List ℕ) w
           valued = i.valued ∙ ap (λ (l : List Found). over (values_of l) values₀) f;
         }
 
-    pub refused_here : (r : Refusal) → step_at (room - n) s c ≡ Refused r → Filled room s (Stops r) kinds₀ kinds places₀ places values₀ values
+    pub refused_here : (r : Refusal) → step_at (room - n) s c ≡ Refused r → Filled room s (Err r) kinds₀ kinds places₀ places values₀ values
     unfolding answer_of
     refused_here r e =
         let w = stepped (Refused r) e in
-        filled (record { found = []; refused = some r }) refl w (Stops r) (sym (ap answer_of w))
+        filled (record { found = []; refused = some r }) refl w (Err r) (sym (ap answer_of w))
 
-    pub ended_here : step_at (room - n) s c ≡ End → Filled room s (Symbols n) kinds₀ kinds places₀ places values₀ values
+    pub ended_here : step_at (room - n) s c ≡ End → Filled room s (Ok n) kinds₀ kinds places₀ places values₀ values
     unfolding answer_of
     ended_here e =
         let w = stepped End e in
-        filled whole refl w (Symbols n) (sym (ap answer_of w ∙ ap Symbols (ap length (append-nil i.list) ∙ i.count)))
+        filled whole refl w (Ok n) (sym (ap answer_of w ∙ ap Ok (ap length (append-nil i.list) ∙ i.count)))

@@ -19,8 +19,7 @@ use Rattle.symbols.specs.Names.{blank, letter, digit, in_name, these, reach, val
 use Rattle.symbols.specs.Symbols.{signs, words, is, packed}
 use Rattle.symbols.specs.Scan.{before, closed, spelled, named, word, gap, followed, sign, sized, name, valued, pointed, with_point, number, point, lexeme, behind, ends_remark, note, counted, judged, turn, Scan, kept, then, scan_from, scan}
 use Rattle.symbols.specs.model.Steps.{joined_of}
-use Rattle.symbols.specs.declared.words.Spelled.{Spelled}
-use Rattle.symbols.specs.declared.words.Spelled.TheVariants.{Word, Unknown}
+use Rattle.std.specs.Prelude.{Option, Some, None}
 use Rattle.symbols.specs.declared.Symbol.{Symbol}
 use Rattle.symbols.specs.declared.Symbol.TheVariants.{Comment, Name, Number, Decimal, Less, LessEqual, Greater, GreaterEqual, Colon, Becomes}
 use Rattle.symbols.specs.declared.Context.{Context}
@@ -176,10 +175,10 @@ open-long q (x ∷ xs) ys h = go (eqb x q) refl (open-long q xs ys)
         let l : suc (length xs) ≤ suc (length (before q xs)) = ltb-false (suc (length (before q xs))) (suc (length xs)) (rw e at h) in
         rw e (omega (arith, f (le-ltb (length (before q xs)) (length xs) (omega arith))))
 
-named_held : (r : Spelled) (k m : ℕ) → Held m (named r k) → k ≤ m
+named_held : (r : Option Symbol) (k m : ℕ) → Held m (named r k) → k ≤ m
 unfolding named
-named_held (Word s) k m h = h
-named_held Unknown k m h = absurd h
+named_held (Some s) k m h = h
+named_held None k m h = absurd h
 
 word_held : (xs ys : List ℕ) → Held (length xs) (word (xs ++ ys)) → word xs ≡ word (xs ++ ys)
 unfolding word

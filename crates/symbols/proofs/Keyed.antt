@@ -12,7 +12,7 @@ use Rattle.symbols.specs.Text.{bytes}
 use Rattle.symbols.specs.Names.{equal, folded, same_name}
 use Rattle.symbols.specs.Symbols.{Delimiter, words}
 use Rattle.symbols.specs.Scan.{spelled}
-use Rattle.symbols.specs.declared.words.Spelled.TheVariants.{Word, Unknown}
+use Rattle.std.specs.Prelude.{Some, None}
 use Rattle.symbols.proofs.Laws.{both}
 use Rattle.symbols.proofs.LetterCase.{same_length, same_cons}
 
@@ -70,7 +70,7 @@ search_among test [] w h = refl
 search_among test (x ∷ l) w h = go (test (bytes x.spelling)) refl (search_among test l w h)
   where
     go : (t : Bool) → test (bytes x.spelling) ≡ t → spelled l w ≡ spelled (among test l) w
-        → cond (same_name w (bytes x.spelling)) (Word x.symbol) (spelled l w) ≡ spelled (cond t (x ∷ among test l) (among test l)) w
+        → cond (same_name w (bytes x.spelling)) (Some x.symbol) (spelled l w) ≡ spelled (cond t (x ∷ among test l) (among test l)) w
     go true e f = rw f refl
     go false e f = rw (unlike w (bytes x.spelling) (h (bytes x.spelling) e)) f
 
@@ -137,7 +137,7 @@ outside (k ∷ ks) c d h r e = go (eqb d k) refl h (λ g. outside ks c d g r.0 e
     go true f g later = r.1 (e ∙ eqb-true d k f)
     go false f g later = later g
 
-pub elsewhere : (ks : List ℕ) (l : List Delimiter) (w : List ℕ) (c : ℕ) → folded (get_or w 0 0) ≡ c → covers ks l ≡ true → NoneOf ks c → spelled l w ≡ Unknown
+pub elsewhere : (ks : List ℕ) (l : List Delimiter) (w : List ℕ) (c : ℕ) → folded (get_or w 0 0) ≡ c → covers ks l ≡ true → NoneOf ks c → spelled l w ≡ None
 unfolding spelled
 elsewhere ks [] w c e h r = refl
 elsewhere ks (x ∷ l) w c e h r =

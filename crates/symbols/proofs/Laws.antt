@@ -18,7 +18,7 @@ use Rattle.symbols.specs.declared.Context.{Context}
 use Rattle.symbols.specs.declared.Context.TheVariants.{Opens, Plain, Remark}
 use Rattle.symbols.specs.Scan.{before, gap, valued, behind, counted, lexeme, judged, turn}
 use Rattle.symbols.specs.declared.Symbol.{Symbol}
-use Rattle.symbols.specs.model.Steps.{capped, rest_at, lexeme_at, turn_at}
+use Rattle.symbols.specs.model.Steps.{capped, lexeme_at, turn_at}
 
 -- ---- lists
 
@@ -179,16 +179,29 @@ unfolding value_from
 number_more v s i h e =
     rw (these_one digit s i h e) (sym (capped_from (10 * v + (get_or s i 0 - 48)) (these digit (drop (i + 1) s))))
 
--- ---- what is left of a name
+-- ---- the next letter or digit
 
-module _ (s : List ℕ) (i : ℕ) where
-  pub rest_on : i < length s → rest_at s i ≡ get_or s i 0 ∷ letters (drop (i + 1) s)
-  unfolding rest_at
-  rest_on h = rw (lt-ltb i (length s) h)
+-- what is no part of the sort and stands first is passed over where it is blank; then one of the sort stands, or none is left
+module _ (sort : ℕ → Bool) (apart : (b : ℕ) → blank b ≡ true → sort b ≡ false) where
+  pub these_next : (bs : List ℕ) → gap bs < length bs → these sort bs ≡ cond (sort (get_or bs (gap bs) 0)) (get_or bs (gap bs) 0 ∷ these sort (drop (suc (gap bs)) bs)) []
+  unfolding these gap
+  these_next [] h = absurd (omega arith)
+  these_next (b ∷ bs) h = go (blank b) refl (λ k. these_next bs k) h
+    where
+      go : (t : Bool) → blank b ≡ t → (gap bs < length bs → these sort bs ≡ cond (sort (get_or bs (gap bs) 0)) (get_or bs (gap bs) 0 ∷ these sort (drop (suc (gap bs)) bs)) [])
+          → cond t (suc (gap bs)) 0 < length (b ∷ bs)
+          → cond (sort b) (b ∷ these sort bs) (cond t (these sort bs) []) ≡ cond (sort (get_or (b ∷ bs) (cond t (suc (gap bs)) 0) 0)) (get_or (b ∷ bs) (cond t (suc (gap bs)) 0) 0 ∷ these sort (drop (suc (cond t (suc (gap bs)) 0)) (b ∷ bs))) []
+      go true e ih k = rw (apart b e) (ih (omega arith))
+      go false e ih k = refl
 
-  pub rest_off : length s ≤ i → rest_at s i ≡ []
-  unfolding rest_at
-  rest_off h = rw (le-ltb i (length s) h)
+  pub these_none : (bs : List ℕ) → length bs ≤ gap bs → these sort bs ≡ []
+  unfolding these gap
+  these_none [] h = refl
+  these_none (b ∷ bs) h = go (blank b) refl (λ k. these_none bs k) h
+    where
+      go : (t : Bool) → blank b ≡ t → (length bs ≤ gap bs → these sort bs ≡ []) → length (b ∷ bs) ≤ cond t (suc (gap bs)) 0 → cond (sort b) (b ∷ these sort bs) (cond t (these sort bs) []) ≡ []
+      go true e ih k = rw (apart b e) (ih (omega arith))
+      go false e ih k = absurd (omega arith)
 
 -- ---- words
 
@@ -209,29 +222,6 @@ before_take q (b ∷ bs) = go (eqb b q) (before_take q bs)
     go : (t : Bool) → take (length (before q bs)) bs ≡ before q bs → take (length (cond t [] (b ∷ before q bs))) (b ∷ bs) ≡ cond t [] (b ∷ before q bs)
     go true e = refl
     go false e = ap (λ (l : List ℕ). b ∷ l) e
-
--- ---- two names
-
-pub rests_apart : (s : List ℕ) (i j : ℕ) → i < length s → length s ≤ j → same_name (rest_at s i) (rest_at s j) ≡ false
-unfolding same_name equal
-rests_apart s i j h k = rw (rest_on s i h, rest_off s j k)
-
-pub rests_differ : (s : List ℕ) (i j : ℕ) → i < length s → j < length s → eqb (folded (get_or s i 0)) (folded (get_or s j 0)) ≡ false → same_name (rest_at s i) (rest_at s j) ≡ false
-unfolding same_name equal
-rests_differ s i j h k n = rw (rest_on s i h, rest_on s j k, n)
-
-pub rests_on : (s : List ℕ) (i j i' j' : ℕ) → i < length s → j < length s → eqb (folded (get_or s i 0)) (folded (get_or s j 0)) ≡ true
-    → letters (drop (i + 1) s) ≡ rest_at s i' → letters (drop (j + 1) s) ≡ rest_at s j' → same_name (rest_at s i) (rest_at s j) ≡ same_name (rest_at s i') (rest_at s j')
-unfolding same_name equal
-rests_on s i j i' j' h k e p q = rw (rest_on s i h, rest_on s j k, e, p, q)
-
-pub rests_end : (s : List ℕ) (i j : ℕ) → length s ≤ i → same_name (rest_at s i) (rest_at s j) ≡ leb (length s) j
-unfolding same_name equal
-rests_end s i j h = rw (rest_off s i h) (go (leb (length s) j) refl)
-  where
-    go : (t : Bool) → leb (length s) j ≡ t → same_name [] (rest_at s j) ≡ t
-    go true e = rw (rest_off s j (leb-true (length s) j e))
-    go false e = rw (rest_on s j (leb-false (length s) j e))
 
 -- ---- counting
 

@@ -8,6 +8,7 @@ pub mod Decimals
 pub mod Resume
 pub mod Filling
 pub mod Follows
+pub mod Next
 pub mod Sources
 pub mod Examples
 pub mod FirstFault
@@ -18,3 +19,4 @@ pub mod OwnSymbols
 pub mod WrittenAgain
 pub mod Values
 pub mod AnyCase
+pub mod Ascii

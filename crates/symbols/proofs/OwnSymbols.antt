@@ -15,8 +15,7 @@ use Rattle.symbols.specs.Symbols.{Delimiter, words, Sign, one, two, signs, kind,
 use Rattle.symbols.specs.Scan.{before, closed, spelled, named, word, gap, followed, sign, sized, name, valued, pointed, with_point, number, point, lexeme, behind, ends_remark, note, counted, judged, turn, Found, Scan, then, scan_from, scan}
 use Rattle.symbols.specs.declared.Context.{Context}
 use Rattle.symbols.specs.declared.Context.TheVariants.{Opens, Plain, Remark}
-use Rattle.symbols.specs.declared.words.Spelled.{Spelled}
-use Rattle.symbols.specs.declared.words.Spelled.TheVariants.{Word, Unknown}
+use Rattle.std.specs.Prelude.{Option, Some, None}
 use Rattle.symbols.specs.declared.Lexeme.{Lexeme}
 use Rattle.symbols.specs.declared.Lexeme.TheVariants.{Is, Large, Nothing}
 use Rattle.symbols.specs.declared.Turn.{Turn}
@@ -90,9 +89,9 @@ plain_words : List Delimiter → Bool
 plain_words [] = true
 plain_words (x ∷ l) = plain x.symbol && plain_words l
 
-abbrev SpelledAs : Spelled → Type 0
-SpelledAs (Word s) = plain s ≡ true
-SpelledAs Unknown = Unit {0}
+abbrev SpelledAs : Option Symbol → Type 0
+SpelledAs (Some s) = plain s ≡ true
+SpelledAs None = Unit {0}
 
 spelled_as : (l : List Delimiter) (w : List ℕ) → plain_words l ≡ true → SpelledAs (spelled l w)
 unfolding spelled plain_words
@@ -101,7 +100,7 @@ spelled_as (x ∷ l) w h =
     let k = both (plain x.symbol) (plain_words l) h in
     go (Rattle.symbols.specs.Names.same_name w (Rattle.symbols.specs.Text.bytes x.spelling)) k.0 (spelled_as l w k.1)
   where
-    go : (t : Bool) → plain x.symbol ≡ true → SpelledAs (spelled l w) → SpelledAs (cond t (Word x.symbol) (spelled l w))
+    go : (t : Bool) → plain x.symbol ≡ true → SpelledAs (spelled l w) → SpelledAs (cond t (Some x.symbol) (spelled l w))
     go true a r = a
     go false a r = r
 
@@ -109,10 +108,10 @@ words_plain : plain_words words ≡ true
 unfolding plain_words plain
 words_plain = refl
 
-named_as_lem : (b : ℕ) (bs : List ℕ) (r : Spelled) (k : ℕ) → Else b → eqb b 61 ≡ false → SpelledAs r → LexedAs b bs (named r k)
+named_as_lem : (b : ℕ) (bs : List ℕ) (r : Option Symbol) (k : ℕ) → Else b → eqb b 61 ≡ false → SpelledAs r → LexedAs b bs (named r k)
 unfolding named
-named_as_lem b bs (Word s) k o q h = other_lexed b bs s k o q h
-named_as_lem b bs Unknown k o q h = tt
+named_as_lem b bs (Some s) k o q h = other_lexed b bs s k o q h
+named_as_lem b bs None k o q h = tt
 
 word_as : (b : ℕ) (bs : List ℕ) → Else b → eqb b 61 ≡ false → LexedAs b bs (word bs)
 unfolding word

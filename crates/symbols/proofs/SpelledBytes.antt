@@ -14,7 +14,7 @@ use Rattle.symbols.specs.declared.Context.{Context}
 use Rattle.symbols.specs.declared.Turn.{Turn}
 use Rattle.symbols.specs.declared.Turn.TheVariants.{Pass}
 use Rattle.symbols.specs.declared.Symbol.{Symbol}
-use Rattle.symbols.specs.declared.words.Spelled.TheVariants.{Word}
+use Rattle.std.specs.Prelude.{Some}
 use Rattle.symbols.specs.declared.Lexeme.TheVariants.{Is}
 use Rattle.symbols.specs.Spelling.{All}
 use Rattle.symbols.proofs.Follows.{blank_no_digit}
@@ -196,7 +196,7 @@ unfolding before
 before_free [] ys h = refl
 before_free (x ∷ t) ys h = rw h.0 (ap (λ (l : List ℕ). x ∷ l) (before_free t ys h.1))
 
-pub word_closed : (w : List ℕ) (s : Symbol) → Free w → spelled words w ≡ Word s → (zs : List ℕ) → word (w ++ (39 ∷ zs)) ≡ Is s (length w + 1)
+pub word_closed : (w : List ℕ) (s : Symbol) → Free w → spelled words w ≡ Some s → (zs : List ℕ) → word (w ++ (39 ∷ zs)) ≡ Is s (length w + 1)
 unfolding word closed named
 word_closed w s f e zs =
     let l : length w < length (w ++ (39 ∷ zs)) = omega (arith, length-append w (39 ∷ zs)) in

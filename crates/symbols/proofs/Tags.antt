@@ -1,13 +1,12 @@
 -- What the last arm of a match on a symbol tells: its kind is none of those that the other arms have.
-use mathlib.Core.Path.{◌≡◌, refl}
+use mathlib.Core.Path.{◌≡◌, refl, sym, ap, ◌∙◌}
 use mathlib.Core.Bool.{Bool, true, false, cond, ◌||◌}
-use mathlib.Core.List.{List, [], ◌∷◌}
-use mathlib.Core.Logic.{⊎_elim}
 use Prim.Native.Nat.{ℕ}
-use lib.Dec.{eqb}
-use types.Run.{OneOf}
+use borrow.Author.Tests.{eqb-true}
 use denote.Enum.Declared.{tag_of}
-use Rattle.symbols.specs.Symbols.{kind, is}
+use Rattle.symbols.specs.Symbols.{kind, is, value_of}
+use Rattle.symbols.specs.model.Kinds.{symbol_of}
+use Rattle.symbols.proofs.Stored.{given_back}
 use Rattle.symbols.specs.Scan.{behind, ends_remark}
 use Rattle.symbols.specs.declared.Context.TheVariants.{Opens, Plain, Remark}
 use Rattle.symbols.specs.contracts.Symbol.{the_type}
@@ -60,56 +59,25 @@ tag_kind Real = refl
 tag_kind Slash = refl
 tag_kind (Decimal w) = refl
 
-abbrev has : ℕ → List ℕ → Bool
-has y [] = false
-has y (k ∷ ks) = cond (eqb k y) true (has y ks)
-
--- the kinds but for these
-abbrev less : List ℕ → List ℕ → List ℕ
-less out [] = []
-less out (k ∷ ks) = cond (has k out) (less out ks) (k ∷ less out ks)
-
-abbrev others : List ℕ → List ℕ
-others out = less out (0 ∷ 1 ∷ 2 ∷ 3 ∷ 4 ∷ 5 ∷ 6 ∷ 7 ∷ 8 ∷ 9 ∷ 10 ∷ 11 ∷ 12 ∷ 13 ∷ 14 ∷ 15 ∷ 16 ∷ 17 ∷ 18 ∷ 19 ∷ 20 ∷ 21 ∷ 22 ∷ 23 ∷ 24 ∷ 25 ∷ 26 ∷ 27 ∷ 28 ∷ 29 ∷ 30 ∷ 31 ∷ 32 ∷ 33 ∷ 34 ∷ 35 ∷ 36 ∷ 37 ∷ 38 ∷ 39 ∷ 40 ∷ 41 ∷ 42 ∷ [])
-
-one_not : (k x y : ℕ) (t : Bool) → x ≡ k → cond (eqb k y) true t ≡ false → eqb x y ≡ false
-one_not k x y t e h = rw e (go (eqb k y) h)
+-- a symbol that is not this one, which has no value, is of another kind
+apart : (s t : Symbol) → ((v : ℕ) → symbol_of (kind t) v ≡ t) → (s ≡ t → ⊥) → is s t ≡ false
+apart s t h n = go (is s t) refl
   where
-    go : (u : Bool) → cond u true t ≡ false → u ≡ false
-    go true h' = h'
-    go false h' = refl
+    go : (u : Bool) → is s t ≡ u → u ≡ false
+    go true e = absurd (n (sym (given_back s) ∙ ap (λ (k : ℕ). symbol_of k (value_of s)) (eqb-true (kind s) (kind t) e) ∙ h (value_of s)))
+    go false e = refl
 
-rest_not : (u t : Bool) → cond u true t ≡ false → t ≡ false
-rest_not true t h = let z : ◌≡◌ {A = Bool} true false = h in cc
-rest_not false t h = h
-
-none_of : (ks : List ℕ) (x y : ℕ) → OneOf ks x → has y ks ≡ false → eqb x y ≡ false
-none_of [] x y o h = absurd o
-none_of (k ∷ []) x y o h = one_not k x y false o h
-none_of (k ∷ k' ∷ ks) x y o h =
-    ⊎_elim (λ e. one_not k x y (has y (k' ∷ ks)) e h) (λ r. none_of (k' ∷ ks) x y r (rest_not (eqb k y) (has y (k' ∷ ks)) h)) o
-
-no_kind : (ks : List ℕ) (s : Symbol) (y : ℕ) → OneOf ks (tag_of the_type s) → has y ks ≡ false → eqb (kind s) y ≡ false
-no_kind ks s y o h = rw (← tag_kind s) (none_of ks (tag_of the_type s) y o h)
-
--- the three functions that match on a symbol
+-- the two functions that match on a symbol
 neither : {A : Type 0} (x y z : Bool) (a b d : A) → x ≡ false → y ≡ false → z ≡ false → cond (x || y) a (cond z b d) ≡ d
 neither x y z a b d p q r = rw (p, q, r)
 
 nor : (x y z : Bool) → x ≡ false → y ≡ false → z ≡ false → (x || y || z) ≡ false
 nor x y z p q r = rw (p, q, r)
 
-pub behind_other : (s : Symbol) → OneOf (others (kind Semicolon ∷ kind Begin ∷ kind End ∷ [])) (tag_of the_type s) → behind s ≡ Plain
-unfolding behind
-behind_other s o =
-    let ks = others (kind Semicolon ∷ kind Begin ∷ kind End ∷ []) in
-    neither (eqb (kind s) (kind Semicolon)) (eqb (kind s) (kind Begin)) (eqb (kind s) (kind End)) Opens Remark Plain (no_kind ks s (kind Semicolon) o refl) (no_kind ks s (kind Begin) o refl) (no_kind ks s (kind End) o refl)
+pub behind_other : (s : Symbol) → (s ≡ Semicolon → ⊥) → (s ≡ Begin → ⊥) → (s ≡ End → ⊥) → behind s ≡ Plain
+unfolding behind symbol_of
+behind_other s a b d = neither (is s Semicolon) (is s Begin) (is s End) Opens Remark Plain (apart s Semicolon (λ v. refl) a) (apart s Begin (λ v. refl) b) (apart s End (λ v. refl) d)
 
-pub remark_other : (s : Symbol) → OneOf (others (kind Semicolon ∷ kind Else ∷ kind End ∷ [])) (tag_of the_type s) → ends_remark s ≡ false
-unfolding ends_remark
-remark_other s o =
-    let ks = others (kind Semicolon ∷ kind Else ∷ kind End ∷ []) in
-    nor (eqb (kind s) (kind End)) (eqb (kind s) (kind Else)) (eqb (kind s) (kind Semicolon)) (no_kind ks s (kind End) o refl) (no_kind ks s (kind Else) o refl) (no_kind ks s (kind Semicolon) o refl)
-
-pub comment_other : (s : Symbol) → OneOf (others (kind Comment ∷ [])) (tag_of the_type s) → is s Comment ≡ false
-comment_other s o = no_kind (others (kind Comment ∷ [])) s (kind Comment) o refl
+pub remark_other : (s : Symbol) → (s ≡ End → ⊥) → (s ≡ Else → ⊥) → (s ≡ Semicolon → ⊥) → ends_remark s ≡ false
+unfolding ends_remark symbol_of
+remark_other s a b d = nor (is s End) (is s Else) (is s Semicolon) (apart s End (λ v. refl) a) (apart s Else (λ v. refl) b) (apart s Semicolon (λ v. refl) d)

@@ -12,8 +12,7 @@ use Rattle.symbols.proofs.Laws.{both}
 use Rattle.symbols.specs.Names.{blank, letter, digit, in_name, these, reach, letters, value, decimals}
 use Rattle.symbols.specs.Symbols.{Sign, one, two, signs, words, is}
 use Rattle.symbols.specs.Scan.{before, closed, spelled, named, word, gap, followed, sign, sized, name, valued, pointed, with_point, number, point, lexeme, ends_remark, note, counted, judged, turn}
-use Rattle.symbols.specs.declared.words.Spelled.{Spelled}
-use Rattle.symbols.specs.declared.words.Spelled.TheVariants.{Word, Unknown}
+use Rattle.std.specs.Prelude.{Option, Some, None}
 use Rattle.symbols.specs.declared.Symbol.{Symbol}
 use Rattle.symbols.specs.declared.Symbol.TheVariants.{Comment}
 use Rattle.symbols.specs.declared.Context.{Context}
@@ -66,10 +65,10 @@ either : (t : Bool) (x y : Lexeme) (n : ℕ) → (t ≡ true → Fits x n) → F
 either true x y n h k = h refl
 either false x y n h k = k
 
-fits_named : (r : Spelled) (k n : ℕ) → k ≤ n → Fits (named r k) n
+fits_named : (r : Option Symbol) (k n : ℕ) → k ≤ n → Fits (named r k) n
 unfolding named
-fits_named (Word s) k n h = h
-fits_named Unknown k n h = tt
+fits_named (Some s) k n h = h
+fits_named None k n h = tt
 
 pub fits_word : (bs : List ℕ) → Fits (word bs) (length bs)
 unfolding word closed

@@ -1,7 +1,7 @@
 -- Paper 01, "Bytes to symbols": from bytes to symbols with their places, or 3 or 4 with a place.
-use Rattle.std.specs.Prelude.{ℕ, zero, suc, pred, ◌+◌, Bool, cond, ◌&&◌, ◌||◌, List, [], ◌∷◌, ◌++◌, map, length, get_or, drop, eqb, ltb}
+use Rattle.std.specs.Prelude.{Option, Some, None, ℕ, zero, suc, pred, ◌+◌, Bool, cond, ◌&&◌, ◌||◌, List, [], ◌∷◌, ◌++◌, map, length, get_or, drop, eqb, ltb}
 use Prim.Native.Char.{code}
-use Rattle.std.proofs.Math.Option.{Option, none, some}
+use Rattle.std.proofs.Math.Option.{Option as Optional, none, some}
 use Rattle.answers.specs.Numbers.{no_symbol, too_large}
 use Rattle.answers.specs.Answers.{answer, refusal}
 use Rattle.answers.specs.declared.Answer.{Answer}
@@ -11,8 +11,6 @@ use Rattle.symbols.specs.Names.{blank, letter, digit, in_name, these, reach, let
 use Rattle.symbols.specs.Symbols.{Delimiter, words, Sign, one, two, signs, kind, is, packed, value_of}
 use Rattle.symbols.specs.declared.Context.{Context}
 use Rattle.symbols.specs.declared.Context.TheVariants.{Opens, Plain, Remark}
-use Rattle.symbols.specs.declared.words.Spelled.{Spelled}
-use Rattle.symbols.specs.declared.words.Spelled.TheVariants.{Word, Unknown}
 use Rattle.symbols.specs.declared.Lexeme.{Lexeme}
 use Rattle.symbols.specs.declared.Lexeme.TheVariants.{Is, Large, Nothing}
 use Rattle.symbols.specs.declared.Turn.{Turn}
@@ -35,13 +33,13 @@ closed q bs = ltb (length (before q bs)) (length bs)
 
 -- "Delimiter words stand between apostrophes"; "A blank inside the apostrophes spoils the word."; request 8: "Delimiter words then match in any
 -- case too."
-unfoldable pub spelled : List Delimiter → List ℕ → Spelled
-spelled [] w = Unknown
-spelled (x ∷ l) w = cond (same_name w (bytes x.spelling)) (Word x.symbol) (spelled l w)
+unfoldable pub spelled : List Delimiter → List ℕ → Option Symbol
+spelled [] w = None
+spelled (x ∷ l) w = cond (same_name w (bytes x.spelling)) (Some x.symbol) (spelled l w)
 
-unfoldable pub named : Spelled → ℕ → Lexeme
-named Unknown k = Nothing
-named (Word s) k = Is s k
+unfoldable pub named : Option Symbol → ℕ → Lexeme
+named None k = Nothing
+named (Some s) k = Is s k
 
 -- behind an apostrophe
 unfoldable pub word : List ℕ → Lexeme
@@ -156,7 +154,7 @@ pub record Found : Type 0 where
 -- smallest place, so that it is the one to answer: "then 3 and 4 by smallest place" (`first_fault` in proofs/FirstFault)
 pub record Scan : Type 0 where
   pub found : List Found
-  pub refused : Option Refusal
+  pub refused : Optional Refusal
 
 abbrev pub whole : Scan
 whole = record { found = []; refused = none }

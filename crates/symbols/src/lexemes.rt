@@ -6,7 +6,7 @@ ghost use Rattle.symbols.specs.model.Steps.{capped, digits_from, pointed_at, joi
 ghost use Rattle.symbols.specs.Scan.{name as name_of, number as number_of, word as word_of, sign as sign_of, sized as sized_of, valued as valued_of, pointed as pointed_of, point as point_of};
 
 use crate::text::{blanks_end, find, is_blank, is_digit, is_letter, is_name_byte};
-use crate::words::{Spelled, spelled_word};
+use crate::words::spelled_word;
 use crate::{Lexeme, Symbol};
 
 // A letter at `at`, and the letters and digits behind it.
@@ -15,18 +15,16 @@ fn name(source: &[u8], at: usize) -> Lexeme
     requires at_value { letter (get_or source.now at 0) ≡ true }
     ensures { result ≡ name_of (get_or source.now at 0) (drop (at + 1) source.now) }
 {
-    let mut i = at + 1;
     let mut size = 1;
-    while i < source.len() {
+    for i in at + 1..source.len() {
         let b = source[i];
         if is_name_byte(b) {
             size += 1;
         } else if !is_blank(b) {
             return sized(size, i - at - 1);
         }
-        i += 1;
     }
-    sized(size, i - at - 1)
+    sized(size, source.len() - at - 1)
 }
 
 // A name of so many letters and digits.
@@ -53,10 +51,9 @@ fn digits_from(source: &[u8], from: usize, value: u64, count: usize) -> Digits
     requires { (from ≤ length source.now) × (count ≤ from) × (value ≤ 1000000000000000) }
     ensures { result ≡ digits_from source.now from value count }
 {
-    let mut i = from;
     let mut v = value;
     let mut n = count;
-    while i < source.len() {
+    for i in from..source.len() {
         let b = source[i];
         if is_digit(b) {
             v = with_digit(v, b);
@@ -68,26 +65,24 @@ fn digits_from(source: &[u8], from: usize, value: u64, count: usize) -> Digits
                 end: i,
             };
         }
-        i += 1;
     }
     Digits {
         value: v,
         count: n,
-        end: i,
+        end: source.len(),
     }
 }
 
+// Over every limit: where a value is kept.
+const CAP: u64 = 1_000_000_000_000_000;
+
 // One digit more, up to 10^15.
+#[tactic(auto, using(crate::proofs::Laws::digit_range), unfolding(crate::specs::model::Steps::capped))]
 fn with_digit(v: u64, b: u8) -> u64
     requires { (v ≤ 1000000000000000) × (digit b ≡ true) }
     ensures { result ≡ capped (10 * v + (b - 48)) }
 {
-    let w = 10 * v + ((b - 48) as u64);
-    if w < 1000000000000000 {
-        w
-    } else {
-        1000000000000000
-    }
+    (10 * v + u64::from(b - b'0')).min(CAP)
 }
 
 // A number of this value.
@@ -143,7 +138,7 @@ fn number(source: &[u8], at: usize) -> Lexeme
     if source.len() <= end {
         return plain;
     }
-    if source[end] == 46 {
+    if source[end] == b'.' {
         return with_point(source, at, front, plain);
     }
     plain
@@ -165,13 +160,13 @@ fn word(source: &[u8], at: usize) -> Lexeme
     ensures { result ≡ word_of (drop (at + 1) source.now) }
 {
     let from = at + 1;
-    let end = find(source, from, 39);
+    let end = find(source, from, b'\'');
     if source.len() <= end {
         return Lexeme::Nothing;
     }
     match spelled_word(&source[from..end]) {
-        Spelled::Word(s) => Lexeme::Is(s, end - at),
-        Spelled::Unknown => Lexeme::Nothing,
+        Some(s) => Lexeme::Is(s, end - at),
+        None => Lexeme::Nothing,
     }
 }
 
@@ -181,10 +176,8 @@ fn joined(source: &[u8], at: usize, alone: Symbol, both: Symbol) -> Lexeme
     ensures { result ≡ joined_of alone both (drop (at + 1) source.now) }
 {
     let end = blanks_end(source, at + 1);
-    if end < source.len() {
-        if source[end] == 61 {
-            return Lexeme::Is(both, end - at);
-        }
+    if end < source.len() && source[end] == b'=' {
+        return Lexeme::Is(both, end - at);
     }
     Lexeme::Is(alone, 0)
 }
@@ -193,22 +186,21 @@ fn sign(source: &[u8], at: usize) -> Lexeme
     requires { at < length source.now }
     ensures { result ≡ sign_of signs (get_or source.now at 0) (drop (at + 1) source.now) }
 {
-    let b = source[at];
-    match b {
-        43 => Lexeme::Is(Symbol::Plus, 0),
-        45 => Lexeme::Is(Symbol::Minus, 0),
-        42 => Lexeme::Is(Symbol::Times, 0),
-        37 => Lexeme::Is(Symbol::Divide, 0),
-        60 => joined(source, at, Symbol::Less, Symbol::LessEqual),
-        61 => Lexeme::Is(Symbol::Equal, 0),
-        62 => joined(source, at, Symbol::Greater, Symbol::GreaterEqual),
-        35 => Lexeme::Is(Symbol::NotEqual, 0),
-        44 => Lexeme::Is(Symbol::Comma, 0),
-        58 => joined(source, at, Symbol::Colon, Symbol::Becomes),
-        59 => Lexeme::Is(Symbol::Semicolon, 0),
-        40 => Lexeme::Is(Symbol::Open, 0),
-        41 => Lexeme::Is(Symbol::Close, 0),
-        47 => Lexeme::Is(Symbol::Slash, 0),
+    match source[at] {
+        b'+' => Lexeme::Is(Symbol::Plus, 0),
+        b'-' => Lexeme::Is(Symbol::Minus, 0),
+        b'*' => Lexeme::Is(Symbol::Times, 0),
+        b'%' => Lexeme::Is(Symbol::Divide, 0),
+        b'<' => joined(source, at, Symbol::Less, Symbol::LessEqual),
+        b'=' => Lexeme::Is(Symbol::Equal, 0),
+        b'>' => joined(source, at, Symbol::Greater, Symbol::GreaterEqual),
+        b'#' => Lexeme::Is(Symbol::NotEqual, 0),
+        b',' => Lexeme::Is(Symbol::Comma, 0),
+        b':' => joined(source, at, Symbol::Colon, Symbol::Becomes),
+        b';' => Lexeme::Is(Symbol::Semicolon, 0),
+        b'(' => Lexeme::Is(Symbol::Open, 0),
+        b')' => Lexeme::Is(Symbol::Close, 0),
+        b'/' => Lexeme::Is(Symbol::Slash, 0),
         _ => Lexeme::Nothing,
     }
 }
@@ -227,10 +219,10 @@ pub fn lexeme(source: &[u8], at: usize) -> Lexeme
     if is_digit(b) {
         return number(source, at);
     }
-    if b == 46 {
+    if b == b'.' {
         return point(source, at);
     }
-    if b == 39 {
+    if b == b'\'' {
         return word(source, at);
     }
     sign(source, at)

@@ -102,10 +102,3 @@ pub enum Step {
     Refused(Refusal),
     End,
 }
-
-// What scanning a source answers: how many symbols it has, or a refusal.
-#[derive(Clone, Copy)]
-pub enum Scanned {
-    Read(usize),
-    Refused(Refusal),
-}

@@ -16,8 +16,7 @@ fn behind(s: Symbol) -> Context
     ensures { result ≡ behind_of s }
 {
     match s {
-        Symbol::Semicolon => Context::Opens,
-        Symbol::Begin => Context::Opens,
+        Symbol::Semicolon | Symbol::Begin => Context::Opens,
         Symbol::End => Context::Remark,
         _ => Context::Plain,
     }
@@ -26,21 +25,13 @@ fn behind(s: Symbol) -> Context
 fn ends_remark(s: Symbol) -> bool
     ensures { result ≡ ends_remark s }
 {
-    match s {
-        Symbol::End => true,
-        Symbol::Else => true,
-        Symbol::Semicolon => true,
-        _ => false,
-    }
+    matches!(s, Symbol::End | Symbol::Else | Symbol::Semicolon)
 }
 
 fn is_comment(s: Symbol) -> bool
     ensures { result ≡ is s Comment }
 {
-    match s {
-        Symbol::Comment => true,
-        _ => false,
-    }
+    matches!(s, Symbol::Comment)
 }
 
 // A note that opens at `at`: 'comment' has k bytes more, and the note goes through the next `;`.
@@ -48,7 +39,7 @@ fn note(source: &[u8], at: usize, k: usize) -> Turn
     requires { at + 1 + k ≤ length source.now }
     ensures { result ≡ note_of k (drop (at + 1) source.now) }
 {
-    let end = find(source, at + 1 + k, 59);
+    let end = find(source, at + 1 + k, b';');
     if source.len() <= end {
         return Turn::Refuse(Answer::NO_SYMBOL);
     }
@@ -88,12 +79,12 @@ fn judged(source: &[u8], at: usize, room: usize, c: Context, s: Symbol, k: usize
 }
 
 // A name or number over its limit: in a remark sizes are not tested.
+#[tactic(auto, unfolding(crate::specs::Scan::judged))]
 fn oversized(c: Context, k: usize) -> Turn
     ensures { result ≡ judged_of 0 c (Large k) [] }
 {
     match c {
-        Context::Opens => Turn::Refuse(Answer::TOO_LARGE),
-        Context::Plain => Turn::Refuse(Answer::TOO_LARGE),
+        Context::Opens | Context::Plain => Turn::Refuse(Answer::TOO_LARGE),
         Context::Remark => Turn::Pass(Context::Remark, k),
     }
 }

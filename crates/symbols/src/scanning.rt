@@ -4,7 +4,7 @@ ghost use Rattle.symbols.specs.model.Steps.{step_at, Filled};
 
 use crate::kinds::store;
 use crate::notes::turn;
-use crate::{Context, Cursor, Scanned, Step, Turn};
+use crate::{Context, Cursor, Step, Turn};
 use answers::Refusal;
 
 // What stands at a cursor, where `room` more symbols may come.
@@ -32,13 +32,6 @@ pub fn next(source: &[u8], cursor: Cursor, room: usize) -> Step
     }
 }
 
-// No more symbols than the arrays hold.
-fn cut(limit: usize) -> usize
-    ensures { result ≡ min limit 2048 }
-{
-    if limit < 2048 { limit } else { 2048 }
-}
-
 // The symbols of a source, of which `room` may come, into slices that hold as many.
 fn fill(
     source: &[u8],
@@ -46,7 +39,7 @@ fn fill(
     kinds: &mut [u8],
     places: &mut [usize],
     values: &mut [u64],
-) -> Scanned
+) -> Result<usize, Refusal>
     requires { (room ≤ length kinds.old) × (room ≤ length places.old) × (room ≤ length values.old) }
     ensures { Filled room source.now result kinds.old kinds.new places.old places.new values.old values.new }
 {
@@ -69,10 +62,10 @@ fn fill(
                 cursor = c;
             }
             Step::Refused(r) => {
-                return Scanned::Refused(r);
+                return Err(r);
             }
             Step::End => {
-                return Scanned::Read(n);
+                return Ok(n);
             }
         }
     }
@@ -85,8 +78,8 @@ pub fn scan(
     kinds: &mut [u8; 2048],
     places: &mut [usize; 2048],
     values: &mut [u64; 2048],
-) -> Scanned
+) -> Result<usize, Refusal>
     ensures { Filled (min limit 2048) source.now result kinds.old kinds.new places.old places.new values.old values.new }
 {
-    fill(source, cut(limit), kinds, places, values)
+    fill(source, limit.min(2048), kinds, places, values)
 }

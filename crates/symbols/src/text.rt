@@ -2,137 +2,66 @@
 ghost use Rattle.std.specs.Prelude.{◌≡◌, ◌+◌, length, drop, eqb};
 ghost use Rattle.symbols.specs.Names.{blank, letter, digit, in_name, equal, folded};
 ghost use Rattle.symbols.specs.Scan.{before, gap};
-ghost use Rattle.symbols.specs.model.Steps.{OtherCase};
 
+#[tactic(auto, unfolding(crate::specs::Names::blank))]
 pub fn is_blank(b: u8) -> bool
     ensures { result ≡ blank b }
 {
-    match b {
-        32 => true,
-        9 => true,
-        13 => true,
-        10 => true,
-        _ => false,
-    }
+    matches!(b, b' ' | b'\t' | b'\r' | b'\n')
 }
 
 pub fn is_letter(b: u8) -> bool
     ensures { result ≡ letter b }
 {
-    if b < 65 {
-        return false;
-    }
-    if b <= 90 {
-        return true;
-    }
-    if b < 97 {
-        return false;
-    }
-    b <= 122
+    b.is_ascii_alphabetic()
 }
 
 pub fn is_digit(b: u8) -> bool
     ensures { result ≡ digit b }
 {
-    if b < 48 {
-        return false;
-    }
-    b <= 57
+    b.is_ascii_digit()
 }
 
 // A letter or a digit.
 pub fn is_name_byte(b: u8) -> bool
     ensures { result ≡ in_name b }
 {
-    if is_letter(b) {
-        return true;
-    }
-    is_digit(b)
+    is_letter(b) || is_digit(b)
 }
 
 // The first place from `from` on that has no blank.
 pub fn blanks_end(source: &[u8], from: usize) -> usize
     ensures { result ≡ from + gap (drop from source.now) }
 {
-    let mut i = from;
-    while i < source.len() {
-        if !is_blank(source[i]) {
-            return i;
-        }
-        i += 1;
-    }
-    i
+    let rest = &source[from.min(source.len())..];
+    from + rest.iter().position(|b| !is_blank(*b)).unwrap_or(rest.len())
 }
 
 // The place of the next byte q from `from` on, or the source's length where there is none.
 pub fn find(source: &[u8], from: usize, q: u8) -> usize
     ensures { result ≡ from + length (before q (drop from source.now)) }
 {
-    let mut i = from;
-    while i < source.len() {
-        if source[i] == q {
-            return i;
-        }
-        i += 1;
-    }
-    i
+    let rest = &source[from.min(source.len())..];
+    from + rest.iter().position(|b| *b == q).unwrap_or(rest.len())
 }
 
 // Two runs of bytes are equal.
 pub fn same_bytes(a: &[u8], b: &[u8]) -> bool
     ensures { result ≡ equal a.now b.now }
 {
-    if a.len() != b.len() {
-        return false;
-    }
-    let mut i = 0;
-    while i < a.len() {
-        if a[i] != b[i] {
-            return false;
-        }
-        i += 1;
-    }
-    true
+    a == b
 }
 
 // A capital as its small letter; every other byte as it is.
 pub fn fold(b: u8) -> u8
     ensures { result ≡ folded b }
 {
-    if b < 65 {
-        return b;
-    }
-    if 90 < b {
-        return b;
-    }
-    b + 32
+    b.to_ascii_lowercase()
 }
 
-// A letter in the other case; every other byte as it is.
-fn other_case(b: u8) -> u8
-    ensures { OtherCase b result }
-{
-    if b < 65 {
-        return b;
-    }
-    if b <= 90 {
-        return b + 32;
-    }
-    if b < 97 {
-        return b;
-    }
-    if b <= 122 {
-        return b - 32;
-    }
-    b
-}
-
-// Two bytes are the same but for letter case. Most that are compared are equal, or no letters.
+// Two bytes are the same but for letter case.
 pub fn same_letter(a: u8, b: u8) -> bool
     ensures { result ≡ eqb (folded a) (folded b) }
 {
-    if a == b {
-        return true;
-    }
-    a == other_case(b)
+    a.eq_ignore_ascii_case(&b)
 }

@@ -1,78 +1,33 @@
 // Delimiter words: each is a fixed byte string in small letters, compared with the bytes between two apostrophes, letter case aside.
-ghost use Rattle.std.specs.Prelude.{◌≡◌, cond, ◌+◌, true, ◌||◌, eqb};
+ghost use Rattle.std.specs.Prelude.{◌≡◌, cond, Some, None};
 ghost use Rattle.symbols.specs.Names.{same_name};
-ghost use Rattle.symbols.specs.model.Steps.{all_small};
 ghost use Rattle.symbols.specs.Scan.{spelled};
 ghost use Rattle.symbols.specs.Symbols.{words};
 
 use crate::Symbol;
 use crate::text::fold;
 
-// A delimiter word, or none.
-#[derive(Clone, Copy)]
-pub enum Spelled {
-    Word(Symbol),
-    Unknown,
-}
-
-// Whether a byte is this one, or stands 32 below it as a capital below its small letter.
-fn is_or_below(b: u8, x: u8) -> bool
-    ensures { result ≡ (eqb b x || eqb (b + 32) x) }
-{
-    if b == x {
-        return true;
-    }
-    b as u32 + 32 == x as u32
-}
-
-// Whether bytes are a word of small letters, letter case aside.
-fn is_word(w: &[u8], word: &[u8]) -> bool
-    requires { all_small word.now ≡ true }
-    ensures { result ≡ same_name w.now word.now }
-{
-    if w.len() != word.len() {
-        return false;
-    }
-    let mut i = 0;
-    while i < w.len() {
-        if !is_or_below(w[i], word[i]) {
-            return false;
-        }
-        i += 1;
-    }
-    true
-}
-
 // The one word that these bytes may be, or none. Bytes of another length are told before any is compared.
-fn only(w: &[u8], word: &[u8], s: Symbol) -> Spelled
-    requires { all_small word.now ≡ true }
-    ensures { result ≡ cond (same_name w.now word.now) (Spelled.Word s) Spelled.Unknown }
+fn only(w: &[u8], word: &[u8], s: Symbol) -> Option<Symbol>
+    ensures { result ≡ cond (same_name w.now word.now) (Some s) None }
 {
-    if is_word(w, word) {
-        return Spelled::Word(s);
-    }
-    Spelled::Unknown
+    w.eq_ignore_ascii_case(word).then_some(s)
 }
 
 // The first of two words that these bytes may be, or what is said of the other.
-fn either(w: &[u8], one: &[u8], s: Symbol, other: &[u8], t: Symbol) -> Spelled
-    requires one_value { all_small one.now ≡ true }
-    requires other_value { all_small other.now ≡ true }
-    ensures { result ≡ cond (same_name w.now one.now) (Spelled.Word s) (cond (same_name w.now other.now) (Spelled.Word t) Spelled.Unknown) }
+fn either(w: &[u8], one: &[u8], s: Symbol, other: &[u8], t: Symbol) -> Option<Symbol>
+    ensures { result ≡ cond (same_name w.now one.now) (Some s) (cond (same_name w.now other.now) (Some t) None) }
 {
-    if is_word(w, one) {
-        return Spelled::Word(s);
-    }
-    only(w, other, t)
+    only(w, one, s).or(only(w, other, t))
 }
 
 // The delimiter word that these bytes spell, if they spell one. Only 'then' and 'true' share length and first letter, so by these one word
 // is left to compare, or those two; where the letter leaves one, `only` looks at the length.
-pub fn spelled_word(w: &[u8]) -> Spelled
+pub fn spelled_word(w: &[u8]) -> Option<Symbol>
     ensures { result ≡ spelled words w.now }
 {
-    if w.len() == 0 {
-        return Spelled::Unknown;
+    if w.is_empty() {
+        return None;
     }
     let first = fold(w[0]);
     match first {
@@ -106,6 +61,6 @@ pub fn spelled_word(w: &[u8]) -> Spelled
         b'u' => only(w, b"until", Symbol::Until),
         b'v' => only(w, b"value", Symbol::Value),
         b'w' => only(w, b"while", Symbol::While),
-        _ => Spelled::Unknown,
+        _ => None,
     }
 }

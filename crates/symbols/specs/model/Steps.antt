@@ -1,12 +1,12 @@
 -- What the functions of this crate give back, in terms of the definitions in Scan and Names. This is no part of the paper: it says where
 -- in the source a definition is read, and how the lent arrays hold the symbols.
-use Rattle.std.specs.Prelude.{ℕ, ◌+◌, ◌≤◌, min, ◌≡◌, Bool, true, cond, ◌&&◌, List, [], ◌∷◌, ◌++◌, length, get_or, drop, ltb, leb}
+use Rattle.std.specs.Prelude.{Option, Some, None, IfSome, Result, Ok, Err, ℕ, ◌+◌, ◌≤◌, ◌<◌, min, ◌≡◌, cond, List, [], ◌∷◌, ◌++◌, length, get_or, drop, ltb}
 use Prim.Native.Char.{code}
-use Rattle.std.proofs.Math.Option.{Option, none, some}
+use Rattle.std.proofs.Math.Option.{Option as Optional, none, some}
 use Rattle.answers.specs.Numbers.{no_symbol}
 use Rattle.answers.specs.Answers.{answer, refusal}
 use Rattle.answers.specs.declared.Refusal.{Refusal}
-use Rattle.symbols.specs.Names.{digit, these, reach, letters, value_from, folded}
+use Rattle.symbols.specs.Names.{digit, these, reach, letters, value_from}
 use Rattle.symbols.specs.Scan.{gap, followed, with_point, lexeme, turn, Scan, scan}
 -- passed on: what the lent arrays hold is said by these
 pub use Rattle.symbols.specs.Scan.{kinds_of, places_of, values_of}
@@ -20,8 +20,6 @@ use Rattle.symbols.specs.declared.lexemes.Digits.{Digits}
 use Rattle.symbols.specs.declared.Cursor.{Cursor}
 use Rattle.symbols.specs.declared.Step.{Step}
 use Rattle.symbols.specs.declared.Step.TheVariants.{Read, Passed, Refused, End}
-use Rattle.symbols.specs.declared.Scanned.{Scanned}
-use Rattle.symbols.specs.declared.Scanned.TheVariants.{Read as Symbols, Refused as Stops}
 
 -- ---- numbers, signs and names
 
@@ -46,24 +44,14 @@ pointed_at source at plain =
 unfoldable pub joined_of : Symbol → Symbol → List ℕ → Lexeme
 joined_of alone both bs = cond (followed (code "=") bs) (Is both (gap bs + 1)) (Is alone 0)
 
--- a byte in the other letter case: no third is the same but for letter case
-pub record OtherCase (b r : ℕ) : Type 0 where
-  pub same : folded r ≡ folded b
-  pub only : (a : ℕ) → folded a ≡ folded b → (a ≡ b → ⊥) → a ≡ r
+-- what is left of a name, by the place of its next letter or digit: nothing where there is none
+abbrev pub rest_of : List ℕ → Option ℕ → List ℕ
+rest_of source None = []
+rest_of source (Some i) = get_or source i 0 ∷ letters (drop (i + 1) source)
 
--- all bytes are small letters
-abbrev pub all_small : List ℕ → Bool
-all_small [] = true
-all_small (x ∷ l) = (leb 97 x && leb x 122) && all_small l
-
--- what is left of a name where its next letter or digit stands at i
-unfoldable pub rest_at : List ℕ → ℕ → List ℕ
-rest_at source i = cond (ltb i (length source)) (get_or source i 0 ∷ letters (drop (i + 1) source)) []
-
-pub record NextLetter (source : List ℕ) (from i : ℕ) : Type 0 where
-  pub same : letters (drop from source) ≡ rest_at source i
-  pub within : i ≤ length source
-  pub onward : from ≤ length source → from ≤ i
+pub record NextLetter (source : List ℕ) (from : ℕ) (r : Option ℕ) : Type 0 where
+  pub same : letters (drop from source) ≡ rest_of source r
+  pub within : IfSome r (λ i. (from ≤ i) × (i < length source))
 
 -- ---- at a place of the source
 
@@ -84,18 +72,18 @@ step_at n source cursor =
 
 -- ---- what is handed back, and what the lent arrays hold: the symbols up to the end or the refusal, and behind them what was there before
 
-unfoldable pub answer_of : Scan → Scanned
+unfoldable pub answer_of : Scan → Result ℕ Refusal
 answer_of r = ended r.refused (length r.found)
   where
-    ended : Option Refusal → ℕ → Scanned
-    ended none n = Symbols n
-    ended (some x) n = Stops x
+    ended : Optional Refusal → ℕ → Result ℕ Refusal
+    ended none n = Ok n
+    ended (some x) n = Err x
 
 abbrev pub over : {A : Type 0} → List A → List A → List A
 over new old = new ++ drop (length new) old
 
 -- what scanning hands back and leaves, for every source: the answer; and each array, which had these contents before and has those after
-pub record Filled (limit : ℕ) (source : List ℕ) (r : Scanned) (kinds kinds' places places' values values' : List ℕ) : Type 0 where
+pub record Filled (limit : ℕ) (source : List ℕ) (r : Result ℕ Refusal) (kinds kinds' places places' values values' : List ℕ) : Type 0 where
   pub answers : r ≡ answer_of (scan limit source)
   pub kinded : kinds' ≡ over (kinds_of (scan limit source).found) kinds
   pub placed : places' ≡ over (places_of (scan limit source).found) places

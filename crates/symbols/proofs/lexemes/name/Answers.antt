@@ -14,7 +14,7 @@ use Rattle.symbols.proofs.lexemes.name.Goals.{then-is_name_byte, else-is_name_by
 pub loop-i-init : goal.loop-i-init
 loop-i-init c =
     let s = c.args.source.now in
-    (omega arith, omega arith, refl, omega (arith, ap length (name_first (get_or s c.args.at 0) (drop (c.args.at + 1) s) c.requires.at_value)), omega arith)
+    (refl, omega (arith, ap length (name_first (get_or s c.args.at 0) (drop (c.args.at + 1) s) c.requires.at_value)), omega arith)
 
 pub returns-then-not-is_blank : goal.returns-then-not-is_blank
 unfolding name
@@ -24,8 +24,8 @@ returns-then-not-is_blank c =
     let v = l.invariant in
     let t = these_stop in_name s l.i c.loop-i-test.true (sym c.is_name_byte.ensures ∙ c.if-is_name_byte.false) (sym c.is_blank.ensures ∙ c.if-not-is_blank.true) in
     let r = reach_stop in_name s l.i c.loop-i-test.true (sym c.is_name_byte.ensures ∙ c.if-is_name_byte.false) (sym c.is_blank.ensures ∙ c.if-not-is_blank.true) in
-    let n : length (letters (get_or s c.args.at 0 ∷ drop (c.args.at + 1) s)) ≡ l.size = omega (arith, v.3, ap length t) in
-    let m : reach in_name (drop (c.args.at + 1) s) ≡ l.i - c.args.at - 1 = omega (arith, v.2, r) in
+    let n : length (letters (get_or s c.args.at 0 ∷ drop (c.args.at + 1) s)) ≡ l.size = omega (arith, v.1, ap length t) in
+    let m : reach in_name (drop (c.args.at + 1) s) ≡ l.i - c.args.at - 1 = omega (arith, v.0, r) in
     rw (n, m) c.sized.ensures
 
 pub loop-i-preserved : goal.loop-i-preserved
@@ -39,13 +39,13 @@ loop-i-preserved c =
           let e = sym c.is_name_byte.ensures ∙ w.if-is_name_byte.true in
           let t = these_one in_name s l.i h e in
           let r = reach_one in_name s l.i h e in
-          (omega arith, omega arith, omega (arith, v.2, r), omega (arith, v.3, ap length t, w.size-is), omega (arith, v.4, w.size-is))
+          (omega (arith, v.0, r), omega (arith, v.1, ap length t, w.size-is), omega (arith, v.2, w.size-is))
       | else-is_name_byte+else-not-is_blank w ↦
           let e = sym c.is_name_byte.ensures ∙ w.if-is_name_byte.false in
           let f = sym w.is_blank.ensures ∙ w.if-not-is_blank.false in
           let t = these_on in_name s l.i h e f in
           let r = reach_on in_name s l.i h e f in
-          (omega arith, omega arith, omega (arith, v.2, r), omega (arith, v.3, ap length t, w.size-is), omega (arith, v.4, w.size-is))
+          (omega (arith, v.0, r), omega (arith, v.1, ap length t, w.size-is), omega (arith, v.2, w.size-is))
     ]
 
 pub returns : goal.returns
@@ -56,6 +56,6 @@ returns c =
     let v = l.invariant in
     let t = these_end in_name s l.i c.loop-i-test.false in
     let r = reach_end in_name s l.i c.loop-i-test.false in
-    let n : length (letters (get_or s c.args.at 0 ∷ drop (c.args.at + 1) s)) ≡ l.size = omega (arith, v.3, ap length t) in
-    let m : reach in_name (drop (c.args.at + 1) s) ≡ l.i - c.args.at - 1 = omega (arith, v.2, r) in
+    let n : length (letters (get_or s c.args.at 0 ∷ drop (c.args.at + 1) s)) ≡ l.size = omega (arith, v.1, ap length t) in
+    let m : reach in_name (drop (c.args.at + 1) s) ≡ length s - c.args.at - 1 = omega (arith, v.0, r, l.auto.i-end) in
     rw (n, m) c.sized-2.ensures

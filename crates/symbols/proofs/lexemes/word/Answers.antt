@@ -21,9 +21,9 @@ returns-then-source-end c =
     let h : length bs ≤ length (before 39 bs) = omega (arith, c.if-source-end.true) in
     simp (le-ltb _ _ h)
 
-pub returns-in-Word : goal.returns-in-Word
+pub returns-in-Some : goal.returns-in-Some
 unfolding word closed named
-returns-in-Word c =
+returns-in-Some c =
     let s = c.args.source.now in
     let bs = drop (c.args.at + 1) s in
     let e = c.find-end.ensures in
@@ -31,17 +31,17 @@ returns-in-Word c =
     let h : length (before 39 bs) < length bs = omega (arith, c.if-source-end.false) in
     let m : c.find-end.result - (c.args.at + 1) ≡ length (before 39 bs) = omega arith in
     let k : c.find-end.result - c.args.at ≡ length (before 39 bs) + 1 = omega arith in
-    let q : spelled words (before 39 bs) ≡ _ = ap (spelled words) (sym (before_take 39 bs) ∙ ap (λ (i : ℕ). take i bs) (sym m)) ∙ sym c.spelled_word.ensures ∙ c.in-Word.is in
+    let q : spelled words (before 39 bs) ≡ _ = ap (spelled words) (sym (before_take 39 bs) ∙ ap (λ (i : ℕ). take i bs) (sym m)) ∙ sym c.spelled_word.ensures ∙ c.in-Some.is in
     rw k (simp (lt-ltb _ _ h, q))
 
-pub returns-in-Unknown : goal.returns-in-Unknown
+pub returns-in-None : goal.returns-in-None
 unfolding word closed named
-returns-in-Unknown c =
+returns-in-None c =
     let s = c.args.source.now in
     let bs = drop (c.args.at + 1) s in
     let e = c.find-end.ensures in
     let n = length-drop (c.args.at + 1) s in
     let h : length (before 39 bs) < length bs = omega (arith, c.if-source-end.false) in
     let m : c.find-end.result - (c.args.at + 1) ≡ length (before 39 bs) = omega arith in
-    let q : spelled words (before 39 bs) ≡ _ = ap (spelled words) (sym (before_take 39 bs) ∙ ap (λ (i : ℕ). take i bs) (sym m)) ∙ sym c.spelled_word.ensures ∙ c.in-Unknown.is in
+    let q : spelled words (before 39 bs) ≡ _ = ap (spelled words) (sym (before_take 39 bs) ∙ ap (λ (i : ℕ). take i bs) (sym m)) ∙ sym c.spelled_word.ensures ∙ c.in-None.is in
     simp (lt-ltb _ _ h, q)

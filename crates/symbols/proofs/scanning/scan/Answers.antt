@@ -3,4 +3,4 @@
 use Rattle.symbols.proofs.scanning.scan.Goals as goal
 
 pub returns : goal.returns
-returns c = rw (← c.cut.ensures) c.fill.ensures
+returns c = rw (← c.min.ensures) c.fill.ensures

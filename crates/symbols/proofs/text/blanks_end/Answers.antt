@@ -1,27 +1,22 @@
--- `symbols::text::blanks_end` meets its contract. What is passed over from `from` on is what was passed and what is passed from i on.
+-- `symbols::text::blanks_end` meets its contract: the gap ends at the first byte that is no blank.
 -- Assumes nothing.
-use mathlib.Core.Path.{refl, sym, ◌∙◌}
-use native.Mathlib.Omega.{arith}
-use Rattle.symbols.proofs.Laws.{gap_on, gap_stop, gap_end}
+use mathlib.Core.Path.{◌≡◌, ap, sym, ◌∙◌}
+use mathlib.Core.Bool.{not}
+use Prim.Native.Nat.{◌+◌, ◌-◌}
+use lib.ListN.{length, drop, take}
+use Rattle.std.proofs.Common.{rules, tests}
+use Rattle.std.specs.Option.{unwrap_or}
+use Rattle.std.proofs.lemmas.Iterator.{YieldsList-from_slice}
+use Rattle.std.proofs.lemmas.Iterator.Search.{position_from_yields_List}
+use Rattle.symbols.specs.Names.{blank}
+use Rattle.symbols.specs.Scan.{gap}
+use Rattle.symbols.proofs.Ascii.{gap_position, first_or_length, rest_from}
 use Rattle.symbols.proofs.text.blanks_end.Goals as goal
-
-pub loop-i-init : goal.loop-i-init
-loop-i-init c = refl
-
-pub returns-then-not-is_blank : goal.returns-then-not-is_blank
-returns-then-not-is_blank c =
-    let l = c.loop-i in
-    let g = gap_stop c.args.source.now l.i c.loop-i-test.true (sym c.is_blank.ensures ∙ c.if-not-is_blank.true) in
-    omega (arith, l.invariant, g)
-
-pub loop-i-preserved : goal.loop-i-preserved
-loop-i-preserved c =
-    let l = c.loop-i in
-    let g = gap_on c.args.source.now l.i c.loop-i-test.true (sym c.is_blank.ensures ∙ c.if-not-is_blank.false) in
-    omega (arith, l.invariant, g)
 
 pub returns : goal.returns
 returns c =
-    let l = c.loop-i in
-    let g = gap_end c.args.source.now l.i c.loop-i-test.false in
-    omega (arith, l.invariant, g)
+    let s = c.args.source.now in
+    let xs = take (length s - c.min.result) (drop c.min.result s) in
+    let found = position_from_yields_List (λ b. not (blank b)) _ _ c.position.result c.position.ensures.ran (YieldsList-from_slice xs c.iter.ensures.rest) (λ x b q k. search (rules, tests)) in
+    let rest : xs ≡ drop c.args.from s = rw c.min.ensures (rest_from s c.args.from) in
+    ap (λ k. c.args.from + k) (c.unwrap_or.ensures ∙ ap (λ r. unwrap_or r (length xs)) found ∙ first_or_length (λ b. not (blank b)) xs ∙ sym (gap_position xs) ∙ ap gap rest)

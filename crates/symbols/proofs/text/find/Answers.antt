@@ -1,28 +1,21 @@
--- `symbols::text::find` meets its contract. What stands before q from `from` on is what was passed and what stands before it from i on.
+-- `symbols::text::find` meets its contract: what stands before q is what stands before the first place of q.
 -- Assumes nothing.
-use mathlib.Core.Path.{refl}
-use native.Mathlib.Omega.{arith}
-use borrow.Author.Tests.{eq-eqb, ne_eqb}
-use Rattle.symbols.proofs.Laws.{before_on, before_stop, before_end}
+use mathlib.Core.Path.{◌≡◌, ap, sym, ◌∙◌}
+use Prim.Native.Nat.{◌+◌, ◌-◌}
+use lib.Dec.{eqb}
+use lib.ListN.{length, drop, take}
+use Rattle.std.proofs.Common.{rules, tests}
+use Rattle.std.specs.Option.{unwrap_or}
+use Rattle.std.proofs.lemmas.Iterator.{YieldsList-from_slice}
+use Rattle.std.proofs.lemmas.Iterator.Search.{position_from_yields_List}
+use Rattle.symbols.specs.Scan.{before}
+use Rattle.symbols.proofs.Ascii.{before_position, first_or_length, rest_from}
 use Rattle.symbols.proofs.text.find.Goals as goal
-
-pub loop-i-init : goal.loop-i-init
-loop-i-init c = refl
-
-pub returns-then-source-i : goal.returns-then-source-i
-returns-then-source-i c =
-    let l = c.loop-i in
-    let g = before_stop c.args.source.now l.i c.args.q c.loop-i-test.true (eq-eqb _ _ c.if-source-i.true) in
-    omega (arith, l.invariant, g)
-
-pub loop-i-preserved : goal.loop-i-preserved
-loop-i-preserved c =
-    let l = c.loop-i in
-    let g = before_on c.args.source.now l.i c.args.q c.loop-i-test.true (ne_eqb _ _ c.if-source-i.false) in
-    omega (arith, l.invariant, g)
 
 pub returns : goal.returns
 returns c =
-    let l = c.loop-i in
-    let g = before_end c.args.source.now l.i c.args.q c.loop-i-test.false in
-    omega (arith, l.invariant, g)
+    let s = c.args.source.now in
+    let xs = take (length s - c.min.result) (drop c.min.result s) in
+    let found = position_from_yields_List (λ b. eqb b c.args.q) _ _ c.position.result c.position.ensures.ran (YieldsList-from_slice xs c.iter.ensures.rest) (λ x b q k. search (rules, tests)) in
+    let rest : xs ≡ drop c.args.from s = rw c.min.ensures (rest_from s c.args.from) in
+    ap (λ k. c.args.from + k) (c.unwrap_or.ensures ∙ ap (λ r. unwrap_or r (length xs)) found ∙ first_or_length (λ b. eqb b c.args.q) xs ∙ sym (before_position c.args.q xs) ∙ ap (λ l. length (before c.args.q l)) rest)

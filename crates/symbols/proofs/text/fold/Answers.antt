@@ -1,15 +1,8 @@
--- `symbols::text::fold` meets its contract. The tests place the byte.
+-- `symbols::text::fold` meets its contract: the library folds as `folded` does.
 -- Assumes nothing.
-use mathlib.Core.Path.{sym}
-use native.Mathlib.Omega.{arith}
-use Rattle.symbols.proofs.LetterCase.{folded_capital, folded_itself}
+use mathlib.Core.Path.{◌∙◌}
+use Rattle.symbols.proofs.Ascii.{lowercase_folded}
 use Rattle.symbols.proofs.text.fold.Goals as goal
 
-pub returns-then-b-lt65 : goal.returns-then-b-lt65
-returns-then-b-lt65 c = sym (folded_itself c.args.b (λ h k. omega arith))
-
-pub returns-then-b-gt90 : goal.returns-then-b-gt90
-returns-then-b-gt90 c = sym (folded_itself c.args.b (λ h k. omega arith))
-
 pub returns : goal.returns
-returns c = sym (folded_capital c.args.b (omega arith) (omega arith))
+returns c = c.to_ascii_lowercase.ensures.value ∙ lowercase_folded c.args.b

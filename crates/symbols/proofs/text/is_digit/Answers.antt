@@ -1,13 +1,8 @@
--- `symbols::text::is_digit` meets its contract. The tests place the byte.
+-- `symbols::text::is_digit` meets its contract: the library's digits are these.
 -- Assumes nothing.
-use borrow.Author.Tests.{le-leb, lt-leb}
-use Rattle.symbols.specs.Names.{digit}
+use mathlib.Core.Path.{◌∙◌}
+use Rattle.symbols.proofs.Ascii.{digit_digit}
 use Rattle.symbols.proofs.text.is_digit.Goals as goal
 
-pub returns-then-b-lt48 : goal.returns-then-b-lt48
-unfolding digit
-returns-then-b-lt48 c = simp (lt-leb _ _ c.if-b-lt48.true)
-
 pub returns : goal.returns
-unfolding digit
-returns c = simp (le-leb _ _ c.if-b-lt48.false)
+returns c = c.is_ascii_digit.ensures.value ∙ digit_digit c.args.b

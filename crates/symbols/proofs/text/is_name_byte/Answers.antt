@@ -6,8 +6,8 @@ use Rattle.symbols.proofs.text.is_name_byte.Goals as goal
 
 pub returns-then-is_letter : goal.returns-then-is_letter
 unfolding in_name
-returns-then-is_letter c = simp (sym c.is_letter.ensures ∙ c.if-is_letter.true)
+returns-then-is_letter c = simp (sym c.is_letter.ensures ∙ c.if-is_letter.true) c.if-is_letter.true
 
-pub returns : goal.returns
+pub returns-else-is_letter : goal.returns-else-is_letter
 unfolding in_name
-returns c = simp (sym c.is_letter.ensures ∙ c.if-is_letter.false) c.is_digit.ensures
+returns-else-is_letter c = simp (sym c.is_letter.ensures ∙ c.if-is_letter.false) c.is_digit.ensures

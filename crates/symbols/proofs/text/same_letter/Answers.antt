@@ -1,13 +1,8 @@
--- `symbols::text::same_letter` meets its contract. Two bytes that are not one are the same where the first is the second in the other case.
+-- `symbols::text::same_letter` meets its contract: the library folds both as `folded` does.
 -- Assumes nothing.
-use mathlib.Core.Path.{sym, ap}
-use borrow.Author.Tests.{eq-eqb}
-use Rattle.symbols.specs.Names.{folded}
-use Rattle.symbols.proofs.LetterCase.{same_other}
+use mathlib.Core.Path.{◌∙◌}
+use Rattle.symbols.proofs.Ascii.{lowercase_folded}
 use Rattle.symbols.proofs.text.same_letter.Goals as goal
 
-pub returns-then-a-b : goal.returns-then-a-b
-returns-then-a-b c = sym (eq-eqb _ _ (ap folded c.if-a-b.true))
-
 pub returns : goal.returns
-returns c = same_other c.args.a c.args.b c.other_case.result c.other_case.ensures c.if-a-b.false
+returns c = c.eq_ignore_ascii_case.ensures ∙ rw (lowercase_folded c.args.a, lowercase_folded c.args.b)

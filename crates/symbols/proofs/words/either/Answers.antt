@@ -1,10 +1,14 @@
--- `symbols::words::either` meets its contract. The test has told whether the bytes are the first word's.
+-- `symbols::words::either` meets its contract. Each word is found or not.
 -- Assumes nothing.
-use mathlib.Core.Path.{sym, ◌∙◌}
+use mathlib.Core.Path.{◌≡◌, refl, ◌∙◌}
+use mathlib.Core.Bool.{Bool, true, false, cond}
+use Rattle.std.specs.Option.{option_or}
+use Rattle.std.specs.Prelude.{Option, Some, None}
 use Rattle.symbols.proofs.words.either.Goals as goal
 
-pub returns-then-is_word : goal.returns-then-is_word
-returns-then-is_word c = simp (sym c.is_word.ensures ∙ c.if-is_word.true)
+first : {A : Type 0} (t u : Bool) (x y : A) → option_or (cond t (Some x) None) (cond u (Some y) None) ≡ cond t (Some x) (cond u (Some y) None)
+first true u x y = refl
+first false u x y = refl
 
 pub returns : goal.returns
-returns c = simp (sym c.is_word.ensures ∙ c.if-is_word.false) c.only.ensures
+returns c = c.or.ensures ∙ rw (c.only.ensures, c.only-2.ensures) (first _ _ c.args.s c.args.t)

@@ -1,10 +1,18 @@
--- `symbols::words::only` meets its contract. The test has told whether the bytes are the word's.
+-- `symbols::words::only` meets its contract: the library's equality but for letter case is that of names.
 -- Assumes nothing.
-use mathlib.Core.Path.{sym, ◌∙◌}
+use mathlib.Core.Path.{◌≡◌, refl, ap, ◌∙◌}
+use mathlib.Core.Bool.{Bool, true, false, cond}
+use Rattle.std.specs.Bool.{then_some}
+use Rattle.std.specs.Prelude.{Option, Some, None}
+use Rattle.symbols.proofs.Ascii.{same_lowercase}
 use Rattle.symbols.proofs.words.only.Goals as goal
 
-pub returns-then-is_word : goal.returns-then-is_word
-returns-then-is_word c = simp (sym c.is_word.ensures ∙ c.if-is_word.true)
+found : {A : Type 0} (t : Bool) (x : A) → then_some t x ≡ cond t (Some x) None
+found true x = refl
+found false x = refl
 
 pub returns : goal.returns
-returns c = simp (sym c.is_word.ensures ∙ c.if-is_word.false)
+returns c =
+    let e = c.eq_ignore_ascii_case.ensures in
+    let h = same_lowercase c.args.w.now c.args.word.now c.eq_ignore_ascii_case.result e.test.0 e.test.1 in
+    c.then_some.ensures ∙ found _ _ ∙ ap (λ (t : Bool). cond t (Some c.args.s) None) h

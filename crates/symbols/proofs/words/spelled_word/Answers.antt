@@ -6,12 +6,13 @@ use mathlib.Core.Path.{◌≡◌, refl, sym, ap, ◌∙◌}
 use mathlib.Core.Bool.{Bool, cond}
 use mathlib.Core.List.{List}
 use Prim.Native.Nat.{ℕ}
+use borrow.Author.Tests.{eqb-true}
 use Rattle.symbols.specs.Text.{bytes}
 use Rattle.symbols.specs.Names.{folded, same_name}
 use Rattle.symbols.specs.Symbols.{words}
 use Rattle.symbols.specs.Scan.{spelled}
 use Rattle.symbols.specs.declared.Symbol.TheVariants.{Boolean}
-use Rattle.symbols.specs.declared.words.Spelled.TheVariants.{Word, Unknown}
+use Rattle.std.specs.Prelude.{Some, None}
 use Rattle.symbols.proofs.Keyed.{by_letter, by_length_lem, of_length, of_another, of_neither, elsewhere}
 use Rattle.symbols.proofs.words.spelled_word.Goals as goal
 
@@ -20,101 +21,13 @@ in_small : (w : List ℕ) → same_name w (bytes "boolean") ≡ same_name w (byt
 unfolding same_name folded
 in_small w = refl
 
-pub returns-then-w-eq0 : goal.returns-then-w-eq0
+pub returns-then-is_empty : goal.returns-then-is_empty
 unfolding spelled folded
-returns-then-w-eq0 c = sym (by_length_lem words _ 0 c.if-w-eq0.true)
+returns-then-is_empty c = sym (by_length_lem words _ 0 (eqb-true _ _ (sym c.is_empty.ensures ∙ c.if-is_empty.true)))
 
 pub fold-first-requires : goal.fold-first-requires
 unfolding spelled folded
 fold-first-requires c = search rules
-
-pub only-requires : goal.only-requires
-unfolding spelled folded
-only-requires c = search rules
-
-pub only-requires-in-5 : goal.only-requires-in-5
-unfolding spelled folded
-only-requires-in-5 c = search rules
-
-pub only-requires-in_default-len : goal.only-requires-in_default-len
-unfolding spelled folded
-only-requires-in_default-len c = search rules
-
-pub only-requires-in-99 : goal.only-requires-in-99
-unfolding spelled folded
-only-requires-in-99 c = search rules
-
-pub only-requires-in-100 : goal.only-requires-in-100
-unfolding spelled folded
-only-requires-in-100 c = search rules
-
-pub only-requires-in-3 : goal.only-requires-in-3
-unfolding spelled folded
-only-requires-in-3 c = search rules
-
-pub only-requires-in-4 : goal.only-requires-in-4
-unfolding spelled folded
-only-requires-in-4 c = search rules
-
-pub only-requires-in_default-len-2 : goal.only-requires-in_default-len-2
-unfolding spelled folded
-only-requires-in_default-len-2 c = search rules
-
-pub only-requires-in-3-len : goal.only-requires-in-3-len
-unfolding spelled folded
-only-requires-in-3-len c = search rules
-
-pub only-requires-in_default-len-3 : goal.only-requires-in_default-len-3
-unfolding spelled folded
-only-requires-in_default-len-3 c = search rules
-
-pub only-requires-in-2 : goal.only-requires-in-2
-unfolding spelled folded
-only-requires-in-2 c = search rules
-
-pub only-requires-in-4-len : goal.only-requires-in-4-len
-unfolding spelled folded
-only-requires-in-4-len c = search rules
-
-pub only-requires-in_default-len-4 : goal.only-requires-in_default-len-4
-unfolding spelled folded
-only-requires-in_default-len-4 c = search rules
-
-pub only-requires-in-110 : goal.only-requires-in-110
-unfolding spelled folded
-only-requires-in-110 c = search rules
-
-pub only-requires-in-111 : goal.only-requires-in-111
-unfolding spelled folded
-only-requires-in-111 c = search rules
-
-pub only-requires-in-112 : goal.only-requires-in-112
-unfolding spelled folded
-only-requires-in-112 c = search rules
-
-pub only-requires-in-114 : goal.only-requires-in-114
-unfolding spelled folded
-only-requires-in-114 c = search rules
-
-pub only-requires-in-115 : goal.only-requires-in-115
-unfolding spelled folded
-only-requires-in-115 c = search rules
-
-pub either-requires : goal.either-requires
-unfolding spelled folded
-either-requires c = search rules
-
-pub only-requires-in-117 : goal.only-requires-in-117
-unfolding spelled folded
-only-requires-in-117 c = search rules
-
-pub only-requires-in-118 : goal.only-requires-in-118
-unfolding spelled folded
-only-requires-in-118 c = search rules
-
-pub only-requires-in-119 : goal.only-requires-in-119
-unfolding spelled folded
-only-requires-in-119 c = search rules
 
 pub returns-in-97 : goal.returns-in-97
 unfolding spelled folded
@@ -127,7 +40,7 @@ returns-in-5 c = c.only-in-5.ensures ∙ sym (of_length words _ 98 (sym c.fold-f
 
 pub returns-in_default-len : goal.returns-in_default-len
 unfolding spelled folded
-returns-in_default-len c = c.only-in_default-len.ensures ∙ ap (λ (t : Bool). cond t (Word Boolean) Unknown) (in_small _) ∙ sym (of_another words _ 98 (sym c.fold-first.ensures ∙ c.in-98.is) 5 c.in_default-len.in_default-len-own.rest.1)
+returns-in_default-len c = c.only-in_default-len.ensures ∙ ap (λ (t : Bool). cond t (Some Boolean) None) (in_small _) ∙ sym (of_another words _ 98 (sym c.fold-first.ensures ∙ c.in-98.is) 5 c.in_default-len.in_default-len-own.rest.1)
 
 pub returns-in-99 : goal.returns-in-99
 unfolding spelled folded

@@ -1,0 +1,75 @@
+-- The next letter or digit of a name, blanks before it passed over; and two names told letter by letter.
+-- Assumes nothing.
+use mathlib.Core.Path.{◌≡◌, refl, sym, ap, ◌∙◌}
+use mathlib.Core.Bool.{Bool, true, false, cond, not}
+use mathlib.Core.List.{List, [], ◌∷◌}
+use Prim.Native.Nat.{ℕ, suc, ◌+◌, ◌-◌, ◌≤◌, ◌<◌}
+use native.Mathlib.Omega.{arith}
+use lib.Dec.{eqb, ltb}
+use lib.ListN.{length, get_or, drop, length-drop}
+use lib.Seq.{drop-drop, get_or-drop}
+use borrow.Author.Tests.{ltb-true, ltb-false}
+use Rattle.std.specs.Option.{is_some, is_none, IfSome}
+use Rattle.std.specs.Prelude.{Option, Some, None}
+use Rattle.symbols.specs.Names.{in_name, letters, equal, folded, same_name}
+use Rattle.symbols.specs.Scan.{gap}
+use Rattle.symbols.specs.model.Steps.{rest_of, NextLetter}
+use Rattle.symbols.proofs.Laws.{these_next, these_none}
+use Rattle.symbols.proofs.Follows.{blank_no_name}
+
+-- i: where the blanks from `from` on end
+module _ (s : List ℕ) (from i : ℕ) (e : i ≡ from + gap (drop from s)) where
+  pub next_here : i < length s → in_name (get_or s i 0) ≡ true → NextLetter s from (Some i)
+  next_here h p =
+      let bs = drop from s in
+      let k : gap bs < length bs = omega (arith, e, length-drop from s, h) in
+      let g : get_or bs (gap bs) 0 ≡ get_or s i 0 = get_or-drop from s (gap bs) 0 ∙ ap (λ (k : ℕ). get_or s k 0) (sym e) in
+      let n : from + suc (gap bs) ≡ i + 1 = omega (arith, e) in
+      let d : drop (suc (gap bs)) bs ≡ drop (i + 1) s = drop-drop (suc (gap bs)) from s ∙ ap (λ (k : ℕ). drop k s) n in
+      record { same = these_next in_name blank_no_name bs k ∙ rw (g, p, d); within = (omega (arith, e), h) }
+
+  pub next_other : i < length s → in_name (get_or s i 0) ≡ false → NextLetter s from None
+  next_other h p =
+      let bs = drop from s in
+      let k : gap bs < length bs = omega (arith, e, length-drop from s, h) in
+      let g : get_or bs (gap bs) 0 ≡ get_or s i 0 = get_or-drop from s (gap bs) 0 ∙ ap (λ (k : ℕ). get_or s k 0) (sym e) in
+      record { same = these_next in_name blank_no_name bs k ∙ rw (g, p); within = tt }
+
+  pub next_end : length s ≤ i → NextLetter s from None
+  next_end h =
+      let bs = drop from s in
+      record { same = these_none in_name blank_no_name bs (omega (arith, e, length-drop from s, h)); within = tt }
+
+-- ---- letter by letter
+
+module _ (x y : ℕ) (xs ys : List ℕ) where
+  pub letters_differ : eqb (folded x) (folded y) ≡ false → same_name (x ∷ xs) (y ∷ ys) ≡ false
+  unfolding same_name equal
+  letters_differ n = rw n
+
+  pub letters_on : (xs' ys' : List ℕ) → eqb (folded x) (folded y) ≡ true → xs ≡ xs' → ys ≡ ys' → same_name (x ∷ xs) (y ∷ ys) ≡ same_name xs' ys'
+  unfolding same_name equal
+  letters_on xs' ys' e p q = rw (e, p, q)
+
+pub letters_over : (x : ℕ) (xs : List ℕ) → same_name (x ∷ xs) [] ≡ false
+unfolding same_name equal
+letters_over x xs = refl
+
+pub letters_end : (s : List ℕ) (j : Option ℕ) → same_name [] (rest_of s j) ≡ is_none j
+unfolding same_name equal
+letters_end s None = refl
+letters_end s (Some q) = refl
+
+-- ---- how much of the source is left
+
+abbrev pub left : List ℕ → Option ℕ → ℕ
+left s None = 0
+left s (Some p) = length s - p
+
+pub within_source : (s : List ℕ) (from : ℕ) (r : Option ℕ) → NextLetter s from r → IfSome r (λ q. q < length s)
+within_source s from None n = tt
+within_source s from (Some i) n = n.within.1
+
+pub none_left : (o : Option ℕ) (t : Bool) → is_some o ≡ not t → t ≡ is_none o
+none_left o true h = rw h refl
+none_left o false h = rw h refl
