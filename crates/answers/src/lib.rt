@@ -7,37 +7,37 @@ ghost use Rattle.answers.specs.Numbers.{accepted, ended, short, long, no_symbol,
 ghost use Rattle.answers.specs.Answers.{answer, environment, refusal, number_of, place_of, stop_number, stop_place};
 
 // A byte of the source, counted from 0.
-#[derive(Clone, Copy)]
+#[derive(Clone, Copy, PartialEq, Eq, Debug)]
 pub struct Place {
     pub at: usize,
 }
 
 // A symbol of the source, counted from 0: which one it is, where a `Place` says at which byte.
-#[derive(Clone, Copy)]
+#[derive(Clone, Copy, PartialEq, Eq, Debug)]
 pub struct Ordinal {
     pub number: u16,
 }
 
 // A declaration or formal, counted from 0 in source order.
-#[derive(Clone, Copy)]
+#[derive(Clone, Copy, PartialEq, Eq, Debug)]
 pub struct Declaration {
     pub number: usize,
 }
 
 // An instruction of the code, counted from 0.
-#[derive(Clone, Copy)]
+#[derive(Clone, Copy, PartialEq, Eq, Debug)]
 pub struct Address {
     pub at: u32,
 }
 
 // An answer's number.
-#[derive(Clone, Copy)]
+#[derive(Clone, Copy, PartialEq, Eq, Debug)]
 pub struct Answer {
     pub number: u16,
 }
 
 // A number of the environment.
-#[derive(Clone, Copy)]
+#[derive(Clone, Copy, PartialEq, Eq, Debug)]
 pub struct Environment {
     pub number: u16,
 }
@@ -281,7 +281,7 @@ impl Environment {
 }
 
 // A refusal, or a run's fault: its number and its place in the source.
-#[derive(Clone, Copy)]
+#[derive(Clone, Copy, PartialEq, Eq, Debug)]
 pub struct Refusal {
     pub answer: Answer,
     pub place: Place,
@@ -299,7 +299,7 @@ impl Refusal {
 }
 
 // What reading or translating a source answers.
-#[derive(Clone, Copy)]
+#[derive(Clone, Copy, PartialEq, Eq, Debug)]
 pub enum Verdict {
     Accepted,
     Refused(Refusal),
@@ -327,7 +327,7 @@ impl Verdict {
 
 // How a run stopped: at its end, at its limit, with a fault of the program at a place in the source, or at words that
 // are no instruction, at their counter.
-#[derive(Clone, Copy)]
+#[derive(Clone, Copy, PartialEq, Eq, Debug)]
 pub enum Stop {
     Ended,
     Limit,

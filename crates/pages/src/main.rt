@@ -10,7 +10,7 @@ use showing::text::{say, say_name, say_nth, say_number};
 use std::os::fd::AsRawFd;
 use symbols::kinds::{decode, unpack};
 use symbols::scanning::scan;
-use symbols::{Scanned, Symbol};
+use symbols::Symbol;
 use syntax::parse;
 
 // A row of `index`: a name of 24 bytes, an answer of 3 digits, a place or count of 6.
@@ -157,7 +157,7 @@ fn tell(system: &System, source: &[u8], shown: bool) -> Told {
     let mut places = [0usize; 2048];
     let mut values = [0u64; 2048];
     match scan(source, 2048, &mut kinds, &mut places, &mut values) {
-        Scanned::Read(n) => {
+        Ok(n) => {
             say_number(system, n as u64);
             say(system, b" symbols\n");
             if shown {
@@ -165,7 +165,7 @@ fn tell(system: &System, source: &[u8], shown: bool) -> Told {
             }
             judge(system, source, n, &kinds, &places)
         }
-        Scanned::Refused(r) => {
+        Err(r) => {
             let a = r.answer.number;
             let p = r.place.at;
             refused(system, a, p)

@@ -15,8 +15,7 @@ use Rattle.symbols.specs.Names.{letters_at}
 use Rattle.symbols.specs.Scan.{scan, values_of}
 use Rattle.symbols.specs.model.Steps.{Filled}
 use Rattle.symbols.proofs.FirstFault.{first_fault}
-use Rattle.symbols.specs.declared.Scanned.{Scanned as Told}
-use Rattle.symbols.specs.declared.Scanned.TheVariants.{Refused as Symbols-refused}
+use Rattle.std.specs.Prelude.{Result, Err}
 use Rattle.grammar.specs.Program.{PreludeFault, PreludeDeep}
 use Rattle.grammar.specs.Trees.{yield}
 use Rattle.grammar.specs.model.Text.{text}
@@ -69,12 +68,12 @@ pub as_long : {prelude places values nodes : List ℕ} {x : Refusal} → 16384 <
 as_long {prelude} {x = x} l e =
     prelude_refused x (omega (arith, ap (λ z. z.place.at) e)) (subst (λ z. JudgedBy prelude_judge prelude (NotAccepted (further beyond z)) (zeros 0)) (sym e) (too_long l))
 
-module _ {prelude kinds kinds' places places' values values' : List ℕ} {t : Told} (f : Filled symbols prelude t kinds kinds' places places' values values') (l : length prelude ≤ 16384) where
+module _ {prelude kinds kinds' places places' values values' : List ℕ} {t : Result ℕ Refusal} (f : Filled symbols prelude t kinds kinds' places places' values values') (l : length prelude ≤ 16384) where
   -- 3 and 4
-  pub unread : (r : Refusal) → t ≡ Symbols-refused r → JudgedBy prelude_judge prelude (NotAccepted (further beyond r)) (zeros 0)
+  pub unread : (r : Refusal) → t ≡ Err r → JudgedBy prelude_judge prelude (NotAccepted (further beyond r)) (zeros 0)
   unread r q = unreadable l r (refused_in symbols f r q)
 
-  pub unread_inside : (r : Refusal) → t ≡ Symbols-refused r → r.place.at ≤ 16384
+  pub unread_inside : (r : Refusal) → t ≡ Err r → r.place.at ≤ 16384
   unread_inside r q = let h = (first_fault symbols prelude r (refused_in symbols f r q)).inside in omega arith
 
 pub place_small : {prelude places values : List ℕ} {n : ℕ} → SymbolsIn symbols prelude places values n → (k : ℕ) → any.place_in symbols prelude k ≤ 16384

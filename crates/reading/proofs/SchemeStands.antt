@@ -15,8 +15,7 @@ use Rattle.answers.specs.declared.Verdict.{Verdict}
 use Rattle.answers.specs.declared.Verdict.TheVariants.{Refused as NotAccepted}
 use Rattle.symbols.specs.Scan.{scan}
 use Rattle.symbols.specs.model.Steps.{Filled}
-use Rattle.symbols.specs.declared.Scanned.{Scanned as Told}
-use Rattle.symbols.specs.declared.Scanned.TheVariants.{Read as Symbols-read, Refused as Symbols-refused}
+use Rattle.std.specs.Prelude.{Result, Ok, Err}
 use Rattle.grammar.specs.model.Text.{text}
 use Rattle.grammar.specs.model.Parsing.{zeros, ParseSays, Parsed as Outcome, read_to, fault_at}
 use Rattle.names.specs.Program.{Procedure}
@@ -40,17 +39,17 @@ use Rattle.reading.proofs.Stages.{refused_in, stand_in, kinds_in_lem, nodes_in_l
 pub scheme_long : {scheme places values nodes : List ℕ} {x : Refusal} (prelude : List ℕ) → 16384 < length scheme → x ≡ refusal long 16384 → SchemeTold prelude scheme places values nodes (Refused x)
 scheme_long {scheme} {x = x} prelude l e = scheme_refused x (λ ps. subst (λ z. JudgedBy (scheme_judge prelude ps) scheme (NotAccepted z) (zeros half_words)) (sym e) (too_long l))
 
-module _ {m : ℕ} (prelude : List ℕ) (e : m ≡ count_of prelude) {scheme kinds kinds' places places' values values' : List ℕ} {t : Told} (f : Filled (min (1024 - m) 2048) scheme t kinds kinds' places places' values values') where
+module _ {m : ℕ} (prelude : List ℕ) (e : m ≡ count_of prelude) {scheme kinds kinds' places places' values values' : List ℕ} {t : Result ℕ Refusal} (f : Filled (min (1024 - m) 2048) scheme t kinds kinds' places places' values values') where
   as_left_lem : min (1024 - m) 2048 ≡ left prelude
   as_left_lem = omega arith
 
-  pub scheme_symbols : length scheme ≤ 16384 → (n : ℕ) → t ≡ Symbols-read n → SymbolsIn (left prelude) scheme places' values' n
+  pub scheme_symbols : length scheme ≤ 16384 → (n : ℕ) → t ≡ Ok n → SymbolsIn (left prelude) scheme places' values' n
   scheme_symbols l n q = subst (λ k. SymbolsIn k scheme places' values' n) as_left_lem (stand_in (min (1024 - m) 2048) f l n q)
 
-  pub scheme_kinds : (n : ℕ) → t ≡ Symbols-read n → take n kinds' ≡ any.kinds_in (left prelude) scheme
+  pub scheme_kinds : (n : ℕ) → t ≡ Ok n → take n kinds' ≡ any.kinds_in (left prelude) scheme
   scheme_kinds n q = kinds_in_lem (min (1024 - m) 2048) f n q ∙ ap (λ k. any.kinds_in k scheme) as_left_lem
 
-  pub scheme_unread : {nodes : List ℕ} → length scheme ≤ 16384 → (r : Refusal) → t ≡ Symbols-refused r → SchemeTold prelude scheme places' values' nodes (Refused r)
+  pub scheme_unread : {nodes : List ℕ} → length scheme ≤ 16384 → (r : Refusal) → t ≡ Err r → SchemeTold prelude scheme places' values' nodes (Refused r)
   scheme_unread l r q =
       let s : (scan (left prelude) scheme).refused ≡ some r = ap (λ k. (scan k scheme).refused) (sym as_left_lem) ∙ refused_in (min (1024 - m) 2048) f r q in
       scheme_refused r (λ ps. subst (λ z. JudgedBy (scheme_judge prelude ps) scheme (NotAccepted z) (zeros half_words)) (no_further r) (unreadable l r s))

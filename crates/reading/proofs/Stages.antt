@@ -17,8 +17,7 @@ use Rattle.symbols.specs.Symbols.{kind, value_of}
 use Rattle.symbols.specs.Scan.{Found, Scan, scan, kinds_of, places_of, values_of}
 use Rattle.symbols.specs.model.Steps.{answer_of, over, Filled}
 use Rattle.symbols.proofs.Stored.{same_kind}
-use Rattle.symbols.specs.declared.Scanned.{Scanned as Told}
-use Rattle.symbols.specs.declared.Scanned.TheVariants.{Read as Symbols-read, Refused as Symbols-refused}
+use Rattle.std.specs.Prelude.{Result, Ok, Err}
 use Rattle.grammar.specs.model.Text.{text}
 use Rattle.grammar.specs.model.Marked.{nodes_of}
 use Rattle.grammar.specs.Program.{GrammarFault, DepthFault}
@@ -42,28 +41,28 @@ text_is (f ∷ l) = ap₂ (same_kind f.symbol) (text_is l)
 
 -- ---- what scanning answered
 
-pub answered : (s : Scan) (n : ℕ) → answer_of s ≡ Symbols-read n → (s.refused ≡ none) × (length s.found ≡ n)
+pub answered : (s : Scan) (n : ℕ) → answer_of s ≡ Ok n → (s.refused ≡ none) × (length s.found ≡ n)
 unfolding answer_of
 answered s n q = go s.refused refl
   where
-    read_refused : {m : ℕ} {r : Refusal} → Symbols-refused r ≡ Symbols-read m → ⊥
+    read_refused : {m : ℕ} {r : Refusal} → Err r ≡ Ok m → ⊥
     read_refused e = let z : ◌≡◌ {A = ℕ} 0 1 = cc in omega arith
 
-    same_count : {a b : ℕ} → Symbols-read a ≡ Symbols-read b → a ≡ b
+    same_count : {a b : ℕ} → Ok a ≡ Ok b → a ≡ b
     same_count e = cc
 
     go : (o : Option Refusal) → s.refused ≡ o → (s.refused ≡ none) × (length s.found ≡ n)
     go none e = (e, same_count (rw e at q))
     go (some r) e = absurd (read_refused (rw e at q))
 
-pub refused_as : (s : Scan) (r : Refusal) → answer_of s ≡ Symbols-refused r → s.refused ≡ some r
+pub refused_as : (s : Scan) (r : Refusal) → answer_of s ≡ Err r → s.refused ≡ some r
 unfolding answer_of
 refused_as s r q = go s.refused refl
   where
-    refused_read : {m : ℕ} {x : Refusal} → Symbols-read m ≡ Symbols-refused x → ⊥
+    refused_read : {m : ℕ} {x : Refusal} → Ok m ≡ Err x → ⊥
     refused_read e = let z : ◌≡◌ {A = ℕ} 0 1 = cc in omega arith
 
-    same_refusal : {a b : Refusal} → Symbols-refused a ≡ Symbols-refused b → a ≡ b
+    same_refusal : {a b : Refusal} → Err a ≡ Err b → a ≡ b
     same_refusal e = cc
 
     go : (o : Option Refusal) → s.refused ≡ o → s.refused ≡ some r
@@ -76,13 +75,13 @@ default_free (x ∷ l) zero a b h = refl
 default_free (x ∷ l) (suc k) a b h = default_free l k a b (omega arith)
 
 -- of any text, of which at most so many symbols may come
-module _ (most : ℕ) {source kinds kinds' places places' values values' : List ℕ} {t : Told} (f : Filled most source t kinds kinds' places places' values values') where
+module _ (most : ℕ) {source kinds kinds' places places' values values' : List ℕ} {t : Result ℕ Refusal} (f : Filled most source t kinds kinds' places places' values values') where
   -- 3 and 4
-  pub refused_in : (r : Refusal) → t ≡ Symbols-refused r → (scan most source).refused ≡ some r
+  pub refused_in : (r : Refusal) → t ≡ Err r → (scan most source).refused ≡ some r
   refused_in r q = refused_as (scan most source) r (sym f.answers ∙ q)
 
   -- the symbols stand, and their kinds
-  pub stand_in : length source ≤ 16384 → (n : ℕ) → t ≡ Symbols-read n → SymbolsIn most source places' values' n
+  pub stand_in : length source ≤ 16384 → (n : ℕ) → t ≡ Ok n → SymbolsIn most source places' values' n
   stand_in l n q =
       let found = (scan most source).found in
       let a = answered (scan most source) n (sym f.answers ∙ q) in
@@ -100,7 +99,7 @@ module _ (most : ℕ) {source kinds kinds' places places' values values' : List 
         valued = ap (take n) f.valued ∙ ap (λ m. take m (over (values_of found) values)) (sym vs) ∙ take-append_seam (values_of found) (drop (length (values_of found)) values);
       }
 
-  pub kinds_in_lem : (n : ℕ) → t ≡ Symbols-read n → take n kinds' ≡ any.kinds_in most source
+  pub kinds_in_lem : (n : ℕ) → t ≡ Ok n → take n kinds' ≡ any.kinds_in most source
   kinds_in_lem n q =
       let found = (scan most source).found in
       let ks : length (kinds_of found) ≡ n = length-map found (λ f. kind f.symbol) ∙ (answered (scan most source) n (sym f.answers ∙ q)).1 in
@@ -113,18 +112,18 @@ behind_in most {source} p k l =
     sym (get_or-eq_default (places_of found) (length source) {n = k} (omega (arith, p.count, length-map found (λ f. kind f.symbol), length-map found (λ f. f.place))))
 
 -- of a program by itself
-pub unread : {source kinds kinds' places places' values values' : List ℕ} {t : Told} → Filled symbols source t kinds kinds' places places' values values'
-    → length source ≤ 16384 → (r : Refusal) → t ≡ Symbols-refused r → Judged source (Refused r) cleared
+pub unread : {source kinds kinds' places places' values values' : List ℕ} {t : Result ℕ Refusal} → Filled symbols source t kinds kinds' places places' values values'
+    → length source ≤ 16384 → (r : Refusal) → t ≡ Err r → Judged source (Refused r) cleared
 unread f l r q = unreadable l r (refused_in symbols f r q)
 
-pub stand : {source kinds kinds' places places' values values' : List ℕ} {t : Told} → Filled symbols source t kinds kinds' places places' values values'
-    → length source ≤ 16384 → (n : ℕ) → t ≡ Symbols-read n → Symbols source kinds' places' n
+pub stand : {source kinds kinds' places places' values values' : List ℕ} {t : Result ℕ Refusal} → Filled symbols source t kinds kinds' places places' values values'
+    → length source ≤ 16384 → (n : ℕ) → t ≡ Ok n → Symbols source kinds' places' n
 stand f l n q =
     let x = stand_in symbols f l n q in
     record { scanned = x.scanned; kinded = kinds_in_lem symbols f n q; places_in = record { count = x.count; few = x.few; placed = x.placed } }
 
-pub values_stand : {source kinds kinds' places places' values values' : List ℕ} {t : Told} → Filled symbols source t kinds kinds' places places' values values'
-    → length source ≤ 16384 → (n : ℕ) → t ≡ Symbols-read n → take n values' ≡ values_of (scan symbols source).found
+pub values_stand : {source kinds kinds' places places' values values' : List ℕ} {t : Result ℕ Refusal} → Filled symbols source t kinds kinds' places places' values values'
+    → length source ≤ 16384 → (n : ℕ) → t ≡ Ok n → take n values' ≡ values_of (scan symbols source).found
 values_stand f l n q = (stand_in symbols f l n q).valued
 
 -- behind the last symbol stands the source's length

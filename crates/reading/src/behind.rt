@@ -10,7 +10,6 @@ use crate::preluding::find_prelude;
 use crate::{Both, Found, FoundBoth, Sizes};
 use answers::{Answer, Ordinal, Refusal};
 use grammar::{Fault, Read};
-use symbols::Scanned;
 use symbols::scanning::scan;
 use syntax::parse;
 
@@ -56,8 +55,8 @@ fn told(
         return Found::Refused(Refusal::new(Answer::LONG, 16384));
     }
     match scan(scheme, 1024 - m, &mut kinds, places, values) {
-        Scanned::Read(n) => parsed(scheme, &kinds, places, n, nodes),
-        Scanned::Refused(r) => Found::Refused(r),
+        Ok(n) => parsed(scheme, &kinds, places, n, nodes),
+        Err(r) => Found::Refused(r),
     }
 }
 

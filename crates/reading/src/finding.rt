@@ -10,7 +10,6 @@ use answers::{Answer, Ordinal, Place, Refusal};
 use grammar::{Fault, Read};
 use names::faults;
 use names::passes::{identify, outline, resolve};
-use symbols::Scanned;
 use symbols::scanning::scan;
 use syntax::parse;
 use types::check;
@@ -137,7 +136,7 @@ pub fn find(
         return Found::Refused(Refusal::new(Answer::LONG, 16384));
     }
     match scan(source, 2048, kinds, places, values) {
-        Scanned::Read(n) => parsed(source, kinds, places, n, nodes, rows, uses, marks),
-        Scanned::Refused(r) => Found::Refused(r),
+        Ok(n) => parsed(source, kinds, places, n, nodes, rows, uses, marks),
+        Err(r) => Found::Refused(r),
     }
 }

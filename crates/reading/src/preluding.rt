@@ -10,7 +10,6 @@ use crate::{Found, Sizes};
 use answers::{Answer, Ordinal, Refusal};
 use grammar::{Fault, Read};
 use names::passes::{first_rows, front};
-use symbols::Scanned;
 use symbols::scanning::scan;
 use syntax::parse_prelude;
 
@@ -93,8 +92,8 @@ fn told(
         return Found::Refused(Refusal::new(Answer::LONG, 16384));
     }
     match scan(prelude, 1024, &mut kinds, places, values) {
-        Scanned::Read(n) => parsed(prelude, &kinds, places, n, nodes),
-        Scanned::Refused(r) => Found::Refused(r),
+        Ok(n) => parsed(prelude, &kinds, places, n, nodes),
+        Err(r) => Found::Refused(r),
     }
 }
 

@@ -91,7 +91,7 @@ pub const SLASH: u8 = 41;
 
 pub const DECIMAL: u8 = 42;
 
-#[derive(Clone, Copy)]
+#[derive(Clone, Copy, PartialEq, Eq, Debug)]
 pub struct Stored {
     pub kind: u8,
     pub value: u64,
@@ -320,7 +320,7 @@ pub fn decode(k: u8, v: u64) -> Symbol
 }
 
 // A number with a point: its digits as one whole number, and how many of them stand behind the point.
-#[derive(Clone, Copy)]
+#[derive(Clone, Copy, PartialEq, Eq, Debug)]
 pub struct Unpacked {
     pub digits: u64,
     pub behind: u32,

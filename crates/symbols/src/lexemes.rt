@@ -39,7 +39,7 @@ fn sized(size: usize, more: usize) -> Lexeme
 }
 
 // Digits read one after the other: their value, kept at 10^15 where it is over; how many they are; and where they end.
-#[derive(Clone, Copy)]
+#[derive(Clone, Copy, PartialEq, Eq, Debug)]
 pub struct Digits {
     pub value: u64,
     pub count: usize,

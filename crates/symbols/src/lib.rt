@@ -13,7 +13,7 @@ pub mod names; // when two names are the same
 
 // What a symbol is. A name's letters stay in the source, at the symbol's place. A number with a point has its digits and how many of them
 // stand behind the point as one word.
-#[derive(Clone, Copy)]
+#[derive(Clone, Copy, PartialEq, Eq, Debug)]
 pub enum Symbol {
     Begin,
     End,
@@ -62,7 +62,7 @@ pub enum Symbol {
 
 // What begins at a byte: a symbol, or a name or number over its limit, with how many bytes belong to it behind its first;
 // or no symbol.
-#[derive(Clone, Copy)]
+#[derive(Clone, Copy, PartialEq, Eq, Debug)]
 pub enum Lexeme {
     Is(Symbol, usize),
     Large(usize),
@@ -70,7 +70,7 @@ pub enum Lexeme {
 }
 
 // Where a byte stands: next after `;`, 'begin' or a note; elsewhere; or after 'end'.
-#[derive(Clone, Copy)]
+#[derive(Clone, Copy, PartialEq, Eq, Debug)]
 pub enum Context {
     Opens,
     Plain,
@@ -79,7 +79,7 @@ pub enum Context {
 
 // What is done at a byte: nothing is kept, or a symbol is, with the context behind it and how many bytes more are passed
 // over; or a refusal.
-#[derive(Clone, Copy)]
+#[derive(Clone, Copy, PartialEq, Eq, Debug)]
 pub enum Turn {
     Pass(Context, usize),
     Keep(Symbol, Context, usize),
@@ -87,7 +87,7 @@ pub enum Turn {
 }
 
 // Where the source is read on.
-#[derive(Clone, Copy)]
+#[derive(Clone, Copy, PartialEq, Eq, Debug)]
 pub struct Cursor {
     pub at: usize,
     pub context: Context,
@@ -95,7 +95,7 @@ pub struct Cursor {
 
 // What reading at a cursor answers: the symbol there with the next cursor; a blank, a note or a part of a remark passed
 // over; a refusal with its number and place; or the source's end.
-#[derive(Clone, Copy)]
+#[derive(Clone, Copy, PartialEq, Eq, Debug)]
 pub enum Step {
     Read(Symbol, Cursor),
     Passed(Cursor),

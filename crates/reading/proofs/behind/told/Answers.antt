@@ -9,10 +9,10 @@ pub returns-then-scheme-gt16384 : goal.returns-then-scheme-gt16384
 returns-then-scheme-gt16384 c = λ prelude e. scheme_long prelude c.if-scheme-gt16384.true c.new.ensures
 
 pub parsed-requires : goal.parsed-requires
-parsed-requires c = (min (1024 - c.args.m) 2048, _, omega arith, stand_in _ c.scan.ensures c.if-scheme-gt16384.false _ c.in-Read.is, kinds_in_lem _ c.scan.ensures _ c.in-Read.is)
+parsed-requires c = (min (1024 - c.args.m) 2048, _, omega arith, stand_in _ c.scan.ensures c.if-scheme-gt16384.false _ c.in-Ok.is, kinds_in_lem _ c.scan.ensures _ c.in-Ok.is)
 
-pub returns-in-Read : goal.returns-in-Read
-returns-in-Read c = λ prelude e. c.parsed.ensures prelude _ (scheme_symbols prelude e c.scan.ensures c.if-scheme-gt16384.false _ c.in-Read.is) (scheme_kinds prelude e c.scan.ensures _ c.in-Read.is)
+pub returns-in-Ok : goal.returns-in-Ok
+returns-in-Ok c = λ prelude e. c.parsed.ensures prelude _ (scheme_symbols prelude e c.scan.ensures c.if-scheme-gt16384.false _ c.in-Ok.is) (scheme_kinds prelude e c.scan.ensures _ c.in-Ok.is)
 
-pub returns-in-Refused : goal.returns-in-Refused
-returns-in-Refused c = λ prelude e. scheme_unread prelude e c.scan.ensures c.if-scheme-gt16384.false _ c.in-Refused.is
+pub returns-in-Err : goal.returns-in-Err
+returns-in-Err c = λ prelude e. scheme_unread prelude e c.scan.ensures c.if-scheme-gt16384.false _ c.in-Err.is

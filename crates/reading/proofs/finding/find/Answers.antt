@@ -11,12 +11,12 @@ pub returns-then-source-gt16384 : goal.returns-then-source-gt16384
 returns-then-source-gt16384 c = refused _ (as-judged (ap Refused c.new.ensures) refl (too_long c.if-source-gt16384.true))
 
 pub parsed-requires : goal.parsed-requires
-parsed-requires c = stand c.scan.ensures c.if-source-gt16384.false _ c.in-Read.is
+parsed-requires c = stand c.scan.ensures c.if-source-gt16384.false _ c.in-Ok.is
 
-pub returns-in-Read : goal.returns-in-Read
-returns-in-Read c =
-    let told = c.in-Read.is in
+pub returns-in-Ok : goal.returns-in-Ok
+returns-in-Ok c =
+    let told = c.in-Ok.is in
     onward c.parsed.ensures (symbols-first (stand c.scan.ensures c.if-source-gt16384.false _ told).kinded (values_stand c.scan.ensures c.if-source-gt16384.false _ told))
 
-pub returns-in-Refused : goal.returns-in-Refused
-returns-in-Refused c = refused _ (unread c.scan.ensures c.if-source-gt16384.false _ c.in-Refused.is)
+pub returns-in-Err : goal.returns-in-Err
+returns-in-Err c = refused _ (unread c.scan.ensures c.if-source-gt16384.false _ c.in-Err.is)

@@ -8,10 +8,10 @@ pub returns-then-prelude-gt16384 : goal.returns-then-prelude-gt16384
 returns-then-prelude-gt16384 c = as_long c.if-prelude-gt16384.true c.new.ensures
 
 pub parsed-requires : goal.parsed-requires
-parsed-requires c = ((_, stand_in 1024 c.scan.ensures c.if-prelude-gt16384.false _ c.in-Read.is), kinds_in_lem 1024 c.scan.ensures _ c.in-Read.is)
+parsed-requires c = ((_, stand_in 1024 c.scan.ensures c.if-prelude-gt16384.false _ c.in-Ok.is), kinds_in_lem 1024 c.scan.ensures _ c.in-Ok.is)
 
-pub returns-in-Read : goal.returns-in-Read
-returns-in-Read c = c.parsed.ensures _ (stand_in 1024 c.scan.ensures c.if-prelude-gt16384.false _ c.in-Read.is)
+pub returns-in-Ok : goal.returns-in-Ok
+returns-in-Ok c = c.parsed.ensures _ (stand_in 1024 c.scan.ensures c.if-prelude-gt16384.false _ c.in-Ok.is)
 
-pub returns-in-Refused : goal.returns-in-Refused
-returns-in-Refused c = prelude_refused _ (unread_inside c.scan.ensures c.if-prelude-gt16384.false _ c.in-Refused.is) (unread c.scan.ensures c.if-prelude-gt16384.false _ c.in-Refused.is)
+pub returns-in-Err : goal.returns-in-Err
+returns-in-Err c = prelude_refused _ (unread_inside c.scan.ensures c.if-prelude-gt16384.false _ c.in-Err.is) (unread c.scan.ensures c.if-prelude-gt16384.false _ c.in-Err.is)
