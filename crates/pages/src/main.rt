@@ -8,9 +8,9 @@ use grammar::Fault;
 use showing::system::System;
 use showing::text::{say, say_name, say_nth, say_number};
 use std::os::fd::AsRawFd;
+use symbols::Symbol;
 use symbols::kinds::{decode, unpack};
 use symbols::scanning::scan;
-use symbols::Symbol;
 use syntax::parse;
 
 // A row of `index`: a name of 24 bytes, an answer of 3 digits, a place or count of 6.

@@ -48,7 +48,7 @@ answered s n q = go s.refused refl
     read_refused : {m : ℕ} {r : Refusal} → Err r ≡ Ok m → ⊥
     read_refused e = let z : ◌≡◌ {A = ℕ} 0 1 = cc in omega arith
 
-    same_count : {a b : ℕ} → Ok a ≡ Ok b → a ≡ b
+    same_count : {a b : ℕ} → ◌≡◌ {A = Result ℕ Refusal} (Ok a) (Ok b) → a ≡ b
     same_count e = cc
 
     go : (o : Option Refusal) → s.refused ≡ o → (s.refused ≡ none) × (length s.found ≡ n)
@@ -62,7 +62,7 @@ refused_as s r q = go s.refused refl
     refused_read : {m : ℕ} {x : Refusal} → Ok m ≡ Err x → ⊥
     refused_read e = let z : ◌≡◌ {A = ℕ} 0 1 = cc in omega arith
 
-    same_refusal : {a b : Refusal} → Err a ≡ Err b → a ≡ b
+    same_refusal : {a b : Refusal} → ◌≡◌ {A = Result ℕ Refusal} (Err a) (Err b) → a ≡ b
     same_refusal e = cc
 
     go : (o : Option Refusal) → s.refused ≡ o → s.refused ≡ some r
