@@ -31,6 +31,7 @@ pub struct Address {
 }
 
 // An answer's number.
+// Kept: what may not change, the definitions `answer` and `refusal` hold any number, and 0 is both accepted and ended.
 #[derive(Clone, Copy, PartialEq, Eq, Debug)]
 pub struct Answer {
     pub number: u16,
@@ -92,6 +93,7 @@ impl Answer {
     // More sets of input than a report takes.
     pub const TOO_MANY_SETS: Answer = Answer { number: 31 };
 
+    // Kept: what may not change, docs/PROMISES.md holds a function for each number beside its constant.
     pub fn accepted() -> Answer
         ensures { result ≡ answer accepted }
     {
@@ -249,6 +251,7 @@ impl Environment {
     // Writes an output real.
     pub const OUTREAL: Environment = Environment { number: 4 };
 
+    // Kept: what may not change, docs/PROMISES.md holds a function for each number beside its constant.
     pub fn iabs() -> Environment
         ensures { result ≡ environment iabs }
     {
@@ -351,8 +354,7 @@ impl Stop {
         ensures { result ≡ stop_place self }
     {
         match self {
-            Stop::Ended => 0,
-            Stop::Limit => 0,
+            Stop::Ended | Stop::Limit => 0,
             Stop::Fault(r) => r.place.at,
             Stop::Wrong(a) => a.at as usize,
         }

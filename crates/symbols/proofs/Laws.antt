@@ -8,8 +8,8 @@ use native.Mathlib.Numerals.{add-one}
 use lib.Dec.{eqb, ltb, leb}
 use lib.ListN.{length, get_or, take, drop, drop_of_length-le}
 use lib.Seq.{drop-cons}
-use borrow.Author.Tests.{ltb-true, ltb-false, leb-true, leb-false, lt-ltb, le-ltb, eq-eqb, ne_eqb}
-use Rattle.symbols.specs.Names.{blank, letter, digit, in_name, these, reach, letters, value_from, equal, folded, same_name}
+use borrow.Author.Tests.{ltb-true, ltb-false, leb-true, lt-ltb, eq-eqb, ne_eqb}
+use Rattle.symbols.specs.Names.{blank, letter, digit, in_name, these, reach, letters, value_from, equal}
 use Rattle.answers.specs.Numbers.{no_symbol, too_large}
 use Rattle.answers.specs.Answers.{answer}
 use Rattle.symbols.specs.declared.Turn.TheVariants.{Keep, Refuse}

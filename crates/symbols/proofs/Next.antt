@@ -1,17 +1,16 @@
 -- The next letter or digit of a name, blanks before it passed over; and two names told letter by letter.
 -- Assumes nothing.
 use mathlib.Core.Path.{◌≡◌, refl, sym, ap, ◌∙◌}
-use mathlib.Core.Bool.{Bool, true, false, cond, not}
+use mathlib.Core.Bool.{Bool, true, false, not}
 use mathlib.Core.List.{List, [], ◌∷◌}
 use Prim.Native.Nat.{ℕ, suc, ◌+◌, ◌-◌, ◌≤◌, ◌<◌}
 use native.Mathlib.Omega.{arith}
-use lib.Dec.{eqb, ltb}
+use lib.Dec.{eqb}
 use lib.ListN.{length, get_or, drop, length-drop}
 use lib.Seq.{drop-drop, get_or-drop}
-use borrow.Author.Tests.{ltb-true, ltb-false}
 use Rattle.std.specs.Option.{is_some, is_none, IfSome}
 use Rattle.std.specs.Prelude.{Option, Some, None}
-use Rattle.symbols.specs.Names.{in_name, letters, equal, folded, same_name}
+use Rattle.symbols.specs.Names.{in_name, equal, folded, same_name}
 use Rattle.symbols.specs.Scan.{gap}
 use Rattle.symbols.specs.model.Steps.{rest_of, NextLetter}
 use Rattle.symbols.proofs.Laws.{these_next, these_none}

@@ -1,10 +1,12 @@
-// A symbol is stored as its kind and its value: a slice of enums is not to be had.
+// A symbol is stored as its kind and its value, in lent arrays of numbers.
 ghost use Rattle.std.specs.Prelude.{◌≡◌};
+ghost use Rattle.symbols.specs.Symbols.{kind as kind_of, value_of};
 ghost use Rattle.symbols.specs.model.Kinds.{stored_of, symbol_of, unpacked};
 
 use crate::Symbol;
 
 // The kinds, by name.
+// Kept: what may not change, `Filled` and the clauses of every reader above hold kinds as numbers of a lent array.
 pub const BEGIN: u8 = 0;
 
 pub const END: u8 = 1;
@@ -97,177 +99,78 @@ pub struct Stored {
     pub value: u64,
 }
 
+// A symbol's kind.
+fn kind(s: Symbol) -> u8
+    ensures { result ≡ kind_of s }
+{
+    match s {
+        Symbol::Begin => BEGIN,
+        Symbol::End => END,
+        Symbol::If => IF,
+        Symbol::Then => THEN,
+        Symbol::Else => ELSE,
+        Symbol::For => FOR,
+        Symbol::Do => DO,
+        Symbol::Step => STEP,
+        Symbol::Until => UNTIL,
+        Symbol::While => WHILE,
+        Symbol::Comment => COMMENT,
+        Symbol::Integer => INTEGER,
+        Symbol::Boolean => BOOLEAN,
+        Symbol::Procedure => PROCEDURE,
+        Symbol::Value => VALUE,
+        Symbol::True => TRUE,
+        Symbol::False => FALSE,
+        Symbol::And => AND,
+        Symbol::Or => OR,
+        Symbol::Not => NOT,
+        Symbol::Impl => IMPL,
+        Symbol::Equiv => EQUIV,
+        Symbol::Plus => PLUS,
+        Symbol::Minus => MINUS,
+        Symbol::Times => TIMES,
+        Symbol::Divide => DIVIDE,
+        Symbol::Less => LESS,
+        Symbol::LessEqual => LESS_EQUAL,
+        Symbol::Equal => EQUAL,
+        Symbol::GreaterEqual => GREATER_EQUAL,
+        Symbol::Greater => GREATER,
+        Symbol::NotEqual => NOT_EQUAL,
+        Symbol::Comma => COMMA,
+        Symbol::Colon => COLON,
+        Symbol::Becomes => BECOMES,
+        Symbol::Semicolon => SEMICOLON,
+        Symbol::Open => OPEN,
+        Symbol::Close => CLOSE,
+        Symbol::Name => NAME,
+        Symbol::Number(_) => NUMBER,
+        Symbol::Real => REAL,
+        Symbol::Slash => SLASH,
+        Symbol::Decimal(_) => DECIMAL,
+    }
+}
+
+// A number's value, or the word of one with a point; 0 for every other symbol.
+fn value(s: Symbol) -> u64
+    ensures { result ≡ value_of s }
+{
+    match s {
+        Symbol::Number(v) | Symbol::Decimal(v) => v,
+        _ => 0,
+    }
+}
+
 pub fn store(s: Symbol) -> Stored
     ensures { result ≡ stored_of s }
 {
-    match s {
-        Symbol::Begin => Stored {
-            kind: BEGIN,
-            value: 0,
-        },
-        Symbol::End => Stored {
-            kind: END,
-            value: 0,
-        },
-        Symbol::If => Stored { kind: IF, value: 0 },
-        Symbol::Then => Stored {
-            kind: THEN,
-            value: 0,
-        },
-        Symbol::Else => Stored {
-            kind: ELSE,
-            value: 0,
-        },
-        Symbol::For => Stored {
-            kind: FOR,
-            value: 0,
-        },
-        Symbol::Do => Stored { kind: DO, value: 0 },
-        Symbol::Step => Stored {
-            kind: STEP,
-            value: 0,
-        },
-        Symbol::Until => Stored {
-            kind: UNTIL,
-            value: 0,
-        },
-        Symbol::While => Stored {
-            kind: WHILE,
-            value: 0,
-        },
-        Symbol::Comment => Stored {
-            kind: COMMENT,
-            value: 0,
-        },
-        Symbol::Integer => Stored {
-            kind: INTEGER,
-            value: 0,
-        },
-        Symbol::Boolean => Stored {
-            kind: BOOLEAN,
-            value: 0,
-        },
-        Symbol::Procedure => Stored {
-            kind: PROCEDURE,
-            value: 0,
-        },
-        Symbol::Value => Stored {
-            kind: VALUE,
-            value: 0,
-        },
-        Symbol::True => Stored {
-            kind: TRUE,
-            value: 0,
-        },
-        Symbol::False => Stored {
-            kind: FALSE,
-            value: 0,
-        },
-        Symbol::And => Stored {
-            kind: AND,
-            value: 0,
-        },
-        Symbol::Or => Stored { kind: OR, value: 0 },
-        Symbol::Not => Stored {
-            kind: NOT,
-            value: 0,
-        },
-        Symbol::Impl => Stored {
-            kind: IMPL,
-            value: 0,
-        },
-        Symbol::Equiv => Stored {
-            kind: EQUIV,
-            value: 0,
-        },
-        Symbol::Plus => Stored {
-            kind: PLUS,
-            value: 0,
-        },
-        Symbol::Minus => Stored {
-            kind: MINUS,
-            value: 0,
-        },
-        Symbol::Times => Stored {
-            kind: TIMES,
-            value: 0,
-        },
-        Symbol::Divide => Stored {
-            kind: DIVIDE,
-            value: 0,
-        },
-        Symbol::Less => Stored {
-            kind: LESS,
-            value: 0,
-        },
-        Symbol::LessEqual => Stored {
-            kind: LESS_EQUAL,
-            value: 0,
-        },
-        Symbol::Equal => Stored {
-            kind: EQUAL,
-            value: 0,
-        },
-        Symbol::GreaterEqual => Stored {
-            kind: GREATER_EQUAL,
-            value: 0,
-        },
-        Symbol::Greater => Stored {
-            kind: GREATER,
-            value: 0,
-        },
-        Symbol::NotEqual => Stored {
-            kind: NOT_EQUAL,
-            value: 0,
-        },
-        Symbol::Comma => Stored {
-            kind: COMMA,
-            value: 0,
-        },
-        Symbol::Colon => Stored {
-            kind: COLON,
-            value: 0,
-        },
-        Symbol::Becomes => Stored {
-            kind: BECOMES,
-            value: 0,
-        },
-        Symbol::Semicolon => Stored {
-            kind: SEMICOLON,
-            value: 0,
-        },
-        Symbol::Open => Stored {
-            kind: OPEN,
-            value: 0,
-        },
-        Symbol::Close => Stored {
-            kind: CLOSE,
-            value: 0,
-        },
-        Symbol::Name => Stored {
-            kind: NAME,
-            value: 0,
-        },
-        Symbol::Number(v) => Stored {
-            kind: NUMBER,
-            value: v,
-        },
-        Symbol::Real => Stored {
-            kind: REAL,
-            value: 0,
-        },
-        Symbol::Slash => Stored {
-            kind: SLASH,
-            value: 0,
-        },
-        Symbol::Decimal(w) => Stored {
-            kind: DECIMAL,
-            value: w,
-        },
+    Stored {
+        kind: kind(s),
+        value: value(s),
     }
 }
 
 // The symbol of a kind and a value; a number that is no kind is read as `:`, which no program has.
+#[tactic(auto, unfolding(crate::specs::model::Kinds::symbol_of))]
 pub fn decode(k: u8, v: u64) -> Symbol
     ensures { result ≡ symbol_of k v }
 {
@@ -326,6 +229,7 @@ pub struct Unpacked {
     pub behind: u32,
 }
 
+#[tactic(auto, unfolding(crate::specs::model::Kinds::unpacked))]
 pub fn unpack(w: u64) -> Unpacked
     ensures { result ≡ unpacked w }
 {

@@ -28,6 +28,7 @@ fn name(source: &[u8], at: usize) -> Lexeme
 }
 
 // A name of so many letters and digits.
+#[tactic(auto, unfolding(crate::specs::Scan::sized))]
 fn sized(size: usize, more: usize) -> Lexeme
     ensures { result ≡ sized_of size more }
 {
@@ -86,6 +87,7 @@ fn with_digit(v: u64, b: u8) -> u64
 }
 
 // A number of this value.
+#[tactic(auto, unfolding(crate::specs::Scan::valued))]
 fn valued(v: u64, more: usize) -> Lexeme
     ensures { result ≡ valued_of v more }
 {
@@ -97,6 +99,7 @@ fn valued(v: u64, more: usize) -> Lexeme
 }
 
 // A number with a point, of so many digits.
+#[tactic(auto, unfolding(crate::specs::Scan::pointed))]
 fn pointed(v: u64, count: usize, behind: usize, more: usize) -> Lexeme
     requires { (v ≤ 1000000000000000) × (behind ≤ count) }
     ensures { result ≡ pointed_of v count behind more }
@@ -135,10 +138,7 @@ fn number(source: &[u8], at: usize) -> Lexeme
     let front = digits_from(source, at, 0, 0);
     let end = front.end;
     let plain = valued(front.value, end - at - 1);
-    if source.len() <= end {
-        return plain;
-    }
-    if source[end] == b'.' {
+    if end < source.len() && source[end] == b'.' {
         return with_point(source, at, front, plain);
     }
     plain
@@ -182,6 +182,7 @@ fn joined(source: &[u8], at: usize, alone: Symbol, both: Symbol) -> Lexeme
     Lexeme::Is(alone, 0)
 }
 
+#[tactic(auto, unfolding(crate::specs::Scan::sign, crate::specs::model::Steps::joined_of))]
 fn sign(source: &[u8], at: usize) -> Lexeme
     requires { at < length source.now }
     ensures { result ≡ sign_of signs (get_or source.now at 0) (drop (at + 1) source.now) }

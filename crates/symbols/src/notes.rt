@@ -57,6 +57,7 @@ fn counted(room: usize, s: Symbol, k: usize) -> Turn
 }
 
 // A symbol at `at` in its context.
+#[tactic(auto, unfolding(crate::specs::Scan::judged))]
 fn judged(source: &[u8], at: usize, room: usize, c: Context, s: Symbol, k: usize) -> Turn
     requires { at + 1 + k ≤ length source.now }
     ensures { result ≡ judged_of room c (Is s k) (drop (at + 1) source.now) }

@@ -33,6 +33,7 @@ pub fn next(source: &[u8], cursor: Cursor, room: usize) -> Step
 }
 
 // The symbols of a source, of which `room` may come, into slices that hold as many.
+// Kept: what may not change, `Filled` holds three arrays, one of kinds, one of places and one of values.
 fn fill(
     source: &[u8],
     room: usize,

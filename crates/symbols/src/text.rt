@@ -34,7 +34,10 @@ pub fn blanks_end(source: &[u8], from: usize) -> usize
     ensures { result ≡ from + gap (drop from source.now) }
 {
     let rest = &source[from.min(source.len())..];
-    from + rest.iter().position(|b| !is_blank(*b)).unwrap_or(rest.len())
+    from + rest
+        .iter()
+        .position(|b| !is_blank(*b))
+        .unwrap_or(rest.len())
 }
 
 // The place of the next byte q from `from` on, or the source's length where there is none.

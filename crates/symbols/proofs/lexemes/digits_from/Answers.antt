@@ -1,7 +1,7 @@
 -- `symbols::lexemes::digits_from` meets its contract. The value and the count so far and the digits from i on make those of the run, the value up to
 -- the cap; the bytes passed are its bytes.
 -- Assumes nothing.
-use mathlib.Core.Path.{◌≡◌, refl, sym, ap, ◌∙◌}
+use mathlib.Core.Path.{◌≡◌, sym, ap, ◌∙◌}
 use Prim.Native.Nat.{◌+◌, ◌-◌, ◌*◌}
 use native.Mathlib.Omega.{arith}
 use lib.ListN.{length, get_or}

@@ -24,8 +24,7 @@ returns-then-not-same_letter c =
 pub loop-i-preserved : goal.loop-i-preserved
 loop-i-preserved c =
     let i = c.next_letter-i-in-Some.ensures in
-    let j = c.next_letter-j-in-Some.ensures in
-    (
+    let j = c.next_letter-j-in-Some.ensures in (
       within_source _ _ _ i,
       within_source _ _ _ j,
       c.loop-i.invariant.2 ∙ rw (c.in-Some.is, c.in-Some-j.is) (letters_on _ _ _ _ _ _ (sym c.same_letter.ensures ∙ c.if-not-same_letter.false) i.same j.same),

@@ -23,8 +23,7 @@ pub loop-b-preserved : goal.loop-b-preserved
 loop-b-preserved c =
     let w = c.args.word.now in
     let l = c.loop-b in
-    let n = c.next_letter-j-in-loop-b.ensures in
-    (
+    let n = c.next_letter-j-in-loop-b.ensures in (
       within_source _ _ _ n,
       l.invariant.1 ∙ rw (peel w l.b-index c.loop-b-test.true, c.in-Some.is) (letters_on _ _ _ _ _ _ (sym c.same_letter.ensures ∙ c.if-not-same_letter.false) refl n.same),
     )

@@ -3,7 +3,7 @@
 use mathlib.Core.Path.{◌≡◌, refl, ◌∙◌}
 use mathlib.Core.Bool.{Bool, true, false, cond}
 use Rattle.std.specs.Option.{option_or}
-use Rattle.std.specs.Prelude.{Option, Some, None}
+use Rattle.std.specs.Prelude.{Some, None}
 use Rattle.symbols.proofs.words.either.Goals as goal
 
 first : {A : Type 0} (t u : Bool) (x y : A) → option_or (cond t (Some x) None) (cond u (Some y) None) ≡ cond t (Some x) (cond u (Some y) None)
