@@ -13,16 +13,14 @@ use names::Meant;
 fn sort_of(rows: &[u16], d: Declaration) -> u16
     ensures { result ≡ sort_in rows.now d.number }
 {
-    let r = names::row_at(rows, d);
-    names::sort(r.sort)
+    names::sort(names::row_at(rows, d).sort)
 }
 
 // Whether it is of a kind.
 fn is_kind(rows: &[u16], d: Declaration, kind: u16) -> bool
     ensures { result ≡ eqb (row_in rows.now d.number).kind kind }
 {
-    let r = names::row_at(rows, d);
-    r.kind == kind
+    names::row_at(rows, d).kind == kind
 }
 
 // How many formals stand behind a procedure.
@@ -31,18 +29,14 @@ fn formals(rows: &[u16], d: Declaration) -> usize
     ensures value { result ≡ formals_in rows.now d.number }
     ensures upper_bound { result ≤ 8192 }
 {
-    let mut n = 0;
-    while d.number + 1 + n < rows.len() / 4 {
-        let at = d.number + 1 + n;
-        if !is_kind(rows, Declaration { number: at }, nodes::FORMAL) {
-            return n;
-        }
-        n += 1;
-    }
-    n
+    (d.number + 1..rows.len() / 4)
+        .map(|number| Declaration { number })
+        .take_while(|f| is_kind(rows, *f, nodes::FORMAL))
+        .count()
 }
 
 // The type of what the environment gives.
+#[tactic(auto, unfolding(crate::specs::model::Passes::given_sort))]
 fn given_sort(e: Environment) -> u16
     ensures { result ≡ given_sort e.number }
 {
@@ -54,11 +48,11 @@ fn given_sort(e: Environment) -> u16
 }
 
 // How many actuals it takes.
+#[tactic(auto, unfolding(crate::specs::model::Passes::given_formals))]
 fn given_formals(e: Environment) -> usize
     ensures { result ≡ given_formals e.number }
 {
-    let number = e.number;
-    match number {
+    match e.number {
         0 => 1,
         1 => 0,
         _ => 2,
@@ -66,28 +60,28 @@ fn given_formals(e: Environment) -> usize
 }
 
 // A procedure's name in an expression.
+#[tactic(auto, unfolding(crate::specs::model::Passes::applied_as))]
 fn applied(sort: u16, wants: usize, has: usize) -> Judgement
     ensures { result ≡ applied_as sort wants has }
 {
-    if sort == sorts::NONE {
-        return Judgement { sort, wrong: true };
-    }
     Judgement {
         sort,
-        wrong: wants != has,
+        wrong: sort == sorts::NONE || wants != has,
     }
 }
 
 // A variable or formal in an expression.
+#[tactic(auto, unfolding(crate::specs::model::Passes::plainly_as))]
 fn plainly(sort: u16, has: usize) -> Judgement
     ensures { result ≡ plainly_as sort has }
 {
     if has == 0 {
-        return Judgement { sort, wrong: false };
-    }
-    Judgement {
-        sort: sorts::NONE,
-        wrong: true,
+        Judgement { sort, wrong: false }
+    } else {
+        Judgement {
+            sort: sorts::NONE,
+            wrong: true,
+        }
     }
 }
 
@@ -100,9 +94,10 @@ pub fn in_expression(rows: &[u16], m: Meant, has: usize) -> Judgement
         Meant::Declared(d) => {
             let sort = sort_of(rows, d);
             if is_kind(rows, d, nodes::PROCEDURE) {
-                return applied(sort, formals(rows, d), has);
+                applied(sort, formals(rows, d), has)
+            } else {
+                plainly(sort, has)
             }
-            plainly(sort, has)
         }
         Meant::Given(e) => applied(given_sort(e), given_formals(e), has),
         Meant::Nothing => Judgement {
@@ -118,31 +113,23 @@ pub fn miscalled(rows: &[u16], m: Meant, has: usize) -> bool
     ensures { result ≡ miscalled_of rows.now m has }
 {
     match m {
-        Meant::Declared(d) => {
-            if is_kind(rows, d, nodes::PROCEDURE) {
-                return formals(rows, d) != has;
-            }
-            true
-        }
+        Meant::Declared(d) => { !is_kind(rows, d, nodes::PROCEDURE) || formals(rows, d) != has }
         Meant::Given(e) => given_formals(e) != has,
         Meant::Nothing => false,
     }
 }
 
 // What the environment wants of actual k.
+#[tactic(auto, unfolding(crate::specs::model::Passes::given_wants))]
 fn given_wants(e: Environment, k: usize) -> Want
     ensures { result ≡ given_wants e.number k }
 {
     if given_formals(e) <= k {
         return Want::Nothing;
     }
-    if k != 1 {
-        return Want::An(sorts::INTEGER);
-    }
-    let number = e.number;
-    match number {
-        2 => Want::Variable(sorts::INTEGER),
-        4 => Want::An(sorts::REAL),
+    match (e.number, k) {
+        (2, 1) => Want::Variable(sorts::INTEGER),
+        (4, 1) => Want::An(sorts::REAL),
         _ => Want::An(sorts::INTEGER),
     }
 }
@@ -175,10 +162,7 @@ pub fn is_variable(rows: &[u16], m: Meant, sort: u16) -> bool
 {
     match m {
         Meant::Declared(d) => {
-            if is_kind(rows, d, nodes::PROCEDURE) {
-                return false;
-            }
-            !sorts::apart(sort_of(rows, d), sort)
+            !is_kind(rows, d, nodes::PROCEDURE) && !sorts::apart(sort_of(rows, d), sort)
         }
         Meant::Given(_) => false,
         Meant::Nothing => true,
@@ -190,11 +174,9 @@ fn own_result(rows: &[u16], symbol: Ordinal, bodies: &[u16], count: usize) -> Ju
     requires { count ≤ length bodies.now }
     ensures { result ≡ own_of rows.now symbol.number (opens_of count bodies.now) }
 {
-    let mut n = count;
-    while 0 < n {
-        n -= 1;
+    for &body in bodies[..count].iter().rev() {
         let b = Declaration {
-            number: bodies[n] as usize,
+            number: body as usize,
         };
         let r = names::row_at(rows, b);
         if r.symbol.number == symbol.number {

@@ -12,45 +12,35 @@ pub const BOOLEAN: u16 = 2;
 pub const REAL: u16 = 3;
 
 // Known both, and Boolean the one or the other alone: integer and real mix, and what has no type "causes no other fault".
+#[tactic(auto, unfolding(crate::specs::model::Passes::apart_of))]
 pub fn apart(a: u16, b: u16) -> bool
     ensures { result ≡ apart_of a b }
 {
-    if a == NONE {
-        return false;
-    }
-    if b == NONE {
-        return false;
-    }
-    if a == BOOLEAN {
-        return b != BOOLEAN;
-    }
-    b == BOOLEAN
+    a != NONE && b != NONE && (a == BOOLEAN) != (b == BOOLEAN)
 }
 
 // Known both, and not the same.
+#[tactic(auto, unfolding(crate::specs::model::Passes::differ_of))]
 pub fn differ(a: u16, b: u16) -> bool
     ensures { result ≡ differ_of a b }
 {
-    if a == NONE {
-        return false;
-    }
-    if b == NONE {
-        return false;
-    }
-    a != b
+    a != NONE && b != NONE && a != b
 }
 
 // The type of a sum: real where one of the two is.
+#[tactic(auto, unfolding(crate::specs::model::Passes::wider_of))]
 fn wider(a: u16, b: u16) -> u16
     ensures { result ≡ wider_of a b }
 {
-    if a == REAL {
-        return REAL;
+    if a == REAL || b == REAL {
+        REAL
+    } else {
+        INTEGER
     }
-    if b == REAL { REAL } else { INTEGER }
 }
 
 // The type of a conditional expression, by those of its parts.
+#[tactic(auto, unfolding(crate::specs::model::Passes::armed_of))]
 pub fn armed(a: u16, b: u16) -> u16
     ensures { result ≡ armed_of a b }
 {
@@ -58,19 +48,19 @@ pub fn armed(a: u16, b: u16) -> u16
 }
 
 // Which of its parts is a whole number beside a real.
+#[tactic(auto, unfolding(crate::specs::model::Passes::wide_of))]
 pub fn wide(a: u16, b: u16) -> u16
     ensures { result ≡ wide_of a b }
 {
-    if a == INTEGER {
-        return if b == REAL { 1 } else { 0 };
+    match (a, b) {
+        (INTEGER, REAL) => 1,
+        (REAL, INTEGER) => 2,
+        _ => 0,
     }
-    if a != REAL {
-        return 0;
-    }
-    if b == INTEGER { 2 } else { 0 }
 }
 
 // The type of a sign's operand.
+#[tactic(auto, unfolding(crate::specs::model::Passes::sign_sort))]
 pub fn sign_takes(kind: u16) -> u16
     ensures { result ≡ sign_sort kind }
 {
@@ -78,16 +68,19 @@ pub fn sign_takes(kind: u16) -> u16
 }
 
 // The type that it gives.
+#[tactic(auto, unfolding(crate::specs::model::Passes::sign_gives_sort))]
 pub fn sign_gives(kind: u16, sort: u16) -> u16
     ensures { result ≡ sign_gives_sort kind sort }
 {
     if kind == 19 {
-        return BOOLEAN;
+        BOOLEAN
+    } else {
+        wider(sort, NONE)
     }
-    wider(sort, NONE)
 }
 
 // The type of an operator's operands, real beside integer.
+#[tactic(auto, unfolding(crate::specs::model::Passes::takes_sort))]
 fn takes(kind: u16) -> u16
     ensures { result ≡ takes_sort kind }
 {
@@ -95,36 +88,31 @@ fn takes(kind: u16) -> u16
 }
 
 // Whether an operand is of the wrong type: "`%`: both integer".
+#[tactic(auto, unfolding(crate::specs::model::Passes::unfit_of))]
 fn unfit(kind: u16, sort: u16) -> bool
     ensures { result ≡ unfit_of kind sort }
 {
     if kind == 25 {
-        return differ(sort, INTEGER);
+        differ(sort, INTEGER)
+    } else {
+        apart(sort, takes(kind))
     }
-    apart(sort, takes(kind))
 }
 
 // Whether one of two is.
 pub fn unfit_one(kind: u16, a: u16, b: u16) -> bool
     ensures { result ≡ (unfit_of kind a || unfit_of kind b) }
 {
-    if unfit(kind, a) {
-        return true;
-    }
-    unfit(kind, b)
+    unfit(kind, a) || unfit(kind, b)
 }
 
 // The type that an operator gives, by those of its operands.
+#[tactic(auto, unfolding(crate::specs::model::Passes::gives_sort))]
 pub fn gives(kind: u16, a: u16, b: u16) -> u16
     ensures { result ≡ gives_sort kind a b }
 {
-    if kind < 22 {
-        return BOOLEAN;
-    }
-    if kind < 25 {
-        return wider(a, b);
-    }
     match kind {
+        22..=24 => wider(a, b),
         25 => INTEGER,
         41 => REAL,
         _ => BOOLEAN,

@@ -1,33 +1,22 @@
 // The nodes with a stack of types.
 ghost use Rattle.std.specs.Prelude.{◌≡◌, List, ◌∷◌, ℕ, ◌+◌, ◌*◌, ◌≤◌, ◌<◌, eqb, length, set, drop};
-ghost use Rattle.names.specs.model.Rows.{opens_of, meant_of, is_use};
+ghost use Rattle.names.specs.model.Rows.{opens_of, meant_of};
 ghost use Rattle.types.specs.model.Passes.{noted, with_rows, with_bodies, top_of, below, pushed, popped, taken_as, signed_as, operated_as, condition_as, chosen_as, assigned_as, next_use, named_as, called_as, left_as, use_typed, misfit_of, one_more, actual_in, call_ended, plain_typed, type_node, typed_of, mark_of, marks_of};
 ghost use Rattle.types.specs.model.Arrays.{see, call_at, calls_of, begun, Within, CountsWithin};
 
 use crate::{Seen, Want, meanings, sorts};
 use answers::{Answer, Ordinal};
 use grammar::nodes;
-use names::faults;
 use names::meanings::{NOTHING, meant};
+use names::{Node, faults, is_use};
 
 // A type fault at a symbol, where a test says so.
 fn note(mut t: Seen, wrong: bool, symbol: Ordinal) -> Seen
     ensures b_value { (u s c b : List ℕ) → see result u s c b ≡ noted wrong symbol.number (see t u s c b) }
     ensures depth_value { result.depth ≡ t.depth }
 {
-    if wrong {
-        t.least = faults::noted(t.least, symbol, Answer::TYPES);
-        return t;
-    }
+    t.least = faults::noted_if(wrong, t.least, symbol, Answer::TYPES);
     t
-}
-
-// Word n of a stack is written.
-fn put(stack: &mut [u16], n: usize, word: u16)
-    requires { n < length stack.old }
-    ensures { opens_of (n + 1) stack.new ≡ word ∷ opens_of n stack.old }
-{
-    stack[n] = word;
 }
 
 // A type is put on the stack.
@@ -35,9 +24,8 @@ fn push(mut t: Seen, sort: u16, stack: &mut [u16; 8192]) -> Seen
     requires { t.depth < 8192 }
     ensures { (u c b : List ℕ) → see result u stack.new c b ≡ pushed sort (see t u stack.old c b) }
 {
-    let at = t.depth;
-    put(stack, at, sort);
-    t.depth = at + 1;
+    stack[t.depth] = sort;
+    t.depth += 1;
     t
 }
 
@@ -46,10 +34,7 @@ fn top(t: Seen, stack: &[u16; 8192]) -> u16
     requires { t.depth ≤ 8192 }
     ensures { result ≡ top_of (opens_of t.depth stack.now) }
 {
-    if t.depth == 0 {
-        return 0;
-    }
-    stack[t.depth - 1]
+    stack[..t.depth].last().copied().unwrap_or(0)
 }
 
 // It is taken away.
@@ -57,10 +42,7 @@ fn pop(mut t: Seen) -> Seen
     ensures b_value { (u s c b : List ℕ) → see result u s c b ≡ popped (see t u s c b) }
     ensures depth_le_depth { result.depth ≤ t.depth }
 {
-    if t.depth == 0 {
-        return t;
-    }
-    t.depth -= 1;
+    t.depth = t.depth.saturating_sub(1);
     t
 }
 
@@ -119,11 +101,9 @@ fn next_use(mut t: Seen, uses: &[u16]) -> Seen
     ensures by_index { (s c b : List ℕ) → see result uses.now s c b ≡ next_use (drop t.uses uses.now) (see t uses.now s c b) }
     ensures depth_value { (result.depth ≡ t.depth) × (result.calls ≡ t.calls) × (result.bodies ≡ t.bodies) }
 {
-    let at = t.uses;
-    if at < uses.len() {
-        t.uses = at + 1;
-        t.last = uses[at];
-        return t;
+    if let Some(&last) = uses.get(t.uses) {
+        t.uses += 1;
+        t.last = last;
     }
     t
 }
@@ -168,9 +148,8 @@ fn call(mut t: Seen, depth: u16, calls: &mut [u16; 24576]) -> Seen
     requires { t.calls < 8192 }
     ensures { (u s b : List ℕ) → see result u s calls.new b ≡ called_as depth (see t u s calls.old b) }
 {
-    let at = t.calls;
-    begin(calls, at, t.last, depth);
-    t.calls = at + 1;
+    begin(calls, t.calls, t.last, depth);
+    t.calls += 1;
     t
 }
 
@@ -179,9 +158,7 @@ fn one_more(calls: &mut [u16], n: usize)
     requires { (n < 8192) × (3 * n + 2 < length calls.old) × ((call_at calls.old n).count < 65535) }
     ensures { calls_of (n + 1) calls.new ≡ one_more (call_at calls.old n) ∷ calls_of n calls.old }
 {
-    let at = 3 * n + 2;
-    let count = calls[at];
-    calls[at] = count + 1;
+    calls[3 * n + 2] += 1;
 }
 
 // How many actuals call n had so far.
@@ -189,8 +166,7 @@ fn actuals(calls: &[u16], n: usize) -> usize
     requires { (n < 8192) × (3 * n + 2 < length calls.now) }
     ensures { result ≡ (call_at calls.now n).count }
 {
-    let at = 3 * n + 2;
-    calls[at] as usize
+    usize::from(calls[3 * n + 2])
 }
 
 // Whether a name at a depth is one level deeper than call n: an actual that is a name alone.
@@ -198,9 +174,7 @@ fn is_alone(calls: &[u16], n: usize, bare: u16) -> bool
     requires { (n < 8192) × (3 * n + 2 < length calls.now) }
     ensures { result ≡ eqb bare ((call_at calls.now n).depth + 1) }
 {
-    let at = 3 * n + 1;
-    let depth = calls[at] as usize;
-    bare as usize == depth + 1
+    usize::from(bare) == usize::from(calls[3 * n + 1]) + 1
 }
 
 // Whether an actual is not what is wanted; alone: it is a name alone.
@@ -210,12 +184,7 @@ fn misfit(t: Seen, wanted: Want, alone: bool, rows: &[u16], stack: &[u16; 8192])
 {
     match wanted {
         Want::An(sort) => sorts::apart(top(t, stack), sort),
-        Want::Variable(sort) => {
-            if !alone {
-                return true;
-            }
-            !meanings::is_variable(rows, meant(t.last), sort)
-        }
+        Want::Variable(sort) => !alone || !meanings::is_variable(rows, meant(t.last), sort),
         Want::Nothing => false,
     }
 }
@@ -278,10 +247,7 @@ fn left(mut t: Seen, symbol: Ordinal, rows: &[u16], bodies: &[u16; 8192]) -> See
 {
     let j = meanings::as_left(rows, meant(t.last), bodies, t.bodies);
     if t.begun {
-        if j.wrong {
-            return note(t, true, symbol);
-        }
-        return note(t, sorts::differ(t.left, j.sort), symbol);
+        return note(t, j.wrong || sorts::differ(t.left, j.sort), symbol);
     }
     t.begun = true;
     t.left = j.sort;
@@ -302,9 +268,8 @@ fn body(mut t: Seen, bodies: &mut [u16; 8192]) -> Seen
     requires { (t.bodies < 8192) × (t.rows < 8192) }
     ensures { (u s c : List ℕ) → see result u s c bodies.new ≡ with_rows (t.rows + 1) (with_bodies (t.rows ∷ opens_of t.bodies bodies.old) (see t u s c bodies.old)) }
 {
-    let at = t.bodies;
-    put(bodies, at, t.rows as u16);
-    t.bodies = at + 1;
+    bodies[t.bodies] = t.rows as u16;
+    t.bodies += 1;
     t.rows += 1;
     t
 }
@@ -313,30 +278,27 @@ fn body(mut t: Seen, bodies: &mut [u16; 8192]) -> Seen
 fn body_end(mut t: Seen) -> Seen
     ensures { (u s c b : List ℕ) → see result u s c b ≡ with_bodies (below (opens_of t.bodies b)) (see t u s c b) }
 {
-    if t.bodies == 0 {
-        return t;
-    }
-    t.bodies -= 1;
+    t.bodies = t.bodies.saturating_sub(1);
     t
 }
 
 // A node of an expression that is no name.
-fn plain(t: Seen, kind: u16, symbol: Ordinal, one: u16, stack: &mut [u16; 8192]) -> Seen
+fn plain(t: Seen, n: Node, stack: &mut [u16; 8192]) -> Seen
     requires { t.depth < 8192 }
-    ensures { (u c b : List ℕ) → see result u stack.new c b ≡ plain_typed kind symbol.number one (see t u stack.old c b) }
+    ensures { (u c b : List ℕ) → see result u stack.new c b ≡ plain_typed n.kind n.symbol.number n.one (see t u stack.old c b) }
 {
-    match kind {
+    match n.kind {
         nodes::NUMBER => push(t, sorts::INTEGER, stack),
         nodes::DECIMAL => push(t, sorts::REAL, stack),
         nodes::LOGICAL => push(t, sorts::BOOLEAN, stack),
-        nodes::UNARY => unary(t, symbol, one, stack),
-        nodes::BINARY => binary(t, symbol, one, stack),
-        nodes::THEN => condition(t, symbol, stack),
-        nodes::WHILE => take(t, sorts::BOOLEAN, symbol, stack),
-        nodes::START | nodes::AMOUNT => take(t, sorts::INTEGER, symbol, stack),
+        nodes::UNARY => unary(t, n.symbol, n.one, stack),
+        nodes::BINARY => binary(t, n.symbol, n.one, stack),
+        nodes::THEN => condition(t, n.symbol, stack),
+        nodes::WHILE => take(t, sorts::BOOLEAN, n.symbol, stack),
+        nodes::START | nodes::AMOUNT => take(t, sorts::INTEGER, n.symbol, stack),
         nodes::IF_END => pop(t),
-        nodes::CONDITION_END => conditional(t, symbol, stack),
-        nodes::ASSIGN => assign(t, symbol, stack),
+        nodes::CONDITION_END => conditional(t, n.symbol, stack),
+        nodes::ASSIGN => assign(t, n.symbol, stack),
         _ => t,
     }
 }
@@ -344,10 +306,7 @@ fn plain(t: Seen, kind: u16, symbol: Ordinal, one: u16, stack: &mut [u16; 8192])
 // A node of a name's use.
 fn use_node(
     t: Seen,
-    kind: u16,
-    symbol: Ordinal,
-    one: u16,
-    two: u16,
+    n: Node,
     uses: &[u16],
     rows: &[u16],
     stack: &mut [u16; 8192],
@@ -355,41 +314,25 @@ fn use_node(
     bodies: &[u16; 8192],
 ) -> Seen
     requires { (t.depth < 8192) × (t.calls < 8192) × (t.bodies ≤ 8192) × (length rows.now ≤ 32768) }
-    ensures { see result uses.now stack.new calls.new bodies.now ≡ use_typed rows.now kind symbol.number one two (next_use (drop t.uses uses.now) (see t uses.now stack.old calls.old bodies.now)) }
+    ensures { see result uses.now stack.new calls.new bodies.now ≡ use_typed rows.now n.kind n.symbol.number n.one n.two (next_use (drop t.uses uses.now) (see t uses.now stack.old calls.old bodies.now)) }
 {
-    let n = next_use(t, uses);
-    match kind {
-        nodes::USE => name(n, symbol, one, two, rows, stack),
-        nodes::CALL => call(n, one, calls),
-        nodes::LEFT => left(n, symbol, rows, bodies),
+    let u = next_use(t, uses);
+    match n.kind {
+        nodes::USE => name(u, n.symbol, n.one, n.two, rows, stack),
+        nodes::CALL => call(u, n.one, calls),
+        nodes::LEFT => left(u, n.symbol, rows, bodies),
         _ => note(
-            n,
-            !meanings::is_variable(rows, meant(n.last), sorts::INTEGER),
-            symbol,
+            u,
+            !meanings::is_variable(rows, meant(u.last), sorts::INTEGER),
+            n.symbol,
         ),
-    }
-}
-
-// Whether a node is a name's use.
-fn is_use(kind: u16) -> bool
-    ensures { result ≡ is_use kind }
-{
-    match kind {
-        nodes::FOR => true,
-        nodes::LEFT => true,
-        nodes::USE => true,
-        nodes::CALL => true,
-        _ => false,
     }
 }
 
 // What a node adds.
 fn node(
     mut t: Seen,
-    kind: u16,
-    symbol: Ordinal,
-    one: u16,
-    two: u16,
+    n: Node,
     uses: &[u16],
     rows: &[u16],
     stack: &mut [u16; 8192],
@@ -397,23 +340,23 @@ fn node(
     bodies: &mut [u16; 8192],
 ) -> Seen
     requires { Within 8191 (see t uses.now stack.old calls.old bodies.old) × (length rows.now ≤ 32768) }
-    ensures { see result uses.now stack.new calls.new bodies.new ≡ type_node rows.now kind symbol.number one two (see t uses.now stack.old calls.old bodies.old) }
+    ensures { see result uses.now stack.new calls.new bodies.new ≡ type_node rows.now n.kind n.symbol.number n.one n.two (see t uses.now stack.old calls.old bodies.old) }
 {
     let bare = t.bare;
     t.bare = 0;
-    if is_use(kind) {
-        return use_node(t, kind, symbol, one, two, uses, rows, stack, calls, bodies);
+    if is_use(n.kind) {
+        return use_node(t, n, uses, rows, stack, calls, bodies);
     }
-    match kind {
-        nodes::ACTUAL => actual(t, bare, symbol, rows, stack, calls),
-        nodes::CALL_END => call_end(t, symbol, two, rows, stack, calls),
+    match n.kind {
+        nodes::ACTUAL => actual(t, bare, n.symbol, rows, stack, calls),
+        nodes::CALL_END => call_end(t, n.symbol, n.two, rows, stack, calls),
         nodes::VARIABLE | nodes::FORMAL => {
             t.rows += 1;
             t
         }
         nodes::PROCEDURE => body(t, bodies),
         nodes::PROCEDURE_END => body_end(t),
-        _ => plain(t, kind, symbol, one, stack),
+        _ => plain(t, n, stack),
     }
 }
 
@@ -438,7 +381,7 @@ fn mark(t: Seen, kind: u16, stack: &[u16; 8192], marks: &mut [u16])
     let one = pop(t);
     let first = top(one, stack);
     let symbol = top(pop(one), stack);
-    keep(marks, symbol as usize, sorts::wide(first, second));
+    keep(marks, usize::from(symbol), sorts::wide(first, second));
 }
 
 // All nodes.
@@ -467,27 +410,10 @@ fn walk(
         last: NOTHING,
         least: faults::NONE,
     };
-    let mut i = 0;
-    while 4 * i + 3 < nodes.len() {
-        let at = 4 * i;
-        let symbol = Ordinal {
-            number: nodes[at + 1],
-        };
-        let kind = nodes[at];
-        mark(t, kind, stack, marks);
-        t = node(
-            t,
-            kind,
-            symbol,
-            nodes[at + 2],
-            nodes[at + 3],
-            uses,
-            rows,
-            stack,
-            calls,
-            bodies,
-        );
-        i += 1;
+    for &words in nodes.as_chunks::<4>().0 {
+        let n = Node::from(words);
+        mark(t, n.kind, stack, marks);
+        t = node(t, n, uses, rows, stack, calls, bodies);
     }
     t.least
 }

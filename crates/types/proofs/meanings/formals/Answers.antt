@@ -1,29 +1,22 @@
--- `types::meanings::formals` meets its contract. The loop's invariant: the formals passed and those in a row from here on are all of them.
-use mathlib.Core.Path.{◌≡◌}
-use Prim.Native.Nat.{◌+◌}
+-- `meanings::formals`: the declarations behind the procedure's, as far as they are formals.
+use mathlib.Core.Path.{◌∙◌}
+use Prim.Native.Nat.{◌+◌, ◌-◌, ◌/◌}
 use native.Mathlib.Omega.{arith}
-use Rattle.types.specs.model.Passes.{formals_in}
-use Rattle.types.proofs.RowWords.{formals_here, formals_other, formals_end}
+use lib.ListN.{length}
+use Rattle.std.proofs.Common.{rules}
+use Rattle.std.proofs.lemmas.Iterator.{YieldsList-from_range, YieldsList-from_map}
+use Rattle.std.proofs.lemmas.Iterator.Consumers.{YieldsList-at, count_from_yields_List}
+use Rattle.std.proofs.lemmas.Iterator.Search.{YieldsList-from_take_while}
+use Rattle.types.proofs.RowWords.{declaration, is_formal, formals_counted}
 use Rattle.types.proofs.meanings.formals.Goals as goal
 
-pub loop-n-init : goal.loop-n-init
-unfolding formals_in
-loop-n-init c =
-    let e : c.args.d.number + 1 + 0 ≡ c.args.d.number + 1 = omega arith in
-    (omega arith, rw e (omega arith))
-
-pub returns-then-not-is_kind : goal.returns-then-not-is_kind
-returns-then-not-is_kind c =
-    let e = formals_other c.args.rows.now (c.args.d.number + 1 + c.loop-n.n) _ (omega arith) c.is_kind.ensures c.if-not-is_kind.true-raw in
-    record { value = omega arith; upper_bound = omega arith }
-
-pub loop-n-preserved : goal.loop-n-preserved
-loop-n-preserved c =
-    let e = formals_here c.args.rows.now (c.args.d.number + 1 + c.loop-n.n) _ (omega arith) c.is_kind.ensures c.if-not-is_kind.false-raw in
-    let q : c.args.d.number + 1 + (c.loop-n.n + 1) ≡ c.args.d.number + 1 + c.loop-n.n + 1 = omega arith in
-    (omega arith, rw q (omega arith))
-
-pub returns : goal.returns
-returns c =
-    let e = formals_end c.args.rows.now (c.args.d.number + 1 + c.loop-n.n) (omega arith) in
-    record { value = omega arith; upper_bound = omega arith }
+pub returns-clause-value : goal.returns-clause-value
+returns-clause-value c =
+    let a = c.args in
+    let n = length a.rows.now / 4 in
+    let j = a.d.number + 1 in
+    count_from_yields_List _ _ c.count.ensures.ran
+    (YieldsList-from_take_while _ (is_formal a.rows.now) (YieldsList-at c.take_while.ensures.source
+    (YieldsList-from_map _ declaration (YieldsList-at c.map.ensures.source (YieldsList-from_range j n (n - j) (cc) (omega arith))) c.map.ensures.closure (λ x r q k. search rules)))
+    c.take_while.ensures.closure c.take_while.ensures.done (λ x b q k. search rules))
+    ∙ formals_counted a.rows.now a.d.number

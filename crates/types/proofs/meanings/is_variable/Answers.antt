@@ -1,15 +1,17 @@
--- `types::meanings::is_variable` meets its contract: a case for each kind of meaning.
+-- `meanings::is_variable`: a declaration that is no procedure, of a type that is not apart.
 use mathlib.Core.Path.{sym, ◌∙◌}
+use mathlib.Core.Bool.{true, false}
 use Rattle.types.specs.model.Passes.{variable_of}
+use Rattle.types.proofs.RowWords.{from_not}
 use Rattle.types.proofs.meanings.is_variable.Goals as goal
 
-pub returns-then-is_kind : goal.returns-then-is_kind
+pub returns-then-not-is_kind : goal.returns-then-not-is_kind
 unfolding variable_of
-returns-then-is_kind c = simp (c.in-Declared.is, sym c.is_kind.ensures ∙ c.if-is_kind.true)
+returns-then-not-is_kind c = simp (c.in-Declared.is, sym (from_not _ true c.if-not-is_kind.true-raw ∙ c.is_kind.ensures), c.apart.ensures, c.sort_of.ensures)
 
-pub returns-else-is_kind : goal.returns-else-is_kind
+pub returns-else-not-is_kind : goal.returns-else-not-is_kind
 unfolding variable_of
-returns-else-is_kind c = simp (c.in-Declared.is, sym c.is_kind.ensures ∙ c.if-is_kind.false, c.apart.ensures, c.sort_of.ensures)
+returns-else-not-is_kind c = simp (c.in-Declared.is, sym (from_not _ false c.if-not-is_kind.false-raw ∙ c.is_kind.ensures)) c.if-not-is_kind.false-raw
 
 pub returns-in-Given : goal.returns-in-Given
 unfolding variable_of

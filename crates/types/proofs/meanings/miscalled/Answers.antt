@@ -1,20 +1,17 @@
--- `types::meanings::miscalled` meets its contract: a case for each kind of meaning.
-use mathlib.Core.Path.{sym, subst, ◌∙◌}
-use native.Mathlib.Omega.{arith}
+-- `meanings::miscalled`: a declaration that is no procedure, or one with other formals.
+use mathlib.Core.Path.{sym, ◌∙◌}
+use mathlib.Core.Bool.{true, false}
 use Rattle.types.specs.model.Passes.{miscalled_of}
-use Rattle.types.specs.model.Arrays.{MeantWithin}
+use Rattle.types.proofs.RowWords.{from_not}
 use Rattle.types.proofs.meanings.miscalled.Goals as goal
 
-pub formals-requires : goal.formals-requires
-formals-requires c = let h = subst MeantWithin c.in-Declared.is c.requires.1 in (omega arith, omega arith)
-
-pub returns-then-is_kind : goal.returns-then-is_kind
+pub returns-then-not-is_kind : goal.returns-then-not-is_kind
 unfolding miscalled_of
-returns-then-is_kind c = simp (c.in-Declared.is, sym c.is_kind.ensures ∙ c.if-is_kind.true, c.formals.ensures.value)
+returns-then-not-is_kind c = simp (c.in-Declared.is, sym (from_not _ true c.if-not-is_kind.true-raw ∙ c.is_kind.ensures)) c.if-not-is_kind.true-raw
 
-pub returns-else-is_kind : goal.returns-else-is_kind
+pub returns-else-not-is_kind : goal.returns-else-not-is_kind
 unfolding miscalled_of
-returns-else-is_kind c = simp (c.in-Declared.is, sym c.is_kind.ensures ∙ c.if-is_kind.false)
+returns-else-not-is_kind c = simp (c.in-Declared.is, sym (from_not _ false c.if-not-is_kind.false-raw ∙ c.is_kind.ensures), c.formals.ensures.value)
 
 pub returns-in-Given : goal.returns-in-Given
 unfolding miscalled_of

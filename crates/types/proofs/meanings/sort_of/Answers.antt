@@ -1,4 +1,4 @@
--- `types::meanings::sort_of` meets its contract: the type in its row's last word.
+-- `meanings::sort_of`: the type in the row's last word.
 use mathlib.Core.Path.{ap, ◌∙◌}
 use Rattle.names.specs.Modes.{type_in}
 use Rattle.names.specs.declared.Row.{Row}
@@ -7,4 +7,4 @@ use Rattle.types.proofs.meanings.sort_of.Goals as goal
 
 pub returns : goal.returns
 unfolding sort_in
-returns c = c.sort.ensures.value ∙ ap (λ (r : Row). type_in r.sort) c.row-r.ensures
+returns c = c.sort.ensures.value ∙ ap (λ (r : Row). type_in r.sort) c.row.ensures

@@ -19,4 +19,4 @@ returns c =
     let two = stack_popped (see c.pop-one.result [] c.args.stack.now [] []) (c.pop.ensures.b_value [] _ [] []) in
     rw (eq-eqb _ _ c.if-kind-ne-CONDITION_END.false)
     (c.keep.ensures
-    ∙ both_ap (set c.args.marks.now) (c.top-symbol.ensures ∙ ap top_of (two ∙ ap below one)) (c.wide.ensures ∙ both_ap wide_of (c.top-first.ensures ∙ ap top_of one) c.top-second.ensures))
+    ∙ both_ap (set c.args.marks.now) (c.from.ensures ∙ c.top-symbol.ensures ∙ ap top_of (two ∙ ap below one)) (c.wide.ensures ∙ both_ap wide_of (c.top-first.ensures ∙ ap top_of one) c.top-second.ensures))

@@ -71,7 +71,7 @@ pub returns-in-5 : goal.returns-in-5
 unfolding with_rows with_bare
 returns-in-5 c =
     let args = c.args in
-    node_declared args.rows.now args.kind args.symbol.number args.one args.two (see args.t args.uses.now args.stack.now args.calls.now args.bodies.now) c.in-5.is
+    node_declared args.rows.now args.n.kind args.n.symbol.number args.n.one args.n.two (see args.t args.uses.now args.stack.now args.calls.now args.bodies.now) c.in-5.is
 
 pub returns-in-6 : goal.returns-in-6
 unfolding type_node is_use with_bare

@@ -1,12 +1,7 @@
--- `types::walking::note` meets its contract: by the test.
-use mathlib.Core.Path.{refl}
+-- `walking::note` notes a fault where the test says so.
 use Rattle.types.specs.model.Passes.{noted}
 use Rattle.types.proofs.walking.note.Goals as goal
 
-pub returns-then-wrong : goal.returns-then-wrong
+pub returns-clause-b_value : goal.returns-clause-b_value
 unfolding noted
-returns-then-wrong c = record { b_value = λ u s d b. simp (c.if-wrong.true, c.noted.ensures); depth_value = refl }
-
-pub returns : goal.returns
-unfolding noted
-returns c = record { b_value = λ u s d b. simp c.if-wrong.false; depth_value = refl }
+returns-clause-b_value c = λ u s d b. rw c.noted_if.ensures

@@ -1,12 +1,14 @@
--- `types::walking::top` meets its contract: the last word of those on the stack.
-use Rattle.names.specs.model.Rows.{opens_of}
-use Rattle.types.specs.model.Passes.{top_of}
-use Rattle.types.proofs.Stacks.{opens_top}
+-- `walking::top`: the last of the types, or none.
+use mathlib.Core.Path.{ap, ◌∙◌}
+use Prim.Native.Nat.{ℕ}
+use native.Mathlib.Omega.{arith}
+use Rattle.std.specs.Prelude.{Option}
+use Rattle.std.specs.Option.{unwrap_or}
+use Rattle.types.proofs.Stacks.{opens_last}
 use Rattle.types.proofs.walking.top.Goals as goal
 
-pub returns-then-t-eq0 : goal.returns-then-t-eq0
-unfolding opens_of top_of
-returns-then-t-eq0 c = rw c.if-t-eq0.true
-
 pub returns : goal.returns
-returns c = opens_top c.args.t.depth c.args.stack.now c.if-t-eq0.false
+returns c =
+    c.unwrap_or.ensures
+    ∙ ap (λ (o : Option ℕ). unwrap_or o 0) (c.copied.ensures ∙ c.last.ensures.value)
+    ∙ opens_last c.args.t.depth c.args.stack.now (omega arith)
