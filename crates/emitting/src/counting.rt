@@ -4,6 +4,7 @@ ghost use Rattle.emitting.specs.model.Layout.{is_of, counting, count_of, first_f
 
 use crate::{parts, uses};
 use grammar::nodes;
+use names::Row;
 
 // The types of variables, as a row has them.
 const INTEGER: usize = 1;
@@ -12,22 +13,22 @@ pub const BOOLEAN: usize = 2;
 
 pub const REAL: usize = 3;
 
-// Whether a row, whose words are given, is a variable's of a scope and a type.
+// Whether a row is a variable's of a scope and a type.
 #[tactic(auto, unfolding(crate::specs::model::Layout::is_of))]
-fn is_of(scope: usize, sort: usize, kind: u16, a: usize, b: usize) -> bool
-    ensures { result ≡ is_of scope sort kind a b }
+fn is_of(scope: usize, sort: usize, row: Row) -> bool
+    ensures { result ≡ is_of scope sort row.kind row.scope row.sort }
 {
-    kind == nodes::VARIABLE && a == scope && b == sort
+    row.kind == nodes::VARIABLE && row.scope as usize == scope && row.sort as usize == sort
 }
 
 // How many more there are behind such a row.
 #[tactic(auto, unfolding(crate::specs::model::Layout::counting))]
-fn counted(scope: usize, sort: usize, kind: u16, a: usize, b: usize, n: usize) -> usize
+fn counted(scope: usize, sort: usize, row: Row, n: usize) -> usize
     requires { n < 4611686018427387904 }
-    ensures value { result ≡ counting scope sort kind 0 a b n }
+    ensures value { result ≡ counting scope sort row.kind row.symbol.number row.scope row.sort n }
     ensures upper_bound { result ≤ n + 1 }
 {
-    n + usize::from(is_of(scope, sort, kind, a, b))
+    n + usize::from(is_of(scope, sort, row))
 }
 
 // How many some rows have.
@@ -36,16 +37,8 @@ fn count_of(scope: usize, sort: usize, rows: &[u16]) -> usize
     ensures result_in_bounds { 4 * result ≤ length rows.now }
 {
     let mut n = 0;
-    for i in 0..rows.len() / 4 {
-        let at = 4 * i;
-        n = counted(
-            scope,
-            sort,
-            rows[at],
-            rows[at + 2] as usize,
-            rows[at + 3] as usize,
-            n,
-        );
+    for &words in rows.as_chunks::<4>().0 {
+        n = counted(scope, sort, Row::from(words), n);
     }
     n
 }

@@ -1,13 +1,13 @@
 // The nodes with what is known behind some of them.
 ghost use Rattle.std.specs.Prelude.{◌≡◌, cond, ◌||◌, List, [], ℕ, ◌+◌, ◌*◌, ◌-◌, ◌≤◌, ◌<◌, eqb, length};
 ghost use Rattle.grammar.specs.NodeKinds.{n_do, n_for_end, n_procedure, n_procedure_end};
-ghost use Rattle.names.specs.model.Rows.{is_use};
 ghost use Rattle.emitting.specs.model.Emission.{Used, uses_in, place_at, put, top, lower_of, upper_of, operation_of, signed, stored, lefts_of, assigned, plain_node, is_element, is_choice, is_block, code_node, emitted};
 ghost use Rattle.emitting.specs.model.Arrays.{things_of, seen, see, AllSlim, Small, Fit, rest_node, fresh_in, emitted_from};
 
 use crate::{Known, Thing, Writing, actuals, calls, cells, codes, flow, loops, parts};
-use answers::{Address, Ordinal, Place};
+use answers::{Address, Place};
 use grammar::nodes;
+use names::{Node, is_use};
 use reals::decimals::constant;
 
 // The operation of an operator, by its symbol's kind.
@@ -93,15 +93,6 @@ fn pointed(t: Writing, w: u64, place: Place, code: &mut [u32]) -> Writing
     lower.put(code, codes::HIGH, codes::NOWHERE, halves.high as usize)
 }
 
-// A node: its kind, its symbol, and what else it says.
-#[derive(Clone, Copy)]
-pub struct Node {
-    pub kind: u16,
-    pub symbol: Ordinal,
-    pub one: u16,
-    pub two: u16,
-}
-
 // A node that is of no name and opens nothing.
 fn plain_node(
     mut t: Writing,
@@ -151,15 +142,7 @@ fn plain_node(
     }
 }
 
-// Whether a node is of a use.
-#[tactic(auto, unfolding(names::specs::model::Rows::is_use))]
-fn is_use(kind: u16) -> bool
-    ensures { result ≡ is_use kind }
-{
-    matches!(kind, nodes::FOR | nodes::LEFT | nodes::USE | nodes::CALL)
-}
-
-// Whether it is of an element.
+// Whether a node is of an element.
 fn is_element(kind: u16) -> bool
     ensures { (vs ly ks es : List ℕ) → result ≡ is_element vs ly ks es kind }
 {
@@ -236,7 +219,7 @@ fn rest_node(
 }
 
 // What a node adds.
-fn any_node(
+fn node(
     t: Writing,
     n: Node,
     uses: &[u16],
@@ -295,17 +278,17 @@ fn walk(
         declared: 0,
         open: 0,
     };
-    for i in 0..nodes.len() / 4 {
-        let at = 4 * i;
-        let n = Node {
-            kind: nodes[at],
-            symbol: Ordinal {
-                number: nodes[at + 1],
-            },
-            one: nodes[at + 2],
-            two: nodes[at + 3],
-        };
-        t = any_node(t, n, uses, known, things, next_ahead, next_entries, code);
+    for &words in nodes.as_chunks::<4>().0 {
+        t = node(
+            t,
+            Node::from(words),
+            uses,
+            known,
+            things,
+            next_ahead,
+            next_entries,
+            code,
+        );
     }
     t.put(code, codes::END, codes::NOWHERE, 0);
 }

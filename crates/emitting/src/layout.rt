@@ -7,6 +7,7 @@ ghost use Rattle.emitting.specs.model.Arrays.{lain, unlaid_in, Spread};
 use crate::{Laid, counting, parts};
 use grammar::nodes;
 use machine::operands;
+use names::Node;
 
 // 1 where there is a type.
 #[tactic(auto, unfolding(crate::specs::model::Layout::one_of))]
@@ -132,9 +133,9 @@ fn lay(nodes: &[u16], rows: &[u16], around: &mut [usize; 8192], table: &mut [u32
     ensures { table.new ≡ (fold_nodes (lay_node rows.now) nodes.now (unlaid_in table.old)).table }
 {
     let mut t = Laid::default();
-    for i in 0..nodes.len() / 4 {
-        let at = 4 * i;
-        t = lay_node(t, nodes[at], nodes[at + 2], rows, around, table);
+    for &words in nodes.as_chunks::<4>().0 {
+        let n = Node::from(words);
+        t = lay_node(t, n.kind, n.one, rows, around, table);
     }
 }
 

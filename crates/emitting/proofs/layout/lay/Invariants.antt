@@ -8,9 +8,9 @@ use Rattle.emitting.specs.model.Layout.{lay_node}
 use Rattle.emitting.specs.model.Arrays.{lain, unlaid_in, Spread}
 use Rattle.emitting.proofs.layout.lay.Given as goal
 
-abbrev pub invariant-loop-i : goal.invariant-loop-i
-invariant-loop-i l =
-    Spread l.i (lain l.t l.around l.table)
-    × (fold_nodes (lay_node l.rows) (drop (4 * l.i) l.nodes) (lain l.t l.around l.table) ≡ fold_nodes (lay_node l.rows) l.nodes (unlaid_in l.initial.table))
-    × (4 * l.i ≤ length l.nodes)
+abbrev pub invariant-loop-words : goal.invariant-loop-words
+invariant-loop-words l =
+    Spread l.words-index (lain l.t l.around l.table)
+    × (fold_nodes (lay_node l.rows) (drop (4 * l.words-index) l.nodes) (lain l.t l.around l.table) ≡ fold_nodes (lay_node l.rows) l.nodes (unlaid_in l.initial.table))
+    × (4 * l.words-index ≤ length l.nodes)
     × (length l.table ≡ length l.initial.table)

@@ -1,4 +1,4 @@
--- `emitting::emission::any_node` meets its contract: a use, the end of an actual or a call, or the rest.
+-- `emitting::emission::node` meets its contract: a use, the end of an actual or a call, or the rest.
 -- Assumes nothing.
 use mathlib.Core.Path.{sym, ap, subst, ◌∙◌}
 use native.Mathlib.Omega.{arith}
@@ -7,7 +7,7 @@ use Rattle.names.specs.model.Rows.{is_use}
 use Rattle.emitting.specs.model.Emission.{State, uses_in, Opened, code_node, actual_in, call_ended, popped}
 use Rattle.emitting.specs.model.Arrays.{things_of, seen, see, Slim, rest_node}
 use Rattle.emitting.proofs.Counters.{fit, slim_top}
-use Rattle.emitting.proofs.emission.any_node.Goals as goal
+use Rattle.emitting.proofs.emission.node.Goals as goal
 
 pub use_node-requires : goal.use_node-requires
 use_node-requires c = let p = c.place_in-p.ensures.at_bound in (fit c.args.t c.args.things.now c.requires, omega arith, omega arith, omega arith)
