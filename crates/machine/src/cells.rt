@@ -9,6 +9,7 @@ use reals::Cell;
 use reals::stored::{decode, encode};
 
 // The kinds of an unassigned whole number and of one that is held, as `encode` has them: whole numbers are told by them alone.
+// Kept: speed, where the cell is taken apart for it a loop takes 3 to 6 times as long (docs/BENCHMARK.md).
 const UNSET_WHOLE: i64 = 0;
 
 const WHOLE: i64 = 4;

@@ -1,4 +1,5 @@
 // The numbers of the operations, as docs/MACHINE.md lays them down: `o_end` .. of specs/Operations.
+// Kept: C interface, the words of the code have these numbers (bindings/words.h), and a run takes any words at all.
 
 // An instruction's first word is its operation + 64 · its place.
 pub const BASE: u32 = 64;

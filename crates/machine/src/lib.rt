@@ -2,6 +2,9 @@
 // they do.
 #![tactic(auto)]
 
+ghost use Rattle.std.specs.Prelude.{◌≤◌};
+ghost use Rattle.machine.specs.Limits.{most_links};
+
 use answers::{Answer, Stop};
 
 mod activations;
@@ -35,6 +38,7 @@ pub struct Counts {
 pub struct Way {
     pub cell: usize,
     pub links: usize,
+    ghost few: { links ≤ most_links },
 }
 
 // A channel's number: 1, another one, or no whole number.

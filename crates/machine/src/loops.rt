@@ -2,17 +2,16 @@
 ghost use Rattle.std.specs.Prelude.{◌≡◌, List, ◌+◌, ◌-◌, ◌≤◌, ◌<◌, ℤ};
 ghost use Rattle.reals.specs.Values.{apply2, leaves as leavesOf};
 ghost use Rattle.reals.specs.model.Stored.{Fitting, FittingO};
-ghost use Rattle.machine.specs.Limits.{most_links};
 ghost use Rattle.machine.specs.Run.{Event};
-ghost use Rattle.machine.specs.Data.{to, Result, Act, Test, Two, back as backOf, hold as holdOf, unhold, counting, reaching, read_from, valued, picking};
-ghost use Rattle.machine.specs.model.Holding.{Own, Sound, SoundD, SoundT, Does, Tests, HeldIn, holding, data_of, trace_of, seen_d, seen_t, told, fine, room_of, put_at, links_of};
+ghost use Rattle.machine.specs.Data.{Result, Act, Test, Two, back as backOf, hold as holdOf, unhold, counting, reaching, read_from, valued, picking};
+ghost use Rattle.machine.specs.model.Holding.{Own, Sound, SoundD, SoundT, Does, Tests, HeldIn, holding, data_of, trace_of, seen_d, seen_t, told, fine, room_of, put_at, way_of};
 
 use crate::activations::Memory;
 use crate::cells::{cell_at, put_cell, room};
 use crate::operations::{back, newest};
 use crate::values::suits;
 use crate::ways::reading;
-use crate::{Counts, Trouble};
+use crate::{Counts, Trouble, Way};
 use reals::conversions::form_of;
 use reals::loops::leaves;
 use reals::{Binary, Cell, Form, Outcome, Value, operators};
@@ -77,38 +76,30 @@ fn renewed(n: Counts, store: &mut [i64], q: usize, x: Value, r: Outcome) -> Resu
     }
 }
 
-// The sum of cell c, through k formals, and the step x.
+// The sum of a variable and the step x.
 fn total(
     n: Counts,
     store: &mut [i64],
     own: &Memory,
     q: usize,
-    c: usize,
-    k: usize,
+    w: Way,
     x: Value,
 ) -> Result<Counts, Trouble>
-    requires { Sound n store.old × (n.cells + n.held < room_of store.old) × (1 ≤ n.held) × Fitting x × (k ≤ most_links) }
-    ensures o_after { (a : Own) (i o : List ℤ) → seen_d result a store.new i o ≡ told (trace_of n o) (reaching Form.Wholes (to c (links_of own.now k)) (data_of n a store.old i o) (read_from q (to c (links_of own.now k)) (data_of n a store.old i o) (λ v. valued q (λ u. Result.good Event.quiet (backOf u (holdOf x (unhold (data_of n a store.old i o))))) (apply2 Binary.Plus v x)))) }
+    requires { Sound n store.old × (n.cells + n.held < room_of store.old) × (1 ≤ n.held) × Fitting x }
+    ensures o_after { (a : Own) (i o : List ℤ) → seen_d result a store.new i o ≡ told (trace_of n o) (reaching Form.Wholes (way_of own.now w) (data_of n a store.old i o) (read_from q (way_of own.now w) (data_of n a store.old i o) (λ v. valued q (λ u. Result.good Event.quiet (backOf u (holdOf x (unhold (data_of n a store.old i o))))) (apply2 Binary.Plus v x)))) }
     ensures sound_d { SoundD n result store.new }
 {
-    if c >= n.cells {
+    if w.cell >= n.cells {
         return Err(Trouble::Stray);
     }
-    let v = reading(own, k, q, Form::Wholes, cell_at(store, c))?;
+    let v = reading(own, w.links, q, Form::Wholes, cell_at(store, w.cell))?;
     renewed(n, store, q, x, operators::binary(Binary::Plus, v, x))
 }
 
-// Cell c and the newest value, a step, added; the step is held in the place of the old one.
-pub fn sum(
-    n: Counts,
-    store: &mut [i64],
-    own: &Memory,
-    q: usize,
-    c: usize,
-    k: usize,
-) -> Result<Counts, Trouble>
-    requires { Sound n store.old × (k ≤ most_links) }
-    ensures does { Does (Act.sum q (to c (links_of own.now k))) n result store.old store.new }
+// A variable and the newest value, a step, added; the step is held in the place of the old one.
+pub fn sum(n: Counts, store: &mut [i64], own: &Memory, q: usize, w: Way) -> Result<Counts, Trouble>
+    requires { Sound n store.old }
+    ensures does { Does (Act.sum q (way_of own.now w)) n result store.old store.new }
     ensures sound_d { SoundD n result store.new }
 {
     let (x, m) = newest(n, store).ok_or(Trouble::Stray)?;
@@ -118,7 +109,7 @@ pub fn sum(
     if !suits(Form::Wholes, form_of(x)) {
         return Err(Trouble::Stray);
     }
-    total(m, store, own, q, c, k, x)
+    total(m, store, own, q, w, x)
 }
 
 // Where a loop is left the step goes.
@@ -145,25 +136,24 @@ fn decided(mut n: Counts, q: usize, r: Outcome) -> Result<(bool, Counts), Troubl
     }
 }
 
-// Whether the loop over cell c goes on, with the step x and the bound y.
+// Whether the loop over a variable goes on, with the step x and the bound y.
 fn goes_on(
     n: Counts,
     store: &[i64],
     own: &Memory,
     q: usize,
-    c: usize,
-    k: usize,
+    w: Way,
     x: Value,
     y: Value,
 ) -> Result<(bool, Counts), Trouble>
-    requires { Sound n store.now × (1 ≤ n.held) × (k ≤ most_links) }
-    ensures o_value { (a : Own) (i o : List ℤ) → seen_t result a store.now i o ≡ told (trace_of n o) (reaching Form.Wholes (to c (links_of own.now k)) (data_of n a store.now i o) (read_from q (to c (links_of own.now k)) (data_of n a store.now i o) (λ v. valued q (λ b. picking b (Two.nay (unhold (data_of n a store.now i o))) (Two.yea (data_of n a store.now i o))) (leavesOf v x y)))) }
+    requires { Sound n store.now × (1 ≤ n.held) }
+    ensures o_value { (a : Own) (i o : List ℤ) → seen_t result a store.now i o ≡ told (trace_of n o) (reaching Form.Wholes (way_of own.now w) (data_of n a store.now i o) (read_from q (way_of own.now w) (data_of n a store.now i o) (λ v. valued q (λ b. picking b (Two.nay (unhold (data_of n a store.now i o))) (Two.yea (data_of n a store.now i o))) (leavesOf v x y)))) }
     ensures sound_t { SoundT n result store.now }
 {
-    if c >= n.cells {
+    if w.cell >= n.cells {
         return Err(Trouble::Stray);
     }
-    let v = reading(own, k, q, Form::Wholes, cell_at(store, c))?;
+    let v = reading(own, w.links, q, Form::Wholes, cell_at(store, w.cell))?;
     decided(n, q, leaves(v, x, y))
 }
 
@@ -173,13 +163,12 @@ fn count(
     store: &[i64],
     own: &Memory,
     q: usize,
-    c: usize,
-    k: usize,
+    w: Way,
     x: Value,
     y: Value,
 ) -> Result<(bool, Counts), Trouble>
-    requires { Sound n store.now × (1 ≤ n.held) × (k ≤ most_links) }
-    ensures o_value { (a : Own) (i o : List ℤ) → seen_t result a store.now i o ≡ told (trace_of n o) (counting y (counting x (reaching Form.Wholes (to c (links_of own.now k)) (data_of n a store.now i o) (read_from q (to c (links_of own.now k)) (data_of n a store.now i o) (λ v. valued q (λ b. picking b (Two.nay (unhold (data_of n a store.now i o))) (Two.yea (data_of n a store.now i o))) (leavesOf v x y)))))) }
+    requires { Sound n store.now × (1 ≤ n.held) }
+    ensures o_value { (a : Own) (i o : List ℤ) → seen_t result a store.now i o ≡ told (trace_of n o) (counting y (counting x (reaching Form.Wholes (way_of own.now w) (data_of n a store.now i o) (read_from q (way_of own.now w) (data_of n a store.now i o) (λ v. valued q (λ b. picking b (Two.nay (unhold (data_of n a store.now i o))) (Two.yea (data_of n a store.now i o))) (leavesOf v x y)))))) }
     ensures sound_t { SoundT n result store.now }
 {
     if !suits(Form::Wholes, form_of(y)) {
@@ -188,7 +177,7 @@ fn count(
     if !suits(Form::Wholes, form_of(x)) {
         return Err(Trouble::Stray);
     }
-    goes_on(n, store, own, q, c, k, x, y)
+    goes_on(n, store, own, q, w, x, y)
 }
 
 // The test of a step element: the newest value is the bound, and the variable is read after it.
@@ -197,16 +186,15 @@ pub fn upto(
     store: &[i64],
     own: &Memory,
     q: usize,
-    c: usize,
-    k: usize,
+    w: Way,
 ) -> Result<(bool, Counts), Trouble>
-    requires { Sound n store.now × (k ≤ most_links) }
-    ensures tests { Tests (Test.upto q (to c (links_of own.now k))) n result store.now }
+    requires { Sound n store.now }
+    ensures tests { Tests (Test.upto q (way_of own.now w)) n result store.now }
     ensures sound_t { SoundT n result store.now }
 {
     let (y, m) = newest(n, store).ok_or(Trouble::Stray)?;
     match held(m, store) {
-        Cell::Holds(x) => count(m, store, own, q, c, k, x, y),
+        Cell::Holds(x) => count(m, store, own, q, w, x, y),
         Cell::Unset(_) | Cell::Named(_) => Err(Trouble::Stray),
     }
 }

@@ -1,16 +1,15 @@
 // The operations on the cells in use, which stand at the store's beginning: values, variables and operators.
 ghost use Rattle.std.specs.Prelude.{◌≡◌, List, [], ◌∷◌, ◌+◌, ◌≤◌, ◌<◌, ℤ};
 ghost use Rattle.reals.specs.model.Stored.{Fitting, FittingC, FittingO};
-ghost use Rattle.machine.specs.Limits.{most_links};
 ghost use Rattle.machine.specs.Run.{Event};
 ghost use Rattle.machine.specs.Data.{to, Data, Result, Act, Test, newest as newestOf, two, back as backOf, put as put_of, new_cells, valued};
-ghost use Rattle.machine.specs.model.Holding.{Own, Sound, SoundD, SoundT, Does, Tests, UsedIn, PairIn, data_of, trace_of, seen_u, seen_d, on_pair, on_turned, told, fine, room_of, links_of, in_t};
+ghost use Rattle.machine.specs.model.Holding.{Own, Sound, SoundD, SoundT, Does, Tests, UsedIn, PairIn, data_of, trace_of, seen_u, seen_d, on_pair, on_turned, told, fine, room_of, links_of, in_t, way_of};
 
 use crate::activations::Memory;
 use crate::cells::{cell_at, put_cell, room};
 use crate::values::{line, raised};
 use crate::ways::{form_in, inward, reach, reading};
-use crate::{Counts, Line, Trouble};
+use crate::{Counts, Line, Trouble, Way};
 use answers::Answer;
 use reals::conversions::{convert, form_of};
 use reals::{Binary, Cell, Form, Outcome, Unary, Value, operators};
@@ -80,65 +79,50 @@ pub fn new_cell(mut n: Counts, store: &mut [i64], q: usize, x: Cell) -> Result<C
     Ok(n)
 }
 
-// The value in cell c, through k formals, in a new cell.
-pub fn load(
-    n: Counts,
-    store: &mut [i64],
-    own: &Memory,
-    q: usize,
-    c: usize,
-    k: usize,
-) -> Result<Counts, Trouble>
-    requires { Sound n store.old × (k ≤ most_links) }
-    ensures does { Does (Act.load q (to c (links_of own.now k))) n result store.old store.new }
+// The value of a variable in a new cell.
+pub fn load(n: Counts, store: &mut [i64], own: &Memory, q: usize, w: Way) -> Result<Counts, Trouble>
+    requires { Sound n store.old }
+    ensures does { Does (Act.load q (way_of own.now w)) n result store.old store.new }
     ensures sound_d { SoundD n result store.new }
 {
-    if c >= n.cells {
+    if w.cell >= n.cells {
         return Err(Trouble::Stray);
     }
-    let x = cell_at(store, c);
-    let v = reading(own, k, q, form_in(x), x)?;
+    let x = cell_at(store, w.cell);
+    let v = reading(own, w.links, q, form_in(x), x)?;
     new_cell(n, store, q, Cell::Holds(v))
 }
 
-// A value to cell c, through k formals; the cell takes values of the type.
+// A value to a variable, whose cell takes values of the type.
 pub fn put_through(
     n: Counts,
     store: &mut [i64],
     own: &Memory,
     q: usize,
-    c: usize,
-    k: usize,
+    w: Way,
     form: Form,
     v: Value,
 ) -> Result<Counts, Trouble>
-    requires { Sound n store.old × (c < n.cells) × (k ≤ most_links) × Fitting v }
-    ensures o_after { (a : Own) (i o : List ℤ) → seen_d result a store.new i o ≡ told (trace_of n o) (on_turned (λ u. Result.good Event.quiet (put_of c u (data_of n a store.old i o))) (in_t q form (links_of own.now k) v)) }
+    requires { Sound n store.old × (w.cell < n.cells) × Fitting v }
+    ensures o_after { (a : Own) (i o : List ℤ) → seen_d result a store.new i o ≡ told (trace_of n o) (on_turned (λ u. Result.good Event.quiet (put_of w.cell u (data_of n a store.old i o))) (in_t q form (links_of own.now w.links) v)) }
     ensures sound_d { SoundD n result store.new }
 {
-    let u = inward(own, k, q, form, v)?;
-    put(n, store, c, u)
+    let u = inward(own, w.links, q, form, v)?;
+    put(n, store, w.cell, u)
 }
 
-// The newest value to cell c, through k formals.
-pub fn save(
-    n: Counts,
-    store: &mut [i64],
-    own: &Memory,
-    q: usize,
-    c: usize,
-    k: usize,
-) -> Result<Counts, Trouble>
-    requires { Sound n store.old × (k ≤ most_links) }
-    ensures does { Does (Act.store q (to c (links_of own.now k))) n result store.old store.new }
+// The newest value to a variable.
+pub fn save(n: Counts, store: &mut [i64], own: &Memory, q: usize, w: Way) -> Result<Counts, Trouble>
+    requires { Sound n store.old }
+    ensures does { Does (Act.store q (way_of own.now w)) n result store.old store.new }
     ensures sound_d { SoundD n result store.new }
 {
     let (v, m) = newest(n, store).ok_or(Trouble::Stray)?;
-    if c >= m.cells {
+    if w.cell >= m.cells {
         return Err(Trouble::Stray);
     }
-    let form = reach(own, k, form_of(v), cell_at(store, c)).ok_or(Trouble::Stray)?;
-    put_through(m, store, own, q, c, k, form, v)
+    let form = reach(own, w.links, form_of(v), cell_at(store, w.cell)).ok_or(Trouble::Stray)?;
+    put_through(m, store, own, q, w, form, v)
 }
 
 // The same, and the value v stays.
@@ -147,17 +131,16 @@ fn assign_through(
     store: &mut [i64],
     own: &Memory,
     q: usize,
-    c: usize,
-    k: usize,
+    w: Way,
     form: Form,
     v: Value,
 ) -> Result<Counts, Trouble>
-    requires { Sound n store.old × (c < n.cells) × (k ≤ most_links) × Fitting v × (n.cells + n.held < room_of store.old) }
-    ensures o_after { (a : Own) (i o : List ℤ) → seen_d result a store.new i o ≡ told (trace_of n o) (on_turned (λ u. Result.good Event.quiet (backOf v (put_of c u (data_of n a store.old i o)))) (in_t q form (links_of own.now k) v)) }
+    requires { Sound n store.old × (w.cell < n.cells) × Fitting v × (n.cells + n.held < room_of store.old) }
+    ensures o_after { (a : Own) (i o : List ℤ) → seen_d result a store.new i o ≡ told (trace_of n o) (on_turned (λ u. Result.good Event.quiet (backOf v (put_of w.cell u (data_of n a store.old i o)))) (in_t q form (links_of own.now w.links) v)) }
     ensures sound_d { SoundD n result store.new }
 {
-    let u = inward(own, k, q, form, v)?;
-    put_cell(store, c, Cell::Holds(u));
+    let u = inward(own, w.links, q, form, v)?;
+    put_cell(store, w.cell, Cell::Holds(u));
     back(n, store, v)
 }
 
@@ -166,19 +149,18 @@ pub fn assign(
     store: &mut [i64],
     own: &Memory,
     q: usize,
-    c: usize,
-    k: usize,
+    w: Way,
 ) -> Result<Counts, Trouble>
-    requires { Sound n store.old × (k ≤ most_links) }
-    ensures does { Does (Act.assign q (to c (links_of own.now k))) n result store.old store.new }
+    requires { Sound n store.old }
+    ensures does { Does (Act.assign q (way_of own.now w)) n result store.old store.new }
     ensures sound_d { SoundD n result store.new }
 {
     let (v, m) = newest(n, store).ok_or(Trouble::Stray)?;
-    if c >= m.cells {
+    if w.cell >= m.cells {
         return Err(Trouble::Stray);
     }
-    let form = reach(own, k, form_of(v), cell_at(store, c)).ok_or(Trouble::Stray)?;
-    assign_through(m, store, own, q, c, k, form, v)
+    let form = reach(own, w.links, form_of(v), cell_at(store, w.cell)).ok_or(Trouble::Stray)?;
+    assign_through(m, store, own, q, w, form, v)
 }
 
 // The newest value goes.

@@ -1,9 +1,8 @@
 // Input and output: ininteger, outinteger and outreal.
 ghost use Rattle.std.specs.Prelude.{◌≡◌, List, ◌≤◌, ◌<◌, ℤ, length};
 ghost use Rattle.reals.specs.model.Stored.{three_of};
-ghost use Rattle.machine.specs.Limits.{most_links};
-ghost use Rattle.machine.specs.Data.{to, Data, Result, Act, work, on_channel, taking, input as input_of, writing, written, reaching, form_in};
-ghost use Rattle.machine.specs.model.Holding.{Own, Sound, SoundD, SoundO, data_of, trace_of, seen_d, told, links_of, cell_at, on_entered};
+ghost use Rattle.machine.specs.Data.{Data, Result, Act, work, on_channel, taking, input as input_of, writing, written, reaching, form_in};
+ghost use Rattle.machine.specs.model.Holding.{Own, Sound, SoundD, SoundO, data_of, trace_of, seen_d, told, cell_at, on_entered, way_of};
 
 use crate::activations::Memory;
 use crate::bounds::ENTRY_NUMBERS;
@@ -11,24 +10,23 @@ use crate::cells::cell_at;
 use crate::operations::{newest, newest_two, put_through};
 use crate::values::line;
 use crate::ways::reach;
-use crate::{Counts, Line, Trouble};
+use crate::{Counts, Line, Trouble, Way};
 use answers::Answer;
 use reals::entries::{real_entry, whole_entry};
 use reals::{Entry, Form, Value};
 
-// The next input number to cell c, of the type, through k formals.
+// The next input number to a variable, whose cell is of the type.
 fn take_in(
     mut n: Counts,
     input: &[i32],
     store: &mut [i64],
     own: &Memory,
     q: usize,
-    c: usize,
-    k: usize,
+    w: Way,
     form: Form,
 ) -> Result<Counts, Trouble>
-    requires { Sound n store.old × (c < n.cells) × (k ≤ most_links) × (form ≡ form_in (cell_at store.old c)) }
-    ensures o_after { (a : Own) (o : List ℤ) → seen_d result a store.new input.now o ≡ told (trace_of n o) (taking q (to c (links_of own.now k)) (data_of n a store.old input.now o) (input_of (data_of n a store.old input.now o))) }
+    requires { Sound n store.old × (w.cell < n.cells) × (form ≡ form_in (cell_at store.old w.cell)) }
+    ensures o_after { (a : Own) (o : List ℤ) → seen_d result a store.new input.now o ≡ told (trace_of n o) (taking q (way_of own.now w) (data_of n a store.old input.now o) (input_of (data_of n a store.old input.now o))) }
     ensures sound_d { SoundD n result store.new }
 {
     let t = n.taken;
@@ -37,7 +35,7 @@ fn take_in(
     }
     let z = input[t];
     n.taken = t + 1;
-    put_through(n, store, own, q, c, k, form, Value::Whole(z))
+    put_through(n, store, own, q, w, form, Value::Whole(z))
 }
 
 // The same, on the channel v: the cell takes numbers.
@@ -47,20 +45,19 @@ fn listen(
     store: &mut [i64],
     own: &Memory,
     q: usize,
-    c: usize,
-    k: usize,
+    w: Way,
     v: Value,
 ) -> Result<Counts, Trouble>
-    requires { Sound n store.old × (k ≤ most_links) }
-    ensures o_after { (a : Own) (o : List ℤ) → seen_d result a store.new input.now o ≡ told (trace_of n o) (reaching Form.Wholes (to c (links_of own.now k)) (data_of n a store.old input.now o) (on_channel q v (taking q (to c (links_of own.now k)) (data_of n a store.old input.now o) (input_of (data_of n a store.old input.now o))))) }
+    requires { Sound n store.old }
+    ensures o_after { (a : Own) (o : List ℤ) → seen_d result a store.new input.now o ≡ told (trace_of n o) (reaching Form.Wholes (way_of own.now w) (data_of n a store.old input.now o) (on_channel q v (taking q (way_of own.now w) (data_of n a store.old input.now o) (input_of (data_of n a store.old input.now o))))) }
     ensures sound_d { SoundD n result store.new }
 {
-    if c >= n.cells {
+    if w.cell >= n.cells {
         return Err(Trouble::Stray);
     }
-    let form = reach(own, k, Form::Wholes, cell_at(store, c)).ok_or(Trouble::Stray)?;
+    let form = reach(own, w.links, Form::Wholes, cell_at(store, w.cell)).ok_or(Trouble::Stray)?;
     match line(v) {
-        Line::One => take_in(n, input, store, own, q, c, k, form),
+        Line::One => take_in(n, input, store, own, q, w, form),
         Line::Other => Err(Trouble::Fault(Answer::CHANNEL, q)),
         Line::Not => Err(Trouble::Stray),
     }
@@ -73,15 +70,14 @@ pub fn receive(
     store: &mut [i64],
     own: &Memory,
     q: usize,
-    c: usize,
-    k: usize,
+    w: Way,
 ) -> Result<Counts, Trouble>
-    requires { Sound n store.old × (k ≤ most_links) }
-    ensures o_after { (a : Own) (o : List ℤ) → seen_d result a store.new input.now o ≡ told (trace_of n o) (work (Act.receive q (to c (links_of own.now k))) (data_of n a store.old input.now o)) }
+    requires { Sound n store.old }
+    ensures o_after { (a : Own) (o : List ℤ) → seen_d result a store.new input.now o ≡ told (trace_of n o) (work (Act.receive q (way_of own.now w)) (data_of n a store.old input.now o)) }
     ensures sound_d { SoundD n result store.new }
 {
     let (v, m) = newest(n, store).ok_or(Trouble::Stray)?;
-    listen(m, input, store, own, q, c, k, v)
+    listen(m, input, store, own, q, w, v)
 }
 
 // A value's entry, if it has one there: outinteger writes whole numbers, outreal reals.

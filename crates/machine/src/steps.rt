@@ -84,20 +84,20 @@ fn work(
     output: &mut [i32],
     own: &Memory,
 ) -> Result<Counts, Trouble>
-    requires { Sound n store.old × (n.written ≤ length output.old) × (o_const ≤ k) × (k < o_name) × (w.links ≤ most_links) × (k ≡ o_result → ⊥) }
+    requires { Sound n store.old × (n.written ≤ length output.old) × (o_const ≤ k) × (k < o_name) × (k ≡ o_result → ⊥) }
     ensures output_after { (a : Own) → seen_d result a store.new input.now output.new ≡ told (trace_of n output.old) (workOf (act_of k q (way_of own.now w) v) (data_of n a store.old input.now output.old)) }
     ensures sound_o { SoundO result store.new output.old output.new }
 {
     match k {
         codes::CONST => operations::new_cell(n, store, q, Cell::Holds(Value::Whole(number(v)))),
-        codes::LOAD => operations::load(n, store, own, q, w.cell, w.links),
-        codes::STORE => operations::save(n, store, own, q, w.cell, w.links),
-        codes::ASSIGN => operations::assign(n, store, own, q, w.cell, w.links),
+        codes::LOAD => operations::load(n, store, own, q, w),
+        codes::STORE => operations::save(n, store, own, q, w),
+        codes::ASSIGN => operations::assign(n, store, own, q, w),
         codes::DROP => operations::forget(n, store),
-        codes::IN => ports::receive(n, input, store, own, q, w.cell, w.links),
+        codes::IN => ports::receive(n, input, store, own, q, w),
         codes::OUT => ports::send(n, store, output, q, Form::Wholes),
         codes::HOLD => loops::keep(n, store),
-        codes::SUM => loops::sum(n, store, own, q, w.cell, w.links),
+        codes::SUM => loops::sum(n, store, own, q, w),
         _ => {
             if k < codes::PLUS {
                 return operations::unary(n, store, q, values::unary_of(k));
@@ -156,12 +156,7 @@ fn load(
         return stray(at);
     }
     let w = way_of(b, live, own, v);
-    control::lift(
-        at,
-        at + 1,
-        live,
-        operations::load(n, store, own, q, w.cell, w.links),
-    )
+    control::lift(at, at + 1, live, operations::load(n, store, own, q, w))
 }
 
 // The newest value to a variable.
@@ -183,12 +178,7 @@ fn save(
         return stray(at);
     }
     let w = way_of(b, live, own, v);
-    control::lift(
-        at,
-        at + 1,
-        live,
-        operations::save(n, store, own, q, w.cell, w.links),
-    )
+    control::lift(at, at + 1, live, operations::save(n, store, own, q, w))
 }
 
 // A condition.
@@ -223,7 +213,7 @@ fn upto(at: u32, live: usize, n: Counts, q: usize, v: u32, store: &[i64], own: &
         at,
         low(v as usize) as u32,
         live,
-        loops::upto(n, store, own, q, w.cell, w.links),
+        loops::upto(n, store, own, q, w),
     )
 }
 

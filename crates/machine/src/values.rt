@@ -12,6 +12,7 @@ use reals::words::{long_word, real_of};
 use reals::{Binary, Form, Outcome, Unary, Value};
 
 // The sign -, 'not' and iabs.
+// Kept: no plainer, Unary and Binary are another crate's, so no From or TryFrom of a number can be written for them here.
 pub fn unary_of(k: u32) -> Unary
     requires { (o_minus ≤ k) × (k < o_plus) }
     ensures { result ≡ unary_of k }

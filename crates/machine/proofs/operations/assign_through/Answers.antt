@@ -13,12 +13,12 @@ pub put_cell-requires : goal.put_cell-requires
 put_cell-requires c = omega (arith, c.requires.1, c.requires.0.room)
 
 pub back-requires : goal.back-requires
-back-requires c = (put_sound _ _ c.put_cell.ensures c.requires.0 c.requires.1, omega (arith, put_room _ _ c.put_cell.ensures c.requires.0, c.requires.4), c.requires.3)
+back-requires c = (put_sound _ _ c.put_cell.ensures c.requires.0 c.requires.1, omega (arith, put_room _ _ c.put_cell.ensures c.requires.0, c.requires.3), c.requires.2)
 
 pub returns : goal.returns
 returns c =
     let args = c.args in
-    record { o_after = λ a i o. c.back.ensures.o_after a i o ∙ ap (λ (d : Data). fine (back args.v d) (trace_of args.n o)) (put_is args.n a args.store.now i o c.in_ok-u.u c.put_cell.ensures (turned_holds c.inward.ensures c.in_ok-u.was (in_fits _ _ _ _ c.requires.3)) c.requires.1 c.requires.0.room) ∙ turned_fine _ _ (sym c.inward.ensures ∙ c.in_ok-u.was); sound_d = c.back.ensures.sound_d }
+    record { o_after = λ a i o. c.back.ensures.o_after a i o ∙ ap (λ (d : Data). fine (back args.v d) (trace_of args.n o)) (put_is args.n a args.store.now i o c.in_ok-u.u c.put_cell.ensures (turned_holds c.inward.ensures c.in_ok-u.was (in_fits _ _ _ _ c.requires.2)) c.requires.1 c.requires.0.room) ∙ turned_fine _ _ (sym c.inward.ensures ∙ c.in_ok-u.was); sound_d = c.back.ensures.sound_d }
 
 pub returns-in_err-u : goal.returns-in_err-u
 returns-in_err-u c =

@@ -6,7 +6,7 @@ use Rattle.machine.proofs.Exits.{err_exit, troubled_turned, troubled_d, trouble_
 use Rattle.machine.proofs.operations.put_through.Goals as goal
 
 pub put-requires : goal.put-requires
-put-requires c = (c.requires.0, c.requires.1, turned_holds c.inward.ensures c.in_ok-u.was (in_fits _ _ _ _ c.requires.3))
+put-requires c = (c.requires.0, c.requires.1, turned_holds c.inward.ensures c.in_ok-u.was (in_fits _ _ _ _ c.requires.2))
 
 pub returns : goal.returns
 returns c = record { o_after = λ a i o. c.put.ensures.o_after a i o ∙ turned_fine _ _ (sym c.inward.ensures ∙ c.in_ok-u.was); sound_d = c.put.ensures.sound_d }

@@ -8,32 +8,32 @@ use Rattle.machine.proofs.Exits.{taken, none_exit}
 use Rattle.machine.proofs.operations.save.Goals as goal
 
 pub newest-requires : goal.newest-requires
-newest-requires c = c.requires.0
+newest-requires c = c.requires
 
-pub returns-then-c-m : goal.returns-then-c-m
-returns-then-c-m c =
+pub returns-then-w-m : goal.returns-then-w-m
+returns-then-w-m c =
     let args = c.args in
-    record { does = λ a i o. save_out _ _ args.q args.c _ (saw args.n a args.store.now i o (taken c.newest.result c.ok_or.ensures.value c.in_ok-v.was) (c.newest.ensures.o_value a i o)) (cell_out c.in_ok-v.m a args.store.now i o args.c c.if-c-m.true); sound_d = tt }
+    record { does = λ a i o. save_out _ _ args.q args.w.cell _ (saw args.n a args.store.now i o (taken c.newest.result c.ok_or.ensures.value c.in_ok-v.was) (c.newest.ensures.o_value a i o)) (cell_out c.in_ok-v.m a args.store.now i o args.w.cell c.if-w-m.true); sound_d = tt }
 
 pub cell_at-requires : goal.cell_at-requires
-cell_at-requires c = omega (arith, c.if-c-m.false, (used_room c.args.n (taken c.newest.result c.ok_or.ensures.value c.in_ok-v.was) c.newest.ensures.used_in c.requires.0))
+cell_at-requires c = omega (arith, c.if-w-m.false, (used_room c.args.n (taken c.newest.result c.ok_or.ensures.value c.in_ok-v.was) c.newest.ensures.used_in c.requires))
 
 pub put_through-requires : goal.put_through-requires
-put_through-requires c = ((used_sound c.args.n (taken c.newest.result c.ok_or.ensures.value c.in_ok-v.was) c.newest.ensures.used_in c.requires.0), c.if-c-m.false, c.requires.1, (used_fits c.args.n (taken c.newest.result c.ok_or.ensures.value c.in_ok-v.was) c.newest.ensures.used_in))
+put_through-requires c = ((used_sound c.args.n (taken c.newest.result c.ok_or.ensures.value c.in_ok-v.was) c.newest.ensures.used_in c.requires), c.if-w-m.false, (used_fits c.args.n (taken c.newest.result c.ok_or.ensures.value c.in_ok-v.was) c.newest.ensures.used_in))
 
 pub returns-in_err-v : goal.returns-in_err-v
 returns-in_err-v c =
     let args = c.args in
     let k = none_exit c.newest.result c.ok_or.ensures.value c.in_err-v.was c.from_residual.ensures.1 in
-    rw k.1 (record { does = λ a i o. save_none _ _ args.q args.c _ (saw_none args.n a args.store.now i o k.0 (c.newest.ensures.o_value a i o)); sound_d = tt })
+    rw k.1 (record { does = λ a i o. save_none _ _ args.q args.w.cell _ (saw_none args.n a args.store.now i o k.0 (c.newest.ensures.o_value a i o)); sound_d = tt })
 
 pub returns : goal.returns
 returns c =
     let args = c.args in
-    record { does = λ a i o. c.put_through.ensures.o_after a i o ∙ save_is _ _ args.q args.c _ (saw args.n a args.store.now i o (taken c.newest.result c.ok_or.ensures.value c.in_ok-v.was) (c.newest.ensures.o_value a i o)) (cell_in c.in_ok-v.m a args.store.now i o args.c c.if-c-m.false) (look_data c.in_ok-v.m a args.store.now i o args.c c.if-c-m.false) (reach_as _ c.reach.ensures c.form_of.ensures c.cell_at.ensures (taken c.reach.result c.ok_or-2.ensures.value c.in_ok-form.was)) (reach_form _ _ _ (reach_as _ c.reach.ensures c.form_of.ensures c.cell_at.ensures (taken c.reach.result c.ok_or-2.ensures.value c.in_ok-form.was))) (used_trace args.n (taken c.newest.result c.ok_or.ensures.value c.in_ok-v.was) c.newest.ensures.used_in o); sound_d = used_did args.n (taken c.newest.result c.ok_or.ensures.value c.in_ok-v.was) c.newest.ensures.used_in c.put_through.result c.put_through.new.store c.put_through.ensures.sound_d }
+    record { does = λ a i o. c.put_through.ensures.o_after a i o ∙ save_is _ _ args.q args.w.cell _ (saw args.n a args.store.now i o (taken c.newest.result c.ok_or.ensures.value c.in_ok-v.was) (c.newest.ensures.o_value a i o)) (cell_in c.in_ok-v.m a args.store.now i o args.w.cell c.if-w-m.false) (look_data c.in_ok-v.m a args.store.now i o args.w.cell c.if-w-m.false) (reach_as _ c.reach.ensures c.form_of.ensures c.cell_at.ensures (taken c.reach.result c.ok_or-2.ensures.value c.in_ok-form.was)) (reach_form _ _ _ (reach_as _ c.reach.ensures c.form_of.ensures c.cell_at.ensures (taken c.reach.result c.ok_or-2.ensures.value c.in_ok-form.was))) (used_trace args.n (taken c.newest.result c.ok_or.ensures.value c.in_ok-v.was) c.newest.ensures.used_in o); sound_d = used_did args.n (taken c.newest.result c.ok_or.ensures.value c.in_ok-v.was) c.newest.ensures.used_in c.put_through.result c.put_through.new.store c.put_through.ensures.sound_d }
 
 pub returns-in_err-form : goal.returns-in_err-form
 returns-in_err-form c =
     let args = c.args in
     let k = none_exit c.reach.result c.ok_or-2.ensures.value c.in_err-form.was c.from_residual-in_err-form.ensures.1 in
-    rw k.1 (record { does = λ a i o. save_not _ _ args.q args.c _ (saw args.n a args.store.now i o (taken c.newest.result c.ok_or.ensures.value c.in_ok-v.was) (c.newest.ensures.o_value a i o)) (cell_in c.in_ok-v.m a args.store.now i o args.c c.if-c-m.false) (look_data c.in_ok-v.m a args.store.now i o args.c c.if-c-m.false) (reach_as _ c.reach.ensures c.form_of.ensures c.cell_at.ensures k.0); sound_d = tt })
+    rw k.1 (record { does = λ a i o. save_not _ _ args.q args.w.cell _ (saw args.n a args.store.now i o (taken c.newest.result c.ok_or.ensures.value c.in_ok-v.was) (c.newest.ensures.o_value a i o)) (cell_in c.in_ok-v.m a args.store.now i o args.w.cell c.if-w-m.false) (look_data c.in_ok-v.m a args.store.now i o args.w.cell c.if-w-m.false) (reach_as _ c.reach.ensures c.form_of.ensures c.cell_at.ensures k.0); sound_d = tt })

@@ -14,12 +14,12 @@ use Rattle.machine.proofs.ports.take_in.Goals as goal
 pub returns-then-t-input : goal.returns-then-t-input
 returns-then-t-input c =
     let args = c.args in
-    record { o_after = λ a o. taking_ended _ (data_of args.n a args.store.now args.input.now o) args.q args.c _ (input_none args.n a args.store.now args.input.now o c.if-t-input.true); sound_d = tt }
+    record { o_after = λ a o. taking_ended _ (data_of args.n a args.store.now args.input.now o) args.q args.w.cell _ (input_none args.n a args.store.now args.input.now o c.if-t-input.true); sound_d = tt }
 
 pub put_through-requires : goal.put_through-requires
-put_through-requires c = (took_sound _ _ c.requires.0, c.requires.1, c.requires.2, again w32 (get_or c.args.input.now c.args.n.taken (pos 0)) c.z-1.given)
+put_through-requires c = (took_sound _ _ c.requires.0, c.requires.1, again w32 (get_or c.args.input.now c.args.n.taken (pos 0)) c.z-1.given)
 
 pub returns : goal.returns
 returns c =
     let args = c.args in
-    record { o_after = λ a o. c.put_through.ensures.o_after a args.input.now o ∙ taking_some _ (data_of args.n a args.store.now args.input.now o) args.q args.c _ (input_some args.n a args.store.now args.input.now o c.if-t-input.false) (rest_data args.n a args.store.now args.input.now o) (cell_in (took_one args.n) a args.store.now args.input.now o args.c c.requires.1) (look_data (took_one args.n) a args.store.now args.input.now o args.c c.requires.1) c.requires.3 (ap Whole (read_back w32 (get_or args.input.now args.n.taken (pos 0)) c.z-1.given)) refl; sound_d = sound_as args.n (took_one args.n) c.put_through.result c.put_through.new.store refl c.put_through.ensures.sound_d }
+    record { o_after = λ a o. c.put_through.ensures.o_after a args.input.now o ∙ taking_some _ (data_of args.n a args.store.now args.input.now o) args.q args.w.cell _ (input_some args.n a args.store.now args.input.now o c.if-t-input.false) (rest_data args.n a args.store.now args.input.now o) (cell_in (took_one args.n) a args.store.now args.input.now o args.w.cell c.requires.1) (look_data (took_one args.n) a args.store.now args.input.now o args.w.cell c.requires.1) c.requires.2 (ap Whole (read_back w32 (get_or args.input.now args.n.taken (pos 0)) c.z-1.given)) refl; sound_d = sound_as args.n (took_one args.n) c.put_through.result c.put_through.new.store refl c.put_through.ensures.sound_d }

@@ -22,7 +22,7 @@ pub way_of-w-requires : goal.way_of-w-requires
 way_of-w-requires c = (c.requires.1, c.first_cell-b.ensures.by_index c.args.live (le_refl _), c.first_cell-b.ensures.upper_bound)
 
 pub work-requires : goal.work-requires
-work-requires c = (c.requires.0, c.requires.2, c.requires.4, c.requires.5, c.way_of-w.ensures.links_le_most_links, c.requires.6)
+work-requires c = (c.requires.0, c.requires.2, c.requires.4, c.requires.5, c.requires.6)
 
 pub returns : goal.returns
 returns c =

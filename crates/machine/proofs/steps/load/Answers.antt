@@ -17,7 +17,7 @@ pub way_of-w-requires : goal.way_of-w-requires
 way_of-w-requires c = (c.requires.1, c.first_cell-b.ensures.by_index c.args.live (le_refl _), c.first_cell-b.ensures.upper_bound)
 
 pub load-requires : goal.load-requires
-load-requires c = (c.requires.0, c.way_of-w.ensures.links_le_most_links)
+load-requires c = c.requires.0
 
 pub returns : goal.returns
 returns c =

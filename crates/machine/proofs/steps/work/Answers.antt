@@ -16,10 +16,10 @@ pub new_cell-requires : goal.new_cell-requires
 new_cell-requires c = (c.requires.0, rw (c.number.ensures, to_z-of_z (sfits_to_z c.ranges.v)) (sfits_to_z c.ranges.v))
 
 pub unary_of-requires : goal.unary_of-requires
-unary_of-requires c = let r = c.in_default.in_default-own.rest in ((next_up 21 _ (next_up 20 _ (next_up 19 _ (next_up 18 _ (next_up 17 _ (next_up 16 _ (next_up 15 _ (next_up 14 _ (next_up 13 _ (next_up 12 _ c.requires.2 r.0.0.0.0.0.0.0.0.1) r.0.0.0.0.0.0.0.1) r.0.0.0.0.0.0.1) r.0.0.0.0.0.1) c.requires.5) r.0.0.0.0.1) r.0.0.0.1) r.0.0.1) r.0.1) r.1), c.if-k-lt-PLUS.true)
+unary_of-requires c = let r = c.in_default.in_default-own.rest in ((next_up 21 _ (next_up 20 _ (next_up 19 _ (next_up 18 _ (next_up 17 _ (next_up 16 _ (next_up 15 _ (next_up 14 _ (next_up 13 _ (next_up 12 _ c.requires.2 r.0.0.0.0.0.0.0.0.1) r.0.0.0.0.0.0.0.1) r.0.0.0.0.0.0.1) r.0.0.0.0.0.1) c.requires.4) r.0.0.0.0.1) r.0.0.0.1) r.0.0.1) r.0.1) r.1), c.if-k-lt-PLUS.true)
 
 pub returns-then-k-lt-PLUS : goal.returns-then-k-lt-PLUS
-returns-then-k-lt-PLUS c = let r = c.in_default.in_default-own.rest in record { output_after = λ a. c.unary.ensures.does a c.args.input.now c.args.output.now ∙ same_work _ _ (act_unary c.args.k c.args.q (way_of c.args.own.now c.args.w) c.args.v (next_up 21 _ (next_up 20 _ (next_up 19 _ (next_up 18 _ (next_up 17 _ (next_up 16 _ (next_up 15 _ (next_up 14 _ (next_up 13 _ (next_up 12 _ c.requires.2 r.0.0.0.0.0.0.0.0.1) r.0.0.0.0.0.0.0.1) r.0.0.0.0.0.0.1) r.0.0.0.0.0.1) c.requires.5) r.0.0.0.0.1) r.0.0.0.1) r.0.0.1) r.0.1) r.1) c.if-k-lt-PLUS.true ∙ ap (unary c.args.q) (sym c.unary_of.ensures)); sound_o = did_quiet c.args.n c.unary.result c.unary.new.store c.args.output.now c.unary.ensures.sound_d c.requires.1 }
+returns-then-k-lt-PLUS c = let r = c.in_default.in_default-own.rest in record { output_after = λ a. c.unary.ensures.does a c.args.input.now c.args.output.now ∙ same_work _ _ (act_unary c.args.k c.args.q (way_of c.args.own.now c.args.w) c.args.v (next_up 21 _ (next_up 20 _ (next_up 19 _ (next_up 18 _ (next_up 17 _ (next_up 16 _ (next_up 15 _ (next_up 14 _ (next_up 13 _ (next_up 12 _ c.requires.2 r.0.0.0.0.0.0.0.0.1) r.0.0.0.0.0.0.0.1) r.0.0.0.0.0.0.1) r.0.0.0.0.0.1) c.requires.4) r.0.0.0.0.1) r.0.0.0.1) r.0.0.1) r.0.1) r.1) c.if-k-lt-PLUS.true ∙ ap (unary c.args.q) (sym c.unary_of.ensures)); sound_o = did_quiet c.args.n c.unary.result c.unary.new.store c.args.output.now c.unary.ensures.sound_d c.requires.1 }
 
 pub binary_of-requires : goal.binary_of-requires
 binary_of-requires c = c.if-k-lt-PLUS.false
