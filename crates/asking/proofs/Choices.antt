@@ -2,7 +2,7 @@
 use mathlib.Core.Path.{◌≡◌, refl, sym, ap, ◌∙◌}
 use mathlib.Core.Bool.{Bool, true, false, cond, ◌||◌, and-false, or-true, or-false, false≢true}
 use mathlib.Core.List.{List, [], ◌∷◌}
-use mathlib.Core.Option.{some}
+use Rattle.std.specs.Prelude.{Some, None}
 use Prim.Native.Nat.{ℕ, ◌-◌, ◌≤◌, ◌<◌}
 use native.Mathlib.Omega.{arith}
 use lib.Dec.{eqb, leb}
@@ -16,7 +16,6 @@ use Rattle.asking.specs.Options.{first_number, option_of, together, others, oper
 use Rattle.asking.specs.Table.{rows, table_text, first_row, row_in, row_of, matched}
 use Rattle.asking.specs.declared.sorts.Sort.TheVariants.{Named}
 use Rattle.asking.specs.declared.words.Word.{Word}
-use Rattle.asking.specs.declared.sizes.Asked.TheVariants.{Are, Not}
 use Rattle.asking.proofs.Spelling.{natural_none}
 use Rattle.asking.proofs.Lines.{part_here}
 
@@ -44,7 +43,7 @@ module _ (line : List ℕ) (at : ℕ) (w : Word) (h : First (asked_from line) li
       go false e = rw (h.first (leb-false w.to w.from e))
 
   module _ (name : List ℕ) (usual : ℕ) where
-    pub option_none : w.from ≡ w.to → option_of name usual (asked_from line at) ≡ some usual
+    pub option_none : w.from ≡ w.to → option_of name usual (asked_from line at) ≡ Some usual
     unfolding option_of
     option_none e = rw (h.none e)
 
@@ -56,21 +55,21 @@ module _ (line : List ℕ) (at : ℕ) (w : Word) (h : First (asked_from line) li
     unfolding option_of
     option_later l e = rw (h.first l, sym (part_here line w.from w.to name h.ordered h.inside) ∙ e)
 
-pub option_nothing : (line : List ℕ) (at : ℕ) (name : List ℕ) (usual : ℕ) → length line ≤ at → option_of name usual (asked_from line at) ≡ some usual
+pub option_nothing : (line : List ℕ) (at : ℕ) (name : List ℕ) (usual : ℕ) → length line ≤ at → option_of name usual (asked_from line at) ≡ Some usual
 unfolding option_of
 option_nothing line at name usual h = rw (asked_nothing line at h)
 
 -- ---- the three sizes
 
-pub sizes_cells : (l c o : ℕ) → 8192 < c → together (some l) (some c) (some o) ≡ Not
+pub sizes_cells : (l c o : ℕ) → 8192 < c → together (Some l) (Some c) (Some o) ≡ None
 unfolding together
 sizes_cells l c o h = rw (lt-leb c 8192 h)
 
-pub sizes_room : (l c o : ℕ) → 196608 < o → together (some l) (some c) (some o) ≡ Not
+pub sizes_room : (l c o : ℕ) → 196608 < o → together (Some l) (Some c) (Some o) ≡ None
 unfolding together
 sizes_room l c o h = rw (lt-leb o 196608 h, and-false (leb c 8192))
 
-pub sizes_are : (l c o : ℕ) → c ≤ 8192 → o ≤ 196608 → together (some l) (some c) (some o) ≡ Are (record { limit = l; cells = c; room = o })
+pub sizes_are : (l c o : ℕ) → c ≤ 8192 → o ≤ 196608 → together (Some l) (Some c) (Some o) ≡ Some (record { limit = l; cells = c; room = o })
 unfolding together
 sizes_are l c o h k = rw (le-leb c 8192 h, le-leb o 196608 k)
 

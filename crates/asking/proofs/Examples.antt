@@ -5,7 +5,7 @@ use Prim.Native.String.{String}
 use mathlib.Core.Path.{◌≡◌, refl}
 use mathlib.Core.Bool.{true, false}
 use mathlib.Core.List.{List, [], ◌∷◌, map}
-use mathlib.Core.Option.{Option, none, some}
+use Rattle.std.specs.Prelude.{Option, Some, None, Ok, Err}
 use lib.IntN.{ℤ, pos, negsuc}
 use native.Mathlib.Omega.{arith}
 use Rattle.symbols.specs.Text.{bytes}
@@ -17,10 +17,9 @@ use Rattle.asking.specs.Sorts.{looks, is_option, is_flag, is_named, is_misfit, i
 use Rattle.asking.specs.Options.{first_number, option_of, together, sizes_of, operands_in}
 use Rattle.asking.specs.Table.{first_row, row_in, row_of, names, matched}
 use Rattle.asking.specs.Lists.{list_words, sent, standing, sent_of, in_front, leading, listed_in}
-use Rattle.asking.specs.declared.lists.Listed.TheVariants.{Are, Not as NoNumber, Full}
+use Rattle.asking.specs.declared.lists.Unlisted.TheVariants.{NoNumber, Full}
 use Rattle.asking.specs.declared.sorts.Sort.TheVariants.{Misfit, Twice}
-use Rattle.asking.specs.declared.sizes.Asked.{Asked}
-use Rattle.asking.specs.declared.sizes.Asked.TheVariants.{Are, Not}
+use Rattle.asking.specs.declared.sizes.Sizes.{Sizes}
 
 -- ---- numbers
 
@@ -30,10 +29,10 @@ record Row : Type 0 where
   is : Option ℤ
 
 abbrev reads : String → ℤ → Row
-reads t z = record { text = t; is = some z }
+reads t z = record { text = t; is = Some z }
 
 abbrev fails : String → Row
-fails t = record { text = t; is = none }
+fails t = record { text = t; is = None }
 
 abbrev rows : List Row
 rows =
@@ -62,15 +61,15 @@ pub whole_numbers : Right rows
 unfolding whole_of integer_of within negated counted number_of spelled digits digit value_from
 whole_numbers = (refl, (refl, (refl, (refl, (refl, (refl, (refl, (refl, (refl, (refl, (refl, (refl, (refl, (refl, tt))))))))))))))
 
-pub largest_natural : natural_of (bytes "18446744073709551615") ≡ some 18446744073709551615
+pub largest_natural : natural_of (bytes "18446744073709551615") ≡ Some 18446744073709551615
 unfolding natural_of spelled digits digit value_from
 largest_natural = refl
 
-pub too_large_natural : natural_of (bytes "18446744073709551616") ≡ none
+pub too_large_natural : natural_of (bytes "18446744073709551616") ≡ None
 unfolding natural_of spelled digits digit value_from
 too_large_natural = refl
 
-pub natural_without_sign : natural_of (bytes "+5") ≡ none
+pub natural_without_sign : natural_of (bytes "+5") ≡ None
 unfolding natural_of spelled digits digit value_from
 natural_without_sign = refl
 
@@ -134,22 +133,22 @@ pub twice : those Twice [] (words_of (line "run -l 5 a 5 5 -l 6 --plain")) ≡ b
 unfolding those is_twice looks digit has equal cut ended unblanked blank
 twice = refl
 
-abbrev sizes_in : String → Asked
+abbrev sizes_in : String → Option Sizes
 sizes_in t = sizes_of (asked (words_of (line t)))
 
-pub usual_sizes : sizes_in "a 1200 25" ≡ Are (record { limit = 1000000; cells = 8192; room = 196608 })
+pub usual_sizes : sizes_in "a 1200 25" ≡ Some (record { limit = 1000000; cells = 8192; room = 196608 })
 unfolding sizes_of together option_of first_number natural_of spelled digits digit value_from those is_flag is_option looks equal cut ended unblanked blank
 usual_sizes = refl
 
-pub asked_sizes : sizes_in "-o 0 a -l --plain 7 1200 -c 8192 -l 8" ≡ Are (record { limit = 7; cells = 8192; room = 0 })
+pub asked_sizes : sizes_in "-o 0 a -l --plain 7 1200 -c 8192 -l 8" ≡ Some (record { limit = 7; cells = 8192; room = 0 })
 unfolding sizes_of together option_of first_number natural_of spelled digits digit value_from those is_flag is_option looks equal cut ended unblanked blank
 asked_sizes = refl
 
-pub too_many_cells : sizes_in "a -c 8193" ≡ Not
+pub too_many_cells : sizes_in "a -c 8193" ≡ None
 unfolding sizes_of together option_of first_number natural_of spelled digits digit value_from those is_flag is_option looks equal cut ended unblanked blank
 too_many_cells = refl
 
-pub missing_limit : sizes_in "a -l" ≡ Not
+pub missing_limit : sizes_in "a -l" ≡ None
 unfolding sizes_of together option_of first_number natural_of spelled digits digit value_from those is_flag is_option looks equal cut ended unblanked blank
 missing_limit = refl
 
@@ -177,16 +176,16 @@ pub list_outside : numbers "65535 65536 65537 -1 -0 18446744073709551617 -184467
 unfolding leading in_front sent_of standing sent integer_of negated counted number_of spelled digits digit value_from cut ended unlisted separates blank
 list_outside = refl
 
-pub list_or_not : (listed_in 3 (list_words (bytes "1 2 3")) ≡ Are 3) × (listed_in 3 (list_words (bytes "1 12x 3")) ≡ NoNumber 1) × (listed_in 2 (list_words (bytes "1 2 3")) ≡ Full)
+pub list_or_not : (listed_in 3 (list_words (bytes "1 2 3")) ≡ Ok 3) × (listed_in 3 (list_words (bytes "1 12x 3")) ≡ Err (NoNumber 1)) × (listed_in 2 (list_words (bytes "1 2 3")) ≡ Err Full)
 unfolding listed_in leading in_front sent_of standing sent integer_of negated counted number_of spelled digits digit value_from cut ended unlisted separates blank
 list_or_not = (refl, refl, refl)
 
 -- a reader that keeps the last 16 bits of a number
-pub not_kept_low : sent_of (bytes "65537") ≡ some (pos 1) → ⊥
+pub not_kept_low : sent_of (bytes "65537") ≡ Some (pos 1) → ⊥
 unfolding sent_of standing sent integer_of negated counted number_of spelled digits digit value_from
 not_kept_low e = let z : ◌≡◌ {A = ℕ} 0 1 = cc in omega arith
 
 -- one that stops at the first byte that is no digit, and takes what it has
-pub not_begun : sent_of (bytes "12x") ≡ some (pos 12) → ⊥
+pub not_begun : sent_of (bytes "12x") ≡ Some (pos 12) → ⊥
 unfolding sent_of standing sent integer_of negated counted number_of spelled digits digit value_from
 not_begun e = let z : ◌≡◌ {A = ℕ} 0 1 = cc in omega arith

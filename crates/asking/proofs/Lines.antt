@@ -2,7 +2,7 @@
 use mathlib.Core.Path.{◌≡◌, refl, sym, ap, ◌∙◌}
 use mathlib.Core.Bool.{Bool, true, false, cond, and-false}
 use mathlib.Core.List.{List, [], ◌∷◌, ◌++◌, map, append-nil, append_assoc}
-use Prim.Native.Nat.{ℕ, suc, ◌+◌, ◌-◌, ◌≤◌, ◌<◌}
+use Prim.Native.Nat.{ℕ, suc, ◌+◌, ◌-◌, ◌≤◌, ◌<◌, max}
 use native.Mathlib.Omega.{arith}
 use native.Mathlib.Numerals.{add-one}
 use lib.Dec.{eqb, leb}
@@ -31,6 +31,19 @@ module _ (s : List ℕ) (i : ℕ) where
   pub zeros_end : length s ≤ i → leading_zeros (drop i s) ≡ 0
   unfolding leading_zeros
   zeros_end h = rw (drop_of_length-le s h)
+
+-- what a search for another byte gives, on to the line's end or where it began
+pub zeros_past : (s : List ℕ) (at i : ℕ) → at ≤ i → (at ≤ length s → i ≤ length s) → length s ≤ i → at + leading_zeros (drop at s) ≡ i + leading_zeros (drop i s) → max at (length s) ≡ at + leading_zeros (drop at s)
+zeros_past s at i h k l e = go (leb at (length s)) refl
+  where
+    go : (b : Bool) → leb at (length s) ≡ b → max at (length s) ≡ at + leading_zeros (drop at s)
+    go true q =
+        let p = leb-true at (length s) q in
+        let n = k p in
+        omega (arith, zeros_end s i l)
+    go false q =
+        let p = leb-false at (length s) q in
+        omega (arith, zeros_end s at (omega arith))
 
 pub zeros_most : (bs : List ℕ) → leading_zeros bs ≤ length bs
 unfolding leading_zeros

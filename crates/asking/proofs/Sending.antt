@@ -3,55 +3,57 @@
 use mathlib.Core.Path.{◌≡◌, refl, sym, ap, ◌∙◌}
 use mathlib.Core.Bool.{Bool, true, false, cond, ◌&&◌, and-false}
 use mathlib.Core.List.{List, [], ◌∷◌, ◌++◌, map}
-use mathlib.Core.Option.{Option, none, some}
+use Rattle.std.specs.Prelude.{Option, None, Some, Ok, Err}
 use Prim.Native.Nat.{ℕ, zero, suc, ◌+◌, ◌^◌, ◌≤◌, ◌<◌}
 use native.Mathlib.Omega.{arith}
 use native.Mathlib.Numerals.{add-one}
-use lib.Dec.{leb, ltb}
+use lib.Dec.{leb, ltb, eqb}
 use lib.IntN.{ℤ, pos, negsuc}
 use lib.ListN.{length, get_or, take, drop, set, length-drop, drop_of_length-le}
 use lib.Seq.{drop-cons, drop-drop, take_all, take-add, length-take-le, set_at, append_snoc}
-use borrow.Author.Tests.{ltb-false, le-leb, lt-leb, lt-ltb, le-ltb, eq-eqb, ne_eqb}
-use Rattle.symbols.specs.Names.{value_from}
+use borrow.Author.Tests.{ltb-false, le-leb, lt-leb, lt-ltb, le-ltb, eq-eqb, ne_eqb, eqb-true, eqb-false}
+use Rattle.std.specs.List.{list_all}
+use Rattle.symbols.specs.Names.{digit, value_from}
 use Rattle.asking.specs.Numerals.{digits, spelled, number_of, natural_of, counted, negated, integer_of}
 use Rattle.asking.specs.Words.{words_of, cut, ended}
 use Rattle.asking.specs.Lists.{sent, standing, sent_of, in_front, leading, listed_in, Lists}
-use Rattle.asking.specs.declared.lists.Listed.TheVariants.{Are, Not, Full}
+use Rattle.asking.specs.declared.lists.Unlisted.TheVariants.{NoNumber, Full}
 
 -- ---- digits
 
+pub all_digits : (bs : List ℕ) → list_all digit bs ≡ digits bs
+unfolding digits
+all_digits [] = refl
+all_digits (b ∷ bs) = ap (λ (t : Bool). digit b && t) (all_digits bs)
+
 module _ (bs : List ℕ) where
-  pub spelled_other : digits bs ≡ false → spelled bs ≡ false
+  pub spelled_empty : eqb (length bs) 0 ≡ true → spelled bs ≡ false
   unfolding spelled
-  spelled_other e = rw (e, and-false (ltb 0 (length bs)))
+  spelled_empty e = rw (eqb-true (length bs) 0 e)
 
-  pub spelled_digits : digits bs ≡ true → ltb 0 (length bs) ≡ spelled bs
+  pub spelled_all : eqb (length bs) 0 ≡ false → spelled bs ≡ digits bs
   unfolding spelled
-  spelled_digits e = go (ltb 0 (length bs))
-    where
-      go : (t : Bool) → t ≡ (t && digits bs)
-      go true = sym e
-      go false = refl
+  spelled_all e = let n = eqb-false (length bs) 0 e in rw (lt-ltb 0 (length bs) (omega (arith, n)))
 
-  number_none : spelled bs ≡ false → number_of bs ≡ none
+  number_none : spelled bs ≡ false → number_of bs ≡ None
   unfolding number_of
   number_none e = rw e
 
   -- what 64 bits hold is the number itself, and what they do not hold is greater
-  number_is : (v : ℕ) → spelled bs ≡ true → some v ≡ natural_of bs → number_of bs ≡ some v
+  number_is : (v : ℕ) → spelled bs ≡ true → Some v ≡ natural_of bs → number_of bs ≡ Some v
   unfolding number_of natural_of
-  number_is v e h = go (ltb (value_from 0 bs) (2 ^ 64)) (h ∙ ap (λ (t : Bool). cond (t && ltb (value_from 0 bs) (2 ^ 64)) (some (value_from 0 bs)) none) e)
+  number_is v e h = go (ltb (value_from 0 bs) (2 ^ 64)) (h ∙ ap (λ (t : Bool). cond (t && ltb (value_from 0 bs) (2 ^ 64)) (Some (value_from 0 bs)) None) e)
     where
-      go : (t : Bool) → some v ≡ cond t (some (value_from 0 bs)) none → cond (spelled bs) (some (value_from 0 bs)) none ≡ some v
+      go : (t : Bool) → Some v ≡ cond t (Some (value_from 0 bs)) None → cond (spelled bs) (Some (value_from 0 bs)) None ≡ Some v
       go true q = rw e (sym q)
       go false q = absurd (let z : ◌≡◌ {A = ℕ} 0 1 = cc in omega arith)
 
-  number_large : spelled bs ≡ true → none ≡ natural_of bs → (n : ℕ) × (65535 < n) × (number_of bs ≡ some n)
+  number_large : spelled bs ≡ true → None ≡ natural_of bs → (n : ℕ) × (65535 < n) × (number_of bs ≡ Some n)
   unfolding number_of natural_of
-  number_large e h = go (ltb (value_from 0 bs) (2 ^ 64)) refl (h ∙ ap (λ (t : Bool). cond (t && ltb (value_from 0 bs) (2 ^ 64)) (some (value_from 0 bs)) none) e)
+  number_large e h = go (ltb (value_from 0 bs) (2 ^ 64)) refl (h ∙ ap (λ (t : Bool). cond (t && ltb (value_from 0 bs) (2 ^ 64)) (Some (value_from 0 bs)) None) e)
     where
-      go : (t : Bool) → ltb (value_from 0 bs) (2 ^ 64) ≡ t → none ≡ cond t (some (value_from 0 bs)) none
-          → (n : ℕ) × (65535 < n) × (cond (spelled bs) (some (value_from 0 bs)) none ≡ some n)
+      go : (t : Bool) → ltb (value_from 0 bs) (2 ^ 64) ≡ t → None ≡ cond t (Some (value_from 0 bs)) None
+          → (n : ℕ) × (65535 < n) × (cond (spelled bs) (Some (value_from 0 bs)) None ≡ Some n)
       go true l q = absurd (let z : ◌≡◌ {A = ℕ} 0 1 = cc in omega arith)
       go false l q = (value_from 0 bs, omega (arith, ltb-false (value_from 0 bs) (2 ^ 64) l), rw e refl)
 
@@ -66,44 +68,44 @@ unfolding sent
 sent_word n h = rw (le-leb n 65535 h)
 
 module _ (bs : List ℕ) where
-  pub counted_none : spelled bs ≡ false → standing (counted (number_of bs)) ≡ none
+  pub counted_none : spelled bs ≡ false → standing (counted (number_of bs)) ≡ None
   unfolding standing counted
   counted_none e = rw (number_none bs e)
 
-  pub counted_large : spelled bs ≡ true → none ≡ natural_of bs → standing (counted (number_of bs)) ≡ some (negsuc 0)
+  pub counted_large : spelled bs ≡ true → None ≡ natural_of bs → standing (counted (number_of bs)) ≡ Some (negsuc 0)
   unfolding standing counted
   counted_large e h = let n = number_large bs e h in rw (n.2, sent_none n.0 n.1)
 
-  pub counted_over : (v : ℕ) → spelled bs ≡ true → some v ≡ natural_of bs → 65535 < v → standing (counted (number_of bs)) ≡ some (negsuc 0)
+  pub counted_over : (v : ℕ) → spelled bs ≡ true → Some v ≡ natural_of bs → 65535 < v → standing (counted (number_of bs)) ≡ Some (negsuc 0)
   unfolding standing counted
   counted_over v e h l = rw (number_is bs v e h, sent_none v l)
 
-  pub counted_word : (v : ℕ) → spelled bs ≡ true → some v ≡ natural_of bs → v ≤ 65535 → standing (counted (number_of bs)) ≡ some (pos v)
+  pub counted_word : (v : ℕ) → spelled bs ≡ true → Some v ≡ natural_of bs → v ≤ 65535 → standing (counted (number_of bs)) ≡ Some (pos v)
   unfolding standing counted
   counted_word v e h l = rw (number_is bs v e h, sent_word v l)
 
-  pub negated_none : spelled bs ≡ false → standing (negated (number_of bs)) ≡ none
+  pub negated_none : spelled bs ≡ false → standing (negated (number_of bs)) ≡ None
   unfolding standing negated
   negated_none e = rw (number_none bs e)
 
-  minus : (n : ℕ) → 0 < n → standing (negated (some n)) ≡ some (negsuc 0)
+  minus : (n : ℕ) → 0 < n → standing (negated (Some n)) ≡ Some (negsuc 0)
   unfolding standing negated sent
   minus zero h = absurd (omega arith)
   minus (suc n) h = refl
 
-  pub negated_large : spelled bs ≡ true → none ≡ natural_of bs → standing (negated (number_of bs)) ≡ some (negsuc 0)
+  pub negated_large : spelled bs ≡ true → None ≡ natural_of bs → standing (negated (number_of bs)) ≡ Some (negsuc 0)
   negated_large e h = let n = number_large bs e h in rw n.2 (minus n.0 (omega (arith, n.1)))
 
-  pub negated_some : (v : ℕ) → spelled bs ≡ true → some v ≡ natural_of bs → 0 < v → standing (negated (number_of bs)) ≡ some (negsuc 0)
+  pub negated_some : (v : ℕ) → spelled bs ≡ true → Some v ≡ natural_of bs → 0 < v → standing (negated (number_of bs)) ≡ Some (negsuc 0)
   negated_some v e h l = rw (number_is bs v e h) (minus v l)
 
-  pub negated_zero : (v : ℕ) → spelled bs ≡ true → some v ≡ natural_of bs → v ≤ 0 → standing (negated (number_of bs)) ≡ some (pos 0)
+  pub negated_zero : (v : ℕ) → spelled bs ≡ true → Some v ≡ natural_of bs → v ≤ 0 → standing (negated (number_of bs)) ≡ Some (pos 0)
   unfolding standing negated sent
   negated_zero v e h l = let z : v ≡ 0 = omega arith in rw (number_is bs v e h, z) refl
 
 -- ---- a word with a sign, and one with none
 
-pub sent_empty : (bs : List ℕ) → length bs ≡ 0 → sent_of bs ≡ none
+pub sent_empty : (bs : List ℕ) → length bs ≡ 0 → sent_of bs ≡ None
 unfolding sent_of standing integer_of
 sent_empty [] e = refl
 sent_empty (b ∷ bs) e = absurd (omega arith)
@@ -125,11 +127,11 @@ sent_bare (b ∷ bs) h m p = rw (ne_eqb b 45 m, ne_eqb b 43 p)
 
 -- ---- words taken one by one
 
-lead_on : (w : List ℕ) (ws : List (List ℕ)) (z : ℤ) → some z ≡ sent_of w → leading (w ∷ ws) ≡ z ∷ leading ws
+lead_on : (w : List ℕ) (ws : List (List ℕ)) (z : ℤ) → Some z ≡ sent_of w → leading (w ∷ ws) ≡ z ∷ leading ws
 unfolding leading in_front
 lead_on w ws z e = rw (sym e)
 
-lead_stop : (w : List ℕ) (ws : List (List ℕ)) → none ≡ sent_of w → leading (w ∷ ws) ≡ []
+lead_stop : (w : List ℕ) (ws : List (List ℕ)) → None ≡ sent_of w → leading (w ∷ ws) ≡ []
 unfolding leading in_front
 lead_stop w ws e = rw (sym e)
 
@@ -159,7 +161,7 @@ module _ (line : List ℕ) (before : List ℤ) where
         h.holds ∙ ap (λ (l : List ℤ). l ++ drop n before) (take_all n led (omega arith) ∙ sym (take_all (length before) led (omega (arith, h.inside))))
         ∙ ap (λ (k : ℕ). take (length before) led ++ drop k before) (sym e)
 
-    pub put_all : words_of (drop at line) ≡ [] → Lists (words_of line) before (Are n) list
+    pub put_all : words_of (drop at line) ≡ [] → Lists (words_of line) before (Ok n) list
     unfolding listed_in leading
     put_all e =
         let l : length led ≡ n = led_long [] (ap leading e) ∙ omega arith in
@@ -170,7 +172,7 @@ module _ (line : List ℕ) (before : List ℤ) where
         }
 
     module _ (w : List ℕ) (ws : List (List ℕ)) (e : words_of (drop at line) ≡ w ∷ ws) where
-      pub put_stop : none ≡ sent_of w → Lists (words_of line) before (Not n) list
+      pub put_stop : None ≡ sent_of w → Lists (words_of line) before (Err (NoNumber n)) list
       unfolding listed_in
       put_stop q =
           let l : length led ≡ n = led_long [] (ap leading e ∙ lead_stop w ws q) ∙ omega arith in
@@ -180,14 +182,14 @@ module _ (line : List ℕ) (before : List ℤ) where
             holds = all_hold l;
           }
 
-      module _ (z : ℤ) (q : some z ≡ sent_of w) where
+      module _ (z : ℤ) (q : Some z ≡ sent_of w) where
         next : drop n led ≡ z ∷ leading ws
         next = h.behind ∙ ap leading e ∙ lead_on w ws z q
 
         more : length led ≡ n + suc (length (leading ws))
         more = led_long (z ∷ leading ws) (ap leading e ∙ lead_on w ws z q)
 
-        pub put_full : length before ≤ n → Lists (words_of line) before Full list
+        pub put_full : length before ≤ n → Lists (words_of line) before (Err Full) list
         unfolding listed_in
         put_full f =
             let k : n ≡ length before = omega (arith, h.inside) in
@@ -230,13 +232,13 @@ sent_itself (pos m) n e = go (leb m 65535) e
     go false q = absurd (let y : ◌≡◌ {A = ℕ} 0 1 = cc in omega arith)
 sent_itself (negsuc m) n e = absurd (let y : ◌≡◌ {A = ℕ} 0 1 = cc in omega arith)
 
-typed_word : (o : Option ℤ) (n : ℕ) → standing o ≡ some (pos n) → o ≡ some (pos n)
+typed_word : (o : Option ℤ) (n : ℕ) → standing o ≡ Some (pos n) → o ≡ Some (pos n)
 unfolding standing
-typed_word none n e = absurd (let y : ◌≡◌ {A = ℕ} 0 1 = cc in omega arith)
-typed_word (some z) n e = ap some (sent_itself z n (let y : sent z ≡ pos n = cc in y))
+typed_word None n e = absurd (let y : ◌≡◌ {A = ℕ} 0 1 = cc in omega arith)
+typed_word (Some z) n e = ap Some (sent_itself z n (let y : sent z ≡ pos n = cc in y))
 
 abbrev pub word : ℕ → Option ℤ
-word n = some (pos n)
+word n = Some (pos n)
 
 -- where all words of a list are numbers, and what stands for them are words, these are what is typed, however long
 pub as_typed : (ws : List (List ℕ)) (l : List ℕ) → length (leading ws) ≡ length ws → leading ws ≡ map pos l → map integer_of ws ≡ map word l
@@ -249,10 +251,10 @@ as_typed (w ∷ ws) l k e = go (standing (integer_of w)) refl (as_typed ws) l k 
         → ((m : List ℕ) → length (leading ws) ≡ length ws → leading ws ≡ map pos m → map integer_of ws ≡ map word m)
         → (l : List ℕ) → length (in_front o (leading ws)) ≡ suc (length ws) → in_front o (leading ws) ≡ map pos l
         → integer_of w ∷ map integer_of ws ≡ map word l
-    go none q rest l k e = absurd (omega arith)
-    go (some z) q rest [] k e = absurd (let y : ◌≡◌ {A = ℕ} 0 1 = cc in omega arith)
-    go (some z) q rest (n ∷ l) k e =
+    go None q rest l k e = absurd (omega arith)
+    go (Some z) q rest [] k e = absurd (let y : ◌≡◌ {A = ℕ} 0 1 = cc in omega arith)
+    go (Some z) q rest (n ∷ l) k e =
         let a : z ≡ pos n = cc in
         let b : leading ws ≡ map pos l = cc in
-        ap (λ (o : Option ℤ). o ∷ map integer_of ws) (typed_word (integer_of w) n (q ∙ ap some a))
+        ap (λ (o : Option ℤ). o ∷ map integer_of ws) (typed_word (integer_of w) n (q ∙ ap Some a))
         ∙ ap (λ (os : List (Option ℤ)). word n ∷ os) (rest l (omega arith) b)

@@ -2,7 +2,7 @@
 use mathlib.Core.Path.{◌≡◌, refl, sym}
 use mathlib.Core.Bool.{Bool, true, false, cond, ◌&&◌, and-false}
 use mathlib.Core.List.{List, [], ◌∷◌}
-use mathlib.Core.Option.{none, some}
+use Rattle.std.specs.Prelude.{None, Some}
 use Prim.Native.Nat.{ℕ, zero, suc, ◌+◌, ◌-◌, ◌*◌, ◌^◌, ◌≤◌, ◌<◌}
 use native.Mathlib.Omega.{arith}
 use lib.Dec.{eqb, ltb}
@@ -49,38 +49,38 @@ value_least v (b ∷ bs) = omega (arith, value_least (10 * v + (b - 48)) bs)
 -- ---- numbers of 64 bits
 
 module _ (bs : List ℕ) where
-  pub natural_none : length bs ≡ 0 → natural_of bs ≡ none
+  pub natural_none : length bs ≡ 0 → natural_of bs ≡ None
   unfolding natural_of spelled
   natural_none e = rw e
 
-  pub natural_other : digits bs ≡ false → natural_of bs ≡ none
+  pub natural_other : digits bs ≡ false → natural_of bs ≡ None
   unfolding natural_of spelled
   natural_other e = rw (e, and-false (ltb 0 (length bs)))
 
-  pub natural_large : 2 ^ 64 ≤ value_from 0 bs → natural_of bs ≡ none
+  pub natural_large : 2 ^ 64 ≤ value_from 0 bs → natural_of bs ≡ None
   unfolding natural_of
   natural_large h = rw (le-ltb (value_from 0 bs) (2 ^ 64) h, and-false (spelled bs))
 
-  pub natural_is_lem : (v : ℕ) → 0 < length bs → digits bs ≡ true → value_from 0 bs ≡ v → v < 2 ^ 64 → natural_of bs ≡ some v
+  pub natural_is_lem : (v : ℕ) → 0 < length bs → digits bs ≡ true → value_from 0 bs ≡ v → v < 2 ^ 64 → natural_of bs ≡ Some v
   unfolding natural_of spelled
   natural_is_lem v h e f l = rw (lt-ltb 0 (length bs) h, e, f, lt-ltb v (2 ^ 64) l)
 
 -- ---- whole numbers of 32 bits
 
-pub count_out : (n : ℕ) → 2147483647 < n → within (some (pos n)) ≡ none
+pub count_out : (n : ℕ) → 2147483647 < n → within (Some (pos n)) ≡ None
 unfolding within
 count_out n h = rw (lt-leb n 2147483647 h)
 
-pub count_in_lem : (n : ℕ) → n ≤ 2147483647 → within (some (pos n)) ≡ some (pos n)
+pub count_in_lem : (n : ℕ) → n ≤ 2147483647 → within (Some (pos n)) ≡ Some (pos n)
 unfolding within
 count_in_lem n h = rw (le-leb n 2147483647 h)
 
-pub minus_out : (n : ℕ) → 2147483648 < n → within (some (neg_ℤ (pos n))) ≡ none
+pub minus_out : (n : ℕ) → 2147483648 < n → within (Some (neg_ℤ (pos n))) ≡ None
 unfolding within
 minus_out zero h = absurd (omega arith)
 minus_out (suc n) h = let l : 2147483647 < n = omega arith in rw (lt-leb n 2147483647 l)
 
-pub minus_in : (n : ℕ) → n ≤ 2147483648 → within (some (neg_ℤ (pos n))) ≡ some (neg_ℤ (pos n))
+pub minus_in : (n : ℕ) → n ≤ 2147483648 → within (Some (neg_ℤ (pos n))) ≡ Some (neg_ℤ (pos n))
 unfolding within
 minus_in zero h = refl
 minus_in (suc n) h = let l : n ≤ 2147483647 = omega arith in rw (le-leb n 2147483647 l)
@@ -91,7 +91,7 @@ unfolding natural_of number_of counted within
 natural_counts bs = go (spelled bs) (ltb (value_from 0 bs) (2 ^ 64)) refl
   where
     go : (t u : Bool) → ltb (value_from 0 bs) (2 ^ 64) ≡ u
-        → within (counted (cond (t && u) (some (value_from 0 bs)) none)) ≡ within (counted (cond t (some (value_from 0 bs)) none))
+        → within (counted (cond (t && u) (Some (value_from 0 bs)) None)) ≡ within (counted (cond t (Some (value_from 0 bs)) None))
     go false u e = refl
     go true true e = refl
     go true false e = sym (count_out (value_from 0 bs) (omega (arith, ltb-false (value_from 0 bs) (2 ^ 64) e)))
@@ -101,7 +101,7 @@ unfolding natural_of number_of negated within
 natural_negates bs = go (spelled bs) (ltb (value_from 0 bs) (2 ^ 64)) refl
   where
     go : (t u : Bool) → ltb (value_from 0 bs) (2 ^ 64) ≡ u
-        → within (negated (cond (t && u) (some (value_from 0 bs)) none)) ≡ within (negated (cond t (some (value_from 0 bs)) none))
+        → within (negated (cond (t && u) (Some (value_from 0 bs)) None)) ≡ within (negated (cond t (Some (value_from 0 bs)) None))
     go false u e = refl
     go true true e = refl
     go true false e = sym (minus_out (value_from 0 bs) (omega (arith, ltb-false (value_from 0 bs) (2 ^ 64) e)))
@@ -126,7 +126,7 @@ module _ (n : ℕ) (h : n ≤ 2147483648) where
 
 -- ---- a text with a sign, and one with none
 
-pub whole_none : (bs : List ℕ) → length bs ≡ 0 → whole_of bs ≡ none
+pub whole_none : (bs : List ℕ) → length bs ≡ 0 → whole_of bs ≡ None
 unfolding whole_of integer_of within
 whole_none [] e = refl
 whole_none (b ∷ bs) e = absurd (omega arith)

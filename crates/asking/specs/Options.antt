@@ -1,36 +1,35 @@
 -- Options that have a number behind them, and the words that are no option. These definitions are over the words that a line asks, among which is no flag.
 use Rattle.std.specs.Prelude.{ℕ, ◌≤◌, ◌≡◌, Bool, true, false, cond, ◌&&◌, List, [], ◌∷◌, length, leb}
-use Rattle.std.proofs.Math.Option.{Option, none, some}
+use Rattle.std.specs.Prelude.{Option, None, Some}
 use Rattle.symbols.specs.Text.{bytes}
 use Rattle.symbols.specs.Names.{equal}
 use Rattle.asking.specs.Numerals.{natural_of}
 use Rattle.asking.specs.Words.{part}
 use Rattle.asking.specs.Sorts.{is_option, asked_from}
-use Rattle.asking.specs.declared.sizes.Asked.{Asked}
-use Rattle.asking.specs.declared.sizes.Asked.TheVariants.{Are, Not}
+use Rattle.asking.specs.declared.sizes.Sizes.{Sizes}
 
 -- ---- the number of an option
 
 -- the number that the first word is, if there is one and it is a number
 unfoldable pub first_number : List (List ℕ) → Option ℕ
-first_number [] = none
+first_number [] = None
 first_number (w ∷ ws) = natural_of w
 
 -- the number behind the first word `name`; the usual one where there is no such word; nothing where what is behind is no number or is missing
 unfoldable pub option_of : List ℕ → ℕ → List (List ℕ) → Option ℕ
-option_of name usual [] = some usual
+option_of name usual [] = Some usual
 option_of name usual (w ∷ ws) = cond (equal w name) (first_number ws) (option_of name usual ws)
 
 -- ---- the three sizes
 
 -- instructions, cells and room, where all are numbers, the cells at most 8,192 and the room at most 196,608
-unfoldable pub together : Option ℕ → Option ℕ → Option ℕ → Asked
-together none c o = Not
-together (some l) none o = Not
-together (some l) (some c) none = Not
-together (some l) (some c) (some o) = cond (leb c 8192 && leb o 196608) (Are (record { limit = l; cells = c; room = o })) Not
+unfoldable pub together : Option ℕ → Option ℕ → Option ℕ → Option Sizes
+together None c o = None
+together (Some l) None o = None
+together (Some l) (Some c) None = None
+together (Some l) (Some c) (Some o) = cond (leb c 8192 && leb o 196608) (Some (record { limit = l; cells = c; room = o })) None
 
-unfoldable pub sizes_of : List (List ℕ) → Asked
+unfoldable pub sizes_of : List (List ℕ) → Option Sizes
 sizes_of ws = together (option_of (bytes "-l") 1000000 ws) (option_of (bytes "-c") 8192 ws) (option_of (bytes "-o") 196608 ws)
 
 -- ---- words that are no option

@@ -2,9 +2,9 @@
 ghost use Rattle.std.specs.Prelude.{◌≡◌};
 ghost use Rattle.asking.specs.Numerals.{spelled, number_of, counted, negated};
 ghost use Rattle.asking.specs.Words.{words_of};
-ghost use Rattle.asking.specs.Lists.{standing, sent_of, Lists, sent_is};
+ghost use Rattle.asking.specs.Lists.{standing, sent_of, Lists};
 
-use crate::numerals::{Natural, natural_in};
+use crate::numerals::natural_in;
 use crate::words::word_from;
 use symbols::text::is_digit;
 
@@ -14,18 +14,10 @@ const MOST: u64 = 65535;
 // Stands for a number that is no word of a source.
 const NONE: i64 = -1;
 
-// What a text stands for in a list: a number, or it spells none.
-#[derive(Clone, Copy)]
-pub enum Sent {
-    Is(i64),
-    Not,
-}
-
-// What the words of a list are: so many numbers; or the index of the first that is no number; or there are more numbers than the room takes.
-#[derive(Clone, Copy)]
-pub enum Listed {
-    Are(usize),
-    Not(usize),
+// Why words are no list: the index of the first that is no number; or there are more numbers than the room takes.
+#[derive(Clone, Copy, Debug, PartialEq, Eq)]
+pub enum Unlisted {
+    NoNumber(usize),
     Full,
 }
 
@@ -33,58 +25,41 @@ pub enum Listed {
 fn is_spelled(text: &[u8]) -> bool
     ensures { result ≡ spelled text.now }
 {
-    let mut i: usize = 0;
-    while i < text.len() {
-        if !is_digit(text[i]) {
-            return false;
-        }
-        i += 1;
-    }
-    0 < i
+    !text.is_empty() && text.iter().all(|b| is_digit(*b))
 }
 
 // What stands for the number that digits spell, however many they are.
-fn magnitude(text: &[u8]) -> Sent
-    ensures { sent_is result ≡ standing (counted (number_of text.now)) }
+fn magnitude(text: &[u8]) -> Option<i64>
+    ensures { result ≡ standing (counted (number_of text.now)) }
 {
     if !is_spelled(text) {
-        return Sent::Not;
+        return None;
     }
     match natural_in(text) {
-        Natural::Not => Sent::Is(NONE),
-        Natural::Is(v) => {
-            if MOST < v {
-                return Sent::Is(NONE);
-            }
-            Sent::Is(v as i64)
-        }
+        Some(v) if v <= MOST => Some(v as i64),
+        _ => Some(NONE),
     }
 }
 
 // The same with the sign - before the digits: only 0 is a word then.
-fn below(text: &[u8]) -> Sent
-    ensures { sent_is result ≡ standing (negated (number_of text.now)) }
+fn below(text: &[u8]) -> Option<i64>
+    ensures { result ≡ standing (negated (number_of text.now)) }
 {
     if !is_spelled(text) {
-        return Sent::Not;
+        return None;
     }
     match natural_in(text) {
-        Natural::Not => Sent::Is(NONE),
-        Natural::Is(v) => {
-            if 0 < v {
-                return Sent::Is(NONE);
-            }
-            Sent::Is(0)
-        }
+        Some(v) if v == 0 => Some(0),
+        _ => Some(NONE),
     }
 }
 
 // What a word of a list stands for.
-pub fn sent_in(text: &[u8]) -> Sent
-    ensures { sent_is result ≡ sent_of text.now }
+pub fn sent_in(text: &[u8]) -> Option<i64>
+    ensures { result ≡ sent_of text.now }
 {
-    if text.len() == 0 {
-        return Sent::Not;
+    if text.is_empty() {
+        return None;
     }
     let b = text[0];
     if b == b'-' {
@@ -96,8 +71,8 @@ pub fn sent_in(text: &[u8]) -> Sent
     magnitude(text)
 }
 
-// The numbers of a list's words, into the room that is lent.
-pub fn list_in(line: &[u8], list: &mut [i64]) -> Listed
+// The numbers of a list's words, into the room that is lent, and how many they are.
+pub fn list_in(line: &[u8], list: &mut [i64]) -> Result<usize, Unlisted>
     ensures { Lists (words_of line.now) list.old result list.new }
 {
     let mut at: usize = 0;
@@ -107,17 +82,17 @@ pub fn list_in(line: &[u8], list: &mut [i64]) -> Listed
         let a = w.from;
         let b = w.to;
         if a == b {
-            return Listed::Are(n);
+            return Ok(n);
         }
-        let Sent::Is(x) = sent_in(&line[a..b]) else {
-            return Listed::Not(n);
+        let Some(x) = sent_in(&line[a..b]) else {
+            return Err(Unlisted::NoNumber(n));
         };
         if list.len() <= n {
-            return Listed::Full;
+            return Err(Unlisted::Full);
         }
         list[n] = x;
         n += 1;
         at = b;
     }
-    Listed::Are(n)
+    Ok(n)
 }

@@ -1,83 +1,49 @@
 // Numbers as people type them.
 ghost use Rattle.std.specs.Prelude.{◌≡◌};
-ghost use Rattle.asking.specs.Numerals.{natural_is, natural_of, whole_is, whole_of, within, negated, counted};
+ghost use Rattle.asking.specs.Numerals.{natural_of, whole_of, within, negated, counted};
 
 use symbols::text::is_digit;
 
-// What a text spells: a number from 0 on that 64 bits hold, or none.
-#[derive(Clone, Copy)]
-pub enum Natural {
-    Is(u64),
-    Not,
-}
-
-// What a text spells: a whole number of 32 bits, or none.
-#[derive(Clone, Copy)]
-pub enum Whole {
-    Is(i32),
-    Not,
-}
-
 // The number that digits spell. What is past 64 bits is none, so that no digit is lost.
-pub fn natural_in(text: &[u8]) -> Natural
-    ensures { natural_is result ≡ natural_of text.now }
+pub fn natural_in(text: &[u8]) -> Option<u64>
+    ensures { result ≡ natural_of text.now }
 {
     let mut value: u64 = 0;
-    let mut i: usize = 0;
-    while i < text.len() {
-        let b = text[i];
-        if !is_digit(b) {
-            return Natural::Not;
+    for b in text {
+        if !is_digit(*b) {
+            return None;
         }
-        let d = (b - 48) as u64;
-        if (18446744073709551615 - d) / 10 < value {
-            return Natural::Not;
+        let d = u64::from(*b - b'0');
+        if (u64::MAX - d) / 10 < value {
+            return None;
         }
         value = 10 * value + d;
-        i += 1;
     }
-    if i == 0 {
-        return Natural::Not;
-    }
-    Natural::Is(value)
+    if text.is_empty() { None } else { Some(value) }
 }
 
 // A magnitude with the sign -.
-fn negative(n: Natural) -> Whole
-    ensures { whole_is result ≡ within (negated (natural_is n)) }
+#[tactic(auto, unfolding(crate::specs::Numerals::negated, crate::specs::Numerals::within))]
+fn negative(n: Option<u64>) -> Option<i32>
+    ensures { result ≡ within (negated n) }
 {
-    match n {
-        Natural::Not => Whole::Not,
-        Natural::Is(v) => {
-            if 2147483648 < v {
-                return Whole::Not;
-            }
-            Whole::Is((0 - v as i64) as i32)
-        }
-    }
+    i32::try_from(-i128::from(n?)).ok()
 }
 
 // A magnitude with the sign + or with none.
-fn positive(n: Natural) -> Whole
-    ensures { whole_is result ≡ within (counted (natural_is n)) }
+#[tactic(auto, unfolding(crate::specs::Numerals::counted, crate::specs::Numerals::within))]
+fn positive(n: Option<u64>) -> Option<i32>
+    ensures { result ≡ within (counted n) }
 {
-    match n {
-        Natural::Not => Whole::Not,
-        Natural::Is(v) => {
-            if 2147483647 < v {
-                return Whole::Not;
-            }
-            Whole::Is(v as i32)
-        }
-    }
+    i32::try_from(n?).ok()
 }
 
 // The whole number of 32 bits that a text spells, with or without a sign.
-pub fn whole_in(text: &[u8]) -> Whole
-    ensures { whole_is result ≡ whole_of text.now }
+pub fn whole_in(text: &[u8]) -> Option<i32>
+    ensures { result ≡ whole_of text.now }
 {
-    if text.len() == 0 {
-        return Whole::Not;
+    if text.is_empty() {
+        return None;
     }
     let b = text[0];
     if b == b'-' {

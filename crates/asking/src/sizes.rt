@@ -1,10 +1,9 @@
 // How large a run may be, as its options ask.
 ghost use Rattle.std.specs.Prelude.{◌≡◌};
-ghost use Rattle.asking.specs.Numerals.{natural_is};
 ghost use Rattle.asking.specs.Sorts.{asked_from};
 ghost use Rattle.asking.specs.Options.{first_number, option_of, together, sizes_of};
 
-use crate::numerals::{Natural, natural_in};
+use crate::numerals::natural_in;
 use crate::sorts::next_word;
 use crate::words::is_word;
 
@@ -23,16 +22,9 @@ pub struct Sizes {
     pub room: usize,
 }
 
-// What a line asks of a run's size, where that can be had.
-#[derive(Clone, Copy)]
-pub enum Asked {
-    Are(Sizes),
-    Not,
-}
-
 // The number that the next word is.
-fn number_from(line: &[u8], at: usize) -> Natural
-    ensures { natural_is result ≡ first_number (asked_from line.now at) }
+fn number_from(line: &[u8], at: usize) -> Option<u64>
+    ensures { result ≡ first_number (asked_from line.now at) }
 {
     let w = next_word(line, at);
     let a = w.from;
@@ -41,8 +33,8 @@ fn number_from(line: &[u8], at: usize) -> Natural
 }
 
 // The number behind an option's word from `from` on; the usual one where the option is not there.
-fn option(line: &[u8], from: usize, name: &[u8], usual: u64) -> Natural
-    ensures { natural_is result ≡ option_of name.now usual (asked_from line.now from) }
+fn option(line: &[u8], from: usize, name: &[u8], usual: u64) -> Option<u64>
+    ensures { result ≡ option_of name.now usual (asked_from line.now from) }
 {
     let mut at = from;
     while at < line.len() {
@@ -50,44 +42,36 @@ fn option(line: &[u8], from: usize, name: &[u8], usual: u64) -> Natural
         let a = w.from;
         let b = w.to;
         if a == b {
-            return Natural::Is(usual);
+            return Some(usual);
         }
         if is_word(line, a, b, name) {
             return number_from(line, b);
         }
         at = b;
     }
-    Natural::Is(usual)
+    Some(usual)
 }
 
 // The three sizes together, where they are numbers and within what there is.
-fn sizes_in(limit: Natural, cells: Natural, room: Natural) -> Asked
-    ensures { result ≡ together (natural_is limit) (natural_is cells) (natural_is room) }
+#[tactic(auto, unfolding(crate::specs::Options::together))]
+fn sizes_in(limit: Option<u64>, cells: Option<u64>, room: Option<u64>) -> Option<Sizes>
+    ensures { result ≡ together limit cells room }
 {
-    let Natural::Is(l) = limit else {
-        return Asked::Not;
-    };
-    let Natural::Is(c) = cells else {
-        return Asked::Not;
-    };
-    let Natural::Is(o) = room else {
-        return Asked::Not;
-    };
-    if CELLS < c {
-        return Asked::Not;
+    let limit = limit?;
+    let cells = cells?;
+    let room = room?;
+    if CELLS < cells || ROOM < room {
+        return None;
     }
-    if ROOM < o {
-        return Asked::Not;
-    }
-    Asked::Are(Sizes {
-        limit: l,
-        cells: c as usize,
-        room: o as usize,
+    Some(Sizes {
+        limit,
+        cells: cells as usize,
+        room: room as usize,
     })
 }
 
-// What a line asks of a run's size, from `from` on.
-pub fn sizes_of(line: &[u8], from: usize) -> Asked
+// What a line asks of a run's size, from `from` on, where that can be had.
+pub fn sizes_of(line: &[u8], from: usize) -> Option<Sizes>
     ensures { result ≡ sizes_of (asked_from line.now from) }
 {
     let limit = option(line, from, b"-l", LIMIT);

@@ -17,39 +17,27 @@ pub enum Sort {
 }
 
 // Whether a word is an option: - and no digit behind it. - alone is standard input.
+#[tactic(auto, unfolding(crate::specs::Sorts::looks))]
 fn looks_so(word: &[u8]) -> bool
     ensures { result ≡ looks word.now }
 {
-    if word.len() < 2 {
-        return false;
-    }
-    if word[0] != b'-' {
-        return false;
-    }
-    !is_digit(word[1])
+    word.len() >= 2 && word[0] == b'-' && !is_digit(word[1])
 }
 
 // Whether an option has a number behind it.
+#[tactic(auto, unfolding(crate::specs::Sorts::is_option))]
 pub fn is_option(word: &[u8]) -> bool
     ensures { result ≡ is_option word.now }
 {
-    if same_bytes(word, b"-l") {
-        return true;
-    }
-    if same_bytes(word, b"-c") {
-        return true;
-    }
-    same_bytes(word, b"-o")
+    same_bytes(word, b"-l") || same_bytes(word, b"-c") || same_bytes(word, b"-o")
 }
 
 // Whether a word is an option that stands for itself.
+#[tactic(auto, unfolding(crate::specs::Sorts::is_flag))]
 fn is_flag(word: &[u8]) -> bool
     ensures { result ≡ is_flag word.now }
 {
-    if is_option(word) {
-        return false;
-    }
-    looks_so(word)
+    !is_option(word) && looks_so(word)
 }
 
 // Whether a row's first word is this one.
@@ -61,36 +49,27 @@ fn is_named(row: &[u8], word: &[u8]) -> bool
 }
 
 // Whether a word is an option and none of a row's words.
+#[tactic(auto, unfolding(crate::specs::Sorts::is_misfit))]
 fn is_misfit(word: &[u8], row: &[u8]) -> bool
     ensures { result ≡ is_misfit row.now word.now }
 {
-    if has_word(row, 0, word) {
-        return false;
-    }
-    looks_so(word)
+    !has_word(row, 0, word) && looks_so(word)
 }
 
 // Whether a word is an option and stands once more from a place on.
+#[tactic(auto, unfolding(crate::specs::Sorts::is_twice))]
 fn is_twice(word: &[u8], line: &[u8], from: usize) -> bool
     ensures { result ≡ is_twice word.now (words_of (drop from line.now)) }
 {
-    if has_word(line, from, word) {
-        return looks_so(word);
-    }
-    false
+    has_word(line, from, word) && looks_so(word)
 }
 
 // Whether a word begins with a capital.
+#[tactic(auto, unfolding(crate::specs::Sorts::is_capital))]
 fn is_capital(word: &[u8]) -> bool
     ensures { result ≡ is_capital word.now }
 {
-    if word.len() < 1 {
-        return false;
-    }
-    if word[0] < 65 {
-        return false;
-    }
-    word[0] <= 90
+    !word.is_empty() && word[0].is_ascii_uppercase()
 }
 
 // Whether a word of a line is of a sort.

@@ -52,10 +52,7 @@ pub struct Fit {
 fn ends(more: bool, from: usize, to: usize) -> bool
     ensures { result ≡ (more || eqb from to) }
 {
-    if more {
-        return true;
-    }
-    from == to
+    more || from == to
 }
 
 // How the words of a line from `at` on fit a row.

@@ -16,14 +16,12 @@ pub struct Word {
 fn zeros_end(line: &[u8], at: usize) -> usize
     ensures { result ≡ at + leading_zeros (drop at line.now) }
 {
-    let mut i = at;
-    while i < line.len() {
+    for i in at..line.len() {
         if line[i] != 0 {
             return i;
         }
-        i += 1;
     }
-    i
+    at.max(line.len())
 }
 
 // The next word from `at` on.
@@ -89,13 +87,11 @@ fn unblank(b: u8) -> u8
 }
 
 // Whether a byte stands between numbers.
+#[tactic(auto, unfolding(crate::specs::Words::separates))]
 fn is_between(b: u8) -> bool
     ensures { result ≡ separates b }
 {
-    if is_blank(b) {
-        return true;
-    }
-    b == b','
+    is_blank(b) || b == b','
 }
 
 // A byte of a list as one of a line of words.
@@ -122,15 +118,11 @@ fn laid(list: bool, b: u8) -> u8
 fn lay(list: bool, text: &[u8], row: &mut [u8]) -> usize
     ensures { LineBy (laid_as list) text.now row.old result row.new }
 {
-    let mut i: usize = 0;
-    while i < text.len() {
-        if row.len() <= i {
-            return i;
-        }
+    let n = text.len().min(row.len());
+    for i in 0..n {
         row[i] = laid(list, text[i]);
-        i += 1;
     }
-    i
+    n
 }
 
 // A text of words that blanks end.

@@ -6,7 +6,6 @@ use lib.ListN.{length-set}
 use mir.Syntax.{w64}
 use mir.Facts.{to_z-of_z}
 use borrow.Author.Rules.{rules}
-use Rattle.asking.specs.Lists.{sent_is}
 use Rattle.asking.proofs.Lines.{word_none, word_first}
 use Rattle.asking.proofs.Sending.{put_nothing, put_all, put_stop, put_full, put_more, no_words}
 use Rattle.asking.proofs.lists.list_in.Goals as goal
@@ -27,7 +26,7 @@ returns-in_default c =
     let h = c.word_from-w.ensures in
     let n = c.if-a-b.false in
     let f = word_first a.line.now l.at c.word_from-w.result h (omega (arith, h.ordered)) in
-    put_stop a.line.now a.list.now l.list l.at l.n l.invariant.1 _ _ f (sym (ap sent_is c.in_default.is) ∙ c.sent_in.ensures)
+    put_stop a.line.now a.list.now l.list l.at l.n l.invariant.1 _ _ f (sym c.in_default.is ∙ c.sent_in.ensures)
 
 pub returns-then-list-n : goal.returns-then-list-n
 returns-then-list-n c =
@@ -36,7 +35,7 @@ returns-then-list-n c =
     let h = c.word_from-w.ensures in
     let n = c.if-a-b.false in
     let f = word_first a.line.now l.at c.word_from-w.result h (omega (arith, h.ordered)) in
-    put_full a.line.now a.list.now l.list l.at l.n l.invariant.1 _ _ f _ (sym (ap sent_is c.in-Is.is) ∙ c.sent_in.ensures) (omega (arith, c.if-list-n.true, l.invariant.0))
+    put_full a.line.now a.list.now l.list l.at l.n l.invariant.1 _ _ f _ (sym c.in-Some.is ∙ c.sent_in.ensures) (omega (arith, c.if-list-n.true, l.invariant.0))
 
 pub loop-at-smaller : goal.loop-at-smaller
 loop-at-smaller c =
@@ -52,7 +51,7 @@ loop-at-preserved c =
     let n = c.if-a-b.false in
     let f = word_first a.line.now l.at c.word_from-w.result h (omega (arith, h.ordered)) in (
       simp length-set l.invariant.0,
-      rw (to_z-of_z {w = w64} {z = c.in-Is.x} (search rules)) (put_more a.line.now a.list.now l.list l.at l.n l.invariant.1 _ _ f _ (sym (ap sent_is c.in-Is.is) ∙ c.sent_in.ensures) (omega (arith, c.if-list-n.false, l.invariant.0)) c.word_from-w.result.to refl),
+      rw (to_z-of_z {w = w64} {z = c.in-Some.x} (search rules)) (put_more a.line.now a.list.now l.list l.at l.n l.invariant.1 _ _ f _ (sym c.in-Some.is ∙ c.sent_in.ensures) (omega (arith, c.if-list-n.false, l.invariant.0)) c.word_from-w.result.to refl),
     )
 
 pub returns : goal.returns
