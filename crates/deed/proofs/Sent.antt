@@ -4,7 +4,6 @@ use Prim.Native.Nat.{ℕ, suc, ◌≤◌}
 use mathlib.Core.Path.{◌≡◌, refl, sym, ap, subst, ◌∙◌}
 use mathlib.Core.Bool.{Bool, true, false, cond}
 use mathlib.Core.List.{List, [], ◌∷◌, ◌++◌, map}
-use mathlib.Core.Option.{Option, none, some}
 use native.Mathlib.Omega.{arith}
 use lib.Dec.{ltb}
 use lib.IntN.{ℤ, pos}
@@ -15,8 +14,9 @@ use Rattle.asking.specs.Numerals.{integer_of}
 use Rattle.asking.specs.Words.{words_of}
 use Rattle.asking.specs.Words.{unlisted}
 use Rattle.asking.specs.Lists.{list_words, ListLine, sent_of, in_front, leading, listed_in, Lists}
-use Rattle.asking.specs.declared.lists.Listed.{Listed}
-use Rattle.asking.specs.declared.lists.Listed.TheVariants.{Are, Not, Full}
+use Rattle.std.specs.Prelude.{Option, Some, None, Result, Ok, Err}
+use Rattle.asking.specs.declared.lists.Unlisted.{Unlisted}
+use Rattle.asking.specs.declared.lists.Unlisted.TheVariants.{NoNumber, Full}
 use Rattle.asking.proofs.Sending.{word, as_typed}
 use Rattle.checking.specs.Checking.{three, Checks}
 use Rattle.checking.specs.declared.Checked.{Checked}
@@ -38,10 +38,10 @@ words_sent text row row' n h l =
 -- ---- what its words are
 
 -- the number of them and one, or 0
-abbrev count : Listed → ℕ
-count (Are n) = suc n
-count (Not i) = 0
-count Full = 0
+abbrev count : Result ℕ Unlisted → ℕ
+count (Ok n) = suc n
+count (Err (NoNumber i)) = 0
+count (Err Full) = 0
 
 -- all are numbers
 pub record All (room : ℕ) (ws : List (List ℕ)) (n : ℕ) : Type 0 where
@@ -51,20 +51,20 @@ pub record All (room : ℕ) (ws : List (List ℕ)) (n : ℕ) : Type 0 where
 
 front_most : (o : Option ℤ) (zs : List ℤ) (n : ℕ) → length zs ≤ n → length (in_front o zs) ≤ suc n
 unfolding in_front
-front_most none zs n h = omega arith
-front_most (some z) zs n h = omega arith
+front_most None zs n h = omega arith
+front_most (Some z) zs n h = omega arith
 
 led_most : (ws : List (List ℕ)) → length (leading ws) ≤ length ws
 unfolding leading
 led_most [] = omega arith
 led_most (w ∷ ws) = front_most (sent_of w) (leading ws) (length ws) (led_most ws)
 
-pub all_listed : (room : ℕ) (ws : List (List ℕ)) (n : ℕ) → listed_in room ws ≡ Are n → All room ws n
+pub all_listed : (room : ℕ) (ws : List (List ℕ)) (n : ℕ) → listed_in room ws ≡ Ok n → All room ws n
 unfolding listed_in
 all_listed room ws n e = go (ltb room (length (leading ws))) refl (ltb (length (leading ws)) (length ws)) refl (ap count e)
   where
     go : (t : Bool) → ltb room (length (leading ws)) ≡ t → (u : Bool) → ltb (length (leading ws)) (length ws) ≡ u
-        → count (cond t Full (cond u (Not (length (leading ws))) (Are (length (leading ws))))) ≡ suc n → All room ws n
+        → count (cond t (Err Full) (cond u (Err (NoNumber (length (leading ws)))) (Ok (length (leading ws))))) ≡ suc n → All room ws n
     go true p u q k = absurd (omega arith)
     go false p true q k = absurd (omega arith)
     go false p false q k =
@@ -76,31 +76,31 @@ all_listed room ws n e = go (ltb room (length (leading ws))) refl (ltb (length (
 
 -- ---- the status of a list
 
-module _ (text : List ℕ) (ws : List (List ℕ)) (list list' : List ℤ) (r : Listed) (room : length list ≡ 32768) (same : ws ≡ list_words text) (h : Lists ws list r list') where
-  listed : (q : Listed) → r ≡ q → listed_in 32768 (list_words text) ≡ q
+module _ (text : List ℕ) (ws : List (List ℕ)) (list list' : List ℤ) (r : Result ℕ Unlisted) (room : length list ≡ 32768) (same : ws ≡ list_words text) (h : Lists ws list r list') where
+  listed : (q : Result ℕ Unlisted) → r ≡ q → listed_in 32768 (list_words text) ≡ q
   listed q e = ap (λ (n : ℕ). listed_in n (list_words text)) (sym room) ∙ ap (λ (x : List (List ℕ)). listed_in (length list) x) (sym same) ∙ sym h.said ∙ e
 
-  numbers : (k : ℕ) → r ≡ Are k → take k list' ≡ leading (list_words text)
+  numbers : (k : ℕ) → r ≡ Ok k → take k list' ≡ leading (list_words text)
   numbers k e =
       let a = all_listed (length list) ws k (sym h.said ∙ e) in
       ap (λ (x : List ℤ). take k x) (h.holds ∙ ap (λ (x : List ℤ). x ++ drop (length (leading ws)) list) (take_all (length list) (leading ws) a.fits))
       ∙ take_at (leading ws) (drop (length (leading ws)) list) k (sym a.many) ∙ ap leading same
 
-  pub sent_are : {source : List ℕ} (k s : ℕ) → r ≡ Are k → CheckStatus source (take k list') s → SentStatus source text s
+  pub sent_are : {source : List ℕ} (k s : ℕ) → r ≡ Ok k → CheckStatus source (take k list') s → SentStatus source text s
   sent_are {source} k s e t =
       record {
-        by_words = subst (λ (l : Listed). ByWords source (leading (list_words text)) l s) (sym (listed (Are k) e))
+        by_words = subst (λ (l : Result ℕ Unlisted). ByWords source (leading (list_words text)) l s) (sym (listed (Ok k) e))
             (subst (λ (zs : List ℤ). CheckStatus source zs s) (numbers k e) t);
       }
 
-  pub sent_not : {source : List ℕ} (i : ℕ) → r ≡ Not i → SentStatus source text nothing
-  sent_not {source} i e = record { by_words = subst (λ (l : Listed). ByWords source (leading (list_words text)) l nothing) (sym (listed (Not i) e)) refl }
+  pub sent_not : {source : List ℕ} (i : ℕ) → r ≡ Err (NoNumber i) → SentStatus source text nothing
+  sent_not {source} i e = record { by_words = subst (λ (l : Result ℕ Unlisted). ByWords source (leading (list_words text)) l nothing) (sym (listed (Err (NoNumber i)) e)) refl }
 
-  pub sent_full : {source : List ℕ} → r ≡ Full → SentStatus source text nothing
-  sent_full {source} e = record { by_words = subst (λ (l : Listed). ByWords source (leading (list_words text)) l nothing) (sym (listed Full e)) refl }
+  pub sent_full : {source : List ℕ} → r ≡ (Err Full) → SentStatus source text nothing
+  sent_full {source} e = record { by_words = subst (λ (l : Result ℕ Unlisted). ByWords source (leading (list_words text)) l nothing) (sym (listed (Err Full) e)) refl }
 
 -- the numbers that are taken are within the room
-pub inside_room : {ws : List (List ℕ)} {list list' : List ℤ} {r : Listed} {k : ℕ} → Lists ws list r list' → r ≡ Are k → k ≤ length list
+pub inside_room : {ws : List (List ℕ)} {list list' : List ℤ} {r : Result ℕ Unlisted} {k : ℕ} → Lists ws list r list' → r ≡ Ok k → k ≤ length list
 inside_room {ws} {list} {k = k} h e = let a = all_listed (length list) ws k (sym h.said ∙ e) in omega (arith, a.many, a.fits)
 
 -- ---- what the status 0 says
@@ -119,12 +119,12 @@ good_checked {source} {zs} t = yes_exactly.0 (subst (λ (c : Checked). Checks so
 pub good_sent : {source text : List ℕ} → SentStatus source text good → (a : Accepts source) × (map integer_of (list_words text) ≡ map word (uses_in three a))
 good_sent {source} {text} t = go (listed_in 32768 (list_words text)) refl t.by_words
   where
-    go : (l : Listed) → listed_in 32768 (list_words text) ≡ l → ByWords source (leading (list_words text)) l good
+    go : (l : Result ℕ Unlisted) → listed_in 32768 (list_words text) ≡ l → ByWords source (leading (list_words text)) l good
         → (a : Accepts source) × (map integer_of (list_words text) ≡ map word (uses_in three a))
-    go (Are n) e t =
+    go (Ok n) e t =
         let w = all_listed 32768 (list_words text) n e in
         let c : CheckStatus source (leading (list_words text)) good = t in
         let g = good_checked c in
         (g.0, as_typed (list_words text) (uses_in three g.0) w.whole g.1)
-    go (Not i) e t = let h : good ≡ nothing = t in absurd (omega arith)
-    go Full e t = let h : good ≡ nothing = t in absurd (omega arith)
+    go (Err (NoNumber i)) e t = let h : good ≡ nothing = t in absurd (omega arith)
+    go (Err Full) e t = let h : good ≡ nothing = t in absurd (omega arith)

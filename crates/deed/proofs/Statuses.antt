@@ -6,8 +6,9 @@ use native.Mathlib.Omega.{arith}
 use lib.IntN.{ℤ}
 use Rattle.answers.specs.declared.Verdict.{Verdict}
 use Rattle.asking.specs.Lists.{list_words, leading, listed_in}
-use Rattle.asking.specs.declared.lists.Listed.{Listed}
-use Rattle.asking.specs.declared.lists.Listed.TheVariants.{Are, Not, Full}
+use Rattle.std.specs.Prelude.{Result, Ok, Err}
+use Rattle.asking.specs.declared.lists.Unlisted.{Unlisted}
+use Rattle.asking.specs.declared.lists.Unlisted.TheVariants.{NoNumber, Full}
 use Rattle.checking.specs.declared.Checked.{Checked}
 use Rattle.checking.specs.declared.Checked.TheVariants.{Yes, Refused as Unchecked, Wrong as WrongAt}
 use Rattle.clean.specs.declared.Written.{Written}
@@ -31,10 +32,10 @@ told_most t = rw t.told (most_verdict t.verdict)
 pub write_most : {text : List ℕ} {s : ℕ} → WriteStatus text s → s ≤ nothing
 write_most t = rw t.told (most_written t.written)
 
-by_words_most : (text : List ℕ) (numbers : List ℤ) (l : Listed) (s : ℕ) → ByWords text numbers l s → s ≤ nothing
-by_words_most text numbers (Are n) s t = let h : CheckStatus text numbers s = t in rw h.told (most_checked h.checked)
-by_words_most text numbers (Not i) s t = let h : s ≡ nothing = t in omega arith
-by_words_most text numbers Full s t = let h : s ≡ nothing = t in omega arith
+by_words_most : (text : List ℕ) (numbers : List ℤ) (l : Result ℕ Unlisted) (s : ℕ) → ByWords text numbers l s → s ≤ nothing
+by_words_most text numbers (Ok n) s t = let h : CheckStatus text numbers s = t in rw h.told (most_checked h.checked)
+by_words_most text numbers (Err (NoNumber i)) s t = let h : s ≡ nothing = t in omega arith
+by_words_most text numbers (Err Full) s t = let h : s ≡ nothing = t in omega arith
 
 pub sent_most : {text list : List ℕ} {s : ℕ} → SentStatus text list s → s ≤ nothing
 sent_most {text} {list} {s} t = by_words_most text (leading (list_words list)) (listed_in 32768 (list_words list)) s t.by_words

@@ -1,6 +1,6 @@
 -- What the words of a command decide of the tool's exit status, whatever the files hold: by the row of its command. These are definitions of the tool and
 -- no part of the paper.
-use Rattle.std.specs.Prelude.{ℕ, ◌≤◌, ◌≡◌, Bool, true, false, cond, not, ◌&&◌, ◌||◌, List, [], ◌∷◌, map, take}
+use Rattle.std.specs.Prelude.{ℕ, ◌≤◌, ◌≡◌, Bool, true, false, cond, not, ◌&&◌, ◌||◌, List, [], ◌∷◌, map, take, Option as OptionOf, Some, None}
 use Rattle.std.proofs.Math.Option.{Option, none, some}
 use Rattle.symbols.specs.Text.{bytes}
 use Rattle.symbols.specs.Names.{equal}
@@ -9,8 +9,7 @@ use Rattle.asking.specs.Sorts.{those, asked}
 use Rattle.asking.specs.Options.{sizes_of, operands}
 use Rattle.asking.specs.Table.{row_of, names, more, matched}
 use Rattle.asking.specs.declared.sorts.Sort.TheVariants.{Misfit, Twice}
-use Rattle.asking.specs.declared.sizes.Asked.{Asked}
-use Rattle.asking.specs.declared.sizes.Asked.TheVariants.{Are, Not}
+use Rattle.asking.specs.declared.sizes.Sizes.{Sizes}
 use Rattle.desk.specs.Status.{good, nothing}
 
 abbrev pub is_none : List (List ℕ) → Bool
@@ -42,9 +41,9 @@ unfoldable pub full : List ℕ → List (List ℕ) → Bool
 full row ws = matched (names (words_of row)) (more (words_of row)) (operands ws)
 
 -- the sizes that are asked for can be had
-abbrev pub had : Asked → Bool
-had (Are s) = true
-had Not = false
+abbrev pub had : OptionOf Sizes → Bool
+had (Some s) = true
+had None = false
 
 unfoldable pub sized : List (List ℕ) → Bool
 sized ws = had (sizes_of ws)

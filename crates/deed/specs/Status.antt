@@ -1,9 +1,9 @@
 -- The exit status of each command that shows, writes or checks. These are definitions of the tool and no part of the paper.
-use Rattle.std.specs.Prelude.{ℕ, ◌≡◌, List, ℤ, replicate}
+use Rattle.std.specs.Prelude.{ℕ, ◌≡◌, List, ℤ, replicate, Result, Ok, Err}
 use Rattle.answers.specs.declared.Verdict.{Verdict}
 use Rattle.asking.specs.Lists.{list_words, leading, listed_in}
-use Rattle.asking.specs.declared.lists.Listed.{Listed}
-use Rattle.asking.specs.declared.lists.Listed.TheVariants.{Are, Not, Full}
+use Rattle.asking.specs.declared.lists.Unlisted.{Unlisted}
+use Rattle.asking.specs.declared.lists.Unlisted.TheVariants.{NoNumber, Full}
 use Rattle.checking.specs.declared.Checked.{Checked}
 use Rattle.checking.specs.declared.Checked.TheVariants.{Yes, Refused as Unchecked, Wrong as WrongAt}
 use Rattle.checking.specs.Checking.{Checks}
@@ -52,10 +52,10 @@ pub record CheckStatus (text : List ℕ) (numbers : List ℤ) (s : ℕ) : Type 0
   pub told : s ≡ of_checked checked
 
 -- by what the words of a list are: the status is that of its numbers; nothing is done where a word is no number, or where there are too many
-abbrev pub ByWords : List ℕ → List ℤ → Listed → ℕ → Type 0
-ByWords text numbers (Are n) s = CheckStatus text numbers s
-ByWords text numbers (Not i) s = s ≡ nothing
-ByWords text numbers Full s = s ≡ nothing
+abbrev pub ByWords : List ℕ → List ℤ → Result ℕ Unlisted → ℕ → Type 0
+ByWords text numbers (Ok n) s = CheckStatus text numbers s
+ByWords text numbers (Err (NoNumber i)) s = s ≡ nothing
+ByWords text numbers (Err Full) s = s ≡ nothing
 
 -- s is the status of a source and of a list as it was sent, of which 32,768 numbers are taken at most
 pub record SentStatus (text list : List ℕ) (s : ℕ) : Type 0 where

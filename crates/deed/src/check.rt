@@ -4,7 +4,7 @@ ghost use Rattle.io.specs.Counts.{IsPrefixLen};
 ghost use Rattle.desk.specs.Status.{nothing as undone};
 ghost use Rattle.deed.specs.Status.{of_checked, CheckStatus, SentStatus};
 
-use asking::lists::{Listed, list_in};
+use asking::lists::{Unlisted, list_in};
 use asking::options::next_operand;
 use asking::words::{Word, is_plain, list_line, word_from};
 use checking::Checked;
@@ -226,7 +226,7 @@ fn check_text(
     let mut numbers = [0i64; 32768];
     let n = list_line(text, &mut row);
     match list_in(&row[..n], &mut numbers) {
-        Listed::Are(k) => {
+        Ok(k) => {
             tell_checked(
                 system,
                 name,
@@ -238,11 +238,11 @@ fn check_text(
                 plain,
             )
         }
-        Listed::Not(i) => {
+        Err(Unlisted::NoNumber(i)) => {
             unlisted(system, list, text, &row[..n], i);
             status::NOTHING
         }
-        Listed::Full => {
+        Err(Unlisted::Full) => {
             complain(system, b"deed: a LIST has at most 32,768 numbers\n");
             status::NOTHING
         }

@@ -7,7 +7,7 @@ ghost use Rattle.deed.specs.Commands.{helps, fitting, once, clash, full, sized, 
 
 use crate::help::{help, usage};
 use crate::{check, code, levels, page, read, uses, write};
-use asking::sizes::{Asked, sizes_of};
+use asking::sizes::sizes_of;
 use asking::sorts::{Sort, first, next_word};
 use asking::table::{fits, row_line};
 use asking::words::{has_word, is_plain};
@@ -93,7 +93,7 @@ fn words_fit(system: &System, line: &[u8], at: usize, row: &[u8]) -> bool
 fn sizes_fit(system: &System, line: &[u8], at: usize) -> bool
     ensures { result ≡ sized (asked_from line.now at) }
 {
-    let Asked::Are(_) = sizes_of(line, at) else {
+    let Some(_) = sizes_of(line, at) else {
         misused(
             system,
             b"-l, -c and -o want a number, -c at most 8192, -o at most 196608",

@@ -2,7 +2,7 @@
 ghost use Rattle.std.specs.Prelude.{◌≡◌, ◌≤◌, min, length};
 
 use crate::files::{Loaded, is_standard, nothing, take_in};
-use asking::numerals::{Whole, whole_in};
+use asking::numerals::whole_in;
 use asking::options::next_operand;
 use asking::words::{Word, has_word, line_of, word_from};
 use showing::system::{Stream, System};
@@ -27,7 +27,7 @@ fn put_number(system: &System, text: &[u8], command: bool, input: &mut [i32], n:
             count: n,
         };
     }
-    let Whole::Is(x) = whole_in(text) else {
+    let Some(x) = whole_in(text) else {
         misspelled(system, text);
         return nothing();
     };

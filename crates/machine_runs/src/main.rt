@@ -6,7 +6,7 @@
 
 ghost use Rattle.std.specs.Prelude.{◌≤◌};
 
-use asking::numerals::{Natural, natural_in};
+use asking::numerals::natural_in;
 use asking::words::{line_of, word_from};
 use machine::Ran;
 use showing::system::System;
@@ -101,7 +101,7 @@ fn tried(
 
 // The word that a text spells; 0 where it spells none.
 fn word_in(text: &[u8]) -> u32 {
-    let Natural::Is(v) = natural_in(text) else {
+    let Some(v) = natural_in(text) else {
         return 0;
     };
     if 4294967295 < v {

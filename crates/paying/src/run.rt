@@ -6,7 +6,7 @@ ghost use Rattle.paying.specs.Running.{of_finish, RanAs, RunStatus};
 
 use answers::{Stop, Verdict};
 use asking::options::next_operand;
-use asking::sizes::{Asked, Sizes, sizes_of};
+use asking::sizes::{Sizes, sizes_of};
 use asking::words::{has_word, is_plain};
 use desk::files::{is_standard, load};
 use desk::given::put_input;
@@ -300,7 +300,7 @@ fn how_of(line: &[u8]) -> How {
 pub fn obey(system: &System, line: &[u8], at: usize) -> u8
     ensures { result ≤ nothing }
 {
-    let Asked::Are(sizes) = sizes_of(line, at) else {
+    let Some(sizes) = sizes_of(line, at) else {
         return status::NOTHING;
     };
     let w = next_operand(line, at);

@@ -10,4 +10,4 @@ returns-in_default c = sym (ap had (sym c.sizes_of.ensures ∙ c.in_default.is))
 
 pub returns : goal.returns
 unfolding sized
-returns c = sym (ap had (sym c.sizes_of.ensures ∙ c.in-Are.is))
+returns c = sym (ap had (sym c.sizes_of.ensures ∙ c.in-Some.is))
