@@ -20,7 +20,7 @@ use Rattle.grammar.specs.declared.Fault.{Fault}
 use Rattle.grammar.specs.declared.Read.{Read}
 use Rattle.grammar.specs.model.Parsing.{Parsed, read_to, fault_at}
 use Rattle.grammar.specs.model.Text.{kind_at}
-use Rattle.syntax.specs.model.Says.{left, behind, Put, Got, SaysWith, Says, Limits}
+use Rattle.syntax.specs.model.Says.{left, behind, Stands, Lacks, Put, Got, SaysWith, Says, Limits}
 use Rattle.grammar.specs.declared.Level.{Level}
 use Rattle.grammar.proofs.Outcomes.{read_fault, same_next, same_used, same_answer, same_at}
 use Rattle.grammar.proofs.Sets.{subset, subset_in, disjoint, apart}
@@ -135,6 +135,12 @@ module _ {ks : List ℕ} {d B : ℕ} {F : List ℕ} where
 
   pub s_no : {old new : List ℕ} {is : List Item} {k : ℕ} {ms : Marks (sy k ∷ is)} {i a : ℕ} → (kind_at ks i ≡ k → ⊥) → SaysWith ks old new d B F ms i a (fault_at (answer 5) i)
   s_no h = says_bad (sy_no h)
+
+  pub s_stands : {old new : List ℕ} {is : List Item} {ms : Marks is} {k i j a : ℕ} {r : Parsed} → Stands ks i k j → SaysWith ks old new d B F ms j a r → SaysWith ks old new d B F (past {x = sy k} ms) i a r
+  s_stands {old} {new} {ms = ms} {a = a} {r = r} h s = s_sy h.found (subst (λ (x : ℕ). SaysWith ks old new d B F ms x a r) h.next s)
+
+  pub s_lacks : {old new : List ℕ} {is : List Item} {k : ℕ} {ms : Marks (sy k ∷ is)} {i a : ℕ} {f : Fault} → Lacks ks i k f → SaysWith ks old new d B F ms i a (Err f)
+  s_lacks {old} {new} {ms = ms} {i = i} {a = a} h = subst (λ (x : Fault). SaysWith ks old new d B F ms i a (Err x)) (sym h.fault) (s_no h.other)
 
   pub s_put : {old mid new : List ℕ} {is : List Item} {ms : Marks is} {n : Node} {i a c s x y : ℕ} {r : Parsed} → Put old mid a c n.kind s x y → s ≡ word n.symbol d B i → x ≡ word n.one d B i → y ≡ word n.two d B i
       → SaysWith ks mid new d B F ms i c r → SaysWith ks old new d B F (put n ms) i a r

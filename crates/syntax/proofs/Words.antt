@@ -1,17 +1,21 @@
--- The words of the nodes: one node written, and words set to zero.
+-- The words of the nodes: what stands there where the words from a place on are zero.
 use mathlib.Core.Path.{◌≡◌, refl, sym, ap, ◌∙◌}
 use mathlib.Core.List.{List, [], ◌∷◌, ◌++◌, append-nil, append_assoc}
 use Prim.Native.Nat.{ℕ, zero, suc, ◌+◌, ◌-◌, ◌<◌, ◌≤◌}
 use native.Mathlib.Omega.{arith}
 use native.Mathlib.Decide.{dec_le}
-use lib.ListN.{length, take, set, length-set}
+use lib.ListN.{length, take, drop, set, replicate, length-set, length-drop}
 use lib.Seq.{take_all}
+use Rattle.std.proofs.lemmas.List.{drop_all, take_more_set}
 use Rattle.grammar.specs.model.Parsing.{zeros}
-use Rattle.grammar.proofs.FourWords.{front, written}
-use Rattle.syntax.specs.model.Says.{Put}
 
-pub put_is : (old : List ℕ) (a k s x y : ℕ) → a + 4 ≤ length old → Put old (set (set (set (set old a k) (a + 1) s) (a + 2) x) (a + 3) y) a (a + 4) k s x y
-put_is old a k s x y l = record { next = refl; wrote = written old a k s x y l }
+pub zeros_behind : (old : List ℕ) (from : ℕ) {mid : List ℕ} → mid ≡ replicate (length (take (length old - from) (drop from old))) 0
+    → take from old ++ (mid ++ drop (length old - from) (drop from old)) ≡ take from old ++ zeros (length old - from)
+unfolding zeros
+zeros_behind old from {mid} e =
+    let l : length (drop from old) ≤ length old - from = omega (arith, length-drop from old) in
+    let n : length (take (length old - from) (drop from old)) ≡ length old - from = ap length (take_all (length old - from) (drop from old) l) ∙ length-drop from old in
+    rw (drop_all (length old - from) (drop from old) l, append-nil mid, e, n)
 
 -- from `from` to i all is zero
 pub record Cleared (old new : List ℕ) (from i : ℕ) : Type 0 where
@@ -38,7 +42,7 @@ one_more {old} {new} {from} {i} c l =
       size = length-set new i 0 ∙ c.size;
       upper = λ q. omega (arith, c.size);
       over = λ q. absurd (omega (arith, c.size, c.on));
-      words = front new i (i + 1) 0 refl l ∙ ap (λ (x : List ℕ). x ++ (0 ∷ [])) c.words ∙ append_assoc (take from old) (zeros (i - from)) (0 ∷ []) ∙ rw z (ap (λ (x : List ℕ). take from old ++ x) (sym (zeros_more (i - from))));
+      words = take_more_set new i 0 l ∙ ap (λ (x : List ℕ). x ++ (0 ∷ [])) c.words ∙ append_assoc (take from old) (zeros (i - from)) (0 ∷ []) ∙ rw z (ap (λ (x : List ℕ). take from old ++ x) (sym (zeros_more (i - from))));
     }
 
 pub all_clear : {old new : List ℕ} {from i : ℕ} → Cleared old new from i → length new ≤ i → new ≡ take from old ++ zeros (length old - from)

@@ -5,11 +5,10 @@ ghost use Rattle.grammar.specs.model.Text.{text};
 ghost use Rattle.syntax.specs.model.Says.{Room, Behind, Tells, TellsOf, TellsMarked};
 
 use crate::expressions::{actuals, expression};
-use crate::text::peek;
+use crate::text::{expect, peek};
 use crate::writing::put;
-use answers::Answer;
-use grammar::{Fault, Parsed, Read, Use, nodes};
-use symbols::Symbol;
+use grammar::{Parsed, Read, Use, nodes};
+use symbols::{Symbol, kinds};
 
 // An assignment or a procedure statement, behind the name that begins it.
 pub fn named(kinds: &[u8], name: usize, depth: u16, nodes: &mut [u16], free: usize) -> Parsed
@@ -86,25 +85,10 @@ pub fn for_clause(kinds: &[u8], pos: usize, depth: u16, nodes: &mut [u16], free:
     requires { Room (text kinds.now) nodes.old pos free }
     ensures { Tells (text kinds.now) nodes.old nodes.new depth (part a_for_clause ∷ []) pos free result }
 {
-    match peek(kinds, pos) {
-        Symbol::For => {
-            let name = pos + 1;
-            match peek(kinds, name) {
-                Symbol::Name => {
-                    let controlled = put(nodes, free, nodes::FOR, name, depth, 0);
-                    elements(kinds, name + 1, depth, nodes, controlled)
-                }
-                _ => Err(Fault {
-                    answer: Answer::GRAMMAR,
-                    at: name,
-                }),
-            }
-        }
-        _ => Err(Fault {
-            answer: Answer::GRAMMAR,
-            at: pos,
-        }),
-    }
+    let name = expect(kinds, pos, kinds::FOR)?;
+    let next = expect(kinds, name, kinds::NAME)?;
+    let controlled = put(nodes, free, nodes::FOR, name, depth, 0);
+    elements(kinds, next, depth, nodes, controlled)
 }
 
 // From the `:=` of a for clause to its 'do'.
@@ -112,29 +96,12 @@ fn elements(kinds: &[u8], pos: usize, depth: u16, nodes: &mut [u16], free: usize
     requires { Room (text kinds.now) nodes.old pos free }
     ensures { Tells (text kinds.now) nodes.old nodes.new depth (part the_elements ∷ []) pos free result }
 {
-    match peek(kinds, pos) {
-        Symbol::Becomes => {
-            let Read { next, used } = element(kinds, pos + 1, depth, nodes, free)?;
-            let Read { next, used } = further(kinds, next, depth, nodes, used)?;
-            match peek(kinds, next) {
-                Symbol::Do => {
-                    let end = put(nodes, used, nodes::DO, 0, 0, 0);
-                    Ok(Read {
-                        next: next + 1,
-                        used: end,
-                    })
-                }
-                _ => Err(Fault {
-                    answer: Answer::GRAMMAR,
-                    at: next,
-                }),
-            }
-        }
-        _ => Err(Fault {
-            answer: Answer::GRAMMAR,
-            at: pos,
-        }),
-    }
+    let next = expect(kinds, pos, kinds::BECOMES)?;
+    let Read { next, used } = element(kinds, next, depth, nodes, free)?;
+    let Read { next, used } = further(kinds, next, depth, nodes, used)?;
+    let next = expect(kinds, next, kinds::DO)?;
+    let end = put(nodes, used, nodes::DO, 0, 0, 0);
+    Ok(Read { next, used: end })
 }
 
 // Further elements, each behind a comma.
@@ -189,23 +156,11 @@ fn stepping(kinds: &[u8], pos: usize, depth: u16, nodes: &mut [u16], free: usize
     requires { Room (text kinds.now) nodes.old pos free }
     ensures { Tells (text kinds.now) nodes.old nodes.new depth (part a_stepping ∷ []) pos free result }
 {
-    match peek(kinds, pos) {
-        Symbol::Step => {
-            let begun = put(nodes, free, nodes::STEP, pos, 0, 0);
-            let Read { next, used } = amount(kinds, pos + 1, depth, nodes, begun)?;
-            match peek(kinds, next) {
-                Symbol::Until => amount(kinds, next + 1, depth, nodes, used),
-                _ => Err(Fault {
-                    answer: Answer::GRAMMAR,
-                    at: next,
-                }),
-            }
-        }
-        _ => Err(Fault {
-            answer: Answer::GRAMMAR,
-            at: pos,
-        }),
-    }
+    let next = expect(kinds, pos, kinds::STEP)?;
+    let begun = put(nodes, free, nodes::STEP, pos, 0, 0);
+    let Read { next, used } = amount(kinds, next, depth, nodes, begun)?;
+    let next = expect(kinds, next, kinds::UNTIL)?;
+    amount(kinds, next, depth, nodes, used)
 }
 
 // The step or the bound.

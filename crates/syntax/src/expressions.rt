@@ -10,11 +10,11 @@ ghost use Rattle.syntax.specs.model.Says.{Room, Behind, Tells, TellsOf};
 
 use crate::limits;
 use crate::operators::{operator, relational};
-use crate::text::peek;
+use crate::text::{expect, peek};
 use crate::writing::put;
 use answers::Answer;
 use grammar::{Fault, Level, Parsed, Read, Use, nodes};
-use symbols::Symbol;
+use symbols::{Symbol, kinds};
 
 #[cycle(expressions)]
 pub fn expression(kinds: &[u8], pos: usize, depth: u16, nodes: &mut [u16], free: usize) -> Parsed
@@ -34,17 +34,10 @@ fn condition(kinds: &[u8], pos: usize, depth: u16, nodes: &mut [u16], free: usiz
     ensures { TellsOf (text kinds.now) nodes.old nodes.new depth a_condition pos free result }
 {
     let Read { next, used } = nested(kinds, pos + 1, depth, nodes, free)?;
-    match peek(kinds, next) {
-        Symbol::Then => {
-            let then = put(nodes, used, nodes::THEN, pos, 0, 0);
-            let Read { next, used } = nested_simple(kinds, next + 1, depth, nodes, then)?;
-            otherwise(kinds, next, depth, nodes, used)
-        }
-        _ => Err(Fault {
-            answer: Answer::GRAMMAR,
-            at: next,
-        }),
-    }
+    let next = expect(kinds, next, kinds::THEN)?;
+    let then = put(nodes, used, nodes::THEN, pos, 0, 0);
+    let Read { next, used } = nested_simple(kinds, next, depth, nodes, then)?;
+    otherwise(kinds, next, depth, nodes, used)
 }
 
 // The 'else' part of a conditional expression.
@@ -53,18 +46,11 @@ fn otherwise(kinds: &[u8], pos: usize, depth: u16, nodes: &mut [u16], free: usiz
     requires { Room (text kinds.now) nodes.old pos free }
     ensures { Tells (text kinds.now) nodes.old nodes.new depth (part an_otherwise ∷ []) pos free result }
 {
-    match peek(kinds, pos) {
-        Symbol::Else => {
-            let otherwise = put(nodes, free, nodes::ELSE, 0, 0, 0);
-            let Read { next, used } = nested(kinds, pos + 1, depth, nodes, otherwise)?;
-            let end = put(nodes, used, nodes::CONDITION_END, pos, 0, 0);
-            Ok(Read { next, used: end })
-        }
-        _ => Err(Fault {
-            answer: Answer::GRAMMAR,
-            at: pos,
-        }),
-    }
+    let next = expect(kinds, pos, kinds::ELSE)?;
+    let otherwise = put(nodes, free, nodes::ELSE, 0, 0, 0);
+    let Read { next, used } = nested(kinds, next, depth, nodes, otherwise)?;
+    let end = put(nodes, used, nodes::CONDITION_END, pos, 0, 0);
+    Ok(Read { next, used: end })
 }
 
 // An expression one level deeper.
@@ -222,16 +208,8 @@ fn primary(kinds: &[u8], pos: usize, depth: u16, nodes: &mut [u16], free: usize)
         Symbol::Name => actuals(kinds, pos, depth, nodes, free, Use::AsPrimary),
         Symbol::Open => {
             let Read { next, used } = nested(kinds, pos + 1, depth, nodes, free)?;
-            match peek(kinds, next) {
-                Symbol::Close => Ok(Read {
-                    next: next + 1,
-                    used,
-                }),
-                _ => Err(Fault {
-                    answer: Answer::GRAMMAR,
-                    at: next,
-                }),
-            }
+            let next = expect(kinds, next, kinds::CLOSE)?;
+            Ok(Read { next, used })
         }
         Symbol::Decimal(_) => {
             let end = put(nodes, free, nodes::DECIMAL, pos, 0, 0);
@@ -276,19 +254,9 @@ pub fn actuals(
             let call = put(nodes, free, nodes::CALL, name, depth, n);
             let Read { next, used } = actual(kinds, open + 1, depth, nodes, call)?;
             let Read { next, used } = further_actuals(kinds, next, depth, nodes, used)?;
-            match peek(kinds, next) {
-                Symbol::Close => {
-                    let end = put(nodes, used, nodes::CALL_END, name, 0, n);
-                    Ok(Read {
-                        next: next + 1,
-                        used: end,
-                    })
-                }
-                _ => Err(Fault {
-                    answer: Answer::GRAMMAR,
-                    at: next,
-                }),
-            }
+            let next = expect(kinds, next, kinds::CLOSE)?;
+            let end = put(nodes, used, nodes::CALL_END, name, 0, n);
+            Ok(Read { next, used: end })
         }
         _ => {
             let end = put(nodes, free, nodes::USE, name, depth, n);

@@ -7,12 +7,11 @@ ghost use Rattle.symbols.specs.declared.Symbol.TheVariants.{Colon};
 ghost use Rattle.grammar.specs.model.Text.{text};
 ghost use Rattle.syntax.specs.model.Says.{Room, TellsAll};
 
-use crate::text::peek;
+use crate::text::{expect, peek};
 use crate::writing::put;
 use answers::Answer;
 use grammar::{Entry, Fault, Parsed, Read, nodes};
-use symbols::Symbol;
-use symbols::kinds::store;
+use symbols::{Symbol, kinds};
 
 // 'integer', 'Boolean' or 'real'.
 pub fn type_symbol(kinds: &[u8], pos: usize, nodes: &mut [u16], free: usize) -> Parsed
@@ -64,19 +63,11 @@ pub fn list(kinds: &[u8], pos: usize, nodes: &mut [u16], free: usize, e: Entry) 
     requires { Room (text kinds.now) nodes.old pos free }
     ensures { TellsAll (text kinds.now) nodes.old nodes.new (part (a_list e) ∷ []) pos free result }
 {
-    match peek(kinds, pos) {
-        Symbol::Name => {
-            let used = put(nodes, free, entry_node(e), pos, 0, 0);
-            let next = pos + 1;
-            match peek(kinds, next) {
-                Symbol::Comma => list(kinds, next + 1, nodes, used, e),
-                _ => Ok(Read { next, used }),
-            }
-        }
-        _ => Err(Fault {
-            answer: Answer::GRAMMAR,
-            at: pos,
-        }),
+    let next = expect(kinds, pos, kinds::NAME)?;
+    let used = put(nodes, free, entry_node(e), pos, 0, 0);
+    match peek(kinds, next) {
+        Symbol::Comma => list(kinds, next + 1, nodes, used, e),
+        _ => Ok(Read { next, used }),
     }
 }
 
@@ -86,18 +77,8 @@ fn list_to(kinds: &[u8], pos: usize, nodes: &mut [u16], free: usize, e: Entry, l
     ensures { TellsAll (text kinds.now) nodes.old nodes.new (part (a_list e) ∷ sy last ∷ []) pos free result }
 {
     let Read { next, used } = list(kinds, pos, nodes, free, e)?;
-    let found = store(peek(kinds, next));
-    if found.kind == last {
-        Ok(Read {
-            next: next + 1,
-            used,
-        })
-    } else {
-        Err(Fault {
-            answer: Answer::GRAMMAR,
-            at: next,
-        })
-    }
+    let next = expect(kinds, next, last)?;
+    Ok(Read { next, used })
 }
 
 // The formal parameter part.
@@ -106,14 +87,7 @@ fn formals(kinds: &[u8], pos: usize, nodes: &mut [u16], free: usize) -> Parsed
     ensures { TellsAll (text kinds.now) nodes.old nodes.new (part the_formals ∷ []) pos free result }
 {
     match peek(kinds, pos) {
-        Symbol::Open => list_to(
-            kinds,
-            pos + 1,
-            nodes,
-            free,
-            Entry::Formal,
-            symbols::kinds::CLOSE,
-        ),
+        Symbol::Open => list_to(kinds, pos + 1, nodes, free, Entry::Formal, kinds::CLOSE),
         _ => Ok(Read {
             next: pos,
             used: free,
@@ -127,14 +101,7 @@ fn values(kinds: &[u8], pos: usize, nodes: &mut [u16], free: usize) -> Parsed
     ensures { TellsAll (text kinds.now) nodes.old nodes.new (part the_values ∷ []) pos free result }
 {
     match peek(kinds, pos) {
-        Symbol::Value => list_to(
-            kinds,
-            pos + 1,
-            nodes,
-            free,
-            Entry::Valued,
-            symbols::kinds::SEMICOLON,
-        ),
+        Symbol::Value => list_to(kinds, pos + 1, nodes, free, Entry::Valued, kinds::SEMICOLON),
         _ => Ok(Read {
             next: pos,
             used: free,
@@ -151,13 +118,8 @@ fn specifications(kinds: &[u8], pos: usize, nodes: &mut [u16], free: usize) -> P
         Symbol::Integer | Symbol::Boolean | Symbol::Real => {
             let Read { next, used } = type_symbol(kinds, pos, nodes, free)?;
             let Read { next, used } = list(kinds, next, nodes, used, Entry::Specified)?;
-            match peek(kinds, next) {
-                Symbol::Semicolon => specifications(kinds, next + 1, nodes, used),
-                _ => Err(Fault {
-                    answer: Answer::GRAMMAR,
-                    at: next,
-                }),
-            }
+            let next = expect(kinds, next, kinds::SEMICOLON)?;
+            specifications(kinds, next, nodes, used)
         }
         _ => Ok(Read {
             next: pos,
@@ -171,24 +133,10 @@ pub fn heading(kinds: &[u8], pos: usize, nodes: &mut [u16], free: usize) -> Pars
     requires { Room (text kinds.now) nodes.old pos free }
     ensures { TellsAll (text kinds.now) nodes.old nodes.new (part a_heading ∷ []) pos free result }
 {
-    match peek(kinds, pos) {
-        Symbol::Name => {
-            let used = put(nodes, free, nodes::PROCEDURE, pos, 0, 0);
-            let Read { next, used } = formals(kinds, pos + 1, nodes, used)?;
-            match peek(kinds, next) {
-                Symbol::Semicolon => {
-                    let Read { next, used } = values(kinds, next + 1, nodes, used)?;
-                    specifications(kinds, next, nodes, used)
-                }
-                _ => Err(Fault {
-                    answer: Answer::GRAMMAR,
-                    at: next,
-                }),
-            }
-        }
-        _ => Err(Fault {
-            answer: Answer::GRAMMAR,
-            at: pos,
-        }),
-    }
+    let next = expect(kinds, pos, kinds::NAME)?;
+    let used = put(nodes, free, nodes::PROCEDURE, pos, 0, 0);
+    let Read { next, used } = formals(kinds, next, nodes, used)?;
+    let next = expect(kinds, next, kinds::SEMICOLON)?;
+    let Read { next, used } = values(kinds, next, nodes, used)?;
+    specifications(kinds, next, nodes, used)
 }

@@ -9,11 +9,11 @@ ghost use Rattle.syntax.specs.model.Preludes.{PreludeSays};
 
 use crate::headings::type_symbol;
 use crate::statements::procedure;
-use crate::text::peek;
+use crate::text::{expect, peek};
 use crate::writing::{clear, put};
 use answers::Answer;
 use grammar::{Fault, Parsed, Read, nodes};
-use symbols::Symbol;
+use symbols::{Symbol, kinds};
 
 // A prelude, which ends where no procedure begins; it is at depth 0, so that its bodies are at 1.
 #[cycle(prelude_procedures)]
@@ -28,13 +28,8 @@ pub fn prelude(kinds: &[u8], pos: usize, nodes: &mut [u16], free: usize) -> Pars
         }
         Symbol::Integer | Symbol::Boolean | Symbol::Real => {
             let Read { next, used } = type_symbol(kinds, pos, nodes, free)?;
-            match peek(kinds, next) {
-                Symbol::Procedure => procedures(kinds, next + 1, nodes, used),
-                _ => Err(Fault {
-                    answer: Answer::GRAMMAR,
-                    at: next,
-                }),
-            }
+            let next = expect(kinds, next, kinds::PROCEDURE)?;
+            procedures(kinds, next, nodes, used)
         }
         _ => Ok(Read {
             next: pos,
@@ -50,13 +45,8 @@ fn procedures(kinds: &[u8], pos: usize, nodes: &mut [u16], free: usize) -> Parse
     ensures { Tells (text kinds.now) nodes.old nodes.new 0 (part a_procedure ∷ the Semicolon ∷ part a_prelude ∷ []) pos free result }
 {
     let Read { next, used } = procedure(kinds, pos, 0, nodes, free)?;
-    match peek(kinds, next) {
-        Symbol::Semicolon => prelude(kinds, next + 1, nodes, used),
-        _ => Err(Fault {
-            answer: Answer::GRAMMAR,
-            at: next,
-        }),
-    }
+    let next = expect(kinds, next, kinds::SEMICOLON)?;
+    prelude(kinds, next, nodes, used)
 }
 
 // All symbols as a prelude.

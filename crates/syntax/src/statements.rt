@@ -10,11 +10,10 @@ use crate::clauses::{for_clause, named};
 use crate::expressions::expression;
 use crate::headings::{heading, list, type_symbol};
 use crate::limits;
-use crate::text::peek;
+use crate::text::{expect, peek};
 use crate::writing::put;
-use answers::Answer;
-use grammar::{Entry, Fault, Parsed, Read, nodes};
-use symbols::Symbol;
+use grammar::{Entry, Parsed, Read, nodes};
+use symbols::{Symbol, kinds};
 
 // 'begin' .. 'end'.
 #[cycle(statements)]
@@ -22,25 +21,10 @@ pub fn block(kinds: &[u8], pos: usize, depth: u16, nodes: &mut [u16], free: usiz
     requires { Room (text kinds.now) nodes.old pos free }
     ensures { Tells (text kinds.now) nodes.old nodes.new depth (part a_block ∷ []) pos free result }
 {
-    match peek(kinds, pos) {
-        Symbol::Begin => {
-            let Read { next, used } = inner(kinds, pos, depth, nodes, free)?;
-            match peek(kinds, next) {
-                Symbol::End => Ok(Read {
-                    next: next + 1,
-                    used,
-                }),
-                _ => Err(Fault {
-                    answer: Answer::GRAMMAR,
-                    at: next,
-                }),
-            }
-        }
-        _ => Err(Fault {
-            answer: Answer::GRAMMAR,
-            at: pos,
-        }),
-    }
+    expect(kinds, pos, kinds::BEGIN)?;
+    let Read { next, used } = inner(kinds, pos, depth, nodes, free)?;
+    let next = expect(kinds, next, kinds::END)?;
+    Ok(Read { next, used })
 }
 
 // What stands between 'begin' and 'end': a block if there are declarations.
@@ -69,13 +53,8 @@ fn head(kinds: &[u8], pos: usize, depth: u16, nodes: &mut [u16], free: usize) ->
     ensures { Tells (text kinds.now) nodes.old nodes.new depth (part a_head ∷ []) pos free result }
 {
     let Read { next, used } = declaration(kinds, pos, depth, nodes, free)?;
-    match peek(kinds, next) {
-        Symbol::Semicolon => declarations(kinds, next + 1, depth, nodes, used),
-        _ => Err(Fault {
-            answer: Answer::GRAMMAR,
-            at: next,
-        }),
-    }
+    let next = expect(kinds, next, kinds::SEMICOLON)?;
+    declarations(kinds, next, depth, nodes, used)
 }
 
 #[cycle(statements)]
@@ -214,18 +193,11 @@ fn conditional(
     ensures { SaysOf (text kinds.now) nodes.old nodes.new depth pos (behind ends) a_conditional pos free result }
 {
     let Read { next, used } = expression(kinds, pos + 1, depth, nodes, free)?;
-    match peek(kinds, next) {
-        Symbol::Then => {
-            let then = put(nodes, used, nodes::THEN, pos, 0, 0);
-            let Read { next, used } = consequence(kinds, next + 1, depth, nodes, then, ends)?;
-            let end = put(nodes, used, nodes::IF_END, pos, 0, 0);
-            Ok(Read { next, used: end })
-        }
-        _ => Err(Fault {
-            answer: Answer::GRAMMAR,
-            at: next,
-        }),
-    }
+    let next = expect(kinds, next, kinds::THEN)?;
+    let then = put(nodes, used, nodes::THEN, pos, 0, 0);
+    let Read { next, used } = consequence(kinds, next, depth, nodes, then, ends)?;
+    let end = put(nodes, used, nodes::IF_END, pos, 0, 0);
+    Ok(Read { next, used: end })
 }
 
 // What stands behind 'then'.

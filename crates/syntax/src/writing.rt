@@ -7,23 +7,16 @@ pub fn put(nodes: &mut [u16], used: usize, kind: u16, symbol: usize, one: u16, t
     requires { (used + 4 ≤ length nodes.old) × (symbol < 65536) }
     ensures { Put nodes.old nodes.new used result kind symbol one two }
 {
-    nodes[used] = kind;
-    let second = used + 1;
-    nodes[second] = symbol as u16;
-    let third = used + 2;
-    nodes[third] = one;
-    let fourth = used + 3;
-    nodes[fourth] = two;
-    used + 4
+    let end = used + 4;
+    nodes[used..end].copy_from_slice(&[kind, symbol as u16, one, two]);
+    end
 }
 
 // Sets the words from a place on to zero.
 pub fn clear(nodes: &mut [u16], from: usize)
     ensures { Clear nodes.old nodes.new from }
 {
-    let mut i = from;
-    while i < nodes.len() {
-        nodes[i] = 0;
-        i += 1;
+    if from < nodes.len() {
+        nodes[from..].fill(0);
     }
 }

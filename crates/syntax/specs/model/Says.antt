@@ -1,11 +1,14 @@
 -- What a reader's answer says of the relation's, and of the nodes. This serves the readers' contracts and is no part of the paper.
 use Rattle.std.specs.Prelude.{ℕ, ◌+◌, ◌*◌, ◌-◌, ◌<◌, ◌≤◌, ◌≡◌, Bool, true, false, List, [], ◌∷◌, ◌++◌, length, take}
+use Rattle.answers.specs.Answers.{answer}
+use Rattle.answers.specs.Numbers.{grammar}
 use Rattle.answers.specs.declared.Answer.{Answer}
 use Rattle.symbols.specs.Symbols.{kind}
 use Rattle.symbols.specs.declared.Symbol.TheVariants.{End, Semicolon}
 use Rattle.grammar.specs.Grammar.{Class, Item, rd, Prod}
 use Rattle.grammar.specs.Trees.{Syn, yield}
 use Rattle.grammar.specs.model.Marked.{Word, mark, Marks, end, on, put, unmarked, marks, word, nodes}
+use Rattle.grammar.specs.declared.Fault.{Fault}
 use Rattle.grammar.specs.model.Parsing.{zeros, Parsed, read_to, fault_at}
 use Rattle.grammar.specs.model.Text.{kind_at}
 use Rattle.grammar.specs.model.Run.{Run, got, bad}
@@ -27,6 +30,17 @@ pub record Behind (ks old : List ℕ) (i a : ℕ) : Type 0 where
   pub short : length ks ≤ 2048
   pub size : length old ≡ 32768
   pub room : a ≤ 12 * i
+
+-- a symbol of the kind k stands at i, and j is behind it
+pub record Stands (ks : List ℕ) (i k j : ℕ) : Type 0 where
+  pub found : kind_at ks i ≡ k
+  pub inside : i < length ks
+  pub next : j ≡ i + 1
+
+-- none of that kind stands at i, which is a fault there
+pub record Lacks (ks : List ℕ) (i k : ℕ) (f : Fault) : Type 0 where
+  pub other : kind_at ks i ≡ k → ⊥
+  pub fault : f ≡ record { answer = answer grammar; at = i }
 
 -- a node was written
 pub record Put (old new : List ℕ) (a b k s x y : ℕ) : Type 0 where

@@ -7,7 +7,7 @@ use native.Mathlib.Omega.{arith}
 use Rattle.grammar.specs.model.Tables.{choose}
 use Rattle.grammar.specs.model.Text.{text, kind_at}
 use Rattle.grammar.proofs.Peeks.{inside, is_at, is_not, but}
-use Rattle.syntax.proofs.Lemmas.{says_limit, got_of, space, s_end, s_sy, s_no, s_put, s_none, s_prod, s_part, s_bad, s_exit, s_last, s_deeper}
+use Rattle.syntax.proofs.Lemmas.{says_limit, got_of, space, s_end, s_sy, s_no, s_put, s_none, s_prod, s_part, s_bad, s_exit, s_last, s_deeper, s_stands, s_lacks}
 use Rattle.grammar.specs.Grammar as G
 use Rattle.grammar.specs.declared.Level.TheVariants as L
 use Rattle.syntax.proofs.Choices as C
@@ -37,66 +37,57 @@ actual-returns t c =
 
 pub actuals-actual-requires : goal.actuals-actual-requires
 actuals-actual-requires t c =
-    let μ = c.decreases in let r = c.requires in
+    let μ = c.decreases in
+    let r = c.requires in
     let i1 = inside _ _ (is_at c.peek.result c.peek.ensures c.in-Open.in-Open-own.keys1) (λ h. omega arith) in
     let p1 = c.put-call.ensures in let k1 = c.put-call.auto.nodes in
     (omega arith, record { inside = omega arith; short = omega arith; size = omega arith; room = omega arith })
-
-pub actuals-further_actuals-requires : goal.actuals-further_actuals-requires
-actuals-further_actuals-requires t c =
-    let μ = c.decreases in let r = c.requires in
-    let i1 = inside _ _ (is_at c.peek.result c.peek.ensures c.in-Open.in-Open-own.keys1) (λ h. omega arith) in
-    let p1 = c.put-call.ensures in let k1 = c.put-call.auto.nodes in
-    let l1 = c.actual.auto.nodes in
-    let g1 = got_of (c.in_ok-next-in-Open.ensures []) in let s1 = space g1 in
-    (omega arith, record { inside = omega arith; short = omega arith; size = omega arith; room = omega arith })
-
-pub actuals-put-end-requires : goal.actuals-put-end-requires
-actuals-put-end-requires t c =
-    let μ = c.decreases in let r = c.requires in
-    let i1 = inside _ _ (is_at c.peek.result c.peek.ensures c.in-Open.in-Open-own.keys1) (λ h. omega arith) in
-    let p1 = c.put-call.ensures in let k1 = c.put-call.auto.nodes in
-    let l1 = c.actual.auto.nodes in
-    let g1 = got_of (c.in_ok-next-in-Open.ensures []) in let s1 = space g1 in
-    let l2 = c.further_actuals.auto.nodes in
-    let g2 = got_of (c.in_ok-next-in-Open-2.ensures []) in let s2 = space g2 in
-    let i2 = inside _ _ (is_at c.peek-in-Open.result c.peek-in-Open.ensures c.in-Close.in-Close-own.keys1) (λ h. omega arith) in
-    (omega arith, omega arith)
-
-pub actuals-overflow_add-result : goal.actuals-overflow_add-result
-actuals-overflow_add-result t c =
-    let μ = c.decreases in let r = c.requires in
-    let i1 = inside _ _ (is_at c.peek.result c.peek.ensures c.in-Open.in-Open-own.keys1) (λ h. omega arith) in
-    let p1 = c.put-call.ensures in let k1 = c.put-call.auto.nodes in
-    let l1 = c.actual.auto.nodes in
-    let g1 = got_of (c.in_ok-next-in-Open.ensures []) in let s1 = space g1 in
-    let l2 = c.further_actuals.auto.nodes in
-    let g2 = got_of (c.in_ok-next-in-Open-2.ensures []) in let s2 = space g2 in
-    let i2 = inside _ _ (is_at c.peek-in-Open.result c.peek-in-Open.ensures c.in-Close.in-Close-own.keys1) (λ h. omega arith) in
-    let p2 = c.put-end.ensures in let k2 = c.put-end.auto.nodes in
-    omega arith
 
 pub actuals-returns-in_err-next-in-Open : goal.actuals-returns-in_err-next-in-Open
 actuals-returns-in_err-next-in-Open t c = λ F. s_exit c.from_residual.ensures.1 (s_prod (G.with c.args.u) (ap (λ (z : ℕ). choose (G.actuals c.args.u) z 0) (is_at c.peek.result c.peek.ensures c.in-Open.in-Open-own.keys1)) (s_put c.put-call.ensures (omega arith) (omega arith) c.use_number-n.ensures (s_sy (is_at c.peek.result c.peek.ensures c.in-Open.in-Open-own.keys1) (s_bad _ (c.in_err-next-in-Open.ensures _)))))
 
+pub actuals-further_actuals-requires : goal.actuals-further_actuals-requires
+actuals-further_actuals-requires t c =
+    let μ = c.decreases in
+    let r = c.requires in
+    let i1 = inside _ _ (is_at c.peek.result c.peek.ensures c.in-Open.in-Open-own.keys1) (λ h. omega arith) in
+    let p1 = c.put-call.ensures in let k1 = c.put-call.auto.nodes in
+    let l1 = c.actual.auto.nodes in
+    let g1 = got_of (c.in_ok-next-in-Open.ensures []) in let s1 = space g1 in
+    (omega arith, record { inside = omega arith; short = omega arith; size = omega arith; room = omega arith })
+
 pub actuals-returns-in_err-next-in-Open-2 : goal.actuals-returns-in_err-next-in-Open-2
 actuals-returns-in_err-next-in-Open-2 t c = λ F. s_exit c.from_residual-in_err-next-in-Open-2.ensures.1 (s_prod (G.with c.args.u) (ap (λ (z : ℕ). choose (G.actuals c.args.u) z 0) (is_at c.peek.result c.peek.ensures c.in-Open.in-Open-own.keys1)) (s_put c.put-call.ensures (omega arith) (omega arith) c.use_number-n.ensures (s_sy (is_at c.peek.result c.peek.ensures c.in-Open.in-Open-own.keys1) (s_part _ (c.in_ok-next-in-Open.ensures _) (s_bad _ (c.in_err-next-in-Open-2.ensures _))))))
 
-pub actuals-returns-in-Close : goal.actuals-returns-in-Close
-actuals-returns-in-Close t c =
-    let μ = c.decreases in let r = c.requires in
+pub actuals-returns-in_err-next-in-Open-3 : goal.actuals-returns-in_err-next-in-Open-3
+actuals-returns-in_err-next-in-Open-3 t c = λ F. s_exit c.from_residual-in_err-next-in-Open-3.ensures.1 (s_prod (G.with c.args.u) (ap (λ (z : ℕ). choose (G.actuals c.args.u) z 0) (is_at c.peek.result c.peek.ensures c.in-Open.in-Open-own.keys1)) (s_put c.put-call.ensures (omega arith) (omega arith) c.use_number-n.ensures (s_sy (is_at c.peek.result c.peek.ensures c.in-Open.in-Open-own.keys1) (s_part _ (c.in_ok-next-in-Open.ensures _) (s_part _ (c.in_ok-next-in-Open-2.ensures _) (s_lacks c.in_err-next-in-Open-3.ensures))))))
+
+pub actuals-put-end-requires : goal.actuals-put-end-requires
+actuals-put-end-requires t c =
+    let μ = c.decreases in
+    let r = c.requires in
     let i1 = inside _ _ (is_at c.peek.result c.peek.ensures c.in-Open.in-Open-own.keys1) (λ h. omega arith) in
     let p1 = c.put-call.ensures in let k1 = c.put-call.auto.nodes in
     let l1 = c.actual.auto.nodes in
     let g1 = got_of (c.in_ok-next-in-Open.ensures []) in let s1 = space g1 in
     let l2 = c.further_actuals.auto.nodes in
     let g2 = got_of (c.in_ok-next-in-Open-2.ensures []) in let s2 = space g2 in
-    let i2 = inside _ _ (is_at c.peek-in-Open.result c.peek-in-Open.ensures c.in-Close.in-Close-own.keys1) (λ h. omega arith) in
-    let p2 = c.put-end.ensures in let k2 = c.put-end.auto.nodes in
-    λ F. s_prod (G.with c.args.u) (ap (λ (z : ℕ). choose (G.actuals c.args.u) z 0) (is_at c.peek.result c.peek.ensures c.in-Open.in-Open-own.keys1)) (s_put c.put-call.ensures (omega arith) (omega arith) c.use_number-n.ensures (s_sy (is_at c.peek.result c.peek.ensures c.in-Open.in-Open-own.keys1) (s_part _ (c.in_ok-next-in-Open.ensures _) (s_part _ (c.in_ok-next-in-Open-2.ensures _) (s_sy (is_at c.peek-in-Open.result c.peek-in-Open.ensures c.in-Close.in-Close-own.keys1) (s_put c.put-end.ensures (omega arith) (omega arith) c.use_number-n.ensures (s_end (omega arith))))))))
+    let h1 = c.in_ok-next-in-Open-3.ensures in
+    (omega arith, omega arith)
 
-pub actuals-returns-in_default-peek : goal.actuals-returns-in_default-peek
-actuals-returns-in_default-peek t c = λ F. s_prod (G.with c.args.u) (ap (λ (z : ℕ). choose (G.actuals c.args.u) z 0) (is_at c.peek.result c.peek.ensures c.in-Open.in-Open-own.keys1)) (s_put c.put-call.ensures (omega arith) (omega arith) c.use_number-n.ensures (s_sy (is_at c.peek.result c.peek.ensures c.in-Open.in-Open-own.keys1) (s_part _ (c.in_ok-next-in-Open.ensures _) (s_part _ (c.in_ok-next-in-Open-2.ensures _) (s_no (is_not c.peek-in-Open.result c.peek-in-Open.ensures (but (37 ∷ [])) 37 refl (opened c.in_default-peek.in_default-peek-own.keys2)))))))
+pub actuals-returns-in_ok-next-in-Open-3 : goal.actuals-returns-in_ok-next-in-Open-3
+actuals-returns-in_ok-next-in-Open-3 t c =
+    let μ = c.decreases in
+    let r = c.requires in
+    let i1 = inside _ _ (is_at c.peek.result c.peek.ensures c.in-Open.in-Open-own.keys1) (λ h. omega arith) in
+    let p1 = c.put-call.ensures in let k1 = c.put-call.auto.nodes in
+    let l1 = c.actual.auto.nodes in
+    let g1 = got_of (c.in_ok-next-in-Open.ensures []) in let s1 = space g1 in
+    let l2 = c.further_actuals.auto.nodes in
+    let g2 = got_of (c.in_ok-next-in-Open-2.ensures []) in let s2 = space g2 in
+    let h1 = c.in_ok-next-in-Open-3.ensures in
+    let p2 = c.put-end.ensures in let k2 = c.put-end.auto.nodes in
+    λ F. s_prod (G.with c.args.u) (ap (λ (z : ℕ). choose (G.actuals c.args.u) z 0) (is_at c.peek.result c.peek.ensures c.in-Open.in-Open-own.keys1)) (s_put c.put-call.ensures (omega arith) (omega arith) c.use_number-n.ensures (s_sy (is_at c.peek.result c.peek.ensures c.in-Open.in-Open-own.keys1) (s_part _ (c.in_ok-next-in-Open.ensures _) (s_part _ (c.in_ok-next-in-Open-2.ensures _) (s_stands c.in_ok-next-in-Open-3.ensures (s_put c.put-end.ensures (omega arith) (omega arith) c.use_number-n.ensures (s_end (omega arith))))))))
 
 pub actuals-returns-in_default : goal.actuals-returns-in_default
 actuals-returns-in_default t c =
@@ -163,6 +154,12 @@ condition-nested-requires t c =
     let r = c.requires.0 in
     (omega arith, record { inside = omega arith; short = omega arith; size = omega arith; room = omega arith })
 
+pub condition-returns-in_err-next : goal.condition-returns-in_err-next
+condition-returns-in_err-next t c = λ F. s_exit c.from_residual.ensures.1 (s_sy c.requires.1 (s_bad _ (c.in_err-next.ensures _)))
+
+pub condition-returns-in_err-next-2 : goal.condition-returns-in_err-next-2
+condition-returns-in_err-next-2 t c = λ F. s_exit c.from_residual-in_err-next-2.ensures.1 (s_sy c.requires.1 (s_part _ (c.in_ok-next.ensures _) (s_lacks c.in_err-next-2.ensures)))
+
 pub condition-put-then-requires : goal.condition-put-then-requires
 condition-put-then-requires t c =
     let μ = c.decreases in
@@ -170,19 +167,8 @@ condition-put-then-requires t c =
     let r = c.requires.0 in
     let l1 = c.nested.auto.nodes in
     let g1 = got_of (c.in_ok-next.ensures []) in let s1 = space g1 in
-    let i1 = inside _ _ (is_at c.peek.result c.peek.ensures c.in-Then.in-Then-own.keys1) (λ h. omega arith) in
+    let h1 = c.in_ok-next-2.ensures in
     (omega arith, omega arith)
-
-pub condition-overflow_add-next : goal.condition-overflow_add-next
-condition-overflow_add-next t c =
-    let μ = c.decreases in
-    let i0 = inside _ _ c.requires.1 (λ h. omega arith) in
-    let r = c.requires.0 in
-    let l1 = c.nested.auto.nodes in
-    let g1 = got_of (c.in_ok-next.ensures []) in let s1 = space g1 in
-    let i1 = inside _ _ (is_at c.peek.result c.peek.ensures c.in-Then.in-Then-own.keys1) (λ h. omega arith) in
-    let p1 = c.put-then.ensures in let k1 = c.put-then.auto.nodes in
-    omega arith
 
 pub condition-nested_simple-requires : goal.condition-nested_simple-requires
 condition-nested_simple-requires t c =
@@ -191,9 +177,12 @@ condition-nested_simple-requires t c =
     let r = c.requires.0 in
     let l1 = c.nested.auto.nodes in
     let g1 = got_of (c.in_ok-next.ensures []) in let s1 = space g1 in
-    let i1 = inside _ _ (is_at c.peek.result c.peek.ensures c.in-Then.in-Then-own.keys1) (λ h. omega arith) in
+    let h1 = c.in_ok-next-2.ensures in
     let p1 = c.put-then.ensures in let k1 = c.put-then.auto.nodes in
     (omega arith, record { inside = omega arith; short = omega arith; size = omega arith; room = omega arith })
+
+pub condition-returns-in_err-next-3 : goal.condition-returns-in_err-next-3
+condition-returns-in_err-next-3 t c = let h1 = c.in_ok-next-2.ensures in λ F. s_exit c.from_residual-in_err-next-3.ensures.1 (s_sy c.requires.1 (s_part _ (c.in_ok-next.ensures _) (s_stands c.in_ok-next-2.ensures (s_put c.put-then.ensures (omega arith) (omega arith) (omega arith) (s_bad _ (c.in_err-next-3.ensures _))))))
 
 pub condition-otherwise-requires : goal.condition-otherwise-requires
 condition-otherwise-requires t c =
@@ -202,23 +191,14 @@ condition-otherwise-requires t c =
     let r = c.requires.0 in
     let l1 = c.nested.auto.nodes in
     let g1 = got_of (c.in_ok-next.ensures []) in let s1 = space g1 in
-    let i1 = inside _ _ (is_at c.peek.result c.peek.ensures c.in-Then.in-Then-own.keys1) (λ h. omega arith) in
+    let h1 = c.in_ok-next-2.ensures in
     let p1 = c.put-then.ensures in let k1 = c.put-then.auto.nodes in
     let l2 = c.nested_simple.auto.nodes in
-    let g2 = got_of (c.in_ok-next-in-Then.ensures []) in let s2 = space g2 in
+    let g2 = got_of (c.in_ok-next-3.ensures []) in let s2 = space g2 in
     (omega arith, record { inside = omega arith; short = omega arith; size = omega arith; room = omega arith })
 
-pub condition-returns-in_err-next : goal.condition-returns-in_err-next
-condition-returns-in_err-next t c = λ F. s_exit c.from_residual.ensures.1 (s_sy c.requires.1 (s_bad _ (c.in_err-next.ensures _)))
-
-pub condition-returns-in_err-next-in-Then : goal.condition-returns-in_err-next-in-Then
-condition-returns-in_err-next-in-Then t c = λ F. s_exit c.from_residual-in_err-next-in-Then.ensures.1 (s_sy c.requires.1 (s_part _ (c.in_ok-next.ensures _) (s_sy (is_at c.peek.result c.peek.ensures c.in-Then.in-Then-own.keys1) (s_put c.put-then.ensures (omega arith) (omega arith) (omega arith) (s_bad _ (c.in_err-next-in-Then.ensures _))))))
-
-pub condition-returns-in_ok-next-in-Then : goal.condition-returns-in_ok-next-in-Then
-condition-returns-in_ok-next-in-Then t c = λ F. s_sy c.requires.1 (s_part _ (c.in_ok-next.ensures _) (s_sy (is_at c.peek.result c.peek.ensures c.in-Then.in-Then-own.keys1) (s_put c.put-then.ensures (omega arith) (omega arith) (omega arith) (s_part _ (c.in_ok-next-in-Then.ensures _) (s_last (c.otherwise.ensures _))))))
-
-pub condition-returns-in_default : goal.condition-returns-in_default
-condition-returns-in_default t c = λ F. s_sy c.requires.1 (s_part _ (c.in_ok-next.ensures _) (s_no (is_not c.peek.result c.peek.ensures (but (3 ∷ [])) 3 refl (opened c.in_default.in_default-own.keys2))))
+pub condition-returns : goal.condition-returns
+condition-returns t c = let h1 = c.in_ok-next-2.ensures in λ F. s_sy c.requires.1 (s_part _ (c.in_ok-next.ensures _) (s_stands c.in_ok-next-2.ensures (s_put c.put-then.ensures (omega arith) (omega arith) (omega arith) (s_part _ (c.in_ok-next-3.ensures _) (s_last (c.otherwise.ensures _))))))
 
 pub expression-returns-in-If : goal.expression-returns-in-If
 expression-returns-in-If t c = λ F. s_prod G.a_condition (ap (λ (z : ℕ). choose G.expression z 0) (is_at c.peek.result c.peek.ensures c.in-If.in-If-own.keys1)) (c.condition.ensures F)
@@ -353,37 +333,47 @@ operand-returns-in-Implication t c = λ F. s_operand c.in-Implication.is (s_prod
 pub operand-returns-in-Equivalence : goal.operand-returns-in-Equivalence
 operand-returns-in-Equivalence t c = λ F. s_operand c.in-Equivalence.is (s_prod (G.chain L.Implication) refl (c.chain-in-Equivalence.ensures F))
 
+pub otherwise-returns-in_err-next : goal.otherwise-returns-in_err-next
+otherwise-returns-in_err-next t c = λ F. s_exit c.from_residual.ensures.1 (s_prod G.an_otherwise refl (s_lacks c.in_err-next.ensures))
+
+pub otherwise-put-otherwise-requires : goal.otherwise-put-otherwise-requires
+otherwise-put-otherwise-requires t c =
+    let μ = c.decreases in
+    let r = c.requires in
+    let h1 = c.in_ok-next.ensures in
+    (omega arith, omega arith)
+
 pub otherwise-nested-requires : goal.otherwise-nested-requires
 otherwise-nested-requires t c =
-    let μ = c.decreases in let r = c.requires in
-    let i1 = inside _ _ (is_at c.peek.result c.peek.ensures c.in-Else.in-Else-own.keys1) (λ h. omega arith) in
+    let μ = c.decreases in
+    let r = c.requires in
+    let h1 = c.in_ok-next.ensures in
     let p1 = c.put-otherwise.ensures in let k1 = c.put-otherwise.auto.nodes in
     (omega arith, record { inside = omega arith; short = omega arith; size = omega arith; room = omega arith })
 
+pub otherwise-returns-in_err-next-2 : goal.otherwise-returns-in_err-next-2
+otherwise-returns-in_err-next-2 t c = let h1 = c.in_ok-next.ensures in λ F. s_exit c.from_residual-in_err-next-2.ensures.1 (s_prod G.an_otherwise refl (s_stands c.in_ok-next.ensures (s_put c.put-otherwise.ensures (omega arith) (omega arith) (omega arith) (s_bad _ (c.in_err-next-2.ensures _)))))
+
 pub otherwise-put-end-requires : goal.otherwise-put-end-requires
 otherwise-put-end-requires t c =
-    let μ = c.decreases in let r = c.requires in
-    let i1 = inside _ _ (is_at c.peek.result c.peek.ensures c.in-Else.in-Else-own.keys1) (λ h. omega arith) in
+    let μ = c.decreases in
+    let r = c.requires in
+    let h1 = c.in_ok-next.ensures in
     let p1 = c.put-otherwise.ensures in let k1 = c.put-otherwise.auto.nodes in
     let l1 = c.nested.auto.nodes in
-    let g1 = got_of (c.in_ok-next-in-Else.ensures []) in let s1 = space g1 in
+    let g1 = got_of (c.in_ok-next-2.ensures []) in let s1 = space g1 in
     (omega arith, omega arith)
 
-pub otherwise-returns-in_err-next-in-Else : goal.otherwise-returns-in_err-next-in-Else
-otherwise-returns-in_err-next-in-Else t c = λ F. s_exit c.from_residual.ensures.1 (s_prod G.an_otherwise refl (s_sy (is_at c.peek.result c.peek.ensures c.in-Else.in-Else-own.keys1) (s_put c.put-otherwise.ensures (omega arith) (omega arith) (omega arith) (s_bad _ (c.in_err-next-in-Else.ensures _)))))
-
-pub otherwise-returns-in_ok-next-in-Else : goal.otherwise-returns-in_ok-next-in-Else
-otherwise-returns-in_ok-next-in-Else t c =
-    let μ = c.decreases in let r = c.requires in
-    let i1 = inside _ _ (is_at c.peek.result c.peek.ensures c.in-Else.in-Else-own.keys1) (λ h. omega arith) in
+pub otherwise-returns : goal.otherwise-returns
+otherwise-returns t c =
+    let μ = c.decreases in
+    let r = c.requires in
+    let h1 = c.in_ok-next.ensures in
     let p1 = c.put-otherwise.ensures in let k1 = c.put-otherwise.auto.nodes in
     let l1 = c.nested.auto.nodes in
-    let g1 = got_of (c.in_ok-next-in-Else.ensures []) in let s1 = space g1 in
+    let g1 = got_of (c.in_ok-next-2.ensures []) in let s1 = space g1 in
     let p2 = c.put-end.ensures in let k2 = c.put-end.auto.nodes in
-    λ F. s_prod G.an_otherwise refl (s_sy (is_at c.peek.result c.peek.ensures c.in-Else.in-Else-own.keys1) (s_put c.put-otherwise.ensures (omega arith) (omega arith) (omega arith) (s_part _ (c.in_ok-next-in-Else.ensures _) (s_put c.put-end.ensures (omega arith) (omega arith) (omega arith) (s_end (omega arith))))))
-
-pub otherwise-returns-in_default : goal.otherwise-returns-in_default
-otherwise-returns-in_default t c = λ F. s_prod G.an_otherwise refl (s_no (is_not c.peek.result c.peek.ensures (but (4 ∷ [])) 4 refl (opened c.in_default.in_default-own.keys2)))
+    λ F. s_prod G.an_otherwise refl (s_stands c.in_ok-next.ensures (s_put c.put-otherwise.ensures (omega arith) (omega arith) (omega arith) (s_part _ (c.in_ok-next-2.ensures _) (s_put c.put-end.ensures (omega arith) (omega arith) (omega arith) (s_end (omega arith))))))
 
 pub primary-actuals-requires : goal.primary-actuals-requires
 primary-actuals-requires t c =
@@ -393,18 +383,26 @@ primary-actuals-requires t c =
 
 pub primary-nested-requires : goal.primary-nested-requires
 primary-nested-requires t c =
-    let μ = c.decreases in let r = c.requires in
+    let μ = c.decreases in
+    let r = c.requires in
     let i1 = inside _ _ (is_at c.peek.result c.peek.ensures c.in-Open.in-Open-own.keys5) (λ h. omega arith) in
     (omega arith, record { inside = omega arith; short = omega arith; size = omega arith; room = omega arith })
 
-pub primary-overflow_add-result-in-Close : goal.primary-overflow_add-result-in-Close
-primary-overflow_add-result-in-Close t c =
-    let μ = c.decreases in let r = c.requires in
+pub primary-returns-in_err-next-in-Open : goal.primary-returns-in_err-next-in-Open
+primary-returns-in_err-next-in-Open t c = λ F. s_exit c.from_residual.ensures.1 (s_prod G.in_parentheses (ap (λ (z : ℕ). choose G.primary z 0) (is_at c.peek.result c.peek.ensures c.in-Open.in-Open-own.keys5)) (s_sy (is_at c.peek.result c.peek.ensures c.in-Open.in-Open-own.keys5) (s_bad _ (c.in_err-next-in-Open.ensures _))))
+
+pub primary-returns-in_err-next-in-Open-2 : goal.primary-returns-in_err-next-in-Open-2
+primary-returns-in_err-next-in-Open-2 t c = λ F. s_exit c.from_residual-in_err-next-in-Open-2.ensures.1 (s_prod G.in_parentheses (ap (λ (z : ℕ). choose G.primary z 0) (is_at c.peek.result c.peek.ensures c.in-Open.in-Open-own.keys5)) (s_sy (is_at c.peek.result c.peek.ensures c.in-Open.in-Open-own.keys5) (s_part _ (c.in_ok-next-in-Open.ensures _) (s_lacks c.in_err-next-in-Open-2.ensures))))
+
+pub primary-returns-in_ok-next-in-Open-2 : goal.primary-returns-in_ok-next-in-Open-2
+primary-returns-in_ok-next-in-Open-2 t c =
+    let μ = c.decreases in
+    let r = c.requires in
     let i1 = inside _ _ (is_at c.peek.result c.peek.ensures c.in-Open.in-Open-own.keys5) (λ h. omega arith) in
     let l1 = c.nested.auto.nodes in
     let g1 = got_of (c.in_ok-next-in-Open.ensures []) in let s1 = space g1 in
-    let i2 = inside _ _ (is_at c.peek-in-Open.result c.peek-in-Open.ensures c.in-Close.in-Close-own.keys1) (λ h. omega arith) in
-    omega arith
+    let h1 = c.in_ok-next-in-Open-2.ensures in
+    λ F. s_prod G.in_parentheses (ap (λ (z : ℕ). choose G.primary z 0) (is_at c.peek.result c.peek.ensures c.in-Open.in-Open-own.keys5)) (s_sy (is_at c.peek.result c.peek.ensures c.in-Open.in-Open-own.keys5) (s_part _ (c.in_ok-next-in-Open.ensures _) (s_stands c.in_ok-next-in-Open-2.ensures (s_end (omega arith)))))
 
 pub primary-returns-in-Number : goal.primary-returns-in-Number
 primary-returns-in-Number t c =
@@ -429,21 +427,6 @@ primary-returns-in-False t c =
 
 pub primary-returns-in-Name : goal.primary-returns-in-Name
 primary-returns-in-Name t c = λ F. s_prod G.a_name_lem (ap (λ (z : ℕ). choose G.primary z 0) (is_at c.peek.result c.peek.ensures c.in-Name.in-Name-own.keys4)) (s_sy (is_at c.peek.result c.peek.ensures c.in-Name.in-Name-own.keys4) (s_last (c.actuals.ensures _)))
-
-pub primary-returns-in_err-next-in-Open : goal.primary-returns-in_err-next-in-Open
-primary-returns-in_err-next-in-Open t c = λ F. s_exit c.from_residual.ensures.1 (s_prod G.in_parentheses (ap (λ (z : ℕ). choose G.primary z 0) (is_at c.peek.result c.peek.ensures c.in-Open.in-Open-own.keys5)) (s_sy (is_at c.peek.result c.peek.ensures c.in-Open.in-Open-own.keys5) (s_bad _ (c.in_err-next-in-Open.ensures _))))
-
-pub primary-returns-in-Close : goal.primary-returns-in-Close
-primary-returns-in-Close t c =
-    let μ = c.decreases in let r = c.requires in
-    let i1 = inside _ _ (is_at c.peek.result c.peek.ensures c.in-Open.in-Open-own.keys5) (λ h. omega arith) in
-    let l1 = c.nested.auto.nodes in
-    let g1 = got_of (c.in_ok-next-in-Open.ensures []) in let s1 = space g1 in
-    let i2 = inside _ _ (is_at c.peek-in-Open.result c.peek-in-Open.ensures c.in-Close.in-Close-own.keys1) (λ h. omega arith) in
-    λ F. s_prod G.in_parentheses (ap (λ (z : ℕ). choose G.primary z 0) (is_at c.peek.result c.peek.ensures c.in-Open.in-Open-own.keys5)) (s_sy (is_at c.peek.result c.peek.ensures c.in-Open.in-Open-own.keys5) (s_part _ (c.in_ok-next-in-Open.ensures _) (s_sy (is_at c.peek-in-Open.result c.peek-in-Open.ensures c.in-Close.in-Close-own.keys1) (s_end (omega arith)))))
-
-pub primary-returns-in_default-peek : goal.primary-returns-in_default-peek
-primary-returns-in_default-peek t c = λ F. s_prod G.in_parentheses (ap (λ (z : ℕ). choose G.primary z 0) (is_at c.peek.result c.peek.ensures c.in-Open.in-Open-own.keys5)) (s_sy (is_at c.peek.result c.peek.ensures c.in-Open.in-Open-own.keys5) (s_part _ (c.in_ok-next-in-Open.ensures _) (s_no (is_not c.peek-in-Open.result c.peek-in-Open.ensures (but (37 ∷ [])) 37 refl (opened c.in_default-peek.in_default-peek-own.keys2)))))
 
 pub primary-returns-in-Decimal : goal.primary-returns-in-Decimal
 primary-returns-in-Decimal t c =

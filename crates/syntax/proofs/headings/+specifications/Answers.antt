@@ -6,12 +6,22 @@ use native.Mathlib.Omega.{arith}
 use Rattle.grammar.specs.model.Tables.{choose, some}
 use Rattle.grammar.proofs.Sets.{all_in}
 use Rattle.grammar.proofs.Peeks.{inside, inside_in, is_at, is_in, is_not, but}
-use Rattle.syntax.proofs.Lemmas.{got_of, space, s_end, s_sy, s_no, s_prod, s_part, s_bad, s_exit, s_last}
+use Rattle.syntax.proofs.Lemmas.{got_of, space, s_end, s_sy, s_no, s_prod, s_part, s_bad, s_exit, s_last, s_stands, s_lacks}
 use Rattle.grammar.specs.Grammar as G
 use Rattle.syntax.proofs.Choices as C
 use Prim.Native.Nat.{ℕ}
 use borrow.Enum.Refused.{opened}
 use Rattle.syntax.proofs.headings.+specifications.Goals as goal
+
+pub type_symbol-requires : goal.type_symbol-requires
+type_symbol-requires t c =
+    let μ = c.decreases in
+    let r = c.requires in
+    let i1 = inside_in _ _ (11 ∷ 12 ∷ 40 ∷ []) refl (is_in c.peek.result c.peek.ensures (11 ∷ 12 ∷ 40 ∷ []) c.in-Integer.in-Integer-own.keys1) in
+    record { inside = omega arith; short = omega arith; size = omega arith; room = omega arith }
+
+pub returns-in_err-next-in-Integer : goal.returns-in_err-next-in-Integer
+returns-in_err-next-in-Integer t c = λ d F. s_exit c.from_residual.ensures.1 (s_prod G.a_specification (all_in (λ (z : ℕ). choose G.specifications z 0 ≡ some G.a_specification) (is_in c.peek.result c.peek.ensures (11 ∷ 12 ∷ 40 ∷ []) c.in-Integer.in-Integer-own.keys1) (refl, (refl, (refl, tt)))) (s_bad _ (c.in_err-next-in-Integer.ensures _ _)))
 
 pub list-requires : goal.list-requires
 list-requires t c =
@@ -22,17 +32,11 @@ list-requires t c =
     let g1 = got_of (c.in_ok-next-in-Integer.ensures 0 []) in let s1 = space g1 in
     record { inside = omega arith; short = omega arith; size = omega arith; room = omega arith }
 
-pub overflow_add-next : goal.overflow_add-next
-overflow_add-next t c =
-    let μ = c.decreases in
-    let r = c.requires in
-    let i1 = inside_in _ _ (11 ∷ 12 ∷ 40 ∷ []) refl (is_in c.peek.result c.peek.ensures (11 ∷ 12 ∷ 40 ∷ []) c.in-Integer.in-Integer-own.keys1) in
-    let l1 = c.type_symbol.auto.nodes in
-    let g1 = got_of (c.in_ok-next-in-Integer.ensures 0 []) in let s1 = space g1 in
-    let l2 = c.list.auto.nodes in
-    let g2 = got_of (c.in_ok-next-in-Integer-2.ensures 0 []) in let s2 = space g2 in
-    let i2 = inside _ _ (is_at c.peek-in-Integer.result c.peek-in-Integer.ensures c.in-Semicolon.in-Semicolon-own.keys1) (λ h. omega arith) in
-    omega arith
+pub returns-in_err-next-in-Integer-2 : goal.returns-in_err-next-in-Integer-2
+returns-in_err-next-in-Integer-2 t c = λ d F. s_exit c.from_residual-in_err-next-in-Integer-2.ensures.1 (s_prod G.a_specification (all_in (λ (z : ℕ). choose G.specifications z 0 ≡ some G.a_specification) (is_in c.peek.result c.peek.ensures (11 ∷ 12 ∷ 40 ∷ []) c.in-Integer.in-Integer-own.keys1) (refl, (refl, (refl, tt)))) (s_part _ (c.in_ok-next-in-Integer.ensures _ _) (s_bad _ (c.in_err-next-in-Integer-2.ensures _ _))))
+
+pub returns-in_err-next-in-Integer-3 : goal.returns-in_err-next-in-Integer-3
+returns-in_err-next-in-Integer-3 t c = λ d F. s_exit c.from_residual-in_err-next-in-Integer-3.ensures.1 (s_prod G.a_specification (all_in (λ (z : ℕ). choose G.specifications z 0 ≡ some G.a_specification) (is_in c.peek.result c.peek.ensures (11 ∷ 12 ∷ 40 ∷ []) c.in-Integer.in-Integer-own.keys1) (refl, (refl, (refl, tt)))) (s_part _ (c.in_ok-next-in-Integer.ensures _ _) (s_part _ (c.in_ok-next-in-Integer-2.ensures _ _) (s_lacks c.in_err-next-in-Integer-3.ensures))))
 
 pub specifications-requires : goal.specifications-requires
 specifications-requires t c =
@@ -43,20 +47,11 @@ specifications-requires t c =
     let g1 = got_of (c.in_ok-next-in-Integer.ensures 0 []) in let s1 = space g1 in
     let l2 = c.list.auto.nodes in
     let g2 = got_of (c.in_ok-next-in-Integer-2.ensures 0 []) in let s2 = space g2 in
-    let i2 = inside _ _ (is_at c.peek-in-Integer.result c.peek-in-Integer.ensures c.in-Semicolon.in-Semicolon-own.keys1) (λ h. omega arith) in
+    let h1 = c.in_ok-next-in-Integer-3.ensures in
     (omega arith, record { inside = omega arith; short = omega arith; size = omega arith; room = omega arith })
 
-pub returns-in_err-next-in-Integer : goal.returns-in_err-next-in-Integer
-returns-in_err-next-in-Integer t c = λ d F. s_exit c.from_residual.ensures.1 (s_prod G.a_specification (all_in (λ (z : ℕ). choose G.specifications z 0 ≡ some G.a_specification) (is_in c.peek.result c.peek.ensures (11 ∷ 12 ∷ 40 ∷ []) c.in-Integer.in-Integer-own.keys1) (refl, (refl, (refl, tt)))) (s_bad _ (c.in_err-next-in-Integer.ensures _ _)))
-
-pub returns-in_err-next-in-Integer-2 : goal.returns-in_err-next-in-Integer-2
-returns-in_err-next-in-Integer-2 t c = λ d F. s_exit c.from_residual-in_err-next-in-Integer-2.ensures.1 (s_prod G.a_specification (all_in (λ (z : ℕ). choose G.specifications z 0 ≡ some G.a_specification) (is_in c.peek.result c.peek.ensures (11 ∷ 12 ∷ 40 ∷ []) c.in-Integer.in-Integer-own.keys1) (refl, (refl, (refl, tt)))) (s_part _ (c.in_ok-next-in-Integer.ensures _ _) (s_bad _ (c.in_err-next-in-Integer-2.ensures _ _))))
-
-pub returns-in-Semicolon : goal.returns-in-Semicolon
-returns-in-Semicolon t c = λ d F. s_prod G.a_specification (all_in (λ (z : ℕ). choose G.specifications z 0 ≡ some G.a_specification) (is_in c.peek.result c.peek.ensures (11 ∷ 12 ∷ 40 ∷ []) c.in-Integer.in-Integer-own.keys1) (refl, (refl, (refl, tt)))) (s_part _ (c.in_ok-next-in-Integer.ensures _ _) (s_part _ (c.in_ok-next-in-Integer-2.ensures _ _) (s_sy (is_at c.peek-in-Integer.result c.peek-in-Integer.ensures c.in-Semicolon.in-Semicolon-own.keys1) (s_last (c.specifications.ensures _ _)))))
-
-pub returns-in_default-peek : goal.returns-in_default-peek
-returns-in_default-peek t c = λ d F. s_prod G.a_specification (all_in (λ (z : ℕ). choose G.specifications z 0 ≡ some G.a_specification) (is_in c.peek.result c.peek.ensures (11 ∷ 12 ∷ 40 ∷ []) c.in-Integer.in-Integer-own.keys1) (refl, (refl, (refl, tt)))) (s_part _ (c.in_ok-next-in-Integer.ensures _ _) (s_part _ (c.in_ok-next-in-Integer-2.ensures _ _) (s_no (is_not c.peek-in-Integer.result c.peek-in-Integer.ensures (but (35 ∷ [])) 35 refl (opened c.in_default-peek.in_default-peek-own.keys2)))))
+pub returns-in_ok-next-in-Integer-3 : goal.returns-in_ok-next-in-Integer-3
+returns-in_ok-next-in-Integer-3 t c = λ d F. s_prod G.a_specification (all_in (λ (z : ℕ). choose G.specifications z 0 ≡ some G.a_specification) (is_in c.peek.result c.peek.ensures (11 ∷ 12 ∷ 40 ∷ []) c.in-Integer.in-Integer-own.keys1) (refl, (refl, (refl, tt)))) (s_part _ (c.in_ok-next-in-Integer.ensures _ _) (s_part _ (c.in_ok-next-in-Integer-2.ensures _ _) (s_stands c.in_ok-next-in-Integer-3.ensures (s_last (c.specifications.ensures _ _)))))
 
 pub returns-in_default : goal.returns-in_default
 returns-in_default t c =

@@ -1,29 +1,27 @@
 -- `syntax::headings::list_to` meets its contract: the list's answer, and then the symbol's. Assumes nothing.
 use mathlib.Core.Path.{sym, ap, ◌∙◌}
+use mathlib.Core.List.{[], ◌∷◌}
 use native.Mathlib.Omega.{arith}
 use Rattle.symbols.specs.declared.kinds.Stored.{Stored}
 use Rattle.grammar.proofs.Peeks.{inside}
-use Rattle.syntax.proofs.Lemmas.{s_end, s_sy, s_no, s_part, s_bad, s_exit}
+use Rattle.syntax.proofs.Lemmas.{s_end, s_sy, s_no, s_part, s_bad, s_exit, got_of, space, s_stands, s_lacks}
 use Rattle.syntax.proofs.headings.list_to.Goals as goal
 
-pub overflow_add-result : goal.overflow_add-result
-overflow_add-result c =
-    let r = c.requires in
-    let e = sym c.peek.ensures ∙ sym (ap (λ (x : Stored). x.kind) c.store-found.ensures) ∙ c.if-found-last.true in
-    let i = inside _ _ e r.1 in
-    omega (arith, r.0.short)
+pub list-requires : goal.list-requires
+list-requires c =
+    let r = c.requires.0 in
+    record { inside = omega arith; short = omega arith; size = omega arith; room = omega arith }
 
 pub returns-in_err-next : goal.returns-in_err-next
 returns-in_err-next c = λ d F. s_exit c.from_residual.ensures.1 (s_bad _ (c.in_err-next.ensures _ _))
 
-pub returns-then-found-last : goal.returns-then-found-last
-returns-then-found-last c =
-    let r = c.requires in
-    let e = sym c.peek.ensures ∙ sym (ap (λ (x : Stored). x.kind) c.store-found.ensures) ∙ c.if-found-last.true in
-    let i = inside _ _ e r.1 in
-    λ d F. s_part _ (c.in_ok-next.ensures _ _) (s_sy e (s_end (omega arith)))
+pub returns-in_err-next-2 : goal.returns-in_err-next-2
+returns-in_err-next-2 c = λ d F. s_exit c.from_residual-in_err-next-2.ensures.1 (s_part _ (c.in_ok-next.ensures _ _) (s_lacks c.in_err-next-2.ensures))
 
-pub returns-else-found-last : goal.returns-else-found-last
-returns-else-found-last c =
-    λ d F. s_part _ (c.in_ok-next.ensures _ _)
-    (s_no (λ h. c.if-found-last.false (ap (λ (x : Stored). x.kind) c.store-found.ensures ∙ c.peek.ensures ∙ h)))
+pub returns : goal.returns
+returns c =
+    let r = c.requires.0 in
+    let l1 = c.list.auto.nodes in
+    let g1 = got_of (c.in_ok-next.ensures 0 []) in let s1 = space g1 in
+    let h1 = c.in_ok-next-2.ensures in
+    λ d F. s_part _ (c.in_ok-next.ensures _ _) (s_stands c.in_ok-next-2.ensures (s_end (omega arith)))

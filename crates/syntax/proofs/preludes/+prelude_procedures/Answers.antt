@@ -5,7 +5,7 @@ use native.Mathlib.Omega.{arith}
 use Rattle.grammar.specs.model.Tables.{choose, some}
 use Rattle.grammar.proofs.Sets.{all_in}
 use Rattle.grammar.proofs.Peeks.{inside, inside_in, is_at, is_in, is_not, but}
-use Rattle.syntax.proofs.Lemmas.{got_of, space, s_end, s_sy, s_no, s_put, s_prod, s_part, s_bad, s_exit, s_last}
+use Rattle.syntax.proofs.Lemmas.{got_of, space, s_end, s_sy, s_no, s_put, s_prod, s_part, s_bad, s_exit, s_last, s_stands, s_lacks}
 use Rattle.grammar.specs.Grammar as G
 use Rattle.syntax.proofs.Choices as C
 use Prim.Native.Nat.{ℕ}
@@ -19,62 +19,60 @@ prelude-procedures-requires t c = let μ = c.decreases in
     let p1 = c.put-untyped.ensures in let k1 = c.put-untyped.auto.nodes in
     (omega arith, record { inside = omega arith; short = omega arith; size = omega arith; room = omega arith })
 
-pub prelude-overflow_add-next : goal.prelude-overflow_add-next
-prelude-overflow_add-next t c = let μ = c.decreases in
+pub prelude-type_symbol-requires : goal.prelude-type_symbol-requires
+prelude-type_symbol-requires t c =
+    let μ = c.decreases in
     let r = c.requires in
     let i1 = inside_in _ _ (11 ∷ 12 ∷ 40 ∷ []) refl (is_in c.peek.result c.peek.ensures (11 ∷ 12 ∷ 40 ∷ []) c.in-Integer.in-Integer-own.keys2) in
-    let l1 = c.type_symbol.auto.nodes in
-    let g1 = got_of (c.in_ok-next-in-Integer.ensures 0 []) in let s1 = space g1 in
-    let i2 = inside _ _ (is_at c.peek-in-Integer.result c.peek-in-Integer.ensures c.in-Procedure-peek.in-Procedure-peek-own.keys1) (λ h. omega arith) in
-    omega arith
-
-pub prelude-procedures-requires-in-Procedure-peek : goal.prelude-procedures-requires-in-Procedure-peek
-prelude-procedures-requires-in-Procedure-peek t c = let μ = c.decreases in
-    let r = c.requires in
-    let i1 = inside_in _ _ (11 ∷ 12 ∷ 40 ∷ []) refl (is_in c.peek.result c.peek.ensures (11 ∷ 12 ∷ 40 ∷ []) c.in-Integer.in-Integer-own.keys2) in
-    let l1 = c.type_symbol.auto.nodes in
-    let g1 = got_of (c.in_ok-next-in-Integer.ensures 0 []) in let s1 = space g1 in
-    let i2 = inside _ _ (is_at c.peek-in-Integer.result c.peek-in-Integer.ensures c.in-Procedure-peek.in-Procedure-peek-own.keys1) (λ h. omega arith) in
-    (omega arith, record { inside = omega arith; short = omega arith; size = omega arith; room = omega arith })
-
-pub prelude-returns-in-Procedure : goal.prelude-returns-in-Procedure
-prelude-returns-in-Procedure t c = λ F. s_prod G.untyped_procedure (ap (λ (z : ℕ). choose G.prelude z 0) (is_at c.peek.result c.peek.ensures c.in-Procedure.in-Procedure-own.keys1)) (s_put c.put-untyped.ensures (omega arith) (omega arith) (omega arith) (s_sy (is_at c.peek.result c.peek.ensures c.in-Procedure.in-Procedure-own.keys1) (s_last (c.procedures.ensures _))))
+    record { inside = omega arith; short = omega arith; size = omega arith; room = omega arith }
 
 pub prelude-returns-in_err-next-in-Integer : goal.prelude-returns-in_err-next-in-Integer
 prelude-returns-in_err-next-in-Integer t c = λ F. s_exit c.from_residual.ensures.1 (s_prod G.typed_procedure (all_in (λ (z : ℕ). choose G.prelude z 0 ≡ some G.typed_procedure) (is_in c.peek.result c.peek.ensures (11 ∷ 12 ∷ 40 ∷ []) c.in-Integer.in-Integer-own.keys2) (refl, (refl, (refl, tt)))) (s_bad _ (c.in_err-next-in-Integer.ensures 0 _)))
 
-pub prelude-returns-in-Procedure-peek : goal.prelude-returns-in-Procedure-peek
-prelude-returns-in-Procedure-peek t c = λ F. s_prod G.typed_procedure (all_in (λ (z : ℕ). choose G.prelude z 0 ≡ some G.typed_procedure) (is_in c.peek.result c.peek.ensures (11 ∷ 12 ∷ 40 ∷ []) c.in-Integer.in-Integer-own.keys2) (refl, (refl, (refl, tt)))) (s_part _ (c.in_ok-next-in-Integer.ensures _ _) (s_sy (is_at c.peek-in-Integer.result c.peek-in-Integer.ensures c.in-Procedure-peek.in-Procedure-peek-own.keys1) (s_last (c.procedures-in-Procedure-peek.ensures _))))
+pub prelude-returns-in_err-next-in-Integer-2 : goal.prelude-returns-in_err-next-in-Integer-2
+prelude-returns-in_err-next-in-Integer-2 t c = λ F. s_exit c.from_residual-in_err-next-in-Integer-2.ensures.1 (s_prod G.typed_procedure (all_in (λ (z : ℕ). choose G.prelude z 0 ≡ some G.typed_procedure) (is_in c.peek.result c.peek.ensures (11 ∷ 12 ∷ 40 ∷ []) c.in-Integer.in-Integer-own.keys2) (refl, (refl, (refl, tt)))) (s_part _ (c.in_ok-next-in-Integer.ensures 0 _) (s_lacks c.in_err-next-in-Integer-2.ensures)))
 
-pub prelude-returns-in_default-peek : goal.prelude-returns-in_default-peek
-prelude-returns-in_default-peek t c = λ F. s_prod G.typed_procedure (all_in (λ (z : ℕ). choose G.prelude z 0 ≡ some G.typed_procedure) (is_in c.peek.result c.peek.ensures (11 ∷ 12 ∷ 40 ∷ []) c.in-Integer.in-Integer-own.keys2) (refl, (refl, (refl, tt)))) (s_part _ (c.in_ok-next-in-Integer.ensures _ _) (s_no (is_not c.peek-in-Integer.result c.peek-in-Integer.ensures (but (13 ∷ [])) 13 refl (opened c.in_default-peek.in_default-peek-own.keys2))))
+pub prelude-procedures-requires-in-Integer : goal.prelude-procedures-requires-in-Integer
+prelude-procedures-requires-in-Integer t c =
+    let μ = c.decreases in
+    let r = c.requires in
+    let i1 = inside_in _ _ (11 ∷ 12 ∷ 40 ∷ []) refl (is_in c.peek.result c.peek.ensures (11 ∷ 12 ∷ 40 ∷ []) c.in-Integer.in-Integer-own.keys2) in
+    let l1 = c.type_symbol.auto.nodes in
+    let g1 = got_of (c.in_ok-next-in-Integer.ensures 0 []) in let s1 = space g1 in
+    let h1 = c.in_ok-next-in-Integer-2.ensures in
+    (omega arith, record { inside = omega arith; short = omega arith; size = omega arith; room = omega arith })
+
+pub prelude-returns-in_ok-next-in-Integer-2 : goal.prelude-returns-in_ok-next-in-Integer-2
+prelude-returns-in_ok-next-in-Integer-2 t c = λ F. s_prod G.typed_procedure (all_in (λ (z : ℕ). choose G.prelude z 0 ≡ some G.typed_procedure) (is_in c.peek.result c.peek.ensures (11 ∷ 12 ∷ 40 ∷ []) c.in-Integer.in-Integer-own.keys2) (refl, (refl, (refl, tt)))) (s_part _ (c.in_ok-next-in-Integer.ensures 0 _) (s_stands c.in_ok-next-in-Integer-2.ensures (s_last (c.procedures-in-Integer.ensures _))))
+
+pub prelude-returns-in-Procedure : goal.prelude-returns-in-Procedure
+prelude-returns-in-Procedure t c = λ F. s_prod G.untyped_procedure (ap (λ (z : ℕ). choose G.prelude z 0) (is_at c.peek.result c.peek.ensures c.in-Procedure.in-Procedure-own.keys1)) (s_put c.put-untyped.ensures (omega arith) (omega arith) (omega arith) (s_sy (is_at c.peek.result c.peek.ensures c.in-Procedure.in-Procedure-own.keys1) (s_last (c.procedures.ensures _))))
 
 pub prelude-returns-in_default : goal.prelude-returns-in_default
 prelude-returns-in_default t c = let μ = c.decreases in
     let r = c.requires in
     λ F. s_prod G.no_procedure (C.else_prelude (is_not c.peek.result c.peek.ensures (but (11 ∷ 12 ∷ 13 ∷ 40 ∷ [])) 11 refl (opened c.in_default.in_default-own.keys3)) (is_not c.peek.result c.peek.ensures (but (11 ∷ 12 ∷ 13 ∷ 40 ∷ [])) 12 refl (opened c.in_default.in_default-own.keys3)) (is_not c.peek.result c.peek.ensures (but (11 ∷ 12 ∷ 13 ∷ 40 ∷ [])) 40 refl (opened c.in_default.in_default-own.keys3)) (is_not c.peek.result c.peek.ensures (but (11 ∷ 12 ∷ 13 ∷ 40 ∷ [])) 13 refl (opened c.in_default.in_default-own.keys3))) (s_end (omega arith))
 
-pub procedures-overflow_add-next : goal.procedures-overflow_add-next
-procedures-overflow_add-next t c = let μ = c.decreases in
+pub procedures-procedure-requires : goal.procedures-procedure-requires
+procedures-procedure-requires t c =
+    let μ = c.decreases in
     let r = c.requires in
-    let l1 = c.procedure.auto.nodes in
-    let g1 = got_of c.in_ok-next.ensures in let s1 = space g1 in
-    let i1 = inside _ _ (is_at c.peek.result c.peek.ensures c.in-Semicolon.in-Semicolon-own.keys1) (λ h. omega arith) in
-    omega arith
-
-pub procedures-prelude-requires : goal.procedures-prelude-requires
-procedures-prelude-requires t c = let μ = c.decreases in
-    let r = c.requires in
-    let l1 = c.procedure.auto.nodes in
-    let g1 = got_of c.in_ok-next.ensures in let s1 = space g1 in
-    let i1 = inside _ _ (is_at c.peek.result c.peek.ensures c.in-Semicolon.in-Semicolon-own.keys1) (λ h. omega arith) in
-    (omega arith, record { inside = omega arith; short = omega arith; size = omega arith; room = omega arith })
+    record { inside = omega arith; short = omega arith; size = omega arith; room = omega arith }
 
 pub procedures-returns-in_err-next : goal.procedures-returns-in_err-next
 procedures-returns-in_err-next t c = λ F. s_exit c.from_residual.ensures.1 (s_bad _ c.in_err-next.ensures)
 
-pub procedures-returns-in-Semicolon : goal.procedures-returns-in-Semicolon
-procedures-returns-in-Semicolon t c = λ F. s_part _ c.in_ok-next.ensures (s_sy (is_at c.peek.result c.peek.ensures c.in-Semicolon.in-Semicolon-own.keys1) (s_last (c.prelude.ensures _)))
+pub procedures-returns-in_err-next-2 : goal.procedures-returns-in_err-next-2
+procedures-returns-in_err-next-2 t c = λ F. s_exit c.from_residual-in_err-next-2.ensures.1 (s_part _ c.in_ok-next.ensures (s_lacks c.in_err-next-2.ensures))
 
-pub procedures-returns-in_default : goal.procedures-returns-in_default
-procedures-returns-in_default t c = λ F. s_part _ c.in_ok-next.ensures (s_no (is_not c.peek.result c.peek.ensures (but (35 ∷ [])) 35 refl (opened c.in_default.in_default-own.keys2)))
+pub procedures-prelude-requires : goal.procedures-prelude-requires
+procedures-prelude-requires t c =
+    let μ = c.decreases in
+    let r = c.requires in
+    let l1 = c.procedure.auto.nodes in
+    let g1 = got_of c.in_ok-next.ensures in let s1 = space g1 in
+    let h1 = c.in_ok-next-2.ensures in
+    (omega arith, record { inside = omega arith; short = omega arith; size = omega arith; room = omega arith })
+
+pub procedures-returns : goal.procedures-returns
+procedures-returns t c = λ F. s_part _ c.in_ok-next.ensures (s_stands c.in_ok-next-2.ensures (s_last (c.prelude.ensures _)))

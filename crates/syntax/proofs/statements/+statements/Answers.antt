@@ -7,7 +7,7 @@ use native.Mathlib.Omega.{arith}
 use Rattle.grammar.specs.model.Tables.{choose, some}
 use Rattle.grammar.proofs.Sets.{all_in}
 use Rattle.grammar.proofs.Peeks.{inside, inside_in, is_at, is_in, is_not, but}
-use Rattle.syntax.proofs.Lemmas.{got_of, space, s_end, s_sy, s_no, s_put, s_prod, s_part, s_bad, s_exit, s_last, s_deeper}
+use Rattle.syntax.proofs.Lemmas.{got_of, space, s_end, s_sy, s_no, s_put, s_prod, s_part, s_bad, s_exit, s_last, s_deeper, s_stands, s_lacks}
 use Rattle.grammar.specs.Grammar as G
 use Rattle.syntax.proofs.Choices as C
 use Prim.Native.Nat.{ℕ}
@@ -31,41 +31,31 @@ alternative-returns-in_default t c =
     let r = c.requires in
     s_prod G.no_else (C.else_alternative (is_not c.peek.result c.peek.ensures (but (4 ∷ [])) 4 refl (opened c.in_default.in_default-own.keys2))) (s_end (omega arith))
 
+pub block-returns-in_err-expect : goal.block-returns-in_err-expect
+block-returns-in_err-expect t c = λ F. s_exit c.from_residual.ensures.1 (s_prod G.begin_end refl (s_lacks c.in_err-expect.ensures))
+
 pub block-inner-requires : goal.block-inner-requires
 block-inner-requires t c =
     let μ = c.decreases in
     let r = c.requires in
-    let i1 = inside _ _ (is_at c.peek.result c.peek.ensures c.in-Begin.in-Begin-own.keys1) (λ h. omega arith) in
+    let h1 = c.in_ok-expect.ensures in
     (omega arith, record { inside = omega arith; short = omega arith; size = omega arith; room = omega arith })
 
-pub block-overflow_add-result : goal.block-overflow_add-result
-block-overflow_add-result t c =
+pub block-returns-in_err-next : goal.block-returns-in_err-next
+block-returns-in_err-next t c = λ F. s_exit c.from_residual-in_err-next.ensures.1 (s_prod G.begin_end refl (s_sy c.in_ok-expect.ensures.found (s_bad _ c.in_err-next.ensures)))
+
+pub block-returns-in_err-next-2 : goal.block-returns-in_err-next-2
+block-returns-in_err-next-2 t c = λ F. s_exit c.from_residual-in_err-next-2.ensures.1 (s_prod G.begin_end refl (s_sy c.in_ok-expect.ensures.found (s_part _ c.in_ok-next.ensures (s_lacks c.in_err-next-2.ensures))))
+
+pub block-returns : goal.block-returns
+block-returns t c =
     let μ = c.decreases in
     let r = c.requires in
-    let i1 = inside _ _ (is_at c.peek.result c.peek.ensures c.in-Begin.in-Begin-own.keys1) (λ h. omega arith) in
+    let h1 = c.in_ok-expect.ensures in
     let l1 = c.inner.auto.nodes in
-    let g1 = got_of c.in_ok-next-in-Begin.ensures in let s1 = space g1 in
-    let i2 = inside _ _ (is_at c.peek-in-Begin.result c.peek-in-Begin.ensures c.in-End.in-End-own.keys1) (λ h. omega arith) in
-    omega arith
-
-pub block-returns-in_err-next-in-Begin : goal.block-returns-in_err-next-in-Begin
-block-returns-in_err-next-in-Begin t c = λ F. s_exit c.from_residual.ensures.1 (s_prod G.begin_end refl (s_sy (is_at c.peek.result c.peek.ensures c.in-Begin.in-Begin-own.keys1) (s_bad _ c.in_err-next-in-Begin.ensures)))
-
-pub block-returns-in-End : goal.block-returns-in-End
-block-returns-in-End t c =
-    let μ = c.decreases in
-    let r = c.requires in
-    let i1 = inside _ _ (is_at c.peek.result c.peek.ensures c.in-Begin.in-Begin-own.keys1) (λ h. omega arith) in
-    let l1 = c.inner.auto.nodes in
-    let g1 = got_of c.in_ok-next-in-Begin.ensures in let s1 = space g1 in
-    let i2 = inside _ _ (is_at c.peek-in-Begin.result c.peek-in-Begin.ensures c.in-End.in-End-own.keys1) (λ h. omega arith) in
-    λ F. s_prod G.begin_end refl (s_sy (is_at c.peek.result c.peek.ensures c.in-Begin.in-Begin-own.keys1) (s_part _ c.in_ok-next-in-Begin.ensures (s_sy (is_at c.peek-in-Begin.result c.peek-in-Begin.ensures c.in-End.in-End-own.keys1) (s_end (omega arith)))))
-
-pub block-returns-in_default-peek : goal.block-returns-in_default-peek
-block-returns-in_default-peek t c = λ F. s_prod G.begin_end refl (s_sy (is_at c.peek.result c.peek.ensures c.in-Begin.in-Begin-own.keys1) (s_part _ c.in_ok-next-in-Begin.ensures (s_no (is_not c.peek-in-Begin.result c.peek-in-Begin.ensures (but (1 ∷ [])) 1 refl (opened c.in_default-peek.in_default-peek-own.keys2)))))
-
-pub block-returns-in_default : goal.block-returns-in_default
-block-returns-in_default t c = λ F. s_prod G.begin_end refl (s_no (is_not c.peek.result c.peek.ensures (but (0 ∷ [])) 0 refl (opened c.in_default.in_default-own.keys2)))
+    let g1 = got_of c.in_ok-next.ensures in let s1 = space g1 in
+    let h2 = c.in_ok-next-2.ensures in
+    λ F. s_prod G.begin_end refl (s_sy c.in_ok-expect.ensures.found (s_part _ c.in_ok-next.ensures (s_stands c.in_ok-next-2.ensures (s_end (omega arith)))))
 
 pub conditional-expression-requires : goal.conditional-expression-requires
 conditional-expression-requires t c =
@@ -74,6 +64,12 @@ conditional-expression-requires t c =
     let r = c.requires.0 in
     record { inside = omega arith; short = omega arith; size = omega arith; room = omega arith }
 
+pub conditional-returns-in_err-next : goal.conditional-returns-in_err-next
+conditional-returns-in_err-next t c = s_exit c.from_residual.ensures.1 (s_sy c.requires.1 (s_bad _ (c.in_err-next.ensures _)))
+
+pub conditional-returns-in_err-next-2 : goal.conditional-returns-in_err-next-2
+conditional-returns-in_err-next-2 t c = s_exit c.from_residual-in_err-next-2.ensures.1 (s_sy c.requires.1 (s_part _ (c.in_ok-next.ensures _) (s_lacks c.in_err-next-2.ensures)))
+
 pub conditional-put-then-requires : goal.conditional-put-then-requires
 conditional-put-then-requires t c =
     let μ = c.decreases in
@@ -81,19 +77,8 @@ conditional-put-then-requires t c =
     let r = c.requires.0 in
     let l1 = c.expression.auto.nodes in
     let g1 = got_of (c.in_ok-next.ensures []) in let s1 = space g1 in
-    let i1 = inside _ _ (is_at c.peek.result c.peek.ensures c.in-Then.in-Then-own.keys1) (λ h. omega arith) in
+    let h1 = c.in_ok-next-2.ensures in
     (omega arith, omega arith)
-
-pub conditional-overflow_add-next : goal.conditional-overflow_add-next
-conditional-overflow_add-next t c =
-    let μ = c.decreases in
-    let i0 = inside _ _ c.requires.1 (λ h. omega arith) in
-    let r = c.requires.0 in
-    let l1 = c.expression.auto.nodes in
-    let g1 = got_of (c.in_ok-next.ensures []) in let s1 = space g1 in
-    let i1 = inside _ _ (is_at c.peek.result c.peek.ensures c.in-Then.in-Then-own.keys1) (λ h. omega arith) in
-    let p1 = c.put-then.ensures in let k1 = c.put-then.auto.nodes in
-    omega arith
 
 pub conditional-consequence-requires : goal.conditional-consequence-requires
 conditional-consequence-requires t c =
@@ -102,9 +87,12 @@ conditional-consequence-requires t c =
     let r = c.requires.0 in
     let l1 = c.expression.auto.nodes in
     let g1 = got_of (c.in_ok-next.ensures []) in let s1 = space g1 in
-    let i1 = inside _ _ (is_at c.peek.result c.peek.ensures c.in-Then.in-Then-own.keys1) (λ h. omega arith) in
+    let h1 = c.in_ok-next-2.ensures in
     let p1 = c.put-then.ensures in let k1 = c.put-then.auto.nodes in
     (omega arith, record { inside = omega arith; short = omega arith; size = omega arith; room = omega arith })
+
+pub conditional-returns-in_err-next-3 : goal.conditional-returns-in_err-next-3
+conditional-returns-in_err-next-3 t c = let h1 = c.in_ok-next-2.ensures in s_exit c.from_residual-in_err-next-3.ensures.1 (s_sy c.requires.1 (s_part _ (c.in_ok-next.ensures _) (s_stands c.in_ok-next-2.ensures (s_put c.put-then.ensures (omega arith) (omega arith) (omega arith) (s_bad _ c.in_err-next-3.ensures)))))
 
 pub conditional-put-end-requires : goal.conditional-put-end-requires
 conditional-put-end-requires t c =
@@ -113,34 +101,25 @@ conditional-put-end-requires t c =
     let r = c.requires.0 in
     let l1 = c.expression.auto.nodes in
     let g1 = got_of (c.in_ok-next.ensures []) in let s1 = space g1 in
-    let i1 = inside _ _ (is_at c.peek.result c.peek.ensures c.in-Then.in-Then-own.keys1) (λ h. omega arith) in
+    let h1 = c.in_ok-next-2.ensures in
     let p1 = c.put-then.ensures in let k1 = c.put-then.auto.nodes in
     let l2 = c.consequence.auto.nodes in
-    let g2 = got_of c.in_ok-next-in-Then.ensures in let s2 = space g2 in
+    let g2 = got_of c.in_ok-next-3.ensures in let s2 = space g2 in
     (omega arith, omega arith)
 
-pub conditional-returns-in_err-next : goal.conditional-returns-in_err-next
-conditional-returns-in_err-next t c = s_exit c.from_residual.ensures.1 (s_sy c.requires.1 (s_bad _ (c.in_err-next.ensures _)))
-
-pub conditional-returns-in_err-next-in-Then : goal.conditional-returns-in_err-next-in-Then
-conditional-returns-in_err-next-in-Then t c = s_exit c.from_residual-in_err-next-in-Then.ensures.1 (s_sy c.requires.1 (s_part _ (c.in_ok-next.ensures _) (s_sy (is_at c.peek.result c.peek.ensures c.in-Then.in-Then-own.keys1) (s_put c.put-then.ensures (omega arith) (omega arith) (omega arith) (s_bad _ c.in_err-next-in-Then.ensures)))))
-
-pub conditional-returns-in_ok-next-in-Then : goal.conditional-returns-in_ok-next-in-Then
-conditional-returns-in_ok-next-in-Then t c =
+pub conditional-returns : goal.conditional-returns
+conditional-returns t c =
     let μ = c.decreases in
     let i0 = inside _ _ c.requires.1 (λ h. omega arith) in
     let r = c.requires.0 in
     let l1 = c.expression.auto.nodes in
     let g1 = got_of (c.in_ok-next.ensures []) in let s1 = space g1 in
-    let i1 = inside _ _ (is_at c.peek.result c.peek.ensures c.in-Then.in-Then-own.keys1) (λ h. omega arith) in
+    let h1 = c.in_ok-next-2.ensures in
     let p1 = c.put-then.ensures in let k1 = c.put-then.auto.nodes in
     let l2 = c.consequence.auto.nodes in
-    let g2 = got_of c.in_ok-next-in-Then.ensures in let s2 = space g2 in
+    let g2 = got_of c.in_ok-next-3.ensures in let s2 = space g2 in
     let p2 = c.put-end.ensures in let k2 = c.put-end.auto.nodes in
-    s_sy c.requires.1 (s_part _ (c.in_ok-next.ensures _) (s_sy (is_at c.peek.result c.peek.ensures c.in-Then.in-Then-own.keys1) (s_put c.put-then.ensures (omega arith) (omega arith) (omega arith) (s_part _ c.in_ok-next-in-Then.ensures (s_put c.put-end.ensures (omega arith) (omega arith) (omega arith) (s_end (omega arith)))))))
-
-pub conditional-returns-in_default : goal.conditional-returns-in_default
-conditional-returns-in_default t c = s_sy c.requires.1 (s_part _ (c.in_ok-next.ensures _) (s_no (is_not c.peek.result c.peek.ensures (but (3 ∷ [])) 3 refl (opened c.in_default.in_default-own.keys2))))
+    s_sy c.requires.1 (s_part _ (c.in_ok-next.ensures _) (s_stands c.in_ok-next-2.ensures (s_put c.put-then.ensures (omega arith) (omega arith) (omega arith) (s_part _ c.in_ok-next-3.ensures (s_put c.put-end.ensures (omega arith) (omega arith) (omega arith) (s_end (omega arith)))))))
 
 pub consequence-alternative-requires : goal.consequence-alternative-requires
 consequence-alternative-requires t c =
@@ -207,14 +186,17 @@ declared-returns-in-Procedure t c = s_prod G.function (ap (λ (z : ℕ). choose 
 pub declared-returns-in_default : goal.declared-returns-in_default
 declared-returns-in_default t c = s_prod G.variables (C.else_declared (is_not c.peek.result c.peek.ensures (but (13 ∷ [])) 13 refl (opened c.in_default.in_default-own.keys2))) (s_last (c.list.ensures _ _))
 
-pub head-overflow_add-next : goal.head-overflow_add-next
-head-overflow_add-next t c =
+pub head-declaration-requires : goal.head-declaration-requires
+head-declaration-requires t c =
     let μ = c.decreases in
     let r = c.requires in
-    let l1 = c.declaration.auto.nodes in
-    let g1 = got_of c.in_ok-next.ensures in let s1 = space g1 in
-    let i1 = inside _ _ (is_at c.peek.result c.peek.ensures c.in-Semicolon.in-Semicolon-own.keys1) (λ h. omega arith) in
-    omega arith
+    (omega arith, record { inside = omega arith; short = omega arith; size = omega arith; room = omega arith })
+
+pub head-returns-in_err-next : goal.head-returns-in_err-next
+head-returns-in_err-next t c = λ F. s_exit c.from_residual.ensures.1 (s_prod G.a_head refl (s_bad _ c.in_err-next.ensures))
+
+pub head-returns-in_err-next-2 : goal.head-returns-in_err-next-2
+head-returns-in_err-next-2 t c = λ F. s_exit c.from_residual-in_err-next-2.ensures.1 (s_prod G.a_head refl (s_part _ c.in_ok-next.ensures (s_lacks c.in_err-next-2.ensures)))
 
 pub head-declarations-requires : goal.head-declarations-requires
 head-declarations-requires t c =
@@ -222,17 +204,11 @@ head-declarations-requires t c =
     let r = c.requires in
     let l1 = c.declaration.auto.nodes in
     let g1 = got_of c.in_ok-next.ensures in let s1 = space g1 in
-    let i1 = inside _ _ (is_at c.peek.result c.peek.ensures c.in-Semicolon.in-Semicolon-own.keys1) (λ h. omega arith) in
+    let h1 = c.in_ok-next-2.ensures in
     (omega arith, record { inside = omega arith; short = omega arith; size = omega arith; room = omega arith })
 
-pub head-returns-in_err-next : goal.head-returns-in_err-next
-head-returns-in_err-next t c = λ F. s_exit c.from_residual.ensures.1 (s_prod G.a_head refl (s_bad _ c.in_err-next.ensures))
-
-pub head-returns-in-Semicolon : goal.head-returns-in-Semicolon
-head-returns-in-Semicolon t c = λ F. s_prod G.a_head refl (s_part _ c.in_ok-next.ensures (s_sy (is_at c.peek.result c.peek.ensures c.in-Semicolon.in-Semicolon-own.keys1) (s_last (c.declarations.ensures _))))
-
-pub head-returns-in_default : goal.head-returns-in_default
-head-returns-in_default t c = λ F. s_prod G.a_head refl (s_part _ c.in_ok-next.ensures (s_no (is_not c.peek.result c.peek.ensures (but (35 ∷ [])) 35 refl (opened c.in_default.in_default-own.keys2))))
+pub head-returns : goal.head-returns
+head-returns t c = λ F. s_prod G.a_head refl (s_part _ c.in_ok-next.ensures (s_stands c.in_ok-next-2.ensures (s_last (c.declarations.ensures _))))
 
 pub inner-put-first-requires : goal.inner-put-first-requires
 inner-put-first-requires t c =

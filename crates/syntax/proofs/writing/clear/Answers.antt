@@ -1,20 +1,19 @@
--- `syntax::writing::clear` meets its contract. The invariant: from the beginning to i all is zero. Assumes nothing.
+-- `syntax::writing::clear` meets its contract. Assumes nothing.
+use mathlib.Core.Path.{◌≡◌, sym, ap, ◌∙◌}
+use mathlib.Core.List.{append-nil}
+use Prim.Native.Nat.{ℕ, ◌-◌}
 use native.Mathlib.Omega.{arith}
-use lib.ListN.{length-set}
-use Rattle.syntax.proofs.Words.{not_yet, one_more, all_clear}
+use lib.ListN.{length, take}
+use lib.Seq.{take_all}
+use Rattle.grammar.specs.model.Parsing.{zeros}
+use Rattle.syntax.proofs.Words.{zeros_behind}
 use Rattle.syntax.proofs.writing.clear.Goals as goal
 
-pub loop-i-init : goal.loop-i-init
-loop-i-init c = not_yet c.args.nodes.now c.args.from
+pub returns-then-from-nodes : goal.returns-then-from-nodes
+returns-then-from-nodes c = record { words = zeros_behind c.args.nodes.now c.args.from (c.fill.ensures.after (λ y e. e)) }
 
-pub loop-i-smaller : goal.loop-i-smaller
-loop-i-smaller c = simp length-set (omega arith)
-
-pub loop-i-preserved : goal.loop-i-preserved
-loop-i-preserved c = one_more c.loop-i.invariant c.loop-i-test.true
-
-pub shape_of-nodes : goal.shape_of-nodes
-shape_of-nodes c = c.loop-i.invariant.size
-
-pub returns : goal.returns
-returns c = record { words = all_clear c.loop-i.invariant c.loop-i-test.false }
+pub returns-else-from-nodes : goal.returns-else-from-nodes
+unfolding zeros
+returns-else-from-nodes c =
+    let z : length c.args.nodes.now - c.args.from ≡ 0 = omega arith in
+    record { words = sym (rw z (append-nil (take c.args.from c.args.nodes.now) ∙ take_all c.args.from c.args.nodes.now (omega arith))) }
