@@ -4,7 +4,7 @@ ghost use Rattle.grammar.specs.NodeKinds.{n_do, n_for_end, n_procedure, n_proced
 ghost use Rattle.emitting.specs.model.Emission.{Used, uses_in, place_at, put, top, lower_of, upper_of, operation_of, signed, stored, lefts_of, assigned, plain_node, is_element, is_choice, is_block, code_node, emitted};
 ghost use Rattle.emitting.specs.model.Arrays.{things_of, seen, see, AllSlim, Small, Fit, rest_node, fresh_in, emitted_from};
 
-use crate::{Known, Thing, Writing, actuals, calls, cells, codes, flow, loops, parts};
+use crate::{Addresses, Known, Thing, Writing, actuals, calls, cells, codes, flow, loops, parts};
 use answers::{Address, Place};
 use grammar::nodes;
 use names::{Node, is_use};
@@ -190,30 +190,38 @@ fn rest_node(
     place: Place,
     known: &Known,
     things: &mut [Thing; 8192],
-    next_ahead: &mut [u32],
-    next_entries: &mut [u32],
+    next: &mut Addresses,
     code: &mut [u32],
 ) -> Writing
     requires { Small 262143 8191 (see t [] things.old [] [] []) × (place.at < 65536) }
-    ensures { (ly es : List ℕ) (us : List Used) → see result us things.new code.new next_ahead.new next_entries.new ≡ rest_node known.now.values.now ly known.now.ahead.now es known.now.rows.now known.now.marks.now n.kind n.symbol.number place.at n.one (see t us things.old code.old next_ahead.old next_entries.old) }
+    ensures { (ly es : List ℕ) (us : List Used) → see result us things.new code.new next.new.ahead next.new.entries ≡ rest_node known.now.values.now ly known.now.ahead.now es known.now.rows.now known.now.marks.now n.kind n.symbol.number place.at n.one (see t us things.old code.old next.old.ahead next.old.entries) }
 {
     let c = t.top(things);
     let ahead = known.ahead;
     if is_element(n.kind) {
-        return loops::element_node(t, n.kind, c, place, ahead, things, next_ahead, code);
+        return loops::element_node(t, n.kind, c, place, ahead, things, &mut next.ahead, code);
     }
     if is_loop(n.kind) {
-        return loops::loop_node(t, n.kind, c, things, next_ahead, code);
+        return loops::loop_node(t, n.kind, c, things, &mut next.ahead, code);
     }
     if is_choice(n.kind) {
         let mark = parts::mark_of(known.marks, n.symbol);
-        return flow::choice_node(t, n.kind, c, mark, ahead, things, next_ahead, code);
+        return flow::choice_node(t, n.kind, c, mark, ahead, things, &mut next.ahead, code);
     }
     if is_block(n.kind) {
-        return flow::block_node(t, n.kind, c, place, known.rows, things, next_ahead, code);
+        return flow::block_node(
+            t,
+            n.kind,
+            c,
+            place,
+            known.rows,
+            things,
+            &mut next.ahead,
+            code,
+        );
     }
     if is_procedure(n.kind) {
-        return flow::procedure_node(t, n.kind, c, ahead, things, next_entries, code);
+        return flow::procedure_node(t, n.kind, c, ahead, things, &mut next.entries, code);
     }
     plain_node(t, n, place, known.values, things, code)
 }
@@ -225,12 +233,11 @@ fn node(
     uses: &[u16],
     known: &Known,
     things: &mut [Thing; 8192],
-    next_ahead: &mut [u32],
-    next_entries: &mut [u32],
+    next: &mut Addresses,
     code: &mut [u32],
 ) -> Writing
     requires { Small 262143 8191 (see t [] things.old [] [] []) }
-    ensures { see result (uses_in known.now.rows.now uses.now) things.new code.new next_ahead.new next_entries.new ≡ code_node known.now.values.now known.now.layout.now known.now.ahead.now known.now.entries.now known.now.rows.now known.now.marks.now n.kind n.symbol.number (place_at known.now.places.now n.symbol.number) n.one n.two (see t (uses_in known.now.rows.now uses.now) things.old code.old next_ahead.old next_entries.old) }
+    ensures { see result (uses_in known.now.rows.now uses.now) things.new code.new next.new.ahead next.new.entries ≡ code_node known.now.values.now known.now.layout.now known.now.ahead.now known.now.entries.now known.now.rows.now known.now.marks.now n.kind n.symbol.number (place_at known.now.places.now n.symbol.number) n.one n.two (see t (uses_in known.now.rows.now uses.now) things.old code.old next.old.ahead next.old.entries) }
 {
     let p = parts::place_in(known.places, n.symbol);
     let u = n.two as usize;
@@ -240,13 +247,13 @@ fn node(
     match n.kind {
         nodes::ACTUAL => {
             let c = t.top(things);
-            actuals::actual_in(t, c, p, known, things, next_ahead, code)
+            actuals::actual_in(t, c, p, known, things, &mut next.ahead, code)
         }
         nodes::CALL_END => {
             let c = t.top(things);
             calls::call_ended(t.pop(), c, p, u, known, code)
         }
-        _ => rest_node(t, n, p, known, things, next_ahead, next_entries, code),
+        _ => rest_node(t, n, p, known, things, next, code),
     }
 }
 
@@ -256,14 +263,13 @@ fn walk(
     uses: &[u16],
     known: &Known,
     things: &mut [Thing; 8192],
-    next_ahead: &mut [u32],
-    next_entries: &mut [u32],
+    next: &mut Addresses,
     code: &mut [u32],
 )
     requires { length nodes.now ≤ 32768 }
-    ensures code_after { code.new ≡ (emitted_from (place_at known.now.places.now) known.now.values.now known.now.layout.now known.now.ahead.now known.now.entries.now known.now.rows.now known.now.marks.now nodes.now (fresh_in (uses_in known.now.rows.now uses.now) code.old next_ahead.old next_entries.old)).code }
-    ensures next_ahead_after { next_ahead.new ≡ (emitted_from (place_at known.now.places.now) known.now.values.now known.now.layout.now known.now.ahead.now known.now.entries.now known.now.rows.now known.now.marks.now nodes.now (fresh_in (uses_in known.now.rows.now uses.now) code.old next_ahead.old next_entries.old)).ahead }
-    ensures next_entries_after { next_entries.new ≡ (emitted_from (place_at known.now.places.now) known.now.values.now known.now.layout.now known.now.ahead.now known.now.entries.now known.now.rows.now known.now.marks.now nodes.now (fresh_in (uses_in known.now.rows.now uses.now) code.old next_ahead.old next_entries.old)).entries }
+    ensures code_after { code.new ≡ (emitted_from (place_at known.now.places.now) known.now.values.now known.now.layout.now known.now.ahead.now known.now.entries.now known.now.rows.now known.now.marks.now nodes.now (fresh_in (uses_in known.now.rows.now uses.now) code.old next.old.ahead next.old.entries)).code }
+    ensures ahead_after { next.new.ahead ≡ (emitted_from (place_at known.now.places.now) known.now.values.now known.now.layout.now known.now.ahead.now known.now.entries.now known.now.rows.now known.now.marks.now nodes.now (fresh_in (uses_in known.now.rows.now uses.now) code.old next.old.ahead next.old.entries)).ahead }
+    ensures entries_after { next.new.entries ≡ (emitted_from (place_at known.now.places.now) known.now.values.now known.now.layout.now known.now.ahead.now known.now.entries.now known.now.rows.now known.now.marks.now nodes.now (fresh_in (uses_in known.now.rows.now uses.now) code.old next.old.ahead next.old.entries)).entries }
 {
     let mut t = Writing {
         uses: 0,
@@ -279,45 +285,24 @@ fn walk(
         open: 0,
     };
     for &words in nodes.as_chunks::<4>().0 {
-        t = node(
-            t,
-            Node::from(words),
-            uses,
-            known,
-            things,
-            next_ahead,
-            next_entries,
-            code,
-        );
+        t = node(t, Node::from(words), uses, known, things, next, code);
     }
     t.put(code, codes::END, codes::NOWHERE, 0);
 }
 
 // The code of a program's nodes, with the addresses ahead and the procedures' as they are known; and those that are found.
-pub fn pass(
-    nodes: &[u16],
-    uses: &[u16],
-    known: &Known,
-    next_ahead: &mut [u32],
-    next_entries: &mut [u32],
-    code: &mut [u32],
-)
-    requires { (length nodes.now ≤ 32768) × (length next_ahead.old ≡ 8192) × (length next_entries.old ≡ 2048) }
+pub fn pass(nodes: &[u16], uses: &[u16], known: &Known, code: &mut [u32]) -> Addresses
+    requires { length nodes.now ≤ 32768 }
     ensures code_after { code.new ≡ (emitted known.now.values.now known.now.layout.now known.now.ahead.now known.now.entries.now known.now.rows.now known.now.marks.now (length code.old) (place_at known.now.places.now) nodes.now (uses_in known.now.rows.now uses.now)).code }
-    ensures next_ahead_after { next_ahead.new ≡ (emitted known.now.values.now known.now.layout.now known.now.ahead.now known.now.entries.now known.now.rows.now known.now.marks.now (length code.old) (place_at known.now.places.now) nodes.now (uses_in known.now.rows.now uses.now)).ahead }
-    ensures next_entries_after { next_entries.new ≡ (emitted known.now.values.now known.now.layout.now known.now.ahead.now known.now.entries.now known.now.rows.now known.now.marks.now (length code.old) (place_at known.now.places.now) nodes.now (uses_in known.now.rows.now uses.now)).entries }
+    ensures ahead_value { result.ahead ≡ (emitted known.now.values.now known.now.layout.now known.now.ahead.now known.now.entries.now known.now.rows.now known.now.marks.now (length code.old) (place_at known.now.places.now) nodes.now (uses_in known.now.rows.now uses.now)).ahead }
+    ensures entries_value { result.entries ≡ (emitted known.now.values.now known.now.layout.now known.now.ahead.now known.now.entries.now known.now.rows.now known.now.marks.now (length code.old) (place_at known.now.places.now) nodes.now (uses_in known.now.rows.now uses.now)).entries }
 {
     let mut things = [Thing::default(); 8192];
-    parts::clear(next_ahead);
-    parts::clear(next_entries);
+    let mut next = Addresses {
+        ahead: [0; 8192],
+        entries: [0; 2048],
+    };
     parts::clear(code);
-    walk(
-        nodes,
-        uses,
-        known,
-        &mut things,
-        next_ahead,
-        next_entries,
-        code,
-    )
+    walk(nodes, uses, known, &mut things, &mut next, code);
+    next
 }

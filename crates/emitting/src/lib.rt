@@ -60,6 +60,13 @@ pub struct Known<'a> {
     pub entries: &'a [u32],
 }
 
+// What a pass finds: the addresses that lay ahead, by their slots, and those of procedures, by their declarations' numbers.
+#[derive(Clone, Copy)]
+pub struct Addresses {
+    pub ahead: [u32; 8192],
+    pub entries: [u32; 2048],
+}
+
 // What is known behind some nodes of where cells lie: the type before; the activations around; the cells of the running
 // activation's scopes; how many scopes are open; how many declarations and formals there were.
 #[derive(Clone, Copy, Default)]

@@ -7,16 +7,6 @@ use crate::Known;
 use crate::emission::pass;
 use crate::layout::layout;
 
-// The code, where what lies ahead is known.
-fn again(nodes: &[u16], uses: &[u16], known: &Known, code: &mut [u32])
-    requires { length nodes.now ≤ 32768 }
-    ensures { code.new ≡ (emitted known.now.values.now known.now.layout.now known.now.ahead.now known.now.entries.now known.now.rows.now known.now.marks.now (length code.old) (place_at known.now.places.now) nodes.now (uses_in known.now.rows.now uses.now)).code }
-{
-    let mut next_ahead = [0u32; 8192];
-    let mut next_entries = [0u32; 2048];
-    pass(nodes, uses, known, &mut next_ahead, &mut next_entries, code)
-}
-
 // What lies ahead is found, then the code is written.
 fn twice(nodes: &[u16], uses: &[u16], known: &Known, code: &mut [u32])
     requires { length nodes.now ≤ 32768 }
@@ -27,15 +17,13 @@ fn twice(nodes: &[u16], uses: &[u16], known: &Known, code: &mut [u32])
         entries: &[],
         ..*known
     };
-    let mut ahead = [0u32; 8192];
-    let mut entries = [0u32; 2048];
-    pass(nodes, uses, &nothing, &mut ahead, &mut entries, code);
-    let found = Known {
-        ahead: &ahead,
-        entries: &entries,
+    let found = pass(nodes, uses, &nothing, code);
+    let told = Known {
+        ahead: &found.ahead,
+        entries: &found.entries,
         ..*known
     };
-    again(nodes, uses, &found, code)
+    pass(nodes, uses, &told, code);
 }
 
 // The cells are laid out, then the code is written.

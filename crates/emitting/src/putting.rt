@@ -4,7 +4,7 @@ ghost use Rattle.emitting.specs.model.Emission.{Used, put, with_slot, top, pushe
 ghost use Rattle.emitting.specs.model.Arrays.{things_of, seen, see, Alike};
 
 use crate::{Thing, Writing, parts};
-use answers::{Address, Place};
+use answers::Place;
 
 impl Writing {
     // An instruction: operation, place, operand.
@@ -16,10 +16,7 @@ impl Writing {
         let at = self.here.at as usize;
         parts::set_word(code, 2 * at, o + 64 * place.at);
         parts::set_word(code, 2 * at + 1, v);
-        let next = Address {
-            at: self.here.at + 1,
-        };
-        self.here = next;
+        self.here.at += 1;
         self
     }
 

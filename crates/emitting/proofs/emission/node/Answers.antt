@@ -16,7 +16,7 @@ pub returns-then-is_use : goal.returns-then-is_use
 unfolding code_node
 returns-then-is_use c =
     let args = c.args in
-    simp (sym c.is_use.ensures ∙ c.if-is_use.true) (rw c.place_in-p.ensures.at_value at (c.use_node.ensures args.known.now.values.now args.next_ahead.now args.next_entries.now))
+    simp (sym c.is_use.ensures ∙ c.if-is_use.true) (rw c.place_in-p.ensures.at_value at (c.use_node.ensures args.known.now.values.now args.next.now.ahead args.next.now.entries))
 
 pub top-c-requires : goal.top-c-requires
 top-c-requires c = let g = (fit c.args.t c.args.things.now c.requires).open_ones in omega arith
@@ -60,17 +60,17 @@ returns-in-33 c =
     let a = c.args in
     let us = uses_in a.known.now.rows.now a.uses.now in
     simp c.in-33.is
-    (rw c.place_in-p.ensures.at_value at (c.actual_in.ensures a.known.now.values.now a.known.now.layout.now a.known.now.entries.now us a.next_entries.now
-    ∙ ap (λ (f : Opened). actual_in c.args.known.now.values.now c.args.known.now.layout.now c.args.known.now.ahead.now c.args.known.now.entries.now c.args.known.now.rows.now f c.place_in-p.result.at (see c.args.t us c.args.things.now c.args.code.now c.args.next_ahead.now c.args.next_entries.now)) c.top-c.ensures))
+    (rw c.place_in-p.ensures.at_value at (c.actual_in.ensures a.known.now.values.now a.known.now.layout.now a.known.now.entries.now us a.next.now.entries
+    ∙ ap (λ (f : Opened). actual_in c.args.known.now.values.now c.args.known.now.layout.now c.args.known.now.ahead.now c.args.known.now.entries.now c.args.known.now.rows.now f c.place_in-p.result.at (see c.args.t us c.args.things.now c.args.code.now c.args.next.now.ahead c.args.next.now.entries)) c.top-c.ensures))
 
 pub returns-in-32 : goal.returns-in-32
 unfolding code_node is_use
 returns-in-32 c =
     let g = seen c.top-c-in-32.result in
     simp c.in-32.is
-    (rw c.place_in-p.ensures.at_value at (c.call_ended.ensures c.args.known.now.values.now c.args.known.now.ahead.now (uses_in c.args.known.now.rows.now c.args.uses.now) c.args.things.now c.args.next_ahead.now c.args.next_entries.now
-    ∙ ap (λ (z : State). call_ended c.args.known.now.values.now c.args.known.now.layout.now c.args.known.now.ahead.now c.args.known.now.entries.now g c.place_in-p.result.at c.args.n.two z) (c.pop.ensures.en_value (uses_in c.args.known.now.rows.now c.args.uses.now) c.args.things.now c.args.code.now c.args.next_ahead.now c.args.next_entries.now)
-    ∙ ap (λ (f : Opened). call_ended c.args.known.now.values.now c.args.known.now.layout.now c.args.known.now.ahead.now c.args.known.now.entries.now f c.place_in-p.result.at c.args.n.two (popped (see c.args.t (uses_in c.args.known.now.rows.now c.args.uses.now) c.args.things.now c.args.code.now c.args.next_ahead.now c.args.next_entries.now))) c.top-c-in-32.ensures))
+    (rw c.place_in-p.ensures.at_value at (c.call_ended.ensures c.args.known.now.values.now c.args.known.now.ahead.now (uses_in c.args.known.now.rows.now c.args.uses.now) c.args.things.now c.args.next.now.ahead c.args.next.now.entries
+    ∙ ap (λ (z : State). call_ended c.args.known.now.values.now c.args.known.now.layout.now c.args.known.now.ahead.now c.args.known.now.entries.now g c.place_in-p.result.at c.args.n.two z) (c.pop.ensures.en_value (uses_in c.args.known.now.rows.now c.args.uses.now) c.args.things.now c.args.code.now c.args.next.now.ahead c.args.next.now.entries)
+    ∙ ap (λ (f : Opened). call_ended c.args.known.now.values.now c.args.known.now.layout.now c.args.known.now.ahead.now c.args.known.now.entries.now f c.place_in-p.result.at c.args.n.two (popped (see c.args.t (uses_in c.args.known.now.rows.now c.args.uses.now) c.args.things.now c.args.code.now c.args.next.now.ahead c.args.next.now.entries))) c.top-c-in-32.ensures))
 
 pub returns-in_default : goal.returns-in_default
 unfolding code_node rest_node

@@ -1,6 +1,6 @@
 -- `emitting::emission::pass` meets its contract: all words are zero where the pass begins.
 -- Assumes nothing.
-use mathlib.Core.Path.{◌≡◌, ap, ◌∙◌}
+use mathlib.Core.Path.{◌≡◌, refl, ap, ◌∙◌}
 use mathlib.Core.List.{List}
 use Prim.Native.Nat.{ℕ}
 use lib.ListN.{length, replicate}
@@ -16,10 +16,8 @@ pub returns : goal.returns
 unfolding emitted
 returns c =
     let x = c.args in
-    let g = c.requires in
-    let a = c.clear.ensures ∙ ap (λ (n : ℕ). replicate n 0) g.1 in
-    let b = c.clear-2.ensures ∙ ap (λ (n : ℕ). replicate n 0) g.2 in
-    let f = begins (uses_in x.known.now.rows.now x.uses.now) (length x.code.now) c.clear-3.ensures a b in
+    let k = x.known.now in
+    let f = begins (uses_in k.rows.now x.uses.now) (length x.code.now) c.clear.ensures refl refl in
     let r = c.walk.ensures in
-    let e : State → State = emitted_from (place_at x.known.now.places.now) x.known.now.values.now x.known.now.layout.now x.known.now.ahead.now x.known.now.entries.now x.known.now.rows.now x.known.now.marks.now x.nodes.now in
-    record { code_after = r.code_after ∙ ap (λ (st : State). (e st).code) f; next_ahead_after = r.next_ahead_after ∙ ap (λ (st : State). (e st).ahead) f; next_entries_after = r.next_entries_after ∙ ap (λ (st : State). (e st).entries) f }
+    let e : State → State = emitted_from (place_at k.places.now) k.values.now k.layout.now k.ahead.now k.entries.now k.rows.now k.marks.now x.nodes.now in
+    record { code_after = r.code_after ∙ ap (λ (st : State). (e st).code) f; ahead_value = r.ahead_after ∙ ap (λ (st : State). (e st).ahead) f; entries_value = r.entries_after ∙ ap (λ (st : State). (e st).entries) f }

@@ -19,7 +19,7 @@ element_node-requires c =
 pub returns-then-is_element : goal.returns-then-is_element
 returns-then-is_element c =
     let args = c.args in
-    λ ly es us. c.element_node.ensures args.known.now.values.now ly es us args.next_entries.now ∙ ap (λ (f : Opened). element_node args.known.now.values.now ly args.known.now.ahead.now es args.n.kind f args.place.at (see args.t us args.things.now args.code.now args.next_ahead.now args.next_entries.now)) c.top-c.ensures ∙ rest_element args.known.now.values.now ly args.known.now.ahead.now es args.known.now.rows.now args.known.now.marks.now args.n.kind args.n.symbol.number args.place.at args.n.one (see args.t us args.things.now args.code.now args.next_ahead.now args.next_entries.now) (sym (c.is_element.ensures args.known.now.values.now ly args.known.now.ahead.now es) ∙ c.if-is_element.true)
+    λ ly es us. c.element_node.ensures args.known.now.values.now ly es us args.next.now.entries ∙ ap (λ (f : Opened). element_node args.known.now.values.now ly args.known.now.ahead.now es args.n.kind f args.place.at (see args.t us args.things.now args.code.now args.next.now.ahead args.next.now.entries)) c.top-c.ensures ∙ rest_element args.known.now.values.now ly args.known.now.ahead.now es args.known.now.rows.now args.known.now.marks.now args.n.kind args.n.symbol.number args.place.at args.n.one (see args.t us args.things.now args.code.now args.next.now.ahead args.next.now.entries) (sym (c.is_element.ensures args.known.now.values.now ly args.known.now.ahead.now es) ∙ c.if-is_element.true)
 
 pub loop_node-requires : goal.loop_node-requires
 loop_node-requires c = fit c.args.t c.args.things.now c.requires.0
@@ -27,7 +27,7 @@ loop_node-requires c = fit c.args.t c.args.things.now c.requires.0
 pub returns-then-is_loop : goal.returns-then-is_loop
 returns-then-is_loop c =
     let args = c.args in
-    λ ly es us. c.loop_node.ensures args.known.now.values.now ly args.known.now.ahead.now es us args.next_entries.now ∙ ap (λ (f : Opened). loop_node args.known.now.values.now ly args.known.now.ahead.now es args.n.kind f (see args.t us args.things.now args.code.now args.next_ahead.now args.next_entries.now)) c.top-c.ensures ∙ rest_loop args.known.now.values.now ly args.known.now.ahead.now es args.known.now.rows.now args.known.now.marks.now args.n.kind args.n.symbol.number args.place.at args.n.one (see args.t us args.things.now args.code.now args.next_ahead.now args.next_entries.now) (sym (c.is_element.ensures args.known.now.values.now ly args.known.now.ahead.now es) ∙ c.if-is_element.false) (sym c.is_loop.ensures ∙ c.if-is_loop.true)
+    λ ly es us. c.loop_node.ensures args.known.now.values.now ly args.known.now.ahead.now es us args.next.now.entries ∙ ap (λ (f : Opened). loop_node args.known.now.values.now ly args.known.now.ahead.now es args.n.kind f (see args.t us args.things.now args.code.now args.next.now.ahead args.next.now.entries)) c.top-c.ensures ∙ rest_loop args.known.now.values.now ly args.known.now.ahead.now es args.known.now.rows.now args.known.now.marks.now args.n.kind args.n.symbol.number args.place.at args.n.one (see args.t us args.things.now args.code.now args.next.now.ahead args.next.now.entries) (sym (c.is_element.ensures args.known.now.values.now ly args.known.now.ahead.now es) ∙ c.if-is_element.false) (sym c.is_loop.ensures ∙ c.if-is_loop.true)
 
 pub choice_node-requires : goal.choice_node-requires
 choice_node-requires c = fit c.args.t c.args.things.now c.requires.0
@@ -35,7 +35,7 @@ choice_node-requires c = fit c.args.t c.args.things.now c.requires.0
 pub returns-then-is_choice : goal.returns-then-is_choice
 returns-then-is_choice c =
     let args = c.args in
-    λ ly es us. (rw c.mark_of-mark.ensures.value at (c.choice_node.ensures args.known.now.values.now ly es us args.next_entries.now ∙ ap (λ (f : Opened). choice_node args.known.now.values.now ly args.known.now.ahead.now es args.n.kind f c.mark_of-mark.result (see args.t us args.things.now args.code.now args.next_ahead.now args.next_entries.now)) c.top-c.ensures)) ∙ rest_choice args.known.now.values.now ly args.known.now.ahead.now es args.known.now.rows.now args.known.now.marks.now args.n.kind args.n.symbol.number args.place.at args.n.one (see args.t us args.things.now args.code.now args.next_ahead.now args.next_entries.now) (sym (c.is_element.ensures args.known.now.values.now ly args.known.now.ahead.now es) ∙ c.if-is_element.false) (sym c.is_loop.ensures ∙ c.if-is_loop.false) (sym (c.is_choice.ensures args.known.now.values.now ly args.known.now.ahead.now es) ∙ c.if-is_choice.true)
+    λ ly es us. (rw c.mark_of-mark.ensures.value at (c.choice_node.ensures args.known.now.values.now ly es us args.next.now.entries ∙ ap (λ (f : Opened). choice_node args.known.now.values.now ly args.known.now.ahead.now es args.n.kind f c.mark_of-mark.result (see args.t us args.things.now args.code.now args.next.now.ahead args.next.now.entries)) c.top-c.ensures)) ∙ rest_choice args.known.now.values.now ly args.known.now.ahead.now es args.known.now.rows.now args.known.now.marks.now args.n.kind args.n.symbol.number args.place.at args.n.one (see args.t us args.things.now args.code.now args.next.now.ahead args.next.now.entries) (sym (c.is_element.ensures args.known.now.values.now ly args.known.now.ahead.now es) ∙ c.if-is_element.false) (sym c.is_loop.ensures ∙ c.if-is_loop.false) (sym (c.is_choice.ensures args.known.now.values.now ly args.known.now.ahead.now es) ∙ c.if-is_choice.true)
 
 pub block_node-requires : goal.block_node-requires
 block_node-requires c =
@@ -45,7 +45,7 @@ block_node-requires c =
 pub returns-then-is_block : goal.returns-then-is_block
 returns-then-is_block c =
     let args = c.args in
-    λ ly es us. c.block_node.ensures args.known.now.values.now ly args.known.now.ahead.now es us args.next_entries.now ∙ ap (λ (f : Opened). block_node args.known.now.values.now ly args.known.now.ahead.now es args.known.now.rows.now args.n.kind f args.place.at (see args.t us args.things.now args.code.now args.next_ahead.now args.next_entries.now)) c.top-c.ensures ∙ rest_block args.known.now.values.now ly args.known.now.ahead.now es args.known.now.rows.now args.known.now.marks.now args.n.kind args.n.symbol.number args.place.at args.n.one (see args.t us args.things.now args.code.now args.next_ahead.now args.next_entries.now) (sym (c.is_element.ensures args.known.now.values.now ly args.known.now.ahead.now es) ∙ c.if-is_element.false) (sym c.is_loop.ensures ∙ c.if-is_loop.false) (sym (c.is_choice.ensures args.known.now.values.now ly args.known.now.ahead.now es) ∙ c.if-is_choice.false) (sym (c.is_block.ensures args.known.now.values.now ly args.known.now.ahead.now es) ∙ c.if-is_block.true)
+    λ ly es us. c.block_node.ensures args.known.now.values.now ly args.known.now.ahead.now es us args.next.now.entries ∙ ap (λ (f : Opened). block_node args.known.now.values.now ly args.known.now.ahead.now es args.known.now.rows.now args.n.kind f args.place.at (see args.t us args.things.now args.code.now args.next.now.ahead args.next.now.entries)) c.top-c.ensures ∙ rest_block args.known.now.values.now ly args.known.now.ahead.now es args.known.now.rows.now args.known.now.marks.now args.n.kind args.n.symbol.number args.place.at args.n.one (see args.t us args.things.now args.code.now args.next.now.ahead args.next.now.entries) (sym (c.is_element.ensures args.known.now.values.now ly args.known.now.ahead.now es) ∙ c.if-is_element.false) (sym c.is_loop.ensures ∙ c.if-is_loop.false) (sym (c.is_choice.ensures args.known.now.values.now ly args.known.now.ahead.now es) ∙ c.if-is_choice.false) (sym (c.is_block.ensures args.known.now.values.now ly args.known.now.ahead.now es) ∙ c.if-is_block.true)
 
 pub procedure_node-requires : goal.procedure_node-requires
 procedure_node-requires c = fit c.args.t c.args.things.now c.requires.0
@@ -53,7 +53,7 @@ procedure_node-requires c = fit c.args.t c.args.things.now c.requires.0
 pub returns-then-is_procedure : goal.returns-then-is_procedure
 returns-then-is_procedure c =
     let args = c.args in
-    λ ly es us. c.procedure_node.ensures args.known.now.values.now ly es us args.next_ahead.now ∙ ap (λ (f : Opened). procedure_node args.known.now.values.now ly args.known.now.ahead.now es args.n.kind f (see args.t us args.things.now args.code.now args.next_ahead.now args.next_entries.now)) c.top-c.ensures ∙ rest_procedure args.known.now.values.now ly args.known.now.ahead.now es args.known.now.rows.now args.known.now.marks.now args.n.kind args.n.symbol.number args.place.at args.n.one (see args.t us args.things.now args.code.now args.next_ahead.now args.next_entries.now) (sym (c.is_element.ensures args.known.now.values.now ly args.known.now.ahead.now es) ∙ c.if-is_element.false) (sym c.is_loop.ensures ∙ c.if-is_loop.false) (sym (c.is_choice.ensures args.known.now.values.now ly args.known.now.ahead.now es) ∙ c.if-is_choice.false) (sym (c.is_block.ensures args.known.now.values.now ly args.known.now.ahead.now es) ∙ c.if-is_block.false) (sym c.is_procedure.ensures ∙ c.if-is_procedure.true)
+    λ ly es us. c.procedure_node.ensures args.known.now.values.now ly es us args.next.now.ahead ∙ ap (λ (f : Opened). procedure_node args.known.now.values.now ly args.known.now.ahead.now es args.n.kind f (see args.t us args.things.now args.code.now args.next.now.ahead args.next.now.entries)) c.top-c.ensures ∙ rest_procedure args.known.now.values.now ly args.known.now.ahead.now es args.known.now.rows.now args.known.now.marks.now args.n.kind args.n.symbol.number args.place.at args.n.one (see args.t us args.things.now args.code.now args.next.now.ahead args.next.now.entries) (sym (c.is_element.ensures args.known.now.values.now ly args.known.now.ahead.now es) ∙ c.if-is_element.false) (sym c.is_loop.ensures ∙ c.if-is_loop.false) (sym (c.is_choice.ensures args.known.now.values.now ly args.known.now.ahead.now es) ∙ c.if-is_choice.false) (sym (c.is_block.ensures args.known.now.values.now ly args.known.now.ahead.now es) ∙ c.if-is_block.false) (sym c.is_procedure.ensures ∙ c.if-is_procedure.true)
 
 pub plain_node-requires : goal.plain_node-requires
 plain_node-requires c = (fit c.args.t c.args.things.now c.requires.0, c.requires.0.things, c.requires.1)
@@ -61,4 +61,4 @@ plain_node-requires c = (fit c.args.t c.args.things.now c.requires.0, c.requires
 pub returns : goal.returns
 returns c =
     let args = c.args in
-    λ ly es us. c.plain_node.ensures ly args.known.now.ahead.now es us args.next_ahead.now args.next_entries.now ∙ rest_plain args.known.now.values.now ly args.known.now.ahead.now es args.known.now.rows.now args.known.now.marks.now args.n.kind args.n.symbol.number args.place.at args.n.one (see args.t us args.things.now args.code.now args.next_ahead.now args.next_entries.now) (sym (c.is_element.ensures args.known.now.values.now ly args.known.now.ahead.now es) ∙ c.if-is_element.false) (sym c.is_loop.ensures ∙ c.if-is_loop.false) (sym (c.is_choice.ensures args.known.now.values.now ly args.known.now.ahead.now es) ∙ c.if-is_choice.false) (sym (c.is_block.ensures args.known.now.values.now ly args.known.now.ahead.now es) ∙ c.if-is_block.false) (sym c.is_procedure.ensures ∙ c.if-is_procedure.false)
+    λ ly es us. c.plain_node.ensures ly args.known.now.ahead.now es us args.next.now.ahead args.next.now.entries ∙ rest_plain args.known.now.values.now ly args.known.now.ahead.now es args.known.now.rows.now args.known.now.marks.now args.n.kind args.n.symbol.number args.place.at args.n.one (see args.t us args.things.now args.code.now args.next.now.ahead args.next.now.entries) (sym (c.is_element.ensures args.known.now.values.now ly args.known.now.ahead.now es) ∙ c.if-is_element.false) (sym c.is_loop.ensures ∙ c.if-is_loop.false) (sym (c.is_choice.ensures args.known.now.values.now ly args.known.now.ahead.now es) ∙ c.if-is_choice.false) (sym (c.is_block.ensures args.known.now.values.now ly args.known.now.ahead.now es) ∙ c.if-is_block.false) (sym c.is_procedure.ensures ∙ c.if-is_procedure.false)

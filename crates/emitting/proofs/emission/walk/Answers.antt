@@ -14,7 +14,7 @@ use Rattle.emitting.proofs.emission.walk.Goals as goal
 
 pub loop-words-init : goal.loop-words-init
 unfolding things_of AllSlim
-loop-words-init c = (record { at = omega arith; slots = omega arith; level = omega arith; loops = omega arith; cells = omega arith; declared = omega arith; variable = omega arith; many = omega arith; things = tt }, refl, omega arith, refl, refl, refl)
+loop-words-init c = (record { at = omega arith; slots = omega arith; level = omega arith; loops = omega arith; cells = omega arith; declared = omega arith; variable = omega arith; many = omega arith; things = tt }, refl, omega arith, refl)
 
 pub node-t-requires : goal.node-t-requires
 node-t-requires c =
@@ -22,12 +22,12 @@ node-t-requires c =
     let n = c.as_chunks.ensures.front_len in
     let h = c.loop-words-test.true in
     let r = c.requires in
-    small_alone l.t (uses_in c.args.known.now.rows.now c.args.uses.now) l.things l.code l.next_ahead l.next_entries (small_up (see c.loop-words.t (uses_in c.args.known.now.rows.now c.args.uses.now) c.loop-words.things c.loop-words.code c.loop-words.next_ahead c.loop-words.next_entries) l.invariant.0 (omega arith) (omega arith))
+    small_alone l.t (uses_in c.args.known.now.rows.now c.args.uses.now) l.things l.code l.next.ahead l.next.entries (small_up (see c.loop-words.t (uses_in c.args.known.now.rows.now c.args.uses.now) c.loop-words.things c.loop-words.code c.loop-words.next.ahead c.loop-words.next.entries) l.invariant.0 (omega arith) (omega arith))
 
 pub loop-words-preserved : goal.loop-words-preserved
 loop-words-preserved c =
     let l = c.loop-words in
-    let z = see c.loop-words.t (uses_in c.args.known.now.rows.now c.args.uses.now) c.loop-words.things c.loop-words.code c.loop-words.next_ahead c.loop-words.next_entries in
+    let z = see c.loop-words.t (uses_in c.args.known.now.rows.now c.args.uses.now) c.loop-words.things c.loop-words.code c.loop-words.next.ahead c.loop-words.next.entries in
     let w = c.args.nodes.now in
     let i = l.words-index in
     let m = c.as_chunks.ensures in
@@ -45,15 +45,13 @@ loop-words-preserved c =
       subst (Small (65536 + 10 * (i + 1)) (i + 1)) (sym e) (small_up _ s (omega arith) (omega arith)),
       ap (fold_nodes (placed_node c.args.known.now.values.now c.args.known.now.layout.now c.args.known.now.ahead.now c.args.known.now.entries.now c.args.known.now.rows.now c.args.known.now.marks.now (place_at c.args.known.now.places.now)) (drop (4 * (i + 1)) w)) e ∙ sym (fold_chunk (placed_node c.args.known.now.values.now c.args.known.now.layout.now c.args.known.now.ahead.now c.args.known.now.entries.now c.args.known.now.rows.now c.args.known.now.marks.now (place_at c.args.known.now.places.now)) w c.as_chunks.result.0.now i _ n z m.front h f c.from.ensures) ∙ l.invariant.1,
       omega arith,
-      k.next_ahead ∙ l.invariant.3,
-      k.next_entries ∙ l.invariant.4,
-      k.code ∙ l.invariant.5,
+      k.code ∙ l.invariant.3,
     )
 
 pub returns : goal.returns
 returns c =
     let l = c.loop-words in
     let w = c.args.nodes.now in
-    let z = see c.loop-words.t (uses_in c.args.known.now.rows.now c.args.uses.now) c.loop-words.things c.loop-words.code c.loop-words.next_ahead c.loop-words.next_entries in
-    let e = c.put.ensures.en_after (uses_in c.args.known.now.rows.now c.args.uses.now) l.things l.next_ahead l.next_entries ∙ ap (put 1 0 0) (sym (fold_end (placed_node c.args.known.now.values.now c.args.known.now.layout.now c.args.known.now.ahead.now c.args.known.now.entries.now c.args.known.now.rows.now c.args.known.now.marks.now (place_at c.args.known.now.places.now)) w l.words-index z (omega (arith, c.as_chunks.ensures.front_len))) ∙ l.invariant.1) in
-    record { code_after = ap (λ (st : State). st.code) e; next_ahead_after = ap (λ (st : State). st.ahead) e; next_entries_after = ap (λ (st : State). st.entries) e }
+    let z = see c.loop-words.t (uses_in c.args.known.now.rows.now c.args.uses.now) c.loop-words.things c.loop-words.code c.loop-words.next.ahead c.loop-words.next.entries in
+    let e = c.put.ensures.en_after (uses_in c.args.known.now.rows.now c.args.uses.now) l.things l.next.ahead l.next.entries ∙ ap (put 1 0 0) (sym (fold_end (placed_node c.args.known.now.values.now c.args.known.now.layout.now c.args.known.now.ahead.now c.args.known.now.entries.now c.args.known.now.rows.now c.args.known.now.marks.now (place_at c.args.known.now.places.now)) w l.words-index z (omega (arith, c.as_chunks.ensures.front_len))) ∙ l.invariant.1) in
+    record { code_after = ap (λ (st : State). st.code) e; ahead_after = ap (λ (st : State). st.ahead) e; entries_after = ap (λ (st : State). st.entries) e }

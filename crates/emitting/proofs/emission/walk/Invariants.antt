@@ -10,9 +10,7 @@ use Rattle.emitting.proofs.emission.walk.Given as goal
 
 abbrev pub invariant-loop-words : goal.invariant-loop-words
 invariant-loop-words l =
-    Small (65536 + 10 * l.words-index) l.words-index (see l.t (uses_in l.known.rows.now l.uses) l.things l.code l.next_ahead l.next_entries)
-    × (fold_nodes (placed_node l.known.values.now l.known.layout.now l.known.ahead.now l.known.entries.now l.known.rows.now l.known.marks.now (place_at l.known.places.now)) (drop (4 * l.words-index) l.nodes) (see l.t (uses_in l.known.rows.now l.uses) l.things l.code l.next_ahead l.next_entries) ≡ fold_nodes (placed_node l.known.values.now l.known.layout.now l.known.ahead.now l.known.entries.now l.known.rows.now l.known.marks.now (place_at l.known.places.now)) l.nodes (fresh_in (uses_in l.known.rows.now l.uses) l.initial.code l.initial.next_ahead l.initial.next_entries))
+    Small (65536 + 10 * l.words-index) l.words-index (see l.t (uses_in l.known.rows.now l.uses) l.things l.code l.next.ahead l.next.entries)
+    × (fold_nodes (placed_node l.known.values.now l.known.layout.now l.known.ahead.now l.known.entries.now l.known.rows.now l.known.marks.now (place_at l.known.places.now)) (drop (4 * l.words-index) l.nodes) (see l.t (uses_in l.known.rows.now l.uses) l.things l.code l.next.ahead l.next.entries) ≡ fold_nodes (placed_node l.known.values.now l.known.layout.now l.known.ahead.now l.known.entries.now l.known.rows.now l.known.marks.now (place_at l.known.places.now)) l.nodes (fresh_in (uses_in l.known.rows.now l.uses) l.initial.code l.initial.next.ahead l.initial.next.entries))
     × (4 * l.words-index ≤ length l.nodes)
-    × (length l.next_ahead ≡ length l.initial.next_ahead)
-    × (length l.next_entries ≡ length l.initial.next_entries)
     × (length l.code ≡ length l.initial.code)
