@@ -2,22 +2,12 @@
 ghost use Rattle.std.specs.Prelude.{◌≡◌, ◌<◌, get_or};
 ghost use Rattle.table.specs.Sections.{rows_at, nodes_at};
 
-fn wide(word: u16) -> usize
-    ensures value { result ≡ word }
-    ensures upper_bound { result < 65536 }
-{
-    word as usize
-}
-
 // A word of the table; 0 behind its end.
 pub fn word(table: &[u16], at: usize) -> usize
     ensures value { result ≡ get_or table.now at 0 }
     ensures upper_bound { result < 65536 }
 {
-    if at < table.len() {
-        return wide(table[at]);
-    }
-    0
+    usize::from(table.get(at).copied().unwrap_or(0))
 }
 
 // Where the counts of the declarations and of the nodes stand.

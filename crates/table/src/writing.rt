@@ -6,65 +6,37 @@ ghost use Rattle.table.specs.model.Writing.{Wrote, Enters, Writes, among, place_
 
 use answers::Ordinal;
 use grammar::nodes;
-use names::Meant;
-use names::meanings::meant;
+use names::meanings::{NOTHING, meant};
+use names::{Meant, Node, Row, is_use};
 
-// The place of a symbol, as the table holds it.
+// The place of a symbol in 16 bits, as the table holds it; 0 behind the last one.
 fn place_word(places: &[usize; 2048], symbol: Ordinal) -> u16
     ensures { result ≡ place_of places.now symbol.number }
 {
-    place_in(places, symbol.number as usize)
-}
-
-// A place in 16 bits, 0 behind the last one.
-fn place_in(places: &[usize], s: usize) -> u16
-    ensures { result ≡ place_of places.now s }
-{
-    if s < places.len() {
-        return (places[s] % 65536) as u16;
-    }
-    0
+    let place = places.get(symbol.number as usize).copied().unwrap_or(0);
+    (place % 65536) as u16
 }
 
 // A word of some, 0 behind them.
 fn word_at(words: &[u16], at: usize) -> u16
     ensures { result ≡ get_or words.now at 0 }
 {
-    if at < words.len() { words[at] } else { 0 }
+    words.get(at).copied().unwrap_or(0)
 }
 
-// Writes a word.
-fn put(table: &mut [u16], at: usize, word: u16)
-    requires { at < length table.old }
-    ensures { Wrote table.old table.new at (word ∷ []) }
+// Writes words from a place on.
+fn put(table: &mut [u16], at: usize, words: &[u16])
+    requires { at + length words.now ≤ length table.old }
+    ensures { Wrote table.old table.new at words.now }
 {
-    table[at] = word;
-}
-
-// Writes three words.
-fn put_three(table: &mut [u16], at: usize, a: u16, b: u16, c: u16)
-    requires { at + 3 ≤ length table.old }
-    ensures { Wrote table.old table.new at (a ∷ b ∷ c ∷ []) }
-{
-    put(table, at, a);
-    put(table, at + 1, b);
-    put(table, at + 2, c);
-}
-
-// Writes four words.
-fn put_four(table: &mut [u16], at: usize, a: u16, b: u16, c: u16, d: u16)
-    requires { at + 4 ≤ length table.old }
-    ensures { Wrote table.old table.new at (a ∷ b ∷ c ∷ d ∷ []) }
-{
-    put_three(table, at, a, b, c);
-    put(table, at + 3, d);
+    table[at..at + words.len()].copy_from_slice(words);
 }
 
 // A kind of a declaration in the table.
 fn kind_number(kind: u16) -> u16
     ensures { result ≡ kind - 4 }
 {
-    if kind < 4 { 0 } else { kind - 4 }
+    kind.saturating_sub(4)
 }
 
 // A use: its place, its kind, and the place of the declaring name or the environment number.
@@ -86,20 +58,10 @@ fn put_use(
             let kind = kind_number(word_at(rows, r));
             let symbol = word_at(rows, r + 1);
             let declared = place_word(places, Ordinal { number: symbol });
-            put_three(table, at, p, kind, declared)
+            put(table, at, &[p, kind, declared])
         }
-        Meant::Given(e) => put_three(table, at, p, 0, e.number),
-        Meant::Nothing => put_three(table, at, p, 0, 0),
-    }
-}
-
-// Whether a node is of a use.
-fn is_use(kind: u16) -> bool
-    ensures { result ≡ is_use kind }
-{
-    match kind {
-        nodes::FOR | nodes::LEFT | nodes::USE | nodes::CALL => true,
-        _ => false,
+        Meant::Given(e) => put(table, at, &[p, 0, e.number]),
+        Meant::Nothing => put(table, at, &[p, 0, 0]),
     }
 }
 
@@ -107,7 +69,7 @@ fn is_use(kind: u16) -> bool
 fn use_at(uses: &[u16], u: usize) -> u16
     ensures { result ≡ get_or uses.now u 8197 }
 {
-    if u < uses.len() { uses[u] } else { 8197 }
+    uses.get(u).copied().unwrap_or(NOTHING)
 }
 
 // The uses among the nodes, from a place on; gives the place behind them.
@@ -125,18 +87,13 @@ fn put_uses(
 {
     let mut at = from;
     let mut u = 0;
-    let mut i = 0;
-    while 4 * i + 3 < nodes.len() {
-        let k = 4 * i;
-        if is_use(nodes[k]) {
-            let symbol = Ordinal {
-                number: nodes[k + 1],
-            };
-            put_use(table, at, symbol, use_at(uses, u), rows, places);
+    for &words in nodes.as_chunks::<4>().0 {
+        let n = Node::from(words);
+        if is_use(n.kind) {
+            put_use(table, at, n.symbol, use_at(uses, u), rows, places);
             at += 3;
             u += 1;
         }
-        i += 1;
     }
     at
 }
@@ -148,17 +105,12 @@ fn put_declarations(table: &mut [u16], from: usize, rows: &[u16], places: &[usiz
     ensures value { result ≡ from + length (declaration_words (place_of places.now) rows.now) }
 {
     let mut at = from;
-    let mut j = 0;
-    while 4 * j + 3 < rows.len() {
-        let k = 4 * j;
-        let symbol = Ordinal {
-            number: rows[k + 1],
-        };
-        let place = place_word(places, symbol);
-        let kind = kind_number(rows[k]);
-        put_four(table, at, place, kind, rows[k + 2], rows[k + 3]);
+    for &words in rows.as_chunks::<4>().0 {
+        let r = Row::from(words);
+        let place = place_word(places, r.symbol);
+        let kind = kind_number(r.kind);
+        put(table, at, &[place, kind, r.scope, r.sort]);
         at += 4;
-        j += 1;
     }
     at
 }
@@ -180,16 +132,11 @@ fn put_nodes(table: &mut [u16], from: usize, nodes: &[u16], places: &[usize; 204
     ensures value { result ≡ from + length (node_words (place_of places.now) nodes.now) }
 {
     let mut at = from;
-    let mut i = 0;
-    while 4 * i + 3 < nodes.len() {
-        let k = 4 * i;
-        let symbol = Ordinal {
-            number: nodes[k + 1],
-        };
-        let place = node_place(nodes[k], symbol, places);
-        put_four(table, at, nodes[k], place, nodes[k + 2], nodes[k + 3]);
+    for &words in nodes.as_chunks::<4>().0 {
+        let n = Node::from(words);
+        let place = node_place(n.kind, n.symbol, places);
+        put(table, at, &[n.kind, place, n.one, n.two]);
         at += 4;
-        i += 1;
     }
     at
 }
@@ -206,11 +153,11 @@ fn put_all(
     requires { (length (table_behind (place_of places.now) rows.now own.now nodes.now uses.now) ≤ length table.old) × (length nodes.now ≤ 32768) × (length own.now ≤ 32768) × (length uses.now ≤ 8192) }
     ensures { Wrote table.old table.new 0 (table_behind (place_of places.now) rows.now own.now nodes.now uses.now) }
 {
-    put(table, 0, uses.len() as u16);
+    put(table, 0, &[uses.len() as u16]);
     let a = put_uses(table, 1, nodes, uses, rows, places);
-    put(table, a, (own.len() / 4) as u16);
+    put(table, a, &[(own.len() / 4) as u16]);
     let b = put_declarations(table, a + 1, own, places);
-    put(table, b, (nodes.len() / 4) as u16);
+    put(table, b, &[(nodes.len() / 4) as u16]);
     put_nodes(table, b + 1, nodes, places);
 }
 
@@ -220,16 +167,12 @@ fn uses_among(nodes: &[u16]) -> usize
     ensures value { result ≡ among is_use nodes.now }
     ensures upper_bound { result ≤ 8192 }
 {
-    let mut n = 0;
-    let mut i = 0;
-    while 4 * i + 3 < nodes.len() {
-        let k = 4 * i;
-        if is_use(nodes[k]) {
-            n += 1;
-        }
-        i += 1;
-    }
-    n
+    nodes
+        .as_chunks::<4>()
+        .0
+        .iter()
+        .filter(|node| is_use(node[0]))
+        .count()
 }
 
 // How many words the table of some arrays has.
@@ -296,12 +239,7 @@ fn fourth_kind(kind: u16, place: u16) -> u16
 pub fn fourths(words: &mut [u16])
     ensures { words.new ≡ the-fourths words.old }
 {
-    let mut i = 0;
-    while 3 * i + 2 < words.len() {
-        let k = 3 * i;
-        let kind = fourth_kind(words[k + 1], words[k + 2]);
-        let second = k + 1;
-        words[second] = kind;
-        i += 1;
+    for i in 0..words.len() / 3 {
+        words[3 * i + 1] = fourth_kind(words[3 * i + 1], words[3 * i + 2]);
     }
 }

@@ -2,7 +2,7 @@
 -- and that is why there is room for it. Assumes nothing.
 use mathlib.Core.Path.{◌≡◌, refl, sym}
 use mathlib.Core.List.{List, [], ◌∷◌, ◌++◌, append-nil}
-use Prim.Native.Nat.{ℕ, ◌+◌, ◌/◌, ◌≤◌, ◌<◌}
+use Prim.Native.Nat.{ℕ, ◌+◌, ◌/◌, ◌≤◌}
 use native.Mathlib.Omega.{arith}
 use lib.ListN.{length}
 use Rattle.table.specs.Table.{declaration_words, node_words}
@@ -48,7 +48,7 @@ module _ (place : ℕ → ℕ) (rows own nodes uses : List ℕ) where
   whole w p = (all_written (some_more {rest = []} w (sym (append-nil (node_words place nodes))) p refl) refl).0
 
   -- there is room for the next word, and for the next words
-  room_word : {old new : List ℕ} {at x : ℕ} {rest : List ℕ} → Left old new at (x ∷ rest) → length (table_behind place rows own nodes uses) ≤ length old → at < length new
+  room_word : {old new : List ℕ} {at x : ℕ} {rest : List ℕ} → Left old new at (x ∷ rest) → length (table_behind place rows own nodes uses) ≤ length old → at + 1 ≤ length new
   room_word {x = x} {rest} w h = let r = room_next (x ∷ []) rest w refl (omega arith) in omega arith
 
   room : {old new : List ℕ} {at : ℕ} (u rest : List ℕ) → Left old new at (u ++ rest) → length (table_behind place rows own nodes uses) ≤ length old → at + length u ≤ length new
