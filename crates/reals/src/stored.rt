@@ -7,6 +7,7 @@ ghost use Rattle.reals.specs.model.Stored.{kind_of, load_of, cell_of, whole_in, 
 use crate::words::{bits_in, bits_of, long_number, long_word};
 use crate::{Cell, Form, Two, Value};
 
+// Kept: what may not change, `kind_of` holds it: a cell's kind is one of the store's numbers.
 const UNSET_WHOLE: i64 = 0;
 
 const UNSET_TRUTH: i64 = 1;
