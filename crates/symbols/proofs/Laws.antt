@@ -29,29 +29,9 @@ pub both : (x y : Bool) → (x && y) ≡ true → (x ≡ true) × (y ≡ true)
 both true y h = (refl, h)
 both false y h = let e : ◌≡◌ {A = Bool} false true = h in (e, cc)
 
--- ---- blanks, and bytes up to another
+-- ---- bytes up to another
 
 module _ (s : List ℕ) (i : ℕ) where
-  pub gap_on : i < length s → blank (get_or s i 0) ≡ true → gap (drop i s) ≡ suc (gap (drop (i + 1) s))
-  unfolding gap
-  gap_on h e = rw (peel s i h, e)
-
-  pub gap_stop : i < length s → blank (get_or s i 0) ≡ false → gap (drop i s) ≡ 0
-  unfolding gap
-  gap_stop h e = rw (peel s i h, e)
-
-  pub gap_end : length s ≤ i → gap (drop i s) ≡ 0
-  unfolding gap
-  gap_end h = rw (drop_of_length-le s h)
-
-  pub before_on : (q : ℕ) → i < length s → eqb (get_or s i 0) q ≡ false → length (before q (drop i s)) ≡ suc (length (before q (drop (i + 1) s)))
-  unfolding before
-  before_on q h e = rw (peel s i h, e)
-
-  pub before_stop : (q : ℕ) → i < length s → eqb (get_or s i 0) q ≡ true → length (before q (drop i s)) ≡ 0
-  unfolding before
-  before_stop q h e = rw (peel s i h, e)
-
   pub before_end : (q : ℕ) → length s ≤ i → length (before q (drop i s)) ≡ 0
   unfolding before
   before_end q h = rw (drop_of_length-le s h)
@@ -178,30 +158,6 @@ pub number_more : (v : ℕ) (s : List ℕ) (i : ℕ) → i < length s → digit 
 unfolding value_from
 number_more v s i h e =
     rw (these_one digit s i h e) (sym (capped_from (10 * v + (get_or s i 0 - 48)) (these digit (drop (i + 1) s))))
-
--- ---- the next letter or digit
-
--- what is no part of the sort and stands first is passed over where it is blank; then one of the sort stands, or none is left
-module _ (sort : ℕ → Bool) (apart : (b : ℕ) → blank b ≡ true → sort b ≡ false) where
-  pub these_next : (bs : List ℕ) → gap bs < length bs → these sort bs ≡ cond (sort (get_or bs (gap bs) 0)) (get_or bs (gap bs) 0 ∷ these sort (drop (suc (gap bs)) bs)) []
-  unfolding these gap
-  these_next [] h = absurd (omega arith)
-  these_next (b ∷ bs) h = go (blank b) refl (λ k. these_next bs k) h
-    where
-      go : (t : Bool) → blank b ≡ t → (gap bs < length bs → these sort bs ≡ cond (sort (get_or bs (gap bs) 0)) (get_or bs (gap bs) 0 ∷ these sort (drop (suc (gap bs)) bs)) [])
-          → cond t (suc (gap bs)) 0 < length (b ∷ bs)
-          → cond (sort b) (b ∷ these sort bs) (cond t (these sort bs) []) ≡ cond (sort (get_or (b ∷ bs) (cond t (suc (gap bs)) 0) 0)) (get_or (b ∷ bs) (cond t (suc (gap bs)) 0) 0 ∷ these sort (drop (suc (cond t (suc (gap bs)) 0)) (b ∷ bs))) []
-      go true e ih k = rw (apart b e) (ih (omega arith))
-      go false e ih k = refl
-
-  pub these_none : (bs : List ℕ) → length bs ≤ gap bs → these sort bs ≡ []
-  unfolding these gap
-  these_none [] h = refl
-  these_none (b ∷ bs) h = go (blank b) refl (λ k. these_none bs k) h
-    where
-      go : (t : Bool) → blank b ≡ t → (length bs ≤ gap bs → these sort bs ≡ []) → length (b ∷ bs) ≤ cond t (suc (gap bs)) 0 → cond (sort b) (b ∷ these sort bs) (cond t (these sort bs) []) ≡ []
-      go true e ih k = rw (apart b e) (ih (omega arith))
-      go false e ih k = absurd (omega arith)
 
 -- ---- words
 

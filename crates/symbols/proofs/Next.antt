@@ -1,4 +1,4 @@
--- The next letter or digit of a name, blanks before it passed over; and two names told letter by letter.
+-- Two names told letter by letter.
 -- Assumes nothing.
 use mathlib.Core.Path.{◌≡◌, refl, sym, ap, ◌∙◌}
 use mathlib.Core.Bool.{Bool, true, false, not}
@@ -13,31 +13,6 @@ use Rattle.std.specs.Prelude.{Option, Some, None}
 use Rattle.symbols.specs.Names.{in_name, equal, folded, same_name}
 use Rattle.symbols.specs.Scan.{gap}
 use Rattle.symbols.specs.model.Steps.{rest_of, NextLetter}
-use Rattle.symbols.proofs.Laws.{these_next, these_none}
-use Rattle.symbols.proofs.Follows.{blank_no_name}
-
--- i: where the blanks from `from` on end
-module _ (s : List ℕ) (from i : ℕ) (e : i ≡ from + gap (drop from s)) where
-  pub next_here : i < length s → in_name (get_or s i 0) ≡ true → NextLetter s from (Some i)
-  next_here h p =
-      let bs = drop from s in
-      let k : gap bs < length bs = omega (arith, e, length-drop from s, h) in
-      let g : get_or bs (gap bs) 0 ≡ get_or s i 0 = get_or-drop from s (gap bs) 0 ∙ ap (λ (k : ℕ). get_or s k 0) (sym e) in
-      let n : from + suc (gap bs) ≡ i + 1 = omega (arith, e) in
-      let d : drop (suc (gap bs)) bs ≡ drop (i + 1) s = drop-drop (suc (gap bs)) from s ∙ ap (λ (k : ℕ). drop k s) n in
-      record { same = these_next in_name blank_no_name bs k ∙ rw (g, p, d); within = (omega (arith, e), h) }
-
-  pub next_other : i < length s → in_name (get_or s i 0) ≡ false → NextLetter s from None
-  next_other h p =
-      let bs = drop from s in
-      let k : gap bs < length bs = omega (arith, e, length-drop from s, h) in
-      let g : get_or bs (gap bs) 0 ≡ get_or s i 0 = get_or-drop from s (gap bs) 0 ∙ ap (λ (k : ℕ). get_or s k 0) (sym e) in
-      record { same = these_next in_name blank_no_name bs k ∙ rw (g, p); within = tt }
-
-  pub next_end : length s ≤ i → NextLetter s from None
-  next_end h =
-      let bs = drop from s in
-      record { same = these_none in_name blank_no_name bs (omega (arith, e, length-drop from s, h)); within = tt }
 
 -- ---- letter by letter
 

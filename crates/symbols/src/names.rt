@@ -3,19 +3,23 @@ ghost use Rattle.std.specs.Prelude.{◌≡◌};
 ghost use Rattle.symbols.specs.Names.{letters_at, same_name};
 ghost use Rattle.symbols.specs.model.Steps.{NextLetter};
 
-use crate::text::{blanks_end, is_name_byte, same_letter};
+use crate::text::{is_blank, is_name_byte, same_letter};
 use answers::Place;
 
 // The place of the next letter or digit of a name from `from` on; none where the name has ended.
 fn next_letter(source: &[u8], from: usize) -> Option<usize>
     ensures { NextLetter source.now from result }
 {
-    let i = blanks_end(source, from);
-    if i < source.len() && is_name_byte(source[i]) {
-        Some(i)
-    } else {
-        None
+    for i in from..source.len() {
+        let b = source[i];
+        if is_name_byte(b) {
+            return Some(i);
+        }
+        if !is_blank(b) {
+            return None;
+        }
     }
+    None
 }
 
 // Whether the names at two places of the source are the same.

@@ -62,9 +62,9 @@ pub fn fold(b: u8) -> u8
     b.to_ascii_lowercase()
 }
 
-// Two bytes are the same but for letter case.
+// Two bytes are the same but for letter case. Most that are compared are equal.
 pub fn same_letter(a: u8, b: u8) -> bool
     ensures { result ≡ eqb (folded a) (folded b) }
 {
-    a.eq_ignore_ascii_case(&b)
+    a == b || a.eq_ignore_ascii_case(&b)
 }

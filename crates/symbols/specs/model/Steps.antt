@@ -1,6 +1,6 @@
 -- What the functions of this crate give back, in terms of the definitions in Scan and Names. This is no part of the paper: it says where
 -- in the source a definition is read, and how the lent arrays hold the symbols.
-use Rattle.std.specs.Prelude.{Option, Some, None, IfSome, Result, Ok, Err, ℕ, ◌+◌, ◌≤◌, ◌<◌, min, ◌≡◌, cond, List, [], ◌∷◌, ◌++◌, length, get_or, drop, ltb}
+use Rattle.std.specs.Prelude.{Option, Some, None, IfSome, Result, Ok, Err, ℕ, ◌+◌, ◌≤◌, ◌<◌, min, ◌≡◌, Bool, true, cond, ◌&&◌, List, [], ◌∷◌, ◌++◌, length, get_or, drop, ltb, leb}
 use Prim.Native.Char.{code}
 use Rattle.std.proofs.Math.Option.{Option as Optional, none, some}
 use Rattle.answers.specs.Numbers.{no_symbol}
@@ -43,6 +43,11 @@ pointed_at source at plain =
 -- a sign that may be joined with `=`
 unfoldable pub joined_of : Symbol → Symbol → List ℕ → Lexeme
 joined_of alone both bs = cond (followed (code "=") bs) (Is both (gap bs + 1)) (Is alone 0)
+
+-- all bytes are small letters
+abbrev pub all_small : List ℕ → Bool
+all_small [] = true
+all_small (x ∷ l) = (leb 97 x && leb x 122) && all_small l
 
 -- what is left of a name, by the place of its next letter or digit: nothing where there is none
 abbrev pub rest_of : List ℕ → Option ℕ → List ℕ

@@ -1,17 +1,27 @@
--- `symbols::names::next_letter` meets its contract. Where the blanks end a letter or digit stands, or none does.
+-- `symbols::names::next_letter` meets its contract. From i on the same letters are left as from `from` on.
 -- Assumes nothing.
 use mathlib.Core.Path.{sym, ◌∙◌}
-use Rattle.symbols.proofs.Next.{next_here, next_other, next_end}
+use Rattle.symbols.specs.Names.{in_name}
+use Rattle.symbols.proofs.Laws.{these_one, these_on, these_stop, these_end}
 use Rattle.symbols.proofs.names.next_letter.Goals as goal
-use Rattle.symbols.proofs.names.next_letter.Goals.{else-i-source-via-then-i-source+else-is_name_byte, else-i-source-via-else-i-source}
 
 pub returns-then-is_name_byte : goal.returns-then-is_name_byte
-returns-then-is_name_byte c = next_here c.args.source.now c.args.from _ c.blanks_end-i.ensures c.if-i-source.true (sym c.is_name_byte.ensures ∙ c.if-is_name_byte.true)
+returns-then-is_name_byte c =
+    let l = c.loop-i in
+    let h = c.loop-i-test.true in
+    record { same = l.invariant ∙ these_one in_name c.args.source.now l.i h (sym c.is_name_byte.ensures ∙ c.if-is_name_byte.true); within = (l.auto.i, h) }
 
-pub returns-else-i-source : goal.returns-else-i-source
-returns-else-i-source c =
-    elim c.else-i-source.branch [
-      | else-i-source-via-then-i-source+else-is_name_byte w ↦
-          next_other c.args.source.now c.args.from _ c.blanks_end-i.ensures w.if-i-source.true (sym w.is_name_byte.ensures ∙ w.if-is_name_byte.false)
-      | else-i-source-via-else-i-source w ↦ next_end c.args.source.now c.args.from _ c.blanks_end-i.ensures w.if-i-source.false
-    ]
+pub returns-then-not-is_blank : goal.returns-then-not-is_blank
+returns-then-not-is_blank c =
+    let l = c.loop-i in
+    record { same = l.invariant ∙ these_stop in_name c.args.source.now l.i c.loop-i-test.true (sym c.is_name_byte.ensures ∙ c.if-is_name_byte.false) (sym c.is_blank.ensures ∙ c.if-not-is_blank.true); within = tt }
+
+pub loop-i-preserved : goal.loop-i-preserved
+loop-i-preserved c =
+    let l = c.loop-i in
+    l.invariant ∙ these_on in_name c.args.source.now l.i c.loop-i-test.true (sym c.is_name_byte.ensures ∙ c.if-is_name_byte.false) (sym c.is_blank.ensures ∙ c.if-not-is_blank.false)
+
+pub returns : goal.returns
+returns c =
+    let l = c.loop-i in
+    record { same = l.invariant ∙ these_end in_name c.args.source.now l.i c.loop-i-test.false; within = tt }

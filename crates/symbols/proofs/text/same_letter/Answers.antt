@@ -4,5 +4,5 @@ use mathlib.Core.Path.{◌∙◌}
 use Rattle.symbols.proofs.Ascii.{lowercase_folded}
 use Rattle.symbols.proofs.text.same_letter.Goals as goal
 
-pub returns : goal.returns
-returns c = c.eq_ignore_ascii_case.ensures ∙ rw (lowercase_folded c.args.a, lowercase_folded c.args.b)
+pub returns-else-a-b : goal.returns-else-a-b
+returns-else-a-b c = c.eq_ignore_ascii_case.ensures ∙ rw (lowercase_folded c.args.a, lowercase_folded c.args.b)

@@ -29,6 +29,94 @@ pub fold-first-requires : goal.fold-first-requires
 unfolding spelled folded
 fold-first-requires c = search rules
 
+pub only-requires : goal.only-requires
+unfolding spelled folded
+only-requires c = search rules
+
+pub only-requires-in-5 : goal.only-requires-in-5
+unfolding spelled folded
+only-requires-in-5 c = search rules
+
+pub only-requires-in_default-len : goal.only-requires-in_default-len
+unfolding spelled folded
+only-requires-in_default-len c = search rules
+
+pub only-requires-in-99 : goal.only-requires-in-99
+unfolding spelled folded
+only-requires-in-99 c = search rules
+
+pub only-requires-in-100 : goal.only-requires-in-100
+unfolding spelled folded
+only-requires-in-100 c = search rules
+
+pub only-requires-in-3 : goal.only-requires-in-3
+unfolding spelled folded
+only-requires-in-3 c = search rules
+
+pub only-requires-in-4 : goal.only-requires-in-4
+unfolding spelled folded
+only-requires-in-4 c = search rules
+
+pub only-requires-in_default-len-2 : goal.only-requires-in_default-len-2
+unfolding spelled folded
+only-requires-in_default-len-2 c = search rules
+
+pub only-requires-in-3-len : goal.only-requires-in-3-len
+unfolding spelled folded
+only-requires-in-3-len c = search rules
+
+pub only-requires-in_default-len-3 : goal.only-requires-in_default-len-3
+unfolding spelled folded
+only-requires-in_default-len-3 c = search rules
+
+pub only-requires-in-2 : goal.only-requires-in-2
+unfolding spelled folded
+only-requires-in-2 c = search rules
+
+pub only-requires-in-4-len : goal.only-requires-in-4-len
+unfolding spelled folded
+only-requires-in-4-len c = search rules
+
+pub only-requires-in_default-len-4 : goal.only-requires-in_default-len-4
+unfolding spelled folded
+only-requires-in_default-len-4 c = search rules
+
+pub only-requires-in-110 : goal.only-requires-in-110
+unfolding spelled folded
+only-requires-in-110 c = search rules
+
+pub only-requires-in-111 : goal.only-requires-in-111
+unfolding spelled folded
+only-requires-in-111 c = search rules
+
+pub only-requires-in-112 : goal.only-requires-in-112
+unfolding spelled folded
+only-requires-in-112 c = search rules
+
+pub only-requires-in-114 : goal.only-requires-in-114
+unfolding spelled folded
+only-requires-in-114 c = search rules
+
+pub only-requires-in-115 : goal.only-requires-in-115
+unfolding spelled folded
+only-requires-in-115 c = search rules
+
+pub either-requires : goal.either-requires
+unfolding spelled folded
+either-requires c = search rules
+
+pub only-requires-in-117 : goal.only-requires-in-117
+unfolding spelled folded
+only-requires-in-117 c = search rules
+
+pub only-requires-in-118 : goal.only-requires-in-118
+unfolding spelled folded
+only-requires-in-118 c = search rules
+
+pub only-requires-in-119 : goal.only-requires-in-119
+unfolding spelled folded
+only-requires-in-119 c = search rules
+
 pub returns-in-97 : goal.returns-in-97
 unfolding spelled folded
 returns-in-97 c = c.only.ensures ∙ sym (by_letter words _ 97 (sym c.fold-first.ensures ∙ c.in-97.is))
