@@ -1,8 +1,8 @@
 -- The library's words for bytes and lists of bytes are those of Names and Scan.
 -- Assumes nothing.
-use mathlib.Core.Path.{◌≡◌, refl, sym, ◌∙◌}
+use mathlib.Core.Path.{◌≡◌, refl, ◌∙◌}
 use mathlib.Core.Bool.{Bool, true, false, cond, not}
-use mathlib.Core.List.{List, [], ◌∷◌, map}
+use mathlib.Core.List.{List, [], ◌∷◌}
 use Prim.Native.Nat.{ℕ, suc, ◌+◌, ◌-◌, min}
 use native.Mathlib.Omega.{arith}
 use lib.Dec.{eqb}
@@ -13,14 +13,12 @@ use Rattle.std.specs.Char.{to_ascii_lowercase, is_ascii_digit, is_ascii_alphabet
 use Rattle.std.specs.List.{position_or_len, position}
 use Rattle.std.specs.Option.{unwrap_or}
 use Rattle.std.specs.Prelude.{Some, None}
-use Rattle.std.specs.Bool.{IsTrue}
 use Rattle.std.proofs.lemmas.List.{take_rest}
 use Rattle.std.proofs.lemmas.List.Sums.{prefix_len-le-length}
 use Rattle.std.specs.Cmp.Lexicographic.{pointwise}
 use Rattle.std.proofs.lemmas.List.Recursion.{is_position_or_len}
-use Rattle.symbols.specs.Names.{blank, letter, digit, equal, folded, same_name}
+use Rattle.symbols.specs.Names.{blank, letter, digit, equal, folded}
 use Rattle.symbols.specs.Scan.{before, gap}
-use Rattle.symbols.proofs.LetterCase.{same_folded, folded_same}
 
 pub lowercase_folded : (b : ℕ) → to_ascii_lowercase b ≡ folded b
 unfolding folded
@@ -33,19 +31,6 @@ alphabetic_letter b = grind arith
 pub digit_digit : (b : ℕ) → is_ascii_digit b ≡ digit b
 unfolding digit
 digit_digit b = refl
-
-pub lowercase_all : (a : List ℕ) → map to_ascii_lowercase a ≡ map folded a
-lowercase_all [] = refl
-lowercase_all (b ∷ bs) = rw (lowercase_folded b, lowercase_all bs)
-
--- two texts are equal but for letter case where they are the same name
-pub same_lowercase : (w v : List ℕ) (t : Bool) → (IsTrue t → map to_ascii_lowercase w ≡ map to_ascii_lowercase v) → (map to_ascii_lowercase w ≡ map to_ascii_lowercase v → IsTrue t) → t ≡ same_name w v
-same_lowercase w v true f g = sym (folded_same w v (sym (lowercase_all w) ∙ f refl ∙ lowercase_all v))
-same_lowercase w v false f g = go (same_name w v) refl
-  where
-    go : (u : Bool) → same_name w v ≡ u → false ≡ u
-    go true e = g (lowercase_all w ∙ same_folded w v e ∙ sym (lowercase_all v))
-    go false e = refl
 
 pub pointwise_equal : (a b : List ℕ) → pointwise eqb a b ≡ equal a b
 unfolding equal

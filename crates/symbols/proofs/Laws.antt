@@ -16,7 +16,7 @@ use Rattle.symbols.specs.declared.Turn.TheVariants.{Keep, Refuse}
 use Rattle.symbols.specs.declared.Lexeme.TheVariants.{Large, Nothing}
 use Rattle.symbols.specs.declared.Context.{Context}
 use Rattle.symbols.specs.declared.Context.TheVariants.{Opens, Plain, Remark}
-use Rattle.symbols.specs.Scan.{before, gap, valued, behind, counted, lexeme, judged, turn}
+use Rattle.symbols.specs.Scan.{before, valued, behind, counted, lexeme, judged, turn}
 use Rattle.symbols.specs.declared.Symbol.{Symbol}
 use Rattle.symbols.specs.model.Steps.{capped, lexeme_at, turn_at}
 

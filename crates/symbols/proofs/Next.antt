@@ -1,17 +1,14 @@
 -- Two names told letter by letter.
 -- Assumes nothing.
-use mathlib.Core.Path.{◌≡◌, refl, sym, ap, ◌∙◌}
+use mathlib.Core.Path.{◌≡◌, refl}
 use mathlib.Core.Bool.{Bool, true, false, not}
 use mathlib.Core.List.{List, [], ◌∷◌}
-use Prim.Native.Nat.{ℕ, suc, ◌+◌, ◌-◌, ◌≤◌, ◌<◌}
-use native.Mathlib.Omega.{arith}
+use Prim.Native.Nat.{ℕ, ◌-◌, ◌<◌}
 use lib.Dec.{eqb}
-use lib.ListN.{length, get_or, drop, length-drop}
-use lib.Seq.{drop-drop, get_or-drop}
+use lib.ListN.{length}
 use Rattle.std.specs.Option.{is_some, is_none, IfSome}
 use Rattle.std.specs.Prelude.{Option, Some, None}
-use Rattle.symbols.specs.Names.{in_name, equal, folded, same_name}
-use Rattle.symbols.specs.Scan.{gap}
+use Rattle.symbols.specs.Names.{equal, folded, same_name}
 use Rattle.symbols.specs.model.Steps.{rest_of, NextLetter}
 
 -- ---- letter by letter

@@ -1,7 +1,6 @@
 -- `symbols::words::is_word` meets its contract. Whether the rest from i on is the same is whether all is; each byte of the word is a small letter.
 -- Assumes nothing.
 use mathlib.Core.Path.{◌≡◌}
-use Prim.Native.Nat.{◌-◌}
 use lib.ListN.{length, drop}
 use Rattle.symbols.specs.Names.{same_name}
 use Rattle.symbols.proofs.words.is_word.Given as goal
