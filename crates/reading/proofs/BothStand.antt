@@ -8,7 +8,7 @@ use lib.ListN.{length, get_or, take, drop, length-map}
 use lib.Seq.{get_or-take, take-append_seam}
 use Rattle.answers.specs.Numbers.{types}
 use Rattle.answers.specs.Answers.{refusal}
-use Rattle.answers.specs.declared.Verdict.TheVariants.{Refused as NotAccepted}
+use Rattle.answers.specs.declared.Verdict.TheVariants.{Refused}
 use Rattle.symbols.specs.Names.{letters_at}
 use Rattle.symbols.specs.Symbols.{kind}
 use Rattle.symbols.specs.Scan.{scan, values_of}
@@ -34,7 +34,9 @@ use Rattle.table.proofs.Fits.{prelude_room, behind_room, rows_room_with}
 use Rattle.reading.specs.Judging as any
 use Rattle.reading.specs.Judges.{JudgedBy, misnamed, mistyped}
 use Rattle.reading.specs.Two.{beyond, symbols, half_words, count_of, left, place_with, Prelude, procedures, scheme_judge, scheme_in}
-use Rattle.reading.specs.declared.Found.{Found}
+use Rattle.std.proofs.Common.{Result}
+use Rattle.answers.specs.declared.Refusal.{Refusal}
+use Rattle.reading.specs.declared.Sizes.{Sizes}
 use Rattle.reading.specs.model.Moves.{page, shift, first_raised, first_shifted, marked, Symbols, PlacedWith}
 use Rattle.reading.specs.model.Passing.{Kept, place_from, Passes}
 use Rattle.reading.specs.model.Preluding.{Apart, depth_with, as_scheme, JoinTold, both_refused, both_stand}
@@ -240,7 +242,7 @@ module _ {prelude scheme places values places' values' first second : List ℕ} 
         ∙ ap (λ (k : ℕ). marked k (prelude_nodes a.whole.read.tree) (shift (count_of prelude) (nodes_of a.behind.read.tree))) m_is ∙ both_nodes a.whole a.behind.read
 
     -- 7 to 10 of the scheme, or both stand
-    pub told_both : {text new values₁ nodes rows uses was marks : List ℕ} {w : ℕ} {r : Found} → text ≡ page scheme prelude → take (m + n) new ≡ take m (first_raised beyond m places) ++ take n places'
+    pub told_both : {text new values₁ nodes rows uses was marks : List ℕ} {w : ℕ} {r : Result Sizes Refusal} → text ≡ page scheme prelude → take (m + n) new ≡ take m (first_raised beyond m places) ++ take n places'
         → take (m + n) values₁ ≡ take m values ++ take n values' → take w nodes ≡ marked m (take b first) (take c moved)
         → Passes text new (take w nodes) rows uses was marks (m + n) (length scheme) w r
         → JoinTold prelude scheme new values₁ nodes moved rows uses was marks a.whole a.behind.read c r
@@ -253,12 +255,12 @@ module _ {prelude scheme places values places' values' first second : List ℕ} 
         valued : take (m + n) values₁ ≡ values_of (scan symbols prelude).found ++ values_of (scan (left prelude) scheme).found
         valued = v ∙ ap (λ (z : List ℕ). z ++ take n values') a.before.valued ∙ ap (λ (z : List ℕ). values_of (scan symbols prelude).found ++ z) a.behind.symbols_in.valued
 
-        go : {r : Found} → Said (page scheme prelude) new (take w nodes) rows uses was marks (m + n) (length scheme) w (both a.whole a.behind.read) r → JoinTold prelude scheme new values₁ nodes moved rows uses was marks a.whole a.behind.read c r
+        go : {r : Result Sizes Refusal} → Said (page scheme prelude) new (take w nodes) rows uses was marks (m + n) (length scheme) w (both a.whole a.behind.read) r → JoinTold prelude scheme new values₁ nodes moved rows uses was marks a.whole a.behind.read c r
         go (at_names f h z d) =
-            both_refused z (subst (λ z. JudgedBy (scheme_judge prelude (procedures a.whole)) scheme (NotAccepted z) (zeros half_words)) (sym (d ∙ ap (refusal f.answer) (both_place a.whole a.behind.read placed f.symbol)))
+            both_refused z (subst (λ z. JudgedBy (scheme_judge prelude (procedures a.whole)) scheme (Refused z) (zeros half_words)) (sym (d ∙ ap (refusal f.answer) (both_place a.whole a.behind.read placed f.symbol)))
             (misnamed (as_scheme prelude scheme (procedures a.whole) a.behind.read) f (ap least (sym (names_of a.whole a.behind.read)) ∙ h)))
         go (at_types f h k z d) =
-            both_refused z (subst (λ z. JudgedBy (scheme_judge prelude (procedures a.whole)) scheme (NotAccepted z) (zeros half_words)) (sym (d ∙ ap (refusal f.answer) (both_place a.whole a.behind.read placed f.symbol)))
+            both_refused z (subst (λ z. JudgedBy (scheme_judge prelude (procedures a.whole)) scheme (Refused z) (zeros half_words)) (sym (d ∙ ap (refusal f.answer) (both_place a.whole a.behind.read placed f.symbol)))
             (mistyped (as_scheme prelude scheme (procedures a.whole) a.behind.read) f (ap least (sym (names_of a.whole a.behind.read)) ∙ h) (sym (types_of a.whole a.behind.read) ∙ k)))
         go (right z h k t d i j) =
             both_stand z (record {

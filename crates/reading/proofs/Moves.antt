@@ -6,8 +6,8 @@ use mathlib.Core.Path.{◌≡◌, refl, sym, ap, ◌∙◌, subst}
 use mathlib.Core.Bool.{true, false, cond}
 use mathlib.Core.Logic.{◌⊎◌, inl, inr}
 use borrow.Author.Tests.{ne_eqb}
-use mathlib.Core.List.{List, [], ◌∷◌, ◌++◌, append_assoc}
-use lib.ListN.{length, take, drop, set, get_or, length-set, length-append, take-append-drop}
+use mathlib.Core.List.{List, [], ◌∷◌, ◌++◌, append_assoc, append-nil}
+use lib.ListN.{length, take, drop, set, get_or, replicate, length-set, length-append, drop_of_length-le}
 use lib.Seq.{length-take-le, take_all, take-suc, drop-cons, set_at, take_at, take-append_seam, drop-append_seam, drop-append-add}
 use Rattle.grammar.specs.model.Parsing.{zeros}
 use Rattle.grammar.specs.NodeKinds.{n_block, n_statements, n_block_end}
@@ -15,50 +15,6 @@ use Rattle.names.specs.Nodes.{mark}
 use Rattle.table.specs.Table.{has_none}
 use Rattle.reading.specs.Two.{beyond}
 use Rattle.reading.specs.model.Moves.{laid, raised, first_raised, page, without, shift, first_shifted, marked}
-
--- ---- words laid over others
-
-laid_more : (old own : List ℕ) (at i d : ℕ) → at + i < length old → i < length own → set (laid old at (take i own)) (at + i) (get_or own i d) ≡ laid old at (take (i + 1) own)
-laid_more old own at i d l k =
-    let P = take at old in
-    let T = take i own in
-    let v = get_or own i d in
-    let y = get_or old (at + i) d in
-    let ys = drop (suc (at + i)) old in
-    let lT : length T ≡ i = length-take-le i own (omega arith) in
-    let lP : length P ≡ at = length-take-le at old (omega arith) in
-    let lPT : length (P ++ T) ≡ at + i = omega (arith, length-append P T, lT, lP) in
-    let lV : at + length (T ++ (v ∷ [])) ≡ suc (at + i) = omega (arith, length-append T (v ∷ []), lT) in
-    let e0 : drop (at + length T) old ≡ y ∷ ys = ap (λ (n : ℕ). drop (at + n) old) lT ∙ drop-cons old (at + i) d l in
-    let e1 : laid old at T ≡ (P ++ T) ++ (y ∷ ys) = ap (λ (z : List ℕ). P ++ (T ++ z)) e0 ∙ sym (append_assoc P T (y ∷ ys)) in
-    let n1 : take (i + 1) own ≡ T ++ (v ∷ []) = rw add-one (take-suc own i d k) in
-    let e2 : laid old at (take (i + 1) own) ≡ (P ++ T) ++ (v ∷ ys) =
-    ap (λ (z : List ℕ). laid old at z) n1
-    ∙ ap (λ (n : ℕ). P ++ ((T ++ (v ∷ [])) ++ drop n old)) lV
-    ∙ ap (λ (z : List ℕ). P ++ z) (append_assoc T (v ∷ []) ys)
-    ∙ sym (append_assoc P T (v ∷ ys)) in
-    ap (λ (z : List ℕ). set z (at + i) v) e1 ∙ set_at (P ++ T) y ys v (at + i) lPT ∙ sym e2
-
--- the first i of count words were laid
-pub record Laying (old own new : List ℕ) (at count i : ℕ) : Type 0 where
-  pub upper : i ≤ count
-  pub size : length new ≡ length old
-  pub words : new ≡ laid old at (take i own)
-
-pub laying : (old own : List ℕ) (at count : ℕ) → Laying old own old at count 0
-laying old own at count =
-    let z : at ≡ at + 0 = omega arith in
-    record { upper = omega arith; size = refl; words = sym (take-append-drop at old) ∙ ap (λ (n : ℕ). take at old ++ drop n old) z }
-
-pub laying_on : {old own new : List ℕ} {at count i : ℕ} (d : ℕ) → Laying old own new at count i → i < count → at + count ≤ length old → count ≤ length own → Laying old own (set new (at + i) (get_or own i d)) at count (i + 1)
-laying_on {old} {own} {new} {at} {count} {i} d r l h k = record {
-  upper = omega arith;
-  size = length-set new (at + i) (get_or own i d) ∙ r.size;
-  words = ap (λ (z : List ℕ). set z (at + i) (get_or own i d)) r.words ∙ laid_more old own at i d (omega arith) (omega arith);
-}
-
-pub all_laid : {old own new : List ℕ} {at count i : ℕ} → Laying old own new at count i → count ≤ i → new ≡ laid old at (take count own)
-all_laid {old} {own} {new} {at} {count} {i} r l = let z : i ≡ count = omega (arith, r.upper) in r.words ∙ ap (λ (n : ℕ). laid old at (take n own)) z
 
 -- ---- places raised
 
@@ -108,6 +64,15 @@ raising_on {old} {new} {n} {count} {i} d r l h = record {
 
 pub all_raised : {old new : List ℕ} {n count i : ℕ} → Raising old new n count i → count ≤ i → new ≡ first_raised n count old
 all_raised {old} {new} {n} {count} {i} r l = let z : i ≡ count = omega (arith, r.upper) in r.words ∙ ap (λ (k : ℕ). first_raised n k old) z
+
+-- and with them those behind, which stay
+pub all_front : {new : List ℕ} {n count i : ℕ} (places : List ℕ) → count ≤ length places → Raising (take count places) new n count i → count ≤ i → new ++ drop count places ≡ first_raised n count places
+all_front {new} {n} {count} {i} places h r l =
+    let T = take count places in
+    let z : length T ≡ count = length-take-le count places h in
+    let e : first_raised n count T ≡ raised n T =
+    (λ j. raised n (take_all count T (omega arith) j) ++ drop_of_length-le T {i = count} (omega arith) j) ∙ append-nil (raised n T) in
+    ap (λ (w : List ℕ). w ++ drop count places) (all_raised r l ∙ e)
 
 -- ---- the page
 
@@ -258,26 +223,28 @@ fill {old} {new} {l} {at} {n} w f e h k = record {
   many = omega (arith, f.many, length-append l w);
 }
 
-pub symbols_behind : {new : List ℕ} (old own : List ℕ) (m n : ℕ) → new ≡ laid old m (take n own) → m + n ≤ length old → n ≤ length own → take (m + n) new ≡ take m old ++ take n own
-symbols_behind old own m n e h k = let l = length-take-le n own k in ap (take (m + n)) e ∙ laid_take old (take n own) m (m + n) (omega arith) (omega arith)
+pub symbols_behind : {new : List ℕ} (old own : List ℕ) (m : ℕ) → new ≡ laid old m own → m + length own ≤ length old → take (m + length own) new ≡ take m old ++ own
+symbols_behind old own m e h = ap (take (m + length own)) e ∙ laid_take old own m (m + length own) h refl
 
 not_empty : (q : ℕ) (ps ws : List ℕ) → 0 < length ps → (((mark n_block q ++ ps) ++ mark n_statements q) ++ ws) ++ mark n_block_end q ≡ marked q ps ws
 not_empty q [] ws h = absurd (omega arith)
 not_empty q (x ∷ ps) ws h = simp append_assoc
 
-module _ {new : List ℕ} (prelude own : List ℕ) (p n q : ℕ) where
-  pub without_prelude : p ≡ 0 → Filled new (take n own) n → Filled new (marked q (take p prelude) (take n own)) n
-  without_prelude e f = subst (λ (k : ℕ). Filled new (marked q (take k prelude) (take n own)) n) (sym e) f
+module _ {new : List ℕ} (own : List ℕ) (q : ℕ) {n : ℕ} where
+  pub without_prelude : (prelude : List ℕ) → length prelude ≡ 0 → Filled new own n → Filled new (marked q prelude own) n
+  without_prelude [] e f = f
+  without_prelude (x ∷ ps) e f = absurd (omega arith)
 
-  pub with_prelude_lem : {r : ℕ} → (p ≡ 0 → ⊥) → p ≤ length prelude
-      → Filled new ((((mark n_block q ++ take p prelude) ++ mark n_statements q) ++ take n own) ++ mark n_block_end q) r → Filled new (marked q (take p prelude) (take n own)) r
-  with_prelude_lem {r} h l f =
-      let k = length-take-le p prelude l in
-      subst (λ (z : List ℕ). Filled new z r) (not_empty q (take p prelude) (take n own) (omega arith)) f
+  pub with_prelude_lem : (prelude : List ℕ) → (length prelude ≡ 0 → ⊥) → Filled new ((((mark n_block q ++ prelude) ++ mark n_statements q) ++ own) ++ mark n_block_end q) n
+      → Filled new (marked q prelude own) n
+  with_prelude_lem prelude h f = subst (λ (z : List ℕ). Filled new z n) (not_empty q prelude own (omega arith)) f
 
-pub page_from : {w₀ w₁ w₂ : List ℕ} (scheme prelude : List ℕ) (n c c' : ℕ) → w₀ ≡ zeros n → w₁ ≡ laid w₀ 0 (take c scheme) → w₂ ≡ laid w₁ beyond (take c' prelude) → n ≡ beyond + beyond → c ≡ length scheme → c' ≡ length prelude
+-- a fill with zeros
+pub filled_zeros : (n : ℕ) → replicate n 0 ≡ zeros n
+unfolding zeros
+filled_zeros n = refl
+
+pub page_from : {w₀ w₁ w₂ : List ℕ} (scheme prelude : List ℕ) (n : ℕ) → w₀ ≡ replicate n 0 → w₁ ≡ laid w₀ 0 scheme → w₂ ≡ laid w₁ beyond prelude → n ≡ beyond + beyond
     → length scheme ≤ 16384 → length prelude ≤ 16384 → w₂ ≡ page scheme prelude
-page_from {w₀} {w₁} {w₂} scheme prelude n c c' e₀ e₁ e₂ en ec ec' l l' =
-    e₂ ∙ ap (λ (w : List ℕ). laid w₁ beyond w) (take_all c' prelude (omega arith))
-    ∙ ap (λ (w : List ℕ). laid w beyond prelude) (e₁ ∙ ap (λ (w : List ℕ). laid w₀ 0 w) (take_all c scheme (omega arith)) ∙ ap (λ (w : List ℕ). laid w 0 scheme) e₀)
-    ∙ page_laid scheme prelude n en l l'
+page_from {w₀} {w₁} {w₂} scheme prelude n e₀ e₁ e₂ en l l' =
+    e₂ ∙ ap (λ (w : List ℕ). laid w beyond prelude) (e₁ ∙ ap (λ (w : List ℕ). laid w 0 scheme) (e₀ ∙ filled_zeros n)) ∙ page_laid scheme prelude n en l l'

@@ -31,9 +31,16 @@ use Rattle.types.specs.model.Passes.{typed_of, marks_of}
 use Rattle.types.proofs.NearTypes.{near_types, small_types}
 use Rattle.types.proofs.TreeStatements.{At, typed, marked}
 use Rattle.reading.specs.declared.Sizes.{Sizes}
-use Rattle.reading.specs.declared.Found.{Found}
-use Rattle.reading.specs.declared.Found.TheVariants.{Program, Refused}
+use Rattle.std.proofs.Common.{Result, Ok, Err}
 use Rattle.reading.specs.model.Passing.{Kept, name_key, type_key, place_from, refused_for, Passes, misnamed, mistyped, sound}
+
+-- what was found is one thing, and so is what was refused
+module _ {A : Type 0} where
+  pub same_found : {a b : A} → ◌≡◌ {A = Result A Refusing} (Ok a) (Ok b) → a ≡ b
+  same_found q = cc
+
+  pub same_refusal : {a b : Refusing} → ◌≡◌ {A = Result A Refusing} (Err a) (Err b) → a ≡ b
+  same_refusal q = cc
 
 -- the nodes of a program stand, and each of its names has the letters at its symbol's place of the page
 pub record Stands (page places nodes : List ℕ) (n : ℕ) (s : Statement) : Type 0 where
@@ -125,16 +132,16 @@ module _ {page places nodes : List ℕ} {n : ℕ} {s : Statement} (st : Stands p
 
 -- ---- what the passes say of the program
 
-pub data Said (page places nodes rows uses was marks : List ℕ) (n end words : ℕ) (s : Statement) : Found → Type 0 where
+pub data Said (page places nodes rows uses was marks : List ℕ) (n end words : ℕ) (s : Statement) : Result Sizes Refusing → Type 0 where
   at_names : (f : Fault) → least (name_faults s) ≡ some f → (x : Refusing) → x ≡ refusal f.answer (place_from places n end f.symbol)
-      → Said page places nodes rows uses was marks n end words s (Refused x)
+      → Said page places nodes rows uses was marks n end words s (Err x)
   at_types : (f : Fault) → least (name_faults s) ≡ none → type_fault s ≡ some f → (x : Refusing) → x ≡ refusal f.answer (place_from places n end f.symbol)
-      → Said page places nodes rows uses was marks n end words s (Refused x)
+      → Said page places nodes rows uses was marks n end words s (Err x)
   right : (z : Sizes) → least (name_faults s) ≡ none → type_fault s ≡ none → Kept page places nodes rows uses n z.rows z.uses
       → marks ≡ marks_of (take (4 * z.rows) rows) (take z.uses uses) nodes was → z.symbols ≡ n → z.nodes ≡ words
-      → Said page places nodes rows uses was marks n end words s (Program z)
+      → Said page places nodes rows uses was marks n end words s (Ok z)
 
-pub said : {page places nodes rows uses was marks : List ℕ} {n end words : ℕ} {s : Statement} {r : Found} → Stands page places nodes n s
+pub said : {page places nodes rows uses was marks : List ℕ} {n end words : ℕ} {s : Statement} {r : Result Sizes Refusing} → Stands page places nodes n s
     → Passes page places nodes rows uses was marks n end words r → Said page places nodes rows uses was marks n end words s r
 said {s = s} st (misnamed k a b x e l) = at_names (fault_of k) (subst (λ k. least (name_faults s) ≡ some (fault_of k)) (sym e) (names_some st x (subst (λ k. k < no_fault) e l))) _ refl
 said {s = s} st (mistyped k a b x h e l) = at_types (fault_of k) (names_none st x h) (subst (λ k. type_fault s ≡ some (fault_of k)) (sym e) (types_some st x (subst (λ k. k < no_fault) e l))) _ refl
@@ -144,12 +151,12 @@ said st (sound z x h k m c w) = right z (names_none st x h) (types_none st x k) 
 
 module _ {page places nodes rows uses was marks : List ℕ} {n end words : ℕ} where
   pub as_misnamed : {a b : ℕ} (k : ℕ) (x : Kept page places nodes rows uses n a b) → k ≡ name_key x → k < no_fault → (y : Refusing) → y ≡ refused_for (place_from places n end) k
-      → Passes page places nodes rows uses was marks n end words (Refused y)
-  as_misnamed {a} {b} k x e l y q = subst (λ z. Passes page places nodes rows uses was marks n end words (Refused z)) (sym q) (misnamed k a b x e l)
+      → Passes page places nodes rows uses was marks n end words (Err y)
+  as_misnamed {a} {b} k x e l y q = subst (λ z. Passes page places nodes rows uses was marks n end words (Err z)) (sym q) (misnamed k a b x e l)
 
   pub as_mistyped : {a b : ℕ} (k : ℕ) (x : Kept page places nodes rows uses n a b) → (name_key x < no_fault → ⊥) → k ≡ type_key x → k < no_fault → (y : Refusing) → y ≡ refused_for (place_from places n end) k
-      → Passes page places nodes rows uses was marks n end words (Refused y)
-  as_mistyped {a} {b} k x h e l y q = subst (λ z. Passes page places nodes rows uses was marks n end words (Refused z)) (sym q) (mistyped k a b x h e l)
+      → Passes page places nodes rows uses was marks n end words (Err y)
+  as_mistyped {a} {b} k x h e l y q = subst (λ z. Passes page places nodes rows uses was marks n end words (Err z)) (sym q) (mistyped k a b x h e l)
 
 -- the lesser of the faults of the two passes over names
 pub key_is : (fault first second a b : ℕ) → fault ≡ min first second → first ≡ a → second ≡ b → fault ≡ min a b

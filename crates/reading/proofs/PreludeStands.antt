@@ -10,12 +10,11 @@ use Rattle.answers.specs.Numbers.{long, grammar, depth, types}
 use Rattle.answers.specs.Answers.{answer, refusal}
 use Rattle.answers.specs.declared.Answer.{Answer}
 use Rattle.answers.specs.declared.Refusal.{Refusal}
-use Rattle.answers.specs.declared.Verdict.TheVariants.{Refused as NotAccepted}
+use Rattle.answers.specs.declared.Verdict.TheVariants.{Refused}
 use Rattle.symbols.specs.Names.{letters_at}
 use Rattle.symbols.specs.Scan.{scan, values_of}
 use Rattle.symbols.specs.model.Steps.{Filled}
 use Rattle.symbols.proofs.FirstFault.{first_fault}
-use Rattle.std.specs.Prelude.{Result, Err}
 use Rattle.grammar.specs.Program.{PreludeFault, PreludeDeep}
 use Rattle.grammar.specs.Trees.{yield}
 use Rattle.grammar.specs.model.Text.{text}
@@ -44,33 +43,26 @@ use Rattle.reading.specs.Judging as any
 use Rattle.reading.specs.Judges.{further, JudgedBy, too_long, unreadable, ungrammatical, too_deep, misnamed, mistyped}
 use Rattle.reading.specs.Two.{beyond, symbols, prelude_place, procedures_in, prelude_judge}
 use Rattle.reading.specs.declared.Sizes.{Sizes}
-use Rattle.reading.specs.declared.Found.{Found}
-use Rattle.reading.specs.declared.Found.TheVariants.{Program, Refused}
+use Rattle.std.proofs.Common.{Result, Ok, Err}
 use Rattle.reading.specs.model.Moves.{marked}
 use Rattle.reading.specs.model.Passing.{place_from, Passes}
 use Rattle.reading.specs.model.Preluding.{SymbolsIn, PreludeNodes, PreludeFills, PreludeTold, prelude_refused, prelude_stands, PreludeFound, found_refused, depth_with}
 use Rattle.reading.proofs.Answers.{place-from}
-use Rattle.reading.proofs.Passed.{Stands, Said, at_names, at_types, right, said, rows_here_lem, uses_here}
+use Rattle.reading.proofs.Passed.{Stands, Said, at_names, at_types, right, said, same_found, same_refusal, rows_here_lem, uses_here}
 use Rattle.reading.proofs.Places.{place_inside}
 use Rattle.reading.proofs.Stages.{text_is, refused_in, behind_in}
 use Rattle.reading.proofs.Together.{marked_is}
 
-pub same_refusal : {a b : Refusal} → Refused a ≡ Refused b → a ≡ b
-same_refusal q = cc
-
-pub same_sizes : {a b : Sizes} → Program a ≡ Program b → a ≡ b
-same_sizes q = cc
-
 -- ---- 2 to 6
 
 -- 2
-pub as_long : {prelude places values nodes : List ℕ} {x : Refusal} → 16384 < length prelude → x ≡ refusal long 16384 → PreludeTold prelude places values nodes (Refused x)
+pub as_long : {prelude places values nodes : List ℕ} {x : Refusal} → 16384 < length prelude → x ≡ refusal long 16384 → PreludeTold prelude places values nodes (Err x)
 as_long {prelude} {x = x} l e =
-    prelude_refused x (omega (arith, ap (λ z. z.place.at) e)) (subst (λ z. JudgedBy prelude_judge prelude (NotAccepted (further beyond z)) (zeros 0)) (sym e) (too_long l))
+    prelude_refused x (omega (arith, ap (λ z. z.place.at) e)) (subst (λ z. JudgedBy prelude_judge prelude (Refused (further beyond z)) (zeros 0)) (sym e) (too_long l))
 
 module _ {prelude kinds kinds' places places' values values' : List ℕ} {t : Result ℕ Refusal} (f : Filled symbols prelude t kinds kinds' places places' values values') (l : length prelude ≤ 16384) where
   -- 3 and 4
-  pub unread : (r : Refusal) → t ≡ Err r → JudgedBy prelude_judge prelude (NotAccepted (further beyond r)) (zeros 0)
+  pub unread : (r : Refusal) → t ≡ Err r → JudgedBy prelude_judge prelude (Refused (further beyond r)) (zeros 0)
   unread r q = unreadable l r (refused_in symbols f r q)
 
   pub unread_inside : (r : Refusal) → t ≡ Err r → r.place.at ≤ 16384
@@ -99,19 +91,19 @@ module _ (kinds : List ℕ) {prelude places values : List ℕ} {n : ℕ} (s : Sy
       }
 
   -- 5 or 6
-  pub refusals : (a : Answer) (k : ℕ) → r ≡ fault_at a k → JudgedBy prelude_judge prelude (NotAccepted (refusal a.number (prelude_place prelude k))) (zeros 0)
+  pub refusals : (a : Answer) (k : ℕ) → r ≡ fault_at a k → JudgedBy prelude_judge prelude (Refused (refusal a.number (prelude_place prelude k))) (zeros 0)
   refusals a k q = go (ℕ_discrete a.number grammar)
     where
       said_so : (m : ℕ) → a.number ≡ m → r ≡ fault_at (answer m) k
       said_so m e = q ∙ ap (λ i. fault_at (answer i) k) e
 
-      go : Dec (a.number ≡ grammar) → JudgedBy prelude_judge prelude (NotAccepted (refusal a.number (prelude_place prelude k))) (zeros 0)
+      go : Dec (a.number ≡ grammar) → JudgedBy prelude_judge prelude (Refused (refusal a.number (prelude_place prelude k))) (zeros 0)
       go (yes e) =
-          subst (λ m. JudgedBy prelude_judge prelude (NotAccepted (refusal m (prelude_place prelude k))) (zeros 0)) (sym e)
+          subst (λ m. JudgedBy prelude_judge prelude (Refused (refusal m (prelude_place prelude k))) (zeros 0)) (sym e)
           (ungrammatical (record { short = s.scanned.short; whole = s.scanned.whole }) k (subst (λ ks. PreludeFault ks k) kinds_are (v.wrong k (said_so grammar e))))
       go (no e) =
           let d : a.number ≡ depth = ap (λ x. x.number) (v.numbers a k q (λ x. e (ap (λ y. y.number) x))) in
-          subst (λ m. JudgedBy prelude_judge prelude (NotAccepted (refusal m (prelude_place prelude k))) (zeros 0)) (sym d)
+          subst (λ m. JudgedBy prelude_judge prelude (Refused (refusal m (prelude_place prelude k))) (zeros 0)) (sym d)
           (too_deep (record { short = s.scanned.short; whole = s.scanned.whole }) k (subst (λ ks. PreludeDeep ks k) kinds_are (v.deep k (said_so depth d))))
 
   -- at a symbol, or behind the last one
@@ -129,12 +121,12 @@ module _ (kinds : List ℕ) {prelude places values : List ℕ} {n : ℕ} (s : Sy
           omega (arith, w.deep.inside, s.count, s.few)
 
   -- the refusal before 32,768 is added
-  pub refused_so : (a : Answer) (k : ℕ) → r ≡ fault_at a k → (x : Refusal) → x ≡ refusal a.number (place_from places n (length prelude) k) → PreludeTold prelude places values new (Refused x)
+  pub refused_so : (a : Answer) (k : ℕ) → r ≡ fault_at a k → (x : Refusal) → x ≡ refusal a.number (place_from places n (length prelude) k) → PreludeTold prelude places values new (Err x)
   refused_so a k q x e =
       let p = place_in symbols (omega arith) s k in
       let y : x ≡ refusal a.number (any.place_in symbols prelude k) = e ∙ ap (refusal a.number) p in
       prelude_refused x (omega (arith, ap (λ z. z.place.at) y, place_small s k))
-      (subst (λ z. JudgedBy prelude_judge prelude (NotAccepted (further beyond z)) (zeros 0)) (sym y) (refusals a k q))
+      (subst (λ z. JudgedBy prelude_judge prelude (Refused (further beyond z)) (zeros 0)) (sym y) (refusals a k q))
 
 -- ---- a statement with a prelude around it, for the passes
 
@@ -236,25 +228,25 @@ module _ {prelude places values nodes : List ℕ} {n b : ℕ} (x : PreludeNodes 
 
   -- 7 to 10
   refused_for_lem : (i : Fault) (z : Refusal) → z ≡ refusal i.answer (place_from places n (length prelude) i.symbol)
-      → JudgedBy prelude_judge prelude (NotAccepted (refusal i.answer (prelude_place prelude i.symbol))) (zeros 0) → PreludeTold prelude places values nodes (Refused z)
+      → JudgedBy prelude_judge prelude (Refused (refusal i.answer (prelude_place prelude i.symbol))) (zeros 0) → PreludeTold prelude places values nodes (Err z)
   refused_for_lem i z q j =
       let v : z ≡ refusal i.answer (any.place_in symbols prelude i.symbol) = q ∙ ap (refusal i.answer) (placed i.symbol) in
       prelude_refused z (omega (arith, ap (λ z. z.place.at) v, place_small x.symbols_in i.symbol))
-      (subst (λ z. JudgedBy prelude_judge prelude (NotAccepted (further beyond z)) (zeros 0)) (sym v) j)
+      (subst (λ z. JudgedBy prelude_judge prelude (Refused (further beyond z)) (zeros 0)) (sym v) j)
 
   module _ (new : List ℕ) {rows uses was marks : List ℕ} (w : ℕ) (e : take w new ≡ marked 0 (take b nodes) []) where
-    refused_go : {r : Found} → Said prelude places (take w new) rows uses was marks n (length prelude) w alone r → (z : Refusal) → r ≡ Refused z → PreludeTold prelude places values nodes (Refused z)
-    refused_go (at_names i h y q) z d = subst (λ z. PreludeTold prelude places values nodes (Refused z)) (same_refusal d) (refused_for_lem i y q (misnamed x.read i (ap least (alone_named ps) ∙ h)))
-    refused_go (at_types i h k y q) z d = subst (λ z. PreludeTold prelude places values nodes (Refused z)) (same_refusal d) (refused_for_lem i y q (mistyped x.read i (ap least (alone_named ps) ∙ h) (alone_type ps ∙ k)))
+    refused_go : {r : Result Sizes Refusal} → Said prelude places (take w new) rows uses was marks n (length prelude) w alone r → (z : Refusal) → r ≡ Err z → PreludeTold prelude places values nodes (Err z)
+    refused_go (at_names i h y q) z d = subst (λ z. PreludeTold prelude places values nodes (Err z)) (same_refusal d) (refused_for_lem i y q (misnamed x.read i (ap least (alone_named ps) ∙ h)))
+    refused_go (at_types i h k y q) z d = subst (λ z. PreludeTold prelude places values nodes (Err z)) (same_refusal d) (refused_for_lem i y q (mistyped x.read i (ap least (alone_named ps) ∙ h) (alone_type ps ∙ k)))
     refused_go (right y h k t m c v) z d = absurd (let z : ◌≡◌ {A = ℕ} 0 1 = cc in omega arith)
 
     -- or none
-    program_go : {r : Found} → Said prelude places (take w new) rows uses was marks n (length prelude) w alone r → (z : Sizes) → r ≡ Program z → (A B : List ℕ) → A ≡ take (4 * z.rows) rows → B ≡ take z.uses uses
-        → PreludeTold prelude places values nodes (Program (record { symbols = n; nodes = b; rows = length A / 4; uses = length B }))
+    program_go : {r : Result Sizes Refusal} → Said prelude places (take w new) rows uses was marks n (length prelude) w alone r → (z : Sizes) → r ≡ Ok z → (A B : List ℕ) → A ≡ take (4 * z.rows) rows → B ≡ take z.uses uses
+        → PreludeTold prelude places values nodes (Ok (record { symbols = n; nodes = b; rows = length A / 4; uses = length B }))
     program_go (at_names i h y q) z d A B f g = absurd (let z : ◌≡◌ {A = ℕ} 0 1 = cc in omega arith)
     program_go (at_types i h k y q) z d A B f g = absurd (let z : ◌≡◌ {A = ℕ} 0 1 = cc in omega arith)
     program_go (right y h k t m c v) z d A B f g =
-        let R : A ≡ declarations (prelude_alone ps) = f ∙ ap (λ z. take (4 * z.rows) rows) (sym (same_sizes d)) ∙ rows_here_lem (alone_stands new w e) t ∙ sym (alone_declared ps) in
+        let R : A ≡ declarations (prelude_alone ps) = f ∙ ap (λ z. take (4 * z.rows) rows) (sym (same_found d)) ∙ rows_here_lem (alone_stands new w e) t ∙ sym (alone_declared ps) in
         let U = matches_length (rows_s 0 0 alone) (take y.uses uses) (uses_s [] alone) (uses_here (alone_stands new w e) t) in
         let l = alone_four ps in
         (prelude_stands _ (record {
@@ -263,25 +255,25 @@ module _ {prelude places values nodes : List ℕ} {n b : ℕ} (x : PreludeNodes 
           words = x.words;
           many = x.many;
           rows = four_times _ (length A) (declarations (prelude_alone ps)) (ap length R) l;
-          uses = ap length (g ∙ ap (λ z. take z.uses uses) (sym (same_sizes d))) ∙ U ∙ ap length (sym (alone_uses ps));
+          uses = ap length (g ∙ ap (λ z. take z.uses uses) (sym (same_found d))) ∙ U ∙ ap length (sym (alone_uses ps));
         }))
 
-    pub refused_alone : {r : Found} → Passes prelude places (take w new) rows uses was marks n (length prelude) w r → (z : Refusal) → r ≡ Refused z → PreludeTold prelude places values nodes (Refused z)
+    pub refused_alone : {r : Result Sizes Refusal} → Passes prelude places (take w new) rows uses was marks n (length prelude) w r → (z : Refusal) → r ≡ Err z → PreludeTold prelude places values nodes (Err z)
     refused_alone p z d = refused_go (said (alone_stands new w e) p) z d
 
-    pub program_alone : {r : Found} → Passes prelude places (take w new) rows uses was marks n (length prelude) w r → (z : Sizes) → r ≡ Program z → (A B : List ℕ) → A ≡ take (4 * z.rows) rows → B ≡ take z.uses uses
-        → PreludeTold prelude places values nodes (Program (record { symbols = n; nodes = b; rows = length A / 4; uses = length B }))
+    pub program_alone : {r : Result Sizes Refusal} → Passes prelude places (take w new) rows uses was marks n (length prelude) w r → (z : Sizes) → r ≡ Ok z → (A B : List ℕ) → A ≡ take (4 * z.rows) rows → B ≡ take z.uses uses
+        → PreludeTold prelude places values nodes (Ok (record { symbols = n; nodes = b; rows = length A / 4; uses = length B }))
     program_alone p z d A B f g = program_go (said (alone_stands new w e) p) z d A B f g
 
 -- ---- 32,768 added
 
-pub told_refusal : {prelude places values nodes : List ℕ} {r : Found} → PreludeTold prelude places values nodes r → (x : Refusal) → r ≡ Refused x → (x.place.at ≤ 16384) × JudgedBy prelude_judge prelude (NotAccepted (further beyond x)) (zeros 0)
-told_refusal {prelude} (prelude_refused y l j) x e = subst (λ z. (z.place.at ≤ 16384) × JudgedBy prelude_judge prelude (NotAccepted (further beyond z)) (zeros 0)) (same_refusal e) (l, j)
+pub told_refusal : {prelude places values nodes : List ℕ} {r : Result Sizes Refusal} → PreludeTold prelude places values nodes r → (x : Refusal) → r ≡ Err x → (x.place.at ≤ 16384) × JudgedBy prelude_judge prelude (Refused (further beyond x)) (zeros 0)
+told_refusal {prelude} (prelude_refused y l j) x e = subst (λ z. (z.place.at ≤ 16384) × JudgedBy prelude_judge prelude (Refused (further beyond z)) (zeros 0)) (same_refusal e) (l, j)
 told_refusal (prelude_stands z h) x e = absurd (let z : ◌≡◌ {A = ℕ} 0 1 = cc in omega arith)
 
-pub told_fills : {prelude places values nodes : List ℕ} {r : Found} → PreludeTold prelude places values nodes r → (z : Sizes) → r ≡ Program z → PreludeFills prelude places values nodes z
+pub told_fills : {prelude places values nodes : List ℕ} {r : Result Sizes Refusal} → PreludeTold prelude places values nodes r → (z : Sizes) → r ≡ Ok z → PreludeFills prelude places values nodes z
 told_fills (prelude_refused y l j) z e = absurd (let z : ◌≡◌ {A = ℕ} 0 1 = cc in omega arith)
-told_fills {prelude} {places} {values} {nodes} (prelude_stands y h) z e = subst (PreludeFills prelude places values nodes) (same_sizes e) h
+told_fills {prelude} {places} {values} {nodes} (prelude_stands y h) z e = subst (PreludeFills prelude places values nodes) (same_found e) h
 
-pub as_found : {prelude places values nodes : List ℕ} {y : Refusal} (x : Refusal) → JudgedBy prelude_judge prelude (NotAccepted (further beyond x)) (zeros 0) → y ≡ further beyond x → PreludeFound prelude places values nodes (Refused y)
-as_found {prelude} {y = y} x j e = found_refused y (subst (λ z. JudgedBy prelude_judge prelude (NotAccepted z) (zeros 0)) (sym e) j)
+pub as_found : {prelude places values nodes : List ℕ} {y : Refusal} (x : Refusal) → JudgedBy prelude_judge prelude (Refused (further beyond x)) (zeros 0) → y ≡ further beyond x → PreludeFound prelude places values nodes (Err y)
+as_found {prelude} {y = y} x j e = found_refused y (subst (λ z. JudgedBy prelude_judge prelude (Refused z) (zeros 0)) (sym e) j)

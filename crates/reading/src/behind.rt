@@ -7,7 +7,7 @@ ghost use Rattle.reading.specs.model.Preluding.{SymbolsIn, SchemeTold, PreludeFi
 use crate::finding::{passed, place_at};
 use crate::moving::{around, beyond, page, shift, symbols};
 use crate::preluding::find_prelude;
-use crate::{Both, Found, FoundBoth, Sizes};
+use crate::{Both, Sizes};
 use answers::{Answer, Ordinal, Refusal};
 use grammar::{Fault, Read};
 use symbols::scanning::scan;
@@ -20,12 +20,12 @@ fn parsed(
     places: &[usize; 2048],
     count: usize,
     nodes: &mut [u16; 32768],
-) -> Found
+) -> Result<Sizes, Refusal>
     requires { (most : ℕ) × (values : List ℕ) × (most ≤ 1024) × SymbolsIn most scheme.now places.now values count × (take count kinds.now ≡ kinds_in most scheme.now) }
     ensures { (prelude values : List ℕ) → SymbolsIn (left prelude) scheme.now places.now values count → take count kinds.now ≡ kinds_in (left prelude) scheme.now → SchemeTold prelude scheme.now places.now values nodes.new result }
 {
     match parse(kinds, count, nodes) {
-        Ok(Read { next: _, used }) => Found::Program(Sizes {
+        Ok(Read { next: _, used }) => Ok(Sizes {
             symbols: count,
             nodes: used,
             rows: 0,
@@ -34,7 +34,7 @@ fn parsed(
         Err(Fault { answer, at }) => {
             let symbol = Ordinal { number: at as u16 };
             let place = place_at(scheme.len(), places, count, symbol);
-            Found::Refused(Refusal::new(answer, place.at))
+            Err(Refusal::new(answer, place.at))
         }
     }
 }
@@ -46,17 +46,17 @@ fn told(
     places: &mut [usize; 2048],
     values: &mut [u64; 2048],
     nodes: &mut [u16; 32768],
-) -> Found
+) -> Result<Sizes, Refusal>
     requires { m ≤ 1024 }
     ensures { (prelude : List ℕ) → m ≡ count_of prelude → SchemeTold prelude scheme.now places.new values.new nodes.new result }
 {
     let mut kinds = [0u8; 2048];
     if 16384 < scheme.len() {
-        return Found::Refused(Refusal::new(Answer::LONG, 16384));
+        return Err(Refusal::new(Answer::LONG, 16384));
     }
     match scan(scheme, 1024 - m, &mut kinds, places, values) {
         Ok(n) => parsed(scheme, &kinds, places, n, nodes),
-        Err(r) => Found::Refused(r),
+        Err(r) => Err(r),
     }
 }
 
@@ -78,14 +78,14 @@ fn joined(
     rows: &mut [u16; 32768],
     uses: &mut [u16; 8192],
     marks: &mut [u16; 2048],
-) -> Found
+) -> Result<Sizes, Refusal>
     requires { Apart prelude.now scheme.now places.old values.old ownplaces.now ownvalues.now first.now own.old m n before behind }
     ensures { (a : Apart prelude.now scheme.now places.old values.old ownplaces.now ownvalues.now first.now own.old m n before behind) → JoinTold prelude.now scheme.now places.new values.new nodes.new own.new rows.new uses.new marks.old marks.new a.whole a.behind.read behind result }
 {
     beyond(places, m);
-    symbols(places, values, m, ownplaces, ownvalues, n);
+    symbols(places, values, m, &ownplaces[..n], &ownvalues[..n]);
     shift(own, behind / 4, m as u16);
-    let words = around(nodes, first, before, own, behind, m as u16);
+    let words = around(nodes, &first[..before], &own[..behind], m as u16);
     let mut text = [0u8; 65536];
     page(&mut text, scheme, prelude);
     passed(
@@ -114,26 +114,22 @@ fn behind(
     rows: &mut [u16; 32768],
     uses: &mut [u16; 8192],
     marks: &mut [u16; 2048],
-) -> FoundBoth
+) -> Result<Both, Refusal>
     requires { PreludeFills prelude.now places.old values.old first.now p }
     ensures { FindsBoth prelude.now scheme.now places.new values.new nodes.new own.new rows.new uses.new marks.old marks.new result }
 {
     let mut ownplaces = [0usize; 2048];
     let mut ownvalues = [0u64; 2048];
-    match told(scheme, p.symbols, &mut ownplaces, &mut ownvalues, own) {
-        Found::Program(s) => match joined(
-            prelude, scheme, places, values, p.symbols, &ownplaces, &ownvalues, s.symbols, first,
-            p.nodes, own, s.nodes, nodes, rows, uses, marks,
-        ) {
-            Found::Program(all) => FoundBoth::Program(Both {
-                all,
-                before: p,
-                own: s.nodes,
-            }),
-            Found::Refused(r) => FoundBoth::Refused(r),
-        },
-        Found::Refused(r) => FoundBoth::Refused(r),
-    }
+    let s = told(scheme, p.symbols, &mut ownplaces, &mut ownvalues, own)?;
+    let all = joined(
+        prelude, scheme, places, values, p.symbols, &ownplaces, &ownvalues, s.symbols, first,
+        p.nodes, own, s.nodes, nodes, rows, uses, marks,
+    )?;
+    Ok(Both {
+        all,
+        before: p,
+        own: s.nodes,
+    })
 }
 
 // What a prelude and a scheme hold, for any bytes: 2 to 10 of the prelude, then of the scheme; or places and values of the symbols of both, the nodes, rows
@@ -148,14 +144,12 @@ pub fn find_both(
     rows: &mut [u16; 32768],
     uses: &mut [u16; 8192],
     marks: &mut [u16; 2048],
-) -> FoundBoth
+) -> Result<Both, Refusal>
     ensures { FindsBoth prelude.now scheme.now places.new values.new nodes.new own.new rows.new uses.new marks.old marks.new result }
 {
     let mut first = [0u16; 32768];
-    match find_prelude(prelude, places, values, &mut first) {
-        Found::Program(p) => behind(
-            prelude, scheme, p, &first, places, values, nodes, own, rows, uses, marks,
-        ),
-        Found::Refused(r) => FoundBoth::Refused(r),
-    }
+    let p = find_prelude(prelude, places, values, &mut first)?;
+    behind(
+        prelude, scheme, p, &first, places, values, nodes, own, rows, uses, marks,
+    )
 }

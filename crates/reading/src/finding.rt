@@ -5,7 +5,7 @@ ghost use Rattle.names.specs.model.Rows.{no_fault};
 ghost use Rattle.reading.specs.model.Passing.{place_from, refused_for, Passes};
 ghost use Rattle.reading.specs.model.Stages.{Symbols, Tells, Declared, Finds};
 
-use crate::{Found, Sizes};
+use crate::Sizes;
 use answers::{Answer, Ordinal, Place, Refusal};
 use grammar::{Fault, Read};
 use names::faults;
@@ -59,7 +59,7 @@ pub fn passed(
     rows: &mut [u16; 32768],
     uses: &mut [u16; 8192],
     marks: &mut [u16; 2048],
-) -> Found
+) -> Result<Sizes, Refusal>
     ensures { Passes page.now places.now (take words nodes.now) rows.new uses.new marks.old marks.new count end words result }
 {
     let mut ids = [0u16; 2048];
@@ -70,13 +70,13 @@ pub fn passed(
     let used = u.count;
     let fault = lesser(o.least, u.least);
     if fault < faults::NONE {
-        return Found::Refused(refused(fault, end, places, count));
+        return Err(refused(fault, end, places, count));
     }
     let mistake = check(nodes, words, uses, used, rows, declared, marks);
     if mistake < faults::NONE {
-        return Found::Refused(refused(mistake, end, places, count));
+        return Err(refused(mistake, end, places, count));
     }
-    Found::Program(Sizes {
+    Ok(Sizes {
         symbols: count,
         nodes: words,
         rows: declared,
@@ -94,7 +94,7 @@ fn parsed(
     rows: &mut [u16; 32768],
     uses: &mut [u16; 8192],
     marks: &mut [u16; 2048],
-) -> Found
+) -> Result<Sizes, Refusal>
     requires { Symbols source.now kinds.now places.now count }
     ensures { Tells source.now (Declared source.now places.now nodes.new rows.new uses.new marks.old marks.new count) result }
 {
@@ -113,7 +113,7 @@ fn parsed(
         Err(Fault { answer, at }) => {
             let symbol = Ordinal { number: at as u16 };
             let place = place_at(source.len(), places, count, symbol);
-            Found::Refused(Refusal::new(answer, place.at))
+            Err(Refusal::new(answer, place.at))
         }
     }
 }
@@ -129,14 +129,14 @@ pub fn find(
     rows: &mut [u16; 32768],
     uses: &mut [u16; 8192],
     marks: &mut [u16; 2048],
-) -> Found
+) -> Result<Sizes, Refusal>
     ensures { Finds source.now kinds.new places.new values.new nodes.new rows.new uses.new marks.old marks.new result }
 {
     if 16384 < source.len() {
-        return Found::Refused(Refusal::new(Answer::LONG, 16384));
+        return Err(Refusal::new(Answer::LONG, 16384));
     }
     match scan(source, 2048, kinds, places, values) {
         Ok(n) => parsed(source, kinds, places, n, nodes, rows, uses, marks),
-        Err(r) => Found::Refused(r),
+        Err(r) => Err(r),
     }
 }

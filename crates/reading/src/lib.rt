@@ -19,26 +19,12 @@ pub struct Sizes {
     pub uses: usize,
 }
 
-// What the front end finds: a program, or a refusal with its number and place.
-#[derive(Clone, Copy)]
-pub enum Found {
-    Program(Sizes),
-    Refused(Refusal),
-}
-
 // What a prelude and a scheme fill: both as one program, the prelude by itself, and how many words of nodes the scheme has by itself.
 #[derive(Clone, Copy)]
 pub struct Both {
     pub all: Sizes,
     pub before: Sizes,
     pub own: usize,
-}
-
-// What the front end finds of a prelude and a scheme.
-#[derive(Clone, Copy)]
-pub enum FoundBoth {
-    Program(Both),
-    Refused(Refusal),
 }
 
 // The answers to two schemes.

@@ -7,56 +7,12 @@ ghost use Rattle.reading.specs.model.Moves.{laid, first_raised, page as the_page
 
 use grammar::nodes;
 
-// Lays the first bytes of those lent over others, from a place on.
-pub fn bytes(words: &mut [u8], at: usize, own: &[u8], count: usize)
-    requires { (at + count ≤ length words.old) × (count ≤ length own.now) }
-    ensures { words.new ≡ laid words.old at (take count own.now) }
+// Lays words over others, from a place on.
+fn lay<T: Copy>(words: &mut [T], at: usize, own: &[T])
+    requires { at + length own.now ≤ length words.old }
+    ensures { words.new ≡ laid words.old at own.now }
 {
-    let mut i = 0;
-    while i < count {
-        let k = at + i;
-        words[k] = own[i];
-        i += 1;
-    }
-}
-
-// The same for places.
-pub fn place_words(words: &mut [usize], at: usize, own: &[usize], count: usize)
-    requires { (at + count ≤ length words.old) × (count ≤ length own.now) }
-    ensures { words.new ≡ laid words.old at (take count own.now) }
-{
-    let mut i = 0;
-    while i < count {
-        let k = at + i;
-        words[k] = own[i];
-        i += 1;
-    }
-}
-
-// The same for values.
-pub fn value_words(words: &mut [u64], at: usize, own: &[u64], count: usize)
-    requires { (at + count ≤ length words.old) × (count ≤ length own.now) }
-    ensures { words.new ≡ laid words.old at (take count own.now) }
-{
-    let mut i = 0;
-    while i < count {
-        let k = at + i;
-        words[k] = own[i];
-        i += 1;
-    }
-}
-
-// The same for words of nodes.
-pub fn words(words: &mut [u16], at: usize, own: &[u16], count: usize)
-    requires { (at + count ≤ length words.old) × (count ≤ length own.now) }
-    ensures { words.new ≡ laid words.old at (take count own.now) }
-{
-    let mut i = 0;
-    while i < count {
-        let k = at + i;
-        words[k] = own[i];
-        i += 1;
-    }
+    words[at..at + own.len()].copy_from_slice(own);
 }
 
 // Adds 32,768 to the first places: those of a prelude's symbols.
@@ -64,22 +20,8 @@ pub fn beyond(places: &mut [usize], count: usize)
     requires { (count ≤ length places.old) × ((i : ℕ) → i < count → get_or places.old i 0 ≤ 16384) }
     ensures { places.new ≡ first_raised the-beyond count places.old }
 {
-    let mut i = 0;
-    while i < count {
-        let place = places[i];
-        places[i] = place + 32768;
-        i += 1;
-    }
-}
-
-// Sets every byte to zero.
-fn blank(words: &mut [u8])
-    ensures { words.new ≡ zeros (length words.old) }
-{
-    let mut i = 0;
-    while i < words.len() {
-        words[i] = 0;
-        i += 1;
+    for place in &mut places[..count] {
+        *place += 32768;
     }
 }
 
@@ -88,9 +30,9 @@ pub fn page(words: &mut [u8; 65536], scheme: &[u8], prelude: &[u8])
     requires { (length scheme.now ≤ 16384) × (length prelude.now ≤ 16384) }
     ensures { words.new ≡ the_page scheme.now prelude.now }
 {
-    blank(words);
-    bytes(words, 0, scheme, scheme.len());
-    bytes(words, 32768, prelude, prelude.len());
+    words.fill(0);
+    lay(words, 0, scheme);
+    lay(words, 32768, prelude);
 }
 
 // A node's symbol behind m others, where its kind has one.
@@ -109,31 +51,26 @@ pub fn shift(nodes: &mut [u16], count: usize, m: u16)
     requires { (4 * count ≤ length nodes.old) × (m ≤ 2048) × Symbols 2048 count nodes.old }
     ensures { nodes.new ≡ first_shifted m (4 * count) nodes.old }
 {
-    let mut i = 0;
-    while i < count {
+    for i in 0..count {
         let k = 4 * i;
-        let symbol = moved(nodes[k], nodes[k + 1], m);
-        let second = k + 1;
-        nodes[second] = symbol;
-        i += 1;
+        nodes[k + 1] = moved(nodes[k], nodes[k + 1], m);
     }
 }
 
-// A scheme's n symbols behind a prelude's m: places and values.
+// A scheme's symbols behind a prelude's m: places and values.
 pub fn symbols(
     places: &mut [usize; 2048],
     values: &mut [u64; 2048],
     m: usize,
-    ownplaces: &[usize; 2048],
-    ownvalues: &[u64; 2048],
-    n: usize,
+    ownplaces: &[usize],
+    ownvalues: &[u64],
 )
-    requires { m + n ≤ 2048 }
-    ensures places_after { take (m + n) places.new ≡ take m places.old ++ take n ownplaces.now }
-    ensures values_after { take (m + n) values.new ≡ take m values.old ++ take n ownvalues.now }
+    requires { (m + length ownplaces.now ≤ 2048) × (length ownvalues.now ≡ length ownplaces.now) }
+    ensures places_after { take (m + length ownplaces.now) places.new ≡ take m places.old ++ ownplaces.now }
+    ensures values_after { take (m + length ownplaces.now) values.new ≡ take m values.old ++ ownvalues.now }
 {
-    place_words(places, m, ownplaces, n);
-    value_words(values, m, ownvalues, n);
+    lay(places, m, ownplaces);
+    lay(values, m, ownvalues);
 }
 
 // A mark: a node without operands.
@@ -141,33 +78,25 @@ fn mark(out: &mut [u16], at: usize, kind: u16, symbol: u16)
     requires { at + 4 ≤ length out.old }
     ensures { out.new ≡ laid out.old at (the-mark kind symbol) }
 {
-    let mut node = [0u16; 4];
-    node[0] = kind;
-    node[1] = symbol;
-    words(out, at, &node, 4);
+    lay(out, at, &[kind, symbol, 0, 0]);
 }
 
 // A prelude's nodes and a scheme's in the marks of one block; without a prelude's the scheme's alone. Gives how many words these are.
-pub fn around(
-    out: &mut [u16],
-    prelude: &[u16],
-    p: usize,
-    own: &[u16],
-    n: usize,
-    symbol: u16,
-) -> usize
-    requires { (p + n + 12 ≤ length out.old) × (p ≤ length prelude.now) × (n ≤ length own.now) }
-    ensures out_after { take result out.new ≡ marked symbol (take p prelude.now) (take n own.now) }
-    ensures value { result ≡ length (marked symbol (take p prelude.now) (take n own.now)) }
+pub fn around(out: &mut [u16], prelude: &[u16], own: &[u16], symbol: u16) -> usize
+    requires { length prelude.now + length own.now + 12 ≤ length out.old }
+    ensures out_after { take result out.new ≡ marked symbol prelude.now own.now }
+    ensures value { result ≡ length (marked symbol prelude.now own.now) }
 {
+    let p = prelude.len();
+    let n = own.len();
     if p == 0 {
-        words(out, 0, own, n);
+        lay(out, 0, own);
         return n;
     }
     mark(out, 0, nodes::BLOCK, symbol);
-    words(out, 4, prelude, p);
+    lay(out, 4, prelude);
     mark(out, p + 4, nodes::STATEMENTS, symbol);
-    words(out, p + 8, own, n);
+    lay(out, p + 8, own);
     mark(out, p + n + 8, nodes::BLOCK_END, symbol);
     p + n + 12
 }

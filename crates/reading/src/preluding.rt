@@ -4,9 +4,9 @@ ghost use Rattle.reading.specs.Judging.{kinds_in};
 ghost use Rattle.reading.specs.Two.{symbols};
 ghost use Rattle.reading.specs.model.Preluding.{SymbolsIn, PreludeNodes, PreludeTold, PreludeFound};
 
+use crate::Sizes;
 use crate::finding::{passed, place_at};
 use crate::moving::around;
-use crate::{Found, Sizes};
 use answers::{Answer, Ordinal, Refusal};
 use grammar::{Fault, Read};
 use names::passes::{first_rows, front};
@@ -27,7 +27,7 @@ fn checked(
     count: usize,
     nodes: &[u16; 32768],
     words: usize,
-) -> Found
+) -> Result<Sizes, Refusal>
     requires { (values : List ℕ) × PreludeNodes prelude.now places.now values nodes.now count words }
     ensures { (values : List ℕ) → PreludeNodes prelude.now places.now values nodes.now count words → PreludeTold prelude.now places.now values nodes.now result }
 {
@@ -35,8 +35,8 @@ fn checked(
     let mut rows = [0u16; 32768];
     let mut uses = [0u16; 8192];
     let mut marks = [0u16; 2048];
-    let all = around(&mut block, nodes, words, nodes, 0, 0);
-    match passed(
+    let all = around(&mut block, &nodes[..words], &[], 0);
+    let z = passed(
         prelude,
         prelude.len(),
         places,
@@ -46,15 +46,13 @@ fn checked(
         &mut rows,
         &mut uses,
         &mut marks,
-    ) {
-        Found::Program(z) => Found::Program(Sizes {
-            symbols: count,
-            nodes: words,
-            rows: first_rows(&rows, z.rows).len() / 4,
-            uses: first_uses(&uses, z.uses).len(),
-        }),
-        Found::Refused(r) => Found::Refused(r),
-    }
+    )?;
+    Ok(Sizes {
+        symbols: count,
+        nodes: words,
+        rows: first_rows(&rows, z.rows).len() / 4,
+        uses: first_uses(&uses, z.uses).len(),
+    })
 }
 
 // The symbols of a prelude: 5 or 6, or on.
@@ -64,7 +62,7 @@ fn parsed(
     places: &[usize; 2048],
     count: usize,
     nodes: &mut [u16; 32768],
-) -> Found
+) -> Result<Sizes, Refusal>
     requires { ((values : List ℕ) × SymbolsIn symbols prelude.now places.now values count) × (take count kinds.now ≡ kinds_in symbols prelude.now) }
     ensures { (values : List ℕ) → SymbolsIn symbols prelude.now places.now values count → PreludeTold prelude.now places.now values nodes.new result }
 {
@@ -73,7 +71,7 @@ fn parsed(
         Err(Fault { answer, at }) => {
             let symbol = Ordinal { number: at as u16 };
             let place = place_at(prelude.len(), places, count, symbol);
-            Found::Refused(Refusal::new(answer, place.at))
+            Err(Refusal::new(answer, place.at))
         }
     }
 }
@@ -84,16 +82,16 @@ fn told(
     places: &mut [usize; 2048],
     values: &mut [u64; 2048],
     nodes: &mut [u16; 32768],
-) -> Found
+) -> Result<Sizes, Refusal>
     ensures { PreludeTold prelude.now places.new values.new nodes.new result }
 {
     let mut kinds = [0u8; 2048];
     if 16384 < prelude.len() {
-        return Found::Refused(Refusal::new(Answer::LONG, 16384));
+        return Err(Refusal::new(Answer::LONG, 16384));
     }
     match scan(prelude, 1024, &mut kinds, places, values) {
         Ok(n) => parsed(prelude, &kinds, places, n, nodes),
-        Err(r) => Found::Refused(r),
+        Err(r) => Err(r),
     }
 }
 
@@ -103,11 +101,11 @@ pub fn find_prelude(
     places: &mut [usize; 2048],
     values: &mut [u64; 2048],
     nodes: &mut [u16; 32768],
-) -> Found
+) -> Result<Sizes, Refusal>
     ensures { PreludeFound prelude.now places.new values.new nodes.new result }
 {
     match told(prelude, places, values, nodes) {
-        Found::Program(z) => Found::Program(z),
-        Found::Refused(r) => Found::Refused(Refusal::new(r.answer, r.place.at + 32768)),
+        Ok(z) => Ok(z),
+        Err(r) => Err(Refusal::new(r.answer, r.place.at + 32768)),
     }
 }

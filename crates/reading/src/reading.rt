@@ -5,22 +5,11 @@ ghost use Rattle.grammar.specs.model.Parsing.{zeros};
 ghost use Rattle.reading.specs.Reading.{cleared, Judged, Reads};
 ghost use Rattle.reading.specs.model.Stages.{Holds};
 
+use crate::Sizes;
 use crate::finding::find;
-use crate::{Found, Sizes};
 use answers::{Answer, Refusal, Verdict};
 use names::passes::{first_rows, front};
 use table::writing::write;
-
-// Sets every word to zero.
-pub fn clear(words: &mut [u16])
-    ensures { words.new ≡ zeros (length words.old) }
-{
-    let mut i = 0;
-    while i < words.len() {
-        words[i] = 0;
-        i += 1;
-    }
-}
 
 // The table of what was found, over zeros.
 fn written(
@@ -55,7 +44,7 @@ fn judged(source: &[u8], words: &mut [u16]) -> Verdict
     let mut rows = [0u16; 32768];
     let mut uses = [0u16; 8192];
     let mut marks = [0u16; 2048];
-    clear(words);
+    words.fill(0);
     match find(
         source,
         &mut kinds,
@@ -66,11 +55,11 @@ fn judged(source: &[u8], words: &mut [u16]) -> Verdict
         &mut uses,
         &mut marks,
     ) {
-        Found::Program(s) => {
+        Ok(s) => {
             written(words, s, &nodes, &uses, &rows, &places);
             Verdict::Accepted
         }
-        Found::Refused(r) => Verdict::Refused(r),
+        Err(r) => Verdict::Refused(r),
     }
 }
 

@@ -6,8 +6,7 @@ ghost use Rattle.reading.specs.Two.{half_words, Half, ReadsTwo};
 ghost use Rattle.reading.specs.model.Preluding.{BothFill};
 
 use crate::behind::find_both;
-use crate::reading::clear;
-use crate::{Both, FoundBoth, TwoAnswers};
+use crate::{Both, TwoAnswers};
 use answers::{Answer, Refusal, Verdict};
 use names::passes::{first_rows, front};
 use table::writing::{fourths, write_behind};
@@ -60,7 +59,7 @@ fn half(prelude: &[u8], scheme: &[u8], words: &mut [u16]) -> Verdict
     let mut rows = [0u16; 32768];
     let mut uses = [0u16; 8192];
     let mut marks = [0u16; 2048];
-    clear(words);
+    words.fill(0);
     match find_both(
         prelude,
         scheme,
@@ -72,11 +71,11 @@ fn half(prelude: &[u8], scheme: &[u8], words: &mut [u16]) -> Verdict
         &mut uses,
         &mut marks,
     ) {
-        FoundBoth::Program(b) => {
+        Ok(b) => {
             listed(words, b, &own, &uses, &rows, &places);
             Verdict::Accepted
         }
-        FoundBoth::Refused(r) => Verdict::Refused(r),
+        Err(r) => Verdict::Refused(r),
     }
 }
 

@@ -8,7 +8,7 @@ use Rattle.reading.specs.Judging as any
 use Rattle.reading.specs.Two.{beyond, count_of, left, place_with}
 
 -- words laid over others from a place on
-abbrev pub laid : List ℕ → ℕ → List ℕ → List ℕ
+abbrev pub laid : {A : Type 0} → List A → ℕ → List A → List A
 laid old at words = take at old ++ (words ++ drop (at + length words) old)
 
 -- n more, each

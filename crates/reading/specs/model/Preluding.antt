@@ -1,8 +1,8 @@
 -- Request 7: what is found of a prelude, of a scheme behind it, and of both as one program. These serve contracts and are no part of the paper.
-use Rattle.std.specs.Prelude.{ℕ, ◌*◌, ◌<◌, ◌≤◌, ◌≡◌, List, [], ◌∷◌, ◌++◌, length, get_or, take}
+use Rattle.std.specs.Prelude.{ℕ, ◌*◌, ◌<◌, ◌≤◌, ◌≡◌, List, [], ◌∷◌, ◌++◌, length, get_or, take, Result, Ok, Err}
 use Rattle.std.proofs.Math.Option.{none}
 use Rattle.answers.specs.declared.Refusal.{Refusal}
-use Rattle.answers.specs.declared.Verdict.TheVariants.{Refused as NotAccepted}
+use Rattle.answers.specs.declared.Verdict.TheVariants.{Refused}
 use Rattle.symbols.specs.Scan.{scan, values_of}
 use Rattle.grammar.specs.model.Marked.{nodes_of, prelude_nodes}
 use Rattle.grammar.specs.model.Parsing.{zeros}
@@ -20,10 +20,6 @@ use Rattle.reading.specs.model.Moves.{page, PlacedWith}
 use Rattle.reading.specs.model.Passing.{Kept}
 use Rattle.reading.specs.declared.Sizes.{Sizes}
 use Rattle.reading.specs.declared.Both.{Both}
-use Rattle.reading.specs.declared.Found.{Found}
-use Rattle.reading.specs.declared.Found.TheVariants.{Program, Refused}
-use Rattle.reading.specs.declared.FoundBoth.{FoundBoth}
-use Rattle.reading.specs.declared.FoundBoth.TheVariants.{Program as BothFound, Refused as NoneFound}
 
 -- ---- the symbols of a text, of which at most so many may come, stand in the arrays
 
@@ -45,14 +41,14 @@ pub record PreludeFills (prelude places values nodes : List ℕ) (z : Sizes) : T
   pub rows : 4 * z.rows ≡ length (declarations (prelude_alone (procedures whole)))
   pub uses : z.uses ≡ length (uses_s [] (prelude_alone (procedures whole)))
 
-pub data PreludeTold (prelude places values nodes : List ℕ) : Found → Type 0 where
-  prelude_refused : (x : Refusal) → x.place.at ≤ 16384 → JudgedBy prelude_judge prelude (NotAccepted (further beyond x)) (zeros 0) → PreludeTold prelude places values nodes (Refused x)
-  prelude_stands : (z : Sizes) → PreludeFills prelude places values nodes z → PreludeTold prelude places values nodes (Program z)
+pub data PreludeTold (prelude places values nodes : List ℕ) : Result Sizes Refusal → Type 0 where
+  prelude_refused : (x : Refusal) → x.place.at ≤ 16384 → JudgedBy prelude_judge prelude (Refused (further beyond x)) (zeros 0) → PreludeTold prelude places values nodes (Err x)
+  prelude_stands : (z : Sizes) → PreludeFills prelude places values nodes z → PreludeTold prelude places values nodes (Ok z)
 
 -- the same with 32,768 added
-pub data PreludeFound (prelude places values nodes : List ℕ) : Found → Type 0 where
-  found_refused : (x : Refusal) → JudgedBy prelude_judge prelude (NotAccepted x) (zeros 0) → PreludeFound prelude places values nodes (Refused x)
-  found_stands : (z : Sizes) → PreludeFills prelude places values nodes z → PreludeFound prelude places values nodes (Program z)
+pub data PreludeFound (prelude places values nodes : List ℕ) : Result Sizes Refusal → Type 0 where
+  found_refused : (x : Refusal) → JudgedBy prelude_judge prelude (Refused x) (zeros 0) → PreludeFound prelude places values nodes (Err x)
+  found_stands : (z : Sizes) → PreludeFills prelude places values nodes z → PreludeFound prelude places values nodes (Ok z)
 
 -- it keeps the grammar, and its nodes stand
 pub record PreludeNodes (prelude places values nodes : List ℕ) (n b : ℕ) : Type 0 where
@@ -69,9 +65,9 @@ pub record SchemeNodes (prelude scheme places values nodes : List ℕ) (n b : �
   pub words : take b nodes ≡ nodes_of read.tree
   pub many : b ≡ length (nodes_of read.tree)
 
-pub data SchemeTold (prelude scheme places values nodes : List ℕ) : Found → Type 0 where
-  scheme_refused : (x : Refusal) → ((ps : List Procedure) → JudgedBy (scheme_judge prelude ps) scheme (NotAccepted x) (zeros half_words)) → SchemeTold prelude scheme places values nodes (Refused x)
-  scheme_stands : (z : Sizes) → SchemeNodes prelude scheme places values nodes z.symbols z.nodes → SchemeTold prelude scheme places values nodes (Program z)
+pub data SchemeTold (prelude scheme places values nodes : List ℕ) : Result Sizes Refusal → Type 0 where
+  scheme_refused : (x : Refusal) → ((ps : List Procedure) → JudgedBy (scheme_judge prelude ps) scheme (Refused x) (zeros half_words)) → SchemeTold prelude scheme places values nodes (Err x)
+  scheme_stands : (z : Sizes) → SchemeNodes prelude scheme places values nodes z.symbols z.nodes → SchemeTold prelude scheme places values nodes (Ok z)
 
 -- ---- both as one program, whose nodes, rows, uses and marks stand; own: the scheme's nodes alone
 
@@ -104,10 +100,10 @@ pub record Apart (prelude scheme places values places' values' first own : List 
   pub many : b ≡ length (prelude_nodes whole.read.tree)
 
 -- 7 to 10 of the scheme, or both stand
-pub data JoinTold (prelude scheme places values nodes own rows uses was marks : List ℕ) (p : Prelude prelude) (q : any.Grammatical (left prelude) scheme) (words : ℕ) : Found → Type 0 where
-  both_refused : (x : Refusal) → JudgedBy (scheme_judge prelude (procedures p)) scheme (NotAccepted x) (zeros half_words)
-      → JoinTold prelude scheme places values nodes own rows uses was marks p q words (Refused x)
-  both_stand : (z : Sizes) → Joined prelude scheme places values nodes own rows uses was marks p q words z → JoinTold prelude scheme places values nodes own rows uses was marks p q words (Program z)
+pub data JoinTold (prelude scheme places values nodes own rows uses was marks : List ℕ) (p : Prelude prelude) (q : any.Grammatical (left prelude) scheme) (words : ℕ) : Result Sizes Refusal → Type 0 where
+  both_refused : (x : Refusal) → JudgedBy (scheme_judge prelude (procedures p)) scheme (Refused x) (zeros half_words)
+      → JoinTold prelude scheme places values nodes own rows uses was marks p q words (Err x)
+  both_stand : (z : Sizes) → Joined prelude scheme places values nodes own rows uses was marks p q words z → JoinTold prelude scheme places values nodes own rows uses was marks p q words (Ok z)
 
 -- what every job is told that takes a prelude and a scheme: the refusal of either, or the one program
 pub record BothFill (prelude scheme places values nodes own rows uses was marks : List ℕ) (b : Both) : Type 0 where
@@ -117,6 +113,6 @@ pub record BothFill (prelude scheme places values nodes own rows uses was marks 
   pub rows_before : 4 * b.before.rows ≡ length (declarations (prelude_alone (procedures whole)))
   pub uses_before : b.before.uses ≡ length (uses_s [] (prelude_alone (procedures whole)))
 
-pub data FindsBoth (prelude scheme places values nodes own rows uses was marks : List ℕ) : FoundBoth → Type 0 where
-  none_stands : (x : Refusal) → Half prelude scheme (NotAccepted x) (zeros half_words) → FindsBoth prelude scheme places values nodes own rows uses was marks (NoneFound x)
-  program_stands : (b : Both) → BothFill prelude scheme places values nodes own rows uses was marks b → FindsBoth prelude scheme places values nodes own rows uses was marks (BothFound b)
+pub data FindsBoth (prelude scheme places values nodes own rows uses was marks : List ℕ) : Result Both Refusal → Type 0 where
+  none_stands : (x : Refusal) → Half prelude scheme (Refused x) (zeros half_words) → FindsBoth prelude scheme places values nodes own rows uses was marks (Err x)
+  program_stands : (b : Both) → BothFill prelude scheme places values nodes own rows uses was marks b → FindsBoth prelude scheme places values nodes own rows uses was marks (Ok b)

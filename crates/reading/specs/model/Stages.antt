@@ -1,19 +1,17 @@
 -- What the stages of the front end need and give back. No part of the paper.
-use Rattle.std.specs.Prelude.{ℕ, ◌*◌, ◌<◌, ◌≤◌, ◌≡◌, List, length, get_or, take}
+use Rattle.std.specs.Prelude.{ℕ, ◌*◌, ◌<◌, ◌≤◌, ◌≡◌, List, length, get_or, take, Result, Ok, Err}
 use Rattle.std.proofs.Math.Option.{none}
 use Rattle.grammar.specs.model.Marked.{nodes_of}
 use Rattle.types.specs.Types.{type_fault}
 use Rattle.types.specs.model.Passes.{marks_of}
 use Rattle.symbols.specs.Scan.{scan, values_of}
 use Rattle.answers.specs.declared.Refusal.{Refusal}
-use Rattle.answers.specs.declared.Verdict.TheVariants.{Refused as NotAccepted}
+use Rattle.answers.specs.declared.Verdict.TheVariants.{Refused}
 use Rattle.names.specs.Uses.{name_faults, least}
 use Rattle.reading.specs.Judging.{its_program}
 use Rattle.reading.specs.Reading.{symbols, kinds_in, place_in, cleared, Scanned, Grammatical, Judged}
 use Rattle.reading.specs.model.Passing.{Kept}
 use Rattle.reading.specs.declared.Sizes.{Sizes}
-use Rattle.reading.specs.declared.Found.{Found}
-use Rattle.reading.specs.declared.Found.TheVariants.{Program, Refused}
 
 -- ---- what is known at each stage
 
@@ -38,9 +36,9 @@ pub record Ready (source places nodes : List ℕ) (n : ℕ) : Type 0 where
 -- ---- what each stage of the front end gives back: the refusal of the source, or what stands
 
 -- what is found is the source's refusal, or its sizes are told with what stands then
-pub data Tells (source : List ℕ) (P : Sizes → Type 0) : Found → Type 0 where
-  program : (s : Sizes) → P s → Tells source P (Program s)
-  refused : (r : Refusal) → Judged source (NotAccepted r) cleared → Tells source P (Refused r)
+pub data Tells (source : List ℕ) (P : Sizes → Type 0) : Result Sizes Refusal → Type 0 where
+  program : (s : Sizes) → P s → Tells source P (Ok s)
+  refused : (r : Refusal) → Judged source (Refused r) cleared → Tells source P (Err r)
 
 -- the nodes, rows and uses are the first of those that are lent, and no name or type is at fault; the marks, which were others before, are those of the type
 -- pass
@@ -58,5 +56,5 @@ pub record Holds (source kinds places values nodes rows uses was marks : List �
   pub kinded : take s.symbols kinds ≡ kinds_in source
   pub valued : take s.symbols values ≡ values_of (scan symbols source).found
 
-abbrev pub Finds : List ℕ → List ℕ → List ℕ → List ℕ → List ℕ → List ℕ → List ℕ → List ℕ → List ℕ → Found → Type 0
+abbrev pub Finds : List ℕ → List ℕ → List ℕ → List ℕ → List ℕ → List ℕ → List ℕ → List ℕ → List ℕ → Result Sizes Refusal → Type 0
 Finds source kinds places values nodes rows uses was marks = Tells source (Holds source kinds places values nodes rows uses was marks)

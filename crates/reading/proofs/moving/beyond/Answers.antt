@@ -1,25 +1,30 @@
 -- `reading::moving::beyond` meets its contract. The invariant: the first i were raised; the others stand as they stood, and are small. Assumes nothing.
+use Prim.Native.Nat.{◌<◌}
 use native.Mathlib.Omega.{arith}
-use Rattle.reading.proofs.Moves.{raising, still, raising_on, all_raised}
+use lib.ListN.{length, take}
+use lib.Seq.{length-take-le}
+use mathlib.Core.Path.{◌≡◌}
+use Rattle.std.proofs.lemmas.List.{get_or-take}
+use Rattle.reading.proofs.Moves.{raising, still, raising_on, all_front}
 use Rattle.reading.proofs.moving.beyond.Goals as goal
 
-pub loop-i-init : goal.loop-i-init
-loop-i-init c = raising c.args.places.now 32768 c.args.count
+pub loop-place-init : goal.loop-place-init
+loop-place-init c = raising (take c.args.count c.args.places.now) 32768 c.args.count
 
-pub bounds-places-i : goal.bounds-places-i
-bounds-places-i c = let p = c.requires.0 in let r = c.loop-i.invariant in omega (arith, r.size)
+pub overflow_add-place : goal.overflow_add-place
+overflow_add-place c =
+    let i = c.loop-place.place-index in
+    let l = length-take-le c.args.count c.args.places.now c.requires.0 in
+    let h : i < c.args.count = omega arith in
+    let s = still 0 c.loop-place.invariant (omega arith) in
+    omega (arith, s, get_or-take c.args.count c.args.places.now i 0 h, c.requires.1 i h)
 
-pub overflow_add-places : goal.overflow_add-places
-overflow_add-places c = let p = c.requires.0 in let s = still 0 c.loop-i.invariant (omega arith) in let b = c.requires.1 c.loop-i.i c.loop-i-test.true in omega (arith, s, b)
-
-pub bounds-places-i-in-loop-i : goal.bounds-places-i-in-loop-i
-bounds-places-i-in-loop-i c = let p = c.requires.0 in let r = c.loop-i.invariant in omega (arith, r.size)
-
-pub loop-i-preserved : goal.loop-i-preserved
-loop-i-preserved c = raising_on _ c.loop-i.invariant c.loop-i-test.true c.requires.0
-
-pub shape_of-places : goal.shape_of-places
-shape_of-places c = c.loop-i.invariant.size
+pub loop-place-preserved : goal.loop-place-preserved
+loop-place-preserved c =
+    let l = length-take-le c.args.count c.args.places.now c.requires.0 in
+    raising_on _ c.loop-place.invariant (omega arith) (omega arith)
 
 pub returns : goal.returns
-returns c = all_raised c.loop-i.invariant c.loop-i-test.false
+returns c =
+    let l = length-take-le c.args.count c.args.places.now c.requires.0 in
+    all_front c.args.places.now c.requires.0 c.loop-place.invariant (omega arith)

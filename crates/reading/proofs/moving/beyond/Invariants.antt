@@ -1,10 +1,7 @@
 -- `reading::moving::beyond` meets its contract. The invariant: the first i were raised; the others stand as they stood, and are small. Assumes nothing.
-use Prim.Native.Nat.{◌-◌}
+use lib.ListN.{take}
 use Rattle.reading.proofs.Moves.{Raising}
 use Rattle.reading.proofs.moving.beyond.Given as goal
 
-abbrev pub invariant-loop-i : goal.invariant-loop-i
-invariant-loop-i l = Raising l.initial.places l.places 32768 l.count l.i
-
-abbrev pub decreases-loop-i : goal.decreases-loop-i
-decreases-loop-i l = l.count - l.i
+abbrev pub invariant-loop-place : goal.invariant-loop-place
+invariant-loop-place l = Raising (take l.count l.fn.places) l.place-items 32768 l.count l.place-index

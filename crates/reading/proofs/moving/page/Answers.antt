@@ -5,4 +5,4 @@ use Rattle.reading.proofs.Moves.{page_from}
 use Rattle.reading.proofs.moving.page.Goals as goal
 
 pub returns : goal.returns
-returns c = page_from c.args.scheme.now c.args.prelude.now (length c.args.words.now) (length c.args.scheme.now) (length c.args.prelude.now) c.blank.ensures c.bytes.ensures c.bytes-2.ensures (omega arith) (omega arith) (omega arith) c.requires.0 c.requires.1
+returns c = page_from c.args.scheme.now c.args.prelude.now (length c.args.words.now) (c.fill.ensures.after (λ y e. e)) c.lay.ensures c.lay-2.ensures (omega arith) c.requires.0 c.requires.1

@@ -5,10 +5,10 @@ use Rattle.reading.proofs.PreludeStands.{told_refusal, told_fills, as_found}
 use Rattle.reading.proofs.preluding.find_prelude.Goals as goal
 
 pub overflow_add-r : goal.overflow_add-r
-overflow_add-r c = omega (arith, (told_refusal c.told.ensures _ c.in-Refused.is).0)
+overflow_add-r c = omega (arith, (told_refusal c.told.ensures _ c.in-Err.is).0)
 
-pub returns-in-Program : goal.returns-in-Program
-returns-in-Program c = found_stands _ (told_fills c.told.ensures _ c.in-Program.is)
+pub returns-in-Ok : goal.returns-in-Ok
+returns-in-Ok c = found_stands _ (told_fills c.told.ensures _ c.in-Ok.is)
 
-pub returns-in-Refused : goal.returns-in-Refused
-returns-in-Refused c = as_found _ (told_refusal c.told.ensures _ c.in-Refused.is).1 c.new.ensures
+pub returns-in-Err : goal.returns-in-Err
+returns-in-Err c = as_found _ (told_refusal c.told.ensures _ c.in-Err.is).1 c.new.ensures
