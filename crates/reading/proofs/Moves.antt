@@ -8,7 +8,7 @@ use mathlib.Core.Logic.{◌⊎◌, inl, inr}
 use borrow.Author.Tests.{ne_eqb}
 use mathlib.Core.List.{List, [], ◌∷◌, ◌++◌, append_assoc, append-nil}
 use lib.ListN.{length, take, drop, set, get_or, replicate, length-set, length-append, drop_of_length-le}
-use lib.Seq.{length-take-le, take_all, take-suc, drop-cons, set_at, take_at, take-append_seam, drop-append_seam, drop-append-add}
+use lib.Seq.{length-take-le, take_all, take_at, take-append_seam, drop-append_seam, drop-append-add}
 use Rattle.grammar.specs.model.Parsing.{zeros}
 use Rattle.grammar.specs.NodeKinds.{n_block, n_statements, n_block_end}
 use Rattle.names.specs.Nodes.{mark}

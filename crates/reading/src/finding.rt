@@ -14,24 +14,17 @@ use symbols::scanning::scan;
 use syntax::parse;
 use types::check;
 
-// The least of two.
-fn lesser(a: usize, b: usize) -> usize
-    ensures { result ≡ min a b }
-{
-    if a < b { a } else { b }
-}
-
 // The place of a symbol; behind the last one, the end that is handed in.
 pub fn place_at(end: usize, places: &[usize; 2048], count: usize, symbol: Ordinal) -> Place
     ensures { result.at ≡ place_from places.now count end symbol.number }
 {
     let s = symbol.number as usize;
-    if s < count {
-        if s < 2048 {
-            return Place { at: places[s] };
-        }
-    }
-    Place { at: end }
+    let at = if s < count.min(places.len()) {
+        places[s]
+    } else {
+        end
+    };
+    Place { at }
 }
 
 // The refusal at a fault's symbol.
@@ -68,7 +61,7 @@ pub fn passed(
     let declared = o.count;
     let u = resolve(nodes, words, rows, declared, &ids, uses);
     let used = u.count;
-    let fault = lesser(o.least, u.least);
+    let fault = o.least.min(u.least);
     if fault < faults::NONE {
         return Err(refused(fault, end, places, count));
     }

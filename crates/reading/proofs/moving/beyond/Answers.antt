@@ -1,9 +1,8 @@
 -- `reading::moving::beyond` meets its contract. The invariant: the first i were raised; the others stand as they stood, and are small. Assumes nothing.
 use Prim.Native.Nat.{◌<◌}
 use native.Mathlib.Omega.{arith}
-use lib.ListN.{length, take}
+use lib.ListN.{take}
 use lib.Seq.{length-take-le}
-use mathlib.Core.Path.{◌≡◌}
 use Rattle.std.proofs.lemmas.List.{get_or-take}
 use Rattle.reading.proofs.Moves.{raising, still, raising_on, all_front}
 use Rattle.reading.proofs.moving.beyond.Goals as goal

@@ -1,9 +1,5 @@
 -- `reading::moving::symbols` meets its contract. Each array by itself. Assumes nothing.
 use native.Mathlib.Omega.{arith}
-use lib.ListN.{length, take}
-use mathlib.Core.List.{◌++◌}
-use mathlib.Core.Path.{subst}
-use Prim.Native.Nat.{ℕ, ◌+◌}
 use Rattle.reading.proofs.Moves.{symbols_behind}
 use Rattle.reading.proofs.moving.symbols.Goals as goal
 
