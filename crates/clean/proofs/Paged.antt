@@ -1,4 +1,5 @@
 -- What the writer sets down of an accepted source is its page: the lines that the tree gives are those that the pass finds, and the arrays hold the source's symbols.
+use Rattle.std.proofs.Common.{Result, Ok, Err}
 use Prim.Native.Nat.{ℕ, ◌+◌, ◌≤◌, ◌<◌}
 use mathlib.Core.Path.{◌≡◌, refl, sym, ap, subst, ◌∙◌}
 use mathlib.Core.Bool.{true, false}
@@ -22,8 +23,6 @@ use Rattle.clean.specs.model.Lines.{lines}
 use Rattle.clean.specs.model.Bytes.{Puts, Lendable}
 use Rattle.clean.specs.model.Pen.{first_of, written_from, written_of}
 use Rattle.clean.specs.Job.{page_of, Fits, too_long, too_short, written, Writes, accepted}
-use Rattle.clean.specs.declared.Written.{Written}
-use Rattle.clean.specs.declared.Written.TheVariants.{Text, Refused}
 use Rattle.clean.proofs.LinesLaid.{house_lines}
 use Rattle.clean.proofs.Penned.{penned}
 use Rattle.clean.proofs.Spelled.{all_kinds}
@@ -71,7 +70,7 @@ module _ {source kinds places values nodes rows uses was marks : List ℕ} {s : 
     all_kinds = subst Rattle.clean.specs.model.Bytes.AllKinds (sym h.kinded) (all_kinds (scan symbols source).found);
   }
 
-  pub writes : {room room' : List ℕ} {w : Written} → Fits (written_of source places (take s.symbols kinds)) room w room' → Writes source room w room'
+  pub writes : {room room' : List ℕ} {w : Result ℕ Refusal} → Fits (written_of source places (take s.symbols kinds)) room w room' → Writes source room w room'
   writes {room} {room'} {w} f =
       accepted program_of h.declared.faultless h.declared.typed w room' (subst (λ t. Fits t room w room') page_is f)
 
@@ -96,16 +95,16 @@ module _ {text room old x : List ℕ} {r : ℕ} (nothing : length old ≡ 0) (p 
   pub as_it_was : x ++ room ≡ room
   as_it_was = ap (λ z. z ++ room) (none_left x (p.size ∙ nothing))
 
-  pub fits_long : {w : Refusal} → 16384 < r → w ≡ refusal long 16384 → Fits text room (Refused w) (x ++ room)
-  fits_long {w} h e = subst (Fits text room (Refused w)) (sym as_it_was) (subst (λ v. Fits text room (Refused v) room) (sym e) (too_long (omega (arith, counted p))))
+  pub fits_long : {w : Refusal} → 16384 < r → w ≡ refusal long 16384 → Fits text room (Err w) (x ++ room)
+  fits_long {w} h e = subst (Fits text room (Err w)) (sym as_it_was) (subst (λ v. Fits text room (Err v) room) (sym e) (too_long (omega (arith, counted p))))
 
-  pub fits_short : {w : Refusal} → r ≤ 16384 → length (x ++ room) < r → w ≡ refusal short 0 → Fits text room (Refused w) (x ++ room)
+  pub fits_short : {w : Refusal} → r ≤ 16384 → length (x ++ room) < r → w ≡ refusal short 0 → Fits text room (Err w) (x ++ room)
   fits_short {w} h l e =
-      subst (Fits text room (Refused w)) (sym as_it_was)
-      (subst (λ v. Fits text room (Refused v) room) (sym e) (too_short (omega (arith, counted p)) (omega (arith, counted p, ap length as_it_was))))
+      subst (Fits text room (Err w)) (sym as_it_was)
+      (subst (λ v. Fits text room (Err v) room) (sym e) (too_short (omega (arith, counted p)) (omega (arith, counted p, ap length as_it_was))))
 
-  pub fits_all : {new : List ℕ} {r' : ℕ} → r ≤ 16384 → r ≤ length (x ++ room) → Puts (x ++ room) new 0 r' text → Fits text room (Text r) new
+  pub fits_all : {new : List ℕ} {r' : ℕ} → r ≤ 16384 → r ≤ length (x ++ room) → Puts (x ++ room) new 0 r' text → Fits text room (Ok r) new
   fits_all {new} {r'} h l q =
       let e : new ≡ text ++ drop (length text) room = wrote_all_lem q (omega (arith, counted p)) ∙ ap (λ z. text ++ drop (length text) z) as_it_was in
-      subst (Fits text room (Text r)) (sym e)
-      (subst (λ n. Fits text room (Text n) (text ++ drop (length text) room)) (sym (counted p)) (written (omega (arith, counted p)) (omega (arith, counted p, ap length as_it_was))))
+      subst (Fits text room (Ok r)) (sym e)
+      (subst (λ n. Fits text room (Ok n) (text ++ drop (length text) room)) (sym (counted p)) (written (omega (arith, counted p)) (omega (arith, counted p, ap length as_it_was))))

@@ -1,5 +1,6 @@
 -- Request 2 in plain words: what was written reads back as the same program, is written again as the same bytes, and runs as the source does; and there is one
 -- answer and one room for each source and room.
+use Rattle.std.proofs.Common.{Result, Ok, Err}
 use Prim.Native.Nat.{ℕ, ◌≤◌}
 use mathlib.Core.Path.{◌≡◌, refl, sym, ap, subst, ◌∙◌}
 use mathlib.Core.List.{List, ◌++◌}
@@ -11,7 +12,7 @@ use lib.Seq.{take-append_seam, drop-append_seam}
 use Rattle.answers.specs.Answers.{number_of}
 use Rattle.answers.specs.declared.Refusal.{Refusal}
 use Rattle.answers.specs.declared.Verdict.{Verdict}
-use Rattle.answers.specs.declared.Verdict.TheVariants.{Accepted, Refused as NotAccepted}
+use Rattle.answers.specs.declared.Verdict.TheVariants.{Accepted, Refused}
 use Rattle.grammar.proofs.Unique.{unique}
 use Rattle.names.specs.Program.{Statement}
 use Rattle.names.specs.Outline.{declarations}
@@ -30,8 +31,6 @@ use Rattle.translating.specs.Job.{Translates}
 use Rattle.translating.proofs.Promised.{by_numbers}
 use Rattle.clean.specs.House.{page}
 use Rattle.clean.specs.Job.{page_of, Fits, too_long, too_short, written, Writes, refused, accepted}
-use Rattle.clean.specs.declared.Written.{Written}
-use Rattle.clean.specs.declared.Written.TheVariants.{Text, Refused}
 use Rattle.clean.proofs.Clean.{page_refused, page_keeps, page_kinds, page_again}
 use Rattle.clean.proofs.Same.{page_program}
 
@@ -108,17 +107,17 @@ pub record Wrote (source room room' : List ℕ) (n : ℕ) : Type 0 where
   pub text : take n room' ≡ page_of program
   pub behind : drop n room' ≡ drop n room
 
-no_text : {n : ℕ} {r : Refusal} → Refused r ≡ Text n → ⊥
+no_text : {n : ℕ} {r : Refusal} → ◌≡◌ {A = Result ℕ Refusal} (Err r) (Ok n) → ⊥
 no_text e = let z : ◌≡◌ {A = ℕ} 0 1 = cc in omega arith
 
-text_of : {m n : ℕ} → Text m ≡ Text n → m ≡ n
+text_of : {m n : ℕ} → ◌≡◌ {A = Result ℕ Refusal} (Ok m) (Ok n) → m ≡ n
 text_of e = cc
 
-pub wrote : {source room room' : List ℕ} {w : Written} → Writes source room w room' → (n : ℕ) → w ≡ Text n → Wrote source room room' n
+pub wrote : {source room room' : List ℕ} {w : Result ℕ Refusal} → Writes source room w room' → (n : ℕ) → w ≡ Ok n → Wrote source room room' n
 wrote (refused r j) n e = absurd (no_text e)
 wrote {source} {room} (accepted p a b w room' f) n e = go w room' f e
   where
-    go : (w : Written) (room' : List ℕ) → Fits (page_of p) room w room' → w ≡ Text n → Wrote source room room' n
+    go : (w : Result ℕ Refusal) (room' : List ℕ) → Fits (page_of p) room w room' → w ≡ Ok n → Wrote source room room' n
     go w room' (too_long h) e = absurd (no_text e)
     go w room' (too_short h l) e = absurd (no_text e)
     go w room' (written h l) e =
@@ -135,7 +134,7 @@ wrote {source} {room} (accepted p a b w room' f) n e = go w room' f e
 
 -- ---- one answer and one room
 
-only_fits : {text room r r₂ : List ℕ} {w w₂ : Written} → Fits text room w r → Fits text room w₂ r₂ → (w ≡ w₂) × (r ≡ r₂)
+only_fits : {text room r r₂ : List ℕ} {w w₂ : Result ℕ Refusal} → Fits text room w r → Fits text room w₂ r₂ → (w ≡ w₂) × (r ≡ r₂)
 only_fits (too_long h) (too_long k) = (refl, refl)
 only_fits (too_long h) (too_short k l) = absurd (omega arith)
 only_fits (too_long h) (written k l) = absurd (omega arith)
@@ -146,17 +145,17 @@ only_fits (written h l) (too_long k) = absurd (omega arith)
 only_fits (written h l) (too_short k m) = absurd (omega arith)
 only_fits (written h l) (written k m) = (refl, refl)
 
-refused_accepted : {r : Refusal} → NotAccepted r ≡ Accepted → ⊥
+refused_accepted : {r : Refusal} → Refused r ≡ Accepted → ⊥
 refused_accepted e = let z : ◌≡◌ {A = ℕ} 0 1 = cc in omega arith
 
-same_refusal : {r r₂ : Refusal} → NotAccepted r ≡ NotAccepted r₂ → r ≡ r₂
+same_refusal : {r r₂ : Refusal} → Refused r ≡ Refused r₂ → r ≡ r₂
 same_refusal e = cc
 
 one_page_lem : {source : List ℕ} (p p₂ : Grammatical source) → page_of p ≡ page_of p₂
 one_page_lem {source} p p₂ = ap (page symbols source) (unique p.tree p₂.tree (p.keeps.spelled ∙ sym p₂.keeps.spelled))
 
-pub only : {source room r r₂ : List ℕ} {w w₂ : Written} → Writes source room w r → Writes source room w₂ r₂ → (w ≡ w₂) × (r ≡ r₂)
-only (refused r j) (refused r₂ j₂) = (ap Refused (same_refusal (one_judgement j j₂).0), refl)
+pub only : {source room r r₂ : List ℕ} {w w₂ : Result ℕ Refusal} → Writes source room w r → Writes source room w₂ r₂ → (w ≡ w₂) × (r ≡ r₂)
+only (refused r j) (refused r₂ j₂) = (ap Err (same_refusal (one_judgement j j₂).0), refl)
 only (refused r j) (accepted p a b w room' f) = absurd (refused_accepted (one_judgement j (J.accepted p a b)).0)
 only (accepted p a b w room' f) (refused r j) = absurd (refused_accepted (one_judgement j (J.accepted p a b)).0)
 only {room = room} (accepted p a b w room' f) (accepted p₂ a₂ b₂ w₂ room₂ f₂) = only_fits f (subst (λ t. Fits t room w₂ room₂) (one_page_lem p₂ p) f₂)

@@ -1,19 +1,18 @@
 -- What `write` answers, as numbers: "a definition gives this paper's number and values for each of the enum's cases, and the promises use this definition".
-use Rattle.std.specs.Prelude.{ℕ}
+use Rattle.std.specs.Prelude.{ℕ, Result, Ok, Err}
+use Rattle.answers.specs.declared.Refusal.{Refusal}
 use Rattle.answers.specs.Numbers.{accepted}
-use Rattle.clean.specs.declared.Written.{Written}
-use Rattle.clean.specs.declared.Written.TheVariants.{Text, Refused}
 
-abbrev pub number_of : Written → ℕ
-number_of (Text n) = accepted
-number_of (Refused r) = r.answer.number
+abbrev pub number_of : Result ℕ Refusal → ℕ
+number_of (Ok n) = accepted
+number_of (Err r) = r.answer.number
 
 -- a text has the place 0, as acceptance has
-abbrev pub place_of : Written → ℕ
-place_of (Text n) = 0
-place_of (Refused r) = r.place.at
+abbrev pub place_of : Result ℕ Refusal → ℕ
+place_of (Ok n) = 0
+place_of (Err r) = r.place.at
 
 -- how many bytes of the room are the text: none after a refusal
-abbrev pub length_of : Written → ℕ
-length_of (Text n) = n
-length_of (Refused r) = 0
+abbrev pub length_of : Result ℕ Refusal → ℕ
+length_of (Ok n) = n
+length_of (Err r) = 0

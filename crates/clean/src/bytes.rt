@@ -24,10 +24,8 @@ pub fn repeat(page: &mut [u8], at: usize, b: u8, times: usize) -> usize
     ensures { Puts page.old page.new at result (replicate times b) }
 {
     let mut to = at;
-    let mut i = 0;
-    while i < times {
+    for _ in 0..times {
         to = put(page, to, b);
-        i += 1;
     }
     to
 }
@@ -38,10 +36,8 @@ pub fn word(page: &mut [u8], at: usize, w: &[u8]) -> usize
     ensures { Puts page.old page.new at result w.now }
 {
     let mut to = at;
-    let mut i = 0;
-    while i < w.len() {
-        to = put(page, to, w[i]);
-        i += 1;
+    for b in w {
+        to = put(page, to, *b);
     }
     to
 }
@@ -57,10 +53,7 @@ fn belongs(b: u8, name: bool) -> bool
 fn goes_on(b: u8, name: bool) -> bool
     ensures { result ≡ sort_of name b || blank b }
 {
-    if belongs(b, name) {
-        return true;
-    }
-    is_blank(b)
+    belongs(b, name) || is_blank(b)
 }
 
 // A byte of a name or number; a blank inside it is left out.
@@ -69,9 +62,10 @@ fn put_one(page: &mut [u8], at: usize, b: u8, name: bool) -> usize
     ensures { Puts page.old page.new at result (cond (sort_of name b) (b ∷ []) []) }
 {
     if belongs(b, name) {
-        return put(page, at, b);
+        put(page, at, b)
+    } else {
+        at
     }
-    at
 }
 
 // The letters and digits of the name, or the digits of the number, that stands at a place of the source.
@@ -80,14 +74,11 @@ pub fn letters(page: &mut [u8], at: usize, source: &[u8], from: usize, name: boo
     ensures { Puts page.old page.new at result (these (sort_of name) (drop from source.now)) }
 {
     let mut to = at;
-    let mut i = from;
-    while i < source.len() {
-        let b = source[i];
-        if !goes_on(b, name) {
+    for i in from..source.len() {
+        if !goes_on(source[i], name) {
             return to;
         }
-        to = put_one(page, to, b, name);
-        i += 1;
+        to = put_one(page, to, source[i], name);
     }
     to
 }
@@ -96,14 +87,12 @@ pub fn letters(page: &mut [u8], at: usize, source: &[u8], from: usize, name: boo
 fn digits_end(source: &[u8], from: usize) -> usize
     ensures { result ≡ from + reach digit (drop from source.now) }
 {
-    let mut i = from;
-    while i < source.len() {
+    for i in from..source.len() {
         if !goes_on(source[i], false) {
             return i;
         }
-        i += 1;
     }
-    i
+    from.max(source.len())
 }
 
 // The digits behind the point at a place of the source; none where no point stands there.
@@ -114,7 +103,7 @@ fn behind_point(page: &mut [u8], at: usize, source: &[u8], dot: usize) -> usize
     if source.len() <= dot {
         return at;
     }
-    if source[dot] == 46 {
+    if source[dot] == b'.' {
         return letters(page, at, source, dot + 1, false);
     }
     at
@@ -126,6 +115,6 @@ pub fn decimal(page: &mut [u8], at: usize, source: &[u8], from: usize) -> usize
     ensures { Puts page.old page.new at result (with_decimals (drop from source.now)) }
 {
     let front = letters(page, at, source, from, false);
-    let to = put(page, front, 46);
+    let to = put(page, front, b'.');
     behind_point(page, to, source, digits_end(source, from))
 }

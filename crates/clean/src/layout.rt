@@ -11,77 +11,46 @@ use answers::Place;
 use symbols::kinds;
 
 // A name, a number, with a point or without, `)` or a logical value: a sign that follows it does not begin a sum.
+#[tactic(auto, unfolding(crate::specs::House::ends_operand))]
 fn ends_operand(kind: u8) -> bool
     ensures { result ≡ ends_operand kind }
 {
-    if kind == kinds::NAME {
-        return true;
-    }
-    if kind == kinds::NUMBER {
-        return true;
-    }
-    if kind == kinds::DECIMAL {
-        return true;
-    }
-    if kind == kinds::CLOSE {
-        return true;
-    }
-    if kind == kinds::TRUE {
-        return true;
-    }
-    kind == kinds::FALSE
+    matches!(
+        kind,
+        kinds::NAME | kinds::NUMBER | kinds::DECIMAL | kinds::CLOSE | kinds::TRUE | kinds::FALSE
+    )
 }
 
 // A closing parenthesis, a comma or `;`.
+#[tactic(auto, unfolding(crate::specs::House::closes))]
 fn closes(kind: u8) -> bool
     ensures { result ≡ closesOf kind }
 {
-    if kind == kinds::CLOSE {
-        return true;
-    }
-    if kind == kinds::COMMA {
-        return true;
-    }
-    kind == kinds::SEMICOLON
+    matches!(kind, kinds::CLOSE | kinds::COMMA | kinds::SEMICOLON)
 }
 
 // A sign behind what is no operand.
+#[tactic(auto, unfolding(crate::specs::House::begins_sum))]
 fn begins_sum(a: u8, b: u8) -> bool
     ensures { result ≡ begins_sum a b }
 {
-    if b == kinds::PLUS {
-        return !ends_operand(a);
-    }
-    if b == kinds::MINUS {
-        return !ends_operand(a);
-    }
-    false
+    matches!(b, kinds::PLUS | kinds::MINUS) && !ends_operand(a)
 }
 
 // A parenthesis behind a name.
+#[tactic(auto, unfolding(crate::specs::House::opens_call))]
 fn opens_call(b: u8, c: u8) -> bool
     ensures { result ≡ opens_call b c }
 {
-    if b == kinds::NAME {
-        return c == kinds::OPEN;
-    }
-    false
+    b == kinds::NAME && c == kinds::OPEN
 }
 
 // Whether no space stands between two symbols of a line, b and c, where a stands before them.
+#[tactic(auto, unfolding(crate::specs::House::tight))]
 fn tight(a: u8, b: u8, c: u8) -> bool
     ensures { result ≡ tightOf a b c }
 {
-    if b == kinds::OPEN {
-        return true;
-    }
-    if closes(c) {
-        return true;
-    }
-    if opens_call(b, c) {
-        return true;
-    }
-    begins_sum(a, b)
+    b == kinds::OPEN || closes(c) || opens_call(b, c) || begins_sum(a, b)
 }
 
 // What stands before a symbol: the lines begun, and the spaces of the last one's level; or a space, or nothing.
@@ -93,21 +62,17 @@ fn gap(page: &mut [u8], at: usize, s: State, kind: u8) -> usize
         if tight(s.before, s.last, kind) {
             return at;
         }
-        return put(page, at, 32);
+        return put(page, at, b' ');
     }
-    let to = repeat(page, at, 10, s.lines);
-    repeat(page, to, 32, 2 * s.line)
+    let to = repeat(page, at, b'\n', s.lines);
+    repeat(page, to, b' ', 2 * s.line)
 }
 
 // The kind of a symbol; `:`, which no program has, behind the last.
 fn kind_at(kinds: &[u8], i: usize) -> u8
     ensures { result ≡ get_or kinds.now i 33 }
 {
-    if i < kinds.len() {
-        kinds[i]
-    } else {
-        kinds::COLON
-    }
+    kinds.get(i).copied().unwrap_or(kinds::COLON)
 }
 
 // The page of some symbols, for any of them: how many bytes it has. As many as there is room for are set down.
@@ -123,15 +88,13 @@ pub fn lay_out(
 {
     let mut s = first();
     let mut at = 0;
-    let mut i = 0;
-    while i < kinds.len() {
+    for i in 0..kinds.len() {
         let kind = kinds[i];
         let here = early(s, held, kind);
         let from = gap(page, at, here, kind);
         let place = Place { at: places[i] };
         at = spelled(page, from, source, kind, place);
         s = late(here, held, kind, kind_at(kinds, i + 1));
-        i += 1;
     }
-    put(page, at, 10)
+    put(page, at, b'\n')
 }

@@ -12,38 +12,27 @@ mod lines; // where lines begin
 mod layout; // a page
 pub mod writing; // the job
 
-// What writing a source answers: how many bytes its text has, or a refusal.
-#[derive(Clone, Copy)]
-pub enum Written {
-    Text(usize),
-    Refused(Refusal),
+// What is answered, as numbers: a text, with how many bytes it has, is an acceptance.
+pub fn answer(written: Result<usize, Refusal>) -> Answer
+    ensures { result.number ≡ number_of written }
+{
+    match written {
+        Ok(_) => Answer::ACCEPTED,
+        Err(r) => r.answer,
+    }
 }
 
-impl Written {
-    pub fn answer(self) -> Answer
-        ensures { result.number ≡ number_of self }
-    {
-        match self {
-            Written::Text(_) => Answer::ACCEPTED,
-            Written::Refused(r) => r.answer,
-        }
+pub fn place(written: Result<usize, Refusal>) -> usize
+    ensures { result ≡ place_of written }
+{
+    match written {
+        Ok(_) => 0,
+        Err(r) => r.place.at,
     }
+}
 
-    pub fn place(self) -> usize
-        ensures { result ≡ place_of self }
-    {
-        match self {
-            Written::Text(_) => 0,
-            Written::Refused(r) => r.place.at,
-        }
-    }
-
-    pub fn length(self) -> usize
-        ensures { result ≡ length_of self }
-    {
-        match self {
-            Written::Text(n) => n,
-            Written::Refused(_) => 0,
-        }
-    }
+pub fn length(written: Result<usize, Refusal>) -> usize
+    ensures { result ≡ length_of written }
+{
+    written.unwrap_or(0)
 }

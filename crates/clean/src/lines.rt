@@ -61,7 +61,7 @@ fn inward(mut s: State) -> State
 fn less(n: usize) -> usize
     ensures { result ≡ n - 1 }
 {
-    if n == 0 { 0 } else { n - 1 }
+    n.saturating_sub(1)
 }
 
 // What was opened last; 0 where nothing is open.
@@ -132,16 +132,10 @@ fn passed(mut s: State, kind: u8) -> State
 fn headed(kind: u8) -> bool
     ensures { result ≡ headedOf kind }
 {
-    if kind == kinds::VALUE {
-        return true;
-    }
-    if kind == kinds::INTEGER {
-        return true;
-    }
-    if kind == kinds::BOOLEAN {
-        return true;
-    }
-    kind == kinds::REAL
+    matches!(
+        kind,
+        kinds::VALUE | kinds::INTEGER | kinds::BOOLEAN | kinds::REAL
+    )
 }
 
 // Behind a `;` of a heading: the next part of it, or the body.

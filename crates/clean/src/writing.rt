@@ -3,31 +3,34 @@ ghost use Rattle.clean.specs.Job.{Fits, Writes};
 ghost use Rattle.clean.specs.model.Bytes.{Lendable};
 ghost use Rattle.clean.specs.model.Pen.{written_of};
 
-use crate::Written;
 use crate::layout::lay_out;
 use answers::{Answer, Refusal};
-use reading::Found;
 use reading::finding::find;
 
 // An accepted source, of which the symbols are lent. The length is found first, with no room, so that a refusal leaves the room as it was.
-fn written(source: &[u8], kinds: &[u8], places: &[usize; 2048], room: &mut [u8]) -> Written
+fn written(
+    source: &[u8],
+    kinds: &[u8],
+    places: &[usize; 2048],
+    room: &mut [u8],
+) -> Result<usize, Refusal>
     requires { Lendable source.now kinds.now }
     ensures { Fits (written_of source.now places.now kinds.now) room.old result room.new }
 {
     let mut held = [0usize; 2048];
     let size = lay_out(source, kinds, places, &mut held, &mut room[..0]);
     if 16384 < size {
-        return Written::Refused(Refusal::new(Answer::LONG, 16384));
+        return Err(Refusal::new(Answer::LONG, 16384));
     }
     if room.len() < size {
-        return Written::Refused(Refusal::new(Answer::SHORT, 0));
+        return Err(Refusal::new(Answer::SHORT, 0));
     }
     lay_out(source, kinds, places, &mut held, room);
-    Written::Text(size)
+    Ok(size)
 }
 
 // Any source, any room.
-pub fn write(source: &[u8], room: &mut [u8]) -> Written
+pub fn write(source: &[u8], room: &mut [u8]) -> Result<usize, Refusal>
     ensures { Writes source.now room.old result room.new }
 {
     let mut kinds = [0u8; 2048];
@@ -37,7 +40,7 @@ pub fn write(source: &[u8], room: &mut [u8]) -> Written
     let mut rows = [0u16; 32768];
     let mut uses = [0u16; 8192];
     let mut marks = [0u16; 2048];
-    match find(
+    let found = find(
         source,
         &mut kinds,
         &mut places,
@@ -46,11 +49,6 @@ pub fn write(source: &[u8], room: &mut [u8]) -> Written
         &mut rows,
         &mut uses,
         &mut marks,
-    ) {
-        Found::Program(s) => {
-            let count = s.symbols;
-            written(source, &kinds[..count], &places, room)
-        }
-        Found::Refused(r) => Written::Refused(r),
-    }
+    )?;
+    written(source, &kinds[..found.symbols], &places, room)
 }

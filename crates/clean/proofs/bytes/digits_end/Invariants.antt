@@ -7,6 +7,3 @@ use Rattle.clean.proofs.bytes.digits_end.Given as goal
 
 abbrev pub invariant-loop-i : goal.invariant-loop-i
 invariant-loop-i l = l.from + reach digit (drop l.from l.source) ≡ l.i + reach digit (drop l.i l.source)
-
-abbrev pub decreases-loop-i : goal.decreases-loop-i
-decreases-loop-i l = length l.source - l.i

@@ -8,6 +8,3 @@ use Rattle.clean.proofs.bytes.letters.Given as goal
 
 abbrev pub invariant-loop-i : goal.invariant-loop-i
 invariant-loop-i l = Putting l.initial.page l.page l.at l.to (these (sort_of l.name) (drop l.i l.source)) (these (sort_of l.name) (drop l.from l.source))
-
-abbrev pub decreases-loop-i : goal.decreases-loop-i
-decreases-loop-i l = length l.source - l.i

@@ -29,9 +29,6 @@ overflow_add-i c = omega (arith, c.requires.1)
 pub late-s-requires : goal.late-s-requires
 late-s-requires c = (here_small c.loop-i.invariant c.requires.1 c.requires.0 (omega arith) _ c.early-here.ensures, omega (arith, here_around c.loop-i.invariant c.requires.1 c.requires.0 (omega arith) _ c.early-here.ensures, c.loop-i.invariant.grows.around, c.loop-i.invariant.holds, c.requires.1), here_low c.loop-i.invariant c.requires.1 c.requires.0 (omega arith) _ c.early-here.ensures)
 
-pub overflow_add-i-in-loop-i : goal.overflow_add-i-in-loop-i
-overflow_add-i-in-loop-i c = omega (arith, c.requires.1)
-
 pub loop-i-preserved : goal.loop-i-preserved
 loop-i-preserved c = laying_next c.loop-i.invariant c.requires.1 c.requires.0 (omega arith) _ _ _ (kind_in c.args.kinds.now c.loop-i.i c.requires.3 (omega arith)) c.early-here.ensures c.gap-from.ensures c.spelled-at.ensures c.kind_at.ensures c.late-s.ensures
 

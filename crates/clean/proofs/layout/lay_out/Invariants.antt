@@ -6,6 +6,3 @@ use Rattle.clean.proofs.layout.lay_out.Given as goal
 
 abbrev pub invariant-loop-i : goal.invariant-loop-i
 invariant-loop-i l = Laying l.source l.kinds l.places l.initial.page l.page l.held l.s l.at l.i
-
-abbrev pub decreases-loop-i : goal.decreases-loop-i
-decreases-loop-i l = length l.kinds - l.i
