@@ -1,5 +1,6 @@
 -- S1, `'begin' 'integer' a; a := 1 'end'`, against S2, which has it inside and a use more, S3, which is S1 with another letter, and S4, which is S1 with a blank
 -- more: what is answered, computed, and comparers that this rules out.
+use Rattle.std.proofs.Common.{Result, Ok}
 use Prim.Native.Nat.{ℕ, ◌≤◌}
 use mathlib.Core.Path.{◌≡◌, refl, sym, ap, ◌∙◌}
 use mathlib.Core.List.{List, [], ◌∷◌, ◌++◌}
@@ -25,8 +26,7 @@ use Rattle.reading.specs.Judging.{its_program}
 use Rattle.reading.specs.Reading.{Grammatical}
 use Rattle.comparing.specs.Comparing.{number_in, sense_of, senses, differing, Edition, meant, changes, listed, Compares, compared}
 use Rattle.comparing.specs.declared.Sense.{Sense}
-use Rattle.comparing.specs.declared.Compared.{Compared}
-use Rattle.comparing.specs.declared.Compared.TheVariants.{Listed}
+use Rattle.comparing.specs.declared.Uncompared.{Uncompared}
 use Rattle.comparing.proofs.Promises.{one_result, same_meanings_lem}
 
 -- ---- the trees
@@ -133,30 +133,30 @@ unfolding differing
 two = λ i. differing 0 (is1.2 i) (is2.2 i)
 
 -- the pair differs, and the second source alone has a use more
-pub grown : {room new : List ℕ} {c : Compared} → 2 ≤ length room → Compares S1 S2 room c new → (c ≡ Listed 2) × (new ≡ (0 ∷ 1 ∷ []) ++ drop 2 room)
+pub grown : {room new : List ℕ} {c : Result ℕ Uncompared} → 2 ≤ length room → Compares S1 S2 room c new → (c ≡ Ok 2) × (new ≡ (0 ∷ 1 ∷ []) ++ drop 2 room)
 grown {room} h r =
     let l = ap length two in
     let q = one_result r (compared e1 e2 (listed (omega (arith, l)))) in
-    (q.0 ∙ ap Listed l, q.1 ∙ (λ i. two i ++ drop (l i) room))
+    (q.0 ∙ ap Ok l, q.1 ∙ (λ i. two i ++ drop (l i) room))
 
 -- with the same meanings nothing is listed
-unchanged : {first second room new : List ℕ} {c : Compared} (a : Edition first) (b : Edition second) → meant a ≡ meant b → Compares first second room c new → (c ≡ Listed 0) × (new ≡ room)
+unchanged : {first second room new : List ℕ} {c : Result ℕ Uncompared} (a : Edition first) (b : Edition second) → meant a ≡ meant b → Compares first second room c new → (c ≡ Ok 0) × (new ≡ room)
 unchanged {room = room} a b e r =
     let none-changed = same_meanings_lem a b e in
     let l = ap length none-changed in
     let q = one_result r (compared a b (listed (omega (arith, l)))) in
-    (q.0 ∙ ap Listed l, q.1 ∙ (λ i. none-changed i ++ drop (l i) room))
+    (q.0 ∙ ap Ok l, q.1 ∙ (λ i. none-changed i ++ drop (l i) room))
 
 -- ---- comparers that are refuted
 
 -- one that lists the extra uses of the first side alone: with nothing differing behind the first use, it lists one number
-pub first_side_alone : {room new : List ℕ} → 2 ≤ length room → Compares S1 S2 room (Listed 1) new → ⊥
+pub first_side_alone : {room new : List ℕ} → 2 ≤ length room → Compares S1 S2 room (Ok 1) new → ⊥
 first_side_alone h r = let q = (grown h r).0 in let z : ◌≡◌ {A = ℕ} 1 2 = cc in omega arith
 
 -- one that matches declarations by letters: it lists the use of S3
-pub by_letters : {room new : List ℕ} → Compares S1 S3 room (Listed 1) new → ⊥
+pub by_letters : {room new : List ℕ} → Compares S1 S3 room (Ok 1) new → ⊥
 by_letters r = let q = (unchanged e1 e3 (is1.2 ∙ sym is3.2) r).0 in let z : ◌≡◌ {A = ℕ} 1 0 = cc in omega arith
 
 -- one that matches uses by place: it lists the use of S4
-pub by_place : {room new : List ℕ} → Compares S1 S4 room (Listed 1) new → ⊥
+pub by_place : {room new : List ℕ} → Compares S1 S4 room (Ok 1) new → ⊥
 by_place r = let q = (unchanged e1 e4 (is1.2 ∙ sym is4.2) r).0 in let z : ◌≡◌ {A = ℕ} 1 0 = cc in omega arith

@@ -1,5 +1,6 @@
 -- The words that the pass over the uses keeps tell what the paper says of them: kind and number. Symbols of declarations rise, so that a row's number is that
 -- of its name's symbol among the declaring ones.
+use Rattle.std.proofs.Common.{Result}
 use Prim.Native.Nat.{ℕ, zero, suc, ◌+◌, ◌*◌, ◌-◌, ◌<◌}
 use mathlib.Core.Path.{◌≡◌, refl, sym, ap, subst, ◌∙◌}
 use mathlib.Core.List.{List, [], ◌∷◌, ◌++◌, map}
@@ -24,10 +25,10 @@ use Rattle.names.proofs.Resolved.{Matches}
 use Rattle.names.proofs.Fours.{Whole, none as no_rows, one}
 use Rattle.names.proofs.Rising.{Rising, no_more, next, from_first}
 use Rattle.table.proofs.UseWords.{AllMean, nil_both, kind_some}
+use Rattle.answers.specs.declared.Refusal.{Refusal}
 use Rattle.reading.specs.Judging.{its_program}
 use Rattle.reading.specs.Reading.{symbols, place_in, Grammatical}
 use Rattle.reading.specs.declared.Sizes.{Sizes}
-use Rattle.reading.specs.declared.Found.{Found}
 use Rattle.reading.specs.model.Stages.{Holds, Finds}
 use Rattle.reading.proofs.Passed.{rows_here_lem, uses_here}
 use Rattle.reading.proofs.Whole.{stands}
@@ -36,7 +37,7 @@ use Rattle.translating.proofs.Rising.{seconds, RowsRise, rising}
 use Rattle.comparing.specs.Comparing.{declaring, number_in, sense_of, senses, differing, Edition, meant, Gives, Compares, compared}
 use Rattle.comparing.specs.model.Words.{told_of, told, changed, Learnt, Learns}
 use Rattle.comparing.specs.declared.Sense.{Sense}
-use Rattle.comparing.specs.declared.Compared.{Compared}
+use Rattle.comparing.specs.declared.Uncompared.{Uncompared}
 
 -- ---- the number of a row
 
@@ -139,10 +140,10 @@ learnt {rows = rows} {uses = uses} s h =
       few = d.kept.few;
     }
 
-pub learns : {source kinds places values nodes rows uses was marks : List ℕ} {f : Found} → Finds source kinds places values nodes rows uses was marks f → Learns source rows uses f
+pub learns : {source kinds places values nodes rows uses was marks : List ℕ} {f : Result Sizes Refusal} → Finds source kinds places values nodes rows uses was marks f → Learns source rows uses f
 learns h = onward h learnt
 
 -- two editions compared by their words
-pub both_learnt : {first second room new otherRows others : List ℕ} {c : Compared} {s : Sizes} (rows uses : List ℕ) (a : Edition first) → map (told rows) uses ≡ meant a → Learnt second otherRows others s
+pub both_learnt : {first second room new otherRows others : List ℕ} {c : Result ℕ Uncompared} {s : Sizes} (rows uses : List ℕ) (a : Edition first) → map (told rows) uses ≡ meant a → Learnt second otherRows others s
     → Gives (changed rows uses (take (4 * s.rows) otherRows) (take s.uses others)) room c new → Compares first second room c new
 both_learnt {room = room} {new} {c = c} rows uses a e l g = compared a l.edition (subst (λ z. Gives z room c new) (λ i. differing 0 (e i) (l.same i)) g)

@@ -4,7 +4,6 @@ ghost use Rattle.translating.specs.With.{TranslatedWith, TranslatesWith, RunsAsW
 
 use answers::{Answer, Refusal, Verdict};
 use emitting::{clear, emit};
-use reading::FoundBoth;
 use reading::behind::find_both;
 
 // Any prelude, any scheme, and the words that are used.
@@ -30,7 +29,7 @@ fn judged(prelude: &[u8], scheme: &[u8], words: &mut [u32]) -> Verdict
         &mut uses,
         &mut marks,
     ) {
-        FoundBoth::Program(b) => {
+        Ok(b) => {
             emit(
                 &nodes,
                 b.all.nodes,
@@ -45,7 +44,7 @@ fn judged(prelude: &[u8], scheme: &[u8], words: &mut [u32]) -> Verdict
             );
             Verdict::Accepted
         }
-        FoundBoth::Refused(r) => {
+        Err(r) => {
             clear(words);
             Verdict::Refused(r)
         }

@@ -4,7 +4,6 @@ ghost use Rattle.translating.specs.Job.{Translated, Translates, RunsAs};
 
 use answers::{Answer, Refusal, Verdict};
 use emitting::{clear, emit};
-use reading::Found;
 use reading::finding::find;
 
 // Any source, and the words that are used.
@@ -29,13 +28,13 @@ fn judged(source: &[u8], words: &mut [u32]) -> Verdict
         &mut uses,
         &mut marks,
     ) {
-        Found::Program(s) => {
+        Ok(s) => {
             emit(
                 &nodes, s.nodes, &uses, s.uses, &rows, s.rows, &places, &marks, &values, words,
             );
             Verdict::Accepted
         }
-        Found::Refused(r) => {
+        Err(r) => {
             clear(words);
             Verdict::Refused(r)
         }

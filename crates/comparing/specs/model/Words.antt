@@ -1,10 +1,10 @@
 -- How the code tells meanings: by the words that the pass over the uses keeps, and the rows. No part of the paper.
-use Rattle.std.specs.Prelude.{ℕ, ◌*◌, ◌-◌, ◌≤◌, ◌≡◌, Bool, true, not, List, [], ◌∷◌, map, get_or, take}
+use Rattle.std.specs.Prelude.{ℕ, ◌*◌, ◌-◌, ◌≤◌, ◌≡◌, Bool, true, not, List, [], ◌∷◌, map, get_or, take, Result}
 use Rattle.names.specs.model.Rows.{meant_of}
 use Rattle.names.specs.declared.Meant.{Meant}
 use Rattle.names.specs.declared.Meant.TheVariants.{Declared, Given, Nothing}
 use Rattle.reading.specs.declared.Sizes.{Sizes}
-use Rattle.reading.specs.declared.Found.{Found}
+use Rattle.answers.specs.declared.Refusal.{Refusal}
 use Rattle.reading.specs.model.Stages.{Tells}
 use Rattle.comparing.specs.Comparing.{agree, differing, Edition, meant}
 use Rattle.comparing.specs.declared.Sense.{Sense}
@@ -24,7 +24,7 @@ pub record Learnt (source rows uses : List ℕ) (s : Sizes) : Type 0 where
   pub same : map (told (take (4 * s.rows) rows)) (take s.uses uses) ≡ meant edition
   pub few : s.uses ≤ 8192
 
-abbrev pub Learns : List ℕ → List ℕ → List ℕ → Found → Type 0
+abbrev pub Learns : List ℕ → List ℕ → List ℕ → Result Sizes Refusal → Type 0
 Learns source rows uses = Tells source (Learnt source rows uses)
 
 -- the numbers of the uses that differ, by the words of two editions

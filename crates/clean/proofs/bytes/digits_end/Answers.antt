@@ -29,6 +29,6 @@ returns c =
     let x = c.args in
     let r = reach_end digit x.source.now l.i c.loop-i-test.false in
     elim (dec_lt x.from (length x.source.now)) [
-      yes h ↦ omega (arith, l.invariant, r, c.max.ensures, l.auto.i-end)
+      | yes h ↦ omega (arith, l.invariant, r, c.max.ensures, l.auto.i-end)
       | no h ↦ omega (arith, reach_end digit x.source.now x.from (omega arith), c.max.ensures)
     ]

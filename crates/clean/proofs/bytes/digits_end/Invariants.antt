@@ -1,7 +1,7 @@
 -- `clean::bytes::digits_end` meets its contract: what is passed and what the digits reach from i on is the whole reach. Assumes nothing.
-use Prim.Native.Nat.{◌-◌, ◌+◌}
+use Prim.Native.Nat.{◌+◌}
 use mathlib.Core.Path.{◌≡◌}
-use lib.ListN.{length, drop}
+use lib.ListN.{drop}
 use Rattle.symbols.specs.Names.{digit, reach}
 use Rattle.clean.proofs.bytes.digits_end.Given as goal
 

@@ -1,6 +1,5 @@
 -- `clean::bytes::letters` meets its contract: what belongs to the run from i on is left. Assumes nothing.
-use Prim.Native.Nat.{◌-◌}
-use lib.ListN.{length, drop}
+use lib.ListN.{drop}
 use Rattle.symbols.specs.Names.{these}
 use Rattle.clean.specs.model.Bytes.{sort_of}
 use Rattle.clean.proofs.Putting.{Putting}

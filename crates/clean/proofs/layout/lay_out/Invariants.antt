@@ -1,6 +1,4 @@
 -- `clean::layout::lay_out` meets its contract: what is set down and what is left is the page (`Laying`). Assumes nothing.
-use Prim.Native.Nat.{◌-◌}
-use lib.ListN.{length}
 use Rattle.clean.proofs.Laying.{Laying}
 use Rattle.clean.proofs.layout.lay_out.Given as goal
 

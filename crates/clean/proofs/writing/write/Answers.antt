@@ -2,7 +2,7 @@
 use Rattle.std.proofs.lemmas.Result.{err_from_is_err_and}
 use Rattle.reading.proofs.Answers.{told-program, told_refused}
 use Rattle.clean.specs.Job.{refused}
-use Rattle.clean.proofs.Paged.{in_front_lem, front_long, lendable, writes}
+use Rattle.clean.proofs.Paged.{front_long, lendable, writes}
 use Rattle.clean.proofs.writing.write.Goals as goal
 
 pub slice_bounds-written-end : goal.slice_bounds-written-end

@@ -1,18 +1,18 @@
 -- `comparing::comparing::against` meets its contract. Assumes nothing.
-use Prim.Native.Nat.{◌*◌}
-use lib.ListN.{take}
 use Rattle.comparing.specs.Comparing.{second_refused}
 use Rattle.reading.proofs.Answers.{told-program, told_refused}
 use Rattle.comparing.proofs.Told.{both_learnt}
+use native.Mathlib.Omega.{arith}
+use lib.ListN.{length, length-take}
+use mathlib.Core.Path.{ap}
 use Rattle.comparing.proofs.comparing.against.Goals as goal
 
 pub compared-requires : goal.compared-requires
-compared-requires c = (c.requires, (told-program c.learn.ensures _ c.in-Program.is).few)
+compared-requires c = (c.requires, omega (arith, ap length c.front.ensures, length-take c.in-Ok.s.uses c.learn.new.uses, (told-program c.learn.ensures _ c.in-Ok.is).few))
 
-pub returns-in-Program : goal.returns-in-Program
-returns-in-Program c = λ first a e.
-    let args = c.args in
-    both_learnt (take (4 * args.declared) args.rows.now) (take args.used args.uses.now) a e (told-program c.learn.ensures _ c.in-Program.is) c.compared.ensures
+pub returns-in-Ok : goal.returns-in-Ok
+returns-in-Ok c = λ first a e.
+    both_learnt c.args.rows.now c.args.uses.now a e (told-program c.learn.ensures _ c.in-Ok.is) (rw (c.front.ensures, c.first_rows.ensures.result_value) at c.compared.ensures)
 
-pub returns-in-Refused : goal.returns-in-Refused
-returns-in-Refused c = λ first a e. second_refused a c.in-Refused.r (told_refused c.learn.ensures c.in-Refused.r c.in-Refused.is)
+pub returns-in-Err : goal.returns-in-Err
+returns-in-Err c = λ first a e. second_refused a _ (told_refused c.learn.ensures _ c.in-Err.is)

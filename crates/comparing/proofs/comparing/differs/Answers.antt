@@ -1,5 +1,5 @@
 -- `comparing::comparing::differs` meets its contract. Assumes nothing.
-use mathlib.Core.Path.{ap, ◌∙◌}
+use mathlib.Core.Path.{◌∙◌}
 use mathlib.Core.Bool.{not}
 use native.Mathlib.Omega.{arith}
 use Rattle.comparing.specs.Comparing.{agree}
@@ -19,6 +19,6 @@ returns-then-others-i c =
 pub returns : goal.returns
 returns c =
     let a = c.args in
-    let e = c.sense-a.ensures in
-    let f = c.sense-b.ensures in
-    ap not (c.agreeing.ensures ∙ (λ i. agree (e i) (f i))) ∙ both_there a.rows.now a.uses.now a.other_rows.now a.others.now a.i (omega arith) (omega arith)
+    let e = c.sense.ensures in
+    let f = c.sense-2.ensures in
+    c.ne.ensures ∙ (λ i. not (agree (e i) (f i))) ∙ both_there a.rows.now a.uses.now a.other_rows.now a.others.now a.i (omega arith) (omega arith)

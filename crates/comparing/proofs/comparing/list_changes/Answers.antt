@@ -5,7 +5,7 @@ use Prim.Native.Nat.{ℕ, max}
 use native.Mathlib.Nat.{zero-add}
 use native.Mathlib.Omega.{arith}
 use lib.ListN.{length, length-map}
-use Rattle.table.proofs.Written.{none_yet, all_written}
+use Rattle.table.proofs.Written.{wrote_one, none_yet, all_written}
 use Rattle.comparing.specs.model.Words.{told, changed}
 use Rattle.comparing.proofs.Steps.{listed_end, change_put, change_past}
 use Rattle.comparing.proofs.comparing.list_changes.Goals.{then-differs, else-differs}
@@ -18,8 +18,8 @@ most-is rows uses otherRows others = omega (arith, length-map uses (told rows), 
 pub loop-i-init : goal.loop-i-init
 loop-i-init c = (omega arith, omega arith, none_yet _ _ _)
 
-pub put-requires : goal.put-requires
-put-requires c = omega (arith, c.loop-i.invariant.2.wrote.size)
+pub bounds-list-at : goal.bounds-list-at
+bounds-list-at c = omega (arith, c.loop-i.invariant.2.wrote.size)
 
 pub loop-i-preserved : goal.loop-i-preserved
 loop-i-preserved c =
@@ -31,7 +31,7 @@ loop-i-preserved c =
       | then-differs w ↦ (
         omega arith,
         omega (arith, w.at-is),
-        change_put (map (told a.rows.now) a.uses.now) (map (told a.other_rows.now) a.others.now) loop.i loop.invariant.2 (d ∙ w.if-differs.true) (omega (arith, m)) w.put.ensures w.list-is w.at-is,
+        change_put (map (told a.rows.now) a.uses.now) (map (told a.other_rows.now) a.others.now) loop.i loop.invariant.2 (d ∙ w.if-differs.true) (omega (arith, m)) (wrote_one loop.list loop.at loop.i (omega (arith, loop.invariant.2.wrote.size))) w.list-is w.at-is,
       )
       | else-differs w ↦ (
         omega arith,

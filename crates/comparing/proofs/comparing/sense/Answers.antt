@@ -15,7 +15,7 @@ pub returns-in-Declared : goal.returns-in-Declared
 returns-in-Declared c =
     let args = c.args in
     told_declared args.rows.now args.kept _ (sym c.meant.ensures ∙ c.in-Declared.is)
-    (c.kind_number-kind.ensures ∙ ap (λ z. z - 4) c.word.ensures.value) refl
+    (c.saturating_sub-kind.ensures ∙ ap (λ z. z - 4) c.word.ensures.value) refl
 
 pub returns-in-Given : goal.returns-in-Given
 returns-in-Given c =

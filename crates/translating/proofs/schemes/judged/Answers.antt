@@ -5,10 +5,10 @@ use Rattle.translating.proofs.LendingBoth.{scheme_read, lent}
 use Rattle.translating.proofs.Handed.{as_refused_with, as_accepted_with}
 use Rattle.translating.proofs.schemes.judged.Goals as goal
 
-pub returns-in-Program : goal.returns-in-Program
-returns-in-Program c =
-    let h = both_filled c.find_both.ensures _ c.in-Program.is in
+pub returns-in-Ok : goal.returns-in-Ok
+returns-in-Ok c =
+    let h = both_filled c.find_both.ensures _ c.in-Ok.is in
     as_accepted_with h.whole (scheme_read h) (lent h refl) h.joined.named h.joined.typed c.requires c.emit.ensures
 
-pub returns-in-Refused : goal.returns-in-Refused
-returns-in-Refused c = as_refused_with _ _ (both_none c.find_both.ensures _ c.in-Refused.is) c.clear.ensures c.requires
+pub returns-in-Err : goal.returns-in-Err
+returns-in-Err c = as_refused_with _ _ (both_none c.find_both.ensures _ c.in-Err.is) c.clear.ensures c.requires

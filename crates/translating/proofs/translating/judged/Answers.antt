@@ -6,10 +6,10 @@ use Rattle.translating.proofs.Lending.{program, lent}
 use Rattle.translating.proofs.Handed.{as_refused, as_accepted}
 use Rattle.translating.proofs.translating.judged.Goals as goal
 
-pub returns-in-Program : goal.returns-in-Program
-returns-in-Program c =
-    let h = told-program c.find.ensures _ c.in-Program.is in
+pub returns-in-Ok : goal.returns-in-Ok
+returns-in-Ok c =
+    let h = told-program c.find.ensures _ c.in-Ok.is in
     as_accepted (program h) (lent h refl) h.declared.faultless h.declared.typed c.requires c.emit.ensures
 
-pub returns-in-Refused : goal.returns-in-Refused
-returns-in-Refused c = as_refused _ _ (told_refused c.find.ensures _ c.in-Refused.is) c.clear.ensures c.requires
+pub returns-in-Err : goal.returns-in-Err
+returns-in-Err c = as_refused _ _ (told_refused c.find.ensures _ c.in-Err.is) c.clear.ensures c.requires
