@@ -1,9 +1,11 @@
 -- Laws of Status: each is one of the three.
+use Rattle.std.proofs.Common.{Result, Ok, Err}
 use mathlib.Core.Path.{◌≡◌}
 use mathlib.Core.List.{List}
 use Prim.Native.Nat.{ℕ, ◌≤◌}
 use native.Mathlib.Omega.{arith}
 use lib.IntN.{ℤ}
+use Rattle.answers.specs.declared.Refusal.{Refusal}
 use Rattle.answers.specs.declared.Verdict.{Verdict}
 use Rattle.asking.specs.Lists.{list_words, leading, listed_in}
 use Rattle.std.specs.Prelude.{Result, Ok, Err}
@@ -11,15 +13,13 @@ use Rattle.asking.specs.declared.lists.Unlisted.{Unlisted}
 use Rattle.asking.specs.declared.lists.Unlisted.TheVariants.{NoNumber, Full}
 use Rattle.checking.specs.declared.Checked.{Checked}
 use Rattle.checking.specs.declared.Checked.TheVariants.{Yes, Refused as Unchecked, Wrong as WrongAt}
-use Rattle.clean.specs.declared.Written.{Written}
-use Rattle.clean.specs.declared.Written.TheVariants.{Text, Refused as Unwritten}
 use Rattle.desk.specs.Status.{nothing}
 use Rattle.desk.proofs.Statuses.{most_verdict}
 use Rattle.deed.specs.Status.{of_written, of_checked, Told, WriteStatus, CheckStatus, ByWords, SentStatus}
 
-most_written : (w : Written) → of_written w ≤ nothing
-most_written (Text n) = omega arith
-most_written (Unwritten r) = omega arith
+most_written : (w : Result ℕ Refusal) → of_written w ≤ nothing
+most_written (Ok n) = omega arith
+most_written (Err r) = omega arith
 
 most_checked : (c : Checked) → of_checked c ≤ nothing
 most_checked Yes = omega arith

@@ -1,5 +1,6 @@
 -- The exit status of each command that shows, writes or checks. These are definitions of the tool and no part of the paper.
 use Rattle.std.specs.Prelude.{ℕ, ◌≡◌, List, ℤ, replicate, Result, Ok, Err}
+use Rattle.answers.specs.declared.Refusal.{Refusal}
 use Rattle.answers.specs.declared.Verdict.{Verdict}
 use Rattle.asking.specs.Lists.{list_words, leading, listed_in}
 use Rattle.asking.specs.declared.lists.Unlisted.{Unlisted}
@@ -7,17 +8,15 @@ use Rattle.asking.specs.declared.lists.Unlisted.TheVariants.{NoNumber, Full}
 use Rattle.checking.specs.declared.Checked.{Checked}
 use Rattle.checking.specs.declared.Checked.TheVariants.{Yes, Refused as Unchecked, Wrong as WrongAt}
 use Rattle.checking.specs.Checking.{Checks}
-use Rattle.clean.specs.declared.Written.{Written}
-use Rattle.clean.specs.declared.Written.TheVariants.{Text, Refused as Unwritten}
 use Rattle.clean.specs.Job.{Writes}
 use Rattle.reading.specs.Reading.{Reads}
 use Rattle.translating.specs.Job.{code_words, Translates}
 use Rattle.desk.specs.Status.{good, bad, nothing, of_verdict}
 
 -- of a source that is written
-abbrev pub of_written : Written → ℕ
-of_written (Text n) = good
-of_written (Unwritten r) = bad
+abbrev pub of_written : Result ℕ Refusal → ℕ
+of_written (Ok n) = good
+of_written (Err r) = bad
 
 -- of a list that is held against a source
 abbrev pub of_checked : Checked → ℕ
@@ -40,7 +39,7 @@ CodeStatus text s = Told (λ v. (words : List ℕ) × Translates text (replicate
 
 -- s is the status of what `write` answers to a source, lent room for the longest text
 pub record WriteStatus (text : List ℕ) (s : ℕ) : Type 0 where
-  pub written : Written
+  pub written : Result ℕ Refusal
   pub page : List ℕ
   pub writes : Writes text (replicate 16384 0) written page
   pub told : s ≡ of_written written

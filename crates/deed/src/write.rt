@@ -6,7 +6,6 @@ ghost use Rattle.deed.specs.Status.{of_written, WriteStatus};
 use answers::{Answer, Refusal};
 use asking::options::next_operand;
 use asking::words::is_plain;
-use clean::Written;
 use clean::writing::write;
 use desk::files::load;
 use desk::misuse::see_help;
@@ -16,12 +15,12 @@ use showing::text::{complain, say, say_number, tell_file};
 use showing::words::tell_answer;
 
 // The answer, its place and the length of the text, as one line of numbers; the text is to stand behind it.
-fn show_plain(system: &System, w: Written) {
-    say_number(system, w.answer().number as u64);
+fn show_plain(system: &System, w: Result<usize, Refusal>) {
+    say_number(system, clean::answer(w).number as u64);
     say(system, b" ");
-    say_number(system, w.place() as u64);
+    say_number(system, clean::place(w) as u64);
     say(system, b" ");
-    say_number(system, w.length() as u64);
+    say_number(system, clean::length(w) as u64);
     say(system, b"\n");
 }
 
@@ -48,12 +47,12 @@ fn complain_of(system: &System, name: &[u8], source: &[u8], r: Refusal) {
     );
 }
 
-fn of_written(w: Written) -> u8
+fn of_written(w: Result<usize, Refusal>) -> u8
     ensures { result ≡ of_written w }
 {
     match w {
-        Written::Text(_) => status::GOOD,
-        Written::Refused(_) => status::BAD,
+        Ok(_) => status::GOOD,
+        Err(_) => status::BAD,
     }
 }
 
@@ -63,11 +62,11 @@ fn tell_text(system: &System, name: &[u8], source: &[u8], plain: bool) -> u8
 {
     let mut room = [0u8; 16384];
     let w = write(source, &mut room);
-    let n = w.length();
+    let n = clean::length(w);
     let ended = of_written(w);
     if plain {
         show_plain(system, w);
-    } else if let Written::Refused(r) = w {
+    } else if let Err(r) = w {
         complain_of(system, name, source, r);
     }
     say(system, &room[..n]);

@@ -1,13 +1,13 @@
 -- What a job gives to C: a number for each result that its Rattle function answers in an enum or a struct. Assumes nothing: these are definitions.
-use Rattle.std.specs.Prelude.{ℕ, ◌≡◌, List, ℤ}
+use Rattle.std.specs.Prelude.{ℕ, ◌≡◌, List, ℤ, Result}
+use Rattle.answers.specs.declared.Refusal.{Refusal}
 use Rattle.answers.specs.Answers.{number_of, place_of, stop_number, stop_place}
 use Rattle.answers.specs.declared.Verdict.{Verdict}
-use Rattle.clean.specs.declared.Written.{Written}
 use Rattle.clean.specs.Numbers.{number_of as pageNumber, place_of as pagePlace, length_of}
 use Rattle.checking.specs.Numbers.{kind_of, number_of as checkedNumber, place_of as checkedPlace}
 use Rattle.checking.specs.declared.Checked.{Checked}
 use Rattle.comparing.specs.Numbers.{kind_of as comparedKind, number_of as comparedNumber, place_of as comparedPlace}
-use Rattle.comparing.specs.declared.Compared.{Compared}
+use Rattle.comparing.specs.declared.Uncompared.{Uncompared}
 use Rattle.machine.specs.Machine.{Exit}
 use Rattle.records.specs.Numbers.{kind_of as replayedKind, number_of as replayedNumber, place_of as replayedPlace}
 use Rattle.records.specs.Replay.{Done}
@@ -32,8 +32,8 @@ pub record AnswersTwo (P : Verdict → Verdict → Type 0) (number place other t
   pub other_placed : there ≡ place_of second
 
 -- write: the number, the place and the length are those of an answer of which P holds
-pub record Pages (P : Written → Type 0) (number place length : ℕ) : Type 0 where
-  pub written : Written
+pub record Pages (P : Result ℕ Refusal → Type 0) (number place length : ℕ) : Type 0 where
+  pub written : Result ℕ Refusal
   pub holds : P written
   pub numbered : number ≡ pageNumber written
   pub placed : place ≡ pagePlace written
@@ -48,8 +48,8 @@ pub record Says (P : Checked → Type 0) (kind number place : ℕ) : Type 0 wher
   pub placed : place ≡ checkedPlace checked
 
 -- compare: .. and of what is said of two editions
-pub record Lists (P : Compared → Type 0) (kind number place : ℕ) : Type 0 where
-  pub compared : Compared
+pub record Lists (P : Result ℕ Uncompared → Type 0) (kind number place : ℕ) : Type 0 where
+  pub compared : Result ℕ Uncompared
   pub holds : P compared
   pub of_kind : kind ≡ comparedKind compared
   pub numbered : number ≡ comparedNumber compared

@@ -85,9 +85,9 @@ pub fn deed_write(source: &[u8], room: &mut [u8], place: &mut usize, length: &mu
     ensures { Pages (λ w. Writes source.now room.old w room.new) result place.new length.new }
 {
     let written = write(source, room);
-    *place = written.place();
-    *length = written.length();
-    written.answer().number
+    *place = clean::place(written);
+    *length = clean::length(written);
+    clean::answer(written).number
 }
 
 // Code to a run: the answer's number; its place, the instructions done, the numbers taken and the numbers written. A cell takes two numbers of the
@@ -137,9 +137,9 @@ pub fn deed_compare(
     ensures { Lists (λ c. Compares first.now second.now room.old c room.new) result number.new place.new }
 {
     let compared = compare(first, second, room);
-    *number = compared.number();
-    *place = compared.place();
-    compared.kind()
+    *number = comparing::number(compared);
+    *place = comparing::place(compared);
+    comparing::kind(compared)
 }
 
 // Code and a record: 0 where a fresh run agrees; 1 where it differs, with the first entry that does for the place; 2 where a word is bad, with its

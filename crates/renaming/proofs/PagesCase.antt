@@ -1,6 +1,7 @@
 -- Clean pages of two sources that differ in the case of letters alone (requests 2 and 8): the same answer, place and length, and two texts that differ in the
 -- case of names' letters alone. Separators are made of the tree, words and signs of the symbol, digits have no case; only a name has letters of its own.
 -- Assumes nothing.
+use Rattle.std.proofs.Common.{Result, Ok}
 use Prim.Native.Nat.{ℕ}
 use mathlib.Core.Path.{◌≡◌, refl, sym, ap, subst, ◌∙◌}
 use mathlib.Core.Bool.{Bool, true, false, cond, ◌||◌}
@@ -8,6 +9,7 @@ use mathlib.Core.List.{List, [], ◌∷◌, ◌++◌, map}
 use mathlib.Core.Option.{none}
 use native.Mathlib.Omega.{arith}
 use lib.ListN.{length, drop}
+use Rattle.answers.specs.declared.Refusal.{Refusal}
 use Rattle.answers.specs.declared.Verdict.{Verdict}
 use Rattle.answers.specs.declared.Verdict.TheVariants.{Accepted, Refused as NotAccepted}
 use Rattle.symbols.specs.Names.{digit, in_name, these, reach, folded, same_name}
@@ -26,8 +28,6 @@ use Rattle.reading.specs.Judging.{its_program}
 use Rattle.reading.specs.Reading.{symbols, Grammatical, Judged}
 use Rattle.clean.specs.House.{house, page}
 use Rattle.clean.specs.Job.{page_of, Fits, too_long, too_short, written, Writes, refused, accepted}
-use Rattle.clean.specs.declared.Written.{Written}
-use Rattle.clean.specs.declared.Written.TheVariants.{Text}
 use Rattle.clean.proofs.Promises.{only}
 use Rattle.renaming.proofs.AnyCase.{case_means_nothing}
 
@@ -167,7 +167,7 @@ pub record Taken (source : List ℕ) : Type 0 where
   pub names_right : least (name_faults (its_program program)) ≡ none
   pub types_right : type_fault (its_program program) ≡ none
 
-refused_accepted : {r : Rattle.answers.specs.declared.Refusal.Refusal} → NotAccepted r ≡ Accepted → ⊥
+refused_accepted : {r : Rattle.answers.specs.declared.Refusal.Refusal} → Refused r ≡ Accepted → ⊥
 refused_accepted e = let z : ◌≡◌ {A = ℕ} 0 1 = cc in omega arith
 
 taken : {source : List ℕ} {v : Verdict} {ws : List ℕ} → Judged source v ws → v ≡ Accepted → Taken source
@@ -179,18 +179,18 @@ taken (J.misnamed p f n) e = absurd (refused_accepted e)
 taken (J.mistyped p f n t) e = absurd (refused_accepted e)
 taken (J.accepted p n t) e = record { program = p; names_right = n; types_right = t }
 
-fits_alike : {a room r : List ℕ} {w : Written} (b : List ℕ) → same_name a b ≡ true → Fits a room w r → (r' : List ℕ) × Fits b room w r' × (same_name r r' ≡ true)
+fits_alike : {a room r : List ℕ} {w : Result ℕ Refusal} (b : List ℕ) → same_name a b ≡ true → Fits a room w r → (r' : List ℕ) × Fits b room w r' × (same_name r r' ≡ true)
 fits_alike {a} {room} b e (too_long h) = (room, too_long (rw (same_long a b e) h), same_self room)
 fits_alike {a} {room} b e (too_short h l) = (room, too_short (rw (same_long a b e) h) (rw (same_long a b e) l), same_self room)
 fits_alike {a} {room} b e (written h l) =
     let n = same_long a b e in (
       b ++ drop (length b) room,
-      subst (λ k. Fits b room (Text k) (b ++ drop (length b) room)) n (written (rw n h) (rw n l)),
+      subst (λ k. Fits b room (Ok k) (b ++ drop (length b) room)) n (written (rw n h) (rw n l)),
       rw n (same_append a b (drop (length a) room) (drop (length a) room) e (same_self _)),
     )
 
 -- "write has the same answer, place and length for both": and what the room holds is the same, letter case aside
-pub same_writing : (source source' : List ℕ) → same_name source source' ≡ true → {room r r' : List ℕ} {w w' : Written} → Writes source room w r → Writes source' room w' r'
+pub same_writing : (source source' : List ℕ) → same_name source source' ≡ true → {room r r' : List ℕ} {w w' : Result ℕ Refusal} → Writes source room w r → Writes source' room w' r'
     → (w ≡ w') × (same_name r r' ≡ true)
 same_writing source source' case {room} (refused x j) k =
     let h = only (refused x ((case_means_nothing source source' case _ _).0 j)) k in

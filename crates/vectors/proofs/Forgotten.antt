@@ -1,6 +1,7 @@
 -- No difference is forgotten: what the contracts say together. The count of differences never falls, and where it is 0 at the end each row was answered
 -- as is listed, by read, by translate and by write, each page was read back and written again as it should be, and each list was answered as is due.
 -- Assumes nothing.
+use Rattle.std.proofs.Common.{Result}
 use mathlib.Core.Path.{◌≡◌, refl, ap}
 use mathlib.Core.Bool.{Bool, true, false, cond, ◌&&◌, ◌||◌, true≢false}
 use mathlib.Core.List.{List}
@@ -9,11 +10,11 @@ use native.Mathlib.Omega.{arith}
 use lib.Dec.{eqb, ltb, leb}
 use lib.IntN.{ℤ, pos}
 use lib.ListN.{length, drop}
+use Rattle.answers.specs.declared.Refusal.{Refusal}
 use Rattle.answers.specs.Answers.{number_of, refusal}
 use Rattle.answers.specs.declared.Verdict.{Verdict}
 use Rattle.answers.specs.declared.Verdict.TheVariants.{Refused}
 use Rattle.answers.specs.Numbers.{accepted}
-use Rattle.clean.specs.declared.Written.{Written}
 use Rattle.clean.specs.Numbers.{number_of as pageNumber, length_of}
 use Rattle.symbols.specs.Names.{digit, value_from}
 use Rattle.symbols.specs.Text.{bytes}
@@ -98,7 +99,7 @@ accepted_keeps code text t h =
 
 -- ---- so does a source that is written
 
-lent_keeps : (w : Written) (room text : List ℕ) (from : ℕ) (t : Tally) → t.differences ≤ 4294967295 → Kept t (after_lent w room text from t)
+lent_keeps : (w : Result ℕ Refusal) (room text : List ℕ) (from : ℕ) (t : Tally) → t.differences ≤ 4294967295 → Kept t (after_lent w room text from t)
 unfolding after_lent
 lent_keeps w room text from t h =
     let n = number_at text from in
@@ -116,7 +117,7 @@ back_keeps {t = t} b h = rw b.told (either_keeps (accepted_by b.verdict_back && 
 again_keeps : {page : List ℕ} {t r : Tally} → AgainTold page t r → t.differences ≤ 4294967295 → Kept t r
 again_keeps {page} {t} a h = rw a.told (either_keeps (eqb (pageNumber a.answer) accepted && same_page a.room (length_of a.answer) page) (record { below = h; no_less = omega arith }) (check_keeps false t h))
 
-turned_keeps : {source page : List ℕ} {w : Written} {t r : Tally} → Turned source w page t r → t.differences ≤ 4294967295 → Kept t r
+turned_keeps : {source page : List ℕ} {w : Result ℕ Refusal} {t r : Tally} → Turned source w page t r → t.differences ≤ 4294967295 → Kept t r
 turned_keeps {t = t} (unwritten e) h = keep t h
 turned_keeps {t = t} (turned e s r b a) h =
     let x = back_keeps b h in
@@ -228,13 +229,13 @@ ListedRight {text = text} (listed e r l) =
     (numbered l.answer answer.value place.value ≡ true) × (same_page l.after (length_of l.answer) (drop (min place.next (length text)) text) ≡ true)
 
 -- a page was read back as the same program, and written again as the same bytes
-unfoldable pub TurnedRight : {source page : List ℕ} {w : Written} {t r : Tally} → Turned source w page t r → Type 0
+unfoldable pub TurnedRight : {source page : List ℕ} {w : Result ℕ Refusal} {t r : Tally} → Turned source w page t r → Type 0
 TurnedRight (unwritten e) = Unit {0}
 TurnedRight {page = page} (turned e s r b a) =
     ((accepted_by b.verdict_back && same_meanings b.table b.table_back) ≡ true)
     × ((eqb (pageNumber a.answer) accepted && same_page a.room (length_of a.answer) page) ≡ true)
 
-lent_right : (w : Written) (room text : List ℕ) (from : ℕ) (t : Tally) → t.differences ≤ 4294967295 → (after_lent w room text from t).differences ≡ 0
+lent_right : (w : Result ℕ Refusal) (room text : List ℕ) (from : ℕ) (t : Tally) → t.differences ≤ 4294967295 → (after_lent w room text from t).differences ≡ 0
     → (numbered w (number_at text from).value (number_at text (number_at text from).next).value ≡ true)
     × (same_page room (length_of w) (drop (min (number_at text (number_at text from).next).next (length text)) text) ≡ true)
 unfolding after_lent
@@ -250,7 +251,7 @@ unfolding ListedRight
 listed_right (unlisted e) h z = tt
 listed_right {text = text} {t = t} (listed e r l) h z = lent_right l.answer l.after text (room_listed text).next t h (rw l.told at z)
 
-turned_right : {source page : List ℕ} {w : Written} {t r : Tally} (u : Turned source w page t r) → t.differences ≤ 4294967295 → r.differences ≡ 0 → TurnedRight u
+turned_right : {source page : List ℕ} {w : Result ℕ Refusal} {t r : Tally} (u : Turned source w page t r) → t.differences ≤ 4294967295 → r.differences ≡ 0 → TurnedRight u
 unfolding TurnedRight
 turned_right (unwritten e) h z = tt
 turned_right {t = t} (turned e s r b a) h z =

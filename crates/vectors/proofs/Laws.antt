@@ -1,4 +1,5 @@
 -- Laws of the definitions in Ended: what is compared from a place on, by what is compared from the next one on.
+use Rattle.std.proofs.Common.{Result}
 use mathlib.Core.Path.{◌≡◌, refl, sym, ap, ◌∙◌}
 use mathlib.Core.Bool.{Bool, true, false, cond, ◌&&◌, ◌||◌}
 use mathlib.Core.List.{List, [], ◌∷◌, ◌++◌, append_assoc}
@@ -12,9 +13,9 @@ use lib.Dec.{eqb}
 use mir.Syntax.{Width}
 use mir.Val.{SFits, of_z}
 use borrow.Author.Tests.{eq-eqb, ne_eqb}
+use Rattle.answers.specs.declared.Refusal.{Refusal}
 use Rattle.answers.specs.Answers.{stop_number, stop_place}
 use Rattle.answers.specs.declared.Stop.{Stop}
-use Rattle.clean.specs.declared.Written.{Written}
 use Rattle.clean.specs.Job.{Writes}
 use Rattle.reals.specs.Values.{same}
 use Rattle.reals.proofs.Signed.{same_bits}
@@ -53,7 +54,7 @@ module _ (x y : Bool) (a b : Tally) where
   second_no h k = rw (h, k)
 
 -- ---- what is written into fresh room
-pub into_fresh : (source : List ℕ) (w : Written) (lent after : List ℕ) → lent ≡ fresh_room → Writes source lent w after → Writes source fresh_room w after
+pub into_fresh : (source : List ℕ) (w : Result ℕ Refusal) (lent after : List ℕ) → lent ≡ fresh_room → Writes source lent w after → Writes source fresh_room w after
 into_fresh source w lent after e h = rw e at h
 
 -- ---- a number is another one where its bits are

@@ -1,12 +1,12 @@
 -- What `write` answers and leaves, against what is listed of a source, as a tally. A second line that is a page's has: the letter w, the length of the
 -- room, the answer and its place; behind it stands the page.
-use Rattle.std.specs.Prelude.{ℕ, zero, suc, ◌+◌, ◌*◌, min, ◌≡◌, Bool, true, false, cond, ◌&&◌, List, [], ◌∷◌, eqb, leb, length, get_or, take, drop, replicate}
+use Rattle.std.specs.Prelude.{ℕ, zero, suc, ◌+◌, ◌*◌, min, ◌≡◌, Bool, true, false, cond, ◌&&◌, List, [], ◌∷◌, eqb, leb, length, get_or, take, drop, replicate, Result}
+use Rattle.answers.specs.declared.Refusal.{Refusal}
 use Rattle.answers.specs.Numbers.{accepted, long}
 use Rattle.answers.specs.declared.Verdict.{Verdict}
 use Rattle.symbols.specs.Names.{equal}
 use Rattle.table.specs.Sections.{rows_at}
 use Rattle.reading.specs.Reading.{Reads}
-use Rattle.clean.specs.declared.Written.{Written}
 use Rattle.clean.specs.Numbers.{number_of, place_of, length_of}
 use Rattle.clean.specs.Job.{Writes}
 use Rattle.vectors.specs.declared.texts.Numeral.{Numeral}
@@ -70,7 +70,7 @@ pub record BackTold (source page : List ℕ) (t r : Tally) : Type 0 where
 
 -- written again, it has the same bytes
 pub record AgainTold (page : List ℕ) (t r : Tally) : Type 0 where
-  pub answer : Written
+  pub answer : Result ℕ Refusal
   pub room : List ℕ
   pub writes : Writes page fresh_room answer room
   pub told : r ≡ cond (eqb (number_of answer) accepted && same_page room (length_of answer) page) (one_again t) (one_difference t)
@@ -78,27 +78,27 @@ pub record AgainTold (page : List ℕ) (t r : Tally) : Type 0 where
 -- ---- a source written in more room than a page can need
 
 -- whether an answer is this one at this place
-abbrev pub numbered : Written → ℕ → ℕ → Bool
+abbrev pub numbered : Result ℕ Refusal → ℕ → ℕ → Bool
 numbered w answer place = eqb (number_of w) answer && eqb (place_of w) place
 
 -- whether it is the one that is listed for `read`, or 2 of an accepted source
-unfoldable pub written_by : Written → List ℕ → Bool
+unfoldable pub written_by : Result ℕ Refusal → List ℕ → Bool
 written_by w text =
     let answer : Numeral = number_at text 0 in
     cond (eqb answer.value accepted && eqb (number_of w) long) (eqb (place_of w) 16384)
     (numbered w answer.value (number_at text answer.next).value)
 
 -- the tally after the answer, and after the bytes behind the page
-abbrev pub after_page : Written → List ℕ → List ℕ → Tally → Tally
+abbrev pub after_page : Result ℕ Refusal → List ℕ → List ℕ → Tally → Tally
 after_page w room text t = checked (all 7 (drop (length_of w) room)) (checked (written_by w text) t)
 
 -- what is written is read back and written again
-pub data Turned (source : List ℕ) (w : Written) (page : List ℕ) (t : Tally) : Tally → Type 0 where
+pub data Turned (source : List ℕ) (w : Result ℕ Refusal) (page : List ℕ) (t : Tally) : Tally → Type 0 where
   unwritten : eqb (number_of w) accepted ≡ false → Turned source w page t t
   turned : eqb (number_of w) accepted ≡ true → (s r : Tally) → BackTold source page (one_page t) s → AgainTold page s r → Turned source w page t r
 
 pub record PageTold (source text : List ℕ) (t r : Tally) : Type 0 where
-  pub answer : Written
+  pub answer : Result ℕ Refusal
   pub room : List ℕ
   pub writes : Writes source fresh_room answer room
   pub told : Turned source answer (take (length_of answer) room) (after_page answer room text t) r
@@ -106,14 +106,14 @@ pub record PageTold (source text : List ℕ) (t r : Tally) : Type 0 where
 -- ---- a page that is listed
 
 -- the tally after a source was written, against the answer, the place and the page that are listed from a place on
-unfoldable pub after_lent : Written → List ℕ → List ℕ → ℕ → Tally → Tally
+unfoldable pub after_lent : Result ℕ Refusal → List ℕ → List ℕ → ℕ → Tally → Tally
 after_lent w room text from t =
     let answer : Numeral = number_at text from in
     let place : Numeral = number_at text answer.next in
     checked (same_page room (length_of w) (drop (min place.next (length text)) text)) (checked (numbered w answer.value place.value) t)
 
 pub record LentTold (source room text : List ℕ) (from : ℕ) (t r : Tally) : Type 0 where
-  pub answer : Written
+  pub answer : Result ℕ Refusal
   pub after : List ℕ
   pub writes : Writes source room answer after
   pub told : r ≡ after_lent answer after text from t

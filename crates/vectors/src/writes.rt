@@ -7,7 +7,7 @@ ghost use Rattle.vectors.specs.Pages.{all, same_page, declaration_at, alike_at, 
 use crate::reads::accepted;
 use crate::tally::Tally;
 use crate::texts::{clipped, number_at, page_at, second_line};
-use clean::Written;
+use answers::Refusal;
 use clean::writing::write;
 use reading::reading::read;
 use symbols::text::same_bytes;
@@ -117,26 +117,26 @@ fn again(t: Tally, name: &[u8], page: &[u8]) -> Tally
 {
     let mut room = fresh_room();
     let w = write(page, &mut room);
-    if w.answer().number == 0 && same_page(&room, w.length(), page) {
+    if clean::answer(w).number == 0 && same_page(&room, clean::length(w), page) {
         return t.again();
     }
     t.check(false, name, b"the page is written otherwise")
 }
 
 // Whether an answer is this one at this place.
-fn is_answer(w: Written, answer: u64, place: u64) -> bool
+fn is_answer(w: Result<usize, Refusal>, answer: u64, place: u64) -> bool
     ensures { result ≡ numbered w answer place }
 {
-    w.answer().number as u64 == answer && w.place() as u64 == place
+    clean::answer(w).number as u64 == answer && clean::place(w) as u64 == place
 }
 
 // Whether an answer is the one that is listed for `read`, or 2 of an accepted source.
-fn answered(w: Written, text: &[u8]) -> bool
+fn answered(w: Result<usize, Refusal>, text: &[u8]) -> bool
     ensures { result ≡ written_by w text.now }
 {
     let answer = number_at(text, 0);
-    if answer.value == 0 && w.answer().number == 2 {
-        return w.place() == 16384;
+    if answer.value == 0 && clean::answer(w).number == 2 {
+        return clean::place(w) == 16384;
     }
     let place = number_at(text, answer.next);
     is_answer(w, answer.value, place.value)
@@ -148,14 +148,14 @@ fn written(t: Tally, name: &[u8], source: &[u8], text: &[u8]) -> Tally
 {
     let mut room = fresh_room();
     let w = write(source, &mut room);
-    let n = w.length();
+    let n = clean::length(w);
     let told = t.check(answered(w, text), name, b"write answers otherwise");
     let kept = told.check(
         untouched(&room, n),
         name,
         b"a byte behind the page is not as before",
     );
-    if w.answer().number != 0 {
+    if clean::answer(w).number != 0 {
         return kept;
     }
     let turned = back(kept.page(), name, source, &room[..n]);
@@ -176,7 +176,7 @@ fn lent(t: Tally, name: &[u8], source: &[u8], room: &mut [u8], text: &[u8], from
         b"write answers otherwise in this room",
     );
     told.check(
-        same_page(room, w.length(), &text[start..]),
+        same_page(room, clean::length(w), &text[start..]),
         name,
         b"another page, or a byte behind it is not as before",
     )

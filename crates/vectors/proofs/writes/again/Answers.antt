@@ -1,12 +1,13 @@
 -- `vectors::writes::again` meets its contract. The page is written into fresh room, and the answer and the bytes are compared.
 -- Assumes nothing.
+use Rattle.std.proofs.Common.{Result}
 use mathlib.Core.Path.{◌≡◌, sym, ◌∙◌}
 use mathlib.Core.Bool.{Bool, true, false}
 use mathlib.Core.List.{List}
 use Prim.Native.Nat.{ℕ}
 use lib.Dec.{eqb}
 use borrow.Author.Tests.{eq-eqb, ne_eqb}
-use Rattle.clean.specs.declared.Written.{Written}
+use Rattle.answers.specs.declared.Refusal.{Refusal}
 use Rattle.clean.specs.Numbers.{number_of, length_of}
 use Rattle.vectors.specs.Listed.{one_again, one_difference}
 use Rattle.vectors.specs.Pages.{same_page}
@@ -14,7 +15,7 @@ use Rattle.vectors.proofs.Laws.{both_yes, first_no, second_no, into_fresh}
 use Rattle.vectors.proofs.writes.again.Goals as goal
 use Rattle.vectors.proofs.writes.again.Goals.{else-answer-eq0-via-then-answer-eq0+else-same_page, else-answer-eq0-via-else-answer-eq0}
 
-bytes-told : (w : Written) (room page : List ℕ) (n : ℕ) (s b : Bool) → n ≡ length_of w → s ≡ same_page room n page → s ≡ b → same_page room (length_of w) page ≡ b
+bytes-told : (w : Result ℕ Refusal) (room page : List ℕ) (n : ℕ) (s b : Bool) → n ≡ length_of w → s ≡ same_page room n page → s ≡ b → same_page room (length_of w) page ≡ b
 bytes-told w room page n s b size e f = cc
 
 pub returns-then-same_page : goal.returns-then-same_page

@@ -1,12 +1,13 @@
 -- `vectors::writes::answered` meets its contract. 2 of an accepted source is told apart first; any other answer is the listed one.
 -- Assumes nothing.
+use Rattle.std.proofs.Common.{Result}
 use mathlib.Core.Path.{◌≡◌, ap}
 use mathlib.Core.Bool.{Bool, true, false}
 use mathlib.Core.List.{List}
 use Prim.Native.Nat.{ℕ}
 use lib.Dec.{eqb}
 use borrow.Author.Tests.{eq-eqb, ne_eqb}
-use Rattle.clean.specs.declared.Written.{Written}
+use Rattle.answers.specs.declared.Refusal.{Refusal}
 use Rattle.clean.specs.Numbers.{number_of, place_of}
 use Rattle.vectors.specs.declared.texts.Numeral.{Numeral}
 use Rattle.vectors.specs.Listed.{number_at}
@@ -14,7 +15,7 @@ use Rattle.vectors.specs.Pages.{numbered, written_by}
 use Rattle.vectors.proofs.writes.answered.Goals as goal
 use Rattle.vectors.proofs.writes.answered.Goals.{else-answer-eq0-via-then-answer-eq0+else-answer-eq2, else-answer-eq0-via-else-answer-eq0}
 
-module _ (w : Written) (text : List ℕ) (n : Numeral) (first : n ≡ number_at text 0) where
+module _ (w : Result ℕ Refusal) (text : List ℕ) (n : Numeral) (first : n ≡ number_at text 0) where
   is-long : (a p : ℕ) → a ≡ number_of w → p ≡ place_of w → n.value ≡ 0 → eqb a 2 ≡ true → eqb p 16384 ≡ written_by w text
   unfolding written_by
   is-long a p e f h k =

@@ -1,16 +1,17 @@
 -- `vectors::writes::is_answer` meets its contract. The number is compared, then the place.
 -- Assumes nothing.
+use Rattle.std.proofs.Common.{Result}
 use mathlib.Core.Path.{◌≡◌, sym, ap, ◌∙◌}
 use mathlib.Core.Bool.{true, false}
 use Prim.Native.Nat.{ℕ}
 use lib.Dec.{eqb}
 use borrow.Author.Tests.{eq-eqb, ne_eqb}
-use Rattle.clean.specs.declared.Written.{Written}
+use Rattle.answers.specs.declared.Refusal.{Refusal}
 use Rattle.clean.specs.Numbers.{number_of, place_of}
 use Rattle.vectors.specs.Pages.{numbered}
 use Rattle.vectors.proofs.writes.is_answer.Goals as goal
 
-module _ (w : Written) (a n m : ℕ) (number : a ≡ number_of w) where
+module _ (w : Result ℕ Refusal) (a n m : ℕ) (number : a ≡ number_of w) where
   same_number : (p : ℕ) → a ≡ n → p ≡ place_of w → eqb p m ≡ numbered w n m
   same_number p h place =
       let k : eqb (number_of w) n ≡ true = eq-eqb (number_of w) n (sym number ∙ h) in

@@ -1,5 +1,6 @@
 -- `vectors::writes::lent` meets its contract. The answer and the page are compared with the listed ones, which stand one behind the other.
 -- Assumes nothing.
+use Rattle.std.proofs.Common.{Result}
 use mathlib.Core.Path.{◌≡◌}
 use mathlib.Core.Bool.{Bool}
 use mathlib.Core.List.{List}
@@ -7,7 +8,7 @@ use Prim.Native.Nat.{ℕ, ◌-◌, min}
 use native.Mathlib.Omega.{arith}
 use lib.ListN.{length, take, drop, length-drop}
 use lib.Seq.{take_all}
-use Rattle.clean.specs.declared.Written.{Written}
+use Rattle.answers.specs.declared.Refusal.{Refusal}
 use Rattle.clean.specs.Numbers.{length_of}
 use Rattle.vectors.specs.declared.texts.Numeral.{Numeral}
 use Rattle.vectors.specs.declared.tally.Tally.{Tally}
@@ -15,7 +16,7 @@ use Rattle.vectors.specs.Listed.{number_at, checked}
 use Rattle.vectors.specs.Pages.{same_page, numbered, after_lent}
 use Rattle.vectors.proofs.writes.lent.Goals as goal
 
-in-turn : (w : Written) (after text : List ℕ) (from n start : ℕ) (t s u : Tally) (x y : Numeral) (a b : Bool)
+in-turn : (w : Result ℕ Refusal) (after text : List ℕ) (from n start : ℕ) (t s u : Tally) (x y : Numeral) (a b : Bool)
     → x ≡ number_at text from
     → y ≡ number_at text x.next
     → start ≡ min y.next (length text)

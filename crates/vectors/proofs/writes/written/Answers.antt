@@ -1,5 +1,6 @@
 -- `vectors::writes::written` meets its contract. The answer and what is behind the page are compared; the page, which is inside the room, is read back and written again.
 -- Assumes nothing.
+use Rattle.std.proofs.Common.{Result}
 use mathlib.Core.Path.{◌≡◌, sym, ◌∙◌}
 use mathlib.Core.Bool.{Bool, true, false}
 use mathlib.Core.List.{List}
@@ -9,7 +10,7 @@ use lib.Dec.{eqb}
 use lib.ListN.{take, drop}
 use lib.Seq.{length-take-le}
 use borrow.Author.Tests.{eq-eqb, ne_eqb}
-use Rattle.clean.specs.declared.Written.{Written}
+use Rattle.answers.specs.declared.Refusal.{Refusal}
 use Rattle.clean.specs.Numbers.{number_of, length_of}
 use Rattle.clean.proofs.Inside.{text_inside}
 use Rattle.vectors.specs.declared.tally.Tally.{Tally}
@@ -18,7 +19,7 @@ use Rattle.vectors.specs.Pages.{all, written_by, after_page, BackTold, AgainTold
 use Rattle.vectors.proofs.Laws.{into_fresh}
 use Rattle.vectors.proofs.writes.written.Goals as goal
 
-module _ (source text room : List ℕ) (w : Written) (n : ℕ) (size : n ≡ length_of w) (t s k : Tally) (a b : Bool) (answer : a ≡ written_by w text) (told : s ≡ checked a t) (behind : b ≡ all 7 (drop n room)) (kept : k ≡ checked b s) where
+module _ (source text room : List ℕ) (w : Result ℕ Refusal) (n : ℕ) (size : n ≡ length_of w) (t s k : Tally) (a b : Bool) (answer : a ≡ written_by w text) (told : s ≡ checked a t) (behind : b ≡ all 7 (drop n room)) (kept : k ≡ checked b s) where
   so_far : k ≡ after_page w room text t
   so_far = cc
 
