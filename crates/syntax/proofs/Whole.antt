@@ -1,20 +1,23 @@
 -- From the reader of blocks to the verdict on all symbols, and the lent words afterwards.
 use mathlib.Core.Path.{◌≡◌, refl, sym, ap, ◌∙◌, subst}
 use mathlib.Core.List.{List, [], ◌∷◌, ◌++◌, append-nil}
-use Prim.Native.Nat.{ℕ, ◌-◌, ◌≤◌}
+use Prim.Native.Nat.{ℕ, ◌-◌}
 use native.Mathlib.Omega.{arith}
+use native.Mathlib.Decide.{ℕ_discrete}
 use mathlib.Core.Bool.{false}
 use lib.ListN.{length, take}
-use lib.Seq.{take_all}
 use Rattle.answers.specs.Answers.{answer}
 use Rattle.answers.specs.declared.Answer.{Answer}
 use Rattle.grammar.specs.Grammar.{block, rd, begin_end, program}
 use Rattle.grammar.specs.Trees.{Syn}
 use Rattle.grammar.specs.model.Marked.{unmarked, nodes, nodes_of}
 use Rattle.grammar.specs.model.Parsing.{zeros, node_words_lem, ParseSays, Parsed, read_to, fault_at}
-use Rattle.grammar.specs.model.Text.{text, kind_at}
+use Rattle.grammar.specs.model.Text.{kind_at}
 use Rattle.grammar.specs.model.Run.{levels, Run, got, bad, end, rd_got, level}
-use Rattle.syntax.specs.model.Says.{left, Clear, Got}
+use Rattle.syntax.specs.model.Says.{left, Clear, Got, Says, Settles, Refuses}
+use Rattle.syntax.proofs.Lemmas.{got_of}
+use Rattle.std.specs.Prelude.{Ok, Err}
+use Rattle.std.specs.Result.{MatchResult}
 use Rattle.grammar.proofs.Final.{read_keeps, read_verdict, over_verdict, bad_verdict}
 
 -- the program that was read
@@ -50,6 +53,12 @@ module _ {ks old mid new : List ℕ} {B j b : ℕ} (g : Got ks old mid 1 B (33 �
 pub refused : {ks mid new : List ℕ} {a : Answer} {k : ℕ} → Clear mid new 0 → length mid ≡ node_words_lem → Run (kind_at ks) (left 1) (33 ∷ []) (rd false block ∷ []) 0 (bad a.number k) → ParseSays ks new (fault_at a k)
 refused {ks} {a = a} {k = k} w size v = bad_verdict ks a k (cleared w size) v
 
--- what lies behind the symbols that are there changes nothing
-pub cut : (ks : List ℕ) (n : ℕ) {new : List ℕ} {r : Parsed} → length ks ≤ n → ParseSays (text ks) new r → ParseSays (text (take n ks)) new r
-cut ks n {new} {r} l v = subst (λ (x : List ℕ). ParseSays (text x) new r) (sym (take_all n ks l)) v
+-- all symbols, from a reader's answer to the first ones
+pub settled : {ks old mid new : List ℕ} {n : ℕ} {r : Parsed} (one : Parsed) → ((F : List ℕ) → Says ks old mid 1 0 F (rd false block ∷ []) 0 0 one) → length mid ≡ node_words_lem → n ≡ length ks
+    → MatchResult one (λ g. Settles g n mid new r) (λ f. Refuses f mid new r) → ParseSays ks new r
+settled {ks} {new = new} {n} {r} (Ok g) s size e o = go (ℕ_discrete g.next n)
+  where
+    go : Dec (g.next ≡ n) → ParseSays ks new r
+    go (yes q) = let a = o.all q in subst (λ (x : Parsed). ParseSays ks new x) (sym a.0) (all_read (got_of (s (33 ∷ []))) size (q ∙ e) a.1)
+    go (no q) = let a = o.more q in subst (λ (x : Parsed). ParseSays ks new x) (sym a.0) (more_left (got_of (s (33 ∷ []))) size (λ h. q (h ∙ sym e)) a.1)
+settled {ks} {new = new} (Err f) s size e o = subst (λ (x : Parsed). ParseSays ks new x) (sym o.same) (refused o.none size ((s (33 ∷ [])).refused _ _ refl))

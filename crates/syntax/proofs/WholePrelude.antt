@@ -1,23 +1,25 @@
 -- From the reader of preludes to the verdict on all symbols, and the lent words afterwards.
 use mathlib.Core.Path.{◌≡◌, refl, sym, ap, ◌∙◌, subst}
 use mathlib.Core.List.{List, [], ◌∷◌, ◌++◌}
-use Prim.Native.Nat.{ℕ, ◌-◌, ◌≤◌}
+use Prim.Native.Nat.{ℕ, ◌-◌}
 use native.Mathlib.Omega.{arith}
 use native.Mathlib.Decide.{ℕ_discrete}
 use lib.ListN.{length, take}
-use lib.Seq.{take_all}
 use Rattle.answers.specs.Answers.{answer}
 use Rattle.answers.specs.declared.Answer.{Answer}
 use Rattle.grammar.specs.Grammar.{preludes}
 use Rattle.grammar.specs.Program.{Finding, accepted, wrong_at, deep_at, FindsIn, PreludeFault, PreludeDeep}
 use Rattle.grammar.specs.model.Marked.{unmarked, prelude_nodes}
 use Rattle.grammar.specs.model.Parsing.{zeros, node_words_lem, Parsed, read_to, fault_at}
-use Rattle.grammar.specs.model.Text.{text, kind_at}
+use Rattle.grammar.specs.model.Text.{kind_at}
 use Rattle.grammar.specs.model.Run.{Run, bad}
 use Rattle.grammar.proofs.Outcomes.{read_fault, same_next, same_used, same_answer, same_at}
 use Rattle.grammar.proofs.Final.{bad_wrong_in, bad_deep_in, bad_number_in, got_all_in, got_over_in}
 use Rattle.grammar.proofs.Preludes.{a_prelude, one_prelude}
-use Rattle.syntax.specs.model.Says.{left, Clear, Got}
+use Rattle.syntax.specs.model.Says.{left, Clear, Got, Says, Settles, Refuses}
+use Rattle.syntax.proofs.Lemmas.{got_of}
+use Rattle.std.specs.Prelude.{Ok, Err}
+use Rattle.std.specs.Result.{MatchResult}
 use Rattle.syntax.specs.model.Preludes.{WholePrelude, PreludeSays}
 use Rattle.syntax.proofs.Whole.{cleared}
 
@@ -103,6 +105,12 @@ refused {ks} {new = new} {a = a} {k = k} w size v =
       | no h ↦ let z = bad_number_in preludes 0 a_prelude ks a.number k v h in subst (λ (x : ℕ). PreludeSays ks new (fault_at (answer x) k)) (sym z) (v_deep ks y (bad_deep_in preludes 0 a_prelude ks a.number k v z))
     ]
 
--- what lies behind the symbols that are there changes nothing
-pub cut : (ks : List ℕ) (n : ℕ) {new : List ℕ} {r : Parsed} → length ks ≤ n → PreludeSays (text ks) new r → PreludeSays (text (take n ks)) new r
-cut ks n {new} {r} l v = subst (λ (x : List ℕ). PreludeSays (text x) new r) (sym (take_all n ks l)) v
+-- all symbols, from a reader's answer to the first ones
+pub settled : {ks old mid new : List ℕ} {n : ℕ} {r : Parsed} (one : Parsed) → ((F : List ℕ) → Says ks old mid 0 0 F preludes 0 0 one) → length mid ≡ node_words_lem → n ≡ length ks
+    → MatchResult one (λ g. Settles g n mid new r) (λ f. Refuses f mid new r) → PreludeSays ks new r
+settled {ks} {new = new} {n} {r} (Ok g) s size e o = go (ℕ_discrete g.next n)
+  where
+    go : Dec (g.next ≡ n) → PreludeSays ks new r
+    go (yes q) = let a = o.all q in subst (λ (x : Parsed). PreludeSays ks new x) (sym a.0) (all_read (got_of (s (33 ∷ []))) size (q ∙ e) a.1)
+    go (no q) = let a = o.more q in subst (λ (x : Parsed). PreludeSays ks new x) (sym a.0) (more_left (got_of (s (33 ∷ []))) size (λ h. q (h ∙ sym e)) a.1)
+settled {ks} {new = new} (Err f) s size e o = subst (λ (x : Parsed). PreludeSays ks new x) (sym o.same) (refused o.none size ((s (33 ∷ [])).refused _ _ refl))

@@ -6,8 +6,7 @@ ghost use Rattle.grammar.specs.model.Text.{text};
 ghost use Rattle.grammar.specs.model.Parsing.{node_words_lem, ParseSays};
 ghost use Rattle.syntax.specs.model.Preludes.{PreludeSays};
 
-use answers::Answer;
-use grammar::{Fault, Parsed, Read};
+use grammar::Parsed;
 
 mod clauses; // what begins with a name, and for clauses
 mod expressions; // expressions
@@ -24,25 +23,14 @@ mod writing; // the words of the nodes
 pub fn parse(kinds: &[u8; 2048], count: usize, nodes: &mut [u16; 32768]) -> Parsed
     ensures { ParseSays (text (take count kinds.now)) nodes.new result }
 {
-    front(kinds, count, nodes)
+    program(text::first(kinds, count), nodes)
 }
 
 // Reads the first count symbols as a prelude; the nodes of one that is accepted stand in the first words, and all other words are zero.
 pub fn parse_prelude(kinds: &[u8; 2048], count: usize, nodes: &mut [u16; 32768]) -> Parsed
     ensures { PreludeSays (text (take count kinds.now)) nodes.new result }
 {
-    preludes::first(kinds, count, nodes)
-}
-
-// The first symbols of those that are lent.
-fn front(kinds: &[u8], count: usize, nodes: &mut [u16]) -> Parsed
-    requires { (length kinds.now ≡ 2048) × (length nodes.old ≡ node_words_lem) }
-    ensures { ParseSays (text (take count kinds.now)) nodes.new result }
-{
-    if count < kinds.len() {
-        return program(&kinds[..count], nodes);
-    }
-    program(kinds, nodes)
+    preludes::all(text::first(kinds, count), nodes)
 }
 
 // All symbols as a program.
@@ -51,21 +39,5 @@ fn program(kinds: &[u8], nodes: &mut [u16]) -> Parsed
     ensures { ParseSays (text kinds.now) nodes.new result }
 {
     let one = statements::block(kinds, 0, 1, nodes, 0);
-    match one {
-        Err(Fault { answer, at }) => {
-            writing::clear(nodes, 0);
-            Err(Fault { answer, at })
-        }
-        Ok(Read { next, used }) => {
-            if next == kinds.len() {
-                writing::clear(nodes, used);
-                return Ok(Read { next, used });
-            }
-            writing::clear(nodes, 0);
-            Err(Fault {
-                answer: Answer::GRAMMAR,
-                at: next,
-            })
-        }
-    }
+    writing::settle(one, kinds.len(), nodes)
 }

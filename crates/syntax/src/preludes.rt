@@ -1,5 +1,5 @@
 // Preludes: procedure declarations, each ended by `;`. Two readers call each other, with remaining symbols falling.
-ghost use Rattle.std.specs.Prelude.{◌≡◌, [], ◌∷◌, length, take, ◌≤◌};
+ghost use Rattle.std.specs.Prelude.{◌≡◌, [], ◌∷◌, length, ◌≤◌};
 ghost use Rattle.symbols.specs.declared.Symbol.TheVariants.{Semicolon};
 ghost use Rattle.grammar.specs.Grammar.{part, the, procedure as a_procedure, prelude as a_prelude};
 ghost use Rattle.grammar.specs.model.Text.{text};
@@ -10,9 +10,8 @@ ghost use Rattle.syntax.specs.model.Preludes.{PreludeSays};
 use crate::headings::type_symbol;
 use crate::statements::procedure;
 use crate::text::{expect, peek};
-use crate::writing::{clear, put};
-use answers::Answer;
-use grammar::{Fault, Parsed, Read, nodes};
+use crate::writing::{put, settle};
+use grammar::{Parsed, Read, nodes};
 use symbols::{Symbol, kinds};
 
 // A prelude, which ends where no procedure begins; it is at depth 0, so that its bodies are at 1.
@@ -50,37 +49,10 @@ fn procedures(kinds: &[u8], pos: usize, nodes: &mut [u16], free: usize) -> Parse
 }
 
 // All symbols as a prelude.
-fn all(kinds: &[u8], nodes: &mut [u16]) -> Parsed
+pub fn all(kinds: &[u8], nodes: &mut [u16]) -> Parsed
     requires { (length kinds.now ≤ 2048) × (length nodes.old ≡ node_words_lem) }
     ensures { PreludeSays (text kinds.now) nodes.new result }
 {
     let one = prelude(kinds, 0, nodes, 0);
-    match one {
-        Err(Fault { answer, at }) => {
-            clear(nodes, 0);
-            Err(Fault { answer, at })
-        }
-        Ok(Read { next, used }) => {
-            if next == kinds.len() {
-                clear(nodes, used);
-                return Ok(Read { next, used });
-            }
-            clear(nodes, 0);
-            Err(Fault {
-                answer: Answer::GRAMMAR,
-                at: next,
-            })
-        }
-    }
-}
-
-// The first symbols of those that are lent.
-pub fn first(kinds: &[u8], count: usize, nodes: &mut [u16]) -> Parsed
-    requires { (length kinds.now ≡ 2048) × (length nodes.old ≡ node_words_lem) }
-    ensures { PreludeSays (text (take count kinds.now)) nodes.new result }
-{
-    if count < kinds.len() {
-        return all(&kinds[..count], nodes);
-    }
-    all(kinds, nodes)
+    settle(one, kinds.len(), nodes)
 }

@@ -1,5 +1,5 @@
 // The symbols, of which the kinds are lent.
-ghost use Rattle.std.specs.Prelude.{◌≡◌, MatchResult};
+ghost use Rattle.std.specs.Prelude.{◌≡◌, MatchResult, take};
 ghost use Rattle.symbols.specs.Symbols.{kind};
 ghost use Rattle.symbols.specs.declared.Symbol.TheVariants.{Colon};
 ghost use Rattle.grammar.specs.model.Text.{text, kind_at};
@@ -35,4 +35,11 @@ pub fn expect(kinds: &[u8], i: usize, wanted: u8) -> Result<usize, Fault>
             at: i,
         })
     }
+}
+
+// The first symbols of those that are lent.
+pub fn first(kinds: &[u8], count: usize) -> &[u8]
+    ensures { result.now ≡ take count kinds.now }
+{
+    &kinds[..count.min(kinds.len())]
 }

@@ -1,6 +1,9 @@
 // The words of the nodes are written here, and set to zero.
-ghost use Rattle.std.specs.Prelude.{length, ◌+◌, ◌≤◌, ◌<◌};
-ghost use Rattle.syntax.specs.model.Says.{Put, Clear};
+ghost use Rattle.std.specs.Prelude.{length, MatchResult, ◌+◌, ◌≤◌, ◌<◌, ◌≡◌};
+ghost use Rattle.syntax.specs.model.Says.{Put, Clear, Settles, Refuses};
+
+use answers::Answer;
+use grammar::{Fault, Parsed};
 
 // Writes a node behind the words used, and gives the words used then.
 pub fn put(nodes: &mut [u16], used: usize, kind: u16, symbol: usize, one: u16, two: u16) -> usize
@@ -18,5 +21,28 @@ pub fn clear(nodes: &mut [u16], from: usize)
 {
     if from < nodes.len() {
         nodes[from..].fill(0);
+    }
+}
+
+// What a reader has read must be all symbols, of which there are count. Behind the nodes of what is accepted all words are zero.
+pub fn settle(one: Parsed, count: usize, nodes: &mut [u16]) -> Parsed
+    ensures { MatchResult one (λ g. Settles g count nodes.old nodes.new result) (λ f. Refuses f nodes.old nodes.new result) }
+{
+    match one {
+        Ok(read) if read.next == count => {
+            clear(nodes, read.used);
+            Ok(read)
+        }
+        Ok(read) => {
+            clear(nodes, 0);
+            Err(Fault {
+                answer: Answer::GRAMMAR,
+                at: read.next,
+            })
+        }
+        Err(fault) => {
+            clear(nodes, 0);
+            Err(fault)
+        }
     }
 }

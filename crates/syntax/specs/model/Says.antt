@@ -1,5 +1,5 @@
 -- What a reader's answer says of the relation's, and of the nodes. This serves the readers' contracts and is no part of the paper.
-use Rattle.std.specs.Prelude.{ℕ, ◌+◌, ◌*◌, ◌-◌, ◌<◌, ◌≤◌, ◌≡◌, Bool, true, false, List, [], ◌∷◌, ◌++◌, length, take}
+use Rattle.std.specs.Prelude.{ℕ, ◌+◌, ◌*◌, ◌-◌, ◌<◌, ◌≤◌, ◌≡◌, Bool, true, false, List, [], ◌∷◌, ◌++◌, length, take, Ok, Err}
 use Rattle.answers.specs.Answers.{answer}
 use Rattle.answers.specs.Numbers.{grammar}
 use Rattle.answers.specs.declared.Answer.{Answer}
@@ -9,6 +9,7 @@ use Rattle.grammar.specs.Grammar.{Class, Item, rd, Prod}
 use Rattle.grammar.specs.Trees.{Syn, yield}
 use Rattle.grammar.specs.model.Marked.{Word, mark, Marks, end, on, put, unmarked, marks, word, nodes}
 use Rattle.grammar.specs.declared.Fault.{Fault}
+use Rattle.grammar.specs.declared.Read.{Read}
 use Rattle.grammar.specs.model.Parsing.{zeros, Parsed, read_to, fault_at}
 use Rattle.grammar.specs.model.Text.{kind_at}
 use Rattle.grammar.specs.model.Run.{Run, got, bad}
@@ -98,3 +99,13 @@ LimitsAll ks is i r = (F : List ℕ) → Limits ks F is i r
 abbrev pub behind : Bool → List ℕ
 behind true = kind Semicolon ∷ kind End ∷ []
 behind false = kind Semicolon ∷ []
+
+-- what was read must be all n symbols, and the words behind its nodes are zero
+pub record Settles (g : Read) (n : ℕ) (old new : List ℕ) (r : Parsed) : Type 0 where
+  pub all : g.next ≡ n → (r ≡ Ok g) × Clear old new g.used
+  pub more : (g.next ≡ n → ⊥) → (r ≡ fault_at (answer grammar) g.next) × Clear old new 0
+
+-- a refusal stands, and all words are zero
+pub record Refuses (f : Fault) (old new : List ℕ) (r : Parsed) : Type 0 where
+  pub same : r ≡ Err f
+  pub none : Clear old new 0

@@ -7,7 +7,7 @@ use native.Mathlib.Omega.{arith}
 use Rattle.grammar.specs.model.Tables.{choose}
 use Rattle.grammar.specs.model.Text.{text, kind_at}
 use Rattle.grammar.proofs.Peeks.{inside, is_at, is_not, but}
-use Rattle.syntax.proofs.Lemmas.{says_limit, got_of, space, s_end, s_sy, s_no, s_put, s_none, s_prod, s_part, s_bad, s_exit, s_last, s_deeper, s_stands, s_lacks}
+use Rattle.syntax.proofs.Lemmas.{says_limit, got_of, space, s_end, s_sy, s_put, s_none, s_prod, s_part, s_bad, s_exit, s_last, s_deeper, s_stands, s_lacks}
 use Rattle.grammar.specs.Grammar as G
 use Rattle.grammar.specs.declared.Level.TheVariants as L
 use Rattle.syntax.proofs.Choices as C
@@ -335,21 +335,6 @@ operand-returns-in-Equivalence t c = λ F. s_operand c.in-Equivalence.is (s_prod
 
 pub otherwise-returns-in_err-next : goal.otherwise-returns-in_err-next
 otherwise-returns-in_err-next t c = λ F. s_exit c.from_residual.ensures.1 (s_prod G.an_otherwise refl (s_lacks c.in_err-next.ensures))
-
-pub otherwise-put-otherwise-requires : goal.otherwise-put-otherwise-requires
-otherwise-put-otherwise-requires t c =
-    let μ = c.decreases in
-    let r = c.requires in
-    let h1 = c.in_ok-next.ensures in
-    (omega arith, omega arith)
-
-pub otherwise-nested-requires : goal.otherwise-nested-requires
-otherwise-nested-requires t c =
-    let μ = c.decreases in
-    let r = c.requires in
-    let h1 = c.in_ok-next.ensures in
-    let p1 = c.put-otherwise.ensures in let k1 = c.put-otherwise.auto.nodes in
-    (omega arith, record { inside = omega arith; short = omega arith; size = omega arith; room = omega arith })
 
 pub otherwise-returns-in_err-next-2 : goal.otherwise-returns-in_err-next-2
 otherwise-returns-in_err-next-2 t c = let h1 = c.in_ok-next.ensures in λ F. s_exit c.from_residual-in_err-next-2.ensures.1 (s_prod G.an_otherwise refl (s_stands c.in_ok-next.ensures (s_put c.put-otherwise.ensures (omega arith) (omega arith) (omega arith) (s_bad _ (c.in_err-next-2.ensures _)))))

@@ -5,20 +5,13 @@ use Prim.Native.Nat.{ℕ}
 use native.Mathlib.Omega.{arith}
 use Rattle.grammar.specs.model.Tables.{choose, some}
 use Rattle.grammar.proofs.Sets.{all_in}
-use Rattle.grammar.proofs.Peeks.{inside, inside_in, is_at, is_in, is_not, but}
-use Rattle.syntax.proofs.Lemmas.{got_of, space, s_end, s_sy, s_no, s_prod, s_part, s_bad, s_exit, s_last, s_stands, s_lacks}
+use Rattle.grammar.proofs.Peeks.{inside_in, is_in, is_not, but}
+use Rattle.syntax.proofs.Lemmas.{got_of, space, s_end, s_prod, s_part, s_bad, s_exit, s_last, s_stands, s_lacks}
 use Rattle.grammar.specs.Grammar as G
 use Rattle.syntax.proofs.Choices as C
 use Prim.Native.Nat.{ℕ}
 use borrow.Enum.Refused.{opened}
 use Rattle.syntax.proofs.headings.+specifications.Goals as goal
-
-pub type_symbol-requires : goal.type_symbol-requires
-type_symbol-requires t c =
-    let μ = c.decreases in
-    let r = c.requires in
-    let i1 = inside_in _ _ (11 ∷ 12 ∷ 40 ∷ []) refl (is_in c.peek.result c.peek.ensures (11 ∷ 12 ∷ 40 ∷ []) c.in-Integer.in-Integer-own.keys1) in
-    record { inside = omega arith; short = omega arith; size = omega arith; room = omega arith }
 
 pub returns-in_err-next-in-Integer : goal.returns-in_err-next-in-Integer
 returns-in_err-next-in-Integer t c = λ d F. s_exit c.from_residual.ensures.1 (s_prod G.a_specification (all_in (λ (z : ℕ). choose G.specifications z 0 ≡ some G.a_specification) (is_in c.peek.result c.peek.ensures (11 ∷ 12 ∷ 40 ∷ []) c.in-Integer.in-Integer-own.keys1) (refl, (refl, (refl, tt)))) (s_bad _ (c.in_err-next-in-Integer.ensures _ _)))

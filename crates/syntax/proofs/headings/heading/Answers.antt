@@ -1,28 +1,13 @@
 -- `syntax::headings::heading` meets its contract. Assumes nothing.
 use mathlib.Core.Path.{refl}
-use mathlib.Core.List.{[], ◌∷◌}
+use mathlib.Core.List.{[]}
 use native.Mathlib.Omega.{arith}
-use Rattle.grammar.proofs.Peeks.{inside, is_at, is_not, but}
-use Rattle.syntax.proofs.Lemmas.{got_of, space, s_sy, s_no, s_put, s_prod, s_part, s_bad, s_exit, s_last, s_stands, s_lacks}
+use Rattle.syntax.proofs.Lemmas.{got_of, space, s_put, s_prod, s_part, s_bad, s_exit, s_last, s_stands, s_lacks}
 use Rattle.grammar.specs.Grammar as G
-use borrow.Enum.Refused.{opened}
 use Rattle.syntax.proofs.headings.heading.Goals as goal
 
 pub returns-in_err-next : goal.returns-in_err-next
 returns-in_err-next c = λ d F. s_exit c.from_residual.ensures.1 (s_prod G.a_heading refl (s_lacks c.in_err-next.ensures))
-
-pub put-used-requires : goal.put-used-requires
-put-used-requires c =
-    let r = c.requires in
-    let h1 = c.in_ok-next.ensures in
-    (omega arith, omega arith)
-
-pub formals-requires : goal.formals-requires
-formals-requires c =
-    let r = c.requires in
-    let h1 = c.in_ok-next.ensures in
-    let p1 = c.put-used.ensures in let k1 = c.put-used.auto.nodes in
-    record { inside = omega arith; short = omega arith; size = omega arith; room = omega arith }
 
 pub returns-in_err-next-2 : goal.returns-in_err-next-2
 returns-in_err-next-2 c = let h1 = c.in_ok-next.ensures in λ d F. s_exit c.from_residual-in_err-next-2.ensures.1 (s_prod G.a_heading refl (s_stands c.in_ok-next.ensures (s_put c.put-used.ensures (omega arith) (omega arith) (omega arith) (s_bad _ (c.in_err-next-2.ensures _ _)))))

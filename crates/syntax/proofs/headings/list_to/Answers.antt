@@ -1,16 +1,8 @@
 -- `syntax::headings::list_to` meets its contract: the list's answer, and then the symbol's. Assumes nothing.
-use mathlib.Core.Path.{sym, ap, ◌∙◌}
-use mathlib.Core.List.{[], ◌∷◌}
+use mathlib.Core.List.{[]}
 use native.Mathlib.Omega.{arith}
-use Rattle.symbols.specs.declared.kinds.Stored.{Stored}
-use Rattle.grammar.proofs.Peeks.{inside}
-use Rattle.syntax.proofs.Lemmas.{s_end, s_sy, s_no, s_part, s_bad, s_exit, got_of, space, s_stands, s_lacks}
+use Rattle.syntax.proofs.Lemmas.{s_end, s_part, s_bad, s_exit, got_of, space, s_stands, s_lacks}
 use Rattle.syntax.proofs.headings.list_to.Goals as goal
-
-pub list-requires : goal.list-requires
-list-requires c =
-    let r = c.requires.0 in
-    record { inside = omega arith; short = omega arith; size = omega arith; room = omega arith }
 
 pub returns-in_err-next : goal.returns-in_err-next
 returns-in_err-next c = λ d F. s_exit c.from_residual.ensures.1 (s_bad _ (c.in_err-next.ensures _ _))

@@ -5,7 +5,7 @@ use native.Mathlib.Omega.{arith}
 use Rattle.grammar.specs.model.Tables.{choose, some}
 use Rattle.grammar.proofs.Sets.{all_in}
 use Rattle.grammar.proofs.Peeks.{inside, inside_in, is_at, is_in, is_not, but}
-use Rattle.syntax.proofs.Lemmas.{got_of, space, s_end, s_sy, s_no, s_put, s_prod, s_part, s_bad, s_exit, s_last, s_stands, s_lacks}
+use Rattle.syntax.proofs.Lemmas.{got_of, space, s_end, s_sy, s_put, s_prod, s_part, s_bad, s_exit, s_last, s_stands, s_lacks}
 use Rattle.grammar.specs.Grammar as G
 use Rattle.syntax.proofs.Choices as C
 use Prim.Native.Nat.{ℕ}
@@ -18,13 +18,6 @@ prelude-procedures-requires t c = let μ = c.decreases in
     let i1 = inside _ _ (is_at c.peek.result c.peek.ensures c.in-Procedure.in-Procedure-own.keys1) (λ h. omega arith) in
     let p1 = c.put-untyped.ensures in let k1 = c.put-untyped.auto.nodes in
     (omega arith, record { inside = omega arith; short = omega arith; size = omega arith; room = omega arith })
-
-pub prelude-type_symbol-requires : goal.prelude-type_symbol-requires
-prelude-type_symbol-requires t c =
-    let μ = c.decreases in
-    let r = c.requires in
-    let i1 = inside_in _ _ (11 ∷ 12 ∷ 40 ∷ []) refl (is_in c.peek.result c.peek.ensures (11 ∷ 12 ∷ 40 ∷ []) c.in-Integer.in-Integer-own.keys2) in
-    record { inside = omega arith; short = omega arith; size = omega arith; room = omega arith }
 
 pub prelude-returns-in_err-next-in-Integer : goal.prelude-returns-in_err-next-in-Integer
 prelude-returns-in_err-next-in-Integer t c = λ F. s_exit c.from_residual.ensures.1 (s_prod G.typed_procedure (all_in (λ (z : ℕ). choose G.prelude z 0 ≡ some G.typed_procedure) (is_in c.peek.result c.peek.ensures (11 ∷ 12 ∷ 40 ∷ []) c.in-Integer.in-Integer-own.keys2) (refl, (refl, (refl, tt)))) (s_bad _ (c.in_err-next-in-Integer.ensures 0 _)))
@@ -52,12 +45,6 @@ pub prelude-returns-in_default : goal.prelude-returns-in_default
 prelude-returns-in_default t c = let μ = c.decreases in
     let r = c.requires in
     λ F. s_prod G.no_procedure (C.else_prelude (is_not c.peek.result c.peek.ensures (but (11 ∷ 12 ∷ 13 ∷ 40 ∷ [])) 11 refl (opened c.in_default.in_default-own.keys3)) (is_not c.peek.result c.peek.ensures (but (11 ∷ 12 ∷ 13 ∷ 40 ∷ [])) 12 refl (opened c.in_default.in_default-own.keys3)) (is_not c.peek.result c.peek.ensures (but (11 ∷ 12 ∷ 13 ∷ 40 ∷ [])) 40 refl (opened c.in_default.in_default-own.keys3)) (is_not c.peek.result c.peek.ensures (but (11 ∷ 12 ∷ 13 ∷ 40 ∷ [])) 13 refl (opened c.in_default.in_default-own.keys3))) (s_end (omega arith))
-
-pub procedures-procedure-requires : goal.procedures-procedure-requires
-procedures-procedure-requires t c =
-    let μ = c.decreases in
-    let r = c.requires in
-    record { inside = omega arith; short = omega arith; size = omega arith; room = omega arith }
 
 pub procedures-returns-in_err-next : goal.procedures-returns-in_err-next
 procedures-returns-in_err-next t c = λ F. s_exit c.from_residual.ensures.1 (s_bad _ c.in_err-next.ensures)

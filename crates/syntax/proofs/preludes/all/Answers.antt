@@ -1,19 +1,12 @@
--- `syntax::preludes::all` meets its contract: the reader of preludes, and then what proofs/WholePrelude says of all symbols. Assumes nothing.
+-- `syntax::preludes::all` meets its contract: the reader's answer, and then what proofs/WholePrelude says of all symbols. Assumes nothing.
 use mathlib.Core.Path.{sym, ◌∙◌}
-use mathlib.Core.List.{[], ◌∷◌}
 use native.Mathlib.Omega.{arith}
 use Rattle.grammar.proofs.Peeks.{text_length}
-use Rattle.syntax.proofs.WholePrelude.{all_read, more_left, refused}
+use Rattle.syntax.proofs.WholePrelude.{settled}
 use Rattle.syntax.proofs.preludes.all.Goals as goal
 
 pub prelude-one-requires : goal.prelude-one-requires
 prelude-one-requires c = record { inside = omega arith; short = omega (arith, text_length c.args.kinds.now, c.requires.0); size = c.requires.1; room = omega arith }
 
-pub returns-then-next-kinds : goal.returns-then-next-kinds
-returns-then-next-kinds c = all_read ((c.prelude-one.ensures (33 ∷ [])).read _ _ c.in-Ok.is) (c.prelude-one.auto.nodes ∙ c.requires.1) (c.if-next-kinds.true ∙ sym (text_length c.args.kinds.now)) c.clear-then-next-kinds.ensures
-
-pub returns-in-Err : goal.returns-in-Err
-returns-in-Err c = refused c.clear.ensures (c.prelude-one.auto.nodes ∙ c.requires.1) ((c.prelude-one.ensures (33 ∷ [])).refused _ _ c.in-Err.is)
-
-pub returns-else-next-kinds : goal.returns-else-next-kinds
-returns-else-next-kinds c = more_left ((c.prelude-one.ensures (33 ∷ [])).read _ _ c.in-Ok.is) (c.prelude-one.auto.nodes ∙ c.requires.1) (λ e. c.if-next-kinds.false (e ∙ text_length c.args.kinds.now)) c.clear-in-Ok.ensures
+pub returns : goal.returns
+returns c = settled c.prelude-one.result c.prelude-one.ensures (c.prelude-one.auto.nodes ∙ c.requires.1) (sym (text_length c.args.kinds.now)) c.settle.ensures

@@ -7,7 +7,7 @@ use native.Mathlib.Omega.{arith}
 use Rattle.grammar.specs.model.Tables.{choose, some}
 use Rattle.grammar.proofs.Sets.{all_in}
 use Rattle.grammar.proofs.Peeks.{inside, inside_in, is_at, is_in, is_not, but}
-use Rattle.syntax.proofs.Lemmas.{got_of, space, s_end, s_sy, s_no, s_put, s_prod, s_part, s_bad, s_exit, s_last, s_deeper, s_stands, s_lacks}
+use Rattle.syntax.proofs.Lemmas.{got_of, space, s_end, s_sy, s_put, s_prod, s_part, s_bad, s_exit, s_last, s_deeper, s_stands, s_lacks}
 use Rattle.grammar.specs.Grammar as G
 use Rattle.syntax.proofs.Choices as C
 use Prim.Native.Nat.{ℕ}
@@ -33,13 +33,6 @@ alternative-returns-in_default t c =
 
 pub block-returns-in_err-expect : goal.block-returns-in_err-expect
 block-returns-in_err-expect t c = λ F. s_exit c.from_residual.ensures.1 (s_prod G.begin_end refl (s_lacks c.in_err-expect.ensures))
-
-pub block-inner-requires : goal.block-inner-requires
-block-inner-requires t c =
-    let μ = c.decreases in
-    let r = c.requires in
-    let h1 = c.in_ok-expect.ensures in
-    (omega arith, record { inside = omega arith; short = omega arith; size = omega arith; room = omega arith })
 
 pub block-returns-in_err-next : goal.block-returns-in_err-next
 block-returns-in_err-next t c = λ F. s_exit c.from_residual-in_err-next.ensures.1 (s_prod G.begin_end refl (s_sy c.in_ok-expect.ensures.found (s_bad _ c.in_err-next.ensures)))
@@ -185,12 +178,6 @@ declared-returns-in-Procedure t c = s_prod G.function (ap (λ (z : ℕ). choose 
 
 pub declared-returns-in_default : goal.declared-returns-in_default
 declared-returns-in_default t c = s_prod G.variables (C.else_declared (is_not c.peek.result c.peek.ensures (but (13 ∷ [])) 13 refl (opened c.in_default.in_default-own.keys2))) (s_last (c.list.ensures _ _))
-
-pub head-declaration-requires : goal.head-declaration-requires
-head-declaration-requires t c =
-    let μ = c.decreases in
-    let r = c.requires in
-    (omega arith, record { inside = omega arith; short = omega arith; size = omega arith; room = omega arith })
 
 pub head-returns-in_err-next : goal.head-returns-in_err-next
 head-returns-in_err-next t c = λ F. s_exit c.from_residual.ensures.1 (s_prod G.a_head refl (s_bad _ c.in_err-next.ensures))

@@ -1,5 +1,5 @@
 -- `syntax::text::expect` meets its contract: the kind that is stored is the symbol's. Assumes nothing.
-use mathlib.Core.Path.{◌≡◌, refl, sym, ap, ◌∙◌}
+use mathlib.Core.Path.{refl, sym, ap, ◌∙◌}
 use native.Mathlib.Omega.{arith}
 use Rattle.symbols.specs.declared.kinds.Stored.{Stored}
 use Rattle.grammar.proofs.Peeks.{inside, text_length}
