@@ -45,7 +45,7 @@ fn name_begun(
     ensures { (vs ly es : List ℕ) (us : List Used) (ah en : List ℕ) → see result us things.new code.new ah en ≡ name_begun vs ly ahead.now es m j d form (see t us things.old code.old ah en) }
 {
     let mut r = opening(t, form, ahead, code).replace(things, 4 + t.slots, m, j, d);
-    r.slots = r.slots + 1 + 1 + 1;
+    r.slots += 3;
     r.level += 1;
     r
 }

@@ -11,21 +11,18 @@ use names::{Node, is_use};
 use reals::decimals::constant;
 
 // The operation of an operator, by its symbol's kind.
+#[tactic(auto, unfolding(crate::specs::model::Emission::operation_of))]
 fn operation_of(k: usize) -> usize
     requires { k < 65536 }
     ensures value { result ≡ operation_of k }
     ensures upper_bound { result < 131072 }
 {
-    if k < 19 {
-        return k + 18;
+    match k {
+        ..=18 => k + 18,
+        19..=21 => k + 17,
+        22..=31 => k + 3,
+        _ => k + 5,
     }
-    if k < 22 {
-        return k + 17;
-    }
-    if k < 32 {
-        return k + 3;
-    }
-    k + 5
 }
 
 // A sign or 'not'.

@@ -103,18 +103,17 @@ fn closed(mut t: Laid, level: usize, around: &[usize; 8192]) -> Laid
 // What a node adds.
 fn lay_node(
     mut t: Laid,
-    kind: u16,
-    sort: u16,
+    n: Node,
     rows: &[u16],
     around: &mut [usize; 8192],
     table: &mut [u32],
 ) -> Laid
     requires { Spread 8191 (lain t around.old table.old) }
-    ensures { (s b : ℕ) → lain result around.new table.new ≡ lay_node rows.now kind s sort b (lain t around.old table.old) }
+    ensures { (s b : ℕ) → lain result around.new table.new ≡ lay_node rows.now n.kind s n.one b (lain t around.old table.old) }
 {
-    match kind {
+    match n.kind {
         nodes::TYPE => {
-            t.sort = sort as usize;
+            t.sort = n.one as usize;
             t
         }
         nodes::VARIABLE => varied(t, rows, around, table),
@@ -134,8 +133,7 @@ fn lay(nodes: &[u16], rows: &[u16], around: &mut [usize; 8192], table: &mut [u32
 {
     let mut t = Laid::default();
     for &words in nodes.as_chunks::<4>().0 {
-        let n = Node::from(words);
-        t = lay_node(t, n.kind, n.one, rows, around, table);
+        t = lay_node(t, Node::from(words), rows, around, table);
     }
 }
 

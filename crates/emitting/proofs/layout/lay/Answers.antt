@@ -37,10 +37,10 @@ loop-words-preserved c =
     let k = c.as_chunks.ensures in
     let h = c.loop-words-test.true in
     let m = k.front_len in
-    let n = c.from-n.result in
+    let n = c.from.result in
     let e = c.lay_node-t.ensures n.symbol.number n.two in (
       subst (Spread (i + 1)) (sym e) (spread_node i z l.invariant.0 c.args.rows.now n.kind n.symbol.number n.one n.two),
-      ap (fold_nodes (lay_node c.args.rows.now) (drop (4 * (i + 1)) w)) e ∙ sym (fold_chunk (lay_node c.args.rows.now) w c.as_chunks.result.0.now i _ n z k.front h m c.from-n.ensures) ∙ l.invariant.1,
+      ap (fold_nodes (lay_node c.args.rows.now) (drop (4 * (i + 1)) w)) e ∙ sym (fold_chunk (lay_node c.args.rows.now) w c.as_chunks.result.0.now i _ n z k.front h m c.from.ensures) ∙ l.invariant.1,
       omega arith,
       c.lay_node-t.auto.table ∙ l.invariant.3,
     )
