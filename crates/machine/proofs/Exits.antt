@@ -14,7 +14,7 @@ use Rattle.machine.specs.declared.Counts.{Counts}
 use Rattle.machine.specs.declared.Trouble.{Trouble}
 use Rattle.machine.specs.declared.Trouble.TheVariants.{Fault as Bad, Stray as Astray}
 use Rattle.machine.specs.Run.{Trace}
-use Rattle.machine.specs.Data.{Data, Result, value, newest, condition, test}
+use Rattle.machine.specs.Data.{Data, Result, value, newest, condition, test, valued}
 use Rattle.machine.specs.model.Holding.{After, ill, lost, Own, Sound, told, on_turned, turned, inwards, links_of, out_t, seen_d, seen_t, SoundD, SoundT, data_of, trace_of}
 use Rattle.machine.proofs.Turns.{out_bad, out_stray}
 use Rattle.machine.proofs.Works.{condition_yes, condition_no}
@@ -78,6 +78,18 @@ pub troubled_turned : {A : Type 0} (t : Trace) (g : Value → Result A) (f : Tro
 unfolding told
 troubled_turned t g (Bad a q) e = rw e
 troubled_turned t g Astray e = rw e
+
+-- a conversion's or an operator's value, or its trouble
+pub turned_value : (q : ℕ) (r : Outcome) {v : Value} → turned q r ≡ Ok v → r ≡ Is v
+turned_value q (Is w) {v} e = let k : w ≡ v = cc in ap Is k
+turned_value q (Fault a) e = absurd (let z : ◌≡◌ {A = ℕ} 0 1 = cc in omega arith)
+turned_value q Stray e = absurd (let z : ◌≡◌ {A = ℕ} 0 1 = cc in omega arith)
+
+pub troubled_valued : {A : Type 0} (t : Trace) (q : ℕ) (g : Value → Result A) (r : Outcome) (f : Trouble) → turned q r ≡ Err f → troubled f ≡ told t (valued q g r)
+unfolding told valued
+troubled_valued t q g (Is v) f e = absurd (let z : ◌≡◌ {A = ℕ} 0 1 = cc in omega arith)
+troubled_valued t q g (Fault a) f e = let k : f ≡ Bad a q = cc in ap (λ (x : Trouble). troubled x) k
+troubled_valued t q g Stray f e = let k : f ≡ Astray = cc in ap (λ (x : Trouble). troubled x) k
 
 pub trouble_sound : (n : Counts) (f : Trouble) (s : List ℤ) → SoundD n (Err f) s
 trouble_sound n (Bad x q) s = tt

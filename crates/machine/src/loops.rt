@@ -10,7 +10,7 @@ use crate::activations::Memory;
 use crate::cells::{cell_at, put_cell, room};
 use crate::operations::{back, newest};
 use crate::values::suits;
-use crate::ways::reading;
+use crate::ways::{reading, turned};
 use crate::{Counts, Trouble, Way};
 use reals::conversions::form_of;
 use reals::loops::leaves;
@@ -69,11 +69,8 @@ fn renewed(n: Counts, store: &mut [i64], q: usize, x: Value, r: Outcome) -> Resu
     ensures o_after { (a : Own) (i o : List ℤ) → seen_d result a store.new i o ≡ told (trace_of n o) (valued q (λ u. Result.good Event.quiet (backOf u (holdOf x (unhold (data_of n a store.old i o))))) r) }
     ensures sound_d { SoundD n result store.new }
 {
-    match r {
-        Outcome::Is(s) => renew(n, store, x, s),
-        Outcome::Fault(a) => Err(Trouble::Fault(a, q)),
-        Outcome::Stray => Err(Trouble::Stray),
-    }
+    let s = turned(q, r)?;
+    renew(n, store, x, s)
 }
 
 // The sum of a variable and the step x.
@@ -119,20 +116,16 @@ fn decided(mut n: Counts, q: usize, r: Outcome) -> Result<(bool, Counts), Troubl
     ensures sound_t { (s : List ℤ) → Sound n s → SoundT n result s }
 {
     let h = n.held;
-    match r {
-        Outcome::Is(v) => match v {
-            Value::Truth(b) => {
-                if b {
-                    n.held = h - 1;
-                    return Ok((false, n));
-                }
-                Ok((true, n))
+    let v = turned(q, r)?;
+    match v {
+        Value::Truth(b) => {
+            if b {
+                n.held = h - 1;
+                return Ok((false, n));
             }
-            Value::Whole(_) => Err(Trouble::Stray),
-            Value::Real(_) => Err(Trouble::Stray),
-        },
-        Outcome::Fault(a) => Err(Trouble::Fault(a, q)),
-        Outcome::Stray => Err(Trouble::Stray),
+            Ok((true, n))
+        }
+        Value::Whole(_) | Value::Real(_) => Err(Trouble::Stray),
     }
 }
 

@@ -8,7 +8,7 @@ ghost use Rattle.machine.specs.model.Holding.{Own, Sound, SoundD, SoundT, Does, 
 use crate::activations::Memory;
 use crate::cells::{cell_at, put_cell, room};
 use crate::values::{line, raised};
-use crate::ways::{form_in, inward, reach, reading};
+use crate::ways::{form_in, inward, reach, reading, turned};
 use crate::{Counts, Line, Trouble, Way};
 use answers::Answer;
 use reals::conversions::{convert, form_of};
@@ -179,11 +179,8 @@ fn give(n: Counts, store: &mut [i64], q: usize, r: Outcome) -> Result<Counts, Tr
     ensures o_after { (a : Own) (i o : List ℤ) → seen_d result a store.new i o ≡ told (trace_of n o) (valued q (λ w. Result.good Event.quiet (backOf w (data_of n a store.old i o))) r) }
     ensures sound_d { SoundD n result store.new }
 {
-    match r {
-        Outcome::Is(v) => back(n, store, v),
-        Outcome::Fault(a) => Err(Trouble::Fault(a, q)),
-        Outcome::Stray => Err(Trouble::Stray),
-    }
+    let v = turned(q, r)?;
+    back(n, store, v)
 }
 
 pub fn unary(n: Counts, store: &mut [i64], q: usize, op: Unary) -> Result<Counts, Trouble>

@@ -12,7 +12,7 @@ use reals::conversions::{convert, form_of};
 use reals::{Cell, Form, Outcome, Value};
 
 // A conversion's value, or its fault at q.
-fn turned(q: usize, r: Outcome) -> Result<Value, Trouble>
+pub fn turned(q: usize, r: Outcome) -> Result<Value, Trouble>
     ensures { result ≡ turnedOf q r }
 {
     match r {
