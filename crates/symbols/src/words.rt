@@ -9,7 +9,7 @@ use crate::Symbol;
 use crate::text::fold;
 
 // Whether a byte is this one, or stands 32 below it as a capital below its small letter.
-// Kept: speed, the library's equality but for letter case folds both bytes, which took 1.35 of the time for 2,048 delimiter words; 1.1 was asked.
+// Kept: speed, the library folds both bytes: 1.35 of the instructions for 2,048 delimiter words, where 1.1 was asked (docs/changes/08.md).
 fn is_or_below(b: u8, x: u8) -> bool
     ensures { result ≡ (eqb b x || eqb (b + 32) x) }
 {
