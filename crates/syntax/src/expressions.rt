@@ -93,13 +93,12 @@ fn more(kinds: &[u8], pos: usize, depth: u16, nodes: &mut [u16], free: usize, l:
     requires { Room (text kinds.now) nodes.old pos free }
     ensures { Tells (text kinds.now) nodes.old nodes.new depth (part (the_more l) ∷ []) pos free result }
 {
-    let o = operator(l, peek(kinds, pos));
-    if o == 0 {
+    let Some(o) = operator(l, peek(kinds, pos)) else {
         return Ok(Read {
             next: pos,
             used: free,
         });
-    }
+    };
     let Read { next, used } = operand(kinds, pos + 1, depth, nodes, free, l)?;
     let end = put(nodes, used, nodes::BINARY, pos, o, 0);
     more(kinds, next, depth, nodes, end, l)
@@ -151,13 +150,12 @@ fn comparison(kinds: &[u8], pos: usize, depth: u16, nodes: &mut [u16], free: usi
     requires { Room (text kinds.now) nodes.old pos free }
     ensures { Tells (text kinds.now) nodes.old nodes.new depth (part a_comparison ∷ []) pos free result }
 {
-    let o = relational(peek(kinds, pos));
-    if o == 0 {
+    let Some(o) = relational(peek(kinds, pos)) else {
         return Ok(Read {
             next: pos,
             used: free,
         });
-    }
+    };
     let Read { next, used } = sum(kinds, pos + 1, depth, nodes, free)?;
     let end = put(nodes, used, nodes::BINARY, pos, o, 0);
     Ok(Read { next, used: end })
@@ -169,10 +167,9 @@ fn sum(kinds: &[u8], pos: usize, depth: u16, nodes: &mut [u16], free: usize) -> 
     requires { Room (text kinds.now) nodes.old pos free }
     ensures { Tells (text kinds.now) nodes.old nodes.new depth (part (a_level Sum) ∷ []) pos free result }
 {
-    let o = operator(Level::Sum, peek(kinds, pos));
-    if o == 0 {
+    let Some(o) = operator(Level::Sum, peek(kinds, pos)) else {
         return chain(kinds, pos, depth, nodes, free, Level::Sum);
-    }
+    };
     let Read { next, used } = operand(kinds, pos + 1, depth, nodes, free, Level::Sum)?;
     let end = put(nodes, used, nodes::UNARY, pos, o, 0);
     more(kinds, next, depth, nodes, end, Level::Sum)

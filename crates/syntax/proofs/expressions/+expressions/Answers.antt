@@ -109,43 +109,39 @@ chain-returns-in_err-next t c = λ F. s_exit c.from_residual.ensures.1 (s_bad _ 
 pub chain-returns : goal.chain-returns
 chain-returns t c = λ F. s_part _ (c.in_ok-next.ensures _) (s_last (c.more.ensures _))
 
-pub comparison-returns-then-o-eq0 : goal.comparison-returns-then-o-eq0
-comparison-returns-then-o-eq0 t c =
+pub comparison-returns-in_default : goal.comparison-returns-in_default
+comparison-returns-in_default t c =
     let μ = c.decreases in let r = c.requires in
-    let t1 = c.if-o-eq0.true in
-    λ F. s_prod G.no_comparison (C.relation_none _ (kind_at (text c.args.kinds.now) (c.args.pos + 1)) (ap relation_of (sym c.peek.ensures) ∙ sym c.relational-o.ensures ∙ c.if-o-eq0.true)) (s_end (omega arith))
+    λ F. s_prod G.no_comparison (C.relation_none _ (kind_at (text c.args.kinds.now) (c.args.pos + 1)) (ap relation_of (sym c.peek.ensures) ∙ c.in_default.ensures)) (s_end (omega arith))
 
 pub comparison-sum-requires : goal.comparison-sum-requires
 comparison-sum-requires t c =
     let μ = c.decreases in let r = c.requires in
-    let t1 = c.if-o-eq0.false in
-    let f = (C.relation_found _ (kind_at (text c.args.kinds.now) (c.args.pos + 1)) (sym (c.relational-o.ensures ∙ ap relation_of c.peek.ensures)) c.if-o-eq0.false) in
+    let f = (C.relation_found _ (kind_at (text c.args.kinds.now) (c.args.pos + 1)) (sym (c.in-Some.ensures.0 ∙ ap relation_of c.peek.ensures)) c.in-Some.ensures.1) in
     let i1 = inside _ _ f.symbol (C.relation_low f.op) in
     (omega arith, record { inside = omega arith; short = omega arith; size = omega arith; room = omega arith })
 
 pub comparison-put-end-requires : goal.comparison-put-end-requires
 comparison-put-end-requires t c =
     let μ = c.decreases in let r = c.requires in
-    let t1 = c.if-o-eq0.false in
     let l1 = c.sum.auto.nodes in
     let g1 = got_of (c.in_ok-next.ensures []) in let s1 = space g1 in
-    let f = (C.relation_found _ (kind_at (text c.args.kinds.now) (c.args.pos + 1)) (sym (c.relational-o.ensures ∙ ap relation_of c.peek.ensures)) c.if-o-eq0.false) in
+    let f = (C.relation_found _ (kind_at (text c.args.kinds.now) (c.args.pos + 1)) (sym (c.in-Some.ensures.0 ∙ ap relation_of c.peek.ensures)) c.in-Some.ensures.1) in
     let i1 = inside _ _ f.symbol (C.relation_low f.op) in
     (omega arith, omega arith)
 
 pub comparison-returns-in_err-next : goal.comparison-returns-in_err-next
-comparison-returns-in_err-next t c = let f = (C.relation_found _ (kind_at (text c.args.kinds.now) (c.args.pos + 1)) (sym (c.relational-o.ensures ∙ ap relation_of c.peek.ensures)) c.if-o-eq0.false) in λ F. s_exit c.from_residual.ensures.1 (s_prod (G.compare f.op) f.taken (s_sy f.symbol (s_bad _ (c.in_err-next.ensures _))))
+comparison-returns-in_err-next t c = let f = (C.relation_found _ (kind_at (text c.args.kinds.now) (c.args.pos + 1)) (sym (c.in-Some.ensures.0 ∙ ap relation_of c.peek.ensures)) c.in-Some.ensures.1) in λ F. s_exit c.from_residual.ensures.1 (s_prod (G.compare f.op) f.taken (s_sy f.symbol (s_bad _ (c.in_err-next.ensures _))))
 
 pub comparison-returns : goal.comparison-returns
 comparison-returns t c =
     let μ = c.decreases in let r = c.requires in
-    let t1 = c.if-o-eq0.false in
     let l1 = c.sum.auto.nodes in
     let g1 = got_of (c.in_ok-next.ensures []) in let s1 = space g1 in
     let p1 = c.put-end.ensures in let k1 = c.put-end.auto.nodes in
-    let f = (C.relation_found _ (kind_at (text c.args.kinds.now) (c.args.pos + 1)) (sym (c.relational-o.ensures ∙ ap relation_of c.peek.ensures)) c.if-o-eq0.false) in
+    let f = (C.relation_found _ (kind_at (text c.args.kinds.now) (c.args.pos + 1)) (sym (c.in-Some.ensures.0 ∙ ap relation_of c.peek.ensures)) c.in-Some.ensures.1) in
     let i1 = inside _ _ f.symbol (C.relation_low f.op) in
-    let f = (C.relation_found _ (kind_at (text c.args.kinds.now) (c.args.pos + 1)) (sym (c.relational-o.ensures ∙ ap relation_of c.peek.ensures)) c.if-o-eq0.false) in λ F. s_prod (G.compare f.op) f.taken (s_sy f.symbol (s_part _ (c.in_ok-next.ensures _) (s_put c.put-end.ensures (omega arith) f.number (omega arith) (s_end (omega arith)))))
+    let f = (C.relation_found _ (kind_at (text c.args.kinds.now) (c.args.pos + 1)) (sym (c.in-Some.ensures.0 ∙ ap relation_of c.peek.ensures)) c.in-Some.ensures.1) in λ F. s_prod (G.compare f.op) f.taken (s_sy f.symbol (s_part _ (c.in_ok-next.ensures _) (s_put c.put-end.ensures (omega arith) f.number (omega arith) (s_end (omega arith)))))
 
 pub condition-nested-requires : goal.condition-nested-requires
 condition-nested-requires t c =
@@ -231,19 +227,17 @@ further_actuals-returns-in_default t c =
     let μ = c.decreases in let r = c.requires in
     λ F. s_prod G.no_actual (C.else_further_actuals (is_not c.peek.result c.peek.ensures (but (32 ∷ [])) 32 refl (opened c.in_default.in_default-own.keys2))) (s_end (omega arith))
 
-pub more-returns-then-o-eq0 : goal.more-returns-then-o-eq0
-more-returns-then-o-eq0 t c =
+pub more-returns-in_default : goal.more-returns-in_default
+more-returns-in_default t c =
     let μ = c.decreases in let r = c.requires in
-    let t1 = c.if-o-eq0.true in
     let o = C.operand_words c.args.l in
     let q = C.rank_small c.args.l in
-    λ F. s_prod (G.no_more c.args.l) (C.op_none c.args.l _ (kind_at (text c.args.kinds.now) (c.args.pos + 1)) (ap (operator_of c.args.l) (sym c.peek.ensures) ∙ sym c.operator-o.ensures ∙ c.if-o-eq0.true)) (s_end (omega arith))
+    λ F. s_prod (G.no_more c.args.l) (C.op_none c.args.l _ (kind_at (text c.args.kinds.now) (c.args.pos + 1)) (ap (operator_of c.args.l) (sym c.peek.ensures) ∙ c.in_default.ensures)) (s_end (omega arith))
 
 pub more-operand-requires : goal.more-operand-requires
 more-operand-requires t c =
     let μ = c.decreases in let r = c.requires in
-    let t1 = c.if-o-eq0.false in
-    let f = (C.op_found c.args.l _ (kind_at (text c.args.kinds.now) (c.args.pos + 1)) (sym (c.operator-o.ensures ∙ ap (operator_of c.args.l) c.peek.ensures)) c.if-o-eq0.false) in
+    let f = (C.op_found c.args.l _ (kind_at (text c.args.kinds.now) (c.args.pos + 1)) (sym (c.in-Some.ensures.0 ∙ ap (operator_of c.args.l) c.peek.ensures)) c.in-Some.ensures.1) in
     let i1 = inside _ _ f.symbol (C.op_low f.op) in
     let o = C.operand_words c.args.l in
     let q = C.rank_small c.args.l in
@@ -252,10 +246,9 @@ more-operand-requires t c =
 pub more-put-end-requires : goal.more-put-end-requires
 more-put-end-requires t c =
     let μ = c.decreases in let r = c.requires in
-    let t1 = c.if-o-eq0.false in
     let l1 = c.operand.auto.nodes in
     let g1 = got_of (c.in_ok-next.ensures []) in let s1 = space g1 in
-    let f = (C.op_found c.args.l _ (kind_at (text c.args.kinds.now) (c.args.pos + 1)) (sym (c.operator-o.ensures ∙ ap (operator_of c.args.l) c.peek.ensures)) c.if-o-eq0.false) in
+    let f = (C.op_found c.args.l _ (kind_at (text c.args.kinds.now) (c.args.pos + 1)) (sym (c.in-Some.ensures.0 ∙ ap (operator_of c.args.l) c.peek.ensures)) c.in-Some.ensures.1) in
     let i1 = inside _ _ f.symbol (C.op_low f.op) in
     let o = C.operand_words c.args.l in
     let q = C.rank_small c.args.l in
@@ -264,21 +257,20 @@ more-put-end-requires t c =
 pub more-more-requires : goal.more-more-requires
 more-more-requires t c =
     let μ = c.decreases in let r = c.requires in
-    let t1 = c.if-o-eq0.false in
     let l1 = c.operand.auto.nodes in
     let g1 = got_of (c.in_ok-next.ensures []) in let s1 = space g1 in
     let p1 = c.put-end.ensures in let k1 = c.put-end.auto.nodes in
-    let f = (C.op_found c.args.l _ (kind_at (text c.args.kinds.now) (c.args.pos + 1)) (sym (c.operator-o.ensures ∙ ap (operator_of c.args.l) c.peek.ensures)) c.if-o-eq0.false) in
+    let f = (C.op_found c.args.l _ (kind_at (text c.args.kinds.now) (c.args.pos + 1)) (sym (c.in-Some.ensures.0 ∙ ap (operator_of c.args.l) c.peek.ensures)) c.in-Some.ensures.1) in
     let i1 = inside _ _ f.symbol (C.op_low f.op) in
     let o = C.operand_words c.args.l in
     let q = C.rank_small c.args.l in
     (omega arith, record { inside = omega arith; short = omega arith; size = omega arith; room = omega arith })
 
 pub more-returns-in_err-next : goal.more-returns-in_err-next
-more-returns-in_err-next t c = let f = (C.op_found c.args.l _ (kind_at (text c.args.kinds.now) (c.args.pos + 1)) (sym (c.operator-o.ensures ∙ ap (operator_of c.args.l) c.peek.ensures)) c.if-o-eq0.false) in λ F. s_exit c.from_residual.ensures.1 (s_prod (G.again f.op) f.taken (s_sy f.symbol (s_bad _ (c.in_err-next.ensures _))))
+more-returns-in_err-next t c = let f = (C.op_found c.args.l _ (kind_at (text c.args.kinds.now) (c.args.pos + 1)) (sym (c.in-Some.ensures.0 ∙ ap (operator_of c.args.l) c.peek.ensures)) c.in-Some.ensures.1) in λ F. s_exit c.from_residual.ensures.1 (s_prod (G.again f.op) f.taken (s_sy f.symbol (s_bad _ (c.in_err-next.ensures _))))
 
 pub more-returns : goal.more-returns
-more-returns t c = let f = (C.op_found c.args.l _ (kind_at (text c.args.kinds.now) (c.args.pos + 1)) (sym (c.operator-o.ensures ∙ ap (operator_of c.args.l) c.peek.ensures)) c.if-o-eq0.false) in λ F. s_prod (G.again f.op) f.taken (s_sy f.symbol (s_part _ (c.in_ok-next.ensures _) (s_put c.put-end.ensures (omega arith) f.number (omega arith) (s_last (c.more.ensures _)))))
+more-returns t c = let f = (C.op_found c.args.l _ (kind_at (text c.args.kinds.now) (c.args.pos + 1)) (sym (c.in-Some.ensures.0 ∙ ap (operator_of c.args.l) c.peek.ensures)) c.in-Some.ensures.1) in λ F. s_prod (G.again f.op) f.taken (s_sy f.symbol (s_part _ (c.in_ok-next.ensures _) (s_put c.put-end.ensures (omega arith) f.number (omega arith) (s_last (c.more.ensures _)))))
 
 pub negation-relation-requires : goal.negation-relation-requires
 negation-relation-requires t c =
@@ -436,40 +428,37 @@ relation-returns-in_err-next t c = λ F. s_exit c.from_residual.ensures.1 (s_pro
 pub relation-returns : goal.relation-returns
 relation-returns t c = λ F. s_prod G.a_relation refl (s_part _ (c.in_ok-next.ensures _) (s_last (c.comparison.ensures _)))
 
-pub sum-returns-then-o-eq0 : goal.sum-returns-then-o-eq0
-sum-returns-then-o-eq0 t c = λ F. s_prod (G.chain L.Sum) (C.unsigned _ (kind_at (text c.args.kinds.now) (c.args.pos + 1)) (ap (operator_of L.Sum) (sym c.peek.ensures) ∙ sym c.operator-o.ensures ∙ c.if-o-eq0.true)) (c.chain.ensures F)
+pub sum-returns-in_default : goal.sum-returns-in_default
+sum-returns-in_default t c = λ F. s_prod (G.chain L.Sum) (C.unsigned _ (kind_at (text c.args.kinds.now) (c.args.pos + 1)) (ap (operator_of L.Sum) (sym c.peek.ensures) ∙ c.in_default.ensures)) (c.chain.ensures F)
 
 pub sum-operand-requires : goal.sum-operand-requires
 sum-operand-requires t c =
     let μ = c.decreases in let r = c.requires in
-    let t1 = c.if-o-eq0.false in
-    let f = (C.op_found L.Sum _ (kind_at (text c.args.kinds.now) (c.args.pos + 1)) (sym (c.operator-o.ensures ∙ ap (operator_of L.Sum) c.peek.ensures)) c.if-o-eq0.false) in
+    let f = (C.op_found L.Sum _ (kind_at (text c.args.kinds.now) (c.args.pos + 1)) (sym (c.in-Some.ensures.0 ∙ ap (operator_of L.Sum) c.peek.ensures)) c.in-Some.ensures.1) in
     let i1 = inside _ _ f.symbol (C.op_low f.op) in
     (omega arith, record { inside = omega arith; short = omega arith; size = omega arith; room = omega arith })
 
 pub sum-put-end-requires : goal.sum-put-end-requires
 sum-put-end-requires t c =
     let μ = c.decreases in let r = c.requires in
-    let t1 = c.if-o-eq0.false in
     let l1 = c.operand.auto.nodes in
     let g1 = got_of (c.in_ok-next.ensures []) in let s1 = space g1 in
-    let f = (C.op_found L.Sum _ (kind_at (text c.args.kinds.now) (c.args.pos + 1)) (sym (c.operator-o.ensures ∙ ap (operator_of L.Sum) c.peek.ensures)) c.if-o-eq0.false) in
+    let f = (C.op_found L.Sum _ (kind_at (text c.args.kinds.now) (c.args.pos + 1)) (sym (c.in-Some.ensures.0 ∙ ap (operator_of L.Sum) c.peek.ensures)) c.in-Some.ensures.1) in
     let i1 = inside _ _ f.symbol (C.op_low f.op) in
     (omega arith, omega arith)
 
 pub sum-more-requires : goal.sum-more-requires
 sum-more-requires t c =
     let μ = c.decreases in let r = c.requires in
-    let t1 = c.if-o-eq0.false in
     let l1 = c.operand.auto.nodes in
     let g1 = got_of (c.in_ok-next.ensures []) in let s1 = space g1 in
     let p1 = c.put-end.ensures in let k1 = c.put-end.auto.nodes in
-    let f = (C.op_found L.Sum _ (kind_at (text c.args.kinds.now) (c.args.pos + 1)) (sym (c.operator-o.ensures ∙ ap (operator_of L.Sum) c.peek.ensures)) c.if-o-eq0.false) in
+    let f = (C.op_found L.Sum _ (kind_at (text c.args.kinds.now) (c.args.pos + 1)) (sym (c.in-Some.ensures.0 ∙ ap (operator_of L.Sum) c.peek.ensures)) c.in-Some.ensures.1) in
     let i1 = inside _ _ f.symbol (C.op_low f.op) in
     (omega arith, record { inside = omega arith; short = omega arith; size = omega arith; room = omega arith })
 
 pub sum-returns-in_err-next : goal.sum-returns-in_err-next
-sum-returns-in_err-next t c = let f = (C.op_found L.Sum _ (kind_at (text c.args.kinds.now) (c.args.pos + 1)) (sym (c.operator-o.ensures ∙ ap (operator_of L.Sum) c.peek.ensures)) c.if-o-eq0.false) in λ F. s_exit c.from_residual.ensures.1 (s_prod (G.signed f.op) (C.with_sign f) (s_sy f.symbol (s_bad _ (c.in_err-next.ensures _))))
+sum-returns-in_err-next t c = let f = (C.op_found L.Sum _ (kind_at (text c.args.kinds.now) (c.args.pos + 1)) (sym (c.in-Some.ensures.0 ∙ ap (operator_of L.Sum) c.peek.ensures)) c.in-Some.ensures.1) in λ F. s_exit c.from_residual.ensures.1 (s_prod (G.signed f.op) (C.with_sign f) (s_sy f.symbol (s_bad _ (c.in_err-next.ensures _))))
 
 pub sum-returns : goal.sum-returns
-sum-returns t c = let f = (C.op_found L.Sum _ (kind_at (text c.args.kinds.now) (c.args.pos + 1)) (sym (c.operator-o.ensures ∙ ap (operator_of L.Sum) c.peek.ensures)) c.if-o-eq0.false) in λ F. s_prod (G.signed f.op) (C.with_sign f) (s_sy f.symbol (s_part _ (c.in_ok-next.ensures _) (s_put c.put-end.ensures (omega arith) f.number (omega arith) (s_last (c.more.ensures _)))))
+sum-returns t c = let f = (C.op_found L.Sum _ (kind_at (text c.args.kinds.now) (c.args.pos + 1)) (sym (c.in-Some.ensures.0 ∙ ap (operator_of L.Sum) c.peek.ensures)) c.in-Some.ensures.1) in λ F. s_prod (G.signed f.op) (C.with_sign f) (s_sy f.symbol (s_part _ (c.in_ok-next.ensures _) (s_put c.put-end.ensures (omega arith) f.number (omega arith) (s_last (c.more.ensures _)))))
