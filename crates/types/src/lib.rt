@@ -25,6 +25,14 @@ pub enum Want {
     Nothing,
 }
 
+// An open call: what its name means, how deep it stands, and how many actuals it had so far.
+#[derive(Clone, Copy)]
+pub struct Call {
+    pub meaning: u16,
+    pub depth: u16,
+    pub count: u16,
+}
+
 // What is known behind some nodes: how many uses and declarations there were; how many types are on the stack; how many
 // calls and bodies are open; whether left parts stand before, and the first one's type; the depth of a name that was the
 // last node, and what it means; the least fault.

@@ -1,10 +1,11 @@
 // The nodes with a stack of types.
 ghost use Rattle.std.specs.Prelude.{◌≡◌, List, ◌∷◌, ℕ, ◌+◌, ◌*◌, ◌≤◌, ◌<◌, eqb, length, set, drop};
 ghost use Rattle.names.specs.model.Rows.{opens_of, meant_of};
-ghost use Rattle.types.specs.model.Passes.{noted, with_rows, with_bodies, top_of, below, pushed, popped, taken_as, signed_as, operated_as, condition_as, chosen_as, assigned_as, next_use, named_as, called_as, left_as, use_typed, misfit_of, one_more, actual_in, call_ended, plain_typed, type_node, typed_of, mark_of, marks_of};
-ghost use Rattle.types.specs.model.Arrays.{see, call_at, calls_of, begun, Within, CountsWithin};
+ghost use Rattle.types.specs.model.Passes.{noted, with_rows, with_bodies, top_of, below, pushed, popped, taken_as, signed_as, operated_as, condition_as, chosen_as, assigned_as, next_use, named_as, called_as, left_as, use_typed, misfit_of, actual_in, call_ended, plain_typed, type_node, typed_of, mark_of, marks_of};
+ghost use Rattle.types.specs.declared.Call.{Call};
+ghost use Rattle.types.specs.model.Arrays.{see, calls_of, Within, CountsWithin};
 
-use crate::{Seen, Want, meanings, sorts};
+use crate::{Call, Seen, Want, meanings, sorts};
 use answers::{Answer, Ordinal};
 use grammar::nodes;
 use names::meanings::{NOTHING, meant};
@@ -12,7 +13,7 @@ use names::{Node, faults, is_use};
 
 // A type fault at a symbol, where a test says so.
 fn note(mut t: Seen, wrong: bool, symbol: Ordinal) -> Seen
-    ensures b_value { (u s c b : List ℕ) → see result u s c b ≡ noted wrong symbol.number (see t u s c b) }
+    ensures b_value { (u s : List ℕ) (c : List Call) (b : List ℕ) → see result u s c b ≡ noted wrong symbol.number (see t u s c b) }
     ensures depth_value { result.depth ≡ t.depth }
 {
     t.least = faults::noted_if(wrong, t.least, symbol, Answer::TYPES);
@@ -22,7 +23,7 @@ fn note(mut t: Seen, wrong: bool, symbol: Ordinal) -> Seen
 // A type is put on the stack.
 fn push(mut t: Seen, sort: u16, stack: &mut [u16; 8192]) -> Seen
     requires { t.depth < 8192 }
-    ensures { (u c b : List ℕ) → see result u stack.new c b ≡ pushed sort (see t u stack.old c b) }
+    ensures { (u : List ℕ) (c : List Call) (b : List ℕ) → see result u stack.new c b ≡ pushed sort (see t u stack.old c b) }
 {
     stack[t.depth] = sort;
     t.depth += 1;
@@ -39,7 +40,7 @@ fn top(t: Seen, stack: &[u16; 8192]) -> u16
 
 // It is taken away.
 fn pop(mut t: Seen) -> Seen
-    ensures b_value { (u s c b : List ℕ) → see result u s c b ≡ popped (see t u s c b) }
+    ensures b_value { (u s : List ℕ) (c : List Call) (b : List ℕ) → see result u s c b ≡ popped (see t u s c b) }
     ensures depth_le_depth { result.depth ≤ t.depth }
 {
     t.depth = t.depth.saturating_sub(1);
@@ -49,7 +50,7 @@ fn pop(mut t: Seen) -> Seen
 // A type is taken, which should be this one; a fault is at the symbol.
 fn take(t: Seen, sort: u16, symbol: Ordinal, stack: &[u16; 8192]) -> Seen
     requires { t.depth ≤ 8192 }
-    ensures by_index { (u c b : List ℕ) → see result u stack.now c b ≡ taken_as sort symbol.number (see t u stack.now c b) }
+    ensures by_index { (u : List ℕ) (c : List Call) (b : List ℕ) → see result u stack.now c b ≡ taken_as sort symbol.number (see t u stack.now c b) }
     ensures depth_le_depth { result.depth ≤ t.depth }
 {
     note(pop(t), sorts::apart(top(t, stack), sort), symbol)
@@ -58,7 +59,7 @@ fn take(t: Seen, sort: u16, symbol: Ordinal, stack: &[u16; 8192]) -> Seen
 // An operator between two operands.
 fn binary(t: Seen, symbol: Ordinal, kind: u16, stack: &mut [u16; 8192]) -> Seen
     requires { t.depth < 8192 }
-    ensures { (u c b : List ℕ) → see result u stack.new c b ≡ operated_as kind symbol.number (see t u stack.old c b) }
+    ensures { (u : List ℕ) (c : List Call) (b : List ℕ) → see result u stack.new c b ≡ operated_as kind symbol.number (see t u stack.old c b) }
 {
     let second = top(t, stack);
     let one = pop(t);
@@ -70,7 +71,7 @@ fn binary(t: Seen, symbol: Ordinal, kind: u16, stack: &mut [u16; 8192]) -> Seen
 // A sign or 'not'.
 fn unary(t: Seen, symbol: Ordinal, kind: u16, stack: &mut [u16; 8192]) -> Seen
     requires { t.depth < 8192 }
-    ensures { (u c b : List ℕ) → see result u stack.new c b ≡ signed_as kind symbol.number (see t u stack.old c b) }
+    ensures { (u : List ℕ) (c : List Call) (b : List ℕ) → see result u stack.new c b ≡ signed_as kind symbol.number (see t u stack.old c b) }
 {
     let sort = sorts::sign_gives(kind, top(t, stack));
     push(take(t, sorts::sign_takes(kind), symbol, stack), sort, stack)
@@ -79,7 +80,7 @@ fn unary(t: Seen, symbol: Ordinal, kind: u16, stack: &mut [u16; 8192]) -> Seen
 // A condition: its 'if' is put below the parts.
 fn condition(t: Seen, symbol: Ordinal, stack: &mut [u16; 8192]) -> Seen
     requires { t.depth < 8192 }
-    ensures { (u c b : List ℕ) → see result u stack.new c b ≡ condition_as symbol.number (see t u stack.old c b) }
+    ensures { (u : List ℕ) (c : List Call) (b : List ℕ) → see result u stack.new c b ≡ condition_as symbol.number (see t u stack.old c b) }
 {
     push(take(t, sorts::BOOLEAN, symbol, stack), symbol.number, stack)
 }
@@ -87,7 +88,7 @@ fn condition(t: Seen, symbol: Ordinal, stack: &mut [u16; 8192]) -> Seen
 // The end of a conditional expression.
 fn conditional(t: Seen, symbol: Ordinal, stack: &mut [u16; 8192]) -> Seen
     requires { t.depth < 8192 }
-    ensures { (u c b : List ℕ) → see result u stack.new c b ≡ chosen_as symbol.number (see t u stack.old c b) }
+    ensures { (u : List ℕ) (c : List Call) (b : List ℕ) → see result u stack.new c b ≡ chosen_as symbol.number (see t u stack.old c b) }
 {
     let second = top(t, stack);
     let one = pop(t);
@@ -98,7 +99,7 @@ fn conditional(t: Seen, symbol: Ordinal, stack: &mut [u16; 8192]) -> Seen
 
 // The next use: what it means.
 fn next_use(mut t: Seen, uses: &[u16]) -> Seen
-    ensures by_index { (s c b : List ℕ) → see result uses.now s c b ≡ next_use (drop t.uses uses.now) (see t uses.now s c b) }
+    ensures by_index { (s : List ℕ) (c : List Call) (b : List ℕ) → see result uses.now s c b ≡ next_use (drop t.uses uses.now) (see t uses.now s c b) }
     ensures depth_value { (result.depth ≡ t.depth) × (result.calls ≡ t.calls) × (result.bodies ≡ t.bodies) }
 {
     if let Some(&last) = uses.get(t.uses) {
@@ -118,7 +119,7 @@ fn name(
     stack: &mut [u16; 8192],
 ) -> Seen
     requires { (t.depth < 8192) × (length rows.now ≤ 32768) }
-    ensures { (u c b : List ℕ) → see result u stack.new c b ≡ named_as rows.now symbol.number depth as_statement (see t u stack.old c b) }
+    ensures { (u : List ℕ) (c : List Call) (b : List ℕ) → see result u stack.new c b ≡ named_as rows.now symbol.number depth as_statement (see t u stack.old c b) }
 {
     let m = meant(t.last);
     if as_statement == 1 {
@@ -130,51 +131,18 @@ fn name(
     p
 }
 
-// Three words of call n are written.
-fn begin(calls: &mut [u16], n: usize, meaning: u16, depth: u16)
-    requires { (n < 8192) × (3 * n + 2 < length calls.old) }
-    ensures { calls_of (n + 1) calls.new ≡ begun meaning depth ∷ calls_of n calls.old }
-{
-    let first = 3 * n;
-    calls[first] = meaning;
-    let second = first + 1;
-    calls[second] = depth;
-    let third = first + 2;
-    calls[third] = 0;
-}
-
 // A call begins: its name's meaning, its depth, and no actual so far are kept.
-fn call(mut t: Seen, depth: u16, calls: &mut [u16; 24576]) -> Seen
+fn call(mut t: Seen, depth: u16, calls: &mut [Call; 8192]) -> Seen
     requires { t.calls < 8192 }
     ensures { (u s b : List ℕ) → see result u s calls.new b ≡ called_as depth (see t u s calls.old b) }
 {
-    begin(calls, t.calls, t.last, depth);
+    calls[t.calls] = Call {
+        meaning: t.last,
+        depth,
+        count: 0,
+    };
     t.calls += 1;
     t
-}
-
-// Call n has one more actual.
-fn one_more(calls: &mut [u16], n: usize)
-    requires { (n < 8192) × (3 * n + 2 < length calls.old) × ((call_at calls.old n).count < 65535) }
-    ensures { calls_of (n + 1) calls.new ≡ one_more (call_at calls.old n) ∷ calls_of n calls.old }
-{
-    calls[3 * n + 2] += 1;
-}
-
-// How many actuals call n had so far.
-fn actuals(calls: &[u16], n: usize) -> usize
-    requires { (n < 8192) × (3 * n + 2 < length calls.now) }
-    ensures { result ≡ (call_at calls.now n).count }
-{
-    usize::from(calls[3 * n + 2])
-}
-
-// Whether a name at a depth is one level deeper than call n: an actual that is a name alone.
-fn is_alone(calls: &[u16], n: usize, bare: u16) -> bool
-    requires { (n < 8192) × (3 * n + 2 < length calls.now) }
-    ensures { result ≡ eqb bare ((call_at calls.now n).depth + 1) }
-{
-    usize::from(bare) == usize::from(calls[3 * n + 1]) + 1
 }
 
 // Whether an actual is not what is wanted; alone: it is a name alone.
@@ -196,7 +164,7 @@ fn actual(
     symbol: Ordinal,
     rows: &[u16],
     stack: &[u16; 8192],
-    calls: &mut [u16; 24576],
+    calls: &mut [Call; 8192],
 ) -> Seen
     requires { (t.depth ≤ 8192) × (t.calls ≤ 8192) × CountsWithin (calls_of t.calls calls.old) 8191 × (length rows.now ≤ 32768) }
     ensures { (u b : List ℕ) → see result u stack.now calls.new b ≡ actual_in rows.now (calls_of t.calls calls.old) bare symbol.number (see t u stack.now calls.old b) }
@@ -205,12 +173,11 @@ fn actual(
         return pop(t);
     }
     let n = t.calls - 1;
-    let m = meant(calls[3 * n]);
-    let has = actuals(calls, n);
-    let w = meanings::wanted(rows, m, has);
-    let alone = is_alone(calls, n, bare);
+    let c = calls[n];
+    let w = meanings::wanted(rows, meant(c.meaning), c.count as usize);
+    let alone = bare as usize == c.depth as usize + 1;
     let wrong = misfit(t, w, alone, rows, stack);
-    one_more(calls, n);
+    calls[n].count += 1;
     note(pop(t), wrong, symbol)
 }
 
@@ -221,7 +188,7 @@ fn call_end(
     as_statement: u16,
     rows: &[u16],
     stack: &mut [u16; 8192],
-    calls: &[u16; 24576],
+    calls: &[Call; 8192],
 ) -> Seen
     requires { (t.depth < 8192) × (t.calls ≤ 8192) × (length rows.now ≤ 32768) }
     ensures { (u b : List ℕ) → see result u stack.new calls.now b ≡ call_ended rows.now (calls_of t.calls calls.now) symbol.number as_statement (see t u stack.old calls.now b) }
@@ -230,8 +197,8 @@ fn call_end(
         return t;
     }
     let n = t.calls - 1;
-    let m = meant(calls[3 * n]);
-    let has = actuals(calls, n);
+    let m = meant(calls[n].meaning);
+    let has = calls[n].count as usize;
     t.calls = n;
     if as_statement == 1 {
         return note(t, meanings::miscalled(rows, m, has), symbol);
@@ -243,7 +210,7 @@ fn call_end(
 // A left part: "or is not of the first one's type".
 fn left(mut t: Seen, symbol: Ordinal, rows: &[u16], bodies: &[u16; 8192]) -> Seen
     requires { (t.bodies ≤ 8192) × (length rows.now ≤ 32768) }
-    ensures { (u s c : List ℕ) → see result u s c bodies.now ≡ left_as rows.now symbol.number (see t u s c bodies.now) }
+    ensures { (u s : List ℕ) (c : List Call) → see result u s c bodies.now ≡ left_as rows.now symbol.number (see t u s c bodies.now) }
 {
     let j = meanings::as_left(rows, meant(t.last), bodies, t.bodies);
     if t.begun {
@@ -257,7 +224,7 @@ fn left(mut t: Seen, symbol: Ordinal, rows: &[u16], bodies: &[u16; 8192]) -> See
 // The end of an assignment.
 fn assign(mut t: Seen, symbol: Ordinal, stack: &[u16; 8192]) -> Seen
     requires { t.depth ≤ 8192 }
-    ensures { (u c b : List ℕ) → see result u stack.now c b ≡ assigned_as symbol.number (see t u stack.now c b) }
+    ensures { (u : List ℕ) (c : List Call) (b : List ℕ) → see result u stack.now c b ≡ assigned_as symbol.number (see t u stack.now c b) }
 {
     t.begun = false;
     note(pop(t), sorts::apart(t.left, top(t, stack)), symbol)
@@ -266,7 +233,7 @@ fn assign(mut t: Seen, symbol: Ordinal, stack: &[u16; 8192]) -> Seen
 // A procedure's body is entered.
 fn body(mut t: Seen, bodies: &mut [u16; 8192]) -> Seen
     requires { (t.bodies < 8192) × (t.rows < 8192) }
-    ensures { (u s c : List ℕ) → see result u s c bodies.new ≡ with_rows (t.rows + 1) (with_bodies (t.rows ∷ opens_of t.bodies bodies.old) (see t u s c bodies.old)) }
+    ensures { (u s : List ℕ) (c : List Call) → see result u s c bodies.new ≡ with_rows (t.rows + 1) (with_bodies (t.rows ∷ opens_of t.bodies bodies.old) (see t u s c bodies.old)) }
 {
     bodies[t.bodies] = t.rows as u16;
     t.bodies += 1;
@@ -276,7 +243,7 @@ fn body(mut t: Seen, bodies: &mut [u16; 8192]) -> Seen
 
 // It is left.
 fn body_end(mut t: Seen) -> Seen
-    ensures { (u s c b : List ℕ) → see result u s c b ≡ with_bodies (below (opens_of t.bodies b)) (see t u s c b) }
+    ensures { (u s : List ℕ) (c : List Call) (b : List ℕ) → see result u s c b ≡ with_bodies (below (opens_of t.bodies b)) (see t u s c b) }
 {
     t.bodies = t.bodies.saturating_sub(1);
     t
@@ -285,7 +252,7 @@ fn body_end(mut t: Seen) -> Seen
 // A node of an expression that is no name.
 fn plain(t: Seen, n: Node, stack: &mut [u16; 8192]) -> Seen
     requires { t.depth < 8192 }
-    ensures { (u c b : List ℕ) → see result u stack.new c b ≡ plain_typed n.kind n.symbol.number n.one (see t u stack.old c b) }
+    ensures { (u : List ℕ) (c : List Call) (b : List ℕ) → see result u stack.new c b ≡ plain_typed n.kind n.symbol.number n.one (see t u stack.old c b) }
 {
     match n.kind {
         nodes::NUMBER => push(t, sorts::INTEGER, stack),
@@ -310,7 +277,7 @@ fn use_node(
     uses: &[u16],
     rows: &[u16],
     stack: &mut [u16; 8192],
-    calls: &mut [u16; 24576],
+    calls: &mut [Call; 8192],
     bodies: &[u16; 8192],
 ) -> Seen
     requires { (t.depth < 8192) × (t.calls < 8192) × (t.bodies ≤ 8192) × (length rows.now ≤ 32768) }
@@ -336,7 +303,7 @@ fn node(
     uses: &[u16],
     rows: &[u16],
     stack: &mut [u16; 8192],
-    calls: &mut [u16; 24576],
+    calls: &mut [Call; 8192],
     bodies: &mut [u16; 8192],
 ) -> Seen
     requires { Within 8191 (see t uses.now stack.old calls.old bodies.old) × (length rows.now ≤ 32768) }
@@ -390,7 +357,7 @@ fn walk(
     uses: &[u16],
     rows: &[u16],
     stack: &mut [u16; 8192],
-    calls: &mut [u16; 24576],
+    calls: &mut [Call; 8192],
     bodies: &mut [u16; 8192],
     marks: &mut [u16],
 ) -> usize
@@ -425,7 +392,11 @@ pub fn check(nodes: &[u16], uses: &[u16], rows: &[u16], marks: &mut [u16]) -> us
     ensures marks_after { marks.new ≡ marks_of rows.now uses.now nodes.now marks.old }
 {
     let mut stack = [0u16; 8192];
-    let mut calls = [0u16; 24576];
+    let mut calls = [Call {
+        meaning: 0,
+        depth: 0,
+        count: 0,
+    }; 8192];
     let mut bodies = [0u16; 8192];
     walk(
         nodes,

@@ -1,8 +1,6 @@
 -- `types::walking::call_end` meets its contract: the newest call ends as a statement or as a primary, by the tests.
 use mathlib.Core.Path.{refl, sym, ap, subst, ◌∙◌}
-use Prim.Native.Nat.{◌*◌, ◌-◌}
 use borrow.Author.Tests.{eq-eqb, ne_eqb}
-use lib.ListN.{get_or}
 use Rattle.types.specs.declared.Judgement.{Judgement}
 use Rattle.types.specs.model.Arrays.{MeantWithin, see}
 use Rattle.types.specs.model.Passes.{judged, with_calls}
@@ -15,21 +13,21 @@ returns-then-t-eq0 c =
     λ u b. sym (ended_none args.rows.now args.t.calls args.calls.now args.symbol.number (see args.t u args.stack.now args.calls.now b) args.as_statement c.if-t-eq0.true)
 
 pub miscalled-requires : goal.miscalled-requires
-miscalled-requires c = (c.requires.2, subst MeantWithin (sym c.meant-m.ensures) (meant_within (get_or c.args.calls.now (3 * (c.args.t.calls - 1)) 0)))
+miscalled-requires c = (c.requires.2, subst MeantWithin (sym c.meant-m.ensures) (meant_within _))
 
 pub returns-then-as_statement-eq1 : goal.returns-then-as_statement-eq1
 unfolding with_calls
 returns-then-as_statement-eq1 c =
-    λ u b. c.note.ensures.b_value u _ _ b ∙ noted_ap _ (c.miscalled.ensures ∙ miscalled_ap c.args.rows.now c.meant-m.ensures c.actuals-has.ensures) refl
+    λ u b. c.note.ensures.b_value u _ _ b ∙ noted_ap _ (c.miscalled.ensures ∙ miscalled_ap c.args.rows.now c.meant-m.ensures refl) refl
     ∙ sym (ended_statement c.args.rows.now c.args.t.calls c.args.calls.now c.args.symbol.number (see c.args.t u c.args.stack.now c.args.calls.now b) c.args.as_statement c.if-t-eq0.false (eq-eqb _ _ c.if-as_statement-eq1.true))
 
 pub in_expression-j-requires : goal.in_expression-j-requires
-in_expression-j-requires c = (c.requires.2, subst MeantWithin (sym c.meant-m.ensures) (meant_within (get_or c.args.calls.now (3 * (c.args.t.calls - 1)) 0)))
+in_expression-j-requires c = (c.requires.2, subst MeantWithin (sym c.meant-m.ensures) (meant_within _))
 
 pub returns : goal.returns
 unfolding judged with_calls
 returns c =
-    let j = c.in_expression-j.ensures ∙ primary_ap c.args.rows.now c.meant-m.ensures c.actuals-has.ensures in
+    let j = c.in_expression-j.ensures ∙ primary_ap c.args.rows.now c.meant-m.ensures refl in
     λ u b. c.push.ensures u _ b
     ∙ pushed_ap (ap (λ (z : Judgement). z.sort) j) (c.note-2.ensures.b_value u _ _ b ∙ noted_ap _ (ap (λ (z : Judgement). z.wrong) j) refl)
     ∙ sym (ended_primary c.args.rows.now c.args.t.calls c.args.calls.now c.args.symbol.number (see c.args.t u c.args.stack.now c.args.calls.now b) c.args.as_statement c.if-t-eq0.false (ne_eqb _ _ c.if-as_statement-eq1.false))
