@@ -5,6 +5,7 @@ ghost use Rattle.names.specs.model.Rows.{fault_key, noted_if};
 use answers::{Answer, Ordinal};
 
 // No fault.
+// Kept: what may not change, `OutlineLeft` and `UsesLeft` hold it: the least fault is one number there, and none is more than every fault's.
 pub const NONE: usize = 1048576;
 
 // The least of the faults so far and one more, at a symbol.

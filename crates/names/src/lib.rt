@@ -21,6 +21,7 @@ pub use rows::row as row_at;
 pub use uses::is_use;
 
 // A node: its kind, its symbol, and its two operands.
+// Kept: what may not change, `passes::outline` and `passes::resolve` hold it: of any words, a kind that no node has is a node without meaning.
 #[derive(Clone, Copy)]
 pub struct Node {
     pub kind: u16,
@@ -66,6 +67,7 @@ impl From<[u16; 4]> for Row {
     }
 }
 
+// Kept: no plainer, the kinds looked for are a range of node kinds, as numbers are.
 // What is looked for among rows: kinds from low to high, in a scope, with an identity.
 #[derive(Clone, Copy)]
 pub struct Sought {
@@ -76,6 +78,7 @@ pub struct Sought {
 }
 
 // What a name means: a declaration or formal, something of the environment, or nothing.
+// Kept: no plainer, three ways of one kind, which paper and table list side by side; an `Option` would be two layers.
 #[derive(Clone, Copy)]
 pub enum Meant {
     Declared(Declaration),

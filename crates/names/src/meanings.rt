@@ -5,6 +5,7 @@ ghost use Rattle.names.specs.model.Rows.{meant_number, meant_of};
 use crate::Meant;
 use answers::{Declaration, Environment};
 
+// Kept: what may not change, `resolve` holds it: uses are words, of which each has a meaning (docs/TABLE.md).
 pub const GIVEN: u16 = 8192;
 
 pub const NOTHING: u16 = 8197;

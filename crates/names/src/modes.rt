@@ -3,6 +3,7 @@ ghost use Rattle.std.specs.Prelude.{◌≡◌, ◌+◌, ◌*◌, ◌<◌};
 ghost use Rattle.names.specs.Modes.{packed, type_in, mode_in};
 
 // How a formal is called.
+// Kept: what may not change, `mode` holds it: of any word it gives a number, which may be neither of these.
 pub const VALUE: u16 = 0;
 
 pub const NAME: u16 = 1;

@@ -85,6 +85,7 @@ fn put_uses(
     ensures wrote { Wrote table.old table.new from (use_model (place_of places.now) rows.now nodes.now uses.now) }
     ensures value { result ≡ from + length (use_model (place_of places.now) rows.now nodes.now uses.now) }
 {
+    // Kept: no plainer, both are cursors, which move on only where a use stands.
     let mut at = from;
     let mut u = 0;
     for &words in nodes.as_chunks::<4>().0 {

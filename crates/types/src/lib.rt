@@ -11,6 +11,7 @@ mod meanings; // what a name that means something is used as
 mod walking; // the nodes with a stack of types
 
 // A type, 0 where it has none, and whether the name is at fault.
+// Kept: no plainer, a name at fault has a type beside it all the same, so that this is no `Result`.
 #[derive(Clone, Copy)]
 pub struct Judgement {
     pub sort: u16,
@@ -33,6 +34,14 @@ pub struct Call {
     pub count: u16,
 }
 
+// What is pending, oldest first: types, with an 'if' below the parts that it chooses from; calls; the bodies of procedures.
+#[derive(Drop)]
+pub struct Pending {
+    pub sorts: [u16; 8192],
+    pub calls: [Call; 8192],
+    pub bodies: [u16; 8192],
+}
+
 // What is known behind some nodes: how many uses and declarations there were; how many types are on the stack; how many
 // calls and bodies are open; whether left parts stand before, and the first one's type; the depth of a name that was the
 // last node, and what it means; the least fault.
@@ -43,6 +52,7 @@ pub struct Seen {
     pub depth: usize,
     pub calls: usize,
     pub bodies: usize,
+    // Kept: what may not change, `typed_of` holds it: of any nodes, an assignment with no left part compares with the type of the last one.
     pub begun: bool,
     pub left: u16,
     pub bare: u16,

@@ -3,6 +3,7 @@
 ghost use Rattle.std.specs.Prelude.{◌≡◌, ◌||◌};
 ghost use Rattle.types.specs.model.Passes.{apart_of, differ_of, wider_of, armed_of, wide_of, sign_sort, sign_gives_sort, takes_sort, unfit_of, gives_sort};
 
+// Kept: what may not change, `types::check` holds it: of any words, a type's number may be none of these, and an operator's too.
 pub const NONE: u16 = 0;
 
 pub const INTEGER: u16 = 1;

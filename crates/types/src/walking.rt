@@ -5,7 +5,7 @@ ghost use Rattle.types.specs.model.Passes.{noted, with_rows, with_bodies, top_of
 ghost use Rattle.types.specs.declared.Call.{Call};
 ghost use Rattle.types.specs.model.Arrays.{see, calls_of, Within, CountsWithin};
 
-use crate::{Call, Seen, Want, meanings, sorts};
+use crate::{Call, Pending, Seen, Want, meanings, sorts};
 use answers::{Answer, Ordinal};
 use grammar::nodes;
 use names::meanings::{NOTHING, meant};
@@ -271,23 +271,15 @@ fn plain(t: Seen, n: Node, stack: &mut [u16; 8192]) -> Seen
 }
 
 // A node of a name's use.
-fn use_node(
-    t: Seen,
-    n: Node,
-    uses: &[u16],
-    rows: &[u16],
-    stack: &mut [u16; 8192],
-    calls: &mut [Call; 8192],
-    bodies: &[u16; 8192],
-) -> Seen
+fn use_node(t: Seen, n: Node, uses: &[u16], rows: &[u16], pending: &mut Pending) -> Seen
     requires { (t.depth < 8192) × (t.calls < 8192) × (t.bodies ≤ 8192) × (length rows.now ≤ 32768) }
-    ensures { see result uses.now stack.new calls.new bodies.now ≡ use_typed rows.now n.kind n.symbol.number n.one n.two (next_use (drop t.uses uses.now) (see t uses.now stack.old calls.old bodies.now)) }
+    ensures { see result uses.now pending.new.sorts pending.new.calls pending.new.bodies ≡ use_typed rows.now n.kind n.symbol.number n.one n.two (next_use (drop t.uses uses.now) (see t uses.now pending.old.sorts pending.old.calls pending.old.bodies)) }
 {
     let u = next_use(t, uses);
     match n.kind {
-        nodes::USE => name(u, n.symbol, n.one, n.two, rows, stack),
-        nodes::CALL => call(u, n.one, calls),
-        nodes::LEFT => left(u, n.symbol, rows, bodies),
+        nodes::USE => name(u, n.symbol, n.one, n.two, rows, &mut pending.sorts),
+        nodes::CALL => call(u, n.one, &mut pending.calls),
+        nodes::LEFT => left(u, n.symbol, rows, &pending.bodies),
         _ => note(
             u,
             !meanings::is_variable(rows, meant(u.last), sorts::INTEGER),
@@ -297,33 +289,25 @@ fn use_node(
 }
 
 // What a node adds.
-fn node(
-    mut t: Seen,
-    n: Node,
-    uses: &[u16],
-    rows: &[u16],
-    stack: &mut [u16; 8192],
-    calls: &mut [Call; 8192],
-    bodies: &mut [u16; 8192],
-) -> Seen
-    requires { Within 8191 (see t uses.now stack.old calls.old bodies.old) × (length rows.now ≤ 32768) }
-    ensures { see result uses.now stack.new calls.new bodies.new ≡ type_node rows.now n.kind n.symbol.number n.one n.two (see t uses.now stack.old calls.old bodies.old) }
+fn node(mut t: Seen, n: Node, uses: &[u16], rows: &[u16], pending: &mut Pending) -> Seen
+    requires { Within 8191 (see t uses.now pending.old.sorts pending.old.calls pending.old.bodies) × (length rows.now ≤ 32768) }
+    ensures { see result uses.now pending.new.sorts pending.new.calls pending.new.bodies ≡ type_node rows.now n.kind n.symbol.number n.one n.two (see t uses.now pending.old.sorts pending.old.calls pending.old.bodies) }
 {
     let bare = t.bare;
     t.bare = 0;
     if is_use(n.kind) {
-        return use_node(t, n, uses, rows, stack, calls, bodies);
+        return use_node(t, n, uses, rows, pending);
     }
     match n.kind {
-        nodes::ACTUAL => actual(t, bare, n.symbol, rows, stack, calls),
-        nodes::CALL_END => call_end(t, n.symbol, n.two, rows, stack, calls),
+        nodes::ACTUAL => actual(t, bare, n.symbol, rows, &pending.sorts, &mut pending.calls),
+        nodes::CALL_END => call_end(t, n.symbol, n.two, rows, &mut pending.sorts, &pending.calls),
         nodes::VARIABLE | nodes::FORMAL => {
             t.rows += 1;
             t
         }
-        nodes::PROCEDURE => body(t, bodies),
+        nodes::PROCEDURE => body(t, &mut pending.bodies),
         nodes::PROCEDURE_END => body_end(t),
-        _ => plain(t, n, stack),
+        _ => plain(t, n, &mut pending.sorts),
     }
 }
 
@@ -356,9 +340,7 @@ fn walk(
     nodes: &[u16],
     uses: &[u16],
     rows: &[u16],
-    stack: &mut [u16; 8192],
-    calls: &mut [Call; 8192],
-    bodies: &mut [u16; 8192],
+    pending: &mut Pending,
     marks: &mut [u16],
 ) -> usize
     requires { (length nodes.now ≤ 32768) × (length rows.now ≤ 32768) }
@@ -379,8 +361,8 @@ fn walk(
     };
     for &words in nodes.as_chunks::<4>().0 {
         let n = Node::from(words);
-        mark(t, n.kind, stack, marks);
-        t = node(t, n, uses, rows, stack, calls, bodies);
+        mark(t, n.kind, &pending.sorts, marks);
+        t = node(t, n, uses, rows, pending);
     }
     t.least
 }
@@ -391,20 +373,15 @@ pub fn check(nodes: &[u16], uses: &[u16], rows: &[u16], marks: &mut [u16]) -> us
     ensures value { result ≡ typed_of rows.now uses.now nodes.now }
     ensures marks_after { marks.new ≡ marks_of rows.now uses.now nodes.now marks.old }
 {
-    let mut stack = [0u16; 8192];
-    let mut calls = [Call {
+    let none = Call {
         meaning: 0,
         depth: 0,
         count: 0,
-    }; 8192];
-    let mut bodies = [0u16; 8192];
-    walk(
-        nodes,
-        uses,
-        rows,
-        &mut stack,
-        &mut calls,
-        &mut bodies,
-        marks,
-    )
+    };
+    let mut pending = Pending {
+        sorts: [0; 8192],
+        calls: [none; 8192],
+        bodies: [0; 8192],
+    };
+    walk(nodes, uses, rows, &mut pending, marks)
 }

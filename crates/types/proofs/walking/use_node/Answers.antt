@@ -29,5 +29,5 @@ unfolding use_typed
 returns-in_default c =
     let r = c.in_default.in_default-own.rest in
     simp (ne_eqb _ _ r.1, ne_eqb _ _ r.0.1, ne_eqb _ _ r.0.0.1)
-    (c.note.ensures.b_value c.args.uses.now c.args.stack.now c.args.calls.now c.args.bodies.now ∙ noted_ap _ (ap not (c.is_variable.ensures ∙ ap (λ (m : Meant). variable_of c.args.rows.now m 1) c.meant.ensures)) refl
-    ∙ ap (λ (z : State). noted (not (variable_of c.args.rows.now (meant_of z.last) 1)) c.args.n.symbol.number z) (c.next_use-u.ensures.by_index c.args.stack.now c.args.calls.now c.args.bodies.now))
+    (c.note.ensures.b_value c.args.uses.now c.args.pending.now.sorts c.args.pending.now.calls c.args.pending.now.bodies ∙ noted_ap _ (ap not (c.is_variable.ensures ∙ ap (λ (m : Meant). variable_of c.args.rows.now m 1) c.meant.ensures)) refl
+    ∙ ap (λ (z : State). noted (not (variable_of c.args.rows.now (meant_of z.last) 1)) c.args.n.symbol.number z) (c.next_use-u.ensures.by_index c.args.pending.now.sorts c.args.pending.now.calls c.args.pending.now.bodies))

@@ -20,7 +20,7 @@ pub mark-requires : goal.mark-requires
 mark-requires c =
     let l = c.loop-words in
     let r = l.invariant.0.depth in
-    let e = length_opens l.t.depth l.stack in
+    let e = length_opens l.t.depth l.pending.sorts in
     let p = c.requires.0 in
     let h = c.loop-words-test.true in
     omega arith
@@ -30,13 +30,13 @@ node-t-requires c =
     let l = c.loop-words in
     let p = c.requires.0 in
     let h = c.loop-words-test.true in
-    (within_up l.words-index 8191 (see l.t c.args.uses.now l.stack l.calls l.bodies) (omega arith) l.invariant.0, c.requires.1)
+    (within_up l.words-index 8191 (see l.t c.args.uses.now l.pending.sorts l.pending.calls l.pending.bodies) (omega arith) l.invariant.0, c.requires.1)
 
 pub loop-words-preserved : goal.loop-words-preserved
 unfolding marked_node
 loop-words-preserved c =
     let l = c.loop-words in
-    let z = see l.t c.args.uses.now l.stack l.calls l.bodies in
+    let z = see l.t c.args.uses.now l.pending.sorts l.pending.calls l.pending.bodies in
     let n = c.from-n.result in
     let R = c.args.rows.now in
     let m : Marked = record { state = z; marks = l.marks } in
@@ -46,7 +46,7 @@ loop-words-preserved c =
       ap (fold_nodes (marked_node R) (drop (4 * (i + 1)) c.args.nodes.now)) (marked_ap c.node-t.ensures c.mark.ensures)
           ∙ sym (fold_chunk (marked_node R) c.args.nodes.now c.as_chunks.result.0.now i _ n m k.front c.loop-words-test.true k.front_len c.from-n.ensures)
           ∙ l.invariant.1,
-      ap length c.mark.ensures ∙ length_mark n.kind (opens_of l.t.depth l.stack) l.marks ∙ l.invariant.2,
+      ap length c.mark.ensures ∙ length_mark n.kind (opens_of l.t.depth l.pending.sorts) l.marks ∙ l.invariant.2,
     )
 
 pub shape_of-marks : goal.shape_of-marks
@@ -59,5 +59,5 @@ returns c =
     let R = c.args.rows.now in
     let w = c.args.nodes.now in
     let s : Marked = record { state = fresh c.args.uses.now; marks = c.args.marks.now } in
-    let e = sym (fold_end (marked_node R) w l.words-index (record { state = see l.t c.args.uses.now l.stack l.calls l.bodies; marks = l.marks }) (omega (arith, c.as_chunks.ensures.front_len))) ∙ l.invariant.1 in
+    let e = sym (fold_end (marked_node R) w l.words-index (record { state = see l.t c.args.uses.now l.pending.sorts l.pending.calls l.pending.bodies; marks = l.marks }) (omega (arith, c.as_chunks.ensures.front_len))) ∙ l.invariant.1 in
     record { value = ap (λ (m : Marked). m.state.least) e ∙ ap (λ (st : State). st.least) (state_alone R w s); marks_after = ap (λ (m : Marked). m.marks) e }
