@@ -94,6 +94,7 @@ fn total(
 }
 
 // A variable and the newest value, a step, added; the step is held in the place of the old one.
+#[inline(never)] // so that the loop of the run keeps its registers
 pub fn sum(n: Counts, store: &mut [i64], own: &Memory, q: usize, w: Way) -> Result<Counts, Trouble>
     requires { Sound n store.old }
     ensures does { Does (Act.sum q (way_of own.now w)) n result store.old store.new }
@@ -174,6 +175,7 @@ fn count(
 }
 
 // The test of a step element: the newest value is the bound, and the variable is read after it.
+#[inline(never)] // so that the loop of the run keeps its registers
 pub fn upto(
     n: Counts,
     store: &[i64],

@@ -144,6 +144,7 @@ fn assign_through(
     back(n, store, v)
 }
 
+#[inline(never)] // so that the loop of the run keeps its registers
 pub fn assign(
     n: Counts,
     store: &mut [i64],
@@ -222,6 +223,7 @@ pub fn heighten(n: Counts, store: &mut [i64], h: u32) -> Result<Counts, Trouble>
 }
 
 // The newest value is the channel 1, and stays.
+#[inline(never)] // so that the loop of the run keeps its registers
 pub fn channel(n: Counts, store: &mut [i64], q: usize) -> Result<Counts, Trouble>
     requires { Sound n store.old }
     ensures does { Does (Act.channel q) n result store.old store.new }

@@ -64,6 +64,7 @@ fn listen(
 }
 
 // ininteger.
+#[inline(never)] // so that the loop of the run keeps its registers
 pub fn receive(
     n: Counts,
     input: &[i32],
@@ -123,6 +124,7 @@ fn speak(n: Counts, output: &mut [i32], q: usize, v: Value, e: Entry) -> Result<
 }
 
 // outinteger and outreal, by the type of what they write.
+#[inline(never)] // so that the loop of the run keeps its registers
 pub fn send(
     n: Counts,
     store: &[i64],
