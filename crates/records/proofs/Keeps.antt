@@ -1,23 +1,25 @@
 -- Words written one after the other.
-use Prim.Native.Nat.{ℕ, zero, suc, ◌+◌, ◌-◌, ◌*◌, ◌/◌, ◌%◌, ◌≤◌, ◌<◌}
+use Prim.Native.Nat.{ℕ, suc, ◌+◌, ◌-◌, ◌*◌, ◌/◌, ◌%◌, ◌≤◌, ◌<◌}
 use native.Mathlib.Omega.{arith}
-use native.Mathlib.Numerals.{add-one}
 use mathlib.Core.Path.{◌≡◌, refl, sym, ap, ap₂, subst, ◌∙◌}
-use mathlib.Core.List.{List, [], ◌∷◌, ◌++◌, append_assoc, append-nil}
+use mathlib.Core.List.{List, [], ◌∷◌, ◌++◌, append_assoc}
 use mathlib.Core.Bool.{Bool, true, false, cond, ◌&&◌}
-use borrow.Author.Tests.{le-leb, lt-leb}
+use borrow.Author.Tests.{leb-true}
 use lib.Dec.{ltb, leb}
 use mir.Syntax.{w32}
 use mir.Val.{SFits, to_z, of_z, sel}
 use mir.Facts.{to_z-of_z, to_z_pos, sfits_to_z}
 use lib.IntN.{ℤ, pos, negsuc}
-use lib.ListN.{length, get_or, take, drop, set, length-set, length-append, take-append-drop}
-use lib.Seq.{take-suc, take-suc-set, drop-drop, take-length}
-use Rattle.records.specs.declared.Filled.TheVariants.{Words, Not}
+use lib.ListN.{length, take, drop, length-append, length-drop, take-append-drop}
+use lib.Seq.{drop-drop, length-take-le}
+use borrow.Rule.Slice.PartMut.{put_mid}
+use Rattle.std.proofs.lemmas.Slice.{take-put_mid, drop-put_mid}
+use Rattle.std.specs.Prelude.{Some, None}
 use Rattle.records.specs.Record.{Entry, entry, entry_words, signed, record_words, record_as}
 use Rattle.records.specs.Keeping.{filling, has_room, kept_in}
 use Rattle.records.specs.model.Keeping.{Puts, Room}
 use Rattle.records.proofs.RecordLaws.{spelled}
+use Rattle.records.proofs.RunFacts.{both}
 
 pub puts_then : {room room1 room2 xs ys : List ℤ} {at m to : ℕ} → Puts room at xs room1 m → Puts room1 m ys room2 to → Puts room at (xs ++ ys) room2 to
 puts_then {room} {room1} {room2} {xs} {ys} {at} {m} {to} p q = record {
@@ -28,32 +30,16 @@ puts_then {room} {room1} {room2} {xs} {ys} {at} {m} {to} p q = record {
   long = q.long ∙ p.long;
 }
 
-behind_set : (l : List ℤ) (i : ℕ) (x : ℤ) → drop (suc i) (set l i x) ≡ drop (suc i) l
-behind_set [] i x = refl
-behind_set (y ∷ l) zero x = refl
-behind_set (y ∷ l) (suc i) x = behind_set l i x
-
-pub push_puts : (room : List ℤ) (at : ℕ) (x : ℤ) → at < length room → Puts room at (x ∷ []) (set room at x) (at + 1)
-push_puts room at x h = record {
-  to_is = omega arith;
-  front = rw add-one (take-suc-set room at x h);
-  behind = rw add-one (behind_set room at x);
-  long = length-set room at x;
-}
-
-pub puts_none : (room : List ℤ) (at : ℕ) → Puts room at [] room (at + 0)
-puts_none room at = let z : at + 0 ≡ at = omega arith in record { to_is = omega arith; front = rw (z, append-nil (take at room)); behind = refl; long = refl }
-
--- one word more of a list
-pub puts_more : {room room1 : List ℤ} {at : ℕ} (words : List ℤ) (i : ℕ) → i < length words → at + length words ≤ length room → Puts room at (take i words) room1 (at + i) → Puts room at (take (i + 1) words) (set room1 (at + i) (get_or words i (pos 0))) (at + (i + 1))
-puts_more {room} {room1} {at} words i h k p =
-    let z : at + (i + 1) ≡ at + i + 1 = omega arith in
-    let e : take i words ++ (get_or words i (pos 0) ∷ []) ≡ take (i + 1) words = rw add-one (sym (take-suc words i (pos 0) h)) in
-    let q = puts_then p (push_puts room1 (at + i) (get_or words i (pos 0)) (omega (arith, p.long))) in
-    rw (← e, z) q
-
-pub puts_all : {room room1 : List ℤ} {at : ℕ} (words : List ℤ) (i : ℕ) → i ≡ length words → Puts room at (take i words) room1 (at + i) → Puts room at words room1 (at + i)
-puts_all {room} {room1} {at} words i e p = subst (λ (l : List ℤ). Puts room at l room1 (at + i)) (ap (λ (n : ℕ). take n words) e ∙ take-length words) p
+-- words copied to an index
+pub copied : (room words : List ℤ) {part : List ℤ} (at : ℕ) → at + length words ≤ length room → part ≡ words → Puts room at words (put_mid at (at + length words - at) room part) (at + length words)
+copied room words {part} at h e =
+    let k : at + length words - at ≡ length words = omega arith in
+    let b = drop (at + length words - at) (drop at room) in record {
+      to_is = refl;
+      front = rw e (take-put_mid at (at + length words - at) room words (at + length words) refl (omega arith));
+      behind = rw e (drop-put_mid at (at + length words - at) room words (at + length words) (omega arith) (omega arith) (omega arith));
+      long = rw e (omega (arith, length-append (take at room) (words ++ b), length-append words b, length-take-le at room (omega arith), length-drop (at + length words - at) (drop at room), length-drop at room));
+    }
 
 -- ---- the words of a record
 
@@ -77,18 +63,20 @@ unfolding entry_words
 entries_length [] = refl
 entries_length (entry k a b ∷ es) = let z = entries_length es in omega arith
 
-flat : (n low high s o a m : ℤ) (input written : List ℤ)
-    → (((((((((n ∷ []) ++ input) ++ (pos 1 ∷ low ∷ [])) ++ (high ∷ [])) ++ (pos 1 ∷ s ∷ [])) ++ (pos 1 ∷ o ∷ [])) ++ (pos 1 ∷ a ∷ [])) ++ (m ∷ [])) ++ written)
-    ≡ n ∷ (input ++ (pos 1 ∷ low ∷ high ∷ pos 1 ∷ s ∷ pos 1 ∷ o ∷ pos 1 ∷ a ∷ m ∷ written))
-flat n low high s o a m input written = simp append_assoc
+flat : (n : ℤ) (input between written : List ℤ) → ((((n ∷ []) ++ input) ++ between) ++ written) ≡ n ∷ (input ++ (between ++ written))
+flat n input between written = simp append_assoc
+
+-- what stands between the input numbers and the entries
+abbrev pub lengths : ℕ → ℕ → ℕ → ℕ → ℕ → List ℤ
+lengths limit store output answer m =
+    pos 1 ∷ signed (limit % 4294967296) ∷ signed (limit / 4294967296) ∷ pos 1 ∷ pos store ∷ pos 1 ∷ pos output ∷ pos 1 ∷ pos answer ∷ pos m ∷ []
 
 pub kept_words : (input written : List ℤ) (limit store output answer m : ℕ) (es : List Entry) → written ≡ entry_words es → m ≡ length written / 3
-    → (((((((((pos (length input) ∷ []) ++ input) ++ (pos 1 ∷ signed (limit % 4294967296) ∷ [])) ++ (signed (limit / 4294967296) ∷ [])) ++ (pos 1 ∷ pos store ∷ [])) ++ (pos 1 ∷ pos output ∷ [])) ++ (pos 1 ∷ pos answer ∷ [])) ++ (pos m ∷ [])) ++ written)
-    ≡ record_words (record_as input limit store output answer es)
+    → ((((pos (length input) ∷ []) ++ input) ++ lengths limit store output answer m) ++ written) ≡ record_words (record_as input limit store output answer es)
 kept_words input written limit store output answer m es e q =
     let z : m ≡ length es = omega (arith, q, ap length e, entries_length es) in
-    flat (pos (length input)) (signed (limit % 4294967296)) (signed (limit / 4294967296)) (pos store) (pos output) (pos answer) (pos m) input written
-    ∙ ap₂ (λ (k : ℕ) (w : List ℤ). pos (length input) ∷ (input ++ (pos 1 ∷ signed (limit % 4294967296) ∷ signed (limit / 4294967296) ∷ pos 1 ∷ pos store ∷ pos 1 ∷ pos output ∷ pos 1 ∷ pos answer ∷ pos k ∷ w))) z e
+    flat (pos (length input)) input (lengths limit store output answer m) written
+    ∙ ap₂ (λ (k : ℕ) (w : List ℤ). pos (length input) ∷ (input ++ (lengths limit store output answer k ++ w))) z e
     ∙ sym (spelled (record_as input limit store output answer es))
 
 -- ---- the job
@@ -97,42 +85,34 @@ module _ (input written : List ℤ) (limit store output answer : ℕ) (room : Li
   -- by the lengths that are lent
   kept_by : (es : List Entry) → written ≡ entry_words es → kept_in (record_as input limit store output answer es) room
       ≡ cond (has_room (length input) store output (length written) (length room))
-      (filling (Words (length (record_words (record_as input limit store output answer es)))) (record_words (record_as input limit store output answer es) ++ drop (length (record_words (record_as input limit store output answer es))) room)) (filling Not room)
+      (filling (Some (length (record_words (record_as input limit store output answer es)))) (record_words (record_as input limit store output answer es) ++ drop (length (record_words (record_as input limit store output answer es))) room)) (filling None room)
   unfolding kept_in
   kept_by es e =
       let z : 3 * length es ≡ length written = omega (arith, ap length e, entries_length es) in
       rw z
 
-  pub no_room : has_room (length input) store output (length written) (length room) ≡ false → (es : List Entry) → written ≡ entry_words es → filling Not room ≡ kept_in (record_as input limit store output answer es) room
+  pub no_room : has_room (length input) store output (length written) (length room) ≡ false → (es : List Entry) → written ≡ entry_words es → filling None room ≡ kept_in (record_as input limit store output answer es) room
   no_room h es e = sym (kept_by es e ∙ rw h)
 
-  pub with_room : Room (length input) store output (length written) (length room) → {room' : List ℤ} {k : ℕ} → (es : List Entry) → written ≡ entry_words es → Puts room 0 (record_words (record_as input limit store output answer es)) room' k
-      → filling (Words k) room' ≡ kept_in (record_as input limit store output answer es) room
-  with_room g {room'} {k} es e p =
-      let h : has_room (length input) store output (length written) (length room) ≡ true =
-      rw (le-leb (length input) 2147483647 (omega (arith, g.few_inputs)), le-leb store 2147483647 (omega (arith, g.short_store)), le-leb output 2147483647 (omega (arith, g.short_output)), le-leb (length written) 2147483647 (omega (arith, g.few_written)), le-leb (11 + length input + length written) (length room) g.enough) in
+  pub with_room : has_room (length input) store output (length written) (length room) ≡ true → {room' : List ℤ} {k : ℕ} → (es : List Entry) → written ≡ entry_words es → Puts room 0 (record_words (record_as input limit store output answer es)) room' k
+      → filling (Some k) room' ≡ kept_in (record_as input limit store output answer es) room
+  with_room h {room'} {k} es e p =
       let ws = record_words (record_as input limit store output answer es) in
       let q : k ≡ length ws = omega (arith, p.to_is) in
       let r : room' ≡ ws ++ drop (length ws) room = sym (take-append-drop k room') ∙ ap₂ (λ (a b : List ℤ). a ++ b) p.front p.behind ∙ ap (λ (n : ℕ). ws ++ drop n room) q in
-      ap₂ (λ (n : ℕ) (l : List ℤ). filling (Words n) l) q r ∙ sym (kept_by es e ∙ rw h)
+      ap₂ (λ (n : ℕ) (l : List ℤ). filling (Some n) l) q r ∙ sym (kept_by es e ∙ rw h)
 
--- which test failed
-and_fails : (a b : Bool) → b ≡ false → (a && b) ≡ false
-and_fails true b h = h
-and_fails false b h = refl
-
-module _ (n s o m r : ℕ) where
-  pub fails_inputs : 2147483647 < n → has_room n s o m r ≡ false
-  fails_inputs h = rw (lt-leb n 2147483647 h)
-
-  pub fails_store : 2147483647 < s → has_room n s o m r ≡ false
-  fails_store h = and_fails (leb n 2147483647) (leb s 2147483647 && (leb o 2147483647 && (leb m 2147483647 && leb (11 + n + m) r))) (rw (lt-leb s 2147483647 h))
-
-  pub fails_output : 2147483647 < o → has_room n s o m r ≡ false
-  fails_output h = and_fails (leb n 2147483647) (leb s 2147483647 && (leb o 2147483647 && (leb m 2147483647 && leb (11 + n + m) r))) (and_fails (leb s 2147483647) (leb o 2147483647 && (leb m 2147483647 && leb (11 + n + m) r)) (rw (lt-leb o 2147483647 h)))
-
-  pub fails_written : 2147483647 < m → has_room n s o m r ≡ false
-  fails_written h = and_fails (leb n 2147483647) (leb s 2147483647 && (leb o 2147483647 && (leb m 2147483647 && leb (11 + n + m) r))) (and_fails (leb s 2147483647) (leb o 2147483647 && (leb m 2147483647 && leb (11 + n + m) r)) (and_fails (leb o 2147483647) (leb m 2147483647 && leb (11 + n + m) r) (rw (lt-leb m 2147483647 h))))
-
-  pub fails_room : r < 11 + n + m → has_room n s o m r ≡ false
-  fails_room h = and_fails (leb n 2147483647) (leb s 2147483647 && (leb o 2147483647 && (leb m 2147483647 && leb (11 + n + m) r))) (and_fails (leb s 2147483647) (leb o 2147483647 && (leb m 2147483647 && leb (11 + n + m) r)) (and_fails (leb o 2147483647) (leb m 2147483647 && leb (11 + n + m) r) (and_fails (leb m 2147483647) (leb (11 + n + m) r) (lt-leb (11 + n + m) r h))))
+-- what the test of the room says
+pub room_is : (n s o m r : ℕ) → has_room n s o m r ≡ true → Room n s o m r
+room_is n s o m r e =
+    let a = both (leb n 2147483647) (leb s 2147483647 && (leb o 2147483647 && (leb m 2147483647 && leb (11 + n + m) r))) e in
+    let b = both (leb s 2147483647) (leb o 2147483647 && (leb m 2147483647 && leb (11 + n + m) r)) a.1 in
+    let c = both (leb o 2147483647) (leb m 2147483647 && leb (11 + n + m) r) b.1 in
+    let d = both (leb m 2147483647) (leb (11 + n + m) r) c.1 in
+    record {
+      few_inputs = omega (arith, leb-true n 2147483647 a.0);
+      short_store = omega (arith, leb-true s 2147483647 b.0);
+      short_output = omega (arith, leb-true o 2147483647 c.0);
+      few_written = omega (arith, leb-true m 2147483647 d.0);
+      enough = leb-true (11 + n + m) r d.1;
+    }

@@ -1,50 +1,50 @@
 -- A record that is fine, replayed by its words, is the definition's replay.
-use Prim.Native.Nat.{ℕ, suc, ◌+◌, ◌-◌, ◌/◌, ◌%◌, ◌≤◌, ◌<◌}
+use Prim.Native.Nat.{ℕ, suc, ◌+◌, ◌-◌, ◌/◌, ◌≤◌, ◌<◌, min}
 use native.Mathlib.Omega.{arith}
 use mathlib.Core.Path.{◌≡◌, refl, sym, ap, ap₂, subst, ◌∙◌}
 use mathlib.Core.Bool.{Bool, true, false, cond, ◌&&◌}
 use mathlib.Core.List.{List, [], ◌∷◌, ◌++◌, map}
 use mathlib.Core.Logic.{◌⊎◌, inl, inr}
 use mathlib.Core.Option.{Option, none, some}
-use borrow.Author.Tests.{le-leb, lt-leb}
+use borrow.Author.Tests.{le-leb, lt-leb, leb-true, leb-false}
 use lib.Dec.{leb, eqb}
 use lib.IntN.{ℤ, pos, negsuc}
 use lib.Signed.{mag}
 use lib.ListN.{length, get_or, take, drop, drop_of_length-le, length-append, length-drop}
 use lib.Seq.{drop-cons, take-append-le, take-append_seam, drop-append-add, get_or-append-add}
-use mir.Syntax.{w32, w64}
+use mir.Syntax.{w32}
 use mir.Val.{to_z, of_z}
 use mir.Facts.{to_z-of_z}
+use Rattle.std.specs.Prelude.{Ok, Err}
 use Rattle.answers.specs.Answers.{stop_number}
 use Rattle.reals.specs.Values.{same}
 use Rattle.machine.specs.Machine.{Exit, exit, Finish, job, on_code, afterwards, used}
 use Rattle.machine.specs.declared.Ran.{Ran}
 use Rattle.records.specs.declared.Replayed.{Replayed}
 use Rattle.records.specs.declared.Replayed.TheVariants.{Agrees, Differs, Bad as Malformed, Short}
-use Rattle.records.specs.declared.Spot.{Spot}
-use Rattle.records.specs.declared.Spot.TheVariants.{Behind, Bad}
+use Rattle.records.specs.declared.BadWord.{BadWord}
 use Rattle.records.specs.declared.Table.TheVariants.{Record}
 use Rattle.records.specs.Words.{Reading, fine, bad, read, amount, first_apart, next}
 use Rattle.records.specs.Record.{Entry, entry, Recorded, half, whole, record_table, record_layout, made, entry_words}
 use Rattle.records.specs.Replay.{same_entry, wrote, same_told, told, in_threes, of_record, verdict, done, compared, fresh, enough, on_record, replay}
-use Rattle.records.specs.model.Scanning.{at, rows_from, scan}
+use Rattle.records.specs.model.Scanning.{at, rows_from, Spot, scan}
 use Rattle.records.specs.model.Replaying.{agreed, entry_at, entries_apart, compared_at, run_at, exit_at, fresh_at}
 use Rattle.records.proofs.RunRecords.{within}
 use Rattle.records.proofs.RecordLaws.{Laid, read_laid}
 use Rattle.records.proofs.RunFacts.{machine_threes}
-use Rattle.records.proofs.Scanned.{from, Tells, tells_bad, tells_fine, scanned, record_rows}
+use Rattle.records.proofs.Scanned.{same_word, from, Tells, tells_bad, tells_fine, scanned, record_rows}
 use Rattle.records.proofs.ReplayLaws.{on_bad, on_short}
 
 -- ---- a half's bits
 
-pub half_bits : (x : ℤ) → mag x < 2147483648 → of_z w64 x % 4294967296 ≡ half x
-half_bits (pos n) h = omega arith
-half_bits (negsuc n) h = omega arith
+pub half_bits : (x : ℤ) → of_z w32 x ≡ half x
+half_bits (pos n) = refl
+half_bits (negsuc n) = omega arith
 
 -- ---- two lists of numbers
 
 module _ (xs ys : List ℤ) where
-  pub agreed_short : (i : ℕ) → length ys ≤ i → agreed (drop i xs) (drop i ys) ≡ 0
+  agreed_short : (i : ℕ) → length ys ≤ i → agreed (drop i xs) (drop i ys) ≡ 0
   unfolding agreed
   agreed_short i h = rw (drop_of_length-le ys h) (go (drop i xs))
     where
@@ -52,9 +52,17 @@ module _ (xs ys : List ℤ) where
       go [] = refl
       go (x ∷ l) = refl
 
-  pub agreed_over : (i : ℕ) → length xs ≤ i → agreed (drop i xs) (drop i ys) ≡ 0
+  agreed_over : (i : ℕ) → length xs ≤ i → agreed (drop i xs) (drop i ys) ≡ 0
   unfolding agreed
   agreed_over i h = rw (drop_of_length-le xs h)
+
+  -- at the end of the shorter
+  pub agreed_ends : (i : ℕ) → min (length xs) (length ys) ≤ i → agreed (drop i xs) (drop i ys) ≡ 0
+  agreed_ends i h = go (leb (length xs) i) refl
+    where
+      go : (b : Bool) → leb (length xs) i ≡ b → agreed (drop i xs) (drop i ys) ≡ 0
+      go true e = agreed_over i (leb-true (length xs) i e)
+      go false e = let k : i < length xs = leb-false (length xs) i e in agreed_short i (omega arith)
 
   pub agreed_stop : (i : ℕ) → i < length xs → i < length ys → same (get_or xs i (pos 0)) (get_or ys i (pos 0)) ≡ false → agreed (drop i xs) (drop i ys) ≡ 0
   unfolding agreed
@@ -63,6 +71,11 @@ module _ (xs ys : List ℤ) where
   pub agreed_on : (i : ℕ) → i < length xs → i < length ys → same (get_or xs i (pos 0)) (get_or ys i (pos 0)) ≡ true → agreed (drop i xs) (drop i ys) ≡ suc (agreed (drop (suc i) xs) (drop (suc i) ys))
   unfolding agreed
   agreed_on i h k e = rw (drop-cons xs i (pos 0) h, drop-cons ys i (pos 0) k, e)
+
+-- the one, or where it fails the other
+pub one_or_other : {A B C : Type 0} → A ⊎ (B × C) → A ⊎ C
+one_or_other (inl a) = inl a
+one_or_other (inr p) = inr p.1
 
 -- where they are apart
 pub apart_some : (xs ys : List ℤ) → agreed xs ys < length xs ⊎ agreed xs ys < length ys → first_apart same xs ys ≡ some (agreed xs ys)
@@ -255,7 +268,7 @@ pub record Kept (ws : List ℤ) : Type 0 where
   pub reads : read record_layout ws ≡ fine r
   pub laid : Laid ws r
 
-found : (ws : List ℤ) {x : Spot} {R : Reading Recorded} → Tells x R → from 0 (read record_layout ws) ≡ R → (i : ℕ) → x ≡ Behind i → Kept ws
+found : (ws : List ℤ) {x : Spot} {R : Reading Recorded} → Tells x R → from 0 (read record_layout ws) ≡ R → (i : ℕ) → x ≡ Ok i → Kept ws
 found ws tells_bad e i q = absurd (let z : ◌≡◌ {A = ℕ} 0 1 = cc in omega arith)
 found ws (tells_fine a) e i q = go (read record_layout ws) refl e
   where
@@ -263,23 +276,23 @@ found ws (tells_fine a) e i q = go (read record_layout ws) refl e
     go (fine b) p e = record { r = b; reads = p; laid = read_laid ws b p }
     go (bad j) p e = absurd (let z : ◌≡◌ {A = ℕ} 0 1 = cc in omega arith)
 
-missed : (ws : List ℤ) {x : Spot} {R : Reading Recorded} → Tells x R → from 0 (read record_layout ws) ≡ R → (i : ℕ) → x ≡ Bad i → read record_layout ws ≡ bad i
-missed ws (tells_fine a) e i q = absurd (let z : ◌≡◌ {A = ℕ} 0 1 = cc in omega arith)
-missed ws (tells_bad {i = j}) e i q = go (read record_layout ws) e
+missed : (ws : List ℤ) {x : Spot} {R : Reading Recorded} → Tells x R → from 0 (read record_layout ws) ≡ R → (b : BadWord) → x ≡ Err b → read record_layout ws ≡ bad b.index
+missed ws (tells_fine a) e b q = absurd (let z : ◌≡◌ {A = ℕ} 0 1 = cc in omega arith)
+missed ws (tells_bad {i = j}) e b q = go (read record_layout ws) e
   where
-    go : (R : Reading Recorded) → from 0 R ≡ bad j → R ≡ bad i
-    go (fine b) e = absurd (let z : ◌≡◌ {A = ℕ} 0 1 = cc in omega arith)
-    go (bad k) e = let p : 0 + k ≡ j = cc in let p' : j ≡ i = cc in ap bad (omega arith)
+    go : (R : Reading Recorded) → from 0 R ≡ bad j → R ≡ bad b.index
+    go (fine r) e = absurd (let z : ◌≡◌ {A = ℕ} 0 1 = cc in omega arith)
+    go (bad k) e = let p : 0 + k ≡ j = cc in let p' : j ≡ b.index = ap (λ (c : BadWord). c.index) (same_word q) in ap bad (omega arith)
 
 record_scan : (ws : List ℤ) → Tells (scan (rows_from Record 0 6) ws 0) (from 0 (read record_layout ws))
 unfolding record_layout
 record_scan ws = rw record_rows (scanned ws made record_table 0)
 
-pub kept : (ws : List ℤ) {x : Spot} (i : ℕ) → x ≡ scan (rows_from Record 0 6) ws 0 → x ≡ Behind i → Kept ws
+pub kept : (ws : List ℤ) {x : Spot} (i : ℕ) → x ≡ scan (rows_from Record 0 6) ws 0 → x ≡ Ok i → Kept ws
 kept ws i e q = found ws (record_scan ws) refl i (sym e ∙ q)
 
-pub answered_bad : (code : List ℕ) (ws store output : List ℤ) {x : Spot} (i : ℕ) → x ≡ scan (rows_from Record 0 6) ws 0 → x ≡ Bad i → done (Malformed i) store output ≡ replay code ws store output
-answered_bad code ws store output i e q = sym (on_bad code ws store output i (missed ws (record_scan ws) refl i (sym e ∙ q)))
+pub answered_bad : (code : List ℕ) (ws store output : List ℤ) {x : Spot} (b : BadWord) → x ≡ scan (rows_from Record 0 6) ws 0 → x ≡ Err b → done (Malformed b.index) store output ≡ replay code ws store output
+answered_bad code ws store output b e q = sym (on_bad code ws store output b.index (missed ws (record_scan ws) refl b (sym e ∙ q)))
 
 -- ---- the job
 

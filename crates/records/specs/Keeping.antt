@@ -1,17 +1,15 @@
 -- A record kept: its words in lent room. "We keep records of monthly runs", and so that it can be held against a fresh run it is the words of
 -- specs/Record. Assumes nothing: these are definitions.
-use Rattle.std.specs.Prelude.{ℕ, ◌+◌, ◌*◌, Bool, cond, ◌&&◌, List, ◌++◌, leb, ℤ, length, drop}
-use Rattle.records.specs.declared.Filled.{Filled}
-use Rattle.records.specs.declared.Filled.TheVariants.{Words, Not}
+use Rattle.std.specs.Prelude.{ℕ, ◌+◌, ◌*◌, Bool, cond, ◌&&◌, List, ◌++◌, leb, ℤ, length, drop, Option, Some, None}
 use Rattle.records.specs.Record.{Recorded, record_words}
 
 -- what is said, and what the room holds
 
 pub record Filling : Type 0 where
-  pub answer : Filled
+  pub answer : Option ℕ
   pub room : List ℤ
 
-abbrev pub filling : Filled → List ℤ → Filling
+abbrev pub filling : Option ℕ → List ℤ → Filling
 filling a l = record { answer = a; room = l }
 
 -- a length is a word: a number of 32 bits
@@ -26,4 +24,4 @@ has_room n store output m room = is_word n && (is_word store && (is_word output 
 unfoldable pub kept_in : Recorded → List ℤ → Filling
 kept_in r room =
     cond (has_room (length r.input) r.store_length r.output_length (3 * length r.outputs) (length room))
-    (filling (Words (length (record_words r))) (record_words r ++ drop (length (record_words r)) room)) (filling Not room)
+    (filling (Some (length (record_words r))) (record_words r ++ drop (length (record_words r)) room)) (filling None room)

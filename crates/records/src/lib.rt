@@ -39,18 +39,10 @@ pub enum Table {
     Sets,
 }
 
-// A word as a number from 0 on, or below 0.
+// A word that is out of its range, is missing or is one too many: its index, from 0.
 #[derive(Clone, Copy)]
-pub enum Amount {
-    Is(usize),
-    Below,
-}
-
-// Where words end that are all in their ranges, or the index of the first bad word.
-#[derive(Clone, Copy)]
-pub enum Spot {
-    Behind(usize),
-    Bad(usize),
+pub struct BadWord {
+    pub index: usize,
 }
 
 // What a replay answers: all entries agree; the first that differs, from 0; the index of the first bad word; or the store or output that is lent is
@@ -81,9 +73,7 @@ impl Replayed {
         ensures { result ≡ number_of self }
     {
         match self {
-            Replayed::Agrees => 0,
-            Replayed::Differs(_) => 0,
-            Replayed::Bad(_) => 0,
+            Replayed::Agrees | Replayed::Differs(_) | Replayed::Bad(_) => 0,
             Replayed::Short => 1,
         }
     }
@@ -93,24 +83,16 @@ impl Replayed {
         ensures { result ≡ place_of self }
     {
         match self {
-            Replayed::Agrees => 0,
-            Replayed::Differs(j) => j,
-            Replayed::Bad(i) => i,
-            Replayed::Short => 0,
+            Replayed::Agrees | Replayed::Short => 0,
+            Replayed::Differs(entry) => entry,
+            Replayed::Bad(index) => index,
         }
     }
 }
 
-// How many words a record took, or that a length is no word or the room too short.
-#[derive(Clone, Copy)]
-pub enum Filled {
-    Words(usize),
-    Not,
-}
-
-// What a run came to, and what became of its record.
+// What a run came to, and how many words its record took; none where a length is no word or the room too short.
 #[derive(Clone, Copy)]
 pub struct Kept {
     pub ran: Ran,
-    pub filled: Filled,
+    pub filled: Option<usize>,
 }

@@ -1,4 +1,4 @@
--- Nine parts, one after the other.
+-- Four parts, one after the other.
 use Prim.Native.Nat.{◌/◌, ◌%◌}
 use mathlib.Core.Path.{◌≡◌, refl}
 use native.Mathlib.Omega.{arith}
@@ -22,13 +22,8 @@ returns c =
     let w5 : to_z w32 c.args.output ≡ pos c.args.output = as_word c.args.output c.requires.short_output in
     let w6 : to_z w32 c.args.answer ≡ pos c.args.answer = as_word c.args.answer (omega (arith, c.ranges.answer)) in
     let w7 : to_z w32 m ≡ pos m = as_word m (omega (arith, c.requires.few_written)) in
-    let p1 = simp w1 at c.push-a.ensures in
+    let p1 = simp w1 at c.copy-a.ensures in
     let p2 = puts_then p1 c.copy-b.ensures in
-    let p3 = puts_then p2 (simp w2 at c.push_one-c.ensures) in
-    let p4 = puts_then p3 (simp w3 at c.push-d.ensures) in
-    let p5 = puts_then p4 (simp w4 at c.push_one-e.ensures) in
-    let p6 = puts_then p5 (simp w5 at c.push_one-f.ensures) in
-    let p7 = puts_then p6 (simp w6 at c.push_one-g.ensures) in
-    let p8 = puts_then p7 (simp w7 at c.push-h.ensures) in
-    let p9 = puts_then p8 c.copy.ensures in
-    λ es e. rw (← kept_words c.args.input.now c.args.written.now l c.args.store c.args.output c.args.answer m es e refl) p9
+    let p3 = puts_then p2 (simp (w2, w3, w4, w5, w6, w7) at c.copy-c.ensures) in
+    let p4 = puts_then p3 c.copy.ensures in
+    λ es e. rw (← kept_words c.args.input.now c.args.written.now l c.args.store c.args.output c.args.answer m es e refl) p4

@@ -1,5 +1,4 @@
 -- The invariant: the other words that are left, from here on, decide.
-use Prim.Native.Nat.{◌-◌}
 use mathlib.Core.Path.{◌≡◌}
 use lib.IntN.{pos}
 use lib.ListN.{length, get_or, drop}
@@ -7,7 +6,4 @@ use Rattle.records.specs.model.Scanning.{row_of, others_at, entry_at}
 use Rattle.records.proofs.scanning.entry.Given as goal
 
 abbrev pub invariant-loop-k : goal.invariant-loop-k
-invariant-loop-k l = (l.n ≡ length ((row_of l.s).others (get_or l.words l.at (pos 0)))) × (entry_at (row_of l.s) l.words l.at ≡ others_at (drop l.k ((row_of l.s).others (get_or l.words l.at (pos 0)))) l.words l.i)
-
-abbrev pub decreases-loop-k : goal.decreases-loop-k
-decreases-loop-k l = l.n - l.k
+invariant-loop-k l = (l.k-end ≡ length ((row_of l.s).others (get_or l.words l.at (pos 0)))) × (entry_at (row_of l.s) l.words l.at ≡ others_at (drop l.k ((row_of l.s).others (get_or l.words l.at (pos 0)))) l.words l.end)
