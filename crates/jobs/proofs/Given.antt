@@ -24,9 +24,8 @@ use Rattle.translating.proofs.Promised.{only as only-translation, deed}
 use Rattle.records.specs.declared.Replayed.{Replayed}
 use Rattle.records.specs.Numbers.{kind_of as replayedKind, number_of as replayedNumber, place_of as replayedPlace}
 use Rattle.records.specs.Replay.{Done, done as wentOn}
-use Rattle.reporting.specs.declared.Reported.{Reported}
 use Rattle.reporting.specs.Numbers.{kind_of as reportedKind, number_of as reportedNumber, place_of as reportedPlace, figures_after}
-use Rattle.reporting.specs.Report.{Done as Reports, done as reported}
+use Rattle.reporting.specs.Report.{Reported, Done as Reports, done as reported}
 use Rattle.jobs.specs.Jobs.{Answers, Pages, Says, Given, given, exit_of, gone, replayed_of, gathered, reported_of, Lists}
 
 pub given_exit : {n p : ℕ} (r : Ran) (s o : List ℤ) {e : Exit} → exit r s o ≡ e → n ≡ stop_number r.stop → p ≡ stop_place r.stop

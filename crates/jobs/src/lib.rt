@@ -22,7 +22,7 @@ use machine::run;
 use reading::reading::read;
 use reading::schemes::read_two;
 use records::replaying::replay;
-use reporting::numbers::reported_into;
+use reporting::numbers;
 use reporting::reporting::report;
 use translating::schemes::translate_scheme;
 use translating::translating::translate;
@@ -175,8 +175,8 @@ pub fn deed_report(
     ensures { gathered result number.new place.new figures.new store.new output.new ≡ reported_of (reportOf code.now sets.now limit store.old output.old) figures.old }
 {
     let reported = report(code, sets, limit, store, output);
-    *number = reported.number();
-    *place = reported.place();
-    reported_into(reported, figures);
-    reported.kind()
+    *number = numbers::number(reported);
+    *place = numbers::place(reported);
+    numbers::reported_into(reported, figures);
+    numbers::kind(reported)
 }

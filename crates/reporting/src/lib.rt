@@ -2,10 +2,10 @@
 #![tactic(auto)]
 
 ghost use Rattle.std.specs.Prelude.{◌≡◌};
-ghost use Rattle.reporting.specs.Numbers.{kind_of, number_of, place_of};
+ghost use Rattle.reporting.specs.declared.Refused.TheVariants.{Bad};
 
-use answers::Answer;
 use machine::Ran;
+use records::BadWord;
 
 pub mod numbers; // a report's numbers in order
 pub mod reporting; // the job
@@ -39,55 +39,19 @@ pub struct Report {
     pub sum: i64,
 }
 
-// What is answered: the report; more than 65,535 sets; or the index of the first bad word.
+// Why there is no report: more than 65,535 sets; or the index of the first bad word.
 #[derive(Clone, Copy)]
-pub enum Reported {
-    Report(Report),
+pub enum Refused {
     TooMany,
     Bad(usize),
 }
 
-impl Reported {
-    // Which of the three: 0, 1, 2.
-    pub fn kind(self) -> u16
-        ensures { result ≡ kind_of self }
-    {
-        match self {
-            Reported::Report(_) => 0,
-            Reported::TooMany => 1,
-            Reported::Bad(_) => 2,
-        }
-    }
+impl From<BadWord> for Refused {
+    ghost from_gives = { λ word refused. refused ≡ Bad word.index };
 
-    // The answer's number: 31 for too many sets, else 0.
-    pub fn number(self) -> u16
-        ensures { result ≡ number_of self }
-    {
-        match self {
-            Reported::Report(_) => 0,
-            Reported::TooMany => Answer::too_many_sets().number,
-            Reported::Bad(_) => 0,
-        }
+    fn from(word: BadWord) -> Refused {
+        Refused::Bad(word.index)
     }
-
-    // The index of the bad word, else 0.
-    pub fn place(self) -> usize
-        ensures { result ≡ place_of self }
-    {
-        match self {
-            Reported::Report(_) => 0,
-            Reported::TooMany => 0,
-            Reported::Bad(i) => i,
-        }
-    }
-}
-
-// What sets are before a run begins: so many; more than are taken; or the index of the first bad word.
-#[derive(Clone, Copy)]
-pub enum Begun {
-    Ready(usize),
-    TooMany,
-    Bad(usize),
 }
 
 // How far a report is: what is gathered, how many sets are left, and where the words of the next one begin.
@@ -103,11 +67,4 @@ pub struct Going {
 pub struct Member {
     pub going: Going,
     pub ran: Ran,
-}
-
-// The first whole number among output entries, or that there is none.
-#[derive(Clone, Copy)]
-pub enum First {
-    Is(i32),
-    Not,
 }

@@ -11,7 +11,7 @@ use crate::tally::{more, print, print_count};
 use crate::texts::{buffer, clipped, number_at, page_at, second_line};
 use records::keeping::run_kept;
 use records::replaying::replay;
-use records::{Filled, Kept, Replayed};
+use records::{Kept, Replayed};
 use translating::translating::translate;
 
 // Where a record of n input numbers has its answer and the number of its entries, and how many words stand before the first value of an entry but one.
@@ -269,7 +269,7 @@ fn recorded(t: Count, name: &[u8], code: &[u32], text: &[u8], from: usize) -> Co
     );
     let ran = kept.ran;
     let filled = kept.filled;
-    let Filled::Words(k) = filled else {
+    let Some(k) = filled else {
         return t.check(false, name, b"no record is kept");
     };
     let m = ran.written / 3;

@@ -1,9 +1,9 @@
 -- How the code goes through sets, one run after the other: what is found before a run begins, and what holds between two runs. No part of the paper.
-use Rattle.std.specs.Prelude.{ℕ, ◌+◌, ◌*◌, ◌≤◌, ◌<◌, ◌≡◌, true, false, List, [], ◌∷◌, ◌++◌, map, ℤ, pos, nat_abs, length, replicate, drop}
+use Rattle.std.specs.Prelude.{ℕ, ◌+◌, ◌*◌, ◌≤◌, ◌<◌, ◌≡◌, true, false, List, [], ◌∷◌, ◌++◌, map, ℤ, pos, nat_abs, length, replicate, drop, Result, Ok, Err}
 use Rattle.machine.specs.Machine.{Finish, used}
 use Rattle.records.specs.Words.{bad, read, singles, section_words, is_answer}
-use Rattle.reporting.specs.declared.Begun.{Begun}
-use Rattle.reporting.specs.declared.Begun.TheVariants.{Ready, TooMany, Bad}
+use Rattle.reporting.specs.declared.Refused.{Refused}
+use Rattle.reporting.specs.declared.Refused.TheVariants.{TooMany, Bad}
 use Rattle.reporting.specs.declared.Going.{Going}
 use Rattle.reporting.specs.declared.Report.{Report}
 use Rattle.reporting.specs.Orders.{Rearranged}
@@ -18,10 +18,10 @@ pub record SetsIn (ws : List ℤ) (n : ℕ) : Type 0 where
   pub few : n ≤ 65535
 
 -- before any run
-abbrev pub Begins : List ℤ → Begun → Type 0
-Begins ws (Ready n) = SetsIn ws n
-Begins ws TooMany = too_many ws ≡ true
-Begins ws (Bad i) = (too_many ws ≡ false) × (read sets_layout ws ≡ bad i)
+abbrev pub Begins : List ℤ → Result ℕ Refused → Type 0
+Begins ws (Ok n) = SetsIn ws n
+Begins ws (Err TooMany) = too_many ws ≡ true
+Begins ws (Err (Bad i)) = (too_many ws ≡ false) × (read sets_layout ws ≡ bad i)
 
 -- ---- between two runs
 
