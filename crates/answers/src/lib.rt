@@ -302,6 +302,7 @@ impl Refusal {
 }
 
 // What reading or translating a source answers.
+// Kept: no plainer, an acceptance has a number and a place as a refusal has, and no method of ours could give these of a `Result`.
 #[derive(Clone, Copy, PartialEq, Eq, Debug)]
 pub enum Verdict {
     Accepted,
@@ -330,6 +331,7 @@ impl Verdict {
 
 // How a run stopped: at its end, at its limit, with a fault of the program at a place in the source, or at words that
 // are no instruction, at their counter.
+// Kept: no plainer, a run stops in four ways, of which two have no place in the source.
 #[derive(Clone, Copy, PartialEq, Eq, Debug)]
 pub enum Stop {
     Ended,

@@ -62,6 +62,7 @@ pub enum Symbol {
 
 // What begins at a byte: a symbol, or a name or number over its limit, with how many bytes belong to it behind its first;
 // or no symbol.
+// Kept: no plainer, three ways: what is too large is passed over in a remark, and what is nothing is refused there too.
 #[derive(Clone, Copy, PartialEq, Eq, Debug)]
 pub enum Lexeme {
     Is(Symbol, usize),
@@ -79,6 +80,7 @@ pub enum Context {
 
 // What is done at a byte: nothing is kept, or a symbol is, with the context behind it and how many bytes more are passed
 // over; or a refusal.
+// Kept: no plainer, three ways at a byte, of which two go on.
 #[derive(Clone, Copy, PartialEq, Eq, Debug)]
 pub enum Turn {
     Pass(Context, usize),
@@ -95,6 +97,7 @@ pub struct Cursor {
 
 // What reading at a cursor answers: the symbol there with the next cursor; a blank, a note or a part of a remark passed
 // over; a refusal with its number and place; or the source's end.
+// Kept: no plainer, four ways, of which two go on.
 #[derive(Clone, Copy, PartialEq, Eq, Debug)]
 pub enum Step {
     Read(Symbol, Cursor),
