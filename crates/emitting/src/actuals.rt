@@ -112,6 +112,7 @@ fn given_form(c: Thing) -> usize
 }
 
 // It becomes one, but that the second one of ininteger is no value.
+#[tactic(auto, unfolding(crate::specs::model::Emission::given_turned))]
 fn given_turned(t: Writing, c: Thing, place: Place, code: &mut [u32]) -> Writing
     requires { Fit t × (place.at < 65536) }
     ensures en_after { (vs ly ks es : List ℕ) (us : List Used) (op : List Thing) (ah en : List ℕ) → see result us op code.new ah en ≡ given_turned vs ly ks es (seen c) place.at (see t us op code.old ah en) }

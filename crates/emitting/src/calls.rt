@@ -16,6 +16,7 @@ fn sought(k: usize) -> usize
 }
 
 // The word of a use of kind k that means a declaration; of a procedure that of its result.
+#[tactic(auto, unfolding(crate::specs::model::Emission::cell_of))]
 fn cell_of(level: usize, name: Named, layout: &[u32]) -> usize
     ensures by_index { (vs ks es : List ℕ) → result ≡ cell_of vs layout.now ks es level name.kind name.means }
     ensures upper_bound { result < 4294967296 }
@@ -33,6 +34,7 @@ fn cell_of(level: usize, name: Named, layout: &[u32]) -> usize
 }
 
 // 1 where it is a procedure with a result.
+#[tactic(auto, unfolding(crate::specs::model::Emission::result_of))]
 fn result_of(name: Named, layout: &[u32]) -> usize
     ensures by_index { (vs ks es : List ℕ) → result ≡ result_of vs layout.now ks es name.kind name.means }
     ensures upper_bound { result < 8192 }
@@ -44,6 +46,7 @@ fn result_of(name: Named, layout: &[u32]) -> usize
 }
 
 // A call of it with n actuals; u: 0 as a primary, 1 as a statement.
+#[tactic(auto, unfolding(crate::specs::model::Emission::called_with))]
 fn called_with(
     t: Writing,
     name: Named,
@@ -65,6 +68,7 @@ fn called_with(
 }
 
 // A result's cell, where there is a result; it is of the type `form`.
+#[tactic(auto, unfolding(crate::specs::model::Emission::result_for))]
 fn result_for(
     t: Writing,
     name: Named,
@@ -84,6 +88,7 @@ fn result_for(
 }
 
 // What a statement does not need.
+#[tactic(auto, unfolding(crate::specs::model::Emission::dropped))]
 fn dropped(t: Writing, u: usize, code: &mut [u32]) -> Writing
     requires { t.here.at < 1048576 }
     ensures { (vs ly ks es : List ℕ) (us : List Used) (op : List Thing) (ah en : List ℕ) → see result us op code.new ah en ≡ dropped vs ly ks es u (see t us op code.old ah en) }

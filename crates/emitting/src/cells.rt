@@ -12,6 +12,7 @@ use machine::operands;
 const FOUND: usize = 67100672;
 
 // A name's word as an operand.
+#[tactic(auto, unfolding(crate::specs::model::Emission::bare))]
 pub fn bare(v: usize) -> usize
     ensures value { result ≡ bare v }
     ensures upper_bound { result < 4294967296 }
@@ -20,6 +21,7 @@ pub fn bare(v: usize) -> usize
 }
 
 // An operation on the cell of a name, whose place is another than the operation's own.
+#[tactic(auto, unfolding(crate::specs::model::Emission::on_cell))]
 pub fn on_cell(
     t: Writing,
     code: &mut [u32],
@@ -40,6 +42,7 @@ pub fn on_cell(
 }
 
 // The store part of an actual, by its word.
+#[tactic(auto, unfolding(crate::specs::model::Emission::lending))]
 pub fn lending(t: Writing, w: usize, place: Place, code: &mut [u32]) -> Writing
     requires { (t.here.at < 1048576) × (place.at < 65536) }
     ensures en_after { (vs ly ks es : List ℕ) (us : List Used) (op : List Thing) (ah en : List ℕ) → see result us op code.new ah en ≡ lending vs ly ks es w place.at (see t us op code.old ah en) }

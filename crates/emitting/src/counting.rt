@@ -44,6 +44,7 @@ fn count_of(scope: usize, sort: usize, rows: &[u16]) -> usize
 }
 
 // How many cells of a block lie before the first one of a type: integers first, then reals, then Booleans.
+#[tactic(auto, unfolding(crate::specs::model::Layout::first_for))]
 fn first_for(scope: usize, sort: usize, rows: &[u16]) -> usize
     ensures value { result ≡ first_for scope sort rows.now }
     ensures result_in_bounds { 2 * result ≤ length rows.now }
@@ -59,6 +60,7 @@ fn first_for(scope: usize, sort: usize, rows: &[u16]) -> usize
 }
 
 // The place of the variable d among the cells of its block.
+#[tactic(auto, unfolding(crate::specs::model::Layout::among_for))]
 pub fn among_for(rows: &[u16], d: usize) -> usize
     requires { d < 65536 }
     ensures value { result ≡ among_for rows.now d }
@@ -71,6 +73,7 @@ pub fn among_for(rows: &[u16], d: usize) -> usize
 }
 
 // The counts of the scope of the declaration d, as an instruction has them, of 10 bits each.
+#[tactic(auto, unfolding(crate::specs::model::Layout::counts_for))]
 pub fn counts_for(rows: &[u16], d: usize) -> usize
     requires { d < 8589934592 }
     ensures value { result ≡ counts_for rows.now d }

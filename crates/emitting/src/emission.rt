@@ -26,6 +26,7 @@ fn operation_of(k: usize) -> usize
 }
 
 // A sign or 'not'.
+#[tactic(auto, unfolding(crate::specs::model::Emission::signed))]
 fn signed(t: Writing, k: usize, place: Place, code: &mut [u32]) -> Writing
     requires { (t.here.at < 262144) × (place.at < 65536) }
     ensures { (us : List Used) (op : List Thing) (ah en : List ℕ) → see result us op code.new ah en ≡ signed k place.at (see t us op code.old ah en) }

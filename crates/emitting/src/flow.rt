@@ -26,6 +26,7 @@ fn conditioned(
 }
 
 // A part of a conditional expression ends: it becomes a real, where the mark says so, which has no fault.
+#[tactic(auto, unfolding(crate::specs::model::Emission::widened))]
 fn widened(t: Writing, part: usize, c: Thing, code: &mut [u32]) -> Writing
     requires { t.here.at < 262144 }
     ensures en_after { (vs ly ks es : List ℕ) (us : List Used) (op : List Thing) (ah en : List ℕ) → see result us op code.new ah en ≡ widened vs ly ks es part (seen c) (see t us op code.old ah en) }
@@ -154,6 +155,7 @@ pub fn block_node(
 }
 
 // Before the first procedure of a block: to its opening.
+#[tactic(auto, unfolding(crate::specs::model::Emission::skipped, crate::specs::model::Emission::ahead_at))]
 fn skipped(t: Writing, c: Thing, ahead: &[u32], code: &mut [u32]) -> Writing
     requires { t.here.at < 262144 }
     ensures by_index { (vs ly es : List ℕ) (us : List Used) (op : List Thing) (ah en : List ℕ) → see result us op code.new ah en ≡ skipped vs ly ahead.now es (seen c) (see t us op code.old ah en) }

@@ -18,6 +18,7 @@ fn one_of(sort: usize) -> usize
 }
 
 // A variable or a formal, whose cell is at an offset.
+#[tactic(auto, unfolding(crate::specs::model::Layout::celled))]
 fn celled(mut t: Laid, offset: usize, table: &mut [u32]) -> Laid
     requires { (t.reach < 65536) × (t.declared < 65536) }
     ensures { (a : List ℕ) → lain result a table.new ≡ celled offset (lain t a table.old) }
@@ -29,6 +30,7 @@ fn celled(mut t: Laid, offset: usize, table: &mut [u32]) -> Laid
 }
 
 // The cells outside the innermost scope.
+#[tactic(auto, unfolding(crate::specs::model::Layout::outermost, names::specs::model::Rows::opens_of))]
 fn outside(t: Laid, around: &[usize; 8192]) -> usize
     requires { t.open ≤ 8192 }
     ensures { result ≡ outermost (opens_of t.open around.now) }
@@ -58,6 +60,7 @@ fn keep(around: &mut [usize], n: usize, reach: usize)
 }
 
 // A block opens: the cells outside are kept.
+#[tactic(auto, unfolding(crate::specs::model::Layout::blocked))]
 fn blocked(mut t: Laid, around: &mut [usize; 8192]) -> Laid
     requires { t.open < 8192 }
     ensures by_index { (w : List ℕ) → lain result around.new w ≡ blocked (lain t around.old w) }
@@ -84,6 +87,7 @@ fn procedured(t: Laid, around: &mut [usize; 8192], table: &mut [u32]) -> Laid
 }
 
 // The innermost scope closes, back to so many activations around.
+#[tactic(auto, unfolding(crate::specs::model::Layout::closed, crate::specs::model::Layout::outermost, crate::specs::model::Layout::further, names::specs::model::Rows::opens_of))]
 fn closed(mut t: Laid, level: usize, around: &[usize; 8192]) -> Laid
     requires { t.open ≤ 8192 }
     ensures { (w : List ℕ) → lain result around.now w ≡ closed level (lain t around.now w) }

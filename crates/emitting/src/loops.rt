@@ -30,6 +30,7 @@ fn element_at(f: Thing) -> Address
 }
 
 // To the body, with the place to return to.
+#[tactic(auto, unfolding(crate::specs::model::Emission::bodied, crate::specs::model::Emission::ahead_at))]
 fn bodied(t: Writing, f: Thing, back: Address, ahead: &[u32], code: &mut [u32]) -> Writing
     requires { t.here.at < 1048576 }
     ensures by_index { (vs ly es : List ℕ) (us : List Used) (op : List Thing) (ah en : List ℕ) → see result us op code.new ah en ≡ bodied vs ly ahead.now es (seen f) back.at (see t us op code.old ah en) }
@@ -40,6 +41,7 @@ fn bodied(t: Writing, f: Thing, back: Address, ahead: &[u32], code: &mut [u32]) 
 }
 
 // The test of a step element; next: where it goes on.
+#[tactic(auto, unfolding(crate::specs::model::Emission::tested))]
 fn tested(t: Writing, f: Thing, next: Address, code: &mut [u32]) -> Writing
     requires { (t.here.at < 1048575) × Slim 262143 (seen f) }
     ensures en_after { (vs ly ks es : List ℕ) (us : List Used) (op : List Thing) (ah en : List ℕ) → see result us op code.new ah en ≡ tested vs ly ks es f.third f.second next.at (see t us op code.old ah en) }

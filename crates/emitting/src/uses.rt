@@ -47,6 +47,7 @@ fn form_of(sort: usize) -> usize
 }
 
 // That of declaration i.
+#[tactic(auto, unfolding(crate::specs::model::Emission::form_at))]
 pub fn form_at(rows: &[u16], i: usize) -> usize
     requires { i < 8589934592 }
     ensures value { result ≡ form_at rows.now i }
