@@ -7,6 +7,7 @@ use crate::{Known, Thing, Writing, cells, codes, parts, uses};
 use answers::{Address, Place};
 
 // The place in a slot, of 16 bits.
+#[tactic(auto, unfolding(crate::specs::model::Emission::ahead_at))]
 fn place_ahead(ahead: &[u32], slot: usize) -> Place
     ensures by_index { (vs ly es : List ℕ) → result.at ≡ ahead_at vs ly ahead.now es slot % 65536 }
     ensures at_bound { result.at < 65536 }
@@ -77,6 +78,7 @@ fn name_ended(
 }
 
 // Actual j of a call of the procedure m begins, d deep.
+#[tactic(auto, unfolding(crate::specs::model::Emission::begun))]
 pub fn begun(
     t: Writing,
     m: usize,
@@ -165,6 +167,7 @@ fn ended(
 }
 
 // The end of an actual, whose first symbol's place is given; the next begins.
+#[tactic(auto, unfolding(crate::specs::model::Emission::actual_in))]
 pub fn actual_in(
     t: Writing,
     c: Thing,

@@ -112,6 +112,7 @@ fn reading(k: usize) -> usize
 }
 
 // A name alone: a variable or formal, a procedure, maxint.
+#[tactic(auto, unfolding(crate::specs::model::Emission::named))]
 fn named(
     t: Writing,
     name: Named,
@@ -142,6 +143,7 @@ fn named(
 
 // The word that an actual has which is this name and nothing else, not even in parentheses: those are deeper, by d, than the
 // call that is open.
+#[tactic(auto, unfolding(crate::specs::model::Emission::word_of))]
 fn word_of(t: Writing, name: Named, d: usize, layout: &[u32], things: &[Thing; 8192]) -> usize
     requires { t.open ≤ 8192 }
     ensures by_index { (vs ks es : List ℕ) (us : List Used) (co ah en : List ℕ) → result ≡ word_of vs layout.now ks es name.kind name.means d (see t us things.now co ah en) }
@@ -158,6 +160,7 @@ fn word_of(t: Writing, name: Named, d: usize, layout: &[u32], things: &[Thing; 8
 }
 
 // A name, d deep; the second actual of ininteger is stored to, not loaded.
+#[tactic(auto, unfolding(crate::specs::model::Emission::named_or, crate::specs::model::Emission::with_variable))]
 fn named_or(
     mut t: Writing,
     name: Named,
@@ -185,6 +188,7 @@ fn named_or(
 }
 
 // An open call, of a procedure with its actuals d deep.
+#[tactic(auto, unfolding(crate::specs::model::Emission::calling))]
 fn calling(
     t: Writing,
     name: Named,
@@ -207,6 +211,7 @@ fn calling(
 }
 
 // What is taken in goes to the cell of the last name, whose place is given.
+#[tactic(auto, unfolding(crate::specs::model::Emission::taken_in))]
 fn taken_in(t: Writing, place: Place, name: Place, code: &mut [u32]) -> Writing
     requires { (t.here.at < 262144) × (place.at < 65536) × (name.at < 262144) }
     ensures { (vs ly ks es : List ℕ) (us : List Used) (op : List Thing) (ah en : List ℕ) → see result us op code.new ah en ≡ taken_in vs ly ks es place.at name.at (see t us op code.old ah en) }
@@ -245,6 +250,7 @@ fn given_ended(t: Writing, c: Thing, place: Place, u: usize, code: &mut [u32]) -
 }
 
 // The end of a call.
+#[tactic(auto, unfolding(crate::specs::model::Emission::call_ended))]
 pub fn call_ended(
     t: Writing,
     c: Thing,
@@ -286,6 +292,7 @@ fn left_part(
 }
 
 // A for statement with its elements: slot of the body's address, the variable, its place, the address of the element.
+#[tactic(auto, unfolding(crate::specs::model::Emission::repeated))]
 fn repeated(
     t: Writing,
     name: Named,

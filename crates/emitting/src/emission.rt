@@ -71,6 +71,7 @@ fn stored(mut t: Writing, things: &[Thing; 8192], code: &mut [u32]) -> Writing
 }
 
 // The end of an assignment.
+#[tactic(auto, using(crate::proofs::LeftParts::behind_things), unfolding(crate::specs::model::Emission::assigned, crate::specs::model::Emission::with_lefts, crate::specs::model::Emission::with_open))]
 fn assigned(t: Writing, things: &[Thing; 8192], code: &mut [u32]) -> Writing
     requires { (t.here.at + 2 * t.lefts < 262144) × (t.open ≤ 8192) × AllSlim 262143 (things_of t.open things.now) }
     ensures { (vs ly ks es : List ℕ) (us : List Used) (ah en : List ℕ) → see result us things.now code.new ah en ≡ assigned vs ly ks es (see t us things.now code.old ah en) }
@@ -82,6 +83,7 @@ fn assigned(t: Writing, things: &[Thing; 8192], code: &mut [u32]) -> Writing
 }
 
 // A number with a point: the lower half of its bits, then the upper one.
+#[tactic(auto, unfolding(crate::specs::model::Emission::lower_of, crate::specs::model::Emission::upper_of, crate::specs::model::Emission::bits_of))]
 fn pointed(t: Writing, w: u64, place: Place, code: &mut [u32]) -> Writing
     requires { (t.here.at < 262144) × (place.at < 65536) }
     ensures { (us : List Used) (op : List Thing) (ah en : List ℕ) → see result us op code.new ah en ≡ put 49 0 (upper_of w) (put 12 place.at (lower_of w) (see t us op code.old ah en)) }

@@ -10,6 +10,7 @@ use grammar::nodes;
 use machine::operands;
 
 // Behind a condition: the slot of where it goes on, and the mark of its 'if'.
+#[tactic(auto, unfolding(crate::specs::model::Emission::ahead_at))]
 fn conditioned(
     t: Writing,
     mark: usize,
@@ -66,6 +67,7 @@ fn joined(t: Writing, c: Thing, next_ahead: &mut [u32]) -> Writing
 }
 
 // A node of a condition, whose 'if' has a mark.
+#[tactic(auto, unfolding(crate::specs::model::Emission::choice_node))]
 pub fn choice_node(
     t: Writing,
     kind: u16,
@@ -134,6 +136,7 @@ fn left(t: Writing, c: Thing, code: &mut [u32]) -> Writing
 }
 
 // A node of a block.
+#[tactic(auto, unfolding(crate::specs::model::Emission::block_node))]
 pub fn block_node(
     t: Writing,
     kind: u16,
@@ -195,6 +198,7 @@ fn returned(t: Writing, c: Thing, code: &mut [u32]) -> Writing
 }
 
 // A node of a procedure.
+#[tactic(auto, unfolding(crate::specs::model::Emission::procedure_node))]
 pub fn procedure_node(
     t: Writing,
     kind: u16,

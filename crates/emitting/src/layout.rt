@@ -43,6 +43,7 @@ fn outside(t: Laid, around: &[usize; 8192]) -> usize
 }
 
 // A variable: the cells of its block lie by their types, behind those outside.
+#[tactic(auto, using(crate::proofs::Spreading::length_opens, crate::proofs::Spreading::outermost_within))]
 fn varied(t: Laid, rows: &[u16], around: &[usize; 8192], table: &mut [u32]) -> Laid
     requires { Spread 8191 (lain t around.now table.old) }
     ensures { lain result around.now table.new ≡ celled (outermost (opens_of t.open around.now) + among_for rows.now t.declared) (lain t around.now table.old) }
@@ -52,6 +53,7 @@ fn varied(t: Laid, rows: &[u16], around: &[usize; 8192], table: &mut [u32]) -> L
 }
 
 // A number of an array is written.
+#[tactic(auto, using(names::proofs::RowLaws::opens_enter))]
 fn keep(around: &mut [usize], n: usize, reach: usize)
     requires { n < length around.old }
     ensures { opens_of (n + 1) around.new ≡ reach ∷ opens_of n around.old }

@@ -57,6 +57,7 @@ fn tested(t: Writing, f: Thing, next: Address, code: &mut [u32]) -> Writing
 }
 
 // The addition and its store; the place is that of 'step'.
+#[tactic(auto, unfolding(crate::specs::model::Emission::added))]
 fn added(t: Writing, f: Thing, place: Place, code: &mut [u32]) -> Writing
     requires { (t.here.at < 1048000) × Slim 262143 (seen f) × (place.at < 262144) }
     ensures en_after { (vs ly ks es : List ℕ) (us : List Used) (op : List Thing) (ah en : List ℕ) → see result us op code.new ah en ≡ added vs ly ks es f.third f.second place.at (see t us op code.old ah en) }
@@ -68,6 +69,7 @@ fn added(t: Writing, f: Thing, place: Place, code: &mut [u32]) -> Writing
 }
 
 // A step element begins: to its step, and on where a slot tells.
+#[tactic(auto, unfolding(crate::specs::model::Emission::step_begun, crate::specs::model::Emission::ahead_at))]
 fn step_begun(
     t: Writing,
     place: Place,
@@ -105,6 +107,7 @@ fn step_held(
 }
 
 // To the step again, and then to what follows here.
+#[tactic(auto, unfolding(crate::specs::model::Emission::step_again))]
 fn step_again(t: Writing, c: Thing, code: &mut [u32]) -> Writing
     requires { (t.here.at < 1048000) × Slim 262143 (seen c) }
     ensures en_after { (vs ly ks es : List ℕ) (us : List Used) (op : List Thing) (ah en : List ℕ) → see result us op code.new ah en ≡ step_again vs ly ks es (seen c) (see t us op code.old ah en) }
@@ -115,6 +118,7 @@ fn step_again(t: Writing, c: Thing, code: &mut [u32]) -> Writing
 }
 
 // Behind the bound: the test, and to the body.
+#[tactic(auto, unfolding(crate::specs::model::Emission::turning, crate::specs::model::Emission::ahead_at))]
 fn turning(t: Writing, f: Thing, ahead: &[u32], code: &mut [u32]) -> Writing
     requires { (t.here.at < 262144) × Slim 262143 (seen f) }
     ensures by_index { (vs ly es : List ℕ) (us : List Used) (op : List Thing) (ah en : List ℕ) → see result us op code.new ah en ≡ turning vs ly ahead.now es (seen f) (see t us op code.old ah en) }
@@ -128,6 +132,7 @@ fn turning(t: Writing, f: Thing, ahead: &[u32], code: &mut [u32]) -> Writing
 }
 
 // Then the step again, the addition, and back to the bound.
+#[tactic(auto, unfolding(crate::specs::model::Emission::stepping))]
 fn stepping(t: Writing, f: Thing, c: Thing, ahead: &[u32], code: &mut [u32]) -> Writing
     requires { (t.here.at < 262144) × Slim 262143 (seen f) × Slim 262143 (seen c) }
     ensures by_index { (vs ly es : List ℕ) (us : List Used) (op : List Thing) (ah en : List ℕ) → see result us op code.new ah en ≡ stepping vs ly ahead.now es (seen f) (seen c) (see t us op code.old ah en) }
@@ -161,6 +166,7 @@ fn amount(
 }
 
 // An element of one value.
+#[tactic(auto, unfolding(crate::specs::model::Emission::ahead_at))]
 fn once(
     t: Writing,
     f: Thing,
@@ -177,6 +183,7 @@ fn once(
 }
 
 // An element with a condition.
+#[tactic(auto, unfolding(crate::specs::model::Emission::ahead_at))]
 fn whiled(
     t: Writing,
     f: Thing,
@@ -208,6 +215,7 @@ fn started(t: Writing, f: Thing, code: &mut [u32]) -> Writing
 }
 
 // A node of an element.
+#[tactic(auto, unfolding(crate::specs::model::Emission::element_node))]
 pub fn element_node(
     t: Writing,
     kind: u16,
@@ -260,6 +268,7 @@ fn ended(t: Writing, f: Thing, next_ahead: &mut [u32], code: &mut [u32]) -> Writ
 }
 
 // A node around the body.
+#[tactic(auto, unfolding(crate::specs::model::Emission::loop_node))]
 pub fn loop_node(
     t: Writing,
     kind: u16,

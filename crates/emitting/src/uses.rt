@@ -98,6 +98,7 @@ pub fn next(t: Writing, uses: &[u16], rows: &[u16]) -> Named
 }
 
 // The uses behind it.
+#[tactic(auto, using(crate::proofs::NextUses::others_here, crate::proofs::NextUses::others_nowhere), unfolding(crate::specs::model::Emission::with_uses))]
 pub fn passed(mut t: Writing, uses: &[u16]) -> Writing
     ensures en_value { (rows : List ℕ) (op : List Thing) (co ah en : List ℕ) → see result (uses_in rows uses.now) op co ah en ≡ with_uses (others_next (drop t.uses (uses_in rows uses.now))) (see t (uses_in rows uses.now) op co ah en) }
     ensures alike { Alike t result × (result.here.at ≡ t.here.at) × (result.open ≡ t.open) }
