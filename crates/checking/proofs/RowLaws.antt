@@ -1,17 +1,16 @@
 -- The words of a list that agree with those of a row, and the first wrong word of rows one behind the other: what the loops of `checking` rest on.
 use Prim.Native.Nat.{ℕ, zero, suc, ◌+◌, ◌-◌, ◌*◌, ◌≤◌, ◌<◌}
 use mathlib.Core.Path.{◌≡◌, refl, sym, ap, ◌∙◌}
-use mathlib.Core.Bool.{Bool, true, false, cond, true≢false}
+use mathlib.Core.Bool.{Bool, true, false, cond}
 use mathlib.Core.List.{List, [], ◌∷◌, ◌++◌}
 use mathlib.Core.Option.{Option, none, some}
 use native.Mathlib.Nat.{suc-mul}
 use native.Mathlib.Omega.{arith}
-use lib.Dec.{T, eqb}
-use lib.IntN.{ℤ, pos, negsuc, nat_abs}
-use lib.Signed.{lt_z, non_neg}
-use mir.Syntax.{w64}
-use mir.Val.{Fits, SFits}
-use borrow.Author.Tests.{ltb-true}
+use lib.Dec.{eqb}
+use lib.IntN.{ℤ, pos, negsuc}
+use mir.Syntax.{w16, w64}
+use mir.Val.{Fits, SFits, of_z}
+use borrow.Author.Tests.{ne_eqb}
 use lib.ListN.{length, get_or, take, drop, length-drop, drop_of_length-le}
 use lib.Seq.{take_all, drop-cons, drop-drop, length-take-le}
 use Rattle.checking.specs.Checking.{is_word, next, first_wrong, answer_of}
@@ -19,21 +18,12 @@ use Rattle.checking.specs.model.Comparing.{agreed, narrow, section}
 use Rattle.checking.specs.declared.Checked.{Checked}
 use Rattle.checking.specs.declared.Checked.TheVariants.{Yes, Wrong}
 
--- ---- a number from 0 on is told by its value, and one below 0 is no word
+-- ---- a number is handed over as its bits: from 0 on it is told by its value, and one below 0 is no word
 
-pub none_below : (x : ℤ) (w : ℕ) → lt_z x (pos 0) ≡ true → false ≡ is_word x w
+pub word_bits : (x : ℤ) (w : ℕ) → SFits w64 x → Fits w16 w → eqb (of_z w64 x) w ≡ is_word x w
 unfolding is_word
-none_below (pos n) w h = absurd (omega (arith, ltb-true n 0 h))
-none_below (negsuc n) w h = refl
-
-pub from_zero : (x : ℤ) → lt_z x (pos 0) ≡ false → SFits w64 x → T (non_neg x) × Fits w64 (nat_abs x)
-from_zero (pos n) h f = (tt, record { fits = omega (arith, f.sfits) })
-from_zero (negsuc n) h f = absurd (true≢false h)
-
-pub word_from : (x : ℤ) (w : ℕ) → lt_z x (pos 0) ≡ false → eqb (nat_abs x) w ≡ is_word x w
-unfolding is_word
-word_from (pos n) w h = refl
-word_from (negsuc n) w h = absurd (true≢false h)
+word_bits (pos n) w f h = refl
+word_bits (negsuc n) w f h = ne_eqb (of_z w64 (negsuc n)) w (λ e. omega (arith, f.sfits, h.fits, e))
 
 -- an index behind k words
 abbrev pub behind : ℕ → Option ℕ → Option ℕ

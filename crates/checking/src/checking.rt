@@ -15,27 +15,22 @@ const WIDE: usize = 3;
 fn is_word(number: i64, word: u16) -> bool
     ensures { result ≡ is_word number word }
 {
-    if number < 0 {
-        return false;
-    }
-    number as u64 == word as u64
+    number == word as i64
 }
 
 // How many words of a list are the ones that should stand there, up to the first that is not.
 fn agreeing(list: &[i64], words: &[u16]) -> usize
     ensures { result ≡ agreed list.now words.now }
 {
-    let mut i = 0;
-    while i < words.len() {
+    for i in 0..words.len() {
         if list.len() <= i {
             return i;
         }
         if !is_word(list[i], words[i]) {
             return i;
         }
-        i += 1;
     }
-    i
+    words.len()
 }
 
 // A list against the use section of a table whose rows are `wide` words: of each row the first `width` stand in the list.
@@ -46,30 +41,20 @@ fn compared(list: &[i64], table: &[u16], wide: usize, width: usize) -> Checked
     if agreeing(list, &table[..1]) == 0 {
         return Checked::Wrong(0);
     }
-    let mut left = word(table, 0);
     let mut at = 1;
-    let mut from = 1;
-    while 0 < left {
-        let to = from + width;
-        let n = agreeing(&list[at..], &table[from..to]);
+    let rows = word(table, 0);
+    for i in 0..rows {
+        let from = 1 + i * wide;
+        let n = agreeing(&list[at..], &table[from..from + width]);
         at += n;
         if n < width {
             return Checked::Wrong(at);
         }
-        from += wide;
-        left -= 1;
     }
     if at < list.len() {
         return Checked::Wrong(at);
     }
     Checked::Yes
-}
-
-// The least of two.
-fn lesser(a: usize, b: usize) -> usize
-    ensures { result ≡ min a b }
-{
-    if a < b { a } else { b }
 }
 
 // Lists whose rows are the first `width` words of a use, or all of them where it has no more.
@@ -78,7 +63,7 @@ pub fn check_rows(source: &[u8], list: &[i64], width: usize) -> Checked
 {
     let mut table = [0u16; 32768];
     match read(source, &mut table) {
-        Verdict::Accepted => compared(list, &table, WIDE, lesser(width, WIDE)),
+        Verdict::Accepted => compared(list, &table, WIDE, width.min(WIDE)),
         Verdict::Refused(r) => Checked::Refused(r),
     }
 }

@@ -10,7 +10,7 @@ use Rattle.checking.proofs.checking.check_rows.Goals as goal
 
 pub compared-requires : goal.compared-requires
 compared-requires c =
-    (omega (arith, c.lesser.ensures), table_long c.read.ensures c.in-Accepted.is)
+    (omega (arith, c.min.ensures), table_long c.read.ensures c.in-Accepted.is)
 
 pub returns-in-Accepted : goal.returns-in-Accepted
 returns-in-Accepted c =
@@ -18,7 +18,7 @@ returns-in-Accepted c =
     let told = c.in-Accepted.is in
     let args = c.args in
     answers read.ensures told args.width args.list.now
-    (c.compared.ensures ∙ ap (λ (w : ℕ). answer_of (first_wrong args.list.now (section w three read.new.table))) c.lesser.ensures)
+    (c.compared.ensures ∙ ap (λ (w : ℕ). answer_of (first_wrong args.list.now (section w three read.new.table))) c.min.ensures)
 
 pub returns-in-Refused : goal.returns-in-Refused
 returns-in-Refused c =
