@@ -10,6 +10,7 @@ pub mod checking; // the job
 
 // What is said of a list: that it is the uses of the source; the source's refusal, with its number and place; or the index, from 0, of its first
 // wrong word.
+// Kept: no plainer, the three answers are of one rank: that a list is wrong is what was asked, and no failure
 #[derive(Clone, Copy)]
 pub enum Checked {
     Yes,
