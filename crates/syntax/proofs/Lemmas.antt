@@ -20,7 +20,7 @@ use Rattle.grammar.specs.declared.Fault.{Fault}
 use Rattle.grammar.specs.declared.Read.{Read}
 use Rattle.grammar.specs.model.Parsing.{Parsed, read_to, fault_at}
 use Rattle.grammar.specs.model.Text.{kind_at}
-use Rattle.syntax.specs.model.Says.{left, behind, Stands, Lacks, Put, Got, SaysWith, Says, Limits}
+use Rattle.syntax.specs.model.Says.{left, behind, wrong_at, Stands, Lacks, Put, Got, SaysWith, Says, Limits}
 use Rattle.grammar.specs.declared.Level.{Level}
 use Rattle.grammar.proofs.Outcomes.{read_fault, same_next, same_used, same_answer, same_at}
 use Rattle.grammar.proofs.Sets.{subset, subset_in, disjoint, apart}
@@ -40,8 +40,8 @@ module _ {ks old new : List ℕ} {d B : ℕ} {F : List ℕ} {is : List Item} {ms
       none_left : 64 - d ≡ 0
       none_left = omega arith
 
-pub limits : {ks F : List ℕ} {is : List Item} {i k : ℕ} {n : Answer} → Run (kind_at ks) 0 F is i (bad n.number k) → Limits ks F is i (fault_at n k)
-limits {k = k} {n = n} h = record { read = λ j b q. read_fault (sym q); refused = λ n₂ k₂ q. let x : n ≡ n₂ = same_answer q in let y : k ≡ k₂ = same_at q in rw (x, y) at h }
+pub limits : {ks F : List ℕ} {is : List Item} {i k : ℕ} {n : Answer} {f : Fault} → f ≡ record { answer = n; at = k } → Run (kind_at ks) 0 F is i (bad n.number k) → Limits ks F is i (Err f)
+limits {ks} {F} {is} {i} {k = k} {n = n} e h = subst (λ (x : Fault). Limits ks F is i (Err x)) (sym e) (record { read = λ j b q. read_fault (sym q); refused = λ n₂ k₂ q. let x : n ≡ n₂ = same_answer q in let y : k ≡ k₂ = same_at q in rw (x, y) at h })
 
 -- ---- what was read and written, put together
 first_node : {is : List Item} (s : Syn is) (n : Node) (ms : Marks is) (d b i : ℕ) → nodes s (put n ms) d b i ≡ node_words n d b i ++ nodes s ms d b i
@@ -146,8 +146,8 @@ module _ {ks : List ℕ} {d B : ℕ} {F : List ℕ} where
       → SaysWith ks mid new d B F ms i c r → SaysWith ks old new d B F (put n ms) i a r
   s_put p e f h s = record { read = λ j b q. g_put p e f h (s.read j b q); refused = s.refused }
 
-  pub s_none : {old new : List ℕ} {is : List Item} {X : Class} {ms : Marks (rd false X ∷ is)} {i a : ℕ} → choose X (kind_at ks i) (kind_at ks (i + 1)) ≡ none → SaysWith ks old new d B F ms i a (fault_at (answer 5) i)
-  s_none h = says_bad (rd_none level h)
+  pub s_none : {old new : List ℕ} {is : List Item} {X : Class} {ms : Marks (rd false X ∷ is)} {i a : ℕ} {f : Fault} → f ≡ wrong_at i → choose X (kind_at ks i) (kind_at ks (i + 1)) ≡ none → SaysWith ks old new d B F ms i a (Err f)
+  s_none {old} {new} {ms = ms} {i = i} {a = a} e h = subst (λ (x : Fault). SaysWith ks old new d B F ms i a (Err x)) (sym e) (says_bad (rd_none level h))
 
   pub s_prod : {old new : List ℕ} {X : Class} (p : Prod X) {i a : ℕ} {r : Parsed} → choose X (kind_at ks i) (kind_at ks (i + 1)) ≡ some p → SaysWith ks old new d i F (marks p) i a r → Says ks old new d B F (rd false X ∷ []) i a r
   s_prod p h s = record { read = λ j b q. g_prod p h (s.read j b q); refused = λ n k q. rd_bad level h (s.refused n k q) }

@@ -8,12 +8,12 @@ ghost use Rattle.grammar.specs.declared.Level.TheVariants.{Sum, Equivalence};
 ghost use Rattle.grammar.specs.model.Text.{text, kind_at};
 ghost use Rattle.syntax.specs.model.Says.{Room, Behind, Tells, TellsOf};
 
+use crate::faults::wrong;
 use crate::limits;
 use crate::operators::{operator, relational};
 use crate::text::{expect, peek};
 use crate::writing::put;
-use answers::Answer;
-use grammar::{Fault, Level, Parsed, Read, Use, nodes};
+use grammar::{Level, Parsed, Read, Use, nodes};
 use symbols::{Symbol, kinds};
 
 #[cycle(expressions)]
@@ -60,7 +60,7 @@ fn nested(kinds: &[u8], pos: usize, depth: u16, nodes: &mut [u16], free: usize) 
     ensures { Tells (text kinds.now) nodes.old nodes.new depth (deeper an_expression ∷ []) pos free result }
 {
     if 64 <= depth {
-        return limits::expression(kinds, pos);
+        return Err(limits::expression(kinds, pos));
     }
     expression(kinds, pos, depth + 1, nodes, free)
 }
@@ -72,7 +72,7 @@ fn nested_simple(kinds: &[u8], pos: usize, depth: u16, nodes: &mut [u16], free: 
     ensures { Tells (text kinds.now) nodes.old nodes.new depth (deeper (a_level Equivalence) ∷ []) pos free result }
 {
     if 64 <= depth {
-        return limits::simple(kinds, pos);
+        return Err(limits::simple(kinds, pos));
     }
     chain(kinds, pos, depth + 1, nodes, free, Level::Equivalence)
 }
@@ -215,10 +215,7 @@ fn primary(kinds: &[u8], pos: usize, depth: u16, nodes: &mut [u16], free: usize)
                 used: end,
             })
         }
-        _ => Err(Fault {
-            answer: Answer::GRAMMAR,
-            at: pos,
-        }),
+        _ => Err(wrong(pos)),
     }
 }
 

@@ -7,10 +7,10 @@ ghost use Rattle.symbols.specs.declared.Symbol.TheVariants.{Colon};
 ghost use Rattle.grammar.specs.model.Text.{text};
 ghost use Rattle.syntax.specs.model.Says.{Room, TellsAll};
 
+use crate::faults::wrong;
 use crate::text::{expect, peek};
 use crate::writing::put;
-use answers::Answer;
-use grammar::{Entry, Fault, Parsed, Read, nodes};
+use grammar::{Entry, Parsed, Read, nodes};
 use symbols::{Symbol, kinds};
 
 // 'integer', 'Boolean' or 'real'.
@@ -40,10 +40,7 @@ pub fn type_symbol(kinds: &[u8], pos: usize, nodes: &mut [u16], free: usize) -> 
                 used: end,
             })
         }
-        _ => Err(Fault {
-            answer: Answer::GRAMMAR,
-            at: pos,
-        }),
+        _ => Err(wrong(pos)),
     }
 }
 

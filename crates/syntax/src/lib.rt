@@ -10,6 +10,7 @@ use grammar::Parsed;
 
 mod clauses; // what begins with a name, and for clauses
 mod expressions; // expressions
+mod faults; // what readers find wrong
 mod headings; // types, lists of names, procedure headings
 mod limits; // what is said where something too deep would begin
 mod operators; // operators by their level

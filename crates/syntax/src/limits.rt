@@ -1,18 +1,18 @@
 // What is said where something of depth 65 would begin: 6 if the symbol can stand there, else 5.
-ghost use Rattle.std.specs.Prelude.{[], ◌∷◌};
+ghost use Rattle.std.specs.Prelude.{[], ◌∷◌, Err};
 ghost use Rattle.grammar.specs.Grammar.{part, deeper, expression as an_expression, level, statement as a_statement, consequence as a_consequence};
 ghost use Rattle.grammar.specs.declared.Level.TheVariants.{Equivalence};
 ghost use Rattle.grammar.specs.model.Text.{text};
 ghost use Rattle.syntax.specs.model.Says.{Limits, LimitsAll, behind};
 
+use crate::faults::{too_deep, wrong};
 use crate::text::peek;
-use answers::Answer;
-use grammar::{Fault, Parsed};
+use grammar::Fault;
 use symbols::Symbol;
 
 // An expression.
-pub fn expression(kinds: &[u8], pos: usize) -> Parsed
-    ensures { LimitsAll (text kinds.now) (deeper an_expression ∷ []) pos result }
+pub fn expression(kinds: &[u8], pos: usize) -> Fault
+    ensures { LimitsAll (text kinds.now) (deeper an_expression ∷ []) pos (Err result) }
 {
     match peek(kinds, pos) {
         Symbol::If
@@ -24,20 +24,14 @@ pub fn expression(kinds: &[u8], pos: usize) -> Parsed
         | Symbol::Open
         | Symbol::Name
         | Symbol::Number(_)
-        | Symbol::Decimal(_) => Err(Fault {
-            answer: Answer::DEPTH,
-            at: pos,
-        }),
-        _ => Err(Fault {
-            answer: Answer::GRAMMAR,
-            at: pos,
-        }),
+        | Symbol::Decimal(_) => too_deep(pos),
+        _ => wrong(pos),
     }
 }
 
 // An expression that is not conditional.
-pub fn simple(kinds: &[u8], pos: usize) -> Parsed
-    ensures { LimitsAll (text kinds.now) (deeper (level Equivalence) ∷ []) pos result }
+pub fn simple(kinds: &[u8], pos: usize) -> Fault
+    ensures { LimitsAll (text kinds.now) (deeper (level Equivalence) ∷ []) pos (Err result) }
 {
     match peek(kinds, pos) {
         Symbol::True
@@ -48,73 +42,32 @@ pub fn simple(kinds: &[u8], pos: usize) -> Parsed
         | Symbol::Open
         | Symbol::Name
         | Symbol::Number(_)
-        | Symbol::Decimal(_) => Err(Fault {
-            answer: Answer::DEPTH,
-            at: pos,
-        }),
-        _ => Err(Fault {
-            answer: Answer::GRAMMAR,
-            at: pos,
-        }),
+        | Symbol::Decimal(_) => too_deep(pos),
+        _ => wrong(pos),
     }
 }
 
 // A statement, behind which `;` may stand, and 'end' where ends says so.
-pub fn statement(kinds: &[u8], pos: usize, ends: bool) -> Parsed
-    ensures { Limits (text kinds.now) (behind ends) (deeper a_statement ∷ []) pos result }
+pub fn statement(kinds: &[u8], pos: usize, ends: bool) -> Fault
+    ensures { Limits (text kinds.now) (behind ends) (deeper a_statement ∷ []) pos (Err result) }
 {
     match peek(kinds, pos) {
-        Symbol::Begin | Symbol::If | Symbol::For | Symbol::Name | Symbol::Semicolon => Err(Fault {
-            answer: Answer::DEPTH,
-            at: pos,
-        }),
-        Symbol::End => {
-            if ends {
-                return Err(Fault {
-                    answer: Answer::DEPTH,
-                    at: pos,
-                });
-            }
-            Err(Fault {
-                answer: Answer::GRAMMAR,
-                at: pos,
-            })
-        }
-        _ => Err(Fault {
-            answer: Answer::GRAMMAR,
-            at: pos,
-        }),
+        Symbol::Begin | Symbol::If | Symbol::For | Symbol::Name | Symbol::Semicolon => too_deep(
+            pos,
+        ),
+        Symbol::End => { if ends { too_deep(pos) } else { wrong(pos) } }
+        _ => wrong(pos),
     }
 }
 
 // A statement behind 'then': also 'else' may follow it where it is empty.
-pub fn consequence(kinds: &[u8], pos: usize, ends: bool) -> Parsed
-    ensures { Limits (text kinds.now) (behind ends) (part a_consequence ∷ []) pos result }
+pub fn consequence(kinds: &[u8], pos: usize, ends: bool) -> Fault
+    ensures { Limits (text kinds.now) (behind ends) (part a_consequence ∷ []) pos (Err result) }
 {
     match peek(kinds, pos) {
-        Symbol::For => Err(Fault {
-            answer: Answer::DEPTH,
-            at: pos,
-        }),
-        Symbol::Begin | Symbol::Name | Symbol::Else | Symbol::Semicolon => Err(Fault {
-            answer: Answer::DEPTH,
-            at: pos,
-        }),
-        Symbol::End => {
-            if ends {
-                return Err(Fault {
-                    answer: Answer::DEPTH,
-                    at: pos,
-                });
-            }
-            Err(Fault {
-                answer: Answer::GRAMMAR,
-                at: pos,
-            })
-        }
-        _ => Err(Fault {
-            answer: Answer::GRAMMAR,
-            at: pos,
-        }),
+        Symbol::For => too_deep(pos),
+        Symbol::Begin | Symbol::Name | Symbol::Else | Symbol::Semicolon => too_deep(pos),
+        Symbol::End => { if ends { too_deep(pos) } else { wrong(pos) } }
+        _ => wrong(pos),
     }
 }

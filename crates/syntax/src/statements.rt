@@ -155,7 +155,7 @@ fn nested_statement(
     ensures { Says (text kinds.now) nodes.old nodes.new depth pos (behind ends) (deeper a_statement ∷ []) pos free result }
 {
     if 64 <= depth {
-        return limits::statement(kinds, pos, ends);
+        return Err(limits::statement(kinds, pos, ends));
     }
     statement(kinds, pos, depth + 1, nodes, free, ends)
 }
@@ -214,7 +214,7 @@ fn consequence(
     ensures { Says (text kinds.now) nodes.old nodes.new depth pos (behind ends) (part a_consequence ∷ []) pos free result }
 {
     if 64 <= depth {
-        return limits::consequence(kinds, pos, ends);
+        return Err(limits::consequence(kinds, pos, ends));
     }
     match peek(kinds, pos) {
         Symbol::For => repetition(kinds, pos, depth + 1, nodes, free, ends),

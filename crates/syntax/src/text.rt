@@ -5,7 +5,7 @@ ghost use Rattle.symbols.specs.declared.Symbol.TheVariants.{Colon};
 ghost use Rattle.grammar.specs.model.Text.{text, kind_at};
 ghost use Rattle.syntax.specs.model.Says.{Stands, Lacks};
 
-use answers::Answer;
+use crate::faults::wrong;
 use grammar::Fault;
 use symbols::Symbol;
 use symbols::kinds::store;
@@ -30,10 +30,7 @@ pub fn expect(kinds: &[u8], i: usize, wanted: u8) -> Result<usize, Fault>
     if found.kind == wanted {
         Ok(i + 1)
     } else {
-        Err(Fault {
-            answer: Answer::GRAMMAR,
-            at: i,
-        })
+        Err(wrong(i))
     }
 }
 

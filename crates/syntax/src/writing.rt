@@ -2,8 +2,8 @@
 ghost use Rattle.std.specs.Prelude.{length, MatchResult, ◌+◌, ◌≤◌, ◌<◌, ◌≡◌};
 ghost use Rattle.syntax.specs.model.Says.{Put, Clear, Settles, Refuses};
 
-use answers::Answer;
-use grammar::{Fault, Parsed};
+use crate::faults::wrong;
+use grammar::Parsed;
 
 // Writes a node behind the words used, and gives the words used then.
 pub fn put(nodes: &mut [u16], used: usize, kind: u16, symbol: usize, one: u16, two: u16) -> usize
@@ -35,10 +35,7 @@ pub fn settle(one: Parsed, count: usize, nodes: &mut [u16]) -> Parsed
         }
         Ok(read) => {
             clear(nodes, 0);
-            Err(Fault {
-                answer: Answer::GRAMMAR,
-                at: read.next,
-            })
+            Err(wrong(read.next))
         }
         Err(fault) => {
             clear(nodes, 0);

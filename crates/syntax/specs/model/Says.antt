@@ -1,7 +1,7 @@
 -- What a reader's answer says of the relation's, and of the nodes. This serves the readers' contracts and is no part of the paper.
 use Rattle.std.specs.Prelude.{ℕ, ◌+◌, ◌*◌, ◌-◌, ◌<◌, ◌≤◌, ◌≡◌, Bool, true, false, List, [], ◌∷◌, ◌++◌, length, take, Ok, Err}
 use Rattle.answers.specs.Answers.{answer}
-use Rattle.answers.specs.Numbers.{grammar}
+use Rattle.answers.specs.Numbers.{grammar, depth}
 use Rattle.answers.specs.declared.Answer.{Answer}
 use Rattle.symbols.specs.Symbols.{kind}
 use Rattle.symbols.specs.declared.Symbol.TheVariants.{End, Semicolon}
@@ -32,6 +32,13 @@ pub record Behind (ks old : List ℕ) (i a : ℕ) : Type 0 where
   pub size : length old ≡ 32768
   pub room : a ≤ 12 * i
 
+-- the two faults
+abbrev pub wrong_at : ℕ → Fault
+wrong_at i = record { answer = answer grammar; at = i }
+
+abbrev pub deep_at : ℕ → Fault
+deep_at i = record { answer = answer depth; at = i }
+
 -- a symbol of the kind k stands at i, and j is behind it
 pub record Stands (ks : List ℕ) (i k j : ℕ) : Type 0 where
   pub found : kind_at ks i ≡ k
@@ -41,7 +48,7 @@ pub record Stands (ks : List ℕ) (i k j : ℕ) : Type 0 where
 -- none of that kind stands at i, which is a fault there
 pub record Lacks (ks : List ℕ) (i k : ℕ) (f : Fault) : Type 0 where
   pub other : kind_at ks i ≡ k → ⊥
-  pub fault : f ≡ record { answer = answer grammar; at = i }
+  pub fault : f ≡ wrong_at i
 
 -- a node was written
 pub record Put (old new : List ℕ) (a b k s x y : ℕ) : Type 0 where

@@ -413,7 +413,7 @@ primary-returns-in-Decimal t c =
     λ F. s_prod G.decimal (ap (λ (z : ℕ). choose G.primary z 0) (is_at c.peek.result c.peek.ensures c.in-Decimal.in-Decimal-own.keys6)) (s_sy (is_at c.peek.result c.peek.ensures c.in-Decimal.in-Decimal-own.keys6) (s_put c.put-end-in-Decimal.ensures (omega arith) (omega arith) (omega arith) (s_end (omega arith))))
 
 pub primary-returns-in_default : goal.primary-returns-in_default
-primary-returns-in_default t c = λ F. s_none (C.else_primary (is_not c.peek.result c.peek.ensures (but (15 ∷ 16 ∷ 36 ∷ 38 ∷ 39 ∷ 42 ∷ [])) 39 refl (opened c.in_default.in_default-own.keys7)) (is_not c.peek.result c.peek.ensures (but (15 ∷ 16 ∷ 36 ∷ 38 ∷ 39 ∷ 42 ∷ [])) 15 refl (opened c.in_default.in_default-own.keys7)) (is_not c.peek.result c.peek.ensures (but (15 ∷ 16 ∷ 36 ∷ 38 ∷ 39 ∷ 42 ∷ [])) 16 refl (opened c.in_default.in_default-own.keys7)) (is_not c.peek.result c.peek.ensures (but (15 ∷ 16 ∷ 36 ∷ 38 ∷ 39 ∷ 42 ∷ [])) 38 refl (opened c.in_default.in_default-own.keys7)) (is_not c.peek.result c.peek.ensures (but (15 ∷ 16 ∷ 36 ∷ 38 ∷ 39 ∷ 42 ∷ [])) 36 refl (opened c.in_default.in_default-own.keys7)) (is_not c.peek.result c.peek.ensures (but (15 ∷ 16 ∷ 36 ∷ 38 ∷ 39 ∷ 42 ∷ [])) 42 refl (opened c.in_default.in_default-own.keys7)))
+primary-returns-in_default t c = λ F. s_none c.wrong.ensures (C.else_primary (is_not c.peek.result c.peek.ensures (but (15 ∷ 16 ∷ 36 ∷ 38 ∷ 39 ∷ 42 ∷ [])) 39 refl (opened c.in_default.in_default-own.keys7)) (is_not c.peek.result c.peek.ensures (but (15 ∷ 16 ∷ 36 ∷ 38 ∷ 39 ∷ 42 ∷ [])) 15 refl (opened c.in_default.in_default-own.keys7)) (is_not c.peek.result c.peek.ensures (but (15 ∷ 16 ∷ 36 ∷ 38 ∷ 39 ∷ 42 ∷ [])) 16 refl (opened c.in_default.in_default-own.keys7)) (is_not c.peek.result c.peek.ensures (but (15 ∷ 16 ∷ 36 ∷ 38 ∷ 39 ∷ 42 ∷ [])) 38 refl (opened c.in_default.in_default-own.keys7)) (is_not c.peek.result c.peek.ensures (but (15 ∷ 16 ∷ 36 ∷ 38 ∷ 39 ∷ 42 ∷ [])) 36 refl (opened c.in_default.in_default-own.keys7)) (is_not c.peek.result c.peek.ensures (but (15 ∷ 16 ∷ 36 ∷ 38 ∷ 39 ∷ 42 ∷ [])) 42 refl (opened c.in_default.in_default-own.keys7)))
 
 pub relation-comparison-requires : goal.relation-comparison-requires
 relation-comparison-requires t c =

@@ -93,4 +93,4 @@ returns-in-Real c =
     λ d F. s_prod G.real (ap (λ (z : ℕ). choose G.type z 0) (is_at c.peek.result c.peek.ensures c.in-Real.in-Real-own.keys3)) (s_sy (is_at c.peek.result c.peek.ensures c.in-Real.in-Real-own.keys3) (s_put c.put-end-in-Real.ensures (omega arith) (omega arith) (omega arith) (s_end (omega arith))))
 
 pub returns-in_default : goal.returns-in_default
-returns-in_default c = λ d F. s_none (C.else_type (is_not c.peek.result c.peek.ensures (but (11 ∷ 12 ∷ 40 ∷ [])) 11 refl (opened c.in_default.in_default-own.keys4)) (is_not c.peek.result c.peek.ensures (but (11 ∷ 12 ∷ 40 ∷ [])) 12 refl (opened c.in_default.in_default-own.keys4)) (is_not c.peek.result c.peek.ensures (but (11 ∷ 12 ∷ 40 ∷ [])) 40 refl (opened c.in_default.in_default-own.keys4)))
+returns-in_default c = λ d F. s_none c.wrong.ensures (C.else_type (is_not c.peek.result c.peek.ensures (but (11 ∷ 12 ∷ 40 ∷ [])) 11 refl (opened c.in_default.in_default-own.keys4)) (is_not c.peek.result c.peek.ensures (but (11 ∷ 12 ∷ 40 ∷ [])) 12 refl (opened c.in_default.in_default-own.keys4)) (is_not c.peek.result c.peek.ensures (but (11 ∷ 12 ∷ 40 ∷ [])) 40 refl (opened c.in_default.in_default-own.keys4)))

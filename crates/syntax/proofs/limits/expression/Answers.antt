@@ -8,7 +8,7 @@ use borrow.Enum.Refused.{opened}
 use Rattle.syntax.proofs.limits.expression.Goals as goal
 
 pub returns-in-If : goal.returns-in-If
-returns-in-If c = λ F. limits (rd_six (is_in c.peek.result c.peek.ensures (2 ∷ 15 ∷ 16 ∷ 19 ∷ 22 ∷ 23 ∷ 36 ∷ 38 ∷ 39 ∷ 42 ∷ []) c.in-If.in-If-own.keys1))
+returns-in-If c = λ F. limits c.too_deep.ensures (rd_six (is_in c.peek.result c.peek.ensures (2 ∷ 15 ∷ 16 ∷ 19 ∷ 22 ∷ 23 ∷ 36 ∷ 38 ∷ 39 ∷ 42 ∷ []) c.in-If.in-If-own.keys1))
 
 pub returns-in_default : goal.returns-in_default
-returns-in_default c = λ F. limits (rd_five (is_none c.peek.result c.peek.ensures (but (2 ∷ 15 ∷ 16 ∷ 19 ∷ 22 ∷ 23 ∷ 36 ∷ 38 ∷ 39 ∷ 42 ∷ [])) (2 ∷ 15 ∷ 16 ∷ 19 ∷ 22 ∷ 23 ∷ 36 ∷ 38 ∷ 39 ∷ 42 ∷ []) refl (opened c.in_default.in_default-own.keys2)))
+returns-in_default c = λ F. limits c.wrong.ensures (rd_five (is_none c.peek.result c.peek.ensures (but (2 ∷ 15 ∷ 16 ∷ 19 ∷ 22 ∷ 23 ∷ 36 ∷ 38 ∷ 39 ∷ 42 ∷ [])) (2 ∷ 15 ∷ 16 ∷ 19 ∷ 22 ∷ 23 ∷ 36 ∷ 38 ∷ 39 ∷ 42 ∷ []) refl (opened c.in_default.in_default-own.keys2)))

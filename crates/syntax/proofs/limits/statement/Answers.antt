@@ -8,13 +8,13 @@ use borrow.Enum.Refused.{opened}
 use Rattle.syntax.proofs.limits.statement.Goals as goal
 
 pub returns-then-ends : goal.returns-then-ends
-returns-then-ends c = limits (rd_six (may_end (0 ∷ 2 ∷ 5 ∷ 38 ∷ []) c.if-ends.true refl (is_at c.peek.result c.peek.ensures c.in-End.in-End-own.keys2)))
+returns-then-ends c = limits c.too_deep-then-ends.ensures (rd_six (may_end (0 ∷ 2 ∷ 5 ∷ 38 ∷ []) c.if-ends.true refl (is_at c.peek.result c.peek.ensures c.in-End.in-End-own.keys2)))
 
 pub returns-in-Begin : goal.returns-in-Begin
-returns-in-Begin c = limits (rd_six (may (0 ∷ 2 ∷ 5 ∷ 38 ∷ []) c.args.ends (0 ∷ 2 ∷ 5 ∷ 38 ∷ 35 ∷ []) refl refl (is_in c.peek.result c.peek.ensures (0 ∷ 2 ∷ 5 ∷ 38 ∷ 35 ∷ []) c.in-Begin.in-Begin-own.keys1)))
+returns-in-Begin c = limits c.too_deep.ensures (rd_six (may (0 ∷ 2 ∷ 5 ∷ 38 ∷ []) c.args.ends (0 ∷ 2 ∷ 5 ∷ 38 ∷ 35 ∷ []) refl refl (is_in c.peek.result c.peek.ensures (0 ∷ 2 ∷ 5 ∷ 38 ∷ 35 ∷ []) c.in-Begin.in-Begin-own.keys1)))
 
 pub returns-else-ends : goal.returns-else-ends
-returns-else-ends c = limits (rd_five (may_not_end (0 ∷ 2 ∷ 5 ∷ 38 ∷ []) c.if-ends.false refl (is_at c.peek.result c.peek.ensures c.in-End.in-End-own.keys2)))
+returns-else-ends c = limits c.wrong.ensures (rd_five (may_not_end (0 ∷ 2 ∷ 5 ∷ 38 ∷ []) c.if-ends.false refl (is_at c.peek.result c.peek.ensures c.in-End.in-End-own.keys2)))
 
 pub returns-in_default : goal.returns-in_default
-returns-in_default c = limits (rd_five (may_not (0 ∷ 2 ∷ 5 ∷ 38 ∷ []) c.args.ends (but (0 ∷ 1 ∷ 2 ∷ 5 ∷ 35 ∷ 38 ∷ [])) refl refl (is_in c.peek.result c.peek.ensures (but (0 ∷ 1 ∷ 2 ∷ 5 ∷ 35 ∷ 38 ∷ [])) (opened c.in_default.in_default-own.keys3))))
+returns-in_default c = limits c.wrong-in_default.ensures (rd_five (may_not (0 ∷ 2 ∷ 5 ∷ 38 ∷ []) c.args.ends (but (0 ∷ 1 ∷ 2 ∷ 5 ∷ 35 ∷ 38 ∷ [])) refl refl (is_in c.peek.result c.peek.ensures (but (0 ∷ 1 ∷ 2 ∷ 5 ∷ 35 ∷ 38 ∷ [])) (opened c.in_default.in_default-own.keys3))))

@@ -16,4 +16,4 @@ returns-then-found-wanted c =
     record { found = e; inside = inside _ _ e c.requires; next = refl }
 
 pub returns-else-found-wanted : goal.returns-else-found-wanted
-returns-else-found-wanted c = record { other = λ h. c.if-found-wanted.false (ap (λ (x : Stored). x.kind) c.store-found.ensures ∙ c.peek.ensures ∙ h); fault = refl }
+returns-else-found-wanted c = record { other = λ h. c.if-found-wanted.false (ap (λ (x : Stored). x.kind) c.store-found.ensures ∙ c.peek.ensures ∙ h); fault = c.wrong.ensures }
