@@ -130,6 +130,9 @@ module _ {ks : List ℕ} {d B : ℕ} {F : List ℕ} where
   pub s_end : {old : List ℕ} {i a : ℕ} → i ≤ length ks → SaysWith ks old old d B F no_more i a (read_to i a)
   s_end l = says_got (g_end l)
 
+  pub s_end_at : {old : List ℕ} {i : ℕ} {g : Read} → g.next ≡ i → i ≤ length ks → SaysWith ks old old d B F no_more i g.used (Ok g)
+  s_end_at {old} {i} {g} e l = rw (sym e) (s_end (rw e l))
+
   pub s_sy : {old new : List ℕ} {is : List Item} {ms : Marks is} {k i a : ℕ} {r : Parsed} → kind_at ks i ≡ k → SaysWith ks old new d B F ms (i + 1) a r → SaysWith ks old new d B F (past {x = sy k} ms) i a r
   s_sy e s = record { read = λ j b q. g_sy e (s.read j b q); refused = λ n k q. sy_bad e (s.refused n k q) }
 

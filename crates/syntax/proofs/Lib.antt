@@ -1,5 +1,4 @@
 pub mod Lemmas
 pub mod Choices
-pub mod Words
 pub mod Whole
 pub mod WholePrelude

@@ -12,7 +12,7 @@ use crate::faults::wrong;
 use crate::limits;
 use crate::operators::{operator, relational};
 use crate::text::{expect, peek};
-use crate::writing::put;
+use crate::writing::{leaf, put};
 use grammar::{Level, Parsed, Read, Use, nodes};
 use symbols::{Symbol, kinds};
 
@@ -181,40 +181,16 @@ fn primary(kinds: &[u8], pos: usize, depth: u16, nodes: &mut [u16], free: usize)
     ensures { Tells (text kinds.now) nodes.old nodes.new depth (part a_primary ∷ []) pos free result }
 {
     match peek(kinds, pos) {
-        Symbol::Number(_) => {
-            let end = put(nodes, free, nodes::NUMBER, pos, 0, 0);
-            Ok(Read {
-                next: pos + 1,
-                used: end,
-            })
-        }
-        Symbol::True => {
-            let end = put(nodes, free, nodes::LOGICAL, pos, 1, 0);
-            Ok(Read {
-                next: pos + 1,
-                used: end,
-            })
-        }
-        Symbol::False => {
-            let end = put(nodes, free, nodes::LOGICAL, pos, 0, 0);
-            Ok(Read {
-                next: pos + 1,
-                used: end,
-            })
-        }
+        Symbol::Number(_) => Ok(leaf(nodes, free, pos, nodes::NUMBER, pos, 0)),
+        Symbol::True => Ok(leaf(nodes, free, pos, nodes::LOGICAL, pos, 1)),
+        Symbol::False => Ok(leaf(nodes, free, pos, nodes::LOGICAL, pos, 0)),
         Symbol::Name => actuals(kinds, pos, depth, nodes, free, Use::AsPrimary),
         Symbol::Open => {
             let Read { next, used } = nested(kinds, pos + 1, depth, nodes, free)?;
             let next = expect(kinds, next, kinds::CLOSE)?;
             Ok(Read { next, used })
         }
-        Symbol::Decimal(_) => {
-            let end = put(nodes, free, nodes::DECIMAL, pos, 0, 0);
-            Ok(Read {
-                next: pos + 1,
-                used: end,
-            })
-        }
+        Symbol::Decimal(_) => Ok(leaf(nodes, free, pos, nodes::DECIMAL, pos, 0)),
         _ => Err(wrong(pos)),
     }
 }

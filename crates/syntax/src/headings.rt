@@ -9,7 +9,7 @@ ghost use Rattle.syntax.specs.model.Says.{Room, TellsAll};
 
 use crate::faults::wrong;
 use crate::text::{expect, peek};
-use crate::writing::put;
+use crate::writing::{leaf, put};
 use grammar::{Entry, Parsed, Read, nodes};
 use symbols::{Symbol, kinds};
 
@@ -19,27 +19,9 @@ pub fn type_symbol(kinds: &[u8], pos: usize, nodes: &mut [u16], free: usize) -> 
     ensures { TellsAll (text kinds.now) nodes.old nodes.new (part type ∷ []) pos free result }
 {
     match peek(kinds, pos) {
-        Symbol::Integer => {
-            let end = put(nodes, free, nodes::TYPE, 0, 1, 0);
-            Ok(Read {
-                next: pos + 1,
-                used: end,
-            })
-        }
-        Symbol::Boolean => {
-            let end = put(nodes, free, nodes::TYPE, 0, 2, 0);
-            Ok(Read {
-                next: pos + 1,
-                used: end,
-            })
-        }
-        Symbol::Real => {
-            let end = put(nodes, free, nodes::TYPE, 0, 3, 0);
-            Ok(Read {
-                next: pos + 1,
-                used: end,
-            })
-        }
+        Symbol::Integer => Ok(leaf(nodes, free, pos, nodes::TYPE, 0, 1)),
+        Symbol::Boolean => Ok(leaf(nodes, free, pos, nodes::TYPE, 0, 2)),
+        Symbol::Real => Ok(leaf(nodes, free, pos, nodes::TYPE, 0, 3)),
         _ => Err(wrong(pos)),
     }
 }

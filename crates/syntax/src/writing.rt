@@ -3,7 +3,7 @@ ghost use Rattle.std.specs.Prelude.{length, MatchResult, ◌+◌, ◌≤◌, ◌
 ghost use Rattle.syntax.specs.model.Says.{Put, Clear, Settles, Refuses};
 
 use crate::faults::wrong;
-use grammar::Parsed;
+use grammar::{Parsed, Read};
 
 // Writes a node behind the words used, and gives the words used then.
 pub fn put(nodes: &mut [u16], used: usize, kind: u16, symbol: usize, one: u16, two: u16) -> usize
@@ -13,6 +13,18 @@ pub fn put(nodes: &mut [u16], used: usize, kind: u16, symbol: usize, one: u16, t
     let end = used + 4;
     nodes[used..end].copy_from_slice(&[kind, symbol as u16, one, two]);
     end
+}
+
+// Reads one symbol, and writes a node for it.
+pub fn leaf(nodes: &mut [u16], used: usize, pos: usize, kind: u16, symbol: usize, one: u16) -> Read
+    requires { (used + 4 ≤ length nodes.old) × (symbol < 65536) × (pos < 65536) }
+    ensures { Put nodes.old nodes.new used result.used kind symbol one 0 × (result.next ≡ pos + 1) }
+{
+    let end = put(nodes, used, kind, symbol, one, 0);
+    Read {
+        next: pos + 1,
+        used: end,
+    }
 }
 
 // Sets the words from a place on to zero.

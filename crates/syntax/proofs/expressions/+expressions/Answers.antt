@@ -7,7 +7,7 @@ use native.Mathlib.Omega.{arith}
 use Rattle.grammar.specs.model.Tables.{choose}
 use Rattle.grammar.specs.model.Text.{text, kind_at}
 use Rattle.grammar.proofs.Peeks.{inside, is_at, is_not, but}
-use Rattle.syntax.proofs.Lemmas.{says_limit, got_of, space, s_end, s_sy, s_put, s_none, s_prod, s_part, s_bad, s_exit, s_last, s_deeper, s_stands, s_lacks}
+use Rattle.syntax.proofs.Lemmas.{says_limit, got_of, space, s_end, s_end_at, s_sy, s_put, s_none, s_prod, s_part, s_bad, s_exit, s_last, s_deeper, s_stands, s_lacks}
 use Rattle.grammar.specs.Grammar as G
 use Rattle.grammar.specs.declared.Level.TheVariants as L
 use Rattle.syntax.proofs.Choices as C
@@ -385,22 +385,22 @@ pub primary-returns-in-Number : goal.primary-returns-in-Number
 primary-returns-in-Number t c =
     let μ = c.decreases in let r = c.requires in
     let i1 = inside _ _ (is_at c.peek.result c.peek.ensures c.in-Number.in-Number-own.keys1) (λ h. omega arith) in
-    let p1 = c.put-end.ensures in let k1 = c.put-end.auto.nodes in
-    λ F. s_prod G.number (ap (λ (z : ℕ). choose G.primary z 0) (is_at c.peek.result c.peek.ensures c.in-Number.in-Number-own.keys1)) (s_sy (is_at c.peek.result c.peek.ensures c.in-Number.in-Number-own.keys1) (s_put c.put-end.ensures (omega arith) (omega arith) (omega arith) (s_end (omega arith))))
+    let p1 = c.leaf.ensures.0 in let k1 = c.leaf.auto.nodes in
+    λ F. s_prod G.number (ap (λ (z : ℕ). choose G.primary z 0) (is_at c.peek.result c.peek.ensures c.in-Number.in-Number-own.keys1)) (s_sy (is_at c.peek.result c.peek.ensures c.in-Number.in-Number-own.keys1) (s_put c.leaf.ensures.0 (omega arith) (omega arith) (omega arith) (s_end_at c.leaf.ensures.1 (omega arith))))
 
 pub primary-returns-in-True : goal.primary-returns-in-True
 primary-returns-in-True t c =
     let μ = c.decreases in let r = c.requires in
     let i1 = inside _ _ (is_at c.peek.result c.peek.ensures c.in-True.in-True-own.keys2) (λ h. omega arith) in
-    let p1 = c.put-end-in-True.ensures in let k1 = c.put-end-in-True.auto.nodes in
-    λ F. s_prod G.true_value (ap (λ (z : ℕ). choose G.primary z 0) (is_at c.peek.result c.peek.ensures c.in-True.in-True-own.keys2)) (s_sy (is_at c.peek.result c.peek.ensures c.in-True.in-True-own.keys2) (s_put c.put-end-in-True.ensures (omega arith) (omega arith) (omega arith) (s_end (omega arith))))
+    let p1 = c.leaf-in-True.ensures.0 in let k1 = c.leaf-in-True.auto.nodes in
+    λ F. s_prod G.true_value (ap (λ (z : ℕ). choose G.primary z 0) (is_at c.peek.result c.peek.ensures c.in-True.in-True-own.keys2)) (s_sy (is_at c.peek.result c.peek.ensures c.in-True.in-True-own.keys2) (s_put c.leaf-in-True.ensures.0 (omega arith) (omega arith) (omega arith) (s_end_at c.leaf-in-True.ensures.1 (omega arith))))
 
 pub primary-returns-in-False : goal.primary-returns-in-False
 primary-returns-in-False t c =
     let μ = c.decreases in let r = c.requires in
     let i1 = inside _ _ (is_at c.peek.result c.peek.ensures c.in-False.in-False-own.keys3) (λ h. omega arith) in
-    let p1 = c.put-end-in-False.ensures in let k1 = c.put-end-in-False.auto.nodes in
-    λ F. s_prod G.false_value (ap (λ (z : ℕ). choose G.primary z 0) (is_at c.peek.result c.peek.ensures c.in-False.in-False-own.keys3)) (s_sy (is_at c.peek.result c.peek.ensures c.in-False.in-False-own.keys3) (s_put c.put-end-in-False.ensures (omega arith) (omega arith) (omega arith) (s_end (omega arith))))
+    let p1 = c.leaf-in-False.ensures.0 in let k1 = c.leaf-in-False.auto.nodes in
+    λ F. s_prod G.false_value (ap (λ (z : ℕ). choose G.primary z 0) (is_at c.peek.result c.peek.ensures c.in-False.in-False-own.keys3)) (s_sy (is_at c.peek.result c.peek.ensures c.in-False.in-False-own.keys3) (s_put c.leaf-in-False.ensures.0 (omega arith) (omega arith) (omega arith) (s_end_at c.leaf-in-False.ensures.1 (omega arith))))
 
 pub primary-returns-in-Name : goal.primary-returns-in-Name
 primary-returns-in-Name t c = λ F. s_prod G.a_name_lem (ap (λ (z : ℕ). choose G.primary z 0) (is_at c.peek.result c.peek.ensures c.in-Name.in-Name-own.keys4)) (s_sy (is_at c.peek.result c.peek.ensures c.in-Name.in-Name-own.keys4) (s_last (c.actuals.ensures _)))
@@ -409,8 +409,8 @@ pub primary-returns-in-Decimal : goal.primary-returns-in-Decimal
 primary-returns-in-Decimal t c =
     let μ = c.decreases in let r = c.requires in
     let i1 = inside _ _ (is_at c.peek.result c.peek.ensures c.in-Decimal.in-Decimal-own.keys6) (λ h. omega arith) in
-    let p1 = c.put-end-in-Decimal.ensures in let k1 = c.put-end-in-Decimal.auto.nodes in
-    λ F. s_prod G.decimal (ap (λ (z : ℕ). choose G.primary z 0) (is_at c.peek.result c.peek.ensures c.in-Decimal.in-Decimal-own.keys6)) (s_sy (is_at c.peek.result c.peek.ensures c.in-Decimal.in-Decimal-own.keys6) (s_put c.put-end-in-Decimal.ensures (omega arith) (omega arith) (omega arith) (s_end (omega arith))))
+    let p1 = c.leaf-in-Decimal.ensures.0 in let k1 = c.leaf-in-Decimal.auto.nodes in
+    λ F. s_prod G.decimal (ap (λ (z : ℕ). choose G.primary z 0) (is_at c.peek.result c.peek.ensures c.in-Decimal.in-Decimal-own.keys6)) (s_sy (is_at c.peek.result c.peek.ensures c.in-Decimal.in-Decimal-own.keys6) (s_put c.leaf-in-Decimal.ensures.0 (omega arith) (omega arith) (omega arith) (s_end_at c.leaf-in-Decimal.ensures.1 (omega arith))))
 
 pub primary-returns-in_default : goal.primary-returns-in_default
 primary-returns-in_default t c = λ F. s_none c.wrong.ensures (C.else_primary (is_not c.peek.result c.peek.ensures (but (15 ∷ 16 ∷ 36 ∷ 38 ∷ 39 ∷ 42 ∷ [])) 39 refl (opened c.in_default.in_default-own.keys7)) (is_not c.peek.result c.peek.ensures (but (15 ∷ 16 ∷ 36 ∷ 38 ∷ 39 ∷ 42 ∷ [])) 15 refl (opened c.in_default.in_default-own.keys7)) (is_not c.peek.result c.peek.ensures (but (15 ∷ 16 ∷ 36 ∷ 38 ∷ 39 ∷ 42 ∷ [])) 16 refl (opened c.in_default.in_default-own.keys7)) (is_not c.peek.result c.peek.ensures (but (15 ∷ 16 ∷ 36 ∷ 38 ∷ 39 ∷ 42 ∷ [])) 38 refl (opened c.in_default.in_default-own.keys7)) (is_not c.peek.result c.peek.ensures (but (15 ∷ 16 ∷ 36 ∷ 38 ∷ 39 ∷ 42 ∷ [])) 36 refl (opened c.in_default.in_default-own.keys7)) (is_not c.peek.result c.peek.ensures (but (15 ∷ 16 ∷ 36 ∷ 38 ∷ 39 ∷ 42 ∷ [])) 42 refl (opened c.in_default.in_default-own.keys7)))
