@@ -19,6 +19,7 @@ pub struct Judgement {
 }
 
 // What an actual must be: an expression of a type, a variable or formal of it alone, or nothing is asked.
+// Kept: no plainer, three ways side by side; an `Option` would be two layers.
 #[derive(Clone, Copy)]
 pub enum Want {
     An(u16),

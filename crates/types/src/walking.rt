@@ -169,10 +169,9 @@ fn actual(
     requires { (t.depth ≤ 8192) × (t.calls ≤ 8192) × CountsWithin (calls_of t.calls calls.old) 8191 × (length rows.now ≤ 32768) }
     ensures { (u b : List ℕ) → see result u stack.now calls.new b ≡ actual_in rows.now (calls_of t.calls calls.old) bare symbol.number (see t u stack.now calls.old b) }
 {
-    if t.calls == 0 {
+    let Some(n) = t.calls.checked_sub(1) else {
         return pop(t);
-    }
-    let n = t.calls - 1;
+    };
     let c = calls[n];
     let w = meanings::wanted(rows, meant(c.meaning), c.count as usize);
     let alone = bare as usize == c.depth as usize + 1;
@@ -193,10 +192,9 @@ fn call_end(
     requires { (t.depth < 8192) × (t.calls ≤ 8192) × (length rows.now ≤ 32768) }
     ensures { (u b : List ℕ) → see result u stack.new calls.now b ≡ call_ended rows.now (calls_of t.calls calls.now) symbol.number as_statement (see t u stack.old calls.now b) }
 {
-    if t.calls == 0 {
+    let Some(n) = t.calls.checked_sub(1) else {
         return t;
-    }
-    let n = t.calls - 1;
+    };
     let m = meant(calls[n].meaning);
     let has = calls[n].count as usize;
     t.calls = n;

@@ -7,10 +7,10 @@ use Rattle.types.specs.model.Passes.{judged, with_calls}
 use Rattle.types.proofs.Stacks.{meant_within, noted_ap, pushed_ap, miscalled_ap, primary_ap, ended_none, ended_statement, ended_primary}
 use Rattle.types.proofs.walking.call_end.Goals as goal
 
-pub returns-then-t-eq0 : goal.returns-then-t-eq0
-returns-then-t-eq0 c =
+pub returns-in_default : goal.returns-in_default
+returns-in_default c =
     let args = c.args in
-    λ u b. sym (ended_none args.rows.now args.t.calls args.calls.now args.symbol.number (see args.t u args.stack.now args.calls.now b) args.as_statement c.if-t-eq0.true)
+    λ u b. sym (ended_none args.rows.now args.t.calls args.calls.now args.symbol.number (see args.t u args.stack.now args.calls.now b) args.as_statement (omega (arith, c.in_default.ensures)))
 
 pub miscalled-requires : goal.miscalled-requires
 miscalled-requires c = (c.requires.2, subst MeantWithin (sym c.meant-m.ensures) (meant_within _))
@@ -19,7 +19,7 @@ pub returns-then-as_statement-eq1 : goal.returns-then-as_statement-eq1
 unfolding with_calls
 returns-then-as_statement-eq1 c =
     λ u b. c.note.ensures.b_value u _ _ b ∙ noted_ap _ (c.miscalled.ensures ∙ miscalled_ap c.args.rows.now c.meant-m.ensures refl) refl
-    ∙ sym (ended_statement c.args.rows.now c.args.t.calls c.args.calls.now c.args.symbol.number (see c.args.t u c.args.stack.now c.args.calls.now b) c.args.as_statement c.if-t-eq0.false (eq-eqb _ _ c.if-as_statement-eq1.true))
+    ∙ sym (ended_statement c.args.rows.now c.args.t.calls c.args.calls.now c.args.symbol.number (see c.args.t u c.args.stack.now c.args.calls.now b) c.args.as_statement c.in-Some.n (omega (arith, c.in-Some.ensures)) (eq-eqb _ _ c.if-as_statement-eq1.true))
 
 pub in_expression-j-requires : goal.in_expression-j-requires
 in_expression-j-requires c = (c.requires.2, subst MeantWithin (sym c.meant-m.ensures) (meant_within _))
@@ -30,4 +30,4 @@ returns c =
     let j = c.in_expression-j.ensures ∙ primary_ap c.args.rows.now c.meant-m.ensures refl in
     λ u b. c.push.ensures u _ b
     ∙ pushed_ap (ap (λ (z : Judgement). z.sort) j) (c.note-2.ensures.b_value u _ _ b ∙ noted_ap _ (ap (λ (z : Judgement). z.wrong) j) refl)
-    ∙ sym (ended_primary c.args.rows.now c.args.t.calls c.args.calls.now c.args.symbol.number (see c.args.t u c.args.stack.now c.args.calls.now b) c.args.as_statement c.if-t-eq0.false (ne_eqb _ _ c.if-as_statement-eq1.false))
+    ∙ sym (ended_primary c.args.rows.now c.args.t.calls c.args.calls.now c.args.symbol.number (see c.args.t u c.args.stack.now c.args.calls.now b) c.args.as_statement c.in-Some.n (omega (arith, c.in-Some.ensures)) (ne_eqb _ _ c.if-as_statement-eq1.false))
