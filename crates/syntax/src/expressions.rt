@@ -128,7 +128,7 @@ fn negation(kinds: &[u8], pos: usize, depth: u16, nodes: &mut [u16], free: usize
     match peek(kinds, pos) {
         Symbol::Not => {
             let Read { next, used } = relation(kinds, pos + 1, depth, nodes, free)?;
-            let end = put(nodes, used, nodes::UNARY, pos, 19, 0);
+            let end = put(nodes, used, nodes::UNARY, pos, kinds::NOT as u16, 0);
             Ok(Read { next, used: end })
         }
         _ => relation(kinds, pos, depth, nodes, free),
@@ -195,6 +195,7 @@ fn primary(kinds: &[u8], pos: usize, depth: u16, nodes: &mut [u16], free: usize)
     }
 }
 
+// Kept: no plainer, the name says which number of a use it is; From would not.
 fn use_number(u: Use) -> u16
     ensures { result ≡ use_number u }
 {

@@ -26,6 +26,7 @@ pub fn type_symbol(kinds: &[u8], pos: usize, nodes: &mut [u16], free: usize) -> 
     }
 }
 
+// Kept: no plainer, a node's kind is one of several numbers of an entry, and the name says which; From would not.
 fn entry_node(e: Entry) -> u16
     ensures { result ≡ entry_node e }
 {
