@@ -1,4 +1,5 @@
 -- `types::walking::call_end` meets its contract: the newest call ends as a statement or as a primary, by the tests.
+use native.Mathlib.Omega.{arith}
 use mathlib.Core.Path.{refl, sym, ap, subst, ◌∙◌}
 use borrow.Author.Tests.{eq-eqb, ne_eqb}
 use Rattle.types.specs.declared.Judgement.{Judgement}
