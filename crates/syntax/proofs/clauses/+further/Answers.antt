@@ -14,17 +14,12 @@ use Rattle.syntax.proofs.clauses.+further.Goals as goal
 
 pub element-requires : goal.element-requires
 element-requires t c =
-    let μ = c.decreases in
-    let r = c.requires in
     let i1 = inside _ _ (is_at c.peek.result c.peek.ensures c.in-Comma.in-Comma-own.keys1) (λ h. omega arith) in
     record { inside = omega arith; short = omega arith; size = omega arith; room = omega arith }
 
 pub further-requires : goal.further-requires
 further-requires t c =
-    let μ = c.decreases in
-    let r = c.requires in
     let i1 = inside _ _ (is_at c.peek.result c.peek.ensures c.in-Comma.in-Comma-own.keys1) (λ h. omega arith) in
-    let l1 = c.element.auto.nodes in
     let g1 = got_of (c.in_ok-next-in-Comma.ensures []) in let s1 = space g1 in
     (omega arith, record { inside = omega arith; short = omega arith; size = omega arith; room = omega arith })
 
@@ -36,6 +31,4 @@ returns-in_ok-next-in-Comma t c = λ F. s_prod G.another_element (ap (λ (z : �
 
 pub returns-in_default : goal.returns-in_default
 returns-in_default t c =
-    let μ = c.decreases in
-    let r = c.requires in
     λ F. s_prod G.no_element (C.else_further (is_not c.peek.result c.peek.ensures (but (32 ∷ [])) 32 refl (opened c.in_default.in_default-own.keys2))) (s_end (omega arith))

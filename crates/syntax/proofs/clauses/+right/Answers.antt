@@ -13,55 +13,38 @@ use Rattle.syntax.proofs.clauses.+right.Goals as goal
 
 pub overflow_add-name : goal.overflow_add-name
 overflow_add-name t c =
-    let μ = c.decreases in
-    let r = c.requires in
     omega arith
 
 pub overflow_add-next : goal.overflow_add-next
 overflow_add-next t c =
-    let μ = c.decreases in
-    let r = c.requires in
     let i1 = inside _ _ (is_at c.peek.result c.peek.ensures c.in-Name.in-Name-own.keys1) (λ h. omega arith) in
     omega arith
 
 pub put-left-requires : goal.put-left-requires
 put-left-requires t c =
-    let μ = c.decreases in
-    let r = c.requires in
     let i1 = inside _ _ (is_at c.peek.result c.peek.ensures c.in-Name.in-Name-own.keys1) (λ h. omega arith) in
     let i2 = inside _ _ (is_at c.peek-in-Name.result c.peek-in-Name.ensures c.in-Becomes.in-Becomes-own.keys1) (λ h. omega arith) in
     (omega arith, omega arith)
 
 pub right-requires : goal.right-requires
 right-requires t c =
-    let μ = c.decreases in
-    let r = c.requires in
     let i1 = inside _ _ (is_at c.peek.result c.peek.ensures c.in-Name.in-Name-own.keys1) (λ h. omega arith) in
     let i2 = inside _ _ (is_at c.peek-in-Name.result c.peek-in-Name.ensures c.in-Becomes.in-Becomes-own.keys1) (λ h. omega arith) in
-    let p1 = c.put-left.ensures in let k1 = c.put-left.auto.nodes in
     (omega arith, record { inside = omega arith; short = omega arith; size = omega arith; room = omega arith })
 
 pub value-requires : goal.value-requires
 value-requires t c =
-    let μ = c.decreases in
-    let r = c.requires in
     let i1 = inside _ _ (is_at c.peek.result c.peek.ensures c.in-Name.in-Name-own.keys1) (λ h. omega arith) in
     record { inside = omega arith; short = omega arith; size = omega arith; room = omega arith }
 
 pub value-requires-in_default : goal.value-requires-in_default
 value-requires-in_default t c =
-    let μ = c.decreases in
-    let r = c.requires in
     record { inside = omega arith; short = omega arith; size = omega arith; room = omega arith }
 
 pub shape_of-nodes-in-Becomes : goal.shape_of-nodes-in-Becomes
 shape_of-nodes-in-Becomes t c =
-    let μ = c.decreases in
-    let r = c.requires in
     let i1 = inside _ _ (is_at c.peek.result c.peek.ensures c.in-Name.in-Name-own.keys1) (λ h. omega arith) in
     let i2 = inside _ _ (is_at c.peek-in-Name.result c.peek-in-Name.ensures c.in-Becomes.in-Becomes-own.keys1) (λ h. omega arith) in
-    let p1 = c.put-left.ensures in let k1 = c.put-left.auto.nodes in
-    let l1 = c.right.auto.nodes in
     omega arith
 
 pub returns-in-Becomes : goal.returns-in-Becomes
@@ -69,10 +52,7 @@ returns-in-Becomes t c = λ F. s_prod G.left (C.left_at (is_at c.peek.result c.p
 
 pub shape_of-nodes-in_default-peek : goal.shape_of-nodes-in_default-peek
 shape_of-nodes-in_default-peek t c =
-    let μ = c.decreases in
-    let r = c.requires in
     let i1 = inside _ _ (is_at c.peek.result c.peek.ensures c.in-Name.in-Name-own.keys1) (λ h. omega arith) in
-    let l1 = c.value.auto.nodes in
     omega arith
 
 pub returns-in_default-peek : goal.returns-in_default-peek
@@ -80,9 +60,6 @@ returns-in_default-peek t c = λ F. s_prod G.value (C.value_at (is_at c.peek.res
 
 pub shape_of-nodes-in_default : goal.shape_of-nodes-in_default
 shape_of-nodes-in_default t c =
-    let μ = c.decreases in
-    let r = c.requires in
-    let l1 = c.value-in_default.auto.nodes in
     omega arith
 
 pub returns-in_default : goal.returns-in_default

@@ -8,17 +8,12 @@ use Rattle.syntax.proofs.clauses.element.Goals as goal
 
 pub put-start-requires : goal.put-start-requires
 put-start-requires c =
-    let r = c.requires in
-    let l1 = c.expression.auto.nodes in
     let g1 = got_of (c.in_ok-next.ensures []) in let s1 = space g1 in
     (omega arith, omega arith)
 
 pub progress-requires : goal.progress-requires
 progress-requires c =
-    let r = c.requires in
-    let l1 = c.expression.auto.nodes in
     let g1 = got_of (c.in_ok-next.ensures []) in let s1 = space g1 in
-    let p1 = c.put-start.ensures in let k1 = c.put-start.auto.nodes in
     (record { inside = omega arith; short = omega arith; size = omega arith; room = omega arith }, omega arith)
 
 pub returns-in_err-next : goal.returns-in_err-next

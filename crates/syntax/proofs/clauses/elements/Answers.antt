@@ -14,9 +14,7 @@ returns-in_err-next-2 c = λ F. s_exit c.from_residual-in_err-next-2.ensures.1 (
 
 pub further-requires : goal.further-requires
 further-requires c =
-    let r = c.requires in
     let h1 = c.in_ok-next.ensures in
-    let l1 = c.element.auto.nodes in
     let g1 = got_of (c.in_ok-next-2.ensures []) in let s1 = space g1 in
     record { inside = omega arith; short = omega arith; size = omega arith; room = omega arith }
 
@@ -28,23 +26,16 @@ returns-in_err-next-4 c = λ F. s_exit c.from_residual-in_err-next-4.ensures.1 (
 
 pub put-end-requires : goal.put-end-requires
 put-end-requires c =
-    let r = c.requires in
     let h1 = c.in_ok-next.ensures in
-    let l1 = c.element.auto.nodes in
     let g1 = got_of (c.in_ok-next-2.ensures []) in let s1 = space g1 in
-    let l2 = c.further.auto.nodes in
     let g2 = got_of (c.in_ok-next-3.ensures []) in let s2 = space g2 in
     let h2 = c.in_ok-next-4.ensures in
     (omega arith, omega arith)
 
 pub returns : goal.returns
 returns c =
-    let r = c.requires in
     let h1 = c.in_ok-next.ensures in
-    let l1 = c.element.auto.nodes in
     let g1 = got_of (c.in_ok-next-2.ensures []) in let s1 = space g1 in
-    let l2 = c.further.auto.nodes in
     let g2 = got_of (c.in_ok-next-3.ensures []) in let s2 = space g2 in
     let h2 = c.in_ok-next-4.ensures in
-    let p1 = c.put-end.ensures in let k1 = c.put-end.auto.nodes in
     λ F. s_prod G.for_list refl (s_stands c.in_ok-next.ensures (s_part _ (c.in_ok-next-2.ensures _) (s_part _ (c.in_ok-next-3.ensures _) (s_stands c.in_ok-next-4.ensures (s_put c.put-end.ensures (omega arith) (omega arith) (omega arith) (s_end (omega arith)))))))

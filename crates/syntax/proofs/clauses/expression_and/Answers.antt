@@ -8,7 +8,6 @@ use Rattle.syntax.proofs.clauses.expression_and.Goals as goal
 pub put-end-requires : goal.put-end-requires
 put-end-requires c =
     let r = c.requires.0 in
-    let l1 = c.expression.auto.nodes in
     let g1 = got_of (c.in_ok-next.ensures []) in let s1 = space g1 in
     (omega arith, omega (arith, c.requires.1))
 
@@ -18,7 +17,5 @@ returns-in_err-next c = λ w h F. s_exit c.from_residual.ensures.1 (s_bad _ (c.i
 pub returns : goal.returns
 returns c =
     let r = c.requires.0 in
-    let l1 = c.expression.auto.nodes in
     let g1 = got_of (c.in_ok-next.ensures []) in let s1 = space g1 in
-    let p1 = c.put-end.ensures in let k1 = c.put-end.auto.nodes in
     λ w h F. s_part _ (c.in_ok-next.ensures _) (s_put c.put-end.ensures (sym (h _)) (omega arith) (omega arith) (s_end (omega arith)))

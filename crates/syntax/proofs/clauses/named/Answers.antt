@@ -13,33 +13,25 @@ use Rattle.syntax.proofs.clauses.named.Goals as goal
 
 pub overflow_add-next : goal.overflow_add-next
 overflow_add-next c =
-    let r = c.requires in
     omega arith
 
 pub put-left-requires : goal.put-left-requires
 put-left-requires c =
-    let r = c.requires in
     let i1 = inside _ _ (is_at c.peek.result c.peek.ensures c.in-Becomes.in-Becomes-own.keys1) (λ h. omega arith) in
     (omega arith, omega arith)
 
 pub right-requires : goal.right-requires
 right-requires c =
-    let r = c.requires in
     let i1 = inside _ _ (is_at c.peek.result c.peek.ensures c.in-Becomes.in-Becomes-own.keys1) (λ h. omega arith) in
-    let p1 = c.put-left.ensures in let k1 = c.put-left.auto.nodes in
     record { inside = omega arith; short = omega arith; size = omega arith; room = omega arith }
 
 pub actuals-requires : goal.actuals-requires
 actuals-requires c =
-    let r = c.requires in
     record { inside = omega arith; short = omega arith; size = omega arith; room = omega arith }
 
 pub shape_of-nodes-in-Becomes : goal.shape_of-nodes-in-Becomes
 shape_of-nodes-in-Becomes c =
-    let r = c.requires in
     let i1 = inside _ _ (is_at c.peek.result c.peek.ensures c.in-Becomes.in-Becomes-own.keys1) (λ h. omega arith) in
-    let p1 = c.put-left.ensures in let k1 = c.put-left.auto.nodes in
-    let l1 = c.right.auto.nodes in
     omega arith
 
 pub returns-in-Becomes : goal.returns-in-Becomes
@@ -47,8 +39,6 @@ returns-in-Becomes c = λ F. s_prod G.assignment (ap (λ (z : ℕ). choose G.nam
 
 pub shape_of-nodes-in_default : goal.shape_of-nodes-in_default
 shape_of-nodes-in_default c =
-    let r = c.requires in
-    let l1 = c.actuals.auto.nodes in
     omega arith
 
 pub returns-in_default : goal.returns-in_default

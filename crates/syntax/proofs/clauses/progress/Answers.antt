@@ -23,7 +23,6 @@ put-end-requires c =
     let z = c.requires.1 in
     let r = c.requires.0 in
     let i1 = inside _ _ (is_at c.peek.result c.peek.ensures c.in-While.in-While-own.keys2) (λ h. omega arith) in
-    let l1 = c.expression.auto.nodes in
     let g1 = got_of (c.in_ok-next-in-While.ensures []) in let s1 = space g1 in
     (omega arith, omega arith)
 
@@ -38,14 +37,11 @@ returns-in_ok-next-in-While c =
     let z = c.requires.1 in
     let r = c.requires.0 in
     let i1 = inside _ _ (is_at c.peek.result c.peek.ensures c.in-While.in-While-own.keys2) (λ h. omega arith) in
-    let l1 = c.expression.auto.nodes in
     let g1 = got_of (c.in_ok-next-in-While.ensures []) in let s1 = space g1 in
-    let p1 = c.put-end.ensures in let k1 = c.put-end.auto.nodes in
     λ F. s_prod G.while (ap (λ (z : ℕ). choose G.progress z 0) (is_at c.peek.result c.peek.ensures c.in-While.in-While-own.keys2)) (s_sy (is_at c.peek.result c.peek.ensures c.in-While.in-While-own.keys2) (s_part _ (c.in_ok-next-in-While.ensures _) (s_put c.put-end.ensures (omega arith) (omega arith) (omega arith) (s_end (omega arith)))))
 
 pub returns-in_default : goal.returns-in_default
 returns-in_default c =
     let z = c.requires.1 in
     let r = c.requires.0 in
-    let p1 = c.put-end-in_default.ensures in let k1 = c.put-end-in_default.auto.nodes in
     λ F. s_prod G.once (C.else_progress (is_not c.peek.result c.peek.ensures (but (7 ∷ 9 ∷ [])) 9 refl (opened c.in_default.in_default-own.keys3)) (is_not c.peek.result c.peek.ensures (but (7 ∷ 9 ∷ [])) 7 refl (opened c.in_default.in_default-own.keys3))) (s_put c.put-end-in_default.ensures (omega arith) (omega arith) (omega arith) (s_end (omega arith)))

@@ -17,10 +17,7 @@ returns-in_err-next-3 c = let h1 = c.in_ok-next.ensures in λ F. s_exit c.from_r
 
 pub amount-requires-2 : goal.amount-requires-2
 amount-requires-2 c =
-    let r = c.requires in
     let h1 = c.in_ok-next.ensures in
-    let p1 = c.put-begun.ensures in let k1 = c.put-begun.auto.nodes in
-    let l1 = c.amount.auto.nodes in
     let g1 = got_of (c.in_ok-next-2.ensures []) in let s1 = space g1 in
     let h2 = c.in_ok-next-3.ensures in
     record { inside = omega arith; short = omega arith; size = omega arith; room = omega arith }

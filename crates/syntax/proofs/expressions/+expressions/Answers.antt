@@ -19,8 +19,6 @@ use Rattle.syntax.proofs.expressions.+expressions.Goals as goal
 
 pub actual-put-end-requires : goal.actual-put-end-requires
 actual-put-end-requires t c =
-    let μ = c.decreases in let r = c.requires in
-    let l1 = c.nested.auto.nodes in
     let g1 = got_of (c.in_ok-next.ensures []) in let s1 = space g1 in
     (omega arith, omega arith)
 
@@ -29,18 +27,12 @@ actual-returns-in_err-next t c = λ F. s_exit c.from_residual.ensures.1 (s_prod 
 
 pub actual-returns : goal.actual-returns
 actual-returns t c =
-    let μ = c.decreases in let r = c.requires in
-    let l1 = c.nested.auto.nodes in
     let g1 = got_of (c.in_ok-next.ensures []) in let s1 = space g1 in
-    let p1 = c.put-end.ensures in let k1 = c.put-end.auto.nodes in
     λ F. s_prod G.an_actual_lem refl (s_part _ (c.in_ok-next.ensures _) (s_put c.put-end.ensures (omega arith) (omega arith) (omega arith) (s_end (omega arith))))
 
 pub actuals-actual-requires : goal.actuals-actual-requires
 actuals-actual-requires t c =
-    let μ = c.decreases in
-    let r = c.requires in
     let i1 = inside _ _ (is_at c.peek.result c.peek.ensures c.in-Open.in-Open-own.keys1) (λ h. omega arith) in
-    let p1 = c.put-call.ensures in let k1 = c.put-call.auto.nodes in
     (omega arith, record { inside = omega arith; short = omega arith; size = omega arith; room = omega arith })
 
 pub actuals-returns-in_err-next-in-Open : goal.actuals-returns-in_err-next-in-Open
@@ -48,11 +40,7 @@ actuals-returns-in_err-next-in-Open t c = λ F. s_exit c.from_residual.ensures.1
 
 pub actuals-further_actuals-requires : goal.actuals-further_actuals-requires
 actuals-further_actuals-requires t c =
-    let μ = c.decreases in
-    let r = c.requires in
     let i1 = inside _ _ (is_at c.peek.result c.peek.ensures c.in-Open.in-Open-own.keys1) (λ h. omega arith) in
-    let p1 = c.put-call.ensures in let k1 = c.put-call.auto.nodes in
-    let l1 = c.actual.auto.nodes in
     let g1 = got_of (c.in_ok-next-in-Open.ensures []) in let s1 = space g1 in
     (omega arith, record { inside = omega arith; short = omega arith; size = omega arith; room = omega arith })
 
@@ -64,41 +52,26 @@ actuals-returns-in_err-next-in-Open-3 t c = λ F. s_exit c.from_residual-in_err-
 
 pub actuals-put-end-requires : goal.actuals-put-end-requires
 actuals-put-end-requires t c =
-    let μ = c.decreases in
-    let r = c.requires in
     let i1 = inside _ _ (is_at c.peek.result c.peek.ensures c.in-Open.in-Open-own.keys1) (λ h. omega arith) in
-    let p1 = c.put-call.ensures in let k1 = c.put-call.auto.nodes in
-    let l1 = c.actual.auto.nodes in
     let g1 = got_of (c.in_ok-next-in-Open.ensures []) in let s1 = space g1 in
-    let l2 = c.further_actuals.auto.nodes in
     let g2 = got_of (c.in_ok-next-in-Open-2.ensures []) in let s2 = space g2 in
     let h1 = c.in_ok-next-in-Open-3.ensures in
     (omega arith, omega arith)
 
 pub actuals-returns-in_ok-next-in-Open-3 : goal.actuals-returns-in_ok-next-in-Open-3
 actuals-returns-in_ok-next-in-Open-3 t c =
-    let μ = c.decreases in
-    let r = c.requires in
     let i1 = inside _ _ (is_at c.peek.result c.peek.ensures c.in-Open.in-Open-own.keys1) (λ h. omega arith) in
-    let p1 = c.put-call.ensures in let k1 = c.put-call.auto.nodes in
-    let l1 = c.actual.auto.nodes in
     let g1 = got_of (c.in_ok-next-in-Open.ensures []) in let s1 = space g1 in
-    let l2 = c.further_actuals.auto.nodes in
     let g2 = got_of (c.in_ok-next-in-Open-2.ensures []) in let s2 = space g2 in
     let h1 = c.in_ok-next-in-Open-3.ensures in
-    let p2 = c.put-end.ensures in let k2 = c.put-end.auto.nodes in
     λ F. s_prod (G.with c.args.u) (ap (λ (z : ℕ). choose (G.actuals c.args.u) z 0) (is_at c.peek.result c.peek.ensures c.in-Open.in-Open-own.keys1)) (s_put c.put-call.ensures (omega arith) (omega arith) c.use_number-n.ensures (s_sy (is_at c.peek.result c.peek.ensures c.in-Open.in-Open-own.keys1) (s_part _ (c.in_ok-next-in-Open.ensures _) (s_part _ (c.in_ok-next-in-Open-2.ensures _) (s_stands c.in_ok-next-in-Open-3.ensures (s_put c.put-end.ensures (omega arith) (omega arith) c.use_number-n.ensures (s_end (omega arith))))))))
 
 pub actuals-returns-in_default : goal.actuals-returns-in_default
 actuals-returns-in_default t c =
-    let μ = c.decreases in let r = c.requires in
-    let p1 = c.put-end-in_default.ensures in let k1 = c.put-end-in_default.auto.nodes in
     λ F. s_prod (G.bare c.args.u) (C.else_actuals c.args.u (is_not c.peek.result c.peek.ensures (but (36 ∷ [])) 36 refl (opened c.in_default.in_default-own.keys2))) (s_put c.put-end-in_default.ensures (omega arith) (omega arith) c.use_number-n.ensures (s_end (omega arith)))
 
 pub chain-more-requires : goal.chain-more-requires
 chain-more-requires t c =
-    let μ = c.decreases in let r = c.requires in
-    let l1 = c.operand.auto.nodes in
     let g1 = got_of (c.in_ok-next.ensures []) in let s1 = space g1 in
     let o = C.operand_words c.args.l in
     (omega arith, record { inside = omega arith; short = omega arith; size = omega arith; room = omega arith })
@@ -111,20 +84,16 @@ chain-returns t c = λ F. s_part _ (c.in_ok-next.ensures _) (s_last (c.more.ensu
 
 pub comparison-returns-in_default : goal.comparison-returns-in_default
 comparison-returns-in_default t c =
-    let μ = c.decreases in let r = c.requires in
     λ F. s_prod G.no_comparison (C.relation_none _ (kind_at (text c.args.kinds.now) (c.args.pos + 1)) (ap relation_of (sym c.peek.ensures) ∙ c.in_default.ensures)) (s_end (omega arith))
 
 pub comparison-sum-requires : goal.comparison-sum-requires
 comparison-sum-requires t c =
-    let μ = c.decreases in let r = c.requires in
     let f = (C.relation_found _ (kind_at (text c.args.kinds.now) (c.args.pos + 1)) (sym (c.in-Some.ensures.0 ∙ ap relation_of c.peek.ensures)) c.in-Some.ensures.1) in
     let i1 = inside _ _ f.symbol (C.relation_low f.op) in
     (omega arith, record { inside = omega arith; short = omega arith; size = omega arith; room = omega arith })
 
 pub comparison-put-end-requires : goal.comparison-put-end-requires
 comparison-put-end-requires t c =
-    let μ = c.decreases in let r = c.requires in
-    let l1 = c.sum.auto.nodes in
     let g1 = got_of (c.in_ok-next.ensures []) in let s1 = space g1 in
     let f = (C.relation_found _ (kind_at (text c.args.kinds.now) (c.args.pos + 1)) (sym (c.in-Some.ensures.0 ∙ ap relation_of c.peek.ensures)) c.in-Some.ensures.1) in
     let i1 = inside _ _ f.symbol (C.relation_low f.op) in
@@ -135,17 +104,13 @@ comparison-returns-in_err-next t c = let f = (C.relation_found _ (kind_at (text 
 
 pub comparison-returns : goal.comparison-returns
 comparison-returns t c =
-    let μ = c.decreases in let r = c.requires in
-    let l1 = c.sum.auto.nodes in
     let g1 = got_of (c.in_ok-next.ensures []) in let s1 = space g1 in
-    let p1 = c.put-end.ensures in let k1 = c.put-end.auto.nodes in
     let f = (C.relation_found _ (kind_at (text c.args.kinds.now) (c.args.pos + 1)) (sym (c.in-Some.ensures.0 ∙ ap relation_of c.peek.ensures)) c.in-Some.ensures.1) in
     let i1 = inside _ _ f.symbol (C.relation_low f.op) in
     let f = (C.relation_found _ (kind_at (text c.args.kinds.now) (c.args.pos + 1)) (sym (c.in-Some.ensures.0 ∙ ap relation_of c.peek.ensures)) c.in-Some.ensures.1) in λ F. s_prod (G.compare f.op) f.taken (s_sy f.symbol (s_part _ (c.in_ok-next.ensures _) (s_put c.put-end.ensures (omega arith) f.number (omega arith) (s_end (omega arith)))))
 
 pub condition-nested-requires : goal.condition-nested-requires
 condition-nested-requires t c =
-    let μ = c.decreases in
     let i0 = inside _ _ c.requires.1 (λ h. omega arith) in
     let r = c.requires.0 in
     (omega arith, record { inside = omega arith; short = omega arith; size = omega arith; room = omega arith })
@@ -158,23 +123,18 @@ condition-returns-in_err-next-2 t c = λ F. s_exit c.from_residual-in_err-next-2
 
 pub condition-put-then-requires : goal.condition-put-then-requires
 condition-put-then-requires t c =
-    let μ = c.decreases in
     let i0 = inside _ _ c.requires.1 (λ h. omega arith) in
     let r = c.requires.0 in
-    let l1 = c.nested.auto.nodes in
     let g1 = got_of (c.in_ok-next.ensures []) in let s1 = space g1 in
     let h1 = c.in_ok-next-2.ensures in
     (omega arith, omega arith)
 
 pub condition-nested_simple-requires : goal.condition-nested_simple-requires
 condition-nested_simple-requires t c =
-    let μ = c.decreases in
     let i0 = inside _ _ c.requires.1 (λ h. omega arith) in
     let r = c.requires.0 in
-    let l1 = c.nested.auto.nodes in
     let g1 = got_of (c.in_ok-next.ensures []) in let s1 = space g1 in
     let h1 = c.in_ok-next-2.ensures in
-    let p1 = c.put-then.ensures in let k1 = c.put-then.auto.nodes in
     (omega arith, record { inside = omega arith; short = omega arith; size = omega arith; room = omega arith })
 
 pub condition-returns-in_err-next-3 : goal.condition-returns-in_err-next-3
@@ -182,14 +142,10 @@ condition-returns-in_err-next-3 t c = let h1 = c.in_ok-next-2.ensures in λ F. s
 
 pub condition-otherwise-requires : goal.condition-otherwise-requires
 condition-otherwise-requires t c =
-    let μ = c.decreases in
     let i0 = inside _ _ c.requires.1 (λ h. omega arith) in
     let r = c.requires.0 in
-    let l1 = c.nested.auto.nodes in
     let g1 = got_of (c.in_ok-next.ensures []) in let s1 = space g1 in
     let h1 = c.in_ok-next-2.ensures in
-    let p1 = c.put-then.ensures in let k1 = c.put-then.auto.nodes in
-    let l2 = c.nested_simple.auto.nodes in
     let g2 = got_of (c.in_ok-next-3.ensures []) in let s2 = space g2 in
     (omega arith, record { inside = omega arith; short = omega arith; size = omega arith; room = omega arith })
 
@@ -204,15 +160,12 @@ expression-returns-in_default t c = λ F. s_prod G.simple (C.else_expression (is
 
 pub further_actuals-actual-requires : goal.further_actuals-actual-requires
 further_actuals-actual-requires t c =
-    let μ = c.decreases in let r = c.requires in
     let i1 = inside _ _ (is_at c.peek.result c.peek.ensures c.in-Comma.in-Comma-own.keys1) (λ h. omega arith) in
     (omega arith, record { inside = omega arith; short = omega arith; size = omega arith; room = omega arith })
 
 pub further_actuals-further_actuals-requires : goal.further_actuals-further_actuals-requires
 further_actuals-further_actuals-requires t c =
-    let μ = c.decreases in let r = c.requires in
     let i1 = inside _ _ (is_at c.peek.result c.peek.ensures c.in-Comma.in-Comma-own.keys1) (λ h. omega arith) in
-    let l1 = c.actual.auto.nodes in
     let g1 = got_of (c.in_ok-next-in-Comma.ensures []) in let s1 = space g1 in
     (omega arith, record { inside = omega arith; short = omega arith; size = omega arith; room = omega arith })
 
@@ -224,19 +177,16 @@ further_actuals-returns-in_ok-next-in-Comma t c = λ F. s_prod G.another_actual 
 
 pub further_actuals-returns-in_default : goal.further_actuals-returns-in_default
 further_actuals-returns-in_default t c =
-    let μ = c.decreases in let r = c.requires in
     λ F. s_prod G.no_actual (C.else_further_actuals (is_not c.peek.result c.peek.ensures (but (32 ∷ [])) 32 refl (opened c.in_default.in_default-own.keys2))) (s_end (omega arith))
 
 pub more-returns-in_default : goal.more-returns-in_default
 more-returns-in_default t c =
-    let μ = c.decreases in let r = c.requires in
     let o = C.operand_words c.args.l in
     let q = C.rank_small c.args.l in
     λ F. s_prod (G.no_more c.args.l) (C.op_none c.args.l _ (kind_at (text c.args.kinds.now) (c.args.pos + 1)) (ap (operator_of c.args.l) (sym c.peek.ensures) ∙ c.in_default.ensures)) (s_end (omega arith))
 
 pub more-operand-requires : goal.more-operand-requires
 more-operand-requires t c =
-    let μ = c.decreases in let r = c.requires in
     let f = (C.op_found c.args.l _ (kind_at (text c.args.kinds.now) (c.args.pos + 1)) (sym (c.in-Some.ensures.0 ∙ ap (operator_of c.args.l) c.peek.ensures)) c.in-Some.ensures.1) in
     let i1 = inside _ _ f.symbol (C.op_low f.op) in
     let o = C.operand_words c.args.l in
@@ -245,8 +195,6 @@ more-operand-requires t c =
 
 pub more-put-end-requires : goal.more-put-end-requires
 more-put-end-requires t c =
-    let μ = c.decreases in let r = c.requires in
-    let l1 = c.operand.auto.nodes in
     let g1 = got_of (c.in_ok-next.ensures []) in let s1 = space g1 in
     let f = (C.op_found c.args.l _ (kind_at (text c.args.kinds.now) (c.args.pos + 1)) (sym (c.in-Some.ensures.0 ∙ ap (operator_of c.args.l) c.peek.ensures)) c.in-Some.ensures.1) in
     let i1 = inside _ _ f.symbol (C.op_low f.op) in
@@ -256,10 +204,7 @@ more-put-end-requires t c =
 
 pub more-more-requires : goal.more-more-requires
 more-more-requires t c =
-    let μ = c.decreases in let r = c.requires in
-    let l1 = c.operand.auto.nodes in
     let g1 = got_of (c.in_ok-next.ensures []) in let s1 = space g1 in
-    let p1 = c.put-end.ensures in let k1 = c.put-end.auto.nodes in
     let f = (C.op_found c.args.l _ (kind_at (text c.args.kinds.now) (c.args.pos + 1)) (sym (c.in-Some.ensures.0 ∙ ap (operator_of c.args.l) c.peek.ensures)) c.in-Some.ensures.1) in
     let i1 = inside _ _ f.symbol (C.op_low f.op) in
     let o = C.operand_words c.args.l in
@@ -274,15 +219,12 @@ more-returns t c = let f = (C.op_found c.args.l _ (kind_at (text c.args.kinds.no
 
 pub negation-relation-requires : goal.negation-relation-requires
 negation-relation-requires t c =
-    let μ = c.decreases in let r = c.requires in
     let i1 = inside _ _ (is_at c.peek.result c.peek.ensures c.in-Not.in-Not-own.keys1) (λ h. omega arith) in
     (omega arith, record { inside = omega arith; short = omega arith; size = omega arith; room = omega arith })
 
 pub negation-put-end-requires : goal.negation-put-end-requires
 negation-put-end-requires t c =
-    let μ = c.decreases in let r = c.requires in
     let i1 = inside _ _ (is_at c.peek.result c.peek.ensures c.in-Not.in-Not-own.keys1) (λ h. omega arith) in
-    let l1 = c.relation.auto.nodes in
     let g1 = got_of (c.in_ok-next-in-Not.ensures []) in let s1 = space g1 in
     (omega arith, omega arith)
 
@@ -291,11 +233,8 @@ negation-returns-in_err-next-in-Not t c = λ F. s_exit c.from_residual.ensures.1
 
 pub negation-returns-in_ok-next-in-Not : goal.negation-returns-in_ok-next-in-Not
 negation-returns-in_ok-next-in-Not t c =
-    let μ = c.decreases in let r = c.requires in
     let i1 = inside _ _ (is_at c.peek.result c.peek.ensures c.in-Not.in-Not-own.keys1) (λ h. omega arith) in
-    let l1 = c.relation.auto.nodes in
     let g1 = got_of (c.in_ok-next-in-Not.ensures []) in let s1 = space g1 in
-    let p1 = c.put-end.ensures in let k1 = c.put-end.auto.nodes in
     λ F. s_prod G.a_not (ap (λ (z : ℕ). choose G.negation z 0) (is_at c.peek.result c.peek.ensures c.in-Not.in-Not-own.keys1)) (s_sy (is_at c.peek.result c.peek.ensures c.in-Not.in-Not-own.keys1) (s_part _ (c.in_ok-next-in-Not.ensures _) (s_put c.put-end.ensures (omega arith) (omega arith) (omega arith) (s_end (omega arith)))))
 
 pub negation-returns-in_default : goal.negation-returns-in_default
@@ -333,35 +272,23 @@ otherwise-returns-in_err-next-2 t c = let h1 = c.in_ok-next.ensures in λ F. s_e
 
 pub otherwise-put-end-requires : goal.otherwise-put-end-requires
 otherwise-put-end-requires t c =
-    let μ = c.decreases in
-    let r = c.requires in
     let h1 = c.in_ok-next.ensures in
-    let p1 = c.put-otherwise.ensures in let k1 = c.put-otherwise.auto.nodes in
-    let l1 = c.nested.auto.nodes in
     let g1 = got_of (c.in_ok-next-2.ensures []) in let s1 = space g1 in
     (omega arith, omega arith)
 
 pub otherwise-returns : goal.otherwise-returns
 otherwise-returns t c =
-    let μ = c.decreases in
-    let r = c.requires in
     let h1 = c.in_ok-next.ensures in
-    let p1 = c.put-otherwise.ensures in let k1 = c.put-otherwise.auto.nodes in
-    let l1 = c.nested.auto.nodes in
     let g1 = got_of (c.in_ok-next-2.ensures []) in let s1 = space g1 in
-    let p2 = c.put-end.ensures in let k2 = c.put-end.auto.nodes in
     λ F. s_prod G.an_otherwise refl (s_stands c.in_ok-next.ensures (s_put c.put-otherwise.ensures (omega arith) (omega arith) (omega arith) (s_part _ (c.in_ok-next-2.ensures _) (s_put c.put-end.ensures (omega arith) (omega arith) (omega arith) (s_end (omega arith))))))
 
 pub primary-actuals-requires : goal.primary-actuals-requires
 primary-actuals-requires t c =
-    let μ = c.decreases in let r = c.requires in
     let i1 = inside _ _ (is_at c.peek.result c.peek.ensures c.in-Name.in-Name-own.keys4) (λ h. omega arith) in
     (omega arith, record { inside = omega arith; short = omega arith; size = omega arith; room = omega arith })
 
 pub primary-nested-requires : goal.primary-nested-requires
 primary-nested-requires t c =
-    let μ = c.decreases in
-    let r = c.requires in
     let i1 = inside _ _ (is_at c.peek.result c.peek.ensures c.in-Open.in-Open-own.keys5) (λ h. omega arith) in
     (omega arith, record { inside = omega arith; short = omega arith; size = omega arith; room = omega arith })
 
@@ -373,33 +300,24 @@ primary-returns-in_err-next-in-Open-2 t c = λ F. s_exit c.from_residual-in_err-
 
 pub primary-returns-in_ok-next-in-Open-2 : goal.primary-returns-in_ok-next-in-Open-2
 primary-returns-in_ok-next-in-Open-2 t c =
-    let μ = c.decreases in
-    let r = c.requires in
     let i1 = inside _ _ (is_at c.peek.result c.peek.ensures c.in-Open.in-Open-own.keys5) (λ h. omega arith) in
-    let l1 = c.nested.auto.nodes in
     let g1 = got_of (c.in_ok-next-in-Open.ensures []) in let s1 = space g1 in
     let h1 = c.in_ok-next-in-Open-2.ensures in
     λ F. s_prod G.in_parentheses (ap (λ (z : ℕ). choose G.primary z 0) (is_at c.peek.result c.peek.ensures c.in-Open.in-Open-own.keys5)) (s_sy (is_at c.peek.result c.peek.ensures c.in-Open.in-Open-own.keys5) (s_part _ (c.in_ok-next-in-Open.ensures _) (s_stands c.in_ok-next-in-Open-2.ensures (s_end (omega arith)))))
 
 pub primary-returns-in-Number : goal.primary-returns-in-Number
 primary-returns-in-Number t c =
-    let μ = c.decreases in let r = c.requires in
     let i1 = inside _ _ (is_at c.peek.result c.peek.ensures c.in-Number.in-Number-own.keys1) (λ h. omega arith) in
-    let p1 = c.leaf.ensures.0 in let k1 = c.leaf.auto.nodes in
     λ F. s_prod G.number (ap (λ (z : ℕ). choose G.primary z 0) (is_at c.peek.result c.peek.ensures c.in-Number.in-Number-own.keys1)) (s_sy (is_at c.peek.result c.peek.ensures c.in-Number.in-Number-own.keys1) (s_put c.leaf.ensures.0 (omega arith) (omega arith) (omega arith) (s_end_at c.leaf.ensures.1 (omega arith))))
 
 pub primary-returns-in-True : goal.primary-returns-in-True
 primary-returns-in-True t c =
-    let μ = c.decreases in let r = c.requires in
     let i1 = inside _ _ (is_at c.peek.result c.peek.ensures c.in-True.in-True-own.keys2) (λ h. omega arith) in
-    let p1 = c.leaf-in-True.ensures.0 in let k1 = c.leaf-in-True.auto.nodes in
     λ F. s_prod G.true_value (ap (λ (z : ℕ). choose G.primary z 0) (is_at c.peek.result c.peek.ensures c.in-True.in-True-own.keys2)) (s_sy (is_at c.peek.result c.peek.ensures c.in-True.in-True-own.keys2) (s_put c.leaf-in-True.ensures.0 (omega arith) (omega arith) (omega arith) (s_end_at c.leaf-in-True.ensures.1 (omega arith))))
 
 pub primary-returns-in-False : goal.primary-returns-in-False
 primary-returns-in-False t c =
-    let μ = c.decreases in let r = c.requires in
     let i1 = inside _ _ (is_at c.peek.result c.peek.ensures c.in-False.in-False-own.keys3) (λ h. omega arith) in
-    let p1 = c.leaf-in-False.ensures.0 in let k1 = c.leaf-in-False.auto.nodes in
     λ F. s_prod G.false_value (ap (λ (z : ℕ). choose G.primary z 0) (is_at c.peek.result c.peek.ensures c.in-False.in-False-own.keys3)) (s_sy (is_at c.peek.result c.peek.ensures c.in-False.in-False-own.keys3) (s_put c.leaf-in-False.ensures.0 (omega arith) (omega arith) (omega arith) (s_end_at c.leaf-in-False.ensures.1 (omega arith))))
 
 pub primary-returns-in-Name : goal.primary-returns-in-Name
@@ -407,9 +325,7 @@ primary-returns-in-Name t c = λ F. s_prod G.a_name_lem (ap (λ (z : ℕ). choos
 
 pub primary-returns-in-Decimal : goal.primary-returns-in-Decimal
 primary-returns-in-Decimal t c =
-    let μ = c.decreases in let r = c.requires in
     let i1 = inside _ _ (is_at c.peek.result c.peek.ensures c.in-Decimal.in-Decimal-own.keys6) (λ h. omega arith) in
-    let p1 = c.leaf-in-Decimal.ensures.0 in let k1 = c.leaf-in-Decimal.auto.nodes in
     λ F. s_prod G.decimal (ap (λ (z : ℕ). choose G.primary z 0) (is_at c.peek.result c.peek.ensures c.in-Decimal.in-Decimal-own.keys6)) (s_sy (is_at c.peek.result c.peek.ensures c.in-Decimal.in-Decimal-own.keys6) (s_put c.leaf-in-Decimal.ensures.0 (omega arith) (omega arith) (omega arith) (s_end_at c.leaf-in-Decimal.ensures.1 (omega arith))))
 
 pub primary-returns-in_default : goal.primary-returns-in_default
@@ -417,8 +333,6 @@ primary-returns-in_default t c = λ F. s_none c.wrong.ensures (C.else_primary (i
 
 pub relation-comparison-requires : goal.relation-comparison-requires
 relation-comparison-requires t c =
-    let μ = c.decreases in let r = c.requires in
-    let l1 = c.sum.auto.nodes in
     let g1 = got_of (c.in_ok-next.ensures []) in let s1 = space g1 in
     (omega arith, record { inside = omega arith; short = omega arith; size = omega arith; room = omega arith })
 
@@ -433,15 +347,12 @@ sum-returns-in_default t c = λ F. s_prod (G.chain L.Sum) (C.unsigned _ (kind_at
 
 pub sum-operand-requires : goal.sum-operand-requires
 sum-operand-requires t c =
-    let μ = c.decreases in let r = c.requires in
     let f = (C.op_found L.Sum _ (kind_at (text c.args.kinds.now) (c.args.pos + 1)) (sym (c.in-Some.ensures.0 ∙ ap (operator_of L.Sum) c.peek.ensures)) c.in-Some.ensures.1) in
     let i1 = inside _ _ f.symbol (C.op_low f.op) in
     (omega arith, record { inside = omega arith; short = omega arith; size = omega arith; room = omega arith })
 
 pub sum-put-end-requires : goal.sum-put-end-requires
 sum-put-end-requires t c =
-    let μ = c.decreases in let r = c.requires in
-    let l1 = c.operand.auto.nodes in
     let g1 = got_of (c.in_ok-next.ensures []) in let s1 = space g1 in
     let f = (C.op_found L.Sum _ (kind_at (text c.args.kinds.now) (c.args.pos + 1)) (sym (c.in-Some.ensures.0 ∙ ap (operator_of L.Sum) c.peek.ensures)) c.in-Some.ensures.1) in
     let i1 = inside _ _ f.symbol (C.op_low f.op) in
@@ -449,10 +360,7 @@ sum-put-end-requires t c =
 
 pub sum-more-requires : goal.sum-more-requires
 sum-more-requires t c =
-    let μ = c.decreases in let r = c.requires in
-    let l1 = c.operand.auto.nodes in
     let g1 = got_of (c.in_ok-next.ensures []) in let s1 = space g1 in
-    let p1 = c.put-end.ensures in let k1 = c.put-end.auto.nodes in
     let f = (C.op_found L.Sum _ (kind_at (text c.args.kinds.now) (c.args.pos + 1)) (sym (c.in-Some.ensures.0 ∙ ap (operator_of L.Sum) c.peek.ensures)) c.in-Some.ensures.1) in
     let i1 = inside _ _ f.symbol (C.op_low f.op) in
     (omega arith, record { inside = omega arith; short = omega arith; size = omega arith; room = omega arith })

@@ -17,10 +17,7 @@ returns-in_err-next t c = λ d F. s_exit c.from_residual.ensures.1 (s_prod (G.a_
 
 pub list-requires : goal.list-requires
 list-requires t c =
-    let μ = c.decreases in
-    let r = c.requires in
     let h1 = c.in_ok-next.ensures in
-    let p1 = c.put-used.ensures in let k1 = c.put-used.auto.nodes in
     let i1 = inside _ _ (is_at c.peek.result c.peek.ensures c.in-Comma.in-Comma-own.keys1) (λ h. omega arith) in
     (omega arith, record { inside = omega arith; short = omega arith; size = omega arith; room = omega arith })
 
@@ -29,8 +26,5 @@ returns-in-Comma t c = let h1 = c.in_ok-next.ensures in λ d F. s_prod (G.a_list
 
 pub returns-in_default : goal.returns-in_default
 returns-in_default t c =
-    let μ = c.decreases in
-    let r = c.requires in
     let h1 = c.in_ok-next.ensures in
-    let p1 = c.put-used.ensures in let k1 = c.put-used.auto.nodes in
     λ d F. s_prod (G.a_list c.args.e) refl (s_stands c.in_ok-next.ensures (s_put (put_as c.entry_node.ensures c.put-used.ensures) (omega arith) (omega arith) (omega arith) (s_prod (G.no_other c.args.e) (C.else_others c.args.e (is_not c.peek.result c.peek.ensures (but (32 ∷ [])) 32 refl (opened c.in_default.in_default-own.keys2))) (s_end (omega arith)))))

@@ -18,10 +18,7 @@ returns-in_err-next-in-Integer t c = λ d F. s_exit c.from_residual.ensures.1 (s
 
 pub list-requires : goal.list-requires
 list-requires t c =
-    let μ = c.decreases in
-    let r = c.requires in
     let i1 = inside_in _ _ (11 ∷ 12 ∷ 40 ∷ []) refl (is_in c.peek.result c.peek.ensures (11 ∷ 12 ∷ 40 ∷ []) c.in-Integer.in-Integer-own.keys1) in
-    let l1 = c.type_symbol.auto.nodes in
     let g1 = got_of (c.in_ok-next-in-Integer.ensures 0 []) in let s1 = space g1 in
     record { inside = omega arith; short = omega arith; size = omega arith; room = omega arith }
 
@@ -33,12 +30,8 @@ returns-in_err-next-in-Integer-3 t c = λ d F. s_exit c.from_residual-in_err-nex
 
 pub specifications-requires : goal.specifications-requires
 specifications-requires t c =
-    let μ = c.decreases in
-    let r = c.requires in
     let i1 = inside_in _ _ (11 ∷ 12 ∷ 40 ∷ []) refl (is_in c.peek.result c.peek.ensures (11 ∷ 12 ∷ 40 ∷ []) c.in-Integer.in-Integer-own.keys1) in
-    let l1 = c.type_symbol.auto.nodes in
     let g1 = got_of (c.in_ok-next-in-Integer.ensures 0 []) in let s1 = space g1 in
-    let l2 = c.list.auto.nodes in
     let g2 = got_of (c.in_ok-next-in-Integer-2.ensures 0 []) in let s2 = space g2 in
     let h1 = c.in_ok-next-in-Integer-3.ensures in
     (omega arith, record { inside = omega arith; short = omega arith; size = omega arith; room = omega arith })
@@ -48,6 +41,4 @@ returns-in_ok-next-in-Integer-3 t c = λ d F. s_prod G.a_specification (all_in (
 
 pub returns-in_default : goal.returns-in_default
 returns-in_default t c =
-    let μ = c.decreases in
-    let r = c.requires in
     λ d F. s_prod G.no_specification (C.else_specifications (is_not c.peek.result c.peek.ensures (but (11 ∷ 12 ∷ 40 ∷ [])) 11 refl (opened c.in_default.in_default-own.keys2)) (is_not c.peek.result c.peek.ensures (but (11 ∷ 12 ∷ 40 ∷ [])) 12 refl (opened c.in_default.in_default-own.keys2)) (is_not c.peek.result c.peek.ensures (but (11 ∷ 12 ∷ 40 ∷ [])) 40 refl (opened c.in_default.in_default-own.keys2))) (s_end (omega arith))

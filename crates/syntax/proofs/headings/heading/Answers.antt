@@ -17,10 +17,7 @@ returns-in_err-next-3 c = let h1 = c.in_ok-next.ensures in λ d F. s_exit c.from
 
 pub values-requires : goal.values-requires
 values-requires c =
-    let r = c.requires in
     let h1 = c.in_ok-next.ensures in
-    let p1 = c.put-used.ensures in let k1 = c.put-used.auto.nodes in
-    let l1 = c.formals.auto.nodes in
     let g1 = got_of (c.in_ok-next-2.ensures 0 []) in let s1 = space g1 in
     let h2 = c.in_ok-next-3.ensures in
     record { inside = omega arith; short = omega arith; size = omega arith; room = omega arith }
@@ -30,13 +27,9 @@ returns-in_err-next-4 c = let h1 = c.in_ok-next.ensures in let h2 = c.in_ok-next
 
 pub specifications-requires : goal.specifications-requires
 specifications-requires c =
-    let r = c.requires in
     let h1 = c.in_ok-next.ensures in
-    let p1 = c.put-used.ensures in let k1 = c.put-used.auto.nodes in
-    let l1 = c.formals.auto.nodes in
     let g1 = got_of (c.in_ok-next-2.ensures 0 []) in let s1 = space g1 in
     let h2 = c.in_ok-next-3.ensures in
-    let l2 = c.values.auto.nodes in
     let g2 = got_of (c.in_ok-next-4.ensures 0 []) in let s2 = space g2 in
     record { inside = omega arith; short = omega arith; size = omega arith; room = omega arith }
 

@@ -13,7 +13,6 @@ returns-in_err-next-2 c = λ d F. s_exit c.from_residual-in_err-next-2.ensures.1
 pub returns : goal.returns
 returns c =
     let r = c.requires.0 in
-    let l1 = c.list.auto.nodes in
     let g1 = got_of (c.in_ok-next.ensures 0 []) in let s1 = space g1 in
     let h1 = c.in_ok-next-2.ensures in
     λ d F. s_part _ (c.in_ok-next.ensures _ _) (s_stands c.in_ok-next-2.ensures (s_end (omega arith)))

@@ -13,23 +13,17 @@ use Rattle.syntax.proofs.headings.type_symbol.Goals as goal
 
 pub returns-in-Integer : goal.returns-in-Integer
 returns-in-Integer c =
-    let r = c.requires in
     let i1 = inside _ _ (is_at c.peek.result c.peek.ensures c.in-Integer.in-Integer-own.keys1) (λ h. omega arith) in
-    let p1 = c.leaf.ensures.0 in let k1 = c.leaf.auto.nodes in
     λ d F. s_prod G.integer (ap (λ (z : ℕ). choose G.type z 0) (is_at c.peek.result c.peek.ensures c.in-Integer.in-Integer-own.keys1)) (s_sy (is_at c.peek.result c.peek.ensures c.in-Integer.in-Integer-own.keys1) (s_put c.leaf.ensures.0 (omega arith) (omega arith) (omega arith) (s_end_at c.leaf.ensures.1 (omega arith))))
 
 pub returns-in-Boolean : goal.returns-in-Boolean
 returns-in-Boolean c =
-    let r = c.requires in
     let i1 = inside _ _ (is_at c.peek.result c.peek.ensures c.in-Boolean.in-Boolean-own.keys2) (λ h. omega arith) in
-    let p1 = c.leaf-in-Boolean.ensures.0 in let k1 = c.leaf-in-Boolean.auto.nodes in
     λ d F. s_prod G.boolean (ap (λ (z : ℕ). choose G.type z 0) (is_at c.peek.result c.peek.ensures c.in-Boolean.in-Boolean-own.keys2)) (s_sy (is_at c.peek.result c.peek.ensures c.in-Boolean.in-Boolean-own.keys2) (s_put c.leaf-in-Boolean.ensures.0 (omega arith) (omega arith) (omega arith) (s_end_at c.leaf-in-Boolean.ensures.1 (omega arith))))
 
 pub returns-in-Real : goal.returns-in-Real
 returns-in-Real c =
-    let r = c.requires in
     let i1 = inside _ _ (is_at c.peek.result c.peek.ensures c.in-Real.in-Real-own.keys3) (λ h. omega arith) in
-    let p1 = c.leaf-in-Real.ensures.0 in let k1 = c.leaf-in-Real.auto.nodes in
     λ d F. s_prod G.real (ap (λ (z : ℕ). choose G.type z 0) (is_at c.peek.result c.peek.ensures c.in-Real.in-Real-own.keys3)) (s_sy (is_at c.peek.result c.peek.ensures c.in-Real.in-Real-own.keys3) (s_put c.leaf-in-Real.ensures.0 (omega arith) (omega arith) (omega arith) (s_end_at c.leaf-in-Real.ensures.1 (omega arith))))
 
 pub returns-in_default : goal.returns-in_default

@@ -13,7 +13,6 @@ use Rattle.syntax.proofs.headings.values.Goals as goal
 
 pub list_to-requires : goal.list_to-requires
 list_to-requires c =
-    let r = c.requires in
     let i = inside _ _ (is_at c.peek.result c.peek.ensures c.in-Value.in-Value-own.keys1) (λ h. omega arith) in
     (record { inside = omega arith; short = omega arith; size = omega arith; room = omega arith }, λ h. omega arith)
 
@@ -24,5 +23,4 @@ returns-in-Value c =
 
 pub returns-in_default : goal.returns-in_default
 returns-in_default c =
-    let r = c.requires in
     λ d F. s_prod G.no_values (C.else_values (is_not c.peek.result c.peek.ensures (but (14 ∷ [])) 14 refl (opened c.in_default.in_default-own.keys2))) (s_end (omega arith))

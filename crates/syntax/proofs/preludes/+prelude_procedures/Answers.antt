@@ -13,10 +13,8 @@ use borrow.Enum.Refused.{opened}
 use Rattle.syntax.proofs.preludes.+prelude_procedures.Goals as goal
 
 pub prelude-procedures-requires : goal.prelude-procedures-requires
-prelude-procedures-requires t c = let μ = c.decreases in
-    let r = c.requires in
+prelude-procedures-requires t c =
     let i1 = inside _ _ (is_at c.peek.result c.peek.ensures c.in-Procedure.in-Procedure-own.keys1) (λ h. omega arith) in
-    let p1 = c.put-untyped.ensures in let k1 = c.put-untyped.auto.nodes in
     (omega arith, record { inside = omega arith; short = omega arith; size = omega arith; room = omega arith })
 
 pub prelude-returns-in_err-next-in-Integer : goal.prelude-returns-in_err-next-in-Integer
@@ -27,10 +25,7 @@ prelude-returns-in_err-next-in-Integer-2 t c = λ F. s_exit c.from_residual-in_e
 
 pub prelude-procedures-requires-in-Integer : goal.prelude-procedures-requires-in-Integer
 prelude-procedures-requires-in-Integer t c =
-    let μ = c.decreases in
-    let r = c.requires in
     let i1 = inside_in _ _ (11 ∷ 12 ∷ 40 ∷ []) refl (is_in c.peek.result c.peek.ensures (11 ∷ 12 ∷ 40 ∷ []) c.in-Integer.in-Integer-own.keys2) in
-    let l1 = c.type_symbol.auto.nodes in
     let g1 = got_of (c.in_ok-next-in-Integer.ensures 0 []) in let s1 = space g1 in
     let h1 = c.in_ok-next-in-Integer-2.ensures in
     (omega arith, record { inside = omega arith; short = omega arith; size = omega arith; room = omega arith })
@@ -42,8 +37,7 @@ pub prelude-returns-in-Procedure : goal.prelude-returns-in-Procedure
 prelude-returns-in-Procedure t c = λ F. s_prod G.untyped_procedure (ap (λ (z : ℕ). choose G.prelude z 0) (is_at c.peek.result c.peek.ensures c.in-Procedure.in-Procedure-own.keys1)) (s_put c.put-untyped.ensures (omega arith) (omega arith) (omega arith) (s_sy (is_at c.peek.result c.peek.ensures c.in-Procedure.in-Procedure-own.keys1) (s_last (c.procedures.ensures _))))
 
 pub prelude-returns-in_default : goal.prelude-returns-in_default
-prelude-returns-in_default t c = let μ = c.decreases in
-    let r = c.requires in
+prelude-returns-in_default t c =
     λ F. s_prod G.no_procedure (C.else_prelude (is_not c.peek.result c.peek.ensures (but (11 ∷ 12 ∷ 13 ∷ 40 ∷ [])) 11 refl (opened c.in_default.in_default-own.keys3)) (is_not c.peek.result c.peek.ensures (but (11 ∷ 12 ∷ 13 ∷ 40 ∷ [])) 12 refl (opened c.in_default.in_default-own.keys3)) (is_not c.peek.result c.peek.ensures (but (11 ∷ 12 ∷ 13 ∷ 40 ∷ [])) 40 refl (opened c.in_default.in_default-own.keys3)) (is_not c.peek.result c.peek.ensures (but (11 ∷ 12 ∷ 13 ∷ 40 ∷ [])) 13 refl (opened c.in_default.in_default-own.keys3))) (s_end (omega arith))
 
 pub procedures-returns-in_err-next : goal.procedures-returns-in_err-next
@@ -54,9 +48,6 @@ procedures-returns-in_err-next-2 t c = λ F. s_exit c.from_residual-in_err-next-
 
 pub procedures-prelude-requires : goal.procedures-prelude-requires
 procedures-prelude-requires t c =
-    let μ = c.decreases in
-    let r = c.requires in
-    let l1 = c.procedure.auto.nodes in
     let g1 = got_of c.in_ok-next.ensures in let s1 = space g1 in
     let h1 = c.in_ok-next-2.ensures in
     (omega arith, record { inside = omega arith; short = omega arith; size = omega arith; room = omega arith })

@@ -16,10 +16,7 @@ use Rattle.syntax.proofs.statements.+statements.Goals as goal
 
 pub alternative-nested_statement-requires : goal.alternative-nested_statement-requires
 alternative-nested_statement-requires t c =
-    let μ = c.decreases in
-    let r = c.requires in
     let i1 = inside _ _ (is_at c.peek.result c.peek.ensures c.in-Else.in-Else-own.keys1) (λ h. omega arith) in
-    let p1 = c.put-other.ensures in let k1 = c.put-other.auto.nodes in
     (omega arith, record { inside = omega arith; short = omega arith; size = omega arith; room = omega arith })
 
 pub alternative-returns-in-Else : goal.alternative-returns-in-Else
@@ -27,8 +24,6 @@ alternative-returns-in-Else t c = s_prod G.an_else (ap (λ (z : ℕ). choose G.a
 
 pub alternative-returns-in_default : goal.alternative-returns-in_default
 alternative-returns-in_default t c =
-    let μ = c.decreases in
-    let r = c.requires in
     s_prod G.no_else (C.else_alternative (is_not c.peek.result c.peek.ensures (but (4 ∷ [])) 4 refl (opened c.in_default.in_default-own.keys2))) (s_end (omega arith))
 
 pub block-returns-in_err-expect : goal.block-returns-in_err-expect
@@ -42,17 +37,13 @@ block-returns-in_err-next-2 t c = λ F. s_exit c.from_residual-in_err-next-2.ens
 
 pub block-returns : goal.block-returns
 block-returns t c =
-    let μ = c.decreases in
-    let r = c.requires in
     let h1 = c.in_ok-expect.ensures in
-    let l1 = c.inner.auto.nodes in
     let g1 = got_of c.in_ok-next.ensures in let s1 = space g1 in
     let h2 = c.in_ok-next-2.ensures in
     λ F. s_prod G.begin_end refl (s_sy c.in_ok-expect.ensures.found (s_part _ c.in_ok-next.ensures (s_stands c.in_ok-next-2.ensures (s_end (omega arith)))))
 
 pub conditional-expression-requires : goal.conditional-expression-requires
 conditional-expression-requires t c =
-    let μ = c.decreases in
     let i0 = inside _ _ c.requires.1 (λ h. omega arith) in
     let r = c.requires.0 in
     record { inside = omega arith; short = omega arith; size = omega arith; room = omega arith }
@@ -65,23 +56,18 @@ conditional-returns-in_err-next-2 t c = s_exit c.from_residual-in_err-next-2.ens
 
 pub conditional-put-then-requires : goal.conditional-put-then-requires
 conditional-put-then-requires t c =
-    let μ = c.decreases in
     let i0 = inside _ _ c.requires.1 (λ h. omega arith) in
     let r = c.requires.0 in
-    let l1 = c.expression.auto.nodes in
     let g1 = got_of (c.in_ok-next.ensures []) in let s1 = space g1 in
     let h1 = c.in_ok-next-2.ensures in
     (omega arith, omega arith)
 
 pub conditional-consequence-requires : goal.conditional-consequence-requires
 conditional-consequence-requires t c =
-    let μ = c.decreases in
     let i0 = inside _ _ c.requires.1 (λ h. omega arith) in
     let r = c.requires.0 in
-    let l1 = c.expression.auto.nodes in
     let g1 = got_of (c.in_ok-next.ensures []) in let s1 = space g1 in
     let h1 = c.in_ok-next-2.ensures in
-    let p1 = c.put-then.ensures in let k1 = c.put-then.auto.nodes in
     (omega arith, record { inside = omega arith; short = omega arith; size = omega arith; room = omega arith })
 
 pub conditional-returns-in_err-next-3 : goal.conditional-returns-in_err-next-3
@@ -89,37 +75,25 @@ conditional-returns-in_err-next-3 t c = let h1 = c.in_ok-next-2.ensures in s_exi
 
 pub conditional-put-end-requires : goal.conditional-put-end-requires
 conditional-put-end-requires t c =
-    let μ = c.decreases in
     let i0 = inside _ _ c.requires.1 (λ h. omega arith) in
     let r = c.requires.0 in
-    let l1 = c.expression.auto.nodes in
     let g1 = got_of (c.in_ok-next.ensures []) in let s1 = space g1 in
     let h1 = c.in_ok-next-2.ensures in
-    let p1 = c.put-then.ensures in let k1 = c.put-then.auto.nodes in
-    let l2 = c.consequence.auto.nodes in
     let g2 = got_of c.in_ok-next-3.ensures in let s2 = space g2 in
     (omega arith, omega arith)
 
 pub conditional-returns : goal.conditional-returns
 conditional-returns t c =
-    let μ = c.decreases in
     let i0 = inside _ _ c.requires.1 (λ h. omega arith) in
     let r = c.requires.0 in
-    let l1 = c.expression.auto.nodes in
     let g1 = got_of (c.in_ok-next.ensures []) in let s1 = space g1 in
     let h1 = c.in_ok-next-2.ensures in
-    let p1 = c.put-then.ensures in let k1 = c.put-then.auto.nodes in
-    let l2 = c.consequence.auto.nodes in
     let g2 = got_of c.in_ok-next-3.ensures in let s2 = space g2 in
-    let p2 = c.put-end.ensures in let k2 = c.put-end.auto.nodes in
     s_sy c.requires.1 (s_part _ (c.in_ok-next.ensures _) (s_stands c.in_ok-next-2.ensures (s_put c.put-then.ensures (omega arith) (omega arith) (omega arith) (s_part _ c.in_ok-next-3.ensures (s_put c.put-end.ensures (omega arith) (omega arith) (omega arith) (s_end (omega arith)))))))
 
 pub consequence-alternative-requires : goal.consequence-alternative-requires
 consequence-alternative-requires t c =
-    let μ = c.decreases in
-    let r = c.requires in
     let t1 = c.if-depth-ge64.false in
-    let l1 = c.unconditional.auto.nodes in
     let g1 = got_of (c.in_ok-next-in_default.ensures []) in let s1 = space g1 in
     (omega arith, record { inside = omega arith; short = omega arith; size = omega arith; room = omega arith })
 
@@ -134,17 +108,11 @@ consequence-returns-in_ok-next-in_default t c = s_prod G.then_plain (C.else_cons
 
 pub declaration-procedure-requires : goal.declaration-procedure-requires
 declaration-procedure-requires t c =
-    let μ = c.decreases in
-    let r = c.requires in
     let i1 = inside _ _ (is_at c.peek.result c.peek.ensures c.in-Procedure.in-Procedure-own.keys1) (λ h. omega arith) in
-    let p1 = c.put-untyped.ensures in let k1 = c.put-untyped.auto.nodes in
     (omega arith, record { inside = omega arith; short = omega arith; size = omega arith; room = omega arith })
 
 pub declaration-declared-requires : goal.declaration-declared-requires
 declaration-declared-requires t c =
-    let μ = c.decreases in
-    let r = c.requires in
-    let l1 = c.type_symbol.auto.nodes in
     let g1 = got_of (c.in_ok-next-in_default.ensures 0 []) in let s1 = space g1 in
     (omega arith, record { inside = omega arith; short = omega arith; size = omega arith; room = omega arith })
 
@@ -162,14 +130,10 @@ declarations-returns-in-Integer t c = λ F. s_prod G.some_declarations (all_in (
 
 pub declarations-returns-in_default : goal.declarations-returns-in_default
 declarations-returns-in_default t c =
-    let μ = c.decreases in
-    let r = c.requires in
     λ F. s_prod G.no_declaration (C.else_declarations (is_not c.peek.result c.peek.ensures (but (11 ∷ 12 ∷ 13 ∷ 40 ∷ [])) 11 refl (opened c.in_default.in_default-own.keys2)) (is_not c.peek.result c.peek.ensures (but (11 ∷ 12 ∷ 13 ∷ 40 ∷ [])) 12 refl (opened c.in_default.in_default-own.keys2)) (is_not c.peek.result c.peek.ensures (but (11 ∷ 12 ∷ 13 ∷ 40 ∷ [])) 13 refl (opened c.in_default.in_default-own.keys2)) (is_not c.peek.result c.peek.ensures (but (11 ∷ 12 ∷ 13 ∷ 40 ∷ [])) 40 refl (opened c.in_default.in_default-own.keys2))) (s_end (omega arith))
 
 pub declared-procedure-requires : goal.declared-procedure-requires
 declared-procedure-requires t c =
-    let μ = c.decreases in
-    let r = c.requires in
     let i1 = inside _ _ (is_at c.peek.result c.peek.ensures c.in-Procedure.in-Procedure-own.keys1) (λ h. omega arith) in
     (omega arith, record { inside = omega arith; short = omega arith; size = omega arith; room = omega arith })
 
@@ -187,9 +151,6 @@ head-returns-in_err-next-2 t c = λ F. s_exit c.from_residual-in_err-next-2.ensu
 
 pub head-declarations-requires : goal.head-declarations-requires
 head-declarations-requires t c =
-    let μ = c.decreases in
-    let r = c.requires in
-    let l1 = c.declaration.auto.nodes in
     let g1 = got_of c.in_ok-next.ensures in let s1 = space g1 in
     let h1 = c.in_ok-next-2.ensures in
     (omega arith, record { inside = omega arith; short = omega arith; size = omega arith; room = omega arith })
@@ -199,35 +160,20 @@ head-returns t c = λ F. s_prod G.a_head refl (s_part _ c.in_ok-next.ensures (s_
 
 pub inner-put-first-requires : goal.inner-put-first-requires
 inner-put-first-requires t c =
-    let μ = c.decreases in
-    let r = c.requires in
     let i1 = inside_in _ _ (11 ∷ 12 ∷ 13 ∷ 40 ∷ []) refl (is_in c.peek.result c.peek.ensures (11 ∷ 12 ∷ 13 ∷ 40 ∷ []) c.in-Integer.in-Integer-own.keys1) in
-    let p1 = c.put-opened.ensures in let k1 = c.put-opened.auto.nodes in
-    let l1 = c.head.auto.nodes in
     let g1 = got_of (c.in_ok-next-in-Integer.ensures []) in let s1 = space g1 in
     (omega arith, omega arith)
 
 pub inner-tail-requires : goal.inner-tail-requires
 inner-tail-requires t c =
-    let μ = c.decreases in
-    let r = c.requires in
     let i1 = inside_in _ _ (11 ∷ 12 ∷ 13 ∷ 40 ∷ []) refl (is_in c.peek.result c.peek.ensures (11 ∷ 12 ∷ 13 ∷ 40 ∷ []) c.in-Integer.in-Integer-own.keys1) in
-    let p1 = c.put-opened.ensures in let k1 = c.put-opened.auto.nodes in
-    let l1 = c.head.auto.nodes in
     let g1 = got_of (c.in_ok-next-in-Integer.ensures []) in let s1 = space g1 in
-    let p2 = c.put-first.ensures in let k2 = c.put-first.auto.nodes in
     (omega arith, record { inside = omega arith; short = omega arith; size = omega arith; room = omega arith })
 
 pub inner-put-end-requires : goal.inner-put-end-requires
 inner-put-end-requires t c =
-    let μ = c.decreases in
-    let r = c.requires in
     let i1 = inside_in _ _ (11 ∷ 12 ∷ 13 ∷ 40 ∷ []) refl (is_in c.peek.result c.peek.ensures (11 ∷ 12 ∷ 13 ∷ 40 ∷ []) c.in-Integer.in-Integer-own.keys1) in
-    let p1 = c.put-opened.ensures in let k1 = c.put-opened.auto.nodes in
-    let l1 = c.head.auto.nodes in
     let g1 = got_of (c.in_ok-next-in-Integer.ensures []) in let s1 = space g1 in
-    let p2 = c.put-first.ensures in let k2 = c.put-first.auto.nodes in
-    let l2 = c.tail.auto.nodes in
     let g2 = got_of c.in_ok-next-in-Integer-2.ensures in let s2 = space g2 in
     (omega arith, omega arith)
 
@@ -239,16 +185,9 @@ inner-returns-in_err-next-in-Integer-2 t c = s_exit c.from_residual-in_err-next-
 
 pub inner-returns-in_ok-next-in-Integer-2 : goal.inner-returns-in_ok-next-in-Integer-2
 inner-returns-in_ok-next-in-Integer-2 t c =
-    let μ = c.decreases in
-    let r = c.requires in
     let i1 = inside_in _ _ (11 ∷ 12 ∷ 13 ∷ 40 ∷ []) refl (is_in c.peek.result c.peek.ensures (11 ∷ 12 ∷ 13 ∷ 40 ∷ []) c.in-Integer.in-Integer-own.keys1) in
-    let p1 = c.put-opened.ensures in let k1 = c.put-opened.auto.nodes in
-    let l1 = c.head.auto.nodes in
     let g1 = got_of (c.in_ok-next-in-Integer.ensures []) in let s1 = space g1 in
-    let p2 = c.put-first.ensures in let k2 = c.put-first.auto.nodes in
-    let l2 = c.tail.auto.nodes in
     let g2 = got_of c.in_ok-next-in-Integer-2.ensures in let s2 = space g2 in
-    let p3 = c.put-end.ensures in let k3 = c.put-end.auto.nodes in
     s_prod G.a_block (all_in (λ (z : ℕ). choose G.inner z 0 ≡ some G.a_block) (is_in c.peek.result c.peek.ensures (11 ∷ 12 ∷ 13 ∷ 40 ∷ []) c.in-Integer.in-Integer-own.keys1) (refl, (refl, (refl, (refl, tt))))) (s_put c.put-opened.ensures (omega arith) (omega arith) (omega arith) (s_part _ (c.in_ok-next-in-Integer.ensures _) (s_put c.put-first.ensures (omega arith) (omega arith) (omega arith) (s_part _ c.in_ok-next-in-Integer-2.ensures (s_put c.put-end.ensures (omega arith) (omega arith) (omega arith) (s_end (omega arith)))))))
 
 pub inner-returns-in_default : goal.inner-returns-in_default
@@ -259,29 +198,17 @@ nested_statement-returns t c = s_deeper c.if-depth-ge64.false c.statement-2.ensu
 
 pub procedure-put-body-requires : goal.procedure-put-body-requires
 procedure-put-body-requires t c =
-    let μ = c.decreases in
-    let r = c.requires in
-    let l1 = c.heading.auto.nodes in
     let g1 = got_of (c.in_ok-next.ensures 0 []) in let s1 = space g1 in
     (omega arith, omega arith)
 
 pub procedure-nested_statement-requires : goal.procedure-nested_statement-requires
 procedure-nested_statement-requires t c =
-    let μ = c.decreases in
-    let r = c.requires in
-    let l1 = c.heading.auto.nodes in
     let g1 = got_of (c.in_ok-next.ensures 0 []) in let s1 = space g1 in
-    let p1 = c.put-body.ensures in let k1 = c.put-body.auto.nodes in
     (omega arith, record { inside = omega arith; short = omega arith; size = omega arith; room = omega arith })
 
 pub procedure-put-end-requires : goal.procedure-put-end-requires
 procedure-put-end-requires t c =
-    let μ = c.decreases in
-    let r = c.requires in
-    let l1 = c.heading.auto.nodes in
     let g1 = got_of (c.in_ok-next.ensures 0 []) in let s1 = space g1 in
-    let p1 = c.put-body.ensures in let k1 = c.put-body.auto.nodes in
-    let l2 = c.nested_statement.auto.nodes in
     let g2 = got_of c.in_ok-next-2.ensures in let s2 = space g2 in
     (omega arith, omega arith)
 
@@ -293,31 +220,18 @@ procedure-returns-in_err-next-2 t c = s_exit c.from_residual-in_err-next-2.ensur
 
 pub procedure-returns : goal.procedure-returns
 procedure-returns t c =
-    let μ = c.decreases in
-    let r = c.requires in
-    let l1 = c.heading.auto.nodes in
     let g1 = got_of (c.in_ok-next.ensures 0 []) in let s1 = space g1 in
-    let p1 = c.put-body.ensures in let k1 = c.put-body.auto.nodes in
-    let l2 = c.nested_statement.auto.nodes in
     let g2 = got_of c.in_ok-next-2.ensures in let s2 = space g2 in
-    let p2 = c.put-end.ensures in let k2 = c.put-end.auto.nodes in
     s_prod G.a_procedure refl (s_part _ (c.in_ok-next.ensures _ _) (s_put c.put-body.ensures (omega arith) (omega arith) (omega arith) (s_part _ c.in_ok-next-2.ensures (s_put c.put-end.ensures (omega arith) (omega arith) (omega arith) (s_end (omega arith))))))
 
 pub repetition-nested_statement-requires : goal.repetition-nested_statement-requires
 repetition-nested_statement-requires t c =
-    let μ = c.decreases in
-    let r = c.requires in
-    let l1 = c.for_clause.auto.nodes in
     let g1 = got_of (c.in_ok-next.ensures []) in let s1 = space g1 in
     (omega arith, record { inside = omega arith; short = omega arith; size = omega arith; room = omega arith })
 
 pub repetition-put-end-requires : goal.repetition-put-end-requires
 repetition-put-end-requires t c =
-    let μ = c.decreases in
-    let r = c.requires in
-    let l1 = c.for_clause.auto.nodes in
     let g1 = got_of (c.in_ok-next.ensures []) in let s1 = space g1 in
-    let l2 = c.nested_statement.auto.nodes in
     let g2 = got_of c.in_ok-next-2.ensures in let s2 = space g2 in
     (omega arith, omega arith)
 
@@ -329,13 +243,8 @@ repetition-returns-in_err-next-2 t c = s_exit c.from_residual-in_err-next-2.ensu
 
 pub repetition-returns : goal.repetition-returns
 repetition-returns t c =
-    let μ = c.decreases in
-    let r = c.requires in
-    let l1 = c.for_clause.auto.nodes in
     let g1 = got_of (c.in_ok-next.ensures []) in let s1 = space g1 in
-    let l2 = c.nested_statement.auto.nodes in
     let g2 = got_of c.in_ok-next-2.ensures in let s2 = space g2 in
-    let p1 = c.put-end.ensures in let k1 = c.put-end.auto.nodes in
     s_prod G.a_for refl (s_part _ (c.in_ok-next.ensures _) (s_part _ c.in_ok-next-2.ensures (s_put c.put-end.ensures (omega arith) (omega arith) (omega arith) (s_end (omega arith)))))
 
 pub statement-returns-in-If : goal.statement-returns-in-If
@@ -349,8 +258,6 @@ statement-returns-in_default t c = s_prod G.plain (C.else_statement (is_not c.pe
 
 pub statements-tail-requires : goal.statements-tail-requires
 statements-tail-requires t c =
-    let μ = c.decreases in
-    let r = c.requires in
     let i1 = inside _ _ (is_at c.peek.result c.peek.ensures c.in-Semicolon.in-Semicolon-own.keys1) (λ h. omega arith) in
     (omega arith, record { inside = omega arith; short = omega arith; size = omega arith; room = omega arith })
 
@@ -359,15 +266,10 @@ statements-returns-in-Semicolon t c = s_prod G.a_statement (ap (λ (z : ℕ). ch
 
 pub statements-returns-in_default : goal.statements-returns-in_default
 statements-returns-in_default t c =
-    let μ = c.decreases in
-    let r = c.requires in
     s_prod G.no_statement (C.else_statements (is_not c.peek.result c.peek.ensures (but (35 ∷ [])) 35 refl (opened c.in_default.in_default-own.keys2))) (s_end (omega arith))
 
 pub tail-statements-requires : goal.tail-statements-requires
 tail-statements-requires t c =
-    let μ = c.decreases in
-    let r = c.requires in
-    let l1 = c.nested_statement.auto.nodes in
     let g1 = got_of c.in_ok-next.ensures in let s1 = space g1 in
     (omega arith, record { inside = omega arith; short = omega arith; size = omega arith; room = omega arith })
 
@@ -379,8 +281,6 @@ tail-returns t c = s_prod G.a_tail refl (s_part _ c.in_ok-next.ensures (s_last c
 
 pub unconditional-named-requires : goal.unconditional-named-requires
 unconditional-named-requires t c =
-    let μ = c.decreases in
-    let r = c.requires in
     let i1 = inside _ _ (is_at c.peek.result c.peek.ensures c.in-Name.in-Name-own.keys1) (λ h. omega arith) in
     record { inside = omega arith; short = omega arith; size = omega arith; room = omega arith }
 
@@ -392,6 +292,4 @@ unconditional-returns-in-Begin t c = λ F. s_prod G.compound (ap (λ (z : ℕ). 
 
 pub unconditional-returns-in_default : goal.unconditional-returns-in_default
 unconditional-returns-in_default t c =
-    let μ = c.decreases in
-    let r = c.requires in
     λ F. s_prod G.dummy (C.else_unconditional (is_not c.peek.result c.peek.ensures (but (0 ∷ 38 ∷ [])) 38 refl (opened c.in_default.in_default-own.keys3)) (is_not c.peek.result c.peek.ensures (but (0 ∷ 38 ∷ [])) 0 refl (opened c.in_default.in_default-own.keys3))) (s_end (omega arith))
