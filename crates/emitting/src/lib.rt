@@ -80,9 +80,9 @@ pub struct Laid {
 
 // What is known behind some nodes of the code: how many uses were passed; the address of the next instruction; how many
 // addresses lie ahead so far; the activations and the for statements of the running one that are around; the variables of
-// the block so far; the left parts before; whether a name stands there that a number is taken to; the word of the name that was
-// the last node, 0 where it was no such name, and among declarations 1 behind a procedure; how many declarations and formals there
-// were; how much is open.
+// the block so far; the left parts before; whether a name stands there that a number is taken to; the word of the name that
+// was the last node, 0 where it was no such name, and among declarations 1 behind a procedure; how many declarations and
+// formals there were; how much is open.
 #[derive(Clone, Copy)]
 pub struct Writing {
     pub uses: usize,
