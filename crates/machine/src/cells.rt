@@ -15,6 +15,7 @@ const UNSET_WHOLE: i64 = 0;
 const WHOLE: i64 = 4;
 
 // How many cells there are.
+#[tactic(auto, unfolding(crate::specs::model::Holding::room_of))]
 pub fn room(store: &[i64]) -> usize
     ensures { result ≡ room_of store.now }
 {

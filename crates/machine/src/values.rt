@@ -48,6 +48,7 @@ pub fn binary_of(k: u32) -> Binary
 }
 
 // The type of a number, if it is a type's.
+#[tactic(auto, unfolding(crate::specs::model::Holding::typed_of))]
 pub fn typed(n: usize) -> Option<Form>
     ensures { result ≡ typed_of n }
 {
@@ -60,6 +61,7 @@ pub fn typed(n: usize) -> Option<Form>
 }
 
 // The channel of ininteger and outinteger.
+#[tactic(auto, unfolding(crate::specs::model::Holding::line_of))]
 pub fn line(v: Value) -> Line
     ensures { result ≡ line_of v }
 {
