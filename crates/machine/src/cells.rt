@@ -22,6 +22,7 @@ pub fn room(store: &[i64]) -> usize
     store.len() / CELL_NUMBERS
 }
 
+#[tactic(auto, unfolding(crate::specs::model::Holding::cell_at, crate::specs::model::Holding::room_of))]
 pub fn cell_at(store: &[i64], c: usize) -> Cell
     requires { c < room_of store.now }
     ensures { result ≡ cell_at store.now c }
@@ -39,6 +40,7 @@ pub fn is_plain(store: &[i64], c: usize) -> bool
     !matches!(cell_at(store, c), Cell::Named(_))
 }
 
+#[tactic(auto, unfolding(crate::specs::model::Holding::put_at, crate::specs::model::Holding::room_of))]
 pub fn put_cell(store: &mut [i64], c: usize, x: Cell)
     requires { c < room_of store.old }
     ensures { store.new ≡ put_at store.old c x }

@@ -13,6 +13,7 @@ use reals::{Binary, Form, Outcome, Unary, Value};
 
 // The sign -, 'not' and iabs.
 // Kept: no plainer, Unary and Binary are another crate's, so no From or TryFrom of a number can be written for them here.
+#[tactic(auto, unfolding(crate::specs::Instructions::unary_of))]
 pub fn unary_of(k: u32) -> Unary
     requires { (o_minus ≤ k) × (k < o_plus) }
     ensures { result ≡ unary_of k }
@@ -25,6 +26,7 @@ pub fn unary_of(k: u32) -> Unary
 }
 
 // The operators on two values.
+#[tactic(auto, unfolding(crate::specs::Instructions::binary_of))]
 pub fn binary_of(k: u32) -> Binary
     requires { o_plus ≤ k }
     ensures { result ≡ binary_of k }
