@@ -10,7 +10,7 @@ use asking::numerals::natural_in;
 use asking::words::{line_of, word_from};
 use machine::Ran;
 use showing::system::System;
-use showing::text::{least, say, say_number, say_whole};
+use showing::text::{say, say_number, say_whole};
 use std::os::fd::AsRawFd;
 use symbols::text::find;
 
@@ -35,18 +35,14 @@ fn show_counts(system: &System, r: Ran) {
 }
 
 fn show_store(system: &System, store: &[i64]) {
-    let mut i = 0;
-    while i < store.len() {
-        show_number(system, store[i]);
-        i += 1;
+    for &x in store {
+        show_number(system, x);
     }
 }
 
 fn show_output(system: &System, output: &[i32]) {
-    let mut i = 0;
-    while i < output.len() {
-        show_number(system, output[i] as i64);
-        i += 1;
+    for &x in output {
+        show_number(system, i64::from(x));
     }
 }
 
@@ -104,57 +100,40 @@ fn word_in(text: &[u8]) -> u32 {
     let Some(v) = natural_in(text) else {
         return 0;
     };
-    if 4294967295 < v {
-        return 0;
-    }
-    v as u32
+    u32::try_from(v).unwrap_or(0)
 }
 
 // The words that a line spells from `from` on, as many as there is room for; gives how many.
 fn words_into(line: &[u8], from: usize, words: &mut [u32]) -> usize {
     let mut at = from;
-    let mut i: usize = 0;
-    while i < words.len() {
+    for (i, word) in words.iter_mut().enumerate() {
         let w = word_from(line, at);
-        let a = w.from;
-        let b = w.to;
-        if a == b {
+        if w.from == w.to {
             return i;
         }
-        let x = word_in(&line[a..b]);
-        words[i] = x;
-        at = b;
-        i += 1;
+        *word = word_in(&line[w.from..w.to]);
+        at = w.to;
     }
-    i
+    words.len()
 }
 
 // A word as an input.
 fn input_of(word: u32) -> i32 {
-    if 2147483647 < word {
-        return 0;
-    }
-    word as i32
+    i32::try_from(word).unwrap_or(0)
 }
 
 // Word i; 0 where there is none.
 fn word_at(words: &[u32], i: usize) -> u32 {
-    if i < words.len() {
-        return words[i];
-    }
-    0
+    words.get(i).copied().unwrap_or(0)
 }
 
 // The run of a label and the first n words.
 fn listed(system: &System, label: &[u8], words: &[u32], n: usize) {
     let limit = word_at(words, 0) as u64;
-    let numbers = least(word_at(words, 1) as usize, 48);
-    let room = least(word_at(words, 2) as usize, 24);
+    let numbers = (word_at(words, 1) as usize).min(48);
+    let room = (word_at(words, 2) as usize).min(24);
     let input = [input_of(word_at(words, 4))];
-    if words.len() < n {
-        return;
-    }
-    if n < 4 {
+    if n < 4 || words.len() < n {
         return;
     }
     if word_at(words, 3) == 0 {
@@ -177,10 +156,7 @@ fn listed(system: &System, label: &[u8], words: &[u32], n: usize) {
 
 // A line of the file. Behind its words the row has zeros.
 fn line(system: &System, text: &[u8]) {
-    if text.len() == 0 {
-        return;
-    }
-    if text[0] == b'#' {
+    if text.is_empty() || text.starts_with(b"#") {
         return;
     }
     let mut row = [0u8; 4096];
@@ -195,14 +171,8 @@ fn line(system: &System, text: &[u8]) {
 }
 
 fn lines(system: &System, text: &[u8]) {
-    let mut at: usize = 0;
-    while at < text.len() {
-        let end = find(text, at, b'\n');
-        if text.len() < end {
-            return;
-        }
-        line(system, &text[at..end]);
-        at = end + 1;
+    for row in text.split(|&b| b == b'\n') {
+        line(system, row);
     }
 }
 
