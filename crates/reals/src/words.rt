@@ -30,7 +30,7 @@ pub fn long_word(x: i64) -> u64
 }
 
 // A real's bits.
-#[tactic(auto, using(crate::proofs::Finite::no_number))]
+#[tactic(auto, using(crate::proofs::Finite::nan_pattern))]
 pub fn bits_of(x: f64) -> u64
     ensures { result ≡ to_bits binary64 x }
 {
