@@ -1,6 +1,6 @@
 -- `asking::lists::list_in` meets its contract. The invariant, `Put`: so many words are taken, and the rest begins at `at`.
 -- Assumes nothing.
-use mathlib.Core.Path.{refl, sym, ap, ◌∙◌}
+use mathlib.Core.Path.{refl, sym, ◌∙◌}
 use native.Mathlib.Omega.{arith}
 use lib.ListN.{length-set}
 use mir.Syntax.{w64}
