@@ -40,7 +40,7 @@ impl Named {
     pub const BY_NAME: usize = 4;
 
     // The declaration that is meant.
-    pub fn declaration(self) -> Declaration
+    pub(crate) fn declaration(self) -> Declaration
         ensures { result.number ≡ self.means }
     {
         Declaration { number: self.means }

@@ -9,7 +9,7 @@ use answers::Place;
 impl Writing {
     // An instruction: operation, place, operand.
     #[tactic(auto, unfolding(crate::specs::model::Emission::put))]
-    pub fn put(mut self, code: &mut [u32], o: usize, place: Place, v: usize) -> Writing
+    pub(crate) fn put(mut self, code: &mut [u32], o: usize, place: Place, v: usize) -> Writing
         requires { (self.here.at < 1048576) × (o + 64 * place.at < 4294967296) × (v < 4294967296) }
         ensures en_after { (us : List Used) (op : List Thing) (ah en : List ℕ) → see result us op code.new ah en ≡ put o place.at v (see self us op code.old ah en) }
         ensures alike { Alike self result × (result.here.at ≡ self.here.at + 1) × (result.open ≡ self.open) }
@@ -23,7 +23,7 @@ impl Writing {
 
     // Something opens.
     #[tactic(auto, using(crate::proofs::Stacked::things_write), unfolding(crate::specs::model::Emission::pushed, crate::specs::model::Emission::with_open))]
-    pub fn push(
+    pub(crate) fn push(
         mut self,
         things: &mut [Thing; 8192],
         a: usize,
@@ -47,7 +47,7 @@ impl Writing {
 
     // The newest one is closed.
     #[tactic(auto, using(crate::proofs::Stacked::things_below), unfolding(crate::specs::model::Emission::popped, crate::specs::model::Emission::with_open))]
-    pub fn pop(mut self) -> Writing
+    pub(crate) fn pop(mut self) -> Writing
         ensures en_value { (us : List Used) (op : List Thing) (co ah en : List ℕ) → see result us op co ah en ≡ popped (see self us op co ah en) }
         ensures alike { Alike self result × (result.here.at ≡ self.here.at) × (result.variable ≡ self.variable) × (result.open ≤ self.open) × (self.open ≤ 8192 → result.open < 8192) }
     {
@@ -56,7 +56,7 @@ impl Writing {
     }
 
     // Another one in place of the newest.
-    pub fn replace(
+    pub(crate) fn replace(
         self,
         things: &mut [Thing; 8192],
         a: usize,
@@ -73,7 +73,7 @@ impl Writing {
 
     // The newest one; none is zeros.
     #[tactic(auto, using(crate::proofs::Stacked::things_top), unfolding(crate::specs::model::Emission::top, crate::specs::model::Arrays::things_of))]
-    pub fn top(self, things: &[Thing; 8192]) -> Thing
+    pub(crate) fn top(self, things: &[Thing; 8192]) -> Thing
         requires { self.open ≤ 8192 }
         ensures { seen result ≡ top (things_of self.open things.now) }
     {
@@ -85,7 +85,7 @@ impl Writing {
 
     // The last node is no name.
     #[tactic(auto, unfolding(crate::specs::model::Emission::nameless, crate::specs::model::Emission::with_variable))]
-    pub fn nameless(mut self) -> Writing
+    pub(crate) fn nameless(mut self) -> Writing
         ensures { (us : List Used) (op : List Thing) (co ah en : List ℕ) → see result us op co ah en ≡ nameless (see self us op co ah en) }
     {
         self.variable = 0;
@@ -94,7 +94,7 @@ impl Writing {
 
     // One address more lies ahead.
     #[tactic(auto, unfolding(crate::specs::model::Emission::with_slot))]
-    pub fn slot(mut self) -> Writing
+    pub(crate) fn slot(mut self) -> Writing
         requires { self.slots < 1048576 }
         ensures { (us : List Used) (op : List Thing) (co ah en : List ℕ) → see result us op co ah en ≡ with_slot (see self us op co ah en) }
     {
