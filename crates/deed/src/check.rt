@@ -1,5 +1,5 @@
 // deed check: a list that somebody sent, held against the uses of a source.
-ghost use Rattle.std.specs.Prelude.{◌≤◌, length, ◌≡◌};
+ghost use Rattle.std.specs.Prelude.{◌≤◌, length, ◌≡◌, IfSome};
 ghost use Rattle.io.specs.Counts.{IsPrefixLen};
 ghost use Rattle.desk.specs.Status.{nothing as undone};
 ghost use Rattle.deed.specs.Status.{of_checked, CheckStatus, SentStatus};
@@ -9,7 +9,7 @@ use asking::options::next_operand;
 use asking::words::{Word, is_plain, list_line, word_from};
 use checking::Checked;
 use checking::checking::check_list;
-use desk::files::{Loaded, is_standard, load, nothing};
+use desk::files::{is_standard, load};
 use desk::misuse::{misused, see_help};
 use desk::status;
 use reading::reading::read;
@@ -31,17 +31,17 @@ fn tell_where(system: &System, to: Stream, list: &[u8], text: &[u8], place: usiz
 }
 
 // The bytes of a list. What fills the room may go on behind it, and none of it is taken.
-fn load_list(system: &System, list: &[u8], room: &mut [u8]) -> Loaded
-    ensures { IsPrefixLen result.count room.new }
+fn load_list(system: &System, list: &[u8], room: &mut [u8]) -> Option<usize>
+    ensures { IfSome result (λ n. IsPrefixLen n room.new) }
 {
-    let got = load(system, list, room);
-    if 65536 <= got.count {
+    let n = load(system, list, room)?;
+    if 65536 <= n {
         complain(system, b"deed: ");
         tell_file(system, Stream::Errors, list);
         complain(system, b": a LIST has under 65,536 bytes\n");
-        return nothing();
+        return None;
     }
-    got
+    Some(n)
 }
 
 // The word of a line whose index is k.
@@ -255,18 +255,14 @@ fn check_file(system: &System, name: &[u8], list: &[u8], plain: bool) -> u8
 {
     let mut room = io::large_buffer();
     let mut text = io::large_buffer();
-    let got = load(system, name, &mut room);
-    if !got.good {
+    let Some(n) = load(system, name, &mut room) else {
         see_help(system);
         return status::NOTHING;
-    }
-    let sent = load_list(system, list, &mut text);
-    if !sent.good {
+    };
+    let Some(k) = load_list(system, list, &mut text) else {
         see_help(system);
         return status::NOTHING;
-    }
-    let n = got.count;
-    let k = sent.count;
+    };
     check_text(system, name, &room[..n], list, &text[..k], plain)
 }
 

@@ -38,13 +38,11 @@ fn start(system: &System, line: &[u8]) -> u8 {
 
 fn begin(system: &System) -> u8 {
     let mut line = io::large_buffer();
-    let got = arguments(system, &mut line);
-    let n = got.count;
-    if got.good {
-        return start(system, &line[..n]);
-    }
-    see_help(system);
-    status::NOTHING
+    let Some(n) = arguments(system, &mut line) else {
+        see_help(system);
+        return status::NOTHING;
+    };
+    start(system, &line[..n])
 }
 
 fn main(rt: HostRuntime) {

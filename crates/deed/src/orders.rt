@@ -58,12 +58,10 @@ fn obey_file(system: &System, name: &[u8]) -> u8
     ensures { result ≤ nothing }
 {
     let mut room = io::large_buffer();
-    let got = load(system, name, &mut room);
-    let n = got.count;
-    if !got.good {
+    let Some(n) = load(system, name, &mut room) else {
         see_help(system);
         return status::NOTHING;
-    }
+    };
     if 65536 <= n {
         complain(system, b"deed: a file of commands has under 65,536 bytes\n");
         return status::NOTHING;

@@ -61,11 +61,9 @@ pub fn obey(system: &System, line: &[u8], at: usize) -> u8
     let w = next_operand(line, at);
     let a = w.from;
     let b = w.to;
-    let got = load(system, &line[a..b], &mut room);
-    if !got.good {
+    let Some(n) = load(system, &line[a..b], &mut room) else {
         see_help(system);
         return status::NOTHING;
-    }
-    let n = got.count;
+    };
     tell(system, &line[a..b], &room[..n], is_plain(line))
 }

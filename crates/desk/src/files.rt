@@ -1,5 +1,5 @@
 // Files and arguments, brought in whole or not at all.
-ghost use Rattle.std.specs.Prelude.{◌≡◌, ◌+◌, ◌≤◌, length};
+ghost use Rattle.std.specs.Prelude.{◌≡◌, ◌≤◌, length, IfSome};
 ghost use Rattle.io.specs.Counts.{IsPrefixLen};
 ghost use Rattle.symbols.specs.Text.{bytes};
 ghost use Rattle.symbols.specs.Names.{equal};
@@ -10,22 +10,6 @@ use std::io::{Error, Read};
 use std::os::fd::AsRawFd;
 use symbols::text::same_bytes;
 
-// What was brought in: whether it is good, and how many bytes.
-#[derive(Clone, Copy)]
-pub struct Loaded {
-    pub good: bool,
-    pub count: usize,
-}
-
-pub fn nothing() -> Loaded
-    ensures { result.count ≤ 0 }
-{
-    Loaded {
-        good: false,
-        count: 0,
-    }
-}
-
 // Says why a file cannot be had.
 fn fail(system: &System, name: &[u8], error: Error) {
     complain(system, b"deed: ");
@@ -33,32 +17,28 @@ fn fail(system: &System, name: &[u8], error: Error) {
     system.fail(b"", error);
 }
 
-// The rest of a file of which the first n bytes are there.
-fn rest(fd: i32, room: &mut [u8], n: usize) -> Loaded
+// The rest of a file of which the first n bytes are there; how many bytes there are then.
+fn rest(fd: i32, room: &mut [u8], n: usize) -> usize
     requires { n ≤ length room.old }
-    ensures { IsPrefixLen result.count room.new }
+    ensures { IsPrefixLen result room.new }
 {
-    let more = io::read_full(fd, &mut room[n..]);
-    Loaded {
-        good: true,
-        count: n + more,
-    }
+    n + io::read_full(fd, &mut room[n..])
 }
 
-// The first bytes of an open file, as many as there is room for.
+// The first bytes of an open file, as many as there is room for; how many, where it can be read.
 pub fn take_in<R: Read + AsRawFd>(
     system: &System,
     from: &mut R,
     name: &[u8],
     room: &mut [u8],
-) -> Loaded
-    ensures { IsPrefixLen result.count room.new }
+) -> Option<usize>
+    ensures { IfSome result (λ n. IsPrefixLen n room.new) }
 {
     match from.read(room) {
-        Ok(n) => rest(from.as_raw_fd(), room, n),
+        Ok(n) => Some(rest(from.as_raw_fd(), room, n)),
         Err(error) => {
             fail(system, name, error);
-            nothing()
+            None
         }
     }
 }
@@ -70,9 +50,9 @@ pub fn is_standard(name: &[u8]) -> bool
     same_bytes(name, b"-")
 }
 
-// The first bytes of a file, or of standard input, as many as there is room for.
-pub fn load(system: &System, name: &[u8], room: &mut [u8]) -> Loaded
-    ensures { IsPrefixLen result.count room.new }
+// The first bytes of a file, or of standard input, as many as there is room for; how many, where it can be read.
+pub fn load(system: &System, name: &[u8], room: &mut [u8]) -> Option<usize>
+    ensures { IfSome result (λ n. IsPrefixLen n room.new) }
 {
     if is_standard(name) {
         return take_in(system, &mut system.input(), b"standard input", room);
@@ -81,57 +61,38 @@ pub fn load(system: &System, name: &[u8], room: &mut [u8]) -> Loaded
         Ok(mut file) => take_in(system, &mut file, name, room),
         Err(error) => {
             fail(system, name, error);
-            nothing()
+            None
         }
     }
 }
 
-fn copy(from: &[u8], room: &mut [u8], at: usize)
-    requires { at + length from.now ≤ length room.old }
-    ensures { length room.new ≡ length room.old }
-{
-    let mut i: usize = 0;
-    while i < from.len() {
-        room[at + i] = from[i];
-        i += 1;
-    }
-}
-
-// Puts argument i at a place of the line, which is zero from there on; gives the place behind its zero, or 0 where the
-// argument does not fit.
-fn put_argument(system: &System, i: usize, line: &mut [u8], at: usize) -> usize
+// Puts argument i at a place of the line, which is zero from there on; gives the place behind its zero, where the argument
+// fits.
+fn put_argument(system: &System, i: usize, line: &mut [u8], at: usize) -> Option<usize>
     requires { at ≤ length line.old }
-    ensures upper_bound { result ≤ length line.new }
+    ensures upper_bound { IfSome result (λ end. end ≤ length line.new) }
     ensures line_len_unchanged { length line.new ≡ length line.old }
 {
     let mut space = io::buffer();
-    let Some(n) = system.argument(i, &mut space) else {
-        return 0;
-    };
+    let n = system.argument(i, &mut space)?;
     if line.len() - at <= n {
-        return 0;
+        return None;
     }
-    copy(&space[..n], line, at);
-    at + n + 1
+    line[at..at + n].copy_from_slice(&space[..n]);
+    Some(at + n + 1)
 }
 
-// The arguments as a line of words.
-pub fn arguments(system: &System, line: &mut [u8]) -> Loaded
-    ensures { IsPrefixLen result.count line.new }
+// The arguments as a line of words; how long it is, where they fit.
+pub fn arguments(system: &System, line: &mut [u8]) -> Option<usize>
+    ensures { IfSome result (λ n. IsPrefixLen n line.new) }
 {
-    let n = system.argument_count();
-    let mut at: usize = 0;
-    let mut i: usize = 1;
-    while i < n {
-        at = put_argument(system, i, line, at);
-        if at == 0 {
+    let mut at = 0;
+    for i in 1..system.argument_count() {
+        let Some(end) = put_argument(system, i, line, at) else {
             complain(system, b"deed: the arguments are too long\n");
-            return nothing();
-        }
-        i += 1;
+            return None;
+        };
+        at = end;
     }
-    Loaded {
-        good: true,
-        count: at,
-    }
+    Some(at)
 }

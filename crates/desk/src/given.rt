@@ -1,7 +1,7 @@
 // The numbers that a run is given.
 ghost use Rattle.std.specs.Prelude.{◌≡◌, ◌≤◌, min, length};
 
-use crate::files::{Loaded, is_standard, nothing, take_in};
+use crate::files::{is_standard, take_in};
 use asking::numerals::whole_in;
 use asking::options::next_operand;
 use asking::words::{Word, has_word, line_of, word_from};
@@ -17,29 +17,30 @@ fn misspelled(system: &System, text: &[u8]) {
     complain(system, b"\n");
 }
 
-// Puts the number that a text spells behind n others. In a command - is none, and stands for those of standard input.
-fn put_number(system: &System, text: &[u8], command: bool, input: &mut [i32], n: usize) -> Loaded
+// Puts the number that a text spells behind n others; how many there are then, where it is a number and there is room. In a
+// command - is none, and stands for those of standard input.
+fn put_number(
+    system: &System,
+    text: &[u8],
+    command: bool,
+    input: &mut [i32],
+    n: usize,
+) -> Option<usize>
     ensures { length input.new ≡ length input.old }
 {
     if command && is_standard(text) {
-        return Loaded {
-            good: true,
-            count: n,
-        };
+        return Some(n);
     }
     let Some(x) = whole_in(text) else {
         misspelled(system, text);
-        return nothing();
+        return None;
     };
     if input.len() <= n {
         complain(system, b"deed: there are too many numbers\n");
-        return nothing();
+        return None;
     }
     input[n] = x;
-    Loaded {
-        good: true,
-        count: n + 1,
-    }
+    Some(n + 1)
 }
 
 // The next word of a line that is to be a number. In a command some words are something else.
@@ -52,7 +53,7 @@ fn number_word(line: &[u8], at: usize, command: bool) -> Word
     word_from(line, at)
 }
 
-// Puts the numbers of a line, from `from` on, behind n others.
+// Puts the numbers of a line, from `from` on, behind n others; how many there are then, where all can be put.
 fn put_numbers(
     system: &System,
     line: &[u8],
@@ -60,54 +61,45 @@ fn put_numbers(
     command: bool,
     input: &mut [i32],
     n: usize,
-) -> Loaded
+) -> Option<usize>
     ensures { length input.new ≡ length input.old }
 {
     let mut at = from;
     let mut count = n;
     while at < line.len() {
         let w = number_word(line, at, command);
-        let a = w.from;
-        let b = w.to;
-        if a == b {
-            return Loaded { good: true, count };
+        if w.from == w.to {
+            break;
         }
-        let put = put_number(system, &line[a..b], command, input, count);
-        if !put.good {
-            return put;
-        }
-        count = put.count;
-        at = b;
+        count = put_number(system, &line[w.from..w.to], command, input, count)?;
+        at = w.to;
     }
-    Loaded { good: true, count }
+    Some(count)
 }
 
 // Puts the numbers of standard input behind n others. What fills the room may go on behind it, and none of it is taken.
-fn put_standard(system: &System, input: &mut [i32], n: usize) -> Loaded
+fn put_standard(system: &System, input: &mut [i32], n: usize) -> Option<usize>
     ensures { length input.new ≡ length input.old }
 {
     let mut room = io::large_buffer();
     let mut row = io::large_buffer();
-    let got = take_in(system, &mut system.input(), b"standard input", &mut room);
-    let k = got.count;
-    if !got.good {
-        return got;
-    }
+    let k = take_in(system, &mut system.input(), b"standard input", &mut room)?;
     if 65536 <= k {
         complain(system, b"deed: standard input has under 65,536 bytes\n");
-        return nothing();
+        return None;
     }
     let m = line_of(&room[..k], &mut row);
     put_numbers(system, &row[..m], 0, false, input, n)
 }
 
-// Puts the numbers that a command asks for from `from` on: its own, and where it says - those of standard input.
-pub fn put_input(system: &System, line: &[u8], from: usize, input: &mut [i32]) -> Loaded
+// Puts the numbers that a command asks for from `from` on: its own, and where it says - those of standard input; how many,
+// where all can be put.
+pub fn put_input(system: &System, line: &[u8], from: usize, input: &mut [i32]) -> Option<usize>
     ensures { length input.new ≡ length input.old }
 {
-    let put = put_numbers(system, line, from, true, input, 0);
-    if put.good && has_word(line, from, b"-") {
-        return put_standard(system, input, put.count);
+    let n = put_numbers(system, line, from, true, input, 0)?;
+    if has_word(line, from, b"-") {
+        return put_standard(system, input, n);
     }
-    put
+    Some(n)
 }

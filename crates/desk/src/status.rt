@@ -27,10 +27,7 @@ pub fn of_verdict(v: Verdict) -> u8
 pub fn is_left(strict: bool, given: usize, taken: usize) -> bool
     ensures { result ≡ (strict && ltb taken given) }
 {
-    if !strict {
-        return false;
-    }
-    taken < given
+    strict && taken < given
 }
 
 // Of a run, and whether it left numbers that it was to take.
@@ -39,9 +36,7 @@ pub fn of_end(left: bool, s: Stop) -> u8
 {
     match s {
         Stop::Ended => { if left { BAD } else { GOOD } }
-        Stop::Limit => BAD,
-        Stop::Fault(_) => BAD,
-        Stop::Wrong(_) => BAD,
+        Stop::Limit | Stop::Fault(_) | Stop::Wrong(_) => BAD,
     }
 }
 
@@ -55,7 +50,7 @@ pub fn of_taken(taken: bool, status: u8) -> u8
 pub fn greater(a: u8, b: u8) -> u8
     ensures { result ≡ max a b }
 {
-    if a < b { b } else { a }
+    a.max(b)
 }
 
 fn tell(digit: &[u8]) {

@@ -265,24 +265,21 @@ fn run_file(system: &System, line: &[u8], from: usize, to: usize, how: How, size
 {
     let mut input = [0i32; 32768];
     let mut room = io::large_buffer();
-    let put = put_input(system, line, to, &mut input);
-    if !put.good {
+    let Some(count) = put_input(system, line, to, &mut input) else {
         see_help(system);
         return status::NOTHING;
-    }
-    let got = load(system, &line[from..to], &mut room);
-    if !got.good {
+    };
+    let Some(n) = load(system, &line[from..to], &mut room) else {
         see_help(system);
         return status::NOTHING;
-    }
-    let n = got.count;
+    };
     run_source(
         system,
         &line[from..to],
         &room[..n],
         how,
         &input,
-        put.count,
+        count,
         sizes,
     )
 }
@@ -306,15 +303,13 @@ pub fn obey(system: &System, line: &[u8], at: usize) -> u8
     let w = next_operand(line, at);
     let from = w.from;
     let to = w.to;
-    if is_standard(&line[from..to]) {
-        if has_word(line, to, b"-") {
-            misused(
-                system,
-                b"standard input is the FILE or has numbers, and not both",
-                b"",
-            );
-            return status::NOTHING;
-        }
+    if is_standard(&line[from..to]) && has_word(line, to, b"-") {
+        misused(
+            system,
+            b"standard input is the FILE or has numbers, and not both",
+            b"",
+        );
+        return status::NOTHING;
     }
     run_file(system, line, from, to, how_of(line), sizes)
 }

@@ -4,8 +4,5 @@ use Rattle.io.proofs.Counting.{prefix_len_of_le}
 use borrow.Author.Rules.{rules}
 use Rattle.desk.proofs.files.arguments.Goals as goal
 
-pub returns-then-at-eq0 : goal.returns-then-at-eq0
-returns-then-at-eq0 c = prefix_len_of_le _ _ (search rules)
-
 pub returns : goal.returns
 returns c = prefix_len_of_le _ _ (search rules)
