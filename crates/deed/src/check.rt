@@ -1,7 +1,6 @@
 // deed check: a list that somebody sent, held against the uses of a source.
 ghost use Rattle.std.specs.Prelude.{◌≤◌, length, ◌≡◌, IfSome};
 ghost use Rattle.io.specs.Counts.{IsPrefixLen};
-ghost use Rattle.desk.specs.Status.{nothing as undone};
 ghost use Rattle.deed.specs.Status.{of_checked, CheckStatus, SentStatus};
 
 use asking::lists::{Unlisted, list_in};
@@ -11,7 +10,7 @@ use checking::Checked;
 use checking::checking::check_list;
 use desk::files::{is_standard, load};
 use desk::misuse::{misused, see_help};
-use desk::status;
+use desk::status::Status;
 use reading::reading::read;
 use showing::system::{Stream, System};
 use showing::text::{
@@ -49,11 +48,8 @@ fn nth_word(line: &[u8], k: usize) -> Word
     ensures { (result.from ≤ result.to) × (result.to ≤ length line.now) }
 {
     let mut at: usize = 0;
-    let mut left = k;
-    while 0 < left {
-        let w = word_from(line, at);
-        at = w.to;
-        left -= 1;
+    for _ in 0..k {
+        at = word_from(line, at).to;
     }
     word_from(line, at)
 }
@@ -154,13 +150,12 @@ fn show_plain(system: &System, c: Checked) {
     }
 }
 
-fn of_checked(c: Checked) -> u8
+fn of_checked(c: Checked) -> Status
     ensures { result ≡ of_checked c }
 {
     match c {
-        Checked::Yes => status::GOOD,
-        Checked::Refused(_) => status::BAD,
-        Checked::Wrong(_) => status::BAD,
+        Checked::Yes => Status::Good,
+        Checked::Refused(_) | Checked::Wrong(_) => Status::Bad,
     }
 }
 
@@ -174,7 +169,7 @@ fn tell_checked(
     line: &[u8],
     numbers: &[i64],
     plain: bool,
-) -> u8
+) -> Status
     ensures { CheckStatus source.now numbers.now result }
 {
     let c = check_list(source, numbers);
@@ -218,7 +213,7 @@ fn check_text(
     list: &[u8],
     text: &[u8],
     plain: bool,
-) -> u8
+) -> Status
     requires { length text.now ≤ 65536 }
     ensures { SentStatus source.now text.now result }
 {
@@ -240,36 +235,32 @@ fn check_text(
         }
         Err(Unlisted::NoNumber(i)) => {
             unlisted(system, list, text, &row[..n], i);
-            status::NOTHING
+            Status::Nothing
         }
         Err(Unlisted::Full) => {
             complain(system, b"deed: a LIST has at most 32,768 numbers\n");
-            status::NOTHING
+            Status::Nothing
         }
     }
 }
 
 // A list that a file holds, or standard input, held against the source of another file.
-fn check_file(system: &System, name: &[u8], list: &[u8], plain: bool) -> u8
-    ensures { result ≤ undone }
-{
+fn check_file(system: &System, name: &[u8], list: &[u8], plain: bool) -> Status {
     let mut room = io::large_buffer();
     let mut text = io::large_buffer();
     let Some(n) = load(system, name, &mut room) else {
         see_help(system);
-        return status::NOTHING;
+        return Status::Nothing;
     };
     let Some(k) = load_list(system, list, &mut text) else {
         see_help(system);
-        return status::NOTHING;
+        return Status::Nothing;
     };
     check_text(system, name, &room[..n], list, &text[..k], plain)
 }
 
 // Standard input is one of the two, or none.
-pub fn obey(system: &System, line: &[u8], at: usize) -> u8
-    ensures { result ≤ undone }
-{
+pub fn obey(system: &System, line: &[u8], at: usize) -> Status {
     let w = next_operand(line, at);
     let a = w.from;
     let b = w.to;
@@ -283,7 +274,7 @@ pub fn obey(system: &System, line: &[u8], at: usize) -> u8
                 b"standard input is the FILE or the LIST, and not both",
                 b"",
             );
-            return status::NOTHING;
+            return Status::Nothing;
         }
     }
     check_file(system, &line[a..b], &line[c..d], is_plain(line))

@@ -1,24 +1,23 @@
 // deed code: the translation of a source.
 ghost use Rattle.std.specs.Prelude.{◌≤◌};
-ghost use Rattle.desk.specs.Status.{nothing};
 ghost use Rattle.deed.specs.Status.{CodeStatus};
 
 use answers::Verdict;
 use asking::options::next_operand;
 use desk::files::load;
 use desk::misuse::see_help;
-use desk::status;
+use desk::status::{Status, of_verdict};
 use showing::code::show_code;
 use showing::system::System;
 use showing::words::show_answer;
 use translating::translating::translate;
 
-fn tell(system: &System, name: &[u8], source: &[u8]) -> u8
+fn tell(system: &System, name: &[u8], source: &[u8]) -> Status
     ensures { CodeStatus source.now result }
 {
     let mut code = [0u32; 16384];
     let v = translate(source, &mut code);
-    let ended = status::of_verdict(v);
+    let ended = of_verdict(v);
     match v {
         Verdict::Accepted => show_code(system, source, &code),
         Verdict::Refused(r) => {
@@ -35,16 +34,14 @@ fn tell(system: &System, name: &[u8], source: &[u8]) -> u8
     ended
 }
 
-pub fn obey(system: &System, line: &[u8], at: usize) -> u8
-    ensures { result ≤ nothing }
-{
+pub fn obey(system: &System, line: &[u8], at: usize) -> Status {
     let mut room = io::large_buffer();
     let w = next_operand(line, at);
     let a = w.from;
     let b = w.to;
     let Some(n) = load(system, &line[a..b], &mut room) else {
         see_help(system);
-        return status::NOTHING;
+        return Status::Nothing;
     };
     tell(system, &line[a..b], &room[..n])
 }

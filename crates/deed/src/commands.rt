@@ -2,7 +2,6 @@
 ghost use Rattle.std.specs.Prelude.{◌≡◌, ◌≤◌, length};
 ghost use Rattle.asking.specs.Words.{words_of, part};
 ghost use Rattle.asking.specs.Sorts.{asked_from};
-ghost use Rattle.desk.specs.Status.{nothing};
 ghost use Rattle.deed.specs.Commands.{helps, fitting, once, clash, full, sized, well_asked, settled, decided, Keeps};
 
 use crate::help::{help, usage};
@@ -12,20 +11,18 @@ use asking::sorts::{Sort, first, next_word};
 use asking::table::{fits, row_line};
 use asking::words::{has_word, is_plain};
 use desk::misuse::misused;
-use desk::status;
+use desk::status::Status;
 use paying::run;
 use showing::system::{Stream, System};
 use showing::text::{complain, tell_typed};
 use symbols::text::same_bytes;
 
 // Whether a line asks for help, whatever else it says.
+#[tactic(auto, unfolding(crate::specs::Commands::helps))]
 fn asks_help(line: &[u8]) -> bool
     ensures { result ≡ helps (words_of line.now) }
 {
-    if has_word(line, 0, b"--help") {
-        return true;
-    }
-    has_word(line, 0, b"-h")
+    has_word(line, 0, b"--help") || has_word(line, 0, b"-h")
 }
 
 // Whether each option of a line is one of its command's; the first that is not is blamed.
@@ -57,16 +54,11 @@ fn options_once(system: &System, line: &[u8]) -> bool
 }
 
 // Whether a line asks for one line of numbers and for something else too.
+#[tactic(auto, unfolding(crate::specs::Commands::clash))]
 fn is_clash(line: &[u8]) -> bool
     ensures { result ≡ clash (words_of line.now) }
 {
-    if !is_plain(line) {
-        return false;
-    }
-    if has_word(line, 0, b"--list") {
-        return true;
-    }
-    has_word(line, 0, b"--values")
+    is_plain(line) && (has_word(line, 0, b"--list") || has_word(line, 0, b"--values"))
 }
 
 // Whether the words behind a command's are those that it wants; the first that is missing or one too many is blamed.
@@ -129,9 +121,8 @@ pub fn well_asked(system: &System, line: &[u8], at: usize, row: &[u8]) -> bool
 }
 
 // The command whose word stands there, one that shows a source.
-fn shows(system: &System, line: &[u8], from: usize, at: usize) -> u8
+fn shows(system: &System, line: &[u8], from: usize, at: usize) -> Status
     requires { (from ≤ at) × (at ≤ length line.now) }
-    ensures { result ≤ nothing }
 {
     if same_bytes(&line[from..at], b"read") {
         return read::obey(system, line, at);
@@ -152,9 +143,8 @@ fn shows(system: &System, line: &[u8], from: usize, at: usize) -> u8
 }
 
 // The command whose word stands there.
-fn does(system: &System, line: &[u8], from: usize, at: usize) -> u8
+fn does(system: &System, line: &[u8], from: usize, at: usize) -> Status
     requires { (from ≤ at) × (at ≤ length line.now) }
-    ensures { result ≤ nothing }
 {
     if same_bytes(&line[from..at], b"check") {
         return check::obey(system, line, at);
@@ -164,19 +154,19 @@ fn does(system: &System, line: &[u8], from: usize, at: usize) -> u8
     }
     if same_bytes(&line[from..at], b"do") {
         misused(system, b"a file of commands has no do in it", b"");
-        return status::NOTHING;
+        return Status::Nothing;
     }
     shows(system, line, from, at)
 }
 
 // What a line asks that is well asked.
-fn settle(system: &System, line: &[u8], from: usize, at: usize) -> u8
+fn settle(system: &System, line: &[u8], from: usize, at: usize) -> Status
     requires { (from ≤ at) × (at ≤ length line.now) }
     ensures { Keeps (settled (part line.now from at)) result }
 {
     if same_bytes(&line[from..at], b"help") {
         help(system);
-        return status::GOOD;
+        return Status::Good;
     }
     does(system, line, from, at)
 }
@@ -194,12 +184,12 @@ fn unknown(system: &System, word: &[u8]) {
 }
 
 // Does what a line asks.
-pub fn obey(system: &System, line: &[u8]) -> u8
+pub fn obey(system: &System, line: &[u8]) -> Status
     ensures { Keeps (decided (words_of line.now)) result }
 {
     if asks_help(line) {
         help(system);
-        return status::GOOD;
+        return Status::Good;
     }
     let w = next_word(line, 0);
     let from = w.from;
@@ -208,10 +198,10 @@ pub fn obey(system: &System, line: &[u8]) -> u8
     let n = row_line(&line[from..to], &mut row);
     if n == 0 {
         unknown(system, &line[from..to]);
-        return status::NOTHING;
+        return Status::Nothing;
     }
     if !well_asked(system, line, to, &row[..n]) {
-        return status::NOTHING;
+        return Status::Nothing;
     }
     settle(system, line, from, to)
 }

@@ -29,18 +29,12 @@ const ABOUT: [u8; 1620] =
 
 // Whether a word of a row is an option.
 fn is_option(word: &[u8]) -> bool {
-    if word.len() < 2 {
-        return false;
-    }
-    word[0] == b'-'
+    2 <= word.len() && word[0] == b'-'
 }
 
 // Whether a word of a row is what an option has behind it.
 fn is_value(word: &[u8]) -> bool {
-    if word.len() < 2 {
-        return false;
-    }
-    word[0] == b'='
+    2 <= word.len() && word[0] == b'='
 }
 
 // What an option has behind it, without the = before it.

@@ -7,7 +7,7 @@ use asking::words::is_word;
 use commands::obey;
 use desk::files::arguments;
 use desk::misuse::see_help;
-use desk::status;
+use desk::status::{Status, leave, of_taken};
 use help::help;
 use showing::system::{Stream, System};
 use showing::taken::{all_taken, is_open};
@@ -23,10 +23,10 @@ mod read; // deed read
 mod uses; // deed uses
 mod write; // deed write
 
-fn start(system: &System, line: &[u8]) -> u8 {
+fn start(system: &System, line: &[u8]) -> Status {
     if line.len() == 0 {
         help(system);
-        return status::GOOD;
+        return Status::Good;
     }
     let w = next_word(line, 0);
     let to = w.to;
@@ -36,11 +36,11 @@ fn start(system: &System, line: &[u8]) -> u8 {
     obey(system, line)
 }
 
-fn begin(system: &System) -> u8 {
+fn begin(system: &System) -> Status {
     let mut line = io::large_buffer();
     let Some(n) = arguments(system, &mut line) else {
         see_help(system);
-        return status::NOTHING;
+        return Status::Nothing;
     };
     start(system, &line[..n])
 }
@@ -49,5 +49,5 @@ fn main(rt: HostRuntime) {
     let system = System::new(rt);
     let heard = is_open(&system, Stream::Errors);
     let done = begin(&system);
-    status::leave(status::of_taken(all_taken(&system, heard), done));
+    leave(of_taken(all_taken(&system, heard), done));
 }

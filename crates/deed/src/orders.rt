@@ -1,6 +1,5 @@
 // deed do: the commands of a file, one a line.
 ghost use Rattle.std.specs.Prelude.{◌≤◌};
-ghost use Rattle.desk.specs.Status.{nothing};
 
 use crate::commands;
 use crate::commands::well_asked;
@@ -9,29 +8,25 @@ use asking::table::row_line;
 use asking::words::{line_of, word_from};
 use desk::files::load;
 use desk::misuse::see_help;
-use desk::status;
+use desk::status::Status;
 use showing::system::{Stream, System};
 use showing::text::{complain, say, tell_typed};
 use symbols::text::find;
 
 // Whether a line of words is no command: it is empty, or begins with #.
 fn is_note(line: &[u8]) -> bool {
-    let w = word_from(line, 0);
-    let from = w.from;
-    if line.len() <= from {
-        return true;
+    match line.get(word_from(line, 0).from) {
+        Some(first) => *first == b'#',
+        None => true,
     }
-    line[from] == b'#'
 }
 
 // One line of a file of commands.
-fn obey_text(system: &System, text: &[u8]) -> u8
-    ensures { result ≤ nothing }
-{
+fn obey_text(system: &System, text: &[u8]) -> Status {
     let mut row = io::large_buffer();
     let n = line_of(text, &mut row);
     if is_note(&row[..n]) {
-        return status::GOOD;
+        return Status::Good;
     }
     say(system, b"> ");
     tell_typed(system, Stream::Output, text);
@@ -40,43 +35,37 @@ fn obey_text(system: &System, text: &[u8]) -> u8
 }
 
 // The greatest status of the commands.
-fn obey_each(system: &System, text: &[u8]) -> u8
-    ensures { result ≤ nothing }
-{
-    let mut most = status::GOOD;
+fn obey_each(system: &System, text: &[u8]) -> Status {
+    let mut most = Status::Good;
     let mut at: usize = 0;
     while at < text.len() {
         let end = find(text, at, b'\n');
-        most = status::greater(most, obey_text(system, &text[at..end]));
+        most = most.max(obey_text(system, &text[at..end]));
         at = end + 1;
     }
     most
 }
 
 // The commands of a file. One that fills the room may go on behind it, and no part of it is done.
-fn obey_file(system: &System, name: &[u8]) -> u8
-    ensures { result ≤ nothing }
-{
+fn obey_file(system: &System, name: &[u8]) -> Status {
     let mut room = io::large_buffer();
     let Some(n) = load(system, name, &mut room) else {
         see_help(system);
-        return status::NOTHING;
+        return Status::Nothing;
     };
     if 65536 <= n {
         complain(system, b"deed: a file of commands has under 65,536 bytes\n");
-        return status::NOTHING;
+        return Status::Nothing;
     }
     obey_each(system, &room[..n])
 }
 
 // The file that a line names, whose command's word ends at `at`.
-pub fn obey(system: &System, line: &[u8], at: usize) -> u8
-    ensures { result ≤ nothing }
-{
+pub fn obey(system: &System, line: &[u8], at: usize) -> Status {
     let mut row = [0u8; 256];
     let n = row_line(b"do", &mut row);
     if !well_asked(system, line, at, &row[..n]) {
-        return status::NOTHING;
+        return Status::Nothing;
     }
     let w = next_operand(line, at);
     let a = w.from;

@@ -1,6 +1,5 @@
 // deed read: whether a source is accepted.
 ghost use Rattle.std.specs.Prelude.{◌≤◌};
-ghost use Rattle.desk.specs.Status.{nothing};
 ghost use Rattle.deed.specs.Status.{ReadStatus};
 
 use answers::Verdict;
@@ -8,7 +7,7 @@ use asking::options::next_operand;
 use asking::words::is_plain;
 use desk::files::load;
 use desk::misuse::see_help;
-use desk::status;
+use desk::status::{Status, of_verdict};
 use reading::reading::read;
 use showing::system::System;
 use showing::text::{say, say_file, say_number};
@@ -41,7 +40,7 @@ fn show(system: &System, name: &[u8], source: &[u8], v: Verdict) {
     }
 }
 
-fn tell(system: &System, name: &[u8], source: &[u8], plain: bool) -> u8
+fn tell(system: &System, name: &[u8], source: &[u8], plain: bool) -> Status
     ensures { ReadStatus source.now result }
 {
     let mut table = [0u16; 32768];
@@ -51,19 +50,17 @@ fn tell(system: &System, name: &[u8], source: &[u8], plain: bool) -> u8
     } else {
         show(system, name, source, v);
     }
-    status::of_verdict(v)
+    of_verdict(v)
 }
 
-pub fn obey(system: &System, line: &[u8], at: usize) -> u8
-    ensures { result ≤ nothing }
-{
+pub fn obey(system: &System, line: &[u8], at: usize) -> Status {
     let mut room = io::large_buffer();
     let w = next_operand(line, at);
     let a = w.from;
     let b = w.to;
     let Some(n) = load(system, &line[a..b], &mut room) else {
         see_help(system);
-        return status::NOTHING;
+        return Status::Nothing;
     };
     tell(system, &line[a..b], &room[..n], is_plain(line))
 }

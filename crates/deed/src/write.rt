@@ -1,6 +1,5 @@
 // deed write: a source in the house layout. After a refusal standard output has nothing, so that what a shell puts into a file from there is a page or is empty.
 ghost use Rattle.std.specs.Prelude.{◌≤◌, ◌≡◌};
-ghost use Rattle.desk.specs.Status.{nothing};
 ghost use Rattle.deed.specs.Status.{of_written, WriteStatus};
 
 use answers::{Answer, Refusal};
@@ -9,7 +8,7 @@ use asking::words::is_plain;
 use clean::writing::write;
 use desk::files::load;
 use desk::misuse::see_help;
-use desk::status;
+use desk::status::Status;
 use showing::system::{Stream, System};
 use showing::text::{complain, say, say_number, tell_file};
 use showing::words::tell_answer;
@@ -47,17 +46,17 @@ fn complain_of(system: &System, name: &[u8], source: &[u8], r: Refusal) {
     );
 }
 
-fn of_written(w: Result<usize, Refusal>) -> u8
+fn of_written(w: Result<usize, Refusal>) -> Status
     ensures { result ≡ of_written w }
 {
     match w {
-        Ok(_) => status::GOOD,
-        Err(_) => status::BAD,
+        Ok(_) => Status::Good,
+        Err(_) => Status::Bad,
     }
 }
 
 // No text is longer than a source may be.
-fn tell_text(system: &System, name: &[u8], source: &[u8], plain: bool) -> u8
+fn tell_text(system: &System, name: &[u8], source: &[u8], plain: bool) -> Status
     ensures { WriteStatus source.now result }
 {
     let mut room = [0u8; 16384];
@@ -73,16 +72,14 @@ fn tell_text(system: &System, name: &[u8], source: &[u8], plain: bool) -> u8
     ended
 }
 
-pub fn obey(system: &System, line: &[u8], at: usize) -> u8
-    ensures { result ≤ nothing }
-{
+pub fn obey(system: &System, line: &[u8], at: usize) -> Status {
     let mut room = io::large_buffer();
     let w = next_operand(line, at);
     let a = w.from;
     let b = w.to;
     let Some(n) = load(system, &line[a..b], &mut room) else {
         see_help(system);
-        return status::NOTHING;
+        return Status::Nothing;
     };
     tell_text(system, &line[a..b], &room[..n], is_plain(line))
 }

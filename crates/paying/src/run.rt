@@ -1,7 +1,7 @@
 // deed run: a run of a source, and its answer shown.
 ghost use Rattle.std.specs.Prelude.{◌≡◌, ◌&&◌, ◌*◌, ◌/◌, ◌≤◌, min, ltb, length, take};
 ghost use Rattle.machine.specs.Machine.{on_code};
-ghost use Rattle.desk.specs.Status.{nothing, of_end};
+ghost use Rattle.desk.specs.Status.{of_end};
 ghost use Rattle.paying.specs.Running.{of_finish, RanAs, RunStatus};
 
 use answers::{Stop, Verdict};
@@ -12,11 +12,11 @@ use desk::files::{is_standard, load};
 use desk::given::put_input;
 use desk::misuse::{misused, see_help};
 use desk::outputs::{say_numbers, show_entries};
-use desk::status;
+use desk::status::{Status, is_left, of_end};
 use machine::Ran;
 use machine::bounds::CELLS;
 use showing::system::{Stream, System};
-use showing::text::{complain, least, say, say_number, tell, tell_file, tell_number};
+use showing::text::{complain, say, say_number, tell, tell_file, tell_number};
 use showing::words::{tell_answer, tell_placeless};
 use translating::translating::translate;
 
@@ -30,7 +30,11 @@ pub struct How {
 
 // Where what is no output is told.
 fn aside(values: bool) -> Stream {
-    if values { Stream::Errors } else { Stream::Output }
+    if values {
+        Stream::Errors
+    } else {
+        Stream::Output
+    }
 }
 
 fn tell_counts(system: &System, to: Stream, ran: Ran, given: usize) {
@@ -114,7 +118,7 @@ fn show_run(
 ) {
     let to = aside(values);
     let stop = ran.stop;
-    let n = least(ran.written, output.len());
+    let n = ran.written.min(output.len());
     if good || !values {
         show_entries(system, &output[0..n]);
     }
@@ -131,13 +135,13 @@ fn show_ran(
     ran: Ran,
     given: usize,
     output: &[i32],
-) -> u8
+) -> Status
     ensures { result ≡ of_end (how.strict && ltb ran.taken given) ran.stop }
 {
     let stop = ran.stop;
-    let ended = status::of_end(status::is_left(how.strict, given, ran.taken), stop);
+    let ended = of_end(is_left(how.strict, given, ran.taken), stop);
     if how.plain {
-        let n = least(ran.written, output.len());
+        let n = ran.written.min(output.len());
         show_plain(
             system,
             stop.answer().number,
@@ -153,7 +157,7 @@ fn show_ran(
             name,
             source,
             how.values,
-            ended == status::GOOD,
+            ended == Status::Good,
             ran,
             given,
             output,
@@ -166,7 +170,7 @@ fn show_ran(
 fn numbers_for(cells: usize, all: usize) -> usize
     ensures { result ≡ min (2 * min cells 8192) all }
 {
-    least(2 * least(cells, CELLS), all)
+    (2 * cells.min(CELLS)).min(all)
 }
 
 // Runs code on the first of some numbers, in no more cells and with no more room than asked.
@@ -180,9 +184,9 @@ fn run_within(
 ) -> Ran
     ensures { RanAs result (on_code code.now (take count input.now) sizes.limit (min 8192 (min sizes.cells (length store.old / 2))) (min sizes.room (length output.old))) }
 {
-    let taken = least(count, input.len());
+    let taken = count.min(input.len());
     let numbers = numbers_for(sizes.cells, store.len());
-    let room = least(sizes.room, output.len());
+    let room = sizes.room.min(output.len());
     machine::run(
         code,
         &input[..taken],
@@ -201,7 +205,7 @@ fn run_code(
     input: &[i32],
     count: usize,
     sizes: Sizes,
-) -> u8
+) -> Status
     ensures { result ≡ of_finish how.strict (length (take count input.now)) (on_code code.now (take count input.now) sizes.limit (min sizes.cells 8192) (min sizes.room 196608)) }
 {
     let mut store = [0i64; 16384];
@@ -213,7 +217,7 @@ fn run_code(
         source,
         how,
         ran,
-        least(count, input.len()),
+        count.min(input.len()),
         &output,
     )
 }
@@ -245,7 +249,7 @@ fn run_source(
     input: &[i32],
     count: usize,
     sizes: Sizes,
-) -> u8
+) -> Status
     ensures { RunStatus how.strict source.now (take count input.now) sizes.limit (min sizes.cells 8192) (min sizes.room 196608) result }
 {
     let mut code = [0u32; 16384];
@@ -253,25 +257,24 @@ fn run_source(
         Verdict::Accepted => run_code(system, name, source, how, &code, input, count, sizes),
         Verdict::Refused(r) => {
             show_refused(system, name, source, how, r.answer.number, r.place.at);
-            status::BAD
+            Status::Bad
         }
     }
 }
 
 // A run of the file that a word of the line names, on the numbers behind it.
-fn run_file(system: &System, line: &[u8], from: usize, to: usize, how: How, sizes: Sizes) -> u8
+fn run_file(system: &System, line: &[u8], from: usize, to: usize, how: How, sizes: Sizes) -> Status
     requires { (from ≤ to) × (to ≤ length line.now) }
-    ensures { result ≤ nothing }
 {
     let mut input = [0i32; 32768];
     let mut room = io::large_buffer();
     let Some(count) = put_input(system, line, to, &mut input) else {
         see_help(system);
-        return status::NOTHING;
+        return Status::Nothing;
     };
     let Some(n) = load(system, &line[from..to], &mut room) else {
         see_help(system);
-        return status::NOTHING;
+        return Status::Nothing;
     };
     run_source(
         system,
@@ -294,11 +297,9 @@ fn how_of(line: &[u8]) -> How {
 }
 
 // Standard input is the FILE, or has numbers, or neither. The sizes can be had: that was looked at.
-pub fn obey(system: &System, line: &[u8], at: usize) -> u8
-    ensures { result ≤ nothing }
-{
+pub fn obey(system: &System, line: &[u8], at: usize) -> Status {
     let Some(sizes) = sizes_of(line, at) else {
-        return status::NOTHING;
+        return Status::Nothing;
     };
     let w = next_operand(line, at);
     let from = w.from;
@@ -309,7 +310,7 @@ pub fn obey(system: &System, line: &[u8], at: usize) -> u8
             b"standard input is the FILE or has numbers, and not both",
             b"",
         );
-        return status::NOTHING;
+        return Status::Nothing;
     }
     run_file(system, line, from, to, how_of(line), sizes)
 }

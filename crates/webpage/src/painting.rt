@@ -118,7 +118,8 @@ fn paint_symbols(source: &[u8], table: &[u16], looks: &mut [u32], levels: &mut [
     let mut stack = [0u32; 2048];
     let mut open: usize = 0;
     let mut row: usize = 1;
-    scan(source, 2048, &mut kinds, &mut places, &mut values);
+    // The symbols before a refusal are painted too.
+    let _ = scan(source, 2048, &mut kinds, &mut places, &mut values);
     for k in 0..2048 {
         let at = place_at(source, &places, k);
         if source.len() <= at {

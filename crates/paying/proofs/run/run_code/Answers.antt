@@ -9,4 +9,4 @@ use Rattle.paying.proofs.run.run_code.Goals as goal
 pub returns : goal.returns
 returns c =
     let a = c.args in
-    run_told a.code.now (take a.count a.input.now) (replicate 16384 (pos 0)) (replicate 196608 (pos 0)) a.count a.sizes.limit a.sizes.cells a.sizes.room a.how.strict _ c.show_ran.result c.run_within-ran.result (length-replicate 16384 (pos 0)) (length-replicate 196608 (pos 0)) (c.least.ensures ∙ sym (length_taken a.count a.input.now)) c.show_ran.ensures c.run_within-ran.ensures
+    run_told a.code.now (take a.count a.input.now) (replicate 16384 (pos 0)) (replicate 196608 (pos 0)) a.count a.sizes.limit a.sizes.cells a.sizes.room a.how.strict _ c.show_ran.result c.run_within-ran.result (length-replicate 16384 (pos 0)) (length-replicate 196608 (pos 0)) (c.min.ensures ∙ sym (length_taken a.count a.input.now)) c.show_ran.ensures c.run_within-ran.ensures

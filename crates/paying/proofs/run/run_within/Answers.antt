@@ -18,4 +18,4 @@ slice_bounds-run-end-5 c = sym (length-take-le _ _ (search rules))
 pub returns : goal.returns
 returns c =
     let a = c.args in
-    ran_as a.code.now a.input.now a.store.now a.output.now a.count a.sizes.limit a.sizes.cells a.sizes.room _ _ _ c.least-taken.ensures c.numbers_for-numbers.ensures c.least-room.ensures _ _ _ c.run.ensures
+    ran_as a.code.now a.input.now a.store.now a.output.now a.count a.sizes.limit a.sizes.cells a.sizes.room _ _ _ c.min-taken.ensures c.numbers_for-numbers.ensures c.min-room.ensures _ _ _ c.run.ensures
