@@ -2,10 +2,8 @@
 ghost use Rattle.std.specs.Prelude.{◌≤◌};
 ghost use Rattle.deed.specs.Status.{CodeStatus};
 
+use crate::sources::on_file;
 use answers::Verdict;
-use asking::options::next_operand;
-use desk::files::load;
-use desk::misuse::see_help;
 use desk::status::{Status, of_verdict};
 use showing::code::show_code;
 use showing::system::System;
@@ -35,13 +33,7 @@ fn tell(system: &System, name: &[u8], source: &[u8]) -> Status
 }
 
 pub fn obey(system: &System, line: &[u8], at: usize) -> Status {
-    let mut room = io::large_buffer();
-    let w = next_operand(line, at);
-    let a = w.from;
-    let b = w.to;
-    let Some(n) = load(system, &line[a..b], &mut room) else {
-        see_help(system);
-        return Status::Nothing;
-    };
-    tell(system, &line[a..b], &room[..n])
+    on_file(system, line, at, |name, source| {
+        tell(system, name, source)
+    })
 }

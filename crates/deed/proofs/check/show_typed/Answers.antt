@@ -6,4 +6,4 @@ use lib.Seq.{length-take-le}
 use Rattle.deed.proofs.check.show_typed.Goals as goal
 
 pub slice_bounds-tell_typed-end : goal.slice_bounds-tell_typed-end
-slice_bounds-tell_typed-end c = sym (length-take-le _ _ (omega (arith, c.least-n.ensures)))
+slice_bounds-tell_typed-end c = sym (length-take-le _ _ (omega (arith, c.min-n.ensures)))
