@@ -6,7 +6,7 @@ use desk::status::Status;
 use showing::system::System;
 
 // What a command does with the file that the next operand of its line names: with the name and the bytes. Where the file cannot be had, nothing is done.
-pub fn on_file<F: FnOnce(&[u8], &[u8]) -> Status>(
+pub(crate) fn on_file<F: FnOnce(&[u8], &[u8]) -> Status>(
     system: &System,
     line: &[u8],
     at: usize,
