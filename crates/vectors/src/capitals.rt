@@ -9,37 +9,30 @@ use crate::{reads, runs};
 use reading::reading::read;
 
 // A small letter as its capital; every other byte as it is.
+#[tactic(auto, unfolding(crate::specs::Capitals::capital))]
 fn capital(b: u8) -> u8
     ensures { result ≡ capitalOf b }
 {
-    if b < 97 {
-        return b;
+    match b {
+        b'a'..=b'z' => b - 32,
+        _ => b,
     }
-    if 122 < b {
-        return b;
-    }
-    b - 32
 }
 
 // A byte; 0 where there is none.
 fn byte_at(source: &[u8], i: usize) -> u8
     ensures { result ≡ get_or source.now i 0 }
 {
-    if i < source.len() {
-        return source[i];
-    }
-    0
+    source.get(i).copied().unwrap_or(0)
 }
 
 // The bytes of a source in capitals, as many as there is room for.
 fn capitals_into(source: &[u8], room: &mut [u8])
     ensures { room.new ≡ capitals_from source.now (length room.old) 0 }
 {
-    let mut i = 0;
-    while i < room.len() {
+    for i in 0..room.len() {
         let x = capital(byte_at(source, i));
         room[i] = x;
-        i += 1;
     }
 }
 
@@ -50,12 +43,10 @@ fn same_tables(a: &[u16], b: &[u16]) -> bool
     if a.len() != b.len() {
         return false;
     }
-    let mut i = 0;
-    while i < a.len() {
+    for i in 0..a.len() {
         if a[i] != b[i] {
             return false;
         }
-        i += 1;
     }
     true
 }

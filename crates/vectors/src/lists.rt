@@ -63,11 +63,9 @@ fn raised(word: u16) -> i64
 fn words_into(table: &[u16], list: &mut [i64])
     ensures { list.new ≡ words_from table.now (length list.old) 0 }
 {
-    let mut i = 0;
-    while i < list.len() {
+    for i in 0..list.len() {
         let x = as_number(word_at(table, i));
         list[i] = x;
-        i += 1;
     }
 }
 
@@ -111,13 +109,11 @@ fn numbers_into(text: &[u8], from: usize, list: &mut [i64])
     ensures { list.new ≡ numbers text.now (length list.old) from }
 {
     let mut at = from;
-    let mut i = 0;
-    while i < list.len() {
+    for i in 0..list.len() {
         let n = number_at(text, at);
         let x = long(whole(n));
         list[i] = x;
         at = n.next;
-        i += 1;
     }
 }
 

@@ -14,10 +14,7 @@ const UNLISTED: u64 = 99999;
 pub fn word_at(words: &[u16], i: usize) -> u16
     ensures { result ≡ get_or words.now i 0 }
 {
-    if i < words.len() {
-        return words[i];
-    }
-    0
+    words.get(i).copied().unwrap_or(0)
 }
 
 // Whether the numbers from `from` on are these words.
@@ -25,15 +22,13 @@ fn same_words(words: &[u16], text: &[u8], from: usize) -> bool
     ensures { result ≡ same_words words.now text.now from }
 {
     let mut at = from;
-    let mut i = 0;
-    while i < words.len() {
+    for i in 0..words.len() {
         let listed = number_at(text, at);
         let word = word_at(words, i);
         if listed.value != word as u64 {
             return false;
         }
         at = listed.next;
-        i += 1;
     }
     true
 }

@@ -377,10 +377,8 @@ fn row(rt: &HostRuntime, t: Count, index: &[u8], from: usize, records: bool) -> 
 // Each row: its record where records are listed, else the record of its run.
 fn rows(rt: &HostRuntime, t: Count, index: &[u8], records: bool) -> Count {
     let mut u = t;
-    let mut at: usize = 0;
-    while ROW <= index.len() - at {
-        u = row(rt, u, index, at, records);
-        at += ROW;
+    for k in 0..index.len() / ROW {
+        u = row(rt, u, index, ROW * k, records);
     }
     u
 }

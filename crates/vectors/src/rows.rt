@@ -17,14 +17,12 @@ pub fn name_end(text: &[u8], from: usize) -> usize
     requires { from ≤ length text.now }
     ensures { (from ≤ result) × (result ≤ length text.now) }
 {
-    let mut i = from;
-    while i < text.len() {
+    for i in from..text.len() {
         if text[i] == 32 {
             return i;
         }
-        i += 1;
     }
-    i
+    text.len()
 }
 
 // A file, opened for reading; none where it is missing. Its name is text.
@@ -80,10 +78,8 @@ pub fn rows(rt: &HostRuntime, index: &[u8]) -> Tallies
     ensures { Rows (length index.now / 49) result.plain × CapitalRows (length index.now / 49) result.capitals }
 {
     let mut t = Tallies::new();
-    let mut at: usize = 0;
-    while ROW <= index.len() - at {
-        t = row(rt, t, index, at);
-        at += ROW;
+    for k in 0..index.len() / ROW {
+        t = row(rt, t, index, ROW * k);
     }
     t
 }

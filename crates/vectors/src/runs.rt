@@ -27,15 +27,13 @@ const UNWRITTEN: i32 = 9;
 fn all_words(words: &[u32], from: usize, to: usize, word: u32) -> bool
     ensures { result ≡ all_words words.now from (to - from) word }
 {
-    let mut i = from;
-    while i < to {
+    for i in from..to {
         if words.len() <= i {
             return false;
         }
         if words[i] != word {
             return false;
         }
-        i += 1;
     }
     true
 }
@@ -44,12 +42,10 @@ fn all_words(words: &[u32], from: usize, to: usize, word: u32) -> bool
 fn all_are(store: &[i64], from: usize, x: i64) -> bool
     ensures { result ≡ all_are x (drop from store.now) }
 {
-    let mut i = from;
-    while i < store.len() {
+    for i in from..store.len() {
         if store[i] != x {
             return false;
         }
-        i += 1;
     }
     true
 }
@@ -65,12 +61,10 @@ fn is_cleared(store: &[i64]) -> bool
 fn untouched(output: &[i32], from: usize) -> bool
     ensures { result ≡ all_are (pos 9) (drop from output.now) }
 {
-    let mut i = from;
-    while i < output.len() {
+    for i in from..output.len() {
         if output[i] != UNWRITTEN {
             return false;
         }
-        i += 1;
     }
     true
 }
@@ -109,12 +103,10 @@ pub fn inputs_at(text: &[u8], from: usize, input: &mut [i32]) -> usize
     ensures input_after { input.new ≡ numbers text.now (length input.old) from }
 {
     let mut at = from;
-    let mut i = 0;
-    while i < input.len() {
+    for i in 0..input.len() {
         let n = number_at(text, at);
         input[i] = whole(n);
         at = n.next;
-        i += 1;
     }
     at
 }
@@ -133,14 +125,12 @@ fn same_outputs(output: &[i32], count: u64, text: &[u8], from: usize) -> Same
 {
     let mut same = true;
     let mut at = from;
-    let mut i: u64 = 0;
-    while i < count {
+    for i in 0..count {
         let n = number_at(text, at);
         if !holds(output, i, whole(n)) {
             same = false;
         }
         at = n.next;
-        i += 1;
     }
     Same { same, next: at }
 }

@@ -1,7 +1,8 @@
 // Room for a text; and numbers in it: digits, behind a minus sign or none, and one byte between two numbers.
 ghost use Rattle.std.specs.Prelude.{◌≡◌, ◌<◌, min, length};
-ghost use Rattle.symbols.specs.Names.{digit};
 ghost use Rattle.vectors.specs.Listed.{digits_at, number_at, whole_of, second_line, page_at, third_line};
+
+use symbols::text::is_digit;
 
 // Room for the bytes of a file, of which the index has the most.
 pub fn buffer() -> [u8; 131072]
@@ -18,18 +19,13 @@ pub struct Numeral {
     pub next: usize,
 }
 
-fn is_digit(b: u8) -> bool
-    ensures { result ≡ digit b }
-{
-    48 <= b && b <= 57
-}
-
 // The number whose digits begin at `from`.
 fn digits_at(text: &[u8], from: usize, minus: bool) -> Numeral
     ensures value_bound { result.value < 10000000000 }
     ensures value { result ≡ digits_at text.now from minus }
 {
     let mut value: u64 = 0;
+    // Kept: no plainer, the place where the digits end is asked for too.
     let mut i = from;
     while i < text.len() {
         let b = text[i];
@@ -84,34 +80,31 @@ pub fn whole(n: Numeral) -> i32
 pub fn clipped(value: u64, most: usize) -> usize
     ensures { result ≡ min value most }
 {
-    if most as u64 <= value {
-        return most;
+    if value < most as u64 {
+        value as usize
+    } else {
+        most
     }
-    value as usize
 }
 
 // Where the text goes on behind its first line.
 pub fn second_line(text: &[u8]) -> usize
     ensures { result ≡ second_line text.now }
 {
-    let mut i = 0;
-    while i < text.len() {
+    for i in 0..text.len() {
         if text[i] == 10 {
             return i + 1;
         }
-        i += 1;
     }
-    i
+    text.len()
 }
 
 // Whether the line that begins at `from` is a page's.
+#[tactic(auto, unfolding(crate::specs::Listed::page_at))]
 pub fn page_at(text: &[u8], from: usize) -> bool
     ensures { result ≡ page_at text.now from }
 {
-    if from < text.len() {
-        return text[from] == b'w';
-    }
-    false
+    text.get(from).copied().unwrap_or(0) == b'w'
 }
 
 // Where the text goes on behind its second line, unless that is a page's.

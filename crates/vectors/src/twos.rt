@@ -24,12 +24,10 @@ const PAIR: usize = 128;
 fn all_words(words: &[u16], from: usize, word: u16) -> bool
     ensures { result ≡ all word (drop from words.now) }
 {
-    let mut i = from;
-    while i < words.len() {
+    for i in from..words.len() {
         if words[i] != word {
             return false;
         }
-        i += 1;
     }
     true
 }
@@ -211,10 +209,8 @@ fn pairs(rt: &HostRuntime, index: &[u8]) -> Tally
     ensures { Pairs (length index.now / 128) result }
 {
     let mut t = Tally::new();
-    let mut at: usize = 0;
-    while PAIR <= index.len() - at {
-        t = row(rt, t, index, at);
-        at += PAIR;
+    for k in 0..index.len() / PAIR {
+        t = row(rt, t, index, PAIR * k);
     }
     t
 }
@@ -224,12 +220,10 @@ fn same_front(a: &[u16], b: &[u16], from: usize, n: usize) -> bool
     requires { from + n ≤ 32768 }
     ensures { result ≡ same_from a.now b.now from 0 n }
 {
-    let mut i = 0;
-    while i < n {
+    for i in 0..n {
         if word_at(a, i) != word_at(b, from + i) {
             return false;
         }
-        i += 1;
     }
     true
 }
@@ -326,10 +320,8 @@ fn sources(rt: &HostRuntime, index: &[u8], named: bool) -> Tally
     ensures { Sources (length index.now / 49) named result }
 {
     let mut t = Tally::new();
-    let mut at: usize = 0;
-    while ROW <= index.len() - at {
-        t = one(rt, t, index, at, named);
-        at += ROW;
+    for k in 0..index.len() / ROW {
+        t = one(rt, t, index, ROW * k, named);
     }
     t
 }

@@ -20,12 +20,10 @@ const BEFORE: u8 = 7;
 fn untouched(room: &[u8], from: usize) -> bool
     ensures { result ≡ all 7 (drop from room.now) }
 {
-    let mut i = from;
-    while i < room.len() {
+    for i in from..room.len() {
         if room[i] != BEFORE {
             return false;
         }
-        i += 1;
     }
     true
 }
@@ -46,14 +44,12 @@ fn declaration_at(table: &[u16], place: usize) -> usize
 {
     let at = sections_of(table).declarations;
     let count = word(table, at);
-    let mut j: usize = 0;
-    while j < count {
+    for j in 0..count {
         if word(table, at + 1 + 4 * j) == place {
             return j;
         }
-        j += 1;
     }
-    j
+    count
 }
 
 // Whether the uses of which the words begin at `at` have the same kind and, of the environment or by its declaration, the same number.
@@ -81,12 +77,10 @@ fn same_meanings(a: &[u16], b: &[u16]) -> bool
     if count != word(b, 0) {
         return false;
     }
-    let mut k: usize = 0;
-    while k < count {
+    for k in 0..count {
         if !alike_at(a, b, 3 * k + 1) {
             return false;
         }
-        k += 1;
     }
     true
 }

@@ -9,6 +9,3 @@ use Rattle.vectors.proofs.capitals.capitals_into.Given as goal
 abbrev pub invariant-loop-i : goal.invariant-loop-i
 invariant-loop-i l =
     (l.i ≤ length l.room) × (length l.room ≡ length l.initial.room) × (capitals_from l.source (length l.initial.room) 0 ≡ take l.i l.room ++ capitals_from l.source (length l.initial.room - l.i) l.i)
-
-abbrev pub decreases-loop-i : goal.decreases-loop-i
-decreases-loop-i l = length l.room - l.i

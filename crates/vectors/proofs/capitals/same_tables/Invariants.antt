@@ -8,6 +8,3 @@ use Rattle.vectors.proofs.capitals.same_tables.Given as goal
 
 abbrev pub invariant-loop-i : goal.invariant-loop-i
 invariant-loop-i l = (length l.a ≡ length l.b) × (equal l.a l.b ≡ equal (drop l.i l.a) (drop l.i l.b))
-
-abbrev pub decreases-loop-i : goal.decreases-loop-i
-decreases-loop-i l = length l.a - l.i

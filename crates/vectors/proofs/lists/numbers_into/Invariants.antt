@@ -9,6 +9,3 @@ use Rattle.vectors.proofs.lists.numbers_into.Given as goal
 abbrev pub invariant-loop-i : goal.invariant-loop-i
 invariant-loop-i l =
     (l.i ≤ length l.list) × (length l.list ≡ length l.initial.list) × (numbers l.text (length l.initial.list) l.from ≡ take l.i l.list ++ numbers l.text (length l.initial.list - l.i) l.at)
-
-abbrev pub decreases-loop-i : goal.decreases-loop-i
-decreases-loop-i l = length l.list - l.i

@@ -9,6 +9,3 @@ use Rattle.vectors.proofs.lists.words_into.Given as goal
 abbrev pub invariant-loop-i : goal.invariant-loop-i
 invariant-loop-i l =
     (l.i ≤ length l.list) × (length l.list ≡ length l.initial.list) × (words_from l.table (length l.initial.list) 0 ≡ take l.i l.list ++ words_from l.table (length l.initial.list - l.i) l.i)
-
-abbrev pub decreases-loop-i : goal.decreases-loop-i
-decreases-loop-i l = length l.list - l.i

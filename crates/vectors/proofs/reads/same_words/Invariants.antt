@@ -8,6 +8,3 @@ use Rattle.vectors.proofs.reads.same_words.Given as goal
 
 abbrev pub invariant-loop-i : goal.invariant-loop-i
 invariant-loop-i l = (l.i ≤ length l.words) × (same_words l.words l.text l.from ≡ same_words (drop l.i l.words) l.text l.at)
-
-abbrev pub decreases-loop-i : goal.decreases-loop-i
-decreases-loop-i l = length l.words - l.i

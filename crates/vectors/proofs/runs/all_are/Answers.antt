@@ -13,12 +13,12 @@ loop-i-init c = (search rules, refl)
 pub returns-then-store-i : goal.returns-then-store-i
 returns-then-store-i c =
     let l = c.loop-i in
-    stops w64 c.args.x c.ranges.x c.args.store.now l.i _ (rw (to_z-of_z c.ranges.x) at l.invariant.1) c.loop-i-test.true (record { sfits = c.t8-1.given }) c.if-store-i.true
+    stops w64 c.args.x c.ranges.x c.args.store.now l.i _ (rw (to_z-of_z c.ranges.x) at l.invariant.1) c.loop-i-test.true (record { sfits = search rules }) c.if-store-i.true
 
 pub loop-i-preserved : goal.loop-i-preserved
 loop-i-preserved c =
     let l = c.loop-i in
-    let g = goes_on w64 c.args.x c.ranges.x c.args.store.now l.i _ (rw (to_z-of_z c.ranges.x) at l.invariant.1) c.loop-i-test.true (record { sfits = c.t8-1.given }) c.if-store-i.false in
+    let g = goes_on w64 c.args.x c.ranges.x c.args.store.now l.i _ (rw (to_z-of_z c.ranges.x) at l.invariant.1) c.loop-i-test.true (record { sfits = search rules }) c.if-store-i.false in
     (search rules, rw (to_z-of_z c.ranges.x) g)
 
 pub returns : goal.returns

@@ -8,6 +8,3 @@ use Rattle.vectors.proofs.runs.all_are.Given as goal
 
 abbrev pub invariant-loop-i : goal.invariant-loop-i
 invariant-loop-i l = (l.from ≤ l.i) × (all_are l.x (drop l.from l.store) ≡ all_are l.x (drop l.i l.store))
-
-abbrev pub decreases-loop-i : goal.decreases-loop-i
-decreases-loop-i l = length l.store - l.i

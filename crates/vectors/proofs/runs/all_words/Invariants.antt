@@ -7,6 +7,3 @@ use Rattle.vectors.proofs.runs.all_words.Given as goal
 
 abbrev pub invariant-loop-i : goal.invariant-loop-i
 invariant-loop-i l = all_words l.words l.from (l.to - l.from) l.word ≡ all_words l.words l.i (l.to - l.i) l.word
-
-abbrev pub decreases-loop-i : goal.decreases-loop-i
-decreases-loop-i l = l.to - l.i

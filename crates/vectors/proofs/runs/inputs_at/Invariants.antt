@@ -13,6 +13,3 @@ invariant-loop-i l =
     × (length l.input ≡ length l.initial.input)
     × (after l.text (length l.initial.input) l.from ≡ after l.text (length l.initial.input - l.i) l.at)
     × (numbers l.text (length l.initial.input) l.from ≡ take l.i l.input ++ numbers l.text (length l.initial.input - l.i) l.at)
-
-abbrev pub decreases-loop-i : goal.decreases-loop-i
-decreases-loop-i l = length l.input - l.i

@@ -12,6 +12,3 @@ invariant-loop-i l =
     (l.i ≤ l.count)
     × (begins (numbers l.text l.count l.from) l.output ≡ (l.same && begins (numbers l.text (l.count - l.i) l.at) (drop l.i l.output)))
     × (after l.text l.count l.from ≡ after l.text (l.count - l.i) l.at)
-
-abbrev pub decreases-loop-i : goal.decreases-loop-i
-decreases-loop-i l = l.count - l.i

@@ -19,13 +19,13 @@ pub returns-then-output-i-ne-UNWRITTEN : goal.returns-then-output-i-ne-UNWRITTEN
 returns-then-output-i-ne-UNWRITTEN c =
     let s = c.args.output.now in
     let l = c.loop-i in
-    stops w32 (pos 9) this-one s l.i _ l.invariant.1 c.loop-i-test.true (record { sfits = c.t7-1.given }) c.if-output-i-ne-UNWRITTEN.true
+    stops w32 (pos 9) this-one s l.i _ l.invariant.1 c.loop-i-test.true (record { sfits = search rules }) c.if-output-i-ne-UNWRITTEN.true
 
 pub loop-i-preserved : goal.loop-i-preserved
 loop-i-preserved c =
     let s = c.args.output.now in
     let l = c.loop-i in
-    let g = goes_on w32 (pos 9) this-one s l.i _ l.invariant.1 c.loop-i-test.true (record { sfits = c.t7-1.given }) c.if-output-i-ne-UNWRITTEN.false in
+    let g = goes_on w32 (pos 9) this-one s l.i _ l.invariant.1 c.loop-i-test.true (record { sfits = search rules }) c.if-output-i-ne-UNWRITTEN.false in
     (search rules, g)
 
 pub returns : goal.returns

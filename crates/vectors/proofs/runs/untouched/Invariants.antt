@@ -9,6 +9,3 @@ use Rattle.vectors.proofs.runs.untouched.Given as goal
 
 abbrev pub invariant-loop-i : goal.invariant-loop-i
 invariant-loop-i l = (l.from ≤ l.i) × (all_are (pos 9) (drop l.from l.output) ≡ all_are (pos 9) (drop l.i l.output))
-
-abbrev pub decreases-loop-i : goal.decreases-loop-i
-decreases-loop-i l = length l.output - l.i

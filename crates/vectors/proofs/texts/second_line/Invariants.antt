@@ -8,6 +8,3 @@ use Rattle.vectors.proofs.texts.second_line.Given as goal
 
 abbrev pub invariant-loop-i : goal.invariant-loop-i
 invariant-loop-i l = (l.i ≤ length l.text) × (second_line l.text ≡ l.i + second_line (drop l.i l.text))
-
-abbrev pub decreases-loop-i : goal.decreases-loop-i
-decreases-loop-i l = length l.text - l.i

@@ -8,6 +8,3 @@ use Rattle.vectors.proofs.twos.all_words.Given as goal
 
 abbrev pub invariant-loop-i : goal.invariant-loop-i
 invariant-loop-i l = all l.word (drop l.from l.words) ≡ all l.word (drop l.i l.words)
-
-abbrev pub decreases-loop-i : goal.decreases-loop-i
-decreases-loop-i l = length l.words - l.i

@@ -7,6 +7,3 @@ use Rattle.vectors.proofs.twos.same_front.Given as goal
 
 abbrev pub invariant-loop-i : goal.invariant-loop-i
 invariant-loop-i l = same_from l.a l.b l.from 0 l.n ≡ same_from l.a l.b l.from l.i (l.n - l.i)
-
-abbrev pub decreases-loop-i : goal.decreases-loop-i
-decreases-loop-i l = l.n - l.i

@@ -7,6 +7,3 @@ use Rattle.vectors.proofs.writes.declaration_at.Given as goal
 
 abbrev pub invariant-loop-j : goal.invariant-loop-j
 invariant-loop-j l = number_from l.table l.place (l.at + 1) l.count ≡ l.j + number_from l.table l.place (l.at + 1 + 4 * l.j) (l.count - l.j)
-
-abbrev pub decreases-loop-j : goal.decreases-loop-j
-decreases-loop-j l = l.count - l.j

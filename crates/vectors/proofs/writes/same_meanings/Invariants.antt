@@ -7,6 +7,3 @@ use Rattle.vectors.proofs.writes.same_meanings.Given as goal
 
 abbrev pub invariant-loop-k : goal.invariant-loop-k
 invariant-loop-k l = alike_from l.a l.b 0 l.count ≡ alike_from l.a l.b l.k (l.count - l.k)
-
-abbrev pub decreases-loop-k : goal.decreases-loop-k
-decreases-loop-k l = l.count - l.k

@@ -8,6 +8,3 @@ use Rattle.vectors.proofs.writes.untouched.Given as goal
 
 abbrev pub invariant-loop-i : goal.invariant-loop-i
 invariant-loop-i l = (l.from ≤ l.i) × (all 7 (drop l.from l.room) ≡ all 7 (drop l.i l.room))
-
-abbrev pub decreases-loop-i : goal.decreases-loop-i
-decreases-loop-i l = length l.room - l.i
