@@ -77,6 +77,7 @@ pub fn list_in(line: &[u8], list: &mut [i64]) -> Result<usize, Unlisted>
 {
     let mut at: usize = 0;
     let mut n: usize = 0;
+    // Kept: no plainer, the place moves on by the word that was read.
     while at < line.len() {
         let w = word_from(line, at);
         let a = w.from;

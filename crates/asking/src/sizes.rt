@@ -37,6 +37,7 @@ fn option(line: &[u8], from: usize, name: &[u8], usual: u64) -> Option<u64>
     ensures { result ≡ option_of name.now usual (asked_from line.now from) }
 {
     let mut at = from;
+    // Kept: no plainer, the place moves on by the word that was read.
     while at < line.len() {
         let w = next_word(line, at);
         let a = w.from;

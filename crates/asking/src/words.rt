@@ -57,6 +57,7 @@ pub fn has_word(line: &[u8], from: usize, text: &[u8]) -> bool
     ensures { result ≡ has (words_of (drop from line.now)) text.now }
 {
     let mut at = from;
+    // Kept: no plainer, the place moves on by the word that was read.
     while at < line.len() {
         let w = word_from(line, at);
         let a = w.from;

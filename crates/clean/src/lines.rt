@@ -6,6 +6,7 @@ ghost use Rattle.clean.specs.model.Pen.{Small, Low, first_of, parted_of, line_of
 
 use symbols::kinds;
 
+// Kept: no plainer, both flags are facts of the place beside the numbers, and none says that another is there.
 #[derive(Clone, Copy)]
 pub struct State {
     pub level: usize, // of the statement or declaration that is written

@@ -66,6 +66,7 @@ fn tell_word(system: &System, to: Stream, word: &[u8], next: &[u8]) {
 // The words of a row, whose line this is.
 fn tell_words(system: &System, to: Stream, line: &[u8]) {
     let mut at: usize = 0;
+    // Kept: no plainer, the place moves on by the word that was read.
     while at < line.len() {
         let w = word_from(line, at);
         let a = w.from;
@@ -100,6 +101,7 @@ fn tell_paragraph(system: &System, to: Stream, long: bool, text: &[u8]) {
 fn tell_table(system: &System, to: Stream, long: bool, rows: &[u8], about: &[u8]) {
     let mut at: usize = 0;
     let mut i: usize = 0;
+    // Kept: no plainer, both places move on by the words that were read.
     while at < rows.len() {
         let w = word_from(rows, at);
         let a = w.from;

@@ -38,6 +38,7 @@ fn obey_text(system: &System, text: &[u8]) -> Status {
 fn obey_each(system: &System, text: &[u8]) -> Status {
     let mut most = Status::Good;
     let mut at: usize = 0;
+    // Kept: no plainer, the place moves on by the line that was read.
     while at < text.len() {
         let end = find(text, at, b'\n');
         most = most.max(obey_text(system, &text[at..end]));

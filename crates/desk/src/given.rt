@@ -66,6 +66,7 @@ fn put_numbers(
 {
     let mut at = from;
     let mut count = n;
+    // Kept: no plainer, the place moves on by the word that was read.
     while at < line.len() {
         let w = number_word(line, at, command);
         if w.from == w.to {

@@ -21,6 +21,7 @@ use showing::words::{tell_answer, tell_placeless};
 use translating::translating::translate;
 
 // What is asked of a run: one line of numbers; status 1 where a number is not taken; the outputs alone on standard output.
+// Kept: no plainer, three options that are asked for or not, each alone.
 #[derive(Clone, Copy)]
 pub struct How {
     pub plain: bool,

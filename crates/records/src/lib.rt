@@ -47,6 +47,7 @@ pub struct BadWord {
 
 // What a replay answers: all entries agree; the first that differs, from 0; the index of the first bad word; or the store or output that is lent is
 // shorter than the record's.
+// Kept: no plainer, four ways, each with a kind and a number of its own.
 #[derive(Clone, Copy)]
 pub enum Replayed {
     Agrees,

@@ -112,6 +112,7 @@ pub fn inputs_at(text: &[u8], from: usize, input: &mut [i32]) -> usize
 }
 
 // Whether numbers are the listed ones, and where the next one begins.
+// Kept: no plainer, the place is asked for whether the numbers are the same or not.
 #[derive(Clone, Copy)]
 pub struct Same {
     pub same: bool,

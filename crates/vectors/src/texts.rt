@@ -12,6 +12,7 @@ pub fn buffer() -> [u8; 131072]
 }
 
 // A number, and where the next one begins.
+// Kept: no plainer, a number below zero is read too, as a value and its sign.
 #[derive(Clone, Copy)]
 pub struct Numeral {
     pub minus: bool,

@@ -103,6 +103,7 @@ pub fn say_at(system: &System, text: &[u8], at: usize) -> usize
 // A text.
 pub fn say_text(system: &System, text: &[u8]) {
     let mut at: usize = 0;
+    // Kept: no plainer, the place moves on by the character that was shown.
     while at < text.len() {
         at += say_at(system, text, at);
     }

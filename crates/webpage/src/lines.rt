@@ -6,6 +6,7 @@ use showing::words::say_answer;
 use symbols::text::{blanks_end, is_blank};
 
 // The look of what is drawn at the moment, whether it goes on from the line before, and the line's number.
+// Kept: no plainer, the look is drawn again in each line, and the flag says only that it was begun.
 #[derive(Clone, Copy)]
 struct Pen {
     look: u32,
@@ -161,6 +162,7 @@ pub fn show_lines(system: &System, source: &[u8], row: &[u32], levels: &[u32]) {
     let mut i: usize = 0;
     say(system, b"<table class=\"page\">\n");
     open_line(system, 1, line_level(source, levels, 0));
+    // Kept: no plainer, the place moves on by the character that was shown.
     while i < source.len() {
         p = turn(system, p, seen(p, source, row, i));
         if source[i] == b'\n' {
