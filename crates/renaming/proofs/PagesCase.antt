@@ -11,7 +11,7 @@ use native.Mathlib.Omega.{arith}
 use lib.ListN.{length, drop}
 use Rattle.answers.specs.declared.Refusal.{Refusal}
 use Rattle.answers.specs.declared.Verdict.{Verdict}
-use Rattle.answers.specs.declared.Verdict.TheVariants.{Accepted, Refused as NotAccepted}
+use Rattle.answers.specs.declared.Verdict.TheVariants.{Accepted, Refused}
 use Rattle.symbols.specs.Names.{digit, in_name, these, reach, folded, same_name}
 use Rattle.symbols.specs.Symbols.{words, signs, is}
 use Rattle.symbols.specs.Scan.{Found, scan, kinds_of}
