@@ -35,16 +35,13 @@ stored_one source count i s x h k e =
 pub loop-i-init : goal.loop-i-init
 loop-i-init c = (search rules, refl, rw sub-zero)
 
-pub loop-i-smaller : goal.loop-i-smaller
-loop-i-smaller c = simp length-set (omega arith)
-
 pub loop-i-preserved : goal.loop-i-preserved
 loop-i-preserved c =
     let a = c.args in
     let l = c.loop-i in
     let x : c.capital-x.result ≡ capital (get_or a.source.now l.i 0) = c.capital-x.ensures ∙ ap capital c.byte_at.ensures in
-    let h = c.loop-i-test.true in
-    let k : l.i < length a.room.now = omega (arith, l.invariant.1) in (
+    let k = c.loop-i-test.true in
+    let h : l.i < length l.room = omega (arith, l.invariant.1, k) in (
       simp length-set (omega arith),
       simp length-set l.invariant.1,
       l.invariant.2 ∙ stored_one a.source.now (length a.room.now) l.i l.room c.capital-x.result k h x,
@@ -55,5 +52,5 @@ returns c =
     let a = c.args in
     let l = c.loop-i in
     let k : length a.room.now - l.i ≤ 0 = omega (arith, l.invariant.1, c.loop-i-test.false) in
-    let z : l.i ≡ length l.room = omega (arith, l.invariant.0, c.loop-i-test.false) in
+    let z : l.i ≡ length l.room = omega (arith, l.invariant.0, l.invariant.1, c.loop-i-test.false) in
     sym (l.invariant.2 ∙ rw (capitals-none a.source.now (length a.room.now - l.i) l.i k, append-nil (take l.i l.room), z) (take-length l.room))

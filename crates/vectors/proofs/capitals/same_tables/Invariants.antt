@@ -1,7 +1,6 @@
 -- `vectors::capitals::same_tables` meets its contract. Whether the rest from i on is equal is whether all is.
 -- Assumes nothing.
 use mathlib.Core.Path.{◌≡◌}
-use Prim.Native.Nat.{◌-◌}
 use lib.ListN.{length, drop}
 use Rattle.symbols.specs.Names.{equal}
 use Rattle.vectors.proofs.capitals.same_tables.Given as goal

@@ -17,9 +17,6 @@ use Rattle.vectors.proofs.lists.numbers_into.Goals as goal
 pub loop-i-init : goal.loop-i-init
 loop-i-init c = (search rules, refl, rw sub-zero)
 
-pub loop-i-smaller : goal.loop-i-smaller
-loop-i-smaller c = simp length-set (omega arith)
-
 pub loop-i-preserved : goal.loop-i-preserved
 loop-i-preserved c =
     let a = c.args in
@@ -28,8 +25,8 @@ loop-i-preserved c =
     let x : to_z w64 (of_z w64 c.long-x.result) ≡ whole_of n =
     to_z-of_z {w = w64} {z = c.long-x.result} (record { sfits = c.long-x.type_inv }) ∙ c.long-x.ensures
     ∙ to_z-of_z {w = w32} {z = c.whole.result} (record { sfits = c.whole.type_inv }) ∙ c.whole.ensures in
-    let h = c.loop-i-test.true in
-    let k : l.i < length a.list.now = omega (arith, l.invariant.1) in (
+    let k = c.loop-i-test.true in
+    let h : l.i < length l.list = omega (arith, l.invariant.1, k) in (
       simp length-set (omega arith),
       simp length-set l.invariant.1,
       l.invariant.2 ∙ stored_one a.text.now (length a.list.now) l.i l.at n c.number_at-n.ensures.value l.list (to_z w64 (of_z w64 c.long-x.result)) k h x,
@@ -40,5 +37,5 @@ returns c =
     let a = c.args in
     let l = c.loop-i in
     let k : length a.list.now ≤ l.i = omega (arith, l.invariant.1, c.loop-i-test.false) in
-    let z : l.i ≡ length l.list = omega (arith, l.invariant.0, c.loop-i-test.false) in
+    let z : l.i ≡ length l.list = omega (arith, l.invariant.0, l.invariant.1, c.loop-i-test.false) in
     sym (l.invariant.2 ∙ rw (numbers_end a.text.now (length a.list.now) l.i l.at k, append-nil (take l.i l.list), z) (take-length l.list))

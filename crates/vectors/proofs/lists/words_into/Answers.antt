@@ -39,17 +39,14 @@ stored_one table count i s x h k e =
 pub loop-i-init : goal.loop-i-init
 loop-i-init c = (search rules, refl, rw sub-zero)
 
-pub loop-i-smaller : goal.loop-i-smaller
-loop-i-smaller c = simp length-set (omega arith)
-
 pub loop-i-preserved : goal.loop-i-preserved
 loop-i-preserved c =
     let a = c.args in
     let l = c.loop-i in
     let x : to_z w64 (of_z w64 c.as_number-x.result) ≡ pos (get_or a.table.now l.i 0) =
     to_z-of_z {w = w64} {z = c.as_number-x.result} (record { sfits = c.as_number-x.type_inv }) ∙ c.as_number-x.ensures ∙ ap pos c.word_at.ensures in
-    let h = c.loop-i-test.true in
-    let k : l.i < length a.list.now = omega (arith, l.invariant.1) in (
+    let k = c.loop-i-test.true in
+    let h : l.i < length l.list = omega (arith, l.invariant.1, k) in (
       simp length-set (omega arith),
       simp length-set l.invariant.1,
       l.invariant.2 ∙ stored_one a.table.now (length a.list.now) l.i l.list (to_z w64 (of_z w64 c.as_number-x.result)) k h x,
@@ -60,5 +57,5 @@ returns c =
     let a = c.args in
     let l = c.loop-i in
     let k : length a.list.now - l.i ≤ 0 = omega (arith, l.invariant.1, c.loop-i-test.false) in
-    let z : l.i ≡ length l.list = omega (arith, l.invariant.0, c.loop-i-test.false) in
+    let z : l.i ≡ length l.list = omega (arith, l.invariant.0, l.invariant.1, c.loop-i-test.false) in
     sym (l.invariant.2 ∙ rw (words-none a.table.now (length a.list.now - l.i) l.i k, append-nil (take l.i l.list), z) (take-length l.list))

@@ -1,7 +1,7 @@
 -- `vectors::reads::same_words` meets its contract. The words from i on are compared with the numbers from the place on.
 -- Assumes nothing.
 use mathlib.Core.Path.{◌≡◌}
-use Prim.Native.Nat.{◌-◌, ◌≤◌}
+use Prim.Native.Nat.{◌≤◌}
 use lib.ListN.{length, drop}
 use Rattle.vectors.specs.Listed.{same_words}
 use Rattle.vectors.proofs.reads.same_words.Given as goal

@@ -1,6 +1,6 @@
 -- `vectors::rows::name_end` meets its contract. The end is between the start and the length.
 -- Assumes nothing.
-use Prim.Native.Nat.{◌-◌, ◌≤◌}
+use Prim.Native.Nat.{◌≤◌}
 use lib.ListN.{length}
 use Rattle.vectors.proofs.rows.name_end.Given as goal
 

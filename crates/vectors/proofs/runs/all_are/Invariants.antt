@@ -1,8 +1,8 @@
 -- `vectors::runs::all_are` meets its contract. The numbers from i on are those that are left to compare.
 -- Assumes nothing.
 use mathlib.Core.Path.{◌≡◌}
-use Prim.Native.Nat.{◌-◌, ◌≤◌}
-use lib.ListN.{length, drop}
+use Prim.Native.Nat.{◌≤◌}
+use lib.ListN.{drop}
 use Rattle.vectors.specs.Ended.{all_are}
 use Rattle.vectors.proofs.runs.all_are.Given as goal
 

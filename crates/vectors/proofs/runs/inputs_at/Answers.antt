@@ -18,17 +18,14 @@ use Rattle.vectors.proofs.runs.inputs_at.Goals as goal
 pub loop-i-init : goal.loop-i-init
 loop-i-init c = (search rules, refl, rw sub-zero, rw sub-zero)
 
-pub loop-i-smaller : goal.loop-i-smaller
-loop-i-smaller c = simp length-set (omega arith)
-
 pub loop-i-preserved : goal.loop-i-preserved
 loop-i-preserved c =
     let a = c.args in
     let l = c.loop-i in
     let n = c.number_at-n.result in
     let x : to_z w32 (of_z w32 c.whole.result) ≡ whole_of n = to_z-of_z {w = w32} {z = c.whole.result} (record { sfits = c.whole.type_inv }) ∙ c.whole.ensures in
-    let h = c.loop-i-test.true in
-    let k : l.i < length a.input.now = omega (arith, l.invariant.1) in (
+    let k = c.loop-i-test.true in
+    let h : l.i < length l.input = omega (arith, l.invariant.1, k) in (
       simp length-set (omega arith),
       simp length-set l.invariant.1,
       l.invariant.2 ∙ after_one a.text.now (length a.input.now) l.i l.at n c.number_at-n.ensures.value k,
@@ -40,4 +37,4 @@ returns c =
     let a = c.args in
     let l = c.loop-i in
     let k : length a.input.now ≤ l.i = omega (arith, l.invariant.1, c.loop-i-test.false) in
-    let z : l.i ≡ length l.input = omega (arith, l.invariant.0, c.loop-i-test.false) in record { value = sym (l.invariant.2 ∙ after_end a.text.now (length a.input.now) l.i l.at k); input_after = sym (l.invariant.3 ∙ rw (numbers_end a.text.now (length a.input.now) l.i l.at k, append-nil (take l.i l.input), z) (take-length l.input)) }
+    let z : l.i ≡ length l.input = omega (arith, l.invariant.0, l.invariant.1, c.loop-i-test.false) in record { value = sym (l.invariant.2 ∙ after_end a.text.now (length a.input.now) l.i l.at k); input_after = sym (l.invariant.3 ∙ rw (numbers_end a.text.now (length a.input.now) l.i l.at k, append-nil (take l.i l.input), z) (take-length l.input)) }

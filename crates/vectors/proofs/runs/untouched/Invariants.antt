@@ -1,9 +1,9 @@
 -- `vectors::runs::untouched` meets its contract. The numbers from i on are those that are left to compare.
 -- Assumes nothing.
 use mathlib.Core.Path.{◌≡◌}
-use Prim.Native.Nat.{◌-◌, ◌≤◌}
+use Prim.Native.Nat.{◌≤◌}
 use lib.IntN.{pos}
-use lib.ListN.{length, drop}
+use lib.ListN.{drop}
 use Rattle.vectors.specs.Ended.{all_are}
 use Rattle.vectors.proofs.runs.untouched.Given as goal
 

@@ -1,8 +1,7 @@
 -- `vectors::twos::all_words` meets its contract. The words from i on are those that are left to compare.
 -- Assumes nothing.
 use mathlib.Core.Path.{◌≡◌}
-use Prim.Native.Nat.{◌-◌}
-use lib.ListN.{length, drop}
+use lib.ListN.{drop}
 use Rattle.vectors.specs.Pages.{all}
 use Rattle.vectors.proofs.twos.all_words.Given as goal
 

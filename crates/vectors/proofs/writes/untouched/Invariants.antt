@@ -1,8 +1,8 @@
 -- `vectors::writes::untouched` meets its contract. The bytes from i on are those that are left to compare.
 -- Assumes nothing.
 use mathlib.Core.Path.{◌≡◌}
-use Prim.Native.Nat.{◌-◌, ◌≤◌}
-use lib.ListN.{length, drop}
+use Prim.Native.Nat.{◌≤◌}
+use lib.ListN.{drop}
 use Rattle.vectors.specs.Pages.{all}
 use Rattle.vectors.proofs.writes.untouched.Given as goal
 
