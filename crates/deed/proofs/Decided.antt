@@ -4,7 +4,6 @@ use mathlib.Core.Path.{◌≡◌, refl, sym, ap, ◌∙◌}
 use mathlib.Core.Bool.{Bool, true, false, cond}
 use mathlib.Core.List.{List, [], ◌∷◌, map}
 use mathlib.Core.Option.{Option, none, some}
-use mathlib.Core.Logic.{◌⊎◌, inl, inr}
 use Prim.Native.Nat.{ℕ, ◌≤◌, ◌<◌}
 use native.Mathlib.Omega.{arith}
 use lib.Dec.{leb}
@@ -19,9 +18,7 @@ use Rattle.asking.specs.Table.{first_row, row_in, row_of}
 use Rattle.asking.specs.declared.words.Word.{Word}
 use Rattle.asking.specs.declared.sorts.Sort.{Sort}
 use Rattle.asking.proofs.Choices.{part_empty}
-use Rattle.desk.specs.declared.status.Status.{Status}
-use Rattle.desk.specs.declared.status.Status.TheVariants.{Good, Bad, Nothing}
-use Rattle.desk.specs.Status.{good, bad, nothing}
+use Rattle.desk.specs.Status.{good, nothing}
 use Rattle.deed.specs.Commands.{is_none, helps, row_line, settled, well_asked, by_row, commanded, decided, Keeps}
 
 -- ---- words of a sort
@@ -86,17 +83,17 @@ no_word = refl
 
 -- ---- a line
 
-by_none : (row : List ℕ) (s : Option Status) → by_row row s false ≡ some nothing
+by_none : (row : List ℕ) (s : Option ℕ) → by_row row s false ≡ some nothing
 unfolding by_row
 by_none [] s = refl
 by_none (b ∷ row) s = refl
 
-by_some : (row : List ℕ) (s : Option Status) → 0 < length row → by_row row s true ≡ s
+by_some : (row : List ℕ) (s : Option ℕ) → 0 < length row → by_row row s true ≡ s
 unfolding by_row
 by_some [] s h = absurd (omega arith)
 by_some (b ∷ row) s h = refl
 
-empty_row : (s : Option Status) (t : Bool) → by_row [] s t ≡ some nothing
+empty_row : (s : Option ℕ) (t : Bool) → by_row [] s t ≡ some nothing
 unfolding by_row
 empty_row s t = refl
 
@@ -122,7 +119,7 @@ module _ (line : List ℕ) where
     unfolding commanded
     by_nothing e = unhelped ∙ ap (commanded (words_of line)) (h.none e)
 
-    stands : (t : Bool) → leb w.to w.from ≡ t → (P : Option Status → Type 0) → P (some nothing)
+    stands : (t : Bool) → leb w.to w.from ≡ t → (P : Option ℕ → Type 0) → P (some nothing)
         → (w.from < w.to → P (decided (words_of line))) → P (decided (words_of line))
     stands true e P p f =
         let l = leb-true w.to w.from e in
@@ -131,7 +128,7 @@ module _ (line : List ℕ) where
     stands false e P p f = f (leb-false w.to w.from e)
 
     pub not_known : row_line word ≡ [] → Keeps (decided (words_of line)) nothing
-    not_known e = stands (leb w.to w.from) refl (λ (o : Option Status). Keeps o nothing) refl (λ l. unrowed l)
+    not_known e = stands (leb w.to w.from) refl (λ (o : Option ℕ). Keeps o nothing) refl (λ l. unrowed l)
       where
         unrowed : w.from < w.to → Keeps (decided (words_of line)) nothing
         unrowed l =
@@ -139,14 +136,14 @@ module _ (line : List ℕ) where
             rw k refl
 
     pub ill_asked : well_asked (row_line word) (words_of line) (asked_from line w.to) ≡ false → Keeps (decided (words_of line)) nothing
-    ill_asked e = stands (leb w.to w.from) refl (λ (o : Option Status). Keeps o nothing) refl (λ l. unasked l)
+    ill_asked e = stands (leb w.to w.from) refl (λ (o : Option ℕ). Keeps o nothing) refl (λ l. unasked l)
       where
         unasked : w.from < w.to → Keeps (decided (words_of line)) nothing
         unasked l =
             let k : decided (words_of line) ≡ some nothing = by_word l ∙ ap (by_row (row_line word) (settled word)) e ∙ by_none (row_line word) (settled word) in
             rw k refl
 
-    pub well_settled : 0 < length (row_line word) → well_asked (row_line word) (words_of line) (asked_from line w.to) ≡ true → (s : Status) → Keeps (settled word) s
+    pub well_settled : 0 < length (row_line word) → well_asked (row_line word) (words_of line) (asked_from line w.to) ≡ true → (s : ℕ) → Keeps (settled word) s
         → Keeps (decided (words_of line)) s
     unfolding row_line
     well_settled long e s k = go (leb w.to w.from) refl
@@ -163,10 +160,40 @@ module _ (line : List ℕ) where
 
 -- ---- whatever is decided, the status is one of the three
 
-any_of_three : (s : Status) → (s ≡ good) ⊎ ((s ≡ bad) ⊎ (s ≡ nothing))
-any_of_three Good = inl refl
-any_of_three Bad = inr (inl refl)
-any_of_three Nothing = inr (inr refl)
+abbrev Small : Option ℕ → Type 0
+Small (some d) = d ≤ nothing
+Small none = Unit {0}
 
-pub one_of_three : (all : List (List ℕ)) (s : Status) → Keeps (decided all) s → (s ≡ good) ⊎ ((s ≡ bad) ⊎ (s ≡ nothing))
-one_of_three all s k = any_of_three s
+small_settled : (w : List ℕ) → Small (settled w)
+unfolding settled
+small_settled w = go (equal w _)
+  where
+    go : (t : Bool) → Small (cond t (some good) none)
+    go true = omega arith
+    go false = tt
+
+small_row : (row : List ℕ) (s : Option ℕ) (well : Bool) → Small s → Small (by_row row s well)
+unfolding by_row
+small_row [] s well h = omega arith
+small_row (b ∷ row) s true h = h
+small_row (b ∷ row) s false h = omega arith
+
+small_commanded : (all ws : List (List ℕ)) → Small (commanded all ws)
+unfolding commanded
+small_commanded all [] = omega arith
+small_commanded all (w ∷ ws) = small_row (row_line w) (settled w) (well_asked (row_line w) all ws) (small_settled w)
+
+small_decided : (all : List (List ℕ)) → Small (decided all)
+unfolding decided
+small_decided all = go (helps all)
+  where
+    go : (t : Bool) → Small (cond t (some good) (commanded all (asked all)))
+    go true = omega arith
+    go false = small_commanded all (asked all)
+
+kept_small : (o : Option ℕ) (s : ℕ) → Small o → Keeps o s → s ≤ nothing
+kept_small (some d) s h k = omega arith
+kept_small none s h k = k
+
+pub one_of_three : (all : List (List ℕ)) (s : ℕ) → Keeps (decided all) s → s ≤ nothing
+one_of_three all s k = kept_small (decided all) s (small_decided all) k

@@ -1,4 +1,5 @@
 pub mod Decided
+pub mod Statuses
 pub mod Sent
 pub mod Good
 pub mod Examples

@@ -23,7 +23,6 @@ use Rattle.checking.specs.declared.Checked.{Checked}
 use Rattle.checking.specs.declared.Checked.TheVariants.{Yes, Refused as Unchecked, Wrong as WrongAt}
 use Rattle.checking.proofs.FromTables.{Accepts}
 use Rattle.checking.proofs.Promises.{uses_in, one_answer, yes_exactly}
-use Rattle.desk.specs.declared.status.Status.{Status}
 use Rattle.desk.specs.Status.{good, nothing}
 use Rattle.deed.specs.Status.{of_checked, CheckStatus, ByWords, SentStatus}
 
@@ -87,7 +86,7 @@ module _ (text : List ℕ) (ws : List (List ℕ)) (list list' : List ℤ) (r : R
       ap (λ (x : List ℤ). take k x) (h.holds ∙ ap (λ (x : List ℤ). x ++ drop (length (leading ws)) list) (take_all (length list) (leading ws) a.fits))
       ∙ take_at (leading ws) (drop (length (leading ws)) list) k (sym a.many) ∙ ap leading same
 
-  pub sent_are : {source : List ℕ} (k : ℕ) (s : Status) → r ≡ Ok k → CheckStatus source (take k list') s → SentStatus source text s
+  pub sent_are : {source : List ℕ} (k s : ℕ) → r ≡ Ok k → CheckStatus source (take k list') s → SentStatus source text s
   sent_are {source} k s e t =
       record {
         by_words = subst (λ (l : Result ℕ Unlisted). ByWords source (leading (list_words text)) l s) (sym (listed (Ok k) e))
@@ -106,13 +105,13 @@ inside_room {ws} {list} {k = k} h e = let a = all_listed (length list) ws k (sym
 
 -- ---- what the status 0 says
 
-pub one_check_status : {source : List ℕ} {zs : List ℤ} {s s₂ : Status} → CheckStatus source zs s → CheckStatus source zs s₂ → s ≡ s₂
+pub one_check_status : {source : List ℕ} {zs : List ℤ} {s s₂ : ℕ} → CheckStatus source zs s → CheckStatus source zs s₂ → s ≡ s₂
 one_check_status a b = a.told ∙ ap of_checked (one_answer a.checks b.checks) ∙ sym b.told
 
 good_yes : (c : Checked) → good ≡ of_checked c → c ≡ Yes
 good_yes Yes h = refl
-good_yes (Unchecked r) h = absurd cc
-good_yes (WrongAt i) h = absurd cc
+good_yes (Unchecked r) h = absurd (omega arith)
+good_yes (WrongAt i) h = absurd (omega arith)
 
 pub good_checked : {source : List ℕ} {zs : List ℤ} → CheckStatus source zs good → (a : Accepts source) × (zs ≡ map pos (uses_in three a))
 good_checked {source} {zs} t = yes_exactly.0 (subst (λ (c : Checked). Checks source zs c) (good_yes t.checked t.told) t.checks)
@@ -127,5 +126,5 @@ good_sent {source} {text} t = go (listed_in 32768 (list_words text)) refl t.by_w
         let c : CheckStatus source (leading (list_words text)) good = t in
         let g = good_checked c in
         (g.0, as_typed (list_words text) (uses_in three g.0) w.whole g.1)
-    go (Err (NoNumber i)) e t = let h : good ≡ nothing = t in absurd cc
-    go (Err Full) e t = let h : good ≡ nothing = t in absurd cc
+    go (Err (NoNumber i)) e t = let h : good ≡ nothing = t in absurd (omega arith)
+    go (Err Full) e t = let h : good ≡ nothing = t in absurd (omega arith)

@@ -1,6 +1,6 @@
 -- What the words of a command decide of the tool's exit status, whatever the files hold: by the row of its command. These are definitions of the tool and
 -- no part of the paper.
-use Rattle.std.specs.Prelude.{ℕ, ◌≡◌, Bool, true, false, cond, not, ◌&&◌, ◌||◌, List, [], ◌∷◌, map, take, Option as OptionOf, Some, None}
+use Rattle.std.specs.Prelude.{ℕ, ◌≤◌, ◌≡◌, Bool, true, false, cond, not, ◌&&◌, ◌||◌, List, [], ◌∷◌, map, take, Option as OptionOf, Some, None}
 use Rattle.std.proofs.Math.Option.{Option, none, some}
 use Rattle.symbols.specs.Text.{bytes}
 use Rattle.symbols.specs.Names.{equal}
@@ -10,7 +10,6 @@ use Rattle.asking.specs.Options.{sizes_of, operands}
 use Rattle.asking.specs.Table.{row_of, names, more, matched}
 use Rattle.asking.specs.declared.sorts.Sort.TheVariants.{Misfit, Twice}
 use Rattle.asking.specs.declared.sizes.Sizes.{Sizes}
-use Rattle.desk.specs.declared.status.Status.{Status}
 use Rattle.desk.specs.Status.{good, nothing}
 
 abbrev pub is_none : List (List ℕ) → Bool
@@ -54,23 +53,23 @@ unfoldable pub well_asked : List ℕ → List (List ℕ) → List (List ℕ) →
 well_asked row all ws = fitting row all && once all && not (clash all) && full row ws && sized ws
 
 -- help is given; what comes of any other command is its file's
-unfoldable pub settled : List ℕ → Option Status
+unfoldable pub settled : List ℕ → Option ℕ
 settled w = cond (equal w (bytes "help")) (some good) none
 
-unfoldable pub by_row : List ℕ → Option Status → Bool → Option Status
+unfoldable pub by_row : List ℕ → Option ℕ → Bool → Option ℕ
 by_row [] s well = some nothing
 by_row (b ∷ row) s well = cond well s (some nothing)
 
 -- of all words, and of those that are asked
-unfoldable pub commanded : List (List ℕ) → List (List ℕ) → Option Status
+unfoldable pub commanded : List (List ℕ) → List (List ℕ) → Option ℕ
 commanded all [] = some nothing
 commanded all (w ∷ ws) = by_row (row_line w) (settled w) (well_asked (row_line w) all ws)
 
 -- of the words of a line
-unfoldable pub decided : List (List ℕ) → Option Status
+unfoldable pub decided : List (List ℕ) → Option ℕ
 decided all = cond (helps all) (some good) (commanded all (asked all))
 
--- s is the status that is decided; where none is, it is any
-abbrev pub Keeps : Option Status → Status → Type 0
+-- s is the status that is decided; where none is, it is one of the three
+abbrev pub Keeps : Option ℕ → ℕ → Type 0
 Keeps (some d) s = s ≡ d
-Keeps none s = Unit {0}
+Keeps none s = s ≤ nothing

@@ -1,6 +1,7 @@
 // deed check: a list that somebody sent, held against the uses of a source.
 ghost use Rattle.std.specs.Prelude.{◌≤◌, length, ◌≡◌, IfSome};
 ghost use Rattle.io.specs.Counts.{IsPrefixLen};
+ghost use Rattle.desk.specs.Status.{nothing as undone};
 ghost use Rattle.deed.specs.Status.{of_checked, CheckStatus, SentStatus};
 
 use asking::lists::{Unlisted, list_in};
@@ -10,9 +11,9 @@ use checking::Checked;
 use checking::checking::check_list;
 use desk::files::{is_standard, load};
 use desk::misuse::{misused, see_help};
-use desk::status::Status;
+use desk::status;
 use reading::reading::read;
-use showing::system::{Stream, System};
+use showing::system::{STDERR, STDOUT, System};
 use showing::text::{
     complain, say, say_number, tell, tell_file, tell_place, tell_spot, tell_typed,
 };
@@ -23,7 +24,7 @@ use table::sections::word;
 const SHOWN: usize = 40;
 
 // LIST:LINE:COLUMN.
-fn tell_where(system: &System, to: Stream, list: &[u8], text: &[u8], place: usize) {
+fn tell_where(system: &System, to: i32, list: &[u8], text: &[u8], place: usize) {
     tell_file(system, to, list);
     tell(system, to, b":");
     tell_spot(system, to, text, place);
@@ -36,7 +37,7 @@ fn load_list(system: &System, list: &[u8], room: &mut [u8]) -> Option<usize>
     let n = load(system, list, room)?;
     if 65536 <= n {
         complain(system, b"deed: ");
-        tell_file(system, Stream::Errors, list);
+        tell_file(system, STDERR, list);
         complain(system, b": a LIST has under 65,536 bytes\n");
         return None;
     }
@@ -57,7 +58,7 @@ fn nth_word(line: &[u8], k: usize) -> Word
 // A word as it was typed, or its beginning.
 fn show_typed(system: &System, typed: &[u8]) {
     let n = typed.len().min(SHOWN);
-    tell_typed(system, Stream::Output, &typed[..n]);
+    tell_typed(system, STDOUT, &typed[..n]);
     if n < typed.len() {
         say(system, b" ..");
     }
@@ -84,18 +85,18 @@ fn show_wrong(
     table: &[u16],
     i: usize,
 ) {
-    tell_where(system, Stream::Output, list, text, place);
+    tell_where(system, STDOUT, list, text, place);
     say(system, b": wrong, word ");
     say_number(system, i as u64);
     say(system, b": ");
     show_typed(system, typed);
     show_due(system, table, i);
-    tell_place(system, Stream::Output, text, place);
+    tell_place(system, STDOUT, text, place);
 }
 
 // A list that ends too soon.
 fn show_short(system: &System, list: &[u8], table: &[u16], i: usize) {
-    tell_file(system, Stream::Output, list);
+    tell_file(system, STDOUT, list);
     say(system, b": wrong, word ");
     say_number(system, i as u64);
     say(system, b": the list ends too soon, and ");
@@ -125,9 +126,9 @@ fn show_difference(
 }
 
 fn show_yes(system: &System, name: &[u8], list: &[u8]) {
-    tell_file(system, Stream::Output, list);
+    tell_file(system, STDOUT, list);
     say(system, b": yes, the uses of ");
-    tell_file(system, Stream::Output, name);
+    tell_file(system, STDOUT, name);
     say(system, b"\n");
 }
 
@@ -150,12 +151,12 @@ fn show_plain(system: &System, c: Checked) {
     }
 }
 
-fn of_checked(c: Checked) -> Status
+fn of_checked(c: Checked) -> u8
     ensures { result ≡ of_checked c }
 {
     match c {
-        Checked::Yes => Status::Good,
-        Checked::Refused(_) | Checked::Wrong(_) => Status::Bad,
+        Checked::Yes => status::GOOD,
+        Checked::Refused(_) | Checked::Wrong(_) => status::BAD,
     }
 }
 
@@ -169,7 +170,7 @@ fn tell_checked(
     line: &[u8],
     numbers: &[i64],
     plain: bool,
-) -> Status
+) -> u8
     ensures { CheckStatus source.now numbers.now result }
 {
     let c = check_list(source, numbers);
@@ -199,9 +200,9 @@ fn tell_checked(
 fn unlisted(system: &System, list: &[u8], text: &[u8], line: &[u8], i: usize) {
     let w = nth_word(line, i);
     complain(system, b"deed: ");
-    tell_where(system, Stream::Errors, list, text, w.from);
+    tell_where(system, STDERR, list, text, w.from);
     complain(system, b": this is no number, so there is no list\n");
-    tell_place(system, Stream::Errors, text, w.from);
+    tell_place(system, STDERR, text, w.from);
     see_help(system);
 }
 
@@ -213,7 +214,7 @@ fn check_text(
     list: &[u8],
     text: &[u8],
     plain: bool,
-) -> Status
+) -> u8
     requires { length text.now ≤ 65536 }
     ensures { SentStatus source.now text.now result }
 {
@@ -235,32 +236,36 @@ fn check_text(
         }
         Err(Unlisted::NoNumber(i)) => {
             unlisted(system, list, text, &row[..n], i);
-            Status::Nothing
+            status::NOTHING
         }
         Err(Unlisted::Full) => {
             complain(system, b"deed: a LIST has at most 32,768 numbers\n");
-            Status::Nothing
+            status::NOTHING
         }
     }
 }
 
 // A list that a file holds, or standard input, held against the source of another file.
-fn check_file(system: &System, name: &[u8], list: &[u8], plain: bool) -> Status {
+fn check_file(system: &System, name: &[u8], list: &[u8], plain: bool) -> u8
+    ensures { result ≤ undone }
+{
     let mut room = io::large_buffer();
     let mut text = io::large_buffer();
     let Some(n) = load(system, name, &mut room) else {
         see_help(system);
-        return Status::Nothing;
+        return status::NOTHING;
     };
     let Some(k) = load_list(system, list, &mut text) else {
         see_help(system);
-        return Status::Nothing;
+        return status::NOTHING;
     };
     check_text(system, name, &room[..n], list, &text[..k], plain)
 }
 
 // Standard input is one of the two, or none.
-pub fn obey(system: &System, line: &[u8], at: usize) -> Status {
+pub fn obey(system: &System, line: &[u8], at: usize) -> u8
+    ensures { result ≤ undone }
+{
     let w = next_operand(line, at);
     let a = w.from;
     let b = w.to;
@@ -274,7 +279,7 @@ pub fn obey(system: &System, line: &[u8], at: usize) -> Status {
                 b"standard input is the FILE or the LIST, and not both",
                 b"",
             );
-            return Status::Nothing;
+            return status::NOTHING;
         }
     }
     check_file(system, &line[a..b], &line[c..d], is_plain(line))

@@ -1,21 +1,24 @@
 // deed code: the translation of a source.
 ghost use Rattle.std.specs.Prelude.{◌≤◌};
+ghost use Rattle.desk.specs.Status.{nothing};
 ghost use Rattle.deed.specs.Status.{CodeStatus};
 
-use crate::sources::on_file;
 use answers::Verdict;
-use desk::status::{Status, of_verdict};
+use asking::options::next_operand;
+use desk::files::load;
+use desk::misuse::see_help;
+use desk::status;
 use showing::code::show_code;
 use showing::system::System;
 use showing::words::show_answer;
 use translating::translating::translate;
 
-fn tell(system: &System, name: &[u8], source: &[u8]) -> Status
+fn tell(system: &System, name: &[u8], source: &[u8]) -> u8
     ensures { CodeStatus source.now result }
 {
     let mut code = [0u32; 16384];
     let v = translate(source, &mut code);
-    let ended = of_verdict(v);
+    let ended = status::of_verdict(v);
     match v {
         Verdict::Accepted => show_code(system, source, &code),
         Verdict::Refused(r) => {
@@ -32,8 +35,16 @@ fn tell(system: &System, name: &[u8], source: &[u8]) -> Status
     ended
 }
 
-pub fn obey(system: &System, line: &[u8], at: usize) -> Status {
-    on_file(system, line, at, |name, source| {
-        tell(system, name, source)
-    })
+pub fn obey(system: &System, line: &[u8], at: usize) -> u8
+    ensures { result ≤ nothing }
+{
+    let mut room = io::large_buffer();
+    let w = next_operand(line, at);
+    let a = w.from;
+    let b = w.to;
+    let Some(n) = load(system, &line[a..b], &mut room) else {
+        see_help(system);
+        return status::NOTHING;
+    };
+    tell(system, &line[a..b], &room[..n])
 }

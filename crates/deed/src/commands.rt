@@ -2,6 +2,7 @@
 ghost use Rattle.std.specs.Prelude.{◌≡◌, ◌≤◌, length};
 ghost use Rattle.asking.specs.Words.{words_of, part};
 ghost use Rattle.asking.specs.Sorts.{asked_from};
+ghost use Rattle.desk.specs.Status.{nothing};
 ghost use Rattle.deed.specs.Commands.{helps, fitting, once, clash, full, sized, well_asked, settled, decided, Keeps};
 
 use crate::help::{help, usage};
@@ -11,9 +12,9 @@ use asking::sorts::{Sort, first, next_word};
 use asking::table::{fits, row_line};
 use asking::words::{has_word, is_plain};
 use desk::misuse::misused;
-use desk::status::Status;
+use desk::status;
 use paying::run;
-use showing::system::{Stream, System};
+use showing::system::{STDERR, System};
 use showing::text::{complain, tell_typed};
 use symbols::text::same_bytes;
 
@@ -121,8 +122,9 @@ pub fn well_asked(system: &System, line: &[u8], at: usize, row: &[u8]) -> bool
 }
 
 // The command whose word stands there, one that shows a source.
-fn shows(system: &System, line: &[u8], from: usize, at: usize) -> Status
+fn shows(system: &System, line: &[u8], from: usize, at: usize) -> u8
     requires { (from ≤ at) × (at ≤ length line.now) }
+    ensures { result ≤ nothing }
 {
     if same_bytes(&line[from..at], b"read") {
         return read::obey(system, line, at);
@@ -143,8 +145,9 @@ fn shows(system: &System, line: &[u8], from: usize, at: usize) -> Status
 }
 
 // The command whose word stands there.
-fn does(system: &System, line: &[u8], from: usize, at: usize) -> Status
+fn does(system: &System, line: &[u8], from: usize, at: usize) -> u8
     requires { (from ≤ at) × (at ≤ length line.now) }
+    ensures { result ≤ nothing }
 {
     if same_bytes(&line[from..at], b"check") {
         return check::obey(system, line, at);
@@ -154,19 +157,19 @@ fn does(system: &System, line: &[u8], from: usize, at: usize) -> Status
     }
     if same_bytes(&line[from..at], b"do") {
         misused(system, b"a file of commands has no do in it", b"");
-        return Status::Nothing;
+        return status::NOTHING;
     }
     shows(system, line, from, at)
 }
 
 // What a line asks that is well asked.
-fn settle(system: &System, line: &[u8], from: usize, at: usize) -> Status
+fn settle(system: &System, line: &[u8], from: usize, at: usize) -> u8
     requires { (from ≤ at) × (at ≤ length line.now) }
     ensures { Keeps (settled (part line.now from at)) result }
 {
     if same_bytes(&line[from..at], b"help") {
         help(system);
-        return Status::Good;
+        return status::GOOD;
     }
     does(system, line, from, at)
 }
@@ -177,19 +180,19 @@ fn unknown(system: &System, word: &[u8]) {
         complain(system, b"deed: a command is missing\n");
     } else {
         complain(system, b"deed: there is no such command: ");
-        tell_typed(system, Stream::Errors, word);
+        tell_typed(system, STDERR, word);
         complain(system, b"\n");
     }
     usage(system);
 }
 
 // Does what a line asks.
-pub fn obey(system: &System, line: &[u8]) -> Status
+pub fn obey(system: &System, line: &[u8]) -> u8
     ensures { Keeps (decided (words_of line.now)) result }
 {
     if asks_help(line) {
         help(system);
-        return Status::Good;
+        return status::GOOD;
     }
     let w = next_word(line, 0);
     let from = w.from;
@@ -198,10 +201,10 @@ pub fn obey(system: &System, line: &[u8]) -> Status
     let n = row_line(&line[from..to], &mut row);
     if n == 0 {
         unknown(system, &line[from..to]);
-        return Status::Nothing;
+        return status::NOTHING;
     }
     if !well_asked(system, line, to, &row[..n]) {
-        return Status::Nothing;
+        return status::NOTHING;
     }
     settle(system, line, from, to)
 }

@@ -2,7 +2,7 @@
 // the same order.
 use asking::table::ROWS;
 use asking::words::{line_of, word_from};
-use showing::system::{Stream, System};
+use showing::system::{STDERR, STDOUT, System};
 use showing::text::{complain, say, tell};
 
 // What each command does, a paragraph a row of the table, ended by a zero.
@@ -38,7 +38,7 @@ fn is_value(word: &[u8]) -> bool {
 }
 
 // What an option has behind it, without the = before it.
-fn tell_value(system: &System, to: Stream, word: &[u8]) {
+fn tell_value(system: &System, to: i32, word: &[u8]) {
     if word.len() == 0 {
         return;
     }
@@ -48,7 +48,7 @@ fn tell_value(system: &System, to: Stream, word: &[u8]) {
 }
 
 // A word of a row behind the one before it, in the brackets that show what may be left out.
-fn tell_word(system: &System, to: Stream, word: &[u8], next: &[u8]) {
+fn tell_word(system: &System, to: i32, word: &[u8], next: &[u8]) {
     if is_value(word) {
         tell_value(system, to, word);
     } else if is_option(word) {
@@ -64,7 +64,7 @@ fn tell_word(system: &System, to: Stream, word: &[u8], next: &[u8]) {
 }
 
 // The words of a row, whose line this is.
-fn tell_words(system: &System, to: Stream, line: &[u8]) {
+fn tell_words(system: &System, to: i32, line: &[u8]) {
     let mut at: usize = 0;
     // Kept: no plainer, the place moves on by the word that was read.
     while at < line.len() {
@@ -83,7 +83,7 @@ fn tell_words(system: &System, to: Stream, line: &[u8]) {
 }
 
 // A row of the table as it is asked.
-fn tell_row(system: &System, to: Stream, row: &[u8]) {
+fn tell_row(system: &System, to: i32, row: &[u8]) {
     let mut line = [0u8; 256];
     let n = line_of(row, &mut line);
     tell(system, to, b"  deed");
@@ -91,14 +91,14 @@ fn tell_row(system: &System, to: Stream, row: &[u8]) {
     tell(system, to, b"\n");
 }
 
-fn tell_paragraph(system: &System, to: Stream, long: bool, text: &[u8]) {
+fn tell_paragraph(system: &System, to: i32, long: bool, text: &[u8]) {
     if long {
         tell(system, to, text);
     }
 }
 
 // The rows of a table; where all is to be said, each with its paragraph.
-fn tell_table(system: &System, to: Stream, long: bool, rows: &[u8], about: &[u8]) {
+fn tell_table(system: &System, to: i32, long: bool, rows: &[u8], about: &[u8]) {
     let mut at: usize = 0;
     let mut i: usize = 0;
     // Kept: no plainer, both places move on by the words that were read.
@@ -121,7 +121,7 @@ fn tell_table(system: &System, to: Stream, long: bool, rows: &[u8], about: &[u8]
 
 pub fn usage(system: &System) {
     complain(system, b"usage:\n");
-    tell_table(system, Stream::Errors, false, &ROWS, &ABOUT);
+    tell_table(system, STDERR, false, &ROWS, &ABOUT);
 }
 
 pub fn help(system: &System) {
@@ -129,7 +129,7 @@ pub fn help(system: &System) {
         system,
         b"deed: reads a deed's program, written in ALGOL 60, and runs it\n\n",
     );
-    tell_table(system, Stream::Output, true, &ROWS, &ABOUT);
+    tell_table(system, STDOUT, true, &ROWS, &ABOUT);
     say(
         system,
         b"

@@ -7,9 +7,9 @@ use asking::words::is_word;
 use commands::obey;
 use desk::files::arguments;
 use desk::misuse::see_help;
-use desk::status::{Status, leave, of_taken};
+use desk::status;
 use help::help;
-use showing::system::{Stream, System};
+use showing::system::{STDERR, System};
 use showing::taken::{all_taken, is_open};
 
 mod check; // deed check
@@ -20,14 +20,13 @@ mod levels; // deed levels
 mod orders; // deed do
 mod page; // deed page
 mod read; // deed read
-mod sources; // the file that a command names
 mod uses; // deed uses
 mod write; // deed write
 
-fn start(system: &System, line: &[u8]) -> Status {
+fn start(system: &System, line: &[u8]) -> u8 {
     if line.len() == 0 {
         help(system);
-        return Status::Good;
+        return status::GOOD;
     }
     let w = next_word(line, 0);
     let to = w.to;
@@ -37,18 +36,18 @@ fn start(system: &System, line: &[u8]) -> Status {
     obey(system, line)
 }
 
-fn begin(system: &System) -> Status {
+fn begin(system: &System) -> u8 {
     let mut line = io::large_buffer();
     let Some(n) = arguments(system, &mut line) else {
         see_help(system);
-        return Status::Nothing;
+        return status::NOTHING;
     };
     start(system, &line[..n])
 }
 
 fn main(rt: HostRuntime) {
     let system = System::new(rt);
-    let heard = is_open(&system, Stream::Errors);
+    let heard = is_open(&system, STDERR);
     let done = begin(&system);
-    leave(of_taken(all_taken(&system, heard), done));
+    status::leave(status::of_taken(all_taken(&system, heard), done));
 }

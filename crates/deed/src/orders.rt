@@ -1,5 +1,6 @@
 // deed do: the commands of a file, one a line.
 ghost use Rattle.std.specs.Prelude.{◌≤◌};
+ghost use Rattle.desk.specs.Status.{nothing};
 
 use crate::commands;
 use crate::commands::well_asked;
@@ -8,8 +9,8 @@ use asking::table::row_line;
 use asking::words::{line_of, word_from};
 use desk::files::load;
 use desk::misuse::see_help;
-use desk::status::Status;
-use showing::system::{Stream, System};
+use desk::status;
+use showing::system::{STDOUT, System};
 use showing::text::{complain, say, tell_typed};
 use symbols::text::find;
 
@@ -22,51 +23,59 @@ fn is_note(line: &[u8]) -> bool {
 }
 
 // One line of a file of commands.
-fn obey_text(system: &System, text: &[u8]) -> Status {
+fn obey_text(system: &System, text: &[u8]) -> u8
+    ensures { result ≤ nothing }
+{
     let mut row = io::large_buffer();
     let n = line_of(text, &mut row);
     if is_note(&row[..n]) {
-        return Status::Good;
+        return status::GOOD;
     }
     say(system, b"> ");
-    tell_typed(system, Stream::Output, text);
+    tell_typed(system, STDOUT, text);
     say(system, b"\n");
     commands::obey(system, &row[..n])
 }
 
 // The greatest status of the commands.
-fn obey_each(system: &System, text: &[u8]) -> Status {
-    let mut most = Status::Good;
+fn obey_each(system: &System, text: &[u8]) -> u8
+    ensures { result ≤ nothing }
+{
+    let mut most = status::GOOD;
     let mut at: usize = 0;
     // Kept: no plainer, the place moves on by the line that was read.
     while at < text.len() {
         let end = find(text, at, b'\n');
-        most = most.max(obey_text(system, &text[at..end]));
+        most = status::greater(most, obey_text(system, &text[at..end]));
         at = end + 1;
     }
     most
 }
 
 // The commands of a file. One that fills the room may go on behind it, and no part of it is done.
-fn obey_file(system: &System, name: &[u8]) -> Status {
+fn obey_file(system: &System, name: &[u8]) -> u8
+    ensures { result ≤ nothing }
+{
     let mut room = io::large_buffer();
     let Some(n) = load(system, name, &mut room) else {
         see_help(system);
-        return Status::Nothing;
+        return status::NOTHING;
     };
     if 65536 <= n {
         complain(system, b"deed: a file of commands has under 65,536 bytes\n");
-        return Status::Nothing;
+        return status::NOTHING;
     }
     obey_each(system, &room[..n])
 }
 
 // The file that a line names, whose command's word ends at `at`.
-pub fn obey(system: &System, line: &[u8], at: usize) -> Status {
+pub fn obey(system: &System, line: &[u8], at: usize) -> u8
+    ensures { result ≤ nothing }
+{
     let mut row = [0u8; 256];
     let n = row_line(b"do", &mut row);
     if !well_asked(system, line, at, &row[..n]) {
-        return Status::Nothing;
+        return status::NOTHING;
     }
     let w = next_operand(line, at);
     let a = w.from;

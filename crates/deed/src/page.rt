@@ -1,24 +1,35 @@
 // deed page: the page of a source, accepted or refused.
 ghost use Rattle.std.specs.Prelude.{◌≤◌};
+ghost use Rattle.desk.specs.Status.{nothing};
 ghost use Rattle.deed.specs.Status.{ReadStatus};
 
-use crate::sources::on_file;
-use desk::status::{Status, of_verdict};
+use asking::options::next_operand;
+use desk::files::load;
+use desk::misuse::see_help;
+use desk::status;
 use reading::reading::read;
 use showing::system::System;
 use webpage::show_page;
 
-fn tell(system: &System, name: &[u8], source: &[u8]) -> Status
+fn tell(system: &System, name: &[u8], source: &[u8]) -> u8
     ensures { ReadStatus source.now result }
 {
     let mut table = [0u16; 32768];
     let v = read(source, &mut table);
     show_page(system, name, source, v, &table);
-    of_verdict(v)
+    status::of_verdict(v)
 }
 
-pub fn obey(system: &System, line: &[u8], at: usize) -> Status {
-    on_file(system, line, at, |name, source| {
-        tell(system, name, source)
-    })
+pub fn obey(system: &System, line: &[u8], at: usize) -> u8
+    ensures { result ≤ nothing }
+{
+    let mut room = io::large_buffer();
+    let w = next_operand(line, at);
+    let a = w.from;
+    let b = w.to;
+    let Some(n) = load(system, &line[a..b], &mut room) else {
+        see_help(system);
+        return status::NOTHING;
+    };
+    tell(system, &line[a..b], &room[..n])
 }

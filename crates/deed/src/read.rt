@@ -1,11 +1,14 @@
 // deed read: whether a source is accepted.
 ghost use Rattle.std.specs.Prelude.{◌≤◌};
+ghost use Rattle.desk.specs.Status.{nothing};
 ghost use Rattle.deed.specs.Status.{ReadStatus};
 
-use crate::sources::on_file;
 use answers::Verdict;
+use asking::options::next_operand;
 use asking::words::is_plain;
-use desk::status::{Status, of_verdict};
+use desk::files::load;
+use desk::misuse::see_help;
+use desk::status;
 use reading::reading::read;
 use showing::system::System;
 use showing::text::{say, say_file, say_number};
@@ -38,7 +41,7 @@ fn show(system: &System, name: &[u8], source: &[u8], v: Verdict) {
     }
 }
 
-fn tell(system: &System, name: &[u8], source: &[u8], plain: bool) -> Status
+fn tell(system: &System, name: &[u8], source: &[u8], plain: bool) -> u8
     ensures { ReadStatus source.now result }
 {
     let mut table = [0u16; 32768];
@@ -48,11 +51,19 @@ fn tell(system: &System, name: &[u8], source: &[u8], plain: bool) -> Status
     } else {
         show(system, name, source, v);
     }
-    of_verdict(v)
+    status::of_verdict(v)
 }
 
-pub fn obey(system: &System, line: &[u8], at: usize) -> Status {
-    on_file(system, line, at, |name, source| {
-        tell(system, name, source, is_plain(line))
-    })
+pub fn obey(system: &System, line: &[u8], at: usize) -> u8
+    ensures { result ≤ nothing }
+{
+    let mut room = io::large_buffer();
+    let w = next_operand(line, at);
+    let a = w.from;
+    let b = w.to;
+    let Some(n) = load(system, &line[a..b], &mut room) else {
+        see_help(system);
+        return status::NOTHING;
+    };
+    tell(system, &line[a..b], &room[..n], is_plain(line))
 }

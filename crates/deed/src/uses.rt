@@ -1,13 +1,16 @@
 // deed uses: the uses of a source, for people, as a list, or as one line of numbers.
 ghost use Rattle.std.specs.Prelude.{◌≤◌};
+ghost use Rattle.desk.specs.Status.{nothing};
 ghost use Rattle.deed.specs.Status.{ReadStatus};
 
-use crate::sources::on_file;
 use answers::Verdict;
+use asking::options::next_operand;
 use asking::words::{has_word, is_plain};
-use desk::status::{Status, of_verdict};
+use desk::files::load;
+use desk::misuse::see_help;
+use desk::status;
 use reading::reading::read;
-use showing::system::{Stream, System};
+use showing::system::{STDERR, STDOUT, System};
 use showing::text::{say, say_number};
 use showing::uses::{say_use_words, show_section, show_uses};
 use showing::words::tell_answer;
@@ -41,7 +44,7 @@ fn show_plain(system: &System, v: Verdict, table: &[u16]) {
 
 // For people, and as a list: after a refusal standard output has nothing of it, so that what a shell hands on is a list or is empty.
 fn show(system: &System, name: &[u8], source: &[u8], v: Verdict, table: &[u16], list: bool) {
-    let to = if list { Stream::Errors } else { Stream::Output };
+    let to = if list { STDERR } else { STDOUT };
     match v {
         Verdict::Refused(r) => tell_answer(
             system,
@@ -62,7 +65,7 @@ fn show(system: &System, name: &[u8], source: &[u8], v: Verdict, table: &[u16], 
     }
 }
 
-fn tell(system: &System, name: &[u8], source: &[u8], way: Way) -> Status
+fn tell(system: &System, name: &[u8], source: &[u8], way: Way) -> u8
     ensures { ReadStatus source.now result }
 {
     let mut table = [0u16; 32768];
@@ -72,11 +75,19 @@ fn tell(system: &System, name: &[u8], source: &[u8], way: Way) -> Status
         Way::List => show(system, name, source, v, &table, true),
         Way::People => show(system, name, source, v, &table, false),
     }
-    of_verdict(v)
+    status::of_verdict(v)
 }
 
-pub fn obey(system: &System, line: &[u8], at: usize) -> Status {
-    on_file(system, line, at, |name, source| {
-        tell(system, name, source, way_of(line))
-    })
+pub fn obey(system: &System, line: &[u8], at: usize) -> u8
+    ensures { result ≤ nothing }
+{
+    let mut room = io::large_buffer();
+    let w = next_operand(line, at);
+    let a = w.from;
+    let b = w.to;
+    let Some(n) = load(system, &line[a..b], &mut room) else {
+        see_help(system);
+        return status::NOTHING;
+    };
+    tell(system, &line[a..b], &room[..n], way_of(line))
 }

@@ -1,13 +1,16 @@
 // deed write: a source in the house layout. After a refusal standard output has nothing, so that what a shell puts into a file from there is a page or is empty.
 ghost use Rattle.std.specs.Prelude.{◌≤◌, ◌≡◌};
+ghost use Rattle.desk.specs.Status.{nothing};
 ghost use Rattle.deed.specs.Status.{of_written, WriteStatus};
 
-use crate::sources::on_file;
 use answers::{Answer, Refusal};
+use asking::options::next_operand;
 use asking::words::is_plain;
 use clean::writing::write;
-use desk::status::Status;
-use showing::system::{Stream, System};
+use desk::files::load;
+use desk::misuse::see_help;
+use desk::status;
+use showing::system::{STDERR, System};
 use showing::text::{complain, say, say_number, tell_file};
 use showing::words::tell_answer;
 
@@ -25,7 +28,7 @@ fn show_plain(system: &System, w: Result<usize, Refusal>) {
 fn complain_of(system: &System, name: &[u8], source: &[u8], r: Refusal) {
     if r.answer.number == Answer::LONG.number {
         if source.len() <= 16384 {
-            tell_file(system, Stream::Errors, name);
+            tell_file(system, STDERR, name);
             complain(
                 system,
                 b": refused, 2: the text in the house layout is over 16,384 bytes\n",
@@ -35,7 +38,7 @@ fn complain_of(system: &System, name: &[u8], source: &[u8], r: Refusal) {
     }
     tell_answer(
         system,
-        Stream::Errors,
+        STDERR,
         name,
         source,
         b": refused, ",
@@ -44,17 +47,17 @@ fn complain_of(system: &System, name: &[u8], source: &[u8], r: Refusal) {
     );
 }
 
-fn of_written(w: Result<usize, Refusal>) -> Status
+fn of_written(w: Result<usize, Refusal>) -> u8
     ensures { result ≡ of_written w }
 {
     match w {
-        Ok(_) => Status::Good,
-        Err(_) => Status::Bad,
+        Ok(_) => status::GOOD,
+        Err(_) => status::BAD,
     }
 }
 
 // No text is longer than a source may be.
-fn tell_text(system: &System, name: &[u8], source: &[u8], plain: bool) -> Status
+fn tell_text(system: &System, name: &[u8], source: &[u8], plain: bool) -> u8
     ensures { WriteStatus source.now result }
 {
     let mut room = [0u8; 16384];
@@ -70,8 +73,16 @@ fn tell_text(system: &System, name: &[u8], source: &[u8], plain: bool) -> Status
     ended
 }
 
-pub fn obey(system: &System, line: &[u8], at: usize) -> Status {
-    on_file(system, line, at, |name, source| {
-        tell_text(system, name, source, is_plain(line))
-    })
+pub fn obey(system: &System, line: &[u8], at: usize) -> u8
+    ensures { result ≤ nothing }
+{
+    let mut room = io::large_buffer();
+    let w = next_operand(line, at);
+    let a = w.from;
+    let b = w.to;
+    let Some(n) = load(system, &line[a..b], &mut room) else {
+        see_help(system);
+        return status::NOTHING;
+    };
+    tell_text(system, &line[a..b], &room[..n], is_plain(line))
 }

@@ -4,7 +4,7 @@ ghost use Rattle.io.specs.Counts.{IsPrefixLen};
 ghost use Rattle.symbols.specs.Text.{bytes};
 ghost use Rattle.symbols.specs.Names.{equal};
 
-use showing::system::{Stream, System};
+use showing::system::{STDERR, System};
 use showing::text::{complain, tell_file};
 use std::io::{Error, Read};
 use std::os::fd::AsRawFd;
@@ -13,7 +13,7 @@ use symbols::text::same_bytes;
 // Says why a file cannot be had.
 fn fail(system: &System, name: &[u8], error: Error) {
     complain(system, b"deed: ");
-    tell_file(system, Stream::Errors, name);
+    tell_file(system, STDERR, name);
     system.fail(b"", error);
 }
 

@@ -5,7 +5,7 @@ use crate::files::{is_standard, take_in};
 use asking::numerals::whole_in;
 use asking::options::next_operand;
 use asking::words::{Word, has_word, line_of, word_from};
-use showing::system::{Stream, System};
+use showing::system::{STDERR, System};
 use showing::text::{complain, tell_typed};
 
 fn misspelled(system: &System, text: &[u8]) {
@@ -13,7 +13,7 @@ fn misspelled(system: &System, text: &[u8]) {
         system,
         b"deed: this is no whole number from -2147483648 to 2147483647: ",
     );
-    tell_typed(system, Stream::Errors, text);
+    tell_typed(system, STDERR, text);
     complain(system, b"\n");
 }
 

@@ -1,29 +1,26 @@
 // How the tool ended, for a script. A program of this kit has no exit status of its own, so it is written to descriptor 9, which the script
 // `deed` opens; where that is not open, nothing is written.
-ghost use Rattle.std.specs.Prelude.{◌≡◌, ◌&&◌, ltb};
+ghost use Rattle.std.specs.Prelude.{◌≡◌, ◌&&◌, max, ltb};
 ghost use Rattle.desk.specs.Status.{of_verdict, of_end, of_taken};
 
 use answers::{Stop, Verdict};
 
-// In the order of the numbers 0, 1 and 2 that a script sees.
-#[derive(Clone, Copy, Debug, PartialEq, Eq, PartialOrd, Ord)]
-pub enum Status {
-    // Accepted, a run that ended, or a list that is right.
-    Good,
-    // Refused, a run that was stopped, or a list that is wrong.
-    Bad,
-    // Nothing was done, or what was said could not be written.
-    Nothing,
-}
+// Kept: what may not change, `good_taken` and `one_of_three` hold it: a status is a number, and they speak of any number.
+// Accepted, a run that ended, or a list that is right.
+pub const GOOD: u8 = 0;
+// Refused, a run that was stopped, or a list that is wrong.
+pub const BAD: u8 = 1;
+// Nothing was done, or what was said could not be written.
+pub const NOTHING: u8 = 2;
 
 const DESCRIPTOR: i32 = 9;
 
-pub fn of_verdict(v: Verdict) -> Status
+pub fn of_verdict(v: Verdict) -> u8
     ensures { result ≡ of_verdict v }
 {
     match v {
-        Verdict::Accepted => Status::Good,
-        Verdict::Refused(_) => Status::Bad,
+        Verdict::Accepted => GOOD,
+        Verdict::Refused(_) => BAD,
     }
 }
 
@@ -35,31 +32,36 @@ pub fn is_left(strict: bool, given: usize, taken: usize) -> bool
 }
 
 // Of a run, and whether it left numbers that it was to take.
-pub fn of_end(left: bool, s: Stop) -> Status
+pub fn of_end(left: bool, s: Stop) -> u8
     ensures { result ≡ of_end left s }
 {
     match s {
-        Stop::Ended if !left => Status::Good,
-        _ => Status::Bad,
+        Stop::Ended => { if left { BAD } else { GOOD } }
+        Stop::Limit | Stop::Fault(_) | Stop::Wrong(_) => BAD,
     }
 }
 
 // Of what was done, and whether all that was written was taken: 0 only if it was.
-#[tactic(auto, unfolding(crate::specs::Status::of_taken))]
-pub fn of_taken(taken: bool, status: Status) -> Status
+pub fn of_taken(taken: bool, status: u8) -> u8
     ensures { result ≡ of_taken taken status }
 {
-    if taken { status } else { Status::Nothing }
+    if taken { status } else { NOTHING }
+}
+
+pub fn greater(a: u8, b: u8) -> u8
+    ensures { result ≡ max a b }
+{
+    a.max(b)
 }
 
 fn tell(digit: &[u8]) {
     io::write_all(DESCRIPTOR, digit);
 }
 
-pub fn leave(status: Status) {
+pub fn leave(status: u8) {
     match status {
-        Status::Good => tell(b"0"),
-        Status::Bad => tell(b"1"),
-        Status::Nothing => tell(b"2"),
+        0 => tell(b"0"),
+        1 => tell(b"1"),
+        _ => tell(b"2"),
     }
 }

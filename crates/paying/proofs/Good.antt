@@ -4,6 +4,7 @@ use Prim.Native.Nat.{ℕ, ◌≤◌}
 use mathlib.Core.Path.{◌≡◌, refl, sym, ap, ◌∙◌}
 use mathlib.Core.Bool.{Bool, true, false, ◌&&◌}
 use mathlib.Core.List.{List}
+use native.Mathlib.Omega.{arith}
 use lib.Dec.{ltb}
 use lib.IntN.{ℤ}
 use lib.ListN.{length}
@@ -17,12 +18,11 @@ use Rattle.reading.specs.Judging.{its_program}
 use Rattle.reading.specs.Reading.{place_in, Grammatical}
 use Rattle.translation.specs.Faithful.{AsRules}
 use Rattle.translating.proofs.Promised.{only, faith}
-use Rattle.desk.specs.declared.status.Status.{Status}
 use Rattle.desk.specs.Status.{good}
 use Rattle.desk.proofs.Good.{good_end}
 use Rattle.paying.specs.Running.{of_run, RunStatus}
 
-pub one_status : {strict : Bool} {text : List ℕ} {input : List ℤ} {limit cells space : ℕ} {s s₂ : Status} → RunStatus strict text input limit cells space s
+pub one_status : {strict : Bool} {text : List ℕ} {input : List ℤ} {limit cells space s s₂ : ℕ} → RunStatus strict text input limit cells space s
     → RunStatus strict text input limit cells space s₂ → s ≡ s₂
 one_status {strict = strict} {input = input} {limit = limit} {cells = cells} {space = space} a b =
     let e = only a.translates b.translates in
@@ -32,7 +32,7 @@ one_status {strict = strict} {input = input} {limit = limit} {cells = cells} {sp
 good_run : (strict : Bool) (given : ℕ) (v : Verdict) (f : Finish) → good ≡ of_run strict given v f
     → (v ≡ Accepted) × (f.stop ≡ Ended) × ((strict && ltb f.taken given) ≡ false)
 good_run strict given Accepted f h = let g = good_end (strict && ltb f.taken given) f.stop h in (refl, g.0, g.1)
-good_run strict given (Refused r) f h = absurd cc
+good_run strict given (Refused r) f h = absurd (omega arith)
 
 pub good_ended : {strict : Bool} {text : List ℕ} {input : List ℤ} {limit cells space : ℕ} → RunStatus strict text input limit cells space good → (p : Grammatical text)
     → (f : Finish) × (f.stop ≡ Ended) × AsRules (place_in text) (its_program p) input cells space limit f

@@ -14,9 +14,9 @@ use Rattle.answers.specs.declared.Verdict.{Verdict}
 use Rattle.answers.specs.declared.Verdict.TheVariants.{Accepted, Refused}
 use Rattle.machine.specs.declared.Ran.{Ran}
 use Rattle.machine.specs.Machine.{Finish, on_code, used, Exit, exit, afterwards, job}
-use Rattle.desk.specs.declared.status.Status.{Status}
-use Rattle.desk.specs.Status.{bad, of_end}
-use Rattle.paying.specs.Running.{of_finish, of_run, RanAs}
+use Rattle.desk.specs.Status.{bad, nothing, of_end}
+use Rattle.desk.proofs.Statuses.{most_end}
+use Rattle.paying.specs.Running.{of_finish, of_run, RanAs, RunStatus}
 
 -- ---- what the machine was lent
 
@@ -69,7 +69,7 @@ module _ (code : List ℕ) (input store output : List ℤ) (count limit cells sp
           took = ap (λ (x : Exit). x.ran.taken) e ∙ ap (λ (f : Finish). f.taken) same_run;
         }
 
-  pub run_told : (strict : Bool) (given : ℕ) (s : Status) (r : Ran) → length store ≡ 16384 → length output ≡ 196608 → given ≡ length input
+  pub run_told : (strict : Bool) (given s : ℕ) (r : Ran) → length store ≡ 16384 → length output ≡ 196608 → given ≡ length input
       → s ≡ of_end (strict && ltb r.taken given) r.stop → RanAs r (on_code code input limit (min 8192 (min cells (length store / 2))) (min space (length output)))
       → s ≡ of_finish strict (length input) (on_code code input limit (min cells 8192) (min space 196608))
   run_told strict given s r a b g e h =
@@ -84,8 +84,17 @@ module _ (code : List ℕ) (input store output : List ℤ) (count limit cells sp
 -- ---- what translate answered
 
 module _ (strict : Bool) (given : ℕ) (v : Verdict) (f : Finish) where
-  pub accepted_told : v ≡ Accepted → (s : Status) → s ≡ of_finish strict given f → s ≡ of_run strict given v f
+  pub accepted_told : v ≡ Accepted → (s : ℕ) → s ≡ of_finish strict given f → s ≡ of_run strict given v f
   accepted_told e s h = rw e h
 
   pub refused_told : (r : Refusal) → v ≡ Refused r → bad ≡ of_run strict given v f
   refused_told r e = rw e refl
+
+-- ---- one of the three
+
+most_run : (strict : Bool) (given : ℕ) (v : Verdict) (f : Finish) → of_run strict given v f ≤ nothing
+most_run strict given Accepted f = most_end (strict && ltb f.taken given) f.stop
+most_run strict given (Refused r) f = omega arith
+
+pub run_most : {strict : Bool} {text : List ℕ} {input : List ℤ} {limit cells space s : ℕ} → RunStatus strict text input limit cells space s → s ≤ nothing
+run_most {strict = strict} {input = input} {limit = limit} {cells = cells} {space = space} t = rw t.told (most_run strict (length input) t.verdict (on_code t.words input limit cells space))

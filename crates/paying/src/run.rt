@@ -1,7 +1,7 @@
 // deed run: a run of a source, and its answer shown.
 ghost use Rattle.std.specs.Prelude.{◌≡◌, ◌&&◌, ◌*◌, ◌/◌, ◌≤◌, min, ltb, length, take};
 ghost use Rattle.machine.specs.Machine.{on_code};
-ghost use Rattle.desk.specs.Status.{of_end};
+ghost use Rattle.desk.specs.Status.{nothing, of_end};
 ghost use Rattle.paying.specs.Running.{of_finish, RanAs, RunStatus};
 
 use answers::{Stop, Verdict};
@@ -12,10 +12,10 @@ use desk::files::{is_standard, load};
 use desk::given::put_input;
 use desk::misuse::{misused, see_help};
 use desk::outputs::{say_numbers, show_entries};
-use desk::status::{Status, is_left, of_end};
+use desk::status;
 use machine::Ran;
 use machine::bounds::CELLS;
-use showing::system::{Stream, System};
+use showing::system::{STDERR, STDOUT, System};
 use showing::text::{complain, say, say_number, tell, tell_file, tell_number};
 use showing::words::{tell_answer, tell_placeless};
 use translating::translating::translate;
@@ -30,15 +30,11 @@ pub struct How {
 }
 
 // Where what is no output is told.
-fn aside(values: bool) -> Stream {
-    if values {
-        Stream::Errors
-    } else {
-        Stream::Output
-    }
+fn aside(values: bool) -> i32 {
+    if values { STDERR } else { STDOUT }
 }
 
-fn tell_counts(system: &System, to: Stream, ran: Ran, given: usize) {
+fn tell_counts(system: &System, to: i32, ran: Ran, given: usize) {
     tell(system, to, b"instructions done: ");
     tell_number(system, to, ran.done);
     tell(system, to, b", numbers given: ");
@@ -51,7 +47,7 @@ fn tell_counts(system: &System, to: Stream, ran: Ran, given: usize) {
 }
 
 // How a run stopped, for people.
-fn tell_end(system: &System, to: Stream, name: &[u8], source: &[u8], stop: Stop) {
+fn tell_end(system: &System, to: i32, name: &[u8], source: &[u8], stop: Stop) {
     match stop {
         Stop::Ended => {
             tell_file(system, to, name);
@@ -75,9 +71,9 @@ fn warn(system: &System, stop: Stop, given: usize, taken: usize) {
     if let Stop::Ended = stop {
         if taken < given {
             complain(system, b"deed: warning: the run ended and took ");
-            tell_number(system, Stream::Errors, taken as u64);
+            tell_number(system, STDERR, taken as u64);
             complain(system, b" of the ");
-            tell_number(system, Stream::Errors, given as u64);
+            tell_number(system, STDERR, given as u64);
             complain(system, b" numbers given\n");
         }
     }
@@ -136,11 +132,11 @@ fn show_ran(
     ran: Ran,
     given: usize,
     output: &[i32],
-) -> Status
+) -> u8
     ensures { result ≡ of_end (how.strict && ltb ran.taken given) ran.stop }
 {
     let stop = ran.stop;
-    let ended = of_end(is_left(how.strict, given, ran.taken), stop);
+    let ended = status::of_end(status::is_left(how.strict, given, ran.taken), stop);
     if how.plain {
         let n = ran.written.min(output.len());
         show_plain(
@@ -158,7 +154,7 @@ fn show_ran(
             name,
             source,
             how.values,
-            ended == Status::Good,
+            ended == status::GOOD,
             ran,
             given,
             output,
@@ -206,7 +202,7 @@ fn run_code(
     input: &[i32],
     count: usize,
     sizes: Sizes,
-) -> Status
+) -> u8
     ensures { result ≡ of_finish how.strict (length (take count input.now)) (on_code code.now (take count input.now) sizes.limit (min sizes.cells 8192) (min sizes.room 196608)) }
 {
     let mut store = [0i64; 16384];
@@ -250,7 +246,7 @@ fn run_source(
     input: &[i32],
     count: usize,
     sizes: Sizes,
-) -> Status
+) -> u8
     ensures { RunStatus how.strict source.now (take count input.now) sizes.limit (min sizes.cells 8192) (min sizes.room 196608) result }
 {
     let mut code = [0u32; 16384];
@@ -258,24 +254,25 @@ fn run_source(
         Verdict::Accepted => run_code(system, name, source, how, &code, input, count, sizes),
         Verdict::Refused(r) => {
             show_refused(system, name, source, how, r.answer.number, r.place.at);
-            Status::Bad
+            status::BAD
         }
     }
 }
 
 // A run of the file that a word of the line names, on the numbers behind it.
-fn run_file(system: &System, line: &[u8], from: usize, to: usize, how: How, sizes: Sizes) -> Status
+fn run_file(system: &System, line: &[u8], from: usize, to: usize, how: How, sizes: Sizes) -> u8
     requires { (from ≤ to) × (to ≤ length line.now) }
+    ensures { result ≤ nothing }
 {
     let mut input = [0i32; 32768];
     let mut room = io::large_buffer();
     let Some(count) = put_input(system, line, to, &mut input) else {
         see_help(system);
-        return Status::Nothing;
+        return status::NOTHING;
     };
     let Some(n) = load(system, &line[from..to], &mut room) else {
         see_help(system);
-        return Status::Nothing;
+        return status::NOTHING;
     };
     run_source(
         system,
@@ -298,9 +295,11 @@ fn how_of(line: &[u8]) -> How {
 }
 
 // Standard input is the FILE, or has numbers, or neither. The sizes can be had: that was looked at.
-pub fn obey(system: &System, line: &[u8], at: usize) -> Status {
+pub fn obey(system: &System, line: &[u8], at: usize) -> u8
+    ensures { result ≤ nothing }
+{
     let Some(sizes) = sizes_of(line, at) else {
-        return Status::Nothing;
+        return status::NOTHING;
     };
     let w = next_operand(line, at);
     let from = w.from;
@@ -311,7 +310,7 @@ pub fn obey(system: &System, line: &[u8], at: usize) -> Status {
             b"standard input is the FILE or has numbers, and not both",
             b"",
         );
-        return Status::Nothing;
+        return status::NOTHING;
     }
     run_file(system, line, from, to, how_of(line), sizes)
 }

@@ -9,12 +9,11 @@ use std::fs::File;
 use std::io::{Error, ErrorKind, Stderr, Stdin, Stdout, Write};
 use std::os::fd::AsFd;
 
-// What every program may write to: standard output and standard error.
-#[derive(Clone, Copy, Debug, PartialEq, Eq)]
-pub enum Stream {
-    Output,
-    Errors,
-}
+// The descriptors that every program has.
+// Kept: what may not change, `taken::put` and `is_open` take any number: of any but STDERR it is standard output that is written to.
+pub const STDOUT: i32 = 1;
+
+pub const STDERR: i32 = 2;
 
 // The system's number for a descriptor that is not open.
 const NOT_OPEN: i32 = 9;
@@ -49,34 +48,36 @@ impl System {
     }
 
     // Writes all of a text, or stops where it is not taken.
-    pub(crate) fn write(&self, to: Stream, text: &[u8]) -> std::io::Result<()> {
-        match to {
-            Stream::Output => self.output().write_all(text),
-            Stream::Errors => self.errors().write_all(text),
+    pub(crate) fn write(&self, to: i32, text: &[u8]) -> std::io::Result<()> {
+        if to == STDERR {
+            return self.errors().write_all(text);
         }
+        self.output().write_all(text)
     }
 
     // Whether a descriptor did not take something.
-    pub(crate) fn has_lost(&self, to: Stream) -> bool {
-        match to {
-            Stream::Output => self.output_lost.get(),
-            Stream::Errors => self.errors_lost.get(),
+    pub(crate) fn has_lost(&self, to: i32) -> bool {
+        if to == STDERR {
+            return self.errors_lost.get();
         }
+        self.output_lost.get()
     }
 
     // Nothing more is written to a descriptor.
-    pub(crate) fn lose(&self, to: Stream) {
-        match to {
-            Stream::Output => self.output_lost.set(true),
-            Stream::Errors => self.errors_lost.set(true),
+    pub(crate) fn lose(&self, to: i32) {
+        if to == STDERR {
+            self.errors_lost.set(true);
+        } else {
+            self.output_lost.set(true);
         }
     }
 
     // Whether a descriptor is open: only one that is not has no second one of the same file for that reason.
-    pub(crate) fn is_open(&self, to: Stream) -> bool {
-        let second = match to {
-            Stream::Output => self.output().as_fd().try_clone_to_owned(),
-            Stream::Errors => self.errors().as_fd().try_clone_to_owned(),
+    pub(crate) fn is_open(&self, to: i32) -> bool {
+        let second = if to == STDERR {
+            self.errors().as_fd().try_clone_to_owned()
+        } else {
+            self.output().as_fd().try_clone_to_owned()
         };
         match second {
             Ok(_) => true,
@@ -97,11 +98,11 @@ impl System {
     }
 
     fn note(&self, text: &[u8]) {
-        if self.has_lost(Stream::Errors) {
+        if self.has_lost(STDERR) {
             return;
         }
-        if self.write(Stream::Errors, text).is_err() {
-            self.lose(Stream::Errors);
+        if self.write(STDERR, text).is_err() {
+            self.lose(STDERR);
         }
     }
 

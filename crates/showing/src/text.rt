@@ -7,7 +7,7 @@ ghost use Rattle.showing.specs.Pages.{line_of, column_of, start_of, Fills, shown
 ghost use Rattle.symbols.specs.Names.{letters_at};
 
 use crate::characters::{beginning, is_inside, whole, width};
-use crate::system::{Stream, System};
+use crate::system::{STDERR, STDOUT, System};
 use crate::taken::{put, put_number};
 use symbols::text::{find, is_blank, is_name_byte};
 
@@ -21,20 +21,20 @@ const NEAR: usize = 80;
 const BEFORE: usize = 60;
 
 // A text to a descriptor: a refusal is said to standard output where it was asked for, and to standard error where a page was.
-pub fn tell(system: &System, to: Stream, text: &[u8]) {
+pub fn tell(system: &System, to: i32, text: &[u8]) {
     put(system, to, text);
 }
 
-pub fn tell_number(system: &System, to: Stream, n: u64) {
+pub fn tell_number(system: &System, to: i32, n: u64) {
     put_number(system, to, n);
 }
 
 pub fn say(system: &System, text: &[u8]) {
-    tell(system, Stream::Output, text);
+    tell(system, STDOUT, text);
 }
 
 pub fn say_number(system: &System, n: u64) {
-    tell_number(system, Stream::Output, n);
+    tell_number(system, STDOUT, n);
 }
 
 // A number, with the sign - where it is below 0.
@@ -48,18 +48,18 @@ pub fn say_whole(system: &System, x: i64) {
 }
 
 pub fn complain(system: &System, text: &[u8]) {
-    tell(system, Stream::Errors, text);
+    tell(system, STDERR, text);
 }
 
 // A text that somebody typed, byte by byte as it is shown.
-pub fn tell_typed(system: &System, to: Stream, text: &[u8]) {
+pub fn tell_typed(system: &System, to: i32, text: &[u8]) {
     for i in 0..text.len() {
         tell(system, to, &[shown_at(text, i)]);
     }
 }
 
 // A file, as people know it.
-pub fn tell_file(system: &System, to: Stream, name: &[u8]) {
+pub fn tell_file(system: &System, to: i32, name: &[u8]) {
     if name == b"-".as_slice() {
         tell(system, to, b"standard input");
     } else {
@@ -68,7 +68,7 @@ pub fn tell_file(system: &System, to: Stream, name: &[u8]) {
 }
 
 pub fn say_file(system: &System, name: &[u8]) {
-    tell_file(system, Stream::Output, name);
+    tell_file(system, STDOUT, name);
 }
 
 // A place as people count: line and column from 1, and the byte at which its line begins.
@@ -103,7 +103,7 @@ pub fn spot_of(source: &[u8], place: usize) -> Spot
 }
 
 // LINE:COLUMN.
-pub fn tell_spot(system: &System, to: Stream, source: &[u8], place: usize) {
+pub fn tell_spot(system: &System, to: i32, source: &[u8], place: usize) {
     let s = spot_of(source, place);
     tell_number(system, to, s.line);
     tell(system, to, b":");
@@ -111,7 +111,7 @@ pub fn tell_spot(system: &System, to: Stream, source: &[u8], place: usize) {
 }
 
 pub fn say_spot(system: &System, source: &[u8], place: usize) {
-    tell_spot(system, Stream::Output, source, place);
+    tell_spot(system, STDOUT, source, place);
 }
 
 // Where what is shown of a line begins.
@@ -208,7 +208,7 @@ fn mark_row(source: &[u8], from: usize, place: usize, row: &mut [u8]) -> usize
     n
 }
 
-fn tell_line(system: &System, to: Stream, source: &[u8], from: usize) {
+fn tell_line(system: &System, to: i32, source: &[u8], from: usize) {
     let mut row = [0u8; 100];
     let n = line_row(source, from, &mut row);
     let k = whole(source, from, n);
@@ -216,7 +216,7 @@ fn tell_line(system: &System, to: Stream, source: &[u8], from: usize) {
     tell(system, to, b"\n");
 }
 
-fn tell_mark(system: &System, to: Stream, source: &[u8], from: usize, place: usize) {
+fn tell_mark(system: &System, to: i32, source: &[u8], from: usize, place: usize) {
     let mut row = [0u8; 100];
     let n = mark_row(source, from, place, &mut row);
     tell(system, to, b"    ");
@@ -225,7 +225,7 @@ fn tell_mark(system: &System, to: Stream, source: &[u8], from: usize, place: usi
 }
 
 // The line of a place, and a mark under the place.
-pub fn tell_place(system: &System, to: Stream, source: &[u8], place: usize) {
+pub fn tell_place(system: &System, to: i32, source: &[u8], place: usize) {
     let s = spot_of(source, place);
     let start = s.start;
     let from = beginning(source, shown_from(start, place));

@@ -3,7 +3,7 @@
 ghost use Rattle.std.specs.Prelude.{◌≡◌, get_or};
 ghost use Rattle.showing.specs.Pages.{byte_behind};
 
-use crate::system::{Stream, System};
+use crate::system::{STDOUT, System};
 use crate::text::{tell, tell_file, tell_number, tell_place, tell_spot};
 use symbols::lexemes::lexeme;
 use symbols::text::{is_blank, is_digit, is_letter, is_name_byte};
@@ -16,7 +16,7 @@ fn byte_at(source: &[u8], at: usize) -> u8
     source.get(at).copied().unwrap_or(0)
 }
 
-fn tell_no_symbol(system: &System, to: Stream, b: u8) {
+fn tell_no_symbol(system: &System, to: i32, b: u8) {
     if b == b'\'' {
         tell(
             system,
@@ -30,7 +30,7 @@ fn tell_no_symbol(system: &System, to: Stream, b: u8) {
     }
 }
 
-fn tell_too_large(system: &System, to: Stream, b: u8) {
+fn tell_too_large(system: &System, to: i32, b: u8) {
     if is_digit(b) {
         tell(
             system,
@@ -58,7 +58,7 @@ fn tell_too_large(system: &System, to: Stream, b: u8) {
     }
 }
 
-fn tell_grammar(system: &System, to: Stream, ended: bool) {
+fn tell_grammar(system: &System, to: i32, ended: bool) {
     if ended {
         tell(system, to, b"the source ends where no program can end");
     } else {
@@ -67,7 +67,7 @@ fn tell_grammar(system: &System, to: Stream, ended: bool) {
 }
 
 // A type fault at a delimiter word, by what it is.
-fn tell_type_of_word(system: &System, to: Stream, word: Symbol) {
+fn tell_type_of_word(system: &System, to: i32, word: Symbol) {
     match word {
         Symbol::While => tell(system, to, b"the condition is not Boolean"),
         Symbol::If => tell(
@@ -108,7 +108,7 @@ fn byte_behind(source: &[u8], at: usize) -> u8
 }
 
 // A type fault at a name; a left part or controlled variable is known by the `:=` behind it.
-fn tell_type_of_name(system: &System, to: Stream, behind: u8) {
+fn tell_type_of_name(system: &System, to: i32, behind: u8) {
     if behind == b':' {
         tell(
             system,
@@ -134,7 +134,7 @@ fn tell_type_of_name(system: &System, to: Stream, behind: u8) {
     }
 }
 
-fn tell_type(system: &System, to: Stream, source: &[u8], place: usize) {
+fn tell_type(system: &System, to: i32, source: &[u8], place: usize) {
     let b = byte_at(source, place);
     match b {
         b':' => tell(
@@ -170,7 +170,7 @@ fn tell_type(system: &System, to: Stream, source: &[u8], place: usize) {
 }
 
 // Of names: 7 to 9.
-fn tell_names(system: &System, to: Stream, number: u16) {
+fn tell_names(system: &System, to: i32, number: u16) {
     match number {
         7 => {
             tell(
@@ -200,7 +200,7 @@ fn tell_names(system: &System, to: Stream, number: u16) {
 }
 
 // Of runs.
-fn tell_run(system: &System, to: Stream, number: u16) {
+fn tell_run(system: &System, to: i32, number: u16) {
     match number {
         20 => tell(system, to, b"the instruction limit is reached"),
         21 => tell(
@@ -240,7 +240,7 @@ fn tell_run(system: &System, to: Stream, number: u16) {
 }
 
 // The sentence for an answer.
-fn tell_sentence(system: &System, to: Stream, number: u16, source: &[u8], place: usize) {
+fn tell_sentence(system: &System, to: i32, number: u16, source: &[u8], place: usize) {
     match number {
         1 => tell(system, to, b"the table or the code is too short"),
         2 => tell(system, to, b"the source is over 16,384 bytes"),
@@ -259,14 +259,14 @@ fn tell_sentence(system: &System, to: Stream, number: u16, source: &[u8], place:
 }
 
 pub fn say_answer(system: &System, number: u16, source: &[u8], place: usize) {
-    tell_sentence(system, Stream::Output, number, source, place);
+    tell_sentence(system, STDOUT, number, source, place);
 }
 
 // An answer as people want it: file, line and column, how it was given, number, sentence, and the line with a mark under
 // the place.
 pub fn tell_answer(
     system: &System,
-    to: Stream,
+    to: i32,
     name: &[u8],
     source: &[u8],
     how: &[u8],
@@ -292,11 +292,11 @@ pub fn show_answer(
     number: u16,
     place: usize,
 ) {
-    tell_answer(system, Stream::Output, name, source, how, number, place);
+    tell_answer(system, STDOUT, name, source, how, number, place);
 }
 
 // A run's answer that has no place in the source.
-pub fn tell_placeless(system: &System, to: Stream, name: &[u8], how: &[u8], number: u16) {
+pub fn tell_placeless(system: &System, to: i32, name: &[u8], how: &[u8], number: u16) {
     tell_file(system, to, name);
     tell(system, to, how);
     tell_number(system, to, number as u64);

@@ -4,5 +4,8 @@ use Prim.Native.Nat.{◌-◌, ◌≤◌}
 use lib.ListN.{length}
 use Rattle.deed.proofs.orders.obey_each.Given as goal
 
+abbrev pub invariant-loop-at : goal.invariant-loop-at
+invariant-loop-at l = l.most ≤ 2
+
 abbrev pub decreases-loop-at : goal.decreases-loop-at
 decreases-loop-at l = length l.text - l.at
