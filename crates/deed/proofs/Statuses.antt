@@ -5,8 +5,6 @@ use mathlib.Core.List.{List}
 use Prim.Native.Nat.{ℕ, ◌≤◌}
 use native.Mathlib.Omega.{arith}
 use lib.IntN.{ℤ}
-use Rattle.answers.specs.declared.Refusal.{Refusal}
-use Rattle.answers.specs.declared.Verdict.{Verdict}
 use Rattle.asking.specs.Lists.{list_words, leading, listed_in}
 use Rattle.std.specs.Prelude.{Result, Ok, Err}
 use Rattle.asking.specs.declared.lists.Unlisted.{Unlisted}
@@ -14,23 +12,12 @@ use Rattle.asking.specs.declared.lists.Unlisted.TheVariants.{NoNumber, Full}
 use Rattle.checking.specs.declared.Checked.{Checked}
 use Rattle.checking.specs.declared.Checked.TheVariants.{Yes, Refused as Unchecked, Wrong as WrongAt}
 use Rattle.desk.specs.Status.{nothing}
-use Rattle.desk.proofs.Statuses.{most_verdict}
-use Rattle.deed.specs.Status.{of_written, of_checked, Told, WriteStatus, CheckStatus, ByWords, SentStatus}
-
-most_written : (w : Result ℕ Refusal) → of_written w ≤ nothing
-most_written (Ok n) = omega arith
-most_written (Err r) = omega arith
+use Rattle.deed.specs.Status.{of_checked, CheckStatus, ByWords, SentStatus}
 
 most_checked : (c : Checked) → of_checked c ≤ nothing
 most_checked Yes = omega arith
 most_checked (Unchecked r) = omega arith
 most_checked (WrongAt i) = omega arith
-
-pub told_most : {P : Verdict → Type 0} {s : ℕ} → Told P s → s ≤ nothing
-told_most t = rw t.told (most_verdict t.verdict)
-
-pub write_most : {text : List ℕ} {s : ℕ} → WriteStatus text s → s ≤ nothing
-write_most t = rw t.told (most_written t.written)
 
 by_words_most : (text : List ℕ) (numbers : List ℤ) (l : Result ℕ Unlisted) (s : ℕ) → ByWords text numbers l s → s ≤ nothing
 by_words_most text numbers (Ok n) s t = let h : CheckStatus text numbers s = t in rw h.told (most_checked h.checked)

@@ -3,10 +3,8 @@ ghost use Rattle.std.specs.Prelude.{◌≤◌};
 ghost use Rattle.desk.specs.Status.{nothing};
 ghost use Rattle.deed.specs.Status.{CodeStatus};
 
+use crate::sources::on_file;
 use answers::Verdict;
-use asking::options::next_operand;
-use desk::files::load;
-use desk::misuse::see_help;
 use desk::status;
 use showing::code::show_code;
 use showing::system::System;
@@ -38,13 +36,7 @@ fn tell(system: &System, name: &[u8], source: &[u8]) -> u8
 pub fn obey(system: &System, line: &[u8], at: usize) -> u8
     ensures { result ≤ nothing }
 {
-    let mut room = io::large_buffer();
-    let w = next_operand(line, at);
-    let a = w.from;
-    let b = w.to;
-    let Some(n) = load(system, &line[a..b], &mut room) else {
-        see_help(system);
-        return status::NOTHING;
-    };
-    tell(system, &line[a..b], &room[..n])
+    on_file(system, line, at, |name, source| {
+        tell(system, name, source)
+    })
 }

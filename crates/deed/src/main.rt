@@ -20,6 +20,7 @@ mod levels; // deed levels
 mod orders; // deed do
 mod page; // deed page
 mod read; // deed read
+mod sources; // the file that a command names
 mod uses; // deed uses
 mod write; // deed write
 

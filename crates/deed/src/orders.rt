@@ -4,11 +4,9 @@ ghost use Rattle.desk.specs.Status.{nothing};
 
 use crate::commands;
 use crate::commands::well_asked;
-use asking::options::next_operand;
+use crate::sources::on_file;
 use asking::table::row_line;
 use asking::words::{line_of, word_from};
-use desk::files::load;
-use desk::misuse::see_help;
 use desk::status;
 use showing::system::{STDOUT, System};
 use showing::text::{complain, say, tell_typed};
@@ -53,19 +51,14 @@ fn obey_each(system: &System, text: &[u8]) -> u8
 }
 
 // The commands of a file. One that fills the room may go on behind it, and no part of it is done.
-fn obey_file(system: &System, name: &[u8]) -> u8
+fn obey_file(system: &System, text: &[u8]) -> u8
     ensures { result ≤ nothing }
 {
-    let mut room = io::large_buffer();
-    let Some(n) = load(system, name, &mut room) else {
-        see_help(system);
-        return status::NOTHING;
-    };
-    if 65536 <= n {
+    if 65536 <= text.len() {
         complain(system, b"deed: a file of commands has under 65,536 bytes\n");
         return status::NOTHING;
     }
-    obey_each(system, &room[..n])
+    obey_each(system, text)
 }
 
 // The file that a line names, whose command's word ends at `at`.
@@ -77,8 +70,5 @@ pub fn obey(system: &System, line: &[u8], at: usize) -> u8
     if !well_asked(system, line, at, &row[..n]) {
         return status::NOTHING;
     }
-    let w = next_operand(line, at);
-    let a = w.from;
-    let b = w.to;
-    obey_file(system, &line[a..b])
+    on_file(system, line, at, |_, text| obey_file(system, text))
 }

@@ -3,11 +3,9 @@ ghost use Rattle.std.specs.Prelude.{◌≤◌};
 ghost use Rattle.desk.specs.Status.{nothing};
 ghost use Rattle.deed.specs.Status.{ReadStatus};
 
+use crate::sources::on_file;
 use answers::Verdict;
-use asking::options::next_operand;
 use asking::words::{has_word, is_plain};
-use desk::files::load;
-use desk::misuse::see_help;
 use desk::status;
 use reading::reading::read;
 use showing::system::{STDERR, STDOUT, System};
@@ -81,13 +79,7 @@ fn tell(system: &System, name: &[u8], source: &[u8], way: Way) -> u8
 pub fn obey(system: &System, line: &[u8], at: usize) -> u8
     ensures { result ≤ nothing }
 {
-    let mut room = io::large_buffer();
-    let w = next_operand(line, at);
-    let a = w.from;
-    let b = w.to;
-    let Some(n) = load(system, &line[a..b], &mut room) else {
-        see_help(system);
-        return status::NOTHING;
-    };
-    tell(system, &line[a..b], &room[..n], way_of(line))
+    on_file(system, line, at, |name, source| {
+        tell(system, name, source, way_of(line))
+    })
 }
