@@ -33,6 +33,7 @@ fn tell(system: &System, name: &[u8], source: &[u8]) -> u8
     ended
 }
 
+// Kept: no plainer, one call is left of what the commands do alike, and each has its own closure.
 pub fn obey(system: &System, line: &[u8], at: usize) -> u8
     ensures { result ≤ nothing }
 {

@@ -71,6 +71,7 @@ fn tell_text(system: &System, name: &[u8], source: &[u8], plain: bool) -> u8
     ended
 }
 
+// Kept: no plainer, one call is left of what the commands do alike, and each has its own closure.
 pub fn obey(system: &System, line: &[u8], at: usize) -> u8
     ensures { result ≤ nothing }
 {
