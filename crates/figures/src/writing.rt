@@ -148,3 +148,10 @@ pub fn write_real(bits: u64, row: &mut [u8]) -> usize
     }
     put_decimal(row, 0, d)
 }
+
+// The same for C: `figures_c` exports it.
+pub fn deed_real(bits: u64, row: &mut [u8]) -> usize
+    ensures { Row row.old row.new result bits }
+{
+    write_real(bits, row)
+}

@@ -1,4 +1,4 @@
-// A real as text, for C: `write_real` of the library `figures`, which promises the same.
+// A real as text, for C: the function of the library `figures`, which promises the same.
 #![tactic(auto)]
 
 ghost use Rattle.figures.specs.Written.{Row};
@@ -8,5 +8,5 @@ ghost use Rattle.figures.specs.Written.{Row};
 pub extern "C" fn deed_real(bits: u64, row: &mut [u8]) -> usize
     ensures { Row row.old row.new result bits }
 {
-    figures::writing::write_real(bits, row)
+    figures::writing::deed_real(bits, row)
 }

@@ -41,8 +41,16 @@ fn identity(source: &[u8], places: &[usize; 2048], ids: &[u16], symbol: Ordinal)
         return OUTSIDE + e.number;
     }
     for j in 0..symbol.number {
-        let at = places[j as usize];
-        if ids[j as usize] == j && same_name(source, Place { at }, place) {
+        // Only the first of a name stands for itself; the place of another is not looked at.
+        if ids[j as usize] == j
+            && same_name(
+                source,
+                Place {
+                    at: places[j as usize],
+                },
+                place,
+            )
+        {
             return j;
         }
     }

@@ -7,14 +7,42 @@ use mathlib.Core.Bool.{true, false, cond}
 use mathlib.Core.Logic.{◌⊎◌, inl, inr}
 use borrow.Author.Tests.{ne_eqb}
 use mathlib.Core.List.{List, [], ◌∷◌, ◌++◌, append_assoc, append-nil}
-use lib.ListN.{length, take, drop, set, get_or, replicate, length-set, length-append, drop_of_length-le}
-use lib.Seq.{length-take-le, take_all, take_at, take-append_seam, drop-append_seam, drop-append-add}
+use lib.ListN.{length, take, drop, set, get_or, replicate, length-set, length-append, drop_of_length-le, take-append-drop}
+use lib.Seq.{length-take-le, take_all, take-suc, drop-cons, set_at, take_at, take-append_seam, drop-append_seam, drop-append-add}
 use Rattle.grammar.specs.model.Parsing.{zeros}
 use Rattle.grammar.specs.NodeKinds.{n_block, n_statements, n_block_end}
 use Rattle.names.specs.Nodes.{mark}
 use Rattle.table.specs.Table.{has_none}
 use Rattle.reading.specs.Two.{beyond}
 use Rattle.reading.specs.model.Moves.{laid, raised, first_raised, page, without, shift, first_shifted, marked}
+
+-- ---- words laid over others
+
+pub laid_more : {A : Type 0} (old own : List A) (at i : ℕ) (d : A) → at + i < length old → i < length own → set (laid old at (take i own)) (at + i) (get_or own i d) ≡ laid old at (take (i + 1) own)
+laid_more {A} old own at i d l k =
+    let P = take at old in
+    let T = take i own in
+    let v = get_or own i d in
+    let y = get_or old (at + i) d in
+    let ys = drop (suc (at + i)) old in
+    let lT : length T ≡ i = length-take-le i own (omega arith) in
+    let lP : length P ≡ at = length-take-le at old (omega arith) in
+    let lPT : length (P ++ T) ≡ at + i = omega (arith, length-append P T, lT, lP) in
+    let lV : at + length (T ++ (v ∷ [])) ≡ suc (at + i) = omega (arith, length-append T (v ∷ []), lT) in
+    let e0 : drop (at + length T) old ≡ y ∷ ys = ap (λ (n : ℕ). drop (at + n) old) lT ∙ drop-cons old (at + i) d l in
+    let e1 : laid old at T ≡ (P ++ T) ++ (y ∷ ys) = ap (λ (z : List A). P ++ (T ++ z)) e0 ∙ sym (append_assoc P T (y ∷ ys)) in
+    let n1 : take (i + 1) own ≡ T ++ (v ∷ []) = rw add-one (take-suc own i d k) in
+    let e2 : laid old at (take (i + 1) own) ≡ (P ++ T) ++ (v ∷ ys) =
+    ap (λ (z : List A). laid old at z) n1
+    ∙ ap (λ (n : ℕ). P ++ ((T ++ (v ∷ [])) ++ drop n old)) lV
+    ∙ ap (λ (z : List A). P ++ z) (append_assoc T (v ∷ []) ys)
+    ∙ sym (append_assoc P T (v ∷ ys)) in
+    ap (λ (z : List A). set z (at + i) v) e1 ∙ set_at (P ++ T) y ys v (at + i) lPT ∙ sym e2
+
+pub none_laid : {A : Type 0} (old own : List A) (at : ℕ) → old ≡ laid old at (take 0 own)
+none_laid old own at =
+    let z : at ≡ at + 0 = omega arith in
+    sym (take-append-drop at old) ∙ ap (λ (n : ℕ). take at old ++ drop n old) z
 
 -- ---- places raised
 

@@ -11,6 +11,14 @@ use answers::{Answer, Refusal, Verdict};
 use names::passes::{first_rows, front};
 use table::writing::write;
 
+// Sets every word to zero.
+#[tactic(auto, using(crate::proofs::Moves::filled_zeros))]
+pub fn clear(words: &mut [u16])
+    ensures { words.new ≡ zeros (length words.old) }
+{
+    words.fill(0);
+}
+
 // The table of what was found, over zeros.
 fn written(
     words: &mut [u16],
@@ -44,7 +52,7 @@ fn judged(source: &[u8], words: &mut [u16]) -> Verdict
     let mut rows = [0u16; 32768];
     let mut uses = [0u16; 8192];
     let mut marks = [0u16; 2048];
-    words.fill(0);
+    clear(words);
     match find(
         source,
         &mut kinds,

@@ -6,6 +6,7 @@ ghost use Rattle.reading.specs.Two.{half_words, Half, ReadsTwo};
 ghost use Rattle.reading.specs.model.Preluding.{BothFill};
 
 use crate::behind::find_both;
+use crate::reading::clear;
 use crate::{Both, TwoAnswers};
 use answers::{Answer, Refusal, Verdict};
 use names::passes::{first_rows, front};
@@ -59,7 +60,7 @@ fn half(prelude: &[u8], scheme: &[u8], words: &mut [u16]) -> Verdict
     let mut rows = [0u16; 32768];
     let mut uses = [0u16; 8192];
     let mut marks = [0u16; 2048];
-    words.fill(0);
+    clear(words);
     match find_both(
         prelude,
         scheme,

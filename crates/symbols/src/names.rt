@@ -42,6 +42,7 @@ pub fn same_name(source: &[u8], a: Place, b: Place) -> bool
 }
 
 // Whether the name at a place of the source is spelled so.
+#[inline(always)] // so that each word that it is called with is known to the code: five are tried for every symbol
 pub fn spells(source: &[u8], a: Place, word: &[u8]) -> bool
     ensures { result ≡ same_name word.now (letters_at source.now a.at) }
 {
