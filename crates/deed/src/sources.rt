@@ -9,6 +9,7 @@ use desk::status;
 use showing::system::System;
 
 // What a command does with the file that the next operand of its line names: with the name and the bytes. Where the file cannot be had, nothing is done.
+#[inline(never)] // so that a command's room on the stack is its own, and not all commands' together
 pub(crate) fn on_file<F: FnOnce(&[u8], &[u8]) -> u8>(
     system: &System,
     line: &[u8],
