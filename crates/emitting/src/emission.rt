@@ -290,19 +290,23 @@ fn walk(
     t.put(code, codes::END, codes::NOWHERE, 0);
 }
 
-// The code of a program's nodes, with the addresses ahead and the procedures' as they are known; and those that are found.
-pub fn pass(nodes: &[u16], uses: &[u16], known: &Known, code: &mut [u32]) -> Addresses
+// The code of a program's nodes, with the addresses ahead and the procedures' as they are known; and those that are found. What
+// was open before does not matter.
+pub fn pass(
+    nodes: &[u16],
+    uses: &[u16],
+    known: &Known,
+    things: &mut [Thing; 8192],
+    next: &mut Addresses,
+    code: &mut [u32],
+)
     requires { length nodes.now ≤ 32768 }
     ensures code_after { code.new ≡ (emitted known.now.values.now known.now.layout.now known.now.ahead.now known.now.entries.now known.now.rows.now known.now.marks.now (length code.old) (place_at known.now.places.now) nodes.now (uses_in known.now.rows.now uses.now)).code }
-    ensures ahead_value { result.ahead ≡ (emitted known.now.values.now known.now.layout.now known.now.ahead.now known.now.entries.now known.now.rows.now known.now.marks.now (length code.old) (place_at known.now.places.now) nodes.now (uses_in known.now.rows.now uses.now)).ahead }
-    ensures entries_value { result.entries ≡ (emitted known.now.values.now known.now.layout.now known.now.ahead.now known.now.entries.now known.now.rows.now known.now.marks.now (length code.old) (place_at known.now.places.now) nodes.now (uses_in known.now.rows.now uses.now)).entries }
+    ensures ahead_after { next.new.ahead ≡ (emitted known.now.values.now known.now.layout.now known.now.ahead.now known.now.entries.now known.now.rows.now known.now.marks.now (length code.old) (place_at known.now.places.now) nodes.now (uses_in known.now.rows.now uses.now)).ahead }
+    ensures entries_after { next.new.entries ≡ (emitted known.now.values.now known.now.layout.now known.now.ahead.now known.now.entries.now known.now.rows.now known.now.marks.now (length code.old) (place_at known.now.places.now) nodes.now (uses_in known.now.rows.now uses.now)).entries }
 {
-    let mut things = [Thing::default(); 8192];
-    let mut next = Addresses {
-        ahead: [0; 8192],
-        entries: [0; 2048],
-    };
+    next.ahead = [0; 8192];
+    next.entries = [0; 2048];
     parts::clear(code);
-    walk(nodes, uses, known, &mut things, &mut next, code);
-    next
+    walk(nodes, uses, known, things, next, code);
 }

@@ -1,11 +1,21 @@
 // One pass after the other: where cells lie, what lies ahead, the code.
-ghost use Rattle.std.specs.Prelude.{◌≡◌, ◌≤◌, length};
+ghost use Rattle.std.specs.Prelude.{◌≡◌, ◌≤◌, length, replicate};
 ghost use Rattle.emitting.specs.model.Layout.{layout_of};
 ghost use Rattle.emitting.specs.model.Emission.{uses_in, place_at, emitted, code_of};
 
-use crate::Known;
 use crate::emission::pass;
 use crate::layout::layout;
+use crate::{Addresses, Known, Thing};
+
+// No address is found yet.
+fn none_found() -> Addresses
+    ensures { (result.ahead ≡ replicate 8192 0) × (result.entries ≡ replicate 2048 0) }
+{
+    Addresses {
+        ahead: [0; 8192],
+        entries: [0; 2048],
+    }
+}
 
 // What lies ahead is found, then the code is written.
 fn twice(nodes: &[u16], uses: &[u16], known: &Known, code: &mut [u32])
@@ -17,13 +27,16 @@ fn twice(nodes: &[u16], uses: &[u16], known: &Known, code: &mut [u32])
         entries: &[],
         ..*known
     };
-    let found = pass(nodes, uses, &nothing, code);
+    let mut things = [Thing::default(); 8192];
+    let mut found = none_found();
+    pass(nodes, uses, &nothing, &mut things, &mut found, code);
     let told = Known {
         ahead: &found.ahead,
         entries: &found.entries,
         ..*known
     };
-    pass(nodes, uses, &told, code);
+    let mut again = none_found();
+    pass(nodes, uses, &told, &mut things, &mut again, code);
 }
 
 // The cells are laid out, then the code is written.

@@ -5,13 +5,23 @@ ghost use Rattle.syntax.specs.model.Says.{Put, Clear, Settles, Refuses};
 use crate::faults::wrong;
 use grammar::{Parsed, Read};
 
+// Writes the words of a node, as one array: `copy_from_slice` would put them in memory first, and wait for them there.
+fn put_words(node: &mut [u16], words: [u16; 4])
+    requires { length node.old ≡ 4 }
+    ensures { node.new ≡ words }
+{
+    if let Some(all) = node.as_mut_array() {
+        *all = words;
+    }
+}
+
 // Writes a node behind the words used, and gives the words used then.
 pub fn put(nodes: &mut [u16], used: usize, kind: u16, symbol: usize, one: u16, two: u16) -> usize
     requires { (used + 4 ≤ length nodes.old) × (symbol < 65536) }
     ensures { Put nodes.old nodes.new used result kind symbol one two }
 {
     let end = used + 4;
-    nodes[used..end].copy_from_slice(&[kind, symbol as u16, one, two]);
+    put_words(&mut nodes[used..end], [kind, symbol as u16, one, two]);
     end
 }
 

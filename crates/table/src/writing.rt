@@ -24,12 +24,22 @@ fn word_at(words: &[u16], at: usize) -> u16
     words.get(at).copied().unwrap_or(0)
 }
 
-// Writes words from a place on.
-fn put(table: &mut [u16], at: usize, words: &[u16])
-    requires { at + length words.now ≤ length table.old }
-    ensures { Wrote table.old table.new at words.now }
+// Writes words over a part that is as long, as one array: `copy_from_slice` would put them in memory first, and wait for them there.
+fn put_words<const N: usize>(part: &mut [u16], words: [u16; N])
+    requires { length part.old ≡ N }
+    ensures { part.new ≡ words.entry }
 {
-    table[at..at + words.len()].copy_from_slice(words);
+    if let Some(all) = part.as_mut_array() {
+        *all = words;
+    }
+}
+
+// Writes words from a place on.
+fn put<const N: usize>(table: &mut [u16], at: usize, words: [u16; N])
+    requires { at + N ≤ length table.old }
+    ensures { Wrote table.old table.new at words.entry }
+{
+    put_words(&mut table[at..at + N], words);
 }
 
 // A kind of a declaration in the table.
@@ -58,10 +68,10 @@ fn put_use(
             let kind = kind_number(word_at(rows, r));
             let symbol = word_at(rows, r + 1);
             let declared = place_word(places, Ordinal { number: symbol });
-            put(table, at, &[p, kind, declared])
+            put(table, at, [p, kind, declared])
         }
-        Meant::Given(e) => put(table, at, &[p, 0, e.number]),
-        Meant::Nothing => put(table, at, &[p, 0, 0]),
+        Meant::Given(e) => put(table, at, [p, 0, e.number]),
+        Meant::Nothing => put(table, at, [p, 0, 0]),
     }
 }
 
@@ -110,7 +120,7 @@ fn put_declarations(table: &mut [u16], from: usize, rows: &[u16], places: &[usiz
         let r = Row::from(words);
         let place = place_word(places, r.symbol);
         let kind = kind_number(r.kind);
-        put(table, at, &[place, kind, r.scope, r.sort]);
+        put(table, at, [place, kind, r.scope, r.sort]);
         at += 4;
     }
     at
@@ -136,7 +146,7 @@ fn put_nodes(table: &mut [u16], from: usize, nodes: &[u16], places: &[usize; 204
     for &words in nodes.as_chunks::<4>().0 {
         let n = Node::from(words);
         let place = node_place(n.kind, n.symbol, places);
-        put(table, at, &[n.kind, place, n.one, n.two]);
+        put(table, at, [n.kind, place, n.one, n.two]);
         at += 4;
     }
     at
@@ -154,11 +164,11 @@ fn put_all(
     requires { (length (table_behind (place_of places.now) rows.now own.now nodes.now uses.now) ≤ length table.old) × (length nodes.now ≤ 32768) × (length own.now ≤ 32768) × (length uses.now ≤ 8192) }
     ensures { Wrote table.old table.new 0 (table_behind (place_of places.now) rows.now own.now nodes.now uses.now) }
 {
-    put(table, 0, &[uses.len() as u16]);
+    put(table, 0, [uses.len() as u16]);
     let a = put_uses(table, 1, nodes, uses, rows, places);
-    put(table, a, &[(own.len() / 4) as u16]);
+    put(table, a, [(own.len() / 4) as u16]);
     let b = put_declarations(table, a + 1, own, places);
-    put(table, b, &[(nodes.len() / 4) as u16]);
+    put(table, b, [(nodes.len() / 4) as u16]);
     put_nodes(table, b + 1, nodes, places);
 }
 

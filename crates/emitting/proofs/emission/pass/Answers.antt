@@ -20,4 +20,4 @@ returns c =
     let f = begins (uses_in k.rows.now x.uses.now) (length x.code.now) c.clear.ensures refl refl in
     let r = c.walk.ensures in
     let e : State → State = emitted_from (place_at k.places.now) k.values.now k.layout.now k.ahead.now k.entries.now k.rows.now k.marks.now x.nodes.now in
-    record { code_after = r.code_after ∙ ap (λ (st : State). (e st).code) f; ahead_value = r.ahead_after ∙ ap (λ (st : State). (e st).ahead) f; entries_value = r.entries_after ∙ ap (λ (st : State). (e st).entries) f }
+    record { code_after = r.code_after ∙ ap (λ (st : State). (e st).code) f; ahead_after = r.ahead_after ∙ ap (λ (st : State). (e st).ahead) f; entries_after = r.entries_after ∙ ap (λ (st : State). (e st).entries) f }

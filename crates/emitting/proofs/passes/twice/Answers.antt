@@ -9,4 +9,4 @@ pub returns : goal.returns
 returns c =
     let a = c.args in
     let k = a.known.now in
-    second_run (length a.code.now) (place_at k.places.now) k.values.now k.layout.now k.rows.now k.marks.now a.nodes.now (uses_in k.rows.now a.uses.now) c.pass.ensures.code_after c.pass-found.auto.code c.pass-found.ensures.ahead_value c.pass-found.ensures.entries_value
+    second_run (length a.code.now) (place_at k.places.now) k.values.now k.layout.now k.rows.now k.marks.now a.nodes.now (uses_in k.rows.now a.uses.now) c.pass-2.ensures.code_after c.pass.auto.code c.pass.ensures.ahead_after c.pass.ensures.entries_after

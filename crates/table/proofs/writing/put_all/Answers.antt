@@ -60,7 +60,7 @@ module _ (place : ℕ → ℕ) (rows own nodes uses : List ℕ) where
 pub put-requires : goal.put-requires
 put-requires c =
     let args = c.args in
-    room_word (place_of args.places.now) args.rows.now args.own.now args.nodes.now args.uses.now (begun (place_of args.places.now) args.rows.now args.own.now args.nodes.now args.uses.now args.table.now) c.requires.0
+    (omega arith, room_word (place_of args.places.now) args.rows.now args.own.now args.nodes.now args.uses.now (begun (place_of args.places.now) args.rows.now args.own.now args.nodes.now args.uses.now args.table.now) c.requires.0)
 
 pub put_uses-a-requires : goal.put_uses-a-requires
 put_uses-a-requires c =
@@ -70,7 +70,7 @@ put_uses-a-requires c =
 pub put-requires-2 : goal.put-requires-2
 put-requires-2 c =
     let args = c.args in
-    room_word (place_of args.places.now) args.rows.now args.own.now args.nodes.now args.uses.now (used (place_of args.places.now) args.rows.now args.own.now args.nodes.now args.uses.now (counted (place_of args.places.now) args.rows.now args.own.now args.nodes.now args.uses.now c.put.ensures) c.put_uses-a.ensures.wrote c.put_uses-a.ensures.value) c.requires.0
+    (omega arith, room_word (place_of args.places.now) args.rows.now args.own.now args.nodes.now args.uses.now (used (place_of args.places.now) args.rows.now args.own.now args.nodes.now args.uses.now (counted (place_of args.places.now) args.rows.now args.own.now args.nodes.now args.uses.now c.put.ensures) c.put_uses-a.ensures.wrote c.put_uses-a.ensures.value) c.requires.0)
 
 pub overflow_add-a : goal.overflow_add-a
 overflow_add-a c = let r = room_word (place_of c.args.places.now) c.args.rows.now c.args.own.now c.args.nodes.now c.args.uses.now (used (place_of c.args.places.now) c.args.rows.now c.args.own.now c.args.nodes.now c.args.uses.now (counted (place_of c.args.places.now) c.args.rows.now c.args.own.now c.args.nodes.now c.args.uses.now c.put.ensures) c.put_uses-a.ensures.wrote c.put_uses-a.ensures.value) c.requires.0 in omega (arith, c.put_uses-a.auto)
@@ -83,7 +83,7 @@ put_declarations-b-requires c =
 pub put-requires-3 : goal.put-requires-3
 put-requires-3 c =
     let args = c.args in
-    room_word (place_of args.places.now) args.rows.now args.own.now args.nodes.now args.uses.now (declared (place_of args.places.now) args.rows.now args.own.now args.nodes.now args.uses.now (rows-counted (place_of args.places.now) args.rows.now args.own.now args.nodes.now args.uses.now (used (place_of args.places.now) args.rows.now args.own.now args.nodes.now args.uses.now (counted (place_of args.places.now) args.rows.now args.own.now args.nodes.now args.uses.now c.put.ensures) c.put_uses-a.ensures.wrote c.put_uses-a.ensures.value) c.put-2.ensures) c.put_declarations-b.ensures.wrote c.put_declarations-b.ensures.value) c.requires.0
+    (omega arith, room_word (place_of args.places.now) args.rows.now args.own.now args.nodes.now args.uses.now (declared (place_of args.places.now) args.rows.now args.own.now args.nodes.now args.uses.now (rows-counted (place_of args.places.now) args.rows.now args.own.now args.nodes.now args.uses.now (used (place_of args.places.now) args.rows.now args.own.now args.nodes.now args.uses.now (counted (place_of args.places.now) args.rows.now args.own.now args.nodes.now args.uses.now c.put.ensures) c.put_uses-a.ensures.wrote c.put_uses-a.ensures.value) c.put-2.ensures) c.put_declarations-b.ensures.wrote c.put_declarations-b.ensures.value) c.requires.0)
 
 pub overflow_add-b : goal.overflow_add-b
 overflow_add-b c = let r = room_word (place_of c.args.places.now) c.args.rows.now c.args.own.now c.args.nodes.now c.args.uses.now (declared (place_of c.args.places.now) c.args.rows.now c.args.own.now c.args.nodes.now c.args.uses.now (rows-counted (place_of c.args.places.now) c.args.rows.now c.args.own.now c.args.nodes.now c.args.uses.now (used (place_of c.args.places.now) c.args.rows.now c.args.own.now c.args.nodes.now c.args.uses.now (counted (place_of c.args.places.now) c.args.rows.now c.args.own.now c.args.nodes.now c.args.uses.now c.put.ensures) c.put_uses-a.ensures.wrote c.put_uses-a.ensures.value) c.put-2.ensures) c.put_declarations-b.ensures.wrote c.put_declarations-b.ensures.value) c.requires.0 in omega (arith, c.put_declarations-b.auto)

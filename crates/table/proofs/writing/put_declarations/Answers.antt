@@ -9,7 +9,7 @@ pub loop-words-init : goal.loop-words-init
 loop-words-init c = none_yet _ _ _
 
 pub put-requires : goal.put-requires
-put-requires c = room_four c.loop-words.invariant (declarations_on (place_of c.args.places.now) c.args.rows.now c.loop-words.words-index (omega (arith, c.as_chunks.ensures.front_len))) c.requires
+put-requires c = (omega arith, room_four c.loop-words.invariant (declarations_on (place_of c.args.places.now) c.args.rows.now c.loop-words.words-index (omega (arith, c.as_chunks.ensures.front_len))) c.requires)
 
 pub overflow_add-at : goal.overflow_add-at
 overflow_add-at c = let r = room_four c.loop-words.invariant (declarations_on (place_of c.args.places.now) c.args.rows.now c.loop-words.words-index (omega (arith, c.as_chunks.ensures.front_len))) c.requires in omega (arith, c.loop-words.invariant.wrote.size)
