@@ -1,4 +1,5 @@
-// Expressions: their readers call each other, with remaining symbols or binding falling.
+// Expressions: their readers call each other, with remaining symbols or binding falling. Where one ends with another's answer, it takes the two numbers out
+// and answers them: an answer that is passed on whole is copied in parts, since a fault's number is shorter than theirs, and the caller waits for the parts.
 ghost use Rattle.std.specs.Prelude.{◌≡◌, [], ◌∷◌, ◌+◌};
 ghost use Rattle.symbols.specs.Symbols.{kind};
 ghost use Rattle.symbols.specs.declared.Symbol.TheVariants.{If};
@@ -84,7 +85,8 @@ fn chain(kinds: &[u8], pos: usize, depth: u16, nodes: &mut [u16], free: usize, l
     ensures { TellsOf (text kinds.now) nodes.old nodes.new depth (a_chain l) pos free result }
 {
     let Read { next, used } = operand(kinds, pos, depth, nodes, free, l)?;
-    more(kinds, next, depth, nodes, used, l)
+    let Read { next, used } = more(kinds, next, depth, nodes, used, l)?;
+    Ok(Read { next, used })
 }
 
 // Further operands of a level, each behind its operator.
@@ -101,7 +103,8 @@ fn more(kinds: &[u8], pos: usize, depth: u16, nodes: &mut [u16], free: usize, l:
     };
     let Read { next, used } = operand(kinds, pos + 1, depth, nodes, free, l)?;
     let end = put(nodes, used, nodes::BINARY, pos, o, 0);
-    more(kinds, next, depth, nodes, end, l)
+    let Read { next, used } = more(kinds, next, depth, nodes, end, l)?;
+    Ok(Read { next, used })
 }
 
 // What the operators of a level stand between.
@@ -110,14 +113,15 @@ fn operand(kinds: &[u8], pos: usize, depth: u16, nodes: &mut [u16], free: usize,
     requires { Room (text kinds.now) nodes.old pos free }
     ensures { Tells (text kinds.now) nodes.old nodes.new depth (part (an_operand l) ∷ []) pos free result }
 {
-    match l {
+    let Read { next, used } = match l {
         Level::Product => primary(kinds, pos, depth, nodes, free),
         Level::Sum => chain(kinds, pos, depth, nodes, free, Level::Product),
         Level::Conjunction => negation(kinds, pos, depth, nodes, free),
         Level::Disjunction => chain(kinds, pos, depth, nodes, free, Level::Conjunction),
         Level::Implication => chain(kinds, pos, depth, nodes, free, Level::Disjunction),
         Level::Equivalence => chain(kinds, pos, depth, nodes, free, Level::Implication),
-    }
+    }?;
+    Ok(Read { next, used })
 }
 
 #[cycle(expressions)]
@@ -131,7 +135,10 @@ fn negation(kinds: &[u8], pos: usize, depth: u16, nodes: &mut [u16], free: usize
             let end = put(nodes, used, nodes::UNARY, pos, kinds::NOT as u16, 0);
             Ok(Read { next, used: end })
         }
-        _ => relation(kinds, pos, depth, nodes, free),
+        _ => {
+            let Read { next, used } = relation(kinds, pos, depth, nodes, free)?;
+            Ok(Read { next, used })
+        }
     }
 }
 
@@ -141,7 +148,8 @@ fn relation(kinds: &[u8], pos: usize, depth: u16, nodes: &mut [u16], free: usize
     ensures { Tells (text kinds.now) nodes.old nodes.new depth (part a_relation ∷ []) pos free result }
 {
     let Read { next, used } = sum(kinds, pos, depth, nodes, free)?;
-    comparison(kinds, next, depth, nodes, used)
+    let Read { next, used } = comparison(kinds, next, depth, nodes, used)?;
+    Ok(Read { next, used })
 }
 
 // A relational operator and its second operand, or nothing.
@@ -168,11 +176,13 @@ fn sum(kinds: &[u8], pos: usize, depth: u16, nodes: &mut [u16], free: usize) -> 
     ensures { Tells (text kinds.now) nodes.old nodes.new depth (part (a_level Sum) ∷ []) pos free result }
 {
     let Some(o) = operator(Level::Sum, peek(kinds, pos)) else {
-        return chain(kinds, pos, depth, nodes, free, Level::Sum);
+        let Read { next, used } = chain(kinds, pos, depth, nodes, free, Level::Sum)?;
+        return Ok(Read { next, used });
     };
     let Read { next, used } = operand(kinds, pos + 1, depth, nodes, free, Level::Sum)?;
     let end = put(nodes, used, nodes::UNARY, pos, o, 0);
-    more(kinds, next, depth, nodes, end, Level::Sum)
+    let Read { next, used } = more(kinds, next, depth, nodes, end, Level::Sum)?;
+    Ok(Read { next, used })
 }
 
 #[cycle(expressions)]
@@ -184,7 +194,10 @@ fn primary(kinds: &[u8], pos: usize, depth: u16, nodes: &mut [u16], free: usize)
         Symbol::Number(_) => Ok(leaf(nodes, free, pos, nodes::NUMBER, pos, 0)),
         Symbol::True => Ok(leaf(nodes, free, pos, nodes::LOGICAL, pos, 1)),
         Symbol::False => Ok(leaf(nodes, free, pos, nodes::LOGICAL, pos, 0)),
-        Symbol::Name => actuals(kinds, pos, depth, nodes, free, Use::AsPrimary),
+        Symbol::Name => {
+            let Read { next, used } = actuals(kinds, pos, depth, nodes, free, Use::AsPrimary)?;
+            Ok(Read { next, used })
+        }
         Symbol::Open => {
             let Read { next, used } = nested(kinds, pos + 1, depth, nodes, free)?;
             let next = expect(kinds, next, kinds::CLOSE)?;

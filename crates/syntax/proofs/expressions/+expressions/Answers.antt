@@ -16,6 +16,7 @@ use Rattle.syntax.proofs.Lemmas.{s_operand}
 use Prim.Native.Nat.{ℕ}
 use borrow.Enum.Refused.{opened}
 use Rattle.syntax.proofs.expressions.+expressions.Goals as goal
+use Rattle.syntax.proofs.expressions.+expressions.Goals.{operand-in-Product, operand-in-Sum, operand-in-Conjunction, operand-in-Disjunction, operand-in-Implication, operand-in-Equivalence}
 
 pub actual-put-end-requires : goal.actual-put-end-requires
 actual-put-end-requires t c =
@@ -79,8 +80,11 @@ chain-more-requires t c =
 pub chain-returns-in_err-next : goal.chain-returns-in_err-next
 chain-returns-in_err-next t c = λ F. s_exit c.from_residual.ensures.1 (s_bad _ (c.in_err-next.ensures _))
 
+pub chain-returns-in_err-next-2 : goal.chain-returns-in_err-next-2
+chain-returns-in_err-next-2 t c = λ F. s_exit c.from_residual-in_err-next-2.ensures.1 (s_part _ (c.in_ok-next.ensures _) (s_last (c.in_err-next-2.ensures _)))
+
 pub chain-returns : goal.chain-returns
-chain-returns t c = λ F. s_part _ (c.in_ok-next.ensures _) (s_last (c.more.ensures _))
+chain-returns t c = λ F. s_part _ (c.in_ok-next.ensures _) (s_last (c.in_ok-next-2.ensures _))
 
 pub comparison-returns-in_default : goal.comparison-returns-in_default
 comparison-returns-in_default t c =
@@ -214,8 +218,11 @@ more-more-requires t c =
 pub more-returns-in_err-next : goal.more-returns-in_err-next
 more-returns-in_err-next t c = let f = (C.op_found c.args.l _ (kind_at (text c.args.kinds.now) (c.args.pos + 1)) (sym (c.in-Some.ensures.0 ∙ ap (operator_of c.args.l) c.peek.ensures)) c.in-Some.ensures.1) in λ F. s_exit c.from_residual.ensures.1 (s_prod (G.again f.op) f.taken (s_sy f.symbol (s_bad _ (c.in_err-next.ensures _))))
 
+pub more-returns-in_err-next-2 : goal.more-returns-in_err-next-2
+more-returns-in_err-next-2 t c = let f = (C.op_found c.args.l _ (kind_at (text c.args.kinds.now) (c.args.pos + 1)) (sym (c.in-Some.ensures.0 ∙ ap (operator_of c.args.l) c.peek.ensures)) c.in-Some.ensures.1) in λ F. s_exit c.from_residual-in_err-next-2.ensures.1 (s_prod (G.again f.op) f.taken (s_sy f.symbol (s_part _ (c.in_ok-next.ensures _) (s_put c.put-end.ensures (omega arith) f.number (omega arith) (s_last (c.in_err-next-2.ensures _))))))
+
 pub more-returns : goal.more-returns
-more-returns t c = let f = (C.op_found c.args.l _ (kind_at (text c.args.kinds.now) (c.args.pos + 1)) (sym (c.in-Some.ensures.0 ∙ ap (operator_of c.args.l) c.peek.ensures)) c.in-Some.ensures.1) in λ F. s_prod (G.again f.op) f.taken (s_sy f.symbol (s_part _ (c.in_ok-next.ensures _) (s_put c.put-end.ensures (omega arith) f.number (omega arith) (s_last (c.more.ensures _)))))
+more-returns t c = let f = (C.op_found c.args.l _ (kind_at (text c.args.kinds.now) (c.args.pos + 1)) (sym (c.in-Some.ensures.0 ∙ ap (operator_of c.args.l) c.peek.ensures)) c.in-Some.ensures.1) in λ F. s_prod (G.again f.op) f.taken (s_sy f.symbol (s_part _ (c.in_ok-next.ensures _) (s_put c.put-end.ensures (omega arith) f.number (omega arith) (s_last (c.in_ok-next-2.ensures _)))))
 
 pub negation-relation-requires : goal.negation-relation-requires
 negation-relation-requires t c =
@@ -237,8 +244,11 @@ negation-returns-in_ok-next-in-Not t c =
     let g1 = got_of (c.in_ok-next-in-Not.ensures []) in let s1 = space g1 in
     λ F. s_prod G.a_not (ap (λ (z : ℕ). choose G.negation z 0) (is_at c.peek.result c.peek.ensures c.in-Not.in-Not-own.keys1)) (s_sy (is_at c.peek.result c.peek.ensures c.in-Not.in-Not-own.keys1) (s_part _ (c.in_ok-next-in-Not.ensures _) (s_put c.put-end.ensures (omega arith) (omega arith) (omega arith) (s_end (omega arith)))))
 
-pub negation-returns-in_default : goal.negation-returns-in_default
-negation-returns-in_default t c = λ F. s_prod G.no_not (C.else_negation (is_not c.peek.result c.peek.ensures (but (19 ∷ [])) 19 refl (opened c.in_default.in_default-own.keys2))) (s_last (c.relation-in_default.ensures _))
+pub negation-returns-in_err-next-in_default : goal.negation-returns-in_err-next-in_default
+negation-returns-in_err-next-in_default t c = λ F. s_exit c.from_residual-in_err-next-in_default.ensures.1 (s_prod G.no_not (C.else_negation (is_not c.peek.result c.peek.ensures (but (19 ∷ [])) 19 refl (opened c.in_default.in_default-own.keys2))) (s_last (c.in_err-next-in_default.ensures _)))
+
+pub negation-returns-in_ok-next-in_default : goal.negation-returns-in_ok-next-in_default
+negation-returns-in_ok-next-in_default t c = λ F. s_prod G.no_not (C.else_negation (is_not c.peek.result c.peek.ensures (but (19 ∷ [])) 19 refl (opened c.in_default.in_default-own.keys2))) (s_last (c.in_ok-next-in_default.ensures _))
 
 pub nested-returns-then-depth-ge64 : goal.nested-returns-then-depth-ge64
 nested-returns-then-depth-ge64 t c = λ F. says_limit c.if-depth-ge64.true (c.expression.ensures F)
@@ -252,17 +262,11 @@ nested_simple-returns-then-depth-ge64 t c = λ F. says_limit c.if-depth-ge64.tru
 pub nested_simple-returns : goal.nested_simple-returns
 nested_simple-returns t c = λ F. s_deeper c.if-depth-ge64.false {A = 0} (s_prod (G.chain L.Equivalence) refl (c.chain.ensures F))
 
-pub operand-returns-in-Sum : goal.operand-returns-in-Sum
-operand-returns-in-Sum t c = λ F. s_operand c.in-Sum.is (s_prod (G.chain L.Product) refl (c.chain.ensures F))
+pub operand-returns-in_err-next : goal.operand-returns-in_err-next
+operand-returns-in_err-next t c = λ F. s_exit c.from_residual.ensures.1 (elim c.match-l.branch [ operand-in-Product w ↦ rw (w.nodes-is, sym c.in_err-next.was ∙ w.branch'-is) (s_operand w.in-Product.is (w.primary.ensures F)) | operand-in-Sum w ↦ rw (w.nodes-is, sym c.in_err-next.was ∙ w.branch'-is) (s_operand w.in-Sum.is (s_prod (G.chain L.Product) refl (w.chain.ensures F))) | operand-in-Conjunction w ↦ rw (w.nodes-is, sym c.in_err-next.was ∙ w.branch'-is) (s_operand w.in-Conjunction.is (w.negation.ensures F)) | operand-in-Disjunction w ↦ rw (w.nodes-is, sym c.in_err-next.was ∙ w.branch'-is) (s_operand w.in-Disjunction.is (s_prod (G.chain L.Conjunction) refl (w.chain-in-Disjunction.ensures F))) | operand-in-Implication w ↦ rw (w.nodes-is, sym c.in_err-next.was ∙ w.branch'-is) (s_operand w.in-Implication.is (s_prod (G.chain L.Disjunction) refl (w.chain-in-Implication.ensures F))) | operand-in-Equivalence w ↦ rw (w.nodes-is, sym c.in_err-next.was ∙ w.branch'-is) (s_operand w.in-Equivalence.is (s_prod (G.chain L.Implication) refl (w.chain-in-Equivalence.ensures F))) ])
 
-pub operand-returns-in-Disjunction : goal.operand-returns-in-Disjunction
-operand-returns-in-Disjunction t c = λ F. s_operand c.in-Disjunction.is (s_prod (G.chain L.Conjunction) refl (c.chain-in-Disjunction.ensures F))
-
-pub operand-returns-in-Implication : goal.operand-returns-in-Implication
-operand-returns-in-Implication t c = λ F. s_operand c.in-Implication.is (s_prod (G.chain L.Disjunction) refl (c.chain-in-Implication.ensures F))
-
-pub operand-returns-in-Equivalence : goal.operand-returns-in-Equivalence
-operand-returns-in-Equivalence t c = λ F. s_operand c.in-Equivalence.is (s_prod (G.chain L.Implication) refl (c.chain-in-Equivalence.ensures F))
+pub operand-returns : goal.operand-returns
+operand-returns t c = λ F. elim c.match-l.branch [ operand-in-Product w ↦ rw (w.nodes-is, sym c.in_ok-next.was ∙ w.branch'-is) (s_operand w.in-Product.is (w.primary.ensures F)) | operand-in-Sum w ↦ rw (w.nodes-is, sym c.in_ok-next.was ∙ w.branch'-is) (s_operand w.in-Sum.is (s_prod (G.chain L.Product) refl (w.chain.ensures F))) | operand-in-Conjunction w ↦ rw (w.nodes-is, sym c.in_ok-next.was ∙ w.branch'-is) (s_operand w.in-Conjunction.is (w.negation.ensures F)) | operand-in-Disjunction w ↦ rw (w.nodes-is, sym c.in_ok-next.was ∙ w.branch'-is) (s_operand w.in-Disjunction.is (s_prod (G.chain L.Conjunction) refl (w.chain-in-Disjunction.ensures F))) | operand-in-Implication w ↦ rw (w.nodes-is, sym c.in_ok-next.was ∙ w.branch'-is) (s_operand w.in-Implication.is (s_prod (G.chain L.Disjunction) refl (w.chain-in-Implication.ensures F))) | operand-in-Equivalence w ↦ rw (w.nodes-is, sym c.in_ok-next.was ∙ w.branch'-is) (s_operand w.in-Equivalence.is (s_prod (G.chain L.Implication) refl (w.chain-in-Equivalence.ensures F))) ]
 
 pub otherwise-returns-in_err-next : goal.otherwise-returns-in_err-next
 otherwise-returns-in_err-next t c = λ F. s_exit c.from_residual.ensures.1 (s_prod G.an_otherwise refl (s_lacks c.in_err-next.ensures))
@@ -293,7 +297,7 @@ primary-nested-requires t c =
     (omega arith, record { inside = omega arith; short = omega arith; size = omega arith; room = omega arith })
 
 pub primary-returns-in_err-next-in-Open : goal.primary-returns-in_err-next-in-Open
-primary-returns-in_err-next-in-Open t c = λ F. s_exit c.from_residual.ensures.1 (s_prod G.in_parentheses (ap (λ (z : ℕ). choose G.primary z 0) (is_at c.peek.result c.peek.ensures c.in-Open.in-Open-own.keys5)) (s_sy (is_at c.peek.result c.peek.ensures c.in-Open.in-Open-own.keys5) (s_bad _ (c.in_err-next-in-Open.ensures _))))
+primary-returns-in_err-next-in-Open t c = λ F. s_exit c.from_residual-in_err-next-in-Open.ensures.1 (s_prod G.in_parentheses (ap (λ (z : ℕ). choose G.primary z 0) (is_at c.peek.result c.peek.ensures c.in-Open.in-Open-own.keys5)) (s_sy (is_at c.peek.result c.peek.ensures c.in-Open.in-Open-own.keys5) (s_bad _ (c.in_err-next-in-Open.ensures _))))
 
 pub primary-returns-in_err-next-in-Open-2 : goal.primary-returns-in_err-next-in-Open-2
 primary-returns-in_err-next-in-Open-2 t c = λ F. s_exit c.from_residual-in_err-next-in-Open-2.ensures.1 (s_prod G.in_parentheses (ap (λ (z : ℕ). choose G.primary z 0) (is_at c.peek.result c.peek.ensures c.in-Open.in-Open-own.keys5)) (s_sy (is_at c.peek.result c.peek.ensures c.in-Open.in-Open-own.keys5) (s_part _ (c.in_ok-next-in-Open.ensures _) (s_lacks c.in_err-next-in-Open-2.ensures))))
@@ -320,8 +324,11 @@ primary-returns-in-False t c =
     let i1 = inside _ _ (is_at c.peek.result c.peek.ensures c.in-False.in-False-own.keys3) (λ h. omega arith) in
     λ F. s_prod G.false_value (ap (λ (z : ℕ). choose G.primary z 0) (is_at c.peek.result c.peek.ensures c.in-False.in-False-own.keys3)) (s_sy (is_at c.peek.result c.peek.ensures c.in-False.in-False-own.keys3) (s_put c.leaf-in-False.ensures.0 (omega arith) (omega arith) (omega arith) (s_end_at c.leaf-in-False.ensures.1 (omega arith))))
 
-pub primary-returns-in-Name : goal.primary-returns-in-Name
-primary-returns-in-Name t c = λ F. s_prod G.a_name_lem (ap (λ (z : ℕ). choose G.primary z 0) (is_at c.peek.result c.peek.ensures c.in-Name.in-Name-own.keys4)) (s_sy (is_at c.peek.result c.peek.ensures c.in-Name.in-Name-own.keys4) (s_last (c.actuals.ensures _)))
+pub primary-returns-in_err-next-in-Name : goal.primary-returns-in_err-next-in-Name
+primary-returns-in_err-next-in-Name t c = λ F. s_exit c.from_residual.ensures.1 (s_prod G.a_name_lem (ap (λ (z : ℕ). choose G.primary z 0) (is_at c.peek.result c.peek.ensures c.in-Name.in-Name-own.keys4)) (s_sy (is_at c.peek.result c.peek.ensures c.in-Name.in-Name-own.keys4) (s_last (c.in_err-next-in-Name.ensures _))))
+
+pub primary-returns-in_ok-next-in-Name : goal.primary-returns-in_ok-next-in-Name
+primary-returns-in_ok-next-in-Name t c = λ F. s_prod G.a_name_lem (ap (λ (z : ℕ). choose G.primary z 0) (is_at c.peek.result c.peek.ensures c.in-Name.in-Name-own.keys4)) (s_sy (is_at c.peek.result c.peek.ensures c.in-Name.in-Name-own.keys4) (s_last (c.in_ok-next-in-Name.ensures _)))
 
 pub primary-returns-in-Decimal : goal.primary-returns-in-Decimal
 primary-returns-in-Decimal t c =
@@ -339,11 +346,17 @@ relation-comparison-requires t c =
 pub relation-returns-in_err-next : goal.relation-returns-in_err-next
 relation-returns-in_err-next t c = λ F. s_exit c.from_residual.ensures.1 (s_prod G.a_relation refl (s_bad _ (c.in_err-next.ensures _)))
 
+pub relation-returns-in_err-next-2 : goal.relation-returns-in_err-next-2
+relation-returns-in_err-next-2 t c = λ F. s_exit c.from_residual-in_err-next-2.ensures.1 (s_prod G.a_relation refl (s_part _ (c.in_ok-next.ensures _) (s_last (c.in_err-next-2.ensures _))))
+
 pub relation-returns : goal.relation-returns
-relation-returns t c = λ F. s_prod G.a_relation refl (s_part _ (c.in_ok-next.ensures _) (s_last (c.comparison.ensures _)))
+relation-returns t c = λ F. s_prod G.a_relation refl (s_part _ (c.in_ok-next.ensures _) (s_last (c.in_ok-next-2.ensures _)))
+
+pub sum-returns-in_err-next : goal.sum-returns-in_err-next
+sum-returns-in_err-next t c = λ F. s_exit c.from_residual.ensures.1 (s_prod (G.chain L.Sum) (C.unsigned _ (kind_at (text c.args.kinds.now) (c.args.pos + 1)) (ap (operator_of L.Sum) (sym c.peek.ensures) ∙ c.in_default.ensures)) (c.in_err-next.ensures F))
 
 pub sum-returns-in_default : goal.sum-returns-in_default
-sum-returns-in_default t c = λ F. s_prod (G.chain L.Sum) (C.unsigned _ (kind_at (text c.args.kinds.now) (c.args.pos + 1)) (ap (operator_of L.Sum) (sym c.peek.ensures) ∙ c.in_default.ensures)) (c.chain.ensures F)
+sum-returns-in_default t c = λ F. s_prod (G.chain L.Sum) (C.unsigned _ (kind_at (text c.args.kinds.now) (c.args.pos + 1)) (ap (operator_of L.Sum) (sym c.peek.ensures) ∙ c.in_default.ensures)) (c.in_ok-next.ensures F)
 
 pub sum-operand-requires : goal.sum-operand-requires
 sum-operand-requires t c =
@@ -353,20 +366,23 @@ sum-operand-requires t c =
 
 pub sum-put-end-requires : goal.sum-put-end-requires
 sum-put-end-requires t c =
-    let g1 = got_of (c.in_ok-next.ensures []) in let s1 = space g1 in
+    let g1 = got_of (c.in_ok-next-2.ensures []) in let s1 = space g1 in
     let f = (C.op_found L.Sum _ (kind_at (text c.args.kinds.now) (c.args.pos + 1)) (sym (c.in-Some.ensures.0 ∙ ap (operator_of L.Sum) c.peek.ensures)) c.in-Some.ensures.1) in
     let i1 = inside _ _ f.symbol (C.op_low f.op) in
     (omega arith, omega arith)
 
 pub sum-more-requires : goal.sum-more-requires
 sum-more-requires t c =
-    let g1 = got_of (c.in_ok-next.ensures []) in let s1 = space g1 in
+    let g1 = got_of (c.in_ok-next-2.ensures []) in let s1 = space g1 in
     let f = (C.op_found L.Sum _ (kind_at (text c.args.kinds.now) (c.args.pos + 1)) (sym (c.in-Some.ensures.0 ∙ ap (operator_of L.Sum) c.peek.ensures)) c.in-Some.ensures.1) in
     let i1 = inside _ _ f.symbol (C.op_low f.op) in
     (omega arith, record { inside = omega arith; short = omega arith; size = omega arith; room = omega arith })
 
-pub sum-returns-in_err-next : goal.sum-returns-in_err-next
-sum-returns-in_err-next t c = let f = (C.op_found L.Sum _ (kind_at (text c.args.kinds.now) (c.args.pos + 1)) (sym (c.in-Some.ensures.0 ∙ ap (operator_of L.Sum) c.peek.ensures)) c.in-Some.ensures.1) in λ F. s_exit c.from_residual.ensures.1 (s_prod (G.signed f.op) (C.with_sign f) (s_sy f.symbol (s_bad _ (c.in_err-next.ensures _))))
+pub sum-returns-in_err-next-2 : goal.sum-returns-in_err-next-2
+sum-returns-in_err-next-2 t c = let f = (C.op_found L.Sum _ (kind_at (text c.args.kinds.now) (c.args.pos + 1)) (sym (c.in-Some.ensures.0 ∙ ap (operator_of L.Sum) c.peek.ensures)) c.in-Some.ensures.1) in λ F. s_exit c.from_residual-in_err-next-2.ensures.1 (s_prod (G.signed f.op) (C.with_sign f) (s_sy f.symbol (s_bad _ (c.in_err-next-2.ensures _))))
+
+pub sum-returns-in_err-next-3 : goal.sum-returns-in_err-next-3
+sum-returns-in_err-next-3 t c = let f = (C.op_found L.Sum _ (kind_at (text c.args.kinds.now) (c.args.pos + 1)) (sym (c.in-Some.ensures.0 ∙ ap (operator_of L.Sum) c.peek.ensures)) c.in-Some.ensures.1) in λ F. s_exit c.from_residual-in_err-next-3.ensures.1 (s_prod (G.signed f.op) (C.with_sign f) (s_sy f.symbol (s_part _ (c.in_ok-next-2.ensures _) (s_put c.put-end.ensures (omega arith) f.number (omega arith) (s_last (c.in_err-next-3.ensures _))))))
 
 pub sum-returns : goal.sum-returns
-sum-returns t c = let f = (C.op_found L.Sum _ (kind_at (text c.args.kinds.now) (c.args.pos + 1)) (sym (c.in-Some.ensures.0 ∙ ap (operator_of L.Sum) c.peek.ensures)) c.in-Some.ensures.1) in λ F. s_prod (G.signed f.op) (C.with_sign f) (s_sy f.symbol (s_part _ (c.in_ok-next.ensures _) (s_put c.put-end.ensures (omega arith) f.number (omega arith) (s_last (c.more.ensures _)))))
+sum-returns t c = let f = (C.op_found L.Sum _ (kind_at (text c.args.kinds.now) (c.args.pos + 1)) (sym (c.in-Some.ensures.0 ∙ ap (operator_of L.Sum) c.peek.ensures)) c.in-Some.ensures.1) in λ F. s_prod (G.signed f.op) (C.with_sign f) (s_sy f.symbol (s_part _ (c.in_ok-next-2.ensures _) (s_put c.put-end.ensures (omega arith) f.number (omega arith) (s_last (c.in_ok-next-3.ensures _)))))
