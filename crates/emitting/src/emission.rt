@@ -290,8 +290,8 @@ fn walk(
     t.put(code, codes::END, codes::NOWHERE, 0);
 }
 
-// The code of a program's nodes, with the addresses ahead and the procedures' as they are known; and those that are found. What
-// was open before does not matter.
+// The code of a program's nodes, with the addresses ahead and the procedures' as they are known; and those that are found. What was
+// open and what was found before do not matter.
 pub fn pass(
     nodes: &[u16],
     uses: &[u16],

@@ -1,5 +1,6 @@
-// Expressions: their readers call each other, with remaining symbols or binding falling. Where one ends with another's answer, it takes the two numbers out
-// and answers them: an answer that is passed on whole is copied in parts, since a fault's number is shorter than theirs, and the caller waits for the parts.
+// Expressions: their readers call each other, with remaining symbols or binding falling. From `chain` to `primary`, one that ends with
+// another's answer takes the two numbers out and answers them. Passed on whole, the answer would be copied in parts, since two bytes of a
+// fault lie where `next` lies, and the processor would wait for these at every operand.
 ghost use Rattle.std.specs.Prelude.{◌≡◌, [], ◌∷◌, ◌+◌};
 ghost use Rattle.symbols.specs.Symbols.{kind};
 ghost use Rattle.symbols.specs.declared.Symbol.TheVariants.{If};

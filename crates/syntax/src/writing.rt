@@ -5,7 +5,7 @@ ghost use Rattle.syntax.specs.model.Says.{Put, Clear, Settles, Refuses};
 use crate::faults::wrong;
 use grammar::{Parsed, Read};
 
-// Writes the words of a node, as one array: `copy_from_slice` would put them in memory first, and wait for them there.
+// Writes the words of a node, as one array: `copy_from_slice` would put them in memory first, and the processor wait for them there.
 fn put_words(node: &mut [u16], words: [u16; 4])
     requires { length node.old ≡ 4 }
     ensures { node.new ≡ words }

@@ -24,7 +24,8 @@ fn word_at(words: &[u16], at: usize) -> u16
     words.get(at).copied().unwrap_or(0)
 }
 
-// Writes words over a part that is as long, as one array: `copy_from_slice` would put them in memory first, and wait for them there.
+// Writes words over a part that is as long, as one array: `copy_from_slice` would put them in memory first, and the processor wait for
+// them there.
 fn put_words<const N: usize>(part: &mut [u16], words: [u16; N])
     requires { length part.old ≡ N }
     ensures { part.new ≡ words.entry }
